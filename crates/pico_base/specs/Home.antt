@@ -1,0 +1,41 @@
+-- Where a call can be carried out.
+use Rattle.std.specs.Prelude.{ℕ, ◌==◌, if◌then◌else◌, Option, Some, None}
+use Rattle.pico_base.specs.declared.call.Call.{Call}
+use Rattle.pico_base.specs.declared.call.Call.TheVariants as calls
+use Rattle.pico_base.specs.declared.call.Home.{Home}
+use Rattle.pico_base.specs.declared.call.Home.TheVariants.{Own, Keys, Removal, At, Parent}
+use Rattle.pico_base.specs.declared.numbers.Name.TheVariants.{Proc, Msg, Sem}
+use Rattle.pico_base.specs.declared.signal.SigArg.TheVariants.{Zero, Is, Bad}
+
+-- a private get is the caller's own, one by key belongs to the keys
+abbrev pub home_of_get : Option ℕ → Home
+home_of_get None = Own
+home_of_get (Some key) = Keys
+
+-- a signal to oneself is one's own affair, to another process that process's
+abbrev pub home_of_kill : ℕ → ℕ → Home
+home_of_kill caller pid = if pid == caller then Own else At (Proc pid)
+
+abbrev pub home_of : ℕ → Call → Home
+home_of caller (calls.Exit status) = Parent
+home_of caller (calls.Killed sig) = Parent
+home_of caller (calls.Kill pid Bad) = Own
+home_of caller (calls.Kill pid Zero) = home_of_kill caller pid
+home_of caller (calls.Kill pid (Is sig)) = home_of_kill caller pid
+home_of caller (calls.MsgGet key create excl) = home_of_get key
+home_of caller (calls.SemGet key count create excl) = home_of_get key
+home_of caller (calls.MsgRmid id) = Removal (Msg id)
+home_of caller (calls.SemRmid id) = Removal (Sem id)
+home_of caller (calls.MsgSnd id class text nowait) = At (Msg id)
+home_of caller (calls.MsgRcv id class size noerror nowait) = At (Msg id)
+home_of caller (calls.MsgStat id) = At (Msg id)
+home_of caller (calls.MsgSet id qbytes) = At (Msg id)
+home_of caller (calls.SemOp id steps) = At (Sem id)
+home_of caller (calls.SemGetVal id num) = At (Sem id)
+home_of caller (calls.SemGetPid id num) = At (Sem id)
+home_of caller (calls.SemGetNcnt id num) = At (Sem id)
+home_of caller (calls.SemGetZcnt id num) = At (Sem id)
+home_of caller (calls.SemSetVal id num value) = At (Sem id)
+home_of caller (calls.SemGetAll id) = At (Sem id)
+home_of caller (calls.SemSetAll id values) = At (Sem id)
+home_of caller _ = Own

@@ -1,0 +1,47 @@
+-- A value for each of the ten signals.
+use Rattle.std.specs.Prelude.{ℕ}
+use Rattle.pico_base.specs.declared.signal.Sig.{Sig}
+use Rattle.pico_base.specs.declared.signal.Sig.TheVariants.{Hup, Int, Quit, Kill, Usr1, Usr2, Pipe, Alrm, Term, Chld}
+use Rattle.pico_base.specs.declared.signal.PerSignal.{PerSignal}
+
+-- the same value for each signal
+abbrev pub everywhere : {A : Type 0} → A → PerSignal A
+everywhere x =
+    record {
+      hup = x;
+      int = x;
+      quit = x;
+      kill = x;
+      usr1 = x;
+      usr2 = x;
+      pipe = x;
+      alrm = x;
+      term = x;
+      chld = x;
+    }
+
+-- the value for a signal
+abbrev pub at : {A : Type 0} → PerSignal A → Sig → A
+at m Hup = m.hup
+at m Int = m.int
+at m Quit = m.quit
+at m Kill = m.kill
+at m Usr1 = m.usr1
+at m Usr2 = m.usr2
+at m Pipe = m.pipe
+at m Alrm = m.alrm
+at m Term = m.term
+at m Chld = m.chld
+
+-- another value for a signal, and the same for the others
+abbrev pub put : {A : Type 0} → PerSignal A → Sig → A → PerSignal A
+put m Hup x = record m { hup = x }
+put m Int x = record m { int = x }
+put m Quit x = record m { quit = x }
+put m Kill x = record m { kill = x }
+put m Usr1 x = record m { usr1 = x }
+put m Usr2 x = record m { usr2 = x }
+put m Pipe x = record m { pipe = x }
+put m Alrm x = record m { alrm = x }
+put m Term x = record m { term = x }
+put m Chld x = record m { chld = x }
