@@ -1,0 +1,42 @@
+-- The first example: one process makes a queue, sends `hi`, receives it and ends.
+use Rattle.std.specs.Prelude.{pos, true, false, List, [], ◌∷◌, Some, None, refl, codes}
+use Rattle.std.proofs.Common.{inl}
+use Rattle.pico_base.specs.declared.call.Call.{Call}
+use Rattle.pico_base.specs.declared.call.Call.TheVariants.{MsgGet, MsgSnd, MsgRcv, Exit}
+use Rattle.pico_base.specs.declared.reply.Reply.{Reply}
+use Rattle.pico_base.specs.declared.reply.Reply.TheVariants.{Num, Message, Ended}
+use Rattle.pico_base.specs.declared.reply.Entry.{Entry}
+use Rattle.pico_base.specs.declared.script.Script.{Script}
+use Rattle.kernel_model.specs.History.{IsLegal}
+use Rattle.kernel_model.specs.Fitting.{FitsWhole}
+
+-- `q = msgget private`, `msgsnd $q 1 "hi" nowait`, `msgrcv $q 0 16 nowait`; the variable q has index 1776
+abbrev pub hello : Script
+hello =
+    record {
+      blocks = record {
+        name = codes "main";
+        lines =
+            record { set = Some 1776; tries = 1; from = None; call = MsgGet None false false }
+            ∷ record { set = None; tries = 1; from = Some 1776; call = MsgSnd 0 (pos 1) (codes "hi") true }
+            ∷ record { set = None; tries = 1; from = Some 1776; call = MsgRcv 0 (pos 0) 16 false true }
+            ∷ [];
+      } ∷ [];
+    }
+
+abbrev pub entry : Call → Reply → Entry
+entry call reply = record { pid = 1; call = call; outcome = record { own = Some reply; woken = [] }; by = 1 }
+
+abbrev pub hello_history : List Entry
+hello_history =
+    entry (MsgGet None false false) (Num 1)
+    ∷ entry (MsgSnd 1 (pos 1) (codes "hi") true) (Num 0)
+    ∷ entry (MsgRcv 1 (pos 0) 16 false true) (Message (pos 1) (codes "hi"))
+    ∷ entry (Exit 0) Ended
+    ∷ []
+
+pub hello_is_legal : IsLegal hello_history
+hello_is_legal = (_, (_, refl, (_, refl, (_, refl, (_, refl, refl)))))
+
+pub hello_fits : FitsWhole hello hello_history
+hello_fits = (_, (_, refl, inl refl, (_, refl, inl refl, (_, refl, inl refl, (_, refl, inl refl, refl)))), (refl, tt))

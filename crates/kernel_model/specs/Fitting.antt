@@ -1,0 +1,146 @@
+-- A history fits a script: each process makes the calls of its block, in order and each once.
+use Rattle.std.specs.Prelude.{◌≡◌, ◌⊎◌, ℕ, ◌+◌, ◌-◌, Bool, true, false, ◌&&◌, nat_lt, List, [], ◌∷◌, if◌then◌else◌, Option, Some, None, slice_get}
+use Rattle.std.specs.List.{AllByRecursion}
+use Rattle.pico_base.specs.declared.call.Call.{Call}
+use Rattle.pico_base.specs.declared.call.Call.TheVariants as calls
+use Rattle.pico_base.specs.declared.reply.Reply.{Reply}
+use Rattle.pico_base.specs.declared.reply.Reply.TheVariants as replies
+use Rattle.pico_base.specs.declared.reply.Errno.{Errno}
+use Rattle.pico_base.specs.declared.reply.Errno.TheVariants.{Enoent, Enomsg, Eagain}
+use Rattle.pico_base.specs.declared.reply.Entry.{Entry}
+use Rattle.pico_base.specs.declared.script.Line.{Line}
+use Rattle.pico_base.specs.declared.script.Block.{Block}
+use Rattle.pico_base.specs.declared.script.Script.{Script}
+use Rattle.kernel_model.specs.Maps.{Numbered, get, put}
+use Rattle.kernel_model.specs.Script.{Vars, call_of}
+
+-- the line that a block's end stands for where its last call isn't exit
+abbrev pub implied_exit : Line
+implied_exit = record { set = None; tries = 1; from = None; call = calls.Exit 0 }
+
+abbrev pub is_exit : Call → Bool
+is_exit (calls.Exit status) = true
+is_exit _ = false
+
+-- the lines from here on, with the implied exit
+abbrev pub with_exit : List Line → List Line
+with_exit [] = implied_exit ∷ []
+with_exit (line ∷ lines) = if is_exit line.call then line ∷ [] else line ∷ with_exit lines
+
+-- where a process is in its block: the lines left, how often the first was tried, and its variables
+pub record Place : Type 0 where
+  pub left : List Line
+  pub tried : ℕ
+  pub vars : Vars
+
+-- the call due: that of the first line left. After exit there is none
+abbrev pub call_due : Place → List Line → Option Call
+call_due place [] = None
+call_due place (line ∷ lines) = Some (call_of line place.vars)
+
+abbrev pub due : Place → Option Call
+due place = call_due place place.left
+
+-- a reply after which a line that may try again does
+abbrev pub is_not_ready : Errno → Bool
+is_not_ready Enomsg = true
+is_not_ready Eagain = true
+is_not_ready Enoent = true
+is_not_ready _ = false
+
+abbrev pub is_waitpid : Call → Bool
+is_waitpid (calls.WaitPid child nohang) = true
+is_waitpid _ = false
+
+abbrev pub is_zero : ℕ → Bool
+is_zero n = nat_lt n 1
+
+abbrev pub asks_again : Call → Option Reply → Bool
+asks_again call (Some (replies.Fail e)) = is_not_ready e
+asks_again call (Some (replies.Num n)) = is_waitpid call && is_zero n
+asks_again call _ = false
+
+-- the value that a reply gives a variable
+abbrev pub value_in : Option Reply → ℕ
+value_in (Some (replies.Num n)) = n
+value_in (Some (replies.Child pid ending)) = pid
+value_in _ = 0
+
+abbrev pub setting : Vars → Option ℕ → ℕ → Vars
+setting vars None n = vars
+setting vars (Some v) n = put vars v n
+
+-- the place after a reply: the same line once more, or the next one with the variable set
+abbrev pub after_line : Place → Call → Option Reply → List Line → Place
+after_line place call reply [] = place
+after_line place call reply (line ∷ lines) =
+    if asks_again call reply && nat_lt (place.tried + 1) line.tries
+    then record place { tried = place.tried + 1 }
+    else record { left = lines; tried = 0; vars = setting place.vars line.set (value_in reply) }
+
+abbrev pub after : Place → Call → Option Reply → Place
+after place call reply = after_line place call reply place.left
+
+-- a process that a signal ended has nothing more to do
+abbrev pub is_killed : Call → Bool
+is_killed (calls.Killed sig) = true
+is_killed _ = false
+
+abbrev pub moved : Place → Call → Option Reply → Place
+moved place call reply = if is_killed call then record place { left = [] } else after place call reply
+
+-- the call due, or the end by a signal in its place
+abbrev pub IsDue : Place → Call → Type 0
+IsDue place call = (due place ≡ Some call) ⊎ ((is_killed call ≡ true) × (other : Call) × (due place ≡ Some other))
+
+-- where a process begins: at the first line of its block
+abbrev pub block_place : Option Block → Vars → Place
+block_place None vars = record { left = []; tried = 0; vars = vars }
+block_place (Some block) vars = record { left = with_exit block.lines; tried = 0; vars = vars }
+
+-- block k, counted from 1
+abbrev pub block_at : Script → ℕ → Option Block
+block_at script k = slice_get script.blocks (k - 1)
+
+-- the place of each process by its number; process 1 begins at block 1, with no variable set
+abbrev pub Places : Type 0
+Places = Numbered Place
+
+abbrev pub opening_places : Script → Places
+opening_places script = (1, block_place (block_at script 1) []) ∷ []
+
+-- a forked process begins with the variables that its parent had before the line, the one that it sets at 0
+abbrev pub child_vars_at : Vars → List Line → Vars
+child_vars_at vars [] = vars
+child_vars_at vars (line ∷ lines) = setting vars line.set 0
+
+abbrev pub child_vars : Place → Vars
+child_vars place = child_vars_at place.vars place.left
+
+abbrev pub forked_place : Script → Places → Place → Call → Option Reply → Places
+forked_place script places parent (calls.Fork block) (Some (replies.Num child)) =
+    put places child (block_place (block_at script block) (child_vars parent))
+forked_place script places parent call reply = places
+
+-- the places after an entry of a process that was at this place
+abbrev pub places_after : Script → Places → Entry → Place → Places
+places_after script places e place =
+    forked_place script (put places e.pid (moved place e.call e.outcome.own)) place e.call e.outcome.own
+
+-- each entry is of a process that was forked, or of process 1, and makes the call that is due
+abbrev pub Follows : Script → Places → List Entry → Places → Type 0
+Follows script places [] last = places ≡ last
+Follows script places (e ∷ es) last =
+    (place : Place) × (get places e.pid ≡ Some place) × IsDue place e.call
+    × Follows script (places_after script places e place) es last
+
+abbrev pub Fits : Script → List Entry → Type 0
+Fits script history = (last : Places) × Follows script (opening_places script) history last
+
+-- nothing is due any more at a place
+abbrev pub IsOver : ℕ × Place → Type 0
+IsOver p = p.1.left ≡ []
+
+-- the history fits to its end: each process that was forked, and process 1, has ended
+abbrev pub FitsWhole : Script → List Entry → Type 0
+FitsWhole script history = (last : Places) × Follows script (opening_places script) history last × AllByRecursion IsOver last

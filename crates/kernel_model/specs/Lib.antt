@@ -1,0 +1,11 @@
+pub mod Fitting
+pub mod History
+pub mod Kernel
+pub mod Maps
+pub mod Queue
+pub mod Row
+pub mod Script
+pub mod SemaphoreSet
+pub mod Signals
+pub mod Transition
+pub mod FirstExample

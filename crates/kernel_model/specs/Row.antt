@@ -1,0 +1,113 @@
+-- A living process: its signals, its family, and what it may still do (POSIX.1-2017: fork, exit, wait).
+use Rattle.std.specs.Prelude.{ℕ, Bool, true, false, not, List, [], ◌∷◌, ◌++◌, if◌then◌else◌, Option, Some, None, is_some, nat_eq}
+use Rattle.std.specs.List.{filter, list_any}
+use Rattle.pico_base.specs.declared.reply.Ending.{Ending}
+use Rattle.pico_base.specs.declared.signal.Sig.{Sig}
+use Rattle.pico_base.specs.declared.signal.Sig.TheVariants.{Chld}
+use Rattle.pico_base.specs.declared.signal.Act.{Act}
+use Rattle.pico_base.specs.declared.signal.Act.TheVariants.{Dfl, Ign, Catch}
+use Rattle.kernel_model.specs.Signals.{Signals, new_signals, inherited, raise}
+
+-- the living children in order of fork, and the ended ones with their endings in order of end
+pub record Family : Type 0 where
+  pub living : List ℕ
+  pub ended : List (ℕ × Ending)
+
+abbrev pub no_family : Family
+no_family = record { living = []; ended = [] }
+
+pub record Row : Type 0 where
+  pub signals : Signals
+  pub family : Family
+
+abbrev pub new_row : Row
+new_row = record { signals = new_signals; family = no_family }
+
+-- the row of a forked child
+abbrev pub child_row : Row → Row
+child_row row = record { signals = inherited row.signals; family = no_family }
+
+-- the family with a new child
+abbrev pub with_child : Family → ℕ → Family
+with_child f child = record f { living = f.living ++ child ∷ [] }
+
+abbrev pub lists : Family → ℕ → Bool
+lists f child = list_any (nat_eq child) f.living
+
+abbrev pub others : ℕ → List ℕ → List ℕ
+others child children = filter (λ c. not (nat_eq child c)) children
+
+-- a child has ended: its ending is kept for waitpid, unless it is ignored
+abbrev pub with_end : Family → ℕ → Ending → Bool → Family
+with_end f child ending ignored =
+    record {
+      living = others child f.living;
+      ended = if ignored then f.ended else f.ended ++ (child, ending) ∷ [];
+    }
+
+-- the action for CHLD is to ignore it: ended children aren't kept
+abbrev pub is_ign : Act → Bool
+is_ign Ign = true
+is_ign Dfl = false
+is_ign Catch = false
+
+abbrev pub ignores_children : Row → Bool
+ignores_children row = is_ign row.signals.actions.chld
+
+-- waitpid: for any child, or for one
+abbrev pub matches : Option ℕ → ℕ → Bool
+matches None child = true
+matches (Some which) child = nat_eq which child
+
+-- the first ended child that matches, with the family without it
+abbrev pub first_ended : Option ℕ → List (ℕ × Ending) → Option (ℕ × Ending)
+first_ended which [] = None
+first_ended which (e ∷ es) = if matches which e.0 then Some e else first_ended which es
+
+abbrev pub without_ended : ℕ → Family → Family
+without_ended child f = record f { ended = filter (λ e. not (nat_eq child e.0)) f.ended }
+
+-- what waitpid finds: an ended child, only living ones, or none that matches
+pub data Waited : Type 0 where
+  Found : (child : ℕ) (ending : Ending) → Waited
+  NotYet : Waited
+  NoChild : Waited
+
+abbrev pub waited_from : Option (ℕ × Ending) → Bool → Waited
+waited_from (Some e) living = Found e.0 e.1
+waited_from None living = if living then NotYet else NoChild
+
+abbrev pub wait : Family → Option ℕ → Waited
+wait f which = waited_from (first_ended which f.ended) (list_any (matches which) f.living)
+
+-- What a process may still do (profile): anything, one more entry after the doom by another's entry, or
+-- nothing but its own ending.
+pub data Allowance : Type 0 where
+  Free : Allowance
+  One : Allowance
+  Spent : Allowance
+
+-- a living process, with its allowance beside its row
+pub record Alive : Type 0 where
+  pub row : Row
+  pub allowance : Allowance
+
+-- the allowance after a raise by another's entry
+abbrev pub doomed_by_other : Bool → Bool → Allowance → Allowance
+doomed_by_other before now allowance = if before then allowance else if now then One else allowance
+
+-- a signal is raised by another's entry
+abbrev pub raised_at : Alive → Sig → Alive
+raised_at a g =
+    let signals = raise a.row.signals g
+    in record {
+      row = record { signals = signals; family = a.row.family };
+      allowance = doomed_by_other (is_some a.row.signals.doom) (is_some signals.doom) a.allowance;
+    }
+
+-- a child of this process has ended: it is listed as ended, or forgotten, and CHLD is raised where it isn't ignored
+abbrev pub with_ended_child : Alive → ℕ → Ending → Alive
+with_ended_child a child ending =
+    let ignored = ignores_children a.row
+    in let next = record a { row = record { signals = a.row.signals; family = with_end a.row.family child ending ignored } }
+    in if ignored then next else raised_at next Chld
