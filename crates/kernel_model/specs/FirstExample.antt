@@ -1,5 +1,6 @@
 -- The first example: one process makes a queue, sends `hi`, receives it and ends.
-use Rattle.std.specs.Prelude.{pos, true, false, List, [], ◌∷◌, Some, None, refl, codes}
+use Rattle.std.specs.Prelude.{◌≡◌, pos, true, false, List, [], ◌∷◌, Some, None, refl, codes}
+use Rattle.std.specs.Fmt.{digits}
 use Rattle.std.proofs.Common.{inl}
 use Rattle.pico_base.specs.declared.call.Call.{Call}
 use Rattle.pico_base.specs.declared.call.Call.TheVariants.{MsgGet, MsgSnd, MsgRcv, Exit}
@@ -9,6 +10,7 @@ use Rattle.pico_base.specs.declared.reply.Entry.{Entry}
 use Rattle.pico_base.specs.declared.script.Script.{Script}
 use Rattle.kernel_model.specs.History.{IsLegal}
 use Rattle.kernel_model.specs.Fitting.{FitsWhole}
+use Rattle.kernel_model.specs.Trace.{trace_text}
 
 -- `q = msgget private`, `msgsnd $q 1 "hi" nowait`, `msgrcv $q 0 16 nowait`; the variable q has index 1776
 abbrev pub hello : Script
@@ -40,3 +42,9 @@ hello_is_legal = (_, (_, refl, (_, refl, (_, refl, (_, refl, refl)))))
 
 pub hello_fits : FitsWhole hello hello_history
 hello_fits = (_, (_, refl, inl refl, (_, refl, inl refl, (_, refl, inl refl, (_, refl, inl refl, refl)))), (refl, tt))
+
+-- the five lines that the program writes
+pub hello_trace : trace_text hello hello_history ≡
+    codes "1 msgget private = 1 by 1\n1 msgsnd 1 1 \"hi\" nowait = 0 by 1\n1 msgrcv 1 0 16 nowait = 1 \"hi\" by 1\n1 exit 0 = ended by 1\ntotals entries 4 processes 1 notready 0 refused 0\n"
+unfolding digits
+hello_trace = refl

@@ -7,5 +7,6 @@ pub mod Row
 pub mod Script
 pub mod SemaphoreSet
 pub mod Signals
+pub mod Trace
 pub mod Transition
 pub mod FirstExample

@@ -1,0 +1,230 @@
+-- The text of a history: a line for each entry, and the totals.
+use Rattle.std.specs.Prelude.{ℕ, ◌+◌, ◌/◌, ◌%◌, Bool, true, false, not, ◌&&◌, ◌||◌, nat_eq, nat_le, nat_lt, List, [], ◌∷◌, ◌++◌, length, map, if◌then◌else◌, Option, Some, None, codes, count_by}
+use Rattle.std.specs.List.{flat_map, list_all, filter, join_with_byte}
+use Rattle.std.specs.Fmt.{decimal, signed_decimal}
+use Rattle.pico_base.specs.declared.call.Call.{Call}
+use Rattle.pico_base.specs.declared.call.Call.TheVariants as calls
+use Rattle.pico_base.specs.declared.call.SemStep.{SemStep}
+use Rattle.pico_base.specs.declared.reply.Reply.{Reply}
+use Rattle.pico_base.specs.declared.reply.Reply.TheVariants as replies
+use Rattle.pico_base.specs.declared.reply.Errno.{Errno}
+use Rattle.pico_base.specs.declared.reply.Errno.TheVariants.{Esrch, Einval, Echild, Enoent, Eexist, Enomsg, Eagain, E2big, Efbig, Erange, Eidrm, Eintr}
+use Rattle.pico_base.specs.declared.reply.Ending.{Ending}
+use Rattle.pico_base.specs.declared.reply.Ending.TheVariants.{Exited, Killed}
+use Rattle.pico_base.specs.declared.reply.Entry.{Entry}
+use Rattle.pico_base.specs.declared.signal.Sig.{Sig}
+use Rattle.pico_base.specs.declared.signal.Sig.TheVariants.{Hup, Int, Quit, Kill, Usr1, Usr2, Pipe, Alrm, Term, Chld}
+use Rattle.pico_base.specs.declared.signal.SigArg.{SigArg}
+use Rattle.pico_base.specs.declared.signal.SigArg.TheVariants.{Zero, Is, Bad}
+use Rattle.pico_base.specs.declared.signal.Act.{Act}
+use Rattle.pico_base.specs.declared.signal.Act.TheVariants.{Dfl, Ign, Catch}
+use Rattle.pico_base.specs.declared.signal.How.{How}
+use Rattle.pico_base.specs.declared.signal.How.TheVariants.{Block, Unblock, SetMask}
+use Rattle.pico_base.specs.declared.signal.PerSignal.{PerSignal}
+use Rattle.pico_base.specs.declared.script.Script.{Script}
+use Rattle.pico_base.specs.declared.script.Block.{Block as ScriptBlock}
+use Rattle.pico_base.specs.Signal.{at}
+use Rattle.kernel_model.specs.Signals.{all_signals}
+use Rattle.kernel_model.specs.Fitting.{block_at}
+
+-- Names.
+
+abbrev pub signal_name : Sig → List ℕ
+signal_name Hup = codes "HUP"
+signal_name Int = codes "INT"
+signal_name Quit = codes "QUIT"
+signal_name Kill = codes "KILL"
+signal_name Usr1 = codes "USR1"
+signal_name Usr2 = codes "USR2"
+signal_name Pipe = codes "PIPE"
+signal_name Alrm = codes "ALRM"
+signal_name Term = codes "TERM"
+signal_name Chld = codes "CHLD"
+
+abbrev pub signal_argument : SigArg → List ℕ
+signal_argument Zero = codes "0"
+signal_argument (Is sig) = signal_name sig
+signal_argument Bad = codes "badsig"
+
+-- a set's signals in table order, joined by commas
+abbrev pub set_text : PerSignal Bool → List ℕ
+set_text set =
+    let names : List (List ℕ) = map signal_name (filter (at set) all_signals)
+    in if nat_eq (length names) 0 then codes "none" else join_with_byte 44 names
+
+abbrev pub action_name : Act → List ℕ
+action_name Dfl = codes "dfl"
+action_name Ign = codes "ign"
+action_name Catch = codes "catch"
+
+abbrev pub how_name : How → List ℕ
+how_name Block = codes "block"
+how_name Unblock = codes "unblock"
+how_name SetMask = codes "setmask"
+
+abbrev pub error_name : Errno → List ℕ
+error_name Esrch = codes "ESRCH"
+error_name Einval = codes "EINVAL"
+error_name Echild = codes "ECHILD"
+error_name Enoent = codes "ENOENT"
+error_name Eexist = codes "EEXIST"
+error_name Enomsg = codes "ENOMSG"
+error_name Eagain = codes "EAGAIN"
+error_name E2big = codes "E2BIG"
+error_name Efbig = codes "EFBIG"
+error_name Erange = codes "ERANGE"
+error_name Eidrm = codes "EIDRM"
+error_name Eintr = codes "EINTR"
+
+-- Texts of messages.
+
+abbrev pub is_between : ℕ → ℕ → ℕ → Bool
+is_between low high b = nat_le low b && nat_le b high
+
+abbrev pub is_letter_or_digit : ℕ → Bool
+is_letter_or_digit b = is_between 48 57 b || (is_between 65 90 b || is_between 97 122 b)
+
+-- a byte that stands for itself between quotes
+abbrev pub is_plain : ℕ → Bool
+is_plain b = is_between 32 126 b && not (nat_eq b 34 || nat_eq b 92)
+
+abbrev pub hex_digit : ℕ → ℕ
+hex_digit d = if nat_lt d 10 then 48 + d else 87 + d
+
+abbrev pub escaped : ℕ → List ℕ
+escaped b = if is_plain b then b ∷ [] else codes "\\x" ++ hex_digit (b / 16) ∷ hex_digit (b % 16) ∷ []
+
+abbrev pub quoted : List ℕ → List ℕ
+quoted text = 34 ∷ (flat_map escaped text ++ 34 ∷ [])
+
+-- the same letter or digit, 17 or more times
+abbrev pub is_repeated : List ℕ → Bool
+is_repeated [] = false
+is_repeated (b ∷ bs) = is_letter_or_digit b && (nat_le 16 (length bs) && list_all (nat_eq b) bs)
+
+abbrev pub repeated : List ℕ → List ℕ
+repeated [] = []
+repeated (b ∷ bs) = codes "rep:" ++ decimal (length (b ∷ bs)) ++ 58 ∷ b ∷ []
+
+abbrev pub message_text : List ℕ → List ℕ
+message_text text = if is_repeated text then repeated text else quoted text
+
+-- Calls and replies.
+
+abbrev pub word : Bool → List ℕ → List ℕ
+word b text = if b then 32 ∷ text else []
+
+abbrev pub create_words : Bool → Bool → List ℕ
+create_words create excl = word create (codes "create") ++ word excl (codes "excl")
+
+abbrev pub step_text : SemStep → List ℕ
+step_text s = 32 ∷ (decimal s.num ++ 58 ∷ (signed_decimal s.add ++ (if s.nowait then codes ":nowait" else [])))
+
+abbrev pub values_text : List ℕ → List ℕ
+values_text vs = join_with_byte 44 (map decimal vs)
+
+abbrev pub name_of_block : Option ScriptBlock → List ℕ
+name_of_block None = []
+name_of_block (Some block) = block.name
+
+abbrev pub semctl_at : ℕ → List ℕ → ℕ → List ℕ
+semctl_at id command num = codes "semctl " ++ decimal id ++ command ++ decimal num
+
+abbrev pub child_text : Option ℕ → List ℕ
+child_text None = codes "any"
+child_text (Some pid) = decimal pid
+
+abbrev pub msgget_text : Option ℕ → Bool → Bool → List ℕ
+msgget_text None create excl = codes "msgget private"
+msgget_text (Some key) create excl = codes "msgget " ++ decimal key ++ create_words create excl
+
+abbrev pub semget_text : Option ℕ → ℕ → Bool → Bool → List ℕ
+semget_text None count create excl = codes "semget private " ++ decimal count
+semget_text (Some key) count create excl = codes "semget " ++ decimal key ++ 32 ∷ (decimal count ++ create_words create excl)
+
+-- the call as a script would have it, with actual numbers
+abbrev pub call_text : Script → Call → List ℕ
+call_text script (calls.Fork block) = codes "fork " ++ name_of_block (block_at script block)
+call_text script (calls.Exit status) = codes "exit " ++ decimal status
+call_text script (calls.Killed sig) = codes "killed " ++ signal_name sig
+call_text script calls.GetPid = codes "getpid"
+call_text script (calls.Kill pid sig) = codes "kill " ++ decimal pid ++ 32 ∷ signal_argument sig
+call_text script (calls.SigAction sig act) = codes "sigaction " ++ signal_argument sig ++ 32 ∷ action_name act
+call_text script (calls.SigProcMask how set) = codes "sigprocmask " ++ how_name how ++ 32 ∷ set_text set
+call_text script calls.SigPending = codes "sigpending"
+call_text script (calls.Handled sig) = codes "handled " ++ signal_name sig
+call_text script (calls.WaitPid child nohang) = codes "waitpid " ++ child_text child ++ word nohang (codes "nohang")
+call_text script (calls.MsgGet key create excl) = msgget_text key create excl
+call_text script (calls.MsgSnd id class text nowait) =
+    codes "msgsnd " ++ decimal id ++ 32 ∷ (signed_decimal class ++ 32 ∷ (message_text text ++ word nowait (codes "nowait")))
+call_text script (calls.MsgRcv id class size noerror nowait) =
+    codes "msgrcv " ++ decimal id ++ 32 ∷ (signed_decimal class ++ 32 ∷ (decimal size ++ (word noerror (codes "noerror") ++ word nowait (codes "nowait"))))
+call_text script (calls.MsgStat id) = codes "msgctl " ++ decimal id ++ codes " stat"
+call_text script (calls.MsgSet id qbytes) = codes "msgctl " ++ decimal id ++ codes " set " ++ decimal qbytes
+call_text script (calls.MsgRmid id) = codes "msgctl " ++ decimal id ++ codes " rmid"
+call_text script (calls.SemGet key count create excl) = semget_text key count create excl
+call_text script (calls.SemOp id steps) = codes "semop " ++ decimal id ++ flat_map step_text steps
+call_text script (calls.SemGetVal id num) = semctl_at id (codes " getval ") num
+call_text script (calls.SemGetPid id num) = semctl_at id (codes " getpid ") num
+call_text script (calls.SemGetNcnt id num) = semctl_at id (codes " getncnt ") num
+call_text script (calls.SemGetZcnt id num) = semctl_at id (codes " getzcnt ") num
+call_text script (calls.SemSetVal id num value) = semctl_at id (codes " setval ") num ++ 32 ∷ decimal value
+call_text script (calls.SemGetAll id) = codes "semctl " ++ decimal id ++ codes " getall"
+call_text script (calls.SemSetAll id values) = codes "semctl " ++ decimal id ++ codes " setall " ++ values_text values
+call_text script (calls.SemRmid id) = codes "semctl " ++ decimal id ++ codes " rmid"
+
+abbrev pub ending_text : Ending → List ℕ
+ending_text (Exited status) = codes " exited " ++ decimal status
+ending_text (Killed sig) = codes " killed " ++ signal_name sig
+
+abbrev pub reply_text : Reply → List ℕ
+reply_text (replies.Num n) = decimal n
+reply_text (replies.Child pid ending) = decimal pid ++ ending_text ending
+reply_text (replies.Message class text) = signed_decimal class ++ 32 ∷ message_text text
+reply_text (replies.Bits set) = set_text set
+reply_text (replies.Stat qnum qbytes lspid lrpid) =
+    codes "qnum " ++ decimal qnum ++ codes " qbytes " ++ decimal qbytes ++ codes " lspid " ++ decimal lspid ++ codes " lrpid " ++ decimal lrpid
+reply_text (replies.All values) = codes "all " ++ values_text values
+reply_text replies.Ended = codes "ended"
+reply_text (replies.Fail e) = error_name e
+
+-- the caller's reply; a call that parks has none yet
+abbrev pub own_text : Option Reply → List ℕ
+own_text None = codes "parked"
+own_text (Some reply) = reply_text reply
+
+-- Lines, each ended by a line feed.
+
+abbrev pub entry_line : Script → Entry → List ℕ
+entry_line script e =
+    decimal e.pid ++ 32 ∷ (call_text script e.call ++ codes " = " ++ own_text e.outcome.own ++ codes " by " ++ decimal e.by ++ 10 ∷ [])
+
+abbrev pub is_fork : Call → Bool
+is_fork (calls.Fork block) = true
+is_fork _ = false
+
+-- nothing was ready: ENOMSG and EAGAIN
+abbrev pub is_wait_error : Errno → Bool
+is_wait_error Enomsg = true
+is_wait_error Eagain = true
+is_wait_error _ = false
+
+abbrev pub is_not_ready_reply : Option Reply → Bool
+is_not_ready_reply (Some (replies.Fail e)) = is_wait_error e
+is_not_ready_reply _ = false
+
+abbrev pub is_refused_reply : Option Reply → Bool
+is_refused_reply (Some (replies.Fail e)) = not (is_wait_error e)
+is_refused_reply _ = false
+
+-- the entries, the processes, the entries where nothing was ready, and the other refusals
+abbrev pub totals_line : List Entry → List ℕ
+totals_line h =
+    codes "totals entries " ++ decimal (length h)
+    ++ codes " processes " ++ decimal (1 + count_by (λ e. is_fork e.call) h)
+    ++ codes " notready " ++ decimal (count_by (λ e. is_not_ready_reply e.outcome.own) h)
+    ++ codes " refused " ++ decimal (count_by (λ e. is_refused_reply e.outcome.own) h)
+    ++ 10 ∷ []
+
+abbrev pub trace_text : Script → List Entry → List ℕ
+trace_text script h = flat_map (entry_line script) h ++ totals_line h
