@@ -31,9 +31,12 @@ max_messages = 1024
 abbrev pub empty_queue : Queue
 empty_queue = record { messages = []; qbytes = max_queue_bytes; last_sender = 0; last_receiver = 0 }
 
--- the bytes in the queue
+-- the bytes of messages, and those in a queue
+abbrev pub bytes_of : List Message → ℕ
+bytes_of ms = sum_by (λ m. length m.text) ms
+
 abbrev pub bytes_in : Queue → ℕ
-bytes_in q = sum_by (λ m. length m.text) q.messages
+bytes_in q = bytes_of q.messages
 
 -- msgsnd. A type below 1 and a text above the limit are refused; so is a message for which there is no room
 abbrev pub has_room : Queue → List ℕ → Bool
