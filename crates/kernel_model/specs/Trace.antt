@@ -1,5 +1,5 @@
 -- The text of a history: a line for each entry, and the totals.
-use Rattle.std.specs.Prelude.{ℕ, ◌+◌, ◌/◌, ◌%◌, Bool, true, false, not, ◌&&◌, ◌||◌, nat_eq, nat_le, nat_lt, List, [], ◌∷◌, ◌++◌, length, map, if◌then◌else◌, Option, Some, None, codes, count_by}
+use Rattle.std.specs.Prelude.{ℕ, ℤ, ◌+◌, ◌/◌, ◌%◌, Bool, true, false, not, ◌&&◌, ◌||◌, nat_eq, nat_le, nat_lt, List, [], ◌∷◌, ◌++◌, length, map, if◌then◌else◌, Option, Some, None, codes, count_by}
 use Rattle.std.specs.List.{flat_map, list_all, filter, join_with_byte}
 use Rattle.std.specs.Fmt.{decimal, signed_decimal}
 use Rattle.pico_base.specs.declared.call.Call.{Call}
@@ -46,11 +46,18 @@ signal_argument Zero = codes "0"
 signal_argument (Is sig) = signal_name sig
 signal_argument Bad = codes "badsig"
 
+-- what is joined by commas
+abbrev pub commas : {A : Type 0} → (A → List ℕ) → List A → List ℕ
+commas text [] = []
+commas text (x ∷ xs) = text x ++ flat_map (λ y. 44 ∷ text y) xs
+
+abbrev pub signals_text : List Sig → List ℕ
+signals_text [] = codes "none"
+signals_text (g ∷ gs) = commas signal_name (g ∷ gs)
+
 -- a set's signals in table order, joined by commas
 abbrev pub set_text : PerSignal Bool → List ℕ
-set_text set =
-    let names : List (List ℕ) = map signal_name (filter (at set) all_signals)
-    in if nat_eq (length names) 0 then codes "none" else join_with_byte 44 names
+set_text set = signals_text (filter (at set) all_signals)
 
 abbrev pub action_name : Act → List ℕ
 action_name Dfl = codes "dfl"
@@ -121,7 +128,7 @@ abbrev pub step_text : SemStep → List ℕ
 step_text s = 32 ∷ (decimal s.num ++ 58 ∷ (signed_decimal s.add ++ (if s.nowait then codes ":nowait" else [])))
 
 abbrev pub values_text : List ℕ → List ℕ
-values_text vs = join_with_byte 44 (map decimal vs)
+values_text vs = commas decimal vs
 
 abbrev pub name_of_block : Option ScriptBlock → List ℕ
 name_of_block None = []
@@ -142,6 +149,17 @@ abbrev pub semget_text : Option ℕ → ℕ → Bool → Bool → List ℕ
 semget_text None count create excl = codes "semget private " ++ decimal count
 semget_text (Some key) count create excl = codes "semget " ++ decimal key ++ 32 ∷ (decimal count ++ create_words create excl)
 
+-- a call's name, the queue and the type of message
+abbrev pub queue_words : List ℕ → ℕ → ℤ → List ℕ
+queue_words name id class = name ++ decimal id ++ 32 ∷ (signed_decimal class ++ 32 ∷ [])
+
+abbrev pub msgsnd_text : ℕ → ℤ → List ℕ → Bool → List ℕ
+msgsnd_text id class text nowait = queue_words (codes "msgsnd ") id class ++ message_text text ++ word nowait (codes "nowait")
+
+abbrev pub msgrcv_text : ℕ → ℤ → ℕ → Bool → Bool → List ℕ
+msgrcv_text id class size noerror nowait =
+    queue_words (codes "msgrcv ") id class ++ decimal size ++ word noerror (codes "noerror") ++ word nowait (codes "nowait")
+
 -- the call as a script would have it, with actual numbers
 abbrev pub call_text : Script → Call → List ℕ
 call_text script (calls.Fork block) = codes "fork " ++ name_of_block (block_at script block)
@@ -155,10 +173,8 @@ call_text script calls.SigPending = codes "sigpending"
 call_text script (calls.Handled sig) = codes "handled " ++ signal_name sig
 call_text script (calls.WaitPid child nohang) = codes "waitpid " ++ child_text child ++ word nohang (codes "nohang")
 call_text script (calls.MsgGet key create excl) = msgget_text key create excl
-call_text script (calls.MsgSnd id class text nowait) =
-    codes "msgsnd " ++ decimal id ++ 32 ∷ (signed_decimal class ++ 32 ∷ (message_text text ++ word nowait (codes "nowait")))
-call_text script (calls.MsgRcv id class size noerror nowait) =
-    codes "msgrcv " ++ decimal id ++ 32 ∷ (signed_decimal class ++ 32 ∷ (decimal size ++ (word noerror (codes "noerror") ++ word nowait (codes "nowait"))))
+call_text script (calls.MsgSnd id class text nowait) = msgsnd_text id class text nowait
+call_text script (calls.MsgRcv id class size noerror nowait) = msgrcv_text id class size noerror nowait
 call_text script (calls.MsgStat id) = codes "msgctl " ++ decimal id ++ codes " stat"
 call_text script (calls.MsgSet id qbytes) = codes "msgctl " ++ decimal id ++ codes " set " ++ decimal qbytes
 call_text script (calls.MsgRmid id) = codes "msgctl " ++ decimal id ++ codes " rmid"

@@ -1,0 +1,12 @@
+//! The program `pico`: it runs a script of processes and writes a trace.
+#![tactic(auto)]
+
+mod print;
+mod queue;
+mod text;
+
+use std::io;
+
+fn main(rt: HostRuntime) -> io::Result<()> {
+    println!(rt; "")
+}

@@ -1,0 +1,114 @@
+//! Bytes and numbers put at the end of a text.
+ghost use Rattle.std.specs.Prelude.{◌≡◌, ◌+◌, ◌/◌, ◌%◌, ◌^◌, ◌<◌, [], ◌∷◌, ◌++◌, codes, length, IfSome, IfNone, OnOk, true, false, nat_lt, if◌then◌else◌, nat_eq, ◌&&◌, nat_le};
+ghost use Rattle.std.specs.List.{flat_map, list_all};
+ghost use Rattle.std.specs.Fmt.{decimal, signed_decimal};
+ghost use Rattle.kernel_model.specs.Trace.{escaped, hex_digit, is_plain, is_letter_or_digit, is_repeated, message_text, quoted, repeated};
+
+use itoa::Buffer;
+use pico_base::Memory;
+
+/// Adds these bytes.
+pub fn push(out: &mut Vec<u8>, bytes: &[u8]) -> Result<(), Memory>
+    ensures { OnOk result (out.new.items ≡ out.old.items ++ bytes.now) }
+{
+    out.extend_from_slice(bytes)?;
+    Ok(())
+}
+
+/// Adds one byte.
+pub fn push_byte(out: &mut Vec<u8>, byte: u8) -> Result<(), Memory>
+    ensures { OnOk result (out.new.items ≡ out.old.items ++ byte ∷ []) }
+{
+    out.push(byte)?;
+    Ok(())
+}
+
+/// Adds a number in decimal digits.
+pub fn push_number(out: &mut Vec<u8>, number: u64) -> Result<(), Memory>
+    ensures { OnOk result (out.new.items ≡ out.old.items ++ decimal number) }
+{
+    push(out, Buffer::new().format(number).as_bytes())
+}
+
+/// Adds a signed number in decimal digits.
+pub fn push_signed(out: &mut Vec<u8>, number: i32) -> Result<(), Memory>
+    ensures { OnOk result (out.new.items ≡ out.old.items ++ signed_decimal number) }
+{
+    push(out, Buffer::new().format(number).as_bytes())
+}
+
+// Whether a byte stands for itself between quotes.
+fn plain(byte: u8) -> bool
+    ensures { result ≡ is_plain byte }
+{
+    (32..=126).contains(&byte) && byte != b'"' && byte != b'\\'
+}
+
+fn letter_or_digit(byte: u8) -> bool
+    ensures { result ≡ is_letter_or_digit byte }
+{
+    byte.is_ascii_alphanumeric()
+}
+
+// The lower-case hexadecimal digit of a number below 16.
+fn hex(digit: u8) -> u8
+    requires { digit < 16 }
+    ensures { result ≡ hex_digit digit }
+{
+    if digit < 10 { b'0' + digit } else { 87 + digit }
+}
+
+fn push_escaped(out: &mut Vec<u8>, byte: u8) -> Result<(), Memory>
+    ensures { OnOk result (out.new.items ≡ out.old.items ++ escaped byte) }
+{
+    if plain(byte) {
+        push_byte(out, byte)
+    } else {
+        push(out, &[b'\\', b'x', hex(byte / 16), hex(byte % 16)])
+    }
+}
+
+fn push_quoted(out: &mut Vec<u8>, text: &[u8]) -> Result<(), Memory>
+    ensures { OnOk result (out.new.items ≡ out.old.items ++ quoted text.now) }
+{
+    push_byte(out, b'"')?;
+    for byte in text {
+        push_escaped(out, *byte)?;
+    }
+    push_byte(out, b'"')
+}
+
+fn all_are(byte: u8, bytes: &[u8]) -> bool
+    ensures { result ≡ list_all (nat_eq byte) bytes.now }
+{
+    bytes.iter().all(|other| byte == *other)
+}
+
+// Whether 17 or more bytes, these and one before them, are the same letter or digit.
+fn is_run(first: u8, rest: &[u8]) -> bool
+    ensures { result ≡ (is_letter_or_digit first && (nat_le 16 (length rest.now) && list_all (nat_eq first) rest.now)) }
+{
+    letter_or_digit(first) && 16 <= rest.len() && all_are(first, rest)
+}
+
+// Whether the text is printed by the one letter or digit that it repeats.
+fn is_repeat(text: &[u8]) -> bool
+    ensures { result ≡ is_repeated text.now }
+{
+    match text.split_first() {
+        None => false,
+        Some((first, rest)) => is_run(*first, rest),
+    }
+}
+
+/// Adds a message's text, in quotes or by the byte that it repeats.
+pub fn push_message(out: &mut Vec<u8>, text: &[u8]) -> Result<(), Memory>
+    ensures { OnOk result (out.new.items ≡ out.old.items ++ message_text text.now) }
+{
+    if !is_repeat(text) {
+        return push_quoted(out, text);
+    }
+    push(out, b"rep:")?;
+    push_number(out, text.len() as u64)?;
+    push(out, &[b':', text[0]])
+}
