@@ -10,7 +10,7 @@ use Rattle.pico_base.specs.declared.reply.Entry.{Entry}
 use Rattle.pico_base.specs.declared.script.Script.{Script}
 use Rattle.kernel_model.specs.History.{IsLegal}
 use Rattle.kernel_model.specs.Fitting.{FitsWhole}
-use Rattle.kernel_model.specs.Trace.{trace_text}
+use Rattle.kernel_model.specs.Trace.{trace_text, entries_total, processes_total, not_ready_total, refused_total}
 
 -- `q = msgget private`, `msgsnd $q 1 "hi" nowait`, `msgrcv $q 0 16 nowait`; the variable q has index 1776
 abbrev pub hello : Script
@@ -46,5 +46,5 @@ hello_fits = (_, (_, refl, inl refl, (_, refl, inl refl, (_, refl, inl refl, (_,
 -- the five lines that the program writes
 pub hello_trace : trace_text hello hello_history ≡
     codes "1 msgget private = 1 by 1\n1 msgsnd 1 1 \"hi\" nowait = 0 by 1\n1 msgrcv 1 0 16 nowait = 1 \"hi\" by 1\n1 exit 0 = ended by 1\ntotals entries 4 processes 1 notready 0 refused 0\n"
-unfolding digits
+unfolding digits entries_total processes_total not_ready_total refused_total
 hello_trace = refl

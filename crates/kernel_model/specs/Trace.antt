@@ -56,7 +56,7 @@ signals_text [] = codes "none"
 signals_text (g ∷ gs) = commas signal_name (g ∷ gs)
 
 -- a set's signals in table order, joined by commas
-abbrev pub set_text : PerSignal Bool → List ℕ
+unfoldable pub set_text : PerSignal Bool → List ℕ
 set_text set = signals_text (filter (at set) all_signals)
 
 abbrev pub action_name : Act → List ℕ
@@ -118,6 +118,9 @@ message_text text = if is_repeated text then repeated text else quoted text
 
 -- Calls and replies.
 
+abbrev pub labelled : List ℕ → ℕ → List ℕ
+labelled label n = label ++ decimal n
+
 abbrev pub word : Bool → List ℕ → List ℕ
 word b text = if b then 32 ∷ text else []
 
@@ -143,11 +146,11 @@ child_text (Some pid) = decimal pid
 
 abbrev pub msgget_text : Option ℕ → Bool → Bool → List ℕ
 msgget_text None create excl = codes "msgget private"
-msgget_text (Some key) create excl = codes "msgget " ++ decimal key ++ create_words create excl
+msgget_text (Some key) create excl = labelled (codes "msgget ") key ++ create_words create excl
 
 abbrev pub semget_text : Option ℕ → ℕ → Bool → Bool → List ℕ
-semget_text None count create excl = codes "semget private " ++ decimal count
-semget_text (Some key) count create excl = codes "semget " ++ decimal key ++ 32 ∷ (decimal count ++ create_words create excl)
+semget_text None count create excl = labelled (codes "semget private ") count
+semget_text (Some key) count create excl = labelled (codes "semget ") key ++ labelled (codes " ") count ++ create_words create excl
 
 -- a call's name, the queue and the type of message
 abbrev pub queue_words : List ℕ → ℕ → ℤ → List ℕ
@@ -160,6 +163,12 @@ abbrev pub msgrcv_text : ℕ → ℤ → ℕ → Bool → Bool → List ℕ
 msgrcv_text id class size noerror nowait =
     queue_words (codes "msgrcv ") id class ++ decimal size ++ word noerror (codes "noerror") ++ word nowait (codes "nowait")
 
+abbrev pub how_words : How → List ℕ
+how_words how = codes "sigprocmask " ++ how_name how ++ 32 ∷ []
+
+abbrev pub sigprocmask_text : How → PerSignal Bool → List ℕ
+sigprocmask_text how set = how_words how ++ set_text set
+
 -- the call as a script would have it, with actual numbers
 abbrev pub call_text : Script → Call → List ℕ
 call_text script (calls.Fork block) = codes "fork " ++ name_of_block (block_at script block)
@@ -168,7 +177,7 @@ call_text script (calls.Killed sig) = codes "killed " ++ signal_name sig
 call_text script calls.GetPid = codes "getpid"
 call_text script (calls.Kill pid sig) = codes "kill " ++ decimal pid ++ 32 ∷ signal_argument sig
 call_text script (calls.SigAction sig act) = codes "sigaction " ++ signal_argument sig ++ 32 ∷ action_name act
-call_text script (calls.SigProcMask how set) = codes "sigprocmask " ++ how_name how ++ 32 ∷ set_text set
+call_text script (calls.SigProcMask how set) = sigprocmask_text how set
 call_text script calls.SigPending = codes "sigpending"
 call_text script (calls.Handled sig) = codes "handled " ++ signal_name sig
 call_text script (calls.WaitPid child nohang) = codes "waitpid " ++ child_text child ++ word nohang (codes "nohang")
@@ -199,7 +208,8 @@ reply_text (replies.Child pid ending) = decimal pid ++ ending_text ending
 reply_text (replies.Message class text) = signed_decimal class ++ 32 ∷ message_text text
 reply_text (replies.Bits set) = set_text set
 reply_text (replies.Stat qnum qbytes lspid lrpid) =
-    codes "qnum " ++ decimal qnum ++ codes " qbytes " ++ decimal qbytes ++ codes " lspid " ++ decimal lspid ++ codes " lrpid " ++ decimal lrpid
+    labelled (codes "qnum ") qnum ++ labelled (codes " qbytes ") qbytes
+    ++ labelled (codes " lspid ") lspid ++ labelled (codes " lrpid ") lrpid
 reply_text (replies.All values) = codes "all " ++ values_text values
 reply_text replies.Ended = codes "ended"
 reply_text (replies.Fail e) = error_name e
@@ -211,9 +221,15 @@ own_text (Some reply) = reply_text reply
 
 -- Lines, each ended by a line feed.
 
+-- who made the call, and who carried it out
+abbrev pub made_text : Script → ℕ → Call → List ℕ
+made_text script pid call = decimal pid ++ 32 ∷ call_text script call
+
+abbrev pub by_text : ℕ → List ℕ
+by_text node = codes " by " ++ decimal node ++ 10 ∷ []
+
 abbrev pub entry_line : Script → Entry → List ℕ
-entry_line script e =
-    decimal e.pid ++ 32 ∷ (call_text script e.call ++ codes " = " ++ own_text e.outcome.own ++ codes " by " ++ decimal e.by ++ 10 ∷ [])
+entry_line script e = made_text script e.pid e.call ++ codes " = " ++ own_text e.outcome.own ++ by_text e.by
 
 abbrev pub is_fork : Call → Bool
 is_fork (calls.Fork block) = true
@@ -233,13 +249,25 @@ abbrev pub is_refused_reply : Option Reply → Bool
 is_refused_reply (Some (replies.Fail e)) = not (is_wait_error e)
 is_refused_reply _ = false
 
--- the entries, the processes, the entries where nothing was ready, and the other refusals
+unfoldable pub entries_total : ℕ → List ℕ
+entries_total n = codes "totals entries " ++ decimal n
+
+unfoldable pub processes_total : ℕ → List ℕ
+processes_total n = codes " processes " ++ decimal n
+
+unfoldable pub not_ready_total : ℕ → List ℕ
+not_ready_total n = codes " notready " ++ decimal n
+
+unfoldable pub refused_total : ℕ → List ℕ
+refused_total n = codes " refused " ++ decimal n
+
+-- the entries, the processes (one more than the forks), the entries where nothing was ready, the other refusals
 abbrev pub totals_line : List Entry → List ℕ
 totals_line h =
-    codes "totals entries " ++ decimal (length h)
-    ++ codes " processes " ++ decimal (1 + count_by (λ e. is_fork e.call) h)
-    ++ codes " notready " ++ decimal (count_by (λ e. is_not_ready_reply e.outcome.own) h)
-    ++ codes " refused " ++ decimal (count_by (λ e. is_refused_reply e.outcome.own) h)
+    entries_total (length h)
+    ++ processes_total (1 + count_by (λ e. is_fork e.call) h)
+    ++ not_ready_total (count_by (λ e. is_not_ready_reply e.outcome.own) h)
+    ++ refused_total (count_by (λ e. is_refused_reply e.outcome.own) h)
     ++ 10 ∷ []
 
 abbrev pub trace_text : Script → List Entry → List ℕ
