@@ -1,11 +1,15 @@
+pub mod Effect
 pub mod Fitting
 pub mod History
 pub mod Kernel
 pub mod Maps
+pub mod ProcessCalls
 pub mod Queue
+pub mod QueueCalls
 pub mod Row
 pub mod Script
 pub mod SemaphoreSet
+pub mod SetCalls
 pub mod Signals
 pub mod Trace
 pub mod Transition
