@@ -13,4 +13,5 @@ pub mod SetCalls
 pub mod Signals
 pub mod Trace
 pub mod Transition
+pub mod Waiting
 pub mod FirstExample

@@ -7,6 +7,7 @@ use Rattle.pico_base.specs.declared.reply.Errno.{Errno}
 use Rattle.pico_base.specs.declared.reply.Errno.TheVariants.{Einval, Enoent, Eexist}
 use Rattle.pico_base.specs.declared.reply.Reply.TheVariants as replies
 use Rattle.kernel_model.specs.Maps.{Numbered, get, put, without, used_with}
+use Rattle.kernel_model.specs.Waiting.{may_wait}
 use Rattle.kernel_model.specs.SemaphoreSet.{Semaphore, new_set, values_of, op}
 use Rattle.kernel_model.specs.Kernel.{Kernel}
 use Rattle.kernel_model.specs.Effect.{Effect, replied, refused, on_named, is_fresh}
@@ -44,10 +45,6 @@ get_set k (Some key) count create excl n = get_set_at k key count create excl n 
 abbrev pub changed_set : Kernel → ℕ → Result (List Semaphore) Errno → Effect
 changed_set k id (Ok set) = replied (with_set k id set) 0
 changed_set k id (Err e) = refused k e
-
--- an operation that may have to wait: not positive, and without IPC_NOWAIT
-abbrev pub may_wait : SemStep → Bool
-may_wait step = int_le step.add (pos 0) && not step.nowait
 
 -- semop. A call that may have to wait has no effect here
 abbrev pub operated : Kernel → ℕ → ℕ → List SemStep → Option Effect
