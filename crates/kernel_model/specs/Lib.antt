@@ -1,5 +1,6 @@
 pub mod Effect
 pub mod Fitting
+pub mod Footprint
 pub mod History
 pub mod Kernel
 pub mod Maps
@@ -13,5 +14,6 @@ pub mod SetCalls
 pub mod Signals
 pub mod Trace
 pub mod Transition
+pub mod Valid
 pub mod Waiting
 pub mod FirstExample

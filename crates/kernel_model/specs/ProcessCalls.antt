@@ -1,5 +1,5 @@
 -- The calls on processes (POSIX.1-2017: fork, exit, waitpid, kill, sigaction, sigprocmask).
-use Rattle.std.specs.Prelude.{ℕ, Bool, nat_eq, List, [], if◌then◌else◌, Option, Some, None, Result, Ok, Err, fold}
+use Rattle.std.specs.Prelude.{ℕ, Bool, nat_eq, if◌then◌else◌, Option, Some, None, Result, Ok, Err, fold}
 use Rattle.pico_base.specs.declared.reply.Errno.{Errno}
 use Rattle.pico_base.specs.declared.reply.Errno.TheVariants.{Einval, Esrch, Echild}
 use Rattle.pico_base.specs.declared.reply.Reply.TheVariants as replies

@@ -1,6 +1,6 @@
 -- What a call does: from a kernel, a process, a call and a number for what the call may create, the next kernel
 -- and the outcome. Where there is no result the call can't stand at that point of a history.
-use Rattle.std.specs.Prelude.{ℕ, ◌%◌, Bool, true, false, not, nat_eq, List, [], if◌then◌else◌, Option, Some, None, is_some}
+use Rattle.std.specs.Prelude.{ℕ, ◌%◌, Bool, true, false, not, nat_eq, [], if◌then◌else◌, Option, Some, None, is_some}
 use Rattle.pico_base.specs.declared.call.Call.{Call}
 use Rattle.pico_base.specs.declared.call.Call.TheVariants as calls
 use Rattle.pico_base.specs.declared.reply.Reply.TheVariants as replies

@@ -1,5 +1,5 @@
 -- Calls in a form that may have to wait. They have no effect here, and no script has them (profile).
-use Rattle.std.specs.Prelude.{pos, Bool, true, false, not, ◌&&◌, int_le}
+use Rattle.std.specs.Prelude.{pos, Bool, false, not, ◌&&◌, int_le}
 use Rattle.std.specs.List.{list_any}
 use Rattle.pico_base.specs.declared.call.Call.{Call}
 use Rattle.pico_base.specs.declared.call.Call.TheVariants as calls
