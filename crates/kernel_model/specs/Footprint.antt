@@ -150,7 +150,7 @@ GrowsBy n outcome before after = (after ≡ before) ⊎ ((after ≡ used_with be
 
 pub record RestStays (parts : List Part) (n : ℕ) (outcome : Outcome) (before after : Kernel) : Type 0 where
   pub processes : (pid : ℕ) → list_any (is_whole pid) parts ≡ false → list_any (is_allowance pid) parts ≡ false
-    → get after.processes pid ≡ get before.processes pid
+      → get after.processes pid ≡ get before.processes pid
   pub rows : (pid : ℕ) → list_any (is_whole pid) parts ≡ false → bare_at after pid ≡ bare_at before pid
   pub queues : (id : ℕ) → list_any (is_queue id) parts ≡ false → get after.queues id ≡ get before.queues id
   pub sets : (id : ℕ) → list_any (is_set id) parts ≡ false → get after.sets id ≡ get before.sets id

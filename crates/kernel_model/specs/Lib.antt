@@ -17,3 +17,4 @@ pub mod Transition
 pub mod Valid
 pub mod Waiting
 pub mod FirstExample
+pub mod Examples

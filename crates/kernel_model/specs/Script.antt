@@ -1,5 +1,5 @@
 -- The lines and calls of a script, and which scripts are sound.
-use Rattle.std.specs.Prelude.{◌≤◌, ℕ, ◌+◌, ℤ, negsuc, pos, Bool, true, false, not, ◌&&◌, ◌||◌, nat_eq, nat_lt, nat_le, int_le, List, [], ◌∷◌, ◌++◌, length, map, if◌then◌else◌, Option, Some, None, is_some, IsTrue, sum_by, count_by}
+use Rattle.std.specs.Prelude.{ℕ, ◌+◌, ℤ, negsuc, pos, Bool, true, false, not, ◌&&◌, ◌||◌, nat_eq, nat_lt, nat_le, int_le, List, [], ◌∷◌, ◌++◌, length, map, if◌then◌else◌, Option, Some, None, is_some, IsTrue, sum_by, count_by}
 use Rattle.std.specs.List.{flat_map, list_all, list_any, enumerate_from}
 use Rattle.std.specs.Map.{lookup}
 use Rattle.std.specs.Option.{unwrap_or}
@@ -233,4 +233,4 @@ pub record IsSound (s : Script) : Type 0 where
   -- no call stands after exit
   pub exits : IsTrue (list_all (λ b. ends_rightly b.lines) s.blocks)
   pub variables : IsTrue (uses_known_from [] 1 s.blocks)
-  pub calls : sum_by calls_in s.blocks ≤ max_calls
+  pub calls : IsTrue (nat_le (sum_by calls_in s.blocks) max_calls)

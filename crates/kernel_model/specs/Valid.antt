@@ -42,9 +42,9 @@ pub record IsValid (k : Kernel) : Type 0 where
   pub alive : (pid : ℕ) (a : Alive) → living_at k pid ≡ Some a → IsAlive k pid a
   -- no two processes list the same child
   pub one_parent : (p q : ℕ) (a b : Alive) (child : ℕ) → living_at k p ≡ Some a → living_at k q ≡ Some b
-    → lists a.row.family child ≡ true → lists b.row.family child ≡ true → p ≡ q
+      → lists a.row.family child ≡ true → lists b.row.family child ≡ true → p ≡ q
   pub one_keeper : (p q : ℕ) (a b : Alive) (child : ℕ) → living_at k p ≡ Some a → living_at k q ≡ Some b
-    → ListsEnded a child → ListsEnded b child → p ≡ q
+      → ListsEnded a child → ListsEnded b child → p ≡ q
   -- an ended process is kept for a living one
   pub kept : (pid : ℕ) (ending : Ending) → get k.processes pid ≡ Some (Ended ending)
-    → (p : ℕ) × (a : Alive) × (living_at k p ≡ Some a) × Contains a.row.family.ended (pid, ending)
+      → (p : ℕ) × (a : Alive) × (living_at k p ≡ Some a) × Contains a.row.family.ended (pid, ending)
