@@ -13,13 +13,19 @@ use Rattle.kernel_model.specs.Kernel.{Kernel, Process, Living, Ended, Gone, Pare
 use Rattle.kernel_model.specs.Effect.{Effect, replied, refused, is_fresh}
 
 -- fork: a new process with a row of its own, which the caller lists
+abbrev pub forking : Alive → ℕ → Alive
+forking a n = record a { row = record { signals = a.row.signals; family = with_child a.row.family n } }
+
+abbrev pub new_child : Alive → Alive
+new_child a = record { row = child_row a.row; allowance = Free }
+
+abbrev pub with_fork : Numbered Process → ℕ → Alive → ℕ → Numbered Process
+with_fork ps pid a n = put (put ps pid (Living (forking a n))) n (Living (new_child a))
+
 abbrev pub forked : Kernel → ℕ → Alive → ℕ → Option Effect
 forked k pid a n =
     if is_fresh k.used_processes n
-    then
-    (let parent : Alive = record a { row = record { signals = a.row.signals; family = with_child a.row.family n } }
-    in let child : Alive = record { row = child_row a.row; allowance = Free }
-    in Some (replied (record k { processes = put (put k.processes pid (Living parent)) n (Living child); used_processes = used_with k.used_processes n }) n))
+    then Some (replied (record k { processes = with_fork k.processes pid a n; used_processes = used_with k.used_processes n }) n)
     else None
 
 -- The end of a process (exit). Its own ended children are gone, and its living ones have no parent. Without a
@@ -27,33 +33,33 @@ forked k pid a n =
 abbrev pub bury : Numbered Process → ℕ × Ending → Numbered Process
 bury ps e = put ps e.0 Gone
 
-abbrev pub buried : Kernel → Family → Kernel
-buried k f = record k { processes = fold bury k.processes f.ended }
+abbrev pub buried : Numbered Process → Family → Numbered Process
+buried ps f = fold bury ps f.ended
 
 abbrev pub kept_as : Bool → Ending → Process
 kept_as ignored ending = if ignored then Gone else Ended ending
 
-abbrev pub ended_under : Kernel → ℕ → Ending → Option Parent → Kernel
-ended_under k pid ending None = record k { processes = put k.processes pid Gone }
-ended_under k pid ending (Some p) =
-    with_alive (record k { processes = put k.processes pid (kept_as (ignores_children p.alive.row) ending) })
-    p.pid (with_ended_child p.alive pid ending)
+abbrev pub ended_under : Numbered Process → ℕ → Ending → Option Parent → Numbered Process
+ended_under ps pid ending None = put ps pid Gone
+ended_under ps pid ending (Some p) =
+    put (put ps pid (kept_as (ignores_children p.alive.row) ending)) p.pid (Living (with_ended_child p.alive pid ending))
+
+abbrev pub with_end : Numbered Process → ℕ → Alive → Ending → Numbered Process
+with_end ps pid a ending = ended_under (buried ps a.row.family) pid ending (parent_in pid ps)
 
 abbrev pub ended : Kernel → ℕ → Alive → Ending → Effect
-ended k pid a ending =
-    record {
-      kernel = ended_under (buried k a.row.family) pid ending (parent_in pid k.processes);
-      reply = replies.Ended;
-    }
+ended k pid a ending = record { kernel = record k { processes = with_end k.processes pid a ending }; reply = replies.Ended }
 
 -- waitpid: the ended child is gone
+abbrev pub reaping : Alive → ℕ → Alive
+reaping a child = record a { row = record { signals = a.row.signals; family = without_ended child a.row.family } }
+
+abbrev pub with_reaped : Numbered Process → ℕ → Alive → ℕ → Numbered Process
+with_reaped ps pid a child = put (put ps pid (Living (reaping a child))) child Gone
+
 abbrev pub reaped : Kernel → ℕ → Alive → Waited → Effect
 reaped k pid a (Found child ending) =
-    let next : Alive = record a { row = record { signals = a.row.signals; family = without_ended child a.row.family } }
-    in record {
-      kernel = record k { processes = put (put k.processes pid (Living next)) child Gone };
-      reply = replies.Child child ending;
-    }
+    record { kernel = record k { processes = with_reaped k.processes pid a child }; reply = replies.Child child ending }
 reaped k pid a NotYet = replied k 0
 reaped k pid a NoChild = refused k Echild
 
