@@ -8,6 +8,7 @@ use Rattle.pico_base.specs.declared.reply.Reply.{Reply}
 use Rattle.pico_base.specs.declared.reply.Reply.TheVariants.{Num, Message, Ended}
 use Rattle.pico_base.specs.declared.reply.Entry.{Entry}
 use Rattle.pico_base.specs.declared.script.Script.{Script}
+use Rattle.kernel_model.specs.Script.{IsSound}
 use Rattle.kernel_model.specs.History.{IsLegal}
 use Rattle.kernel_model.specs.Fitting.{FitsWhole}
 use Rattle.kernel_model.specs.Trace.{trace_text, entries_total, processes_total, not_ready_total, refused_total}
@@ -48,3 +49,18 @@ pub hello_trace : trace_text hello hello_history ≡
     codes "1 msgget private = 1 by 1\n1 msgsnd 1 1 \"hi\" nowait = 0 by 1\n1 msgrcv 1 0 16 nowait = 1 \"hi\" by 1\n1 exit 0 = ended by 1\ntotals entries 4 processes 1 notready 0 refused 0\n"
 unfolding digits entries_total processes_total not_ready_total refused_total
 hello_trace = refl
+
+pub hello_is_sound : IsSound hello
+hello_is_sound =
+    record {
+      size = refl;
+      names = refl;
+      names_apart = refl;
+      forward = refl;
+      forked_once = refl;
+      lines = refl;
+      at_once = refl;
+      exits = refl;
+      variables = refl;
+      calls = refl;
+    }

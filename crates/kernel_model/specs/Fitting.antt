@@ -13,19 +13,7 @@ use Rattle.pico_base.specs.declared.script.Block.{Block}
 use Rattle.pico_base.specs.declared.script.Script.{Script}
 use Rattle.kernel_model.specs.Maps.{Numbered, get, put}
 use Rattle.kernel_model.specs.Script.{Vars, call_of}
-
--- the line that a block's end stands for where its last call isn't exit
-abbrev pub implied_exit : Line
-implied_exit = record { set = None; tries = 1; from = None; call = calls.Exit 0 }
-
-abbrev pub is_exit : Call → Bool
-is_exit (calls.Exit status) = true
-is_exit _ = false
-
--- the lines from here on, with the implied exit
-abbrev pub with_exit : List Line → List Line
-with_exit [] = implied_exit ∷ []
-with_exit (line ∷ lines) = if is_exit line.call then line ∷ [] else line ∷ with_exit lines
+pub use Rattle.kernel_model.specs.Script.{implied_exit, is_exit, with_exit}
 
 -- where a process is in its block: the lines left, how often the first was tried, and its variables
 pub record Place : Type 0 where

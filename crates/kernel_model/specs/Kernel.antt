@@ -45,8 +45,11 @@ alive_in (Ended ending) = None
 alive_in Gone = None
 
 -- the living process of a number
+abbrev pub living_in : Numbered Process → ℕ → Option Alive
+living_in ps pid = option_and_then alive_in (get ps pid)
+
 abbrev pub living_at : Kernel → ℕ → Option Alive
-living_at k pid = option_and_then alive_in (get k.processes pid)
+living_at k pid = living_in k.processes pid
 
 -- a living process's parent: the living process that lists it
 pub record Parent : Type 0 where

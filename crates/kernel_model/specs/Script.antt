@@ -1,10 +1,16 @@
--- Variables and calls of a script.
-use Rattle.std.specs.Prelude.{ℕ, Option, Some, None}
+-- The lines and calls of a script, and which scripts are sound.
+use Rattle.std.specs.Prelude.{ℕ, ◌+◌, ℤ, negsuc, pos, Bool, true, false, not, ◌&&◌, ◌||◌, nat_eq, nat_lt, nat_le, int_le, List, [], ◌∷◌, ◌++◌, length, map, if◌then◌else◌, Option, Some, None, is_some, IsTrue, sum_by, count_by}
+use Rattle.std.specs.List.{flat_map, list_all, list_any, enumerate_from}
+use Rattle.std.specs.Map.{lookup}
 use Rattle.std.specs.Option.{unwrap_or}
 use Rattle.pico_base.specs.declared.call.Call.{Call}
 use Rattle.pico_base.specs.declared.call.Call.TheVariants as calls
+use Rattle.pico_base.specs.declared.call.SemStep.{SemStep}
 use Rattle.pico_base.specs.declared.script.Line.{Line}
+use Rattle.pico_base.specs.declared.script.Block.{Block as ScriptBlock}
+use Rattle.pico_base.specs.declared.script.Script.{Script}
 use Rattle.kernel_model.specs.Maps.{Numbered, get}
+use Rattle.kernel_model.specs.Waiting.{is_waiting}
 
 -- the values of variables, by rising variable
 abbrev pub Vars : Type 0
@@ -41,3 +47,190 @@ call_from call vars (Some v) = naming call (value_of vars v)
 -- the call of a line: the variable's value stands in place of the number
 abbrev pub call_of : Line → Vars → Call
 call_of line vars = call_from line.call vars line.from
+
+-- the line that a block's end stands for where its last call isn't exit
+abbrev pub implied_exit : Line
+implied_exit = record { set = None; tries = 1; from = None; call = calls.Exit 0 }
+
+abbrev pub is_exit : Call → Bool
+is_exit (calls.Exit status) = true
+is_exit _ = false
+
+-- the lines from here on, with the implied exit
+abbrev pub with_exit : List Line → List Line
+with_exit [] = implied_exit ∷ []
+with_exit (line ∷ lines) = if is_exit line.call then line ∷ [] else line ∷ with_exit lines
+
+-- Names of blocks: a lower-case letter, and then at most 31 lower-case letters, digits and underlines.
+
+abbrev pub is_lower : ℕ → Bool
+is_lower b = nat_le 97 b && nat_le b 122
+
+abbrev pub is_name_byte : ℕ → Bool
+is_name_byte b = is_lower b || ((nat_le 48 b && nat_le b 57) || nat_eq b 95)
+
+abbrev pub is_name : List ℕ → Bool
+is_name [] = false
+is_name (b ∷ bs) = is_lower b && (list_all is_name_byte bs && nat_le (length bs) 31)
+
+abbrev pub is_same : List ℕ → List ℕ → Bool
+is_same [] [] = true
+is_same (x ∷ xs) (y ∷ ys) = nat_eq x y && is_same xs ys
+is_same _ _ = false
+
+-- no later block has an earlier one's name
+abbrev pub names_differ : List ScriptBlock → Bool
+names_differ [] = true
+names_differ (b ∷ bs) = not (list_any (λ other. is_same b.name other.name) bs) && names_differ bs
+
+-- Forks: pairs of the block where the line stands and the block that it names, counted from 1.
+
+abbrev pub forked_by : Call → List ℕ
+forked_by (calls.Fork block) = block ∷ []
+forked_by _ = []
+
+abbrev pub forks_of : Script → List (ℕ × ℕ)
+forks_of s = flat_map (λ b. map (λ to. (b.0, to)) (flat_map (λ line. forked_by line.call) b.1.lines)) (enumerate_from 1 s.blocks)
+
+-- of a later block of the script
+abbrev pub goes_forward : Script → ℕ × ℕ → Bool
+goes_forward s fork = nat_lt fork.0 fork.1 && nat_le fork.1 (length s.blocks)
+
+abbrev pub is_forked_once : Script → ℕ → Bool
+is_forked_once s block = nat_eq (count_by (λ fork. nat_eq fork.1 block) (forks_of s)) 1
+
+-- Ranges of arguments, beside those of their types.
+
+abbrev pub is_step_in_range : SemStep → Bool
+is_step_in_range step = int_le (negsuc 65534) step.add && int_le step.add (pos 65535)
+
+abbrev pub is_key : Option ℕ → Bool → Bool → Bool
+is_key None create excl = not create && not excl
+is_key (Some key) create excl = nat_lt 0 key
+
+-- a message's type, as the script may write it
+abbrev pub is_type : ℤ → Bool
+is_type class = int_le (negsuc 2147483646) class
+
+abbrev pub is_between : ℕ → ℕ → ℕ → Bool
+is_between low high n = nat_le low n && nat_le n high
+
+abbrev pub is_in_range : Call → Bool
+is_in_range (calls.Killed sig) = false
+is_in_range (calls.MsgGet key create excl) = is_key key create excl
+is_in_range (calls.MsgSnd id class text nowait) = is_type class && nat_le (length text) 8192
+is_in_range (calls.MsgRcv id class size noerror nowait) = is_type class && nat_le size 65535
+is_in_range (calls.MsgSet id qbytes) = nat_le qbytes 65535
+is_in_range (calls.SemGet key count create excl) = is_key key create excl && nat_le count 65535
+is_in_range (calls.SemOp id steps) = is_between 1 1024 (length steps) && list_all is_step_in_range steps
+is_in_range (calls.SemSetVal id num value) = nat_le value 65535
+is_in_range (calls.SemSetAll id values) = is_between 1 2048 (length values) && list_all (λ v. nat_le v 65535) values
+is_in_range _ = true
+
+-- a call whose process or object a variable can name
+abbrev pub can_name : Call → Bool
+can_name (calls.Kill pid sig) = true
+can_name (calls.WaitPid (Some child) nohang) = true
+can_name (calls.MsgSnd id class text nowait) = true
+can_name (calls.MsgRcv id class size noerror nowait) = true
+can_name (calls.MsgStat id) = true
+can_name (calls.MsgSet id qbytes) = true
+can_name (calls.MsgRmid id) = true
+can_name (calls.SemOp id steps) = true
+can_name (calls.SemGetVal id num) = true
+can_name (calls.SemGetPid id num) = true
+can_name (calls.SemGetNcnt id num) = true
+can_name (calls.SemGetZcnt id num) = true
+can_name (calls.SemSetVal id num value) = true
+can_name (calls.SemGetAll id) = true
+can_name (calls.SemSetAll id values) = true
+can_name (calls.SemRmid id) = true
+can_name _ = false
+
+-- a process number that the script writes isn't 0
+abbrev pub is_process_in_range : Call → Bool
+is_process_in_range (calls.Kill pid sig) = nat_lt 0 pid
+is_process_in_range (calls.WaitPid (Some child) nohang) = nat_lt 0 child
+is_process_in_range _ = true
+
+-- Lines.
+
+abbrev pub max_calls : ℕ
+max_calls = 20000
+
+abbrev pub is_fork : Call → Bool
+is_fork (calls.Fork block) = true
+is_fork _ = false
+
+-- fork and exit aren't tried again, and exit sets no variable
+abbrev pub is_tried_once : Line → Bool
+is_tried_once line = nat_eq line.tries 1 || not (is_fork line.call || is_exit line.call)
+
+abbrev pub sets_rightly : Line → Bool
+sets_rightly line = not (is_some line.set && is_exit line.call)
+
+abbrev pub is_line : Line → Bool
+is_line line =
+    is_between 1 max_calls line.tries && (is_tried_once line && (sets_rightly line && (is_in_range line.call
+    && (if is_some line.from then can_name line.call else is_process_in_range line.call))))
+
+abbrev pub each_line : (Line → Bool) → Script → Bool
+each_line test s = list_all (λ b. list_all test b.lines) s.blocks
+
+-- exit stands last only
+abbrev pub ends_rightly : List Line → Bool
+ends_rightly [] = true
+ends_rightly (line ∷ lines) = (not (is_exit line.call) || nat_eq (length lines) 0) && ends_rightly lines
+
+-- a block's calls, each line counted as often as it may be tried, and the implied exit
+abbrev pub calls_in : ScriptBlock → ℕ
+calls_in block = sum_by (λ line. line.tries) (with_exit block.lines)
+
+-- Variables. A line may use what earlier lines set, and what its block began with: what was known at the fork,
+-- and the variable that the fork sets.
+
+abbrev pub known_with : List ℕ → Option ℕ → List ℕ
+known_with known None = known
+known_with known (Some v) = v ∷ known
+
+abbrev pub is_known : List ℕ → Option ℕ → Bool
+is_known known None = true
+is_known known (Some v) = list_any (nat_eq v) known
+
+abbrev pub uses_known : List ℕ → List Line → Bool
+uses_known known [] = true
+uses_known known (line ∷ lines) = is_known known line.from && uses_known (known_with known line.set) lines
+
+-- the blocks forked in these lines, each with the variables that it begins with
+abbrev pub begun_in : List ℕ → List Line → List (ℕ × List ℕ)
+begun_in known [] = []
+begun_in known (line ∷ lines) =
+    let next : List ℕ = known_with known line.set
+    in map (λ block. (block, next)) (forked_by line.call) ++ begun_in next lines
+
+abbrev pub known_at : List (ℕ × List ℕ) → ℕ → List ℕ
+known_at begun block = unwrap_or (lookup (nat_eq block) begun) []
+
+-- from block k on, where the blocks before it begin these ones
+abbrev pub uses_known_from : List (ℕ × List ℕ) → ℕ → List ScriptBlock → Bool
+uses_known_from begun k [] = true
+uses_known_from begun k (block ∷ blocks) =
+    let known : List ℕ = known_at begun k
+    in uses_known known block.lines && uses_known_from (begun ++ begun_in known block.lines) (k + 1) blocks
+
+-- What holds of each script that is read or generated.
+pub record IsSound (s : Script) : Type 0 where
+  -- 1 to 32 blocks, each with a name of its own
+  pub size : IsTrue (is_between 1 32 (length s.blocks))
+  pub names : IsTrue (list_all (λ b. is_name b.name) s.blocks)
+  pub names_apart : IsTrue (names_differ s.blocks)
+  -- each block but the first is forked by one line, which stands in an earlier block
+  pub forward : IsTrue (list_all (goes_forward s) (forks_of s))
+  pub forked_once : IsTrue (list_all (λ b. nat_eq b.0 1 || is_forked_once s b.0) (enumerate_from 1 s.blocks))
+  -- each line is within its ranges, and in no form that may wait
+  pub lines : IsTrue (each_line is_line s)
+  pub at_once : IsTrue (each_line (λ line. not (is_waiting line.call)) s)
+  -- no call stands after exit
+  pub exits : IsTrue (list_all (λ b. ends_rightly b.lines) s.blocks)
+  pub variables : IsTrue (uses_known_from [] 1 s.blocks)
+  pub calls : IsTrue (nat_le (sum_by calls_in s.blocks) max_calls)
