@@ -1,0 +1,13 @@
+//! The outside: what a run reads its words from, what it writes its text to, and what may hold a
+//! node's thread. Nothing above this crate reads or writes in another way.
+#![tactic(auto)]
+
+mod gate;
+mod outside;
+mod stops;
+mod whole;
+
+pub use gate::{Gate, OpenGate};
+pub use outside::{Failed, Sink, Source};
+pub use stops::{ReadStop, WriteStop};
+pub use whole::{read_all, write_all};
