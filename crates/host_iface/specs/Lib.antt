@@ -1,3 +1,5 @@
 pub mod Faults
+pub mod MemSource
+pub mod MemSink
 pub mod Told
 pub mod Stops

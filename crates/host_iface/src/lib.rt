@@ -3,11 +3,13 @@
 #![tactic(auto)]
 
 mod gate;
+mod memory;
 mod outside;
 mod stops;
 mod whole;
 
 pub use gate::{Gate, OpenGate};
+pub use memory::{CallList, MemSink, MemSource};
 pub use outside::{Failed, Sink, Source};
 pub use stops::{ReadStop, WriteStop};
 pub use whole::{read_all, write_all};

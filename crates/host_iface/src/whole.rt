@@ -23,7 +23,8 @@ pub fn read_all<S: Source>(alloc: Global, source: &mut S, limit: usize) -> Resul
     ensures within { IfOk result (λ bytes. length bytes ≤ limit) }
 
     ensures one_more { IfTooLong result (λ read. length read ≡ limit + 1) }
-    ensures front { IfTooLong result (λ read. S.left source.old ≡ led_by read (S.left source.new)) }
+    ensures front { IfTooLong result (λ read. IfSome (S.left source.old) (λ left. (limit < length left) × (read ≡ take (limit + 1) left))) }
+    ensures rest { IfTooLong result (λ read. S.left source.old ≡ led_by read (S.left source.new)) }
 
     ensures fault { OnReadFault result (HasRisen (S.faults source.old) (S.faults source.new)) }
     ensures faults { S.faults source.old ≤ S.faults source.new }
