@@ -5,11 +5,15 @@
 mod gate;
 mod memory;
 mod outside;
+mod standard;
 mod stops;
+mod sure;
 mod whole;
 
 pub use gate::{Gate, OpenGate};
 pub use memory::{CallList, MemSink, MemSource};
 pub use outside::{Failed, Sink, Source};
+pub use standard::{StdSink, StdSource};
 pub use stops::{ReadStop, WriteStop};
+pub use sure::{SureSink, SureSource};
 pub use whole::{read_all, write_all};
