@@ -3,3 +3,4 @@ pub mod MemSource
 pub mod MemSink
 pub mod Told
 pub mod Stops
+pub mod Standard

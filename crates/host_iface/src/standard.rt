@@ -13,20 +13,30 @@ pub struct StdSource<R> {
 }
 
 impl<R: Read> StdSource<R> {
+    ghost use Rattle.host_iface.specs.Standard.{failed_reads};
+
     /// A source that reads from this reader.
     pub fn new(reader: R) -> Self
-        ensures { ⟦<StdSource<R> as Source>⟧.faults result ≡ 0 }
+        ensures { failed_reads result ≡ 0 }
     {
         StdSource { reader, faults: 0 }
     }
 }
 
 impl<R: Read> Source for StdSource<R> {
+    ghost use Rattle.host_iface.specs.Standard.{failed_reads};
+
     ghost left = { λ _. None };
 
-    ghost faults = { λ s. s.faults };
+    ghost faults = { failed_reads };
 
-    fn read(&mut self, into: &mut [u8]) -> Result<usize, Failed> {
+    fn read(&mut self, into: &mut [u8]) -> Result<usize, Failed>
+        ensures within { IfOk result (λ count. count ≤ length into.new) }
+        ensures same { OnOk result (failed_reads self.new ≡ failed_reads self.old) }
+        ensures one_more { OnErr result (failed_reads self.new ≡ next_count (failed_reads self.old)) }
+        ensures failed { OnErr result (HasRisen (failed_reads self.old) (failed_reads self.new)) }
+        ensures faults { failed_reads self.old ≤ failed_reads self.new }
+    {
         match self.reader.read(into) {
             Ok(count) => Ok(count),
             Err(_) => {
@@ -46,20 +56,31 @@ pub struct StdSink<W> {
 }
 
 impl<W: Write> StdSink<W> {
+    ghost use Rattle.host_iface.specs.Standard.{failed_writes};
+
     /// A sink that writes to this writer.
     pub fn new(writer: W) -> Self
-        ensures { ⟦<StdSink<W> as Sink>⟧.faults result ≡ 0 }
+        ensures { failed_writes result ≡ 0 }
     {
         StdSink { writer, faults: 0 }
     }
 }
 
 impl<W: Write> Sink for StdSink<W> {
+    ghost use Rattle.host_iface.specs.Standard.{failed_writes};
+
     ghost taken = { λ _. None };
 
-    ghost faults = { λ s. s.faults };
+    ghost faults = { failed_writes };
 
-    fn write(&mut self, piece: &[u8]) -> Result<usize, Failed> {
+    fn write(&mut self, piece: &[u8]) -> Result<usize, Failed>
+        ensures within { IfOk result (λ count. count ≤ length piece.now) }
+        ensures some { IfOk result (λ count. 0 < length piece.now → 0 < count) }
+        ensures same { OnOk result (failed_writes self.new ≡ failed_writes self.old) }
+        ensures one_more { OnErr result (failed_writes self.new ≡ next_count (failed_writes self.old)) }
+        ensures failed { OnErr result (HasRisen (failed_writes self.old) (failed_writes self.new)) }
+        ensures faults { failed_writes self.old ≤ failed_writes self.new }
+    {
         match self.writer.write(piece) {
             Ok(count) if count > 0 || piece.is_empty() => Ok(count),
             _ => {
