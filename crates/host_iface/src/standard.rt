@@ -1,4 +1,5 @@
 ghost use Rattle.std.specs.Prelude.{◌≡◌, ◌<◌, ◌≤◌, None, length, IfOk, OnOk, OnErr};
+ghost use Rattle.std.specs.Io.KnownBytes.{ReadConsumes, WriteAppends};
 ghost use Rattle.host_iface.specs.Faults.{next_count, HasRisen};
 
 use crate::{Failed, Sink, Source};
@@ -13,18 +14,19 @@ pub struct StdSource<R> {
 }
 
 impl<R: Read> StdSource<R> {
-    ghost use Rattle.host_iface.specs.Standard.{failed_reads};
+    ghost use Rattle.host_iface.specs.Standard.{failed_reads, reader_of};
 
     /// A source that reads from this reader.
     pub fn new(reader: R) -> Self
-        ensures { failed_reads result ≡ 0 }
+        ensures faults { failed_reads result ≡ 0 }
+        ensures reader { reader_of result ≡ reader }
     {
         StdSource { reader, faults: 0 }
     }
 }
 
 impl<R: Read> Source for StdSource<R> {
-    ghost use Rattle.host_iface.specs.Standard.{failed_reads};
+    ghost use Rattle.host_iface.specs.Standard.{failed_reads, reader_of};
 
     ghost left = { λ _. None };
 
@@ -32,6 +34,10 @@ impl<R: Read> Source for StdSource<R> {
 
     fn read(&mut self, into: &mut [u8]) -> Result<usize, Failed>
         ensures within { IfOk result (λ count. count ≤ length into.new) }
+
+        // The bytes are those of the reader, where that is one whose bytes are known.
+        ensures bytes { ReadConsumes (R.remaining (reader_of self.old)) (R.remaining (reader_of self.new)) result into.new }
+
         ensures same { OnOk result (failed_reads self.new ≡ failed_reads self.old) }
         ensures one_more { OnErr result (failed_reads self.new ≡ next_count (failed_reads self.old)) }
         ensures failed { OnErr result (HasRisen (failed_reads self.old) (failed_reads self.new)) }
@@ -56,18 +62,19 @@ pub struct StdSink<W> {
 }
 
 impl<W: Write> StdSink<W> {
-    ghost use Rattle.host_iface.specs.Standard.{failed_writes};
+    ghost use Rattle.host_iface.specs.Standard.{failed_writes, writer_of};
 
     /// A sink that writes to this writer.
     pub fn new(writer: W) -> Self
-        ensures { failed_writes result ≡ 0 }
+        ensures faults { failed_writes result ≡ 0 }
+        ensures writer { writer_of result ≡ writer }
     {
         StdSink { writer, faults: 0 }
     }
 }
 
 impl<W: Write> Sink for StdSink<W> {
-    ghost use Rattle.host_iface.specs.Standard.{failed_writes};
+    ghost use Rattle.host_iface.specs.Standard.{failed_writes, writer_of};
 
     ghost taken = { λ _. None };
 
@@ -76,6 +83,10 @@ impl<W: Write> Sink for StdSink<W> {
     fn write(&mut self, piece: &[u8]) -> Result<usize, Failed>
         ensures within { IfOk result (λ count. count ≤ length piece.now) }
         ensures some { IfOk result (λ count. 0 < length piece.now → 0 < count) }
+
+        // The bytes go to the writer, where that is one whose bytes are known.
+        ensures bytes { WriteAppends (W.contents (writer_of self.old)) (W.contents (writer_of self.new)) result piece.now }
+
         ensures same { OnOk result (failed_writes self.new ≡ failed_writes self.old) }
         ensures one_more { OnErr result (failed_writes self.new ≡ next_count (failed_writes self.old)) }
         ensures failed { OnErr result (HasRisen (failed_writes self.old) (failed_writes self.new)) }

@@ -57,6 +57,7 @@ impl Source for SureSource {
 pub struct SureSink;
 
 impl SureSink {
+    /// The sink: there is only one such value.
     pub fn new() -> Self {
         SureSink
     }
