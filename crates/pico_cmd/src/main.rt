@@ -1,6 +1,7 @@
 //! The program `pico`: it runs a script of processes and writes a trace.
 #![tactic(auto)]
 
+mod node;
 mod print;
 mod queue;
 mod text;

@@ -1,0 +1,7 @@
+use Rattle.std.proofs.Common.{ap, ◌+◌, ◌∙◌, length}
+use Rattle.pico_cmd.proofs.Makes.{made_queue}
+use Rattle.pico_cmd.proofs.node.get_private.Goals as goal
+
+pub returns : goal.returns
+returns c =
+    made_queue _ _ _ _ c.new.ensures c.in_ok-push.ensures.items (ap (λ n. n + 1) (ap length c.as_slice.ensures.value))
