@@ -1,6 +1,7 @@
 -- Reading from left to right, as the code does. What the answers mean is said by `Fault`.
 use Rattle.std.specs.Prelude.{◌≡◌, ℕ, ◌+◌, ◌-◌, ◌*◌, Bool, true, false, ◌&&◌, ◌||◌, not, ◌==◌, nat_lt, nat_le, List, [], ◌∷◌, ◌++◌, length, take, drop, slice_index_or, slice_set, replicate, codes, bytes_eq, if◌then◌else◌, Option, Some, None, option_map, option_and_then, Result, Ok, Err}
 use Rattle.std.specs.List.{list_all}
+use Rattle.std.specs.Option.{option_map_or}
 use Rattle.pico_base.specs.declared.script.Line.{Line}
 use Rattle.pico_base.specs.declared.script.Block.{Block}
 use Rattle.script_reader.specs.declared.fault.ScriptFault.TheVariants.{ScriptTooLong, NotBuilt}
@@ -173,7 +174,8 @@ ending (Whole block) number = Ok block
 -- the block of these lines, the first of which has this number; or the number of the first that isn't built
 unfoldable pub block_from : State → ℕ → List (List ℕ) → Result Block ℕ
 block_from state number [] = ending state number
-block_from state number (line ∷ lines) = elim (step state line) [ None ↦ Err number | Some next ↦ block_from next (number + 1) lines ]
+block_from state number (line ∷ lines) =
+    option_map_or (λ next. block_from next (number + 1) lines) (step state line) (Err number)
 
 -- What a function returned is what reading gives, unless memory ran out.
 abbrev pub Fails : ScriptStop → Result Block ℕ → Type 0

@@ -49,6 +49,7 @@ fn next_line(bytes: &[u8]) -> Option<(&[u8], &[u8])>
 }
 
 /// The block that ends here, where nothing follows it.
+#[tactic(auto, unfolding(crate::specs::Reading::block_from, crate::specs::Reading::step))]
 fn whole_block(name: Bytes, lines: Lines, rest: &[u8], number: u32) -> Result<Block, ScriptStop>
     ensures { Gives result (block_from (Whole (record { name = name; lines = lines })) number (lines_of rest.now)) }
 {
@@ -59,6 +60,7 @@ fn whole_block(name: Bytes, lines: Lines, rest: &[u8], number: u32) -> Result<Bl
 }
 
 /// The block of this name, from its second line on.
+#[tactic(auto, unfolding(crate::specs::Reading::block_from, crate::specs::Reading::step))]
 fn block_behind(alloc: Global, name: Bytes, text: &[u8]) -> Result<Block, ScriptStop>
     ensures { Gives result (block_from (Inside name none_set []) 2 (lines_of text.now)) }
 {
@@ -85,6 +87,7 @@ fn block_behind(alloc: Global, name: Bytes, text: &[u8]) -> Result<Block, Script
 }
 
 /// The one block of a text.
+#[tactic(auto, unfolding(crate::specs::Reading::block_from, crate::specs::Reading::step))]
 fn block_of(alloc: Global, bytes: &[u8]) -> Result<Block, ScriptStop>
     ensures { Gives result (block_from Start 1 (lines_of bytes.now)) }
 {
