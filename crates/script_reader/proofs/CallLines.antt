@@ -3,12 +3,12 @@ use Rattle.std.proofs.Common.{◌≡◌, ◌≢◌, ◌⊎◌, inl, inr, ℕ, ze
 use Rattle.std.specs.Prelude.{codes, bytes_eq, decimal, option_map, All}
 use Rattle.std.specs.List.{list_all}
 use Rattle.std.specs.Fmt.{signed_decimal}
-use Rattle.std.proofs.lemmas.Bool.{and_parts, and_from, eqb-true, eqb-false, ne_eqb, not-true, not_from_false, ltb-false, le-ltb}
-use Rattle.std.proofs.lemmas.Option.{same_Some}
+use Rattle.std.proofs.lemmas.Bool.{and_parts, and_from, eqb-true, eqb-false, ne_eqb, not-true, not_from_false, ltb-false, le-ltb, false_from_ne_true}
+use Rattle.std.proofs.lemmas.Option.{same_Some, none-some}
 use Rattle.std.proofs.lemmas.Slice.Eq.{bytes_eq-Decides}
 use Rattle.std.proofs.lemmas.Fmt.{decimal_digit}
 use Rattle.pico_base.specs.declared.script.Line.{Line}
-use Rattle.script_reader.specs.Spelling.{variable_text, line_text}
+use Rattle.script_reader.specs.Spelling.{variable_text, line_text, end_text}
 use Rattle.script_reader.specs.Form.{IsTextByte, IsSet, get_line, send_line, receive_line, IsGet, IsSend, IsReceive, IsCallLine}
 use Rattle.script_reader.specs.Reading.{◌>>=◌, strip, strip_end, is_text_byte, digit_at, variable_at, number_at, set_variable_at, send_at, receive_at, get_at, send_of, receive_of, form_at, call_line_at}
 use Rattle.script_reader.proofs.Tests.{bind_some, chosen, not_chosen, none_from}
@@ -227,15 +227,15 @@ not_send : (rest : List ℕ) → strip send_word (receive_word ++ rest) ≡ None
 unfolding strip
 not_send rest = refl
 
-no_word : (first : ℕ) (word : List ℕ) (v : ℕ) → v ≤ 2885 → get_or word 1 0 ≡ 115 → (x : List ℕ) → got_text v ≡ word ++ x → get_or (word ++ x) 1 0 ≡ 115 → ⊥
-no_word first word v small second x e h =
+no_word : (word : List ℕ) (v : ℕ) → v ≤ 2885 → get_or word 1 0 ≡ 115 → (x : List ℕ) → got_text v ≡ word ++ x → get_or (word ++ x) 1 0 ≡ 115 → ⊥
+no_word word v small second x e h =
     omega (arith, behind_letter v 32 (codes "= msgget private") small, ap (λ (r : List ℕ). get_or r 1 0) e, h)
 
 not_word_send : (v : ℕ) → v ≤ 2885 → strip send_word (got_text v) ≡ None
-not_word_send v small = none_from (strip send_word (got_text v)) (λ x e. no_word 0 send_word v small refl x (strip_takes send_word (got_text v) x e) refl)
+not_word_send v small = none_from (strip send_word (got_text v)) (λ x e. no_word send_word v small refl x (strip_takes send_word (got_text v) x e) refl)
 
 not_word_receive : (v : ℕ) → v ≤ 2885 → strip receive_word (got_text v) ≡ None
-not_word_receive v small = none_from (strip receive_word (got_text v)) (λ x e. no_word 0 receive_word v small refl x (strip_takes receive_word (got_text v) x e) refl)
+not_word_receive v small = none_from (strip receive_word (got_text v)) (λ x e. no_word receive_word v small refl x (strip_takes receive_word (got_text v) x e) refl)
 
 -- what flags must say of the lines before
 abbrev pub Serves : List Bool → List Line → Type 0
@@ -261,3 +261,24 @@ pub call_line_again : (flags : List Bool) (before : List Line) (line : Line) →
 unfolding call_line_at
 call_line_again flags before line serves h =
     rw (le-ltb 4096 (length (line_text line)) h.short) (form_again flags before line serves h.form)
+
+-- no call line is the line that ends a block
+not_end_of : (before : List Line) (line : Line) → IsGet line ⊎ (IsSend before line ⊎ IsReceive before line) → bytes_eq (line_text line) end_text ≡ false
+not_end_of before line (inl h) =
+    let text : line_text line ≡ got_text h.variable = ap line_text h.is_line ∙ line_text-get h.variable in
+    false_from_ne_true (bytes_eq (line_text line) end_text) (λ e.
+        let same : line_text line ≡ end_text = (bytes_eq-Decides (line_text line) end_text).0 e in
+        omega (arith, behind_letter h.variable 32 (codes "= msgget private") h.index, ap (λ (r : List ℕ). get_or r 1 0) (sym text ∙ same)))
+not_end_of before line (inr (inl h)) = rw (ap line_text h.is_line ∙ line_text-send h.variable h.class h.text h.class_high) refl
+not_end_of before line (inr (inr h)) = rw (ap line_text h.is_line ∙ line_text-receive h.variable h.size) refl
+
+pub not_end : (before : List Line) (line : Line) → IsCallLine before line → bytes_eq (line_text line) end_text ≡ false
+not_end before line h = not_end_of before line h.form
+
+-- a variable that a call line sets
+pub set_small : (before : List Line) (line : Line) (v : ℕ) → IsGet line ⊎ (IsSend before line ⊎ IsReceive before line) → line.set ≡ Some v → v ≤ 2885
+set_small before line v (inl h) e =
+    let same : h.variable ≡ v = same_Some h.variable v (sym (ap (λ (l : Line). l.set) h.is_line) ∙ e) in
+    omega (arith, same, h.index)
+set_small before line v (inr (inl h)) e = absurd (none-some v (sym (ap (λ (l : Line). l.set) h.is_line) ∙ e))
+set_small before line v (inr (inr h)) e = absurd (none-some v (sym (ap (λ (l : Line). l.set) h.is_line) ∙ e))

@@ -6,3 +6,5 @@ pub mod Numbers
 pub mod Variables
 pub mod Bytes
 pub mod CallLines
+pub mod Flags
+pub mod Machine
