@@ -55,7 +55,7 @@ abbrev sent_at : ℕ × List ℕ → Option (ℕ × ℕ × List ℕ)
 sent_at v = strip (codes " ") v.1 >>= λ behind. digit_at behind >>= class_at v.0
 
 -- what a send's parts are spelled as
-abbrev sent_text : ℕ → ℕ → List ℕ → List ℕ
+abbrev pub sent_text : ℕ → ℕ → List ℕ → List ℕ
 sent_text v t text = variable_text v ++ (codes " " ++ ((48 + t) ∷ (codes " \"" ++ (text ++ codes "\" nowait"))))
 
 record IsSent (flags : List Bool) (bytes : List ℕ) (v t : ℕ) (text : List ℕ) : Type 0 where
@@ -102,7 +102,7 @@ size_of v digits = number_at digits >>= λ size. Some (v, size)
 abbrev received_at : ℕ × List ℕ → Option (ℕ × ℕ)
 received_at v = strip (codes " 0 ") v.1 >>= λ behind. strip_end (codes " nowait") behind >>= size_of v.0
 
-abbrev received_text : ℕ → ℕ → List ℕ
+abbrev pub received_text : ℕ → ℕ → List ℕ
 received_text v size = variable_text v ++ (codes " 0 " ++ (decimal size ++ codes " nowait"))
 
 record IsReceived (flags : List Bool) (bytes : List ℕ) (v size : ℕ) : Type 0 where
@@ -138,7 +138,7 @@ receive_again flags bytes v size h =
 abbrev if_get : ℕ × List ℕ → Option ℕ
 if_get v = cond (bytes_eq v.1 (codes " = msgget private")) (Some v.0) None
 
-abbrev got_text : ℕ → List ℕ
+abbrev pub got_text : ℕ → List ℕ
 got_text v = variable_text v ++ codes " = msgget private"
 
 get_takes : (bytes : List ℕ) (v : ℕ) → get_at bytes ≡ Some v → (v ≤ 2885) × (bytes ≡ got_text v)
@@ -157,21 +157,21 @@ get_again v small = rw (variable_again v (codes " = msgget private") small (no_d
 
 -- ---- a call line
 
-abbrev send_word : List ℕ
+abbrev pub send_word : List ℕ
 send_word = codes "msgsnd $"
 
-abbrev receive_word : List ℕ
+abbrev pub receive_word : List ℕ
 receive_word = codes "msgrcv $"
 
-line_text-send : (v t : ℕ) (text : List ℕ) → t ≤ 9 → line_text (send_line v t text) ≡ send_word ++ sent_text v t text
+pub line_text-send : (v t : ℕ) (text : List ℕ) → t ≤ 9 → line_text (send_line v t text) ≡ send_word ++ sent_text v t text
 unfolding line_text
 line_text-send v t text small = rw (decimal_digit t (omega arith)) refl
 
-line_text-receive : (v size : ℕ) → line_text (receive_line v size) ≡ receive_word ++ received_text v size
+pub line_text-receive : (v size : ℕ) → line_text (receive_line v size) ≡ receive_word ++ received_text v size
 unfolding line_text
 line_text-receive v size = rw (decimal_digit 0 (omega arith)) refl
 
-line_text-get : (v : ℕ) → line_text (get_line v) ≡ got_text v
+pub line_text-get : (v : ℕ) → line_text (get_line v) ≡ got_text v
 unfolding line_text
 line_text-get v = append_assoc (variable_text v) (codes " = ") (codes "msgget private")
 

@@ -8,3 +8,5 @@ pub mod Bytes
 pub mod CallLines
 pub mod Flags
 pub mod Machine
+pub mod Plain
+pub mod Scripts

@@ -1,14 +1,16 @@
 -- Reading from left to right, as the code does. What the answers mean is said by `Fault`.
-use Rattle.std.specs.Prelude.{◌≡◌, ℕ, ◌+◌, ◌-◌, ◌*◌, Bool, true, false, ◌&&◌, ◌||◌, not, ◌==◌, nat_lt, nat_le, List, [], ◌∷◌, ◌++◌, length, take, drop, slice_index_or, slice_set, replicate, codes, bytes_eq, if◌then◌else◌, Option, Some, None, option_map, option_and_then, Result, Ok, Err}
+use Rattle.std.specs.Prelude.{◌≡◌, ℕ, ◌+◌, ◌-◌, ◌*◌, Bool, true, false, ◌&&◌, ◌||◌, not, ◌==◌, nat_lt, nat_le, List, [], ◌∷◌, ◌++◌, length, take, drop, slice_index_or, slice_set, replicate, codes, bytes_eq, count_by, if◌then◌else◌, Option, Some, None, option_map, option_and_then, Result, Ok, Err}
 use Rattle.std.specs.List.{list_all}
 use Rattle.std.specs.Option.{option_map_or}
 use Rattle.pico_base.specs.declared.script.Line.{Line}
 use Rattle.pico_base.specs.declared.script.Block.{Block}
+use Rattle.pico_base.specs.declared.script.Script.{Script}
 use Rattle.script_reader.specs.declared.fault.ScriptFault.TheVariants.{ScriptTooLong, NotBuilt}
 use Rattle.script_reader.specs.declared.fault.ScriptStop.{ScriptStop}
 use Rattle.script_reader.specs.declared.fault.ScriptStop.TheVariants.{Memory, At}
 use Rattle.script_reader.specs.Spelling.{end_text}
 use Rattle.script_reader.specs.Form.{get_line, send_line, receive_line}
+use Rattle.script_reader.specs.Fault.{lines_of}
 
 infixl 10 ◌>>=◌
 abbrev pub ◌>>=◌ : {A B : Type 0} → Option A → (A → Option B) → Option B
@@ -177,6 +179,18 @@ block_from state number [] = ending state number
 block_from state number (line ∷ lines) =
     option_map_or (λ next. block_from next (number + 1) lines) (step state line) (Err number)
 
+-- the script of that block, or the fault
+abbrev pub script_from : Result Block ℕ → Result Script ScriptStop
+script_from (Ok block) = Ok (record { blocks = block ∷ [] })
+script_from (Err line) = Err (At line NotBuilt)
+
+-- what the bytes give, where memory lasts
+unfoldable pub outcome : List ℕ → Result Script ScriptStop
+outcome bytes =
+    if nat_lt 1048576 (length bytes)
+    then Err (At (1 + count_by (λ b. b == 10) (take 1048576 bytes)) ScriptTooLong)
+    else script_from (block_from Start 1 (lines_of bytes))
+
 -- What a function returned is what reading gives, unless memory ran out.
 abbrev pub Fails : ScriptStop → Result Block ℕ → Type 0
 Fails Memory read = Unit {0}
@@ -186,3 +200,11 @@ Fails (At line NotBuilt) read = read ≡ Err line
 abbrev pub Gives : Result Block ScriptStop → Result Block ℕ → Type 0
 Gives (Ok block) read = read ≡ Ok block
 Gives (Err stop) read = Fails stop read
+
+abbrev pub Stops : ScriptStop → Result Script ScriptStop → Type 0
+Stops Memory read = Unit {0}
+Stops (At line fault) read = read ≡ Err (At line fault)
+
+abbrev pub GivesScript : Result Script ScriptStop → Result Script ScriptStop → Type 0
+GivesScript (Ok script) read = read ≡ Ok script
+GivesScript (Err stop) read = Stops stop read

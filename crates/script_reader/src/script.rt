@@ -1,12 +1,12 @@
 //! The script, line after line.
 
-ghost use Rattle.std.specs.Prelude.{◌≡◌, ◌⊎◌, ◌+◌, ◌<◌, ◌≤◌, ◌==◌, ℕ, IfOk, IfErr, IfSome, MatchOption, [], ◌∷◌, length, position, count_by, Ok, Err};
+ghost use Rattle.std.specs.Prelude.{◌≡◌, ◌⊎◌, ◌+◌, ◌<◌, ◌≤◌, ◌==◌, ℕ, IfOk, IfErr, IfSome, MatchOption, [], ◌∷◌, length, take, position, count_by, Ok, Err};
 ghost use Rattle.pico_base.specs.declared.script.Script.{Script as ScriptValue};
 ghost use Rattle.script_reader.specs.declared.fault.ScriptFault.{ScriptFault as FaultValue};
 ghost use Rattle.script_reader.specs.Form.{IsBuilt};
 ghost use Rattle.script_reader.specs.Fault.{lines_of, Reads, IsFirstFault, HasFault};
 ghost use Rattle.script_reader.specs.Reading.State.{Start, Inside, Whole};
-ghost use Rattle.script_reader.specs.Reading.{none_set, block_from, Gives};
+ghost use Rattle.script_reader.specs.Reading.{none_set, block_from, script_from, outcome, Gives, GivesScript};
 
 use crate::call_line::{Flags, call_line, opening};
 use crate::fault::{ScriptFault, ScriptStop};
@@ -100,6 +100,47 @@ fn block_of(alloc: Global, bytes: &[u8]) -> Result<Block, ScriptStop>
     block_behind(alloc, Bytes::from_slice(alloc, name)?, rest)
 }
 
+/// How many line feeds there are.
+fn line_feeds(bytes: &[u8]) -> u32
+    requires { length bytes.now ≤ 1048576 }
+    ensures value { result ≡ count_by (λ b. b == 10) bytes.now }
+    ensures small { result ≤ 1048576 }
+{
+    bytes.iter().filter(|b| **b == b'\n').count() as u32
+}
+
+/// A script of at most 1,048,576 bytes.
+fn short_script(alloc: Global, bytes: &[u8]) -> Result<Script, ScriptStop>
+    ensures { GivesScript result (script_from (block_from Start 1 (lines_of bytes.now))) }
+{
+    let block = block_of(alloc, bytes)?;
+    let mut blocks = Sequence::new(alloc);
+    blocks.push(block)?;
+    Ok(Script { blocks })
+}
+
+/// The fault of more than 1,048,576 bytes, at the line of the first byte too many.
+fn too_long(bytes: &[u8]) -> ScriptStop
+    requires { 1048576 < length bytes.now }
+    ensures { result ≡ ScriptStop.At (1 + count_by (λ b. b == 10) (take 1048576 bytes.now)) ScriptFault.ScriptTooLong }
+{
+    ScriptStop::At {
+        line: 1 + line_feeds(&bytes[..MAX_BYTES]),
+        fault: ScriptFault::ScriptTooLong,
+    }
+}
+
+#[tactic(auto, unfolding(crate::specs::Reading::outcome))]
+fn read(alloc: Global, bytes: &[u8]) -> Result<Script, ScriptStop>
+    ensures { GivesScript result (outcome bytes.now) }
+{
+    if bytes.len() > MAX_BYTES {
+        Err(too_long(bytes))
+    } else {
+        short_script(alloc, bytes)
+    }
+}
+
 /// The script that the bytes are the text of. Until more is built a script is one block, whose lines are
 /// `VAR = msgget private`, `msgsnd $VAR T "X" nowait` and `msgrcv $VAR 0 Z nowait`.
 ///
@@ -116,23 +157,5 @@ pub fn read_script(alloc: Global, bytes: &[u8]) -> Result<Script, ScriptStop>
     ensures only { (script : ScriptValue) → Reads bytes.now script → (result ≡ Ok script) ⊎ (result ≡ Err ScriptStop.Memory) }
     ensures only_fault { (line : ℕ) (fault : FaultValue) → IsFirstFault bytes.now line fault → (result ≡ Err (ScriptStop.At line fault)) ⊎ (result ≡ Err ScriptStop.Memory) }
 {
-    if bytes.len() > MAX_BYTES {
-        return Err(ScriptStop::At {
-            line: 1 + line_feeds(&bytes[..MAX_BYTES]),
-            fault: ScriptFault::ScriptTooLong,
-        });
-    }
-    let block = block_of(alloc, bytes)?;
-    let mut blocks = Sequence::new(alloc);
-    blocks.push(block)?;
-    Ok(Script { blocks })
-}
-
-/// How many line feeds there are.
-fn line_feeds(bytes: &[u8]) -> u32
-    requires { length bytes.now ≤ 1048576 }
-    ensures value { result ≡ count_by (λ b. b == 10) bytes.now }
-    ensures small { result ≤ 1048576 }
-{
-    bytes.iter().filter(|b| **b == b'\n').count() as u32
+    read(alloc, bytes)
 }
