@@ -58,6 +58,9 @@ sent_at v = strip (codes " ") v.1 >>= λ behind. digit_at behind >>= class_at v.
 abbrev pub sent_text : ℕ → ℕ → List ℕ → List ℕ
 sent_text v t text = variable_text v ++ (codes " " ++ ((48 + t) ∷ (codes " \"" ++ (text ++ codes "\" nowait"))))
 
+sent_parts : (bytes r0 r1 r2 r3 text : List ℕ) (v t : ℕ) → bytes ≡ variable_text v ++ r0 → r0 ≡ codes " " ++ r1 → r1 ≡ (48 + t) ∷ r2 → r2 ≡ codes " \"" ++ r3 → r3 ≡ text ++ codes "\" nowait" → bytes ≡ sent_text v t text
+sent_parts bytes r0 r1 r2 r3 text v t e0 e1 e2 e3 e4 = rw (e0, e1, e2, e3, e4) refl
+
 record IsSent (flags : List Bool) (bytes : List ℕ) (v t : ℕ) (text : List ℕ) : Type 0 where
   index : v ≤ 2885
   set : get_or flags v false ≡ true
@@ -79,10 +82,7 @@ send_takes flags bytes p e =
     let q = and_parts (not (eqb c.0.0 0)) (list_all is_text_byte f.0) t.0 in
     let digit = digit_takes b.0 c.0.0 c.0.1 c.1 in
     let some : c.0.0 ≡ 0 → ⊥ = eqb-false c.0.0 0 (not-true (eqb c.0.0 0) q.0) in
-    let whole : bytes ≡ sent_text a.0.0 c.0.0 f.0 =
-        v.1 ∙ ap (λ r. variable_text a.0.0 ++ r) (strip_takes (codes " ") a.0.1 b.0 b.1
-            ∙ ap (λ r. codes " " ++ r) (digit.0 ∙ ap (λ r. (48 + c.0.0) ∷ r) (strip_takes (codes " \"") c.0.1 d.0 d.1
-                ∙ ap (λ r. codes " \"" ++ r) (strip_end_takes (codes "\" nowait") d.0 f.0 f.1)))) in
+    let whole = sent_parts bytes a.0.1 b.0 c.0.1 d.0 f.0 a.0.0 c.0.0 v.1 (strip_takes (codes " ") a.0.1 b.0 b.1) digit.0 (strip_takes (codes " \"") c.0.1 d.0 d.1) (strip_end_takes (codes "\" nowait") d.0 f.0 f.1) in
     let P : ℕ × ℕ × List ℕ → Type 0 = λ w. IsSent flags bytes w.0 w.1 w.2 in
     subst P (same_Some (a.0.0, c.0.0, f.0) p t.1) (record { index = v.0; set = v.2; low = omega arith; high = digit.1; plain = q.1; is_text = whole })
 
@@ -105,6 +105,9 @@ received_at v = strip (codes " 0 ") v.1 >>= λ behind. strip_end (codes " nowait
 abbrev pub received_text : ℕ → ℕ → List ℕ
 received_text v size = variable_text v ++ (codes " 0 " ++ (decimal size ++ codes " nowait"))
 
+received_parts : (bytes r0 r1 digits : List ℕ) (v size : ℕ) → bytes ≡ variable_text v ++ r0 → r0 ≡ codes " 0 " ++ r1 → r1 ≡ digits ++ codes " nowait" → digits ≡ decimal size → bytes ≡ received_text v size
+received_parts bytes r0 r1 digits v size e0 e1 e2 e3 = rw (e0, e1, e2, e3) refl
+
 record IsReceived (flags : List Bool) (bytes : List ℕ) (v size : ℕ) : Type 0 where
   index : v ≤ 2885
   set : get_or flags v false ≡ true
@@ -120,9 +123,7 @@ receive_takes flags bytes p e =
     let c = bind_some (strip_end (codes " nowait") b.0) (size_of a.0.0) p b.2 in
     let d = bind_some (number_at c.0) (λ size. Some (a.0.0, size)) p c.2 in
     let n = number_takes c.0 d.0 d.1 in
-    let whole : bytes ≡ received_text a.0.0 d.0 =
-        v.1 ∙ ap (λ r. variable_text a.0.0 ++ r) (strip_takes (codes " 0 ") a.0.1 b.0 b.1
-            ∙ ap (λ r. codes " 0 " ++ r) (strip_end_takes (codes " nowait") b.0 c.0 c.1 ∙ ap (λ r. r ++ codes " nowait") n.0)) in
+    let whole = received_parts bytes a.0.1 b.0 c.0 a.0.0 d.0 v.1 (strip_takes (codes " 0 ") a.0.1 b.0 b.1) (strip_end_takes (codes " nowait") b.0 c.0 c.1) n.0 in
     let P : ℕ × ℕ → Type 0 = λ w. IsReceived flags bytes w.0 w.1 in
     subst P (same_Some (a.0.0, d.0) p d.2) (record { index = v.0; set = v.2; high = n.1; is_text = whole })
 

@@ -2,9 +2,11 @@
 #![tactic(auto)]
 
 mod call_line;
+mod calls;
 mod fault;
 mod parts;
 mod script;
 
+pub use calls::call_with;
 pub use fault::{ScriptFault, ScriptStop};
 pub use script::read_script;
