@@ -1,0 +1,12 @@
+pub mod Strips
+pub mod Lines
+pub mod Steps
+pub mod Tests
+pub mod Numbers
+pub mod Variables
+pub mod Bytes
+pub mod CallLines
+pub mod Flags
+pub mod Machine
+pub mod Plain
+pub mod Scripts

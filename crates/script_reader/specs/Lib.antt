@@ -1,0 +1,4 @@
+pub mod Spelling
+pub mod Form
+pub mod Fault
+pub mod Reading
