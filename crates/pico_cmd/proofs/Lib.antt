@@ -1,3 +1,5 @@
 pub mod Appends
+pub mod Lines
 pub mod Makes
 pub mod Numbered
+pub mod Runs

@@ -1,16 +1,18 @@
 -- What a run of one process comes to.
-use Rattle.std.specs.Prelude.{◌≡◌, ℕ, List, [], ◌∷◌, Some}
+use Rattle.std.specs.Prelude.{◌≡◌, ◌<◌, ℕ, List, [], ◌∷◌, length, Some}
 use Rattle.std.specs.List.{AllByRecursion}
 use Rattle.pico_base.specs.declared.call.Call.{Call}
 use Rattle.pico_base.specs.declared.reply.Reply.{Reply}
 use Rattle.pico_base.specs.declared.reply.Entry.{Entry}
 use Rattle.pico_base.specs.declared.script.Line.{Line}
+use Rattle.pico_base.specs.declared.script.Block.{Block}
 use Rattle.pico_base.specs.declared.script.Script.{Script}
 use Rattle.kernel_model.specs.Queue.{Queue}
 use Rattle.kernel_model.specs.Kernel.{opening}
 use Rattle.kernel_model.specs.Script.{Vars}
 use Rattle.kernel_model.specs.History.{IsLegal, Replays}
 use Rattle.kernel_model.specs.Fitting.{Place, FitsWhole, Follows, opening_places, with_exit}
+use Rattle.script_reader.specs.Form.{AreCallLines}
 use Rattle.pico_cmd.specs.Node.{kernel_with}
 
 -- node 1 carried it out
@@ -37,3 +39,9 @@ pub record IsUnderWay (script : Script) (lines : List Line) (vars : Vars) (queue
   pub legal : Replays opening history (kernel_with queues)
   pub fits : Follows script (opening_places script) history ((1, place_before lines vars) ∷ [])
   pub owner : AllByRecursion IsByFirst history
+
+-- the script's one block, of at most 19,999 lines of the forms that are built
+pub record IsOnlyBlock (script : Script) (block : Block) : Type 0 where
+  pub one : script.blocks ≡ block ∷ []
+  pub lines : AreCallLines block.lines
+  pub few : length block.lines < 20000

@@ -4,7 +4,9 @@
 mod node;
 mod print;
 mod queue;
+mod run;
 mod text;
+mod variables;
 
 use std::io;
 

@@ -1,5 +1,5 @@
 //! What node 1 carries out while it is the only one: the calls of process 1 on the queues that it made.
-ghost use Rattle.std.specs.Prelude.{◌≡◌, ◌+◌, ◌<◌, ◌^◌, pos, true, false, None, suc, length, ◌⊎◌, IfSome, IfNone, vec_len, IfOk};
+ghost use Rattle.std.specs.Prelude.{◌≡◌, ◌+◌, ◌<◌, ◌≤◌, ◌^◌, pos, true, false, None, suc, length, ◌⊎◌, IfSome, IfNone, vec_len, IfOk};
 ghost use Rattle.pico_base.specs.declared.call.Call.TheVariants.{MsgGet, MsgSnd, MsgRcv};
 ghost use Rattle.pico_base.specs.declared.reply.Reply.TheVariants.{Message as Received};
 ghost use Rattle.pico_cmd.specs.Node.{Makes, IsBuiltCall};
@@ -22,7 +22,8 @@ fn place_of(queues: &[Queue], id: Id) -> Option<usize>
 // `msgget` with IPC_PRIVATE.
 fn get_private(alloc: Global, queues: &mut Vec<Queue>) -> Result<Reply, Memory>
     requires { vec_len queues.old + 1 < 2 ^ 32 }
-    ensures { IfOk result (λ reply. Makes queues.old.items (MsgGet None false false) reply queues.new.items) }
+    ensures made { IfOk result (λ reply. Makes queues.old.items (MsgGet None false false) reply queues.new.items) }
+    ensures few { vec_len queues.new ≤ vec_len queues.old + 1 }
 {
     let id = queues.as_slice().len() as u32 + 1;
     queues.push(Queue::new(alloc))?;
@@ -69,7 +70,8 @@ fn receive(queues: &mut [Queue], id: Id, size: u32) -> Reply
 pub fn carry_out(alloc: Global, queues: &mut Vec<Queue>, call: &Call) -> Result<Reply, Memory>
     requires room { vec_len queues.old + 1 < 2 ^ 32 }
     requires built { IsBuiltCall call.now }
-    ensures { IfOk result (λ reply. Makes queues.old.items call.now reply queues.new.items) }
+    ensures made { IfOk result (λ reply. Makes queues.old.items call.now reply queues.new.items) }
+    ensures few { vec_len queues.new ≤ vec_len queues.old + 1 }
 {
     match call {
         Call::MsgGet {
