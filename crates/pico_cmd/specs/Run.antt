@@ -12,6 +12,7 @@ use Rattle.kernel_model.specs.Kernel.{opening}
 use Rattle.kernel_model.specs.Script.{Vars}
 use Rattle.kernel_model.specs.History.{IsLegal, Replays}
 use Rattle.kernel_model.specs.Fitting.{Place, FitsWhole, Follows, opening_places, with_exit}
+use Rattle.kernel_model.specs.Trace.{trace_text}
 use Rattle.script_reader.specs.Form.{AreCallLines}
 use Rattle.pico_cmd.specs.Node.{kernel_with}
 
@@ -45,3 +46,9 @@ pub record IsOnlyBlock (script : Script) (block : Block) : Type 0 where
   pub one : script.blocks ≡ block ∷ []
   pub lines : AreCallLines block.lines
   pub few : length block.lines < 20000
+
+-- the text is the trace of a run
+pub record IsTextOfRun (script : Script) (text : List ℕ) : Type 0 where
+  pub history : List Entry
+  pub run : IsRunOf script history
+  pub is_text : text ≡ trace_text script history

@@ -1,0 +1,92 @@
+-- From the bytes that are read to the bytes that were left, and from an answer to what is promised of it.
+use Rattle.std.proofs.Common.{◌≡◌, ℕ, ◌+◌, ◌<◌, ◌≤◌, min, List, [], ◌∷◌, ◌++◌, length, take, map, get_or, Option, Some, None, refl, ap, sym, subst, ◌∙◌, arith, inl, inr, ◌⊎◌, length-take}
+use Rattle.std.proofs.lemmas.List.{take-take}
+use Rattle.std.specs.Prelude.{IfSome, count_by, ◌==◌}
+use Rattle.host_iface.specs.Told.{followed_by}
+use Rattle.pico_base.specs.declared.script.Script.{Script}
+use Rattle.script_reader.specs.declared.fault.ScriptFault.{ScriptFault}
+use Rattle.script_reader.specs.declared.fault.ScriptFault.TheVariants.{ScriptTooLong, NotBuilt}
+use Rattle.script_reader.specs.Fault.{Reads, IsFirstFault}
+use Rattle.pico_cmd.specs.declared.status.Status.{Status}
+use Rattle.pico_cmd.specs.declared.status.Status.TheVariants as status
+use Rattle.pico_cmd.specs.Stop.{AreScriptBytes}
+use Rattle.pico_cmd.specs.Promise.{Answers, Allows, IsTraceOf, IsFaultOf, IsWritten, IsWhole, IsCut, Wrote, WroteFront}
+
+-- the front that was read is longer than a script
+long_front : (bytes left : List ℕ) → 1048576 < length left → bytes ≡ take 1048577 left → 1048576 < length bytes
+long_front bytes left long e = omega (arith, ap length e, length-take 1048577 left)
+
+-- and begins as what was left
+same_front : (bytes left : List ℕ) → bytes ≡ take 1048577 left → take 1048576 bytes ≡ take 1048576 left
+same_front bytes left e = ap (take 1048576) e ∙ take-take 1048576 1048577 left (omega arith)
+
+-- the fault of what was read is that of what was left
+fault_left : (bytes left : List ℕ) (line : ℕ) (fault : ScriptFault) → AreScriptBytes bytes left → IsFirstFault bytes line fault → IsFirstFault left line fault
+fault_left bytes left line fault (inl same) f = subst (λ (b : List ℕ). IsFirstFault b line fault) same.0 f
+fault_left bytes left line ScriptTooLong (inr long) f =
+    (long.0, f.1 ∙ ap (λ (b : List ℕ). 1 + count_by (λ x. x == 10) b) (same_front bytes left long.1))
+fault_left bytes left line NotBuilt (inr long) f = absurd (omega (arith, f.0, long_front bytes left long.0 long.1))
+
+-- and the other way round
+pub fault_read : (bytes left : List ℕ) (line : ℕ) (fault : ScriptFault) → AreScriptBytes bytes left → IsFirstFault left line fault → IsFirstFault bytes line fault
+fault_read bytes left line fault (inl same) f = subst (λ (b : List ℕ). IsFirstFault b line fault) (sym same.0) f
+fault_read bytes left line ScriptTooLong (inr long) f =
+    (long_front bytes left long.0 long.1, f.1 ∙ ap (λ (b : List ℕ). 1 + count_by (λ x. x == 10) b) (sym (same_front bytes left long.1)))
+fault_read bytes left line NotBuilt (inr long) f = absurd (omega (arith, f.0, long.0))
+
+-- a script that was left is read
+pub script_read : (bytes left : List ℕ) (script : Script) → AreScriptBytes bytes left → Reads left script → Reads bytes script
+script_read bytes left script (inl same) r = subst (λ (b : List ℕ). Reads b script) (sym same.0) r
+script_read bytes left script (inr long) r = absurd (omega (arith, r.short, long.0))
+
+-- what goes with the bytes that were read goes with those that were left
+pub Answers-left : (bytes left : List ℕ) (s : Status) (text : List ℕ) → AreScriptBytes bytes left → Answers bytes s text → Answers left s text
+Answers-left bytes left status.Done text (inl same) a = subst (λ (b : List ℕ). IsTraceOf b text) same.0 a
+Answers-left bytes left status.Done text (inr long) a = absurd (omega (arith, a.reads.short, long_front bytes left long.0 long.1))
+Answers-left bytes left status.BadScript text r a =
+    record { line = a.line; fault = a.fault; first = fault_left bytes left a.line a.fault r a.first; is_text = a.is_text }
+Answers-left bytes left status.Usage text r a = a
+Answers-left bytes left status.Memory text r a = a
+Answers-left bytes left status.ReadFault text r a = a
+Answers-left bytes left status.WriteFault text r a = a
+
+-- one word is read
+pub one_word : {A : Type 0} (f : A → List ℕ) (xs : List A) (w : A) (y : List ℕ) → 1 ≤ length xs → length xs < 2 → w ≡ get_or xs 0 w
+    → (f w ≡ y → map f xs ≡ y ∷ []) × (map f xs ≡ y ∷ [] → f w ≡ y)
+one_word f [] w y low high e = absurd (omega arith)
+one_word f (x ∷ []) w y low high e = (λ h. ap (λ t. t ∷ []) (ap f (sym e) ∙ h), λ h. ap f e ∙ ap (λ t. get_or t 0 y) h)
+one_word f (x ∷ z ∷ xs) w y low high e = absurd (omega arith)
+
+-- an answer that was written whole
+pub wrote : (words : List (List ℕ)) (left : Option (List ℕ)) (s : Status) (text : List ℕ) (old new : Option (List ℕ)) (cause : Type 0) (r wanted : Status)
+    → Allows words left s text → IsWritten s text old new cause r → r ≡ wanted → (wanted ≡ status.WriteFault → ⊥) → Wrote words left wanted old new
+wrote words left s text old new cause r wanted a (inl w) e n =
+    record { text = text; allowed = subst (λ (x : Status). Allows words left x text) (sym w.status ∙ e) a; taken = w.taken }
+wrote words left s text old new cause r wanted a (inr c) e n = absurd (n (sym e ∙ c.status))
+
+-- and one of which a front was taken
+pub wrote_front : (words : List (List ℕ)) (left : Option (List ℕ)) (s : Status) (text : List ℕ) (old new : Option (List ℕ)) (cause : Type 0) (r : Status)
+    → Allows words left s text → IsWritten s text old new cause r → r ≡ status.WriteFault → WroteFront words left old new
+wrote_front words left s text old new cause r a (inl w) e =
+    absurd (subst (λ (x : Status). Allows words left x text) (sym w.status ∙ e) a)
+wrote_front words left s text old new cause r a (inr c) e =
+    record { replaced = s; text = text; count = c.count; allowed = a; within = c.within; taken = c.taken }
+
+-- The same where the source may tell nothing.
+
+pub told_answer : (told : Option (List ℕ)) (bytes read : List ℕ) (s : Status) (text : List ℕ) → IfSome told (AreScriptBytes bytes)
+    → read ≡ bytes → Answers read s text → IfSome told (λ left. Answers left s text)
+told_answer None bytes read s text r e a = tt
+told_answer (Some left) bytes read s text r e a = Answers-left bytes left s text r (subst (λ (b : List ℕ). Answers b s text) e a)
+
+pub told_done : (told : Option (List ℕ)) (bytes read : List ℕ) (s : Status) → IfSome told (AreScriptBytes bytes)
+    → read ≡ bytes → ((script : Script) → Reads read script → s ≡ status.Done) → IfSome told (λ left. (script : Script) → Reads left script → s ≡ status.Done)
+told_done None bytes read s r e a = tt
+told_done (Some left) bytes read s r e a = λ script reads. a script (subst (λ (b : List ℕ). Reads b script) (sym e) (script_read bytes left script r reads))
+
+pub told_fault : (told : Option (List ℕ)) (bytes read : List ℕ) (s : Status) → IfSome told (AreScriptBytes bytes)
+    → read ≡ bytes → ((line : ℕ) (fault : ScriptFault) → IsFirstFault read line fault → s ≡ status.BadScript)
+    → IfSome told (λ left. (line : ℕ) (fault : ScriptFault) → IsFirstFault left line fault → s ≡ status.BadScript)
+told_fault None bytes read s r e a = tt
+told_fault (Some left) bytes read s r e a =
+    λ line fault first. a line fault (subst (λ (b : List ℕ). IsFirstFault b line fault) (sym e) (fault_read bytes left line fault r first))

@@ -1,0 +1,95 @@
+-- What the program promises: when each status comes, and what is written with it.
+use Rattle.std.specs.Prelude.{◌≡◌, ◌≢◌, ◌⊎◌, ◌≤◌, ℕ, List, [], ◌∷◌, ◌++◌, length, take, map, codes, Option, Some, None, IfSome, string_bytes}
+use Rattle.std.specs.Fmt.{decimal}
+use Rattle.pico_base.specs.declared.script.Script.{Script}
+use Rattle.pico_base.specs.declared.reply.Entry.{Entry}
+use Rattle.kernel_model.specs.Trace.{trace_text}
+use Rattle.host_iface.specs.Told.{followed_by}
+use Rattle.script_reader.specs.declared.fault.ScriptFault.{ScriptFault}
+use Rattle.script_reader.specs.declared.fault.ScriptFault.TheVariants.{ScriptTooLong, NotBuilt}
+use Rattle.script_reader.specs.Fault.{Reads, IsFirstFault}
+use Rattle.pico_cmd.specs.declared.status.Status.{Status}
+use Rattle.pico_cmd.specs.declared.status.Status.TheVariants as status
+use Rattle.pico_cmd.specs.Run.{IsRunOf}
+
+-- the words behind the program's name ask for the simulation: there is one, `sim`
+abbrev pub IsInOrder : List (List ℕ) → Type 0
+IsInOrder words = words ≡ codes "sim" ∷ []
+
+unfoldable pub usage_text : List ℕ
+usage_text = codes "usage: pico run|sim|check|gen [--seed N] [--steps]\n"
+
+abbrev pub fault_name : ScriptFault → List ℕ
+fault_name ScriptTooLong = codes "ScriptTooLong"
+fault_name NotBuilt = codes "NotBuilt"
+
+abbrev pub fault_text : ℕ → ScriptFault → List ℕ
+fault_text line fault = codes "fault: line " ++ decimal line ++ codes ": " ++ fault_name fault ++ 10 ∷ []
+
+-- The bytes are a script, and the text is the trace of a run of it: one history of a single POSIX kernel, which
+-- has each call of the script's process once and in order, to the process's end.
+pub record IsTraceOf (bytes text : List ℕ) : Type 0 where
+  pub script : Script
+  pub history : List Entry
+  pub reads : Reads bytes script
+  pub run : IsRunOf script history
+  pub is_text : text ≡ trace_text script history
+
+-- the text names the first fault of the bytes
+pub record IsFaultOf (bytes text : List ℕ) : Type 0 where
+  pub line : ℕ
+  pub fault : ScriptFault
+  pub first : IsFirstFault bytes line fault
+  pub is_text : text ≡ fault_text line fault
+
+-- what goes with a status for words in order and these bytes
+abbrev pub Answers : List ℕ → Status → List ℕ → Type 0
+Answers bytes status.Done text = IsTraceOf bytes text
+Answers bytes status.BadScript text = IsFaultOf bytes text
+Answers bytes _ text = ⊥
+
+-- The text that a status goes with, by the words and the bytes that the source had left where it tells them. With
+-- a status that writes nothing no text goes.
+abbrev pub Allows : List (List ℕ) → Option (List ℕ) → Status → List ℕ → Type 0
+Allows words left status.Done text = IsInOrder words × IfSome left (λ bytes. IsTraceOf bytes text)
+Allows words left status.BadScript text = IsInOrder words × IfSome left (λ bytes. IsFaultOf bytes text)
+Allows words left status.Usage text = (IsInOrder words → ⊥) × (text ≡ usage_text)
+Allows words left _ text = ⊥
+
+-- the sink took exactly a text that goes with the status
+pub record Wrote (words : List (List ℕ)) (left : Option (List ℕ)) (s : Status) (old new : Option (List ℕ)) : Type 0 where
+  pub text : List ℕ
+  pub allowed : Allows words left s text
+  pub taken : new ≡ followed_by old text
+
+-- the sink took a front of a text that goes with some status
+pub record WroteFront (words : List (List ℕ)) (left : Option (List ℕ)) (old new : Option (List ℕ)) : Type 0 where
+  pub replaced : Status
+  pub text : List ℕ
+  pub count : ℕ
+  pub allowed : Allows words left replaced text
+  pub within : count ≤ length text
+  pub taken : new ≡ followed_by old (take count text)
+
+-- the statuses that may stand in another's place: want of memory, and a write that failed
+abbrev pub IsOrFails : Status → Status → Type 0
+IsOrFails s wanted = (s ≡ wanted) ⊎ (s ≡ status.Memory) ⊎ (s ≡ status.WriteFault)
+
+-- and, where the source is read, a read that failed
+abbrev pub IsOrStops : Status → Status → Type 0
+IsOrStops s wanted = IsOrFails s wanted ⊎ (s ≡ status.ReadFault)
+
+-- a text with a status was written whole, or a write failed and a front of it was taken
+pub record IsWhole (wanted : Status) (text : List ℕ) (old new : Option (List ℕ)) (s : Status) : Type 0 where
+  pub status : s ≡ wanted
+  pub taken : new ≡ followed_by old text
+
+pub record IsCut (text : List ℕ) (old new : Option (List ℕ)) (cause : Type 0) (s : Status) : Type 0 where
+  pub status : s ≡ status.WriteFault
+  pub count : ℕ
+  pub within : count ≤ length text
+  pub taken : new ≡ followed_by old (take count text)
+  pub cause_is : cause
+
+abbrev pub IsWritten : Status → List ℕ → Option (List ℕ) → Option (List ℕ) → Type 0 → Status → Type 0
+IsWritten wanted text old new cause s = IsWhole wanted text old new s ⊎ IsCut text old new cause s

@@ -1,0 +1,13 @@
+-- Why there is no answer to write, and which bytes are read.
+use Rattle.std.specs.Prelude.{◌≡◌, ◌⊎◌, ◌≤◌, ◌<◌, ℕ, List, length, take}
+use Rattle.pico_cmd.specs.declared.program.Stop.{Stop}
+use Rattle.pico_cmd.specs.declared.program.Stop.TheVariants.{Memory, ReadFault}
+
+-- a read failed, for the cause that is told, or an allocation was refused
+abbrev pub IsReadFault : Type 0 → Stop → Type 0
+IsReadFault cause Memory = Unit {0}
+IsReadFault cause ReadFault = cause
+
+-- all that was left, or one byte more than the greatest script has
+abbrev pub AreScriptBytes : List ℕ → List ℕ → Type 0
+AreScriptBytes bytes left = ((bytes ≡ left) × (length left ≤ 1048576)) ⊎ ((1048576 < length left) × (bytes ≡ take 1048577 left))
