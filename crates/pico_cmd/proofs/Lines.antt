@@ -1,6 +1,5 @@
 -- The lines of a script that is built, as a run meets them.
-use Rattle.std.proofs.Common.{◌≡◌, ℕ, suc, ◌+◌, ◌<◌, ◌≤◌, true, false, List, [], ◌∷◌, ◌++◌, length, Option, Some, None, refl, ap, sym, subst, ◌∙◌, arith, drop, take, get_or, inl, inr}
-use Rattle.std.specs.Prelude.{slice_get}
+use Rattle.std.proofs.Common.{◌≡◌, ℕ, ◌+◌, ◌<◌, ◌≤◌, List, [], ◌∷◌, ◌++◌, length, Option, Some, None, refl, ap, sym, subst, ◌∙◌, drop, take, get_or, inl, inr}
 use Rattle.std.proofs.Math.Seq.{drop-cons}
 use Rattle.std.proofs.lemmas.List.{drop_all}
 use Rattle.std.proofs.Common.{add-one}
@@ -42,9 +41,9 @@ built_at line other vars e b = subst (λ (l : Line). IsBuiltCall (call_of l vars
 pub built_line : (before : List Line) (line : Line) (vars : Vars) → IsCallLine before line → IsBuiltCall (call_of line vars)
 built_line before line vars c =
     elim c.form [
-      inl g ↦ built_at line (get_line g.variable) vars g.is_line tt
+      | inl g ↦ built_at line (get_line g.variable) vars g.is_line tt
       | inr o ↦ elim o [
-        inl s ↦ built_at line (send_line s.variable s.class s.text) vars s.is_line tt
+        | inl s ↦ built_at line (send_line s.variable s.class s.text) vars s.is_line tt
         | inr r ↦ built_at line (receive_line r.variable r.size) vars r.is_line tt
       ]
     ]
@@ -87,19 +86,19 @@ IsUnderWay-line s own i line vars vars' old new h h' call reply e u low is c due
     in let before : IsUnderWay s (line ∷ rest) vars old h = subst (λ (ls : List Line). IsUnderWay s ls vars old h) cut u
     in let made' : Makes old (call_of line vars) reply new = subst (λ (x : Call). Makes old x reply new) due made
     in let next : IsUnderWay s rest (setting vars line.set (value_in (Some reply))) new (h ++ entry_of (call_of line vars) reply ∷ []) =
-        IsUnderWay-more s line rest vars old new h reply before (plain_line (take i own) line vars c) made'
+    IsUnderWay-more s line rest vars old new h reply before (plain_line (take i own) line vars c) made'
     in let e' : e ≡ entry_of (call_of line vars) reply = entered ∙ ap (λ (x : Call). entry_of x reply) due
     in let h_is : h' ≡ h ++ entry_of (call_of line vars) reply ∷ [] = pushed ∙ ap (λ (x : Entry). h ++ x ∷ []) e'
     in subst (λ (x : Vars). IsUnderWay s rest x new h') (sym set)
-      (subst (λ (x : List Entry). IsUnderWay s rest (setting vars line.set (value_in (Some reply))) new x) (sym h_is) next)
+    (subst (λ (x : List Entry). IsUnderWay s rest (setting vars line.set (value_in (Some reply))) new x) (sym h_is) next)
 
 pub IsUnderWay-first : (s : Script) (block : Block) (own : List Line) (vars : Vars) (queues : List Queue) (h : List Entry)
     → s.blocks ≡ block ∷ [] → own ≡ block.lines → vars ≡ [] → queues ≡ [] → h ≡ [] → IsUnderWay s (drop 0 own) vars queues h
 IsUnderWay-first s block own vars queues h one lines v q e =
     subst (λ (x : List Line). IsUnderWay s x vars queues h) (sym lines)
-      (subst (λ (x : Vars). IsUnderWay s block.lines x queues h) (sym v)
-        (subst (λ (x : List Queue). IsUnderWay s block.lines [] x h) (sym q)
-          (subst (λ (x : List Entry). IsUnderWay s block.lines [] [] x) (sym e) (IsUnderWay-start s block one))))
+    (subst (λ (x : Vars). IsUnderWay s block.lines x queues h) (sym v)
+    (subst (λ (x : List Queue). IsUnderWay s block.lines [] x h) (sym q)
+    (subst (λ (x : List Entry). IsUnderWay s block.lines [] [] x) (sym e) (IsUnderWay-start s block one))))
 
 pub IsUnderWay-last : (s : Script) (own : List Line) (i : ℕ) (vars : Vars) (queues : List Queue) (h h' : List Entry) (e : Entry)
     → IsUnderWay s (drop i own) vars queues h → length own ≤ i → e ≡ entry_of (Exit 0) Ended → h' ≡ h ++ e ∷ [] → IsRunOf s h'

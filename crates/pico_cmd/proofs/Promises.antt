@@ -1,8 +1,7 @@
 -- From the bytes that are read to the bytes that were left, and from an answer to what is promised of it.
-use Rattle.std.proofs.Common.{◌≡◌, ℕ, ◌+◌, ◌<◌, ◌≤◌, min, List, [], ◌∷◌, ◌++◌, length, take, map, get_or, Option, Some, None, refl, ap, sym, subst, ◌∙◌, arith, inl, inr, ◌⊎◌, length-take}
+use Rattle.std.proofs.Common.{◌≡◌, ℕ, ◌+◌, ◌<◌, ◌≤◌, List, [], ◌∷◌, length, take, map, get_or, Option, Some, None, ap, sym, subst, ◌∙◌, arith, inl, inr, length-take}
 use Rattle.std.proofs.lemmas.List.{take-take}
 use Rattle.std.specs.Prelude.{IfSome, count_by, ◌==◌}
-use Rattle.host_iface.specs.Told.{followed_by}
 use Rattle.pico_base.specs.declared.script.Script.{Script}
 use Rattle.script_reader.specs.declared.fault.ScriptFault.{ScriptFault}
 use Rattle.script_reader.specs.declared.fault.ScriptFault.TheVariants.{ScriptTooLong, NotBuilt}
@@ -10,7 +9,7 @@ use Rattle.script_reader.specs.Fault.{Reads, IsFirstFault}
 use Rattle.pico_cmd.specs.declared.status.Status.{Status}
 use Rattle.pico_cmd.specs.declared.status.Status.TheVariants as status
 use Rattle.pico_cmd.specs.Stop.{AreScriptBytes}
-use Rattle.pico_cmd.specs.Promise.{Answers, Allows, IsTraceOf, IsFaultOf, IsWritten, IsWhole, IsCut, Wrote, WroteFront}
+use Rattle.pico_cmd.specs.Promise.{Answers, Allows, IsTraceOf, IsWritten, Wrote, WroteFront}
 
 -- the front that was read is longer than a script
 long_front : (bytes left : List ℕ) → 1048576 < length left → bytes ≡ take 1048577 left → 1048576 < length bytes

@@ -1,6 +1,6 @@
 -- A run of one process, entry by entry.
-use Rattle.std.proofs.Common.{◌≡◌, ℕ, zero, suc, ◌+◌, ◌<◌, true, false, Bool, List, [], ◌∷◌, ◌++◌, Option, Some, None, refl, ap, sym, subst, ◌∙◌, inl}
-use Rattle.std.specs.Prelude.{◌&&◌, nat_lt, slice_get}
+use Rattle.std.proofs.Common.{◌≡◌, true, false, Bool, List, [], ◌∷◌, ◌++◌, Option, Some, refl, ap, sym, subst, ◌∙◌, inl}
+use Rattle.std.specs.Prelude.{◌&&◌, slice_get}
 use Rattle.std.specs.List.{AllByRecursion}
 use Rattle.pico_base.specs.declared.call.Call.{Call}
 use Rattle.pico_base.specs.declared.call.Call.TheVariants.{Exit, Fork}
@@ -15,8 +15,8 @@ use Rattle.kernel_model.specs.Queue.{Queue}
 use Rattle.kernel_model.specs.Kernel.{Kernel, opening}
 use Rattle.kernel_model.specs.Script.{Vars, call_of}
 use Rattle.kernel_model.specs.Transition.{transition}
-use Rattle.kernel_model.specs.History.{IsLegal, Replays, number_in}
-use Rattle.kernel_model.specs.Fitting.{Place, Places, FitsWhole, Follows, IsDue, opening_places, block_place, block_at, places_after, after, after_line, asks_again, value_in, setting, with_exit, is_exit, is_killed, moved, forked_place}
+use Rattle.kernel_model.specs.History.{Replays, number_in}
+use Rattle.kernel_model.specs.Fitting.{Place, Places, Follows, IsDue, opening_places, block_place, places_after, after_line, asks_again, value_in, setting, with_exit, is_exit, is_killed, forked_place}
 use Rattle.kernel_model.specs.Trace.{is_fork}
 use Rattle.std.proofs.lemmas.Bool.{false≢true}
 use Rattle.pico_cmd.specs.Node.{kernel_with, Makes}
@@ -58,13 +58,13 @@ not_forked s ps place call reply h = refl
 -- the place after a line that is tried once
 after_once : (line : Line) (rest : List Line) (vars : Vars) (call : Call) (reply : Reply) → line.tries ≡ 1
     → after_line (record { left = line ∷ with_exit rest; tried = 0; vars = vars }) call (Some reply) (line ∷ with_exit rest)
-      ≡ place_before rest (setting vars line.set (value_in (Some reply)))
+    ≡ place_before rest (setting vars line.set (value_in (Some reply)))
 after_once line rest vars call reply t = rw (t, and_false (asks_again call (Some reply))) refl
 
 -- where the places lead after the entry of such a line
 places_once : (s : Script) (line : Line) (rest : List Line) (vars : Vars) (reply : Reply) → IsPlain line vars
     → places_after s ((1, place_before (line ∷ rest) vars) ∷ []) (entry_of (call_of line vars) reply) (place_before (line ∷ rest) vars)
-      ≡ (1, place_before rest (setting vars line.set (value_in (Some reply)))) ∷ []
+    ≡ (1, place_before rest (setting vars line.set (value_in (Some reply)))) ∷ []
 places_once s line rest vars reply p =
     let left : with_exit (line ∷ rest) ≡ line ∷ with_exit rest = rw p.goes_on refl
     in not_forked s _ (place_before (line ∷ rest) vars) (call_of line vars) reply p.not_fork
@@ -82,7 +82,7 @@ IsUnderWay-more s line rest vars old new h reply u p m =
     in record {
       legal = Replays-more opening (kernel_with old) (kernel_with new) h e u.legal m.step;
       fits = subst (λ (x : Places). Follows s (opening_places s) (h ++ e ∷ []) x) (places_once s line rest vars reply p)
-        (Follows-more s (opening_places s) ((1, place) ∷ []) h e place u.fits refl due);
+          (Follows-more s (opening_places s) ((1, place) ∷ []) h e place u.fits refl due);
       owner = All-more h e u.owner refl;
     }
 

@@ -1,5 +1,5 @@
 -- One node that has made queues by itself, and the kernel that it stands for.
-use Rattle.std.specs.Prelude.{◌≡◌, ℕ, ◌+◌, zero, suc, pos, true, false, List, [], ◌∷◌, length, Some, None}
+use Rattle.std.specs.Prelude.{◌≡◌, ℕ, zero, suc, pos, true, false, List, [], ◌∷◌, length, Some, None}
 use Rattle.pico_base.specs.declared.call.Call.{Call}
 use Rattle.pico_base.specs.declared.call.Call.TheVariants.{MsgGet, MsgSnd, MsgRcv}
 use Rattle.pico_base.specs.declared.reply.Reply.{Reply}

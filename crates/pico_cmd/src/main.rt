@@ -1,4 +1,4 @@
-//! The program `pico`: it runs a script of processes and writes a trace.
+//! The program `pico`: it runs a script of processes and writes a trace, which is one history of a single POSIX kernel.
 #![tactic(auto)]
 
 mod answer;
@@ -12,11 +12,39 @@ mod text;
 mod variables;
 mod words;
 
+use host_iface::{OpenGate, StdSink, StdSource};
 pub use program::{Ran, pico};
 pub use status::Status;
+use std::process::ExitCode;
+use std::rt::Env;
+use std::{env, io};
 
-use std::io;
+// The words behind the program's name. Words that are no text are in no order, as no words at all are.
+fn words_of<R: Env + AllocGlobal>(rt: &R) -> Result<Vec<String>, Status> {
+    let mut words = Vec::new(rt.alloc());
+    let args = match env::args(rt) {
+        Ok(args) => args,
+        Err(error) if error.kind() == io::ErrorKind::OutOfMemory => return Err(Status::Memory),
+        Err(_) => return Ok(words),
+    };
+    for word in args.skip(1) {
+        if words.push(word).is_err() {
+            return Err(Status::Memory);
+        }
+    }
+    Ok(words)
+}
 
-fn main(rt: HostRuntime) -> io::Result<()> {
-    println!(rt; "")
+fn start<R: Env + AllocGlobal + Input + Print>(rt: &R) -> Status {
+    let words = match words_of(rt) {
+        Ok(words) => words,
+        Err(status) => return status,
+    };
+    let mut source = StdSource::new(rt.reader());
+    let mut sink = StdSink::new(io::writer(rt));
+    pico(rt, rt.alloc(), &words, &mut source, &mut sink, &OpenGate).status
+}
+
+fn main(rt: HostRuntime) -> ExitCode {
+    ExitCode::from(start(&rt).code())
 }

@@ -16,7 +16,11 @@ fn place_of(queues: &[Queue], id: Id) -> Option<usize>
     ensures lacks { IfNone result ((id ≡ 0) ⊎ (length queues.now < id)) }
 {
     let place = (id.0 as usize).checked_sub(1)?;
-    if place < queues.len() { Some(place) } else { None }
+    if place < queues.len() {
+        Some(place)
+    } else {
+        None
+    }
 }
 
 // `msgget` with IPC_PRIVATE.

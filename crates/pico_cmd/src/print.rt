@@ -10,8 +10,8 @@ ghost use Rattle.pico_base.specs.declared.reply.Reply.TheVariants.{Stat};
 
 use crate::text::{push, push_byte, push_message, push_number, push_signed};
 use pico_base::{
-    Act, Block, Bytes, Call, Ending, Entry, Errno, How, Id, Key, Memory, Node, Pid, Reply, Script, SemStep,
-    Sig, SigArg, SigSet,
+    Act, Block, Bytes, Call, Ending, Entry, Errno, How, Id, Key, Memory, Node, Pid, Reply, Script,
+    SemStep, Sig, SigArg, SigSet,
 };
 use std::alloc::Global;
 
@@ -295,7 +295,13 @@ fn push_received(out: &mut Vec<u8>, class: i32, text: &[u8]) -> Result<(), Memor
 fn members(alloc: Global, set: SigSet) -> Result<Vec<Sig>, Memory>
     ensures { IfOk result (λ v. v.items ≡ filter (at set) all_signals) }
 {
-    Ok(TABLE.iter().copied().filter(|sig| set.has(*sig)).collect(alloc)?)
+    Ok(
+        TABLE
+            .iter()
+            .copied()
+            .filter(|sig| set.has(*sig))
+            .collect(alloc)?,
+    )
 }
 
 fn push_names(out: &mut Vec<u8>, first: Sig, others: &[Sig]) -> Result<(), Memory>
@@ -347,7 +353,11 @@ fn push_step(out: &mut Vec<u8>, step: SemStep) -> Result<(), Memory>
     push_number(out, u64::from(step.num))?;
     push_byte(out, b':')?;
     push_signed(out, step.add)?;
-    if step.nowait { push(out, b":nowait") } else { Ok(()) }
+    if step.nowait {
+        push(out, b":nowait")
+    } else {
+        Ok(())
+    }
 }
 
 fn push_semop(out: &mut Vec<u8>, id: Id, steps: &[SemStep]) -> Result<(), Memory>
@@ -376,7 +386,13 @@ fn push_semctl_at(out: &mut Vec<u8>, id: Id, command: &[u8], num: u16) -> Result
     push_number(out, u64::from(num))
 }
 
-fn push_semget(out: &mut Vec<u8>, key: Option<Key>, count: u32, create: bool, excl: bool) -> Result<(), Memory>
+fn push_semget(
+    out: &mut Vec<u8>,
+    key: Option<Key>,
+    count: u32,
+    create: bool,
+    excl: bool,
+) -> Result<(), Memory>
     ensures { OnOk result (out.new.items ≡ out.old.items ++ trace.semget_text key count create excl) }
 {
     let Some(key) = key else {
@@ -467,7 +483,13 @@ fn push_call(alloc: Global, out: &mut Vec<u8>, script: &Script, call: &Call) -> 
     }
 }
 
-fn push_stat(out: &mut Vec<u8>, qnum: u32, qbytes: u32, lspid: Pid, lrpid: Pid) -> Result<(), Memory>
+fn push_stat(
+    out: &mut Vec<u8>,
+    qnum: u32,
+    qbytes: u32,
+    lspid: Pid,
+    lrpid: Pid,
+) -> Result<(), Memory>
     ensures { OnOk result (out.new.items ≡ out.old.items ++ trace.reply_text (Stat qnum qbytes lspid lrpid)) }
 {
     push_labelled(out, b"qnum ", u64::from(qnum))?;
@@ -513,7 +535,13 @@ fn push_own(alloc: Global, out: &mut Vec<u8>, own: &Option<Reply>) -> Result<(),
 }
 
 // Who made which call.
-fn push_made(alloc: Global, out: &mut Vec<u8>, script: &Script, pid: Pid, call: &Call) -> Result<(), Memory>
+fn push_made(
+    alloc: Global,
+    out: &mut Vec<u8>,
+    script: &Script,
+    pid: Pid,
+    call: &Call,
+) -> Result<(), Memory>
     ensures { OnOk result (out.new.items ≡ out.old.items ++ trace.made_text script.now pid call.now) }
 {
     push_pid(out, pid)?;
@@ -530,7 +558,12 @@ fn push_by(out: &mut Vec<u8>, node: Node) -> Result<(), Memory>
     push_byte(out, b'\n')
 }
 
-fn push_entry(alloc: Global, out: &mut Vec<u8>, script: &Script, entry: &Entry) -> Result<(), Memory>
+fn push_entry(
+    alloc: Global,
+    out: &mut Vec<u8>,
+    script: &Script,
+    entry: &Entry,
+) -> Result<(), Memory>
     ensures { OnOk result (out.new.items ≡ out.old.items ++ trace.entry_line script.now entry.now) }
 {
     push_made(alloc, out, script, entry.pid, &entry.call)?;

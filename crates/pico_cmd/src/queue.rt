@@ -11,7 +11,9 @@ use std::marker::Model;
 
 // The profile's limits.
 const MAX_TEXT: usize = 4096;
+
 const MAX_BYTES: usize = 16384;
+
 const MAX_MESSAGES: usize = 1024;
 
 /// A message: its type and its text.

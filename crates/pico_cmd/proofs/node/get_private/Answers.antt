@@ -1,4 +1,4 @@
-use Rattle.std.proofs.Common.{ap, ◌+◌, ◌∙◌, length}
+use Rattle.std.proofs.Common.{ap, ◌+◌, length}
 use Rattle.pico_cmd.proofs.Makes.{made_queue}
 use Rattle.pico_cmd.proofs.node.get_private.Goals as goal
 

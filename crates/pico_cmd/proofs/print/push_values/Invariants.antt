@@ -1,7 +1,6 @@
 use Rattle.std.proofs.Common.{◌≡◌, ◌++◌, ◌∷◌, take}
 use Rattle.std.specs.List.{flat_map}
 use Rattle.std.specs.Fmt.{decimal}
-use Rattle.kernel_model.specs.Trace as trace
 use Rattle.pico_cmd.proofs.print.push_values.Given as goal
 
 -- the first one and those so far

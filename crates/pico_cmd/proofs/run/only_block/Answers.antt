@@ -7,6 +7,6 @@ pub returns : goal.returns
 returns c =
     let blocks = c.as_slice.ensures ∙ c.requires.one
     in let first : c.index-as_slice-0.result ≡ c.requires.block =
-        c.index-as_slice-0.is ∙ ap (λ (bs : List Block). get_or bs 0 c.index-as_slice-0.result) blocks
+    c.index-as_slice-0.is ∙ ap (λ (bs : List Block). get_or bs 0 c.index-as_slice-0.result) blocks
     in subst (λ (b : Block). IsOnlyBlock c.args.script.now b) (sym first)
-      (record { one = c.requires.one; lines = c.requires.open_block.lines; few = omega arith })
+    (record { one = c.requires.one; lines = c.requires.open_block.lines; few = omega arith })

@@ -1,5 +1,4 @@
-use Rattle.std.proofs.Common.{◌≡◌, arith, ap, ◌∙◌}
-use Rattle.pico_cmd.specs.Run.{IsUnderWay}
+use Rattle.std.proofs.Common.{arith, ◌∙◌}
 use Rattle.pico_cmd.proofs.Lines.{line_read, built_read, IsUnderWay-line, IsUnderWay-first, IsUnderWay-last}
 use Rattle.pico_cmd.proofs.run.run.Goals as goal
 
@@ -17,9 +16,9 @@ carry_out-requires-clause-built c =
 pub loop-line-preserved : goal.loop-line-preserved
 loop-line-preserved c = record {
   under_way =
-    (let line = line_read _ _ _ _ c.as_slice-lines.ensures c.only_block.ensures.lines c.loop-line-test.true c.line-item.is
-     in IsUnderWay-line _ _ _ _ _ _ _ _ _ _ _ _ _ c.loop-line.invariant.under_way c.loop-line-test.true c.line-item.is line
-       c.in_ok-call.ensures c.in_ok-reply.ensures.made c.in_ok-set_by.ensures c.entry.ensures c.in_ok-push.ensures.items);
+      (let line = line_read _ _ _ _ c.as_slice-lines.ensures c.only_block.ensures.lines c.loop-line-test.true c.line-item.is
+      in IsUnderWay-line _ _ _ _ _ _ _ _ _ _ _ _ _ c.loop-line.invariant.under_way c.loop-line-test.true c.line-item.is line
+      c.in_ok-call.ensures c.in_ok-reply.ensures.made c.in_ok-set_by.ensures c.entry.ensures c.in_ok-push.ensures.items);
   few = omega (arith, c.loop-line.invariant.few, c.carry_out.ensures.few);
 }
 

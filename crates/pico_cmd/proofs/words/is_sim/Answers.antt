@@ -1,4 +1,3 @@
-use Rattle.std.proofs.Common.{◌∷◌, []}
 use Rattle.std.specs.Prelude.{string_bytes, codes}
 use Rattle.pico_cmd.proofs.Promises.{one_word}
 use Rattle.pico_cmd.proofs.words.is_sim.Goals as goal
