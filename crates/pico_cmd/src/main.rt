@@ -48,3 +48,6 @@ fn start<R: Env + AllocGlobal + Input + Print>(rt: &R) -> Status {
 fn main(rt: HostRuntime) -> ExitCode {
     ExitCode::from(start(&rt).code())
 }
+
+#[cfg(test)]
+mod tests;

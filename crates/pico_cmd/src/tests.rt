@@ -1,0 +1,168 @@
+//! The program on scripts in memory: texts that no clause says, the lines of faults, and reads and writes that fail.
+use super::*;
+use host_iface::{CallList, MemSink, MemSource, SureSink, SureSource};
+use pico_base::Bytes;
+use std::alloc::Global;
+use std::test::Fail;
+
+const HELLO: &str =
+    "proc main\nq = msgget private\nmsgsnd $q 1 \"hi\" nowait\nmsgrcv $q 0 16 nowait\nend\n";
+
+const TRACE: &str =
+    "1 msgget private = 1 by 1\n1 msgsnd 1 1 \"hi\" nowait = 0 by 1\n1 msgrcv 1 0 16 nowait = 1 \"hi\" by 1\n1 exit 0 = ended by 1\ntotals entries 4 processes 1 notready 0 refused 0\n";
+
+// The list of one failing call, or of none.
+fn failing(alloc: Global, call: Option<u64>) -> Result<CallList, Fail> {
+    let mut calls = Vec::new(alloc);
+    if let Some(call) = call {
+        calls.push(call)?;
+    }
+    Ok(CallList::from_vec(calls))
+}
+
+fn bytes_of(alloc: Global, text: &str) -> Result<Bytes, Fail> {
+    Ok(Bytes::from_slice(alloc, text.as_bytes())?)
+}
+
+// Runs the program on a script, with one read and one write that may fail, and gives its status and what it wrote.
+fn run_on(
+    alloc: Global,
+    word: &str,
+    text: &str,
+    read: Option<u64>,
+    write: Option<u64>,
+) -> Result<(Status, String), Fail> {
+    let mut source = MemSource::new(bytes_of(alloc, text)?, failing(alloc, read)?);
+    let mut sink = MemSink::new(alloc, failing(alloc, write)?);
+    sink.reserve(4096)?;
+    let words = vec![in alloc; word.to_string(alloc)?]?;
+    let ran = pico(&(), alloc, &words, &mut source, &mut sink, &OpenGate);
+    let written = String::from_utf8_lossy(alloc, sink.taken())?;
+    Ok((ran.status, written))
+}
+
+#[test]
+fn the_first_script_gives_its_trace(rt: HostRuntime) -> Result<(), Fail> {
+    let (status, written) = run_on(rt.alloc(), "sim", HELLO, None, None)?;
+    assert_eq!(rt; status, Status::Done);
+    assert_eq!(rt; written.as_str(), TRACE);
+    Ok(())
+}
+
+#[test]
+fn other_words_give_the_usage_line(rt: HostRuntime) -> Result<(), Fail> {
+    for word in ["walk", "sims", "", "--steps"] {
+        let (status, written) = run_on(rt.alloc(), word, HELLO, None, None)?;
+        assert_eq!(rt; status, Status::Usage, "{word}");
+        assert_eq!(rt;
+            written.as_str(),
+            "usage: pico run|sim|check|gen [--seed N] [--steps]\n"
+        );
+    }
+    Ok(())
+}
+
+#[test]
+fn a_script_with_a_fault_is_told_where(rt: HostRuntime) -> Result<(), Fail> {
+    for (text, written) in [
+        ("", "fault: line 1: NotBuilt\n"),
+        ("proc main\n", "fault: line 2: NotBuilt\n"),
+        (
+            "proc main\nq = msgget private\n",
+            "fault: line 3: NotBuilt\n",
+        ),
+        (
+            "proc main\nq =  msgget private\nend\n",
+            "fault: line 2: NotBuilt\n",
+        ),
+        ("proc main\ngetpid\nend\n", "fault: line 2: NotBuilt\n"),
+        (
+            "proc main\nmsgrcv $q 0 8 nowait\nend\n",
+            "fault: line 2: NotBuilt\n",
+        ),
+        ("proc main\nend\n\n", "fault: line 3: NotBuilt\n"),
+        ("proc Main\nend\n", "fault: line 1: NotBuilt\n"),
+        (
+            "proc main\nq = msgget private\nmsgsnd $q 1 \"h",
+            "fault: line 3: NotBuilt\n",
+        ),
+    ] {
+        let (status, got) = run_on(rt.alloc(), "sim", text, None, None)?;
+        assert_eq!(rt; status, Status::BadScript, "{text}");
+        assert_eq!(rt; got.as_str(), written, "{text}");
+    }
+    Ok(())
+}
+
+// As many bytes as that, of which the first 10 end a line.
+fn long_text(alloc: Global, count: usize) -> Result<Bytes, Fail> {
+    let mut bytes = Vec::from_slice(alloc, b"proc main\n")?;
+    while bytes.len() < count {
+        bytes.push(b'a')?;
+    }
+    Ok(Bytes::from_vec(bytes))
+}
+
+#[test]
+fn a_script_of_one_byte_too_many_is_too_long(rt: HostRuntime) -> Result<(), Fail> {
+    let alloc = rt.alloc();
+    let words = vec![in alloc; "sim".to_string(alloc)?]?;
+    for (count, written) in [
+        (1048577, "fault: line 2: ScriptTooLong\n"),
+        (1048576, "fault: line 2: NotBuilt\n"),
+    ] {
+        let mut source = SureSource::new(long_text(alloc, count)?);
+        let mut sink = MemSink::new(alloc, failing(alloc, None)?);
+        sink.reserve(4096)?;
+        let ran = pico(&(), alloc, &words, &mut source, &mut sink, &OpenGate);
+        assert_eq!(rt; ran.status, Status::BadScript);
+        assert_eq!(rt; sink.taken(), written.as_bytes());
+    }
+    Ok(())
+}
+
+// The first run takes two reads, the second of which finds the end, and one write.
+#[test]
+fn a_read_or_a_write_that_fails_is_told(rt: HostRuntime) -> Result<(), Fail> {
+    for (read, write, status, written) in [
+        (Some(1), None, Status::ReadFault, ""),
+        (Some(2), None, Status::ReadFault, ""),
+        (None, Some(1), Status::WriteFault, ""),
+        (Some(3), Some(2), Status::Done, TRACE),
+    ] {
+        let (got, text) = run_on(rt.alloc(), "sim", HELLO, read, write)?;
+        assert_eq!(rt; got, status);
+        assert_eq!(rt; text.as_str(), written);
+    }
+    Ok(())
+}
+
+#[test]
+fn a_sink_with_little_room_takes_a_front(rt: HostRuntime) -> Result<(), Fail> {
+    let alloc = rt.alloc();
+    let words = vec![in alloc; "sim".to_string(alloc)?]?;
+    let mut source = SureSource::new(bytes_of(alloc, HELLO)?);
+    let mut sink = MemSink::new(alloc, failing(alloc, None)?);
+    sink.reserve(30)?;
+    let ran = pico(&(), alloc, &words, &mut source, &mut sink, &OpenGate);
+    assert_eq!(rt; ran.status, Status::WriteFault);
+    assert_eq!(rt; Some(sink.taken()), TRACE.as_bytes().get(..30));
+    Ok(())
+}
+
+#[test]
+fn a_sure_source_and_sink_give_done(rt: HostRuntime) -> Result<(), Fail> {
+    let alloc = rt.alloc();
+    let words = vec![in alloc; "sim".to_string(alloc)?]?;
+    let mut source = SureSource::new(bytes_of(alloc, HELLO)?);
+    let ran = pico(
+        &(),
+        alloc,
+        &words,
+        &mut source,
+        &mut SureSink::new(),
+        &OpenGate,
+    );
+    assert_eq!(rt; ran.status.code(), 0);
+    Ok(())
+}
