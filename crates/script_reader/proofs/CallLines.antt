@@ -11,7 +11,7 @@ use Rattle.pico_base.specs.declared.script.Line.{Line}
 use Rattle.script_reader.specs.Spelling.{variable_text, line_text, end_text}
 use Rattle.script_reader.specs.Form.{IsTextByte, IsSet, get_line, send_line, receive_line, IsGet, IsSend, IsReceive, IsCallLine}
 use Rattle.script_reader.specs.Reading.{◌>>=◌, strip, strip_end, is_text_byte, digit_at, variable_at, number_at, set_variable_at, send_at, receive_at, get_at, send_of, receive_of, form_at, call_line_at}
-use Rattle.script_reader.proofs.Tests.{bind_some, chosen, not_chosen, none_from}
+use Rattle.script_reader.proofs.Chains.{bind_some, chosen, not_chosen, none_from}
 use Rattle.script_reader.proofs.Bytes.{text_decides}
 use Rattle.script_reader.proofs.Strips.{strip_takes, strip_again, strip_end_takes, strip_end_again}
 use Rattle.script_reader.proofs.Numbers.{number_takes, number_again}
@@ -250,7 +250,7 @@ form_again flags before line serves (inr (inl h)) =
     let s = serves h.variable h.was_set in
     let text : line_text line ≡ send_word ++ sent_text h.variable h.class h.text = ap line_text h.is_line ∙ line_text-send h.variable h.class h.text h.class_high in
     let sent : IsSent flags (sent_text h.variable h.class h.text) h.variable h.class h.text =
-        record { index = s.0; set = s.1; low = h.class_low; high = h.class_high; plain = (text_decides h.text).1 h.bytes; is_text = refl } in
+    record { index = s.0; set = s.1; low = h.class_low; high = h.class_high; plain = (text_decides h.text).1 h.bytes; is_text = refl } in
     rw (text, strip_again send_word (sent_text h.variable h.class h.text), send_again flags (sent_text h.variable h.class h.text) h.variable h.class h.text sent) (ap Some (sym h.is_line))
 form_again flags before line serves (inr (inr h)) =
     let s = serves h.variable h.was_set in
@@ -268,8 +268,8 @@ not_end_of : (before : List Line) (line : Line) → IsGet line ⊎ (IsSend befor
 not_end_of before line (inl h) =
     let text : line_text line ≡ got_text h.variable = ap line_text h.is_line ∙ line_text-get h.variable in
     false_from_ne_true (bytes_eq (line_text line) end_text) (λ e.
-        let same : line_text line ≡ end_text = (bytes_eq-Decides (line_text line) end_text).0 e in
-        omega (arith, behind_letter h.variable 32 (codes "= msgget private") h.index, ap (λ (r : List ℕ). get_or r 1 0) (sym text ∙ same)))
+    let same : line_text line ≡ end_text = (bytes_eq-Decides (line_text line) end_text).0 e in
+    omega (arith, behind_letter h.variable 32 (codes "= msgget private") h.index, ap (λ (r : List ℕ). get_or r 1 0) (sym text ∙ same)))
 not_end_of before line (inr (inl h)) = rw (ap line_text h.is_line ∙ line_text-send h.variable h.class h.text h.class_high) refl
 not_end_of before line (inr (inr h)) = rw (ap line_text h.is_line ∙ line_text-receive h.variable h.size) refl
 

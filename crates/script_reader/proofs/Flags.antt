@@ -85,9 +85,9 @@ Knows-more_of flags lines line (Some v) e small h =
       from = λ u s. elim (cases_eq u v) [
         | inl same ↦ rw same (get_or-set_same flags v true false room)
         | inr other ↦ get_or-set_other flags v u true false other ∙ elim (Any-cases (λ (l : Line). l.set ≡ Some u) lines line s) [
-            | inl before ↦ h.from u before
-            | inr here ↦ absurd (other (same_Some u v (sym here ∙ e)))
-          ]
+          | inl before ↦ h.from u before
+          | inr here ↦ absurd (other (same_Some u v (sym here ∙ e)))
+        ]
       ];
     }
 

@@ -14,7 +14,7 @@ use Rattle.script_reader.specs.Form.{IsName, IsCallLine, AreCallLines, IsOpenBlo
 use Rattle.script_reader.specs.Fault.{IsOpen, IsWhole, Begins, IsFirstBad, EndsEarly}
 use Rattle.script_reader.specs.Reading.{◌>>=◌, strip, is_name, none_set, set_after, call_line_at, opening_at, State, inside, step, ending, block_from}
 use Rattle.script_reader.specs.Reading.State.{Start, Inside, Whole}
-use Rattle.script_reader.proofs.Tests.{bind_some, chosen, none_from}
+use Rattle.script_reader.proofs.Chains.{bind_some, chosen, none_from}
 use Rattle.script_reader.proofs.Strips.{strip_takes, strip_again}
 use Rattle.script_reader.proofs.Bytes.{name_decides}
 use Rattle.script_reader.proofs.CallLines.{call_line_takes, call_line_again, not_end}
@@ -148,7 +148,7 @@ lines_run name flags before (line ∷ rest) whole e are few knows =
     let call : IsCallLine before line = AreCallLines-at before line rest (rw e are) in
     let room : length before < 20000 = omega (arith, length-append before (line ∷ rest), ap length e) in
     let one : step (Inside name flags before) (line_text line) ≡ Some (inside name flags before line) =
-        step_line name flags before (line_text line) room (not_end before line call) ∙ ap (option_map (inside name flags before)) (call_line_again flags before line (Serves-known flags before knows) call) in
+    step_line name flags before (line_text line) room (not_end before line call) ∙ ap (option_map (inside name flags before)) (call_line_again flags before line (Serves-known flags before knows) call) in
     let others = lines_run name (set_after flags line.set) (before ++ line ∷ []) rest whole (append_assoc before (line ∷ []) rest ∙ e) are few (Knows-more flags before line call knows) in
     (others.0, rw one others.1)
 

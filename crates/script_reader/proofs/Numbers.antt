@@ -8,7 +8,7 @@ use Rattle.std.proofs.lemmas.Bool.{and_parts, and_from, leb-true, le-leb, eqb-tr
 use Rattle.std.proofs.lemmas.Fmt.{decimal_is_IsNumeral, decimal-digits_value, decimal_digit, first_decimal}
 use Rattle.std.proofs.lemmas.Str.Parse.{IsNumeralModel, numerals_by_value, tells_all_ascii_digits}
 use Rattle.script_reader.specs.Reading.{is_digit, digits_at, number_at}
-use Rattle.script_reader.proofs.Tests.{chosen, not_chosen, between_true, between_from}
+use Rattle.script_reader.proofs.Chains.{chosen, not_chosen, between_true, between_from}
 
 abbrev AreDigits : List ℕ → Type 0
 AreDigits ds = all_ascii_digits ds ≡ true

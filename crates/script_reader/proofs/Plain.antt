@@ -59,8 +59,8 @@ digits_of_variable_plain k =
     let two : List ℕ = (48 + (k - 11) / 10) ∷ (48 + (k - 11) % 10) ∷ [] in
     let P : List ℕ → Type 0 = λ ds. plain ds ≡ true in
     cond_both (eqb k 0) [] (cond (ltb k 11) one two) P (λ _. refl) (λ _.
-        cond_both (ltb k 11) one two P (λ _. plain-cons (48 + (k - 1)) [] (omega arith) refl) (λ _.
-            plain-cons (48 + (k - 11) / 10) ((48 + (k - 11) % 10) ∷ []) (omega arith) (plain-cons (48 + (k - 11) % 10) [] (omega arith) refl)))
+    cond_both (ltb k 11) one two P (λ _. plain-cons (48 + (k - 1)) [] (omega arith) refl) (λ _.
+    plain-cons (48 + (k - 11) / 10) ((48 + (k - 11) % 10) ∷ []) (omega arith) (plain-cons (48 + (k - 11) % 10) [] (omega arith) refl)))
 
 variable_plain : (v : ℕ) → plain (variable_text v) ≡ true
 unfolding variable_text

@@ -17,7 +17,6 @@ pub not_chosen : {A : Type 0} (b : Bool) (o : Option A) (y : A) → cond b None 
 not_chosen true o y e = absurd cc
 not_chosen false o y e = (refl, e)
 
-
 pub none_from : {A : Type 0} (o : Option A) → ((x : A) → o ≡ Some x → ⊥) → o ≡ None
 none_from None h = refl
 none_from (Some x) h = absurd (h x refl)
