@@ -8,7 +8,7 @@ use Rattle.script_reader.specs.Form.{IsLowercase, IsDigit, IsNameByte, IsName, I
 use Rattle.script_reader.specs.Reading.{is_lowercase, is_digit, is_name_byte, is_text_byte, is_name}
 use Rattle.script_reader.proofs.Chains.{between_true, between_from}
 
-lowercase_decides : (b : ℕ) → Decides (is_lowercase b) (IsLowercase b)
+pub lowercase_decides : (b : ℕ) → Decides (is_lowercase b) (IsLowercase b)
 lowercase_decides b = (between_true 97 122 b, λ h. between_from 97 122 b h.0 h.1)
 
 digit_decides : (b : ℕ) → Decides (is_digit b) (IsDigit b)
@@ -47,7 +47,7 @@ text_byte_decides b = (to, from)
 pub text_decides : (bytes : List ℕ) → Decides (list_all is_text_byte bytes) (All IsTextByte bytes)
 text_decides bytes = Decides-by_and is_text_byte IsTextByte (list_all is_text_byte) text_byte_decides refl (λ _ _. refl) bytes
 
-name_bytes_decides : (bytes : List ℕ) → Decides (list_all is_name_byte bytes) (All IsNameByte bytes)
+pub name_bytes_decides : (bytes : List ℕ) → Decides (list_all is_name_byte bytes) (All IsNameByte bytes)
 name_bytes_decides bytes = Decides-by_and is_name_byte IsNameByte (list_all is_name_byte) name_byte_decides refl (λ _ _. refl) bytes
 
 pub name_decides : (bytes : List ℕ) → Decides (is_name bytes) (IsName bytes)

@@ -15,7 +15,7 @@ use Rattle.script_reader.proofs.CallLines.{Serves, set_small}
 Any-left : {X : Type 0} (P : X → Type 0) (xs ys : List X) → Any P xs → Any P (xs ++ ys)
 Any-left P xs ys h = (h.0, h.1, omega (arith, h.2, length-append xs ys), get_or_append_left xs ys h.1 h.0 h.2 ∙ h.3, h.4)
 
-Any-cases : {X : Type 0} (P : X → Type 0) (xs : List X) (y : X) → Any P (xs ++ y ∷ []) → Any P xs ⊎ P y
+pub Any-cases : {X : Type 0} (P : X → Type 0) (xs : List X) (y : X) → Any P (xs ++ y ∷ []) → Any P xs ⊎ P y
 Any-cases P xs y h =
     elim (cases_lt h.0 (length xs)) [
       | inl lt ↦ inl (h.0, h.1, lt, sym (get_or_append_left xs (y ∷ []) h.1 h.0 lt) ∙ h.3, h.4)

@@ -11,3 +11,4 @@ pub mod Machine
 pub mod Plain
 pub mod Scripts
 pub mod Examples
+pub mod Sound

@@ -7,6 +7,7 @@ use Rattle.std.proofs.lemmas.List.{append-nil, append_cancel_right}
 use Rattle.std.proofs.lemmas.Grind.{flat_map-append}
 use Rattle.pico_base.specs.declared.script.Block.{Block}
 use Rattle.pico_base.specs.declared.script.Script.{Script}
+use Rattle.kernel_model.specs.Script.{IsSound}
 use Rattle.script_reader.specs.declared.fault.ScriptFault.{ScriptFault}
 use Rattle.script_reader.specs.declared.fault.ScriptFault.TheVariants.{ScriptTooLong, NotBuilt}
 use Rattle.script_reader.specs.declared.fault.ScriptStop.{ScriptStop}
@@ -18,6 +19,7 @@ use Rattle.script_reader.specs.Reading.{block_from, script_from, outcome, GivesS
 use Rattle.script_reader.specs.Reading.State.{Start}
 use Rattle.script_reader.proofs.Lines.{Plain, lines_of-feed, lines_of-text, IsText-lines}
 use Rattle.script_reader.proofs.Plain.{open_lines_plain}
+use Rattle.script_reader.proofs.Sound.{IsSound-built}
 use Rattle.script_reader.proofs.Machine.{block_from-ok, block_from-err, block_from-script, block_from-fault}
 
 -- ---- the lines of a script's text
@@ -126,6 +128,10 @@ given_ok bytes (Err stop) h = tt
 pub given_built : (bytes : List ℕ) (r : Result Script ScriptStop) → GivesScript r (outcome bytes) → IfOk r IsBuilt
 given_built bytes (Ok script) h = (outcome_ok bytes script h).built
 given_built bytes (Err stop) h = tt
+
+pub given_sound : (bytes : List ℕ) (r : Result Script ScriptStop) → GivesScript r (outcome bytes) → IfOk r IsSound
+given_sound bytes (Ok script) h = IsSound-built script (outcome_ok bytes script h).built
+given_sound bytes (Err stop) h = tt
 
 pub given_fault : (bytes : List ℕ) (r : Result Script ScriptStop) → GivesScript r (outcome bytes) → IfErr r (HasFault bytes)
 given_fault bytes (Ok script) h = tt
