@@ -1,8 +1,8 @@
 -- The tests of bytes and names say what they are to say.
-use Rattle.std.proofs.Common.{◌≡◌, ◌≢◌, ◌⊎◌, inl, inr, ℕ, ◌+◌, ◌<◌, ◌≤◌, Bool, true, false, ◌&&◌, ◌||◌, not, cond, eqb, ltb, leb, List, [], ◌∷◌, ◌++◌, length, refl, arith}
-use Rattle.std.specs.Prelude.{All, Decides, codes, option_map, bytes_eq}
+use Rattle.std.proofs.Common.{◌≡◌, ◌⊎◌, inl, inr, ℕ, true, ◌&&◌, ◌||◌, not, eqb, leb, List, [], ◌∷◌, length, refl, arith}
+use Rattle.std.specs.Prelude.{All, Decides}
 use Rattle.std.specs.List.{list_all}
-use Rattle.std.proofs.lemmas.Bool.{and_parts, and_from, or_cases, or_from, leb-true, le-leb, eqb-true, eqb-false, eq-eqb, ne_eqb, not-true}
+use Rattle.std.proofs.lemmas.Bool.{and_parts, and_from, or_cases, leb-true, le-leb, eqb-true, eqb-false, not-true}
 use Rattle.std.proofs.lemmas.Bool.Decides.{Decides-by_and}
 use Rattle.script_reader.specs.Form.{IsLowercase, IsDigit, IsNameByte, IsName, IsTextByte}
 use Rattle.script_reader.specs.Reading.{is_lowercase, is_digit, is_name_byte, is_text_byte, is_name}

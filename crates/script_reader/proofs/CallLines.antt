@@ -1,16 +1,15 @@
 -- A call line that is read is spelled so, and the spelling of a call line is read.
-use Rattle.std.proofs.Common.{◌≡◌, ◌≢◌, ◌⊎◌, inl, inr, ℕ, zero, suc, ◌+◌, ◌-◌, ◌*◌, ◌<◌, ◌≤◌, pos, Bool, true, false, ◌&&◌, not, cond, eqb, ltb, leb, List, [], ◌∷◌, ◌++◌, length, get_or, take, drop, Option, Some, None, refl, sym, ap, subst, ◌∙◌, append_assoc, arith, rules}
-use Rattle.std.specs.Prelude.{codes, bytes_eq, decimal, option_map, All}
+use Rattle.std.proofs.Common.{◌≡◌, ◌⊎◌, inl, inr, ℕ, ◌+◌, ◌≤◌, Bool, true, false, ◌&&◌, not, cond, eqb, ltb, List, ◌∷◌, ◌++◌, length, get_or, Option, Some, None, refl, sym, ap, subst, ◌∙◌, append_assoc, arith}
+use Rattle.std.specs.Prelude.{codes, bytes_eq, decimal, option_map}
 use Rattle.std.specs.List.{list_all}
-use Rattle.std.specs.Fmt.{signed_decimal}
-use Rattle.std.proofs.lemmas.Bool.{and_parts, and_from, eqb-true, eqb-false, ne_eqb, not-true, not_from_false, ltb-false, le-ltb, false_from_ne_true}
+use Rattle.std.proofs.lemmas.Bool.{and_parts, and_from, eqb-false, ne_eqb, not-true, ltb-false, le-ltb, false_from_ne_true}
 use Rattle.std.proofs.lemmas.Option.{same_Some, none-some}
 use Rattle.std.proofs.lemmas.Slice.Eq.{bytes_eq-Decides}
 use Rattle.std.proofs.lemmas.Fmt.{decimal_digit}
 use Rattle.pico_base.specs.declared.script.Line.{Line}
 use Rattle.script_reader.specs.Spelling.{variable_text, line_text, end_text}
-use Rattle.script_reader.specs.Form.{IsTextByte, IsSet, get_line, send_line, receive_line, IsGet, IsSend, IsReceive, IsCallLine}
-use Rattle.script_reader.specs.Reading.{◌>>=◌, strip, strip_end, is_text_byte, digit_at, variable_at, number_at, set_variable_at, send_at, receive_at, get_at, send_of, receive_of, form_at, call_line_at}
+use Rattle.script_reader.specs.Form.{IsSet, get_line, send_line, receive_line, IsGet, IsSend, IsReceive, IsCallLine}
+use Rattle.script_reader.specs.Reading.{◌>>=◌, strip, strip_end, is_text_byte, digit_at, variable_at, number_at, set_variable_at, send_at, receive_at, get_at, form_at, call_line_at}
 use Rattle.script_reader.proofs.Chains.{bind_some, chosen, not_chosen, none_from}
 use Rattle.script_reader.proofs.Bytes.{text_decides}
 use Rattle.script_reader.proofs.Strips.{strip_takes, strip_again, strip_end_takes, strip_end_again}

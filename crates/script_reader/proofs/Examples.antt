@@ -1,5 +1,5 @@
 -- The script of five lines reads as its value, and texts that are no script have their first fault.
-use Rattle.std.proofs.Common.{◌≡◌, ℕ, true, false, pos, List, [], ◌∷◌, Option, Some, None, Result, Ok, Err, refl}
+use Rattle.std.proofs.Common.{◌≡◌, ℕ, List, [], Ok, Err, refl}
 use Rattle.std.specs.Prelude.{codes}
 use Rattle.script_reader.specs.declared.fault.ScriptFault.TheVariants.{NotBuilt}
 use Rattle.script_reader.specs.declared.fault.ScriptStop.TheVariants.{At}

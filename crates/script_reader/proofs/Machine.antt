@@ -1,9 +1,9 @@
 -- Lines in turn: where reading stands after them, what they begin, and what is answered.
-use Rattle.std.proofs.Common.{◌≡◌, ◌≢◌, ◌⊎◌, inl, inr, ℕ, zero, suc, ◌+◌, ◌-◌, ◌<◌, ◌≤◌, Bool, true, false, cond, ltb, List, [], ◌∷◌, ◌++◌, map, length, take, drop, Option, Some, None, Result, Ok, Err, refl, sym, ap, subst, ◌∙◌, append_assoc, arith}
+use Rattle.std.proofs.Common.{◌≡◌, ◌⊎◌, inl, inr, ℕ, zero, suc, ◌+◌, ◌-◌, ◌<◌, ◌≤◌, Bool, true, false, cond, ltb, List, [], ◌∷◌, ◌++◌, map, length, take, Option, Some, None, Result, Ok, Err, refl, sym, ap, subst, ◌∙◌, append_assoc, arith}
 use Rattle.std.specs.Prelude.{codes, bytes_eq, option_map}
 use Rattle.std.specs.List.{flat_map}
-use Rattle.std.proofs.lemmas.Bool.{ltb-true, lt-ltb}
-use Rattle.std.proofs.lemmas.List.{append-nil, length-append, length-map, map_push, take-append-le, take_all}
+use Rattle.std.proofs.lemmas.Bool.{ltb-true}
+use Rattle.std.proofs.lemmas.List.{append-nil, length-append, map_push}
 use Rattle.std.proofs.lemmas.Option.{same_Some, none-some}
 use Rattle.std.proofs.lemmas.Slice.Eq.{bytes_eq-Decides}
 use Rattle.pico_base.specs.declared.script.Line.{Line}
@@ -11,7 +11,7 @@ use Rattle.pico_base.specs.declared.script.Block.{Block}
 use Rattle.pico_base.specs.declared.script.Script.{Script}
 use Rattle.script_reader.specs.Spelling.{line_text, opening_text, end_text, open_lines, block_lines, script_lines}
 use Rattle.script_reader.specs.Form.{IsName, IsCallLine, AreCallLines, IsOpenBlock, IsBuilt}
-use Rattle.script_reader.specs.Fault.{IsOpen, IsWhole, Begins, IsFirstBad, EndsEarly}
+use Rattle.script_reader.specs.Fault.{IsWhole, Begins, IsFirstBad, EndsEarly}
 use Rattle.script_reader.specs.Reading.{◌>>=◌, strip, is_name, none_set, set_after, call_line_at, opening_at, State, inside, step, ending, block_from}
 use Rattle.script_reader.specs.Reading.State.{Start, Inside, Whole}
 use Rattle.script_reader.proofs.Chains.{bind_some, chosen, none_from}

@@ -1,5 +1,5 @@
 -- What is read is spelled so, and what is spelled so is read; a fault is the first one, and the first one is answered.
-use Rattle.std.proofs.Common.{◌≡◌, ◌≢◌, ◌⊎◌, inl, inr, ℕ, ◌+◌, ◌<◌, ◌≤◌, Bool, true, false, cond, eqb, ltb, List, [], ◌∷◌, ◌++◌, length, take, Option, Some, None, Result, Ok, Err, refl, sym, ap, subst, ◌∙◌, append_assoc, arith}
+use Rattle.std.proofs.Common.{◌≡◌, ◌⊎◌, inl, inr, ℕ, ◌+◌, ◌<◌, ◌≤◌, Bool, true, false, cond, eqb, ltb, List, [], ◌∷◌, ◌++◌, length, take, Result, Ok, Err, refl, sym, ap, subst, ◌∙◌, append_assoc}
 use Rattle.std.specs.Prelude.{IfOk, IfErr, count_by}
 use Rattle.std.specs.List.{AllByRecursion, flat_map}
 use Rattle.std.proofs.lemmas.Bool.{ltb-true, ltb-false, lt-ltb, le-ltb}
@@ -13,8 +13,8 @@ use Rattle.script_reader.specs.declared.fault.ScriptFault.TheVariants.{ScriptToo
 use Rattle.script_reader.specs.declared.fault.ScriptStop.{ScriptStop}
 use Rattle.script_reader.specs.declared.fault.ScriptStop.TheVariants.{Memory, At}
 use Rattle.script_reader.specs.Spelling.{end_text, open_lines, block_lines, script_lines, script_text, text_of}
-use Rattle.script_reader.specs.Form.{IsOpenBlock, IsBuilt}
-use Rattle.script_reader.specs.Fault.{lines_of, IsText, Reads, IsFirstBad, EndsEarly, IsFirstFault, HasFault}
+use Rattle.script_reader.specs.Form.{IsBuilt}
+use Rattle.script_reader.specs.Fault.{lines_of, IsText, Reads, IsFirstFault, HasFault}
 use Rattle.script_reader.specs.Reading.{block_from, script_from, outcome, GivesScript}
 use Rattle.script_reader.specs.Reading.State.{Start}
 use Rattle.script_reader.proofs.Lines.{Plain, lines_of-feed, lines_of-text, IsText-lines}

@@ -1,11 +1,10 @@
 -- A script that is built is sound.
-use Rattle.std.proofs.Common.{◌≡◌, ◌≢◌, ◌⊎◌, inl, inr, ℕ, ◌+◌, ◌*◌, ◌<◌, ◌≤◌, pos, Bool, true, false, ◌&&◌, ◌||◌, not, cond, eqb, ltb, leb, List, [], ◌∷◌, ◌++◌, map, length, Option, Some, None, refl, sym, ap, subst, ◌∙◌, append_assoc, arith}
-use Rattle.std.specs.Prelude.{All, nat_eq, sum_by, codes, fold}
+use Rattle.std.proofs.Common.{◌≡◌, ◌⊎◌, inl, inr, ℕ, ◌+◌, ◌≤◌, Bool, true, false, ◌&&◌, ◌||◌, not, leb, List, [], ◌∷◌, ◌++◌, length, Option, Some, None, refl, sym, ap, subst, ◌∙◌, append_assoc, arith}
+use Rattle.std.specs.Prelude.{nat_eq, sum_by, codes, fold}
 use Rattle.std.specs.List.{AllByRecursion, list_all, list_any, flat_map}
-use Rattle.std.proofs.lemmas.Bool.{and_from, le-leb, eq-eqb, or_left, cases_Bool}
+use Rattle.std.proofs.lemmas.Bool.{and_from, le-leb, eq-eqb}
 use Rattle.std.proofs.lemmas.List.{length-append}
 use Rattle.std.proofs.lemmas.Option.{same_Some, none-some}
-use Rattle.pico_base.specs.declared.call.Call.{Call}
 use Rattle.pico_base.specs.declared.script.Line.{Line}
 use Rattle.pico_base.specs.declared.script.Block.{Block}
 use Rattle.pico_base.specs.declared.script.Script.{Script}
@@ -114,7 +113,7 @@ uses known before [] whole e are covers = refl
 uses known before (line ∷ rest) whole e are covers =
     let call : IsCallLine before line = AreCallLines-at before line rest (rw e are) in
     and_from (model.is_known known line.from) (model.uses_known (model.known_with known line.set) rest) (from_known known before line covers call.form)
-        (uses (model.known_with known line.set) (before ++ line ∷ []) rest whole (append_assoc before (line ∷ []) rest ∙ e) are (covers_more known before line line.set refl covers))
+    (uses (model.known_with known line.set) (before ++ line ∷ []) rest whole (append_assoc before (line ∷ []) rest ∙ e) are (covers_more known before line line.set refl covers))
 
 -- ---- a script of one block
 
@@ -122,7 +121,7 @@ name_sound : (name : List ℕ) → IsName name → model.is_name name ≡ true
 name_sound [] h = absurd h
 name_sound (first ∷ others) h =
     and_from (model.is_lower first) (list_all model.is_name_byte others && leb (length others) 31) ((lowercase_decides first).1 h.0)
-        (and_from (list_all model.is_name_byte others) (leb (length others) 31) ((name_bytes_decides others).1 h.2) (le-leb (length others) 31 h.1))
+    (and_from (list_all model.is_name_byte others) (leb (length others) 31) ((name_bytes_decides others).1 h.2) (le-leb (length others) 31 h.1))
 
 abbrev whole : Block → Script
 whole block = record { blocks = block ∷ [] }

@@ -1,11 +1,10 @@
 -- Worked examples, which the checker computes.
-use Rattle.std.specs.Prelude.{◌≡◌, ℕ, true, false, pos, List, [], ◌∷◌, ◌++◌, codes, Some, None, refl}
+use Rattle.std.specs.Prelude.{◌≡◌, ℕ, true, false, pos, List, [], ◌∷◌, codes, Some, None, refl}
 use Rattle.std.specs.Fmt.{digits}
 use Rattle.pico_base.specs.declared.call.Call.TheVariants.{MsgGet, MsgSnd, MsgRcv}
-use Rattle.pico_base.specs.declared.script.Line.{Line}
 use Rattle.pico_base.specs.declared.script.Block.{Block}
 use Rattle.pico_base.specs.declared.script.Script.{Script}
-use Rattle.script_reader.specs.Spelling.{digits_of_variable, variable_text, line_text, script_lines, script_text}
+use Rattle.script_reader.specs.Spelling.{digits_of_variable, variable_text, line_text, script_lines}
 use Rattle.script_reader.specs.Fault.{lines_of}
 
 -- `q` is the letter at place 16
