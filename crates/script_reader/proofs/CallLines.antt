@@ -68,6 +68,9 @@ record IsSent (flags : List Bool) (bytes : List ℕ) (v t : ℕ) (text : List �
   plain : list_all is_text_byte text ≡ true
   is_text : bytes ≡ sent_text v t text
 
+sent_same : (flags : List Bool) (bytes : List ℕ) (q p : ℕ × ℕ × List ℕ) → q ≡ p → IsSent flags bytes q.0 q.1 q.2 → IsSent flags bytes p.0 p.1 p.2
+sent_same flags bytes q p e h = subst (λ (w : ℕ × ℕ × List ℕ). IsSent flags bytes w.0 w.1 w.2) e h
+
 send_takes : (flags : List Bool) (bytes : List ℕ) (p : ℕ × ℕ × List ℕ) → send_at flags bytes ≡ Some p → IsSent flags bytes p.0 p.1 p.2
 unfolding send_at
 send_takes flags bytes p e =
@@ -82,8 +85,7 @@ send_takes flags bytes p e =
     let digit = digit_takes b.0 c.0.0 c.0.1 c.1 in
     let some : c.0.0 ≡ 0 → ⊥ = eqb-false c.0.0 0 (not-true (eqb c.0.0 0) q.0) in
     let whole = sent_parts bytes a.0.1 b.0 c.0.1 d.0 f.0 a.0.0 c.0.0 v.1 (strip_takes (codes " ") a.0.1 b.0 b.1) digit.0 (strip_takes (codes " \"") c.0.1 d.0 d.1) (strip_end_takes (codes "\" nowait") d.0 f.0 f.1) in
-    let P : ℕ × ℕ × List ℕ → Type 0 = λ w. IsSent flags bytes w.0 w.1 w.2 in
-    subst P (same_Some (a.0.0, c.0.0, f.0) p t.1) (record { index = v.0; set = v.2; low = omega arith; high = digit.1; plain = q.1; is_text = whole })
+    sent_same flags bytes (a.0.0, c.0.0, f.0) p (same_Some (a.0.0, c.0.0, f.0) p t.1) (record { index = v.0; set = v.2; low = omega arith; high = digit.1; plain = q.1; is_text = whole })
 
 send_again : (flags : List Bool) (bytes : List ℕ) (v t : ℕ) (text : List ℕ) → IsSent flags bytes v t text → send_at flags bytes ≡ Some (v, t, text)
 unfolding send_at
