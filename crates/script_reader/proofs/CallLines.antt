@@ -1,17 +1,16 @@
 -- A call line that is read is spelled so, and the spelling of a call line is read.
-use Rattle.std.proofs.Common.{◌≡◌, ◌≢◌, ◌⊎◌, inl, inr, ℕ, zero, suc, ◌+◌, ◌-◌, ◌*◌, ◌<◌, ◌≤◌, pos, Bool, true, false, ◌&&◌, not, cond, eqb, ltb, leb, List, [], ◌∷◌, ◌++◌, length, get_or, take, drop, Option, Some, None, refl, sym, ap, subst, ◌∙◌, append_assoc, arith, rules}
-use Rattle.std.specs.Prelude.{codes, bytes_eq, decimal, option_map, All}
+use Rattle.std.proofs.Common.{◌≡◌, ◌⊎◌, inl, inr, ℕ, ◌+◌, ◌≤◌, Bool, true, false, ◌&&◌, not, cond, eqb, ltb, List, ◌∷◌, ◌++◌, length, get_or, Option, Some, None, refl, sym, ap, subst, ◌∙◌, append_assoc, arith}
+use Rattle.std.specs.Prelude.{codes, bytes_eq, decimal, option_map}
 use Rattle.std.specs.List.{list_all}
-use Rattle.std.specs.Fmt.{signed_decimal}
-use Rattle.std.proofs.lemmas.Bool.{and_parts, and_from, eqb-true, eqb-false, ne_eqb, not-true, not_from_false, ltb-false, le-ltb, false_from_ne_true}
+use Rattle.std.proofs.lemmas.Bool.{and_parts, and_from, eqb-false, ne_eqb, not-true, ltb-false, le-ltb, false_from_ne_true}
 use Rattle.std.proofs.lemmas.Option.{same_Some, none-some}
 use Rattle.std.proofs.lemmas.Slice.Eq.{bytes_eq-Decides}
 use Rattle.std.proofs.lemmas.Fmt.{decimal_digit}
 use Rattle.pico_base.specs.declared.script.Line.{Line}
 use Rattle.script_reader.specs.Spelling.{variable_text, line_text, end_text}
-use Rattle.script_reader.specs.Form.{IsTextByte, IsSet, get_line, send_line, receive_line, IsGet, IsSend, IsReceive, IsCallLine}
-use Rattle.script_reader.specs.Reading.{◌>>=◌, strip, strip_end, is_text_byte, digit_at, variable_at, number_at, set_variable_at, send_at, receive_at, get_at, send_of, receive_of, form_at, call_line_at}
-use Rattle.script_reader.proofs.Tests.{bind_some, chosen, not_chosen, none_from}
+use Rattle.script_reader.specs.Form.{IsSet, get_line, send_line, receive_line, IsGet, IsSend, IsReceive, IsCallLine}
+use Rattle.script_reader.specs.Reading.{◌>>=◌, strip, strip_end, is_text_byte, digit_at, variable_at, number_at, set_variable_at, send_at, receive_at, get_at, form_at, call_line_at}
+use Rattle.script_reader.proofs.Chains.{bind_some, chosen, not_chosen, none_from}
 use Rattle.script_reader.proofs.Bytes.{text_decides}
 use Rattle.script_reader.proofs.Strips.{strip_takes, strip_again, strip_end_takes, strip_end_again}
 use Rattle.script_reader.proofs.Numbers.{number_takes, number_again}
@@ -69,6 +68,9 @@ record IsSent (flags : List Bool) (bytes : List ℕ) (v t : ℕ) (text : List �
   plain : list_all is_text_byte text ≡ true
   is_text : bytes ≡ sent_text v t text
 
+sent_same : (flags : List Bool) (bytes : List ℕ) (q p : ℕ × ℕ × List ℕ) → q ≡ p → IsSent flags bytes q.0 q.1 q.2 → IsSent flags bytes p.0 p.1 p.2
+sent_same flags bytes q p e h = subst (λ (w : ℕ × ℕ × List ℕ). IsSent flags bytes w.0 w.1 w.2) e h
+
 send_takes : (flags : List Bool) (bytes : List ℕ) (p : ℕ × ℕ × List ℕ) → send_at flags bytes ≡ Some p → IsSent flags bytes p.0 p.1 p.2
 unfolding send_at
 send_takes flags bytes p e =
@@ -83,8 +85,7 @@ send_takes flags bytes p e =
     let digit = digit_takes b.0 c.0.0 c.0.1 c.1 in
     let some : c.0.0 ≡ 0 → ⊥ = eqb-false c.0.0 0 (not-true (eqb c.0.0 0) q.0) in
     let whole = sent_parts bytes a.0.1 b.0 c.0.1 d.0 f.0 a.0.0 c.0.0 v.1 (strip_takes (codes " ") a.0.1 b.0 b.1) digit.0 (strip_takes (codes " \"") c.0.1 d.0 d.1) (strip_end_takes (codes "\" nowait") d.0 f.0 f.1) in
-    let P : ℕ × ℕ × List ℕ → Type 0 = λ w. IsSent flags bytes w.0 w.1 w.2 in
-    subst P (same_Some (a.0.0, c.0.0, f.0) p t.1) (record { index = v.0; set = v.2; low = omega arith; high = digit.1; plain = q.1; is_text = whole })
+    sent_same flags bytes (a.0.0, c.0.0, f.0) p (same_Some (a.0.0, c.0.0, f.0) p t.1) (record { index = v.0; set = v.2; low = omega arith; high = digit.1; plain = q.1; is_text = whole })
 
 send_again : (flags : List Bool) (bytes : List ℕ) (v t : ℕ) (text : List ℕ) → IsSent flags bytes v t text → send_at flags bytes ≡ Some (v, t, text)
 unfolding send_at
@@ -250,7 +251,7 @@ form_again flags before line serves (inr (inl h)) =
     let s = serves h.variable h.was_set in
     let text : line_text line ≡ send_word ++ sent_text h.variable h.class h.text = ap line_text h.is_line ∙ line_text-send h.variable h.class h.text h.class_high in
     let sent : IsSent flags (sent_text h.variable h.class h.text) h.variable h.class h.text =
-        record { index = s.0; set = s.1; low = h.class_low; high = h.class_high; plain = (text_decides h.text).1 h.bytes; is_text = refl } in
+    record { index = s.0; set = s.1; low = h.class_low; high = h.class_high; plain = (text_decides h.text).1 h.bytes; is_text = refl } in
     rw (text, strip_again send_word (sent_text h.variable h.class h.text), send_again flags (sent_text h.variable h.class h.text) h.variable h.class h.text sent) (ap Some (sym h.is_line))
 form_again flags before line serves (inr (inr h)) =
     let s = serves h.variable h.was_set in
@@ -268,8 +269,8 @@ not_end_of : (before : List Line) (line : Line) → IsGet line ⊎ (IsSend befor
 not_end_of before line (inl h) =
     let text : line_text line ≡ got_text h.variable = ap line_text h.is_line ∙ line_text-get h.variable in
     false_from_ne_true (bytes_eq (line_text line) end_text) (λ e.
-        let same : line_text line ≡ end_text = (bytes_eq-Decides (line_text line) end_text).0 e in
-        omega (arith, behind_letter h.variable 32 (codes "= msgget private") h.index, ap (λ (r : List ℕ). get_or r 1 0) (sym text ∙ same)))
+    let same : line_text line ≡ end_text = (bytes_eq-Decides (line_text line) end_text).0 e in
+    omega (arith, behind_letter h.variable 32 (codes "= msgget private") h.index, ap (λ (r : List ℕ). get_or r 1 0) (sym text ∙ same)))
 not_end_of before line (inr (inl h)) = rw (ap line_text h.is_line ∙ line_text-send h.variable h.class h.text h.class_high) refl
 not_end_of before line (inr (inr h)) = rw (ap line_text h.is_line ∙ line_text-receive h.variable h.size) refl
 

@@ -1,8 +1,8 @@
 -- What the table of flags says of the lines before, and call lines one after another.
-use Rattle.std.proofs.Common.{◌≡◌, ◌≢◌, ◌⊎◌, inl, inr, ℕ, zero, suc, ◌+◌, ◌-◌, ◌<◌, ◌≤◌, Bool, true, false, List, [], ◌∷◌, ◌++◌, length, get_or, set, take, drop, replicate, Option, Some, None, refl, sym, ap, subst, ◌∙◌, append_assoc, arith}
+use Rattle.std.proofs.Common.{◌≡◌, ◌⊎◌, inl, inr, ℕ, ◌<◌, ◌≤◌, Bool, true, false, List, [], ◌∷◌, ◌++◌, length, get_or, replicate, Option, Some, None, refl, sym, ap, subst, ◌∙◌, arith}
 use Rattle.std.specs.Prelude.{Any, slice_get}
 use Rattle.std.proofs.lemmas.Bool.{cases_lt, cases_eq, false≢true}
-use Rattle.std.proofs.lemmas.List.{get_or-replicate, get_or_past, get_or-set_same, get_or-set_other, get_or_append_left, get_or_push, length-replicate, length-set, length-append, take-append-le, take_at, get_or_at, append-nil}
+use Rattle.std.proofs.lemmas.List.{get_or-replicate, get_or_past, get_or-set_same, get_or-set_other, get_or_append_left, get_or_push, length-replicate, length-set, length-append, take-append-le, take_at, get_or_at}
 use Rattle.std.proofs.lemmas.List.Quantifiers.{Any-push}
 use Rattle.std.proofs.lemmas.Option.{same_Some, none-some, slice_get-get_or, slice_get_within, get_or_from_slice_get}
 use Rattle.pico_base.specs.declared.script.Line.{Line}
@@ -15,7 +15,7 @@ use Rattle.script_reader.proofs.CallLines.{Serves, set_small}
 Any-left : {X : Type 0} (P : X → Type 0) (xs ys : List X) → Any P xs → Any P (xs ++ ys)
 Any-left P xs ys h = (h.0, h.1, omega (arith, h.2, length-append xs ys), get_or_append_left xs ys h.1 h.0 h.2 ∙ h.3, h.4)
 
-Any-cases : {X : Type 0} (P : X → Type 0) (xs : List X) (y : X) → Any P (xs ++ y ∷ []) → Any P xs ⊎ P y
+pub Any-cases : {X : Type 0} (P : X → Type 0) (xs : List X) (y : X) → Any P (xs ++ y ∷ []) → Any P xs ⊎ P y
 Any-cases P xs y h =
     elim (cases_lt h.0 (length xs)) [
       | inl lt ↦ inl (h.0, h.1, lt, sym (get_or_append_left xs (y ∷ []) h.1 h.0 lt) ∙ h.3, h.4)
@@ -85,9 +85,9 @@ Knows-more_of flags lines line (Some v) e small h =
       from = λ u s. elim (cases_eq u v) [
         | inl same ↦ rw same (get_or-set_same flags v true false room)
         | inr other ↦ get_or-set_other flags v u true false other ∙ elim (Any-cases (λ (l : Line). l.set ≡ Some u) lines line s) [
-            | inl before ↦ h.from u before
-            | inr here ↦ absurd (other (same_Some u v (sym here ∙ e)))
-          ]
+          | inl before ↦ h.from u before
+          | inr here ↦ absurd (other (same_Some u v (sym here ∙ e)))
+        ]
       ];
     }
 

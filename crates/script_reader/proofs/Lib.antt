@@ -1,7 +1,7 @@
 pub mod Strips
 pub mod Lines
 pub mod Steps
-pub mod Tests
+pub mod Chains
 pub mod Numbers
 pub mod Variables
 pub mod Bytes
@@ -10,3 +10,5 @@ pub mod Flags
 pub mod Machine
 pub mod Plain
 pub mod Scripts
+pub mod Examples
+pub mod Sound

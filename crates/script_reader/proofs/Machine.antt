@@ -1,9 +1,9 @@
 -- Lines in turn: where reading stands after them, what they begin, and what is answered.
-use Rattle.std.proofs.Common.{◌≡◌, ◌≢◌, ◌⊎◌, inl, inr, ℕ, zero, suc, ◌+◌, ◌-◌, ◌<◌, ◌≤◌, Bool, true, false, cond, ltb, List, [], ◌∷◌, ◌++◌, map, length, take, drop, Option, Some, None, Result, Ok, Err, refl, sym, ap, subst, ◌∙◌, append_assoc, arith}
+use Rattle.std.proofs.Common.{◌≡◌, ◌⊎◌, inl, inr, ℕ, zero, suc, ◌+◌, ◌-◌, ◌<◌, ◌≤◌, Bool, true, false, cond, ltb, List, [], ◌∷◌, ◌++◌, map, length, take, Option, Some, None, Result, Ok, Err, refl, sym, ap, subst, ◌∙◌, append_assoc, arith}
 use Rattle.std.specs.Prelude.{codes, bytes_eq, option_map}
 use Rattle.std.specs.List.{flat_map}
-use Rattle.std.proofs.lemmas.Bool.{ltb-true, lt-ltb}
-use Rattle.std.proofs.lemmas.List.{append-nil, length-append, length-map, map_push, take-append-le, take_all}
+use Rattle.std.proofs.lemmas.Bool.{ltb-true}
+use Rattle.std.proofs.lemmas.List.{append-nil, length-append, map_push}
 use Rattle.std.proofs.lemmas.Option.{same_Some, none-some}
 use Rattle.std.proofs.lemmas.Slice.Eq.{bytes_eq-Decides}
 use Rattle.pico_base.specs.declared.script.Line.{Line}
@@ -11,10 +11,10 @@ use Rattle.pico_base.specs.declared.script.Block.{Block}
 use Rattle.pico_base.specs.declared.script.Script.{Script}
 use Rattle.script_reader.specs.Spelling.{line_text, opening_text, end_text, open_lines, block_lines, script_lines}
 use Rattle.script_reader.specs.Form.{IsName, IsCallLine, AreCallLines, IsOpenBlock, IsBuilt}
-use Rattle.script_reader.specs.Fault.{IsOpen, IsWhole, Begins, IsFirstBad, EndsEarly}
+use Rattle.script_reader.specs.Fault.{IsWhole, Begins, IsFirstBad, EndsEarly}
 use Rattle.script_reader.specs.Reading.{◌>>=◌, strip, is_name, none_set, set_after, call_line_at, opening_at, State, inside, step, ending, block_from}
 use Rattle.script_reader.specs.Reading.State.{Start, Inside, Whole}
-use Rattle.script_reader.proofs.Tests.{bind_some, chosen, none_from}
+use Rattle.script_reader.proofs.Chains.{bind_some, chosen, none_from}
 use Rattle.script_reader.proofs.Strips.{strip_takes, strip_again}
 use Rattle.script_reader.proofs.Bytes.{name_decides}
 use Rattle.script_reader.proofs.CallLines.{call_line_takes, call_line_again, not_end}
@@ -148,7 +148,7 @@ lines_run name flags before (line ∷ rest) whole e are few knows =
     let call : IsCallLine before line = AreCallLines-at before line rest (rw e are) in
     let room : length before < 20000 = omega (arith, length-append before (line ∷ rest), ap length e) in
     let one : step (Inside name flags before) (line_text line) ≡ Some (inside name flags before line) =
-        step_line name flags before (line_text line) room (not_end before line call) ∙ ap (option_map (inside name flags before)) (call_line_again flags before line (Serves-known flags before knows) call) in
+    step_line name flags before (line_text line) room (not_end before line call) ∙ ap (option_map (inside name flags before)) (call_line_again flags before line (Serves-known flags before knows) call) in
     let others = lines_run name (set_after flags line.set) (before ++ line ∷ []) rest whole (append_assoc before (line ∷ []) rest ∙ e) are few (Knows-more flags before line call knows) in
     (others.0, rw one others.1)
 

@@ -1,18 +1,18 @@
 -- No line of a script has a line feed in it.
-use Rattle.std.proofs.Common.{◌≡◌, ◌≢◌, ◌⊎◌, inl, inr, ℕ, ◌+◌, ◌-◌, ◌/◌, ◌%◌, ◌<◌, ◌≤◌, Bool, true, false, ◌&&◌, not, cond, eqb, ltb, List, [], ◌∷◌, ◌++◌, map, length, Some, refl, sym, ap, subst, ◌∙◌, append_assoc, arith}
+use Rattle.std.proofs.Common.{◌≡◌, ◌⊎◌, inl, inr, ℕ, ◌+◌, ◌-◌, ◌/◌, ◌%◌, ◌<◌, ◌≤◌, Bool, true, not, cond, eqb, ltb, List, [], ◌∷◌, ◌++◌, map, refl, ap, ◌∙◌, append_assoc, arith}
 use Rattle.std.specs.Prelude.{codes, decimal, All}
 use Rattle.std.specs.List.{AllByRecursion, list_all}
 use Rattle.std.specs.Str.Parse.{AllDigits}
-use Rattle.std.proofs.lemmas.Bool.{and_parts, and_from, ne_eqb, not-true, not_from_false, cond_both}
+use Rattle.std.proofs.lemmas.Bool.{and_parts, and_from, ne_eqb, not-true, cond_both}
 use Rattle.std.proofs.lemmas.Fmt.{decimal_is_IsNumeral}
 use Rattle.std.proofs.lemmas.List.Elements.{recursion_from_All}
 use Rattle.std.proofs.lemmas.Str.Parse.{tells_digits}
 use Rattle.pico_base.specs.declared.script.Line.{Line}
 use Rattle.pico_base.specs.declared.script.Block.{Block}
-use Rattle.script_reader.specs.Spelling.{digits_of_variable, variable_text, line_text, opening_text, end_text, open_lines, block_lines}
+use Rattle.script_reader.specs.Spelling.{digits_of_variable, variable_text, line_text, opening_text, open_lines}
 use Rattle.script_reader.specs.Form.{IsNameByte, IsName, IsTextByte, IsGet, IsSend, IsReceive, IsCallLine, AreCallLines, IsOpenBlock}
 use Rattle.script_reader.proofs.Lines.{Plain}
-use Rattle.script_reader.proofs.CallLines.{send_word, receive_word, sent_text, received_text, got_text, line_text-send, line_text-receive, line_text-get}
+use Rattle.script_reader.proofs.CallLines.{sent_text, received_text, got_text, line_text-send, line_text-receive, line_text-get}
 use Rattle.script_reader.proofs.Flags.{AreCallLines-at}
 
 abbrev not_feed : ℕ → Bool
@@ -59,8 +59,8 @@ digits_of_variable_plain k =
     let two : List ℕ = (48 + (k - 11) / 10) ∷ (48 + (k - 11) % 10) ∷ [] in
     let P : List ℕ → Type 0 = λ ds. plain ds ≡ true in
     cond_both (eqb k 0) [] (cond (ltb k 11) one two) P (λ _. refl) (λ _.
-        cond_both (ltb k 11) one two P (λ _. plain-cons (48 + (k - 1)) [] (omega arith) refl) (λ _.
-            plain-cons (48 + (k - 11) / 10) ((48 + (k - 11) % 10) ∷ []) (omega arith) (plain-cons (48 + (k - 11) % 10) [] (omega arith) refl)))
+    cond_both (ltb k 11) one two P (λ _. plain-cons (48 + (k - 1)) [] (omega arith) refl) (λ _.
+    plain-cons (48 + (k - 11) / 10) ((48 + (k - 11) % 10) ∷ []) (omega arith) (plain-cons (48 + (k - 11) % 10) [] (omega arith) refl)))
 
 variable_plain : (v : ℕ) → plain (variable_text v) ≡ true
 unfolding variable_text

@@ -1,5 +1,5 @@
 -- What is read is spelled so, and what is spelled so is read; a fault is the first one, and the first one is answered.
-use Rattle.std.proofs.Common.{◌≡◌, ◌≢◌, ◌⊎◌, inl, inr, ℕ, ◌+◌, ◌<◌, ◌≤◌, Bool, true, false, cond, eqb, ltb, List, [], ◌∷◌, ◌++◌, length, take, Option, Some, None, Result, Ok, Err, refl, sym, ap, subst, ◌∙◌, append_assoc, arith}
+use Rattle.std.proofs.Common.{◌≡◌, ◌⊎◌, inl, inr, ℕ, ◌+◌, ◌<◌, ◌≤◌, Bool, true, false, cond, eqb, ltb, List, [], ◌∷◌, ◌++◌, length, take, Result, Ok, Err, refl, sym, ap, subst, ◌∙◌, append_assoc}
 use Rattle.std.specs.Prelude.{IfOk, IfErr, count_by}
 use Rattle.std.specs.List.{AllByRecursion, flat_map}
 use Rattle.std.proofs.lemmas.Bool.{ltb-true, ltb-false, lt-ltb, le-ltb}
@@ -7,17 +7,19 @@ use Rattle.std.proofs.lemmas.List.{append-nil, append_cancel_right}
 use Rattle.std.proofs.lemmas.Grind.{flat_map-append}
 use Rattle.pico_base.specs.declared.script.Block.{Block}
 use Rattle.pico_base.specs.declared.script.Script.{Script}
+use Rattle.kernel_model.specs.Script.{IsSound}
 use Rattle.script_reader.specs.declared.fault.ScriptFault.{ScriptFault}
 use Rattle.script_reader.specs.declared.fault.ScriptFault.TheVariants.{ScriptTooLong, NotBuilt}
 use Rattle.script_reader.specs.declared.fault.ScriptStop.{ScriptStop}
 use Rattle.script_reader.specs.declared.fault.ScriptStop.TheVariants.{Memory, At}
 use Rattle.script_reader.specs.Spelling.{end_text, open_lines, block_lines, script_lines, script_text, text_of}
-use Rattle.script_reader.specs.Form.{IsOpenBlock, IsBuilt}
-use Rattle.script_reader.specs.Fault.{lines_of, IsText, Reads, IsFirstBad, EndsEarly, IsFirstFault, HasFault}
+use Rattle.script_reader.specs.Form.{IsBuilt}
+use Rattle.script_reader.specs.Fault.{lines_of, IsText, Reads, IsFirstFault, HasFault}
 use Rattle.script_reader.specs.Reading.{block_from, script_from, outcome, GivesScript}
 use Rattle.script_reader.specs.Reading.State.{Start}
 use Rattle.script_reader.proofs.Lines.{Plain, lines_of-feed, lines_of-text, IsText-lines}
 use Rattle.script_reader.proofs.Plain.{open_lines_plain}
+use Rattle.script_reader.proofs.Sound.{IsSound-built}
 use Rattle.script_reader.proofs.Machine.{block_from-ok, block_from-err, block_from-script, block_from-fault}
 
 -- ---- the lines of a script's text
@@ -126,6 +128,10 @@ given_ok bytes (Err stop) h = tt
 pub given_built : (bytes : List ℕ) (r : Result Script ScriptStop) → GivesScript r (outcome bytes) → IfOk r IsBuilt
 given_built bytes (Ok script) h = (outcome_ok bytes script h).built
 given_built bytes (Err stop) h = tt
+
+pub given_sound : (bytes : List ℕ) (r : Result Script ScriptStop) → GivesScript r (outcome bytes) → IfOk r IsSound
+given_sound bytes (Ok script) h = IsSound-built script (outcome_ok bytes script h).built
+given_sound bytes (Err stop) h = tt
 
 pub given_fault : (bytes : List ℕ) (r : Result Script ScriptStop) → GivesScript r (outcome bytes) → IfErr r (HasFault bytes)
 given_fault bytes (Ok script) h = tt

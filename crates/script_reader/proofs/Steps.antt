@@ -1,5 +1,5 @@
 -- One step of reading, and what it leaves.
-use Rattle.std.proofs.Common.{◌≡◌, ◌≢◌, ℕ, ◌+◌, ◌<◌, ◌≤◌, Bool, true, false, cond, ltb, eqb, List, [], ◌∷◌, ◌++◌, length, Option, Some, None, Result, Ok, Err, refl, sym, ap, ◌∙◌, arith}
+use Rattle.std.proofs.Common.{◌≡◌, ℕ, ◌+◌, ◌<◌, ◌≤◌, Bool, true, false, List, ◌∷◌, length, Some, None, Result, Err, refl, ap, ◌∙◌}
 use Rattle.std.specs.Prelude.{bytes_eq, option_map}
 use Rattle.std.proofs.lemmas.Bool.{lt-ltb, le-ltb}
 use Rattle.pico_base.specs.declared.script.Line.{Line}
@@ -9,7 +9,7 @@ use Rattle.script_reader.specs.declared.fault.ScriptStop.{ScriptStop}
 use Rattle.script_reader.specs.declared.fault.ScriptStop.TheVariants.{At}
 use Rattle.script_reader.specs.Spelling.{end_text}
 use Rattle.script_reader.specs.Reading.{State, inside, call_line_at, step, block_from, Fails, Gives}
-use Rattle.script_reader.specs.Reading.State.{Start, Inside, Whole}
+use Rattle.script_reader.specs.Reading.State.{Inside, Whole}
 
 -- ---- in a block
 

@@ -1,10 +1,10 @@
 -- A digit and a variable that are read are spelled so, and a variable's spelling is read.
-use Rattle.std.proofs.Common.{◌≡◌, ◌≢◌, ◌⊎◌, inl, inr, ℕ, zero, suc, ◌+◌, ◌-◌, ◌*◌, ◌/◌, ◌%◌, ◌<◌, ◌≤◌, Bool, true, false, ◌&&◌, cond, eqb, ltb, leb, List, [], ◌∷◌, ◌++◌, length, get_or, Option, Some, None, refl, sym, ap, subst, ◌∙◌, arith, rules}
-use Rattle.std.proofs.lemmas.Bool.{eqb-true, eqb-false, ne_eqb, eq-eqb, lt-ltb, le-ltb, cases_lt, cases_eq}
+use Rattle.std.proofs.Common.{◌≡◌, inl, inr, ℕ, ◌+◌, ◌-◌, ◌*◌, ◌/◌, ◌%◌, ◌≤◌, true, false, eqb, ltb, List, [], ◌∷◌, ◌++◌, get_or, Option, Some, None, refl, sym, ap, subst, ◌∙◌, arith}
+use Rattle.std.proofs.lemmas.Bool.{ne_eqb, lt-ltb, le-ltb, cases_lt, cases_eq}
 use Rattle.std.proofs.lemmas.Option.{some_pair_parts}
 use Rattle.script_reader.specs.Spelling.{digits_of_variable, variable_text}
 use Rattle.script_reader.specs.Reading.{is_lowercase, is_digit, digit_at, second_digit_at, first_digit_at, variable_at}
-use Rattle.script_reader.proofs.Tests.{chosen, between_true, between_from}
+use Rattle.script_reader.proofs.Chains.{chosen, between_true, between_from}
 
 -- ---- a digit
 
@@ -60,9 +60,9 @@ digits_cases k small =
     elim (cases_eq k 0) [
       | inl e ↦ subst Digits (sym e) none
       | inr some ↦ elim (cases_lt k 11) [
-          | inl few ↦ subst Digits (omega arith) (one (k - 1) (omega arith))
-          | inr many ↦ subst Digits (omega arith) (two ((k - 11) / 10) ((k - 11) % 10) (omega arith) (omega arith))
-        ]
+        | inl few ↦ subst Digits (omega arith) (one (k - 1) (omega arith))
+        | inr many ↦ subst Digits (omega arith) (two ((k - 11) / 10) ((k - 11) % 10) (omega arith) (omega arith))
+      ]
     ]
 
 second_takes : (t : ℕ) (o : Option (ℕ × List ℕ)) (rest : List ℕ) → t ≤ 9 → digit_at rest ≡ o → (k : ℕ) (left : List ℕ) → second_digit_at t o rest ≡ (k, left) → (k ≤ 110) × ((48 + t) ∷ rest ≡ digits_of_variable k ++ left)

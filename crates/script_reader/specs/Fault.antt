@@ -1,5 +1,5 @@
 -- What bytes read as, and where the first fault is.
-use Rattle.std.specs.Prelude.{◌≡◌, ◌⊎◌, ℕ, ◌+◌, ◌-◌, ◌≤◌, ◌<◌, ◌==◌, List, [], ◌∷◌, ◌++◌, length, take, count_by, if◌then◌else◌}
+use Rattle.std.specs.Prelude.{◌≡◌, ◌⊎◌, ℕ, ◌+◌, ◌-◌, ◌≤◌, ◌<◌, ◌==◌, List, [], ◌∷◌, ◌++◌, length, take, count_by, codes, if◌then◌else◌}
 use Rattle.std.specs.List.{onto_first}
 use Rattle.pico_base.specs.declared.script.Block.{Block}
 use Rattle.pico_base.specs.declared.script.Script.{Script}
@@ -9,6 +9,11 @@ use Rattle.script_reader.specs.declared.fault.ScriptStop.{ScriptStop}
 use Rattle.script_reader.specs.declared.fault.ScriptStop.TheVariants.{Memory, At}
 use Rattle.script_reader.specs.Spelling.{open_lines, script_lines, script_text}
 use Rattle.script_reader.specs.Form.{IsOpenBlock, IsBuilt}
+
+-- a fault's name, as it is printed
+abbrev pub name_of : ScriptFault → List ℕ
+name_of ScriptTooLong = codes "ScriptTooLong"
+name_of NotBuilt = codes "NotBuilt"
 
 -- the lines of a text: a line feed ends a line, and a last one begins no further line
 abbrev pub lines_of : List ℕ → List (List ℕ)

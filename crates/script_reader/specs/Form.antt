@@ -1,5 +1,5 @@
 -- The scripts that are built: one block whose lines get a private queue, send to it and receive from it.
-use Rattle.std.specs.Prelude.{◌≡◌, ◌≢◌, ◌⊎◌, ℕ, ◌+◌, ◌≤◌, true, false, pos, List, [], ◌∷◌, length, take, slice_get, All, Any, Option, Some, None}
+use Rattle.std.specs.Prelude.{◌≡◌, ◌≢◌, ◌⊎◌, ℕ, ◌+◌, ◌≤◌, true, false, pos, List, [], ◌∷◌, length, take, slice_get, All, Any, Some, None}
 use Rattle.pico_base.specs.declared.call.Call.TheVariants.{MsgGet, MsgSnd, MsgRcv}
 use Rattle.pico_base.specs.declared.script.Line.{Line}
 use Rattle.pico_base.specs.declared.script.Block.{Block}

@@ -161,9 +161,9 @@ step Start bytes = option_map (λ name. Inside name none_set []) (opening_at byt
 step (Inside name flags lines) bytes =
     if nat_lt (length lines) 20000
     then
-      if bytes_eq bytes end_text
-      then Some (Whole (record { name = name; lines = lines }))
-      else option_map (inside name flags lines) (call_line_at flags bytes)
+    if bytes_eq bytes end_text
+    then Some (Whole (record { name = name; lines = lines }))
+    else option_map (inside name flags lines) (call_line_at flags bytes)
     else None
 step (Whole block) bytes = None
 

@@ -165,11 +165,7 @@ fn get_line(bytes: &[u8]) -> Option<Line>
 
 /// The call line of these bytes, behind lines that set these variables; none if it isn't built.
 #[tactic(auto, unfolding(crate::specs::Reading::call_line_at))]
-pub(crate) fn call_line(
-    alloc: Global,
-    flags: &Flags,
-    bytes: &[u8],
-) -> Result<Option<Line>, Memory>
+pub(crate) fn call_line(alloc: Global, flags: &Flags, bytes: &[u8]) -> Result<Option<Line>, Memory>
     ensures { IfOk result (λ line. line ≡ call_line_at flags.now.flags bytes.now) }
 {
     if bytes.len() > MAX_LINE {

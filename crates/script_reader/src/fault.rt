@@ -1,6 +1,7 @@
 //! Why a text gave no script.
 
 ghost use Rattle.std.specs.Prelude.{◌≡◌};
+ghost use Rattle.script_reader.specs.Fault.{name_of};
 ghost use Rattle.script_reader.specs.declared.fault.ScriptStop.TheVariants.{Memory as OutOfMemory};
 
 use pico_base::Memory;
@@ -16,6 +17,18 @@ pub enum ScriptFault {
     /// The line isn't of the forms that are built, in the place where it stands.
     #[error("NotBuilt")]
     NotBuilt,
+}
+
+impl ScriptFault {
+    /// The fault's name, as it is printed.
+    pub fn name(self) -> &'static str
+        ensures { result.now ≡ name_of self }
+    {
+        match self {
+            ScriptFault::ScriptTooLong => "ScriptTooLong",
+            ScriptFault::NotBuilt => "NotBuilt",
+        }
+    }
 }
 
 /// Why no script was read.

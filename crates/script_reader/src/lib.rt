@@ -10,3 +10,6 @@ mod script;
 pub use calls::call_with;
 pub use fault::{ScriptFault, ScriptStop};
 pub use script::read_script;
+
+#[cfg(test)]
+mod tests;

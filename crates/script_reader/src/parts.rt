@@ -124,9 +124,7 @@ pub(crate) fn is_block_name(word: &[u8]) -> bool
     match word {
         [] => false,
         [first, others @ ..] => {
-            first.is_ascii_lowercase()
-                && others.len() <= 31
-                && are_name_parts(others)
+            first.is_ascii_lowercase() && others.len() <= 31 && are_name_parts(others)
         }
     }
 }

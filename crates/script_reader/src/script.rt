@@ -3,6 +3,7 @@
 ghost use Rattle.std.specs.Prelude.{◌≡◌, ◌⊎◌, ◌+◌, ◌<◌, ◌≤◌, ◌==◌, ℕ, IfOk, IfErr, IfSome, MatchOption, [], ◌∷◌, length, take, position, count_by, Ok, Err};
 ghost use Rattle.pico_base.specs.declared.script.Script.{Script as ScriptValue};
 ghost use Rattle.script_reader.specs.declared.fault.ScriptFault.{ScriptFault as FaultValue};
+ghost use Rattle.kernel_model.specs.Script.{IsSound};
 ghost use Rattle.script_reader.specs.Form.{IsBuilt};
 ghost use Rattle.script_reader.specs.Fault.{lines_of, Reads, IsFirstFault, HasFault};
 ghost use Rattle.script_reader.specs.Reading.State.{Start, Inside, Whole};
@@ -151,6 +152,7 @@ pub fn read_script(alloc: Global, bytes: &[u8]) -> Result<Script, ScriptStop>
     // What is read is spelled so.
     ensures ok { IfOk result (Reads bytes.now) }
     ensures built { IfOk result IsBuilt }
+    ensures sound { IfOk result IsSound }
     // A fault is the first one.
     ensures fault { IfErr result (HasFault bytes.now) }
     // What is spelled so is read, and what has a fault is refused for it, unless memory runs out.

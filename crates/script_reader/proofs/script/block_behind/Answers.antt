@@ -1,8 +1,8 @@
-use Rattle.std.proofs.Common.{◌≡◌, ◌≤◌, ◌<◌, length, sym, ap, ◌∙◌, arith}
+use Rattle.std.proofs.Common.{sym, ap, ◌∙◌, arith}
 use Rattle.std.specs.Prelude.{bytes_eq}
 use Rattle.script_reader.specs.Fault.{lines_of}
-use Rattle.script_reader.specs.Reading.{none_set, block_from}
-use Rattle.script_reader.specs.Reading.State.{Inside, Whole}
+use Rattle.script_reader.specs.Reading.{block_from}
+use Rattle.script_reader.specs.Reading.State.{Inside}
 use Rattle.script_reader.proofs.Steps.{step_full, step_end, step_refused, block_from-stops, block_from-goes, fails_at, gives_same}
 use Rattle.script_reader.proofs.script.block_behind.Goals as goal
 

@@ -1,6 +1,5 @@
-use Rattle.std.proofs.Common.{◌∙◌, ◌+◌, ◌-◌, ◌∷◌, length, take, drop, sym, ap, arith}
+use Rattle.std.proofs.Common.{◌∙◌, length, sym, arith}
 use Rattle.std.proofs.lemmas.List.{take_rest, drop_all}
-use Rattle.script_reader.specs.Fault.{lines_of}
 use Rattle.script_reader.proofs.Lines.{lines_of-at, lines_of-none, some_from_not_empty}
 use Rattle.script_reader.proofs.script.next_line.Goals as goal
 

@@ -1,4 +1,4 @@
-use Rattle.script_reader.proofs.Scripts.{given_ok, given_built, given_fault, given_only, given_only_fault}
+use Rattle.script_reader.proofs.Scripts.{given_ok, given_built, given_sound, given_fault, given_only, given_only_fault}
 use Rattle.script_reader.proofs.script.read_script.Goals as goal
 
 pub returns-clause-ok : goal.returns-clause-ok
@@ -15,3 +15,6 @@ returns-clause-only c = given_only c.args.bytes.now c.read.result c.read.ensures
 
 pub returns-clause-only_fault : goal.returns-clause-only_fault
 returns-clause-only_fault c = given_only_fault c.args.bytes.now c.read.result c.read.ensures
+
+pub returns-clause-sound : goal.returns-clause-sound
+returns-clause-sound c = given_sound c.args.bytes.now c.read.result c.read.ensures

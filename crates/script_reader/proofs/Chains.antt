@@ -1,5 +1,5 @@
 -- Tests and chains of options, taken apart.
-use Rattle.std.proofs.Common.{◌≡◌, ◌≤◌, ℕ, Bool, true, false, ◌&&◌, cond, leb, eqb, Option, Some, None, refl, arith}
+use Rattle.std.proofs.Common.{◌≡◌, ◌≤◌, ℕ, Bool, true, false, ◌&&◌, cond, leb, Option, Some, None, refl}
 use Rattle.std.proofs.lemmas.Bool.{and_parts, and_from, leb-true, le-leb}
 use Rattle.script_reader.specs.Reading.{◌>>=◌}
 
@@ -16,7 +16,6 @@ chosen false o y e = absurd cc
 pub not_chosen : {A : Type 0} (b : Bool) (o : Option A) (y : A) → cond b None o ≡ Some y → (b ≡ false) × (o ≡ Some y)
 not_chosen true o y e = absurd cc
 not_chosen false o y e = (refl, e)
-
 
 pub none_from : {A : Type 0} (o : Option A) → ((x : A) → o ≡ Some x → ⊥) → o ≡ None
 none_from None h = refl
