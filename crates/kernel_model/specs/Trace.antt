@@ -1,6 +1,6 @@
 -- The text of a history: a line for each entry, and the totals.
-use Rattle.std.specs.Prelude.{ℕ, ℤ, ◌+◌, ◌/◌, ◌%◌, Bool, true, false, not, ◌&&◌, ◌||◌, nat_eq, nat_le, nat_lt, List, [], ◌∷◌, ◌++◌, length, map, if◌then◌else◌, Option, Some, None, codes, count_by}
-use Rattle.std.specs.List.{flat_map, list_all, filter, join_with_byte}
+use Rattle.std.specs.Prelude.{ℕ, ℤ, ◌+◌, ◌/◌, ◌%◌, Bool, true, false, not, ◌&&◌, ◌||◌, nat_eq, nat_le, nat_lt, List, [], ◌∷◌, ◌++◌, length, if◌then◌else◌, Option, Some, None, codes, count_by}
+use Rattle.std.specs.List.{flat_map, list_all, filter}
 use Rattle.std.specs.Fmt.{decimal, signed_decimal}
 use Rattle.pico_base.specs.declared.call.Call.{Call}
 use Rattle.pico_base.specs.declared.call.Call.TheVariants as calls
