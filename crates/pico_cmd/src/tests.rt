@@ -1,7 +1,9 @@
 //! The program on scripts in memory: texts that no clause says, the lines of faults, and reads and writes that fail.
 use super::*;
 use host_iface::{CallList, MemSink, MemSource, SureSink, SureSource};
-use pico_base::Bytes;
+use pico_base::{
+    Bytes, Call, Entry, Id, Node, Outcome, Pid, Reply, SemStep, Sequence, Sig, SigArg,
+};
 use std::alloc::Global;
 use std::test::Fail;
 
@@ -164,5 +166,52 @@ fn a_sure_source_and_sink_give_done(rt: HostRuntime) -> Result<(), Fail> {
         &OpenGate,
     );
     assert_eq!(rt; ran.status.code(), 0);
+    Ok(())
+}
+
+// A call of each kind that holds a list.
+fn listed_calls(alloc: Global) -> Result<Vec<Call>, Fail> {
+    let text = bytes_of(alloc, "hi")?;
+    let steps = Sequence::from_vec(vec![in alloc;
+        SemStep {
+            num: 1,
+            add: -2,
+            nowait: true
+        },
+    ]?);
+    let values = Sequence::from_vec(vec![in alloc; 3, 4]?);
+    let id = Id(9);
+    Ok(vec![in alloc;
+        Call::MsgSnd {
+            id,
+            class: -7,
+            text,
+            nowait: true
+        },
+        Call::SemOp { id, steps },
+        Call::SemSetAll { id, values },
+        Call::Kill {
+            pid: Pid(2),
+            sig: SigArg::Is(Sig::Usr1)
+        },
+    ]?)
+}
+
+#[test]
+fn a_copy_equals_its_original(rt: HostRuntime) -> Result<(), Fail> {
+    let alloc = rt.alloc();
+    for call in listed_calls(alloc)? {
+        let reply = Reply::Message {
+            class: 3,
+            text: bytes_of(alloc, "hi")?,
+        };
+        let entry = Entry {
+            pid: Pid(1),
+            call,
+            outcome: Outcome::reply(alloc, reply),
+            by: Node(1),
+        };
+        assert_eq!(rt; entry.try_copy(alloc)?, entry);
+    }
     Ok(())
 }
