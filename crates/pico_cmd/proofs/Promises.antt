@@ -1,5 +1,5 @@
 -- From the bytes that are read to the bytes that were left, and from an answer to what is promised of it.
-use Rattle.std.proofs.Common.{◌≡◌, ℕ, ◌+◌, ◌<◌, ◌≤◌, List, [], ◌∷◌, length, take, map, get_or, Option, Some, None, ap, sym, subst, ◌∙◌, arith, inl, inr, length-take}
+use Rattle.std.proofs.Common.{refl, ◌≡◌, ℕ, ◌+◌, ◌<◌, ◌≤◌, List, [], ◌∷◌, length, take, map, get_or, Option, Some, None, ap, sym, subst, ◌∙◌, arith, inl, inr, ◌⊎◌, length-take}
 use Rattle.std.proofs.lemmas.List.{take-take}
 use Rattle.std.specs.Prelude.{IfSome, count_by, ◌==◌}
 use Rattle.pico_base.specs.declared.script.Script.{Script}
@@ -9,7 +9,7 @@ use Rattle.script_reader.specs.Fault.{Reads, IsFirstFault}
 use Rattle.pico_cmd.specs.declared.status.Status.{Status}
 use Rattle.pico_cmd.specs.declared.status.Status.TheVariants as status
 use Rattle.pico_cmd.specs.Stop.{AreScriptBytes}
-use Rattle.pico_cmd.specs.Promise.{Answers, Allows, IsTraceOf, IsWritten, Wrote, WroteFront}
+use Rattle.pico_cmd.specs.Promise.{Answers, AnswersTold, Allows, IsTraceOf, IsOrStops, IsWritten, Wrote, WroteFront}
 
 -- the front that was read is longer than a script
 long_front : (bytes left : List ℕ) → 1048576 < length left → bytes ≡ take 1048577 left → 1048576 < length bytes
@@ -74,9 +74,10 @@ wrote_front words left s text old new cause r a (inr c) e =
 -- The same where the source may tell nothing.
 
 pub told_answer : (told : Option (List ℕ)) (bytes read : List ℕ) (s : Status) (text : List ℕ) → IfSome told (AreScriptBytes bytes)
-    → read ≡ bytes → Answers read s text → IfSome told (λ left. Answers left s text)
-told_answer None bytes read s text r e a = tt
-told_answer (Some left) bytes read s text r e a = Answers-left bytes left s text r (subst (λ (b : List ℕ). Answers b s text) e a)
+    → read ≡ bytes → Answers read s text → AnswersTold told s text
+told_answer None bytes read s text r e a = record { bytes = read; told = tt; answers = a }
+told_answer (Some left) bytes read s text r e a =
+    record { bytes = left; told = refl; answers = Answers-left bytes left s text r (subst (λ (b : List ℕ). Answers b s text) e a) }
 
 pub told_done : (told : Option (List ℕ)) (bytes read : List ℕ) (s : Status) → IfSome told (AreScriptBytes bytes)
     → read ≡ bytes → ((script : Script) → Reads read script → s ≡ status.Done) → IfSome told (λ left. (script : Script) → Reads left script → s ≡ status.Done)
@@ -89,3 +90,21 @@ pub told_fault : (told : Option (List ℕ)) (bytes read : List ℕ) (s : Status)
 told_fault None bytes read s r e a = tt
 told_fault (Some left) bytes read s r e a =
     λ line fault first. a line fault (subst (λ (b : List ℕ). IsFirstFault b line fault) (sym e) (fault_read bytes left line fault r first))
+
+-- From the status of the answer to the status that is told.
+
+pub told_fault_written : (told : Option (List ℕ)) (s : Status) (text : List ℕ) (old new : Option (List ℕ)) (cause : Type 0) (r : Status)
+    → IfSome told (λ left. (line : ℕ) (fault : ScriptFault) → IsFirstFault left line fault → s ≡ status.BadScript)
+    → IsWritten s text old new cause r
+    → IfSome told (λ left. (line : ℕ) (fault : ScriptFault) → IsFirstFault left line fault → IsOrStops r status.BadScript)
+told_fault_written None s text old new cause r h w = tt
+told_fault_written (Some left) s text old new cause r h (inl w) = λ line fault first. inl (inl (w.status ∙ h line fault first))
+told_fault_written (Some left) s text old new cause r h (inr c) = λ line fault first. inl (inr (inr c.status))
+
+pub told_done_written : (told : Option (List ℕ)) (s : Status) (text : List ℕ) (old new : Option (List ℕ)) (cause : Type 0) (r : Status)
+    → IfSome told (λ left. (script : Script) → Reads left script → s ≡ status.Done)
+    → IsWritten s text old new cause r → (cause → ⊥)
+    → IfSome told (λ left. (script : Script) → Reads left script → (r ≡ status.Done) ⊎ (r ≡ status.Memory))
+told_done_written None s text old new cause r h w n = tt
+told_done_written (Some left) s text old new cause r h (inl w) n = λ script reads. inl (w.status ∙ h script reads)
+told_done_written (Some left) s text old new cause r h (inr c) n = absurd (n c.cause_is)

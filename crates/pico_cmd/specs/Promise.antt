@@ -48,11 +48,16 @@ Answers bytes status.Done text = IsTraceOf bytes text
 Answers bytes status.BadScript text = IsFaultOf bytes text
 Answers bytes _ text = ⊥
 
--- The text that a status goes with, by the words and the bytes that the source had left where it tells them. With
--- a status that writes nothing no text goes.
+-- what goes with a status for words in order, and bytes that are those that the source had left where it tells them
+pub record AnswersTold (left : Option (List ℕ)) (s : Status) (text : List ℕ) : Type 0 where
+  pub bytes : List ℕ
+  pub told : IfSome left (λ bytes_left. bytes_left ≡ bytes)
+  pub answers : Answers bytes s text
+
+-- The text that goes with a status, by the words and the source. With a status that writes nothing no text goes.
 abbrev pub Allows : List (List ℕ) → Option (List ℕ) → Status → List ℕ → Type 0
-Allows words left status.Done text = IsInOrder words × IfSome left (λ bytes. IsTraceOf bytes text)
-Allows words left status.BadScript text = IsInOrder words × IfSome left (λ bytes. IsFaultOf bytes text)
+Allows words left status.Done text = IsInOrder words × AnswersTold left status.Done text
+Allows words left status.BadScript text = IsInOrder words × AnswersTold left status.BadScript text
 Allows words left status.Usage text = (IsInOrder words → ⊥) × (text ≡ usage_text)
 Allows words left _ text = ⊥
 
@@ -73,7 +78,7 @@ pub record WroteFront (words : List (List ℕ)) (left : Option (List ℕ)) (old 
 
 -- the statuses that may stand in another's place: want of memory, and a write that failed
 abbrev pub IsOrFails : Status → Status → Type 0
-IsOrFails s wanted = (s ≡ wanted) ⊎ (s ≡ status.Memory) ⊎ (s ≡ status.WriteFault)
+IsOrFails s wanted = (s ≡ wanted) ⊎ ((s ≡ status.Memory) ⊎ (s ≡ status.WriteFault))
 
 -- and, where the source is read, a read that failed
 abbrev pub IsOrStops : Status → Status → Type 0

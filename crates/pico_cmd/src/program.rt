@@ -5,7 +5,7 @@ ghost use Rattle.script_reader.specs.declared.fault.ScriptFault.{ScriptFault as 
 ghost use Rattle.script_reader.specs.Fault.{Reads, IsFirstFault};
 ghost use Rattle.host_iface.specs.Faults.{HasRisen};
 ghost use Rattle.host_iface.specs.Told.{followed_by};
-ghost use Rattle.pico_cmd.specs.Promise.{IsInOrder, Allows, Answers, Wrote, WroteFront, IsOrFails, IsOrStops, IsWritten, usage_text};
+ghost use Rattle.pico_cmd.specs.Promise.{IsInOrder, Allows, AnswersTold, Wrote, WroteFront, IsOrFails, IsOrStops, IsWritten, usage_text};
 ghost use Rattle.pico_cmd.specs.declared.program.Stop.TheVariants.{Memory as OutOfMemory};
 ghost use Rattle.pico_cmd.specs.Stop.{IsReadFault, AreScriptBytes};
 
@@ -67,7 +67,7 @@ fn script_bytes<S: Source>(alloc: Global, source: &mut S) -> Result<Bytes, Stop>
 
 // The answer to the bytes of the source.
 fn simulate<S: Source>(alloc: Global, source: &mut S) -> Result<Answer, Stop>
-    ensures answer { IfOk result (λ answer. IfSome (S.left source.old) (λ bytes. Answers bytes answer.status answer.text)) }
+    ensures answer { IfOk result (λ answer. AnswersTold (S.left source.old) answer.status answer.text) }
     ensures status { IfOk result (λ answer. (answer.status ≡ Status.Done) ⊎ (answer.status ≡ Status.BadScript)) }
     ensures done { IfSome (S.left source.old) (λ bytes. (script : ScriptValue) → Reads bytes script → IfOk result (λ answer. answer.status ≡ Status.Done)) }
     ensures fault { IfSome (S.left source.old) (λ bytes. (line : ℕ) (fault : FaultValue) → IsFirstFault bytes line fault → IfOk result (λ answer. answer.status ≡ Status.BadScript)) }
