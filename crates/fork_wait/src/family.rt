@@ -1,13 +1,11 @@
-ghost use Rattle.std.specs.Prelude.{◌≡◌, ◌<◌, ◌≤◌, IfOk, OnOk, Some, IsTrue, map, not, nat_eq};
+ghost use Rattle.std.specs.Prelude.{◌≡◌, ◌<◌, ◌≤◌, IfOk, IsTrue, OnOk, Some, false, length, nat_eq, not};
 ghost use Rattle.std.specs.List.{filter, list_any};
 ghost use Rattle.std.specs.Vec.{vec_capacity};
-ghost use Rattle.kernel_model.specs.Row.{Family as Members};
 ghost use Rattle.fork_wait.specs.Reading.{Gives};
 ghost use Rattle.fork_wait.specs.Spelling.{HasBytes, family_bytes};
-ghost use Rattle.kernel_model.specs.Row.{first_ended, lists, matches, no_family, others, wait, with_child, with_end};
+ghost use Rattle.kernel_model.specs.Row.{Family as Members, first_ended, lists, matches, no_family, others, wait, with_child, with_end};
 ghost use Rattle.fork_wait.specs.Children.{children, is_child};
 ghost use Rattle.fork_wait.specs.Waiting.{answer_of, family_after};
-ghost use Rattle.std.specs.Prelude.{false, length};
 
 use crate::checking::are_children;
 use crate::reading::lists_of;
@@ -40,7 +38,7 @@ impl Model for Family {
     ghost use Rattle.std.specs.Prelude.{◌≤◌};
     ghost use Rattle.std.specs.Vec.{vec_capacity};
     ghost use Rattle.kernel_model.specs.Row.{Family as Members};
-    ghost use Rattle.fork_wait.specs.Children.{AreChildren, children};
+    ghost use Rattle.fork_wait.specs.Children.{children};
     ghost use Rattle.fork_wait.specs.Held.{HasRoom};
 
     ghost Value = { Members };

@@ -1,8 +1,7 @@
 //! The fields of a packed signal state.
-ghost use Rattle.std.specs.Prelude.{◌≡◌, ◌+◌, ◌<◌, ◌≤◌, length};
+ghost use Rattle.std.specs.Prelude.{◌≡◌, ◌+◌, ◌≤◌, false, length};
 ghost use Rattle.signal_state.specs.Reading.{act_from, actions_from, count_at, counts_from, doom_from, set_at, set_from};
 ghost use Rattle.pico_base.specs.Signal.{everywhere};
-ghost use Rattle.std.specs.Prelude.{false};
 
 use crate::TABLE;
 use pico_base::{Act, PerSignal, Sig, SigSet};

@@ -1,8 +1,7 @@
 ghost use Rattle.std.specs.List.{list_all};
 ghost use Rattle.std.specs.Prelude.{◌≡◌, ◌↔◌, Some, Ok, Err, IfSome, IfErr, IsTrue, OnOk, fold, not, ◌&&◌, ◌||◌};
 ghost use Rattle.kernel_model.specs.Row.{is_ign};
-ghost use Rattle.kernel_model.specs.Signals.{act_on, all_signals, arrive, deliver, discards, inherited, both, is_kill, new_mask, new_signals, raise, with_action, with_mask};
-ghost use Rattle.kernel_model.specs.Signals.{Signals as State};
+ghost use Rattle.kernel_model.specs.Signals.{Signals as State, act_on, arrive, deliver, discards, inherited, is_kill, new_mask, new_signals, raise, with_mask};
 ghost use Rattle.pico_base.specs.Signal.{at, put};
 ghost use Rattle.signal_state.specs.Held.{AreHeld, is_kept};
 ghost use Rattle.signal_state.specs.Spelling.{HasBytes, signal_bytes};
