@@ -56,6 +56,18 @@ impl Model for Keys {
     ghost invariant = { λ k. Agree (get nat_eq k.by_key) (get nat_eq k.key_of) };
 }
 
+/// What a get comes to by what its key is bound to.
+fn answer(bound: Option<Bound>, create: bool, excl: bool) -> KeyAnswer
+    ensures { result ≡ key_answer bound create excl }
+{
+    match bound {
+        Some(_) if create && excl => KeyAnswer::Fail(Errno::Eexist),
+        Some(Bound { id, count }) => KeyAnswer::Found { id, count },
+        None if create => KeyAnswer::Create,
+        None => KeyAnswer::Fail(Errno::Enoent),
+    }
+}
+
 impl Keys {
     /// A table without a bound key.
     pub fn new(alloc: Global) -> Result<Keys, Memory>
@@ -71,15 +83,7 @@ impl Keys {
     pub fn get(&self, key: Key, create: bool, excl: bool) -> KeyAnswer
         ensures { result ≡ key_answer (map.get self.now key) create excl }
     {
-        match self.by_key.get(&key.0) {
-            Some(_) if create && excl => KeyAnswer::Fail(Errno::Eexist),
-            Some(bound) => KeyAnswer::Found {
-                id: bound.id,
-                count: bound.count,
-            },
-            None if create => KeyAnswer::Create,
-            None => KeyAnswer::Fail(Errno::Enoent),
-        }
+        answer(self.by_key.get(&key.0).copied(), create, excl)
     }
 
     /// Binds a key that isn't bound to an identifier that no key is bound to. A refusal for want of

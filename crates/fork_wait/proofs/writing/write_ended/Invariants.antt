@@ -1,0 +1,11 @@
+use Rattle.std.proofs.Common.{◌≡◌, ◌<◌, ◌^◌, ◌++◌, All, take}
+use Rattle.std.specs.List.{flat_map}
+use Rattle.fork_wait.specs.Spelling.{ended_bytes}
+use Rattle.fork_wait.proofs.writing.write_ended.Given as goal
+
+abbrev pub invariant-loop-pid : goal.invariant-loop-pid
+invariant-loop-pid l =
+    record {
+      written : l.bytes.items ≡ l.fn.bytes.items ++ flat_map ended_bytes (take l.pid-index l.ended);
+      numbers : All (λ e. e.0 < 2 ^ 32) (take l.pid-index l.ended);
+    }

@@ -1,0 +1,12 @@
+//! The children of a process: those that live, and those that have ended and weren't waited for.
+#![tactic(auto)]
+
+mod checking;
+mod family;
+mod reading;
+mod writing;
+
+pub use family::{Family, Waited};
+
+#[cfg(test)]
+mod tests;
