@@ -1,0 +1,9 @@
+//! A System V message queue: messages of a type and a text are sent last, and received first or by their type.
+#![tactic(auto)]
+
+mod message;
+mod queue;
+mod select;
+
+pub use message::Message;
+pub use queue::{Queue, SendFault};
