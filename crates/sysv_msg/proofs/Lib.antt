@@ -1,3 +1,7 @@
+pub mod Fields
 pub mod Lowest
-pub mod Selected
+pub mod Messages
 pub mod Receiving
+pub mod Selected
+pub mod Loop
+pub mod Bodies

@@ -2,8 +2,10 @@
 #![tactic(auto)]
 
 mod message;
+mod pack;
 mod queue;
 mod select;
+mod unpack;
 
 pub use message::Message;
 pub use queue::{Queue, SendFault};
