@@ -9,3 +9,6 @@ mod unpack;
 
 pub use message::Message;
 pub use queue::{Queue, SendFault};
+
+#[cfg(test)]
+mod tests;

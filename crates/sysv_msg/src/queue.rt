@@ -43,7 +43,7 @@ impl Model for Queue {
 }
 
 /// Why a message wasn't sent.
-#[derive(Debug, Drop, Error)]
+#[derive(Debug, PartialEq, Eq, Drop, Error)]
 pub enum SendFault {
     /// An allocation was refused. The text comes back.
     #[error("out of memory")]
