@@ -1,5 +1,5 @@
 -- What is read is a body of it, and a body is read as its queue.
-use Rattle.std.proofs.Common.{◌≡◌, ℕ, zero, suc, ◌+◌, ◌^◌, ◌<◌, ◌≤◌, Bool, true, false, cond, eqb, List, [], ◌∷◌, ◌++◌, length, Option, Some, None, Result, Ok, Err, refl, sym, ap, subst, ◌∙◌, append_assoc, arith}
+use Rattle.std.proofs.Common.{◌≡◌, ℕ, ◌^◌, cond, eqb, List, [], ◌∷◌, ◌++◌, length, Some, None, Result, Ok, Err, refl, sym, ap, subst, ◌∙◌, append_assoc, arith}
 use Rattle.std.specs.Prelude.{IfOk}
 use Rattle.std.specs.List.{flat_map}
 use Rattle.std.specs.Int.{w16, w32, to_be_bytes}
@@ -7,11 +7,10 @@ use Rattle.std.proofs.lemmas.Bool.{eqb-true}
 use Rattle.std.proofs.lemmas.List.{append-nil, nil_from_length}
 use Rattle.pico_base.specs.declared.fault.UnpackFault.{UnpackFault}
 use Rattle.pico_base.specs.declared.fault.UnpackFault.TheVariants.{Memory, NotABody}
-use Rattle.kernel_model.specs.Queue.{Message, Queue, max_queue_bytes, max_messages, bytes_of}
-use Rattle.sysv_msg.specs.Limits.{IsWithinLimits}
-use Rattle.sysv_msg.specs.Body.{queue_code, message_field, body, IsBodyOf, Unpacks}
+use Rattle.kernel_model.specs.Queue.{Queue, max_queue_bytes, max_messages}
+use Rattle.sysv_msg.specs.Body.{queue_code, message_field, IsBodyOf, Unpacks}
 use Rattle.sysv_msg.specs.Reading.{◌>>=◌, Gives, number_at, number_upto, messages_at, fields_at, queue_at}
-use Rattle.sysv_msg.proofs.Fields.{IsBytes, IsBytes-rest, bind_some, guard_ended, guard_then, some_is, Takes, Takes-then, wide16, wide32, number_takes, number_again, number_upto_takes, number_upto_again}
+use Rattle.sysv_msg.proofs.Fields.{IsBytes, IsBytes-rest, bind_some, guard_ended, guard_then, some_is, Takes-then, wide16, wide32, number_takes, number_again, number_upto_takes, number_upto_again}
 use Rattle.sysv_msg.proofs.Messages.{messages_take, messages_again}
 
 abbrev num : ℕ → List ℕ

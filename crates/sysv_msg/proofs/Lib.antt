@@ -5,3 +5,4 @@ pub mod Receiving
 pub mod Selected
 pub mod Loop
 pub mod Bodies
+mod Examples

@@ -1,7 +1,37 @@
-use crate::{Message, Queue, SendFault};
+use crate::{Queue, SendFault};
 use pico_base::{Bytes, Errno, Memory, Pid, Reply, UnpackFault};
 use std::alloc::Global;
 use std::test::Fail;
+
+/// Types of three messages with the texts a, b and c, the type asked for, and the text it gives, 0 for none.
+const SELECTED: [([i32; 3], i32, u8); 14] = [
+    ([5, 4, 3], 0, b'a'),
+    ([5, 4, 3], 4, b'b'),
+    ([5, 4, 3], 6, 0),
+    ([4, 5, 4], 4, b'a'),
+    ([5, 4, 4], 4, b'b'),
+    ([5, 4, 3], -5, b'c'),
+    ([5, 4, 3], -4, b'c'),
+    ([5, 4, 3], -3, b'c'),
+    ([5, 4, 3], -2, 0),
+    ([3, 5, 3], -9, b'a'),
+    ([5, 3, 3], -9, b'b'),
+    ([2, 3, 1], -2, b'c'),
+    ([2147483647, 9, 9], 2147483647, b'a'),
+    ([2147483647, 2147483647, 2147483647], -2147483648, b'a'),
+];
+
+/// A `msg_qbytes`, the length of a text, and the refusal of the text by an empty queue.
+const ROOM: [(u32, usize, Option<Errno>); 8] = [
+    (0, 0, None),
+    (0, 1, Some(Errno::Eagain)),
+    (1, 1, None),
+    (1, 2, Some(Errno::Eagain)),
+    (4095, 4096, Some(Errno::Eagain)),
+    (4096, 4096, None),
+    (4096, 4097, Some(Errno::Einval)),
+    (16384, 4096, None),
+];
 
 /// Sends as process 7, and tells the refusal.
 fn send(
@@ -17,100 +47,100 @@ fn send(
     }
 }
 
-/// A queue of three messages of these types, with the texts a, b and c.
-fn three(alloc: Global, classes: [i32; 3]) -> Result<Queue, Memory> {
-    let mut queue = Queue::new(alloc)?;
-    send(alloc, &mut queue, classes[0], b"a")?;
-    send(alloc, &mut queue, classes[1], b"b")?;
-    send(alloc, &mut queue, classes[2], b"c")?;
-    Ok(queue)
+/// Whether a receive as process 8 gives this message.
+fn gives(queue: &mut Queue, asked: i32, class: i32, text: &[u8]) -> bool {
+    match queue.receive(Pid(8), asked, 8, false) {
+        Ok(taken) => taken.class == class && taken.text.as_slice() == text,
+        Err(_) => false,
+    }
 }
 
-fn message(alloc: Global, class: i32, text: &[u8]) -> Result<Message, Memory> {
-    Ok(Message {
-        class,
-        text: Bytes::from_slice(alloc, text)?,
-    })
+/// The first byte of what a type selects, or 0.
+fn selected(alloc: Global, classes: [i32; 3], asked: i32) -> Result<u8, Memory> {
+    let mut queue = Queue::new(alloc)?;
+    for (class, text) in classes.iter().zip([b"a", b"b", b"c"]) {
+        send(alloc, &mut queue, *class, text)?;
+    }
+    match queue.receive(Pid(8), asked, 1, false) {
+        Ok(taken) => Ok(taken.text.as_slice().first().copied().unwrap_or(0)),
+        Err(_) => Ok(0),
+    }
+}
+
+/// The refusal of a text of this length by an empty queue with this `msg_qbytes`.
+fn refusal(alloc: Global, qbytes: u32, length: usize) -> Result<Option<Errno>, Memory> {
+    let mut queue = Queue::new(alloc)?;
+    if queue.set(qbytes).is_err() {
+        return Ok(Some(Errno::Einval));
+    }
+    let text = vec![in alloc; b'x'; length]?;
+    send(alloc, &mut queue, 1, &text)
 }
 
 #[test]
 fn the_type_selects(rt: HostRuntime) -> Result<(), Fail> {
-    let rows: [([i32; 3], i32, &[u8]); 14] = [
-        ([5, 4, 3], 0, b"a"),
-        ([5, 4, 3], 4, b"b"),
-        ([5, 4, 3], 6, b""),
-        ([4, 5, 4], 4, b"a"),
-        ([5, 4, 4], 4, b"b"),
-        ([5, 4, 3], -5, b"c"),
-        ([5, 4, 3], -4, b"c"),
-        ([5, 4, 3], -3, b"c"),
-        ([5, 4, 3], -2, b""),
-        ([3, 5, 3], -9, b"a"),
-        ([5, 3, 3], -9, b"b"),
-        ([2, 3, 1], -2, b"c"),
-        ([2147483647, 9, 9], 2147483647, b"a"),
-        ([2147483647, 2147483647, 2147483647], -2147483648, b"a"),
-    ];
-    for (classes, asked, text) in rows {
-        let mut queue = three(rt.alloc(), classes)?;
-        match queue.receive(Pid(8), asked, 1, false) {
-            Ok(taken) => assert_eq!(rt; taken.text.as_slice(), text, "{classes:?} {asked}"),
-            Err(errno) => {
-                assert_eq!(rt; errno, Errno::Enomsg);
-                assert!(rt; text.is_empty(), "{classes:?} {asked}");
-            }
-        }
+    for (classes, asked, text) in SELECTED {
+        assert_eq!(rt;
+            selected(rt.alloc(), classes, asked)?,
+            text,
+            "{classes:?} {asked}"
+        );
     }
     Ok(())
 }
 
 #[test]
 fn lowest_before_oldest(rt: HostRuntime) -> Result<(), Fail> {
-    let alloc = rt.alloc();
-    let mut queue = Queue::new(alloc)?;
-    for (class, text) in [(5, b"e"), (4, b"d"), (3, b"a"), (3, b"b")] {
-        assert_eq!(rt; send(alloc, &mut queue, class, text)?, None);
-    }
-    assert_eq!(rt;
-        queue.receive(Pid(8), -4, 8, false),
-        Ok(message(alloc, 3, b"a")?)
-    );
-    assert_eq!(rt;
-        queue.receive(Pid(8), 0, 8, false),
-        Ok(message(alloc, 5, b"e")?)
-    );
+    let mut queue = Queue::new(rt.alloc())?;
+    send(rt.alloc(), &mut queue, 5, b"e")?;
+    send(rt.alloc(), &mut queue, 4, b"d")?;
+    send(rt.alloc(), &mut queue, 3, b"a")?;
+    send(rt.alloc(), &mut queue, 3, b"b")?;
+    assert!(rt; gives(&mut queue, -4, 3, b"a"));
+    assert!(rt; gives(&mut queue, 0, 5, b"e"));
     Ok(())
 }
 
 #[test]
 fn a_long_text_is_cut(rt: HostRuntime) -> Result<(), Fail> {
-    let alloc = rt.alloc();
-    let mut queue = Queue::new(alloc)?;
-    send(alloc, &mut queue, 1, b"abc")?;
-    assert_eq!(rt; queue.receive(Pid(8), 0, 2, false), Err(Errno::E2big));
+    let mut queue = Queue::new(rt.alloc())?;
+    send(rt.alloc(), &mut queue, 1, b"abc")?;
     assert_eq!(rt;
-        queue.receive(Pid(8), 0, 2, true),
-        Ok(message(alloc, 1, b"ab")?)
+        queue.receive(Pid(8), 0, 2, false).err(),
+        Some(Errno::E2big)
     );
-    assert_eq!(rt; queue.receive(Pid(8), 0, 2, true), Err(Errno::Enomsg));
+    let taken = queue.receive(Pid(8), 0, 2, true).ok().ok_or("nothing")?;
+    assert_eq!(rt; taken.text.as_slice(), b"ab".as_slice());
+    assert_eq!(rt;
+        queue.receive(Pid(8), 0, 2, true).err(),
+        Some(Errno::Enomsg)
+    );
     Ok(())
 }
 
 #[test]
-fn there_is_room_up_to_the_limits(rt: HostRuntime) -> Result<(), Fail> {
-    let alloc = rt.alloc();
-    let mut queue = Queue::new(alloc)?;
-    assert_eq!(rt; queue.set(16385), Err(Errno::Einval));
-    assert_eq!(rt; queue.set(4096), Ok(()));
-    let text = vec![in alloc; b'x'; 4097]?;
-    assert_eq!(rt; send(alloc, &mut queue, 1, &text)?, Some(Errno::Einval));
-    assert_eq!(rt; send(alloc, &mut queue, 0, b"")?, Some(Errno::Einval));
-    assert_eq!(rt; send(alloc, &mut queue, 1, &text[1..])?, None);
-    assert_eq!(rt; send(alloc, &mut queue, 1, b"")?, None);
-    assert_eq!(rt; send(alloc, &mut queue, 1, b"b")?, Some(Errno::Eagain));
+fn room_at_its_edges(rt: HostRuntime) -> Result<(), Fail> {
+    for (qbytes, length, errno) in ROOM {
+        assert_eq!(rt;
+            refusal(rt.alloc(), qbytes, length)?,
+            errno,
+            "{qbytes} {length}"
+        );
+    }
+    assert_eq!(rt; refusal(rt.alloc(), 16385, 0)?, Some(Errno::Einval));
+    Ok(())
+}
+
+#[test]
+fn full_of_messages(rt: HostRuntime) -> Result<(), Fail> {
+    let mut queue = Queue::new(rt.alloc())?;
+    for _ in 0..1024 {
+        assert_eq!(rt; send(rt.alloc(), &mut queue, 1, b"")?, None);
+    }
+    assert_eq!(rt; send(rt.alloc(), &mut queue, 1, b"")?, Some(Errno::Eagain));
     let stat = Reply::Stat {
-        qnum: 2,
-        qbytes: 4096,
+        qnum: 1024,
+        qbytes: 16384,
         lspid: Pid(7),
         lrpid: Pid(0),
     };
@@ -118,83 +148,39 @@ fn there_is_room_up_to_the_limits(rt: HostRuntime) -> Result<(), Fail> {
     Ok(())
 }
 
-#[test]
-fn qbytes_at_its_edges(rt: HostRuntime) -> Result<(), Fail> {
-    let alloc = rt.alloc();
-    let rows: [(u32, &[u8], Option<Errno>); 6] = [
-        (0, b"", None),
-        (0, b"a", Some(Errno::Eagain)),
-        (1, b"a", None),
-        (1, b"ab", Some(Errno::Eagain)),
-        (16384, b"ab", None),
-        (16385, b"ab", None),
-    ];
-    for (qbytes, text, refusal) in rows {
-        let mut queue = Queue::new(alloc)?;
-        assert_eq!(rt; queue.set(qbytes).is_err(), qbytes > 16384);
-        assert_eq!(rt;
-            send(alloc, &mut queue, 1, text)?,
-            refusal,
-            "{qbytes} {text:?}"
-        );
-    }
-    Ok(())
-}
-
-#[test]
-fn full_of_messages(rt: HostRuntime) -> Result<(), Fail> {
-    let alloc = rt.alloc();
-    let mut queue = Queue::new(alloc)?;
-    for _ in 0..1024 {
-        assert_eq!(rt; send(alloc, &mut queue, 1, b"")?, None);
-    }
-    assert_eq!(rt; send(alloc, &mut queue, 1, b"")?, Some(Errno::Eagain));
-    Ok(())
-}
+/// Code 4, `msg_qbytes` 16,384, last sender 7, last receiver 0, one message: type 258 and the text hi.
+const BODY: &[u8] =
+    b"\x04\x00\x00\x40\x00\x00\x00\x00\x07\x00\x00\x00\x00\x00\x01\x00\x00\x01\x02\x00\x00\x00\x02hi";
 
 #[test]
 fn packed_and_unpacked(rt: HostRuntime) -> Result<(), Fail> {
-    let alloc = rt.alloc();
-    let mut queue = Queue::new(alloc)?;
-    send(alloc, &mut queue, 258, b"hi")?;
-    assert_eq!(rt; queue.set(1), Ok(()));
-    let packed = queue.pack(alloc)?;
-    // code 4, msg_qbytes 1, last sender 7, last receiver 0, one message: type 258, two bytes, hi
-    let body =
-        b"\x04\x00\x00\x00\x01\x00\x00\x00\x07\x00\x00\x00\x00\x00\x01\x00\x00\x01\x02\x00\x00\x00\x02hi";
-    assert_eq!(rt; packed.as_slice(), body.as_slice());
-    let mut again = Queue::unpack(alloc, packed.as_slice())?;
-    assert_eq!(rt; again.pack(alloc)?, packed);
-    assert_eq!(rt;
-        again.receive(Pid(8), 0, 2, false),
-        Ok(message(alloc, 258, b"hi")?)
-    );
+    let mut queue = Queue::new(rt.alloc())?;
+    send(rt.alloc(), &mut queue, 258, b"hi")?;
+    assert_eq!(rt; queue.pack(rt.alloc())?.as_slice(), BODY);
+    let mut again = Queue::unpack(rt.alloc(), BODY)?;
+    assert!(rt; gives(&mut again, 0, 258, b"hi"));
     Ok(())
 }
 
 #[test]
-fn refused_bodies(rt: HostRuntime) -> Result<(), Fail> {
-    let alloc = rt.alloc();
-    let rows: [&[u8]; 7] = [
-        b"",
-        b"\x04",
-        // another code
-        b"\x05\x00\x00\x40\x00\x00\x00\x00\x00\x00\x00\x00\x00\x00\x00",
-        // msg_qbytes 16,385
-        b"\x04\x00\x00\x40\x01\x00\x00\x00\x00\x00\x00\x00\x00\x00\x00",
-        // a byte behind the last field
+fn refused_bodies(rt: HostRuntime) {
+    // the body cut anywhere
+    for length in 0..BODY.len() {
+        let cut = Queue::unpack(rt.alloc(), &BODY[..length]);
+        assert_eq!(rt; cut.err(), Some(UnpackFault::NotABody), "{length}");
+    }
+    // a byte behind the last field, another code, msg_qbytes 16,385, a type of 0
+    let rows: [&[u8]; 4] = [
         b"\x04\x00\x00\x40\x00\x00\x00\x00\x00\x00\x00\x00\x00\x00\x00\x00",
-        // a message of type 0
+        b"\x05\x00\x00\x40\x00\x00\x00\x00\x00\x00\x00\x00\x00\x00\x00",
+        b"\x04\x00\x00\x40\x01\x00\x00\x00\x00\x00\x00\x00\x00\x00\x00",
         b"\x04\x00\x00\x40\x00\x00\x00\x00\x00\x00\x00\x00\x00\x00\x01\x00\x00\x00\x00\x00\x00\x00\x00",
-        // a text that is one byte short
-        b"\x04\x00\x00\x40\x00\x00\x00\x00\x00\x00\x00\x00\x00\x00\x01\x00\x00\x00\x01\x00\x00\x00\x02h",
     ];
     for bytes in rows {
         assert_eq!(rt;
-            Queue::unpack(alloc, bytes).err(),
+            Queue::unpack(rt.alloc(), bytes).err(),
             Some(UnpackFault::NotABody),
             "{bytes:?}"
         );
     }
-    Ok(())
 }

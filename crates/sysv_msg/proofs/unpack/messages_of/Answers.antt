@@ -1,6 +1,6 @@
-use Rattle.std.proofs.Common.{◌≡◌, ◌+◌, ◌-◌, ◌++◌, ◌∷◌, [], length, sym, ap, ◌∙◌, arith}
+use Rattle.std.proofs.Common.{◌≡◌, length, ap, ◌∙◌, arith}
 use Rattle.std.proofs.lemmas.Result.{err_from_is_err_and}
-use Rattle.kernel_model.specs.Queue.{Message, max_queue_bytes, bytes_of}
+use Rattle.kernel_model.specs.Queue.{Message, max_queue_bytes}
 use Rattle.sysv_msg.specs.Reading.{messages_at}
 use Rattle.sysv_msg.proofs.Messages.{messages_take}
 use Rattle.sysv_msg.proofs.Loop.{goes_on, ends, is_done, room_left}
