@@ -2,10 +2,15 @@
 #![tactic(auto)]
 
 mod fault;
+mod pack;
 mod row;
 mod semaphore;
 mod set;
 mod trial;
+mod unpack;
 
 pub use fault::NewFault;
 pub use set::SemSet;
+
+#[cfg(test)]
+mod tests;
