@@ -1,0 +1,92 @@
+-- What is read is a body of it, and a body is read as its queue.
+use Rattle.std.proofs.Common.{◌≡◌, ℕ, ◌^◌, cond, eqb, List, [], ◌∷◌, ◌++◌, length, Some, None, Result, Ok, Err, refl, sym, ap, subst, ◌∙◌, append_assoc, arith}
+use Rattle.std.specs.Prelude.{IfOk}
+use Rattle.std.specs.List.{flat_map}
+use Rattle.std.specs.Int.{w16, w32, to_be_bytes}
+use Rattle.std.proofs.lemmas.Bool.{eqb-true}
+use Rattle.std.proofs.lemmas.List.{append-nil, nil_from_length}
+use Rattle.pico_base.specs.declared.fault.UnpackFault.{UnpackFault}
+use Rattle.pico_base.specs.declared.fault.UnpackFault.TheVariants.{Memory, NotABody}
+use Rattle.kernel_model.specs.Queue.{Queue, max_queue_bytes, max_messages}
+use Rattle.sysv_msg.specs.Body.{queue_code, message_field, IsBodyOf, Unpacks}
+use Rattle.sysv_msg.specs.Reading.{◌>>=◌, Gives, number_at, number_upto, messages_at, fields_at, queue_at}
+use Rattle.sysv_msg.proofs.Fields.{IsBytes, IsBytes-rest, bind_some, guard_ended, guard_then, some_is, Takes-then, wide16, wide32, number_takes, number_again, number_upto_takes, number_upto_again}
+use Rattle.sysv_msg.proofs.Messages.{messages_take, messages_again}
+
+abbrev num : ℕ → List ℕ
+num n = to_be_bytes w32 n
+
+abbrev small : ℕ → List ℕ
+small n = to_be_bytes w16 n
+
+fields_take : (bytes : List ℕ) (q : Queue) → IsBytes bytes → fields_at bytes ≡ Some q → IsBodyOf q (queue_code ∷ bytes)
+unfolding fields_at
+fields_take bytes q fits e =
+    let a = bind_some (number_upto w32 max_queue_bytes bytes) (λ qbytes. number_at w32 qbytes.1 >>= λ sender. number_at w32 sender.1 >>= λ receiver. number_upto w16 max_messages receiver.1 >>= λ count. messages_at count.0 max_queue_bytes count.1 >>= λ messages. cond (eqb (length messages.1) 0) (Some (record { messages = messages.0; qbytes = qbytes.0; last_sender = sender.0; last_receiver = receiver.0 })) None) q e in
+    let b = bind_some (number_at w32 a.0.1) (λ sender. number_at w32 sender.1 >>= λ receiver. number_upto w16 max_messages receiver.1 >>= λ count. messages_at count.0 max_queue_bytes count.1 >>= λ messages. cond (eqb (length messages.1) 0) (Some (record { messages = messages.0; qbytes = a.0.0; last_sender = sender.0; last_receiver = receiver.0 })) None) q a.2 in
+    let c = bind_some (number_at w32 b.0.1) (λ receiver. number_upto w16 max_messages receiver.1 >>= λ count. messages_at count.0 max_queue_bytes count.1 >>= λ messages. cond (eqb (length messages.1) 0) (Some (record { messages = messages.0; qbytes = a.0.0; last_sender = b.0.0; last_receiver = receiver.0 })) None) q b.2 in
+    let d = bind_some (number_upto w16 max_messages c.0.1) (λ count. messages_at count.0 max_queue_bytes count.1 >>= λ messages. cond (eqb (length messages.1) 0) (Some (record { messages = messages.0; qbytes = a.0.0; last_sender = b.0.0; last_receiver = c.0.0 })) None) q c.2 in
+    let f = bind_some (messages_at d.0.0 max_queue_bytes d.0.1) (λ messages. cond (eqb (length messages.1) 0) (Some (record { messages = messages.0; qbytes = a.0.0; last_sender = b.0.0; last_receiver = c.0.0 })) None) q d.2 in
+    let made : Queue = record { messages = f.0.0; qbytes = a.0.0; last_sender = b.0.0; last_receiver = c.0.0 } in
+    let g = guard_ended (eqb (length f.0.1) 0) made q f.2 in
+    let t0 = number_upto_takes w32 (2 ^ 32) wide32 max_queue_bytes bytes a.0 fits a.1 in
+    let t1 = number_takes w32 (2 ^ 32) wide32 a.0.1 b.0 t0.0.rest_fits b.1 in
+    let t2 = number_takes w32 (2 ^ 32) wide32 b.0.1 c.0 t1.0.rest_fits c.1 in
+    let t3 = number_upto_takes w16 (2 ^ 16) wide16 max_messages c.0.1 d.0 t2.0.rest_fits d.1 in
+    let t4 = messages_take d.0.0 max_queue_bytes d.0.1 f.0 t3.0.rest_fits f.1 in
+    let nothing : f.0.1 ≡ [] = nil_from_length f.0.1 (eqb-true _ _ g.0) in
+    let e34 = Takes-then c.0.1 (small d.0.0) d.0.1 (flat_map message_field f.0.0) f.0.1 t3.0 t4.0 in
+    let e12 = Takes-then a.0.1 (num b.0.0) b.0.1 (num c.0.0) c.0.1 t1.0 t2.0 in
+    let e14 = Takes-then a.0.1 (num b.0.0 ++ num c.0.0) c.0.1 (small d.0.0 ++ flat_map message_field f.0.0) f.0.1 e12 e34 in
+    let e04 = Takes-then bytes (num a.0.0) a.0.1 ((num b.0.0 ++ num c.0.0) ++ (small d.0.0 ++ flat_map message_field f.0.0)) f.0.1 t0.0 e14 in
+    let all : List ℕ = num a.0.0 ++ ((num b.0.0 ++ num c.0.0) ++ (small d.0.0 ++ flat_map message_field f.0.0)) in
+    let whole : bytes ≡ all = e04.parts ∙ ap (λ (r : List ℕ). all ++ r) nothing ∙ append-nil all in
+    let counted : bytes ≡ num a.0.0 ++ ((num b.0.0 ++ num c.0.0) ++ (small (length f.0.0) ++ flat_map message_field f.0.0)) = whole ∙ ap (λ (k : ℕ). num a.0.0 ++ ((num b.0.0 ++ num c.0.0) ++ (small k ++ flat_map message_field f.0.0))) (sym t4.1) in
+    subst (λ (x : Queue). IsBodyOf x (queue_code ∷ bytes)) g.1 (record {
+      limits = record { qbytes = t0.1; count = omega (arith, t4.1, t3.1); bytes = t4.2; each = t4.3 };
+      sender = t1.1;
+      receiver = t2.1;
+      spelled = ap (λ (r : List ℕ). queue_code ∷ r) counted;
+    })
+
+fields_again : (q : Queue) (bytes : List ℕ) → IsBodyOf q (queue_code ∷ bytes) → fields_at bytes ≡ Some q
+unfolding fields_at
+fields_again q bytes is =
+    let fields : bytes ≡ num q.qbytes ++ ((num q.last_sender ++ num q.last_receiver) ++ (small (length q.messages) ++ flat_map message_field q.messages)) = cc in
+    let regrouped : (num q.last_sender ++ num q.last_receiver) ++ (small (length q.messages) ++ flat_map message_field q.messages) ≡ num q.last_sender ++ (num q.last_receiver ++ (small (length q.messages) ++ flat_map message_field q.messages)) = append_assoc (num q.last_sender) (num q.last_receiver) (small (length q.messages) ++ flat_map message_field q.messages) in
+    let limits = is.limits in
+    let qbytes = limits.qbytes in
+    let count = limits.count in
+    let rest : messages_at (length q.messages) max_queue_bytes (flat_map message_field q.messages) ≡ Some (q.messages, []) = ap (messages_at (length q.messages) max_queue_bytes) (sym (append-nil (flat_map message_field q.messages))) ∙ messages_again q.messages max_queue_bytes [] limits.each limits.bytes in
+    ap fields_at (fields ∙ ap (λ (r : List ℕ). num q.qbytes ++ r) regrouped) ∙ rw (
+      number_upto_again w32 (2 ^ 32) wide32 max_queue_bytes q.qbytes (num q.last_sender ++ (num q.last_receiver ++ (small (length q.messages) ++ flat_map message_field q.messages))) (omega arith) qbytes,
+      number_again w32 (2 ^ 32) wide32 q.last_sender (num q.last_receiver ++ (small (length q.messages) ++ flat_map message_field q.messages)) is.sender,
+      number_again w32 (2 ^ 32) wide32 q.last_receiver (small (length q.messages) ++ flat_map message_field q.messages) is.receiver,
+      number_upto_again w16 (2 ^ 16) wide16 max_messages (length q.messages) (flat_map message_field q.messages) (omega arith) count,
+      rest,
+    ) refl
+
+pub queue_takes : (bytes : List ℕ) (q : Queue) → IsBytes bytes → queue_at bytes ≡ Some q → IsBodyOf q bytes
+unfolding queue_at
+queue_takes [] q fits e = absurd cc
+queue_takes (code ∷ bytes) q fits e =
+    let g = guard_then (eqb code queue_code) (fields_at bytes) q e in
+    let is : code ≡ queue_code = eqb-true _ _ g.0 in
+    rw is (fields_take bytes q (IsBytes-rest code bytes fits) g.1)
+
+pub queue_again : (q : Queue) (bytes : List ℕ) → IsBodyOf q bytes → queue_at bytes ≡ Some q
+unfolding queue_at
+queue_again q [] is = absurd cc
+queue_again q (code ∷ bytes) is =
+    let spelled = is.spelled in
+    let same : code ≡ queue_code = cc in
+    rw same (fields_again q bytes (rw same at is))
+
+pub is_found : (bytes : List ℕ) (r : Result Queue UnpackFault) → IsBytes bytes → Gives (λ q. q) r (queue_at bytes) → IfOk r (λ q. IsBodyOf q bytes)
+is_found bytes (Ok q) fits given = queue_takes bytes q fits given
+is_found bytes (Err e) fits given = tt
+
+pub is_only : (bytes : List ℕ) (r : Result Queue UnpackFault) → Gives (λ q. q) r (queue_at bytes) → (q : Queue) → IsBodyOf q bytes → Unpacks r q
+is_only bytes (Ok got) given q is = some_is got q (sym given ∙ queue_again q bytes is)
+is_only bytes (Err Memory) given q is = tt
+is_only bytes (Err NotABody) given q is = let again = queue_again q bytes is in absurd cc

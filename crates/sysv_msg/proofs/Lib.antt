@@ -1,0 +1,8 @@
+pub mod Fields
+pub mod Lowest
+pub mod Messages
+pub mod Receiving
+pub mod Selected
+pub mod Loop
+pub mod Bodies
+mod Examples

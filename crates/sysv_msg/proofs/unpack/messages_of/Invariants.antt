@@ -1,0 +1,11 @@
+use Rattle.std.proofs.Common.{◌≡◌, ◌-◌, ◌+◌}
+use Rattle.kernel_model.specs.Queue.{max_queue_bytes, bytes_of}
+use Rattle.sysv_msg.specs.Reading.{messages_at}
+use Rattle.sysv_msg.proofs.Loop.{with_front}
+use Rattle.sysv_msg.proofs.unpack.messages_of.Given as goal
+
+abbrev pub invariant-loop : goal.invariant-loop
+invariant-loop l = record {
+  read : with_front l.messages.items (messages_at (l.count - l.counter) l.room l.rest) ≡ messages_at l.count max_queue_bytes l.bytes;
+  room : l.room + bytes_of l.messages.items ≡ max_queue_bytes;
+}

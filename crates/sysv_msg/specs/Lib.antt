@@ -1,0 +1,5 @@
+pub mod Body
+pub mod Limits
+pub mod Lowest
+pub mod Reading
+pub mod Refusals

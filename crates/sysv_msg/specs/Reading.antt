@@ -1,0 +1,69 @@
+-- Reading a body from left to right: a field is its value and the bytes after it, or there is none.
+use Rattle.std.specs.Prelude.{◌≡◌, ℕ, ℤ, zero, suc, ◌-◌, pos, List, [], ◌∷◌, length, take, drop, Option, Some, None, option_and_then, Result, Ok, Err, nat_lt, int_lt, min, ◌==◌, if◌then◌else◌}
+use Rattle.std.specs.Int.{Width, w16, w32, byte_len, from_be_bytes, cast_signed}
+use Rattle.pico_base.specs.declared.fault.UnpackFault.{UnpackFault}
+use Rattle.pico_base.specs.declared.fault.UnpackFault.TheVariants.{Memory, NotABody}
+use Rattle.kernel_model.specs.Queue.{Message, Queue, max_text, max_queue_bytes, max_messages}
+use Rattle.sysv_msg.specs.Body.{queue_code}
+
+infixl 10 ◌>>=◌
+abbrev pub ◌>>=◌ : {A B : Type 0} → Option A → (A → Option B) → Option B
+o >>= f = option_and_then f o
+
+-- What a function returned, seen by view, is what reading gives, unless memory ran out.
+abbrev pub Fails : {Y : Type 0} → UnpackFault → Option Y → Type 0
+Fails Memory read = Unit {0}
+Fails NotABody read = read ≡ None
+
+abbrev pub Gives : {X Y : Type 0} → (X → Y) → Result X UnpackFault → Option Y → Type 0
+Gives view (Ok x) read = read ≡ Some (view x)
+Gives view (Err e) read = Fails e read
+
+abbrev pub number_at : Width → List ℕ → Option (ℕ × List ℕ)
+number_at w bytes = if nat_lt (length bytes) (byte_len w) then None else Some (from_be_bytes w (take (byte_len w) bytes), drop (byte_len w) bytes)
+
+-- a number up to a limit
+unfoldable pub number_upto : Width → ℕ → List ℕ → Option (ℕ × List ℕ)
+number_upto w limit bytes = do
+  n ← number_at w bytes
+  if nat_lt limit n.0 then None else Some n
+
+-- a text of at most so many bytes
+unfoldable pub text_at : ℕ → List ℕ → Option (List ℕ × List ℕ)
+text_at limit bytes = do
+  n ← number_upto w32 limit bytes
+  if nat_lt (length n.1) n.0 then None else Some (take n.0 n.1, drop n.0 n.1)
+
+-- a type, at least 1
+unfoldable pub class_at : List ℕ → Option (ℤ × List ℕ)
+class_at bytes = do
+  n ← number_at w32 bytes
+  if int_lt (cast_signed w32 n.0) (pos 1) then None else Some (cast_signed w32 n.0, n.1)
+
+-- a message, where room is left for so many bytes of texts
+unfoldable pub message_at : ℕ → List ℕ → Option (Message × List ℕ)
+message_at room bytes = do
+  class ← class_at bytes
+  text ← text_at (min max_text room) class.1
+  Some (record { class = class.0; text = text.0 }, text.1)
+
+unfoldable pub messages_at : ℕ → ℕ → List ℕ → Option (List Message × List ℕ)
+messages_at zero room bytes = Some ([], bytes)
+messages_at (suc n) room bytes = do
+  first ← message_at room bytes
+  others ← messages_at n (room - length first.0.text) first.1
+  Some (first.0 ∷ others.0, others.1)
+
+-- the fields behind the code, and nothing behind them
+unfoldable pub fields_at : List ℕ → Option Queue
+fields_at bytes = do
+  qbytes ← number_upto w32 max_queue_bytes bytes
+  sender ← number_at w32 qbytes.1
+  receiver ← number_at w32 sender.1
+  count ← number_upto w16 max_messages receiver.1
+  messages ← messages_at count.0 max_queue_bytes count.1
+  if length messages.1 == 0 then Some (record { messages = messages.0; qbytes = qbytes.0; last_sender = sender.0; last_receiver = receiver.0 }) else None
+
+unfoldable pub queue_at : List ℕ → Option Queue
+queue_at [] = None
+queue_at (code ∷ bytes) = if code == queue_code then fields_at bytes else None

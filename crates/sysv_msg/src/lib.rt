@@ -1,0 +1,14 @@
+//! A System V message queue: messages of a type and a text are sent last, and received first or by their type.
+#![tactic(auto)]
+
+mod message;
+mod pack;
+mod queue;
+mod select;
+mod unpack;
+
+pub use message::Message;
+pub use queue::{Queue, SendFault};
+
+#[cfg(test)]
+mod tests;

@@ -1,0 +1,186 @@
+use crate::{Queue, SendFault};
+use pico_base::{Bytes, Errno, Memory, Pid, Reply, UnpackFault};
+use std::alloc::Global;
+use std::test::Fail;
+
+/// Types of three messages with the texts a, b and c, the type asked for, and the text it gives, 0 for none.
+const SELECTED: [([i32; 3], i32, u8); 14] = [
+    ([5, 4, 3], 0, b'a'),
+    ([5, 4, 3], 4, b'b'),
+    ([5, 4, 3], 6, 0),
+    ([4, 5, 4], 4, b'a'),
+    ([5, 4, 4], 4, b'b'),
+    ([5, 4, 3], -5, b'c'),
+    ([5, 4, 3], -4, b'c'),
+    ([5, 4, 3], -3, b'c'),
+    ([5, 4, 3], -2, 0),
+    ([3, 5, 3], -9, b'a'),
+    ([5, 3, 3], -9, b'b'),
+    ([2, 3, 1], -2, b'c'),
+    ([2147483647, 9, 9], 2147483647, b'a'),
+    ([2147483647, 2147483647, 2147483647], -2147483648, b'a'),
+];
+
+/// A `msg_qbytes`, the length of a text, and the refusal of the text by an empty queue.
+const ROOM: [(u32, usize, Option<Errno>); 8] = [
+    (0, 0, None),
+    (0, 1, Some(Errno::Eagain)),
+    (1, 1, None),
+    (1, 2, Some(Errno::Eagain)),
+    (4095, 4096, Some(Errno::Eagain)),
+    (4096, 4096, None),
+    (4096, 4097, Some(Errno::Einval)),
+    (16384, 4096, None),
+];
+
+/// Sends as process 7, and tells the refusal.
+fn send(
+    alloc: Global,
+    queue: &mut Queue,
+    class: i32,
+    text: &[u8],
+) -> Result<Option<Errno>, Memory> {
+    match queue.send(Pid(7), class, Bytes::from_slice(alloc, text)?) {
+        Ok(()) => Ok(None),
+        Err(SendFault::No(errno)) => Ok(Some(errno)),
+        Err(SendFault::Memory(_)) => Err(Memory),
+    }
+}
+
+/// Whether a receive as process 8 gives this message.
+fn gives(queue: &mut Queue, asked: i32, class: i32, text: &[u8]) -> bool {
+    match queue.receive(Pid(8), asked, 8, false) {
+        Ok(taken) => taken.class == class && taken.text.as_slice() == text,
+        Err(_) => false,
+    }
+}
+
+/// The first byte of what a type selects, or 0.
+fn selected(alloc: Global, classes: [i32; 3], asked: i32) -> Result<u8, Memory> {
+    let mut queue = Queue::new(alloc)?;
+    for (class, text) in classes.iter().zip([b"a", b"b", b"c"]) {
+        send(alloc, &mut queue, *class, text)?;
+    }
+    match queue.receive(Pid(8), asked, 1, false) {
+        Ok(taken) => Ok(taken.text.as_slice().first().copied().unwrap_or(0)),
+        Err(_) => Ok(0),
+    }
+}
+
+/// The refusal of a text of this length by an empty queue with this `msg_qbytes`.
+fn refusal(alloc: Global, qbytes: u32, length: usize) -> Result<Option<Errno>, Memory> {
+    let mut queue = Queue::new(alloc)?;
+    if queue.set(qbytes).is_err() {
+        return Ok(Some(Errno::Einval));
+    }
+    let text = vec![in alloc; b'x'; length]?;
+    send(alloc, &mut queue, 1, &text)
+}
+
+#[test]
+fn the_type_selects(rt: HostRuntime) -> Result<(), Fail> {
+    for (classes, asked, text) in SELECTED {
+        assert_eq!(rt;
+            selected(rt.alloc(), classes, asked)?,
+            text,
+            "{classes:?} {asked}"
+        );
+    }
+    Ok(())
+}
+
+#[test]
+fn lowest_before_oldest(rt: HostRuntime) -> Result<(), Fail> {
+    let mut queue = Queue::new(rt.alloc())?;
+    send(rt.alloc(), &mut queue, 5, b"e")?;
+    send(rt.alloc(), &mut queue, 4, b"d")?;
+    send(rt.alloc(), &mut queue, 3, b"a")?;
+    send(rt.alloc(), &mut queue, 3, b"b")?;
+    assert!(rt; gives(&mut queue, -4, 3, b"a"));
+    assert!(rt; gives(&mut queue, 0, 5, b"e"));
+    Ok(())
+}
+
+#[test]
+fn a_long_text_is_cut(rt: HostRuntime) -> Result<(), Fail> {
+    let mut queue = Queue::new(rt.alloc())?;
+    send(rt.alloc(), &mut queue, 1, b"abc")?;
+    assert_eq!(rt;
+        queue.receive(Pid(8), 0, 2, false).err(),
+        Some(Errno::E2big)
+    );
+    let taken = queue.receive(Pid(8), 0, 2, true).ok().ok_or("nothing")?;
+    assert_eq!(rt; taken.text.as_slice(), b"ab".as_slice());
+    assert_eq!(rt;
+        queue.receive(Pid(8), 0, 2, true).err(),
+        Some(Errno::Enomsg)
+    );
+    Ok(())
+}
+
+#[test]
+fn room_at_its_edges(rt: HostRuntime) -> Result<(), Fail> {
+    for (qbytes, length, errno) in ROOM {
+        assert_eq!(rt;
+            refusal(rt.alloc(), qbytes, length)?,
+            errno,
+            "{qbytes} {length}"
+        );
+    }
+    assert_eq!(rt; refusal(rt.alloc(), 16385, 0)?, Some(Errno::Einval));
+    Ok(())
+}
+
+#[test]
+fn full_of_messages(rt: HostRuntime) -> Result<(), Fail> {
+    let mut queue = Queue::new(rt.alloc())?;
+    for _ in 0..1024 {
+        assert_eq!(rt; send(rt.alloc(), &mut queue, 1, b"")?, None);
+    }
+    assert_eq!(rt; send(rt.alloc(), &mut queue, 1, b"")?, Some(Errno::Eagain));
+    let stat = Reply::Stat {
+        qnum: 1024,
+        qbytes: 16384,
+        lspid: Pid(7),
+        lrpid: Pid(0),
+    };
+    assert_eq!(rt; queue.stat(), stat);
+    Ok(())
+}
+
+/// Code 4, `msg_qbytes` 16,384, last sender 7, last receiver 0, one message: type 258 and the text hi.
+const BODY: &[u8] =
+    b"\x04\x00\x00\x40\x00\x00\x00\x00\x07\x00\x00\x00\x00\x00\x01\x00\x00\x01\x02\x00\x00\x00\x02hi";
+
+#[test]
+fn packed_and_unpacked(rt: HostRuntime) -> Result<(), Fail> {
+    let mut queue = Queue::new(rt.alloc())?;
+    send(rt.alloc(), &mut queue, 258, b"hi")?;
+    assert_eq!(rt; queue.pack(rt.alloc())?.as_slice(), BODY);
+    let mut again = Queue::unpack(rt.alloc(), BODY)?;
+    assert!(rt; gives(&mut again, 0, 258, b"hi"));
+    Ok(())
+}
+
+#[test]
+fn refused_bodies(rt: HostRuntime) {
+    // the body cut anywhere
+    for length in 0..BODY.len() {
+        let cut = Queue::unpack(rt.alloc(), &BODY[..length]);
+        assert_eq!(rt; cut.err(), Some(UnpackFault::NotABody), "{length}");
+    }
+    // a byte behind the last field, another code, msg_qbytes 16,385, a type of 0
+    let rows: [&[u8]; 4] = [
+        b"\x04\x00\x00\x40\x00\x00\x00\x00\x00\x00\x00\x00\x00\x00\x00\x00",
+        b"\x05\x00\x00\x40\x00\x00\x00\x00\x00\x00\x00\x00\x00\x00\x00",
+        b"\x04\x00\x00\x40\x01\x00\x00\x00\x00\x00\x00\x00\x00\x00\x00",
+        b"\x04\x00\x00\x40\x00\x00\x00\x00\x00\x00\x00\x00\x00\x00\x01\x00\x00\x00\x00\x00\x00\x00\x00",
+    ];
+    for bytes in rows {
+        assert_eq!(rt;
+            Queue::unpack(rt.alloc(), bytes).err(),
+            Some(UnpackFault::NotABody),
+            "{bytes:?}"
+        );
+    }
+}

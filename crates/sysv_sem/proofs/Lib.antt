@@ -1,0 +1,7 @@
+mod Examples
+pub mod Fields
+pub mod Loop
+pub mod Rows
+pub mod Semaphores
+pub mod Trials
+pub mod Within

@@ -1,0 +1,10 @@
+use Rattle.std.proofs.Common.{◌≡◌, ◌++◌, take}
+use Rattle.std.specs.List.{flat_map, AllByRecursion}
+use Rattle.sysv_sem.specs.Body.{semaphore_field, HasProcess}
+use Rattle.sysv_sem.proofs.pack.push_semaphores.Given as goal
+
+abbrev pub invariant-loop-semaphore : goal.invariant-loop-semaphore
+invariant-loop-semaphore l = record {
+  fields : l.out.items ≡ l.fn.out.items ++ flat_map semaphore_field (take l.semaphore-index l.set);
+  processes : AllByRecursion HasProcess (take l.semaphore-index l.set);
+}

@@ -1,0 +1,4 @@
+pub mod Answers
+pub mod Body
+pub mod Limits
+pub mod Reading
