@@ -1,0 +1,5 @@
+pub mod Maps
+pub mod Keys
+pub mod Parents
+pub mod Change
+pub mod Stepped
