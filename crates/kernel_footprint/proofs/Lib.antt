@@ -3,3 +3,4 @@ pub mod Keys
 pub mod Parents
 pub mod Change
 pub mod Stepped
+pub mod Finish
