@@ -4,3 +4,5 @@ pub mod Parents
 pub mod Change
 pub mod Stepped
 pub mod Finish
+pub mod Steps
+pub mod Effects
