@@ -6,3 +6,5 @@ pub mod Stepped
 pub mod Finish
 pub mod Steps
 pub mod Effects
+pub mod AtCall
+pub mod Queues
