@@ -8,3 +8,4 @@ pub mod Steps
 pub mod Effects
 pub mod AtCall
 pub mod Queues
+pub mod Sets
