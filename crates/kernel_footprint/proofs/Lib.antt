@@ -9,3 +9,5 @@ pub mod Effects
 pub mod AtCall
 pub mod Queues
 pub mod Sets
+pub mod Processes
+pub mod Ends
