@@ -1,13 +1,13 @@
 -- What one effect on two kernels leaves at each number: the value stays in both, or it is the same in both.
-use Rattle.std.proofs.Common.{◌≡◌, ◌≢◌, ℕ, Bool, true, false, List, [], ◌∷◌, Option, Some, None, refl, ap, sym, subst, ◌∙◌, ◌⊎◌, inl, inr}
+use Rattle.std.proofs.Common.{◌≡◌, ℕ, Bool, true, false, List, Option, Some, None, refl, sym, subst, ◌∙◌, ◌⊎◌, inl, inr}
 use Rattle.std.specs.List.{list_any}
 use Rattle.std.proofs.lemmas.Bool.{cases_eq, false≢true}
 use Rattle.pico_base.specs.declared.reply.Reply.{Reply}
 use Rattle.pico_base.specs.declared.reply.Reply.TheVariants.{Num}
 use Rattle.kernel_model.specs.Maps.{Numbered, get, put, without, used_with}
-use Rattle.kernel_model.specs.Kernel.{Kernel, Process, parent_in}
+use Rattle.kernel_model.specs.Kernel.{Kernel, parent_in}
 use Rattle.kernel_model.specs.Effect.{Effect}
-use Rattle.kernel_model.specs.Footprint.{Part, MayDo, Whole, ParentOf, QueueAt, SetAt, SizeOf, QueueKeys, SetKeys, is_whole, is_queue, is_set, is_queue_keys, is_set_keys}
+use Rattle.kernel_model.specs.Footprint.{Part, ParentOf, is_whole, is_queue, is_set, is_queue_keys, is_set_keys}
 use Rattle.kernel_footprint.proofs.Maps.{get-put-same, get-put-other, get-without-same, get-without-other}
 use Rattle.std.specs.Prelude.{nat_eq}
 
@@ -41,19 +41,19 @@ changes-none touched j k = λ p. Stays refl refl
 pub changes-put : {V : Type 0} (touched : ℕ → Bool) (j k a b : Numbered V) (n : ℕ) (v : V) → touched n ≡ true → Changes touched j k a b → Changes touched j k (put a n v) (put b n v)
 changes-put touched j k a b n v t c = λ p.
     elim (cases_eq p n) [
-      inl h ↦
-        let P : ℕ → Type 0 = λ q. Change (touched q) (get j q) (get k q) (get (put a n v) q) (get (put b n v) q)
-        in subst P (sym h) (Same t (get-put-same a n v ∙ sym (get-put-same b n v)))
-    | inr h ↦ change-move (touched p) (get j p) (get k p) (get a p) (get b p) _ _ (c p) (get-put-other a n v p h) (get-put-other b n v p h)
+      | inl h ↦
+          let P : ℕ → Type 0 = λ q. Change (touched q) (get j q) (get k q) (get (put a n v) q) (get (put b n v) q)
+          in subst P (sym h) (Same t (get-put-same a n v ∙ sym (get-put-same b n v)))
+      | inr h ↦ change-move (touched p) (get j p) (get k p) (get a p) (get b p) _ _ (c p) (get-put-other a n v p h) (get-put-other b n v p h)
     ]
 
 pub changes-without : {V : Type 0} (touched : ℕ → Bool) (j k a b : Numbered V) (n : ℕ) → touched n ≡ true → Changes touched j k a b → Changes touched j k (without a n) (without b n)
 changes-without touched j k a b n t c = λ p.
     elim (cases_eq p n) [
-      inl h ↦
-        let P : ℕ → Type 0 = λ q. Change (touched q) (get j q) (get k q) (get (without a n) q) (get (without b n) q)
-        in subst P (sym h) (Same t (get-without-same a n ∙ sym (get-without-same b n)))
-    | inr h ↦ change-move (touched p) (get j p) (get k p) (get a p) (get b p) _ _ (c p) (get-without-other a n p h) (get-without-other b n p h)
+      | inl h ↦
+          let P : ℕ → Type 0 = λ q. Change (touched q) (get j q) (get k q) (get (without a n) q) (get (without b n) q)
+          in subst P (sym h) (Same t (get-without-same a n ∙ sym (get-without-same b n)))
+      | inr h ↦ change-move (touched p) (get j p) (get k p) (get a p) (get b p) _ _ (c p) (get-without-other a n p h) (get-without-other b n p h)
     ]
 
 abbrev pub is_parent : ℕ → Part → Bool

@@ -1,17 +1,17 @@
 -- The same effect where one table of the kernel changes, or none.
-use Rattle.std.proofs.Common.{◌≡◌, ℕ, Bool, true, false, not, ◌&&◌, cond, List, Option, Some, None, Result, Ok, Err, refl, ap, sym, subst, ◌∙◌, ltb, inl, inr, nat_lt}
+use Rattle.std.proofs.Common.{◌≡◌, ℕ, Bool, true, false, not, ◌&&◌, cond, List, Option, Some, None, Result, Ok, Err, refl, ap, sym, subst, ◌∙◌, inl, nat_lt}
 use Rattle.std.proofs.lemmas.Bool.{false≢true}
 use Rattle.pico_base.specs.declared.reply.Reply.{Reply}
 use Rattle.pico_base.specs.declared.reply.Reply.TheVariants.{Num, Fail}
 use Rattle.pico_base.specs.declared.reply.Errno.{Errno}
 use Rattle.pico_base.specs.declared.reply.Errno.TheVariants.{Einval}
-use Rattle.kernel_model.specs.Maps.{Numbered, get, put, is_used, used_with}
+use Rattle.kernel_model.specs.Maps.{Numbered, is_used}
 use Rattle.kernel_model.specs.Queue.{Queue}
 use Rattle.kernel_model.specs.SemaphoreSet.{Semaphore}
 use Rattle.kernel_model.specs.Kernel.{Kernel, Process}
-use Rattle.kernel_model.specs.Effect.{Effect, replied, refused, looked_up, on_named, is_fresh}
+use Rattle.kernel_model.specs.Effect.{Effect, looked_up, on_named, is_fresh}
 use Rattle.kernel_model.specs.Footprint.{Part}
-use Rattle.kernel_footprint.proofs.Change.{Change, Stays, Same, Changes, changes-none, has_whole, has_queue, has_set, has_queue_keys, has_set_keys, has_parent, Grew, IsOrphan, SameEffect, SameEffects}
+use Rattle.kernel_footprint.proofs.Change.{Changes, changes-none, has_whole, has_queue, has_set, has_queue_keys, has_set_keys, has_parent, Grew, IsOrphan, SameEffect, SameEffects}
 
 -- no process's parent is a part
 abbrev pub Childless : List Part → Type 0
@@ -62,8 +62,8 @@ module _ (parts : List Part) (n : ℕ) (j k : Kernel) where
         → Changes (has_queue parts) j.queues k.queues a b → Changes (has_queue_keys parts) j.queue_keys k.queue_keys keys_a keys_b
         → Grew n r j.used_queues used_a → Grew n r k.used_queues used_b
         → SameEffect parts n j k
-          (record { kernel = record j { queues = a; queue_keys = keys_a; used_queues = used_a }; reply = r })
-          (record { kernel = record k { queues = b; queue_keys = keys_b; used_queues = used_b }; reply = r })
+        (record { kernel = record j { queues = a; queue_keys = keys_a; used_queues = used_a }; reply = r })
+        (record { kernel = record k { queues = b; queue_keys = keys_b; used_queues = used_b }; reply = r })
     queues-changed a b keys_a keys_b used_a used_b r s t u v =
         let same = unchanged r
         in record {
@@ -83,8 +83,8 @@ module _ (parts : List Part) (n : ℕ) (j k : Kernel) where
         → Changes (has_set parts) j.sets k.sets a b → Changes (has_set_keys parts) j.set_keys k.set_keys keys_a keys_b
         → Grew n r j.used_sets used_a → Grew n r k.used_sets used_b
         → SameEffect parts n j k
-          (record { kernel = record j { sets = a; set_keys = keys_a; used_sets = used_a }; reply = r })
-          (record { kernel = record k { sets = b; set_keys = keys_b; used_sets = used_b }; reply = r })
+        (record { kernel = record j { sets = a; set_keys = keys_a; used_sets = used_a }; reply = r })
+        (record { kernel = record k { sets = b; set_keys = keys_b; used_sets = used_b }; reply = r })
     sets-changed a b keys_a keys_b used_a used_b r s t u v =
         let same = unchanged r
         in record {
@@ -104,8 +104,8 @@ module _ (parts : List Part) (n : ℕ) (j k : Kernel) where
         → Changes (has_whole parts) j.processes k.processes a b
         → Grew n r j.used_processes used_a → Grew n r k.used_processes used_b
         → SameEffect parts n j k
-          (record { kernel = record j { processes = a; used_processes = used_a }; reply = r })
-          (record { kernel = record k { processes = b; used_processes = used_b }; reply = r })
+        (record { kernel = record j { processes = a; used_processes = used_a }; reply = r })
+        (record { kernel = record k { processes = b; used_processes = used_b }; reply = r })
     processes-changed a b used_a used_b r s u v =
         let same = unchanged r
         in record {

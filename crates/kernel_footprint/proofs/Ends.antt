@@ -1,26 +1,25 @@
 -- The law at the calls that end a process.
-use Rattle.std.proofs.Common.{◌≡◌, ◌≢◌, ◌⊎◌, ◌%◌, ℕ, Bool, true, false, not, ◌||◌, cond, List, [], ◌∷◌, ◌++◌, Option, Some, None, map, refl, ap, sym, subst, ◌∙◌, inl, inr, nat_eq}
+use Rattle.std.proofs.Common.{◌≡◌, ◌≢◌, ◌⊎◌, ◌%◌, ℕ, Bool, true, false, not, cond, List, [], ◌∷◌, ◌++◌, Option, Some, None, map, refl, ap, sym, subst, ◌∙◌, inl, inr, nat_eq}
 use Rattle.std.specs.Prelude.{if◌then◌else◌, fold}
-use Rattle.std.specs.List.{list_any, filter, AllByRecursion}
+use Rattle.std.specs.List.{list_any, AllByRecursion}
 use Rattle.std.specs.Option.{option_map, option_and_then}
-use Rattle.std.proofs.lemmas.Bool.{or_left, or_right, or_cases, cases_eq, cases_Bool, false≢true, eqb-true, eq-eqb}
+use Rattle.std.proofs.lemmas.Bool.{or_left, or_right, or_cases, cases_eq, cases_Bool, false≢true, eqb-true}
 use Rattle.pico_base.specs.declared.call.Call.{Call}
 use Rattle.pico_base.specs.declared.call.Call.TheVariants as calls
 use Rattle.pico_base.specs.declared.reply.Ending.{Ending}
 use Rattle.pico_base.specs.declared.reply.Ending.TheVariants as endings
-use Rattle.pico_base.specs.declared.reply.Reply.TheVariants as replies
 use Rattle.pico_base.specs.declared.signal.Sig.{Sig}
 use Rattle.pico_base.specs.declared.signal.Sig.TheVariants.{Chld}
-use Rattle.kernel_model.specs.Maps.{Numbered, get, put}
-use Rattle.kernel_model.specs.Row.{Alive, Family, lists, others, ignores_children, raised_at, with_ended_child}
-use Rattle.kernel_model.specs.Kernel.{Kernel, Process, Living, Ended, Gone, Parent, alive_in, living_in, living_at, parent_in}
+use Rattle.kernel_model.specs.Maps.{Numbered, put}
+use Rattle.kernel_model.specs.Row.{Alive, lists, others, ignores_children, raised_at, with_ended_child}
+use Rattle.kernel_model.specs.Kernel.{Kernel, Process, Living, Gone, Parent, alive_in, living_in, living_at, parent_in}
 use Rattle.kernel_model.specs.ProcessCalls.{bury, buried, kept_as, ended_under, with_end, ended}
 use Rattle.kernel_model.specs.Transition.{effect, transition}
 use Rattle.kernel_model.specs.Valid.{IsValid}
-use Rattle.kernel_model.specs.Footprint.{Part, MayDo, Whole, ParentOf, is_whole, ended_of, parent_parts, parent_number, Agree, SameAt, SameSteps}
+use Rattle.kernel_model.specs.Footprint.{Part, MayDo, Whole, ParentOf, is_whole, ended_of, parent_parts, parent_number, Agree, SameSteps}
 use Rattle.kernel_footprint.proofs.Maps.{Rises, rises-put, rises-from_order, get-put-same, get-put-other, eq-same}
-use Rattle.kernel_footprint.proofs.Parents.{lists_in, orphan-put, orphan-from_unlisted, parent-is}
-use Rattle.kernel_footprint.proofs.Change.{Changes, changes-none, changes-put, has_whole, has_queue, has_set, has_queue_keys, has_set_keys, has_parent, is_parent, IsOrphan, SameEffect, SameEffects}
+use Rattle.kernel_footprint.proofs.Parents.{orphan-put, orphan-from_unlisted, parent-is}
+use Rattle.kernel_footprint.proofs.Change.{Changes, changes-none, changes-put, has_whole, has_queue, has_set, has_queue_keys, has_set_keys, has_parent, is_parent, SameEffect, SameEffects}
 use Rattle.kernel_footprint.proofs.Processes.{ended-childless}
 use Rattle.kernel_footprint.proofs.Steps.{whole-steps}
 use Rattle.kernel_footprint.proofs.AtCall.{LawAt}
@@ -58,10 +57,10 @@ buried-rises (e ∷ es) ps h = buried-rises es (put ps e.0 Gone) (rises-put ps e
 gone-living : (ps : Numbered Process) (n p : ℕ) (a : Alive) → living_in (put ps n Gone) p ≡ Some a → living_in ps p ≡ Some a
 gone-living ps n p a h =
     elim (cases_eq p n) [
-      inl e ↦
-        let none : living_in (put ps n Gone) p ≡ None = subst (λ (q : ℕ). living_in (put ps n Gone) q ≡ None) (sym e) (ap (option_and_then alive_in) (get-put-same ps n Gone))
-        in cc
-    | inr ne ↦ sym (ap (option_and_then alive_in) (get-put-other ps n Gone p ne)) ∙ h
+      | inl e ↦
+          let none : living_in (put ps n Gone) p ≡ None = subst (λ (q : ℕ). living_in (put ps n Gone) q ≡ None) (sym e) (ap (option_and_then alive_in) (get-put-same ps n Gone))
+          in cc
+      | inr ne ↦ sym (ap (option_and_then alive_in) (get-put-other ps n Gone p ne)) ∙ h
     ]
 
 buried-living : (es : List (ℕ × Ending)) (ps : Numbered Process) (p : ℕ) (a : Alive) → living_in (fold bury ps es) p ≡ Some a → living_in ps p ≡ Some a
@@ -76,24 +75,24 @@ kept-dead false ending = refl
 
 module _ (ps : Numbered Process) (rises : Rises ps)
     (one_parent : (p q : ℕ) (a b : Alive) (child : ℕ) → living_in ps p ≡ Some a → living_in ps q ≡ Some b
-     → lists a.row.family child ≡ true → lists b.row.family child ≡ true → p ≡ q)
+    → lists a.row.family child ≡ true → lists b.row.family child ≡ true → p ≡ q)
     (es : List (ℕ × Ending)) (pid : ℕ) (ending : Ending) where
   -- the row of the parent aside
   others-unlisted : (r : Parent) (v : Process) → alive_in v ≡ None → parent_in pid ps ≡ Some r → (p : ℕ) (b : Alive) → p ≢ r.pid
       → living_in (put (fold bury ps es) pid v) p ≡ Some b → lists b.row.family pid ≡ false
   others-unlisted r v dead h p b ne l =
       elim (cases_eq p pid) [
-        inl e ↦
-          let none : living_in (put (fold bury ps es) pid v) p ≡ None =
-              subst (λ (q : ℕ). living_in (put (fold bury ps es) pid v) q ≡ None) (sym e) (ap (option_and_then alive_in) (get-put-same (fold bury ps es) pid v) ∙ dead)
-          in cc
-      | inr off ↦
-          let before = buried-living es ps p b (sym (ap (option_and_then alive_in) (get-put-other (fold bury ps es) pid v p off)) ∙ l)
-          in let is = parent-is pid ps r rises h
-          in elim (cases_Bool (lists b.row.family pid)) [
-            inl t ↦ absurd (ne (one_parent p r.pid b r.alive pid before is.0 t is.1))
-          | inr f ↦ f
-          ]
+        | inl e ↦
+            let none : living_in (put (fold bury ps es) pid v) p ≡ None =
+            subst (λ (q : ℕ). living_in (put (fold bury ps es) pid v) q ≡ None) (sym e) (ap (option_and_then alive_in) (get-put-same (fold bury ps es) pid v) ∙ dead)
+            in cc
+        | inr off ↦
+            let before = buried-living es ps p b (sym (ap (option_and_then alive_in) (get-put-other (fold bury ps es) pid v p off)) ∙ l)
+            in let is = parent-is pid ps r rises h
+            in elim (cases_Bool (lists b.row.family pid)) [
+              | inl t ↦ absurd (ne (one_parent p r.pid b r.alive pid before is.0 t is.1))
+              | inr f ↦ f
+            ]
       ]
 
   orphan-under : (o : Option Parent) → parent_in pid ps ≡ o → parent_in pid (ended_under (fold bury ps es) pid ending o) ≡ None
@@ -104,15 +103,15 @@ module _ (ps : Numbered Process) (rises : Rises ps)
       in let middle = put (fold bury ps es) pid kept
       in orphan-from_unlisted pid (put middle r.pid row) (rises-put middle r.pid row (rises-put (fold bury ps es) pid kept (buried-rises es ps rises)))
       (λ p b l. elim (cases_eq p r.pid) [
-          inl e ↦
+        | inl e ↦
             let there : living_in (put middle r.pid row) p ≡ Some (with_ended_child r.alive pid ending) =
-                subst (λ (q : ℕ). living_in (put middle r.pid row) q ≡ Some (with_ended_child r.alive pid ending)) (sym e) (ap (option_and_then alive_in) (get-put-same middle r.pid row))
+            subst (λ (q : ℕ). living_in (put middle r.pid row) q ≡ Some (with_ended_child r.alive pid ending)) (sym e) (ap (option_and_then alive_in) (get-put-same middle r.pid row))
             in let same : b ≡ with_ended_child r.alive pid ending = cc
             in ap (λ x. lists x.row.family pid) same ∙ ended-unlisted r.alive pid ending
         | inr ne ↦
             others-unlisted r kept (kept-dead (ignores_children r.alive.row) ending) h p b ne
             (sym (ap (option_and_then alive_in) (get-put-other middle r.pid row p ne)) ∙ l)
-        ])
+      ])
 
 orphaned : (k : Kernel) → IsValid k → (es : List (ℕ × Ending)) (pid : ℕ) (ending : Ending) → parent_in pid (ended_under (fold bury k.processes es) pid ending (parent_in pid k.processes)) ≡ None
 orphaned k v es pid ending = orphan-under k.processes (rises-from_order k.processes v.processes) v.one_parent es pid ending (parent_in pid k.processes) refl
@@ -146,8 +145,8 @@ any-neither : {X : Type 0} (test : X → Bool) (xs ys : List X) → list_any tes
 any-neither test [] ys h = inr h
 any-neither test (x ∷ xs) ys h =
     elim (or_cases (test x) (list_any test (xs ++ ys)) h) [
-      inl t ↦ inl (or_left _ _ t)
-    | inr t ↦ elim (any-neither test xs ys t) [ inl u ↦ inl (or_right _ _ u) | inr u ↦ inr u ]
+      | inl t ↦ inl (or_left _ _ t)
+      | inr t ↦ elim (any-neither test xs ys t) [ inl u ↦ inl (or_right _ _ u) | inr u ↦ inr u ]
     ]
 
 agree-right : (xs ys : List Part) (j k : Kernel) → Agree (xs ++ ys) j k → Agree ys j k
@@ -164,12 +163,12 @@ exit_parts pid o parent = MayDo pid ∷ Whole pid ∷ ParentOf pid ∷ (ended_of
 has_parent-is : (pid p : ℕ) (o : Option Alive) (parent : Option ℕ) → has_parent (exit_parts pid o parent) p ≡ true → p ≡ pid
 has_parent-is pid p o parent h =
     elim (or_cases (nat_eq p pid) _ h) [
-      inl t ↦ eqb-true p pid t
-    | inr t ↦
-        elim (any-neither (is_parent p) (ended_of o) (parent_parts parent) t) [
-          inl u ↦ absurd (false≢true (sym (ended-childless p o) ∙ u))
-        | inr u ↦ absurd (false≢true (sym (parents-childless p parent) ∙ u))
-        ]
+      | inl t ↦ eqb-true p pid t
+      | inr t ↦
+          elim (any-neither (is_parent p) (ended_of o) (parent_parts parent) t) [
+            | inl u ↦ absurd (false≢true (sym (ended-childless p o) ∙ u))
+            | inr u ↦ absurd (false≢true (sym (parents-childless p parent) ∙ u))
+          ]
     ]
 
 -- each ended child is a part
@@ -223,12 +222,12 @@ end-changes j k pid a ending lives same =
     let touched = has_whole (parts_at j pid)
     in subst (λ o. Changes touched j.processes k.processes (with_end j.processes pid a ending) (ended_under (buried k.processes a.row.family) pid ending o)) same
     (ended-changes touched j.processes k.processes (parent_in pid j.processes) (buried j.processes a.row.family) (buried k.processes a.row.family) pid ending
-     (or_left _ _ (eq-same pid))
-     (λ r e. subst (λ q. has_whole (exit_parts pid (living_at j pid) (option_map (λ x. x.pid) q)) r.pid ≡ true) (sym e) (whole-of_parent pid (living_at j pid) r))
-     (buried-changes touched j.processes k.processes a.row.family.ended j.processes k.processes
-      (all-whole touched a.row.family.ended
-       (λ p u. subst (λ o. has_whole (exit_parts pid o (parent_number j pid)) p ≡ true) (sym lives) (whole-of_ended pid p a (parent_number j pid) u)))
-      (changes-none touched j.processes k.processes)))
+    (or_left _ _ (eq-same pid))
+    (λ r e. subst (λ q. has_whole (exit_parts pid (living_at j pid) (option_map (λ x. x.pid) q)) r.pid ≡ true) (sym e) (whole-of_parent pid (living_at j pid) r))
+    (buried-changes touched j.processes k.processes a.row.family.ended j.processes k.processes
+    (all-whole touched a.row.family.ended
+    (λ p u. subst (λ o. has_whole (exit_parts pid o (parent_number j pid)) p ≡ true) (sym lives) (whole-of_ended pid p a (parent_number j pid) u)))
+    (changes-none touched j.processes k.processes)))
 
 end-alike : (j k : Kernel) (pid n : ℕ) (a : Alive) (ending : Ending) → IsValid j → IsValid k → living_at j pid ≡ Some a → parent_in pid j.processes ≡ parent_in pid k.processes
     → SameEffect (parts_at j pid) n j k (ended j pid a ending) (ended k pid a ending)
@@ -260,7 +259,7 @@ end-law j k pid n call ending vj vk h is =
     in let same = same-parent j k vj vk pid h.1.1.0 (agree-right (ended_of (living_at j pid)) (parent_parts (parent_number j pid)) j k h.1.1.1)
     in whole-steps parts n j k pid call h (or_left _ _ (eq-same pid)) h.1.0
     (λ a x y. subst (λ e. SameEffects parts n j k e (effect k pid a call n)) (sym (is j a))
-        (subst (λ e. SameEffects parts n j k (Some (ended j pid a ending)) e) (sym (is k a)) (end-alike j k pid n a ending vj vk x same)))
+    (subst (λ e. SameEffects parts n j k (Some (ended j pid a ending)) e) (sym (is k a)) (end-alike j k pid n a ending vj vk x same)))
 
 pub exit-law : (j k : Kernel) (pid n status : ℕ) → LawAt j k pid (calls.Exit status) n
 exit-law j k pid n status vj vk h uj uk = end-law j k pid n (calls.Exit status) (endings.Exited (status % 256)) vj vk h (λ i a. refl)

@@ -1,21 +1,19 @@
 -- A doomed caller is left with nothing but its ending: from the same effect to the same step.
-use Rattle.std.proofs.Common.{◌≡◌, ◌≢◌, ◌↔◌, ℕ, Bool, true, false, cond, not, List, Option, Some, None, is_some, refl, ap, sym, subst, ◌∙◌, inl, inr}
-use Rattle.std.specs.List.{list_any}
+use Rattle.std.proofs.Common.{◌≡◌, ◌↔◌, ℕ, Bool, true, false, cond, List, Option, Some, None, is_some, refl, ap, sym, subst, ◌∙◌, inl, inr}
 use Rattle.std.specs.Option.{option_map, option_and_then}
 use Rattle.std.proofs.lemmas.Bool.{cases_eq, false≢true}
-use Rattle.pico_base.specs.declared.reply.Reply.{Reply}
 use Rattle.pico_base.specs.declared.signal.Sig.{Sig}
-use Rattle.kernel_model.specs.Maps.{Numbered, get, put}
-use Rattle.kernel_model.specs.Row.{Alive, Allowance, Free, One, Spent, lists}
-use Rattle.kernel_model.specs.Kernel.{Kernel, Process, Living, Ended, Gone, alive_in, living_at, with_alive, parent_in}
+use Rattle.kernel_model.specs.Maps.{get, put}
+use Rattle.kernel_model.specs.Row.{Alive, Allowance, Free, Spent}
+use Rattle.kernel_model.specs.Kernel.{Kernel, Process, Living, Ended, Gone, alive_in, living_at, with_alive}
 use Rattle.kernel_model.specs.Effect.{Effect}
 use Rattle.kernel_model.specs.Transition.{finished}
-use Rattle.kernel_model.specs.Valid.{IsValid, IsAlive}
-use Rattle.kernel_model.specs.Footprint.{Part, bare, parent_number, allowance_at}
+use Rattle.kernel_model.specs.Valid.{IsAlive}
+use Rattle.kernel_model.specs.Footprint.{Part, bare, parent_number}
 use Rattle.kernel_footprint.proofs.Maps.{get-put-same, get-put-other}
 use Rattle.kernel_footprint.proofs.Parents.{orphan-put, orphan-unlisted}
-use Rattle.kernel_footprint.proofs.Change.{Change, Stays, Same, changes-put, change-agree, change-first, change-second, change-move, has_whole, has_parent, Changes, Grew, SameEffect, IsOrphan}
-use Rattle.kernel_footprint.proofs.Stepped.{Stepped, Moved, Kept, Equal, Doomed, moved-from_change, has_allowance, allowance_in}
+use Rattle.kernel_footprint.proofs.Change.{changes-put, change-agree, change-first, change-second, change-move, has_whole, has_parent, Grew, SameEffect, IsOrphan}
+use Rattle.kernel_footprint.proofs.Stepped.{Stepped, Moved, Doomed, moved-from_change, has_allowance, allowance_in}
 
 -- a process that has nothing left but its ending
 abbrev pub spent : Alive → Alive
@@ -105,16 +103,16 @@ module _ (parts : List Part) (n : ℕ) (j k : Kernel) (e f : Effect) (pid : ℕ)
       (get (put e.kernel.processes pid (Living (spent a))) q) (get (put f.kernel.processes pid (Living (spent b))) q)
   doomed-at q =
       elim (cases_eq q pid) [
-        inl h ↦
-          let P : ℕ → Type 0 = λ r. Moved (has_whole parts r) (has_allowance parts r) (get j.processes r) (get k.processes r)
-              (get (put e.kernel.processes pid (Living (spent a))) r) (get (put f.kernel.processes pid (Living (spent b))) r)
-          in let x = get-put-same e.kernel.processes pid (Living (spent a))
-          in let y = get-put-same f.kernel.processes pid (Living (spent b))
-          in subst P (sym h) (Doomed away allowed (ap allowance_in x ∙ sym (ap allowance_in y))
-              (ap (option_map bare) x ∙ bare-spent _ a (living-stands _ a lives))
-              (ap (option_map bare) y ∙ bare-spent _ b (living-stands _ b lives_too)))
-      | inr h ↦ moved-from_change _ _ _ _ _ _ (change-move _ _ _ _ _ _ _ (s.processes q)
-          (get-put-other e.kernel.processes pid (Living (spent a)) q h) (get-put-other f.kernel.processes pid (Living (spent b)) q h))
+        | inl h ↦
+            let P : ℕ → Type 0 = λ r. Moved (has_whole parts r) (has_allowance parts r) (get j.processes r) (get k.processes r)
+            (get (put e.kernel.processes pid (Living (spent a))) r) (get (put f.kernel.processes pid (Living (spent b))) r)
+            in let x = get-put-same e.kernel.processes pid (Living (spent a))
+            in let y = get-put-same f.kernel.processes pid (Living (spent b))
+            in subst P (sym h) (Doomed away allowed (ap allowance_in x ∙ sym (ap allowance_in y))
+            (ap (option_map bare) x ∙ bare-spent _ a (living-stands _ a lives))
+            (ap (option_map bare) y ∙ bare-spent _ b (living-stands _ b lives_too)))
+        | inr h ↦ moved-from_change _ _ _ _ _ _ (change-move _ _ _ _ _ _ _ (s.processes q)
+            (get-put-other e.kernel.processes pid (Living (spent a)) q h) (get-put-other f.kernel.processes pid (Living (spent b)) q h))
       ]
 
   both-spent : Stepped parts n e.reply j k (with_alive e.kernel pid (spent a)) (with_alive f.kernel pid (spent b))
@@ -147,4 +145,4 @@ module _ (parts : List Part) (n : ℕ) (j k : Kernel) (e f : Effect) (pid : ℕ)
       in let alike = doomed-alike a.row.signals.doom b.row.signals.doom a.allowance b.allowance va.allowed vb.allowed h
       in subst (λ o. Stepped parts n e.reply j k (finished e.kernel pid o) (finished f.kernel pid (living_at f.kernel pid))) (sym le)
       (subst (λ o. Stepped parts n e.reply j k (finished e.kernel pid (Some a)) (finished f.kernel pid o)) (sym lf)
-       (both-by (is_some a.row.signals.doom) (is_some b.row.signals.doom) alike))
+      (both-by (is_some a.row.signals.doom) (is_some b.row.signals.doom) alike))

@@ -11,3 +11,4 @@ pub mod Queues
 pub mod Sets
 pub mod Processes
 pub mod Ends
+pub mod Law

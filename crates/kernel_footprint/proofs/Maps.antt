@@ -1,14 +1,13 @@
 -- What a map has at a number after a change, and that changes keep a map in order.
-use Rattle.std.proofs.Common.{◌≡◌, ◌≢◌, ℕ, ◌<◌, Bool, true, false, not, cond, List, [], ◌∷◌, Option, Some, None, map, refl, ap, sym, ◌∙◌, ◌⊎◌, inl, inr, arith, nat_cmp, nat_eq}
-use Rattle.std.specs.declared.cmp.Ordering.{Ordering}
+use Rattle.std.proofs.Common.{◌≡◌, ◌≢◌, ℕ, ◌<◌, true, false, cond, [], ◌∷◌, Some, None, map, refl, ap, sym, ◌∙◌, inl, inr, arith, nat_cmp, nat_eq}
 use Rattle.std.specs.declared.cmp.Ordering.TheVariants.{Less, Equal, Greater}
 use Rattle.std.specs.Ordering.{is_eq}
 use Rattle.std.specs.BTreeMap.{is_at}
-use Rattle.std.specs.List.{filter, AllByRecursion}
+use Rattle.std.specs.List.{AllByRecursion}
 use Rattle.std.specs.List.Sorted.{IsStrictlySortedBy}
 use Rattle.std.specs.Cmp.{nat_cmp_is}
 use Rattle.std.proofs.lemmas.Cmp.{ranked}
-use Rattle.std.proofs.lemmas.Bool.{cases_order, cases_eq, eq-eqb, ne_eqb, eqb-true, eqb-false, false≢true}
+use Rattle.std.proofs.lemmas.Bool.{cases_order, cases_eq, eq-eqb, ne_eqb}
 use Rattle.std.proofs.lemmas.Map.Keys.{sorted_from_strictly_increasing}
 use Rattle.kernel_model.specs.Maps.{Numbered, get, put, without}
 use Rattle.kernel_model.specs.Valid.{IsOrdered}
@@ -29,9 +28,9 @@ at-same q = ap is_eq (cmp-equal q q refl)
 pub at-other : (q k : ℕ) → q ≢ k → is_at (nat_cmp q) k ≡ false
 at-other q k h =
     elim (cases_order q k) [
-      inl e ↦ absurd (h e)
-    | inr (inl l) ↦ ap is_eq (cmp-less q k l)
-    | inr (inr g) ↦ ap is_eq (cmp-greater q k g)
+      | inl e ↦ absurd (h e)
+      | inr (inl l) ↦ ap is_eq (cmp-less q k l)
+      | inr (inr g) ↦ ap is_eq (cmp-greater q k g)
     ]
 
 pub eq-same : (n : ℕ) → nat_eq n n ≡ true
@@ -60,11 +59,11 @@ pub get-put-same : {V : Type 0} (m : Numbered V) (k : ℕ) (v : V) → get (put 
 get-put-same [] k v = get-here (k, v) [] k refl
 get-put-same (e ∷ es) k v =
     elim (cases_order k e.0) [
-      inl h ↦ ap (λ m. get m k) (put-equal e es k v h) ∙ get-here (e.0, v) es k h
-    | inr (inl h) ↦ ap (λ m. get m k) (put-less e es k v h) ∙ get-here (k, v) (e ∷ es) k refl
-    | inr (inr h) ↦
-        let ne : k ≢ e.0 = omega arith
-        in ap (λ m. get m k) (put-greater e es k v h) ∙ get-there e (put es k v) k ne ∙ get-put-same es k v
+      | inl h ↦ ap (λ m. get m k) (put-equal e es k v h) ∙ get-here (e.0, v) es k h
+      | inr (inl h) ↦ ap (λ m. get m k) (put-less e es k v h) ∙ get-here (k, v) (e ∷ es) k refl
+      | inr (inr h) ↦
+          let ne : k ≢ e.0 = omega arith
+          in ap (λ m. get m k) (put-greater e es k v h) ∙ get-there e (put es k v) k ne ∙ get-put-same es k v
     ]
 
 get-tails : {V : Type 0} (e : ℕ × V) (m n : Numbered V) (q : ℕ) → get m q ≡ get n q → get (e ∷ m) q ≡ get (e ∷ n) q
@@ -74,11 +73,11 @@ pub get-put-other : {V : Type 0} (m : Numbered V) (k : ℕ) (v : V) (q : ℕ) �
 get-put-other [] k v q ne = get-there (k, v) [] q ne
 get-put-other (e ∷ es) k v q ne =
     elim (cases_order k e.0) [
-      inl h ↦
-        let away : q ≢ e.0 = omega arith
-        in ap (λ m. get m q) (put-equal e es k v h) ∙ get-there (e.0, v) es q away ∙ sym (get-there e es q away)
-    | inr (inl h) ↦ ap (λ m. get m q) (put-less e es k v h) ∙ get-there (k, v) (e ∷ es) q ne
-    | inr (inr h) ↦ ap (λ m. get m q) (put-greater e es k v h) ∙ get-tails e (put es k v) es q (get-put-other es k v q ne)
+      | inl h ↦
+          let away : q ≢ e.0 = omega arith
+          in ap (λ m. get m q) (put-equal e es k v h) ∙ get-there (e.0, v) es q away ∙ sym (get-there e es q away)
+      | inr (inl h) ↦ ap (λ m. get m q) (put-less e es k v h) ∙ get-there (k, v) (e ∷ es) q ne
+      | inr (inr h) ↦ ap (λ m. get m q) (put-greater e es k v h) ∙ get-tails e (put es k v) es q (get-put-other es k v q ne)
     ]
 
 -- a filter by the numbers
@@ -86,18 +85,18 @@ pub get-without-same : {V : Type 0} (m : Numbered V) (k : ℕ) → get (without 
 get-without-same [] k = refl
 get-without-same (e ∷ es) k =
     elim (cases_eq k e.0) [
-      inl h ↦ rw (eq-eqb k e.0 h) (get-without-same es k)
-    | inr h ↦ rw (ne_eqb k e.0 h) (get-there e (without es k) k h ∙ get-without-same es k)
+      | inl h ↦ rw (eq-eqb k e.0 h) (get-without-same es k)
+      | inr h ↦ rw (ne_eqb k e.0 h) (get-there e (without es k) k h ∙ get-without-same es k)
     ]
 
 pub get-without-other : {V : Type 0} (m : Numbered V) (k q : ℕ) → q ≢ k → get (without m k) q ≡ get m q
 get-without-other [] k q ne = refl
 get-without-other (e ∷ es) k q ne =
     elim (cases_eq k e.0) [
-      inl h ↦
-        let away : q ≢ e.0 = omega arith
-        in rw (eq-eqb k e.0 h) (get-without-other es k q ne ∙ sym (get-there e es q away))
-    | inr h ↦ rw (ne_eqb k e.0 h) (get-tails e (without es k) es q (get-without-other es k q ne))
+      | inl h ↦
+          let away : q ≢ e.0 = omega arith
+          in rw (eq-eqb k e.0 h) (get-without-other es k q ne ∙ sym (get-there e es q away))
+      | inr h ↦ rw (ne_eqb k e.0 h) (get-tails e (without es k) es q (get-without-other es k q ne))
     ]
 
 -- Maps in order, by recursion.
@@ -134,18 +133,18 @@ above-put : {V : Type 0} (n : ℕ) (m : Numbered V) (k : ℕ) (v : V) → n < k 
 above-put n [] k v h a = (h, tt)
 above-put n (e ∷ es) k v h a =
     elim (cases_order k e.0) [
-      inl c ↦ rw (cmp-equal k e.0 c) (a.0, a.1)
-    | inr (inl c) ↦ rw (cmp-less k e.0 c) (h, (a.0, a.1))
-    | inr (inr c) ↦ rw (cmp-greater k e.0 c) (a.0, above-put n es k v h a.1)
+      | inl c ↦ rw (cmp-equal k e.0 c) (a.0, a.1)
+      | inr (inl c) ↦ rw (cmp-less k e.0 c) (h, (a.0, a.1))
+      | inr (inr c) ↦ rw (cmp-greater k e.0 c) (a.0, above-put n es k v h a.1)
     ]
 
 pub rises-put : {V : Type 0} (m : Numbered V) (k : ℕ) (v : V) → Rises m → Rises (put m k v)
 rises-put [] k v r = (tt, tt)
 rises-put (e ∷ es) k v r =
     elim (cases_order k e.0) [
-      inl c ↦ rw (cmp-equal k e.0 c) (r.0, r.1)
-    | inr (inl c) ↦ rw (cmp-less k e.0 c) ((c, above-lower k e.0 es c r.0), (r.0, r.1))
-    | inr (inr c) ↦ rw (cmp-greater k e.0 c) (above-put e.0 es k v c r.0, rises-put es k v r.1)
+      | inl c ↦ rw (cmp-equal k e.0 c) (r.0, r.1)
+      | inr (inl c) ↦ rw (cmp-less k e.0 c) ((c, above-lower k e.0 es c r.0), (r.0, r.1))
+      | inr (inr c) ↦ rw (cmp-greater k e.0 c) (above-put e.0 es k v c r.0, rises-put es k v r.1)
     ]
 
 -- nothing stands at a number that is below all

@@ -1,7 +1,7 @@
 -- A process's parent, by the processes at each number.
-use Rattle.std.proofs.Common.{◌≡◌, ◌≢◌, ◌⊎◌, ℕ, ◌<◌, Bool, true, false, List, [], ◌∷◌, Option, Some, None, cond, refl, ap, sym, subst, ◌∙◌, inl, inr, arith}
+use Rattle.std.proofs.Common.{◌≡◌, ◌≢◌, ◌⊎◌, ℕ, Bool, true, false, [], ◌∷◌, Option, Some, None, cond, refl, ap, sym, subst, ◌∙◌, inl, inr}
 use Rattle.std.specs.Option.{option_and_then}
-use Rattle.std.proofs.lemmas.Bool.{cases_order, cases_eq, false≢true}
+use Rattle.std.proofs.lemmas.Bool.{cases_order, cases_eq}
 use Rattle.kernel_model.specs.Maps.{Numbered, get, put}
 use Rattle.kernel_model.specs.Row.{Alive, lists}
 use Rattle.kernel_model.specs.Kernel.{Process, Living, Ended, Gone, Parent, alive_in, living_in, parent_if, parent_in}
@@ -37,9 +37,9 @@ orphan-put child [] k v l h = parent-skip child k v None l
 orphan-put child (e ∷ es) k v l h =
     let s = parent-skipped child e.0 e.1 (parent_in child es) h
     in elim (cases_order k e.0) [
-      inl c ↦ rw (cmp-equal k e.0 c) (parent-skip child e.0 v (parent_in child es) l ∙ s.1)
-    | inr (inl c) ↦ rw (cmp-less k e.0 c) (parent-skip child k v (parent_in child (e ∷ es)) l ∙ h)
-    | inr (inr c) ↦ rw (cmp-greater k e.0 c) (parent-skip child e.0 e.1 (parent_in child (put es k v)) s.0 ∙ orphan-put child es k v l s.1)
+      | inl c ↦ rw (cmp-equal k e.0 c) (parent-skip child e.0 v (parent_in child es) l ∙ s.1)
+      | inr (inl c) ↦ rw (cmp-less k e.0 c) (parent-skip child k v (parent_in child (e ∷ es)) l ∙ h)
+      | inr (inr c) ↦ rw (cmp-greater k e.0 c) (parent-skip child e.0 e.1 (parent_in child (put es k v)) s.0 ∙ orphan-put child es k v l s.1)
     ]
 
 living-lists : (child : ℕ) (v : Process) (a : Alive) → alive_in v ≡ Some a → lists a.row.family child ≡ lists_in child v
@@ -53,8 +53,8 @@ orphan-unlisted child [] p a h l = cc
 orphan-unlisted child (e ∷ es) p a h l =
     let s = parent-skipped child e.0 e.1 (parent_in child es) h
     in elim (cases_eq p e.0) [
-      inl c ↦ living-lists child e.1 a (sym (ap (option_and_then alive_in) (get-here e es p c)) ∙ l) ∙ s.0
-    | inr c ↦ orphan-unlisted child es p a s.1 (sym (ap (option_and_then alive_in) (get-there e es p c)) ∙ l)
+      | inl c ↦ living-lists child e.1 a (sym (ap (option_and_then alive_in) (get-here e es p c)) ∙ l) ∙ s.0
+      | inr c ↦ orphan-unlisted child es p a s.1 (sym (ap (option_and_then alive_in) (get-there e es p c)) ∙ l)
     ]
 
 -- what stands in the rest isn't at the first number
@@ -89,8 +89,8 @@ parent-cases : (child pid : ℕ) (v : Process) (rest : Option Parent) (r : Paren
     → ((r.pid ≡ pid) × (alive_in v ≡ Some r.alive) × (lists r.alive.row.family child ≡ true)) ⊎ (rest ≡ Some r)
 parent-cases child pid (Living a) rest r h =
     elim (parent-first child pid a rest r (lists a.row.family child) refl h) [
-      inl w ↦ inl (w.0, ap Some (sym w.1), ap (λ x. lists x.row.family child) w.1 ∙ w.2)
-    | inr w ↦ inr w
+      | inl w ↦ inl (w.0, ap Some (sym w.1), ap (λ x. lists x.row.family child) w.1 ∙ w.2)
+      | inr w ↦ inr w
     ]
 parent-cases child pid (Ended ending) rest r h = inr h
 parent-cases child pid Gone rest r h = inr h
@@ -99,8 +99,8 @@ pub parent-is : (child : ℕ) (ps : Numbered Process) (r : Parent) → Rises ps 
 parent-is child [] r s h = cc
 parent-is child (e ∷ es) r s h =
     elim (parent-cases child e.0 e.1 (parent_in child es) r h) [
-      inl w ↦ (ap (option_and_then alive_in) (get-here e es r.pid w.0) ∙ w.1, w.2)
-    | inr w ↦
-        let i = parent-is child es r s.1 w
-        in (ap (option_and_then alive_in) (get-there e es r.pid (rest-apart e es r.pid r.alive s.0 i.0)) ∙ i.0, i.1)
+      | inl w ↦ (ap (option_and_then alive_in) (get-here e es r.pid w.0) ∙ w.1, w.2)
+      | inr w ↦
+          let i = parent-is child es r s.1 w
+          in (ap (option_and_then alive_in) (get-there e es r.pid (rest-apart e es r.pid r.alive s.0 i.0)) ∙ i.0, i.1)
     ]

@@ -1,8 +1,8 @@
 -- The law at the calls on processes, but for those that end one.
-use Rattle.std.proofs.Common.{◌≡◌, ◌≢◌, ℕ, Bool, true, false, not, ◌||◌, cond, List, [], ◌∷◌, Option, Some, None, Result, Ok, Err, map, refl, ap, sym, subst, ◌∙◌, inl, inr, nat_eq}
+use Rattle.std.proofs.Common.{◌≡◌, ℕ, Bool, true, false, not, cond, List, [], ◌∷◌, Option, Some, None, Result, Ok, Err, map, refl, ap, sym, subst, inl, inr, nat_eq}
 use Rattle.std.specs.Prelude.{if◌then◌else◌}
 use Rattle.std.specs.List.{list_any}
-use Rattle.std.proofs.lemmas.Bool.{or_left, or_right, or_from, eqb-true, eqb-false, eq-eqb, ne_eqb}
+use Rattle.std.proofs.lemmas.Bool.{or_left, or_right, or_from, eqb-true, eqb-false, eq-eqb}
 use Rattle.pico_base.specs.declared.call.Call.{Call}
 use Rattle.pico_base.specs.declared.call.Call.TheVariants as calls
 use Rattle.pico_base.specs.declared.call.Home.TheVariants as homes
@@ -19,13 +19,13 @@ use Rattle.pico_base.specs.declared.signal.Sig.{Sig}
 use Rattle.pico_base.specs.declared.signal.SigArg.{SigArg}
 use Rattle.pico_base.specs.declared.signal.SigArg.TheVariants.{Zero, Is, Bad}
 use Rattle.pico_base.specs.Signal.{at}
-use Rattle.kernel_model.specs.Maps.{get, put, is_used, used_with}
+use Rattle.kernel_model.specs.Maps.{get, put, used_with}
 use Rattle.kernel_model.specs.Signals.{Signals, act_on, with_mask, raise}
 use Rattle.kernel_model.specs.Row.{Alive, matches, first_ended, waited_from, raised_at}
 use Rattle.kernel_model.specs.Kernel.{Kernel, Process, Living, Ended, Gone, living_at, with_alive}
-use Rattle.kernel_model.specs.Effect.{replied, refused}
+use Rattle.kernel_model.specs.Effect.{replied}
 use Rattle.kernel_model.specs.ProcessCalls.{forking, new_child, with_fork, reaping, reaped, with_signals, acted, killed_at, signalled, kill}
-use Rattle.kernel_model.specs.Transition.{effect, transition, is_spent, may_make}
+use Rattle.kernel_model.specs.Transition.{effect, transition, is_spent}
 use Rattle.kernel_model.specs.Valid.{IsValid}
 use Rattle.kernel_model.specs.Footprint.{Part, MayDo, Whole, is_whole, ended_of, home_parts, Agree, SameSteps}
 use Rattle.kernel_footprint.proofs.Maps.{eq-same, eq-other}
@@ -48,8 +48,8 @@ module _ (parts : List Part) (n : ℕ) (j k : Kernel) (childless : Childless par
 
   raised-if : (pid : ℕ) (target : Alive) (g : Sig) (b : Bool) → has_whole parts pid ≡ true
       → SameEffect parts n j k
-        (replied (if b then with_signals j pid target (raise target.row.signals g) else with_alive j pid (raised_at target g)) 0)
-        (replied (if b then with_signals k pid target (raise target.row.signals g) else with_alive k pid (raised_at target g)) 0)
+      (replied (if b then with_signals j pid target (raise target.row.signals g) else with_alive j pid (raised_at target g)) 0)
+      (replied (if b then with_signals k pid target (raise target.row.signals g) else with_alive k pid (raised_at target g)) 0)
   raised-if pid target g true t = alive-put pid (record target { row = record { signals = raise target.row.signals g; family = target.row.family } }) (Num 0) t
   raised-if pid target g false t = alive-put pid (raised_at target g) (Num 0) t
 
@@ -88,8 +88,8 @@ module _ (parts : List Part) (n : ℕ) (j k : Kernel) (childless : Childless par
       (put (put j.processes pid (Living (reaping a e.0))) e.0 Gone) (put (put k.processes pid (Living (reaping a e.0))) e.0 Gone)
       j.used_processes k.used_processes (Child e.0 e.1)
       (changes-put (has_whole parts) j.processes k.processes _ _ e.0 Gone (u e refl)
-       (changes-put (has_whole parts) j.processes k.processes j.processes k.processes pid (Living (reaping a e.0)) t
-        (changes-none (has_whole parts) j.processes k.processes)))
+      (changes-put (has_whole parts) j.processes k.processes j.processes k.processes pid (Living (reaping a e.0)) t
+      (changes-none (has_whole parts) j.processes k.processes)))
       (inl refl) (inl refl)
 
 -- At the caller.
@@ -117,7 +117,7 @@ pub mask-law : (j k : Kernel) (pid n : ℕ) (how : How) (set : PerSignal Bool) �
 mask-law j k pid n how set vj vk h uj uk =
     own-steps j k pid (calls.SigProcMask how set) n h
     (λ a. alive-put (own pid) n j k (λ p. refl) pid (record a { row = record { signals = with_mask a.row.signals how set; family = a.row.family } })
-        (Bits a.row.signals.mask) (own-here pid))
+    (Bits a.row.signals.mask) (own-here pid))
 
 pub pending-law : (j k : Kernel) (pid n : ℕ) → LawAt j k pid calls.SigPending n
 pending-law j k pid n vj vk h uj uk = own-steps j k pid calls.SigPending n h (λ a. unchanged (own pid) n j k (λ p. refl) (Bits a.row.signals.pending))
@@ -169,12 +169,12 @@ fork-law j k pid n block vj vk h uj uk =
     in let new : has_whole parts n ≡ true = or_right _ _ (or_left _ _ (eq-same n))
     in whole-steps parts n j k pid (calls.Fork block) h whole h.1.0
     (λ a x y. made-if parts n j k _ _ _ _ (fresh-alike j.used_processes k.used_processes n uj uk)
-        (processes-changed parts n j k (λ p. refl) (with_fork j.processes pid a n) (with_fork k.processes pid a n)
-         (used_with j.used_processes n) (used_with k.used_processes n) (Num n)
-         (changes-put (has_whole parts) j.processes k.processes _ _ pid (Living (forking a n)) whole
-          (changes-put (has_whole parts) j.processes k.processes j.processes k.processes n (Living (new_child a)) new
-           (changes-none (has_whole parts) j.processes k.processes)))
-         (inr (refl, refl)) (inr (refl, refl))))
+    (processes-changed parts n j k (λ p. refl) (with_fork j.processes pid a n) (with_fork k.processes pid a n)
+    (used_with j.used_processes n) (used_with k.used_processes n) (Num n)
+    (changes-put (has_whole parts) j.processes k.processes _ _ pid (Living (forking a n)) whole
+    (changes-put (has_whole parts) j.processes k.processes j.processes k.processes n (Living (new_child a)) new
+    (changes-none (has_whole parts) j.processes k.processes)))
+    (inr (refl, refl)) (inr (refl, refl))))
 
 -- waitpid
 

@@ -1,19 +1,19 @@
 -- The law at the calls on message queues.
-use Rattle.std.proofs.Common.{◌≡◌, ℕ, ℤ, Bool, true, false, not, ◌&&◌, List, [], ◌∷◌, Option, Some, None, Result, Ok, Err, refl, ap, sym, subst, ◌∙◌, inl, inr}
+use Rattle.std.proofs.Common.{◌≡◌, ℕ, ℤ, Bool, true, false, not, ◌&&◌, List, [], ◌∷◌, Option, Some, None, Result, Ok, Err, refl, ap, subst, inl, inr}
 use Rattle.std.specs.Prelude.{if◌then◌else◌}
 use Rattle.kernel_model.specs.Effect.{replied, refused}
-use Rattle.std.proofs.lemmas.Bool.{or_left, or_right}
+use Rattle.std.proofs.lemmas.Bool.{or_left}
 use Rattle.pico_base.specs.declared.call.Call.{Call}
 use Rattle.pico_base.specs.declared.call.Call.TheVariants as calls
 use Rattle.pico_base.specs.declared.reply.Errno.{Errno}
-use Rattle.pico_base.specs.declared.reply.Errno.TheVariants.{Einval, Enoent, Eexist}
+use Rattle.pico_base.specs.declared.reply.Errno.TheVariants.{Enoent, Eexist}
 use Rattle.pico_base.specs.declared.reply.Reply.{Reply}
 use Rattle.pico_base.specs.declared.reply.Reply.TheVariants.{Num, Fail, Message}
 use Rattle.kernel_model.specs.Maps.{Numbered, get, put, without, is_used, used_with}
 use Rattle.kernel_model.specs.Queue.{Queue, Received, empty_queue, stat, send, receive, set_qbytes}
 use Rattle.kernel_model.specs.Row.{Alive}
 use Rattle.kernel_model.specs.Kernel.{Kernel}
-use Rattle.kernel_model.specs.QueueCalls.{new_queue, get_queue_at, changed_queue, received, looked_at_queue, unbound}
+use Rattle.kernel_model.specs.QueueCalls.{new_queue, get_queue_at, changed_queue, received, unbound}
 use Rattle.kernel_model.specs.Transition.{effect, transition, is_spent, may_make}
 use Rattle.kernel_model.specs.Valid.{IsValid}
 use Rattle.kernel_model.specs.Footprint.{Part, MayDo, Whole, QueueAt, QueueKeys, Agree, SameSteps}
@@ -27,8 +27,8 @@ use Rattle.kernel_footprint.proofs.AtCall.{LawAt}
 module _ (parts : List Part) (n : ℕ) (j k : Kernel) (childless : Childless parts) where
   queue-put : (id : ℕ) (q : Queue) (r : Reply) → has_queue parts id ≡ true
       → SameEffect parts n j k
-        (record { kernel = record j { queues = put j.queues id q }; reply = r })
-        (record { kernel = record k { queues = put k.queues id q }; reply = r })
+      (record { kernel = record j { queues = put j.queues id q }; reply = r })
+      (record { kernel = record k { queues = put k.queues id q }; reply = r })
   queue-put id q r t =
       queues-changed parts n j k childless (put j.queues id q) (put k.queues id q) j.queue_keys k.queue_keys j.used_queues k.used_queues r
       (changes-put (has_queue parts) j.queues k.queues j.queues k.queues id q t (changes-none (has_queue parts) j.queues k.queues))
@@ -48,9 +48,9 @@ module _ (parts : List Part) (n : ℕ) (j k : Kernel) (childless : Childless par
   new-alike keys_j keys_k c t uj uk =
       made-if parts n j k _ _ _ _ (fresh-alike j.used_queues k.used_queues n uj uk)
       (queues-changed parts n j k childless (put j.queues n empty_queue) (put k.queues n empty_queue) keys_j keys_k
-       (used_with j.used_queues n) (used_with k.used_queues n) (Num n)
-       (changes-put (has_queue parts) j.queues k.queues j.queues k.queues n empty_queue t (changes-none (has_queue parts) j.queues k.queues))
-       c (inr (refl, refl)) (inr (refl, refl)))
+      (used_with j.used_queues n) (used_with k.used_queues n) (Num n)
+      (changes-put (has_queue parts) j.queues k.queues j.queues k.queues n empty_queue t (changes-none (has_queue parts) j.queues k.queues))
+      c (inr (refl, refl)) (inr (refl, refl)))
 
   bound-alike : (id : ℕ) (b : Bool) → SameEffect parts n j k (if b then refused j Eexist else replied j id) (if b then refused k Eexist else replied k id)
   bound-alike id true = unchanged parts n j k childless (Fail Eexist)
@@ -107,13 +107,13 @@ pub stat-law : (j k : Kernel) (pid n id : ℕ) → LawAt j k pid (calls.MsgStat 
 stat-law j k pid n id vj vk h uj uk =
     queue-steps j k pid (calls.MsgStat id) n id vj vk h (λ a b e. ap (λ x. not (is_spent x)) e)
     (λ a b. named-alike (at_queue pid id) n j k (λ p. refl) (get j.queues id) (get k.queues id) _ _ h.1.0
-     (λ q. unchanged (at_queue pid id) n j k (λ p. refl) (stat q)))
+    (λ q. unchanged (at_queue pid id) n j k (λ p. refl) (stat q)))
 
 pub set_bytes-law : (j k : Kernel) (pid n id qbytes : ℕ) → LawAt j k pid (calls.MsgSet id qbytes) n
 set_bytes-law j k pid n id qbytes vj vk h uj uk =
     queue-steps j k pid (calls.MsgSet id qbytes) n id vj vk h (λ a b e. ap (λ x. not (is_spent x)) e)
     (λ a b. named-alike (at_queue pid id) n j k (λ p. refl) (get j.queues id) (get k.queues id) _ _ h.1.0
-     (λ q. changed-alike (at_queue pid id) n j k (λ p. refl) id (set_qbytes q qbytes) (queue-here pid id)))
+    (λ q. changed-alike (at_queue pid id) n j k (λ p. refl) id (set_qbytes q qbytes) (queue-here pid id)))
 
 -- The removal, at the queue and the keys.
 
@@ -125,11 +125,11 @@ remove_queue-law j k pid n id vj vk h uj uk =
     let parts = queue_and_keys pid id
     in away-steps parts n j k pid (calls.MsgRmid id) h refl (or_left _ _ (eq-same pid)) (λ p. refl) vj vk h.0 (λ a b e. ap (λ x. not (is_spent x)) e)
     (λ a b. named-alike parts n j k (λ p. refl) (get j.queues id) (get k.queues id) _ _ h.1.0
-     (λ q. queues-changed parts n j k (λ p. refl) (without j.queues id) (without k.queues id) (unbound j.queue_keys id) (unbound k.queue_keys id)
-         j.used_queues k.used_queues (Num 0)
-         (changes-without (has_queue parts) j.queues k.queues j.queues k.queues id (or_left _ _ (eq-same id)) (changes-none (has_queue parts) j.queues k.queues))
-         (λ key. Same refl (unbound-same j.queue_keys k.queue_keys id key vj.queue_keys.ordered vk.queue_keys.ordered (h.1.1.0 key)))
-         (inl refl) (inl refl)))
+    (λ q. queues-changed parts n j k (λ p. refl) (without j.queues id) (without k.queues id) (unbound j.queue_keys id) (unbound k.queue_keys id)
+    j.used_queues k.used_queues (Num 0)
+    (changes-without (has_queue parts) j.queues k.queues j.queues k.queues id (or_left _ _ (eq-same id)) (changes-none (has_queue parts) j.queues k.queues))
+    (λ key. Same refl (unbound-same j.queue_keys k.queue_keys id key vj.queue_keys.ordered vk.queue_keys.ordered (h.1.1.0 key)))
+    (inl refl) (inl refl)))
 
 -- A get, at the caller or at the keys.
 
@@ -138,9 +138,9 @@ get_queue-law j k pid n None create excl vj vk h uj uk =
     let parts = MayDo pid ∷ Whole pid ∷ QueueAt n ∷ []
     in whole-steps parts n j k pid (calls.MsgGet None create excl) h (or_left _ _ (eq-same pid)) h.1.0
     (λ a x y. new-alike parts n j k (λ p. refl) j.queue_keys k.queue_keys (changes-none (has_queue_keys parts) j.queue_keys k.queue_keys)
-        (or_left _ _ (eq-same n)) uj uk)
+    (or_left _ _ (eq-same n)) uj uk)
 get_queue-law j k pid n (Some key) create excl vj vk h uj uk =
     let parts = MayDo pid ∷ QueueKeys ∷ QueueAt n ∷ []
     in away-steps parts n j k pid (calls.MsgGet (Some key) create excl) h refl (or_left _ _ (eq-same pid)) (λ p. refl) vj vk h.0 (λ a b e. ap (λ x. not (is_spent x)) e)
     (λ a b. subst (λ o. SameEffects parts n j k (get_queue_at j key create excl n (get j.queue_keys key)) (get_queue_at k key create excl n o)) (h.1.0 key)
-        (got-alike parts n j k (λ p. refl) key create excl (get j.queue_keys key) refl (or_left _ _ (eq-same n)) uj uk))
+    (got-alike parts n j k (λ p. refl) key create excl (get j.queue_keys key) refl (or_left _ _ (eq-same n)) uj uk))

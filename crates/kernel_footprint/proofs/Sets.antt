@@ -2,25 +2,24 @@
 use Rattle.std.proofs.Common.{◌≡◌, ℕ, Bool, true, false, not, ◌&&◌, ◌||◌, cond, List, [], ◌∷◌, Option, Some, None, Result, Ok, Err, refl, ap, sym, subst, ◌∙◌, inl, inr, nat_eq}
 use Rattle.std.specs.Prelude.{nat_le, if◌then◌else◌}
 use Rattle.std.specs.List.{list_any}
-use Rattle.std.proofs.lemmas.Bool.{or_left, or_right}
+use Rattle.std.proofs.lemmas.Bool.{or_left}
 use Rattle.pico_base.specs.declared.call.Call.{Call}
 use Rattle.pico_base.specs.declared.call.Call.TheVariants as calls
 use Rattle.pico_base.specs.declared.call.SemStep.{SemStep}
 use Rattle.pico_base.specs.declared.reply.Errno.{Errno}
 use Rattle.pico_base.specs.declared.reply.Errno.TheVariants.{Einval, Enoent, Eexist}
-use Rattle.pico_base.specs.declared.reply.Reply.{Reply}
 use Rattle.pico_base.specs.declared.reply.Reply.TheVariants.{Num, Fail, All}
 use Rattle.kernel_model.specs.Maps.{Numbered, get, put, without, is_used, used_with}
 use Rattle.kernel_model.specs.Waiting.{may_wait}
 use Rattle.kernel_model.specs.SemaphoreSet.{Semaphore, new_set, values_of, op, value_at, last_at, waiting_at, set_value, set_all}
 use Rattle.kernel_model.specs.Row.{Alive}
 use Rattle.kernel_model.specs.Kernel.{Kernel}
-use Rattle.kernel_model.specs.Effect.{Effect, replied, refused, looked_up, on_named}
+use Rattle.kernel_model.specs.Effect.{replied, refused, looked_up, on_named}
 use Rattle.kernel_model.specs.QueueCalls.{unbound}
-use Rattle.kernel_model.specs.SetCalls.{new_set_of, size_of, found_set, get_set, get_set_at, changed_set, operated, all_values}
+use Rattle.kernel_model.specs.SetCalls.{new_set_of, size_of, found_set, get_set_at, changed_set}
 use Rattle.kernel_model.specs.Transition.{effect, transition, is_spent, may_make}
 use Rattle.kernel_model.specs.Valid.{IsValid}
-use Rattle.kernel_model.specs.Footprint.{Part, MayDo, Whole, SetAt, SizeOf, SetKeys, size_parts, Agree, SameSteps}
+use Rattle.kernel_model.specs.Footprint.{Part, MayDo, Whole, SetAt, SetKeys, size_parts, Agree, SameSteps}
 use Rattle.kernel_footprint.proofs.Maps.{eq-same}
 use Rattle.kernel_footprint.proofs.Keys.{unbound-same}
 use Rattle.kernel_footprint.proofs.Change.{Same, Changes, changes-none, changes-put, changes-without, has_set, has_set_keys, SameEffect, SameEffects}
@@ -43,9 +42,9 @@ module _ (parts : List Part) (n : ℕ) (j k : Kernel) (childless : Childless par
   new-alike keys_j keys_k (Ok set) c t uj uk =
       made-if parts n j k _ _ _ _ (fresh-alike j.used_sets k.used_sets n uj uk)
       (sets-changed parts n j k childless (put j.sets n set) (put k.sets n set) keys_j keys_k
-       (used_with j.used_sets n) (used_with k.used_sets n) (Num n)
-       (changes-put (has_set parts) j.sets k.sets j.sets k.sets n set t (changes-none (has_set parts) j.sets k.sets))
-       c (inr (refl, refl)) (inr (refl, refl)))
+      (used_with j.used_sets n) (used_with k.used_sets n) (Num n)
+      (changes-put (has_set parts) j.sets k.sets j.sets k.sets n set t (changes-none (has_set parts) j.sets k.sets))
+      c (inr (refl, refl)) (inr (refl, refl)))
 
   found-if : (id : ℕ) (b c : Bool) → b ≡ c → SameEffect parts n j k (cond b (replied j id) (refused j Einval)) (cond c (replied k id) (refused k Einval))
   found-if id true true e = unchanged parts n j k childless (Num id)
@@ -97,8 +96,8 @@ set-alike j k pid n id f h =
 
 operated-if : (j k : Kernel) (pid n id : ℕ) (steps : List SemStep) (b : Bool) → Agree (at_set pid id) j k
     → SameEffects (at_set pid id) n j k
-      (cond b None (Some (on_named j (get j.sets id) (λ set. changed_set j id (op set pid steps)))))
-      (cond b None (Some (on_named k (get k.sets id) (λ set. changed_set k id (op set pid steps)))))
+    (cond b None (Some (on_named j (get j.sets id) (λ set. changed_set j id (op set pid steps)))))
+    (cond b None (Some (on_named k (get k.sets id) (λ set. changed_set k id (op set pid steps)))))
 operated-if j k pid n id steps true h = tt
 operated-if j k pid n id steps false h = set-alike j k pid n id (λ set. op set pid steps) h
 
@@ -130,7 +129,7 @@ pub get_all-law : (j k : Kernel) (pid n id : ℕ) → LawAt j k pid (calls.SemGe
 get_all-law j k pid n id vj vk h uj uk =
     set-steps j k pid (calls.SemGetAll id) n id vj vk h (λ a b e. ap (λ x. not (is_spent x)) e)
     (λ a b. named-alike (at_set pid id) n j k (λ p. refl) (get j.sets id) (get k.sets id) _ _ h.1.0
-     (λ s. unchanged (at_set pid id) n j k (λ p. refl) (All (values_of s))))
+    (λ s. unchanged (at_set pid id) n j k (λ p. refl) (All (values_of s))))
 
 pub set_all-law : (j k : Kernel) (pid n id : ℕ) (values : List ℕ) → LawAt j k pid (calls.SemSetAll id values) n
 set_all-law j k pid n id values vj vk h uj uk =
@@ -146,11 +145,11 @@ remove_set-law j k pid n id vj vk h uj uk =
     let parts = set_and_keys pid id
     in away-steps parts n j k pid (calls.SemRmid id) h refl (or_left _ _ (eq-same pid)) (λ p. refl) vj vk h.0 (λ a b e. ap (λ x. not (is_spent x)) e)
     (λ a b. named-alike parts n j k (λ p. refl) (get j.sets id) (get k.sets id) _ _ h.1.0
-     (λ q. sets-changed parts n j k (λ p. refl) (without j.sets id) (without k.sets id) (unbound j.set_keys id) (unbound k.set_keys id)
-         j.used_sets k.used_sets (Num 0)
-         (changes-without (has_set parts) j.sets k.sets j.sets k.sets id (or_left _ _ (eq-same id)) (changes-none (has_set parts) j.sets k.sets))
-         (λ key. Same refl (unbound-same j.set_keys k.set_keys id key vj.set_keys.ordered vk.set_keys.ordered (h.1.1.0 key)))
-         (inl refl) (inl refl)))
+    (λ q. sets-changed parts n j k (λ p. refl) (without j.sets id) (without k.sets id) (unbound j.set_keys id) (unbound k.set_keys id)
+    j.used_sets k.used_sets (Num 0)
+    (changes-without (has_set parts) j.sets k.sets j.sets k.sets id (or_left _ _ (eq-same id)) (changes-none (has_set parts) j.sets k.sets))
+    (λ key. Same refl (unbound-same j.set_keys k.set_keys id key vj.set_keys.ordered vk.set_keys.ordered (h.1.1.0 key)))
+    (inl refl) (inl refl)))
 
 -- A get, at the caller or at the keys.
 
@@ -166,20 +165,20 @@ get_bound-law j k pid n key count create excl None vj vk e h uj uk =
     let parts = keyed_parts pid n None
     in away-steps parts n j k pid (calls.SemGet (Some key) count create excl) h refl (or_left _ _ (eq-same pid)) (λ p. refl) vj vk h.0 (λ a b e. ap (λ x. not (is_spent x)) e)
     (λ a b. subst (λ o. SameEffects parts n j k (get_set_at j key count create excl n o) (get_set_at k key count create excl n (get k.set_keys key))) (sym e)
-        (subst (λ o. SameEffects parts n j k (get_set_at j key count create excl n None) (get_set_at k key count create excl n o)) (sym e ∙ h.1.0 key)
-         (unbound-alike parts n j k (λ p. refl) key count create excl refl (or_left _ _ (eq-same n)) uj uk)))
+    (subst (λ o. SameEffects parts n j k (get_set_at j key count create excl n None) (get_set_at k key count create excl n o)) (sym e ∙ h.1.0 key)
+    (unbound-alike parts n j k (λ p. refl) key count create excl refl (or_left _ _ (eq-same n)) uj uk)))
 get_bound-law j k pid n key count create excl (Some id) vj vk e h uj uk =
     let parts = keyed_parts pid n (Some id)
     in away-steps parts n j k pid (calls.SemGet (Some key) count create excl) h refl (or_left _ _ (eq-same pid)) (λ p. refl) vj vk h.0 (λ a b e. ap (λ x. not (is_spent x)) e)
     (λ a b. subst (λ o. SameEffects parts n j k (get_set_at j key count create excl n o) (get_set_at k key count create excl n (get k.set_keys key))) (sym e)
-        (subst (λ o. SameEffects parts n j k (get_set_at j key count create excl n (Some id)) (get_set_at k key count create excl n o)) (sym e ∙ h.1.0 key)
-         (bound-if parts n j k (λ p. refl) id count (create && excl) h.1.1.1.0)))
+    (subst (λ o. SameEffects parts n j k (get_set_at j key count create excl n (Some id)) (get_set_at k key count create excl n o)) (sym e ∙ h.1.0 key)
+    (bound-if parts n j k (λ p. refl) id count (create && excl) h.1.1.1.0)))
 
 pub get_set-law : (j k : Kernel) (pid n : ℕ) (key : Option ℕ) (count : ℕ) (create excl : Bool) → LawAt j k pid (calls.SemGet key count create excl) n
 get_set-law j k pid n None count create excl vj vk h uj uk =
     let parts = MayDo pid ∷ Whole pid ∷ SetAt n ∷ []
     in whole-steps parts n j k pid (calls.SemGet None count create excl) h (or_left _ _ (eq-same pid)) h.1.0
     (λ a x y. new-alike parts n j k (λ p. refl) j.set_keys k.set_keys (new_set count) (changes-none (has_set_keys parts) j.set_keys k.set_keys)
-        (or_left _ _ (eq-same n)) uj uk)
+    (or_left _ _ (eq-same n)) uj uk)
 get_set-law j k pid n (Some key) count create excl vj vk h uj uk =
     get_bound-law j k pid n key count create excl (get j.set_keys key) vj vk refl h uj uk

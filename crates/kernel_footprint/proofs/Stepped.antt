@@ -1,16 +1,14 @@
 -- From what a step leaves at each number of two kernels to the same step.
-use Rattle.std.proofs.Common.{◌≡◌, ◌≢◌, ℕ, Bool, true, false, ◌||◌, List, [], ◌∷◌, length, Option, Some, None, refl, ap, sym, subst, ◌∙◌, ◌⊎◌, inl, inr}
-use Rattle.std.specs.List.{list_any, AllByRecursion}
+use Rattle.std.proofs.Common.{◌≡◌, ℕ, Bool, true, false, List, [], ◌∷◌, length, Option, Some, refl, ap, sym, ◌∙◌, inl, inr}
+use Rattle.std.specs.List.{list_any}
 use Rattle.std.specs.Option.{option_map, option_and_then, option_map_or}
 use Rattle.std.proofs.lemmas.Bool.{false≢true, or_left, or_right}
 use Rattle.pico_base.specs.declared.reply.Reply.{Reply}
-use Rattle.pico_base.specs.declared.reply.Reply.TheVariants.{Num}
 use Rattle.pico_base.specs.declared.reply.Outcome.{Outcome}
-use Rattle.kernel_model.specs.Maps.{get, used_with}
-use Rattle.kernel_model.specs.Row.{Alive, Allowance}
+use Rattle.kernel_model.specs.Maps.{get}
+use Rattle.kernel_model.specs.Row.{Allowance}
 use Rattle.kernel_model.specs.Kernel.{Kernel, Process, alive_in}
-use Rattle.kernel_model.specs.SetCalls.{size_of}
-use Rattle.kernel_model.specs.Footprint.{Part, MayDo, Whole, ParentOf, QueueAt, SetAt, SizeOf, QueueKeys, SetKeys, is_whole, is_allowance, is_queue, is_set, is_queue_keys, is_set_keys, bare, SameAt, Agree, GrowsBy, RestStays, SameStep, parent_number}
+use Rattle.kernel_model.specs.Footprint.{Part, MayDo, Whole, ParentOf, QueueAt, SetAt, SizeOf, QueueKeys, SetKeys, is_whole, is_allowance, bare, SameAt, Agree, GrowsBy, RestStays, SameStep, parent_number}
 use Rattle.kernel_footprint.proofs.Maps.{eq-same}
 use Rattle.kernel_footprint.proofs.Change.{Change, Stays, Same, Changes, change-agree, change-first, change-second, is_parent, has_whole, has_queue, has_set, has_queue_keys, has_set_keys, has_parent, Grew}
 
@@ -76,9 +74,10 @@ module _ (parts : List Part) (n : ℕ) (reply : Reply) (j k to_j to_k : Kernel) 
 
   agree-within : (some : List Part) → ((test : Part → Bool) → list_any test some ≡ true → list_any test parts ≡ true) → Agree some j k → Agree some to_j to_k
   agree-within [] among h = tt
-  agree-within (x ∷ xs) among h =
-      (agree-at x (λ test t. among test (or_left (test x) (list_any test xs) t)) h.0,
-       agree-within xs (λ test t. among test (or_right (test x) (list_any test xs) t)) h.1)
+  agree-within (x ∷ xs) among h = (
+    agree-at x (λ test t. among test (or_left (test x) (list_any test xs) t)) h.0,
+    agree-within xs (λ test t. among test (or_right (test x) (list_any test xs) t)) h.1,
+  )
 
   pub agree-after : Agree parts j k → Agree parts to_j to_k
   agree-after h = agree-within parts (λ test t. t) h

@@ -1,14 +1,13 @@
 -- From the same effect to the same transition.
-use Rattle.std.proofs.Common.{◌≡◌, ℕ, Bool, true, false, cond, List, Option, Some, None, refl, ap, sym, subst, ◌∙◌}
+use Rattle.std.proofs.Common.{◌≡◌, ℕ, Bool, true, false, cond, List, Option, Some, None, refl, ap, sym, subst}
 use Rattle.std.specs.Option.{option_map, option_and_then}
 use Rattle.pico_base.specs.declared.call.Call.{Call}
-use Rattle.pico_base.specs.declared.reply.Outcome.{Outcome}
 use Rattle.kernel_model.specs.Maps.{get}
-use Rattle.kernel_model.specs.Row.{Alive, Allowance}
+use Rattle.kernel_model.specs.Row.{Alive}
 use Rattle.kernel_model.specs.Kernel.{Kernel, alive_in, living_at}
 use Rattle.kernel_model.specs.Effect.{Effect}
-use Rattle.kernel_model.specs.Transition.{effect, may_make, finished, outcome_of, transition, transition_by}
-use Rattle.kernel_model.specs.Valid.{IsValid, IsAlive}
+use Rattle.kernel_model.specs.Transition.{effect, may_make, outcome_of, transition, transition_by}
+use Rattle.kernel_model.specs.Valid.{IsValid}
 use Rattle.kernel_model.specs.Footprint.{Part, Agree, SameStep, SameSteps, allowance_at}
 use Rattle.kernel_footprint.proofs.Change.{has_whole, has_parent, SameEffect, SameEffects}
 use Rattle.kernel_footprint.proofs.Stepped.{Stepped, step-from, has_allowance, outcome_by}
