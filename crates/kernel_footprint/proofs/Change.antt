@@ -1,0 +1,105 @@
+-- What one effect on two kernels leaves at each number: the value stays in both, or it is the same in both.
+use Rattle.std.proofs.Common.{◌≡◌, ℕ, Bool, true, false, List, Option, Some, None, refl, sym, subst, ◌∙◌, ◌⊎◌, inl, inr}
+use Rattle.std.specs.List.{list_any}
+use Rattle.std.proofs.lemmas.Bool.{cases_eq, false≢true}
+use Rattle.pico_base.specs.declared.reply.Reply.{Reply}
+use Rattle.pico_base.specs.declared.reply.Reply.TheVariants.{Num}
+use Rattle.kernel_model.specs.Maps.{Numbered, get, put, without, used_with}
+use Rattle.kernel_model.specs.Kernel.{Kernel, parent_in}
+use Rattle.kernel_model.specs.Effect.{Effect}
+use Rattle.kernel_model.specs.Footprint.{Part, ParentOf, is_whole, is_queue, is_set, is_queue_keys, is_set_keys}
+use Rattle.kernel_footprint.proofs.Maps.{get-put-same, get-put-other, get-without-same, get-without-other}
+use Rattle.std.specs.Prelude.{nat_eq}
+
+pub data Change {X : Type 0} (touched : Bool) (j k to_j to_k : X) : Type 0 where
+  Stays : to_j ≡ j → to_k ≡ k → Change touched j k to_j to_k
+  Same : touched ≡ true → to_j ≡ to_k → Change touched j k to_j to_k
+
+abbrev pub Changes : {V : Type 0} → (ℕ → Bool) → Numbered V → Numbered V → Numbered V → Numbered V → Type 0
+Changes touched j k to_j to_k = (p : ℕ) → Change (touched p) (get j p) (get k p) (get to_j p) (get to_k p)
+
+-- the same values in other words
+pub change-move : {X : Type 0} (t : Bool) (j k a b c d : X) → Change t j k a b → c ≡ a → d ≡ b → Change t j k c d
+change-move t j k a b c d (Stays x y) p q = Stays (p ∙ x) (q ∙ y)
+change-move t j k a b c d (Same h x) p q = Same h (p ∙ x ∙ sym q)
+
+pub change-agree : {X : Type 0} (t : Bool) (j k a b : X) → Change t j k a b → j ≡ k → a ≡ b
+change-agree t j k a b (Stays x y) h = x ∙ h ∙ sym y
+change-agree t j k a b (Same s x) h = x
+
+pub change-first : {X : Type 0} (t : Bool) (j k a b : X) → Change t j k a b → t ≡ false → a ≡ j
+change-first t j k a b (Stays x y) h = x
+change-first t j k a b (Same s x) h = absurd (false≢true (sym h ∙ s))
+
+pub change-second : {X : Type 0} (t : Bool) (j k a b : X) → Change t j k a b → t ≡ false → b ≡ k
+change-second t j k a b (Stays x y) h = y
+change-second t j k a b (Same s x) h = absurd (false≢true (sym h ∙ s))
+
+pub changes-none : {V : Type 0} (touched : ℕ → Bool) (j k : Numbered V) → Changes touched j k j k
+changes-none touched j k = λ p. Stays refl refl
+
+pub changes-put : {V : Type 0} (touched : ℕ → Bool) (j k a b : Numbered V) (n : ℕ) (v : V) → touched n ≡ true → Changes touched j k a b → Changes touched j k (put a n v) (put b n v)
+changes-put touched j k a b n v t c = λ p.
+    elim (cases_eq p n) [
+      | inl h ↦
+          let P : ℕ → Type 0 = λ q. Change (touched q) (get j q) (get k q) (get (put a n v) q) (get (put b n v) q)
+          in subst P (sym h) (Same t (get-put-same a n v ∙ sym (get-put-same b n v)))
+      | inr h ↦ change-move (touched p) (get j p) (get k p) (get a p) (get b p) _ _ (c p) (get-put-other a n v p h) (get-put-other b n v p h)
+    ]
+
+pub changes-without : {V : Type 0} (touched : ℕ → Bool) (j k a b : Numbered V) (n : ℕ) → touched n ≡ true → Changes touched j k a b → Changes touched j k (without a n) (without b n)
+changes-without touched j k a b n t c = λ p.
+    elim (cases_eq p n) [
+      | inl h ↦
+          let P : ℕ → Type 0 = λ q. Change (touched q) (get j q) (get k q) (get (without a n) q) (get (without b n) q)
+          in subst P (sym h) (Same t (get-without-same a n ∙ sym (get-without-same b n)))
+      | inr h ↦ change-move (touched p) (get j p) (get k p) (get a p) (get b p) _ _ (c p) (get-without-other a n p h) (get-without-other b n p h)
+    ]
+
+abbrev pub is_parent : ℕ → Part → Bool
+is_parent pid (ParentOf p) = nat_eq pid p
+is_parent pid part = false
+
+abbrev pub has_whole : List Part → ℕ → Bool
+has_whole parts p = list_any (is_whole p) parts
+
+abbrev pub has_queue : List Part → ℕ → Bool
+has_queue parts p = list_any (is_queue p) parts
+
+abbrev pub has_set : List Part → ℕ → Bool
+has_set parts p = list_any (is_set p) parts
+
+abbrev pub has_queue_keys : List Part → ℕ → Bool
+has_queue_keys parts p = list_any is_queue_keys parts
+
+abbrev pub has_set_keys : List Part → ℕ → Bool
+has_set_keys parts p = list_any is_set_keys parts
+
+abbrev pub has_parent : List Part → ℕ → Bool
+has_parent parts p = list_any (is_parent p) parts
+
+-- the numbers stay, or the one that the reply gives is used, too
+abbrev pub Grew : ℕ → Reply → List ℕ → List ℕ → Type 0
+Grew n reply before after = (after ≡ before) ⊎ ((after ≡ used_with before n) × (reply ≡ Num n))
+
+-- nobody is the parent of the process
+abbrev pub IsOrphan : Kernel → ℕ → Type 0
+IsOrphan k p = parent_in p k.processes ≡ None
+
+-- The same effect on two kernels.
+pub record SameEffect (parts : List Part) (n : ℕ) (j k : Kernel) (e f : Effect) : Type 0 where
+  pub reply : e.reply ≡ f.reply
+  pub processes : Changes (has_whole parts) j.processes k.processes e.kernel.processes f.kernel.processes
+  pub queues : Changes (has_queue parts) j.queues k.queues e.kernel.queues f.kernel.queues
+  pub sets : Changes (has_set parts) j.sets k.sets e.kernel.sets f.kernel.sets
+  pub queue_keys : Changes (has_queue_keys parts) j.queue_keys k.queue_keys e.kernel.queue_keys f.kernel.queue_keys
+  pub set_keys : Changes (has_set_keys parts) j.set_keys k.set_keys e.kernel.set_keys f.kernel.set_keys
+  pub parents : (p : ℕ) → has_parent parts p ≡ true → IsOrphan e.kernel p × IsOrphan f.kernel p
+  pub used_processes : Grew n e.reply j.used_processes e.kernel.used_processes × Grew n f.reply k.used_processes f.kernel.used_processes
+  pub used_queues : Grew n e.reply j.used_queues e.kernel.used_queues × Grew n f.reply k.used_queues f.kernel.used_queues
+  pub used_sets : Grew n e.reply j.used_sets e.kernel.used_sets × Grew n f.reply k.used_sets f.kernel.used_sets
+
+abbrev pub SameEffects : List Part → ℕ → Kernel → Kernel → Option Effect → Option Effect → Type 0
+SameEffects parts n j k None None = Unit {0}
+SameEffects parts n j k (Some e) (Some f) = SameEffect parts n j k e f
+SameEffects parts n j k _ _ = ⊥

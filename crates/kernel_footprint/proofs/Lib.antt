@@ -1,0 +1,14 @@
+pub mod Maps
+pub mod Keys
+pub mod Parents
+pub mod Change
+pub mod Stepped
+pub mod Finish
+pub mod Steps
+pub mod Effects
+pub mod AtCall
+pub mod Queues
+pub mod Sets
+pub mod Processes
+pub mod Ends
+pub mod Law
