@@ -1,3 +1,4 @@
 pub mod Plain
+pub mod MapLaws
 pub mod Steps
 pub mod Refusals
