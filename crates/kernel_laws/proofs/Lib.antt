@@ -1,4 +1,5 @@
 pub mod Plain
 pub mod MapLaws
 pub mod Steps
+pub mod Moves
 pub mod Refusals
