@@ -5,4 +5,7 @@ pub mod Moves
 pub mod Tables
 pub mod Histories
 pub mod QueueLaws
+pub mod SetLaws
+pub mod NumberLaws
+pub mod SignalLaws
 pub mod Refusals
