@@ -8,4 +8,5 @@ pub mod QueueLaws
 pub mod SetLaws
 pub mod NumberLaws
 pub mod SignalLaws
+pub mod Families
 pub mod Refusals
