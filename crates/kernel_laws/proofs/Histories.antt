@@ -1,0 +1,21 @@
+-- What each entry keeps holds along a history.
+use Rattle.std.proofs.Common.{◌≡◌, ℕ, List, [], ◌∷◌, Option, Some, subst}
+use Rattle.pico_base.specs.declared.call.Call.{Call}
+use Rattle.pico_base.specs.declared.reply.Entry.{Entry}
+use Rattle.pico_base.specs.declared.reply.Outcome.{Outcome}
+use Rattle.kernel_model.specs.Kernel.{Kernel}
+use Rattle.kernel_model.specs.Transition.{transition}
+use Rattle.kernel_model.specs.History.{Replays, number_in}
+use Rattle.kernel_laws.proofs.Steps.{Step, step}
+use Rattle.kernel_laws.proofs.Moves.{Moves, Finishes, after-step}
+
+pub record Kept (P : Kernel → Type 0) : Type 0 where
+  pub moves : (k : Kernel) (pid : ℕ) (call : Call) (n : ℕ) (next : Kernel) (outcome : Outcome) (s : Step k pid call n next outcome) → P k → Moves P k pid s.alive n
+  pub finishes : (pid : ℕ) → Finishes P pid
+
+pub kept-along : (P : Kernel → Type 0) → Kept P → (entries : List Entry) (k last : Kernel) → Replays k entries last → P k → P last
+kept-along P h [] k last r p = subst P r p
+kept-along P h (e ∷ es) k last r p =
+    let n = number_in e.outcome.own
+    in let s = step k e.pid e.call n r.0 e.outcome r.1
+    in kept-along P h es r.0 last r.2 (after-step P k e.pid e.call n r.0 e.outcome s (h.moves k e.pid e.call n r.0 e.outcome s p) (h.finishes e.pid))

@@ -1,0 +1,12 @@
+pub mod Plain
+pub mod MapLaws
+pub mod Steps
+pub mod Moves
+pub mod Tables
+pub mod Histories
+pub mod QueueLaws
+pub mod SetLaws
+pub mod NumberLaws
+pub mod SignalLaws
+pub mod Families
+pub mod Refusals

@@ -1,0 +1,32 @@
+-- Options, tests and effects in general.
+use Rattle.std.proofs.Common.{◌≡◌, Bool, true, false, Option, Some, None, refl}
+use Rattle.std.specs.Prelude.{if◌then◌else◌}
+
+pub from_some : {A : Type 0} (a b : A) → Some a ≡ Some b → a ≡ b
+from_some a b h = cc
+
+pub not_some : {A B : Type 0} (a : A) → None ≡ Some a → B
+not_some a h = cc
+
+pub not_none : {A B : Type 0} (a : A) → Some a ≡ None → B
+not_none a h = cc
+
+pub not_true : {B : Type 0} → false ≡ true → B
+not_true h = cc
+
+pub not_false : {B : Type 0} → true ≡ false → B
+not_false h = cc
+
+-- what holds of the value, if there is one
+abbrev pub Of : {A : Type 0} → (A → Type 0) → Option A → Type 0
+Of P None = Unit {0}
+Of P (Some a) = P a
+
+pub of_choice : {A : Type 0} (P : A → Type 0) (b : Bool) (x y : Option A) → Of P x → Of P y → Of P (if b then x else y)
+of_choice P true x y h g = h
+of_choice P false x y h g = g
+
+-- the same for a value itself, with what the test says
+pub by_test : {A : Type 0} (P : A → Type 0) (b : Bool) (x y : A) → (b ≡ true → P x) → (b ≡ false → P y) → P (if b then x else y)
+by_test P true x y h g = h refl
+by_test P false x y h g = g refl

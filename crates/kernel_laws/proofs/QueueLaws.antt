@@ -1,0 +1,145 @@
+-- Each queue stays within its limits, and the table of queues in order.
+use Rattle.std.proofs.Common.{◌≡◌, ℕ, ℤ, ◌+◌, ◌<◌, ◌≤◌, Bool, true, false, ◌&&◌, ◌||◌, List, [], ◌∷◌, ◌++◌, length, Option, Some, None, Result, Ok, Err, take, drop, suc, refl, ap, sym, subst, ◌∙◌, arith, length-append}
+use Rattle.std.specs.Prelude.{◌≤ℤ◌, pos, if◌then◌else◌, nat_le, nat_lt, int_le, is_some, slice_get, sum_by, remove}
+use Rattle.std.specs.List.{All}
+use Rattle.std.proofs.lemmas.Bool.{and_parts, leb-true, ltb-true}
+use Rattle.std.proofs.lemmas.List.Elements.{All-push, All-append, All-take, All-drop, All-nil}
+use Rattle.std.proofs.lemmas.List.Sums.{sum_by_push, sum_by-remove}
+use Rattle.std.proofs.lemmas.List.Edits.{length-remove}
+use Rattle.std.proofs.lemmas.Option.{slice_get_within}
+use Rattle.std.proofs.lemmas.Int.{ints}
+use lib.Signed.{le_z_yes}
+use lib.Dec.{T}
+use Rattle.pico_base.specs.declared.reply.Errno.{Errno}
+use Rattle.pico_base.specs.declared.reply.Errno.TheVariants.{Einval, E2big}
+use Rattle.kernel_model.specs.Maps.{get, put}
+use Rattle.kernel_model.specs.Kernel.{Kernel, opening}
+use Rattle.kernel_model.specs.Row.{Alive}
+use Rattle.kernel_model.specs.Queue.{Queue, Message, Received, bytes_in, bytes_of, empty_queue, max_queue_bytes, max_messages, max_text, has_room, is_sendable, send, select, taken, receive, receive_from, receive_at, set_qbytes}
+use Rattle.kernel_laws.specs.Queues.{IsMessage, IsWithinLimits, QueuesAreWithinLimits}
+use Rattle.kernel_laws.proofs.Plain.{from_some, not_some, not_true}
+use Rattle.kernel_laws.proofs.Tables.{Table, table-empty, table-change, table-make, table-bind, table-remove, fresh-unused}
+use Rattle.kernel_laws.proofs.Moves.{Moves, Finishes}
+use Rattle.kernel_laws.proofs.Histories.{Kept, kept-along}
+
+from_ok : {A E : Type 0} (a b : A) → (let x : Result A E = Ok a in let y : Result A E = Ok b in x ≡ y) → a ≡ b
+from_ok a b h = cc
+
+not_ok : {A E B : Type 0} (e : E) (a : A) → (let x : Result A E = Err e in let y : Result A E = Ok a in x ≡ y) → B
+not_ok e a h = cc
+
+in_order : (a b : ℤ) → int_le a b ≡ true → a ≤ℤ b
+in_order a b h = le_z_yes (subst T (sym h) tt)
+
+both-tests : {A E : Type 0} (s r : Bool) (x y : A) (e f : E) → (if s then if r then Ok x else Err e else Err f) ≡ Ok y
+    → (s ≡ true) × (r ≡ true) × (x ≡ y)
+both-tests true true x y e f h = (refl, refl, from_ok x y h)
+both-tests true false x y e f h = not_ok e y h
+both-tests false r x y e f h = not_ok f y h
+
+one-test : {A E : Type 0} (s : Bool) (x y : A) (e : E) → (if s then Ok x else Err e) ≡ Ok y → (s ≡ true) × (x ≡ y)
+one-test true x y e h = (refl, from_ok x y h)
+one-test false x y e h = not_ok e y h
+
+within-empty : IsWithinLimits empty_queue
+within-empty = record { limit = omega arith; bytes = omega arith; count = omega arith; messages = All-nil IsMessage }
+
+within-pushed : (q : Queue) (pid : ℕ) (m : Message) → IsWithinLimits q → IsMessage m → bytes_in q + length m.text ≤ 16384 → length q.messages < 1024
+    → IsWithinLimits (record q { messages = q.messages ++ m ∷ []; last_sender = pid })
+within-pushed q pid m w h bytes count =
+    let e : bytes_of (q.messages ++ m ∷ []) ≡ bytes_of q.messages + length m.text = sum_by_push (λ (x : Message). length x.text) q.messages m
+    in let l : length (q.messages ++ m ∷ []) ≡ length q.messages + length (m ∷ []) = length-append q.messages (m ∷ [])
+    in record {
+      limit = w.limit;
+      bytes = omega arith;
+      count = omega arith;
+      messages = All-push IsMessage q.messages m w.messages h;
+    }
+
+within-sent : (q : Queue) (pid : ℕ) (class : ℤ) (text : List ℕ) (next : Queue) → IsWithinLimits q → send q pid class text ≡ Ok next → IsWithinLimits next
+within-sent q pid class text next w h =
+    let m : Message = record { class = class; text = text }
+    in let t = both-tests (is_sendable class text) (has_room q text) (record q { messages = q.messages ++ m ∷ []; last_sender = pid }) next _ _ h
+    in let sendable = and_parts (int_le (pos 1) class) (nat_le (length text) 4096) t.0
+    in let room = and_parts (nat_le (bytes_in q + length text) q.qbytes) (nat_lt (length q.messages) 1024) t.1
+    in let fits : bytes_in q + length text ≤ q.qbytes = leb-true (bytes_in q + length text) q.qbytes room.0
+    in let few : length q.messages < 1024 = ltb-true (length q.messages) 1024 room.1
+    in let below = w.limit
+    in let good : IsMessage m = record { class = in_order (pos 1) class sendable.0; text = leb-true (length text) 4096 sendable.1 }
+    in subst IsWithinLimits t.2 (within-pushed q pid m w good (omega arith) few)
+
+within-removed : (q : Queue) (pid place : ℕ) (m : Message) → IsWithinLimits q → slice_get q.messages place ≡ Some m
+    → IsWithinLimits (record q { messages = remove q.messages place; last_receiver = pid })
+within-removed q pid place m w h =
+    let l : place < length q.messages = slice_get_within q.messages place m h
+    in let e = sum_by-remove (λ (x : Message). length x.text) q.messages place m l
+    in let c = length-remove q.messages place l
+    in let bytes = w.bytes
+    in let count = w.count
+    in record {
+      limit = w.limit;
+      bytes = omega (arith, e, bytes);
+      count = omega (arith, c, count);
+      messages =
+          All-append IsMessage (take place q.messages) (drop (suc place) q.messages) (All-take IsMessage place q.messages w.messages) (All-drop IsMessage (suc place) q.messages w.messages);
+    }
+
+within-taken : (q : Queue) (pid size : ℕ) (noerror : Bool) (place : ℕ) (o : Option Message) (r : Received) → IsWithinLimits q → slice_get q.messages place ≡ o
+    → receive_at q pid size noerror place o ≡ Ok r → IsWithinLimits r.queue
+within-taken q pid size noerror place None r w l h = not_ok _ r h
+within-taken q pid size noerror place (Some m) r w l h =
+    let t = one-test (nat_le (length m.text) size || noerror) (taken q pid size place m) r _ h
+    in subst IsWithinLimits (ap (λ (x : Received). x.queue) t.1) (within-removed q pid place m w l)
+
+within-placed : (q : Queue) (pid size : ℕ) (noerror : Bool) (o : Option ℕ) (r : Received) → IsWithinLimits q
+    → receive_from q pid size noerror o ≡ Ok r → IsWithinLimits r.queue
+within-placed q pid size noerror None r w h = not_ok _ r h
+within-placed q pid size noerror (Some place) r w h = within-taken q pid size noerror place (slice_get q.messages place) r w refl h
+
+within-limited : (q : Queue) (qbytes : ℕ) (next : Queue) → IsWithinLimits q → set_qbytes q qbytes ≡ Ok next → IsWithinLimits next
+within-limited q qbytes next w h =
+    let t = one-test (nat_le qbytes 16384) (record q { qbytes = qbytes }) next _ h
+    in subst IsWithinLimits t.1
+    (record { limit = leb-true qbytes 16384 t.0; bytes = w.bytes; count = w.count; messages = w.messages })
+
+-- the table of queues
+abbrev pub Queues : Kernel → Type 0
+Queues k = Table IsWithinLimits k.queues k.queue_keys k.used_queues
+
+pub queues-opening : Queues opening
+queues-opening = table-empty IsWithinLimits
+
+queues-moves : (k : Kernel) (pid : ℕ) (a : Alive) (n : ℕ) → Queues k → Moves Queues k pid a n
+queues-moves k pid a n t =
+    let change : (id : ℕ) (q next : Queue) → get k.queues id ≡ Some q → IsWithinLimits next → Queues (record k { queues = put k.queues id next }) =
+        λ id q next l w. table-change IsWithinLimits k.queues k.queue_keys k.used_queues t id next (ap is_some l) w
+    in record {
+      same = t;
+      forks = λ f. t;
+      ends = λ ending. t;
+      acts = λ g act h. t;
+      masks = λ how set. t;
+      raises_own = λ target g h. t;
+      raises_other = λ other target g h. t;
+      reaps = λ which child ending h. t;
+      makes_queue = λ f. table-make IsWithinLimits k.queues k.queue_keys k.used_queues t n empty_queue within-empty;
+      binds_queue = λ key f.
+          table-bind IsWithinLimits k.queues k.queue_keys k.used_queues t n key empty_queue (fresh-unused k.used_queues n f) within-empty;
+      sends = λ id class text q next l h. change id q next l (within-sent q pid class text next (t.each id q l) h);
+      receives = λ id class size noerror q r l h.
+          change id q r.queue l (within-placed q pid size noerror (select q.messages class) r (t.each id q l) h);
+      limits = λ id qbytes q next l h. change id q next l (within-limited q qbytes next (t.each id q l) h);
+      removes_queue = λ id. table-remove IsWithinLimits k.queues k.queue_keys k.used_queues t id;
+      makes_set = λ count set h f. t;
+      binds_set = λ key count set h f. t;
+      operates = λ id steps set next l h. t;
+      sets_one = λ id num value set next l h. t;
+      fills = λ id values set next l h. t;
+      removes_set = λ id. t;
+    }
+
+pub queues-kept : Kept Queues
+queues-kept = record { moves = λ k pid call n next outcome s t. queues-moves k pid s.alive n t; finishes = λ pid k a t l d. t }
+
+pub queues_are_within_limits_lemma : QueuesAreWithinLimits
+queues_are_within_limits_lemma k r id q l = (kept-along Queues queues-kept r.0 opening k r.1 queues-opening).each id q l

@@ -1,0 +1,199 @@
+-- A refused call's effect leaves the kernel as it was.
+use Rattle.std.proofs.Common.{◌≡◌, ◌⊎◌, ◌≢◌, ℕ, Bool, true, false, not, ◌&&◌, ◌||◌, List, Option, Some, None, Result, Ok, Err, refl, ap, sym, subst, ◌∙◌, inl, inr, nat_eq}
+use Rattle.std.specs.Prelude.{if◌then◌else◌, nat_le, is_some}
+use Rattle.std.specs.List.{list_any}
+use Rattle.pico_base.specs.declared.call.Call.{Call}
+use Rattle.pico_base.specs.declared.call.Call.TheVariants as calls
+use Rattle.pico_base.specs.declared.call.SemStep.{SemStep}
+use Rattle.pico_base.specs.declared.reply.Reply.{Reply}
+use Rattle.pico_base.specs.declared.reply.Reply.TheVariants as replies
+use Rattle.pico_base.specs.declared.reply.Errno.{Errno}
+use Rattle.pico_base.specs.declared.reply.Errno.TheVariants.{Einval, Enoent, Eexist, Esrch}
+use Rattle.pico_base.specs.declared.reply.Outcome.{Outcome}
+use Rattle.pico_base.specs.declared.signal.Sig.{Sig}
+use Rattle.pico_base.specs.declared.signal.SigArg.{SigArg}
+use Rattle.pico_base.specs.declared.signal.SigArg.TheVariants.{Zero, Is, Bad}
+use Rattle.kernel_model.specs.Maps.{Numbered, get, put, used_with}
+use Rattle.kernel_model.specs.Signals.{Signals, act_on, raise}
+use Rattle.kernel_model.specs.Row.{Alive, Waited, Found, NotYet, NoChild, Spent, wait, raised_at}
+use Rattle.kernel_model.specs.Queue.{Queue, Received, send, receive, set_qbytes, empty_queue, stat}
+use Rattle.kernel_model.specs.SemaphoreSet.{Semaphore, new_set, op, set_value, set_all, value_at, last_at, waiting_at}
+use Rattle.kernel_model.specs.Kernel.{Kernel, Process, Living, Ended, Gone, living_at, with_alive}
+use Rattle.kernel_model.specs.Effect.{Effect, refused, replied, looked_up, on_named, is_fresh}
+use Rattle.kernel_model.specs.ProcessCalls.{forked, with_fork, reaped, acted, kill, killed_at, signalled, with_signals}
+use Rattle.kernel_model.specs.QueueCalls.{new_queue, get_queue, get_queue_at, changed_queue, received, looked_at_queue, removed_queue}
+use Rattle.kernel_model.specs.SetCalls.{new_set_of, get_set, get_set_at, found_set, size_of, changed_set, operated, all_values, removed_set}
+use Rattle.kernel_model.specs.Waiting.{may_wait}
+use Rattle.kernel_model.specs.Transition.{effect, finished, transition}
+use Rattle.kernel_laws.specs.Refusal.{IsSpentIn, RefusalsChangeNothing}
+use Rattle.kernel_laws.proofs.Plain.{from_some, not_true, Of, of_choice, by_test, not_some}
+use Rattle.kernel_laws.proofs.Steps.{Step, step}
+
+abbrev is_fail : Reply → Bool
+is_fail (replies.Fail e) = true
+is_fail _ = false
+
+-- a failing effect keeps the kernel
+abbrev Keeps : Kernel → Effect → Type 0
+Keeps k e = is_fail e.reply ≡ true → e.kernel ≡ k
+
+keeps-looked_up : (k : Kernel) (r : Result ℕ Errno) → Keeps k (looked_up k r)
+keeps-looked_up k (Ok n) = not_true
+keeps-looked_up k (Err e) = λ h. refl
+
+keeps-named : {V : Type 0} (k : Kernel) (o : Option V) (f : V → Effect) → ((v : V) → Keeps k (f v)) → Keeps k (on_named k o f)
+keeps-named k None f h = λ g. refl
+keeps-named k (Some v) f h = h v
+
+keeps-fork : (k : Kernel) (pid : ℕ) (a : Alive) (n : ℕ) → Of (Keeps k) (forked k pid a n)
+keeps-fork k pid a n =
+    of_choice (Keeps k) (is_fresh k.used_processes n) (Some (replied (record k { processes = with_fork k.processes pid a n; used_processes = used_with k.used_processes n }) n)) None not_true tt
+
+keeps-reaped : (k : Kernel) (pid : ℕ) (a : Alive) (w : Waited) → Keeps k (reaped k pid a w)
+keeps-reaped k pid a (Found child ending) = not_true
+keeps-reaped k pid a NotYet = not_true
+keeps-reaped k pid a NoChild = λ h. refl
+
+keeps-acted : (k : Kernel) (pid : ℕ) (a : Alive) (r : Result Signals Errno) → Keeps k (acted k pid a r)
+keeps-acted k pid a (Ok s) = not_true
+keeps-acted k pid a (Err e) = λ h. refl
+
+keeps-signalled : (k : Kernel) (caller pid : ℕ) (target : Alive) (sig : SigArg) → Keeps k (signalled k caller pid target sig)
+keeps-signalled k caller pid target Zero = not_true
+keeps-signalled k caller pid target Bad = λ h. refl
+keeps-signalled k caller pid target (Is g) = not_true
+
+keeps-killed : (k : Kernel) (caller pid : ℕ) (sig : SigArg) (p : Option Process) → Keeps k (killed_at k caller pid sig p)
+keeps-killed k caller pid sig None = λ h. refl
+keeps-killed k caller pid sig (Some Gone) = λ h. refl
+keeps-killed k caller pid sig (Some (Ended ending)) = not_true
+keeps-killed k caller pid sig (Some (Living target)) = keeps-signalled k caller pid target sig
+
+keeps-kill : (k : Kernel) (caller pid : ℕ) (sig : SigArg) → Keeps k (kill k caller pid sig)
+keeps-kill k caller pid Bad = λ h. refl
+keeps-kill k caller pid Zero = keeps-killed k caller pid Zero (get k.processes pid)
+keeps-kill k caller pid (Is g) = keeps-killed k caller pid (Is g) (get k.processes pid)
+
+keeps-new_queue : (k : Kernel) (keys : Numbered ℕ) (n : ℕ) → Of (Keeps k) (new_queue k keys n)
+keeps-new_queue k keys n =
+    of_choice (Keeps k) (is_fresh k.used_queues n)
+    (Some (replied (record k { queues = put k.queues n empty_queue; queue_keys = keys; used_queues = used_with k.used_queues n }) n)) None not_true tt
+
+keeps-get_queue_at : (k : Kernel) (key : ℕ) (create excl : Bool) (n : ℕ) (found : Option ℕ) → Of (Keeps k) (get_queue_at k key create excl n found)
+keeps-get_queue_at k key create excl n (Some id) =
+    by_test (Keeps k) (create && excl) (refused k Eexist) (replied k id) (λ t h. refl) (λ t. not_true)
+keeps-get_queue_at k key create excl n None =
+    of_choice (Keeps k) create (new_queue k (put k.queue_keys key n) n) (Some (refused k Enoent)) (keeps-new_queue k (put k.queue_keys key n) n) (λ h. refl)
+
+keeps-get_queue : (k : Kernel) (key : Option ℕ) (create excl : Bool) (n : ℕ) → Of (Keeps k) (get_queue k key create excl n)
+keeps-get_queue k None create excl n = keeps-new_queue k k.queue_keys n
+keeps-get_queue k (Some key) create excl n = keeps-get_queue_at k key create excl n (get k.queue_keys key)
+
+keeps-changed_queue : (k : Kernel) (id : ℕ) (r : Result Queue Errno) → Keeps k (changed_queue k id r)
+keeps-changed_queue k id (Ok q) = not_true
+keeps-changed_queue k id (Err e) = λ h. refl
+
+keeps-received : (k : Kernel) (id : ℕ) (r : Result Received Errno) → Keeps k (received k id r)
+keeps-received k id (Ok q) = not_true
+keeps-received k id (Err e) = λ h. refl
+
+keeps-new_set : (k : Kernel) (keys : Numbered ℕ) (n : ℕ) (r : Result (List Semaphore) Errno) → Of (Keeps k) (new_set_of k keys n r)
+keeps-new_set k keys n (Err e) = λ h. refl
+keeps-new_set k keys n (Ok set) =
+    of_choice (Keeps k) (is_fresh k.used_sets n)
+    (Some (replied (record k { sets = put k.sets n set; set_keys = keys; used_sets = used_with k.used_sets n }) n)) None not_true tt
+
+keeps-found_set : (k : Kernel) (id count : ℕ) → Keeps k (found_set k id count)
+keeps-found_set k id count =
+    by_test (Keeps k) (nat_eq count 0 || nat_le count (size_of k id)) (replied k id) (refused k Einval) (λ t. not_true) (λ t h. refl)
+
+keeps-get_set_at : (k : Kernel) (key count : ℕ) (create excl : Bool) (n : ℕ) (found : Option ℕ) → Of (Keeps k) (get_set_at k key count create excl n found)
+keeps-get_set_at k key count create excl n (Some id) =
+    by_test (Keeps k) (create && excl) (refused k Eexist) (found_set k id count) (λ t h. refl) (λ t. keeps-found_set k id count)
+keeps-get_set_at k key count create excl n None =
+    of_choice (Keeps k) create (new_set_of k (put k.set_keys key n) n (new_set count)) (Some (refused k Enoent)) (keeps-new_set k (put k.set_keys key n) n (new_set count)) (λ h. refl)
+
+keeps-get_set : (k : Kernel) (key : Option ℕ) (count : ℕ) (create excl : Bool) (n : ℕ) → Of (Keeps k) (get_set k key count create excl n)
+keeps-get_set k None count create excl n = keeps-new_set k k.set_keys n (new_set count)
+keeps-get_set k (Some key) count create excl n = keeps-get_set_at k key count create excl n (get k.set_keys key)
+
+keeps-changed_set : (k : Kernel) (id : ℕ) (r : Result (List Semaphore) Errno) → Keeps k (changed_set k id r)
+keeps-changed_set k id (Ok q) = not_true
+keeps-changed_set k id (Err e) = λ h. refl
+
+keeps-operated : (k : Kernel) (pid id : ℕ) (steps : List SemStep) → Of (Keeps k) (operated k pid id steps)
+keeps-operated k pid id steps =
+    of_choice (Keeps k) (list_any may_wait steps) None (Some (on_named k (get k.sets id) (λ set. changed_set k id (op set pid steps)))) tt
+    (keeps-named k (get k.sets id) (λ set. changed_set k id (op set pid steps)) (λ set. keeps-changed_set k id (op set pid steps)))
+
+keeps-effect : (k : Kernel) (pid : ℕ) (a : Alive) (call : Call) (n : ℕ) → Of (Keeps k) (effect k pid a call n)
+keeps-effect k pid a (calls.Fork block) n = keeps-fork k pid a n
+keeps-effect k pid a (calls.Exit status) n = not_true
+keeps-effect k pid a (calls.Killed sig) n = not_true
+keeps-effect k pid a calls.GetPid n = not_true
+keeps-effect k pid a (calls.Kill target sig) n = keeps-kill k pid target sig
+keeps-effect k pid a (calls.SigAction sig act) n = keeps-acted k pid a (act_on a.row.signals sig act)
+keeps-effect k pid a (calls.SigProcMask how set) n = not_true
+keeps-effect k pid a calls.SigPending n = not_true
+keeps-effect k pid a (calls.Handled sig) n = not_true
+keeps-effect k pid a (calls.WaitPid child true) n = keeps-reaped k pid a (wait a.row.family child)
+keeps-effect k pid a (calls.WaitPid child false) n = tt
+keeps-effect k pid a (calls.MsgGet key create excl) n = keeps-get_queue k key create excl n
+keeps-effect k pid a (calls.MsgSnd id class text true) n =
+    keeps-named k (get k.queues id) (λ q. changed_queue k id (send q pid class text)) (λ q. keeps-changed_queue k id (send q pid class text))
+keeps-effect k pid a (calls.MsgSnd id class text false) n = tt
+keeps-effect k pid a (calls.MsgRcv id class size noerror true) n =
+    keeps-named k (get k.queues id) (λ q. received k id (receive q pid class size noerror)) (λ q. keeps-received k id (receive q pid class size noerror))
+keeps-effect k pid a (calls.MsgRcv id class size noerror false) n = tt
+keeps-effect k pid a (calls.MsgStat id) n = keeps-named k (get k.queues id) (looked_at_queue k) (λ q. not_true)
+keeps-effect k pid a (calls.MsgSet id qbytes) n =
+    keeps-named k (get k.queues id) (λ q. changed_queue k id (set_qbytes q qbytes)) (λ q. keeps-changed_queue k id (set_qbytes q qbytes))
+keeps-effect k pid a (calls.MsgRmid id) n = keeps-named k (get k.queues id) (λ _. removed_queue k id) (λ q. not_true)
+keeps-effect k pid a (calls.SemGet key count create excl) n = keeps-get_set k key count create excl n
+keeps-effect k pid a (calls.SemOp id steps) n = keeps-operated k pid id steps
+keeps-effect k pid a (calls.SemGetVal id num) n =
+    keeps-named k (get k.sets id) (λ s. looked_up k (value_at s num)) (λ s. keeps-looked_up k (value_at s num))
+keeps-effect k pid a (calls.SemGetPid id num) n =
+    keeps-named k (get k.sets id) (λ s. looked_up k (last_at s num)) (λ s. keeps-looked_up k (last_at s num))
+keeps-effect k pid a (calls.SemGetNcnt id num) n =
+    keeps-named k (get k.sets id) (λ s. looked_up k (waiting_at s num)) (λ s. keeps-looked_up k (waiting_at s num))
+keeps-effect k pid a (calls.SemGetZcnt id num) n =
+    keeps-named k (get k.sets id) (λ s. looked_up k (waiting_at s num)) (λ s. keeps-looked_up k (waiting_at s num))
+keeps-effect k pid a (calls.SemSetVal id num value) n =
+    keeps-named k (get k.sets id) (λ s. changed_set k id (set_value s num value)) (λ s. keeps-changed_set k id (set_value s num value))
+keeps-effect k pid a (calls.SemGetAll id) n = keeps-named k (get k.sets id) (all_values k) (λ s. not_true)
+keeps-effect k pid a (calls.SemSetAll id values) n =
+    keeps-named k (get k.sets id) (λ s. changed_set k id (set_all s values)) (λ s. keeps-changed_set k id (set_all s values))
+keeps-effect k pid a (calls.SemRmid id) n = keeps-named k (get k.sets id) (λ _. removed_set k id) (λ s. not_true)
+
+-- after the entry a doomed caller has nothing left
+some_signal : (s : Sig) → Some s ≢ None
+some_signal s h = cc
+
+spent_or_same : (k : Kernel) (pid : ℕ) (a : Alive) → living_at k pid ≡ Some a → (doom : Option Sig) → a.row.signals.doom ≡ doom
+    → ((if is_some doom then with_alive k pid (record a { allowance = Spent }) else k) ≡ k)
+        ⊎ IsSpentIn k pid (if is_some doom then with_alive k pid (record a { allowance = Spent }) else k)
+spent_or_same k pid a l None d = inl refl
+spent_or_same k pid a l (Some g) d = inr (a, l, subst (λ (o : Option Sig). o ≢ None) (sym d) (some_signal g), refl)
+
+finished_or_same : (k : Kernel) (pid : ℕ) (found : Option Alive) → living_at k pid ≡ found
+    → (finished k pid found ≡ k) ⊎ IsSpentIn k pid (finished k pid found)
+finished_or_same k pid None l = inl refl
+finished_or_same k pid (Some a) l = spent_or_same k pid a l a.row.signals.doom refl
+
+to_next : (k : Kernel) (pid : ℕ) (result : Kernel) (next : Kernel) → result ≡ k → finished result pid (living_at result pid) ≡ next
+    → (next ≡ k) ⊎ IsSpentIn k pid next
+to_next k pid result next same leads =
+    let P : Kernel → Type 0 = λ m. (m ≡ k) ⊎ IsSpentIn k pid m
+    in let e : finished k pid (living_at k pid) ≡ next = subst (λ (r : Kernel). finished r pid (living_at r pid) ≡ next) same leads
+    in subst P e (finished_or_same k pid (living_at k pid) refl)
+
+fail_is : (r : Reply) (o : Option Reply) (e : Errno) → Some r ≡ o → o ≡ Some (replies.Fail e) → is_fail r ≡ true
+fail_is r o e h g = let f : r ≡ replies.Fail e = from_some r (replies.Fail e) (h ∙ g) in ap is_fail f
+
+pub refusals_change_nothing_lemma : RefusalsChangeNothing
+refusals_change_nothing_lemma k pid call n next outcome error h fails =
+    let s = step k pid call n next outcome h
+    in let P : Option Effect → Type 0 = λ o. Of (Keeps k) o
+    in let kept : Keeps k s.result = subst P s.gives (keeps-effect k pid s.alive call n)
+    in to_next k pid s.result.kernel next (kept (fail_is s.result.reply outcome.own error s.says fails)) s.leads

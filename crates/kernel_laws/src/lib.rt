@@ -1,0 +1,40 @@
+//! Laws of the kernel's definitions: what a reader would ask of them, each the contract of a function that does
+//! nothing. `specs/` has the statements.
+#![tactic(auto)]
+
+ghost use Rattle.kernel_laws.specs.Refusal.{RefusalsChangeNothing};
+ghost use Rattle.kernel_laws.specs.Queues.{QueuesAreWithinLimits};
+ghost use Rattle.kernel_laws.specs.Numbers.{UsedNumbersStay, RemovedQueuesStayRemoved, RemovedSetsStayRemoved};
+
+/// A call that fails leaves the kernel as it was. Only a doomed caller that lives on has then had its last turn
+/// before its end, as after each call.
+pub fn refusals_change_nothing()
+    ensures { RefusalsChangeNothing }
+{
+}
+
+/// In each kernel that a legal history leads to, a queue's texts have at most 16,384 bytes together and at most
+/// 4,096 each, there are at most 1,024 of them, and each message's type is at least 1.
+pub fn queues_are_within_limits()
+    ensures { QueuesAreWithinLimits }
+{
+}
+
+/// The numbers of processes, queues and sets that were used stay used along each history.
+pub fn used_numbers_stay()
+    ensures { UsedNumbersStay }
+{
+}
+
+/// A queue that was there at one point of a legal history and isn't at a later one is never there again: its
+/// number isn't given out a second time.
+pub fn removed_queues_stay_removed()
+    ensures { RemovedQueuesStayRemoved }
+{
+}
+
+/// A semaphore set that was there at one point of a legal history and isn't at a later one is never there again.
+pub fn removed_sets_stay_removed()
+    ensures { RemovedSetsStayRemoved }
+{
+}
