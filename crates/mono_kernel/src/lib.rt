@@ -1,0 +1,7 @@
+//! One POSIX system as one plain value, whose calls are the kernel's transition. `check` replays a
+//! history with it. It has no owner, lease, cache or stream.
+#![tactic(auto)]
+
+mod queue;
+mod semaphores;
+mod signals;
