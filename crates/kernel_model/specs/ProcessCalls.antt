@@ -20,7 +20,7 @@ abbrev pub new_child : Alive → Alive
 new_child a = record { row = child_row a.row; allowance = Free }
 
 abbrev pub with_fork : Numbered Process → ℕ → Alive → ℕ → Numbered Process
-with_fork ps pid a n = put (put ps pid (Living (forking a n))) n (Living (new_child a))
+with_fork ps pid a n = put (put ps n (Living (new_child a))) pid (Living (forking a n))
 
 abbrev pub forked : Kernel → ℕ → Alive → ℕ → Option Effect
 forked k pid a n =

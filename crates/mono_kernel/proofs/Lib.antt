@@ -1,3 +1,7 @@
+pub mod FamilyLemmas
+pub mod KeyLemmas
+pub mod MapLemmas
+pub mod ParentLemmas
 pub mod QueueLemmas
 pub mod SetLemmas
 pub mod TrialLemmas

@@ -1,3 +1,4 @@
 pub mod Counted
+pub mod Ends
 pub mod Masks
 pub mod Trial

@@ -2,6 +2,7 @@
 //! history with it. It has no owner, lease, cache or stream.
 #![tactic(auto)]
 
+mod family;
 mod queue;
 mod semaphores;
 mod signals;

@@ -1,0 +1,57 @@
+-- The parent of a process, found by its number.
+use Rattle.std.proofs.Common.{◌≡◌, ◌∙◌, ℕ, Bool, true, false, cond, List, [], ◌∷◌, Option, Some, None, refl, sym, ap, Ordering}
+use Rattle.std.specs.declared.cmp.Ordering.TheVariants.{Less, Equal, Greater}
+use Rattle.std.specs.Ordering.{nat_cmp}
+use Rattle.std.specs.Map.{keys_of}
+use Rattle.std.proofs.lemmas.Map.Keys.{sorted_tail}
+use Rattle.kernel_model.specs.Maps.{Numbered, get}
+use Rattle.kernel_model.specs.Row.{Alive, lists}
+use Rattle.kernel_model.specs.Kernel.{Process, Living, Ended, Gone, Parent, parent_if, parent_in}
+use Rattle.mono_kernel.proofs.MapLemmas.{IsRising, cmp-same, equal-same, less-none, greater-differs, get-rest}
+
+-- a living process lists the child
+abbrev pub Lists : Numbered Process → ℕ → ℕ → Type 0
+Lists ps child q = (b : Alive) × (get ps q ≡ Some (Living b)) × (lists b.row.family child ≡ true)
+
+get-first : (e : ℕ × Process) (es : Numbered Process) → get (e ∷ es) e.0 ≡ Some e.1
+get-first e es = rw (cmp-same e.0)
+
+-- a process that lists the child is its parent, and else the rest decides
+passed : (child n : ℕ) (p : Process) (rest : Option Parent) → ((b : Alive) → p ≡ Living b → lists b.row.family child ≡ true → ⊥)
+    → parent_if child n p rest ≡ rest
+passed child n (Living alive) rest not_it = at (lists alive.row.family child) refl
+  where
+    at : (b : Bool) → lists alive.row.family child ≡ b → cond b (Some (record { pid = n; alive = alive })) rest ≡ rest
+    at true h = absurd (not_it alive refl h)
+    at false h = refl
+passed child n (Ended ending) rest not_it = refl
+passed child n Gone rest not_it = refl
+
+pub parent-none : (ps : Numbered Process) (child : ℕ) → IsRising ps → ((q : ℕ) → Lists ps child q → ⊥) → parent_in child ps ≡ None
+parent-none [] child rising none = refl
+parent-none (e ∷ es) child rising none =
+    passed child e.0 e.1 (parent_in child es) (λ b is it. none e.0 (b, get-first e es ∙ ap Some is, it))
+    ∙ parent-none es child (sorted_tail nat_cmp e.0 (keys_of es) rising) (λ q l. none q (l.0, get-rest e es q (Living l.0) rising l.1, l.2))
+
+found : (child p : ℕ) (a : Alive) (e : ℕ × Process) (es : Numbered Process) (o : Ordering) → nat_cmp p e.0 ≡ o → IsRising (e ∷ es)
+    → get (e ∷ es) p ≡ Some (Living a) → lists a.row.family child ≡ true → ((q : ℕ) → Lists (e ∷ es) child q → q ≡ p)
+    → (get es p ≡ Some (Living a) → parent_in child es ≡ Some (record { pid = p; alive = a }))
+    → parent_if child e.0 e.1 (parent_in child es) ≡ Some (record { pid = p; alive = a })
+found child p a e es Less h rising there it only rec =
+    let none : get (e ∷ es) p ≡ None = less-none p e es rising h in absurd (cc)
+found child p a e es Equal h rising there it only rec =
+    let here : Some e.1 ≡ Some (Living a) = rw h at there
+    in let is : e.1 ≡ Living a = cc
+    in let num : e.0 ≡ p = sym (equal-same p e.0 h)
+    in rw (is, it, num)
+found child p a e es Greater h rising there it only rec =
+    let later : get es p ≡ Some (Living a) = rw h at there
+    in passed child e.0 e.1 (parent_in child es) (λ b is lists_it. greater-differs p e.0 h (only e.0 (b, get-first e es ∙ ap Some is, lists_it))) ∙ rec later
+
+pub parent-one : (ps : Numbered Process) (child p : ℕ) (a : Alive) → IsRising ps → get ps p ≡ Some (Living a) → lists a.row.family child ≡ true
+    → ((q : ℕ) → Lists ps child q → q ≡ p) → parent_in child ps ≡ Some (record { pid = p; alive = a })
+parent-one [] child p a rising there it only = absurd (cc)
+parent-one (e ∷ es) child p a rising there it only =
+    found child p a e es (nat_cmp p e.0) refl rising there it only
+    (λ later. parent-one es child p a (sorted_tail nat_cmp e.0 (keys_of es) rising) later it
+       (λ q l. only q (l.0, get-rest e es q (Living l.0) rising l.1, l.2)))
