@@ -12,6 +12,7 @@ use Rattle.std.specs.Cmp.{nat_cmp_total}
 use Rattle.std.proofs.lemmas.Map.{NonePasses, lookup-none}
 use Rattle.std.proofs.lemmas.Map.Entries.{none_below_head}
 use Rattle.std.proofs.lemmas.Map.Keys.{sorted_head, sorted_tail}
+use Rattle.mono_kernel.specs.Names.{IsRising}
 use Rattle.kernel_model.specs.Maps.{Numbered, get, put, without, is_used, used_with}
 
 -- the order of two numbers
@@ -36,10 +37,6 @@ greater-differs a b h same = grind arith
 
 pub same-from-nat_eq : (a b : ℕ) → nat_eq a b ≡ true → a ≡ b
 same-from-nat_eq a b h = grind arith
-
--- by rising number
-abbrev pub IsRising : {V : Type 0} → Numbered V → Type 0
-IsRising m = IsStrictlySortedBy nat_cmp (keys_of m)
 
 module _ {V : Type 0} where
   -- a look-up after a change
@@ -180,3 +177,32 @@ taken_back n x xs rest Greater h new rec =
 pub remove-used : (used : List ℕ) (n : ℕ) → is_used used n ≡ false → remove_key (is_at (nat_cmp n)) (used_with used n) ≡ used
 remove-used [] n new = rw (cmp-same n)
 remove-used (x ∷ xs) n new = taken_back n x xs (used_with xs n) (nat_cmp n x) refl new (remove-used xs n)
+
+-- what is used stays used, and the new number is
+
+grown : (n q x : ℕ) (xs rest : List ℕ) (o : Ordering) → nat_cmp n x ≡ o → (nat_eq q n ≡ true) ⊎ ((nat_eq q x || is_used xs q) ≡ true)
+    → ((nat_eq q n ≡ true) ⊎ (is_used xs q ≡ true) → is_used rest q ≡ true)
+    → is_used (match_ordering o (n ∷ x ∷ xs) (x ∷ xs) (x ∷ rest)) q ≡ true
+grown n q x xs rest Less h (inl same) rec = rw same
+grown n q x xs rest Less h (inr there) rec = rw there (either (nat_eq q n))
+  where
+    either : (b : Bool) → (b || true) ≡ true
+    either true = refl
+    either false = refl
+grown n q x xs rest Equal h (inl same) rec = rw (← equal-same n x h, same)
+grown n q x xs rest Equal h (inr there) rec = there
+grown n q x xs rest Greater h (inl same) rec = rw (rec (inl same)) (either (nat_eq q x))
+  where
+    either : (b : Bool) → (b || true) ≡ true
+    either true = refl
+    either false = refl
+grown n q x xs rest Greater h (inr there) rec = at (nat_eq q x) refl
+  where
+    at : (b : Bool) → nat_eq q x ≡ b → (nat_eq q x || is_used rest q) ≡ true
+    at true is = rw is
+    at false is = let later : is_used xs q ≡ true = rw is at there in rw is (rec (inr later))
+
+pub used-with : (used : List ℕ) (n q : ℕ) → (nat_eq q n ≡ true) ⊎ (is_used used q ≡ true) → is_used (used_with used n) q ≡ true
+used-with [] n q (inl same) = rw same
+used-with [] n q (inr there) = absurd (cc)
+used-with (x ∷ xs) n q h = grown n q x xs (used_with xs n) (nat_cmp n x) refl h (used-with xs n q)

@@ -7,7 +7,8 @@ use Rattle.std.proofs.lemmas.Map.Keys.{sorted_tail}
 use Rattle.kernel_model.specs.Maps.{Numbered, get}
 use Rattle.kernel_model.specs.Row.{Alive, lists}
 use Rattle.kernel_model.specs.Kernel.{Process, Living, Ended, Gone, Parent, parent_if, parent_in}
-use Rattle.mono_kernel.proofs.MapLemmas.{IsRising, cmp-same, equal-same, less-none, greater-differs, get-rest}
+use Rattle.mono_kernel.specs.Names.{IsRising}
+use Rattle.mono_kernel.proofs.MapLemmas.{cmp-same, equal-same, less-none, greater-differs, get-rest}
 
 -- a living process lists the child
 abbrev pub Lists : Numbered Process → ℕ → ℕ → Type 0

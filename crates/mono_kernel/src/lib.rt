@@ -3,6 +3,7 @@
 #![tactic(auto)]
 
 mod family;
+mod names;
 mod queue;
 mod semaphores;
 mod signals;
