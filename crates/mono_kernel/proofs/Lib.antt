@@ -1,8 +1,12 @@
+pub mod EndLemmas
 pub mod FamilyLemmas
 pub mod KeyLemmas
+pub mod LandLemmas
 pub mod MapLemmas
 pub mod NameLemmas
 pub mod ParentLemmas
 pub mod QueueLemmas
+pub mod ResultLemmas
 pub mod SetLemmas
+pub mod TableLemmas
 pub mod TrialLemmas

@@ -1,13 +1,15 @@
 -- The parent of a process, found by its number.
 use Rattle.std.proofs.Common.{◌≡◌, ◌∙◌, ℕ, Bool, true, false, cond, List, [], ◌∷◌, Option, Some, None, refl, sym, ap, Ordering}
 use Rattle.std.specs.declared.cmp.Ordering.TheVariants.{Less, Equal, Greater}
+use Rattle.std.specs.Option.{option_map, option_map_or, option_and_then}
 use Rattle.std.specs.Ordering.{nat_cmp}
 use Rattle.std.specs.Map.{keys_of}
 use Rattle.std.proofs.lemmas.Map.Keys.{sorted_tail}
 use Rattle.kernel_model.specs.Maps.{Numbered, get}
 use Rattle.kernel_model.specs.Row.{Alive, lists}
-use Rattle.kernel_model.specs.Kernel.{Process, Living, Ended, Gone, Parent, parent_if, parent_in}
+use Rattle.kernel_model.specs.Kernel.{Process, Living, Ended, Gone, Parent, alive_in, living_in, parent_if, parent_in}
 use Rattle.mono_kernel.specs.Names.{IsRising}
+use Rattle.mono_kernel.specs.Table.{IsTable, lists_there, parent_number}
 use Rattle.mono_kernel.proofs.MapLemmas.{cmp-same, equal-same, less-none, greater-differs, get-rest}
 
 -- a living process lists the child
@@ -56,3 +58,53 @@ parent-one (e ∷ es) child p a rising there it only =
     found child p a e es (nat_cmp p e.0) refl rising there it only
     (λ later. parent-one es child p a (sorted_tail nat_cmp e.0 (keys_of es) rising) later it
        (λ q l. only q (l.0, get-rest e es q (Living l.0) rising l.1, l.2)))
+
+-- The parent found by the note of parents.
+
+living-get : (ps : Numbered Process) (q : ℕ) (b : Alive) → get ps q ≡ Some (Living b) → living_in ps q ≡ Some b
+living-get ps q b there = ap (option_and_then alive_in) there
+
+get-living : (ps : Numbered Process) (q : ℕ) (b : Alive) → living_in ps q ≡ Some b → get ps q ≡ Some (Living b)
+get-living ps q b lives = at (get ps q) refl
+  where
+    at : (o : Option Process) → get ps q ≡ o → o ≡ Some (Living b)
+    at None is = let none : None ≡ Some b = rw is at lives in absurd (cc)
+    at (Some (Living a)) is = let same : Some a ≡ Some b = rw is at lives in cc
+    at (Some (Ended ending)) is = let none : None ≡ Some b = rw is at lives in absurd (cc)
+    at (Some Gone) is = let none : None ≡ Some b = rw is at lives in absurd (cc)
+
+noted : (ps : Numbered Process) (parents : Numbered ℕ) (child q : ℕ) → IsTable ps parents → Lists ps child q → get parents child ≡ Some q
+noted ps parents child q t l = t.parent q child l.0 (living-get ps q l.0 l.1) l.2
+
+pub parent_number-none : (ps : Numbered Process) (parents : Numbered ℕ) (child : ℕ) → IsTable ps parents → get parents child ≡ None
+    → parent_number ps child ≡ None
+parent_number-none ps parents child t none =
+    ap (option_map (λ p. p.pid))
+    (parent-none ps child t.rising (λ q l. let some : get parents child ≡ Some q = noted ps parents child q t l in cc))
+
+listing : (ps : Numbered Process) (p child : ℕ) → lists_there ps p child ≡ true → Lists ps child p
+listing ps p child h = at (living_in ps p) refl h
+  where
+    at : (o : Option Alive) → living_in ps p ≡ o → option_map_or (λ a. lists a.row.family child) o false ≡ true → Lists ps child p
+    at None is g = absurd (cc)
+    at (Some a) is g = (a, get-living ps p a is, g)
+
+pub parent_number-one : (ps : Numbered Process) (parents : Numbered ℕ) (child p : ℕ) → IsTable ps parents → get parents child ≡ Some p
+    → lists_there ps p child ≡ true → parent_number ps child ≡ Some p
+parent_number-one ps parents child p t here h =
+    let l = listing ps p child h
+    in ap (option_map (λ x. x.pid))
+       (parent-one ps child p l.0 t.rising l.1 l.2
+         (λ q other. let there : get parents child ≡ Some q = noted ps parents child q t other in cc))
+
+pub parent_number-stale : (ps : Numbered Process) (parents : Numbered ℕ) (child p : ℕ) → IsTable ps parents → get parents child ≡ Some p
+    → lists_there ps p child ≡ false → parent_number ps child ≡ None
+parent_number-stale ps parents child p t here h =
+    ap (option_map (λ x. x.pid)) (parent-none ps child t.rising (λ q l. no q l))
+  where
+    no : (q : ℕ) → Lists ps child q → ⊥
+    no q l =
+        let there : get parents child ≡ Some q = noted ps parents child q t l
+        in let same : q ≡ p = cc
+        in let yes : lists_there ps p child ≡ true = rw (← same, living-get ps q l.0 l.1) l.2
+        in cc

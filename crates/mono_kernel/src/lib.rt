@@ -4,6 +4,8 @@
 
 mod family;
 mod names;
+mod process;
+mod processes;
 mod queue;
 mod semaphores;
 mod signals;
