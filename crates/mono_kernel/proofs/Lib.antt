@@ -1,4 +1,5 @@
 pub mod EndLemmas
+pub mod EndedLemmas
 pub mod FamilyLemmas
 pub mod KeyLemmas
 pub mod LandLemmas

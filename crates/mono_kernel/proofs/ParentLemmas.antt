@@ -1,5 +1,5 @@
 -- The parent of a process, found by its number.
-use Rattle.std.proofs.Common.{◌≡◌, ◌∙◌, ℕ, Bool, true, false, cond, List, [], ◌∷◌, Option, Some, None, refl, sym, ap, Ordering}
+use Rattle.std.proofs.Common.{◌≡◌, ◌∙◌, ℕ, Bool, true, false, cond, nat_eq, List, [], ◌∷◌, Option, Some, None, refl, sym, ap, Ordering, arith}
 use Rattle.std.specs.declared.cmp.Ordering.TheVariants.{Less, Equal, Greater}
 use Rattle.std.specs.Option.{option_map, option_map_or, option_and_then}
 use Rattle.std.specs.Ordering.{nat_cmp}
@@ -9,7 +9,7 @@ use Rattle.kernel_model.specs.Maps.{Numbered, get}
 use Rattle.kernel_model.specs.Row.{Alive, lists}
 use Rattle.kernel_model.specs.Kernel.{Process, Living, Ended, Gone, Parent, alive_in, living_in, parent_if, parent_in}
 use Rattle.mono_kernel.specs.Names.{IsRising}
-use Rattle.mono_kernel.specs.Table.{IsTable, lists_there, parent_number}
+use Rattle.mono_kernel.specs.Table.{IsTable, lists_there, parent_number, parent_at, as_parent}
 use Rattle.mono_kernel.proofs.MapLemmas.{cmp-same, equal-same, less-none, greater-differs, get-rest}
 
 -- a living process lists the child
@@ -76,11 +76,10 @@ get-living ps q b lives = at (get ps q) refl
 noted : (ps : Numbered Process) (parents : Numbered ℕ) (child q : ℕ) → IsTable ps parents → Lists ps child q → get parents child ≡ Some q
 noted ps parents child q t l = t.parent q child l.0 (living-get ps q l.0 l.1) l.2
 
-pub parent_number-none : (ps : Numbered Process) (parents : Numbered ℕ) (child : ℕ) → IsTable ps parents → get parents child ≡ None
-    → parent_number ps child ≡ None
-parent_number-none ps parents child t none =
-    ap (option_map (λ p. p.pid))
-    (parent-none ps child t.rising (λ q l. let some : get parents child ≡ Some q = noted ps parents child q t l in cc))
+pub parent_in-none : (ps : Numbered Process) (parents : Numbered ℕ) (child : ℕ) → IsTable ps parents → get parents child ≡ None
+    → parent_in child ps ≡ None
+parent_in-none ps parents child t none =
+    parent-none ps child t.rising (λ q l. let some : get parents child ≡ Some q = noted ps parents child q t l in cc)
 
 listing : (ps : Numbered Process) (p child : ℕ) → lists_there ps p child ≡ true → Lists ps child p
 listing ps p child h = at (living_in ps p) refl h
@@ -89,18 +88,23 @@ listing ps p child h = at (living_in ps p) refl h
     at None is g = absurd (cc)
     at (Some a) is g = (a, get-living ps p a is, g)
 
+pub parent_in-one : (ps : Numbered Process) (parents : Numbered ℕ) (child p : ℕ) → IsTable ps parents → get parents child ≡ Some p
+    → lists_there ps p child ≡ true → parent_in child ps ≡ parent_at ps (Some p)
+parent_in-one ps parents child p t here h =
+    let l = listing ps p child h
+    in parent-one ps child p l.0 t.rising l.1 l.2
+         (λ q other. let there : get parents child ≡ Some q = noted ps parents child q t other in cc)
+       ∙ sym (ap (option_map (as_parent p)) (living-get ps p l.0 l.1))
+
 pub parent_number-one : (ps : Numbered Process) (parents : Numbered ℕ) (child p : ℕ) → IsTable ps parents → get parents child ≡ Some p
     → lists_there ps p child ≡ true → parent_number ps child ≡ Some p
 parent_number-one ps parents child p t here h =
     let l = listing ps p child h
-    in ap (option_map (λ x. x.pid))
-       (parent-one ps child p l.0 t.rising l.1 l.2
-         (λ q other. let there : get parents child ≡ Some q = noted ps parents child q t other in cc))
+    in rw (parent_in-one ps parents child p t here h) (ap (λ (o : Option Alive). option_map (λ x. x.pid) (option_map (as_parent p) o)) (living-get ps p l.0 l.1))
 
-pub parent_number-stale : (ps : Numbered Process) (parents : Numbered ℕ) (child p : ℕ) → IsTable ps parents → get parents child ≡ Some p
-    → lists_there ps p child ≡ false → parent_number ps child ≡ None
-parent_number-stale ps parents child p t here h =
-    ap (option_map (λ x. x.pid)) (parent-none ps child t.rising (λ q l. no q l))
+pub parent_in-stale : (ps : Numbered Process) (parents : Numbered ℕ) (child p : ℕ) → IsTable ps parents → get parents child ≡ Some p
+    → lists_there ps p child ≡ false → parent_in child ps ≡ None
+parent_in-stale ps parents child p t here h = parent-none ps child t.rising (λ q l. no q l)
   where
     no : (q : ℕ) → Lists ps child q → ⊥
     no q l =
@@ -108,3 +112,12 @@ parent_number-stale ps parents child p t here h =
         in let same : q ≡ p = cc
         in let yes : lists_there ps p child ≡ true = rw (← same, living-get ps q l.0 l.1) l.2
         in cc
+
+-- a listed child isn't its own parent
+pub apart-listed : (ps : Numbered Process) (parents : Numbered ℕ) (child p : ℕ) → IsTable ps parents → lists_there ps p child ≡ true
+    → nat_eq p child ≡ false
+apart-listed ps parents child p t h =
+    let l = listing ps p child h in flip child p (t.listed p child l.0 (living-get ps p l.0 l.1) l.2).1
+  where
+    flip : (a b : ℕ) → nat_eq a b ≡ false → nat_eq b a ≡ false
+    flip a b g = grind arith

@@ -217,3 +217,154 @@ IsTable-ended_child ps ns parents pid c ending t lives listed ended is rising = 
             → (keeps a.row.family child ≡ true) ⊎ ((is_some (get ps child) ≡ true) × (living_in ps child ≡ None))
         from (inl k) = inl k
         from (inr same) = inr (rw same ((t.listed pid c a here l).0), rw same ended)
+
+-- a new process
+
+pub IsTable-stale : (ps : Numbered Process) (parents : Numbered ℕ) (n pid : ℕ) → IsTable ps parents → get ps n ≡ None
+    → IsTable ps (put parents n pid)
+IsTable-stale ps parents n pid t fresh =
+    record {
+      rising = t.rising;
+      parent = λ p child a lives it. at p child a lives it (nat_eq child n) refl;
+      listed = t.listed;
+      kept = t.kept;
+    }
+  where
+    at : (p child : ℕ) (a : Alive) → living_in ps p ≡ Some a → lists a.row.family child ≡ true → (b : Bool) → nat_eq child n ≡ b
+        → get (put parents n pid) child ≡ Some p
+    at p child a lives it true is =
+        let there : is_some (get ps n) ≡ true = rw (← same-from-nat_eq child n is) ((t.listed p child a lives it).0)
+        in let none : false ≡ true = rw fresh at there in absurd (cc)
+    at p child a lives it false is = get-put_other parents n child pid is ∙ t.parent p child a lives it
+
+module _ (ps : Numbered Process) (parents : Numbered ℕ) (n pid : ℕ) (a : Alive) (t : IsTable ps parents)
+    (here : living_in ps pid ≡ Some a) (fresh : get ps n ≡ None) where
+  forked_table : Numbered Process
+  forked_table = put (put ps n (Living (new_child a))) pid (Living (forking a n))
+
+  absent : (q : ℕ) → is_some (get ps q) ≡ true → nat_eq q n ≡ false
+  absent q there = at (nat_eq q n) refl
+    where
+      at : (b : Bool) → nat_eq q n ≡ b → nat_eq q n ≡ false
+      at true is =
+          let some : is_some (get ps n) ≡ true = rw (← same-from-nat_eq q n is) there
+          in let no : false ≡ true = rw fresh at some in absurd (cc)
+      at false is = is
+
+  flip : (x y : ℕ) → nat_eq x y ≡ false → nat_eq y x ≡ false
+  flip x y g = grind arith
+
+  caller_apart : nat_eq n pid ≡ false
+  caller_apart = flip pid n (absent pid (there-living ps pid a here))
+
+  there-forked : (q : ℕ) → is_some (get ps q) ≡ true → is_some (get forked_table q) ≡ true
+  unfolding forked_table
+  there-forked q there = there-put (put ps n (Living (new_child a))) pid q (Living (forking a n)) (there-put ps n q (Living (new_child a)) there)
+
+  new-there : is_some (get forked_table n) ≡ true
+  unfolding forked_table
+  new-there = there-put (put ps n (Living (new_child a))) pid n (Living (forking a n)) (ap is_some (get-put_same ps n (Living (new_child a))))
+
+  others-live : (q : ℕ) → nat_eq q pid ≡ false → nat_eq q n ≡ false → living_in forked_table q ≡ living_in ps q
+  unfolding forked_table
+  others-live q p r = living-put_other (put ps n (Living (new_child a))) pid q (Living (forking a n)) p ∙ living-put_other ps n q (Living (new_child a)) r
+
+  caller-lives : living_in forked_table pid ≡ Some (forking a n)
+  unfolding forked_table
+  caller-lives = living-put_same (put ps n (Living (new_child a))) pid (Living (forking a n))
+
+  child-lives : living_in forked_table n ≡ Some (new_child a)
+  unfolding forked_table
+  child-lives = living-put_other (put ps n (Living (new_child a))) pid n (Living (forking a n)) caller_apart ∙ living-put_same ps n (Living (new_child a))
+
+  still-dead : (q : ℕ) → (is_some (get ps q) ≡ true) × (living_in ps q ≡ None)
+      → (is_some (get forked_table q) ≡ true) × (living_in forked_table q ≡ None)
+  still-dead q h = (there-forked q h.0, at (nat_eq q pid) refl)
+    where
+      at : (b : Bool) → nat_eq q pid ≡ b → living_in forked_table q ≡ None
+      at true is = let some : living_in ps q ≡ Some a = rw (same-from-nat_eq q pid is) here in let dead : living_in ps q ≡ None = h.1 in absurd (cc)
+      at false is = others-live q is (absent q h.0) ∙ h.1
+
+  pushed : (child : ℕ) (xs : List ℕ) → list_any (nat_eq child) (xs ++ n ∷ []) ≡ true → (list_any (nat_eq child) xs ≡ true) ⊎ (child ≡ n)
+  pushed child [] g = inr (same-from-nat_eq child n (only (nat_eq child n) g))
+    where
+      only : (x : Bool) → (x || false) ≡ true → x ≡ true
+      only true k = refl
+      only false k = k
+  pushed child (x ∷ xs) g = first (nat_eq child x) (list_any (nat_eq child) xs) (pushed child xs) g
+    where
+      first : (y any : Bool) → (list_any (nat_eq child) (xs ++ n ∷ []) ≡ true → (any ≡ true) ⊎ (child ≡ n))
+          → (y || list_any (nat_eq child) (xs ++ n ∷ [])) ≡ true → ((y || any) ≡ true) ⊎ (child ≡ n)
+      first true any rec k = inl refl
+      first false any rec k = rec k
+
+  Fits : ℕ → ℕ → Alive → Type 0
+  Fits p child c =
+      (lists c.row.family child ≡ true → get (put parents n pid) child ≡ Some p)
+      × (lists c.row.family child ≡ true → (is_some (get forked_table child) ≡ true) × (nat_eq child p ≡ false))
+      × (keeps c.row.family child ≡ true → (is_some (get forked_table child) ≡ true) × (living_in forked_table child ≡ None))
+
+  fits-old : (p child : ℕ) (c : Alive) → living_in ps p ≡ Some c → Fits p child c
+  unfolding Fits
+  fits-old p child c lives = (
+    (λ it. get-put_other parents n child pid (absent child (t.listed p child c lives it).0) ∙ t.parent p child c lives it),
+    (λ it. let old = t.listed p child c lives it in (there-forked child old.0, old.1)),
+    (λ it. still-dead child (t.kept p child c lives it))
+  )
+
+  fits-caller : (child : ℕ) → Fits pid child (forking a n)
+  unfolding Fits
+  fits-caller child = (
+    (λ it. parent (pushed child a.row.family.living it)),
+    (λ it. listed (pushed child a.row.family.living it)),
+    (λ it. still-dead child (t.kept pid child a here it))
+  )
+    where
+      parent : (list_any (nat_eq child) a.row.family.living ≡ true) ⊎ (child ≡ n) → get (put parents n pid) child ≡ Some pid
+      parent (inl old) = get-put_other parents n child pid (absent child (t.listed pid child a here old).0) ∙ t.parent pid child a here old
+      parent (inr same) = rw same (get-put_same parents n pid)
+      listed : (list_any (nat_eq child) a.row.family.living ≡ true) ⊎ (child ≡ n) → (is_some (get forked_table child) ≡ true) × (nat_eq child pid ≡ false)
+      listed (inl old) = let o = t.listed pid child a here old in (there-forked child o.0, o.1)
+      listed (inr same) = (rw same new-there, rw same caller_apart)
+
+  fits-child : (child : ℕ) → Fits n child (new_child a)
+  unfolding Fits
+  fits-child child = ((λ it. absurd (cc)), (λ it. absurd (cc)), (λ it. absurd (cc)))
+
+  fits : (p child : ℕ) (c : Alive) → living_in forked_table p ≡ Some c → Fits p child c
+  fits p child c lives = at (nat_eq p pid) refl
+    where
+      second : (b : Bool) → nat_eq p pid ≡ false → nat_eq p n ≡ b → Fits p child c
+      second true apart is =
+          let same : p ≡ n = same-from-nat_eq p n is
+          in let new : Some (new_child a) ≡ Some c = sym child-lives ∙ (rw same at lives)
+          in let it_is : c ≡ new_child a = cc
+          in rw (same, it_is) (fits-child child)
+      second false apart is = fits-old p child c (sym (others-live p apart is) ∙ lives)
+      at : (b : Bool) → nat_eq p pid ≡ b → Fits p child c
+      at true is =
+          let same : p ≡ pid = same-from-nat_eq p pid is
+          in let new : Some (forking a n) ≡ Some c = sym caller-lives ∙ (rw same at lives)
+          in let it_is : c ≡ forking a n = cc
+          in rw (same, it_is) (fits-caller child)
+      at false is = second (nat_eq p n) is refl
+
+  pub IsTable-forked : (ns : Numbered Process) → IsRising ns
+      → IfLiving ps pid (λ b. ns ≡ put (put ps n (Living (new_child a))) pid (Living (forking b n))) → IsTable ns (put parents n pid)
+  unfolding forked_table Fits
+  IsTable-forked ns rising is =
+      let whole : ns ≡ forked_table = rw here at is
+      in rw whole
+         (record {
+           rising = rw (← whole) rising;
+           parent = λ p child c lives it. (fits p child c lives).0 it;
+           listed = λ p child c lives it. (fits p child c lives).1 it;
+           kept = λ p child c lives it. (fits p child c lives).2 it;
+         })
+
+pub there-alive : (ps : Numbered Process) (p : ℕ) → IsSome (living_in ps p) → is_some (get ps p) ≡ true
+there-alive ps p some = at (living_in ps p) refl some
+  where
+    at : (o : Option Alive) → living_in ps p ≡ o → IsSome o → is_some (get ps p) ≡ true
+    at None is h = absurd (cc)
+    at (Some a) is h = there-living ps p a is

@@ -1,11 +1,11 @@
 ghost use Rattle.std.specs.Prelude.{◌≡◌, ◌∷◌, ◌↔◌, ℕ, [], true, not, map, fold, OnOk, OnErr, IfOk, IsTrue, Some, None, IsSome, IsNone, IfSome, is_some, false, nat_eq};
 ghost use Rattle.std.specs.Option.{option_copied, option_map};
-ghost use Rattle.std.specs.List.{All};
+ghost use Rattle.std.specs.List.{All, list_any};
 ghost use Rattle.std.specs.Map.{keys_of};
-ghost use Rattle.kernel_model.specs.Maps.{get, put};
-ghost use Rattle.kernel_model.specs.Row.{Free, new_row, wait, lists, with_ended_child};
-ghost use Rattle.kernel_model.specs.Kernel.{Living, Ended, Gone, alive_in, living_in};
-ghost use Rattle.kernel_model.specs.ProcessCalls.{bury, kept_as, ended_under, forking, with_fork, with_end};
+ghost use Rattle.kernel_model.specs.Maps.{get, put, used_with};
+ghost use Rattle.kernel_model.specs.Row.{Free, new_row, wait, lists, matches, first_ended, with_ended_child};
+ghost use Rattle.kernel_model.specs.Kernel.{Living, Ended, Gone, alive_in, living_in, parent_in};
+ghost use Rattle.kernel_model.specs.ProcessCalls.{bury, kept_as, ended_under, forking, with_fork, with_end, with_reaped};
 ghost use Rattle.mono_kernel.specs.Process.{changed, CanChange, IsPlain};
 ghost use Rattle.mono_kernel.specs.Names.{IsRising};
 ghost use Rattle.mono_kernel.specs.Table.{IfLiving, lists_there, ignores_there, parent_number, parent_at, waited_as, table_after};
@@ -74,6 +74,23 @@ fn add_child_at(cells: &mut BTreeMap<u32, ProcessCell>, pid: u32, child: u32) ->
         Some(cell) => cell.add_child(child),
         None => Ok(()),
     }
+}
+
+/// A new process, which that of another number lists. A refusal changes nothing.
+fn fork_at(cells: &mut BTreeMap<u32, ProcessCell>, pid: u32, child: u32, cell: ProcessCell) -> Result<(), Memory>
+    requires lives { IsSome (living_in cells.old.entries pid) }
+    requires fresh { get cells.old.entries child ≡ None }
+    ensures ok { OnOk result (IfLiving cells.old.entries pid (λ a. cells.new.entries ≡ put (put cells.old.entries child cell) pid (Living (forking a child)))) }
+    ensures numbers { OnOk result (keys_of cells.new.entries ≡ used_with (keys_of cells.old.entries) child) }
+    ensures err { OnErr result (cells.new.entries ≡ cells.old.entries) }
+    ensures rising { IsRising cells.new.entries }
+{
+    cells.insert(child, cell)?;
+    if let Err(memory) = add_child_at(cells, pid, child) {
+        cells.remove(&child);
+        return Err(memory);
+    }
+    Ok(())
 }
 
 /// A process that has ended under a living parent.
@@ -167,7 +184,9 @@ impl Processes {
 
     /// The number of the process's parent.
     fn parent_of(&self, pid: u32) -> Option<u32>
-        ensures { result ≡ parent_number self.now pid }
+        ensures number { result ≡ parent_number self.now pid }
+        ensures parent { parent_in pid self.now ≡ parent_at self.now result }
+        ensures lists { IfSome result (λ p. (lists_there self.now p pid ≡ true) × (nat_eq p pid ≡ false)) }
     {
         let Some(parent) = self.parents.get(&pid).copied() else {
             return None;
@@ -214,5 +233,102 @@ impl Processes {
             Some(alive) => alive.ignores_children(),
             None => true,
         }
+    }
+
+    /// The ended children of the process that lives at a number.
+    fn ended_children(&self, alloc: Global, pid: u32) -> Result<Vec<(u32, Ending)>, Memory>
+        requires { IsSome (living_in self.now pid) }
+        ensures children { IfOk result (λ children. IfLiving self.now pid (λ a. children.items ≡ a.row.family.ended)) }
+        ensures ended { IfOk result (λ children. All (λ e. (is_some (get self.now e.0) ≡ true) × (living_in self.now e.0 ≡ None)) children.items) }
+    {
+        let _ = &self.cells;
+        match self.alive(pid) {
+            Some(alive) => alive.all_ended(alloc),
+            None => Ok(Vec::new(alloc)),
+        }
+    }
+
+    /// The end of a process (exit).
+    pub(crate) fn end(&mut self, alloc: Global, pid: u32, ending: Ending) -> Result<(), Memory>
+        requires { IsSome (living_in self.old pid) }
+        ensures ended { OnOk result (IfLiving self.old pid (λ a. self.new ≡ with_end self.old pid a ending)) }
+        ensures err { OnErr result (self.new ≡ self.old) }
+        ensures same_numbers { keys_of self.new ≡ keys_of self.old }
+    {
+        let children = self.ended_children(alloc, pid)?;
+        let parent = self.parent_of(pid);
+        self.bury(children.as_slice());
+        self.leave(pid, ending, parent);
+        Ok(())
+    }
+
+    /// The first ended child that is waited for, with its ending.
+    fn ended_child(&self, pid: u32, which: Option<u32>) -> Option<(u32, Ending)>
+        requires { IsSome (living_in self.now pid) }
+        ensures child { IfLiving self.now pid (λ a. result ≡ first_ended which a.row.family.ended) }
+        ensures there { IfSome result (λ e. is_some (get self.now e.0) ≡ true) }
+    {
+        let _ = &self.cells;
+        match self.alive(pid) {
+            Some(alive) => alive.first_ended(which),
+            None => None,
+        }
+    }
+
+    /// Whether a living child is waited for.
+    fn awaits(&self, pid: u32, which: Option<u32>) -> bool
+        requires { IsSome (living_in self.now pid) }
+        ensures { IfLiving self.now pid (λ a. result ≡ list_any (matches which) a.row.family.living) }
+    {
+        match self.alive(pid) {
+            Some(alive) => alive.awaits(which),
+            None => false,
+        }
+    }
+
+    /// The ended child is gone.
+    fn reap(&mut self, pid: u32, child: u32)
+        requires lives { IsSome (living_in self.old pid) }
+        requires there { IsSome (get self.old child) }
+        ensures reaped { IfLiving self.old pid (λ a. self.new ≡ with_reaped self.old pid a child) }
+        ensures same_numbers { keys_of self.new ≡ keys_of self.old }
+    {
+        self.change(pid, Change::Reap { child });
+        self.settle(child, ProcessCell::gone());
+    }
+
+    /// waitpid without waiting: an ended child, none yet, or ECHILD.
+    pub(crate) fn wait(&mut self, pid: u32, which: Option<u32>) -> Result<Option<(u32, Ending)>, Errno>
+        requires { IsSome (living_in self.old pid) }
+        ensures answer { IfLiving self.old pid (λ a. result ≡ waited_as (wait a.row.family which)) }
+        ensures table { IfLiving self.old pid (λ a. self.new ≡ table_after self.old pid a (wait a.row.family which)) }
+        ensures same_numbers { keys_of self.new ≡ keys_of self.old }
+    {
+        if let Some((child, ending)) = self.ended_child(pid, which) {
+            self.reap(pid, child);
+            return Ok(Some((child, ending)));
+        }
+        if self.awaits(pid, which) {
+            Ok(None)
+        } else {
+            Err(Errno::Echild)
+        }
+    }
+
+    /// fork: a new process, which the caller lists. A refusal changes nothing.
+    pub(crate) fn fork(&mut self, alloc: Global, pid: u32, child: u32) -> Result<(), Memory>
+        requires lives { IsSome (living_in self.old pid) }
+        requires fresh { get self.old child ≡ None }
+        ensures forked { OnOk result (IfLiving self.old pid (λ a. self.new ≡ with_fork self.old pid a child)) }
+        ensures numbers { OnOk result (keys_of self.new ≡ used_with (keys_of self.old) child) }
+        ensures err { OnErr result (self.new ≡ self.old) }
+    {
+        let Some(parent) = self.alive(pid) else {
+            return Ok(());
+        };
+        let cell = ProcessCell::living(parent.new_child(alloc));
+        self.parents.insert(child, pid)?;
+        fork_at(&mut self.cells, pid, child, cell)?;
+        Ok(())
     }
 }
