@@ -9,5 +9,6 @@ pub mod ParentLemmas
 pub mod QueueLemmas
 pub mod ResultLemmas
 pub mod SetLemmas
+pub mod StepLemmas
 pub mod TableLemmas
 pub mod TrialLemmas

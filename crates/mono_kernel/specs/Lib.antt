@@ -1,3 +1,4 @@
+pub mod Answers
 pub mod Cell
 pub mod Change
 pub mod Counted

@@ -3,6 +3,8 @@
 #![tactic(auto)]
 
 mod family;
+mod fault;
+mod maps;
 mod names;
 mod process;
 mod processes;
