@@ -1,6 +1,7 @@
 pub mod EndLemmas
 pub mod EndedLemmas
 pub mod FamilyLemmas
+pub mod FreshLemmas
 pub mod KeyLemmas
 pub mod LandLemmas
 pub mod MapLemmas
@@ -9,6 +10,7 @@ pub mod ParentLemmas
 pub mod QueueLemmas
 pub mod ResultLemmas
 pub mod SetLemmas
+pub mod SignalLemmas
 pub mod StepLemmas
 pub mod TableLemmas
 pub mod TrialLemmas

@@ -1,5 +1,5 @@
 -- What a call's answer says of the kernel before and after it.
-use Rattle.std.specs.Prelude.{◌≡◌, ℕ, Option, Some, None, IsSome, Result, Ok, Err}
+use Rattle.std.specs.Prelude.{◌≡◌, ℕ, Option, Some, None, IsSome, if◌then◌else◌, nat_eq, Result, Ok, Err}
 use Rattle.std.specs.Option.{option_map}
 use Rattle.pico_base.specs.declared.reply.Reply.{Reply}
 use Rattle.pico_base.specs.declared.reply.Reply.TheVariants.{Num, Fail, Message}
@@ -7,7 +7,11 @@ use Rattle.pico_base.specs.declared.reply.Errno.{Errno}
 use Rattle.pico_base.specs.declared.reply.Errno.TheVariants.{Einval}
 use Rattle.kernel_model.specs.Maps.{Numbered, get, put}
 use Rattle.kernel_model.specs.Queue.{Queue, Received}
-use Rattle.kernel_model.specs.Kernel.{Kernel}
+use Rattle.pico_base.specs.declared.signal.Sig.{Sig}
+use Rattle.kernel_model.specs.Signals.{raise}
+use Rattle.kernel_model.specs.Row.{Alive, raised_at}
+use Rattle.kernel_model.specs.Kernel.{Kernel, with_alive}
+use Rattle.kernel_model.specs.ProcessCalls.{with_signals}
 use Rattle.kernel_model.specs.Effect.{Effect}
 use Rattle.mono_kernel.specs.declared.fault.CallFault.{CallFault}
 use Rattle.mono_kernel.specs.declared.fault.CallFault.TheVariants.{Memory, NotAllowed}
@@ -41,3 +45,10 @@ Receives step old id new reply = ReceivedBy (option_map step (get old id)) old i
 abbrev pub answered : {U : Type 0} → Result U Errno → Reply
 answered (Ok u) = Num 0
 answered (Err e) = Fail e
+
+-- the kernel after a signal to a living process: its own, or another's
+abbrev pub signalled_kernel : Kernel → ℕ → ℕ → Alive → Sig → Kernel
+signalled_kernel k caller pid target g =
+    if nat_eq caller pid
+    then with_signals k pid target (raise target.row.signals g)
+    else with_alive k pid (raised_at target g)

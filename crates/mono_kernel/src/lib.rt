@@ -4,6 +4,7 @@
 
 mod family;
 mod fault;
+mod kernel;
 mod maps;
 mod names;
 mod process;
@@ -11,3 +12,6 @@ mod processes;
 mod queue;
 mod semaphores;
 mod signals;
+
+pub use fault::CallFault;
+pub use kernel::Kernel;
