@@ -52,3 +52,8 @@ signalled_kernel k caller pid target g =
     if nat_eq caller pid
     then with_signals k pid target (raise target.row.signals g)
     else with_alive k pid (raised_at target g)
+
+-- the reply of a look
+abbrev pub reply_to : Result ℕ Errno → Reply
+reply_to (Ok n) = Num n
+reply_to (Err e) = Fail e

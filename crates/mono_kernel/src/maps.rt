@@ -1,4 +1,5 @@
 ghost use Rattle.std.specs.Prelude.{◌≡◌, IfOk, OnErr, is_some};
+ghost use Rattle.std.specs.Bool.{OnFalse};
 ghost use Rattle.kernel_model.specs.Maps.{get, without};
 ghost use Rattle.kernel_model.specs.Queue.{send, receive, set_qbytes};
 ghost use Rattle.kernel_model.specs.SemaphoreSet.{op, set_value, set_all};
@@ -95,6 +96,7 @@ pub(crate) fn set_all_at(sets: &mut Sets, id: u32, values: &[u32]) -> Reply
 pub(crate) fn remove_at<T: Drop>(things: &mut BTreeMap<u32, T>, id: u32) -> bool
     ensures removed { things.new.entries ≡ without things.old.entries id }
     ensures there { result ≡ is_some (get things.old.entries id) }
+    ensures unchanged { OnFalse result (things.new.entries ≡ things.old.entries) }
 {
     let held = things.len();
     things.remove(&id);

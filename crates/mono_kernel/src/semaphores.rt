@@ -1,6 +1,6 @@
 ghost use Rattle.std.specs.Prelude.{◌≡◌, ◌<◌, length, map, replicate, fold, MatchResult, Ok, Err, Some, IfOk, OnErr, nat_le, nat_lt, vec_len};
 ghost use Rattle.std.specs.List.{All, list_any};
-ghost use Rattle.kernel_model.specs.SemaphoreSet.{max_value, is_bad_count, new_semaphore, values_of, moved_by, try_ops, Done, with_values, marked, op, value_at, last_at, set_value, set_all};
+ghost use Rattle.kernel_model.specs.SemaphoreSet.{max_value, is_bad_count, new_semaphore, values_of, moved_by, try_ops, Done, with_values, marked, op, value_at, last_at, waiting_at, set_value, set_all};
 ghost use Rattle.mono_kernel.specs.Trial.{answer_of, stopped};
 
 use pico_base::{Errno, Memory, SemStep, Values};
@@ -181,6 +181,17 @@ impl SemaphoreSet {
         match self.semaphores.get(usize::from(num)) {
             Some(semaphore) => Ok(semaphore.last),
             None => Err(Errno::Einval),
+        }
+    }
+
+    /// semctl with GETNCNT and GETZCNT, refused likewise: nobody waits.
+    pub(crate) fn waiting(&self, num: u16) -> Result<u32, Errno>
+        ensures { result ≡ waiting_at self.now num }
+    {
+        if usize::from(num) < self.semaphores.len() {
+            Ok(0)
+        } else {
+            Err(Errno::Einval)
         }
     }
 
