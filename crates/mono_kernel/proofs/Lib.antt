@@ -1,3 +1,4 @@
+pub mod CallLemmas
 pub mod EndLemmas
 pub mod EndedLemmas
 pub mod FamilyLemmas

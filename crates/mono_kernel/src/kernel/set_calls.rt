@@ -12,7 +12,7 @@ use crate::fault::CallFault;
 use crate::kernel::Kernel;
 use crate::maps::{op_at, remove_at, set_all_at, set_value_at};
 use crate::semaphores::{SemaphoreSet, is_bad_size};
-use pico_base::{Errno, Key, Memory, Reply, SemStep};
+use pico_base::{Errno, Key, Memory, Reply, SemStep, Steps, Values};
 
 /// The reply of a look at a set.
 fn looked(found: Result<u32, Errno>) -> Reply
@@ -100,9 +100,10 @@ impl Kernel {
     }
 
     /// semop: EINVAL, E2BIG, EFBIG, EAGAIN or ERANGE. NotAllowed where an operation may have to wait.
-    pub(super) fn operate(&mut self, pid: u32, id: u32, steps: &[SemStep]) -> Result<Reply, CallFault>
+    pub(super) fn operate(&mut self, pid: u32, id: u32, steps: &Steps) -> Result<Reply, CallFault>
         ensures { Answers (operated self.old pid id steps.now) result self.old self.new }
     {
+        let steps = steps.as_slice();
         if waits(steps) {
             return Err(CallFault::NotAllowed);
         }
@@ -159,11 +160,11 @@ impl Kernel {
     }
 
     /// semctl with SETALL: EINVAL or ERANGE.
-    pub(super) fn set_all(&mut self, id: u32, values: &[u32]) -> Reply
+    pub(super) fn set_all(&mut self, id: u32, values: &Values) -> Reply
         ensures { on_named self.old (get self.old.sets id) (λ s. changed_set self.old id (set_all s values.now))
             ≡ record { kernel = self.new; reply = result } }
     {
-        set_all_at(&mut self.sets, id, values)
+        set_all_at(&mut self.sets, id, values.as_slice())
     }
 
     /// semctl with IPC_RMID: EINVAL.
