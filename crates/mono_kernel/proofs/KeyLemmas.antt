@@ -1,0 +1,59 @@
+-- A key table without an identifier.
+use Rattle.std.proofs.Common.{◌≡◌, ◌≢◌, ◌∙◌, ℕ, Bool, true, false, cond, not, nat_eq, List, [], ◌∷◌, Option, Some, None, refl, sym, ap, Ordering, arith}
+use Rattle.std.specs.declared.cmp.Ordering.TheVariants.{Less, Equal, Greater}
+use Rattle.std.specs.List.{filter}
+use Rattle.std.specs.Ordering.{nat_cmp}
+use Rattle.std.specs.Map.{remove_entry, keys_of}
+use Rattle.std.specs.BTreeMap.{is_at}
+use Rattle.std.proofs.lemmas.Map.Keys.{sorted_head, sorted_tail}
+use Rattle.kernel_model.specs.Maps.{Numbered, get}
+use Rattle.kernel_model.specs.QueueCalls.{unbound}
+use Rattle.mono_kernel.specs.Names.{IsRising, LeadsNowhere, LeadsOnly}
+use Rattle.mono_kernel.proofs.MapLemmas.{cmp-same, is_at-nat_eq, equal-same, same-from-nat_eq, less-none, past-none, greater-differs, get-rest}
+
+get-first : (e : ℕ × ℕ) (es : Numbered ℕ) → get (e ∷ es) e.0 ≡ Some e.1
+get-first e es = rw (cmp-same e.0)
+
+kept : (id : ℕ) (e : ℕ × ℕ) (es : Numbered ℕ) (b : Bool) → nat_eq e.1 id ≡ b → (e.1 ≡ id → ⊥) → unbound es id ≡ es
+    → cond (not b) (e ∷ unbound es id) (unbound es id) ≡ e ∷ es
+kept id e es true h other rec = absurd (other (same-from-nat_eq e.1 id h))
+kept id e es false h other rec = ap (λ (xs : Numbered ℕ). e ∷ xs) rec
+
+pub unbound-none : (keys : Numbered ℕ) (id : ℕ) → IsRising keys → LeadsNowhere keys id → unbound keys id ≡ keys
+unbound-none [] id rising none = refl
+unbound-none (e ∷ es) id rising none =
+    kept id e es (nat_eq e.1 id) refl (λ same. none e.0 (get-first e es ∙ ap Some same))
+    (unbound-none es id (sorted_tail nat_cmp e.0 (keys_of es) rising) (λ q h. none q (get-rest e es q id rising h)))
+
+apart : (id key : ℕ) (e : ℕ × ℕ) (es : Numbered ℕ) → get (e ∷ es) key ≡ Some id → nat_cmp key e.0 ≡ Equal → e.1 ≡ id
+apart id key e es there h = let here : Some e.1 ≡ Some id = rw h at there in cc
+
+freed : (id key : ℕ) (e : ℕ × ℕ) (es : Numbered ℕ) (o : Ordering) → nat_cmp key e.0 ≡ o → IsRising (e ∷ es) → LeadsOnly (e ∷ es) id key → (get es key ≡ Some id → unbound es id ≡ remove_entry (is_at (nat_cmp key)) es)
+    → unbound (e ∷ es) id ≡ remove_entry (is_at (nat_cmp key)) (e ∷ es)
+freed id key e es Less h rising all rec = let none : get (e ∷ es) key ≡ None = less-none key e es rising h in let there : get (e ∷ es) key ≡ Some id = all.0 in absurd (cc)
+freed id key e es Equal h rising all rec =
+    let first : nat_eq e.1 id ≡ true = rw (apart id key e es all.0 h) (grind arith)
+    in rw (first, h)
+       (unbound-none es id (sorted_tail nat_cmp e.0 (keys_of es) rising) (λ q g. twice q g))
+  where
+    twice : (q : ℕ) → get es q ≡ Some id → ⊥
+    twice q g =
+        let same : q ≡ key = all.1 q (get-rest e es q id rising g)
+        in let again : get es e.0 ≡ Some id = rw (← equal-same key e.0 h, ← same) g
+        in let none : get es e.0 ≡ None = past-none e.0 es (sorted_head nat_cmp e.0 (keys_of es) rising)
+        in cc
+freed id key e es Greater h rising all rec =
+    let later : get es key ≡ Some id = rw h at all.0
+    in let other : nat_eq e.1 id ≡ false = at (nat_eq e.1 id) refl
+    in rw (h, other) (ap (λ (xs : Numbered ℕ). e ∷ xs) (rec later))
+  where
+    at : (b : Bool) → nat_eq e.1 id ≡ b → nat_eq e.1 id ≡ false
+    at true is = absurd (greater-differs key e.0 h (all.1 e.0 (get-first e es ∙ ap Some (same-from-nat_eq e.1 id is))))
+    at false is = is
+
+pub unbound-one : (keys : Numbered ℕ) (id key : ℕ) → IsRising keys → LeadsOnly keys id key
+    → unbound keys id ≡ remove_entry (is_at (nat_cmp key)) keys
+unbound-one [] id key rising all = let there : None ≡ Some id = all.0 in absurd (cc)
+unbound-one (e ∷ es) id key rising all =
+    freed id key e es (nat_cmp key e.0) refl rising all
+    (λ later. unbound-one es id key (sorted_tail nat_cmp e.0 (keys_of es) rising) (later, λ q h. all.1 q (get-rest e es q id rising h)))

@@ -1,0 +1,10 @@
+pub mod Answers
+pub mod Cell
+pub mod Change
+pub mod Counted
+pub mod Ends
+pub mod Masks
+pub mod Names
+pub mod Process
+pub mod Table
+pub mod Trial

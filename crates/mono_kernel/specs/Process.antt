@@ -1,0 +1,37 @@
+-- A process of the program as one of the definitions, and the changes of a living one.
+use Rattle.std.specs.Prelude.{◌≡◌, ℕ, true}
+use Rattle.kernel_model.specs.Signals.{Signals}
+use Rattle.kernel_model.specs.Row.{Alive, lists, raised_at, with_ended_child} 
+use Rattle.kernel_model.specs.Row as rows
+use Rattle.kernel_model.specs.Kernel as kernels
+use Rattle.kernel_model.specs.ProcessCalls.{reaping}
+use Rattle.mono_kernel.specs.declared.process.Allowance.{Allowance}
+use Rattle.mono_kernel.specs.declared.process.Allowance.TheVariants.{Free, One, Spent}
+use Rattle.mono_kernel.specs.declared.process.Change.{Change}
+use Rattle.mono_kernel.specs.declared.process.Change.TheVariants.{Signals as SetSignals, Raise, EndChild, Reap, Spend}
+
+abbrev pub allowance_of : Allowance → rows.Allowance
+allowance_of Free = rows.Free
+allowance_of One = rows.One
+allowance_of Spent = rows.Spent
+
+-- a living process with other signals
+abbrev pub signalling : Alive → Signals → Alive
+signalling a s = record a { row = record { signals = s; family = a.row.family } }
+
+abbrev pub changed : Change → Alive → Alive
+changed (SetSignals s) a = signalling a s
+changed (Raise sig) a = raised_at a sig
+changed (EndChild child ending) a = with_ended_child a child ending
+changed (Reap child) a = reaping a child
+changed Spend a = record a { allowance = rows.Spent }
+
+-- only a child that is there can end
+abbrev pub CanChange : Change → Alive → Type 0
+CanChange (EndChild child ending) a = lists a.row.family child ≡ true
+CanChange _ a = Unit {0}
+
+-- a change that moves no child
+abbrev pub IsPlain : Change → Type 0
+IsPlain (EndChild child ending) = ⊥
+IsPlain _ = Unit {0}

@@ -1,0 +1,133 @@
+ghost use Rattle.std.specs.Prelude.{◌≡◌, ◌∷◌, ◌++◌, true, OnOk, OnErr, IfOk, nat_eq, ◌+◌, ◌≤◌, vec_len, vec_capacity};
+ghost use Rattle.std.specs.List.{list_any};
+ghost use Rattle.kernel_model.specs.Row.{no_family, with_child, lists, with_end, first_ended, without_ended, matches, others};
+ghost use Rattle.mono_kernel.specs.Ends.{other_ends};
+
+use pico_base::{Ending, Memory};
+use std::alloc::Global;
+use std::marker::Model;
+
+/// A process's children: the living ones in order of fork, and the ended ones with their endings in
+/// order of end. There is always room for each living child among the ended ones, so that an end
+/// takes no memory.
+#[derive(Drop)]
+pub(crate) struct ChildList {
+    living: Vec<u32>,
+    ended: Vec<(u32, Ending)>,
+}
+
+impl Model for ChildList {
+    ghost use Rattle.std.specs.Prelude.{◌+◌, ◌≤◌};
+    ghost use Rattle.std.specs.Vec.{vec_len, vec_capacity};
+    ghost use Rattle.kernel_model.specs.Row.{Family};
+
+    ghost Value = { Family };
+
+    ghost view = { λ f. record { living = f.living.items; ended = f.ended.items } };
+
+    ghost invariant = { λ f. vec_len f.living + vec_len f.ended ≤ vec_capacity f.ended };
+}
+
+/// Whether a child is the one that is waited for.
+fn is_waited_for(which: Option<u32>, child: u32) -> bool
+    ensures { result ≡ matches which child }
+{
+    match which {
+        Some(which) => which == child,
+        None => true,
+    }
+}
+
+/// Takes a child out of the living ones.
+fn drop_living(living: &mut Vec<u32>, child: u32)
+    ensures others { living.new.items ≡ others child living.old.items }
+    ensures fewer { list_any (nat_eq child) living.old.items ≡ true → vec_len living.new + 1 ≤ vec_len living.old }
+{
+    living.retain(|c| child != *c);
+}
+
+/// Takes a child out of the ended ones.
+fn drop_ended(ended: &mut Vec<(u32, Ending)>, child: u32)
+    ensures others { ended.new.items ≡ other_ends child ended.old.items }
+    ensures fewer { vec_len ended.new ≤ vec_len ended.old }
+    ensures capacity { vec_capacity ended.new ≡ vec_capacity ended.old }
+{
+    ended.retain(|e| child != e.0);
+}
+
+impl ChildList {
+    /// No children. It takes no memory.
+    pub(crate) fn new(alloc: Global) -> ChildList
+        ensures { result ≡ no_family }
+    {
+        ChildList {
+            living: Vec::new(alloc),
+            ended: Vec::new(alloc),
+        }
+    }
+
+    /// A new child. A refusal changes nothing.
+    pub(crate) fn add(&mut self, child: u32) -> Result<(), Memory>
+        ensures ok { OnOk result (self.new ≡ with_child self.old child) }
+        ensures err { OnErr result (self.new ≡ self.old) }
+    {
+        let living = self.living.len();
+        self.ended.reserve(living + 1)?;
+        self.living.push(child)?;
+        Ok(())
+    }
+
+    /// Whether it is a living child.
+    pub(crate) fn lists(&self, child: u32) -> bool
+        ensures { result ≡ lists self.now child }
+    {
+        self.living.iter().any(|c| child == *c)
+    }
+
+    /// A child has ended: it is kept, unless it is ignored.
+    pub(crate) fn end(&mut self, child: u32, ending: Ending, ignored: bool)
+        requires { lists self.old child ≡ true }
+        ensures { self.new ≡ with_end self.old child ending ignored }
+    {
+        drop_living(&mut self.living, child);
+        if !ignored {
+            match self.ended.push((child, ending)) {
+                Ok(()) => (),
+                Err(_) => unreachable!(),
+            }
+        }
+    }
+
+    /// The first ended child that is waited for, with its ending.
+    pub(crate) fn first_ended(&self, which: Option<u32>) -> Option<(u32, Ending)>
+        ensures { result ≡ first_ended which self.now.ended }
+    {
+        for (child, ending) in &self.ended {
+            if is_waited_for(which, *child) {
+                return Some((*child, *ending));
+            }
+        }
+        None
+    }
+
+    /// Whether a living child is waited for.
+    pub(crate) fn awaits(&self, which: Option<u32>) -> bool
+        ensures { result ≡ list_any (matches which) self.now.living }
+    {
+        self.living.iter().any(|child| is_waited_for(which, *child))
+    }
+
+    /// The ended child is gone.
+    pub(crate) fn reap(&mut self, child: u32)
+        ensures { self.new ≡ without_ended child self.old }
+    {
+        drop_ended(&mut self.ended, child);
+    }
+
+    /// The ended children with their endings.
+    pub(crate) fn all_ended(&self, alloc: Global) -> Result<Vec<(u32, Ending)>, Memory>
+        ensures { IfOk result (λ ended. ended.items ≡ self.now.ended) }
+    {
+        Ok(Vec::from_slice(alloc, self.ended.as_slice())?)
+    }
+}

@@ -1,0 +1,174 @@
+ghost use Rattle.std.specs.Prelude.{◌≡◌, IsSome, IfSome, Some};
+ghost use Rattle.pico_base.specs.Signal.{at};
+ghost use Rattle.kernel_model.specs.Signals.{act_on, with_mask};
+ghost use Rattle.kernel_model.specs.Row.{wait};
+ghost use Rattle.kernel_model.specs.Kernel.{living_at, with_alive};
+ghost use Rattle.kernel_model.specs.ProcessCalls.{forked, ended, reaped, acted, kill, with_signals};
+ghost use Rattle.kernel_model.specs.Effect.{is_fresh};
+ghost use Rattle.kernel_model.specs.Transition.{finished};
+ghost use Rattle.mono_kernel.specs.Process.{changed, IsPlain};
+ghost use Rattle.mono_kernel.specs.Answers.{Answers, signalled_kernel};
+
+use crate::fault::CallFault;
+use crate::kernel::Kernel;
+use crate::process::Change;
+use crate::signals::SignalState;
+use pico_base::{Act, Ending, Errno, How, Pid, Reply, Sig, SigArg, SigSet};
+
+/// The calls on processes and signals.
+impl Kernel {
+    /// Makes a change of a living process that moves no child.
+    pub(super) fn change(&mut self, pid: u32, change: Change)
+        requires lives { IsSome (living_at self.old pid) }
+        requires plain { IsPlain change }
+        ensures { IfSome (living_at self.old pid) (λ a. self.new ≡ with_alive self.old pid (changed change a)) }
+    {
+        self.processes.change(pid, change);
+    }
+
+    /// Whether a process may take this number.
+    pub(super) fn is_new_process(&self, number: u32) -> bool
+        ensures { result ≡ is_fresh self.now.used_processes number }
+    {
+        number > 0 && !self.processes.is_there(number)
+    }
+
+    /// fork: NotAllowed where the number is 0 or used.
+    pub(super) fn fork(&mut self, pid: u32, chosen: u32) -> Result<Reply, CallFault>
+        requires { IsSome (living_at self.old pid) }
+        ensures { IfSome (living_at self.old pid) (λ a. Answers (forked self.old pid a chosen) result self.old self.new) }
+    {
+        if !self.is_new_process(chosen) {
+            return Err(CallFault::NotAllowed);
+        }
+        self.processes.fork(self.alloc, pid, chosen)?;
+        Ok(Reply::Num(chosen))
+    }
+
+    /// exit, and the end by a signal.
+    pub(super) fn end(&mut self, pid: u32, ending: Ending) -> Result<Reply, CallFault>
+        requires { IsSome (living_at self.old pid) }
+        ensures { IfSome (living_at self.old pid) (λ a. Answers (Some (ended self.old pid a ending)) result self.old self.new) }
+    {
+        self.processes.end(self.alloc, pid, ending)?;
+        Ok(Reply::Ended)
+    }
+
+    /// waitpid: ECHILD where there is no such child.
+    pub(super) fn wait(&mut self, pid: u32, which: Option<u32>) -> Reply
+        requires { IsSome (living_at self.old pid) }
+        ensures { IfSome (living_at self.old pid) (λ a. reaped self.old pid a (wait a.row.family which) ≡ record { kernel = self.new; reply = result }) }
+    {
+        match self.processes.wait(pid, which) {
+            Ok(Some((child, ending))) => Reply::Child {
+                pid: Pid(child),
+                ending,
+            },
+            Ok(None) => Reply::Num(0),
+            Err(errno) => Reply::Fail(errno),
+        }
+    }
+
+    /// sigaction: EINVAL for KILL, 0 and a number that is no signal's.
+    pub(super) fn act(&mut self, pid: u32, sig: SigArg, act: Act) -> Reply
+        requires { IsSome (living_at self.old pid) }
+        ensures { IfSome (living_at self.old pid) (λ a. acted self.old pid a (act_on a.row.signals sig act) ≡ record { kernel = self.new; reply = result }) }
+    {
+        let Some(alive) = self.processes.alive(pid) else {
+            return Reply::Num(0);
+        };
+        let mut signals = alive.signals();
+        match signals.act(sig, act) {
+            Ok(()) => {
+                self.change(pid, Change::Signals(signals));
+                Reply::Num(0)
+            }
+            Err(errno) => Reply::Fail(errno),
+        }
+    }
+
+    /// sigprocmask: gives the old mask.
+    pub(super) fn change_mask(&mut self, pid: u32, how: How, set: SigSet) -> Reply
+        requires { IsSome (living_at self.old pid) }
+        ensures masked { IfSome (living_at self.old pid) (λ a. self.new ≡ with_signals self.old pid a (with_mask a.row.signals how set)) }
+        ensures reply { IfSome (living_at self.old pid) (λ a. result ≡ Reply.Bits a.row.signals.mask) }
+    {
+        let Some(alive) = self.processes.alive(pid) else {
+            return Reply::Num(0);
+        };
+        let mut signals = alive.signals();
+        let old = signals.change_mask(how, set);
+        self.change(pid, Change::Signals(signals));
+        Reply::Bits(old)
+    }
+
+    /// sigpending.
+    pub(super) fn pending(&self, pid: u32) -> Reply
+        requires { IsSome (living_at self.now pid) }
+        ensures { IfSome (living_at self.now pid) (λ a. result ≡ Reply.Bits a.row.signals.pending) }
+    {
+        match self.processes.alive(pid) {
+            Some(alive) => Reply::Bits(alive.signals().pending()),
+            None => Reply::Num(0),
+        }
+    }
+
+    /// How often the signal was caught.
+    pub(super) fn handled(&self, pid: u32, sig: Sig) -> Reply
+        requires { IsSome (living_at self.now pid) }
+        ensures { IfSome (living_at self.now pid) (λ a. result ≡ Reply.Num (at a.row.signals.handled sig)) }
+    {
+        match self.processes.alive(pid) {
+            Some(alive) => Reply::Num(alive.signals().handled(sig)),
+            None => Reply::Num(0),
+        }
+    }
+
+    /// kill: EINVAL for a number that is no signal's, then ESRCH where there is no such process.
+    pub(super) fn kill(&mut self, caller: u32, pid: u32, sig: SigArg) -> Reply
+        ensures { kill self.old caller pid sig ≡ record { kernel = self.new; reply = result } }
+    {
+        if sig == SigArg::Bad {
+            return Reply::Fail(Errno::Einval);
+        }
+        let signals = match self.processes.cell(pid) {
+            None => return Reply::Fail(Errno::Esrch),
+            Some(cell) => match cell.alive() {
+                Some(alive) => alive.signals(),
+                None if cell.is_gone() => return Reply::Fail(Errno::Esrch),
+                None => return Reply::Num(0),
+            },
+        };
+        if let SigArg::Is(sig) = sig {
+            self.signal(caller, pid, signals, sig);
+        }
+        Reply::Num(0)
+    }
+
+    /// A signal arrives at a living process: its own, or another's.
+    pub(super) fn signal(&mut self, caller: u32, pid: u32, mut signals: SignalState, sig: Sig)
+        requires lives { IsSome (living_at self.old pid) }
+        requires its { IfSome (living_at self.old pid) (λ a. signals ≡ a.row.signals) }
+        ensures { IfSome (living_at self.old pid) (λ a. self.new ≡ signalled_kernel self.old caller pid a sig) }
+    {
+        if caller == pid {
+            signals.raise(sig);
+            self.change(pid, Change::Signals(signals));
+        } else {
+            self.change(pid, Change::Raise(sig));
+        }
+    }
+
+    /// A doomed process that lives on after an entry of its own has nothing left but its ending.
+    pub(super) fn finish(&mut self, pid: u32)
+        ensures { self.new ≡ finished self.old pid (living_at self.old pid) }
+    {
+        let doomed = match self.processes.alive(pid) {
+            Some(alive) => alive.doom().is_some(),
+            None => false,
+        };
+        if doomed {
+            self.change(pid, Change::Spend);
+        }
+    }
+}

@@ -1,0 +1,17 @@
+//! One POSIX system as one plain value, whose calls are the kernel's transition. `check` replays a
+//! history with it. It has no owner, lease, cache or stream.
+#![tactic(auto)]
+
+mod family;
+mod fault;
+mod kernel;
+mod maps;
+mod names;
+mod process;
+mod processes;
+mod queue;
+mod semaphores;
+mod signals;
+
+pub use fault::CallFault;
+pub use kernel::Kernel;

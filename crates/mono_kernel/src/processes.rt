@@ -1,0 +1,334 @@
+ghost use Rattle.std.specs.Prelude.{◌≡◌, ◌∷◌, ◌↔◌, ℕ, [], true, not, map, fold, OnOk, OnErr, IfOk, IsTrue, Some, None, IsSome, IsNone, IfSome, is_some, false, nat_eq};
+ghost use Rattle.std.specs.Option.{option_copied, option_map};
+ghost use Rattle.std.specs.List.{All, list_any};
+ghost use Rattle.std.specs.Map.{keys_of};
+ghost use Rattle.kernel_model.specs.Maps.{get, put, used_with};
+ghost use Rattle.kernel_model.specs.Row.{Free, new_row, wait, lists, matches, first_ended, with_ended_child};
+ghost use Rattle.kernel_model.specs.Kernel.{Living, Ended, Gone, alive_in, living_in, parent_in};
+ghost use Rattle.kernel_model.specs.ProcessCalls.{bury, kept_as, ended_under, forking, with_fork, with_end, with_reaped};
+ghost use Rattle.mono_kernel.specs.Process.{changed, CanChange, IsPlain};
+ghost use Rattle.mono_kernel.specs.Names.{IsRising};
+ghost use Rattle.mono_kernel.specs.Table.{IfLiving, lists_there, ignores_there, parent_number, parent_at, waited_as, table_after};
+
+use crate::process::{Change, LiveProcess, ProcessCell};
+use pico_base::{Ending, Errno, Memory};
+use std::alloc::Global;
+use std::collections::BTreeMap;
+use std::marker::Model;
+
+/// The table of processes. The parent of each child is kept beside it, so that an end doesn't go
+/// through the table.
+#[derive(Drop)]
+pub(crate) struct Processes {
+    cells: BTreeMap<u32, ProcessCell>,
+    parents: BTreeMap<u32, u32>,
+}
+
+impl Model for Processes {
+    ghost use Rattle.std.specs.Prelude.{ℕ, List};
+    ghost use Rattle.kernel_model.specs.Kernel.{Process};
+    ghost use Rattle.mono_kernel.specs.Table.{IsTable};
+
+    ghost Value = { List (ℕ × Process) };
+
+    ghost view = { λ t. t.cells.entries };
+
+    ghost invariant = { λ t. IsTable t.cells.entries t.parents.entries };
+}
+
+/// A change of the process that lives at a number.
+fn change_at(cells: &mut BTreeMap<u32, ProcessCell>, pid: u32, change: Change)
+    requires lives { IsSome (living_in cells.old.entries pid) }
+    requires can { IfLiving cells.old.entries pid (CanChange change) }
+    ensures changed { IfLiving cells.old.entries pid (λ a. cells.new.entries ≡ put cells.old.entries pid (Living (changed change a))) }
+    ensures same_numbers { keys_of cells.new.entries ≡ keys_of cells.old.entries }
+    ensures rising { IsRising cells.new.entries }
+{
+    if let Some(cell) = cells.get_mut(&pid) {
+        cell.change(change);
+    }
+}
+
+/// A process that is there lives no longer.
+fn settle_at(cells: &mut BTreeMap<u32, ProcessCell>, pid: u32, cell: ProcessCell)
+    requires { IsSome (get cells.old.entries pid) }
+    ensures settled { cells.new.entries ≡ put cells.old.entries pid cell }
+    ensures same_numbers { keys_of cells.new.entries ≡ keys_of cells.old.entries }
+    ensures rising { IsRising cells.new.entries }
+{
+    match cells.insert(pid, cell) {
+        Ok(_) => (),
+        Err(_) => unreachable!(),
+    }
+}
+
+/// A new child of the process that lives at a number. A refusal changes nothing.
+fn add_child_at(cells: &mut BTreeMap<u32, ProcessCell>, pid: u32, child: u32) -> Result<(), Memory>
+    requires { IsSome (living_in cells.old.entries pid) }
+    ensures ok { OnOk result (IfLiving cells.old.entries pid (λ a. cells.new.entries ≡ put cells.old.entries pid (Living (forking a child)))) }
+    ensures err { OnErr result (cells.new.entries ≡ cells.old.entries) }
+    ensures same_numbers { keys_of cells.new.entries ≡ keys_of cells.old.entries }
+    ensures rising { IsRising cells.new.entries }
+{
+    match cells.get_mut(&pid) {
+        Some(cell) => cell.add_child(child),
+        None => Ok(()),
+    }
+}
+
+/// A new process, which that of another number lists. A refusal changes nothing.
+fn fork_at(cells: &mut BTreeMap<u32, ProcessCell>, pid: u32, child: u32, cell: ProcessCell) -> Result<(), Memory>
+    requires lives { IsSome (living_in cells.old.entries pid) }
+    requires fresh { get cells.old.entries child ≡ None }
+    ensures ok { OnOk result (IfLiving cells.old.entries pid (λ a. cells.new.entries ≡ put (put cells.old.entries child cell) pid (Living (forking a child)))) }
+    ensures numbers { OnOk result (keys_of cells.new.entries ≡ used_with (keys_of cells.old.entries) child) }
+    ensures err { OnErr result (cells.new.entries ≡ cells.old.entries) }
+    ensures rising { IsRising cells.new.entries }
+{
+    cells.insert(child, cell)?;
+    if let Err(memory) = add_child_at(cells, pid, child) {
+        cells.remove(&child);
+        return Err(memory);
+    }
+    Ok(())
+}
+
+/// A process that has ended under a living parent.
+fn kept(ignored: bool, ending: Ending) -> ProcessCell
+    ensures { result ≡ kept_as ignored ending }
+{
+    if ignored {
+        ProcessCell::gone()
+    } else {
+        ProcessCell::ended(ending)
+    }
+}
+
+impl Processes {
+    /// The table with process 1 alone, which lives.
+    pub(crate) fn new(alloc: Global) -> Result<Processes, Memory>
+        ensures { IfOk result (λ ps. ps ≡ (1, Living (record { row = new_row; allowance = Free })) ∷ []) }
+    {
+        let mut cells = BTreeMap::new(alloc);
+        cells.insert(1, ProcessCell::living(LiveProcess::new(alloc)))?;
+        Ok(Processes {
+            cells,
+            parents: BTreeMap::new(alloc),
+        })
+    }
+
+    /// Whether there is or was a process of this number.
+    pub(crate) fn is_there(&self, pid: u32) -> bool
+        ensures { result ≡ is_some (get self.now pid) }
+    {
+        self.cells.contains_key(&pid)
+    }
+
+    /// The process's place.
+    pub(crate) fn cell(&self, pid: u32) -> Option<&ProcessCell>
+        ensures { option_copied result ≡ get self.now pid }
+    {
+        self.cells.get(&pid)
+    }
+
+    /// The living process of a number.
+    pub(crate) fn alive(&self, pid: u32) -> Option<&LiveProcess>
+        ensures { option_copied result ≡ living_in self.now pid }
+    {
+        match self.cells.get(&pid) {
+            Some(cell) => cell.alive(),
+            None => None,
+        }
+    }
+
+    /// Makes a change that adds no child.
+    pub(crate) fn change(&mut self, pid: u32, change: Change)
+        requires lives { IsSome (living_in self.old pid) }
+        requires plain { IsPlain change }
+        ensures changed { IfLiving self.old pid (λ a. self.new ≡ put self.old pid (Living (changed change a))) }
+        ensures same_numbers { keys_of self.new ≡ keys_of self.old }
+    {
+        change_at(&mut self.cells, pid, change);
+    }
+
+    /// A child has ended: it is listed as ended, or forgotten.
+    fn end_child(&mut self, parent: u32, child: u32, ending: Ending)
+        requires lives { IsSome (living_in self.old parent) }
+        requires listed { IfLiving self.old parent (λ a. lists a.row.family child ≡ true) }
+        requires ended { living_in self.old child ≡ None }
+        ensures changed { IfLiving self.old parent (λ a. self.new ≡ put self.old parent (Living (with_ended_child a child ending))) }
+        ensures same_numbers { keys_of self.new ≡ keys_of self.old }
+    {
+        change_at(&mut self.cells, parent, Change::EndChild { child, ending });
+    }
+
+    /// A process that is there lives no longer.
+    fn settle(&mut self, pid: u32, cell: ProcessCell)
+        requires there { IsSome (get self.old pid) }
+        requires dead { alive_in cell ≡ None }
+        ensures settled { self.new ≡ put self.old pid cell }
+        ensures same_numbers { keys_of self.new ≡ keys_of self.old }
+    {
+        settle_at(&mut self.cells, pid, cell);
+    }
+
+    /// Whether the process lives and lists the child.
+    fn lists(&self, pid: u32, child: u32) -> bool
+        ensures { result ≡ lists_there self.now pid child }
+    {
+        match self.alive(pid) {
+            Some(alive) => alive.lists(child),
+            None => false,
+        }
+    }
+
+    /// The number of the process's parent.
+    fn parent_of(&self, pid: u32) -> Option<u32>
+        ensures number { result ≡ parent_number self.now pid }
+        ensures parent { parent_in pid self.now ≡ parent_at self.now result }
+        ensures lists { IfSome result (λ p. (lists_there self.now p pid ≡ true) × (nat_eq p pid ≡ false)) }
+    {
+        let Some(parent) = self.parents.get(&pid).copied() else {
+            return None;
+        };
+        if self.lists(parent, pid) {
+            Some(parent)
+        } else {
+            None
+        }
+    }
+
+    /// Children that have ended are gone.
+    fn bury(&mut self, children: &[(u32, Ending)])
+        requires { All (λ e. is_some (get self.old e.0) ≡ true) children.now }
+        ensures buried { self.new ≡ fold bury self.old children.now }
+        ensures same_numbers { keys_of self.new ≡ keys_of self.old }
+    {
+        for (child, _) in children {
+            self.settle(*child, ProcessCell::gone());
+        }
+    }
+
+    /// A process leaves: its parent, if there is one, keeps its ending, unless it ignores its children.
+    fn leave(&mut self, pid: u32, ending: Ending, parent: Option<u32>)
+        requires there { IsSome (get self.old pid) }
+        requires listed { IfSome parent (λ p. (lists_there self.old p pid ≡ true) × (nat_eq p pid ≡ false)) }
+        ensures left { self.new ≡ ended_under self.old pid ending (parent_at self.old parent) }
+        ensures same_numbers { keys_of self.new ≡ keys_of self.old }
+    {
+        let Some(parent) = parent else {
+            self.settle(pid, ProcessCell::gone());
+            return;
+        };
+        let ignored = self.ignores_children(parent);
+        self.settle(pid, kept(ignored, ending));
+        self.end_child(parent, pid, ending);
+    }
+
+    /// Whether the process ignores its ended children. One that doesn't live does.
+    fn ignores_children(&self, pid: u32) -> bool
+        ensures { result ≡ ignores_there self.now pid }
+    {
+        match self.alive(pid) {
+            Some(alive) => alive.ignores_children(),
+            None => true,
+        }
+    }
+
+    /// The ended children of the process that lives at a number.
+    fn ended_children(&self, alloc: Global, pid: u32) -> Result<Vec<(u32, Ending)>, Memory>
+        requires { IsSome (living_in self.now pid) }
+        ensures children { IfOk result (λ children. IfLiving self.now pid (λ a. children.items ≡ a.row.family.ended)) }
+        ensures ended { IfOk result (λ children. All (λ e. (is_some (get self.now e.0) ≡ true) × (living_in self.now e.0 ≡ None)) children.items) }
+    {
+        let _ = &self.cells;
+        match self.alive(pid) {
+            Some(alive) => alive.all_ended(alloc),
+            None => Ok(Vec::new(alloc)),
+        }
+    }
+
+    /// The end of a process (exit).
+    pub(crate) fn end(&mut self, alloc: Global, pid: u32, ending: Ending) -> Result<(), Memory>
+        requires { IsSome (living_in self.old pid) }
+        ensures ended { OnOk result (IfLiving self.old pid (λ a. self.new ≡ with_end self.old pid a ending)) }
+        ensures err { OnErr result (self.new ≡ self.old) }
+        ensures same_numbers { keys_of self.new ≡ keys_of self.old }
+    {
+        let children = self.ended_children(alloc, pid)?;
+        let parent = self.parent_of(pid);
+        self.bury(children.as_slice());
+        self.leave(pid, ending, parent);
+        Ok(())
+    }
+
+    /// The first ended child that is waited for, with its ending.
+    fn ended_child(&self, pid: u32, which: Option<u32>) -> Option<(u32, Ending)>
+        requires { IsSome (living_in self.now pid) }
+        ensures child { IfLiving self.now pid (λ a. result ≡ first_ended which a.row.family.ended) }
+        ensures there { IfSome result (λ e. is_some (get self.now e.0) ≡ true) }
+    {
+        let _ = &self.cells;
+        match self.alive(pid) {
+            Some(alive) => alive.first_ended(which),
+            None => None,
+        }
+    }
+
+    /// Whether a living child is waited for.
+    fn awaits(&self, pid: u32, which: Option<u32>) -> bool
+        requires { IsSome (living_in self.now pid) }
+        ensures { IfLiving self.now pid (λ a. result ≡ list_any (matches which) a.row.family.living) }
+    {
+        match self.alive(pid) {
+            Some(alive) => alive.awaits(which),
+            None => false,
+        }
+    }
+
+    /// The ended child is gone.
+    fn reap(&mut self, pid: u32, child: u32)
+        requires lives { IsSome (living_in self.old pid) }
+        requires there { IsSome (get self.old child) }
+        ensures reaped { IfLiving self.old pid (λ a. self.new ≡ with_reaped self.old pid a child) }
+        ensures same_numbers { keys_of self.new ≡ keys_of self.old }
+    {
+        self.change(pid, Change::Reap { child });
+        self.settle(child, ProcessCell::gone());
+    }
+
+    /// waitpid without waiting: an ended child, none yet, or ECHILD.
+    pub(crate) fn wait(&mut self, pid: u32, which: Option<u32>) -> Result<Option<(u32, Ending)>, Errno>
+        requires { IsSome (living_in self.old pid) }
+        ensures answer { IfLiving self.old pid (λ a. result ≡ waited_as (wait a.row.family which)) }
+        ensures table { IfLiving self.old pid (λ a. self.new ≡ table_after self.old pid a (wait a.row.family which)) }
+        ensures same_numbers { keys_of self.new ≡ keys_of self.old }
+    {
+        if let Some((child, ending)) = self.ended_child(pid, which) {
+            self.reap(pid, child);
+            return Ok(Some((child, ending)));
+        }
+        if self.awaits(pid, which) {
+            Ok(None)
+        } else {
+            Err(Errno::Echild)
+        }
+    }
+
+    /// fork: a new process, which the caller lists. A refusal changes nothing.
+    pub(crate) fn fork(&mut self, alloc: Global, pid: u32, child: u32) -> Result<(), Memory>
+        requires lives { IsSome (living_in self.old pid) }
+        requires fresh { get self.old child ≡ None }
+        ensures forked { OnOk result (IfLiving self.old pid (λ a. self.new ≡ with_fork self.old pid a child)) }
+        ensures numbers { OnOk result (keys_of self.new ≡ used_with (keys_of self.old) child) }
+        ensures err { OnErr result (self.new ≡ self.old) }
+    {
+        let Some(parent) = self.alive(pid) else {
+            return Ok(());
+        };
+        let cell = ProcessCell::living(parent.new_child(alloc));
+        self.parents.insert(child, pid)?;
+        fork_at(&mut self.cells, pid, child, cell)?;
+        Ok(())
+    }
+}
