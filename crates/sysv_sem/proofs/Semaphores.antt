@@ -1,5 +1,5 @@
 -- Semaphores that are read are those that were written, and what was written is read again.
-use Rattle.std.proofs.Common.{◌≡◌, ℕ, zero, suc, ◌+◌, ◌^◌, ◌<◌, ◌≤◌, Bool, true, false, cond, eqb, ltb, ◌||◌, List, [], ◌∷◌, ◌++◌, length, Option, Some, None, Result, Ok, Err, refl, sym, ap, subst, ◌∙◌, append_assoc, arith}
+use Rattle.std.proofs.Common.{◌≡◌, ℕ, zero, suc, ◌^◌, ◌≤◌, Bool, true, false, cond, eqb, ltb, ◌||◌, List, [], ◌∷◌, ◌++◌, length, Option, Some, None, Result, Ok, Err, refl, sym, ap, subst, ◌∙◌, append_assoc, arith}
 use Rattle.std.specs.Prelude.{IfOk}
 use Rattle.std.specs.List.{flat_map, AllByRecursion}
 use Rattle.std.specs.Int.{w16, w32, to_be_bytes}
@@ -11,7 +11,7 @@ use Rattle.pico_base.specs.declared.fault.UnpackFault.{UnpackFault}
 use Rattle.pico_base.specs.declared.fault.UnpackFault.TheVariants.{Memory, NotABody}
 use Rattle.kernel_model.specs.SemaphoreSet.{Semaphore, max_value, max_semaphores, is_bad_count}
 use Rattle.sysv_sem.specs.Limits.{IsWithinLimits}
-use Rattle.sysv_sem.specs.Body.{set_code, semaphore_field, body, HasProcess, IsBodyOf, Unpacks}
+use Rattle.sysv_sem.specs.Body.{set_code, semaphore_field, HasProcess, IsBodyOf, Unpacks}
 use Rattle.sysv_sem.specs.Reading.{◌>>=◌, Gives, number_at, number_upto, semaphore_at, semaphores_at, fields_at, counted_at, set_at}
 use Rattle.sysv_sem.proofs.Fields.{IsBytes, IsBytes-rest, bind_some, guard_ended, guard_then, some_is, Takes, Takes-then, wide16, wide32, number_takes, number_again, number_upto_takes, number_upto_again}
 

@@ -1,5 +1,5 @@
 -- What is carried out on a set within the limits leaves one.
-use Rattle.std.proofs.Common.{◌≡◌, ℕ, zero, suc, ◌+◌, ◌-◌, ◌<◌, ◌≤◌, Bool, true, false, cond, eqb, ltb, leb, ◌||◌, ℤ, pos, negsuc, List, [], ◌∷◌, Option, Some, None, Result, Ok, Err, ◌++◌, take, drop, length, set, refl, sym, ap, subst, ◌∙◌, arith}
+use Rattle.std.proofs.Common.{◌≡◌, ℕ, zero, suc, ◌+◌, ◌-◌, ◌≤◌, Bool, true, false, cond, eqb, ltb, leb, ◌||◌, ℤ, pos, negsuc, List, [], ◌∷◌, Option, Some, None, Result, Ok, Err, ◌++◌, take, drop, length, set, refl, sym, ap, subst, ◌∙◌, arith}
 use Rattle.std.specs.Prelude.{fold, slice_get, IfOk, IfSome, OnErr}
 use Rattle.std.specs.List.{AllByRecursion, list_any}
 use Rattle.std.proofs.lemmas.Bool.{leb-true, ltb-false, eqb-true}
@@ -7,7 +7,7 @@ use Rattle.std.proofs.lemmas.List.{length-set, length-map, take_at}
 use Rattle.pico_base.specs.declared.call.SemStep.{SemStep}
 use Rattle.pico_base.specs.declared.reply.Errno.{Errno}
 use Rattle.pico_base.specs.declared.reply.Errno.TheVariants.{Einval, E2big, Efbig, Erange}
-use Rattle.kernel_model.specs.SemaphoreSet.{Semaphore, Moved, To, Waits, TooHigh, Tried, Done, StopsAt, OutOfRange, max_value, max_operations, values_of, moved_by, moved_at, go_on, try_from, try_ops, with_values, with_last, marked_at, marked, tried_op, op, set_all}
+use Rattle.kernel_model.specs.SemaphoreSet.{Semaphore, Moved, To, Waits, TooHigh, Tried, Done, StopsAt, OutOfRange, max_value, values_of, moved_by, moved_at, go_on, try_from, try_ops, with_values, with_last, marked_at, marked, tried_op, op, set_all}
 use Rattle.sysv_sem.specs.Limits.{IsWithinLimits}
 
 -- ---- an element of a list

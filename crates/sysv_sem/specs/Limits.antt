@@ -1,5 +1,5 @@
 -- The limits of a set (profile).
-use Rattle.std.specs.Prelude.{ℕ, ◌≤◌, List, length}
+use Rattle.std.specs.Prelude.{◌≤◌, List, length}
 use Rattle.std.specs.List.{AllByRecursion}
 use Rattle.kernel_model.specs.SemaphoreSet.{Semaphore, max_semaphores, max_value}
 

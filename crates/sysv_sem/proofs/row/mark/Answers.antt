@@ -1,5 +1,4 @@
-use Rattle.std.proofs.Common.{◌≡◌, ◌<◌, length, get_or, ◌∙◌, sym, ap, arith}
-use Rattle.pico_base.specs.declared.call.SemStep.{SemStep}
+use Rattle.std.proofs.Common.{◌≡◌, ◌∙◌, sym, ap, arith}
 use Rattle.kernel_model.specs.SemaphoreSet.{Semaphore}
 use Rattle.sysv_sem.proofs.Rows.{no_step, marked_more}
 use Rattle.sysv_sem.proofs.row.mark.Goals as goal

@@ -1,7 +1,6 @@
-use Rattle.std.proofs.Common.{◌≡◌, ◌<◌, length, get_or, SFits, w32, ◌∙◌, sym, ap, arith, rules}
+use Rattle.std.proofs.Common.{get_or, SFits, w32, ◌∙◌, sym, ap, arith, rules}
 use Rattle.std.proofs.lemmas.Int.{to_z-of_z}
 use Rattle.std.proofs.lemmas.Result.{err_from_is_err_and}
-use Rattle.pico_base.specs.declared.call.SemStep.{SemStep}
 use Rattle.sysv_sem.specs.Answers.{trial_of}
 use Rattle.sysv_sem.proofs.Rows.{no_step}
 use Rattle.sysv_sem.proofs.Trials.{tried_more, tried_stops}

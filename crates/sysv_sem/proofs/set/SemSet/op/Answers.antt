@@ -1,4 +1,4 @@
-use Rattle.std.proofs.Common.{◌≡◌, length, ◌∙◌, sym, ap}
+use Rattle.std.proofs.Common.{length, ◌∙◌, sym, ap}
 use Rattle.sysv_sem.proofs.Within.{set_after_op}
 use Rattle.sysv_sem.proofs.set.SemSet.op.Goals as goal
 
