@@ -9,4 +9,7 @@ pub mod SetLaws
 pub mod NumberLaws
 pub mod SignalLaws
 pub mod Families
+pub mod Members
+pub mod FamilyChanges
+pub mod EndChanges
 pub mod Refusals

@@ -33,10 +33,10 @@ at-apart q n h =
     ]
 
 -- the first entry
-get-first : {V : Type 0} (e : ℕ × V) (m : Numbered V) (q : ℕ) → q ≡ e.0 → get (e ∷ m) q ≡ Some e.1
+pub get-first : {V : Type 0} (e : ℕ × V) (m : Numbered V) (q : ℕ) → q ≡ e.0 → get (e ∷ m) q ≡ Some e.1
 get-first e m q h = rw (at-same q e.0 h) refl
 
-get-later : {V : Type 0} (e : ℕ × V) (m : Numbered V) (q : ℕ) → q ≢ e.0 → get (e ∷ m) q ≡ get m q
+pub get-later : {V : Type 0} (e : ℕ × V) (m : Numbered V) (q : ℕ) → q ≢ e.0 → get (e ∷ m) q ≡ get m q
 get-later e m q h = rw (at-apart q e.0 h) refl
 
 put-less : {V : Type 0} (e : ℕ × V) (m : Numbered V) (k : ℕ) (v : V) → k < e.0 → put (e ∷ m) k v ≡ (k, v) ∷ e ∷ m
@@ -230,7 +230,7 @@ rising-filter {V} p (e ∷ m) r =
     ]
 
 -- nothing stands at a number that all others are above
-get-above : {V : Type 0} (n : ℕ) (m : Numbered V) → Above n m → get m n ≡ None
+pub get-above : {V : Type 0} (n : ℕ) (m : Numbered V) → Above n m → get m n ≡ None
 get-above n [] a = refl
 get-above n (e ∷ m) a = let l : n < e.0 = a.0 in let ne : n ≢ e.0 = omega arith in get-later e m n ne ∙ get-above n m a.1
 
