@@ -12,4 +12,6 @@ pub mod Families
 pub mod Members
 pub mod FamilyChanges
 pub mod EndChanges
+pub mod Living
+pub mod People
 pub mod Refusals

@@ -203,3 +203,33 @@ sound-masked s how set h = record { kept = h.kept; unmasked = refl; kill_default
 
 pub sound-mask : (s : Signals) (how : How) (set : PerSignal Bool) → IsSound s → IsSound (with_mask s how set)
 sound-mask s how set h = sound-delivered all_signals (record s { mask = new_mask how s.mask set }) (sound-masked s how set h)
+
+-- a doom stays
+abbrev pub Stays : Signals → Signals → Type 0
+Stays s next = next.doom ≡ None → s.doom ≡ None
+
+pub no-doom : (o : Option Sig) → is_some o ≡ false → o ≡ None
+no-doom None h = refl
+no-doom (Some g) h = not_true (sym h)
+
+pub doom-is : (o : Option Sig) → o ≡ None → is_some o ≡ false
+doom-is o h = ap is_some h
+
+pub raise-stays : (s : Signals) (g : Sig) → Stays s (raise s g)
+raise-stays s g =
+    by_test (Stays s) (is_some s.doom) s
+    (if is_kill g then doomed_by s g else if discards (at s.actions g) g then s else if at s.mask g then record s { pending = put s.pending g true } else arrive s g)
+    (λ t h. h) (λ f h. no-doom s.doom f)
+
+deliver-stays : (s : Signals) (g : Sig) → Stays s (deliver s g)
+deliver-stays s g =
+    by_test (Stays s) (not (is_some s.doom) && (at s.pending g && not (at s.mask g))) (arrive (record s { pending = put s.pending g false }) g) s
+    (λ t h. no-doom s.doom (not-true (is_some s.doom) (and_parts (not (is_some s.doom)) (at s.pending g && not (at s.mask g)) t).0))
+    (λ f h. h)
+
+delivered-stays : (gs : List Sig) (s : Signals) → Stays s (fold deliver s gs)
+delivered-stays [] s h = h
+delivered-stays (g ∷ gs) s h = deliver-stays s g (delivered-stays gs (deliver s g) h)
+
+pub mask-stays : (s : Signals) (how : How) (set : PerSignal Bool) → Stays s (with_mask s how set)
+mask-stays s how set h = delivered-stays all_signals (record s { mask = new_mask how s.mask set }) h

@@ -33,7 +33,7 @@ pub table-keys : {V : Type 0} (P : V → Type 0) (things : Numbered V) (keys : N
 table-keys P things keys used t = record { ordered = ordered keys t.keys_rise; lead = t.lead; apart = t.apart }
 
 -- something is there after a put, where it was before or where it is put
-there-put : {V : Type 0} (m : Numbered V) (k : ℕ) (v : V) (q : ℕ) → is_some (get m q) ≡ true → is_some (get (put m k v) q) ≡ true
+pub there-put : {V : Type 0} (m : Numbered V) (k : ℕ) (v : V) (q : ℕ) → is_some (get m q) ≡ true → is_some (get (put m k v) q) ≡ true
 there-put m k v q h =
     elim (cases_eq q k)
     [ inl same ↦ ap is_some (ap (λ r. get (put m k v) r) same ∙ get-put-same m k v)
