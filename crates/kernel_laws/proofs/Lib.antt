@@ -14,4 +14,5 @@ pub mod FamilyChanges
 pub mod EndChanges
 pub mod Living
 pub mod People
+pub mod ProcessLaws
 pub mod Refusals
