@@ -20,9 +20,9 @@ Among es q = (e : Ending) × Contains es (q, e)
 
 among-cons : (e : ℕ × Ending) (es : List (ℕ × Ending)) (q : ℕ) → Among (e ∷ es) q → (q ≡ e.0) ⊎ Among es q
 among-cons e es q h =
-    elim (contains-cases e es (q, h.0) h.1)
-    [ inl same ↦ inl (sym (ap (λ (x : ℕ × Ending). x.0) same))
-    | inr later ↦ inr (h.0, later)
+    elim (contains-cases e es (q, h.0) h.1) [
+      | inl same ↦ inl (sym (ap (λ (x : ℕ × Ending). x.0) same))
+      | inr later ↦ inr (h.0, later)
     ]
 
 among-here : (e : ℕ × Ending) (es : List (ℕ × Ending)) (q : ℕ) → q ≡ e.0 → Among (e ∷ es) q
@@ -31,13 +31,13 @@ among-here e es q same = subst (λ (n : ℕ). Among (e ∷ es) n) (sym same) (e.
 among-or-not : (es : List (ℕ × Ending)) (q : ℕ) → Among es q ⊎ (Among es q → ⊥)
 among-or-not [] q = inr (λ h. contains-none (q, h.0) h.1)
 among-or-not (e ∷ es) q =
-    elim (cases_eq q e.0)
-    [ inl same ↦ inl (among-here e es q same)
-    | inr ne ↦
-        elim (among-or-not es q)
-        [ inl later ↦ inl (later.0, contains-later e es (q, later.0) later.1)
-        | inr not ↦ inr (λ h. elim (among-cons e es q h) [ inl same ↦ ne same | inr later ↦ not later ])
-        ]
+    elim (cases_eq q e.0) [
+      | inl same ↦ inl (among-here e es q same)
+      | inr ne ↦
+          elim (among-or-not es q) [
+            | inl later ↦ inl (later.0, contains-later e es (q, later.0) later.1)
+            | inr not ↦ inr (λ h. elim (among-cons e es q h) [ inl same ↦ ne same | inr later ↦ not later ])
+          ]
     ]
 
 -- gone stays gone
@@ -45,17 +45,17 @@ buried-gone : (es : List (ℕ × Ending)) (ps : Numbered Process) (q : ℕ) → 
 buried-gone [] ps q h = h
 buried-gone (e ∷ es) ps q h =
     let p = put-is ps e.0 Gone
-    in elim (cases_eq q e.0)
-    [ inl same ↦ buried-gone es (bury ps e) q (ap (get (bury ps e)) same ∙ p.here)
-    | inr ne ↦ buried-gone es (bury ps e) q (p.other q ne ∙ h)
+    in elim (cases_eq q e.0) [
+      | inl same ↦ buried-gone es (bury ps e) q (ap (get (bury ps e)) same ∙ p.here)
+      | inr ne ↦ buried-gone es (bury ps e) q (p.other q ne ∙ h)
     ]
 
 buried-in : (es : List (ℕ × Ending)) (ps : Numbered Process) (q : ℕ) → Among es q → get (fold bury ps es) q ≡ Some Gone
 buried-in [] ps q h = absurd (contains-none (q, h.0) h.1)
 buried-in (e ∷ es) ps q h =
-    elim (among-cons e es q h)
-    [ inl same ↦ buried-gone es (bury ps e) q (ap (get (bury ps e)) same ∙ (put-is ps e.0 Gone).here)
-    | inr later ↦ buried-in es (bury ps e) q later
+    elim (among-cons e es q h) [
+      | inl same ↦ buried-gone es (bury ps e) q (ap (get (bury ps e)) same ∙ (put-is ps e.0 Gone).here)
+      | inr later ↦ buried-in es (bury ps e) q later
     ]
 
 buried-out : (es : List (ℕ × Ending)) (ps : Numbered Process) (q : ℕ) → (Among es q → ⊥) → get (fold bury ps es) q ≡ get ps q
@@ -76,18 +76,18 @@ pub cleared : (ps : Numbered Process) (pid : ℕ) (a : Alive) → Families (get 
 cleared ps pid a fam l =
     let es = a.row.family.ended
     in let not_alive : (q : ℕ) (x : Alive) → get ps q ≡ Some (Living x) → Among es q → ⊥ =
-        λ q x h w. living-ended {B = ⊥} x w.0 (at-once (get ps q) (Living x) (Ended w.0) h (fam.ended pid q w.0 (record { alive = a; there = l; kept = w.1 })))
+    λ q x h w. living-ended {B = ⊥} x w.0 (at-once (get ps q) (Living x) (Ended w.0) h (fam.ended pid q w.0 (record { alive = a; there = l; kept = w.1 })))
     in record {
       alive_back = λ q x h.
-          elim (among-or-not es q)
-          [ inl w ↦ living-gone x (at-once (get (buried ps a.row.family) q) (Living x) Gone h (buried-in es ps q w))
-          | inr out ↦ sym (buried-out es ps q out) ∙ h
+          elim (among-or-not es q) [
+            | inl w ↦ living-gone x (at-once (get (buried ps a.row.family) q) (Living x) Gone h (buried-in es ps q w))
+            | inr out ↦ sym (buried-out es ps q out) ∙ h
           ];
       alive_on = λ q x h. buried-out es ps q (not_alive q x h) ∙ h;
       ended_back = λ q d h.
-          elim (among-or-not es q)
-          [ inl w ↦ ended-gone d (at-once (get (buried ps a.row.family) q) (Ended d) Gone h (buried-in es ps q w))
-          | inr out ↦ (sym (buried-out es ps q out) ∙ h, out)
+          elim (among-or-not es q) [
+            | inl w ↦ ended-gone d (at-once (get (buried ps a.row.family) q) (Ended d) Gone h (buried-in es ps q w))
+            | inr out ↦ (sym (buried-out es ps q out) ∙ h, out)
           ];
       ended_on = λ q d h out. buried-out es ps q out ∙ h;
     }
@@ -126,9 +126,9 @@ orphan-later : (child : ℕ) (n : ℕ) (v : Process) (ps : Numbered Process) →
     → ((p : ℕ) (x : Alive) → get ps p ≡ Some (Living x) → lists x.row.family child ≡ false)
     → (p : ℕ) (x : Alive) → get ((n, v) ∷ ps) p ≡ Some (Living x) → lists x.row.family child ≡ false
 orphan-later child n v ps own ih p x h =
-    elim (cases_eq p n)
-    [ inl same ↦ own x (from_some v (Living x) (sym (get-first (n, v) ps p same) ∙ h))
-    | inr ne ↦ ih p x (sym (get-later (n, v) ps p ne) ∙ h)
+    elim (cases_eq p n) [
+      | inl same ↦ own x (from_some v (Living x) (sym (get-first (n, v) ps p same) ∙ h))
+      | inr ne ↦ ih p x (sym (get-later (n, v) ps p ne) ∙ h)
     ]
 
 orphan-if : (child n : ℕ) (a : Alive) (ps : Numbered Process) (listed : Bool) → lists a.row.family child ≡ listed
@@ -158,9 +158,12 @@ own-keeps : (f m : Map) (pid : ℕ) (a : Alive) → f pid ≡ Some (Living a) �
     → (c : ℕ) (d : Ending) → m c ≡ Some (Ended d) → (f c ≡ Some (Ended d)) × (Keeps f pid c d → ⊥)
 own-keeps f m pid a l k c d h =
     let b = k.ended_back c d h
-    in (b.0, λ w.
-        let is : w.alive ≡ a = same-alive w.alive a (at-once (f pid) (Living w.alive) (Living a) w.there l)
-        in b.1 (d, subst (λ (z : Alive). Contains z.row.family.ended (c, d)) is w.kept))
+    in (
+      b.0,
+      λ w.
+          let is : w.alive ≡ a = same-alive w.alive a (at-once (f pid) (Living w.alive) (Living a) w.there l)
+          in b.1 (d, subst (λ (z : Alive). Contains z.row.family.ended (c, d)) is w.kept),
+    )
 
 put-alive : (m g : Map) (pid : ℕ) → Put m g pid Gone → (p : ℕ) (x : Alive) → g p ≡ Some (Living x) → (p ≢ pid) × (m p ≡ Some (Living x))
 put-alive m g pid t p x h =
@@ -173,8 +176,10 @@ over-alone f m g pid a fam l k t alone =
       lists_back = λ p c h.
           let w = put-alive m g pid t p h.alive h.there
           in let b = k.alive_back p h.alive w.1
-          in (record { alive = h.alive; there = b; listed = h.listed },
-          λ same. not_true {B = ⊥} (sym (alone p h.alive b) ∙ subst (λ (x : ℕ). lists h.alive.row.family x ≡ true) same h.listed));
+          in (
+            record { alive = h.alive; there = b; listed = h.listed },
+            λ same. not_true {B = ⊥} (sym (alone p h.alive b) ∙ subst (λ (x : ℕ). lists h.alive.row.family x ≡ true) same h.listed),
+          );
       keeps_back = λ p c d h.
           let w = put-alive m g pid t p h.alive h.there in inl (record { alive = h.alive; there = k.alive_back p h.alive w.1; kept = h.kept }, w.0);
       keeps_on = λ p c d h ne. record { alive = h.alive; there = t.other p ne ∙ k.alive_on p h.alive h.there; kept = h.kept };
@@ -219,16 +224,16 @@ end-apart f m g pid a keeper old new ending ignored fam e same =
 end-lists : (f m g : Map) (pid : ℕ) (a : Alive) (keeper : ℕ) (old new : Alive) (ending : Ending) (ignored : Bool) → Families f
     → End f m g pid a keeper old new ending ignored → (p c : ℕ) → Lists g p c → Lists f p c × (c ≢ pid)
 end-lists f m g pid a keeper old new ending ignored fam e p c h =
-    elim (from m g pid (kept_as ignored ending) keeper (Living new) e.two p (Living h.alive) h.there)
-    [ AtFirst same is ↦ kept-alive ignored ending h.alive is
-    | AtLast same is ↦
-        let w = lists-end old.row.family pid ending ignored c
-            (subst (λ (z : Family). lists z c ≡ true) (end-family f m g pid a keeper old new ending ignored e h.alive is) h.listed)
-        in (record { alive = old; there = ap f same ∙ e.parent; listed = w.0 }, w.1)
-    | Elsewhere first last was ↦
-        let b = e.clear.alive_back p h.alive was
-        in let l : Lists f p c = record { alive = h.alive; there = b; listed = h.listed }
-        in (l, λ same. last (fam.one_parent p keeper pid (subst (λ (x : ℕ). Lists f p x) same l) (record { alive = old; there = e.parent; listed = e.listed })))
+    elim (from m g pid (kept_as ignored ending) keeper (Living new) e.two p (Living h.alive) h.there) [
+      | AtFirst same is ↦ kept-alive ignored ending h.alive is
+      | AtLast same is ↦
+          let w = lists-end old.row.family pid ending ignored c
+          (subst (λ (z : Family). lists z c ≡ true) (end-family f m g pid a keeper old new ending ignored e h.alive is) h.listed)
+          in (record { alive = old; there = ap f same ∙ e.parent; listed = w.0 }, w.1)
+      | Elsewhere first last was ↦
+          let b = e.clear.alive_back p h.alive was
+          in let l : Lists f p c = record { alive = h.alive; there = b; listed = h.listed }
+          in (l, λ same. last (fam.one_parent p keeper pid (subst (λ (x : ℕ). Lists f p x) same l) (record { alive = old; there = e.parent; listed = e.listed })))
     ]
 
 end-new : (f m g : Map) (pid : ℕ) (a : Alive) (keeper : ℕ) (old new : Alive) (ending : Ending) (ignored : Bool)
@@ -240,47 +245,49 @@ end-keeps : (f m g : Map) (pid : ℕ) (a : Alive) (keeper : ℕ) (old new : Aliv
     → End f m g pid a keeper old new ending ignored → (p c : ℕ) (d : Ending) → Keeps g p c d
     → (Keeps f p c d × (p ≢ pid)) ⊎ ((p ≡ keeper) × (c ≡ pid) × (g c ≡ Some (Ended d)))
 end-keeps f m g pid a keeper old new ending ignored fam e p c d h =
-    elim (from m g pid (kept_as ignored ending) keeper (Living new) e.two p (Living h.alive) h.there)
-    [ AtFirst same is ↦ kept-alive ignored ending h.alive is
-    | AtLast same is ↦
-        elim (ended-end old.row.family pid ending ignored c d
-        (subst (λ (z : Family). Contains z.ended (c, d)) (end-family f m g pid a keeper old new ending ignored e h.alive is) h.kept))
-        [ inl before ↦
-            inl (record { alive = old; there = ap f same ∙ e.parent; kept = before },
-            λ own. end-apart f m g pid a keeper old new ending ignored fam e (sym same ∙ own))
-        | inr now ↦ inr (same, sym now.0, end-new f m g pid a keeper old new ending ignored e c d now.0 now.1 now.2)
-        ]
-    | Elsewhere first last was ↦ inl (record { alive = h.alive; there = e.clear.alive_back p h.alive was; kept = h.kept }, first)
+    elim (from m g pid (kept_as ignored ending) keeper (Living new) e.two p (Living h.alive) h.there) [
+      | AtFirst same is ↦ kept-alive ignored ending h.alive is
+      | AtLast same is ↦
+          elim (ended-end old.row.family pid ending ignored c d
+          (subst (λ (z : Family). Contains z.ended (c, d)) (end-family f m g pid a keeper old new ending ignored e h.alive is) h.kept)) [
+            | inl before ↦
+                inl (
+                  record { alive = old; there = ap f same ∙ e.parent; kept = before },
+                  λ own. end-apart f m g pid a keeper old new ending ignored fam e (sym same ∙ own),
+                )
+            | inr now ↦ inr (same, sym now.0, end-new f m g pid a keeper old new ending ignored e c d now.0 now.1 now.2)
+          ]
+      | Elsewhere first last was ↦ inl (record { alive = h.alive; there = e.clear.alive_back p h.alive was; kept = h.kept }, first)
     ]
 
 end-keeps-on : (f m g : Map) (pid : ℕ) (a : Alive) (keeper : ℕ) (old new : Alive) (ending : Ending) (ignored : Bool)
     → End f m g pid a keeper old new ending ignored → (p c : ℕ) (d : Ending) → Keeps f p c d → p ≢ pid → Keeps g p c d
 end-keeps-on f m g pid a keeper old new ending ignored e p c d h ne =
-    elim (cases_eq p keeper)
-    [ inl same ↦
-        let is : h.alive ≡ old = same-alive h.alive old (at-once (f p) (Living h.alive) (Living old) h.there (ap f same ∙ e.parent))
-        in let k : Contains old.row.family.ended (c, d) = subst (λ (z : Alive). Contains z.row.family.ended (c, d)) is h.kept
-        in record {
-          alive = new;
-          there = ap g same ∙ e.two.last;
-          kept = subst (λ (z : Family). Contains z.ended (c, d)) (sym e.after) (ended-stays old.row.family pid ending ignored (c, d) k);
-        }
-    | inr other ↦ record { alive = h.alive; there = e.two.other p ne other ∙ e.clear.alive_on p h.alive h.there; kept = h.kept }
+    elim (cases_eq p keeper) [
+      | inl same ↦
+          let is : h.alive ≡ old = same-alive h.alive old (at-once (f p) (Living h.alive) (Living old) h.there (ap f same ∙ e.parent))
+          in let k : Contains old.row.family.ended (c, d) = subst (λ (z : Alive). Contains z.row.family.ended (c, d)) is h.kept
+          in record {
+            alive = new;
+            there = ap g same ∙ e.two.last;
+            kept = subst (λ (z : Family). Contains z.ended (c, d)) (sym e.after) (ended-stays old.row.family pid ending ignored (c, d) k);
+          }
+      | inr other ↦ record { alive = h.alive; there = e.two.other p ne other ∙ e.clear.alive_on p h.alive h.there; kept = h.kept }
     ]
 
 end-lives : (f m g : Map) (pid : ℕ) (a : Alive) (keeper : ℕ) (old new : Alive) (ending : Ending) (ignored : Bool)
     → End f m g pid a keeper old new ending ignored → (c : ℕ) → Lives f c → c ≢ pid → Lives g c
 end-lives f m g pid a keeper old new ending ignored e c h ne =
-    elim (cases_eq c keeper)
-    [ inl same ↦ record { alive = new; there = ap g same ∙ e.two.last }
-    | inr other ↦ record { alive = h.alive; there = e.two.other c ne other ∙ e.clear.alive_on c h.alive h.there }
+    elim (cases_eq c keeper) [
+      | inl same ↦ record { alive = new; there = ap g same ∙ e.two.last }
+      | inr other ↦ record { alive = h.alive; there = e.two.other c ne other ∙ e.clear.alive_on c h.alive h.there }
     ]
 
 end-keeper : (f m g : Map) (pid : ℕ) (a : Alive) (keeper : ℕ) (old new : Alive) (ending : Ending) (ignored : Bool)
     → End f m g pid a keeper old new ending ignored → (c : ℕ) (d : Ending) → c ≡ pid → ending ≡ d → ignored ≡ false → Keeps g keeper c d
 end-keeper f m g pid a keeper old new ending ignored e c d at is off =
     let k : Contains (with_end old.row.family pid ending ignored).ended (pid, ending) =
-        subst (λ (b : Bool). Contains (with_end old.row.family pid ending b).ended (pid, ending)) (sym off) (ended-new old.row.family pid ending)
+    subst (λ (b : Bool). Contains (with_end old.row.family pid ending b).ended (pid, ending)) (sym off) (ended-new old.row.family pid ending)
     in let k2 : Contains new.row.family.ended (pid, ending) = subst (λ (z : Family). Contains z.ended (pid, ending)) (sym e.after) k
     in let k3 : Contains new.row.family.ended (c, ending) = subst (λ (x : ℕ). Contains new.row.family.ended (x, ending)) (sym at) k2
     in record { alive = new; there = e.two.last; kept = subst (λ (x : Ending). Contains new.row.family.ended (c, x)) is k3 }
@@ -289,11 +296,11 @@ end-ended : (f m g : Map) (pid : ℕ) (a : Alive) (keeper : ℕ) (old new : Aliv
     → End f m g pid a keeper old new ending ignored → (c : ℕ) (d : Ending) → g c ≡ Some (Ended d)
     → Keeps g keeper c d ⊎ ((f c ≡ Some (Ended d)) × (Keeps f pid c d → ⊥))
 end-ended f m g pid a keeper old new ending ignored e c d h =
-    elim (from m g pid (kept_as ignored ending) keeper (Living new) e.two c (Ended d) h)
-    [ AtFirst same is ↦
-        let w = kept-ended ignored ending d is in inl (end-keeper f m g pid a keeper old new ending ignored e c d same w.1 w.0)
-    | AtLast same is ↦ living-ended new d is
-    | Elsewhere first last was ↦ inr (own-keeps f m pid a e.lives e.clear c d was)
+    elim (from m g pid (kept_as ignored ending) keeper (Living new) e.two c (Ended d) h) [
+      | AtFirst same is ↦
+          let w = kept-ended ignored ending d is in inl (end-keeper f m g pid a keeper old new ending ignored e c d same w.1 w.0)
+      | AtLast same is ↦ living-ended new d is
+      | Elsewhere first last was ↦ inr (own-keeps f m pid a e.lives e.clear c d was)
     ]
 
 pub over-end : (f m g : Map) (pid : ℕ) (a : Alive) (keeper : ℕ) (old new : Alive) (ending : Ending) (ignored : Bool) → Families f

@@ -47,13 +47,13 @@ pub data From (f : Map) (k : ℕ) (u : Process) (l : ℕ) (v : Process) (q : ℕ
 
 pub from : (f g : Map) (k : ℕ) (u : Process) (l : ℕ) (v : Process) → Two f g k u l v → (q : ℕ) (w : Process) → g q ≡ Some w → From f k u l v q w
 from f g k u l v t q w h =
-    elim (cases_eq q k)
-    [ inl a ↦ AtFirst a (at-once (g k) u w t.first (ap g (sym a) ∙ h))
-    | inr a ↦
-        elim (cases_eq q l)
-        [ inl b ↦ AtLast b (at-once (g l) v w t.last (ap g (sym b) ∙ h))
-        | inr b ↦ Elsewhere a b (sym (t.other q a b) ∙ h)
-        ]
+    elim (cases_eq q k) [
+      | inl a ↦ AtFirst a (at-once (g k) u w t.first (ap g (sym a) ∙ h))
+      | inr a ↦
+          elim (cases_eq q l) [
+            | inl b ↦ AtLast b (at-once (g l) v w t.last (ap g (sym b) ∙ h))
+            | inr b ↦ Elsewhere a b (sym (t.other q a b) ∙ h)
+          ]
     ]
 
 -- two numbers that have different processes are different
@@ -68,21 +68,21 @@ Each c = Unit {0}
 same-alive-back : (f g : Map) (pid : ℕ) (a b : Alive) → Put f g pid (Living b) → f pid ≡ Some (Living a) → b.row.family ≡ a.row.family
     → (p : ℕ) (x : Alive) → g p ≡ Some (Living x) → (y : Alive) × (f p ≡ Some (Living y)) × (x.row.family ≡ y.row.family)
 same-alive-back f g pid a b t l e p x h =
-    elim (cases_eq p pid)
-    [ inl same ↦
-        let is : b ≡ x = same-alive b x (put-here f g pid (Living b) t p (Living x) h same)
-        in (a, ap f same ∙ l, ap (λ (z : Alive). z.row.family) (sym is) ∙ e)
-    | inr ne ↦ (x, put-there f g pid (Living b) t p (Living x) h ne, refl)
+    elim (cases_eq p pid) [
+      | inl same ↦
+          let is : b ≡ x = same-alive b x (put-here f g pid (Living b) t p (Living x) h same)
+          in (a, ap f same ∙ l, ap (λ (z : Alive). z.row.family) (sym is) ∙ e)
+      | inr ne ↦ (x, put-there f g pid (Living b) t p (Living x) h ne, refl)
     ]
 
 same-alive-on : (f g : Map) (pid : ℕ) (a b : Alive) → Put f g pid (Living b) → f pid ≡ Some (Living a) → b.row.family ≡ a.row.family
     → (p : ℕ) (x : Alive) → f p ≡ Some (Living x) → (y : Alive) × (g p ≡ Some (Living y)) × (x.row.family ≡ y.row.family)
 same-alive-on f g pid a b t l e p x h =
-    elim (cases_eq p pid)
-    [ inl same ↦
-        let is : a ≡ x = same-alive a x (at-once (f pid) (Living a) (Living x) l (ap f (sym same) ∙ h))
-        in (b, ap g same ∙ t.here, ap (λ (z : Alive). z.row.family) (sym is) ∙ sym e)
-    | inr ne ↦ (x, put-stays f g pid (Living b) t p (Living x) h ne, refl)
+    elim (cases_eq p pid) [
+      | inl same ↦
+          let is : a ≡ x = same-alive a x (at-once (f pid) (Living a) (Living x) l (ap f (sym same) ∙ h))
+          in (b, ap g same ∙ t.here, ap (λ (z : Alive). z.row.family) (sym is) ∙ sym e)
+      | inr ne ↦ (x, put-stays f g pid (Living b) t p (Living x) h ne, refl)
     ]
 
 lists-in : (f : Map) (p c : ℕ) (x y : Alive) → lists x.row.family c ≡ true → f p ≡ Some (Living y) → x.row.family ≡ y.row.family → Lists f p c
@@ -135,59 +135,59 @@ born-lists : (f g : Map) (pid n : ℕ) (a child parent : Alive) → Two f g n (L
     → child.row.family ≡ no_family → parent.row.family ≡ with_child a.row.family n
     → (p c : ℕ) → Lists g p c → Lists f p c ⊎ ((p ≡ pid) × (c ≡ n))
 born-lists f g pid n a child parent t l none more p c h =
-    elim (from f g n (Living child) pid (Living parent) t p (Living h.alive) h.there)
-    [ AtFirst same is ↦
-        let e : no_family ≡ h.alive.row.family = sym none ∙ ap (λ (z : Alive). z.row.family) (same-alive child h.alive is)
-        in absurd (not_true {B = ⊥} (subst (λ (z : Family). lists z c ≡ true) (sym e) h.listed))
-    | AtLast same is ↦
-        let e : with_child a.row.family n ≡ h.alive.row.family = sym more ∙ ap (λ (z : Alive). z.row.family) (same-alive parent h.alive is)
-        in elim (lists-child a.row.family n c (subst (λ (z : Family). lists z c ≡ true) (sym e) h.listed))
-        [ inl old ↦ inl (record { alive = a; there = ap f same ∙ l; listed = old })
-        | inr new ↦ inr (same, new)
-        ]
-    | Elsewhere first last was ↦ inl (record { alive = h.alive; there = was; listed = h.listed })
+    elim (from f g n (Living child) pid (Living parent) t p (Living h.alive) h.there) [
+      | AtFirst same is ↦
+          let e : no_family ≡ h.alive.row.family = sym none ∙ ap (λ (z : Alive). z.row.family) (same-alive child h.alive is)
+          in absurd (not_true {B = ⊥} (subst (λ (z : Family). lists z c ≡ true) (sym e) h.listed))
+      | AtLast same is ↦
+          let e : with_child a.row.family n ≡ h.alive.row.family = sym more ∙ ap (λ (z : Alive). z.row.family) (same-alive parent h.alive is)
+          in elim (lists-child a.row.family n c (subst (λ (z : Family). lists z c ≡ true) (sym e) h.listed)) [
+            | inl old ↦ inl (record { alive = a; there = ap f same ∙ l; listed = old })
+            | inr new ↦ inr (same, new)
+          ]
+      | Elsewhere first last was ↦ inl (record { alive = h.alive; there = was; listed = h.listed })
     ]
 
 born-keeps : (f g : Map) (pid n : ℕ) (a child parent : Alive) → Two f g n (Living child) pid (Living parent) → f pid ≡ Some (Living a)
     → child.row.family ≡ no_family → parent.row.family ≡ with_child a.row.family n
     → (p c : ℕ) (d : Ending) → Keeps g p c d → Keeps f p c d
 born-keeps f g pid n a child parent t l none more p c d h =
-    elim (from f g n (Living child) pid (Living parent) t p (Living h.alive) h.there)
-    [ AtFirst same is ↦
-        let e : no_family ≡ h.alive.row.family = sym none ∙ ap (λ (z : Alive). z.row.family) (same-alive child h.alive is)
-        in absurd (contains-none (c, d) (subst (λ (z : Family). Contains z.ended (c, d)) (sym e) h.kept))
-    | AtLast same is ↦
-        let e : with_child a.row.family n ≡ h.alive.row.family = sym more ∙ ap (λ (z : Alive). z.row.family) (same-alive parent h.alive is)
-        in record { alive = a; there = ap f same ∙ l; kept = subst (λ (z : Family). Contains z.ended (c, d)) (sym e) h.kept }
-    | Elsewhere first last was ↦ record { alive = h.alive; there = was; kept = h.kept }
+    elim (from f g n (Living child) pid (Living parent) t p (Living h.alive) h.there) [
+      | AtFirst same is ↦
+          let e : no_family ≡ h.alive.row.family = sym none ∙ ap (λ (z : Alive). z.row.family) (same-alive child h.alive is)
+          in absurd (contains-none (c, d) (subst (λ (z : Family). Contains z.ended (c, d)) (sym e) h.kept))
+      | AtLast same is ↦
+          let e : with_child a.row.family n ≡ h.alive.row.family = sym more ∙ ap (λ (z : Alive). z.row.family) (same-alive parent h.alive is)
+          in record { alive = a; there = ap f same ∙ l; kept = subst (λ (z : Family). Contains z.ended (c, d)) (sym e) h.kept }
+      | Elsewhere first last was ↦ record { alive = h.alive; there = was; kept = h.kept }
     ]
 
 born-keeps-on : (f g : Map) (pid n : ℕ) (a child parent : Alive) → Two f g n (Living child) pid (Living parent) → f pid ≡ Some (Living a) → f n ≡ None
     → parent.row.family ≡ with_child a.row.family n → (p c : ℕ) (d : Ending) → Keeps f p c d → Keeps g p c d
 born-keeps-on f g pid n a child parent t l absent more p c d h =
-    elim (cases_eq p pid)
-    [ inl same ↦
-        let is : h.alive ≡ a = same-alive h.alive a (at-once (f p) (Living h.alive) (Living a) h.there (ap f same ∙ l))
-        in let e : h.alive.row.family.ended ≡ parent.row.family.ended =
-            ap (λ (z : Alive). z.row.family.ended) is ∙ ap (λ (z : Family). z.ended) (sym more)
-        in record { alive = parent; there = ap g same ∙ t.last; kept = subst (λ (z : List (ℕ × Ending)). Contains z (c, d)) e h.kept }
-    | inr ne ↦
-        record { alive = h.alive; there = t.other p (absent-different f p n (Living h.alive) h.there absent) ne ∙ h.there; kept = h.kept }
+    elim (cases_eq p pid) [
+      | inl same ↦
+          let is : h.alive ≡ a = same-alive h.alive a (at-once (f p) (Living h.alive) (Living a) h.there (ap f same ∙ l))
+          in let e : h.alive.row.family.ended ≡ parent.row.family.ended =
+          ap (λ (z : Alive). z.row.family.ended) is ∙ ap (λ (z : Family). z.ended) (sym more)
+          in record { alive = parent; there = ap g same ∙ t.last; kept = subst (λ (z : List (ℕ × Ending)). Contains z (c, d)) e h.kept }
+      | inr ne ↦
+          record { alive = h.alive; there = t.other p (absent-different f p n (Living h.alive) h.there absent) ne ∙ h.there; kept = h.kept }
     ]
 
 born-lives : (f g : Map) (pid n : ℕ) (child parent : Alive) → Two f g n (Living child) pid (Living parent) → f n ≡ None → (c : ℕ) → Lives f c → Lives g c
 born-lives f g pid n child parent t absent c h =
-    elim (cases_eq c pid)
-    [ inl same ↦ record { alive = parent; there = ap g same ∙ t.last }
-    | inr ne ↦ record { alive = h.alive; there = t.other c (absent-different f c n (Living h.alive) h.there absent) ne ∙ h.there }
+    elim (cases_eq c pid) [
+      | inl same ↦ record { alive = parent; there = ap g same ∙ t.last }
+      | inr ne ↦ record { alive = h.alive; there = t.other c (absent-different f c n (Living h.alive) h.there absent) ne ∙ h.there }
     ]
 
 born-ended : (f g : Map) (pid n : ℕ) (child parent : Alive) → Two f g n (Living child) pid (Living parent) → (c : ℕ) (d : Ending) → g c ≡ Some (Ended d) → f c ≡ Some (Ended d)
 born-ended f g pid n child parent t c d h =
-    elim (from f g n (Living child) pid (Living parent) t c (Ended d) h)
-    [ AtFirst same is ↦ living-ended child d is
-    | AtLast same is ↦ living-ended parent d is
-    | Elsewhere first last was ↦ was
+    elim (from f g n (Living child) pid (Living parent) t c (Ended d) h) [
+      | AtFirst same is ↦ living-ended child d is
+      | AtLast same is ↦ living-ended parent d is
+      | Elsewhere first last was ↦ was
     ]
 
 pub born-is : (f g : Map) (pid n : ℕ) (a child parent : Alive) → Two f g n (Living child) pid (Living parent) → f pid ≡ Some (Living a) → f n ≡ None
@@ -220,13 +220,13 @@ pub record Reap (f g : Map) (pid child : ℕ) (a b : Alive) (ending : Ending) : 
 
 reap-lists : (f g : Map) (pid child : ℕ) (a b : Alive) (ending : Ending) → Reap f g pid child a b ending → (p c : ℕ) → Lists g p c → Lists f p c
 reap-lists f g pid child a b ending r p c h =
-    elim (from f g pid (Living b) child Gone r.two p (Living h.alive) h.there)
-    [ AtFirst same is ↦
-        let e : h.alive.row.family ≡ without_ended child a.row.family =
-            ap (λ (z : Alive). z.row.family) (sym (same-alive b h.alive is)) ∙ r.less
-        in record { alive = a; there = ap f same ∙ r.lives; listed = subst (λ (z : Family). lists z c ≡ true) e h.listed }
-    | AtLast same is ↦ living-gone h.alive (sym is)
-    | Elsewhere first last was ↦ record { alive = h.alive; there = was; listed = h.listed }
+    elim (from f g pid (Living b) child Gone r.two p (Living h.alive) h.there) [
+      | AtFirst same is ↦
+          let e : h.alive.row.family ≡ without_ended child a.row.family =
+          ap (λ (z : Alive). z.row.family) (sym (same-alive b h.alive is)) ∙ r.less
+          in record { alive = a; there = ap f same ∙ r.lives; listed = subst (λ (z : Family). lists z c ≡ true) e h.listed }
+      | AtLast same is ↦ living-gone h.alive (sym is)
+      | Elsewhere first last was ↦ record { alive = h.alive; there = was; listed = h.listed }
     ]
 
 -- no other process keeps the child
@@ -238,15 +238,15 @@ reap-other f g pid child a b ending fam r k p c d h ne same =
 reap-keeps : (f g : Map) (pid child : ℕ) (a b : Alive) (ending : Ending) → Families f → Reap f g pid child a b ending → Contains a.row.family.ended (child, ending)
     → (p c : ℕ) (d : Ending) → Keeps g p c d → Keeps f p c d × Not child c
 reap-keeps f g pid child a b ending fam r k p c d h =
-    elim (from f g pid (Living b) child Gone r.two p (Living h.alive) h.there)
-    [ AtFirst same is ↦
-        let e : h.alive.row.family ≡ without_ended child a.row.family =
-            ap (λ (z : Alive). z.row.family) (sym (same-alive b h.alive is)) ∙ r.less
-        in let w = without-back a.row.family child c d (subst (λ (z : Family). Contains z.ended (c, d)) e h.kept)
-        in (record { alive = a; there = ap f same ∙ r.lives; kept = w.0 }, w.1)
-    | AtLast same is ↦ living-gone h.alive (sym is)
-    | Elsewhere first last was ↦
-        let old : Keeps f p c d = record { alive = h.alive; there = was; kept = h.kept } in (old, reap-other f g pid child a b ending fam r k p c d old first)
+    elim (from f g pid (Living b) child Gone r.two p (Living h.alive) h.there) [
+      | AtFirst same is ↦
+          let e : h.alive.row.family ≡ without_ended child a.row.family =
+          ap (λ (z : Alive). z.row.family) (sym (same-alive b h.alive is)) ∙ r.less
+          in let w = without-back a.row.family child c d (subst (λ (z : Family). Contains z.ended (c, d)) e h.kept)
+          in (record { alive = a; there = ap f same ∙ r.lives; kept = w.0 }, w.1)
+      | AtLast same is ↦ living-gone h.alive (sym is)
+      | Elsewhere first last was ↦
+          let old : Keeps f p c d = record { alive = h.alive; there = was; kept = h.kept } in (old, reap-other f g pid child a b ending fam r k p c d old first)
     ]
 
 reap-alive : (f g : Map) (pid child : ℕ) (a b : Alive) (ending : Ending) → Reap f g pid child a b ending → (p : ℕ) (x : Alive) → f p ≡ Some (Living x) → p ≢ child
@@ -255,33 +255,33 @@ reap-alive f g pid child a b ending r p x h = different f p child (Living x) (En
 reap-keeps-on : (f g : Map) (pid child : ℕ) (a b : Alive) (ending : Ending) → Reap f g pid child a b ending
     → (p c : ℕ) (d : Ending) → Keeps f p c d → c ≢ child → Keeps g p c d
 reap-keeps-on f g pid child a b ending r p c d h ne =
-    elim (cases_eq p pid)
-    [ inl same ↦
-        let is : h.alive ≡ a = same-alive h.alive a (at-once (f p) (Living h.alive) (Living a) h.there (ap f same ∙ r.lives))
-        in let k : Contains a.row.family.ended (c, d) = subst (λ (z : Alive). Contains z.row.family.ended (c, d)) is h.kept
-        in record {
-          alive = b;
-          there = ap g same ∙ r.two.first;
-          kept = subst (λ (z : Family). Contains z.ended (c, d)) (sym r.less) (without-on a.row.family child c d k ne);
-        }
-    | inr other ↦
-        record { alive = h.alive; there = r.two.other p other (reap-alive f g pid child a b ending r p h.alive h.there) ∙ h.there; kept = h.kept }
+    elim (cases_eq p pid) [
+      | inl same ↦
+          let is : h.alive ≡ a = same-alive h.alive a (at-once (f p) (Living h.alive) (Living a) h.there (ap f same ∙ r.lives))
+          in let k : Contains a.row.family.ended (c, d) = subst (λ (z : Alive). Contains z.row.family.ended (c, d)) is h.kept
+          in record {
+            alive = b;
+            there = ap g same ∙ r.two.first;
+            kept = subst (λ (z : Family). Contains z.ended (c, d)) (sym r.less) (without-on a.row.family child c d k ne);
+          }
+      | inr other ↦
+          record { alive = h.alive; there = r.two.other p other (reap-alive f g pid child a b ending r p h.alive h.there) ∙ h.there; kept = h.kept }
     ]
 
 reap-lives : (f g : Map) (pid child : ℕ) (a b : Alive) (ending : Ending) → Reap f g pid child a b ending → (c : ℕ) → Lives f c → Lives g c
 reap-lives f g pid child a b ending r c h =
-    elim (cases_eq c pid)
-    [ inl same ↦ record { alive = b; there = ap g same ∙ r.two.first }
-    | inr other ↦ record { alive = h.alive; there = r.two.other c other (reap-alive f g pid child a b ending r c h.alive h.there) ∙ h.there }
+    elim (cases_eq c pid) [
+      | inl same ↦ record { alive = b; there = ap g same ∙ r.two.first }
+      | inr other ↦ record { alive = h.alive; there = r.two.other c other (reap-alive f g pid child a b ending r c h.alive h.there) ∙ h.there }
     ]
 
 reap-ended : (f g : Map) (pid child : ℕ) (a b : Alive) (ending : Ending) → Reap f g pid child a b ending
     → (c : ℕ) (d : Ending) → g c ≡ Some (Ended d) → (f c ≡ Some (Ended d)) × Not child c
 reap-ended f g pid child a b ending r c d h =
-    elim (from f g pid (Living b) child Gone r.two c (Ended d) h)
-    [ AtFirst same is ↦ living-ended b d is
-    | AtLast same is ↦ ended-gone d (sym is)
-    | Elsewhere first last was ↦ (was, last)
+    elim (from f g pid (Living b) child Gone r.two c (Ended d) h) [
+      | AtFirst same is ↦ living-ended b d is
+      | AtLast same is ↦ ended-gone d (sym is)
+      | Elsewhere first last was ↦ (was, last)
     ]
 
 pub kept-reap : (f g : Map) (pid child : ℕ) (a b : Alive) (ending : Ending) → Families f → Reap f g pid child a b ending → Contains a.row.family.ended (child, ending)

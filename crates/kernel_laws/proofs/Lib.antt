@@ -15,4 +15,5 @@ pub mod EndChanges
 pub mod Living
 pub mod People
 pub mod ProcessLaws
+pub mod ValidLaws
 pub mod Refusals

@@ -32,19 +32,19 @@ pub contains-filter : {X : Type 0} (p : X → Bool) (xs : List X) (x : X) → Co
 contains-filter p [] x h t = absurd (contains-none x h)
 contains-filter {X} p (y ∷ ys) x h t =
     let P : List X → Type 0 = λ zs. Contains zs x
-    in elim (cases_Bool (p y))
-    [ inl keep ↦
-        let e : filter p (y ∷ ys) ≡ y ∷ filter p ys = rw keep refl
-        in elim (contains-cases y ys x h)
-        [ inl same ↦ let Q : X → Type 0 = λ z. Contains (filter p (y ∷ ys)) z in subst Q same (let R : List X → Type 0 = λ zs. Contains zs y in subst R (sym e) (contains-first y (filter p ys)))
-        | inr later ↦ subst P (sym e) (contains-later y (filter p ys) x (contains-filter p ys x later t))
-        ]
-    | inr drop ↦
-        let e : filter p (y ∷ ys) ≡ filter p ys = rw drop refl
-        in elim (contains-cases y ys x h)
-        [ inl same ↦ absurd (not_true {B = ⊥} (sym drop ∙ (ap p same ∙ t)))
-        | inr later ↦ subst P (sym e) (contains-filter p ys x later t)
-        ]
+    in elim (cases_Bool (p y)) [
+      | inl keep ↦
+          let e : filter p (y ∷ ys) ≡ y ∷ filter p ys = rw keep refl
+          in elim (contains-cases y ys x h) [
+            | inl same ↦ let Q : X → Type 0 = λ z. Contains (filter p (y ∷ ys)) z in subst Q same (let R : List X → Type 0 = λ zs. Contains zs y in subst R (sym e) (contains-first y (filter p ys)))
+            | inr later ↦ subst P (sym e) (contains-later y (filter p ys) x (contains-filter p ys x later t))
+          ]
+      | inr drop ↦
+          let e : filter p (y ∷ ys) ≡ filter p ys = rw drop refl
+          in elim (contains-cases y ys x h) [
+            | inl same ↦ absurd (not_true {B = ⊥} (sym drop ∙ (ap p same ∙ t)))
+            | inr later ↦ subst P (sym e) (contains-filter p ys x later t)
+          ]
     ]
 
 -- one of a list of numbers
@@ -52,13 +52,13 @@ any-push : (n : ℕ) (ns : List ℕ) (m : ℕ) → list_any (nat_eq m) (ns ++ n 
 any-push n [] m h =
     elim (or_cases (nat_eq m n) false h) [ inl t ↦ inr (eqb-true m n t) | inr f ↦ absurd (not_true {B = ⊥} f) ]
 any-push n (x ∷ ns) m h =
-    elim (or_cases (nat_eq m x) (list_any (nat_eq m) (ns ++ n ∷ [])) h)
-    [ inl t ↦ inl (or_left (nat_eq m x) (list_any (nat_eq m) ns) t)
-    | inr r ↦
-        elim (any-push n ns m r)
-        [ inl old ↦ inl (or_right (nat_eq m x) (list_any (nat_eq m) ns) old)
-        | inr new ↦ inr new
-        ]
+    elim (or_cases (nat_eq m x) (list_any (nat_eq m) (ns ++ n ∷ [])) h) [
+      | inl t ↦ inl (or_left (nat_eq m x) (list_any (nat_eq m) ns) t)
+      | inr r ↦
+          elim (any-push n ns m r) [
+            | inl old ↦ inl (or_right (nat_eq m x) (list_any (nat_eq m) ns) old)
+            | inr new ↦ inr new
+          ]
     ]
 
 any-cons : (p : ℕ → Bool) (x : ℕ) (xs : List ℕ) → list_any p (x ∷ xs) ≡ true → (p x ≡ true) ⊎ (list_any p xs ≡ true)
@@ -68,18 +68,18 @@ any-others : (n : ℕ) (ns : List ℕ) (m : ℕ) → list_any (nat_eq m) (others
 any-others n [] m h = not_true h
 any-others n (x ∷ ns) m h =
     let p : ℕ → Bool = λ c. not (nat_eq n c)
-    in elim (cases_Bool (nat_eq n x))
-    [ inl t ↦
-        let e : others n (x ∷ ns) ≡ others n ns = rw t refl
-        in let i = any-others n ns m (ap (λ zs. list_any (nat_eq m) zs) (sym e) ∙ h)
-        in (or_right (nat_eq m x) (list_any (nat_eq m) ns) i.0, i.1)
-    | inr f ↦
-        let e : others n (x ∷ ns) ≡ x ∷ others n ns = rw f refl
-        in elim (any-cons (nat_eq m) x (others n ns) (ap (λ zs. list_any (nat_eq m) zs) (sym e) ∙ h))
-        [ inl first ↦
-            (or_left (nat_eq m x) (list_any (nat_eq m) ns) first, λ same. not_true {B = ⊥} (sym f ∙ eq-eqb n x (sym same ∙ eqb-true m x first)))
-        | inr later ↦ let i = any-others n ns m later in (or_right (nat_eq m x) (list_any (nat_eq m) ns) i.0, i.1)
-        ]
+    in elim (cases_Bool (nat_eq n x)) [
+      | inl t ↦
+          let e : others n (x ∷ ns) ≡ others n ns = rw t refl
+          in let i = any-others n ns m (ap (λ zs. list_any (nat_eq m) zs) (sym e) ∙ h)
+          in (or_right (nat_eq m x) (list_any (nat_eq m) ns) i.0, i.1)
+      | inr f ↦
+          let e : others n (x ∷ ns) ≡ x ∷ others n ns = rw f refl
+          in elim (any-cons (nat_eq m) x (others n ns) (ap (λ zs. list_any (nat_eq m) zs) (sym e) ∙ h)) [
+            | inl first ↦
+                (or_left (nat_eq m x) (list_any (nat_eq m) ns) first, λ same. not_true {B = ⊥} (sym f ∙ eq-eqb n x (sym same ∙ eqb-true m x first)))
+            | inr later ↦ let i = any-others n ns m later in (or_right (nat_eq m x) (list_any (nat_eq m) ns) i.0, i.1)
+          ]
     ]
 
 -- children after a fork and after an end
@@ -93,9 +93,9 @@ pub ended-end : (f : Family) (n : ℕ) (e : Ending) (ignored : Bool) (c : ℕ) (
     → Contains f.ended (c, d) ⊎ ((n ≡ c) × (e ≡ d) × (ignored ≡ false))
 ended-end f n e true c d h = inl h
 ended-end f n e false c d h =
-    elim (Contains-push_cases f.ended (n, e) (c, d) h)
-    [ inl old ↦ inl old
-    | inr new ↦ inr (ap (λ (x : ℕ × Ending). x.0) new, ap (λ (x : ℕ × Ending). x.1) new, refl)
+    elim (Contains-push_cases f.ended (n, e) (c, d) h) [
+      | inl old ↦ inl old
+      | inr new ↦ inr (ap (λ (x : ℕ × Ending). x.0) new, ap (λ (x : ℕ × Ending). x.1) new, refl)
     ]
 
 pub ended-stays : (f : Family) (n : ℕ) (e : Ending) (ignored : Bool) (x : ℕ × Ending) → Contains f.ended x → Contains (with_end f n e ignored).ended x

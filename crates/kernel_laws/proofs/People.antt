@@ -27,20 +27,20 @@ pub record People (A : ℕ → Alive → Type 0) (ps : Numbered Process) (used :
 each-put : (A : ℕ → Alive → Type 0) (ps : Numbered Process) (k : ℕ) (v : Process) → ((p : ℕ) (x : Alive) → get ps p ≡ Some (Living x) → A p x)
     → ((x : Alive) → v ≡ Living x → A k x) → (p : ℕ) (x : Alive) → get (put ps k v) p ≡ Some (Living x) → A p x
 each-put A ps k v h own p x g =
-    elim (cases_eq p k)
-    [ inl same ↦
-        let is : v ≡ Living x = from_some v (Living x) (sym (get-put-same ps k v) ∙ (ap (get (put ps k v)) (sym same) ∙ g))
-        in subst (λ (q : ℕ). A q x) (sym same) (own x is)
-    | inr ne ↦ h p x (sym (get-put-other ps k v p ne) ∙ g)
+    elim (cases_eq p k) [
+      | inl same ↦
+          let is : v ≡ Living x = from_some v (Living x) (sym (get-put-same ps k v) ∙ (ap (get (put ps k v)) (sym same) ∙ g))
+          in subst (λ (q : ℕ). A q x) (sym same) (own x is)
+      | inr ne ↦ h p x (sym (get-put-other ps k v p ne) ∙ g)
     ]
 
 used-there : (ps : Numbered Process) (k : ℕ) (v : Process) (used : List ℕ) → ((n : ℕ) → is_used used n ≡ is_some (get ps n)) → is_some (get ps k) ≡ true
     → (n : ℕ) → is_used used n ≡ is_some (get (put ps k v) n)
 used-there ps k v used h there n =
-    elim (cases_eq n k)
-    [ inl same ↦
-        h n ∙ (ap (λ q. is_some (get ps q)) same ∙ (there ∙ sym (ap (λ q. is_some (get (put ps k v) q)) same ∙ ap is_some (get-put-same ps k v))))
-    | inr ne ↦ h n ∙ sym (ap is_some (get-put-other ps k v n ne))
+    elim (cases_eq n k) [
+      | inl same ↦
+          h n ∙ (ap (λ q. is_some (get ps q)) same ∙ (there ∙ sym (ap (λ q. is_some (get (put ps k v) q)) same ∙ ap is_some (get-put-same ps k v))))
+      | inr ne ↦ h n ∙ sym (ap is_some (get-put-other ps k v n ne))
     ]
 
 -- another process where there was one
@@ -52,10 +52,10 @@ body-put A ps used b k v there own =
 used-new : (ps : Numbered Process) (k : ℕ) (v : Process) (used : List ℕ) → ((n : ℕ) → is_used used n ≡ is_some (get ps n))
     → (n : ℕ) → is_used (used_with used k) n ≡ is_some (get (put ps k v) n)
 used-new ps k v used h n =
-    elim (cases_eq n k)
-    [ inl same ↦
-        ap (is_used (used_with used k)) same ∙ (used-with-same used k ∙ sym (ap (λ q. is_some (get (put ps k v) q)) same ∙ ap is_some (get-put-same ps k v)))
-    | inr ne ↦ used-with-other used k n ne ∙ (h n ∙ sym (ap is_some (get-put-other ps k v n ne)))
+    elim (cases_eq n k) [
+      | inl same ↦
+          ap (is_used (used_with used k)) same ∙ (used-with-same used k ∙ sym (ap (λ q. is_some (get (put ps k v) q)) same ∙ ap is_some (get-put-same ps k v)))
+      | inr ne ↦ used-with-other used k n ne ∙ (h n ∙ sym (ap is_some (get-put-other ps k v n ne)))
     ]
 
 -- a new process at a new number

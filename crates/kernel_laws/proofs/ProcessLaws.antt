@@ -73,7 +73,7 @@ forked ps used pid a n h l f =
     in let parent = weak pid pid (forking a n) (strong-forking a n s)
     in let b = body-new (Weak pid) ps used (weaken ps used pid h).body n (Living (new_child a)) (λ x e. subst (λ (y : Alive). Weak pid n y) (same-alive (new_child a) x e) child)
     in let two = two-puts (get ps) (get mid) (get (with_fork ps pid a n)) n pid (Living (new_child a)) (Living (forking a n)) ne
-        (put-is ps n (Living (new_child a))) (put-is mid pid (Living (forking a n)))
+    (put-is ps n (Living (new_child a))) (put-is mid pid (Living (forking a n)))
     in record {
       body =
           body-put (Weak pid) mid (used_with used n) b pid (Living (forking a n)) (there-put ps n (Living (new_child a)) pid (ap is_some l))
@@ -136,9 +136,9 @@ ended-kept ps used pid a ending keeper old h l parent listed =
     in let kept = put mid pid v
     in let new = with_ended_child old pid ending
     in let ne : pid ≢ keeper =
-        λ same. h.families.alone pid (subst (λ (x : ℕ). Lists (get ps) x pid) (sym same) (record { alive = old; there = parent; listed = listed }))
+    λ same. h.families.alone pid (subst (λ (x : ℕ). Lists (get ps) x pid) (sym same) (record { alive = old; there = parent; listed = listed }))
     in let b = body-put (Weak pid) mid used (buried-body ps used pid a h l) pid v (buried-there a.row.family.ended ps pid (ap is_some l))
-        (λ x e. kept-not-living (ignores_children old.row) ending x e)
+    (λ x e. kept-not-living (ignores_children old.row) ending x e)
     in let w = weak pid keeper new (strong-ended_child old pid ending (h.body.each keeper old parent))
     in record {
       body =
@@ -166,7 +166,7 @@ reaped ps used pid a child ending h l c =
     in let ne : pid ≢ child = different (get ps) pid child (Living a) (Ended ending) l dead (living-ended a ending)
     in let w = weak pid pid (reaping a child) (strong-reaping a child s)
     in let b = body-put (Weak pid) ps used (weaken ps used pid h).body pid (Living (reaping a child)) (ap is_some l)
-        (λ x e. subst (λ (y : Alive). Weak pid pid y) (same-alive (reaping a child) x e) w)
+    (λ x e. subst (λ (y : Alive). Weak pid pid y) (same-alive (reaping a child) x e) w)
     in record {
       body = body-put (Weak pid) mid used b child Gone (there-put ps pid (Living (reaping a child)) child (ap is_some dead)) (λ x e. living-gone x (sym e));
       families =
@@ -229,9 +229,9 @@ strengthen ps used caller h own =
         rise = h.body.rise;
         used_is = h.body.used_is;
         each = λ p x l.
-            elim (cases_eq p caller)
-            [ inl same ↦ own x (ap (get ps) (sym same) ∙ l)
-            | inr ne ↦ strong-other caller p x (h.body.each p x l) ne
+            elim (cases_eq p caller) [
+              | inl same ↦ own x (ap (get ps) (sym same) ∙ l)
+              | inr ne ↦ strong-other caller p x (h.body.each p x l) ne
             ];
       };
       families = h.families;
@@ -257,8 +257,8 @@ finish-doom k pid a h l true d = spend k.processes k.used_processes pid a h l d
 finish-doom k pid a h l false d =
     strengthen k.processes k.used_processes pid h
     (λ x e.
-        let s = strong-undoomed pid pid a (h.body.each pid a l) d
-        in subst Strong (same-alive a x (at-once (get k.processes pid) (Living a) (Living x) l e)) s)
+    let s = strong-undoomed pid pid a (h.body.each pid a l) d
+    in subst Strong (same-alive a x (at-once (get k.processes pid) (Living a) (Living x) l e)) s)
 
 finish : (k : Kernel) (pid : ℕ) → Midway pid k → (found : Option Alive) → living_at k pid ≡ found → Settled (finished k pid found)
 finish k pid h None e = strengthen k.processes k.used_processes pid h (λ x l. absurd (not-living k.processes pid x e l))
