@@ -92,35 +92,35 @@ nobody f n h l = not_some {B = ⊥} (Living l.alive) (sym h ∙ l.there)
 
 born-one_parent : (f g : Map) (pid n : ℕ) → Families f → Born f g pid n → (p q c : ℕ) → Lists g p c → Lists g q c → p ≡ q
 born-one_parent f g pid n h b p q c l m =
-    elim (b.lists_back p c l)
-    [ inl old ↦
-        elim (b.lists_back q c m)
-        [ inl older ↦ h.one_parent p q c old older
-        | inr new ↦ absurd (nobody f n b.absent (subst (λ (x : ℕ). Lives f x) new.1 (h.living p c old)))
-        ]
-    | inr new ↦
-        elim (b.lists_back q c m)
-        [ inl old ↦ absurd (nobody f n b.absent (subst (λ (x : ℕ). Lives f x) new.1 (h.living q c old)))
-        | inr newer ↦ new.0 ∙ sym newer.0
-        ]
+    elim (b.lists_back p c l) [
+      | inl old ↦
+          elim (b.lists_back q c m) [
+            | inl older ↦ h.one_parent p q c old older
+            | inr new ↦ absurd (nobody f n b.absent (subst (λ (x : ℕ). Lives f x) new.1 (h.living p c old)))
+          ]
+      | inr new ↦
+          elim (b.lists_back q c m) [
+            | inl old ↦ absurd (nobody f n b.absent (subst (λ (x : ℕ). Lives f x) new.1 (h.living q c old)))
+            | inr newer ↦ new.0 ∙ sym newer.0
+          ]
     ]
 
 pub families-born : (f g : Map) (pid n : ℕ) → Families f → Born f g pid n → Families g
 families-born f g pid n h b =
     record {
       living = λ p c l.
-          elim (b.lists_back p c l)
-          [ inl old ↦ b.lives_on c (h.living p c old)
-          | inr new ↦ subst (λ (x : ℕ). Lives g x) (sym new.1) b.lives_new
+          elim (b.lists_back p c l) [
+            | inl old ↦ b.lives_on c (h.living p c old)
+            | inr new ↦ subst (λ (x : ℕ). Lives g x) (sym new.1) b.lives_new
           ];
       ended = λ p c e l. b.ended_on c e (h.ended p c e (b.keeps_back p c e l));
       one_parent = born-one_parent f g pid n h b;
       one_keeper = λ p q c d e l m. h.one_keeper p q c d e (b.keeps_back p c d l) (b.keeps_back q c e m);
       kept = λ c e l. let w = h.kept c e (b.ended_back c e l) in (w.0, b.keeps_on w.0 c e w.1);
       alone = λ p l.
-          elim (b.lists_back p p l)
-          [ inl old ↦ h.alone p old
-          | inr new ↦ nobody f n b.absent (subst (λ (x : ℕ). Lives f x) (sym new.0 ∙ new.1) b.parent)
+          elim (b.lists_back p p l) [
+            | inl old ↦ h.alone p old
+            | inr new ↦ nobody f n b.absent (subst (λ (x : ℕ). Lives f x) (sym new.0 ∙ new.1) b.parent)
           ];
     }
 
@@ -140,26 +140,26 @@ not-kept f pid h l p e k = living-ended {B = ⊥} l.alive e (at-once (f pid) (Li
 
 over-one_keeper : (f g : Map) (pid keeper : ℕ) → Families f → Over f g pid keeper → (p q c : ℕ) (d e : Ending) → Keeps g p c d → Keeps g q c e → p ≡ q
 over-one_keeper f g pid keeper h o p q c d e l m =
-    elim (o.keeps_back p c d l)
-    [ inl old ↦
-        elim (o.keeps_back q c e m)
-        [ inl older ↦ h.one_keeper p q c d e old.0 older.0
-        | inr new ↦ absurd (not-kept f pid h o.lives_before p d (subst (λ (x : ℕ). Keeps f p x d) new.1 old.0))
-        ]
-    | inr new ↦
-        elim (o.keeps_back q c e m)
-        [ inl old ↦ absurd (not-kept f pid h o.lives_before q e (subst (λ (x : ℕ). Keeps f q x e) new.1 old.0))
-        | inr newer ↦ new.0 ∙ sym newer.0
-        ]
+    elim (o.keeps_back p c d l) [
+      | inl old ↦
+          elim (o.keeps_back q c e m) [
+            | inl older ↦ h.one_keeper p q c d e old.0 older.0
+            | inr new ↦ absurd (not-kept f pid h o.lives_before p d (subst (λ (x : ℕ). Keeps f p x d) new.1 old.0))
+          ]
+      | inr new ↦
+          elim (o.keeps_back q c e m) [
+            | inl old ↦ absurd (not-kept f pid h o.lives_before q e (subst (λ (x : ℕ). Keeps f q x e) new.1 old.0))
+            | inr newer ↦ new.0 ∙ sym newer.0
+          ]
     ]
 
 over-kept : (f g : Map) (pid keeper : ℕ) → Families f → Over f g pid keeper → (c : ℕ) (e : Ending) → g c ≡ Some (Ended e) → (p : ℕ) × Keeps g p c e
 over-kept f g pid keeper h o c e l =
-    elim (o.ended_back c e l)
-    [ inl new ↦ (keeper, new)
-    | inr old ↦
-        let w = h.kept c e old.0
-        in (w.0, o.keeps_on w.0 c e w.1 (λ same. old.1 (subst (λ (x : ℕ). Keeps f x c e) same w.1)))
+    elim (o.ended_back c e l) [
+      | inl new ↦ (keeper, new)
+      | inr old ↦
+          let w = h.kept c e old.0
+          in (w.0, o.keeps_on w.0 c e w.1 (λ same. old.1 (subst (λ (x : ℕ). Keeps f x c e) same w.1)))
     ]
 
 pub families-over : (f g : Map) (pid keeper : ℕ) → Families f → Over f g pid keeper → Families g
@@ -167,9 +167,9 @@ families-over f g pid keeper h o =
     record {
       living = λ p c l. let b = o.lists_back p c l in o.lives_on c (h.living p c b.0) b.1;
       ended = λ p c e l.
-          elim (o.keeps_back p c e l)
-          [ inl old ↦ o.ended_on p c e old.0 old.1
-          | inr new ↦ new.2
+          elim (o.keeps_back p c e l) [
+            | inl old ↦ o.ended_on p c e old.0 old.1
+            | inr new ↦ new.2
           ];
       one_parent = λ p q c l m. h.one_parent p q c (o.lists_back p c l).0 (o.lists_back q c m).0;
       one_keeper = over-one_keeper f g pid keeper h o;

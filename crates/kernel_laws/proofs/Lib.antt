@@ -9,4 +9,11 @@ pub mod SetLaws
 pub mod NumberLaws
 pub mod SignalLaws
 pub mod Families
+pub mod Members
+pub mod FamilyChanges
+pub mod EndChanges
+pub mod Living
+pub mod People
+pub mod ProcessLaws
+pub mod ValidLaws
 pub mod Refusals

@@ -259,9 +259,13 @@ after-finished : (P : Kernel → Type 0) (pid : ℕ) → Finishes P pid → (k :
 after-finished P pid f k h None l = h
 after-finished P pid f k h (Some a) l = after-doom P pid f k a h l (is_some a.row.signals.doom) refl
 
+pub after-call : (P : Kernel → Type 0) (k : Kernel) (pid : ℕ) (call : Call) (n : ℕ) (next : Kernel) (outcome : Outcome) → (s : Step k pid call n next outcome)
+    → Moves P k pid s.alive n → P s.result.kernel
+after-call P k pid call n next outcome s m =
+    let Q : Option Effect → Type 0 = λ o. Of (After P) o in subst Q s.gives (after-effect P k pid s.alive call n m)
+
 pub after-step : (P : Kernel → Type 0) (k : Kernel) (pid : ℕ) (call : Call) (n : ℕ) (next : Kernel) (outcome : Outcome) → (s : Step k pid call n next outcome)
     → Moves P k pid s.alive n → Finishes P pid → P next
 after-step P k pid call n next outcome s m f =
-    let Q : Option Effect → Type 0 = λ o. Of (After P) o
-    in let h : P s.result.kernel = subst Q s.gives (after-effect P k pid s.alive call n m)
+    let h : P s.result.kernel = after-call P k pid call n next outcome s m
     in subst P s.leads (after-finished P pid f s.result.kernel h (living_at s.result.kernel pid) refl)

@@ -69,7 +69,7 @@ grows-kept first = record { moves = λ k pid call n next outcome s g. grows-move
 pub used_numbers_stay_lemma : UsedNumbersStay
 used_numbers_stay_lemma k last entries r n =
     let g : Grows k last =
-        kept-along (Grows k) (grows-kept k) entries k last r (record { of_processes = λ q u. u; of_queues = λ q u. u; of_sets = λ q u. u })
+    kept-along (Grows k) (grows-kept k) entries k last r (record { of_processes = λ q u. u; of_queues = λ q u. u; of_sets = λ q u. u })
     in record { processes = g.of_processes n; queues = g.of_queues n; sets = g.of_sets n }
 
 -- a number that was used and leads to nothing
@@ -90,9 +90,9 @@ gone-make used things id n w g f =
 
 gone-remove : {V : Type 0} (used : List ℕ) (things : Numbered V) (id other : ℕ) → Gone used things id → Gone used (without things other) id
 gone-remove used things id other g =
-    elim (cases_eq id other)
-    [ inl same ↦ (g.0, ap (λ r. get (without things other) r) same ∙ get-without-same things other)
-    | inr ne ↦ (g.0, get-without-other things other id ne ∙ g.1)
+    elim (cases_eq id other) [
+      | inl same ↦ (g.0, ap (λ r. get (without things other) r) same ∙ get-without-same things other)
+      | inr ne ↦ (g.0, get-without-other things other id ne ∙ g.1)
     ]
 
 abbrev GoneQueue : ℕ → Kernel → Type 0

@@ -112,7 +112,7 @@ queues-opening = table-empty IsWithinLimits
 queues-moves : (k : Kernel) (pid : ℕ) (a : Alive) (n : ℕ) → Queues k → Moves Queues k pid a n
 queues-moves k pid a n t =
     let change : (id : ℕ) (q next : Queue) → get k.queues id ≡ Some q → IsWithinLimits next → Queues (record k { queues = put k.queues id next }) =
-        λ id q next l w. table-change IsWithinLimits k.queues k.queue_keys k.used_queues t id next (ap is_some l) w
+    λ id q next l w. table-change IsWithinLimits k.queues k.queue_keys k.used_queues t id next (ap is_some l) w
     in record {
       same = t;
       forks = λ f. t;

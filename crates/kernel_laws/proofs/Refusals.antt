@@ -172,7 +172,7 @@ some_signal s h = cc
 
 spent_or_same : (k : Kernel) (pid : ℕ) (a : Alive) → living_at k pid ≡ Some a → (doom : Option Sig) → a.row.signals.doom ≡ doom
     → ((if is_some doom then with_alive k pid (record a { allowance = Spent }) else k) ≡ k)
-        ⊎ IsSpentIn k pid (if is_some doom then with_alive k pid (record a { allowance = Spent }) else k)
+    ⊎ IsSpentIn k pid (if is_some doom then with_alive k pid (record a { allowance = Spent }) else k)
 spent_or_same k pid a l None d = inl refl
 spent_or_same k pid a l (Some g) d = inr (a, l, subst (λ (o : Option Sig). o ≢ None) (sym d) (some_signal g), refl)
 

@@ -21,7 +21,7 @@ sets-opening = table-empty IsAny
 sets-moves : (k : Kernel) (pid : ℕ) (a : Alive) (n : ℕ) → Sets k → Moves Sets k pid a n
 sets-moves k pid a n t =
     let change : (id : ℕ) (set next : List Semaphore) → get k.sets id ≡ Some set → IsAny next → Sets (record k { sets = put k.sets id next }) =
-        λ id set next l w. table-change IsAny k.sets k.set_keys k.used_sets t id next (ap is_some l) w
+    λ id set next l w. table-change IsAny k.sets k.set_keys k.used_sets t id next (ap is_some l) w
     in record {
       same = t;
       forks = λ f. t;

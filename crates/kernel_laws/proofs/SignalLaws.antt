@@ -130,9 +130,9 @@ kept-pended : (actions : PerSignal Act) (pending : PerSignal Bool) (g : Sig) →
     → ((h : Sig) → at pending h ≡ true → discards (at actions h) h ≡ false)
     → (h : Sig) → at (put pending g true) h ≡ true → discards (at actions h) h ≡ false
 kept-pended actions pending g d k h p =
-    elim (same-or-apart g h)
-    [ inl same ↦ subst (λ (x : Sig). discards (at actions x) x ≡ false) same d
-    | inr apart ↦ k h (sym (at-put-other pending g h true apart) ∙ p)
+    elim (same-or-apart g h) [
+      | inl same ↦ subst (λ (x : Sig). discards (at actions x) x ≡ false) same d
+      | inr apart ↦ k h (sym (at-put-other pending g h true apart) ∙ p)
     ]
 
 sound-pended : (s : Signals) (g : Sig) → IsSound s → discards (at s.actions g) g ≡ false → IsSound (record s { pending = put s.pending g true })
@@ -154,16 +154,16 @@ kept-acted : (actions : PerSignal Act) (pending : PerSignal Bool) (g : Sig) (act
     → ((h : Sig) → at pending h ≡ true → discards (at actions h) h ≡ false)
     → (h : Sig) → at (put pending g (at pending g && not (discards act g))) h ≡ true → discards (at (put actions g act) h) h ≡ false
 kept-acted actions pending g act k h p =
-    elim (same-or-apart g h)
-    [ inl same ↦
-        let P : Sig → Type 0 = λ x. at (put pending g (at pending g && not (discards act g))) x ≡ true
-        in let own = subst P (sym same) p
-        in let both = and_parts (at pending g) (not (discards act g)) (sym (at-put-same pending g (at pending g && not (discards act g))) ∙ own)
-        in let Q : Sig → Type 0 = λ x. discards (at (put actions g act) x) x ≡ false
-        in subst Q same (ap (λ (x : Act). discards x g) (at-put-same actions g act) ∙ not-true (discards act g) both.1)
-    | inr apart ↦
-        ap (λ (x : Act). discards x h) (at-put-other actions g h act apart)
-        ∙ k h (sym (at-put-other pending g h (at pending g && not (discards act g)) apart) ∙ p)
+    elim (same-or-apart g h) [
+      | inl same ↦
+          let P : Sig → Type 0 = λ x. at (put pending g (at pending g && not (discards act g))) x ≡ true
+          in let own = subst P (sym same) p
+          in let both = and_parts (at pending g) (not (discards act g)) (sym (at-put-same pending g (at pending g && not (discards act g))) ∙ own)
+          in let Q : Sig → Type 0 = λ x. discards (at (put actions g act) x) x ≡ false
+          in subst Q same (ap (λ (x : Act). discards x g) (at-put-same actions g act) ∙ not-true (discards act g) both.1)
+      | inr apart ↦
+          ap (λ (x : Act). discards x h) (at-put-other actions g h act apart)
+          ∙ k h (sym (at-put-other pending g h (at pending g && not (discards act g)) apart) ∙ p)
     ]
 
 pub sound-action : (s : Signals) (g : Sig) (act : Act) → is_kill g ≡ false → IsSound s → IsSound (with_action s g act)
@@ -178,11 +178,11 @@ kept-taken : (actions : PerSignal Act) (pending : PerSignal Bool) (g : Sig)
     → ((h : Sig) → at pending h ≡ true → discards (at actions h) h ≡ false)
     → (h : Sig) → at (put pending g false) h ≡ true → discards (at actions h) h ≡ false
 kept-taken actions pending g k h p =
-    elim (same-or-apart g h)
-    [ inl same ↦
-        let P : Sig → Type 0 = λ x. at (put pending g false) x ≡ true
-        in not_true (sym (at-put-same pending g false) ∙ subst P (sym same) p)
-    | inr apart ↦ k h (sym (at-put-other pending g h false apart) ∙ p)
+    elim (same-or-apart g h) [
+      | inl same ↦
+          let P : Sig → Type 0 = λ x. at (put pending g false) x ≡ true
+          in not_true (sym (at-put-same pending g false) ∙ subst P (sym same) p)
+      | inr apart ↦ k h (sym (at-put-other pending g h false apart) ∙ p)
     ]
 
 sound-taken : (s : Signals) (g : Sig) → IsSound s → IsSound (record s { pending = put s.pending g false })
@@ -203,3 +203,33 @@ sound-masked s how set h = record { kept = h.kept; unmasked = refl; kill_default
 
 pub sound-mask : (s : Signals) (how : How) (set : PerSignal Bool) → IsSound s → IsSound (with_mask s how set)
 sound-mask s how set h = sound-delivered all_signals (record s { mask = new_mask how s.mask set }) (sound-masked s how set h)
+
+-- a doom stays
+abbrev pub Stays : Signals → Signals → Type 0
+Stays s next = next.doom ≡ None → s.doom ≡ None
+
+pub no-doom : (o : Option Sig) → is_some o ≡ false → o ≡ None
+no-doom None h = refl
+no-doom (Some g) h = not_true (sym h)
+
+pub doom-is : (o : Option Sig) → o ≡ None → is_some o ≡ false
+doom-is o h = ap is_some h
+
+pub raise-stays : (s : Signals) (g : Sig) → Stays s (raise s g)
+raise-stays s g =
+    by_test (Stays s) (is_some s.doom) s
+    (if is_kill g then doomed_by s g else if discards (at s.actions g) g then s else if at s.mask g then record s { pending = put s.pending g true } else arrive s g)
+    (λ t h. h) (λ f h. no-doom s.doom f)
+
+deliver-stays : (s : Signals) (g : Sig) → Stays s (deliver s g)
+deliver-stays s g =
+    by_test (Stays s) (not (is_some s.doom) && (at s.pending g && not (at s.mask g))) (arrive (record s { pending = put s.pending g false }) g) s
+    (λ t h. no-doom s.doom (not-true (is_some s.doom) (and_parts (not (is_some s.doom)) (at s.pending g && not (at s.mask g)) t).0))
+    (λ f h. h)
+
+delivered-stays : (gs : List Sig) (s : Signals) → Stays s (fold deliver s gs)
+delivered-stays [] s h = h
+delivered-stays (g ∷ gs) s h = deliver-stays s g (delivered-stays gs (deliver s g) h)
+
+pub mask-stays : (s : Signals) (how : How) (set : PerSignal Bool) → Stays s (with_mask s how set)
+mask-stays s how set h = delivered-stays all_signals (record s { mask = new_mask how s.mask set }) h

@@ -33,20 +33,20 @@ pub table-keys : {V : Type 0} (P : V → Type 0) (things : Numbered V) (keys : N
 table-keys P things keys used t = record { ordered = ordered keys t.keys_rise; lead = t.lead; apart = t.apart }
 
 -- something is there after a put, where it was before or where it is put
-there-put : {V : Type 0} (m : Numbered V) (k : ℕ) (v : V) (q : ℕ) → is_some (get m q) ≡ true → is_some (get (put m k v) q) ≡ true
+pub there-put : {V : Type 0} (m : Numbered V) (k : ℕ) (v : V) (q : ℕ) → is_some (get m q) ≡ true → is_some (get (put m k v) q) ≡ true
 there-put m k v q h =
-    elim (cases_eq q k)
-    [ inl same ↦ ap is_some (ap (λ r. get (put m k v) r) same ∙ get-put-same m k v)
-    | inr ne ↦ ap is_some (get-put-other m k v q ne) ∙ h
+    elim (cases_eq q k) [
+      | inl same ↦ ap is_some (ap (λ r. get (put m k v) r) same ∙ get-put-same m k v)
+      | inr ne ↦ ap is_some (get-put-other m k v q ne) ∙ h
     ]
 
 each-put : {V : Type 0} (P : V → Type 0) (m : Numbered V) (k : ℕ) (v : V) → P v → ((n : ℕ) (w : V) → get m n ≡ Some w → P w)
     → (n : ℕ) (w : V) → get (put m k v) n ≡ Some w → P w
 each-put P m k v p h n w g =
-    elim (cases_eq n k)
-    [ inl same ↦
-        let e : v ≡ w = from_some v w (sym (get-put-same m k v) ∙ (ap (λ r. get (put m k v) r) (sym same) ∙ g)) in subst P e p
-    | inr ne ↦ h n w (sym (get-put-other m k v n ne) ∙ g)
+    elim (cases_eq n k) [
+      | inl same ↦
+          let e : v ≡ w = from_some v w (sym (get-put-same m k v) ∙ (ap (λ r. get (put m k v) r) (sym same) ∙ g)) in subst P e p
+      | inr ne ↦ h n w (sym (get-put-other m k v n ne) ∙ g)
     ]
 
 -- another value for what is there
@@ -57,9 +57,9 @@ table-change P things keys used t id v there p =
       things_rise = rising-put things id v t.things_rise;
       keys_rise = t.keys_rise;
       used_at = λ n h.
-          elim (cases_eq n id)
-          [ inl same ↦ subst (λ (r : ℕ). is_used used r ≡ true) (sym same) (t.used_at id there)
-          | inr ne ↦ t.used_at n (sym (ap is_some (get-put-other things id v n ne)) ∙ h)
+          elim (cases_eq n id) [
+            | inl same ↦ subst (λ (r : ℕ). is_used used r ≡ true) (sym same) (t.used_at id there)
+            | inr ne ↦ t.used_at n (sym (ap is_some (get-put-other things id v n ne)) ∙ h)
           ];
       lead = λ key i h. there-put things id v i (t.lead key i h);
       apart = t.apart;
@@ -72,9 +72,9 @@ fresh-unused used n h = not-true (is_used used n) (and_parts (nat_lt 0 n) (not (
 used-put : {V : Type 0} (things : Numbered V) (used : List ℕ) (n : ℕ) (v : V) → ((q : ℕ) → is_some (get things q) ≡ true → is_used used q ≡ true)
     → (q : ℕ) → is_some (get (put things n v) q) ≡ true → is_used (used_with used n) q ≡ true
 used-put things used n v h q g =
-    elim (cases_eq q n)
-    [ inl same ↦ subst (λ (r : ℕ). is_used (used_with used n) r ≡ true) (sym same) (used-with-same used n)
-    | inr ne ↦ used-stays used n q (h q (sym (ap is_some (get-put-other things n v q ne)) ∙ g))
+    elim (cases_eq q n) [
+      | inl same ↦ subst (λ (r : ℕ). is_used (used_with used n) r ≡ true) (sym same) (used-with-same used n)
+      | inr ne ↦ used-stays used n q (h q (sym (ap is_some (get-put-other things n v q ne)) ∙ g))
     ]
 
 -- a new thing without a key
@@ -98,11 +98,11 @@ unbound-new P things keys used t n f key h = not_true (sym f ∙ t.used_at n (t.
 lead-bind : {V : Type 0} (things : Numbered V) (keys : Numbered ℕ) (n key : ℕ) (v : V) → ((other id : ℕ) → get keys other ≡ Some id → is_some (get things id) ≡ true)
     → (other id : ℕ) → get (put keys key n) other ≡ Some id → is_some (get (put things n v) id) ≡ true
 lead-bind things keys n key v h other id g =
-    elim (cases_eq other key)
-    [ inl same ↦
-        let e : n ≡ id = from_some n id (sym (get-put-same keys key n) ∙ (ap (λ r. get (put keys key n) r) (sym same) ∙ g))
-        in ap is_some (ap (λ r. get (put things n v) r) (sym e) ∙ get-put-same things n v)
-    | inr ne ↦ there-put things n v id (h other id (sym (get-put-other keys key n other ne) ∙ g))
+    elim (cases_eq other key) [
+      | inl same ↦
+          let e : n ≡ id = from_some n id (sym (get-put-same keys key n) ∙ (ap (λ r. get (put keys key n) r) (sym same) ∙ g))
+          in ap is_some (ap (λ r. get (put things n v) r) (sym e) ∙ get-put-same things n v)
+      | inr ne ↦ there-put things n v id (h other id (sym (get-put-other keys key n other ne) ∙ g))
     ]
 
 -- the number that a key leads to after the binding
@@ -115,19 +115,19 @@ bound-other keys n key other id g ne = sym (get-put-other keys key n other ne) �
 apart-bind : {V : Type 0} (P : V → Type 0) (things : Numbered V) (keys : Numbered ℕ) (used : List ℕ) → Table P things keys used → (n key : ℕ)
     → is_used used n ≡ false → (one other id : ℕ) → get (put keys key n) one ≡ Some id → get (put keys key n) other ≡ Some id → one ≡ other
 apart-bind P things keys used t n key f one other id g h =
-    elim (cases_eq one key)
-    [ inl a ↦
-        elim (cases_eq other key)
-        [ inl b ↦ a ∙ sym b
-        | inr b ↦
-            absurd (unbound-new P things keys used t n f other (bound-other keys n key other id h b ∙ ap Some (sym (bound-same keys n key one id g a))))
-        ]
-    | inr a ↦
-        elim (cases_eq other key)
-        [ inl b ↦
-            absurd (unbound-new P things keys used t n f one (bound-other keys n key one id g a ∙ ap Some (sym (bound-same keys n key other id h b))))
-        | inr b ↦ t.apart one other id (bound-other keys n key one id g a) (bound-other keys n key other id h b)
-        ]
+    elim (cases_eq one key) [
+      | inl a ↦
+          elim (cases_eq other key) [
+            | inl b ↦ a ∙ sym b
+            | inr b ↦
+                absurd (unbound-new P things keys used t n f other (bound-other keys n key other id h b ∙ ap Some (sym (bound-same keys n key one id g a))))
+          ]
+      | inr a ↦
+          elim (cases_eq other key) [
+            | inl b ↦
+                absurd (unbound-new P things keys used t n f one (bound-other keys n key one id g a ∙ ap Some (sym (bound-same keys n key other id h b))))
+            | inr b ↦ t.apart one other id (bound-other keys n key one id g a) (bound-other keys n key other id h b)
+          ]
     ]
 
 pub table-bind : {V : Type 0} (P : V → Type 0) (things : Numbered V) (keys : Numbered ℕ) (used : List ℕ) → Table P things keys used → (n key : ℕ) (v : V)
@@ -145,16 +145,16 @@ table-bind P things keys used t n key v f p =
 -- what is there without a number was there, at another
 pub get-left : {V : Type 0} (m : Numbered V) (id n : ℕ) (v : V) → get (without m id) n ≡ Some v → get m n ≡ Some v
 get-left m id n v h =
-    elim (cases_eq n id)
-    [ inl same ↦ not_some v (sym (get-without-same m id) ∙ (ap (λ r. get (without m id) r) (sym same) ∙ h))
-    | inr ne ↦ sym (get-without-other m id n ne) ∙ h
+    elim (cases_eq n id) [
+      | inl same ↦ not_some v (sym (get-without-same m id) ∙ (ap (λ r. get (without m id) r) (sym same) ∙ h))
+      | inr ne ↦ sym (get-without-other m id n ne) ∙ h
     ]
 
 there-left : {V : Type 0} (m : Numbered V) (id n : ℕ) → is_some (get (without m id) n) ≡ true → is_some (get m n) ≡ true
 there-left m id n h =
-    elim (cases_eq n id)
-    [ inl same ↦ not_true (sym (ap is_some (get-without-same m id)) ∙ (ap (λ r. is_some (get (without m id) r)) (sym same) ∙ h))
-    | inr ne ↦ sym (ap is_some (get-without-other m id n ne)) ∙ h
+    elim (cases_eq n id) [
+      | inl same ↦ not_true (sym (ap is_some (get-without-same m id)) ∙ (ap (λ r. is_some (get (without m id) r)) (sym same) ∙ h))
+      | inr ne ↦ sym (ap is_some (get-without-other m id n ne)) ∙ h
     ]
 
 -- a thing is gone, with the keys that led to it

@@ -3,6 +3,7 @@
 #![tactic(auto)]
 
 ghost use Rattle.kernel_laws.specs.Refusal.{RefusalsChangeNothing};
+ghost use Rattle.kernel_laws.specs.Processes.{ReachableKernelsAreValid, SignalsAreSound, ChildrenHaveOneParent};
 ghost use Rattle.kernel_laws.specs.Queues.{QueuesAreWithinLimits};
 ghost use Rattle.kernel_laws.specs.Numbers.{UsedNumbersStay, RemovedQueuesStayRemoved, RemovedSetsStayRemoved};
 
@@ -10,31 +11,46 @@ ghost use Rattle.kernel_laws.specs.Numbers.{UsedNumbersStay, RemovedQueuesStayRe
 /// before its end, as after each call.
 pub fn refusals_change_nothing()
     ensures { RefusalsChangeNothing }
-{
-}
+{}
 
 /// In each kernel that a legal history leads to, a queue's texts have at most 16,384 bytes together and at most
 /// 4,096 each, there are at most 1,024 of them, and each message's type is at least 1.
 pub fn queues_are_within_limits()
     ensures { QueuesAreWithinLimits }
-{
-}
+{}
 
 /// The numbers of processes, queues and sets that were used stay used along each history.
 pub fn used_numbers_stay()
     ensures { UsedNumbersStay }
-{
-}
+{}
 
 /// A queue that was there at one point of a legal history and isn't at a later one is never there again: its
 /// number isn't given out a second time.
 pub fn removed_queues_stay_removed()
     ensures { RemovedQueuesStayRemoved }
-{
-}
+{}
 
 /// A semaphore set that was there at one point of a legal history and isn't at a later one is never there again.
 pub fn removed_sets_stay_removed()
     ensures { RemovedSetsStayRemoved }
-{
-}
+{}
+
+/// Each kernel that a legal history leads to is valid: the maps are by rising number, numbers that lead to
+/// something are used ones, keys lead to what is there and no two to the same, each living process's signals are
+/// sound and its allowance is free exactly where it isn't doomed, and who is listed as living lives, who is listed
+/// as ended has ended so, each by one process only.
+pub fn reachable_kernels_are_valid()
+    ensures { ReachableKernelsAreValid }
+{}
+
+/// No pending signal has an action that discards it, and KILL is in no mask and has its default action, in each
+/// living process of each kernel that a legal history leads to.
+pub fn signals_are_sound()
+    ensures { SignalsAreSound }
+{}
+
+/// A process's parent is a living process that lists it; whoever lists it is its parent, so none has two; and no
+/// process lists itself.
+pub fn children_have_one_parent()
+    ensures { ChildrenHaveOneParent }
+{}

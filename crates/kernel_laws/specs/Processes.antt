@@ -1,0 +1,24 @@
+-- What holds of the processes of each kernel that a legal history leads to.
+use Rattle.std.specs.Prelude.{◌≡◌, ℕ, true, false, Some}
+use Rattle.kernel_model.specs.Signals.{IsSound}
+use Rattle.kernel_model.specs.Row.{Alive, lists}
+use Rattle.kernel_model.specs.Kernel.{Kernel, Parent, living_at, parent_in}
+use Rattle.kernel_model.specs.Valid.{IsValid}
+use Rattle.kernel_laws.specs.Reachable.{IsReachable}
+
+abbrev pub ReachableKernelsAreValid : Type 0
+ReachableKernelsAreValid = (k : Kernel) → IsReachable k → IsValid k
+
+-- no pending signal has an action that discards it, KILL is in no mask, and its action is the default one
+abbrev pub SignalsAreSound : Type 0
+SignalsAreSound = (k : Kernel) → IsReachable k → (pid : ℕ) (a : Alive) → living_at k pid ≡ Some a → IsSound a.row.signals
+
+-- a process's parent is a living process that lists it, and each one that lists it is its parent; none lists itself
+pub record HasOneParent (k : Kernel) (child : ℕ) : Type 0 where
+  pub lists_it : (p : Parent) → parent_in child k.processes ≡ Some p → (living_at k p.pid ≡ Some p.alive) × (lists p.alive.row.family child ≡ true)
+  pub is_parent : (pid : ℕ) (a : Alive) → living_at k pid ≡ Some a → lists a.row.family child ≡ true
+      → parent_in child k.processes ≡ Some (record { pid = pid; alive = a })
+  pub not_itself : (a : Alive) → living_at k child ≡ Some a → lists a.row.family child ≡ false
+
+abbrev pub ChildrenHaveOneParent : Type 0
+ChildrenHaveOneParent = (k : Kernel) → IsReachable k → (child : ℕ) → HasOneParent k child
