@@ -1,5 +1,5 @@
 -- Calls by the effect of their kind.
-use Rattle.std.proofs.Common.{◌≡◌, ◌∙◌, ℕ, ℤ, Bool, true, List, Option, Some, None, IfSome, Result, Ok, Err, refl, sym, ap, subst}
+use Rattle.std.proofs.Common.{◌≡◌, ◌∙◌, ℕ, ℤ, Bool, true, List, Option, Some, None, IfSome, Result, Ok, sym, ap, subst}
 use Rattle.pico_base.specs.declared.call.Call.{Call}
 use Rattle.pico_base.specs.declared.call.Call.TheVariants as calls
 use Rattle.pico_base.specs.declared.call.SemStep.{SemStep}
@@ -8,7 +8,7 @@ use Rattle.pico_base.specs.declared.reply.Reply.TheVariants.{Bits}
 use Rattle.pico_base.specs.declared.signal.How.{How}
 use Rattle.pico_base.specs.declared.signal.PerSignal.{PerSignal}
 use Rattle.kernel_model.specs.Maps.{get}
-use Rattle.kernel_model.specs.Signals.{Signals, with_mask}
+use Rattle.kernel_model.specs.Signals.{with_mask}
 use Rattle.kernel_model.specs.Row.{Alive}
 use Rattle.kernel_model.specs.Queue.{receive}
 use Rattle.kernel_model.specs.Kernel.{Kernel, living_at}

@@ -1,16 +1,15 @@
 -- The end of a process, step by step.
-use Rattle.std.proofs.Common.{◌≡◌, ◌∙◌, ℕ, Bool, true, false, nat_eq, List, [], ◌∷◌, Option, Some, None, is_some, IsSome, IfSome, refl, sym, ap}
-use Rattle.std.specs.List.{list_any, fold}
+use Rattle.std.proofs.Common.{◌≡◌, ◌∙◌, ℕ, Bool, true, false, nat_eq, List, Option, Some, None, is_some, IsSome, IfSome, refl, sym, ap}
 use Rattle.std.specs.Option.{option_map, option_map_or}
 use Rattle.std.specs.Map.{keys_of}
 use Rattle.pico_base.specs.declared.reply.Ending.{Ending}
 use Rattle.kernel_model.specs.Maps.{Numbered, get, put, is_used}
 use Rattle.kernel_model.specs.Row.{Alive, lists, ignores_children, with_ended_child}
-use Rattle.kernel_model.specs.Kernel.{Process, Living, Ended, Gone, alive_in, living_in}
+use Rattle.kernel_model.specs.Kernel.{Process, Living, alive_in, living_in}
 use Rattle.kernel_model.specs.ProcessCalls.{kept_as, ended_under}
 use Rattle.mono_kernel.specs.Table.{IfLiving, lists_there, ignores_there, parent_at, as_parent}
 use Rattle.mono_kernel.proofs.MapLemmas.{is_used-keys}
-use Rattle.mono_kernel.proofs.TableLemmas.{living-put_same, living-put_other}
+use Rattle.mono_kernel.proofs.TableLemmas.{living-put_other}
 
 -- the same numbers are there
 pub there-same : (ms ns : Numbered Process) (n : ℕ) → keys_of ns ≡ keys_of ms → is_some (get ms n) ≡ true → is_some (get ns n) ≡ true
@@ -40,7 +39,7 @@ module _ (ps : Numbered Process) (pid parent : ℕ) (v : Process) (apart : nat_e
 pub left-under : (ps ns : Numbered Process) (pid parent : ℕ) (ending : Ending) → nat_eq parent pid ≡ false
     → lists_there ps parent pid ≡ true
     → IfLiving (put ps pid (kept_as (ignores_there ps parent) ending)) parent
-        (λ a. ns ≡ put (put ps pid (kept_as (ignores_there ps parent) ending)) parent (Living (with_ended_child a pid ending)))
+    (λ a. ns ≡ put (put ps pid (kept_as (ignores_there ps parent) ending)) parent (Living (with_ended_child a pid ending)))
     → ns ≡ ended_under ps pid ending (parent_at ps (Some parent))
 left-under ps ns pid parent ending apart h is =
     at (living_in ps parent) refl h (rw (living-put_other ps pid parent (kept_as (ignores_there ps parent) ending) apart) at is)

@@ -1,13 +1,13 @@
 -- The ended children of a living process are in the table, and don't live.
-use Rattle.std.proofs.Common.{◌≡◌, ◌<◌, ◌∙◌, ℕ, zero, suc, Bool, true, false, ◌||◌, if◌then◌else◌, nat_eq, List, [], ◌∷◌, length, get_or, Option, Some, None, is_some, IsSome, IfSome, refl, sym, ap, arith}
+use Rattle.std.proofs.Common.{◌≡◌, ◌<◌, ◌∙◌, ℕ, zero, suc, Bool, true, false, ◌||◌, if◌then◌else◌, nat_eq, List, [], ◌∷◌, length, get_or, Option, Some, None, is_some, IfSome, refl, sym, ap, arith}
 use Rattle.std.specs.List.{All, list_any, fold}
 use Rattle.std.specs.Option.{option_map, option_map_or}
 use Rattle.pico_base.specs.declared.reply.Ending.{Ending}
 use Rattle.kernel_model.specs.Maps.{Numbered, get, put}
 use Rattle.kernel_model.specs.Row.{Alive, lists, matches, first_ended}
-use Rattle.kernel_model.specs.Kernel.{Process, Living, Ended, Gone, alive_in, living_in, parent_in}
+use Rattle.kernel_model.specs.Kernel.{Process, Gone, living_in, parent_in}
 use Rattle.kernel_model.specs.ProcessCalls.{bury, ended_under, with_end}
-use Rattle.mono_kernel.specs.Table.{IsTable, IfLiving, keeps, lists_there, parent_at, as_parent}
+use Rattle.mono_kernel.specs.Table.{IsTable, IfLiving, lists_there, parent_at, as_parent}
 use Rattle.mono_kernel.proofs.TableLemmas.{living-put_same, living-put_other}
 use Rattle.mono_kernel.proofs.MapLemmas.{same-from-nat_eq}
 
@@ -25,6 +25,7 @@ found-kept which (e ∷ es) = at (matches which e.0) (first_ended which es) (fou
   where
     here : (any : Bool) → (nat_eq e.0 e.0 || any) ≡ true
     here any = rw (same-number e.0)
+
     at : (b : Bool) (o : Option (ℕ × Ending)) → IfSome o (λ x. list_any (λ y. nat_eq x.0 y.0) es ≡ true)
         → IfSome (if b then Some e else o) (λ x. list_any (λ y. nat_eq x.0 y.0) (e ∷ es) ≡ true)
     at true o rec = here (list_any (λ y. nat_eq e.0 y.0) es)
@@ -63,8 +64,8 @@ pub buried-lives : (es : List (ℕ × Ending)) (ps : Numbered Process) (p : ℕ)
 buried-lives [] ps p a dead lives = lives
 buried-lives (e ∷ es) ps p a dead lives =
     buried-lives es (bury ps e) p a
-      (λ k d inside. dead-put ps e.0 (get_or es k d).0 (dead (suc k) d (omega arith)))
-      (at (nat_eq p e.0) refl)
+    (λ k d inside. dead-put ps e.0 (get_or es k d).0 (dead (suc k) d (omega arith)))
+    (at (nat_eq p e.0) refl)
   where
     at : (b : Bool) → nat_eq p e.0 ≡ b → living_in (bury ps e) p ≡ Some a
     at true is =

@@ -1,9 +1,7 @@
 -- Children taken out of lists.
-use Rattle.std.proofs.Common.{◌≡◌, ◌≤◌, ◌<◌, ◌∙◌, ℕ, ◌+◌, suc, Bool, true, false, cond, not, ◌||◌, nat_eq, List, [], ◌∷◌, length, refl, sym, ap, arith}
-use Rattle.std.specs.List.{filter, list_any}
-use Rattle.pico_base.specs.declared.reply.Ending.{Ending}
+use Rattle.std.proofs.Common.{◌≡◌, ◌≤◌, ℕ, ◌+◌, Bool, true, false, cond, not, ◌||◌, nat_eq, List, [], ◌∷◌, length, arith}
+use Rattle.std.specs.List.{list_any}
 use Rattle.kernel_model.specs.Row.{others}
-use Rattle.mono_kernel.specs.Ends.{other_ends}
 
 longer : (b : Bool) (x : ℕ) (xs ys : List ℕ) → length xs ≤ length ys → length (cond b (x ∷ xs) xs) ≤ length (x ∷ ys)
 longer true x xs ys h = omega arith

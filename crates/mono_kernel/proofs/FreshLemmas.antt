@@ -1,5 +1,5 @@
 -- A number that may be given out.
-use Rattle.std.proofs.Common.{◌≡◌, ◌<◌, ◌∙◌, ℕ, Bool, true, false, not, ◌&&◌, nat_lt, List, Option, Some, None, is_some, refl, sym, ap, arith}
+use Rattle.std.proofs.Common.{◌≡◌, ◌<◌, ◌∙◌, ℕ, Bool, true, false, not, ◌&&◌, nat_lt, List, Option, Some, None, is_some, refl, sym, ap}
 use Rattle.std.specs.Map.{keys_of}
 use Rattle.std.proofs.lemmas.Bool.{lt-ltb}
 use Rattle.kernel_model.specs.Maps.{Numbered, get, is_used}
@@ -18,6 +18,7 @@ fresh-none {V} m n fresh = at (get m n) refl (unused (nat_lt 0 n) (is_used (keys
     unused true true h = sym h
     unused true false h = refl
     unused false b h = absurd (cc)
+
     at : (o : Option V) → get m n ≡ o → is_used (keys_of m) n ≡ false → o ≡ None
     at None is h = refl
     at (Some v) is h = let yes : is_used (keys_of m) n ≡ true = is_used-keys m n ∙ ap is_some is in absurd (cc)

@@ -1,7 +1,6 @@
 -- A key table without an identifier.
-use Rattle.std.proofs.Common.{◌≡◌, ◌≢◌, ◌∙◌, ℕ, Bool, true, false, cond, not, nat_eq, List, [], ◌∷◌, Option, Some, None, refl, sym, ap, Ordering, arith}
+use Rattle.std.proofs.Common.{◌≡◌, ◌∙◌, ℕ, Bool, true, false, cond, not, nat_eq, [], ◌∷◌, Some, None, refl, ap, Ordering, arith}
 use Rattle.std.specs.declared.cmp.Ordering.TheVariants.{Less, Equal, Greater}
-use Rattle.std.specs.List.{filter}
 use Rattle.std.specs.Ordering.{nat_cmp}
 use Rattle.std.specs.Map.{remove_entry, keys_of}
 use Rattle.std.specs.BTreeMap.{is_at}
@@ -9,7 +8,7 @@ use Rattle.std.proofs.lemmas.Map.Keys.{sorted_head, sorted_tail}
 use Rattle.kernel_model.specs.Maps.{Numbered, get}
 use Rattle.kernel_model.specs.QueueCalls.{unbound}
 use Rattle.mono_kernel.specs.Names.{IsRising, LeadsNowhere, LeadsOnly}
-use Rattle.mono_kernel.proofs.MapLemmas.{cmp-same, is_at-nat_eq, equal-same, same-from-nat_eq, less-none, past-none, greater-differs, get-rest}
+use Rattle.mono_kernel.proofs.MapLemmas.{cmp-same, equal-same, same-from-nat_eq, less-none, past-none, greater-differs, get-rest}
 
 get-first : (e : ℕ × ℕ) (es : Numbered ℕ) → get (e ∷ es) e.0 ≡ Some e.1
 get-first e es = rw (cmp-same e.0)
@@ -34,7 +33,7 @@ freed id key e es Less h rising all rec = let none : get (e ∷ es) key ≡ None
 freed id key e es Equal h rising all rec =
     let first : nat_eq e.1 id ≡ true = rw (apart id key e es all.0 h) (grind arith)
     in rw (first, h)
-       (unbound-none es id (sorted_tail nat_cmp e.0 (keys_of es) rising) (λ q g. twice q g))
+    (unbound-none es id (sorted_tail nat_cmp e.0 (keys_of es) rising) (λ q g. twice q g))
   where
     twice : (q : ℕ) → get es q ≡ Some id → ⊥
     twice q g =

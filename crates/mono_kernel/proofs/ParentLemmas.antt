@@ -1,5 +1,5 @@
 -- The parent of a process, found by its number.
-use Rattle.std.proofs.Common.{◌≡◌, ◌∙◌, ℕ, Bool, true, false, cond, nat_eq, List, [], ◌∷◌, Option, Some, None, refl, sym, ap, Ordering, arith}
+use Rattle.std.proofs.Common.{◌≡◌, ◌∙◌, ℕ, Bool, true, false, cond, nat_eq, [], ◌∷◌, Option, Some, None, refl, sym, ap, Ordering, arith}
 use Rattle.std.specs.declared.cmp.Ordering.TheVariants.{Less, Equal, Greater}
 use Rattle.std.specs.Option.{option_map, option_map_or, option_and_then}
 use Rattle.std.specs.Ordering.{nat_cmp}
@@ -57,7 +57,7 @@ parent-one [] child p a rising there it only = absurd (cc)
 parent-one (e ∷ es) child p a rising there it only =
     found child p a e es (nat_cmp p e.0) refl rising there it only
     (λ later. parent-one es child p a (sorted_tail nat_cmp e.0 (keys_of es) rising) later it
-       (λ q l. only q (l.0, get-rest e es q (Living l.0) rising l.1, l.2)))
+    (λ q l. only q (l.0, get-rest e es q (Living l.0) rising l.1, l.2)))
 
 -- The parent found by the note of parents.
 
@@ -93,8 +93,8 @@ pub parent_in-one : (ps : Numbered Process) (parents : Numbered ℕ) (child p : 
 parent_in-one ps parents child p t here h =
     let l = listing ps p child h
     in parent-one ps child p l.0 t.rising l.1 l.2
-         (λ q other. let there : get parents child ≡ Some q = noted ps parents child q t other in cc)
-       ∙ sym (ap (option_map (as_parent p)) (living-get ps p l.0 l.1))
+    (λ q other. let there : get parents child ≡ Some q = noted ps parents child q t other in cc)
+    ∙ sym (ap (option_map (as_parent p)) (living-get ps p l.0 l.1))
 
 pub parent_number-one : (ps : Numbered Process) (parents : Numbered ℕ) (child p : ℕ) → IsTable ps parents → get parents child ≡ Some p
     → lists_there ps p child ≡ true → parent_number ps child ≡ Some p

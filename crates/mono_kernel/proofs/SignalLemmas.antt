@@ -1,5 +1,5 @@
 -- Other signals at a living process.
-use Rattle.std.proofs.Common.{◌≡◌, ◌∙◌, ℕ, Bool, true, nat_eq, Option, Some, None, IsSome, IfSome, refl, sym, ap, arith}
+use Rattle.std.proofs.Common.{◌≡◌, ◌∙◌, ℕ, true, nat_eq, Option, Some, None, IsSome, IfSome, refl, ap, arith}
 use Rattle.pico_base.specs.declared.signal.Sig.{Sig}
 use Rattle.kernel_model.specs.Signals.{Signals, raise}
 use Rattle.kernel_model.specs.Row.{Alive}

@@ -1,5 +1,5 @@
 -- A change through a map's entry, and its reply.
-use Rattle.std.proofs.Common.{◌≡◌, ◌∙◌, ℕ, Option, Some, None, Result, Ok, Err, MatchResult, refl, sym, ap}
+use Rattle.std.proofs.Common.{◌≡◌, ◌∙◌, ℕ, Some, Result, Ok, Err, MatchResult, refl, ap}
 use Rattle.std.specs.Ordering.{nat_cmp}
 use Rattle.std.specs.Map.{set_value}
 use Rattle.std.specs.BTreeMap.{is_at}
@@ -7,7 +7,7 @@ use Rattle.std.proofs.lemmas.Map.Steps.{set_value_same}
 use Rattle.pico_base.specs.declared.reply.Errno.{Errno}
 use Rattle.pico_base.specs.declared.reply.Reply.{Reply}
 use Rattle.pico_base.specs.declared.reply.Reply.TheVariants.{Fail, Message}
-use Rattle.kernel_model.specs.Maps.{Numbered, get, put}
+use Rattle.kernel_model.specs.Maps.{Numbered, get}
 use Rattle.kernel_model.specs.Queue.{Queue, Received, Message as QueueMessage}
 use Rattle.mono_kernel.specs.Names.{IsRising}
 use Rattle.mono_kernel.specs.Answers.{Changes, Receives, answered}

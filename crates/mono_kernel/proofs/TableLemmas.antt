@@ -4,9 +4,9 @@ use Rattle.std.specs.List.{list_any, filter}
 use Rattle.std.specs.Option.{option_and_then}
 use Rattle.pico_base.specs.declared.reply.Ending.{Ending}
 use Rattle.kernel_model.specs.Maps.{Numbered, get, put}
-use Rattle.kernel_model.specs.Row.{Alive, Family, lists, others, ignores_children, with_ended_child}
-use Rattle.kernel_model.specs.Kernel.{Process, Living, Ended, Gone, alive_in, living_in}
-use Rattle.kernel_model.specs.ProcessCalls.{forking, new_child, reaping}
+use Rattle.kernel_model.specs.Row.{Alive, lists, others, ignores_children, with_ended_child}
+use Rattle.kernel_model.specs.Kernel.{Process, Living, alive_in, living_in}
+use Rattle.kernel_model.specs.ProcessCalls.{forking, new_child}
 use Rattle.mono_kernel.specs.declared.process.Change.{Change}
 use Rattle.mono_kernel.specs.declared.process.Change.TheVariants.{Signals, Raise, EndChild, Reap, Spend}
 use Rattle.mono_kernel.specs.Process.{changed, IsPlain}
@@ -45,9 +45,9 @@ IsTable-settled ps parents k v t dead rising =
       rising = rising;
       parent = λ p child a lives it. t.parent p child a (before p a lives) it;
       listed = λ p child a lives it.
-        let old = t.listed p child a (before p a lives) it in (there-put ps k child v old.0, old.1);
+          let old = t.listed p child a (before p a lives) it in (there-put ps k child v old.0, old.1);
       kept = λ p child a lives it.
-        let old = t.kept p child a (before p a lives) it in (there-put ps k child v old.0, after child old.1);
+          let old = t.kept p child a (before p a lives) it in (there-put ps k child v old.0, after child old.1);
     }
   where
     before : (p : ℕ) (a : Alive) → living_in (put ps k v) p ≡ Some a → living_in ps p ≡ Some a
@@ -59,6 +59,7 @@ IsTable-settled ps parents k v t dead rising =
             in let none : None ≡ Some a = sym (living-put_same ps k v ∙ dead) ∙ (rw same at lives)
             in absurd (cc)
         at false is = sym (living-put_other ps k p v is) ∙ lives
+
     after : (child : ℕ) → living_in ps child ≡ None → living_in (put ps k v) child ≡ None
     after child none = at (nat_eq child k) refl
       where
@@ -71,7 +72,7 @@ pub IsTable-changed : (ps : Numbered Process) (parents : Numbered ℕ) (pid : �
     → living_in ps pid ≡ Some a
     → ((child : ℕ) → lists b.row.family child ≡ true → lists a.row.family child ≡ true)
     → ((child : ℕ) → keeps b.row.family child ≡ true
-      → (keeps a.row.family child ≡ true) ⊎ ((is_some (get ps child) ≡ true) × (living_in ps child ≡ None)))
+    → (keeps a.row.family child ≡ true) ⊎ ((is_some (get ps child) ≡ true) × (living_in ps child ≡ None)))
     → IsRising (put ps pid (Living b)) → IsTable (put ps pid (Living b)) parents
 IsTable-changed ps parents pid a b t here no_more kept_before rising =
     record {
@@ -89,11 +90,12 @@ IsTable-changed ps parents pid a b t here no_more kept_before rising =
         apart true is =
             let none : None ≡ Some a = sym h.1 ∙ rw (same-from-nat_eq child pid is) here in absurd (cc)
         apart false is = living-put_other ps pid child (Living b) is ∙ h.1
+
     at : (p child : ℕ) (c : Alive) → living_in (put ps pid (Living b)) p ≡ Some c → (x : Bool) → nat_eq p pid ≡ x
         → (lists c.row.family child ≡ true → get parents child ≡ Some p)
         × (lists c.row.family child ≡ true → (is_some (get (put ps pid (Living b)) child) ≡ true) × (nat_eq child p ≡ false))
         × (keeps c.row.family child ≡ true
-          → (is_some (get (put ps pid (Living b)) child) ≡ true) × (living_in (put ps pid (Living b)) child ≡ None))
+        → (is_some (get (put ps pid (Living b)) child) ≡ true) × (living_in (put ps pid (Living b)) child ≡ None))
     at p child c lives true is =
         let same : p ≡ pid = same-from-nat_eq p pid is
         in let new : Some b ≡ Some c = sym (living-put_same ps pid (Living b)) ∙ (rw same at lives)
@@ -101,8 +103,8 @@ IsTable-changed ps parents pid a b t here no_more kept_before rising =
         in (
           (λ it. rw same (t.parent pid child a here (no_more child (rw it_is at it)))),
           (λ it. let old = t.listed pid child a here (no_more child (rw it_is at it))
-            in (there-put ps pid child (Living b) old.0, rw same old.1)),
-          (λ it. dead child (from_kept (kept_before child (rw it_is at it))))
+              in (there-put ps pid child (Living b) old.0, rw same old.1)),
+          (λ it. dead child (from_kept (kept_before child (rw it_is at it)))),
         )
       where
         from_kept : (keeps a.row.family child ≡ true) ⊎ ((is_some (get ps child) ≡ true) × (living_in ps child ≡ None))
@@ -114,7 +116,7 @@ IsTable-changed ps parents pid a b t here no_more kept_before rising =
         in (
           t.parent p child c old,
           (λ it. let o = t.listed p child c old it in (there-put ps pid child (Living b) o.0, o.1)),
-          (λ it. dead child (t.kept p child c old it))
+          (λ it. dead child (t.kept p child c old it)),
         )
 
 -- plain changes move no child
@@ -126,6 +128,7 @@ kept-filter p q (e ∷ es) h = at (q e) (list_any p (filter q es)) h (kept-filte
     either : (b : Bool) → (b || true) ≡ true
     either true = refl
     either false = refl
+
     at : (b any : Bool) → list_any p (cond b (e ∷ filter q es) (filter q es)) ≡ true
         → (list_any p (filter q es) ≡ true → list_any p es ≡ true) → (p e || list_any p es) ≡ true
     at false any h rec = rw (rec h) (either (p e))
@@ -161,7 +164,7 @@ IsTable-plain ps ns parents pid change t lives plain is rising = at (living_in p
     at (Some a) here some h =
         rw h
         (IsTable-changed ps parents pid a (changed change a) t here (plain-lists change a plain)
-          (λ child k. inl (plain-keeps change a plain child k)) (rw h at rising))
+        (λ child k. inl (plain-keeps change a plain child k)) (rw h at rising))
 
 -- a child that has ended
 
@@ -193,6 +196,7 @@ ended-keeps a c ending child h = at (ignores_children a.row) refl
             → (x || list_any (λ y. nat_eq child y.0) (es ++ (c, ending) ∷ [])) ≡ true → ((x || any) ≡ true) ⊎ (child ≡ c)
         first true any rec k = inl refl
         first false any rec k = rec k
+
     at : (b : Bool) → ignores_children a.row ≡ b → (keeps a.row.family child ≡ true) ⊎ (child ≡ c)
     at true is = inl (rw is at h)
     at false is = last a.row.family.ended (rw is at h)
@@ -208,10 +212,10 @@ IsTable-ended_child ps ns parents pid c ending t lives listed ended is rising = 
     at (Some a) here some l h =
         let there = (t.listed pid c a here l).0
         in let kept : (child : ℕ) → keeps (with_ended_child a c ending).row.family child ≡ true
-              → (keeps a.row.family child ≡ true) ⊎ ((is_some (get ps child) ≡ true) × (living_in ps child ≡ None)) =
-            λ child k. from (ended-keeps a c ending child k)
+        → (keeps a.row.family child ≡ true) ⊎ ((is_some (get ps child) ≡ true) × (living_in ps child ≡ None)) =
+        λ child k. from (ended-keeps a c ending child k)
         in rw h
-           (IsTable-changed ps parents pid a (with_ended_child a c ending) t here (ended-lists a c ending) kept (rw h at rising))
+        (IsTable-changed ps parents pid a (with_ended_child a c ending) t here (ended-lists a c ending) kept (rw h at rising))
       where
         from : {child : ℕ} → (keeps a.row.family child ≡ true) ⊎ (child ≡ c)
             → (keeps a.row.family child ≡ true) ⊎ ((is_some (get ps child) ≡ true) × (living_in ps child ≡ None))
@@ -309,7 +313,7 @@ module _ (ps : Numbered Process) (parents : Numbered ℕ) (n pid : ℕ) (a : Ali
   fits-old p child c lives = (
     (λ it. get-put_other parents n child pid (absent child (t.listed p child c lives it).0) ∙ t.parent p child c lives it),
     (λ it. let old = t.listed p child c lives it in (there-forked child old.0, old.1)),
-    (λ it. still-dead child (t.kept p child c lives it))
+    (λ it. still-dead child (t.kept p child c lives it)),
   )
 
   fits-caller : (child : ℕ) → Fits pid child (forking a n)
@@ -317,12 +321,13 @@ module _ (ps : Numbered Process) (parents : Numbered ℕ) (n pid : ℕ) (a : Ali
   fits-caller child = (
     (λ it. parent (pushed child a.row.family.living it)),
     (λ it. listed (pushed child a.row.family.living it)),
-    (λ it. still-dead child (t.kept pid child a here it))
+    (λ it. still-dead child (t.kept pid child a here it)),
   )
     where
       parent : (list_any (nat_eq child) a.row.family.living ≡ true) ⊎ (child ≡ n) → get (put parents n pid) child ≡ Some pid
       parent (inl old) = get-put_other parents n child pid (absent child (t.listed pid child a here old).0) ∙ t.parent pid child a here old
       parent (inr same) = rw same (get-put_same parents n pid)
+
       listed : (list_any (nat_eq child) a.row.family.living ≡ true) ⊎ (child ≡ n) → (is_some (get forked_table child) ≡ true) × (nat_eq child pid ≡ false)
       listed (inl old) = let o = t.listed pid child a here old in (there-forked child o.0, o.1)
       listed (inr same) = (rw same new-there, rw same caller_apart)
@@ -341,6 +346,7 @@ module _ (ps : Numbered Process) (parents : Numbered ℕ) (n pid : ℕ) (a : Ali
           in let it_is : c ≡ new_child a = cc
           in rw (same, it_is) (fits-child child)
       second false apart is = fits-old p child c (sym (others-live p apart is) ∙ lives)
+
       at : (b : Bool) → nat_eq p pid ≡ b → Fits p child c
       at true is =
           let same : p ≡ pid = same-from-nat_eq p pid is
@@ -355,12 +361,12 @@ module _ (ps : Numbered Process) (parents : Numbered ℕ) (n pid : ℕ) (a : Ali
   IsTable-forked ns rising is =
       let whole : ns ≡ forked_table = rw here at is
       in rw whole
-         (record {
-           rising = rw (← whole) rising;
-           parent = λ p child c lives it. (fits p child c lives).0 it;
-           listed = λ p child c lives it. (fits p child c lives).1 it;
-           kept = λ p child c lives it. (fits p child c lives).2 it;
-         })
+      (record {
+        rising = rw (← whole) rising;
+        parent = λ p child c lives it. (fits p child c lives).0 it;
+        listed = λ p child c lives it. (fits p child c lives).1 it;
+        kept = λ p child c lives it. (fits p child c lives).2 it;
+      })
 
 pub there-alive : (ps : Numbered Process) (p : ℕ) → IsSome (living_in ps p) → is_some (get ps p) ≡ true
 there-alive ps p some = at (living_in ps p) refl some

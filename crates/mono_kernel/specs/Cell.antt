@@ -1,10 +1,7 @@
 -- A process's place in the table.
-use Rattle.kernel_model.specs.Row.{Alive}
 use Rattle.kernel_model.specs.Kernel as kernels
 use Rattle.mono_kernel.specs.declared.process.State.{State}
 use Rattle.mono_kernel.specs.declared.process.State.TheVariants.{Living, Ended, Gone}
-use Rattle.mono_kernel.specs.declared.process.Change.{Change}
-use Rattle.mono_kernel.specs.Process.{changed, CanChange}
 
 abbrev pub process_of : State → kernels.Process
 process_of (Living a) = kernels.Living a

@@ -6,5 +6,6 @@ pub mod Ends
 pub mod Masks
 pub mod Names
 pub mod Process
+pub mod Standing
 pub mod Table
 pub mod Trial

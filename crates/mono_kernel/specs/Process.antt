@@ -1,9 +1,8 @@
 -- A process of the program as one of the definitions, and the changes of a living one.
-use Rattle.std.specs.Prelude.{◌≡◌, ℕ, true}
+use Rattle.std.specs.Prelude.{◌≡◌, true}
 use Rattle.kernel_model.specs.Signals.{Signals}
-use Rattle.kernel_model.specs.Row.{Alive, lists, raised_at, with_ended_child} 
+use Rattle.kernel_model.specs.Row.{Alive, lists, raised_at, with_ended_child}
 use Rattle.kernel_model.specs.Row as rows
-use Rattle.kernel_model.specs.Kernel as kernels
 use Rattle.kernel_model.specs.ProcessCalls.{reaping}
 use Rattle.mono_kernel.specs.declared.process.Allowance.{Allowance}
 use Rattle.mono_kernel.specs.declared.process.Allowance.TheVariants.{Free, One, Spent}

@@ -1,5 +1,5 @@
 -- The table of processes.
-use Rattle.std.specs.Prelude.{◌≡◌, ℕ, Bool, true, false, nat_eq, List, Option, Some, None, is_some, Result, Ok, Err, IfSome}
+use Rattle.std.specs.Prelude.{◌≡◌, ℕ, Bool, true, false, nat_eq, Option, Some, None, is_some, Result, Ok, Err, IfSome}
 use Rattle.std.specs.List.{list_any}
 use Rattle.std.specs.Option.{option_map, option_map_or}
 use Rattle.pico_base.specs.declared.reply.Ending.{Ending}
@@ -33,9 +33,9 @@ pub record IsTable (ps : Numbered Process) (parents : Numbered ℕ) : Type 0 whe
   pub rising : IsRising ps
   pub parent : (p child : ℕ) (a : Alive) → living_in ps p ≡ Some a → lists a.row.family child ≡ true → get parents child ≡ Some p
   pub listed : (p child : ℕ) (a : Alive) → living_in ps p ≡ Some a → lists a.row.family child ≡ true
-    → (is_some (get ps child) ≡ true) × (nat_eq child p ≡ false)
+      → (is_some (get ps child) ≡ true) × (nat_eq child p ≡ false)
   pub kept : (p child : ℕ) (a : Alive) → living_in ps p ≡ Some a → keeps a.row.family child ≡ true
-    → (is_some (get ps child) ≡ true) × (living_in ps child ≡ None)
+      → (is_some (get ps child) ≡ true) × (living_in ps child ≡ None)
 
 -- a process's parent, by number
 abbrev pub parent_number : Numbered Process → ℕ → Option ℕ

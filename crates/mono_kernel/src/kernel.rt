@@ -1,8 +1,10 @@
 ghost use Rattle.std.specs.Prelude.{◌≡◌, ◌↔◌, false, IfOk, OnErr, IsErrOf, IsSome, IfSome, Some, None};
 ghost use Rattle.std.specs.Option.{option_map_or};
+ghost use Rattle.kernel_model.specs.Maps.{get};
 ghost use Rattle.kernel_model.specs.Kernel.{opening, living_at};
 ghost use Rattle.kernel_model.specs.Transition.{effect, transition, may_make};
 ghost use Rattle.mono_kernel.specs.Answers.{Answers};
+ghost use Rattle.mono_kernel.specs.Standing.{standing_of};
 
 mod process_calls;
 mod queue_calls;
@@ -12,6 +14,7 @@ use crate::fault::CallFault;
 use crate::maps::{Queues, Sets};
 use crate::names::Names;
 use crate::processes::Processes;
+use crate::standing::{Standing, of_cell};
 use pico_base::{Call, Ending, Memory, Outcome, Pid, Reply};
 use std::alloc::Global;
 use std::collections::BTreeMap;
@@ -35,14 +38,14 @@ impl Model for Kernel {
     ghost Value = { PlainKernel };
 
     ghost view = { λ k. record {
-        processes = k.processes;
-        queue_keys = k.queue_names.keys;
-        set_keys = k.set_names.keys;
-        queues = k.queues.entries;
-        sets = k.sets.entries;
-        used_processes = keys_of k.processes;
-        used_queues = k.queue_names.used;
-        used_sets = k.set_names.used;
+      processes = k.processes;
+      queue_keys = k.queue_names.keys;
+      set_keys = k.set_names.keys;
+      queues = k.queues.entries;
+      sets = k.sets.entries;
+      used_processes = keys_of k.processes;
+      used_queues = k.queue_names.used;
+      used_sets = k.set_names.used;
     } };
 }
 
@@ -81,6 +84,13 @@ impl Kernel {
         Ok(Outcome::reply(self.alloc, reply))
     }
 
+    /// How the process stands.
+    pub fn standing(&self, pid: Pid) -> Standing
+        ensures { result ≡ standing_of (get self.now.processes pid) }
+    {
+        of_cell(self.processes.cell(pid.0))
+    }
+
     /// Whether the process lives and may make this call.
     fn may_make(&self, pid: u32, call: &Call) -> bool
         ensures { result ≡ option_map_or (λ a. may_make a call.now) (living_at self.now pid) false }
@@ -106,23 +116,46 @@ impl Kernel {
             Call::SigProcMask { how, set } => Ok(self.change_mask(pid, *how, *set)),
             Call::SigPending => Ok(self.pending(pid)),
             Call::Handled { sig } => Ok(self.handled(pid, *sig)),
-            Call::WaitPid { child, nohang: true } => Ok(self.wait(pid, child.map(|c| c.0))),
+            Call::WaitPid {
+                child,
+                nohang: true,
+            } => Ok(self.wait(pid, child.map(|c| c.0))),
             Call::MsgGet { key, create, excl } => self.get_queue(*key, *create, *excl, chosen),
-            Call::MsgSnd { id, class, text, nowait: true } => Ok(self.send(pid, id.0, *class, text)?),
-            Call::MsgRcv { id, class, size, noerror, nowait: true } => Ok(self.receive(pid, id.0, *class, *size, *noerror)),
+            Call::MsgSnd {
+                id,
+                class,
+                text,
+                nowait: true,
+            } => Ok(self.send(pid, id.0, *class, text)?),
+            Call::MsgRcv {
+                id,
+                class,
+                size,
+                noerror,
+                nowait: true,
+            } => Ok(self.receive(pid, id.0, *class, *size, *noerror)),
             Call::MsgStat { id } => Ok(self.stat(id.0)),
             Call::MsgSet { id, qbytes } => Ok(self.set_qbytes(id.0, *qbytes)),
             Call::MsgRmid { id } => Ok(self.remove_queue(id.0)),
-            Call::SemGet { key, count, create, excl } => self.get_set(*key, *count, *create, *excl, chosen),
+            Call::SemGet {
+                key,
+                count,
+                create,
+                excl,
+            } => self.get_set(*key, *count, *create, *excl, chosen),
             Call::SemOp { id, steps } => self.operate(pid, id.0, steps),
             Call::SemGetVal { id, num } => Ok(self.value(id.0, *num)),
             Call::SemGetPid { id, num } => Ok(self.last(id.0, *num)),
-            Call::SemGetNcnt { id, num } | Call::SemGetZcnt { id, num } => Ok(self.waiting(id.0, *num)),
+            Call::SemGetNcnt { id, num } | Call::SemGetZcnt { id, num } => Ok(self.waiting(
+                id.0, *num,
+            )),
             Call::SemSetVal { id, num, value } => Ok(self.set_value(id.0, *num, *value)),
             Call::SemGetAll { id } => Ok(self.all_values(id.0)?),
             Call::SemSetAll { id, values } => Ok(self.set_all(id.0, values)),
             Call::SemRmid { id } => Ok(self.remove_set(id.0)),
-            Call::WaitPid { .. } | Call::MsgSnd { .. } | Call::MsgRcv { .. } => Err(CallFault::NotAllowed),
+            Call::WaitPid { .. } | Call::MsgSnd { .. } | Call::MsgRcv { .. } => Err(
+                CallFault::NotAllowed,
+            ),
         }
     }
 }

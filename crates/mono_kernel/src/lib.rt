@@ -12,6 +12,8 @@ mod processes;
 mod queue;
 mod semaphores;
 mod signals;
+mod standing;
 
 pub use fault::CallFault;
 pub use kernel::Kernel;
+pub use standing::Standing;

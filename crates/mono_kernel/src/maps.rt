@@ -28,7 +28,14 @@ fn answer(outcome: Result<(), Errno>) -> Reply
 }
 
 /// msgsnd to the queue of a number.
-pub(crate) fn send_at(alloc: Global, queues: &mut Queues, id: u32, pid: u32, class: i32, text: &Bytes) -> Result<Reply, Memory>
+pub(crate) fn send_at(
+    alloc: Global,
+    queues: &mut Queues,
+    id: u32,
+    pid: u32,
+    class: i32,
+    text: &Bytes,
+) -> Result<Reply, Memory>
     ensures ok { IfOk result (λ reply. Changes (λ q. send q pid class text.now) queues.old.entries id queues.new.entries reply) }
     ensures err { OnErr result (queues.new.entries ≡ queues.old.entries) }
 {
@@ -39,7 +46,14 @@ pub(crate) fn send_at(alloc: Global, queues: &mut Queues, id: u32, pid: u32, cla
 }
 
 /// msgrcv from the queue of a number.
-pub(crate) fn receive_at(queues: &mut Queues, id: u32, pid: u32, class: i32, size: u32, noerror: bool) -> Reply
+pub(crate) fn receive_at(
+    queues: &mut Queues,
+    id: u32,
+    pid: u32,
+    class: i32,
+    size: u32,
+    noerror: bool,
+) -> Reply
     ensures { Receives (λ q. receive q pid class size noerror) queues.old.entries id queues.new.entries result }
 {
     match queues.get_mut(&id) {
@@ -62,7 +76,13 @@ pub(crate) fn set_qbytes_at(queues: &mut Queues, id: u32, qbytes: u32) -> Reply
 }
 
 /// semop on the set of a number.
-pub(crate) fn op_at(alloc: Global, sets: &mut Sets, id: u32, pid: u32, steps: &[SemStep]) -> Result<Reply, Memory>
+pub(crate) fn op_at(
+    alloc: Global,
+    sets: &mut Sets,
+    id: u32,
+    pid: u32,
+    steps: &[SemStep],
+) -> Result<Reply, Memory>
     ensures ok { IfOk result (λ reply. Changes (λ s. op s pid steps.now) sets.old.entries id sets.new.entries reply) }
     ensures err { OnErr result (sets.new.entries ≡ sets.old.entries) }
 {

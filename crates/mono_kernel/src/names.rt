@@ -83,7 +83,14 @@ fn free(keys: &mut BTreeMap<u32, u32>, key: Option<u32>)
 }
 
 /// Gives out a number for a thing, and binds its key. A refusal changes nothing.
-fn give_out<T: Drop>(used: &mut BTreeSet<u32>, keys: &mut BTreeMap<u32, u32>, things: &mut BTreeMap<u32, T>, number: u32, key: Option<u32>, thing: T) -> Result<(), Memory>
+fn give_out<T: Drop>(
+    used: &mut BTreeSet<u32>,
+    keys: &mut BTreeMap<u32, u32>,
+    things: &mut BTreeMap<u32, T>,
+    number: u32,
+    key: Option<u32>,
+    thing: T,
+) -> Result<(), Memory>
     requires fresh { is_used used.old.keys number ≡ false }
     requires unbound { bound_to keys.old.entries key ≡ None }
     ensures used { MatchResult result (λ _. used.new.keys ≡ used_with used.old.keys number) (λ _. used.new.keys ≡ used.old.keys) }
@@ -132,7 +139,13 @@ impl Names {
 
     /// Gives out a number for a new thing, and binds the key, if there is one, to it. A refusal
     /// changes nothing.
-    pub(crate) fn add<T: Drop>(&mut self, things: &mut BTreeMap<u32, T>, number: u32, key: Option<u32>, thing: T) -> Result<(), Memory>
+    pub(crate) fn add<T: Drop>(
+        &mut self,
+        things: &mut BTreeMap<u32, T>,
+        number: u32,
+        key: Option<u32>,
+        thing: T,
+    ) -> Result<(), Memory>
         requires fresh { is_used self.old.used number ≡ false }
         requires unbound { bound_to self.old.keys key ≡ None }
         ensures named { OnOk result (self.new ≡ with_name self.old number key) }

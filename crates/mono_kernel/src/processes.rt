@@ -77,7 +77,12 @@ fn add_child_at(cells: &mut BTreeMap<u32, ProcessCell>, pid: u32, child: u32) ->
 }
 
 /// A new process, which that of another number lists. A refusal changes nothing.
-fn fork_at(cells: &mut BTreeMap<u32, ProcessCell>, pid: u32, child: u32, cell: ProcessCell) -> Result<(), Memory>
+fn fork_at(
+    cells: &mut BTreeMap<u32, ProcessCell>,
+    pid: u32,
+    child: u32,
+    cell: ProcessCell,
+) -> Result<(), Memory>
     requires lives { IsSome (living_in cells.old.entries pid) }
     requires fresh { get cells.old.entries child ≡ None }
     ensures ok { OnOk result (IfLiving cells.old.entries pid (λ a. cells.new.entries ≡ put (put cells.old.entries child cell) pid (Living (forking a child)))) }
@@ -298,7 +303,11 @@ impl Processes {
     }
 
     /// waitpid without waiting: an ended child, none yet, or ECHILD.
-    pub(crate) fn wait(&mut self, pid: u32, which: Option<u32>) -> Result<Option<(u32, Ending)>, Errno>
+    pub(crate) fn wait(
+        &mut self,
+        pid: u32,
+        which: Option<u32>,
+    ) -> Result<Option<(u32, Ending)>, Errno>
         requires { IsSome (living_in self.old pid) }
         ensures answer { IfLiving self.old pid (λ a. result ≡ waited_as (wait a.row.family which)) }
         ensures table { IfLiving self.old pid (λ a. self.new ≡ table_after self.old pid a (wait a.row.family which)) }

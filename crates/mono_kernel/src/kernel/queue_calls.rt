@@ -36,7 +36,13 @@ impl Kernel {
 
     /// msgget: ENOENT for a key that leads nowhere, without IPC_CREAT; EEXIST for one that leads to a
     /// queue, with IPC_CREAT and IPC_EXCL.
-    pub(super) fn get_queue(&mut self, key: Option<Key>, create: bool, excl: bool, chosen: u32) -> Result<Reply, CallFault>
+    pub(super) fn get_queue(
+        &mut self,
+        key: Option<Key>,
+        create: bool,
+        excl: bool,
+        chosen: u32,
+    ) -> Result<Reply, CallFault>
         ensures { Answers (get_queue self.old key create excl chosen) result self.old self.new }
     {
         let Some(Key(key)) = key else {
@@ -56,7 +62,13 @@ impl Kernel {
     }
 
     /// msgsnd: EINVAL or EAGAIN.
-    pub(super) fn send(&mut self, pid: u32, id: u32, class: i32, text: &Bytes) -> Result<Reply, Memory>
+    pub(super) fn send(
+        &mut self,
+        pid: u32,
+        id: u32,
+        class: i32,
+        text: &Bytes,
+    ) -> Result<Reply, Memory>
         ensures ok { IfOk result (λ reply. on_named self.old (get self.old.queues id) (λ q. changed_queue self.old id (send q pid class text.now))
             ≡ record { kernel = self.new; reply = reply }) }
         ensures err { OnErr result (self.new ≡ self.old) }
@@ -65,7 +77,14 @@ impl Kernel {
     }
 
     /// msgrcv: EINVAL, ENOMSG or E2BIG.
-    pub(super) fn receive(&mut self, pid: u32, id: u32, class: i32, size: u32, noerror: bool) -> Reply
+    pub(super) fn receive(
+        &mut self,
+        pid: u32,
+        id: u32,
+        class: i32,
+        size: u32,
+        noerror: bool,
+    ) -> Reply
         ensures { on_named self.old (get self.old.queues id) (λ q. received self.old id (receive q pid class size noerror))
             ≡ record { kernel = self.new; reply = result } }
     {

@@ -80,7 +80,14 @@ impl Kernel {
 
     /// semget: ENOENT for a key that leads nowhere, without IPC_CREAT; EEXIST for one that leads to a
     /// set, with IPC_CREAT and IPC_EXCL; EINVAL by the number of semaphores.
-    pub(super) fn get_set(&mut self, key: Option<Key>, count: u32, create: bool, excl: bool, chosen: u32) -> Result<Reply, CallFault>
+    pub(super) fn get_set(
+        &mut self,
+        key: Option<Key>,
+        count: u32,
+        create: bool,
+        excl: bool,
+        chosen: u32,
+    ) -> Result<Reply, CallFault>
         ensures { Answers (get_set self.old key count create excl chosen) result self.old self.new }
     {
         let Some(Key(key)) = key else {

@@ -1,4 +1,4 @@
-use Rattle.std.proofs.Common.{◌≡◌, ◌≤◌, ◌+◌, ℕ, not, nat_eq, length, arith, rules}
+use Rattle.std.proofs.Common.{◌≤◌, ◌+◌, not, nat_eq, length, rules}
 use Rattle.std.proofs.lemmas.Fn.{filter_same}
 use Rattle.kernel_model.specs.Row.{others}
 use Rattle.mono_kernel.proofs.FamilyLemmas.{fewer-others}

@@ -1,4 +1,4 @@
-use Rattle.std.proofs.Common.{◌≡◌, ◌∙◌, ℕ, List, sym, ap}
+use Rattle.std.proofs.Common.{◌∙◌, ℕ, List, sym, ap}
 use Rattle.kernel_model.specs.Maps.{Numbered}
 use Rattle.mono_kernel.specs.Names.{NameTable}
 use Rattle.mono_kernel.proofs.KeyLemmas.{unbound-none, unbound-one}
@@ -12,11 +12,11 @@ unfolding with_keys
 returns-in-Some c =
     rw (← c.self.view_is)
     (ap (with_keys c.self.inside.used.keys)
-      (c.remove.ensures.entries ∙ sym (unbound-one c.self.inside.keys.entries c.args.number c.in-Some.key c.self.invariant.rising c.in-Some.ensures)))
+    (c.remove.ensures.entries ∙ sym (unbound-one c.self.inside.keys.entries c.args.number c.in-Some.key c.self.invariant.rising c.in-Some.ensures)))
 
 pub returns-in_default : goal.returns-in_default
 unfolding with_keys
 returns-in_default c =
     rw (← c.self.view_is)
     (ap (with_keys c.self.inside.used.keys)
-      (sym (unbound-none c.self.inside.keys.entries c.args.number c.self.invariant.rising c.in_default.ensures)))
+    (sym (unbound-none c.self.inside.keys.entries c.args.number c.self.invariant.rising c.in_default.ensures)))

@@ -1,7 +1,6 @@
-use Rattle.std.proofs.Common.{◌≡◌, ℕ, true, is_some, take}
+use Rattle.std.proofs.Common.{◌≡◌, take}
 use Rattle.std.specs.List.{fold}
 use Rattle.std.specs.Map.{keys_of}
-use Rattle.kernel_model.specs.Maps.{get}
 use Rattle.kernel_model.specs.ProcessCalls.{bury}
 use Rattle.mono_kernel.proofs.processes.Processes.bury.Given as goal
 

@@ -1,5 +1,3 @@
-use Rattle.std.proofs.Common.{◌∙◌}
-use Rattle.std.specs.Map.{keys_of}
 use Rattle.mono_kernel.proofs.TableLemmas.{IsTable-plain}
 use Rattle.mono_kernel.proofs.processes.Processes.change.Goals as goal
 
@@ -7,7 +5,7 @@ pub invariant_of-self : goal.invariant_of-self
 invariant_of-self c =
     let lives = rw (← c.self.view_is) at c.requires.lives
     in IsTable-plain c.self.inside.cells.entries _ c.self.inside.parents.entries c.args.pid c.args.change c.self.invariant lives c.requires.plain
-         c.change_at.ensures.changed c.change_at.ensures.rising
+    c.change_at.ensures.changed c.change_at.ensures.rising
 
 pub returns-clause-same_numbers : goal.returns-clause-same_numbers
 returns-clause-same_numbers c = rw (← c.self.view_is) c.change_at.ensures.same_numbers

@@ -1,7 +1,3 @@
-use Rattle.std.proofs.Common.{◌≡◌, ℕ, None, sym}
-use Rattle.std.specs.List.{All}
-use Rattle.pico_base.specs.declared.reply.Ending.{Ending}
-use Rattle.kernel_model.specs.Kernel.{living_in}
 use Rattle.mono_kernel.proofs.EndLemmas.{there-same}
 use Rattle.mono_kernel.proofs.EndedLemmas.{parent-after, listed-after, end-is}
 use Rattle.mono_kernel.proofs.TableLemmas.{there-alive}
@@ -18,13 +14,13 @@ pub leave-requires-clause-listed : goal.leave-requires-clause-listed
 leave-requires-clause-listed c =
     rw (c.bury.ensures.buried, c.as_slice.ensures.value)
     (listed-after c.args.self.now c.in_ok-children.children.items c.args.pid c.parent_of-parent.result
-      (λ k d inside. (c.in_ok-children.ensures.ended k d inside).1) c.parent_of-parent.ensures.lists)
+    (λ k d inside. (c.in_ok-children.ensures.ended k d inside).1) c.parent_of-parent.ensures.lists)
 
 pub returns-clause-ended : goal.returns-clause-ended
 returns-clause-ended c =
     let left = rw (c.bury.ensures.buried, c.as_slice.ensures.value) at c.leave.ensures.left
     in end-is c.args.self.now c.leave.new.self c.args.pid c.args.ending c.in_ok-children.children.items c.parent_of-parent.result
-         c.in_ok-children.ensures.children c.parent_of-parent.ensures.parent
-         (parent-after c.args.self.now c.in_ok-children.children.items c.args.pid c.parent_of-parent.result
-           (λ k d inside. (c.in_ok-children.ensures.ended k d inside).1) c.parent_of-parent.ensures.lists)
-         left
+    c.in_ok-children.ensures.children c.parent_of-parent.ensures.parent
+    (parent-after c.args.self.now c.in_ok-children.children.items c.args.pid c.parent_of-parent.result
+    (λ k d inside. (c.in_ok-children.ensures.ended k d inside).1) c.parent_of-parent.ensures.lists)
+    left
