@@ -96,12 +96,10 @@ fn a_script_with_a_fault_is_told_where(rt: HostRuntime) -> Result<(), Fail> {
     Ok(())
 }
 
-// As many bytes as that, of which the first 10 end a line.
+// As many bytes as that, of which the first 10 are a line.
 fn long_text(alloc: Global, count: usize) -> Result<Bytes, Fail> {
     let mut bytes = Vec::from_slice(alloc, b"proc main\n")?;
-    while bytes.len() < count {
-        bytes.push(b'a')?;
-    }
+    bytes.resize(count, b'a')?;
     Ok(Bytes::from_vec(bytes))
 }
 
