@@ -12,6 +12,7 @@ pub mod Families
 pub mod Members
 pub mod FamilyChanges
 pub mod EndChanges
+pub mod OnceLaws
 pub mod Living
 pub mod People
 pub mod ProcessLaws

@@ -1,13 +1,15 @@
 -- A living process's signals are sound, and it is doomed exactly where it isn't free to act.
 use Rattle.std.proofs.Common.{◌≡◌, ◌≢◌, ℕ, Bool, true, false, List, Option, Some, None, refl, ap, sym, subst, ◌∙◌}
-use Rattle.std.specs.Prelude.{if◌then◌else◌, is_some}
+use Rattle.std.specs.Prelude.{if◌then◌else◌, is_some, Contains}
 use Rattle.std.proofs.lemmas.Bool.{cases_Bool}
 use Rattle.pico_base.specs.declared.reply.Ending.{Ending}
 use Rattle.pico_base.specs.declared.signal.Sig.{Sig}
 use Rattle.pico_base.specs.declared.signal.Sig.TheVariants.{Chld}
 use Rattle.kernel_model.specs.Signals.{Signals, IsSound, raise, inherited}
-use Rattle.kernel_model.specs.Row.{Alive, Family, Allowance, Free, One, Spent, with_end, ignores_children, doomed_by_other, raised_at, with_ended_child}
+use Rattle.kernel_model.specs.Row.{Alive, Family, Allowance, Free, One, Spent, lists, with_child, with_end, without_ended, ignores_children, doomed_by_other, raised_at, with_ended_child}
 use Rattle.kernel_model.specs.ProcessCalls.{new_child, forking, reaping}
+use Rattle.kernel_laws.specs.Once.{ListsOnce}
+use Rattle.kernel_laws.proofs.OnceLaws.{once-none, once-child, once-end, once-without}
 use Rattle.kernel_laws.proofs.Plain.{by_test, not_true}
 use Rattle.kernel_laws.proofs.SignalLaws.{sound-raise, sound-inherited, Stays, raise-stays, no-doom}
 
@@ -15,20 +17,22 @@ pub record Strong (a : Alive) : Type 0 where
   pub sound : IsSound a.row.signals
   pub free : a.row.signals.doom ≡ None → a.allowance ≡ Free
   pub undoomed : a.allowance ≡ Free → a.row.signals.doom ≡ None
+  pub once : ListsOnce a.row.family
 
 -- in an entry of the caller the caller itself may be doomed and not yet have had its last turn
 pub record Weak (caller p : ℕ) (a : Alive) : Type 0 where
   pub sound : IsSound a.row.signals
   pub free : a.row.signals.doom ≡ None → a.allowance ≡ Free
   pub undoomed : p ≢ caller → a.allowance ≡ Free → a.row.signals.doom ≡ None
+  pub once : ListsOnce a.row.family
 
 pub weak : (caller p : ℕ) (a : Alive) → Strong a → Weak caller p a
-weak caller p a s = record { sound = s.sound; free = s.free; undoomed = λ ne. s.undoomed }
+weak caller p a s = record { sound = s.sound; free = s.free; undoomed = λ ne. s.undoomed; once = s.once }
 
 -- the caller's own change of its signals
 pub weak-own : (caller : ℕ) (a : Alive) (s : Signals) → Strong a → IsSound s → Stays a.row.signals s
     → Weak caller caller (record a { row = record { signals = s; family = a.row.family } })
-weak-own caller a s h sound stays = record { sound = sound; free = λ d. h.free (stays d); undoomed = λ ne. absurd (ne refl) }
+weak-own caller a s h sound stays = record { sound = sound; free = λ d. h.free (stays d); undoomed = λ ne. absurd (ne refl); once = h.once }
 
 one-free : {B : Type 0} → One ≡ Free → B
 one-free h = cc
@@ -54,25 +58,29 @@ strong-raised a g h =
           let b = raise-stays a.row.signals g d
           in free-by_other (is_some a.row.signals.doom) (is_some (raise a.row.signals g).doom) a.allowance (ap is_some b) (ap is_some d) ∙ h.free b;
       undoomed = undoomed-by_other a.row.signals.doom (raise a.row.signals g).doom a.allowance h.undoomed;
+      once = h.once;
     }
 
-strong-family : (a : Alive) (f : Family) → Strong a → Strong (record a { row = record { signals = a.row.signals; family = f } })
-strong-family a f h = record { sound = h.sound; free = h.free; undoomed = h.undoomed }
+strong-family : (a : Alive) (f : Family) → Strong a → ListsOnce f → Strong (record a { row = record { signals = a.row.signals; family = f } })
+strong-family a f h once = record { sound = h.sound; free = h.free; undoomed = h.undoomed; once = once }
 
 pub strong-child : (a : Alive) → Strong a → Strong (new_child a)
-strong-child a h = record { sound = sound-inherited a.row.signals h.sound; free = λ d. refl; undoomed = λ e. refl }
+strong-child a h = record { sound = sound-inherited a.row.signals h.sound; free = λ d. refl; undoomed = λ e. refl; once = once-none }
 
-pub strong-forking : (a : Alive) (n : ℕ) → Strong a → Strong (forking a n)
-strong-forking a n h = record { sound = h.sound; free = h.free; undoomed = h.undoomed }
+pub strong-forking : (a : Alive) (n : ℕ) → Strong a → lists a.row.family n ≡ false → Strong (forking a n)
+strong-forking a n h new = strong-family a (with_child a.row.family n) h (once-child a.row.family n h.once new)
 
 pub strong-reaping : (a : Alive) (n : ℕ) → Strong a → Strong (reaping a n)
-strong-reaping a n h = record { sound = h.sound; free = h.free; undoomed = h.undoomed }
+strong-reaping a n h = strong-family a (without_ended n a.row.family) h (once-without a.row.family n h.once)
 
-pub strong-ended_child : (a : Alive) (child : ℕ) (ending : Ending) → Strong a → Strong (with_ended_child a child ending)
-strong-ended_child a child ending h =
-    let next : Alive = record a { row = record { signals = a.row.signals; family = with_end a.row.family child ending (ignores_children a.row) } }
-    in let s = strong-family a (with_end a.row.family child ending (ignores_children a.row)) h
-    in by_test Strong (ignores_children a.row) next (raised_at next Chld) (λ t. s) (λ t. strong-raised next Chld s)
+pub strong-ended_child : (a : Alive) (child : ℕ) (ending : Ending) → Strong a → ((d : Ending) → Contains a.row.family.ended (child, d) → ⊥)
+    → Strong (with_ended_child a child ending)
+strong-ended_child a child ending h new =
+    let ignored = ignores_children a.row
+    in let f = with_end a.row.family child ending ignored
+    in let next : Alive = record a { row = record { signals = a.row.signals; family = f } }
+    in let s = strong-family a f h (once-end a.row.family child ending ignored h.once new)
+    in by_test Strong ignored next (raised_at next Chld) (λ t. s) (λ t. strong-raised next Chld s)
 
 pub family-ended_child : (a : Alive) (child : ℕ) (ending : Ending)
     → (with_ended_child a child ending).row.family ≡ with_end a.row.family child ending (ignores_children a.row)
@@ -83,10 +91,10 @@ family-ended_child a child ending =
 
 -- after the entry
 pub strong-spent : (caller p : ℕ) (a : Alive) → Weak caller p a → is_some a.row.signals.doom ≡ true → Strong (record a { allowance = Spent })
-strong-spent caller p a h d = record { sound = h.sound; free = λ e. not_true (sym (ap is_some e) ∙ d); undoomed = λ e. spent-free e }
+strong-spent caller p a h d = record { sound = h.sound; free = λ e. not_true (sym (ap is_some e) ∙ d); undoomed = λ e. spent-free e; once = h.once }
 
 pub strong-undoomed : (caller p : ℕ) (a : Alive) → Weak caller p a → is_some a.row.signals.doom ≡ false → Strong a
-strong-undoomed caller p a h d = record { sound = h.sound; free = h.free; undoomed = λ e. no-doom a.row.signals.doom d }
+strong-undoomed caller p a h d = record { sound = h.sound; free = h.free; undoomed = λ e. no-doom a.row.signals.doom d; once = h.once }
 
 pub strong-other : (caller p : ℕ) (a : Alive) → Weak caller p a → p ≢ caller → Strong a
-strong-other caller p a h ne = record { sound = h.sound; free = h.free; undoomed = h.undoomed ne }
+strong-other caller p a h ne = record { sound = h.sound; free = h.free; undoomed = h.undoomed ne; once = h.once }

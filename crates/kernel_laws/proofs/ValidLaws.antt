@@ -9,6 +9,8 @@ use Rattle.kernel_model.specs.Kernel.{Kernel, Process, Living, Ended, Gone, Pare
 use Rattle.kernel_model.specs.Valid.{IsAlive, IsValid, ListsEnded}
 use Rattle.kernel_laws.specs.Reachable.{IsReachable}
 use Rattle.kernel_laws.specs.Processes.{ReachableKernelsAreValid, SignalsAreSound, HasOneParent, ChildrenHaveOneParent}
+use Rattle.kernel_laws.specs.Once.{ChildrenAreListedOnce}
+use Rattle.kernel_laws.proofs.OnceLaws.{once-none}
 use Rattle.kernel_laws.proofs.Plain.{from_some, not_some, not_true}
 use Rattle.kernel_laws.proofs.MapLaws.{get-first, get-later, used-first, used-later, ordered}
 use Rattle.kernel_laws.proofs.Members.{contains-none}
@@ -52,7 +54,7 @@ first-used n =
 
 first-strong : Strong first
 unfolding first
-first-strong = record { sound = sound-new; free = λ d. refl; undoomed = λ e. refl }
+first-strong = record { sound = sound-new; free = λ d. refl; undoomed = λ e. refl; once = once-none }
 
 nobody-listed : (p c : ℕ) → Lists (get start) p c → ⊥
 unfolding first
@@ -133,6 +135,9 @@ reachable_kernels_are_valid_lemma k r =
 
 pub signals_are_sound_lemma : SignalsAreSound
 signals_are_sound_lemma k r pid a l = ((reachable_kernels_are_valid_lemma k r).alive pid a l).signals
+
+pub children_are_listed_once_lemma : ChildrenAreListedOnce
+children_are_listed_once_lemma k r pid a l = ((settled k r).body.each pid a (from-living k.processes pid a l)).once
 
 -- parents
 parent-same : (ps : Numbered Process) (child pid : ℕ) (a : Alive) (p : Parent) → pid ≡ p.pid → get ps pid ≡ Some (Living a) → get ps p.pid ≡ Some (Living p.alive)

@@ -1,4 +1,5 @@
 pub mod Numbers
+pub mod Once
 pub mod Processes
 pub mod Queues
 pub mod Reachable

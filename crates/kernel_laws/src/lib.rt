@@ -3,6 +3,7 @@
 #![tactic(auto)]
 
 ghost use Rattle.kernel_laws.specs.Refusal.{RefusalsChangeNothing};
+ghost use Rattle.kernel_laws.specs.Once.{ChildrenAreListedOnce};
 ghost use Rattle.kernel_laws.specs.Processes.{ReachableKernelsAreValid, SignalsAreSound, ChildrenHaveOneParent};
 ghost use Rattle.kernel_laws.specs.Queues.{QueuesAreWithinLimits};
 ghost use Rattle.kernel_laws.specs.Numbers.{UsedNumbersStay, RemovedQueuesStayRemoved, RemovedSetsStayRemoved};
@@ -54,3 +55,9 @@ pub fn signals_are_sound()
 pub fn children_have_one_parent()
     ensures { ChildrenHaveOneParent }
 {}
+
+/// No process lists a child twice, neither among the living ones nor among the ended ones.
+pub fn children_are_listed_once()
+    ensures { ChildrenAreListedOnce }
+{
+}
