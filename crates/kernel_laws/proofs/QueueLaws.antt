@@ -17,16 +17,10 @@ use Rattle.kernel_model.specs.Kernel.{Kernel, opening}
 use Rattle.kernel_model.specs.Row.{Alive}
 use Rattle.kernel_model.specs.Queue.{Queue, Message, Received, bytes_in, bytes_of, empty_queue, max_queue_bytes, max_messages, max_text, has_room, is_sendable, send, select, taken, receive, receive_from, receive_at, set_qbytes}
 use Rattle.kernel_laws.specs.Queues.{IsMessage, IsWithinLimits, QueuesAreWithinLimits}
-use Rattle.kernel_laws.proofs.Plain.{from_some, not_some, not_true}
+use Rattle.kernel_laws.proofs.Plain.{from_ok, not_ok, from_some, not_some, not_true}
 use Rattle.kernel_laws.proofs.Tables.{Table, table-empty, table-change, table-make, table-bind, table-remove, fresh-unused}
 use Rattle.kernel_laws.proofs.Moves.{Moves, Finishes}
 use Rattle.kernel_laws.proofs.Histories.{Kept, kept-along}
-
-from_ok : {A E : Type 0} (a b : A) → (let x : Result A E = Ok a in let y : Result A E = Ok b in x ≡ y) → a ≡ b
-from_ok a b h = cc
-
-not_ok : {A E B : Type 0} (e : E) (a : A) → (let x : Result A E = Err e in let y : Result A E = Ok a in x ≡ y) → B
-not_ok e a h = cc
 
 in_order : (a b : ℤ) → int_le a b ≡ true → a ≤ℤ b
 in_order a b h = le_z_yes (subst T (sym h) tt)

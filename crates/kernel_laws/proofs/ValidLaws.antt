@@ -23,8 +23,9 @@ use Rattle.kernel_laws.proofs.ProcessLaws.{IsStrong, Settled, Midway, people-kep
 use Rattle.kernel_laws.proofs.Histories.{kept-along, kept-by-along}
 use Rattle.kernel_laws.proofs.Tables.{Table, table-keys}
 use Rattle.kernel_laws.specs.Queues.{IsWithinLimits}
+use Rattle.kernel_laws.specs.Sets.{IsSetWithinLimits}
 use Rattle.kernel_laws.proofs.QueueLaws.{Queues, queues-kept, queues-opening}
-use Rattle.kernel_laws.proofs.SetLaws.{IsAny, Sets, sets-kept, sets-opening}
+use Rattle.kernel_laws.proofs.SetLaws.{Sets, sets-kept, sets-opening}
 
 -- the opening kernel
 first : Alive
@@ -114,7 +115,7 @@ valid-from k h q s =
       used_queues = q.used_at;
       used_sets = s.used_at;
       queue_keys = table-keys IsWithinLimits k.queues k.queue_keys k.used_queues q;
-      set_keys = table-keys IsAny k.sets k.set_keys k.used_sets s;
+      set_keys = table-keys IsSetWithinLimits k.sets k.set_keys k.used_sets s;
       alive = alive-valid k h;
       one_parent = λ p q a b child l m x y.
           h.families.one_parent p q child

@@ -4,3 +4,4 @@ pub mod Processes
 pub mod Queues
 pub mod Reachable
 pub mod Refusal
+pub mod Sets

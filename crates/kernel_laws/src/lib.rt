@@ -6,6 +6,7 @@ ghost use Rattle.kernel_laws.specs.Refusal.{RefusalsChangeNothing};
 ghost use Rattle.kernel_laws.specs.Once.{ChildrenAreListedOnce};
 ghost use Rattle.kernel_laws.specs.Processes.{ReachableKernelsAreValid, SignalsAreSound, ChildrenHaveOneParent};
 ghost use Rattle.kernel_laws.specs.Queues.{QueuesAreWithinLimits};
+ghost use Rattle.kernel_laws.specs.Sets.{SetsAreWithinLimits};
 ghost use Rattle.kernel_laws.specs.Numbers.{UsedNumbersStay, RemovedQueuesStayRemoved, RemovedSetsStayRemoved};
 
 /// A call that fails leaves the kernel as it was. Only a doomed caller that lives on has then had its last turn
@@ -19,6 +20,13 @@ pub fn refusals_change_nothing()
 pub fn queues_are_within_limits()
     ensures { QueuesAreWithinLimits }
 {}
+
+/// In each kernel that a legal history leads to, a semaphore set has between 1 and 64 semaphores, and each value is
+/// at most 32,767.
+pub fn sets_are_within_limits()
+    ensures { SetsAreWithinLimits }
+{
+}
 
 /// The numbers of processes, queues and sets that were used stay used along each history.
 pub fn used_numbers_stay()
