@@ -17,4 +17,5 @@ pub mod Living
 pub mod People
 pub mod ProcessLaws
 pub mod ValidLaws
+pub mod LifeLaws
 pub mod Refusals

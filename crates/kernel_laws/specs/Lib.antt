@@ -1,3 +1,4 @@
+pub mod Lives
 pub mod Numbers
 pub mod Once
 pub mod Processes

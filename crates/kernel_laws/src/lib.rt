@@ -7,6 +7,7 @@ ghost use Rattle.kernel_laws.specs.Once.{ChildrenAreListedOnce};
 ghost use Rattle.kernel_laws.specs.Processes.{ReachableKernelsAreValid, SignalsAreSound, ChildrenHaveOneParent};
 ghost use Rattle.kernel_laws.specs.Queues.{QueuesAreWithinLimits};
 ghost use Rattle.kernel_laws.specs.Sets.{SetsAreWithinLimits};
+ghost use Rattle.kernel_laws.specs.Lives.{LivesGoOneWay};
 ghost use Rattle.kernel_laws.specs.Numbers.{UsedNumbersStay, RemovedQueuesStayRemoved, RemovedSetsStayRemoved};
 
 /// A call that fails leaves the kernel as it was. Only a doomed caller that lives on has then had its last turn
@@ -67,5 +68,12 @@ pub fn children_have_one_parent()
 /// No process lists a child twice, neither among the living ones nor among the ended ones.
 pub fn children_are_listed_once()
     ensures { ChildrenAreListedOnce }
+{
+}
+
+/// A process that has ended stays so, with the same ending, until it is gone, and one that is gone stays gone: a
+/// number never leads to a living process again.
+pub fn lives_go_one_way()
+    ensures { LivesGoOneWay }
 {
 }
