@@ -1,21 +1,20 @@
 -- What a process at one point of a history is at a later one.
-use Rattle.std.proofs.Common.{◌≡◌, ◌≢◌, ℕ, Bool, true, false, List, [], ◌∷◌, Option, Some, None, refl, ap, sym, subst, ◌∙◌, inl, inr, ◌⊎◌}
-use Rattle.std.specs.Prelude.{if◌then◌else◌, fold, Contains, is_some}
+use Rattle.std.proofs.Common.{◌≡◌, ◌≢◌, ℕ, Bool, true, false, List, [], ◌∷◌, Option, Some, None, refl, ap, sym, subst, ◌∙◌, inl, inr}
+use Rattle.std.specs.Prelude.{if◌then◌else◌, fold, is_some}
 use Rattle.std.proofs.lemmas.Bool.{cases_eq}
 use Rattle.pico_base.specs.declared.reply.Ending.{Ending}
 use Rattle.kernel_model.specs.Maps.{Numbered, get, put, is_used}
-use Rattle.kernel_model.specs.Signals.{with_action, with_mask, raise}
-use Rattle.kernel_model.specs.Row.{Alive, Spent, raised_at, with_ended_child, ignores_children}
-use Rattle.kernel_model.specs.Kernel.{Kernel, Process, Living, Ended, Gone, Parent, parent_in, living_at, with_alive, opening}
-use Rattle.kernel_model.specs.ProcessCalls.{bury, buried, kept_as, ended_under, with_fork, with_end, with_reaped, new_child, forking, reaping}
+use Rattle.kernel_model.specs.Row.{Alive, Spent, with_ended_child, ignores_children}
+use Rattle.kernel_model.specs.Kernel.{Kernel, Process, Living, Ended, Gone, Parent, parent_in, living_at, with_alive}
+use Rattle.kernel_model.specs.ProcessCalls.{bury, buried, kept_as, ended_under, with_fork, with_reaped, new_child, forking, reaping}
 use Rattle.kernel_model.specs.Transition.{finished}
 use Rattle.kernel_laws.specs.Lives.{MayBecome, LivesGoOneWay}
 use Rattle.kernel_laws.proofs.Plain.{not_some, not_true}
 use Rattle.kernel_laws.proofs.MapLaws.{get-put-same, get-put-other}
-use Rattle.kernel_laws.proofs.Tables.{fresh-unused, there-put}
+use Rattle.kernel_laws.proofs.Tables.{fresh-unused}
 use Rattle.kernel_laws.proofs.Families.{Lists, living-ended, living-gone, at-once}
 use Rattle.kernel_laws.proofs.EndChanges.{cleared, parent-is}
-use Rattle.kernel_laws.proofs.People.{Body, People, from-living}
+use Rattle.kernel_laws.proofs.People.{People, from-living}
 use Rattle.kernel_laws.proofs.ProcessLaws.{IsStrong, Settled, Midway, people-kept}
 use Rattle.kernel_laws.proofs.ValidLaws.{settled}
 use Rattle.kernel_laws.proofs.Moves.{Moves}
@@ -46,14 +45,14 @@ record Goes (pid : ℕ) (p : Process) (ps : Numbered Process) : Type 0 where
 goes-put : (pid : ℕ) (p : Process) (ps : Numbered Process) → Goes pid p ps → (k : ℕ) (v : Process)
     → ((w : Process) → get ps k ≡ Some w → MayBecome p w → MayBecome p v) → Goes pid p (put ps k v)
 goes-put pid p ps g k v h =
-    elim (cases_eq pid k)
-    [ inl same ↦
-        record {
-          now = v;
-          there = ap (get (put ps k v)) same ∙ get-put-same ps k v;
-          follows = h g.now (ap (get ps) (sym same) ∙ g.there) g.follows;
-        }
-    | inr ne ↦ record { now = g.now; there = get-put-other ps k v pid ne ∙ g.there; follows = g.follows }
+    elim (cases_eq pid k) [
+      | inl same ↦
+          record {
+            now = v;
+            there = ap (get (put ps k v)) same ∙ get-put-same ps k v;
+            follows = h g.now (ap (get ps) (sym same) ∙ g.there) g.follows;
+          }
+      | inr ne ↦ record { now = g.now; there = get-put-other ps k v pid ne ∙ g.there; follows = g.follows }
     ]
 
 goes-alive : (pid : ℕ) (p : Process) (ps : Numbered Process) → Goes pid p ps → (k : ℕ) (a : Alive) (v : Process) → get ps k ≡ Some (Living a) → Goes pid p (put ps k v)
@@ -95,8 +94,8 @@ goes-ended pid p ps used h g caller a ending l (Some parent) e =
     in let c = cleared ps caller a h.families l
     in let w = parent-is caller ps h.body.rise parent e
     in let ne : parent.pid ≢ caller =
-        λ same. h.families.alone caller
-        (subst (λ (x : ℕ). Lists (get ps) x caller) same (record { alive = parent.alive; there = w.0; listed = w.1 }))
+    λ same. h.families.alone caller
+    (subst (λ (x : ℕ). Lists (get ps) x caller) same (record { alive = parent.alive; there = w.0; listed = w.1 }))
     in let v = kept_as (ignores_children parent.alive.row) ending
     in let first = goes-alive pid p mid (goes-buried pid p a.row.family.ended ps g) caller a v (c.alive_on caller a l)
     in goes-alive pid p (put mid caller v) first parent.pid parent.alive (Living (with_ended_child parent.alive caller ending))

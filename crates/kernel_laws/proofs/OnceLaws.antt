@@ -1,5 +1,5 @@
 -- A family that lists each child once, after a fork, an end and a waitpid.
-use Rattle.std.proofs.Common.{◌≡◌, ◌≢◌, ℕ, Bool, true, false, not, ◌||◌, List, [], ◌∷◌, ◌++◌, refl, ap, sym, subst, ◌∙◌, inl, inr, nat_eq, map}
+use Rattle.std.proofs.Common.{◌≡◌, ℕ, Bool, true, false, not, List, [], ◌∷◌, ◌++◌, refl, ap, sym, subst, inl, inr, nat_eq, map}
 use Rattle.std.specs.Prelude.{Contains}
 use Rattle.std.specs.List.{IsDistinct, AllByRecursion, filter, list_any}
 use Rattle.std.specs.Cmp.{nat_eq_equiv}
@@ -19,9 +19,9 @@ all-filtered : {X : Type 0} (P : X → Type 0) (p : X → Bool) (xs : List X) �
 all-filtered P p [] h = h
 all-filtered {X} P p (x ∷ xs) h =
     let Q : List X → Type 0 = λ ys. AllByRecursion P ys
-    in elim (cases_Bool (p x))
-    [ inl t ↦ let e : filter p (x ∷ xs) ≡ x ∷ filter p xs = rw t refl in subst Q (sym e) (h.0, all-filtered P p xs h.1)
-    | inr f ↦ let e : filter p (x ∷ xs) ≡ filter p xs = rw f refl in subst Q (sym e) (all-filtered P p xs h.1)
+    in elim (cases_Bool (p x)) [
+      | inl t ↦ let e : filter p (x ∷ xs) ≡ x ∷ filter p xs = rw t refl in subst Q (sym e) (h.0, all-filtered P p xs h.1)
+      | inr f ↦ let e : filter p (x ∷ xs) ≡ filter p xs = rw f refl in subst Q (sym e) (all-filtered P p xs h.1)
     ]
 
 distinct-filtered : (p : ℕ → Bool) (xs : List ℕ) → IsDistinct nat_eq xs → IsDistinct nat_eq (filter p xs)
@@ -29,11 +29,11 @@ distinct-filtered p [] h = h
 distinct-filtered p (x ∷ xs) h =
     let Q : List ℕ → Type 0 = λ ys. IsDistinct nat_eq ys
     in let i = distinct-filtered p xs (IsDistinct-tail nat_eq x xs h)
-    in elim (cases_Bool (p x))
-    [ inl t ↦
-        let e : filter p (x ∷ xs) ≡ x ∷ filter p xs = rw t refl
-        in subst Q (sym e) (IsDistinct-cons nat_eq x (filter p xs) (all-filtered (λ y. nat_eq x y ≡ false) p xs (IsDistinct-head nat_eq x xs h)) i)
-    | inr f ↦ let e : filter p (x ∷ xs) ≡ filter p xs = rw f refl in subst Q (sym e) i
+    in elim (cases_Bool (p x)) [
+      | inl t ↦
+          let e : filter p (x ∷ xs) ≡ x ∷ filter p xs = rw t refl
+          in subst Q (sym e) (IsDistinct-cons nat_eq x (filter p xs) (all-filtered (λ y. nat_eq x y ≡ false) p xs (IsDistinct-head nat_eq x xs h)) i)
+      | inr f ↦ let e : filter p (x ∷ xs) ≡ filter p xs = rw f refl in subst Q (sym e) i
     ]
 
 -- the numbers of pairs
@@ -42,9 +42,9 @@ all-numbers : (P : ℕ → Type 0) (p : ℕ × Ending → Bool) (es : List (ℕ 
 all-numbers P p [] h = h
 all-numbers P p (x ∷ xs) h =
     let Q : List (ℕ × Ending) → Type 0 = λ ys. AllByRecursion P (map (λ e. e.0) ys)
-    in elim (cases_Bool (p x))
-    [ inl t ↦ let e : filter p (x ∷ xs) ≡ x ∷ filter p xs = rw t refl in subst Q (sym e) (h.0, all-numbers P p xs h.1)
-    | inr f ↦ let e : filter p (x ∷ xs) ≡ filter p xs = rw f refl in subst Q (sym e) (all-numbers P p xs h.1)
+    in elim (cases_Bool (p x)) [
+      | inl t ↦ let e : filter p (x ∷ xs) ≡ x ∷ filter p xs = rw t refl in subst Q (sym e) (h.0, all-numbers P p xs h.1)
+      | inr f ↦ let e : filter p (x ∷ xs) ≡ filter p xs = rw f refl in subst Q (sym e) (all-numbers P p xs h.1)
     ]
 
 distinct-numbers : (p : ℕ × Ending → Bool) (es : List (ℕ × Ending)) → IsDistinct nat_eq (map (λ e. e.0) es) → IsDistinct nat_eq (map (λ e. e.0) (filter p es))
@@ -52,12 +52,12 @@ distinct-numbers p [] h = h
 distinct-numbers p (x ∷ xs) h =
     let Q : List (ℕ × Ending) → Type 0 = λ ys. IsDistinct nat_eq (map (λ e. e.0) ys)
     in let i = distinct-numbers p xs (IsDistinct-tail nat_eq x.0 (map (λ e. e.0) xs) h)
-    in elim (cases_Bool (p x))
-    [ inl t ↦
-        let e : filter p (x ∷ xs) ≡ x ∷ filter p xs = rw t refl
-        in subst Q (sym e)
-        (IsDistinct-cons nat_eq x.0 (map (λ e. e.0) (filter p xs)) (all-numbers (λ y. nat_eq x.0 y ≡ false) p xs (IsDistinct-head nat_eq x.0 (map (λ e. e.0) xs) h)) i)
-    | inr f ↦ let e : filter p (x ∷ xs) ≡ filter p xs = rw f refl in subst Q (sym e) i
+    in elim (cases_Bool (p x)) [
+      | inl t ↦
+          let e : filter p (x ∷ xs) ≡ x ∷ filter p xs = rw t refl
+          in subst Q (sym e)
+          (IsDistinct-cons nat_eq x.0 (map (λ e. e.0) (filter p xs)) (all-numbers (λ y. nat_eq x.0 y ≡ false) p xs (IsDistinct-head nat_eq x.0 (map (λ e. e.0) xs) h)) i)
+      | inr f ↦ let e : filter p (x ∷ xs) ≡ filter p xs = rw f refl in subst Q (sym e) i
     ]
 
 numbers-push : (es : List (ℕ × Ending)) (n : ℕ) (e : Ending) → map (λ x. x.0) (es ++ (n, e) ∷ []) ≡ map (λ x. x.0) es ++ n ∷ []
@@ -67,9 +67,9 @@ numbers-push (x ∷ xs) n e = ap (λ ys. x.0 ∷ ys) (numbers-push xs n e)
 among-numbers : (n : ℕ) (es : List (ℕ × Ending)) → list_any (nat_eq n) (map (λ x. x.0) es) ≡ true → (d : Ending) × Contains es (n, d)
 among-numbers n [] h = not_true h
 among-numbers n (x ∷ xs) h =
-    elim (or_cases (nat_eq n x.0) (list_any (nat_eq n) (map (λ y. y.0) xs)) h)
-    [ inl t ↦ (x.1, subst (λ (m : ℕ). Contains (x ∷ xs) (m, x.1)) (sym (eqb-true n x.0 t)) (contains-first x xs))
-    | inr r ↦ let i = among-numbers n xs r in (i.0, contains-later x xs (n, i.0) i.1)
+    elim (or_cases (nat_eq n x.0) (list_any (nat_eq n) (map (λ y. y.0) xs)) h) [
+      | inl t ↦ (x.1, subst (λ (m : ℕ). Contains (x ∷ xs) (m, x.1)) (sym (eqb-true n x.0 t)) (contains-first x xs))
+      | inr r ↦ let i = among-numbers n xs r in (i.0, contains-later x xs (n, i.0) i.1)
     ]
 
 pub once-none : ListsOnce no_family

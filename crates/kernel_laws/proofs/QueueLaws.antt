@@ -1,25 +1,21 @@
 -- Each queue stays within its limits, and the table of queues in order.
-use Rattle.std.proofs.Common.{◌≡◌, ℕ, ℤ, ◌+◌, ◌<◌, ◌≤◌, Bool, true, false, ◌&&◌, ◌||◌, List, [], ◌∷◌, ◌++◌, length, Option, Some, None, Result, Ok, Err, take, drop, suc, refl, ap, sym, subst, ◌∙◌, arith, length-append}
-use Rattle.std.specs.Prelude.{◌≤ℤ◌, pos, if◌then◌else◌, nat_le, nat_lt, int_le, is_some, slice_get, sum_by, remove}
-use Rattle.std.specs.List.{All}
+use Rattle.std.proofs.Common.{◌≡◌, ℕ, ℤ, ◌+◌, ◌<◌, ◌≤◌, Bool, true, false, ◌||◌, List, [], ◌∷◌, ◌++◌, length, Option, Some, None, Ok, Err, take, drop, suc, refl, ap, sym, subst, arith, length-append}
+use Rattle.std.specs.Prelude.{◌≤ℤ◌, pos, if◌then◌else◌, nat_le, nat_lt, int_le, is_some, slice_get, remove}
 use Rattle.std.proofs.lemmas.Bool.{and_parts, leb-true, ltb-true}
 use Rattle.std.proofs.lemmas.List.Elements.{All-push, All-append, All-take, All-drop, All-nil}
 use Rattle.std.proofs.lemmas.List.Sums.{sum_by_push, sum_by-remove}
 use Rattle.std.proofs.lemmas.List.Edits.{length-remove}
 use Rattle.std.proofs.lemmas.Option.{slice_get_within}
-use Rattle.std.proofs.lemmas.Int.{ints}
 use lib.Signed.{le_z_yes}
 use lib.Dec.{T}
-use Rattle.pico_base.specs.declared.reply.Errno.{Errno}
-use Rattle.pico_base.specs.declared.reply.Errno.TheVariants.{Einval, E2big}
 use Rattle.kernel_model.specs.Maps.{get, put}
 use Rattle.kernel_model.specs.Kernel.{Kernel, opening}
 use Rattle.kernel_model.specs.Row.{Alive}
-use Rattle.kernel_model.specs.Queue.{Queue, Message, Received, bytes_in, bytes_of, empty_queue, max_queue_bytes, max_messages, max_text, has_room, is_sendable, send, select, taken, receive, receive_from, receive_at, set_qbytes}
+use Rattle.kernel_model.specs.Queue.{Queue, Message, Received, bytes_in, bytes_of, empty_queue, has_room, is_sendable, send, select, taken, receive_from, receive_at, set_qbytes}
 use Rattle.kernel_laws.specs.Queues.{IsMessage, IsWithinLimits, QueuesAreWithinLimits}
-use Rattle.kernel_laws.proofs.Plain.{from_ok, not_ok, from_some, not_some, not_true}
+use Rattle.kernel_laws.proofs.Plain.{from_ok, not_ok}
 use Rattle.kernel_laws.proofs.Tables.{Table, table-empty, table-change, table-make, table-bind, table-remove, fresh-unused}
-use Rattle.kernel_laws.proofs.Moves.{Moves, Finishes}
+use Rattle.kernel_laws.proofs.Moves.{Moves}
 use Rattle.kernel_laws.proofs.Histories.{Kept, kept-along}
 
 in_order : (a b : ℤ) → int_le a b ≡ true → a ≤ℤ b

@@ -1,8 +1,8 @@
 -- Each semaphore set stays within its limits, and the table of sets in order.
-use Rattle.std.proofs.Common.{◌≡◌, ◌≢◌, ℕ, ℤ, zero, suc, ◌+◌, ◌-◌, ◌<◌, ◌≤◌, Bool, true, false, ◌||◌, List, [], ◌∷◌, length, map, replicate, Option, Some, None, Result, Ok, Err, refl, ap, sym, subst, ◌∙◌, arith, nat_eq}
+use Rattle.std.proofs.Common.{◌≡◌, ◌≢◌, ℕ, ℤ, zero, suc, ◌+◌, ◌-◌, ◌≤◌, Bool, true, false, List, [], ◌∷◌, length, replicate, Option, Some, None, Result, Ok, Err, refl, ap, sym, subst, arith, nat_eq}
 use Rattle.std.specs.Prelude.{pos, negsuc, if◌then◌else◌, nat_le, nat_lt, is_some, slice_get, slice_set, fold}
 use Rattle.std.specs.List.{All, list_any}
-use Rattle.std.proofs.lemmas.Bool.{or_parts, leb-true, ltb-false, eqb-true, eqb-false}
+use Rattle.std.proofs.lemmas.Bool.{or_parts, leb-true, ltb-false, eqb-false}
 use Rattle.std.proofs.lemmas.List.{length-set, length-replicate}
 use Rattle.std.proofs.lemmas.List.Elements.{All-nil, All-cons, All-head, All-tail, All-set, All-replicate, All-map, All-get_or}
 use Rattle.std.proofs.lemmas.Option.{slice_get_within, get_or_from_slice_get}
@@ -10,11 +10,11 @@ use Rattle.pico_base.specs.declared.call.SemStep.{SemStep}
 use Rattle.pico_base.specs.declared.reply.Errno.{Errno}
 use Rattle.pico_base.specs.declared.reply.Errno.TheVariants.{Einval, Eagain, E2big, Efbig, Erange}
 use Rattle.kernel_model.specs.Maps.{get, put}
-use Rattle.kernel_model.specs.SemaphoreSet.{Semaphore, max_value, new_semaphore, new_set, is_bad_count, values_of, Moved, To, Waits, TooHigh, moved_by, moved_at, Tried, Done, StopsAt, OutOfRange, go_on, try_from, try_ops, with_values, with_last, marked_at, marked, tried_op, op, set_value_at, set_value, set_all}
+use Rattle.kernel_model.specs.SemaphoreSet.{Semaphore, new_semaphore, is_bad_count, values_of, Moved, To, Waits, TooHigh, moved_by, moved_at, Tried, Done, StopsAt, OutOfRange, go_on, try_from, try_ops, with_values, with_last, marked_at, marked, tried_op, op, set_value_at}
 use Rattle.kernel_model.specs.Kernel.{Kernel, opening}
 use Rattle.kernel_model.specs.Row.{Alive}
 use Rattle.kernel_laws.specs.Sets.{IsSetWithinLimits, SetsAreWithinLimits}
-use Rattle.kernel_laws.proofs.Plain.{from_ok, not_ok, not_true}
+use Rattle.kernel_laws.proofs.Plain.{from_ok, not_ok}
 use Rattle.kernel_laws.proofs.Tables.{Table, table-empty, table-change, table-make, table-bind, table-remove, fresh-unused}
 use Rattle.kernel_laws.proofs.Moves.{Moves}
 use Rattle.kernel_laws.proofs.Histories.{Kept, kept-along}
@@ -172,7 +172,7 @@ sets-opening = table-empty IsSetWithinLimits
 sets-moves : (k : Kernel) (pid : ℕ) (a : Alive) (n : ℕ) → Sets k → Moves Sets k pid a n
 sets-moves k pid a n t =
     let change : (id : ℕ) (set next : List Semaphore) → get k.sets id ≡ Some set → IsSetWithinLimits next → Sets (record k { sets = put k.sets id next }) =
-        λ id set next l w. table-change IsSetWithinLimits k.sets k.set_keys k.used_sets t id next (ap is_some l) w
+    λ id set next l w. table-change IsSetWithinLimits k.sets k.set_keys k.used_sets t id next (ap is_some l) w
     in record {
       same = t;
       forks = λ f. t;

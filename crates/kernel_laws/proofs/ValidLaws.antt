@@ -1,27 +1,27 @@
 -- Each reachable kernel is valid.
-use Rattle.std.proofs.Common.{◌≡◌, ◌≢◌, ℕ, Bool, true, false, List, [], ◌∷◌, Option, Some, None, refl, ap, sym, subst, ◌∙◌, inl, inr}
-use Rattle.std.specs.Prelude.{is_some, Contains, IsTrue}
+use Rattle.std.proofs.Common.{◌≡◌, ℕ, true, [], ◌∷◌, Option, Some, None, refl, ap, sym, subst, ◌∙◌, inl, inr}
+use Rattle.std.specs.Prelude.{is_some, Contains}
 use Rattle.std.proofs.lemmas.Bool.{cases_eq, false_from_ne_true}
 use Rattle.pico_base.specs.declared.reply.Ending.{Ending}
 use Rattle.kernel_model.specs.Maps.{Numbered, get, is_used}
 use Rattle.kernel_model.specs.Row.{Alive, Free, new_row, lists}
-use Rattle.kernel_model.specs.Kernel.{Kernel, Process, Living, Ended, Gone, Parent, parent_in, living_at, opening}
-use Rattle.kernel_model.specs.Valid.{IsAlive, IsValid, ListsEnded}
+use Rattle.kernel_model.specs.Kernel.{Kernel, Process, Living, Ended, Parent, parent_in, living_at, opening}
+use Rattle.kernel_model.specs.Valid.{IsAlive, IsValid}
 use Rattle.kernel_laws.specs.Reachable.{IsReachable}
-use Rattle.kernel_laws.specs.Processes.{ReachableKernelsAreValid, SignalsAreSound, HasOneParent, ChildrenHaveOneParent}
+use Rattle.kernel_laws.specs.Processes.{ReachableKernelsAreValid, SignalsAreSound, ChildrenHaveOneParent}
 use Rattle.kernel_laws.specs.Once.{ChildrenAreListedOnce}
 use Rattle.kernel_laws.proofs.OnceLaws.{once-none}
 use Rattle.kernel_laws.proofs.Plain.{from_some, not_some, not_true}
 use Rattle.kernel_laws.proofs.MapLaws.{get-first, get-later, used-first, used-later, ordered}
 use Rattle.kernel_laws.proofs.Members.{contains-none}
 use Rattle.kernel_laws.proofs.SignalLaws.{sound-new}
-use Rattle.kernel_laws.proofs.Families.{Lists, Keeps, Lives, Families, living-ended, same-alive, at-once}
+use Rattle.kernel_laws.proofs.Families.{Lists, Keeps, Families, living-ended, same-alive, at-once}
 use Rattle.kernel_laws.proofs.EndChanges.{parent-is, orphan}
 use Rattle.kernel_laws.proofs.Living.{Strong}
-use Rattle.kernel_laws.proofs.People.{Body, People, from-living, to-living}
+use Rattle.kernel_laws.proofs.People.{People, from-living, to-living}
 use Rattle.kernel_laws.proofs.ProcessLaws.{IsStrong, Settled, Midway, people-kept}
 use Rattle.kernel_laws.proofs.Histories.{kept-along, kept-by-along}
-use Rattle.kernel_laws.proofs.Tables.{Table, table-keys}
+use Rattle.kernel_laws.proofs.Tables.{table-keys}
 use Rattle.kernel_laws.specs.Queues.{IsWithinLimits}
 use Rattle.kernel_laws.specs.Sets.{IsSetWithinLimits}
 use Rattle.kernel_laws.proofs.QueueLaws.{Queues, queues-kept, queues-opening}

@@ -8,7 +8,7 @@ ghost use Rattle.kernel_laws.specs.Processes.{ReachableKernelsAreValid, SignalsA
 ghost use Rattle.kernel_laws.specs.Queues.{QueuesAreWithinLimits};
 ghost use Rattle.kernel_laws.specs.Sets.{SetsAreWithinLimits};
 ghost use Rattle.kernel_laws.specs.Lives.{LivesGoOneWay};
-ghost use Rattle.kernel_laws.specs.Numbers.{UsedNumbersStay, RemovedQueuesStayRemoved, RemovedSetsStayRemoved};
+ghost use Rattle.kernel_laws.specs.Numbers.{UsedNumbersStay, RemovedQueuesStayRemoved, RemovedSetsStayRemoved, QueueRemovalsLast, SetRemovalsLast};
 
 /// A call that fails leaves the kernel as it was. Only a doomed caller that lives on has then had its last turn
 /// before its end, as after each call.
@@ -26,8 +26,7 @@ pub fn queues_are_within_limits()
 /// at most 32,767.
 pub fn sets_are_within_limits()
     ensures { SetsAreWithinLimits }
-{
-}
+{}
 
 /// The numbers of processes, queues and sets that were used stay used along each history.
 pub fn used_numbers_stay()
@@ -38,6 +37,16 @@ pub fn used_numbers_stay()
 /// number isn't given out a second time.
 pub fn removed_queues_stay_removed()
     ensures { RemovedQueuesStayRemoved }
+{}
+
+/// After an entry that removes a queue, no later kernel of a legal history has a queue of its number.
+pub fn queue_removals_last()
+    ensures { QueueRemovalsLast }
+{}
+
+/// After an entry that removes a semaphore set, no later kernel of a legal history has a set of its number.
+pub fn set_removals_last()
+    ensures { SetRemovalsLast }
 {}
 
 /// A semaphore set that was there at one point of a legal history and isn't at a later one is never there again.
@@ -68,12 +77,10 @@ pub fn children_have_one_parent()
 /// No process lists a child twice, neither among the living ones nor among the ended ones.
 pub fn children_are_listed_once()
     ensures { ChildrenAreListedOnce }
-{
-}
+{}
 
 /// A process that has ended stays so, with the same ending, until it is gone, and one that is gone stays gone: a
 /// number never leads to a living process again.
 pub fn lives_go_one_way()
     ensures { LivesGoOneWay }
-{
-}
+{}
