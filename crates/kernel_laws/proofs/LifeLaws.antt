@@ -18,6 +18,7 @@ use Rattle.kernel_laws.proofs.People.{People, from-living}
 use Rattle.kernel_laws.proofs.ProcessLaws.{IsStrong, Settled, Midway, people-kept}
 use Rattle.kernel_laws.proofs.ValidLaws.{settled}
 use Rattle.kernel_laws.proofs.Moves.{Moves}
+use Rattle.kernel_laws.proofs.Pairs.{Both, both-moves}
 use Rattle.kernel_laws.proofs.Histories.{KeptBy, kept-by-along}
 
 -- who lives may be anything later, and anyone may be gone
@@ -135,38 +136,6 @@ goes-moves pid p k caller a n h l g =
       removes_set = λ id. g;
     }
 
--- both facts together
-record Both (pid : ℕ) (p : Process) (S : Kernel → Type 0) (k : Kernel) : Type 0 where
-  order : S k
-  goes : Goes pid p k.processes
-
-both-moves : (pid : ℕ) (p : Process) (S : Kernel → Type 0) (k : Kernel) (caller : ℕ) (a : Alive) (n : ℕ) → Moves S k caller a n
-    → Moves (GoesIn pid p) k caller a n → Moves (Both pid p S) k caller a n
-both-moves pid p S k caller a n s g =
-    record {
-      same = record { order = s.same; goes = g.same };
-      forks = λ f. record { order = s.forks f; goes = g.forks f };
-      ends = λ ending. record { order = s.ends ending; goes = g.ends ending };
-      acts = λ x act kill. record { order = s.acts x act kill; goes = g.acts x act kill };
-      masks = λ how set. record { order = s.masks how set; goes = g.masks how set };
-      raises_own = λ target x t. record { order = s.raises_own target x t; goes = g.raises_own target x t };
-      raises_other = λ other target x t. record { order = s.raises_other other target x t; goes = g.raises_other other target x t };
-      reaps = λ which child ending e. record { order = s.reaps which child ending e; goes = g.reaps which child ending e };
-      makes_queue = λ f. record { order = s.makes_queue f; goes = g.makes_queue f };
-      binds_queue = λ key f. record { order = s.binds_queue key f; goes = g.binds_queue key f };
-      sends = λ id class text q next t e. record { order = s.sends id class text q next t e; goes = g.sends id class text q next t e };
-      receives = λ id class size noerror q r t e.
-          record { order = s.receives id class size noerror q r t e; goes = g.receives id class size noerror q r t e };
-      limits = λ id qbytes q next t e. record { order = s.limits id qbytes q next t e; goes = g.limits id qbytes q next t e };
-      removes_queue = λ id. record { order = s.removes_queue id; goes = g.removes_queue id };
-      makes_set = λ count set e f. record { order = s.makes_set count set e f; goes = g.makes_set count set e f };
-      binds_set = λ key count set e f. record { order = s.binds_set key count set e f; goes = g.binds_set key count set e f };
-      operates = λ id steps set next t e. record { order = s.operates id steps set next t e; goes = g.operates id steps set next t e };
-      sets_one = λ id num value set next t e. record { order = s.sets_one id num value set next t e; goes = g.sets_one id num value set next t e };
-      fills = λ id values set next t e. record { order = s.fills id values set next t e; goes = g.fills id values set next t e };
-      removes_set = λ id. record { order = s.removes_set id; goes = g.removes_set id };
-    }
-
 goes-doom : (pid : ℕ) (p : Process) (k : Kernel) (caller : ℕ) (a : Alive) → Goes pid p k.processes → get k.processes caller ≡ Some (Living a)
     → (doomed : Bool) → Goes pid p (if doomed then with_alive k caller (record a { allowance = Spent }) else k).processes
 goes-doom pid p k caller a g l true = goes-alive pid p k.processes g caller a _ l
@@ -177,18 +146,18 @@ goes-finished : (pid : ℕ) (p : Process) (k : Kernel) (caller : ℕ) → Goes p
 goes-finished pid p k caller g None e = g
 goes-finished pid p k caller g (Some a) e = goes-doom pid p k caller a g (from-living k.processes caller a e) (is_some a.row.signals.doom)
 
-goes-kept : (pid : ℕ) (p : Process) → KeptBy (Both pid p Settled) (λ caller. Both pid p (Midway caller))
+goes-kept : (pid : ℕ) (p : Process) → KeptBy (Both Settled (GoesIn pid p)) (λ caller. Both (Midway caller) (GoesIn pid p))
 goes-kept pid p =
     record {
       moves = λ k caller call n next outcome s b.
-          both-moves pid p (Midway caller) k caller s.alive n (people-kept.moves k caller call n next outcome s b.order)
-          (goes-moves pid p k caller s.alive n b.order (from-living k.processes caller s.alive s.lives) b.goes);
+          both-moves (Midway caller) (GoesIn pid p) k caller s.alive n (people-kept.moves k caller call n next outcome s b.order)
+          (goes-moves pid p k caller s.alive n b.order (from-living k.processes caller s.alive s.lives) b.other);
       finishes = λ caller k b.
-          record { order = people-kept.finishes caller k b.order; goes = goes-finished pid p k caller b.goes (living_at k caller) refl };
+          record { order = people-kept.finishes caller k b.order; other = goes-finished pid p k caller b.other (living_at k caller) refl };
     }
 
 pub lives_go_one_way_lemma : LivesGoOneWay
 lives_go_one_way_lemma k last entries r h pid p l =
-    let start : Both pid p Settled k = record { order = settled k r; goes = record { now = p; there = l; follows = itself p } }
-    in let end = kept-by-along (Both pid p Settled) (λ caller. Both pid p (Midway caller)) (goes-kept pid p) entries k last h start
-    in (end.goes.now, end.goes.there, end.goes.follows)
+    let start : Both Settled (GoesIn pid p) k = record { order = settled k r; other = record { now = p; there = l; follows = itself p } }
+    in let end = kept-by-along (Both Settled (GoesIn pid p)) (λ caller. Both (Midway caller) (GoesIn pid p)) (goes-kept pid p) entries k last h start
+    in (end.other.now, end.other.there, end.other.follows)

@@ -7,8 +7,6 @@ use Rattle.pico_base.specs.declared.signal.Sig.TheVariants.{Chld}
 use Rattle.kernel_model.specs.Signals.{Signals, IsSound, raise}
 use Rattle.kernel_model.specs.Row.{Alive, Family, Allowance, Free, One, Spent, lists, with_child, with_end, without_ended, ignores_children, doomed_by_other, raised_at, with_ended_child}
 use Rattle.kernel_model.specs.ProcessCalls.{new_child, forking, reaping}
-use Rattle.kernel_laws.specs.Once.{ListsOnce}
-use Rattle.kernel_laws.proofs.OnceLaws.{once-none, once-child, once-end, once-without}
 use Rattle.kernel_laws.proofs.Plain.{by_test, not_true}
 use Rattle.kernel_laws.proofs.SignalLaws.{sound-raise, sound-inherited, Stays, raise-stays, no-doom}
 
@@ -16,22 +14,20 @@ pub record Strong (a : Alive) : Type 0 where
   pub sound : IsSound a.row.signals
   pub free : a.row.signals.doom ≡ None → a.allowance ≡ Free
   pub undoomed : a.allowance ≡ Free → a.row.signals.doom ≡ None
-  pub once : ListsOnce a.row.family
 
 -- in an entry of the caller the caller itself may be doomed and not yet have had its last turn
 pub record Weak (caller p : ℕ) (a : Alive) : Type 0 where
   pub sound : IsSound a.row.signals
   pub free : a.row.signals.doom ≡ None → a.allowance ≡ Free
   pub undoomed : p ≢ caller → a.allowance ≡ Free → a.row.signals.doom ≡ None
-  pub once : ListsOnce a.row.family
 
 pub weak : (caller p : ℕ) (a : Alive) → Strong a → Weak caller p a
-weak caller p a s = record { sound = s.sound; free = s.free; undoomed = λ ne. s.undoomed; once = s.once }
+weak caller p a s = record { sound = s.sound; free = s.free; undoomed = λ ne. s.undoomed }
 
 -- the caller's own change of its signals
 pub weak-own : (caller : ℕ) (a : Alive) (s : Signals) → Strong a → IsSound s → Stays a.row.signals s
     → Weak caller caller (record a { row = record { signals = s; family = a.row.family } })
-weak-own caller a s h sound stays = record { sound = sound; free = λ d. h.free (stays d); undoomed = λ ne. absurd (ne refl); once = h.once }
+weak-own caller a s h sound stays = record { sound = sound; free = λ d. h.free (stays d); undoomed = λ ne. absurd (ne refl) }
 
 one-free : {B : Type 0} → One ≡ Free → B
 one-free h = cc
@@ -57,28 +53,26 @@ strong-raised a g h =
           let b = raise-stays a.row.signals g d
           in free-by_other (is_some a.row.signals.doom) (is_some (raise a.row.signals g).doom) a.allowance (ap is_some b) (ap is_some d) ∙ h.free b;
       undoomed = undoomed-by_other a.row.signals.doom (raise a.row.signals g).doom a.allowance h.undoomed;
-      once = h.once;
     }
 
-strong-family : (a : Alive) (f : Family) → Strong a → ListsOnce f → Strong (record a { row = record { signals = a.row.signals; family = f } })
-strong-family a f h once = record { sound = h.sound; free = h.free; undoomed = h.undoomed; once = once }
+strong-family : (a : Alive) (f : Family) → Strong a → Strong (record a { row = record { signals = a.row.signals; family = f } })
+strong-family a f h = record { sound = h.sound; free = h.free; undoomed = h.undoomed }
 
 pub strong-child : (a : Alive) → Strong a → Strong (new_child a)
-strong-child a h = record { sound = sound-inherited a.row.signals h.sound; free = λ d. refl; undoomed = λ e. refl; once = once-none }
+strong-child a h = record { sound = sound-inherited a.row.signals h.sound; free = λ d. refl; undoomed = λ e. refl }
 
-pub strong-forking : (a : Alive) (n : ℕ) → Strong a → lists a.row.family n ≡ false → Strong (forking a n)
-strong-forking a n h new = strong-family a (with_child a.row.family n) h (once-child a.row.family n h.once new)
+pub strong-forking : (a : Alive) (n : ℕ) → Strong a → Strong (forking a n)
+strong-forking a n h = strong-family a (with_child a.row.family n) h
 
 pub strong-reaping : (a : Alive) (n : ℕ) → Strong a → Strong (reaping a n)
-strong-reaping a n h = strong-family a (without_ended n a.row.family) h (once-without a.row.family n h.once)
+strong-reaping a n h = strong-family a (without_ended n a.row.family) h
 
-pub strong-ended_child : (a : Alive) (child : ℕ) (ending : Ending) → Strong a → ((d : Ending) → Contains a.row.family.ended (child, d) → ⊥)
-    → Strong (with_ended_child a child ending)
-strong-ended_child a child ending h new =
+pub strong-ended_child : (a : Alive) (child : ℕ) (ending : Ending) → Strong a → Strong (with_ended_child a child ending)
+strong-ended_child a child ending h =
     let ignored = ignores_children a.row
     in let f = with_end a.row.family child ending ignored
     in let next : Alive = record a { row = record { signals = a.row.signals; family = f } }
-    in let s = strong-family a f h (once-end a.row.family child ending ignored h.once new)
+    in let s = strong-family a f h
     in by_test Strong ignored next (raised_at next Chld) (λ t. s) (λ t. strong-raised next Chld s)
 
 pub family-ended_child : (a : Alive) (child : ℕ) (ending : Ending)
@@ -90,10 +84,10 @@ family-ended_child a child ending =
 
 -- after the entry
 pub strong-spent : (caller p : ℕ) (a : Alive) → Weak caller p a → is_some a.row.signals.doom ≡ true → Strong (record a { allowance = Spent })
-strong-spent caller p a h d = record { sound = h.sound; free = λ e. not_true (sym (ap is_some e) ∙ d); undoomed = λ e. spent-free e; once = h.once }
+strong-spent caller p a h d = record { sound = h.sound; free = λ e. not_true (sym (ap is_some e) ∙ d); undoomed = λ e. spent-free e }
 
 pub strong-undoomed : (caller p : ℕ) (a : Alive) → Weak caller p a → is_some a.row.signals.doom ≡ false → Strong a
-strong-undoomed caller p a h d = record { sound = h.sound; free = h.free; undoomed = λ e. no-doom a.row.signals.doom d; once = h.once }
+strong-undoomed caller p a h d = record { sound = h.sound; free = h.free; undoomed = λ e. no-doom a.row.signals.doom d }
 
 pub strong-other : (caller p : ℕ) (a : Alive) → Weak caller p a → p ≢ caller → Strong a
-strong-other caller p a h ne = record { sound = h.sound; free = h.free; undoomed = h.undoomed ne; once = h.once }
+strong-other caller p a h ne = record { sound = h.sound; free = h.free; undoomed = h.undoomed ne }

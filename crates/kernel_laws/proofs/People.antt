@@ -24,7 +24,7 @@ pub record People (A : ℕ → Alive → Type 0) (ps : Numbered Process) (used :
   pub body : Body A ps used
   pub families : Families (get ps)
 
-each-put : (A : ℕ → Alive → Type 0) (ps : Numbered Process) (k : ℕ) (v : Process) → ((p : ℕ) (x : Alive) → get ps p ≡ Some (Living x) → A p x)
+pub each-put : (A : ℕ → Alive → Type 0) (ps : Numbered Process) (k : ℕ) (v : Process) → ((p : ℕ) (x : Alive) → get ps p ≡ Some (Living x) → A p x)
     → ((x : Alive) → v ≡ Living x → A k x) → (p : ℕ) (x : Alive) → get (put ps k v) p ≡ Some (Living x) → A p x
 each-put A ps k v h own p x g =
     elim (cases_eq p k) [

@@ -63,13 +63,8 @@ forked ps used pid a n h l f =
     in let mid = put ps n (Living (new_child a))
     in let absent : get ps n ≡ None = none-at (get ps n) (sym f ∙ h.body.used_is n)
     in let ne : n ≢ pid = λ same. not_some (Living a) (sym absent ∙ (ap (get ps) same ∙ l))
-    in let unlisted : lists a.row.family n ≡ false =
-    false_from_ne_true (lists a.row.family n)
-    (λ t.
-    let w = h.families.living pid n (record { alive = a; there = l; listed = t })
-    in not_some {B = ⊥} (Living w.alive) (sym absent ∙ w.there))
     in let child = weak pid n (new_child a) (strong-child a s)
-    in let parent = weak pid pid (forking a n) (strong-forking a n s unlisted)
+    in let parent = weak pid pid (forking a n) (strong-forking a n s)
     in let b = body-new (Weak pid) ps used (weaken ps used pid h).body n (Living (new_child a)) (λ x e. subst (λ (y : Alive). Weak pid n y) (same-alive (new_child a) x e) child)
     in let two = two-puts (get ps) (get mid) (get (with_fork ps pid a n)) n pid (Living (new_child a)) (Living (forking a n)) ne
     (put-is ps n (Living (new_child a))) (put-is mid pid (Living (forking a n)))
@@ -138,8 +133,7 @@ ended-kept ps used pid a ending keeper old h l parent listed =
     λ same. h.families.alone pid (subst (λ (x : ℕ). Lists (get ps) x pid) (sym same) (record { alive = old; there = parent; listed = listed }))
     in let b = body-put (Weak pid) mid used (buried-body ps used pid a h l) pid v (buried-there a.row.family.ended ps pid (ap is_some l))
     (λ x e. kept-not-living (ignores_children old.row) ending x e)
-    in let w = weak pid keeper new (strong-ended_child old pid ending (h.body.each keeper old parent)
-    (λ d c. living-ended {B = ⊥} a d (at-once (get ps pid) (Living a) (Ended d) l (h.families.ended keeper pid d (record { alive = old; there = parent; kept = c })))))
+    in let w = weak pid keeper new (strong-ended_child old pid ending (h.body.each keeper old parent))
     in record {
       body =
           body-put (Weak pid) kept used b keeper (Living new) (there-put mid pid v keeper (buried-there a.row.family.ended ps keeper (ap is_some parent)))

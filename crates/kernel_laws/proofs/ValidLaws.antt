@@ -9,8 +9,6 @@ use Rattle.kernel_model.specs.Kernel.{Kernel, Process, Living, Ended, Parent, pa
 use Rattle.kernel_model.specs.Valid.{IsAlive, IsValid}
 use Rattle.kernel_laws.specs.Reachable.{IsReachable}
 use Rattle.kernel_laws.specs.Processes.{ReachableKernelsAreValid, SignalsAreSound, ChildrenHaveOneParent}
-use Rattle.kernel_laws.specs.Once.{ChildrenAreListedOnce}
-use Rattle.kernel_laws.proofs.OnceLaws.{once-none}
 use Rattle.kernel_laws.proofs.Plain.{from_some, not_some, not_true}
 use Rattle.kernel_laws.proofs.MapLaws.{get-first, get-later, used-first, used-later, ordered}
 use Rattle.kernel_laws.proofs.Members.{contains-none}
@@ -28,25 +26,23 @@ use Rattle.kernel_laws.proofs.QueueLaws.{Queues, queues-kept, queues-opening}
 use Rattle.kernel_laws.proofs.SetLaws.{Sets, sets-kept, sets-opening}
 
 -- the opening kernel
-first : Alive
+abbrev pub first : Alive
 first = record { row = new_row; allowance = Free }
 
-start : Numbered Process
+abbrev pub start : Numbered Process
 start = (1, Living first) ∷ []
 
 first-alone : (p : ℕ) (x : Process) → get start p ≡ Some x → (p ≡ 1) × (Living first ≡ x)
-unfolding start
 first-alone p x h =
     elim (cases_eq p 1) [
       | inl same ↦ (same, from_some (Living first) x (sym (get-first (1, Living first) [] p same) ∙ h))
       | inr ne ↦ not_some x (sym (get-later (1, Living first) [] p ne) ∙ h)
     ]
 
-first-living : (p : ℕ) (x : Alive) → get start p ≡ Some (Living x) → first ≡ x
+pub first-living : (p : ℕ) (x : Alive) → get start p ≡ Some (Living x) → first ≡ x
 first-living p x h = same-alive first x (first-alone p (Living x) h).1
 
 first-used : (n : ℕ) → is_used (1 ∷ []) n ≡ is_some (get start n)
-unfolding start
 first-used n =
     elim (cases_eq n 1) [
       | inl same ↦ used-first 1 [] n same ∙ sym (ap is_some (get-first (1, Living first) [] n same))
@@ -54,15 +50,12 @@ first-used n =
     ]
 
 first-strong : Strong first
-unfolding first
-first-strong = record { sound = sound-new; free = λ d. refl; undoomed = λ e. refl; once = once-none }
+first-strong = record { sound = sound-new; free = λ d. refl; undoomed = λ e. refl }
 
 nobody-listed : (p c : ℕ) → Lists (get start) p c → ⊥
-unfolding first
 nobody-listed p c h = not_true {B = ⊥} (subst (λ (x : Alive). lists x.row.family c ≡ true) (sym (first-living p h.alive h.there)) h.listed)
 
 nobody-kept : (p c : ℕ) (e : Ending) → Keeps (get start) p c e → ⊥
-unfolding first
 nobody-kept p c e h = contains-none (c, e) (subst (λ (x : Alive). Contains x.row.family.ended (c, e)) (sym (first-living p h.alive h.there)) h.kept)
 
 first-families : Families (get start)
@@ -77,15 +70,13 @@ first-families =
     }
 
 first-settled : People IsStrong start (1 ∷ [])
-unfolding start
 first-settled =
     record {
       body = record { rise = (tt, tt); used_is = first-used; each = λ p x l. subst Strong (first-living p x l) first-strong };
       families = first-families;
     }
 
-settled-opening : Settled opening
-unfolding start first
+pub settled-opening : Settled opening
 settled-opening = first-settled
 
 -- what a legal history leads to
@@ -136,9 +127,6 @@ reachable_kernels_are_valid_lemma k r =
 
 pub signals_are_sound_lemma : SignalsAreSound
 signals_are_sound_lemma k r pid a l = ((reachable_kernels_are_valid_lemma k r).alive pid a l).signals
-
-pub children_are_listed_once_lemma : ChildrenAreListedOnce
-children_are_listed_once_lemma k r pid a l = ((settled k r).body.each pid a (from-living k.processes pid a l)).once
 
 -- parents
 parent-same : (ps : Numbered Process) (child pid : ℕ) (a : Alive) (p : Parent) → pid ≡ p.pid → get ps pid ≡ Some (Living a) → get ps p.pid ≡ Some (Living p.alive)
