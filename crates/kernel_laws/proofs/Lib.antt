@@ -19,5 +19,6 @@ pub mod People
 pub mod ProcessLaws
 pub mod ValidLaws
 pub mod OnceAlong
+pub mod EntryLaws
 pub mod LifeLaws
 pub mod Refusals

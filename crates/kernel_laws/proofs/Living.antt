@@ -1,11 +1,11 @@
 -- A living process's signals are sound, and it is doomed exactly where it isn't free to act.
 use Rattle.std.proofs.Common.{◌≡◌, ◌≢◌, ℕ, Bool, true, false, Option, Some, None, refl, ap, sym, ◌∙◌}
-use Rattle.std.specs.Prelude.{is_some, Contains}
+use Rattle.std.specs.Prelude.{is_some}
 use Rattle.pico_base.specs.declared.reply.Ending.{Ending}
 use Rattle.pico_base.specs.declared.signal.Sig.{Sig}
 use Rattle.pico_base.specs.declared.signal.Sig.TheVariants.{Chld}
 use Rattle.kernel_model.specs.Signals.{Signals, IsSound, raise}
-use Rattle.kernel_model.specs.Row.{Alive, Family, Allowance, Free, One, Spent, lists, with_child, with_end, without_ended, ignores_children, doomed_by_other, raised_at, with_ended_child}
+use Rattle.kernel_model.specs.Row.{Alive, Family, Allowance, Free, One, Spent, with_child, with_end, without_ended, ignores_children, doomed_by_other, raised_at, with_ended_child}
 use Rattle.kernel_model.specs.ProcessCalls.{new_child, forking, reaping}
 use Rattle.kernel_laws.proofs.Plain.{by_test, not_true}
 use Rattle.kernel_laws.proofs.SignalLaws.{sound-raise, sound-inherited, Stays, raise-stays, no-doom}

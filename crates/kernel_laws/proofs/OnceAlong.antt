@@ -1,16 +1,15 @@
 -- No process lists a child twice, along each history.
-use Rattle.std.proofs.Common.{◌≡◌, ◌≢◌, ℕ, Bool, true, false, List, [], ◌∷◌, Option, Some, None, refl, ap, sym, subst, ◌∙◌, inl, inr}
+use Rattle.std.proofs.Common.{◌≡◌, ℕ, Bool, true, false, List, [], ◌∷◌, Option, Some, None, refl, sym, subst, ◌∙◌}
 use Rattle.std.specs.Prelude.{is_some, fold, if◌then◌else◌, Contains}
-use Rattle.std.proofs.lemmas.Bool.{cases_eq, false_from_ne_true}
+use Rattle.std.proofs.lemmas.Bool.{false_from_ne_true}
 use Rattle.pico_base.specs.declared.reply.Ending.{Ending}
 use Rattle.kernel_model.specs.Maps.{Numbered, get, put, is_used}
-use Rattle.kernel_model.specs.Row.{Alive, Spent, lists, no_family, with_ended_child, ignores_children}
+use Rattle.kernel_model.specs.Row.{Alive, Spent, lists, with_ended_child, ignores_children}
 use Rattle.kernel_model.specs.Kernel.{Kernel, Process, Living, Ended, Gone, Parent, parent_in, living_at, with_alive, opening}
-use Rattle.kernel_model.specs.ProcessCalls.{bury, buried, kept_as, ended_under, with_fork, with_reaped, new_child, forking, reaping}
+use Rattle.kernel_model.specs.ProcessCalls.{bury, buried, kept_as, ended_under, with_fork, new_child, forking, reaping}
 use Rattle.kernel_model.specs.Transition.{finished}
 use Rattle.kernel_laws.specs.Once.{ListsOnce, ChildrenAreListedOnce}
-use Rattle.kernel_laws.proofs.Plain.{from_some, not_some, not_true}
-use Rattle.kernel_laws.proofs.MapLaws.{get-put-same, get-put-other}
+use Rattle.kernel_laws.proofs.Plain.{not_some, not_true}
 use Rattle.kernel_laws.proofs.Tables.{fresh-unused}
 use Rattle.kernel_laws.proofs.Families.{living-ended, living-gone, same-alive, at-once}
 use Rattle.kernel_laws.proofs.EndChanges.{parent-is}
@@ -18,7 +17,7 @@ use Rattle.kernel_laws.proofs.Living.{family-ended_child}
 use Rattle.kernel_laws.proofs.OnceLaws.{once-none, once-child, once-end, once-without}
 use Rattle.kernel_laws.proofs.People.{People, from-living, each-put}
 use Rattle.kernel_laws.proofs.ProcessLaws.{IsStrong, Settled, Midway, people-kept}
-use Rattle.kernel_laws.proofs.ValidLaws.{first, first-living, settled-opening}
+use Rattle.kernel_laws.proofs.ValidLaws.{first-living, settled-opening}
 use Rattle.kernel_laws.proofs.Moves.{Moves}
 use Rattle.kernel_laws.proofs.Pairs.{Both, both-moves}
 use Rattle.kernel_laws.proofs.Histories.{KeptBy, kept-by-along}
@@ -51,10 +50,10 @@ once-forked : (ps : Numbered Process) (used : List ℕ) → People IsStrong ps u
 once-forked ps used h o pid a n l f =
     let absent : get ps n ≡ None = none-at (get ps n) (sym f ∙ h.body.used_is n)
     in let unlisted : lists a.row.family n ≡ false =
-        false_from_ne_true (lists a.row.family n)
-        (λ t.
-            let w = h.families.living pid n (record { alive = a; there = l; listed = t })
-            in not_some {B = ⊥} (Living w.alive) (sym absent ∙ w.there))
+    false_from_ne_true (lists a.row.family n)
+    (λ t.
+    let w = h.families.living pid n (record { alive = a; there = l; listed = t })
+    in not_some {B = ⊥} (Living w.alive) (sym absent ∙ w.there))
     in once-put (put ps n (Living (new_child a))) pid (forking a n) (once-put ps n (new_child a) o once-none)
     (once-child a.row.family n (o pid a l) unlisted)
 
@@ -73,7 +72,7 @@ once-ended ps used h o pid a ending l (Some p) e =
     in let ignored = ignores_children old.row
     in let v = kept_as ignored ending
     in let new : (d : Ending) → Contains old.row.family.ended (pid, d) → ⊥ =
-        λ d c. living-ended {B = ⊥} a d (at-once (get ps pid) (Living a) (Ended d) l (h.families.ended p.pid pid d (record { alive = old; there = w.0; kept = c })))
+    λ d c. living-ended {B = ⊥} a d (at-once (get ps pid) (Living a) (Ended d) l (h.families.ended p.pid pid d (record { alive = old; there = w.0; kept = c })))
     in once-put (put mid pid v) p.pid (with_ended_child old pid ending)
     (once-dead mid pid v (once-buried a.row.family.ended ps o) (kept-dead ignored ending))
     (subst ListsOnce (sym (family-ended_child old pid ending)) (once-end old.row.family pid ending ignored (o p.pid old w.0) new))

@@ -1,7 +1,7 @@
 -- Each entry keeps the map of processes in order.
 use Rattle.std.proofs.Common.{◌≡◌, ◌≢◌, ℕ, Bool, true, false, List, Option, Some, None, refl, ap, sym, subst, ◌∙◌, inl, inr}
 use Rattle.std.specs.Prelude.{is_some, Contains, if◌then◌else◌}
-use Rattle.std.proofs.lemmas.Bool.{cases_eq, false_from_ne_true}
+use Rattle.std.proofs.lemmas.Bool.{cases_eq}
 use Rattle.pico_base.specs.declared.reply.Ending.{Ending}
 use Rattle.kernel_model.specs.Maps.{Numbered, get, put, is_used, used_with}
 use Rattle.kernel_model.specs.Signals.{Signals, IsSound, raise, with_action, with_mask}

@@ -11,7 +11,7 @@ use lib.Dec.{T}
 use Rattle.kernel_model.specs.Maps.{get, put}
 use Rattle.kernel_model.specs.Kernel.{Kernel, opening}
 use Rattle.kernel_model.specs.Row.{Alive}
-use Rattle.kernel_model.specs.Queue.{Queue, Message, Received, bytes_in, bytes_of, empty_queue, has_room, is_sendable, send, select, taken, receive_from, receive_at, set_qbytes}
+use Rattle.kernel_model.specs.Queue.{receive, Queue, Message, Received, bytes_in, bytes_of, empty_queue, has_room, is_sendable, send, select, taken, receive_from, receive_at, set_qbytes}
 use Rattle.kernel_laws.specs.Queues.{IsMessage, IsWithinLimits, QueuesAreWithinLimits}
 use Rattle.kernel_laws.proofs.Plain.{from_ok, not_ok}
 use Rattle.kernel_laws.proofs.Tables.{Table, table-empty, table-change, table-make, table-bind, table-remove, fresh-unused}
@@ -92,17 +92,20 @@ within-limited q qbytes next w h =
     in subst IsWithinLimits t.1
     (record { limit = leb-true qbytes 16384 t.0; bytes = w.bytes; count = w.count; messages = w.messages })
 
--- the table of queues
-abbrev pub Queues : Kernel → Type 0
-Queues k = Table IsWithinLimits k.queues k.queue_keys k.used_queues
+-- the table of queues, with what each call keeps of a queue
+abbrev pub QueueTable : (Queue → Type 0) → Kernel → Type 0
+QueueTable P k = Table P k.queues k.queue_keys k.used_queues
 
-pub queues-opening : Queues opening
-queues-opening = table-empty IsWithinLimits
+pub record QueueRule (P : Queue → Type 0) : Type 0 where
+  pub new : P empty_queue
+  pub sent : (q : Queue) (pid : ℕ) (class : ℤ) (text : List ℕ) (next : Queue) → P q → send q pid class text ≡ Ok next → P next
+  pub taken_from : (q : Queue) (pid : ℕ) (class : ℤ) (size : ℕ) (noerror : Bool) (r : Received) → P q → receive q pid class size noerror ≡ Ok r → P r.queue
+  pub limited : (q : Queue) (qbytes : ℕ) (next : Queue) → P q → set_qbytes q qbytes ≡ Ok next → P next
 
-queues-moves : (k : Kernel) (pid : ℕ) (a : Alive) (n : ℕ) → Queues k → Moves Queues k pid a n
-queues-moves k pid a n t =
-    let change : (id : ℕ) (q next : Queue) → get k.queues id ≡ Some q → IsWithinLimits next → Queues (record k { queues = put k.queues id next }) =
-    λ id q next l w. table-change IsWithinLimits k.queues k.queue_keys k.used_queues t id next (ap is_some l) w
+pub queues-moves : (P : Queue → Type 0) → QueueRule P → (k : Kernel) (pid : ℕ) (a : Alive) (n : ℕ) → QueueTable P k → Moves (QueueTable P) k pid a n
+queues-moves P rule k pid a n t =
+    let change : (id : ℕ) (q next : Queue) → get k.queues id ≡ Some q → P next → QueueTable P (record k { queues = put k.queues id next }) =
+    λ id q next l w. table-change P k.queues k.queue_keys k.used_queues t id next (ap is_some l) w
     in record {
       same = t;
       forks = λ f. t;
@@ -112,14 +115,12 @@ queues-moves k pid a n t =
       raises_own = λ target g h. t;
       raises_other = λ other target g h. t;
       reaps = λ which child ending h. t;
-      makes_queue = λ f. table-make IsWithinLimits k.queues k.queue_keys k.used_queues t n empty_queue within-empty;
-      binds_queue = λ key f.
-          table-bind IsWithinLimits k.queues k.queue_keys k.used_queues t n key empty_queue (fresh-unused k.used_queues n f) within-empty;
-      sends = λ id class text q next l h. change id q next l (within-sent q pid class text next (t.each id q l) h);
-      receives = λ id class size noerror q r l h.
-          change id q r.queue l (within-placed q pid size noerror (select q.messages class) r (t.each id q l) h);
-      limits = λ id qbytes q next l h. change id q next l (within-limited q qbytes next (t.each id q l) h);
-      removes_queue = λ id. table-remove IsWithinLimits k.queues k.queue_keys k.used_queues t id;
+      makes_queue = λ f. table-make P k.queues k.queue_keys k.used_queues t n empty_queue rule.new;
+      binds_queue = λ key f. table-bind P k.queues k.queue_keys k.used_queues t n key empty_queue (fresh-unused k.used_queues n f) rule.new;
+      sends = λ id class text q next l h. change id q next l (rule.sent q pid class text next (t.each id q l) h);
+      receives = λ id class size noerror q r l h. change id q r.queue l (rule.taken_from q pid class size noerror r (t.each id q l) h);
+      limits = λ id qbytes q next l h. change id q next l (rule.limited q qbytes next (t.each id q l) h);
+      removes_queue = λ id. table-remove P k.queues k.queue_keys k.used_queues t id;
       makes_set = λ count set h f. t;
       binds_set = λ key count set h f. t;
       operates = λ id steps set next l h. t;
@@ -128,8 +129,24 @@ queues-moves k pid a n t =
       removes_set = λ id. t;
     }
 
+within-rule : QueueRule IsWithinLimits
+within-rule =
+    record {
+      new = within-empty;
+      sent = within-sent;
+      taken_from = λ q pid class size noerror r. within-placed q pid size noerror (select q.messages class) r;
+      limited = within-limited;
+    }
+
+abbrev pub Queues : Kernel → Type 0
+Queues k = QueueTable IsWithinLimits k
+
+pub queues-opening : Queues opening
+queues-opening = table-empty IsWithinLimits
+
 pub queues-kept : Kept Queues
-queues-kept = record { moves = λ k pid call n next outcome s t. queues-moves k pid s.alive n t; finishes = λ pid k a t l d. t }
+queues-kept =
+    record { moves = λ k pid call n next outcome s t. queues-moves IsWithinLimits within-rule k pid s.alive n t; finishes = λ pid k a t l d. t }
 
 pub queues_are_within_limits_lemma : QueuesAreWithinLimits
 queues_are_within_limits_lemma k r id q l = (kept-along Queues queues-kept r.0 opening k r.1 queues-opening).each id q l

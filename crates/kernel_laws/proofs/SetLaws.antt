@@ -10,7 +10,7 @@ use Rattle.pico_base.specs.declared.call.SemStep.{SemStep}
 use Rattle.pico_base.specs.declared.reply.Errno.{Errno}
 use Rattle.pico_base.specs.declared.reply.Errno.TheVariants.{Einval, Eagain, E2big, Efbig, Erange}
 use Rattle.kernel_model.specs.Maps.{get, put}
-use Rattle.kernel_model.specs.SemaphoreSet.{Semaphore, new_semaphore, is_bad_count, values_of, Moved, To, Waits, TooHigh, moved_by, moved_at, Tried, Done, StopsAt, OutOfRange, go_on, try_from, try_ops, with_values, with_last, marked_at, marked, tried_op, op, set_value_at}
+use Rattle.kernel_model.specs.SemaphoreSet.{new_set, set_value, set_all, Semaphore, new_semaphore, is_bad_count, values_of, Moved, To, Waits, TooHigh, moved_by, moved_at, Tried, Done, StopsAt, OutOfRange, go_on, try_from, try_ops, with_values, with_last, marked_at, marked, tried_op, op, set_value_at}
 use Rattle.kernel_model.specs.Kernel.{Kernel, opening}
 use Rattle.kernel_model.specs.Row.{Alive}
 use Rattle.kernel_laws.specs.Sets.{IsSetWithinLimits, SetsAreWithinLimits}
@@ -162,17 +162,20 @@ operated-within : (set : List Semaphore) (pid : ℕ) (steps : List SemStep) (nex
 operated-within set pid steps next w h =
     operated-test set pid steps next w (nat_lt 32 (length steps)) (list_any (λ step. nat_le (length set) step.num) steps) h
 
--- the table of sets
-abbrev pub Sets : Kernel → Type 0
-Sets k = Table IsSetWithinLimits k.sets k.set_keys k.used_sets
+-- the table of sets, with what each call keeps of a set
+abbrev pub SetTable : (List Semaphore → Type 0) → Kernel → Type 0
+SetTable P k = Table P k.sets k.set_keys k.used_sets
 
-pub sets-opening : Sets opening
-sets-opening = table-empty IsSetWithinLimits
+pub record SetRule (P : List Semaphore → Type 0) : Type 0 where
+  pub new : (count : ℕ) (set : List Semaphore) → new_set count ≡ Ok set → P set
+  pub operated : (set : List Semaphore) (pid : ℕ) (steps : List SemStep) (next : List Semaphore) → P set → op set pid steps ≡ Ok next → P next
+  pub one_set : (set : List Semaphore) (num value : ℕ) (next : List Semaphore) → P set → set_value set num value ≡ Ok next → P next
+  pub filled : (set : List Semaphore) (values : List ℕ) (next : List Semaphore) → P set → set_all set values ≡ Ok next → P next
 
-sets-moves : (k : Kernel) (pid : ℕ) (a : Alive) (n : ℕ) → Sets k → Moves Sets k pid a n
-sets-moves k pid a n t =
-    let change : (id : ℕ) (set next : List Semaphore) → get k.sets id ≡ Some set → IsSetWithinLimits next → Sets (record k { sets = put k.sets id next }) =
-    λ id set next l w. table-change IsSetWithinLimits k.sets k.set_keys k.used_sets t id next (ap is_some l) w
+pub sets-moves : (P : List Semaphore → Type 0) → SetRule P → (k : Kernel) (pid : ℕ) (a : Alive) (n : ℕ) → SetTable P k → Moves (SetTable P) k pid a n
+sets-moves P rule k pid a n t =
+    let change : (id : ℕ) (set next : List Semaphore) → get k.sets id ≡ Some set → P next → SetTable P (record k { sets = put k.sets id next }) =
+    λ id set next l w. table-change P k.sets k.set_keys k.used_sets t id next (ap is_some l) w
     in record {
       same = t;
       forks = λ f. t;
@@ -188,21 +191,33 @@ sets-moves k pid a n t =
       receives = λ id class size noerror q r l h. t;
       limits = λ id qbytes q next l h. t;
       removes_queue = λ id. t;
-      makes_set = λ count set h f.
-          table-make IsSetWithinLimits k.sets k.set_keys k.used_sets t n set (made-within count set (is_bad_count count) refl h);
-      binds_set = λ key count set h f.
-          table-bind IsSetWithinLimits k.sets k.set_keys k.used_sets t n key set (fresh-unused k.used_sets n f)
-          (made-within count set (is_bad_count count) refl h);
-      operates = λ id steps set next l h. change id set next l (operated-within set pid steps next (t.each id set l) h);
-      sets_one = λ id num value set next l h. change id set next l (valued-at set num value (slice_get set num) next (t.each id set l) h);
-      fills = λ id values set next l h.
-          change id set next l
-          (filled-test set values next (t.each id set l) (nat_eq (length values) (length set)) (list_any (nat_lt 32767) values) refl h);
-      removes_set = λ id. table-remove IsSetWithinLimits k.sets k.set_keys k.used_sets t id;
+      makes_set = λ count set h f. table-make P k.sets k.set_keys k.used_sets t n set (rule.new count set h);
+      binds_set = λ key count set h f. table-bind P k.sets k.set_keys k.used_sets t n key set (fresh-unused k.used_sets n f) (rule.new count set h);
+      operates = λ id steps set next l h. change id set next l (rule.operated set pid steps next (t.each id set l) h);
+      sets_one = λ id num value set next l h. change id set next l (rule.one_set set num value next (t.each id set l) h);
+      fills = λ id values set next l h. change id set next l (rule.filled set values next (t.each id set l) h);
+      removes_set = λ id. table-remove P k.sets k.set_keys k.used_sets t id;
     }
 
+within-rule : SetRule IsSetWithinLimits
+within-rule =
+    record {
+      new = λ count set h. made-within count set (is_bad_count count) refl h;
+      operated = operated-within;
+      one_set = λ set num value next w h. valued-at set num value (slice_get set num) next w h;
+      filled = λ set values next w h.
+          filled-test set values next w (nat_eq (length values) (length set)) (list_any (nat_lt 32767) values) refl h;
+    }
+
+abbrev pub Sets : Kernel → Type 0
+Sets k = SetTable IsSetWithinLimits k
+
+pub sets-opening : Sets opening
+sets-opening = table-empty IsSetWithinLimits
+
 pub sets-kept : Kept Sets
-sets-kept = record { moves = λ k pid call n next outcome s t. sets-moves k pid s.alive n t; finishes = λ pid k a t l d. t }
+sets-kept =
+    record { moves = λ k pid call n next outcome s t. sets-moves IsSetWithinLimits within-rule k pid s.alive n t; finishes = λ pid k a t l d. t }
 
 pub sets_are_within_limits_lemma : SetsAreWithinLimits
 sets_are_within_limits_lemma k r id set l = (kept-along Sets sets-kept r.0 opening k r.1 sets-opening).each id set l

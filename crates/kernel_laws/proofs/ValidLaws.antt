@@ -1,5 +1,5 @@
 -- Each reachable kernel is valid.
-use Rattle.std.proofs.Common.{◌≡◌, ℕ, true, [], ◌∷◌, Option, Some, None, refl, ap, sym, subst, ◌∙◌, inl, inr}
+use Rattle.std.proofs.Common.{List, ◌≡◌, ℕ, true, [], ◌∷◌, Option, Some, None, refl, ap, sym, subst, ◌∙◌, inl, inr}
 use Rattle.std.specs.Prelude.{is_some, Contains}
 use Rattle.std.proofs.lemmas.Bool.{cases_eq, false_from_ne_true}
 use Rattle.pico_base.specs.declared.reply.Ending.{Ending}
@@ -7,6 +7,8 @@ use Rattle.kernel_model.specs.Maps.{Numbered, get, is_used}
 use Rattle.kernel_model.specs.Row.{Alive, Free, new_row, lists}
 use Rattle.kernel_model.specs.Kernel.{Kernel, Process, Living, Ended, Parent, parent_in, living_at, opening}
 use Rattle.kernel_model.specs.Valid.{IsAlive, IsValid}
+use Rattle.kernel_model.specs.Queue.{Queue}
+use Rattle.kernel_model.specs.SemaphoreSet.{Semaphore}
 use Rattle.kernel_laws.specs.Reachable.{IsReachable}
 use Rattle.kernel_laws.specs.Processes.{ReachableKernelsAreValid, SignalsAreSound, ChildrenHaveOneParent}
 use Rattle.kernel_laws.proofs.Plain.{from_some, not_some, not_true}
@@ -22,8 +24,8 @@ use Rattle.kernel_laws.proofs.Histories.{kept-along, kept-by-along}
 use Rattle.kernel_laws.proofs.Tables.{table-keys}
 use Rattle.kernel_laws.specs.Queues.{IsWithinLimits}
 use Rattle.kernel_laws.specs.Sets.{IsSetWithinLimits}
-use Rattle.kernel_laws.proofs.QueueLaws.{Queues, queues-kept, queues-opening}
-use Rattle.kernel_laws.proofs.SetLaws.{Sets, sets-kept, sets-opening}
+use Rattle.kernel_laws.proofs.QueueLaws.{QueueTable, Queues, queues-kept, queues-opening}
+use Rattle.kernel_laws.proofs.SetLaws.{SetTable, Sets, sets-kept, sets-opening}
 
 -- the opening kernel
 abbrev pub first : Alive
@@ -96,8 +98,8 @@ alive-valid k h pid a l =
       ended = λ child ending c. h.families.ended pid child ending (record { alive = a; there = there; kept = c });
     }
 
-valid-from : (k : Kernel) → Settled k → Queues k → Sets k → IsValid k
-valid-from k h q s =
+pub valid-from : (P : Queue → Type 0) (R : List Semaphore → Type 0) (k : Kernel) → Settled k → QueueTable P k → SetTable R k → IsValid k
+valid-from P R k h q s =
     record {
       processes = ordered k.processes h.body.rise;
       queues = ordered k.queues q.things_rise;
@@ -105,8 +107,8 @@ valid-from k h q s =
       used_processes = h.body.used_is;
       used_queues = q.used_at;
       used_sets = s.used_at;
-      queue_keys = table-keys IsWithinLimits k.queues k.queue_keys k.used_queues q;
-      set_keys = table-keys IsSetWithinLimits k.sets k.set_keys k.used_sets s;
+      queue_keys = table-keys P k.queues k.queue_keys k.used_queues q;
+      set_keys = table-keys R k.sets k.set_keys k.used_sets s;
       alive = alive-valid k h;
       one_parent = λ p q a b child l m x y.
           h.families.one_parent p q child
@@ -123,7 +125,7 @@ valid-from k h q s =
 
 pub reachable_kernels_are_valid_lemma : ReachableKernelsAreValid
 reachable_kernels_are_valid_lemma k r =
-    valid-from k (settled k r) (kept-along Queues queues-kept r.0 opening k r.1 queues-opening) (kept-along Sets sets-kept r.0 opening k r.1 sets-opening)
+    valid-from IsWithinLimits IsSetWithinLimits k (settled k r) (kept-along Queues queues-kept r.0 opening k r.1 queues-opening) (kept-along Sets sets-kept r.0 opening k r.1 sets-opening)
 
 pub signals_are_sound_lemma : SignalsAreSound
 signals_are_sound_lemma k r pid a l = ((reachable_kernels_are_valid_lemma k r).alive pid a l).signals
