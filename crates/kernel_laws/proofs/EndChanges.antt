@@ -1,17 +1,17 @@
 -- What the end of a process does to the families.
-use Rattle.std.proofs.Common.{◌≡◌, ◌≢◌, ℕ, Bool, true, false, List, [], ◌∷◌, Option, Some, None, refl, ap, sym, subst, ◌∙◌, inl, inr, ◌⊎◌, ◌<◌, arith}
+use Rattle.std.proofs.Common.{◌≡◌, ◌≢◌, ℕ, Bool, true, false, List, [], ◌∷◌, Some, None, refl, ap, sym, subst, ◌∙◌, inl, inr, ◌⊎◌}
 use Rattle.std.specs.Prelude.{Contains, fold, if◌then◌else◌}
-use Rattle.std.proofs.lemmas.Bool.{cases_eq, cases_Bool, false_from_ne_true}
+use Rattle.std.proofs.lemmas.Bool.{cases_eq}
 use Rattle.pico_base.specs.declared.reply.Ending.{Ending}
-use Rattle.kernel_model.specs.Maps.{Numbered, get, put}
+use Rattle.kernel_model.specs.Maps.{Numbered, get}
 use Rattle.kernel_model.specs.Row.{Alive, Family, lists, with_end}
-use Rattle.kernel_model.specs.Kernel.{Process, Living, Ended, Gone, Parent, parent_if, parent_in}
+use Rattle.kernel_model.specs.Kernel.{Process, Living, Ended, Gone, Parent, parent_in}
 use Rattle.kernel_model.specs.ProcessCalls.{bury, buried, kept_as}
-use Rattle.kernel_laws.proofs.Plain.{from_some, not_some, not_none, not_true, not_false}
+use Rattle.kernel_laws.proofs.Plain.{from_some, not_some, not_none, not_true}
 use Rattle.kernel_laws.proofs.MapLaws.{Rising, Above, get-first, get-later, get-above}
 use Rattle.kernel_laws.proofs.Members.{contains-none, contains-first, contains-later, contains-cases, lists-end, ended-end, ended-stays, ended-new}
 use Rattle.kernel_laws.proofs.Families.{Map, Lists, Keeps, Lives, Families, Over, living-ended, living-gone, ended-gone, same-alive, same-ending, at-once}
-use Rattle.kernel_laws.proofs.FamilyChanges.{Put, put-is, Two, From, AtFirst, AtLast, Elsewhere, from, different}
+use Rattle.kernel_laws.proofs.FamilyChanges.{Put, put-is, Two, AtFirst, AtLast, Elsewhere, from, different}
 
 -- 1. its own ended children are gone
 

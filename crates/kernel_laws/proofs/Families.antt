@@ -1,11 +1,11 @@
 -- Who lists and who keeps whom, over what the map of processes has at each number; and what of it each change
 -- of the map keeps.
-use Rattle.std.proofs.Common.{◌≡◌, ◌≢◌, ℕ, Bool, true, false, List, [], Option, Some, None, refl, ap, sym, subst, ◌∙◌, inl, inr, ◌⊎◌}
+use Rattle.std.proofs.Common.{◌≡◌, ◌≢◌, ℕ, true, Option, Some, None, sym, subst, ◌∙◌, inl, inr, ◌⊎◌}
 use Rattle.std.specs.Prelude.{Contains}
 use Rattle.pico_base.specs.declared.reply.Ending.{Ending}
 use Rattle.kernel_model.specs.Row.{Alive, lists}
 use Rattle.kernel_model.specs.Kernel.{Process, Living, Ended, Gone}
-use Rattle.kernel_laws.proofs.Plain.{from_some, not_some, not_none}
+use Rattle.kernel_laws.proofs.Plain.{from_some, not_some}
 
 abbrev pub Map : Type 0
 Map = ℕ → Option Process

@@ -1,16 +1,15 @@
 -- What each change of the map of processes does to the families.
-use Rattle.std.proofs.Common.{◌≡◌, ◌≢◌, ℕ, Bool, true, false, List, [], ◌∷◌, Option, Some, None, refl, ap, sym, subst, ◌∙◌, inl, inr, ◌⊎◌}
-use Rattle.std.specs.Prelude.{Contains, fold}
+use Rattle.std.proofs.Common.{◌≡◌, ◌≢◌, ℕ, true, List, Some, None, refl, ap, sym, subst, ◌∙◌, inl, inr, ◌⊎◌}
+use Rattle.std.specs.Prelude.{Contains}
 use Rattle.std.proofs.lemmas.Bool.{cases_eq}
 use Rattle.pico_base.specs.declared.reply.Ending.{Ending}
 use Rattle.kernel_model.specs.Maps.{Numbered, get, put}
-use Rattle.kernel_model.specs.Row.{Alive, Family, no_family, lists, with_child, with_end, without_ended}
+use Rattle.kernel_model.specs.Row.{Alive, Family, no_family, lists, with_child, without_ended}
 use Rattle.kernel_model.specs.Kernel.{Process, Living, Ended, Gone}
-use Rattle.kernel_model.specs.ProcessCalls.{bury, buried, kept_as}
-use Rattle.kernel_laws.proofs.Plain.{from_some, not_some, not_true, not_false}
+use Rattle.kernel_laws.proofs.Plain.{not_some, not_true}
 use Rattle.kernel_laws.proofs.MapLaws.{get-put-same, get-put-other}
-use Rattle.kernel_laws.proofs.Members.{contains-none, contains-first, contains-later, contains-cases, lists-child, lists-end, ended-end, ended-stays, ended-new, without-back, without-on}
-use Rattle.kernel_laws.proofs.Families.{Map, Lists, Keeps, Lives, Families, Kept, Born, Over, living-ended, living-gone, ended-gone, same-alive, same-ending, at-once}
+use Rattle.kernel_laws.proofs.Members.{contains-none, lists-child, without-back, without-on}
+use Rattle.kernel_laws.proofs.Families.{Map, Lists, Keeps, Lives, Families, Kept, Born, living-ended, living-gone, ended-gone, same-alive, at-once}
 
 -- another process at one number
 pub record Put (f g : Map) (k : ℕ) (v : Process) : Type 0 where

@@ -1,10 +1,10 @@
 -- What each entry keeps holds along a history.
-use Rattle.std.proofs.Common.{◌≡◌, ℕ, List, [], ◌∷◌, Option, Some, subst}
+use Rattle.std.proofs.Common.{ℕ, List, [], ◌∷◌, subst}
 use Rattle.pico_base.specs.declared.call.Call.{Call}
 use Rattle.pico_base.specs.declared.reply.Entry.{Entry}
 use Rattle.pico_base.specs.declared.reply.Outcome.{Outcome}
 use Rattle.kernel_model.specs.Kernel.{Kernel, living_at}
-use Rattle.kernel_model.specs.Transition.{transition, finished}
+use Rattle.kernel_model.specs.Transition.{finished}
 use Rattle.kernel_model.specs.History.{Replays, number_in}
 use Rattle.kernel_laws.proofs.Steps.{Step, step}
 use Rattle.kernel_laws.proofs.Moves.{Moves, Finishes, after-call, after-step}

@@ -12,8 +12,13 @@ pub mod Families
 pub mod Members
 pub mod FamilyChanges
 pub mod EndChanges
+pub mod OnceLaws
+pub mod Pairs
 pub mod Living
 pub mod People
 pub mod ProcessLaws
 pub mod ValidLaws
+pub mod OnceAlong
+pub mod EntryLaws
+pub mod LifeLaws
 pub mod Refusals

@@ -1,12 +1,11 @@
 -- A living process's signals are sound, and it is doomed exactly where it isn't free to act.
-use Rattle.std.proofs.Common.{◌≡◌, ◌≢◌, ℕ, Bool, true, false, List, Option, Some, None, refl, ap, sym, subst, ◌∙◌}
-use Rattle.std.specs.Prelude.{if◌then◌else◌, is_some}
-use Rattle.std.proofs.lemmas.Bool.{cases_Bool}
+use Rattle.std.proofs.Common.{◌≡◌, ◌≢◌, ℕ, Bool, true, false, Option, Some, None, refl, ap, sym, ◌∙◌}
+use Rattle.std.specs.Prelude.{is_some}
 use Rattle.pico_base.specs.declared.reply.Ending.{Ending}
 use Rattle.pico_base.specs.declared.signal.Sig.{Sig}
 use Rattle.pico_base.specs.declared.signal.Sig.TheVariants.{Chld}
-use Rattle.kernel_model.specs.Signals.{Signals, IsSound, raise, inherited}
-use Rattle.kernel_model.specs.Row.{Alive, Family, Allowance, Free, One, Spent, with_end, ignores_children, doomed_by_other, raised_at, with_ended_child}
+use Rattle.kernel_model.specs.Signals.{Signals, IsSound, raise}
+use Rattle.kernel_model.specs.Row.{Alive, Family, Allowance, Free, One, Spent, with_child, with_end, without_ended, ignores_children, doomed_by_other, raised_at, with_ended_child}
 use Rattle.kernel_model.specs.ProcessCalls.{new_child, forking, reaping}
 use Rattle.kernel_laws.proofs.Plain.{by_test, not_true}
 use Rattle.kernel_laws.proofs.SignalLaws.{sound-raise, sound-inherited, Stays, raise-stays, no-doom}
@@ -63,16 +62,18 @@ pub strong-child : (a : Alive) → Strong a → Strong (new_child a)
 strong-child a h = record { sound = sound-inherited a.row.signals h.sound; free = λ d. refl; undoomed = λ e. refl }
 
 pub strong-forking : (a : Alive) (n : ℕ) → Strong a → Strong (forking a n)
-strong-forking a n h = record { sound = h.sound; free = h.free; undoomed = h.undoomed }
+strong-forking a n h = strong-family a (with_child a.row.family n) h
 
 pub strong-reaping : (a : Alive) (n : ℕ) → Strong a → Strong (reaping a n)
-strong-reaping a n h = record { sound = h.sound; free = h.free; undoomed = h.undoomed }
+strong-reaping a n h = strong-family a (without_ended n a.row.family) h
 
 pub strong-ended_child : (a : Alive) (child : ℕ) (ending : Ending) → Strong a → Strong (with_ended_child a child ending)
 strong-ended_child a child ending h =
-    let next : Alive = record a { row = record { signals = a.row.signals; family = with_end a.row.family child ending (ignores_children a.row) } }
-    in let s = strong-family a (with_end a.row.family child ending (ignores_children a.row)) h
-    in by_test Strong (ignores_children a.row) next (raised_at next Chld) (λ t. s) (λ t. strong-raised next Chld s)
+    let ignored = ignores_children a.row
+    in let f = with_end a.row.family child ending ignored
+    in let next : Alive = record a { row = record { signals = a.row.signals; family = f } }
+    in let s = strong-family a f h
+    in by_test Strong ignored next (raised_at next Chld) (λ t. s) (λ t. strong-raised next Chld s)
 
 pub family-ended_child : (a : Alive) (child : ℕ) (ending : Ending)
     → (with_ended_child a child ending).row.family ≡ with_end a.row.family child ending (ignores_children a.row)

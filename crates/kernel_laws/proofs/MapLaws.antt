@@ -1,12 +1,11 @@
 -- What a map or a set of numbers has after a change, and that its numbers still rise.
-use Rattle.std.proofs.Common.{◌≡◌, ◌≢◌, ℕ, zero, suc, ◌+◌, ◌<◌, ◌⊎◌, Bool, true, false, not, ◌||◌, List, [], ◌∷◌, length, map, Option, Some, None, refl, ap, sym, subst, ◌∙◌, inl, inr, arith, nat_cmp, nat_eq, add-one}
+use Rattle.std.proofs.Common.{◌≡◌, ◌≢◌, ℕ, zero, suc, ◌+◌, ◌<◌, Bool, true, false, not, List, [], ◌∷◌, length, map, Some, None, refl, ap, sym, subst, ◌∙◌, inl, inr, arith, nat_cmp, nat_eq}
 use Rattle.std.specs.Prelude.{slice_index}
 use Rattle.std.specs.List.{filter}
-use Rattle.std.specs.List.Sorted.{IsStrictlyIncreasing}
 use Rattle.std.specs.declared.cmp.Ordering.TheVariants.{Less, Equal, Greater}
 use Rattle.std.specs.Cmp.{nat_cmp_is}
 use Rattle.std.specs.Ordering.{is_eq}
-use Rattle.std.proofs.lemmas.Bool.{cases_order, cases_eq, cases_Bool, eqb-true, eqb-false, eq-eqb, ne_eqb, not_from_true, not_from_false}
+use Rattle.std.proofs.lemmas.Bool.{cases_order, cases_eq, cases_Bool, eq-eqb, ne_eqb, not_from_true, not_from_false}
 use Rattle.kernel_model.specs.Maps.{Numbered, get, put, without, is_used, used_with}
 use Rattle.kernel_model.specs.QueueCalls.{unbound}
 use Rattle.kernel_model.specs.Valid.{IsOrdered}
@@ -270,3 +269,17 @@ ordered (e ∷ m) r (suc k) h =
     let i = ordered m r.1 k (omega arith)
     in let s : suc k + 1 ≡ suc (k + 1) = omega arith
     in subst (λ (j : ℕ). slice_index (map (λ e. e.0) (e ∷ m)) (suc k) < slice_index (map (λ e. e.0) (e ∷ m)) j) (sym s) i
+
+above-first : {V : Type 0} (n : ℕ) (m : Numbered V) → Rising m → (0 < length (map (λ e. e.0) m) → n < slice_index (map (λ e. e.0) m) 0) → Above n m
+above-first n [] r h = tt
+above-first n (d ∷ m) r h = let l : n < d.0 = h (omega arith) in (l, above-lower n d.0 m l r.0)
+
+ordered-later : {V : Type 0} (e : ℕ × V) (m : Numbered V) → IsOrdered (e ∷ m) → IsOrdered m
+ordered-later e m h k l =
+    let s : suc k + 1 ≡ suc (k + 1) = omega arith
+    in subst (λ (j : ℕ). slice_index (map (λ d. d.0) (e ∷ m)) (suc k) < slice_index (map (λ d. d.0) (e ∷ m)) j) s (h (suc k) (omega arith))
+
+pub rising : {V : Type 0} (m : Numbered V) → IsOrdered m → Rising m
+rising [] h = tt
+rising (e ∷ m) h =
+    let r = rising m (ordered-later e m h) in (above-first e.0 m r (λ l. h 0 (omega arith)), r)

@@ -1,11 +1,11 @@
 -- Members of lists after a filter or a push; children that are listed.
-use Rattle.std.proofs.Common.{◌≡◌, ◌≢◌, ℕ, zero, suc, ◌+◌, ◌<◌, Bool, true, false, not, ◌||◌, List, [], ◌∷◌, ◌++◌, length, get_or, Option, Some, None, refl, ap, sym, subst, ◌∙◌, inl, inr, ◌⊎◌, arith, nat_eq}
+use Rattle.std.proofs.Common.{◌≡◌, ◌≢◌, ℕ, zero, suc, ◌<◌, Bool, true, false, not, List, [], ◌∷◌, ◌++◌, length, get_or, Option, Some, None, refl, ap, sym, subst, ◌∙◌, inl, inr, ◌⊎◌, arith, nat_eq}
 use Rattle.std.specs.Prelude.{Contains, if◌then◌else◌}
-use Rattle.std.specs.List.{All, filter, list_any}
+use Rattle.std.specs.List.{filter, list_any}
 use Rattle.std.proofs.lemmas.List.Elements.{Contains-append_left, Contains-push, Contains-push_cases, All-contains, All-filter, All-contains_itself, filter_passes}
-use Rattle.std.proofs.lemmas.Bool.{cases_Bool, cases_eq, or_cases, or_right, or_left, eqb-true, eq-eqb, not-true, not_from_false, ne_eqb}
+use Rattle.std.proofs.lemmas.Bool.{cases_Bool, or_cases, or_right, or_left, eqb-true, eq-eqb, not-true, not_from_false, ne_eqb}
 use Rattle.pico_base.specs.declared.reply.Ending.{Ending}
-use Rattle.kernel_model.specs.Row.{Family, lists, with_child, others, with_end, first_ended, matches, without_ended, wait, Waited, Found, NotYet, NoChild, waited_from}
+use Rattle.kernel_model.specs.Row.{Family, lists, with_child, others, with_end, first_ended, matches, without_ended, wait, Found, waited_from}
 use Rattle.kernel_laws.proofs.Plain.{from_some, not_some, not_true}
 
 pub contains-first : {X : Type 0} (x : X) (xs : List X) → Contains (x ∷ xs) x

@@ -1,8 +1,8 @@
 -- Each way in which an entry may change the kernel: what holds after each of them holds after the entry.
-use Rattle.std.proofs.Common.{◌≡◌, ◌≢◌, ℕ, ℤ, Bool, true, false, ◌&&◌, ◌||◌, List, Option, Some, None, Result, Ok, Err, refl, ap, sym, subst, ◌∙◌, nat_eq, ◌%◌}
+use Rattle.std.proofs.Common.{◌≡◌, ℕ, ℤ, Bool, true, false, ◌&&◌, ◌||◌, List, Option, Some, None, Result, Ok, Err, refl, ap, subst, ◌∙◌, nat_eq, ◌%◌}
 use Rattle.std.specs.Prelude.{if◌then◌else◌, nat_le, is_some}
 use Rattle.std.specs.List.{list_any}
-use Rattle.std.proofs.lemmas.Bool.{eqb-true, eqb-false}
+use Rattle.std.proofs.lemmas.Bool.{eqb-true}
 use Rattle.pico_base.specs.declared.call.Call.{Call}
 use Rattle.pico_base.specs.declared.call.Call.TheVariants as calls
 use Rattle.pico_base.specs.declared.call.SemStep.{SemStep}
@@ -18,17 +18,17 @@ use Rattle.pico_base.specs.declared.signal.How.{How}
 use Rattle.pico_base.specs.declared.signal.SigArg.{SigArg}
 use Rattle.pico_base.specs.declared.signal.SigArg.TheVariants.{Zero, Is, Bad}
 use Rattle.kernel_model.specs.Maps.{Numbered, get, put, used_with}
-use Rattle.kernel_model.specs.Signals.{Signals, act_on, raise, is_kill, with_action, with_mask}
+use Rattle.kernel_model.specs.Signals.{act_on, raise, is_kill, with_action, with_mask}
 use Rattle.kernel_model.specs.Row.{Alive, Waited, Found, NotYet, NoChild, Spent, wait, raised_at}
 use Rattle.kernel_model.specs.Queue.{Queue, Received, send, receive, set_qbytes, empty_queue}
 use Rattle.kernel_model.specs.SemaphoreSet.{Semaphore, new_set, op, set_value, set_all, value_at, last_at, waiting_at}
 use Rattle.kernel_model.specs.Kernel.{Kernel, Process, Living, Ended, Gone, living_at, with_alive}
 use Rattle.kernel_model.specs.Effect.{Effect, refused, replied, looked_up, on_named, is_fresh}
-use Rattle.kernel_model.specs.ProcessCalls.{forked, with_fork, with_end, reaped, with_reaped, acted, kill, killed_at, signalled, with_signals}
-use Rattle.kernel_model.specs.QueueCalls.{with_queue, new_queue, get_queue, get_queue_at, changed_queue, received, looked_at_queue, removed_queue, unbound}
+use Rattle.kernel_model.specs.ProcessCalls.{with_fork, with_end, reaped, with_reaped, acted, kill, killed_at, signalled, with_signals}
+use Rattle.kernel_model.specs.QueueCalls.{with_queue, new_queue, get_queue, get_queue_at, changed_queue, received, looked_at_queue, removed_queue}
 use Rattle.kernel_model.specs.SetCalls.{with_set, new_set_of, get_set, get_set_at, found_set, size_of, changed_set, operated, all_values, removed_set}
 use Rattle.kernel_model.specs.Waiting.{may_wait}
-use Rattle.kernel_model.specs.Transition.{effect, finished, transition}
+use Rattle.kernel_model.specs.Transition.{effect, finished}
 use Rattle.kernel_laws.proofs.Plain.{Of, by_test, of_choice}
 use Rattle.kernel_laws.proofs.Steps.{Step}
 

@@ -1,16 +1,27 @@
 -- Used numbers stay used, and what is gone stays gone.
-use Rattle.std.proofs.Common.{◌≡◌, ◌≢◌, ℕ, Bool, true, false, List, Option, Some, None, refl, ap, sym, subst, ◌∙◌, inl, inr}
+use Rattle.std.proofs.Common.{◌≡◌, ◌≢◌, ℕ, true, List, Option, Some, None, refl, ap, sym, subst, ◌∙◌, inl, inr}
 use Rattle.std.specs.Prelude.{is_some}
 use Rattle.std.proofs.lemmas.Bool.{cases_eq}
 use Rattle.kernel_model.specs.Maps.{Numbered, get, put, without, is_used, used_with}
-use Rattle.kernel_model.specs.Row.{Alive}
-use Rattle.kernel_model.specs.Kernel.{Kernel, opening}
-use Rattle.kernel_model.specs.Effect.{is_fresh}
-use Rattle.kernel_laws.specs.Numbers.{StaysUsed, UsedNumbersStay, Passes, RemovedQueuesStayRemoved, RemovedSetsStayRemoved}
-use Rattle.kernel_laws.proofs.Plain.{not_some, not_true}
+use Rattle.kernel_model.specs.Row.{Alive, Spent}
+use Rattle.kernel_model.specs.Queue.{Queue}
+use Rattle.kernel_model.specs.SemaphoreSet.{Semaphore}
+use Rattle.kernel_model.specs.QueueCalls.{removed_queue}
+use Rattle.kernel_model.specs.SetCalls.{removed_set}
+use Rattle.kernel_model.specs.Transition.{finished}
+use Rattle.pico_base.specs.declared.call.Call.TheVariants.{MsgRmid, SemRmid}
+use Rattle.pico_base.specs.declared.reply.Reply.{Reply}
+use Rattle.pico_base.specs.declared.reply.Reply.TheVariants.{Num, Fail}
+use Rattle.pico_base.specs.declared.reply.Errno.{Errno}
+use Rattle.pico_base.specs.declared.reply.Errno.TheVariants.{Einval}
+use Rattle.kernel_model.specs.Kernel.{Kernel, opening, living_at, with_alive}
+use Rattle.kernel_model.specs.Effect.{Effect, on_named, is_fresh}
+use Rattle.kernel_laws.specs.Numbers.{UsedNumbersStay, RemovedQueuesStayRemoved, RemovedSetsStayRemoved, QueueRemovalsLast, SetRemovalsLast}
+use Rattle.kernel_laws.proofs.Plain.{from_some, not_some, not_true, by_test}
 use Rattle.kernel_laws.proofs.MapLaws.{get-put-other, get-without-same, get-without-other, used-stays}
-use Rattle.kernel_laws.proofs.Tables.{Table, fresh-unused}
-use Rattle.kernel_laws.proofs.Moves.{Moves, Finishes}
+use Rattle.kernel_laws.proofs.Tables.{fresh-unused}
+use Rattle.kernel_laws.proofs.Moves.{Moves}
+use Rattle.kernel_laws.proofs.Steps.{step}
 use Rattle.kernel_laws.proofs.Histories.{Kept, kept-along}
 use Rattle.kernel_laws.proofs.QueueLaws.{Queues, queues-kept, queues-opening}
 use Rattle.kernel_laws.proofs.SetLaws.{Sets, sets-kept, sets-opening}
@@ -168,3 +179,60 @@ removed_sets_stay_removed_lemma first second third p id there gone =
     let t = kept-along Sets sets-kept p.to_first opening first p.opens sets-opening
     in let u = (used_numbers_stay_lemma first second p.to_second p.goes id).sets (t.used_at id there)
     in (kept-along (GoneSet id) (gone_set-kept id) p.to_third second third p.ends (u, gone)).1
+
+fail_not_num : {B : Type 0} (e : Errno) → Fail e ≡ Num 0 → B
+fail_not_num e h = cc
+
+-- a removal by an entry: what was there had a used number, and is gone
+fail_num : {B : Type 0} (e : Errno) (o : Option Reply) → Some (Fail e) ≡ o → o ≡ Some (Num 0) → B
+fail_num e o h g = let f : Fail e ≡ Num 0 = from_some (Fail e) (Num 0) (h ∙ g) in fail_not_num e f
+
+gone_named : {V : Type 0} (k : Kernel) (things : Numbered V) (used : List ℕ) (id : ℕ) (f : V → Effect) (P : Kernel → Type 0) (own : Option Reply)
+    → (found : Option V) → get things id ≡ found → Some (on_named k found f).reply ≡ own → own ≡ Some (Num 0)
+    → ((v : V) → get things id ≡ Some v → P (f v).kernel) → P (on_named k found f).kernel
+gone_named k things used id f P own None e says is h = fail_num Einval own says is
+gone_named k things used id f P own (Some v) e says is h = h v e
+
+removed_queue_gone : (k : Kernel) (id : ℕ) (q : Queue) → Queues k → get k.queues id ≡ Some q → GoneQueue id (removed_queue k id).kernel
+removed_queue_gone k id q t l = (t.used_at id (ap is_some l), get-without-same k.queues id)
+
+removed_set_gone : (k : Kernel) (id : ℕ) (s : List Semaphore) → Sets k → get k.sets id ≡ Some s → GoneSet id (removed_set k id).kernel
+removed_set_gone k id s t l = (t.used_at id (ap is_some l), get-without-same k.sets id)
+
+-- the end of an entry changes no queue and no set
+gone_queue-finished : (gone : ℕ) (k : Kernel) (pid : ℕ) (found : Option Alive) → GoneQueue gone k → GoneQueue gone (finished k pid found)
+gone_queue-finished gone k pid None g = g
+gone_queue-finished gone k pid (Some a) g =
+    by_test (GoneQueue gone) (is_some a.row.signals.doom) (with_alive k pid (record a { allowance = Spent })) k (λ t. g) (λ t. g)
+
+gone_set-finished : (gone : ℕ) (k : Kernel) (pid : ℕ) (found : Option Alive) → GoneSet gone k → GoneSet gone (finished k pid found)
+gone_set-finished gone k pid None g = g
+gone_set-finished gone k pid (Some a) g =
+    by_test (GoneSet gone) (is_some a.row.signals.doom) (with_alive k pid (record a { allowance = Spent })) k (λ t. g) (λ t. g)
+
+reply-is : (r s : Effect) (own : Option Reply) → r ≡ s → Some r.reply ≡ own → Some s.reply ≡ own
+reply-is r s own e h = subst (λ (x : Effect). Some x.reply ≡ own) e h
+
+pub queue_removals_last_lemma : QueueRemovalsLast
+queue_removals_last_lemma k next last pid id n outcome entries r t is h =
+    let s = step k pid (MsgRmid id) n next outcome t
+    in let table = kept-along Queues queues-kept r.0 opening k r.1 queues-opening
+    in let e : on_named k (get k.queues id) (λ _. removed_queue k id) ≡ s.result = from_some (on_named k (get k.queues id) (λ _. removed_queue k id)) s.result s.gives
+    in let says = reply-is s.result (on_named k (get k.queues id) (λ _. removed_queue k id)) outcome.own (sym e) s.says
+    in let gone = gone_named k k.queues k.used_queues id (λ _. removed_queue k id) (GoneQueue id) outcome.own (get k.queues id) refl says is
+    (λ q l. removed_queue_gone k id q table l)
+    in let after : GoneQueue id s.result.kernel = subst (λ (x : Effect). GoneQueue id x.kernel) e gone
+    in let there : GoneQueue id next = subst (GoneQueue id) s.leads (gone_queue-finished id s.result.kernel pid (living_at s.result.kernel pid) after)
+    in (kept-along (GoneQueue id) (gone_queue-kept id) entries next last h there).1
+
+pub set_removals_last_lemma : SetRemovalsLast
+set_removals_last_lemma k next last pid id n outcome entries r t is h =
+    let s = step k pid (SemRmid id) n next outcome t
+    in let table = kept-along Sets sets-kept r.0 opening k r.1 sets-opening
+    in let e : on_named k (get k.sets id) (λ _. removed_set k id) ≡ s.result = from_some (on_named k (get k.sets id) (λ _. removed_set k id)) s.result s.gives
+    in let says = reply-is s.result (on_named k (get k.sets id) (λ _. removed_set k id)) outcome.own (sym e) s.says
+    in let gone = gone_named k k.sets k.used_sets id (λ _. removed_set k id) (GoneSet id) outcome.own (get k.sets id) refl says is
+    (λ q l. removed_set_gone k id q table l)
+    in let after : GoneSet id s.result.kernel = subst (λ (x : Effect). GoneSet id x.kernel) e gone
+    in let there : GoneSet id next = subst (GoneSet id) s.leads (gone_set-finished id s.result.kernel pid (living_at s.result.kernel pid) after)
+    in (kept-along (GoneSet id) (gone_set-kept id) entries next last h there).1

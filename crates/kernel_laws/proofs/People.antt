@@ -1,6 +1,6 @@
 -- The map of processes: its numbers are the used ones, something holds of each living process, and the families
 -- are in order.
-use Rattle.std.proofs.Common.{◌≡◌, ◌≢◌, ℕ, Bool, true, false, List, [], ◌∷◌, Option, Some, None, refl, ap, sym, subst, ◌∙◌, inl, inr}
+use Rattle.std.proofs.Common.{◌≡◌, ℕ, true, List, [], ◌∷◌, Option, Some, None, refl, ap, sym, subst, ◌∙◌, inl, inr}
 use Rattle.std.specs.Prelude.{is_some, fold, Contains}
 use Rattle.std.specs.Option.{option_and_then}
 use Rattle.std.proofs.lemmas.Bool.{cases_eq}
@@ -9,11 +9,11 @@ use Rattle.kernel_model.specs.Maps.{Numbered, get, put, is_used, used_with}
 use Rattle.kernel_model.specs.Row.{Alive}
 use Rattle.kernel_model.specs.Kernel.{Process, Living, Ended, Gone, living_in, alive_in}
 use Rattle.kernel_model.specs.ProcessCalls.{bury}
-use Rattle.kernel_laws.proofs.Plain.{from_some, not_some, not_true, not_none}
+use Rattle.kernel_laws.proofs.Plain.{from_some, not_some}
 use Rattle.kernel_laws.proofs.MapLaws.{get-put-same, get-put-other, used-with-same, used-with-other, Rising, rising-put}
 use Rattle.kernel_laws.proofs.Tables.{there-put}
 use Rattle.kernel_laws.proofs.Members.{contains-first, contains-later}
-use Rattle.kernel_laws.proofs.Families.{Families, living-ended, living-gone, same-alive}
+use Rattle.kernel_laws.proofs.Families.{Families, living-gone}
 
 pub record Body (A : ℕ → Alive → Type 0) (ps : Numbered Process) (used : List ℕ) : Type 0 where
   pub rise : Rising ps
@@ -24,7 +24,7 @@ pub record People (A : ℕ → Alive → Type 0) (ps : Numbered Process) (used :
   pub body : Body A ps used
   pub families : Families (get ps)
 
-each-put : (A : ℕ → Alive → Type 0) (ps : Numbered Process) (k : ℕ) (v : Process) → ((p : ℕ) (x : Alive) → get ps p ≡ Some (Living x) → A p x)
+pub each-put : (A : ℕ → Alive → Type 0) (ps : Numbered Process) (k : ℕ) (v : Process) → ((p : ℕ) (x : Alive) → get ps p ≡ Some (Living x) → A p x)
     → ((x : Alive) → v ≡ Living x → A k x) → (p : ℕ) (x : Alive) → get (put ps k v) p ≡ Some (Living x) → A p x
 each-put A ps k v h own p x g =
     elim (cases_eq p k) [

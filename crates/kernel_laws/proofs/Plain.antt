@@ -1,5 +1,5 @@
 -- Options, tests and effects in general.
-use Rattle.std.proofs.Common.{◌≡◌, Bool, true, false, Option, Some, None, refl}
+use Rattle.std.proofs.Common.{◌≡◌, Bool, true, false, Option, Some, None, Result, Ok, Err, refl}
 use Rattle.std.specs.Prelude.{if◌then◌else◌}
 
 pub from_some : {A : Type 0} (a b : A) → Some a ≡ Some b → a ≡ b
@@ -16,6 +16,12 @@ not_true h = cc
 
 pub not_false : {B : Type 0} → true ≡ false → B
 not_false h = cc
+
+pub from_ok : {A E : Type 0} (a b : A) → (let x : Result A E = Ok a in let y : Result A E = Ok b in x ≡ y) → a ≡ b
+from_ok a b h = cc
+
+pub not_ok : {A E B : Type 0} (e : E) (a : A) → (let x : Result A E = Err e in let y : Result A E = Ok a in x ≡ y) → B
+not_ok e a h = cc
 
 -- what holds of the value, if there is one
 abbrev pub Of : {A : Type 0} → (A → Type 0) → Option A → Type 0

@@ -1,26 +1,20 @@
 -- Each entry keeps the map of processes in order.
-use Rattle.std.proofs.Common.{◌≡◌, ◌≢◌, ℕ, Bool, true, false, List, [], ◌∷◌, Option, Some, None, refl, ap, sym, subst, ◌∙◌, inl, inr}
-use Rattle.std.specs.Prelude.{is_some, fold, Contains, if◌then◌else◌}
+use Rattle.std.proofs.Common.{◌≡◌, ◌≢◌, ℕ, Bool, true, false, List, Option, Some, None, refl, ap, sym, subst, ◌∙◌, inl, inr}
+use Rattle.std.specs.Prelude.{is_some, Contains, if◌then◌else◌}
 use Rattle.std.proofs.lemmas.Bool.{cases_eq}
 use Rattle.pico_base.specs.declared.reply.Ending.{Ending}
-use Rattle.pico_base.specs.declared.signal.PerSignal.{PerSignal}
-use Rattle.pico_base.specs.declared.signal.Sig.{Sig}
-use Rattle.pico_base.specs.declared.signal.Act.{Act}
-use Rattle.pico_base.specs.declared.signal.How.{How}
 use Rattle.kernel_model.specs.Maps.{Numbered, get, put, is_used, used_with}
-use Rattle.kernel_model.specs.Signals.{Signals, IsSound, raise, is_kill, with_action, with_mask}
-use Rattle.kernel_model.specs.Row.{Alive, Family, Free, Spent, new_row, lists, wait, Found, raised_at, with_ended_child, ignores_children}
-use Rattle.kernel_model.specs.Kernel.{Kernel, Process, Living, Ended, Gone, Parent, parent_in, living_in, living_at, with_alive, opening}
-use Rattle.kernel_model.specs.Effect.{is_fresh}
-use Rattle.kernel_model.specs.ProcessCalls.{new_child, forking, with_fork, buried, kept_as, ended_under, with_end, reaping, with_reaped, with_signals}
+use Rattle.kernel_model.specs.Signals.{Signals, IsSound, raise, with_action, with_mask}
+use Rattle.kernel_model.specs.Row.{Alive, Spent, lists, raised_at, with_ended_child, ignores_children}
+use Rattle.kernel_model.specs.Kernel.{Kernel, Process, Living, Ended, Gone, Parent, parent_in, living_at, with_alive}
+use Rattle.kernel_model.specs.ProcessCalls.{new_child, forking, with_fork, buried, kept_as, ended_under, reaping, with_reaped}
 use Rattle.kernel_model.specs.Transition.{finished}
-use Rattle.kernel_laws.proofs.Plain.{from_some, not_some, not_true}
-use Rattle.kernel_laws.proofs.MapLaws.{Rising}
+use Rattle.kernel_laws.proofs.Plain.{not_some, not_true}
 use Rattle.kernel_laws.proofs.Tables.{fresh-unused, there-put}
-use Rattle.kernel_laws.proofs.SignalLaws.{sound-new, sound-raise, sound-action, sound-mask, raise-stays, mask-stays}
-use Rattle.kernel_laws.proofs.Members.{contains-none, found-contained}
-use Rattle.kernel_laws.proofs.Families.{Map, Lists, Keeps, Lives, Families, families-kept, families-born, families-over, living-ended, living-gone, same-alive, at-once}
-use Rattle.kernel_laws.proofs.FamilyChanges.{Put, put-is, Two, two-puts, Each, kept-same, born-is, Reap, Not, kept-reap, different}
+use Rattle.kernel_laws.proofs.SignalLaws.{sound-raise, sound-action, sound-mask, raise-stays, mask-stays}
+use Rattle.kernel_laws.proofs.Members.{found-contained}
+use Rattle.kernel_laws.proofs.Families.{Lists, families-kept, families-born, families-over, living-ended, living-gone, same-alive, at-once}
+use Rattle.kernel_laws.proofs.FamilyChanges.{put-is, two-puts, Each, kept-same, born-is, Not, kept-reap, different}
 use Rattle.kernel_laws.proofs.EndChanges.{cleared, parent-is, orphan, over-alone, End, over-end}
 use Rattle.kernel_laws.proofs.Living.{Strong, Weak, weak, weak-own, strong-raised, strong-child, strong-forking, strong-reaping, strong-ended_child, family-ended_child, strong-spent, strong-undoomed, strong-other}
 use Rattle.kernel_laws.proofs.People.{Body, People, body-put, body-new, body-buried, buried-there, from-living, not-living}

@@ -1,32 +1,22 @@
 -- Each queue stays within its limits, and the table of queues in order.
-use Rattle.std.proofs.Common.{◌≡◌, ℕ, ℤ, ◌+◌, ◌<◌, ◌≤◌, Bool, true, false, ◌&&◌, ◌||◌, List, [], ◌∷◌, ◌++◌, length, Option, Some, None, Result, Ok, Err, take, drop, suc, refl, ap, sym, subst, ◌∙◌, arith, length-append}
-use Rattle.std.specs.Prelude.{◌≤ℤ◌, pos, if◌then◌else◌, nat_le, nat_lt, int_le, is_some, slice_get, sum_by, remove}
-use Rattle.std.specs.List.{All}
+use Rattle.std.proofs.Common.{◌≡◌, ℕ, ℤ, ◌+◌, ◌<◌, ◌≤◌, Bool, true, false, ◌||◌, List, [], ◌∷◌, ◌++◌, length, Option, Some, None, Ok, Err, take, drop, suc, refl, ap, sym, subst, arith, length-append}
+use Rattle.std.specs.Prelude.{◌≤ℤ◌, pos, if◌then◌else◌, nat_le, nat_lt, int_le, is_some, slice_get, remove}
 use Rattle.std.proofs.lemmas.Bool.{and_parts, leb-true, ltb-true}
 use Rattle.std.proofs.lemmas.List.Elements.{All-push, All-append, All-take, All-drop, All-nil}
 use Rattle.std.proofs.lemmas.List.Sums.{sum_by_push, sum_by-remove}
 use Rattle.std.proofs.lemmas.List.Edits.{length-remove}
 use Rattle.std.proofs.lemmas.Option.{slice_get_within}
-use Rattle.std.proofs.lemmas.Int.{ints}
 use lib.Signed.{le_z_yes}
 use lib.Dec.{T}
-use Rattle.pico_base.specs.declared.reply.Errno.{Errno}
-use Rattle.pico_base.specs.declared.reply.Errno.TheVariants.{Einval, E2big}
 use Rattle.kernel_model.specs.Maps.{get, put}
 use Rattle.kernel_model.specs.Kernel.{Kernel, opening}
 use Rattle.kernel_model.specs.Row.{Alive}
-use Rattle.kernel_model.specs.Queue.{Queue, Message, Received, bytes_in, bytes_of, empty_queue, max_queue_bytes, max_messages, max_text, has_room, is_sendable, send, select, taken, receive, receive_from, receive_at, set_qbytes}
+use Rattle.kernel_model.specs.Queue.{receive, Queue, Message, Received, bytes_in, bytes_of, empty_queue, has_room, is_sendable, send, select, taken, receive_from, receive_at, set_qbytes}
 use Rattle.kernel_laws.specs.Queues.{IsMessage, IsWithinLimits, QueuesAreWithinLimits}
-use Rattle.kernel_laws.proofs.Plain.{from_some, not_some, not_true}
+use Rattle.kernel_laws.proofs.Plain.{from_ok, not_ok}
 use Rattle.kernel_laws.proofs.Tables.{Table, table-empty, table-change, table-make, table-bind, table-remove, fresh-unused}
-use Rattle.kernel_laws.proofs.Moves.{Moves, Finishes}
+use Rattle.kernel_laws.proofs.Moves.{Moves}
 use Rattle.kernel_laws.proofs.Histories.{Kept, kept-along}
-
-from_ok : {A E : Type 0} (a b : A) → (let x : Result A E = Ok a in let y : Result A E = Ok b in x ≡ y) → a ≡ b
-from_ok a b h = cc
-
-not_ok : {A E B : Type 0} (e : E) (a : A) → (let x : Result A E = Err e in let y : Result A E = Ok a in x ≡ y) → B
-not_ok e a h = cc
 
 in_order : (a b : ℤ) → int_le a b ≡ true → a ≤ℤ b
 in_order a b h = le_z_yes (subst T (sym h) tt)
@@ -102,17 +92,20 @@ within-limited q qbytes next w h =
     in subst IsWithinLimits t.1
     (record { limit = leb-true qbytes 16384 t.0; bytes = w.bytes; count = w.count; messages = w.messages })
 
--- the table of queues
-abbrev pub Queues : Kernel → Type 0
-Queues k = Table IsWithinLimits k.queues k.queue_keys k.used_queues
+-- the table of queues, with what each call keeps of a queue
+abbrev pub QueueTable : (Queue → Type 0) → Kernel → Type 0
+QueueTable P k = Table P k.queues k.queue_keys k.used_queues
 
-pub queues-opening : Queues opening
-queues-opening = table-empty IsWithinLimits
+pub record QueueRule (P : Queue → Type 0) : Type 0 where
+  pub new : P empty_queue
+  pub sent : (q : Queue) (pid : ℕ) (class : ℤ) (text : List ℕ) (next : Queue) → P q → send q pid class text ≡ Ok next → P next
+  pub taken_from : (q : Queue) (pid : ℕ) (class : ℤ) (size : ℕ) (noerror : Bool) (r : Received) → P q → receive q pid class size noerror ≡ Ok r → P r.queue
+  pub limited : (q : Queue) (qbytes : ℕ) (next : Queue) → P q → set_qbytes q qbytes ≡ Ok next → P next
 
-queues-moves : (k : Kernel) (pid : ℕ) (a : Alive) (n : ℕ) → Queues k → Moves Queues k pid a n
-queues-moves k pid a n t =
-    let change : (id : ℕ) (q next : Queue) → get k.queues id ≡ Some q → IsWithinLimits next → Queues (record k { queues = put k.queues id next }) =
-    λ id q next l w. table-change IsWithinLimits k.queues k.queue_keys k.used_queues t id next (ap is_some l) w
+pub queues-moves : (P : Queue → Type 0) → QueueRule P → (k : Kernel) (pid : ℕ) (a : Alive) (n : ℕ) → QueueTable P k → Moves (QueueTable P) k pid a n
+queues-moves P rule k pid a n t =
+    let change : (id : ℕ) (q next : Queue) → get k.queues id ≡ Some q → P next → QueueTable P (record k { queues = put k.queues id next }) =
+    λ id q next l w. table-change P k.queues k.queue_keys k.used_queues t id next (ap is_some l) w
     in record {
       same = t;
       forks = λ f. t;
@@ -122,14 +115,12 @@ queues-moves k pid a n t =
       raises_own = λ target g h. t;
       raises_other = λ other target g h. t;
       reaps = λ which child ending h. t;
-      makes_queue = λ f. table-make IsWithinLimits k.queues k.queue_keys k.used_queues t n empty_queue within-empty;
-      binds_queue = λ key f.
-          table-bind IsWithinLimits k.queues k.queue_keys k.used_queues t n key empty_queue (fresh-unused k.used_queues n f) within-empty;
-      sends = λ id class text q next l h. change id q next l (within-sent q pid class text next (t.each id q l) h);
-      receives = λ id class size noerror q r l h.
-          change id q r.queue l (within-placed q pid size noerror (select q.messages class) r (t.each id q l) h);
-      limits = λ id qbytes q next l h. change id q next l (within-limited q qbytes next (t.each id q l) h);
-      removes_queue = λ id. table-remove IsWithinLimits k.queues k.queue_keys k.used_queues t id;
+      makes_queue = λ f. table-make P k.queues k.queue_keys k.used_queues t n empty_queue rule.new;
+      binds_queue = λ key f. table-bind P k.queues k.queue_keys k.used_queues t n key empty_queue (fresh-unused k.used_queues n f) rule.new;
+      sends = λ id class text q next l h. change id q next l (rule.sent q pid class text next (t.each id q l) h);
+      receives = λ id class size noerror q r l h. change id q r.queue l (rule.taken_from q pid class size noerror r (t.each id q l) h);
+      limits = λ id qbytes q next l h. change id q next l (rule.limited q qbytes next (t.each id q l) h);
+      removes_queue = λ id. table-remove P k.queues k.queue_keys k.used_queues t id;
       makes_set = λ count set h f. t;
       binds_set = λ key count set h f. t;
       operates = λ id steps set next l h. t;
@@ -138,8 +129,24 @@ queues-moves k pid a n t =
       removes_set = λ id. t;
     }
 
+within-rule : QueueRule IsWithinLimits
+within-rule =
+    record {
+      new = within-empty;
+      sent = within-sent;
+      taken_from = λ q pid class size noerror r. within-placed q pid size noerror (select q.messages class) r;
+      limited = within-limited;
+    }
+
+abbrev pub Queues : Kernel → Type 0
+Queues k = QueueTable IsWithinLimits k
+
+pub queues-opening : Queues opening
+queues-opening = table-empty IsWithinLimits
+
 pub queues-kept : Kept Queues
-queues-kept = record { moves = λ k pid call n next outcome s t. queues-moves k pid s.alive n t; finishes = λ pid k a t l d. t }
+queues-kept =
+    record { moves = λ k pid call n next outcome s t. queues-moves IsWithinLimits within-rule k pid s.alive n t; finishes = λ pid k a t l d. t }
 
 pub queues_are_within_limits_lemma : QueuesAreWithinLimits
 queues_are_within_limits_lemma k r id q l = (kept-along Queues queues-kept r.0 opening k r.1 queues-opening).each id q l

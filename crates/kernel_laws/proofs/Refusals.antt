@@ -1,6 +1,6 @@
 -- A refused call's effect leaves the kernel as it was.
-use Rattle.std.proofs.Common.{◌≡◌, ◌⊎◌, ◌≢◌, ℕ, Bool, true, false, not, ◌&&◌, ◌||◌, List, Option, Some, None, Result, Ok, Err, refl, ap, sym, subst, ◌∙◌, inl, inr, nat_eq}
-use Rattle.std.specs.Prelude.{if◌then◌else◌, nat_le, is_some}
+use Rattle.std.proofs.Common.{◌≡◌, ℕ, Bool, true, false, ◌&&◌, ◌||◌, List, Option, Some, None, Result, Ok, Err, refl, ap, sym, subst, ◌∙◌, nat_eq}
+use Rattle.std.specs.Prelude.{nat_le}
 use Rattle.std.specs.List.{list_any}
 use Rattle.pico_base.specs.declared.call.Call.{Call}
 use Rattle.pico_base.specs.declared.call.Call.TheVariants as calls
@@ -8,26 +8,24 @@ use Rattle.pico_base.specs.declared.call.SemStep.{SemStep}
 use Rattle.pico_base.specs.declared.reply.Reply.{Reply}
 use Rattle.pico_base.specs.declared.reply.Reply.TheVariants as replies
 use Rattle.pico_base.specs.declared.reply.Errno.{Errno}
-use Rattle.pico_base.specs.declared.reply.Errno.TheVariants.{Einval, Enoent, Eexist, Esrch}
-use Rattle.pico_base.specs.declared.reply.Outcome.{Outcome}
-use Rattle.pico_base.specs.declared.signal.Sig.{Sig}
+use Rattle.pico_base.specs.declared.reply.Errno.TheVariants.{Einval, Enoent, Eexist}
 use Rattle.pico_base.specs.declared.signal.SigArg.{SigArg}
 use Rattle.pico_base.specs.declared.signal.SigArg.TheVariants.{Zero, Is, Bad}
 use Rattle.kernel_model.specs.Maps.{Numbered, get, put, used_with}
-use Rattle.kernel_model.specs.Signals.{Signals, act_on, raise}
-use Rattle.kernel_model.specs.Row.{Alive, Waited, Found, NotYet, NoChild, Spent, wait, raised_at}
-use Rattle.kernel_model.specs.Queue.{Queue, Received, send, receive, set_qbytes, empty_queue, stat}
+use Rattle.kernel_model.specs.Signals.{Signals, act_on}
+use Rattle.kernel_model.specs.Row.{Alive, Waited, Found, NotYet, NoChild, wait}
+use Rattle.kernel_model.specs.Queue.{Queue, Received, send, receive, set_qbytes, empty_queue}
 use Rattle.kernel_model.specs.SemaphoreSet.{Semaphore, new_set, op, set_value, set_all, value_at, last_at, waiting_at}
-use Rattle.kernel_model.specs.Kernel.{Kernel, Process, Living, Ended, Gone, living_at, with_alive}
+use Rattle.kernel_model.specs.Kernel.{Kernel, Process, Living, Ended, Gone, living_at}
 use Rattle.kernel_model.specs.Effect.{Effect, refused, replied, looked_up, on_named, is_fresh}
-use Rattle.kernel_model.specs.ProcessCalls.{forked, with_fork, reaped, acted, kill, killed_at, signalled, with_signals}
+use Rattle.kernel_model.specs.ProcessCalls.{forked, with_fork, reaped, acted, kill, killed_at, signalled}
 use Rattle.kernel_model.specs.QueueCalls.{new_queue, get_queue, get_queue_at, changed_queue, received, looked_at_queue, removed_queue}
 use Rattle.kernel_model.specs.SetCalls.{new_set_of, get_set, get_set_at, found_set, size_of, changed_set, operated, all_values, removed_set}
 use Rattle.kernel_model.specs.Waiting.{may_wait}
-use Rattle.kernel_model.specs.Transition.{effect, finished, transition}
-use Rattle.kernel_laws.specs.Refusal.{IsSpentIn, RefusalsChangeNothing}
-use Rattle.kernel_laws.proofs.Plain.{from_some, not_true, Of, of_choice, by_test, not_some}
-use Rattle.kernel_laws.proofs.Steps.{Step, step}
+use Rattle.kernel_model.specs.Transition.{effect, finished}
+use Rattle.kernel_laws.specs.Refusal.{left_by, RefusalsChangeNothing}
+use Rattle.kernel_laws.proofs.Plain.{from_some, not_true, Of, of_choice, by_test}
+use Rattle.kernel_laws.proofs.Steps.{step}
 
 abbrev is_fail : Reply → Bool
 is_fail (replies.Fail e) = true
@@ -167,26 +165,11 @@ keeps-effect k pid a (calls.SemSetAll id values) n =
 keeps-effect k pid a (calls.SemRmid id) n = keeps-named k (get k.sets id) (λ _. removed_set k id) (λ s. not_true)
 
 -- after the entry a doomed caller has nothing left
-some_signal : (s : Sig) → Some s ≢ None
-some_signal s h = cc
-
-spent_or_same : (k : Kernel) (pid : ℕ) (a : Alive) → living_at k pid ≡ Some a → (doom : Option Sig) → a.row.signals.doom ≡ doom
-    → ((if is_some doom then with_alive k pid (record a { allowance = Spent }) else k) ≡ k)
-    ⊎ IsSpentIn k pid (if is_some doom then with_alive k pid (record a { allowance = Spent }) else k)
-spent_or_same k pid a l None d = inl refl
-spent_or_same k pid a l (Some g) d = inr (a, l, subst (λ (o : Option Sig). o ≢ None) (sym d) (some_signal g), refl)
-
-finished_or_same : (k : Kernel) (pid : ℕ) (found : Option Alive) → living_at k pid ≡ found
-    → (finished k pid found ≡ k) ⊎ IsSpentIn k pid (finished k pid found)
-finished_or_same k pid None l = inl refl
-finished_or_same k pid (Some a) l = spent_or_same k pid a l a.row.signals.doom refl
-
-to_next : (k : Kernel) (pid : ℕ) (result : Kernel) (next : Kernel) → result ≡ k → finished result pid (living_at result pid) ≡ next
-    → (next ≡ k) ⊎ IsSpentIn k pid next
-to_next k pid result next same leads =
-    let P : Kernel → Type 0 = λ m. (m ≡ k) ⊎ IsSpentIn k pid m
-    in let e : finished k pid (living_at k pid) ≡ next = subst (λ (r : Kernel). finished r pid (living_at r pid) ≡ next) same leads
-    in subst P e (finished_or_same k pid (living_at k pid) refl)
+to_next : (k : Kernel) (pid : ℕ) (a : Alive) (result : Kernel) (next : Kernel) → result ≡ k → living_at k pid ≡ Some a
+    → finished result pid (living_at result pid) ≡ next → next ≡ left_by k pid a
+to_next k pid a result next same lives leads =
+    let e : finished k pid (living_at k pid) ≡ next = subst (λ (r : Kernel). finished r pid (living_at r pid) ≡ next) same leads
+    in sym e ∙ ap (finished k pid) lives
 
 fail_is : (r : Reply) (o : Option Reply) (e : Errno) → Some r ≡ o → o ≡ Some (replies.Fail e) → is_fail r ≡ true
 fail_is r o e h g = let f : r ≡ replies.Fail e = from_some r (replies.Fail e) (h ∙ g) in ap is_fail f
@@ -196,4 +179,4 @@ refusals_change_nothing_lemma k pid call n next outcome error h fails =
     let s = step k pid call n next outcome h
     in let P : Option Effect → Type 0 = λ o. Of (Keeps k) o
     in let kept : Keeps k s.result = subst P s.gives (keeps-effect k pid s.alive call n)
-    in to_next k pid s.result.kernel next (kept (fail_is s.result.reply outcome.own error s.says fails)) s.leads
+    in (s.alive, s.lives, to_next k pid s.alive s.result.kernel next (kept (fail_is s.result.reply outcome.own error s.says fails)) s.lives s.leads)

@@ -1,27 +1,181 @@
--- The table of semaphore sets stays in order.
-use Rattle.std.proofs.Common.{◌≡◌, ℕ, List, Some, ap}
-use Rattle.std.specs.Prelude.{is_some}
+-- Each semaphore set stays within its limits, and the table of sets in order.
+use Rattle.std.proofs.Common.{◌≡◌, ◌≢◌, ℕ, ℤ, zero, suc, ◌+◌, ◌-◌, ◌≤◌, Bool, true, false, List, [], ◌∷◌, length, replicate, Option, Some, None, Result, Ok, Err, refl, ap, sym, subst, arith, nat_eq}
+use Rattle.std.specs.Prelude.{pos, negsuc, if◌then◌else◌, nat_le, nat_lt, is_some, slice_get, slice_set, fold}
+use Rattle.std.specs.List.{All, list_any}
+use Rattle.std.proofs.lemmas.Bool.{or_parts, leb-true, ltb-false, eqb-false}
+use Rattle.std.proofs.lemmas.List.{length-set, length-replicate}
+use Rattle.std.proofs.lemmas.List.Elements.{All-nil, All-cons, All-head, All-tail, All-set, All-replicate, All-map, All-get_or}
+use Rattle.std.proofs.lemmas.Option.{slice_get_within, get_or_from_slice_get}
+use Rattle.pico_base.specs.declared.call.SemStep.{SemStep}
+use Rattle.pico_base.specs.declared.reply.Errno.{Errno}
+use Rattle.pico_base.specs.declared.reply.Errno.TheVariants.{Einval, Eagain, E2big, Efbig, Erange}
 use Rattle.kernel_model.specs.Maps.{get, put}
-use Rattle.kernel_model.specs.SemaphoreSet.{Semaphore}
+use Rattle.kernel_model.specs.SemaphoreSet.{new_set, set_value, set_all, Semaphore, new_semaphore, is_bad_count, values_of, Moved, To, Waits, TooHigh, moved_by, moved_at, Tried, Done, StopsAt, OutOfRange, go_on, try_from, try_ops, with_values, with_last, marked_at, marked, tried_op, op, set_value_at}
 use Rattle.kernel_model.specs.Kernel.{Kernel, opening}
 use Rattle.kernel_model.specs.Row.{Alive}
+use Rattle.kernel_laws.specs.Sets.{IsSetWithinLimits, SetsAreWithinLimits}
+use Rattle.kernel_laws.proofs.Plain.{from_ok, not_ok}
 use Rattle.kernel_laws.proofs.Tables.{Table, table-empty, table-change, table-make, table-bind, table-remove, fresh-unused}
 use Rattle.kernel_laws.proofs.Moves.{Moves}
-use Rattle.kernel_laws.proofs.Histories.{Kept}
+use Rattle.kernel_laws.proofs.Histories.{Kept, kept-along}
 
-abbrev pub IsAny : List Semaphore → Type 0
-IsAny set = Unit {0}
+abbrev IsLow : ℕ → Type 0
+IsLow value = value ≤ 32767
 
-abbrev pub Sets : Kernel → Type 0
-Sets k = Table IsAny k.sets k.set_keys k.used_sets
+abbrev IsLowAt : Semaphore → Type 0
+IsLowAt s = s.value ≤ 32767
 
-pub sets-opening : Sets opening
-sets-opening = table-empty IsAny
+-- one of a list by its place
+all-at : {X : Type 0} (P : X → Type 0) (xs : List X) (i : ℕ) (x : X) → All P xs → slice_get xs i ≡ Some x → P x
+all-at {X} P xs i x h g = subst P (get_or_from_slice_get xs i x x g) (All-get_or P xs i x (slice_get_within xs i x g) h)
 
-sets-moves : (k : Kernel) (pid : ℕ) (a : Alive) (n : ℕ) → Sets k → Moves Sets k pid a n
-sets-moves k pid a n t =
-    let change : (id : ℕ) (set next : List Semaphore) → get k.sets id ≡ Some set → IsAny next → Sets (record k { sets = put k.sets id next }) =
-    λ id set next l w. table-change IsAny k.sets k.set_keys k.used_sets t id next (ap is_some l) w
+-- semget
+made-within : (count : ℕ) (set : List Semaphore) → (bad : Bool) → is_bad_count count ≡ bad
+    → (let r : Result (List Semaphore) Errno = Ok set in (if bad then Err Einval else Ok (replicate count new_semaphore)) ≡ r) → IsSetWithinLimits set
+made-within count set true e h = not_ok Einval set h
+made-within count set false e h =
+    let t = or_parts (nat_eq count 0) (nat_lt 64 count) e
+    in let some : count ≢ 0 = eqb-false count 0 t.0
+    in let few : count ≤ 64 = ltb-false 64 count t.1
+    in let l : length (replicate count new_semaphore) ≡ count = length-replicate count new_semaphore
+    in subst IsSetWithinLimits (from_ok (replicate count new_semaphore) set h)
+    (record { least = omega arith; most = omega arith; values = All-replicate IsLowAt count new_semaphore (omega arith) })
+
+-- semctl with SETVAL
+changed-within : (set : List Semaphore) (num : ℕ) (s : Semaphore) → IsSetWithinLimits set → IsLowAt s → IsSetWithinLimits (slice_set set num s)
+changed-within set num s w low =
+    let l : length (slice_set set num s) ≡ length set = length-set set num s
+    in let least = w.least
+    in let most = w.most
+    in record { least = omega (arith, l, least); most = omega (arith, l, most); values = All-set IsLowAt set num s low w.values }
+
+valued-test : (set : List Semaphore) (num value : ℕ) (s : Semaphore) (next : List Semaphore) → IsSetWithinLimits set → (high : Bool) → nat_lt 32767 value ≡ high
+    → (let r : Result (List Semaphore) Errno = Ok next in (if high then Err Erange else Ok (slice_set set num (record s { value = value }))) ≡ r) → IsSetWithinLimits next
+valued-test set num value s next w true e h = not_ok Erange next h
+valued-test set num value s next w false e h =
+    subst IsSetWithinLimits (from_ok (slice_set set num (record s { value = value })) next h)
+    (changed-within set num (record s { value = value }) w (ltb-false 32767 value e))
+
+valued-at : (set : List Semaphore) (num value : ℕ) (o : Option Semaphore) (next : List Semaphore) → IsSetWithinLimits set → set_value_at set num value o ≡ Ok next
+    → IsSetWithinLimits next
+valued-at set num value None next w h = not_ok Einval next h
+valued-at set num value (Some s) next w h = valued-test set num value s next w (nat_lt 32767 value) refl h
+
+-- other values
+length-values : (set : List Semaphore) (values : List ℕ) → length (with_values set values) ≡ length set
+length-values [] values = refl
+length-values (s ∷ set) [] = refl
+length-values (s ∷ set) (value ∷ values) = let i = length-values set values in ap suc i
+
+all-values : (set : List Semaphore) (values : List ℕ) → All IsLowAt set → All IsLow values → All IsLowAt (with_values set values)
+all-values [] values h g = h
+all-values (s ∷ set) [] h g = h
+all-values (s ∷ set) (value ∷ values) h g =
+    All-cons IsLowAt (record s { value = value }) (with_values set values) (All-head IsLow value values g)
+    (all-values set values (All-tail IsLowAt s set h) (All-tail IsLow value values g))
+
+values-within : (set : List Semaphore) (values : List ℕ) → IsSetWithinLimits set → All IsLow values → IsSetWithinLimits (with_values set values)
+values-within set values w g =
+    let l = length-values set values
+    in let least = w.least
+    in let most = w.most
+    in record { least = omega (arith, l, least); most = omega (arith, l, most); values = all-values set values w.values g }
+
+-- semctl with SETALL
+all-low : (values : List ℕ) → list_any (nat_lt 32767) values ≡ false → All IsLow values
+all-low [] h = All-nil IsLow
+all-low (value ∷ values) h =
+    let t = or_parts (nat_lt 32767 value) (list_any (nat_lt 32767) values) h
+    in All-cons IsLow value values (ltb-false 32767 value t.0) (all-low values t.1)
+
+filled-test : (set : List Semaphore) (values : List ℕ) (next : List Semaphore) → IsSetWithinLimits set → (equal high : Bool)
+    → list_any (nat_lt 32767) values ≡ high
+    → (let r : Result (List Semaphore) Errno = Ok next in (if equal then if high then Err Erange else Ok (with_values set values) else Err Einval) ≡ r)
+    → IsSetWithinLimits next
+filled-test set values next w true true e h = not_ok Erange next h
+filled-test set values next w true false e h =
+    subst IsSetWithinLimits (from_ok (with_values set values) next h) (values-within set values w (all-low values e))
+filled-test set values next w false high e h = not_ok Einval next h
+
+-- semop's trial
+abbrev IsTo : Moved → Type 0
+IsTo (To value) = Unit {0}
+IsTo Waits = ⊥
+IsTo TooHigh = ⊥
+
+moved-test : (low : Bool) (next value : ℕ) (otherwise : Moved) → (IsTo otherwise → ⊥) → (low ≡ true → IsLow next) → (if low then To next else otherwise) ≡ To value → IsLow value
+moved-test true next value otherwise apart h e = let is : next ≡ value = cc in subst IsLow is (h refl)
+moved-test false next value otherwise apart h e = absurd (apart (subst IsTo (sym e) tt))
+
+moved-low : (add : ℤ) (old value : ℕ) → IsLow old → moved_by add old ≡ To value → IsLow value
+moved-low (pos zero) old value low h = moved-test (nat_eq old 0) 0 value Waits (λ x. x) (λ t. omega arith) h
+moved-low (pos (suc n)) old value low h =
+    moved-test (nat_le (old + suc n) 32767) (old + suc n) value TooHigh (λ x. x) (λ t. leb-true (old + suc n) 32767 t) h
+moved-low (negsuc n) old value low h = moved-test (nat_le (suc n) old) (old - suc n) value Waits (λ x. x) (λ t. omega arith) h
+
+moved-at : (values : List ℕ) (add : ℤ) (num : ℕ) (o : Option ℕ) (value : ℕ) → All IsLow values → slice_get values num ≡ o → moved_at add o ≡ To value → IsLow value
+moved-at values add num None value h e g = absurd (subst IsTo (sym g) tt)
+moved-at values add num (Some old) value h e g = moved-low add old value (all-at IsLow values num old h e) g
+
+tried-on : (index : ℕ) (values : List ℕ) (step : SemStep) (steps : List SemStep) (out : List ℕ) → All IsLow values
+    → ((next : List ℕ) → All IsLow next → try_from (index + 1) next steps ≡ Done out → All IsLow out)
+    → (m : Moved) → moved_at step.add (slice_get values step.num) ≡ m
+    → go_on index values step.num m (λ next. try_from (index + 1) next steps) ≡ Done out → All IsLow out
+tried-on index values step steps out h rest (To value) e g =
+    rest (slice_set values step.num value)
+    (All-set IsLow values step.num value (moved-at values step.add step.num (slice_get values step.num) value h refl e) h) g
+tried-on index values step steps out h rest Waits e g = cc
+tried-on index values step steps out h rest TooHigh e g = cc
+
+tried-low : (index : ℕ) (values : List ℕ) (steps : List SemStep) (out : List ℕ) → All IsLow values → try_from index values steps ≡ Done out → All IsLow out
+tried-low index values [] out h g = let is : values ≡ out = cc in subst (λ (xs : List ℕ). All IsLow xs) is h
+tried-low index values (step ∷ steps) out h g =
+    tried-on index values step steps out h (λ next low e. tried-low (index + 1) next steps out low e) (moved_at step.add (slice_get values step.num)) refl g
+
+-- the named semaphores' last processes
+marked-at-within : (set : List Semaphore) (pid num : ℕ) (o : Option Semaphore) → IsSetWithinLimits set → slice_get set num ≡ o → IsSetWithinLimits (marked_at set pid num o)
+marked-at-within set pid num None w e = w
+marked-at-within set pid num (Some s) w e = changed-within set num (with_last s pid) w (all-at IsLowAt set num s w.values e)
+
+marked-within : (pid : ℕ) (steps : List SemStep) (set : List Semaphore) → IsSetWithinLimits set → IsSetWithinLimits (fold (marked pid) set steps)
+marked-within pid [] set w = w
+marked-within pid (step ∷ steps) set w =
+    marked-within pid steps (marked pid set step) (marked-at-within set pid step.num (slice_get set step.num) w refl)
+
+operated-tried : (set : List Semaphore) (pid : ℕ) (steps : List SemStep) (t : Tried) (next : List Semaphore) → IsSetWithinLimits set
+    → try_ops (values_of set) steps ≡ t → tried_op set pid steps t ≡ Ok next → IsSetWithinLimits next
+operated-tried set pid steps (Done values) next w e h =
+    let low = tried-low 0 (values_of set) steps values (All-map IsLow (λ (s : Semaphore). s.value) set w.values) e
+    in subst IsSetWithinLimits (from_ok (fold (marked pid) (with_values set values) steps) next h)
+    (marked-within pid steps (with_values set values) (values-within set values w low))
+operated-tried set pid steps (StopsAt index) next w e h = not_ok Eagain next h
+operated-tried set pid steps OutOfRange next w e h = not_ok Erange next h
+
+operated-test : (set : List Semaphore) (pid : ℕ) (steps : List SemStep) (next : List Semaphore) → IsSetWithinLimits set → (many outside : Bool)
+    → (let r : Result (List Semaphore) Errno = Ok next
+    in (if many then Err E2big else if outside then Err Efbig else tried_op set pid steps (try_ops (values_of set) steps)) ≡ r) → IsSetWithinLimits next
+operated-test set pid steps next w true outside h = not_ok E2big next h
+operated-test set pid steps next w false true h = not_ok Efbig next h
+operated-test set pid steps next w false false h = operated-tried set pid steps (try_ops (values_of set) steps) next w refl h
+
+operated-within : (set : List Semaphore) (pid : ℕ) (steps : List SemStep) (next : List Semaphore) → IsSetWithinLimits set → op set pid steps ≡ Ok next → IsSetWithinLimits next
+operated-within set pid steps next w h =
+    operated-test set pid steps next w (nat_lt 32 (length steps)) (list_any (λ step. nat_le (length set) step.num) steps) h
+
+-- the table of sets, with what each call keeps of a set
+abbrev pub SetTable : (List Semaphore → Type 0) → Kernel → Type 0
+SetTable P k = Table P k.sets k.set_keys k.used_sets
+
+pub record SetRule (P : List Semaphore → Type 0) : Type 0 where
+  pub new : (count : ℕ) (set : List Semaphore) → new_set count ≡ Ok set → P set
+  pub operated : (set : List Semaphore) (pid : ℕ) (steps : List SemStep) (next : List Semaphore) → P set → op set pid steps ≡ Ok next → P next
+  pub one_set : (set : List Semaphore) (num value : ℕ) (next : List Semaphore) → P set → set_value set num value ≡ Ok next → P next
+  pub filled : (set : List Semaphore) (values : List ℕ) (next : List Semaphore) → P set → set_all set values ≡ Ok next → P next
+
+pub sets-moves : (P : List Semaphore → Type 0) → SetRule P → (k : Kernel) (pid : ℕ) (a : Alive) (n : ℕ) → SetTable P k → Moves (SetTable P) k pid a n
+sets-moves P rule k pid a n t =
+    let change : (id : ℕ) (set next : List Semaphore) → get k.sets id ≡ Some set → P next → SetTable P (record k { sets = put k.sets id next }) =
+    λ id set next l w. table-change P k.sets k.set_keys k.used_sets t id next (ap is_some l) w
     in record {
       same = t;
       forks = λ f. t;
@@ -37,13 +191,33 @@ sets-moves k pid a n t =
       receives = λ id class size noerror q r l h. t;
       limits = λ id qbytes q next l h. t;
       removes_queue = λ id. t;
-      makes_set = λ count set h f. table-make IsAny k.sets k.set_keys k.used_sets t n set tt;
-      binds_set = λ key count set h f. table-bind IsAny k.sets k.set_keys k.used_sets t n key set (fresh-unused k.used_sets n f) tt;
-      operates = λ id steps set next l h. change id set next l tt;
-      sets_one = λ id num value set next l h. change id set next l tt;
-      fills = λ id values set next l h. change id set next l tt;
-      removes_set = λ id. table-remove IsAny k.sets k.set_keys k.used_sets t id;
+      makes_set = λ count set h f. table-make P k.sets k.set_keys k.used_sets t n set (rule.new count set h);
+      binds_set = λ key count set h f. table-bind P k.sets k.set_keys k.used_sets t n key set (fresh-unused k.used_sets n f) (rule.new count set h);
+      operates = λ id steps set next l h. change id set next l (rule.operated set pid steps next (t.each id set l) h);
+      sets_one = λ id num value set next l h. change id set next l (rule.one_set set num value next (t.each id set l) h);
+      fills = λ id values set next l h. change id set next l (rule.filled set values next (t.each id set l) h);
+      removes_set = λ id. table-remove P k.sets k.set_keys k.used_sets t id;
     }
 
+within-rule : SetRule IsSetWithinLimits
+within-rule =
+    record {
+      new = λ count set h. made-within count set (is_bad_count count) refl h;
+      operated = operated-within;
+      one_set = λ set num value next w h. valued-at set num value (slice_get set num) next w h;
+      filled = λ set values next w h.
+          filled-test set values next w (nat_eq (length values) (length set)) (list_any (nat_lt 32767) values) refl h;
+    }
+
+abbrev pub Sets : Kernel → Type 0
+Sets k = SetTable IsSetWithinLimits k
+
+pub sets-opening : Sets opening
+sets-opening = table-empty IsSetWithinLimits
+
 pub sets-kept : Kept Sets
-sets-kept = record { moves = λ k pid call n next outcome s t. sets-moves k pid s.alive n t; finishes = λ pid k a t l d. t }
+sets-kept =
+    record { moves = λ k pid call n next outcome s t. sets-moves IsSetWithinLimits within-rule k pid s.alive n t; finishes = λ pid k a t l d. t }
+
+pub sets_are_within_limits_lemma : SetsAreWithinLimits
+sets_are_within_limits_lemma k r id set l = (kept-along Sets sets-kept r.0 opening k r.1 sets-opening).each id set l

@@ -1,7 +1,7 @@
 -- A process's signals stay sound.
-use Rattle.std.proofs.Common.{◌≡◌, ◌≢◌, ℕ, Bool, true, false, not, ◌&&◌, ◌||◌, List, [], ◌∷◌, Option, Some, None, Result, Ok, Err, refl, ap, sym, subst, ◌∙◌, inl, inr, nat_eq, ◌⊎◌}
+use Rattle.std.proofs.Common.{◌≡◌, Bool, true, false, not, ◌&&◌, List, [], ◌∷◌, Option, Some, None, refl, ap, sym, subst, ◌∙◌, inl, inr, nat_eq, ◌⊎◌}
 use Rattle.std.specs.Prelude.{if◌then◌else◌, is_some, fold}
-use Rattle.std.proofs.lemmas.Bool.{and_parts, cases_Bool, not-true}
+use Rattle.std.proofs.lemmas.Bool.{and_parts, not-true}
 use Rattle.pico_base.specs.declared.signal.PerSignal.{PerSignal}
 use Rattle.pico_base.specs.declared.signal.Sig.{Sig}
 use Rattle.pico_base.specs.declared.signal.Sig.TheVariants.{Hup, Int, Quit, Kill, Usr1, Usr2, Pipe, Alrm, Term, Chld}
@@ -9,7 +9,7 @@ use Rattle.pico_base.specs.declared.signal.Act.{Act}
 use Rattle.pico_base.specs.declared.signal.Act.TheVariants.{Dfl, Ign, Catch}
 use Rattle.pico_base.specs.declared.signal.How.{How}
 use Rattle.pico_base.specs.Signal.{at, put, everywhere}
-use Rattle.kernel_model.specs.Signals.{Signals, IsSound, new_signals, inherited, all_signals, is_kill, discards, doomed_by, counted, arrive_by, arrive, raise, with_action, mask_by, new_mask, deliver, with_mask, number_of}
+use Rattle.kernel_model.specs.Signals.{Signals, IsSound, new_signals, inherited, all_signals, is_kill, discards, doomed_by, arrive_by, arrive, raise, with_action, new_mask, deliver, with_mask, number_of}
 use Rattle.kernel_laws.proofs.Plain.{by_test, not_true}
 
 -- the value of a signal after another is put: the new one there, and the old one elsewhere

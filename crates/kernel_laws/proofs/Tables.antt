@@ -1,13 +1,13 @@
 -- A table of queues or sets: the things by number, the keys that lead to them, and the numbers used so far.
-use Rattle.std.proofs.Common.{◌≡◌, ◌≢◌, ℕ, Bool, true, false, not, ◌&&◌, List, [], Option, Some, None, refl, ap, sym, subst, ◌∙◌, inl, inr}
+use Rattle.std.proofs.Common.{◌≡◌, ◌≢◌, ℕ, true, false, not, List, [], Some, ap, sym, subst, ◌∙◌, inl, inr}
 use Rattle.std.specs.Prelude.{is_some, nat_lt}
 use Rattle.std.proofs.lemmas.Bool.{cases_eq, and_parts, not-true}
 use Rattle.kernel_model.specs.Maps.{Numbered, get, put, without, is_used, used_with}
 use Rattle.kernel_model.specs.Effect.{is_fresh}
 use Rattle.kernel_model.specs.QueueCalls.{unbound}
 use Rattle.kernel_model.specs.Valid.{AreKeys}
-use Rattle.kernel_laws.proofs.Plain.{from_some, not_some, not_true, not_false}
-use Rattle.kernel_laws.proofs.MapLaws.{get-put-same, get-put-other, get-without-same, get-without-other, used-with-same, used-with-other, used-stays, Rising, rising-put, rising-filter, get-unbound, ordered}
+use Rattle.kernel_laws.proofs.Plain.{from_some, not_some, not_true}
+use Rattle.kernel_laws.proofs.MapLaws.{get-put-same, get-put-other, get-without-same, get-without-other, used-with-same, used-stays, Rising, rising-put, rising-filter, get-unbound, ordered}
 
 -- with what holds of each thing
 pub record Table {V : Type 0} (P : V → Type 0) (things : Numbered V) (keys : Numbered ℕ) (used : List ℕ) : Type 0 where

@@ -1,49 +1,50 @@
 -- Each reachable kernel is valid.
-use Rattle.std.proofs.Common.{◌≡◌, ◌≢◌, ℕ, Bool, true, false, List, [], ◌∷◌, Option, Some, None, refl, ap, sym, subst, ◌∙◌, inl, inr}
-use Rattle.std.specs.Prelude.{is_some, Contains, IsTrue}
+use Rattle.std.proofs.Common.{List, ◌≡◌, ℕ, true, [], ◌∷◌, Option, Some, None, refl, ap, sym, subst, ◌∙◌, inl, inr}
+use Rattle.std.specs.Prelude.{is_some, Contains}
 use Rattle.std.proofs.lemmas.Bool.{cases_eq, false_from_ne_true}
 use Rattle.pico_base.specs.declared.reply.Ending.{Ending}
 use Rattle.kernel_model.specs.Maps.{Numbered, get, is_used}
 use Rattle.kernel_model.specs.Row.{Alive, Free, new_row, lists}
-use Rattle.kernel_model.specs.Kernel.{Kernel, Process, Living, Ended, Gone, Parent, parent_in, living_at, opening}
-use Rattle.kernel_model.specs.Valid.{IsAlive, IsValid, ListsEnded}
+use Rattle.kernel_model.specs.Kernel.{Kernel, Process, Living, Ended, Parent, parent_in, living_at, opening}
+use Rattle.kernel_model.specs.Valid.{IsAlive, IsValid}
+use Rattle.kernel_model.specs.Queue.{Queue}
+use Rattle.kernel_model.specs.SemaphoreSet.{Semaphore}
 use Rattle.kernel_laws.specs.Reachable.{IsReachable}
-use Rattle.kernel_laws.specs.Processes.{ReachableKernelsAreValid, SignalsAreSound, HasOneParent, ChildrenHaveOneParent}
+use Rattle.kernel_laws.specs.Processes.{ReachableKernelsAreValid, SignalsAreSound, ChildrenHaveOneParent}
 use Rattle.kernel_laws.proofs.Plain.{from_some, not_some, not_true}
 use Rattle.kernel_laws.proofs.MapLaws.{get-first, get-later, used-first, used-later, ordered}
 use Rattle.kernel_laws.proofs.Members.{contains-none}
 use Rattle.kernel_laws.proofs.SignalLaws.{sound-new}
-use Rattle.kernel_laws.proofs.Families.{Lists, Keeps, Lives, Families, living-ended, same-alive, at-once}
+use Rattle.kernel_laws.proofs.Families.{Lists, Keeps, Families, living-ended, same-alive, at-once}
 use Rattle.kernel_laws.proofs.EndChanges.{parent-is, orphan}
 use Rattle.kernel_laws.proofs.Living.{Strong}
-use Rattle.kernel_laws.proofs.People.{Body, People, from-living, to-living}
+use Rattle.kernel_laws.proofs.People.{People, from-living, to-living}
 use Rattle.kernel_laws.proofs.ProcessLaws.{IsStrong, Settled, Midway, people-kept}
 use Rattle.kernel_laws.proofs.Histories.{kept-along, kept-by-along}
-use Rattle.kernel_laws.proofs.Tables.{Table, table-keys}
+use Rattle.kernel_laws.proofs.Tables.{table-keys}
 use Rattle.kernel_laws.specs.Queues.{IsWithinLimits}
-use Rattle.kernel_laws.proofs.QueueLaws.{Queues, queues-kept, queues-opening}
-use Rattle.kernel_laws.proofs.SetLaws.{IsAny, Sets, sets-kept, sets-opening}
+use Rattle.kernel_laws.specs.Sets.{IsSetWithinLimits}
+use Rattle.kernel_laws.proofs.QueueLaws.{QueueTable, Queues, queues-kept, queues-opening}
+use Rattle.kernel_laws.proofs.SetLaws.{SetTable, Sets, sets-kept, sets-opening}
 
 -- the opening kernel
-first : Alive
+abbrev pub first : Alive
 first = record { row = new_row; allowance = Free }
 
-start : Numbered Process
+abbrev pub start : Numbered Process
 start = (1, Living first) ∷ []
 
 first-alone : (p : ℕ) (x : Process) → get start p ≡ Some x → (p ≡ 1) × (Living first ≡ x)
-unfolding start
 first-alone p x h =
     elim (cases_eq p 1) [
       | inl same ↦ (same, from_some (Living first) x (sym (get-first (1, Living first) [] p same) ∙ h))
       | inr ne ↦ not_some x (sym (get-later (1, Living first) [] p ne) ∙ h)
     ]
 
-first-living : (p : ℕ) (x : Alive) → get start p ≡ Some (Living x) → first ≡ x
+pub first-living : (p : ℕ) (x : Alive) → get start p ≡ Some (Living x) → first ≡ x
 first-living p x h = same-alive first x (first-alone p (Living x) h).1
 
 first-used : (n : ℕ) → is_used (1 ∷ []) n ≡ is_some (get start n)
-unfolding start
 first-used n =
     elim (cases_eq n 1) [
       | inl same ↦ used-first 1 [] n same ∙ sym (ap is_some (get-first (1, Living first) [] n same))
@@ -51,15 +52,12 @@ first-used n =
     ]
 
 first-strong : Strong first
-unfolding first
 first-strong = record { sound = sound-new; free = λ d. refl; undoomed = λ e. refl }
 
 nobody-listed : (p c : ℕ) → Lists (get start) p c → ⊥
-unfolding first
 nobody-listed p c h = not_true {B = ⊥} (subst (λ (x : Alive). lists x.row.family c ≡ true) (sym (first-living p h.alive h.there)) h.listed)
 
 nobody-kept : (p c : ℕ) (e : Ending) → Keeps (get start) p c e → ⊥
-unfolding first
 nobody-kept p c e h = contains-none (c, e) (subst (λ (x : Alive). Contains x.row.family.ended (c, e)) (sym (first-living p h.alive h.there)) h.kept)
 
 first-families : Families (get start)
@@ -74,15 +72,13 @@ first-families =
     }
 
 first-settled : People IsStrong start (1 ∷ [])
-unfolding start
 first-settled =
     record {
       body = record { rise = (tt, tt); used_is = first-used; each = λ p x l. subst Strong (first-living p x l) first-strong };
       families = first-families;
     }
 
-settled-opening : Settled opening
-unfolding start first
+pub settled-opening : Settled opening
 settled-opening = first-settled
 
 -- what a legal history leads to
@@ -102,8 +98,8 @@ alive-valid k h pid a l =
       ended = λ child ending c. h.families.ended pid child ending (record { alive = a; there = there; kept = c });
     }
 
-valid-from : (k : Kernel) → Settled k → Queues k → Sets k → IsValid k
-valid-from k h q s =
+pub valid-from : (P : Queue → Type 0) (R : List Semaphore → Type 0) (k : Kernel) → Settled k → QueueTable P k → SetTable R k → IsValid k
+valid-from P R k h q s =
     record {
       processes = ordered k.processes h.body.rise;
       queues = ordered k.queues q.things_rise;
@@ -111,8 +107,8 @@ valid-from k h q s =
       used_processes = h.body.used_is;
       used_queues = q.used_at;
       used_sets = s.used_at;
-      queue_keys = table-keys IsWithinLimits k.queues k.queue_keys k.used_queues q;
-      set_keys = table-keys IsAny k.sets k.set_keys k.used_sets s;
+      queue_keys = table-keys P k.queues k.queue_keys k.used_queues q;
+      set_keys = table-keys R k.sets k.set_keys k.used_sets s;
       alive = alive-valid k h;
       one_parent = λ p q a b child l m x y.
           h.families.one_parent p q child
@@ -129,7 +125,7 @@ valid-from k h q s =
 
 pub reachable_kernels_are_valid_lemma : ReachableKernelsAreValid
 reachable_kernels_are_valid_lemma k r =
-    valid-from k (settled k r) (kept-along Queues queues-kept r.0 opening k r.1 queues-opening) (kept-along Sets sets-kept r.0 opening k r.1 sets-opening)
+    valid-from IsWithinLimits IsSetWithinLimits k (settled k r) (kept-along Queues queues-kept r.0 opening k r.1 queues-opening) (kept-along Sets sets-kept r.0 opening k r.1 sets-opening)
 
 pub signals_are_sound_lemma : SignalsAreSound
 signals_are_sound_lemma k r pid a l = ((reachable_kernels_are_valid_lemma k r).alive pid a l).signals

@@ -1,9 +1,14 @@
 -- A number that was given out is never given out again.
 use Rattle.std.specs.Prelude.{◌≡◌, ℕ, List, Some, None, IsTrue, IsSome}
+use Rattle.pico_base.specs.declared.call.Call.TheVariants.{MsgRmid, SemRmid}
 use Rattle.pico_base.specs.declared.reply.Entry.{Entry}
+use Rattle.pico_base.specs.declared.reply.Outcome.{Outcome}
+use Rattle.pico_base.specs.declared.reply.Reply.TheVariants.{Num}
 use Rattle.kernel_model.specs.Maps.{get, is_used}
 use Rattle.kernel_model.specs.Kernel.{Kernel, opening}
+use Rattle.kernel_model.specs.Transition.{transition}
 use Rattle.kernel_model.specs.History.{Replays}
+use Rattle.kernel_laws.specs.Reachable.{IsReachable}
 
 -- the used numbers of each kind stay used
 pub record StaysUsed (k last : Kernel) (n : ℕ) : Type 0 where
@@ -34,3 +39,16 @@ abbrev pub RemovedSetsStayRemoved : Type 0
 RemovedSetsStayRemoved =
     (first second third : Kernel) → Passes first second third → (id : ℕ)
     → IsSome (get first.sets id) → get second.sets id ≡ None → get third.sets id ≡ None
+
+-- a queue that an entry removes is nowhere in what follows
+abbrev pub QueueRemovalsLast : Type 0
+QueueRemovalsLast =
+    (k next last : Kernel) (pid id n : ℕ) (outcome : Outcome) (entries : List Entry) → IsReachable k
+    → transition k pid (MsgRmid id) n ≡ Some (next, outcome) → outcome.own ≡ Some (Num 0) → Replays next entries last
+    → get last.queues id ≡ None
+
+abbrev pub SetRemovalsLast : Type 0
+SetRemovalsLast =
+    (k next last : Kernel) (pid id n : ℕ) (outcome : Outcome) (entries : List Entry) → IsReachable k
+    → transition k pid (SemRmid id) n ≡ Some (next, outcome) → outcome.own ≡ Some (Num 0) → Replays next entries last
+    → get last.sets id ≡ None

@@ -1,8 +1,11 @@
 -- What holds of the processes of each kernel that a legal history leads to.
 use Rattle.std.specs.Prelude.{◌≡◌, ℕ, true, false, Some}
+use Rattle.pico_base.specs.declared.call.Call.{Call}
+use Rattle.pico_base.specs.declared.reply.Outcome.{Outcome}
 use Rattle.kernel_model.specs.Signals.{IsSound}
 use Rattle.kernel_model.specs.Row.{Alive, lists}
 use Rattle.kernel_model.specs.Kernel.{Kernel, Parent, living_at, parent_in}
+use Rattle.kernel_model.specs.Transition.{transition}
 use Rattle.kernel_model.specs.Valid.{IsValid}
 use Rattle.kernel_laws.specs.Reachable.{IsReachable}
 
@@ -22,3 +25,13 @@ pub record HasOneParent (k : Kernel) (child : ℕ) : Type 0 where
 
 abbrev pub ChildrenHaveOneParent : Type 0
 ChildrenHaveOneParent = (k : Kernel) → IsReachable k → (child : ℕ) → HasOneParent k child
+
+-- no living process lists itself as a child
+abbrev pub NoneListsItself : Kernel → Type 0
+NoneListsItself k = (pid : ℕ) (a : Alive) → living_at k pid ≡ Some a → lists a.row.family pid ≡ false
+
+-- each entry keeps a kernel valid, whether a history leads to it or not
+abbrev pub EntriesKeepValidity : Type 0
+EntriesKeepValidity =
+    (k next : Kernel) (pid : ℕ) (call : Call) (n : ℕ) (outcome : Outcome) → IsValid k → NoneListsItself k
+    → transition k pid call n ≡ Some (next, outcome) → IsValid next × NoneListsItself next
