@@ -199,298 +199,270 @@ fn play(rt: &impl Abort, alloc: Global, rows: &[Row]) -> Result<Kernel, Fail> {
 
 const QUEUE: Row = (1, Do::MsgGet(None, false, false), 1, Say::Num(1));
 
+const USR1: SigArg = SigArg::Is(Sig::Usr1);
+
+const ANY: Do = Do::Wait(None);
+
+static LOWEST_TYPE: [Row; 7] = [
+    QUEUE,
+    (1, Do::Send(5, b"e"), 0, Say::Num(0)),
+    (1, Do::Send(4, b"d"), 0, Say::Num(0)),
+    (1, Do::Send(3, b"a"), 0, Say::Num(0)),
+    (1, Do::Send(3, b"b"), 0, Say::Num(0)),
+    (1, Do::Receive(-4, 16, false), 0, Say::Text(3, b"a")),
+    (1, Do::Receive(0, 16, false), 0, Say::Text(5, b"e")),
+];
+
+static FULL_QUEUE: [Row; 7] = [
+    QUEUE,
+    (1, Do::SetBytes(4096), 0, Say::Num(0)),
+    (1, Do::SendLong(4097), 0, Say::Fail(Errno::Einval)),
+    (1, Do::SendLong(4096), 0, Say::Num(0)),
+    (1, Do::Send(1, b""), 0, Say::Num(0)),
+    (1, Do::Send(1, b"b"), 0, Say::Fail(Errno::Eagain)),
+    (1, Do::Stat, 0, Say::Stat(2, 4096, 1, 0)),
+];
+
+static CUT_TEXT: [Row; 5] = [
+    QUEUE,
+    (1, Do::Send(1, b"abc"), 0, Say::Num(0)),
+    (1, Do::Receive(0, 2, false), 0, Say::Fail(Errno::E2big)),
+    (1, Do::Receive(0, 2, true), 0, Say::Text(1, b"ab")),
+    (1, Do::Receive(0, 2, false), 0, Say::Fail(Errno::Enomsg)),
+];
+
+static OWNER_EXITS: [Row; 7] = [
+    (1, Do::Fork, 2, Say::Num(2)),
+    (2, Do::MsgGet(None, false, false), 1, Say::Num(1)),
+    (2, Do::Fork, 9, Say::Num(9)),
+    (9, Do::Send(1, b"x"), 0, Say::Num(0)),
+    (2, Do::Exit(0), 0, Say::Ended),
+    (9, Do::Exit(0), 0, Say::Ended),
+    (1, Do::Exit(0), 0, Say::Ended),
+];
+
+static FREED_KEY: [Row; 10] = [
+    (1, Do::MsgGet(Some(7), true, false), 1, Say::Num(1)),
+    (1, Do::Send(1, b"x"), 0, Say::Num(0)),
+    (1, Do::Fork, 2, Say::Num(2)),
+    (1, Do::Fork, 3, Say::Num(3)),
+    (2, Do::Receive(0, 8, false), 0, Say::Text(1, b"x")),
+    (3, Do::Send(1, b"y"), 0, Say::Num(0)),
+    (3, Do::MsgRmid, 0, Say::Num(0)),
+    (3, Do::MsgGet(Some(7), true, false), 1, Say::Nothing),
+    (3, Do::MsgGet(Some(7), true, false), 2, Say::Num(2)),
+    (1, Do::Stat, 0, Say::Fail(Errno::Einval)),
+];
+
+static CHILD_RECEIVES: [Row; 6] = [
+    QUEUE,
+    (1, Do::Fork, 2, Say::Num(2)),
+    (1, Do::Send(1, b"hi"), 0, Say::Num(0)),
+    (2, Do::Receive(0, 8, false), 0, Say::Text(1, b"hi")),
+    (1, Do::Exit(0), 0, Say::Ended),
+    (2, Do::Exit(0), 0, Say::Ended),
+];
+
+static HELD_SIGNAL: [Row; 11] = [
+    (1, Do::GetPid, 0, Say::Num(1)),
+    (1, Do::Act(USR1, Act::Catch), 0, Say::Num(0)),
+    (1, Do::Mask(How::Block, &[Sig::Usr1]), 0, Say::Bits(&[])),
+    (1, Do::Kill(1, USR1), 0, Say::Num(0)),
+    (1, Do::Kill(1, USR1), 0, Say::Num(0)),
+    (1, Do::Pending, 0, Say::Bits(&[Sig::Usr1])),
+    (1, Do::Act(USR1, Act::Ign), 0, Say::Num(0)),
+    (1, Do::Pending, 0, Say::Bits(&[])),
+    (
+        1,
+        Do::Mask(How::Unblock, &[Sig::Usr1]),
+        0,
+        Say::Bits(&[Sig::Usr1]),
+    ),
+    (1, Do::Handled(Sig::Usr1), 0, Say::Num(0)),
+    (
+        1,
+        Do::Act(SigArg::Is(Sig::Kill), Act::Ign),
+        0,
+        Say::Fail(Errno::Einval),
+    ),
+];
+
+static INHERITED_MASK: [Row; 5] = [
+    (
+        1,
+        Do::Mask(How::SetMask, &[Sig::Usr1, Sig::Kill]),
+        0,
+        Say::Bits(&[]),
+    ),
+    (1, Do::Kill(1, USR1), 0, Say::Num(0)),
+    (1, Do::Fork, 2, Say::Num(2)),
+    (2, Do::Pending, 0, Say::Bits(&[])),
+    (2, Do::Mask(How::Block, &[]), 0, Say::Bits(&[Sig::Usr1])),
+];
+
+static OWN_DOOM: [Row; 5] = [
+    (1, Do::Kill(1, SigArg::Is(Sig::Term)), 0, Say::Num(0)),
+    (1, Do::GetPid, 0, Say::Nothing),
+    (1, Do::Killed(Sig::Kill), 0, Say::Nothing),
+    (1, Do::Killed(Sig::Term), 0, Say::Ended),
+    (1, Do::GetPid, 0, Say::Nothing),
+];
+
+static WAITED_CHILD: [Row; 11] = [
+    (1, ANY, 0, Say::Fail(Errno::Echild)),
+    (1, Do::WaitForEver, 0, Say::Nothing),
+    (1, Do::Fork, 1, Say::Nothing),
+    (1, Do::Fork, 2, Say::Num(2)),
+    (1, Do::Wait(Some(2)), 0, Say::Num(0)),
+    (2, Do::Exit(300), 0, Say::Ended),
+    (1, Do::Kill(2, SigArg::Zero), 0, Say::Num(0)),
+    (1, Do::Wait(Some(2)), 0, Say::Child(2, Ending::Exited(44))),
+    (1, Do::Kill(2, SigArg::Zero), 0, Say::Fail(Errno::Esrch)),
+    (1, Do::Kill(8, SigArg::Zero), 0, Say::Fail(Errno::Esrch)),
+    (1, Do::Kill(2, SigArg::Bad), 0, Say::Fail(Errno::Einval)),
+];
+
+static IGNORED_CHILD: [Row; 5] = [
+    (1, Do::Act(SigArg::Is(Sig::Chld), Act::Ign), 0, Say::Num(0)),
+    (1, Do::Fork, 2, Say::Num(2)),
+    (1, ANY, 0, Say::Num(0)),
+    (2, Do::Exit(300), 0, Say::Ended),
+    (1, ANY, 0, Say::Fail(Errno::Echild)),
+];
+
+static ORPHAN: [Row; 10] = [
+    (1, Do::Fork, 2, Say::Num(2)),
+    (2, Do::Fork, 9, Say::Num(9)),
+    (2, Do::Fork, 10, Say::Num(10)),
+    (10, Do::Exit(0), 0, Say::Ended),
+    (1, Do::Kill(10, SigArg::Zero), 0, Say::Num(0)),
+    (2, Do::Exit(0), 0, Say::Ended),
+    (1, Do::Kill(10, SigArg::Zero), 0, Say::Fail(Errno::Esrch)),
+    (9, Do::Exit(0), 0, Say::Ended),
+    (1, Do::Kill(9, SigArg::Zero), 0, Say::Fail(Errno::Esrch)),
+    (1, ANY, 0, Say::Child(2, Ending::Exited(0))),
+];
+
+static STOPPED_OPERATIONS: [Row; 18] = [
+    (1, Do::SemGet(None, 2, false, false), 1, Say::Num(1)),
+    (1, Do::SetVal(0, 1), 0, Say::Num(0)),
+    (
+        1,
+        Do::Op(&[(0, -1, true), (1, -1, true)]),
+        0,
+        Say::Fail(Errno::Eagain),
+    ),
+    (1, Do::GetAll, 0, Say::All(&[1, 0])),
+    (1, Do::SetVal(0, 32767), 0, Say::Num(0)),
+    (1, Do::Op(&[(0, 1, false)]), 0, Say::Fail(Errno::Erange)),
+    (1, Do::Op(&[(2, 1, false)]), 0, Say::Fail(Errno::Efbig)),
+    (1, Do::GetAll, 0, Say::All(&[32767, 0])),
+    (1, Do::Op(&[(0, -1, false)]), 0, Say::Nothing),
+    (1, Do::Fork, 2, Say::Num(2)),
+    (2, Do::Op(&[(0, -7, true), (1, 0, true)]), 0, Say::Num(0)),
+    (1, Do::GetPidOf(1), 0, Say::Num(2)),
+    (1, Do::SetAll(&[5, 5]), 0, Say::Num(0)),
+    (2, Do::Exit(0), 0, Say::Ended),
+    (1, Do::GetVal(1), 0, Say::Num(5)),
+    (1, Do::GetVal(2), 0, Say::Fail(Errno::Einval)),
+    (1, Do::SemRmid, 0, Say::Num(0)),
+    (1, Do::SemRmid, 0, Say::Fail(Errno::Einval)),
+];
+
+static TWO_TABLES: [Row; 9] = [
+    (
+        1,
+        Do::MsgGet(Some(5), false, false),
+        0,
+        Say::Fail(Errno::Enoent),
+    ),
+    (1, Do::MsgGet(Some(5), true, false), 1, Say::Num(1)),
+    (
+        1,
+        Do::MsgGet(Some(5), true, true),
+        0,
+        Say::Fail(Errno::Eexist),
+    ),
+    (1, Do::MsgGet(Some(5), false, false), 0, Say::Num(1)),
+    (
+        1,
+        Do::SemGet(Some(5), 0, true, false),
+        0,
+        Say::Fail(Errno::Einval),
+    ),
+    (1, Do::SemGet(Some(5), 3, true, false), 1, Say::Num(1)),
+    (
+        1,
+        Do::SemGet(Some(5), 4, false, false),
+        0,
+        Say::Fail(Errno::Einval),
+    ),
+    (1, Do::SemGet(Some(5), 0, false, false), 0, Say::Num(1)),
+    (1, Do::Exit(0), 0, Say::Ended),
+];
+
+static MANY_STANDINGS: [Row; 11] = [
+    (1, Do::Fork, 2, Say::Num(2)),
+    (1, Do::Fork, 3, Say::Num(3)),
+    (1, Do::Fork, 4, Say::Num(4)),
+    (1, Do::Fork, 5, Say::Num(5)),
+    (2, Do::Exit(0), 0, Say::Ended),
+    (1, Do::Wait(Some(2)), 0, Say::Child(2, Ending::Exited(0))),
+    (3, Do::Exit(0), 0, Say::Ended),
+    (1, Do::Kill(4, SigArg::Is(Sig::Term)), 0, Say::Num(0)),
+    (1, Do::Kill(5, SigArg::Is(Sig::Hup)), 0, Say::Num(0)),
+    (5, Do::GetPid, 0, Say::Num(5)),
+    (5, Do::GetPid, 0, Say::Nothing),
+];
+
 #[test]
 fn queues(rt: HostRuntime) -> Result<(), Fail> {
     let alloc = rt.alloc();
-    play(
-        &rt,
-        alloc,
-        &[
-            QUEUE,
-            (1, Do::Send(5, b"e"), 0, Say::Num(0)),
-            (1, Do::Send(4, b"d"), 0, Say::Num(0)),
-            (1, Do::Send(3, b"a"), 0, Say::Num(0)),
-            (1, Do::Send(3, b"b"), 0, Say::Num(0)),
-            (1, Do::Receive(-4, 16, false), 0, Say::Text(3, b"a")),
-            (1, Do::Receive(0, 16, false), 0, Say::Text(5, b"e")),
-        ],
-    )?;
-    play(
-        &rt,
-        alloc,
-        &[
-            QUEUE,
-            (1, Do::SetBytes(4096), 0, Say::Num(0)),
-            (1, Do::SendLong(4097), 0, Say::Fail(Errno::Einval)),
-            (1, Do::SendLong(4096), 0, Say::Num(0)),
-            (1, Do::Send(1, b""), 0, Say::Num(0)),
-            (1, Do::Send(1, b"b"), 0, Say::Fail(Errno::Eagain)),
-            (1, Do::Stat, 0, Say::Stat(2, 4096, 1, 0)),
-        ],
-    )?;
-    play(
-        &rt,
-        alloc,
-        &[
-            QUEUE,
-            (1, Do::Send(1, b"abc"), 0, Say::Num(0)),
-            (1, Do::Receive(0, 2, false), 0, Say::Fail(Errno::E2big)),
-            (1, Do::Receive(0, 2, true), 0, Say::Text(1, b"ab")),
-            (1, Do::Receive(0, 2, false), 0, Say::Fail(Errno::Enomsg)),
-        ],
-    )?;
+    play(&rt, alloc, &LOWEST_TYPE)?;
+    play(&rt, alloc, &FULL_QUEUE)?;
+    play(&rt, alloc, &CUT_TEXT)?;
     Ok(())
 }
 
 #[test]
 fn queues_of_several(rt: HostRuntime) -> Result<(), Fail> {
     let alloc = rt.alloc();
-    play(
-        &rt,
-        alloc,
-        &[
-            (1, Do::Fork, 2, Say::Num(2)),
-            (2, Do::MsgGet(None, false, false), 1, Say::Num(1)),
-            (2, Do::Fork, 9, Say::Num(9)),
-            (9, Do::Send(1, b"x"), 0, Say::Num(0)),
-            (2, Do::Exit(0), 0, Say::Ended),
-            (9, Do::Exit(0), 0, Say::Ended),
-            (1, Do::Exit(0), 0, Say::Ended),
-        ],
-    )?;
-    play(
-        &rt,
-        alloc,
-        &[
-            (1, Do::MsgGet(Some(7), true, false), 1, Say::Num(1)),
-            (1, Do::Send(1, b"x"), 0, Say::Num(0)),
-            (1, Do::Fork, 2, Say::Num(2)),
-            (1, Do::Fork, 3, Say::Num(3)),
-            (2, Do::Receive(0, 8, false), 0, Say::Text(1, b"x")),
-            (3, Do::Send(1, b"y"), 0, Say::Num(0)),
-            (3, Do::MsgRmid, 0, Say::Num(0)),
-            (3, Do::MsgGet(Some(7), true, false), 1, Say::Nothing),
-            (3, Do::MsgGet(Some(7), true, false), 2, Say::Num(2)),
-            (1, Do::Stat, 0, Say::Fail(Errno::Einval)),
-        ],
-    )?;
-    play(
-        &rt,
-        alloc,
-        &[
-            QUEUE,
-            (1, Do::Fork, 2, Say::Num(2)),
-            (1, Do::Send(1, b"hi"), 0, Say::Num(0)),
-            (2, Do::Receive(0, 8, false), 0, Say::Text(1, b"hi")),
-            (1, Do::Exit(0), 0, Say::Ended),
-            (2, Do::Exit(0), 0, Say::Ended),
-        ],
-    )?;
+    play(&rt, alloc, &OWNER_EXITS)?;
+    play(&rt, alloc, &FREED_KEY)?;
+    play(&rt, alloc, &CHILD_RECEIVES)?;
     Ok(())
 }
 
 #[test]
 fn signals(rt: HostRuntime) -> Result<(), Fail> {
     let alloc = rt.alloc();
-    let usr1 = SigArg::Is(Sig::Usr1);
-    play(
-        &rt,
-        alloc,
-        &[
-            (1, Do::GetPid, 0, Say::Num(1)),
-            (1, Do::Act(usr1, Act::Catch), 0, Say::Num(0)),
-            (1, Do::Mask(How::Block, &[Sig::Usr1]), 0, Say::Bits(&[])),
-            (1, Do::Kill(1, usr1), 0, Say::Num(0)),
-            (1, Do::Kill(1, usr1), 0, Say::Num(0)),
-            (1, Do::Pending, 0, Say::Bits(&[Sig::Usr1])),
-            (1, Do::Act(usr1, Act::Ign), 0, Say::Num(0)),
-            (1, Do::Pending, 0, Say::Bits(&[])),
-            (
-                1,
-                Do::Mask(How::Unblock, &[Sig::Usr1]),
-                0,
-                Say::Bits(&[Sig::Usr1]),
-            ),
-            (1, Do::Handled(Sig::Usr1), 0, Say::Num(0)),
-            (
-                1,
-                Do::Act(SigArg::Is(Sig::Kill), Act::Ign),
-                0,
-                Say::Fail(Errno::Einval),
-            ),
-        ],
-    )?;
-    play(
-        &rt,
-        alloc,
-        &[
-            (
-                1,
-                Do::Mask(How::SetMask, &[Sig::Usr1, Sig::Kill]),
-                0,
-                Say::Bits(&[]),
-            ),
-            (1, Do::Kill(1, usr1), 0, Say::Num(0)),
-            (1, Do::Fork, 2, Say::Num(2)),
-            (2, Do::Pending, 0, Say::Bits(&[])),
-            (2, Do::Mask(How::Block, &[]), 0, Say::Bits(&[Sig::Usr1])),
-        ],
-    )?;
-    play(
-        &rt,
-        alloc,
-        &[
-            (1, Do::Kill(1, SigArg::Is(Sig::Term)), 0, Say::Num(0)),
-            (1, Do::GetPid, 0, Say::Nothing),
-            (1, Do::Killed(Sig::Kill), 0, Say::Nothing),
-            (1, Do::Killed(Sig::Term), 0, Say::Ended),
-            (1, Do::GetPid, 0, Say::Nothing),
-        ],
-    )?;
+    play(&rt, alloc, &HELD_SIGNAL)?;
+    play(&rt, alloc, &INHERITED_MASK)?;
+    play(&rt, alloc, &OWN_DOOM)?;
     Ok(())
 }
 
 #[test]
 fn processes(rt: HostRuntime) -> Result<(), Fail> {
     let alloc = rt.alloc();
-    let any = Do::Wait(None);
-    play(
-        &rt,
-        alloc,
-        &[
-            (1, any, 0, Say::Fail(Errno::Echild)),
-            (1, Do::WaitForEver, 0, Say::Nothing),
-            (1, Do::Fork, 1, Say::Nothing),
-            (1, Do::Fork, 2, Say::Num(2)),
-            (1, Do::Wait(Some(2)), 0, Say::Num(0)),
-            (2, Do::Exit(300), 0, Say::Ended),
-            (1, Do::Kill(2, SigArg::Zero), 0, Say::Num(0)),
-            (1, Do::Wait(Some(2)), 0, Say::Child(2, Ending::Exited(44))),
-            (1, Do::Kill(2, SigArg::Zero), 0, Say::Fail(Errno::Esrch)),
-            (1, Do::Kill(8, SigArg::Zero), 0, Say::Fail(Errno::Esrch)),
-            (1, Do::Kill(2, SigArg::Bad), 0, Say::Fail(Errno::Einval)),
-        ],
-    )?;
-    play(
-        &rt,
-        alloc,
-        &[
-            (1, Do::Act(SigArg::Is(Sig::Chld), Act::Ign), 0, Say::Num(0)),
-            (1, Do::Fork, 2, Say::Num(2)),
-            (1, any, 0, Say::Num(0)),
-            (2, Do::Exit(300), 0, Say::Ended),
-            (1, any, 0, Say::Fail(Errno::Echild)),
-        ],
-    )?;
-    play(
-        &rt,
-        alloc,
-        &[
-            (1, Do::Fork, 2, Say::Num(2)),
-            (2, Do::Fork, 9, Say::Num(9)),
-            (2, Do::Fork, 10, Say::Num(10)),
-            (10, Do::Exit(0), 0, Say::Ended),
-            (1, Do::Kill(10, SigArg::Zero), 0, Say::Num(0)),
-            (2, Do::Exit(0), 0, Say::Ended),
-            (1, Do::Kill(10, SigArg::Zero), 0, Say::Fail(Errno::Esrch)),
-            (9, Do::Exit(0), 0, Say::Ended),
-            (1, Do::Kill(9, SigArg::Zero), 0, Say::Fail(Errno::Esrch)),
-            (1, any, 0, Say::Child(2, Ending::Exited(0))),
-        ],
-    )?;
+    play(&rt, alloc, &WAITED_CHILD)?;
+    play(&rt, alloc, &IGNORED_CHILD)?;
+    play(&rt, alloc, &ORPHAN)?;
     Ok(())
 }
 
 #[test]
 fn sets_and_keys(rt: HostRuntime) -> Result<(), Fail> {
     let alloc = rt.alloc();
-    play(
-        &rt,
-        alloc,
-        &[
-            (1, Do::SemGet(None, 2, false, false), 1, Say::Num(1)),
-            (1, Do::SetVal(0, 1), 0, Say::Num(0)),
-            (
-                1,
-                Do::Op(&[(0, -1, true), (1, -1, true)]),
-                0,
-                Say::Fail(Errno::Eagain),
-            ),
-            (1, Do::GetAll, 0, Say::All(&[1, 0])),
-            (1, Do::SetVal(0, 32767), 0, Say::Num(0)),
-            (1, Do::Op(&[(0, 1, false)]), 0, Say::Fail(Errno::Erange)),
-            (1, Do::Op(&[(2, 1, false)]), 0, Say::Fail(Errno::Efbig)),
-            (1, Do::GetAll, 0, Say::All(&[32767, 0])),
-            (1, Do::Op(&[(0, -1, false)]), 0, Say::Nothing),
-            (1, Do::Fork, 2, Say::Num(2)),
-            (2, Do::Op(&[(0, -7, true), (1, 0, true)]), 0, Say::Num(0)),
-            (1, Do::GetPidOf(1), 0, Say::Num(2)),
-            (1, Do::SetAll(&[5, 5]), 0, Say::Num(0)),
-            (2, Do::Exit(0), 0, Say::Ended),
-            (1, Do::GetVal(1), 0, Say::Num(5)),
-            (1, Do::GetVal(2), 0, Say::Fail(Errno::Einval)),
-            (1, Do::SemRmid, 0, Say::Num(0)),
-            (1, Do::SemRmid, 0, Say::Fail(Errno::Einval)),
-        ],
-    )?;
-    play(
-        &rt,
-        alloc,
-        &[
-            (
-                1,
-                Do::MsgGet(Some(5), false, false),
-                0,
-                Say::Fail(Errno::Enoent),
-            ),
-            (1, Do::MsgGet(Some(5), true, false), 1, Say::Num(1)),
-            (
-                1,
-                Do::MsgGet(Some(5), true, true),
-                0,
-                Say::Fail(Errno::Eexist),
-            ),
-            (1, Do::MsgGet(Some(5), false, false), 0, Say::Num(1)),
-            (
-                1,
-                Do::SemGet(Some(5), 0, true, false),
-                0,
-                Say::Fail(Errno::Einval),
-            ),
-            (1, Do::SemGet(Some(5), 3, true, false), 1, Say::Num(1)),
-            (
-                1,
-                Do::SemGet(Some(5), 4, false, false),
-                0,
-                Say::Fail(Errno::Einval),
-            ),
-            (1, Do::SemGet(Some(5), 0, false, false), 0, Say::Num(1)),
-            (1, Do::Exit(0), 0, Say::Ended),
-        ],
-    )?;
+    play(&rt, alloc, &STOPPED_OPERATIONS)?;
+    play(&rt, alloc, &TWO_TABLES)?;
     Ok(())
 }
 
 #[test]
 fn standings(rt: HostRuntime) -> Result<(), Fail> {
     let alloc = rt.alloc();
-    let kernel = play(
-        &rt,
-        alloc,
-        &[
-            (1, Do::Fork, 2, Say::Num(2)),
-            (1, Do::Fork, 3, Say::Num(3)),
-            (1, Do::Fork, 4, Say::Num(4)),
-            (1, Do::Fork, 5, Say::Num(5)),
-            (2, Do::Exit(0), 0, Say::Ended),
-            (1, Do::Wait(Some(2)), 0, Say::Child(2, Ending::Exited(0))),
-            (3, Do::Exit(0), 0, Say::Ended),
-            (1, Do::Kill(4, SigArg::Is(Sig::Term)), 0, Say::Num(0)),
-            (1, Do::Kill(5, SigArg::Is(Sig::Hup)), 0, Say::Num(0)),
-            (5, Do::GetPid, 0, Say::Num(5)),
-            (5, Do::GetPid, 0, Say::Nothing),
-        ],
-    )?;
+    let kernel = play(&rt, alloc, &MANY_STANDINGS)?;
     let wanted = [
         (1, Standing::Living),
         (2, Standing::Gone),
