@@ -17,3 +17,6 @@ mod standing;
 pub use fault::CallFault;
 pub use kernel::Kernel;
 pub use standing::Standing;
+
+#[cfg(test)]
+mod tests;
