@@ -254,6 +254,57 @@ static FREED_KEY: [Row; 10] = [
     (1, Do::Stat, 0, Say::Fail(Errno::Einval)),
 ];
 
+// Two children share a queue: one receives all, the other removes it and binds its key anew.
+static RECEIVED_THEN_REMOVED: [Row; 13] = [
+    (1, Do::MsgGet(Some(7), true, false), 1, Say::Num(1)),
+    (1, Do::Send(1, b"x"), 0, Say::Num(0)),
+    (1, Do::Send(1, b"x"), 0, Say::Num(0)),
+    (1, Do::Send(1, b"x"), 0, Say::Num(0)),
+    (1, Do::Send(1, b"x"), 0, Say::Num(0)),
+    (1, Do::Fork, 2, Say::Num(2)),
+    (1, Do::Fork, 3, Say::Num(3)),
+    (2, Do::Receive(0, 8, false), 0, Say::Text(1, b"x")),
+    (2, Do::Receive(0, 8, false), 0, Say::Text(1, b"x")),
+    (2, Do::Receive(0, 8, false), 0, Say::Text(1, b"x")),
+    (2, Do::Receive(0, 8, false), 0, Say::Text(1, b"x")),
+    (3, Do::MsgRmid, 0, Say::Num(0)),
+    (3, Do::MsgGet(Some(7), true, false), 2, Say::Num(2)),
+];
+
+// One child sends before and after the other has received four times.
+static SENT_BETWEEN: [Row; 13] = [
+    QUEUE,
+    (1, Do::Send(1, b"x"), 0, Say::Num(0)),
+    (1, Do::Send(1, b"x"), 0, Say::Num(0)),
+    (1, Do::Send(1, b"x"), 0, Say::Num(0)),
+    (1, Do::Send(1, b"x"), 0, Say::Num(0)),
+    (1, Do::Fork, 2, Say::Num(2)),
+    (1, Do::Fork, 3, Say::Num(3)),
+    (3, Do::Send(1, b"y"), 0, Say::Num(0)),
+    (2, Do::Receive(0, 8, false), 0, Say::Text(1, b"x")),
+    (2, Do::Receive(0, 8, false), 0, Say::Text(1, b"x")),
+    (2, Do::Receive(0, 8, false), 0, Say::Text(1, b"x")),
+    (2, Do::Receive(0, 8, false), 0, Say::Text(1, b"x")),
+    (3, Do::Send(1, b"y"), 0, Say::Num(0)),
+];
+
+// A grandchild is there; a number that was never given out isn't.
+static NEVER_USED: [Row; 4] = [
+    (1, Do::Fork, 2, Say::Num(2)),
+    (2, Do::Fork, 9, Say::Num(9)),
+    (1, Do::Kill(9, SigArg::Zero), 0, Say::Num(0)),
+    (1, Do::Kill(10, SigArg::Zero), 0, Say::Fail(Errno::Esrch)),
+];
+
+// A set outlives the process that made it.
+static SET_OUTLIVES: [Row; 5] = [
+    (1, Do::Fork, 2, Say::Num(2)),
+    (2, Do::SemGet(None, 2, false, false), 1, Say::Num(1)),
+    (2, Do::SetVal(1, 5), 0, Say::Num(0)),
+    (2, Do::Exit(0), 0, Say::Ended),
+    (1, Do::GetVal(1), 0, Say::Num(5)),
+];
+
 static CHILD_RECEIVES: [Row; 6] = [
     QUEUE,
     (1, Do::Fork, 2, Say::Num(2)),
@@ -430,6 +481,16 @@ fn queues_of_several(rt: HostRuntime) -> Result<(), Fail> {
     play(&rt, alloc, &OWNER_EXITS)?;
     play(&rt, alloc, &FREED_KEY)?;
     play(&rt, alloc, &CHILD_RECEIVES)?;
+    Ok(())
+}
+
+#[test]
+fn shared_by_children(rt: HostRuntime) -> Result<(), Fail> {
+    let alloc = rt.alloc();
+    play(&rt, alloc, &RECEIVED_THEN_REMOVED)?;
+    play(&rt, alloc, &SENT_BETWEEN)?;
+    play(&rt, alloc, &NEVER_USED)?;
+    play(&rt, alloc, &SET_OUTLIVES)?;
     Ok(())
 }
 
