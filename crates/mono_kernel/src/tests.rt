@@ -373,6 +373,17 @@ static WAITED_CHILD: [Row; 11] = [
     (1, Do::Kill(2, SigArg::Bad), 0, Say::Fail(Errno::Einval)),
 ];
 
+// Signal 0 finds an ended child until it is waited for.
+static ASKED_CHILD: [Row; 7] = [
+    (1, Do::Fork, 2, Say::Num(2)),
+    (2, Do::Exit(7), 0, Say::Ended),
+    (1, Do::Kill(2, SigArg::Zero), 0, Say::Num(0)),
+    (1, Do::Wait(Some(2)), 0, Say::Child(2, Ending::Exited(7))),
+    (1, Do::Kill(2, SigArg::Zero), 0, Say::Fail(Errno::Esrch)),
+    (1, Do::Kill(8, SigArg::Zero), 0, Say::Fail(Errno::Esrch)),
+    (1, Do::Kill(2, SigArg::Bad), 0, Say::Fail(Errno::Einval)),
+];
+
 static IGNORED_CHILD: [Row; 5] = [
     (1, Do::Act(SigArg::Is(Sig::Chld), Act::Ign), 0, Say::Num(0)),
     (1, Do::Fork, 2, Say::Num(2)),
@@ -506,6 +517,7 @@ fn signals(rt: HostRuntime) -> Result<(), Fail> {
 #[test]
 fn processes(rt: HostRuntime) -> Result<(), Fail> {
     let alloc = rt.alloc();
+    play(&rt, alloc, &ASKED_CHILD)?;
     play(&rt, alloc, &WAITED_CHILD)?;
     play(&rt, alloc, &IGNORED_CHILD)?;
     play(&rt, alloc, &ORPHAN)?;
