@@ -1,0 +1,12 @@
+pub mod Node
+pub mod Built
+pub mod Deeds
+pub mod Calls
+pub mod Frames
+pub mod World
+pub mod Run
+pub mod Schedule
+pub mod Owners
+pub mod Weights
+pub mod Laws
+pub mod Examples

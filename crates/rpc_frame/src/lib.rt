@@ -1,0 +1,9 @@
+//! The frames that picoprocesses send each other. They share no memory: what one of them knows of another, a frame
+//! told it.
+#![tactic(auto)]
+
+mod deed;
+mod frame;
+
+pub use deed::{PackedDeed, PackedDeeds, Parcel};
+pub use frame::Frame;
