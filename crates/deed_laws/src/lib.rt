@@ -14,3 +14,9 @@ pub fn own_calls_are_the_kernels()
 pub fn bad_sets_are_refused()
     ensures { BadSetsAreRefused }
 {}
+
+/// A call on a queue or a set that doesn't wait (msgsnd, msgrcv, msgctl with `IPC_STAT` and `IPC_SET`, semop, semctl
+/// but for `IPC_RMID`) is served by whoever holds the deeds: there is a reply.
+pub fn shared_calls_are_served()
+    ensures { SharedCallsAreServed }
+{}
