@@ -20,3 +20,10 @@ pub fn bad_sets_are_refused()
 pub fn shared_calls_are_served()
     ensures { SharedCallsAreServed }
 {}
+
+/// A call on a queue or a set that is served where its deed is held (msgsnd, msgrcv, msgctl with `IPC_STAT` and
+/// `IPC_SET`, semop, semctl but for `IPC_RMID`) has the kernel's reply and leaves the kernel's queues and sets, and no
+/// process changes.
+pub fn served_calls_are_the_kernels()
+    ensures { ServedCallsAreTheKernels }
+{}
