@@ -27,3 +27,20 @@ pub fn shared_calls_are_served()
 pub fn served_calls_are_the_kernels()
     ensures { ServedCallsAreTheKernels }
 {}
+
+/// msgget with `IPC_PRIVATE` by process 1 makes an empty queue of the leader's next number, as the kernel does.
+pub fn new_queues_are_the_kernels()
+    ensures { NewQueuesAreTheKernels }
+{}
+
+/// semget with `IPC_PRIVATE` by process 1, for a number of semaphores that a set may have, makes a set of the
+/// leader's next number, as the kernel does.
+pub fn new_sets_are_the_kernels()
+    ensures { NewSetsAreTheKernels }
+{}
+
+/// fork by process 1 makes a new process of the leader's next number, which process 1 lists as its child, as the
+/// kernel does.
+pub fn forks_are_the_kernels()
+    ensures { ForksAreTheKernels }
+{}
