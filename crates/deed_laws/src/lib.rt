@@ -44,3 +44,9 @@ pub fn new_sets_are_the_kernels()
 pub fn forks_are_the_kernels()
     ensures { ForksAreTheKernels }
 {}
+
+/// exit of process 1 buries the ended children that it keeps, and leaves no trace of the process itself, as in the
+/// kernel, where it has no parent.
+pub fn first_ends_as_in_the_kernel()
+    ensures { FirstEndsAsInTheKernel }
+{}
