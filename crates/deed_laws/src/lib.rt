@@ -45,8 +45,12 @@ pub fn forks_are_the_kernels()
     ensures { ForksAreTheKernels }
 {}
 
-/// exit of process 1 buries the ended children that it keeps, and leaves no trace of the process itself, as in the
-/// kernel, where it has no parent.
+/// exit of process 1: it is gone, and so are the ended children that it kept, as in the kernel, where it has no parent.
 pub fn first_ends_as_in_the_kernel()
     ensures { FirstEndsAsInTheKernel }
+{}
+
+/// exit of a child of process 1: process 1 keeps the ending if it lives, and else the child is gone, as in the kernel.
+pub fn children_end_as_in_the_kernel()
+    ensures { ChildrenEndAsInTheKernel }
 {}
