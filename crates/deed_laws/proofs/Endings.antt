@@ -12,18 +12,18 @@ use Rattle.kernel_model.specs.Signals.{Signals}
 use Rattle.kernel_model.specs.Row.{Alive, lists, ignores_children, with_ended_child}
 use Rattle.kernel_model.specs.Kernel.{Kernel, Process, Living, Ended, Gone, Parent, alive_in, living_at, living_in, parent_in}
 use Rattle.kernel_model.specs.Effect.{Effect}
-use Rattle.kernel_model.specs.ProcessCalls.{bury, buried, kept_as, ended_under}
+use Rattle.kernel_model.specs.ProcessCalls.{bury, kept_as, ended_under}
 use Rattle.kernel_model.specs.Valid.{IsValid}
 use Rattle.kernel_laws.specs.Reachable.{IsReachable}
-use Rattle.kernel_laws.proofs.Families.{living-ended, same-alive}
-use Rattle.kernel_laws.proofs.MapLaws.{get-put-same, get-put-other}
+use Rattle.kernel_laws.proofs.Families.{living-ended}
+use Rattle.kernel_laws.proofs.MapLaws.{get-put-other}
 use Rattle.kernel_laws.proofs.Members.{contains-first, contains-later}
 use Rattle.kernel_laws.proofs.People.{to-living}
 use Rattle.kernel_laws.proofs.Plain.{from_some, not_some}
 use Rattle.kernel_laws.proofs.ValidLaws.{children_have_one_parent_lemma, reachable_kernels_are_valid_lemma}
 use Rattle.machine_model.specs.Node.{Held, Leader, new_process}
-use Rattle.machine_model.specs.Deeds.{child_ended, first_ended, may_end}
-use Rattle.deed_laws.specs.Carrying.{StandsFor, AreOf, IsPlain, HasPlain}
+use Rattle.machine_model.specs.Deeds.{child_ended}
+use Rattle.deed_laws.specs.Carrying.{StandsFor, IsPlain, HasPlain}
 use Rattle.deed_laws.specs.Laws.{Ends, FirstEndsAsInTheKernel, ChildrenEndAsInTheKernel}
 use Rattle.deed_laws.proofs.Parents.{no-parent, first-orphan}
 use Rattle.deed_laws.proofs.Stands.{fresh-same}
@@ -102,7 +102,7 @@ first_ends h l k a status reachable stands held =
         };
         stay = λ other b one caller living.
             let apart : (e : Ending) → Contains es (other, e) → ⊥ = λ e c.
-                living-ended b e (from_some (Living b) (Ended e) (sym living ∙ (valid.alive 1 a lives).ended other e c))
+            living-ended b e (from_some (Living b) (Ended e) (sym living ∙ (valid.alive 1 a lives).ended other e c))
             in get-put-other before 1 Gone other one ∙ (buried-apart es k.processes other apart ∙ living);
       };
       dead = living-put-same before 1 Gone;
@@ -118,7 +118,7 @@ kept-dead false ending = refl
 plain-keeper : (a : Alive) (child : ℕ) (ending : Ending) → IsPlain a → IsPlain (with_ended_child a child ending)
 plain-keeper a child ending plain =
     let with_signals : Signals → Alive = λ s.
-        with_ended_child (record { row = record { signals = s; family = a.row.family }; allowance = a.allowance }) child ending
+    with_ended_child (record { row = record { signals = s; family = a.row.family }; allowance = a.allowance }) child ending
     in record {
       signals = ap (λ s. (with_signals s).row.signals) plain.signals;
       allowance = ap (λ s. (with_signals s).allowance) plain.signals ∙ plain.allowance;
@@ -129,13 +129,13 @@ dead-plain : (k next : Kernel) (child : ℕ) (v : Process) → next.processes �
     → HasPlain next
 dead-plain k next child v is dead ne plain =
     let lived : (pid : ℕ) (b : Alive) → living_at next pid ≡ Some b → living_at k pid ≡ Some b = λ pid b lives.
-        let there : living_in (put k.processes child v) pid ≡ Some b = sym (ap (λ ps. living_in ps pid) is) ∙ lives
-        in elim (cases_eq pid child) [
-          | inl same ↦
-              let here : living_in (put k.processes child v) child ≡ Some b = subst (λ (q : ℕ). living_in (put k.processes child v) q ≡ Some b) same there
-              in not_some b (sym (living-put-same k.processes child v ∙ dead) ∙ here)
-          | inr apart ↦ sym (living-put-other k.processes child v pid apart) ∙ there
-        ]
+    let there : living_in (put k.processes child v) pid ≡ Some b = sym (ap (λ ps. living_in ps pid) is) ∙ lives
+    in elim (cases_eq pid child) [
+      | inl same ↦
+          let here : living_in (put k.processes child v) child ≡ Some b = subst (λ (q : ℕ). living_in (put k.processes child v) q ≡ Some b) same there
+          in not_some b (sym (living-put-same k.processes child v ∙ dead) ∙ here)
+      | inr apart ↦ sym (living-put-other k.processes child v pid apart) ∙ there
+    ]
     in record {
       first = λ b lives. plain.first b (lived 1 b lives);
       others = λ pid b one lives. plain.others pid b one (lived pid b lives);

@@ -1,29 +1,24 @@
 -- A fork of process 1.
-use Rattle.std.proofs.Common.{◌≡◌, ◌≢◌, ℕ, ◌≤◌, ◌+◌, Bool, true, false, Option, Some, None, refl, ap, sym, subst, ◌∙◌, inl, inr, arith}
-use Rattle.std.specs.Prelude.{if◌then◌else◌}
+use Rattle.std.proofs.Common.{◌≡◌, ◌≢◌, ℕ, ◌≤◌, true, false, Some, None, refl, ap, sym, subst, ◌∙◌, inl, inr, arith}
 use Rattle.std.proofs.lemmas.Bool.{cases_eq}
 use Rattle.pico_base.specs.declared.call.Call.TheVariants as calls
 use Rattle.pico_base.specs.declared.reply.Reply.TheVariants.{Num}
 use Rattle.kernel_model.specs.Maps.{Numbered, get, put, is_used, used_with}
-use Rattle.kernel_model.specs.Signals.{Signals, new_signals, inherited}
+use Rattle.kernel_model.specs.Signals.{Signals, inherited}
 use Rattle.kernel_model.specs.Row.{Alive, Free, no_family}
 use Rattle.kernel_model.specs.Kernel.{Kernel, Process, Living, living_at, living_in}
-use Rattle.kernel_model.specs.Effect.{Effect, is_fresh, replied}
+use Rattle.kernel_model.specs.Effect.{is_fresh}
 use Rattle.kernel_model.specs.ProcessCalls.{forking, new_child, with_fork}
 use Rattle.kernel_model.specs.Valid.{IsValid}
-use Rattle.machine_model.specs.Node.{Held, Leader, new_process}
-use Rattle.machine_model.specs.Calls.{fork_held}
+use Rattle.machine_model.specs.Node.{new_process}
 use Rattle.kernel_laws.proofs.MapLaws.{get-put-same, get-put-other}
 use Rattle.kernel_laws.proofs.People.{to-living}
 use Rattle.kernel_laws.proofs.Plain.{from_some, not_some}
 use Rattle.kernel_laws.proofs.ValidLaws.{reachable_kernels_are_valid_lemma}
-use Rattle.deed_laws.specs.Carrying.{StandsFor, AreOf, IsFresh, IsPlain, HasPlain}
-use Rattle.deed_laws.specs.Laws.{Forks, ForksAreTheKernels}
+use Rattle.deed_laws.specs.Carrying.{IsPlain, HasPlain}
+use Rattle.deed_laws.specs.Laws.{ForksAreTheKernels}
 use Rattle.deed_laws.proofs.Steps.{makes, plain-at}
-use Rattle.deed_laws.proofs.Within.{within-put, within-new, living-put-same, living-put-other, none-at, fresh-number, fresh-later}
-
-abbrev effect_if : Kernel → ℕ → Bool → Option Effect
-effect_if next n fresh = if fresh then Some (replied next n) else None
+use Rattle.deed_laws.proofs.Within.{effect_if, within-put, within-new, living-put-same, living-put-other, none-at, fresh-number, fresh-later}
 
 abbrev child_of : Signals → Alive
 child_of s = record { row = record { signals = inherited s; family = no_family }; allowance = Free }

@@ -1,25 +1,18 @@
 -- A new queue, and a new set.
-use Rattle.std.proofs.Common.{◌≡◌, ℕ, ◌≤◌, ◌+◌, Bool, true, false, List, Option, Some, None, Ok, refl, ap, sym, ◌∙◌, arith}
-use Rattle.std.specs.Prelude.{if◌then◌else◌}
+use Rattle.std.proofs.Common.{◌≡◌, ℕ, ◌≤◌, true, false, None, refl, ap, ◌∙◌, arith}
 use Rattle.pico_base.specs.declared.call.Call.TheVariants as calls
 use Rattle.pico_base.specs.declared.reply.Reply.TheVariants.{Num}
-use Rattle.kernel_model.specs.Maps.{Numbered, get, put, is_used, used_with}
+use Rattle.kernel_model.specs.Maps.{put, is_used, used_with}
 use Rattle.kernel_model.specs.Queue.{empty_queue}
-use Rattle.kernel_model.specs.SemaphoreSet.{Semaphore, new_set}
-use Rattle.kernel_model.specs.Row.{Alive}
-use Rattle.kernel_model.specs.Kernel.{Kernel, living_at}
-use Rattle.kernel_model.specs.Effect.{Effect, is_fresh, replied}
+use Rattle.kernel_model.specs.Kernel.{Kernel}
+use Rattle.kernel_model.specs.Effect.{is_fresh}
 use Rattle.kernel_model.specs.SetCalls.{new_set_of}
-use Rattle.machine_model.specs.Node.{Held, Leader}
-use Rattle.deed_laws.specs.Carrying.{StandsFor, AreOf, IsFresh, HasPlain}
-use Rattle.deed_laws.specs.Laws.{Creates, NewQueuesAreTheKernels, NewSetsAreTheKernels}
+use Rattle.deed_laws.specs.Carrying.{HasPlain}
+use Rattle.deed_laws.specs.Laws.{NewQueuesAreTheKernels, NewSetsAreTheKernels}
 use Rattle.deed_laws.proofs.Alike.{same-put}
 use Rattle.deed_laws.proofs.Stands.{plain-same}
 use Rattle.deed_laws.proofs.Steps.{makes}
-use Rattle.deed_laws.proofs.Within.{fresh-number, fresh-later}
-
-abbrev effect_if : Kernel → ℕ → Bool → Option Effect
-effect_if next n fresh = if fresh then Some (replied next n) else None
+use Rattle.deed_laws.proofs.Within.{effect_if, fresh-number, fresh-later}
 
 pub new_queues : NewQueuesAreTheKernels
 new_queues h l k a create excl stands lives =

@@ -1,13 +1,11 @@
 -- Where nobody has forked but process 1, it is the only parent.
-use Rattle.std.proofs.Common.{◌≡◌, ◌≢◌, ℕ, Bool, true, false, Option, Some, None, refl, ap, sym, subst, ◌∙◌, inl, inr}
+use Rattle.std.proofs.Common.{◌≡◌, ℕ, true, false, Option, Some, None, refl, ap, sym, subst, ◌∙◌, inl, inr}
 use Rattle.std.proofs.lemmas.Bool.{cases_eq, false≢true}
 use Rattle.kernel_model.specs.Row.{Alive, lists}
 use Rattle.kernel_model.specs.Kernel.{Kernel, Parent, living_at, parent_in}
 use Rattle.kernel_laws.specs.Processes.{HasOneParent}
 use Rattle.kernel_laws.specs.Reachable.{IsReachable}
-use Rattle.kernel_laws.proofs.Plain.{not_some}
 use Rattle.kernel_laws.proofs.ValidLaws.{children_have_one_parent_lemma}
-use Rattle.machine_model.specs.Node.{new_process}
 use Rattle.deed_laws.specs.Carrying.{HasPlain}
 
 -- who lists a child is process 1

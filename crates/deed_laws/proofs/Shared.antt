@@ -1,6 +1,6 @@
 -- The calls on a queue or a set, but for its removal.
-use Rattle.std.proofs.Common.{◌≡◌, ℕ, ℤ, Bool, true, false, not, ◌∷◌, List, Option, Some, None, refl, ap, sym, subst, ◌∙◌}
-use Rattle.std.specs.Prelude.{if◌then◌else◌, IsSome, is_some}
+use Rattle.std.proofs.Common.{◌≡◌, ℕ, Bool, true, false, not, List, Some, None, refl, ap, sym, subst, ◌∙◌}
+use Rattle.std.specs.Prelude.{if◌then◌else◌, is_some}
 use Rattle.std.specs.List.{list_any}
 use Rattle.std.proofs.lemmas.Bool.{false≢true}
 use Rattle.pico_base.specs.declared.call.Call.{Call}
@@ -12,17 +12,16 @@ use Rattle.kernel_model.specs.Queue.{stat, send, receive, set_qbytes}
 use Rattle.kernel_model.specs.SemaphoreSet.{values_of, value_at, last_at, waiting_at, set_value, set_all, op}
 use Rattle.kernel_model.specs.Row.{Alive}
 use Rattle.kernel_model.specs.Kernel.{Kernel, living_at}
-use Rattle.kernel_model.specs.Effect.{Effect, looked_up, on_named}
-use Rattle.kernel_model.specs.QueueCalls.{changed_queue, received}
+use Rattle.kernel_model.specs.Effect.{Effect, on_named}
 use Rattle.kernel_model.specs.SetCalls.{changed_set}
-use Rattle.kernel_model.specs.Waiting.{is_waiting, may_wait}
+use Rattle.kernel_model.specs.Waiting.{may_wait}
 use Rattle.kernel_model.specs.Transition.{effect, may_make, is_spent}
 use Rattle.machine_model.specs.Built.{is_shared}
 use Rattle.machine_model.specs.Node.{Held, Leader, new_process}
-use Rattle.machine_model.specs.Deeds.{kernel_of, held_in, served}
-use Rattle.deed_laws.specs.Carrying.{StandsFor, AreOf, IsFresh, HasPlain}
+use Rattle.machine_model.specs.Deeds.{kernel_of}
+use Rattle.deed_laws.specs.Carrying.{StandsFor, HasPlain}
 use Rattle.deed_laws.specs.Laws.{SharedCallsAreServed, Serves, ServedCallsAreTheKernels}
-use Rattle.deed_laws.proofs.Alike.{SameAt, AreAlike, Leaves, unchanged, queue-changed, message-received, set-changed, number-looked_up, named}
+use Rattle.deed_laws.proofs.Alike.{SameAt, AreAlike, unchanged, queue-changed, message-received, set-changed, number-looked_up, named}
 use Rattle.kernel_laws.proofs.Plain.{from_some, not_some}
 use Rattle.kernel_model.specs.History.{number_in}
 use Rattle.deed_laws.proofs.Stands.{plain-same, fresh-same}

@@ -1,8 +1,7 @@
 -- What the leader stands for, where only queues and sets change.
-use Rattle.std.proofs.Common.{◌≡◌, ◌≢◌, ℕ, ◌≤◌, Bool, false, List, Some, refl, ap, sym, subst, ◌∙◌}
-use Rattle.kernel_model.specs.Maps.{get, is_used}
-use Rattle.kernel_model.specs.Row.{Alive}
-use Rattle.kernel_model.specs.Kernel.{Kernel, Process, living_in}
+use Rattle.std.proofs.Common.{◌≡◌, ap, sym, ◌∙◌}
+use Rattle.kernel_model.specs.Maps.{is_used}
+use Rattle.kernel_model.specs.Kernel.{Kernel, living_in}
 use Rattle.machine_model.specs.Node.{Leader}
 use Rattle.deed_laws.specs.Carrying.{IsFresh, HasPlain}
 

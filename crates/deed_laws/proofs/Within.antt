@@ -1,12 +1,11 @@
 -- A map that has no more than another one, and who lives after a change.
 use Rattle.std.proofs.Common.{◌≡◌, ◌≢◌, ℕ, ◌≤◌, ◌+◌, Bool, true, false, not, ◌&&◌, List, Option, Some, None, refl, ap, sym, subst, ◌∙◌, inl, inr, arith}
-use Rattle.std.specs.Prelude.{is_some, nat_lt}
+use Rattle.std.specs.Prelude.{is_some, if◌then◌else◌}
 use Rattle.std.specs.Option.{option_and_then}
 use Rattle.std.proofs.lemmas.Bool.{cases_eq, lt-ltb}
 use Rattle.kernel_model.specs.Maps.{Numbered, get, put, is_used, used_with}
-use Rattle.kernel_model.specs.Row.{Alive}
-use Rattle.kernel_model.specs.Kernel.{Process, alive_in, living_in}
-use Rattle.kernel_model.specs.Effect.{is_fresh}
+use Rattle.kernel_model.specs.Kernel.{Kernel, Process, alive_in, living_in}
+use Rattle.kernel_model.specs.Effect.{Effect, is_fresh, replied}
 use Rattle.kernel_laws.proofs.MapLaws.{get-put-same, get-put-other, used-with-other}
 use Rattle.kernel_laws.proofs.Plain.{not_some, not_false}
 
@@ -39,6 +38,10 @@ living-put-other ps k v q ne = ap (option_and_then alive_in) (get-put-other ps k
 pub none-at : {V : Type 0} (o : Option V) → is_some o ≡ false → o ≡ None
 none-at None h = refl
 none-at (Some v) h = not_false h
+
+-- the effect of giving out a number, and of none that may be given out
+abbrev pub effect_if : Kernel → ℕ → Bool → Option Effect
+effect_if next n fresh = if fresh then Some (replied next n) else None
 
 -- a number that may be given out, and the numbers behind it
 pub fresh-number : (used : List ℕ) (n : ℕ) → 1 ≤ n → is_used used n ≡ false → is_fresh used n ≡ true
