@@ -2,7 +2,9 @@
 //! the transition. Nothing runs here.
 #![tactic(auto)]
 
-ghost use Rattle.deed_laws.specs.Laws.{OwnCallsAreTheKernels, SharedCallsAreServed, ServedCallsAreTheKernels, NewQueuesAreTheKernels, NewSetsAreTheKernels, BadSetsAreRefused, ForksAreTheKernels, FirstEndsAsInTheKernel, ChildrenEndAsInTheKernel};
+ghost use Rattle.deed_laws.specs.Laws.{OwnCallsAreTheKernels, SharedCallsAreServed, ServedCallsAreTheKernels};
+ghost use Rattle.deed_laws.specs.Laws.{NewQueuesAreTheKernels, NewSetsAreTheKernels, BadSetsAreRefused, ForksAreTheKernels};
+ghost use Rattle.deed_laws.specs.Laws.{FirstEndsAsInTheKernel, ChildrenEndAsInTheKernel};
 
 /// A living process that asks for its own number has the kernel's reply, and changes nothing.
 pub fn own_calls_are_the_kernels()
