@@ -1,0 +1,2 @@
+//! What holds of every run of the picoprocess machine, whatever the schedule.
+#![tactic(auto)]
