@@ -87,7 +87,7 @@ pub record IsUnderWay (script : Script) (w : World) (first : Node) (k : Kernel) 
   -- each other node is in one of the situations
   pub children : (p : ℕ) → 2 ≤ p → p ≤ size_of script → IsChild script w first k places p (pids p)
   -- frames go to the leader and come from it, and it sends itself none
-  pub quiet : (p q : ℕ) → p ≢ 1 → q ≢ 1 → stream w p q ≡ []
+  pub quiet : (p q : ℕ) → 2 ≤ p → 2 ≤ q → stream w p q ≡ []
   pub quiet_leader : stream w 1 1 ≡ []
   -- the numbers are different, and are below the next one; 1 is the leader's
   pub apart : (p q : ℕ) → pids p ≢ 0 → pids p ≡ pids q → p ≡ q
