@@ -1,14 +1,12 @@
 -- A call of a plain process is the kernel's step, where its effect is known.
-use Rattle.std.proofs.Common.{◌≡◌, ◌≢◌, ℕ, Bool, true, false, not, [], Option, Some, None, Err, refl, ap, sym, subst, ◌∙◌, inl, inr}
+use Rattle.std.proofs.Common.{◌≡◌, ℕ, Bool, true, false, not, [], Option, Some, None, refl, ap, sym, subst, ◌∙◌, inl, inr}
 use Rattle.std.specs.Prelude.{is_some, if◌then◌else◌}
 use Rattle.std.proofs.lemmas.Bool.{cases_eq}
 use Rattle.pico_base.specs.declared.call.Call.{Call}
 use Rattle.pico_base.specs.declared.call.Call.TheVariants as calls
-use Rattle.pico_base.specs.declared.reply.Errno.{Errno}
 use Rattle.pico_base.specs.declared.reply.Outcome.{Outcome}
 use Rattle.pico_base.specs.declared.reply.Reply.{Reply}
 use Rattle.pico_base.specs.declared.reply.Reply.TheVariants.{Num, Fail}
-use Rattle.kernel_model.specs.SemaphoreSet.{new_set}
 use Rattle.kernel_model.specs.Row.{Alive, Spent}
 use Rattle.kernel_model.specs.Kernel.{Kernel, living_at, with_alive}
 use Rattle.kernel_model.specs.Effect.{Effect}

@@ -9,7 +9,7 @@ use Rattle.kernel_model.specs.Maps.{get, put}
 use Rattle.kernel_model.specs.Queue.{empty_queue}
 use Rattle.kernel_model.specs.SemaphoreSet.{Semaphore, new_set}
 use Rattle.kernel_model.specs.Row.{Alive}
-use Rattle.kernel_model.specs.Kernel.{Kernel, Process, Living, living_at, alive_in}
+use Rattle.kernel_model.specs.Kernel.{Kernel, Process, Living, living_at}
 use Rattle.kernel_model.specs.Effect.{Effect}
 use Rattle.kernel_model.specs.Waiting.{is_waiting}
 use Rattle.kernel_laws.specs.Reachable.{IsReachable}
