@@ -1,19 +1,20 @@
 -- What is known of the call that is due.
 use Rattle.std.proofs.Common.{◌≡◌, ◌≢◌, ◌⊎◌, ℕ, zero, suc, ◌+◌, ◌-◌, ◌<◌, ◌≤◌, Bool, true, false, cond, List, [], ◌∷◌, ◌++◌, length, drop, Option, Some, None, refl, ap, sym, subst, ◌∙◌, inl, inr, arith}
-use Rattle.std.specs.Prelude.{◌&&◌, not, slice_get, nat_eq, nat_le, IsTrue, if◌then◌else◌}
+use Rattle.std.specs.Prelude.{◌&&◌, not, slice_get, nat_eq, nat_le, IsTrue, if◌then◌else◌, sum_by}
 use Rattle.std.specs.List.{AllByRecursion, list_all, enumerate_from}
 use Rattle.pico_base.specs.declared.call.Call.{Call}
 use Rattle.pico_base.specs.declared.call.Call.TheVariants as calls
 use Rattle.pico_base.specs.declared.script.Line.{Line}
 use Rattle.pico_base.specs.declared.script.Block.{Block}
 use Rattle.pico_base.specs.declared.script.Script.{Script}
-use Rattle.kernel_model.specs.Script.{Vars, naming, call_of, call_from, implied_exit, is_exit, with_exit, each_line}
+use Rattle.kernel_model.specs.Script.{Vars, naming, call_of, call_from, implied_exit, is_exit, with_exit, each_line, calls_in}
 use Rattle.kernel_model.specs.Waiting.{is_waiting}
 use Rattle.kernel_model.specs.Fitting.{block_at}
 use Rattle.machine_model.specs.Built.{IsRunnable, is_built, is_built_line, is_built_block, is_shared}
 use Rattle.machine_model.specs.Node.{lines_in, lines_of}
 use Rattle.machine_model.specs.Frames.{names_block}
-use Rattle.std.proofs.lemmas.Bool.{false≢true, eqb-true}
+use Rattle.std.proofs.lemmas.Bool.{false≢true, eqb-true, leb-true}
+use Rattle.std.proofs.lemmas.List.Sums.{sum_by-cons}
 use Rattle.machine_laws.proofs.Lines.{all-at, some-is}
 
 -- the number in place of a call's process or object changes nothing of its kind
@@ -160,3 +161,35 @@ call-of-line block line vars f =
       ];
       at_once = call-waiting line vars ∙ f.at_once;
     }
+
+-- ---- how many there are
+
+sum-at : {X : Type 0} (f : X → ℕ) (xs : List X) (i : ℕ) (x : X) → slice_get xs i ≡ Some x → f x ≤ sum_by f xs
+sum-at f [] i x h = cc
+sum-at f (y ∷ xs) zero x h =
+    let first : f y ≤ sum_by f (y ∷ xs) = let cut = sum_by-cons f y xs in omega (arith, cut)
+    in subst (λ z. f z ≤ sum_by f (y ∷ xs)) (some-is _ _ h) first
+sum-at f (y ∷ xs) (suc i) x h =
+    let below = sum-at f xs i x h
+    in let cut = sum_by-cons f y xs
+    in omega (arith, below, cut)
+
+tries-enough : (block : ℕ) (lines : List Line) → AllByRecursion (IsFine block) lines → length lines ≤ sum_by (λ line. line.tries) lines
+tries-enough block [] f = omega arith
+tries-enough block (line ∷ lines) f =
+    let rest = tries-enough block lines f.1
+    in let once : line.tries ≡ 1 = f.0.once
+    in let cut = sum_by-cons (λ line. line.tries) line lines
+    in omega (arith, rest, once, cut)
+
+few-in : (script : Script) → IsRunnable script → (p : ℕ) → 1 ≤ p → (b : Option Block) → block_at script p ≡ b → length (lines_in b) ≤ 20000
+few-in script r p low None h = omega arith
+few-in script r p low (Some b) h =
+    let all : sum_by calls_in script.blocks ≤ 20000 = leb-true _ _ (is-true _ r.sound.calls)
+    in let one : calls_in b ≤ sum_by calls_in script.blocks = sum-at calls_in script.blocks (p - 1) b h
+    in let enough : length (with_exit b.lines) ≤ calls_in b =
+        tries-enough p (with_exit b.lines) (subst (λ o. AllByRecursion (IsFine p) (lines_in o)) h (lines-fine script r p low))
+    in omega (arith, all, one, enough)
+
+pub lines-few : (script : Script) → IsRunnable script → (p : ℕ) → 1 ≤ p → length (lines_of script p) ≤ 20000
+lines-few script r p low = few-in script r p low (block_at script p) refl

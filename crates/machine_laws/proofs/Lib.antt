@@ -4,3 +4,8 @@ pub mod Calls
 pub mod Nodes
 pub mod Entries
 pub mod Moves
+pub mod Steps
+pub mod Rests
+pub mod ChildRuns
+pub mod Alone
+pub mod ChildTakes

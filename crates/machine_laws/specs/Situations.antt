@@ -66,9 +66,9 @@ pub record IsBorn (p pid : ℕ) (n : Node) : Type 0 where
 
 -- its stage, its call under way, and what it holds
 pub record Has (n : Node) (in_stage : Stage) (call : Option Call) (deeds : Held) : Type 0 where
-  pub stage : n.stage ≡ in_stage
-  pub under_way : n.caller.under_way ≡ call
-  pub held : n.held ≡ deeds
+  pub has_stage : n.stage ≡ in_stage
+  pub has_call : n.caller.under_way ≡ call
+  pub has_deeds : n.held ≡ deeds
 
 -- its process is where the node says, as far as the history goes, and an exit is still to come
 pub record IsAt (script : Script) (n : Node) (found : Option Place) : Type 0 where
