@@ -9,3 +9,4 @@ pub mod Rests
 pub mod ChildRuns
 pub mod Alone
 pub mod ChildTakes
+pub mod LeaderTakes
