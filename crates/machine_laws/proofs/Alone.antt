@@ -38,7 +38,7 @@ moves-alone script w first k places pids u p low high w' m a b of nodes changes 
             nodes = λ q l o. elsewhere q (omega arith) o;
             partings = λ q l o. refl;
             pids_stay = λ q l o. refl;
-            places_stay = λ q l o. refl;
+            places_stay = λ q l h o. refl;
             lives = λ q l h o x. x;
           })
           (record {

@@ -78,11 +78,11 @@ pub record IsFine (block : ℕ) (line : Line) : Type 0 where
   pub kind : (is_built block line.call ≡ true) ⊎ (line.call ≡ calls.Exit 0)
   pub at_once : is_waiting line.call ≡ false
 
-and-left : (a b : Bool) → (a && b) ≡ true → a ≡ true
+pub and-left : (a b : Bool) → (a && b) ≡ true → a ≡ true
 and-left true b h = refl
 and-left false b h = h
 
-and-right : (a b : Bool) → (a && b) ≡ true → b ≡ true
+pub and-right : (a b : Bool) → (a && b) ≡ true → b ≡ true
 and-right true b h = h
 and-right false b h = absurd (false≢true h)
 

@@ -94,7 +94,7 @@ module _ (script : Script) (r : IsRunnable script) (w : World) (first : Node) (k
             nodes = λ q l o. node-other w.nodes p q s.node (omega arith) (omega arith) o;
             partings = λ q l o. refl;
             pids_stay = λ q l o. refl;
-            places_stay = λ q l o. goes.other (pids q) (other-pid q o);
+            places_stay = λ q l h o. goes.other (pids q) (other-pid q o);
             lives = λ q l h o x. x;
           }
       in let news : News script w' first k places' pids p =

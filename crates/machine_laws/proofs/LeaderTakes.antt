@@ -184,7 +184,7 @@ module _ (script : Script) (r : IsRunnable script) (w : World) (first : Node) (k
                 nodes = λ q l o. elsewhere m q l;
                 partings = λ q l o. refl;
                 pids_stay = λ q l o. refl;
-                places_stay = λ q l o. goes.other (pids q) (other-pid q o);
+                places_stay = λ q l h o. goes.other (pids q) (other-pid q o);
                 lives = λ q l h o x. living (pids q) x;
               })
               (record {
@@ -280,7 +280,7 @@ module _ (script : Script) (r : IsRunnable script) (w : World) (first : Node) (k
                 nodes = λ q l o. elsewhere m q l;
                 partings = λ q l o. get-put-other first.leader.partings p (IsLeaving (pids p)) q o;
                 pids_stay = λ q l o. refl;
-                places_stay = λ q l o. refl;
+                places_stay = λ q l h o. refl;
                 lives = λ q l h o x. x;
               })
               (record {
@@ -421,7 +421,7 @@ module _ (script : Script) (r : IsRunnable script) (w : World) (first : Node) (k
                 nodes = λ q l o. elsewhere m q l;
                 partings = λ q l o. get-put-other first.leader.partings p HasLeft q o;
                 pids_stay = λ q l o. refl;
-                places_stay = λ q l o. goes.other (pids q) (other-pid q o);
+                places_stay = λ q l h o. goes.other (pids q) (other-pid q o);
                 lives = λ q l h o y.
                     let one : pids q ≢ 1 = λ e. first-not-away (pids q) e x there y.away
                     in record {

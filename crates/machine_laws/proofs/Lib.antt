@@ -10,3 +10,6 @@ pub mod ChildRuns
 pub mod Alone
 pub mod ChildTakes
 pub mod LeaderTakes
+pub mod Forks
+pub mod Rising
+pub mod LeaderRuns

@@ -43,7 +43,7 @@ pub record Keeps (script : Script) (w w' : World) (first first' : Node) (k k' : 
   pub nodes : (p : ℕ) → 2 ≤ p → p ≢ c → node_at w' p ≡ node_at w p
   pub partings : (p : ℕ) → 2 ≤ p → p ≢ c → get first'.leader.partings p ≡ get first.leader.partings p
   pub pids_stay : (p : ℕ) → 2 ≤ p → p ≢ c → pids' p ≡ pids p
-  pub places_stay : (p : ℕ) → 2 ≤ p → p ≢ c → get places' (pids p) ≡ get places (pids p)
+  pub places_stay : (p : ℕ) → 2 ≤ p → p ≤ size_of script → p ≢ c → get places' (pids p) ≡ get places (pids p)
   pub lives : (p : ℕ) → 2 ≤ p → p ≤ size_of script → p ≢ c → Lives k first.held (pids p) → Lives k' first'.held (pids p)
 
 child-stays : (script : Script) (w w' : World) (first first' : Node) (k k' : Kernel) (places places' : Places) (pids pids' : ℕ → ℕ) (c : ℕ)
@@ -56,7 +56,7 @@ child-stays script w w' first first' k k' places places' pids pids' c low_c keep
     in let from_it : stream w' 1 p ≡ stream w 1 p =
         keeps.streams.others 1 p (omega arith) (omega arith) (λ e. absurd (omega arith)) (λ e. other)
     in let same : sight w first places p (pids p) child.node ≡ sight w' first' places' p (pids p) child.node =
-        sight-is child.node _ _ _ _ _ _ _ _ (sym to_it) (sym from_it) (sym (keeps.partings p low other)) (sym (keeps.places_stay p low other))
+        sight-is child.node _ _ _ _ _ _ _ _ (sym to_it) (sym from_it) (sym (keeps.partings p low other)) (sym (keeps.places_stay p low high other))
     in subst (λ pid. IsChild script w' first' k' places' p pid) (sym (keeps.pids_stay p low other))
     (record {
       situation = child.situation;

@@ -1,0 +1,213 @@
+-- Process 1 starts its next call: the leader carries it out at once.
+use Rattle.std.proofs.Common.{◌≡◌, ◌≢◌, ◌⊎◌, ℕ, suc, ◌+◌, ◌-◌, ◌%◌, ◌<◌, ◌≤◌, Bool, true, false, List, [], ◌∷◌, ◌++◌, length, drop, Option, Some, None, refl, ap, sym, subst, ◌∙◌, inl, inr, arith}
+use Rattle.std.specs.Prelude.{◌&&◌, ◌||◌, not, nat_eq, nat_lt, set, slice_get, IsSome, Result, Ok, Err, if◌then◌else◌}
+use Rattle.std.specs.List.{list_any}
+use Rattle.std.specs.Option.{option_and_then}
+use Rattle.std.proofs.lemmas.List.{length-set}
+use Rattle.std.proofs.lemmas.Bool.{false≢true, eq-eqb, lt-ltb, cases_eq}
+use Rattle.pico_base.specs.declared.call.Call.{Call}
+use Rattle.pico_base.specs.declared.call.Call.TheVariants as calls
+use Rattle.pico_base.specs.declared.reply.Reply.{Reply}
+use Rattle.pico_base.specs.declared.reply.Reply.TheVariants as replies
+use Rattle.pico_base.specs.declared.reply.Ending.TheVariants.{Exited}
+use Rattle.pico_base.specs.declared.reply.Errno.{Errno}
+use Rattle.pico_base.specs.declared.script.Line.{Line}
+use Rattle.pico_base.specs.declared.script.Script.{Script}
+use Rattle.pico_base.specs.declared.script.Event.TheVariants as events
+use Rattle.kernel_model.specs.Maps.{get, put}
+use Rattle.kernel_model.specs.Queue.{empty_queue}
+use Rattle.kernel_model.specs.SemaphoreSet.{Semaphore, new_set}
+use Rattle.kernel_model.specs.Row.{Alive}
+use Rattle.kernel_model.specs.Kernel.{Kernel, Living as LivingProcess, Gone as GoneProcess, alive_in, living_at, living_in}
+use Rattle.kernel_model.specs.Effect.{Effect}
+use Rattle.kernel_model.specs.Script.{is_exit}
+use Rattle.kernel_model.specs.Waiting.{is_waiting}
+use Rattle.kernel_model.specs.Fitting.{Place, Places, due, after}
+use Rattle.machine_model.specs.Built.{IsRunnable, is_shared, is_built, is_private}
+use Rattle.machine_model.specs.Node.{Node, Held, Leader, Living, Over, is_living, place_of, lines_of, is_leader}
+use Rattle.machine_model.specs.Deeds.{held_in, served, first_ended}
+use Rattle.machine_model.specs.Calls.{Step, run, starts_call, carried, carried_out, at_once, entry_by, with_leader, makes_queue, makes_set, makes_set_of, number_end, set_by}
+use Rattle.machine_model.specs.Frames.{names_block, are_rising}
+use Rattle.machine_model.specs.World.{World, node_at, stream, size_of, after as world_after, step}
+use Rattle.deed_laws.specs.Carrying.{Makes, StandsFor, Carries}
+use Rattle.deed_laws.proofs.Steps.{own_calls, bad_sets}
+use Rattle.deed_laws.proofs.News.{new_queues, new_sets}
+use Rattle.deed_laws.proofs.Shared.{shared_calls, served_calls}
+use Rattle.deed_laws.proofs.Endings.{first_ends}
+use Rattle.machine_laws.specs.Lines.{EndsInExit}
+use Rattle.machine_laws.specs.Situations.{Situation, Awaited, Forked, Free, Asking, Answered, Telling, Recalled, HandedOver, Gone, Sight, IsIn, Lives}
+use Rattle.machine_laws.specs.Invariant.{IsUnderWay, IsLeader, FirstRuns, FirstIsOver, IsChild, HasInvariant}
+use Rattle.machine_laws.proofs.Streams.{changes-none}
+use Rattle.machine_laws.proofs.Lines.{answered-place, next-line}
+use Rattle.machine_laws.proofs.Nodes.{node-same, node-other}
+use Rattle.machine_laws.proofs.Entries.{GoesOn, goes-on, IsOrdinary}
+use Rattle.machine_laws.proofs.Moves.{Keeps, News, goes-over, square-of}
+use Rattle.machine_laws.proofs.Steps.{Goes, Due, due-is, run-is, step-run, ends-behind, nothing-behind}
+use Rattle.machine_laws.proofs.Rests.{known-after}
+use Rattle.machine_laws.proofs.Rising.{rising-set}
+use Rattle.machine_laws.proofs.LeaderTakes.{shared-is-ordinary}
+
+or-true : (b : Bool) → (b || true) ≡ true
+or-true true = refl
+or-true false = refl
+
+in-not-one : (s : Situation) (script : Script) (p pid : ℕ) (x : Sight) → IsIn s script p pid x → pid ≢ 1
+in-not-one Awaited script p pid x i e = let z = i.none in omega (arith, z, e)
+in-not-one (Forked vars) script p pid x i e = let l = i.low in omega (arith, l, e)
+in-not-one Free script p pid x i e = let l = i.born.low in omega (arith, l, e)
+in-not-one (Asking call) script p pid x i e = let l = i.has.born.low in omega (arith, l, e)
+in-not-one (Answered call reply) script p pid x i e = let l = i.has.born.low in omega (arith, l, e)
+in-not-one (Telling status) script p pid x i e = let l = i.born.low in omega (arith, l, e)
+in-not-one (Recalled status) script p pid x i e = let l = i.born.low in omega (arith, l, e)
+in-not-one (HandedOver status) script p pid x i e = let l = i.born.low in omega (arith, l, e)
+in-not-one Gone script p pid x i e = let l = i.born.low in omega (arith, l, e)
+
+-- no child's process is process 1
+pub pid-not-one : (script : Script) (w : World) (first : Node) (k : Kernel) (places : Places) (p pid : ℕ)
+    → IsChild script w first k places p pid → pid ≢ 1
+pid-not-one script w first k places p pid c = in-not-one c.situation script p pid _ c.is_in
+
+-- what is behind a line was ahead of it
+ahead-behind : (block : ℕ) (line : Line) (rest : List Line) → list_any (λ l. names_block block l.call) rest ≡ true
+    → list_any (λ l. names_block block l.call) (line ∷ rest) ≡ true
+ahead-behind block line rest h = rw h (or-true (names_block block line.call))
+
+module _ (script : Script) (r : IsRunnable script) (w : World) (first : Node) (k : Kernel) (places : Places) (pids : ℕ → ℕ)
+    (u : IsUnderWay script w first k places pids) (runs : FirstRuns script first places pids) where
+  numbered : 1 ≤ first.number
+  numbered = let e = u.leader.number in omega (arith, e)
+
+  leads : is_leader first ≡ true
+  leads = eq-eqb first.number 1 u.leader.number
+
+  lives-now : living_at k first.pid ≡ Some runs.alive
+  lives-now =
+      ap (λ x. living_at k x) u.leader.pid
+      ∙ ap (option_and_then alive_in) (u.leader.stands.here.processes 1 (LivingProcess runs.alive) runs.lives)
+
+  first-lives-now : living_at k 1 ≡ Some runs.alive
+  first-lives-now = ap (option_and_then alive_in) (u.leader.stands.here.processes 1 (LivingProcess runs.alive) runs.lives)
+
+  held-now : living_in first.held.processes first.pid ≡ Some runs.alive
+  held-now = ap (λ x. living_in first.held.processes x) u.leader.pid ∙ ap (option_and_then alive_in) runs.lives
+
+  place-there : get places first.pid ≡ Some (place_of script first)
+  place-there = ap (λ x. get places x) u.leader.pid ∙ runs.place
+
+  runs-call : (call : Call) → due (place_of script first) ≡ Some call → run script first ≡ starts_call script first call
+  runs-call call d =
+      let known = due-is script first call r numbered d
+      in run-is script first call (ap is_living runs.stage) u.leader.none_under_way
+      (let t = runs.ticket in let e = known.early in let f = known.few in omega (arith, t, e, f)) d
+
+  run-in : (call : Call) (s : Step) → due (place_of script first) ≡ Some call → starts_call script first call ≡ Some s
+      → step w (events.Run 1) ≡ Some (world_after w 1 s)
+  run-in call s d e = step-run w 1 first s u.first_at (ap (λ x. run x first) u.of_script ∙ runs-call call d ∙ e)
+
+  elsewhere : (m : Node) (q : ℕ) → 2 ≤ q → slice_get (set w.nodes 0 m) (q - 1) ≡ slice_get w.nodes (q - 1)
+  elsewhere m q l = node-other w.nodes 1 q m (omega arith) (omega arith) (λ e. omega arith)
+
+  -- ---- an entry of process 1 that concerns no child
+
+  -- past all nodes
+  abbrev beyond : ℕ
+  beyond = size_of script + 2
+
+  abbrev place-then : (call : Call) (reply : Reply) → Place
+  place-then call reply = after (place_of script first) call (Some reply)
+
+  abbrev entering : (m : Node) (call : Call) (reply : Reply) → Step
+  entering m call reply = record { node = m; entries = entry_by first.number first.pid call reply ∷ []; sends = [] }
+
+  enters : (call : Call) (reply : Reply) (m : Node) (next : Kernel) → due (place_of script first) ≡ Some call
+      → starts_call script first call ≡ Some (entering m call reply) → IsOrdinary call
+      → Makes k first.pid call reply next → m.leader.partings ≡ first.leader.partings
+      → first.leader.next_process ≤ m.leader.next_process
+      → ((q : ℕ) → q ≢ 1 → Lives k first.held q → Lives next m.held q)
+      → ((places' : Places) → get places' 1 ≡ Some (place-then call reply) → IsLeader script m next places' pids)
+      → Goes script w (events.Run 1)
+  enters call reply m next d rule plain makes partings more living leader-then =
+      let s : Step = entering m call reply
+      in let w' : World = world_after w 1 s
+      in let goes = goes-on script w.journal k next places first.number first.pid call reply (place_of script first) (place-then call reply)
+          u.legal u.fits u.ordered place-there d plain makes refl
+      in let places' : Places = put places first.pid (place-then call reply)
+      in let not-mine : (q : ℕ) → 2 ≤ q → q ≤ size_of script → pids q ≢ first.pid =
+          λ q l h e. pid-not-one script w first k places q (pids q) (u.children q l h) (e ∙ u.leader.pid)
+      in record {
+        next = w';
+        is_step = run-in call s d rule;
+        keeps = record { first = m; kernel = next; places = places'; pids = pids;
+          under_way = goes-over script w w' first m k next places places' pids pids beyond (omega arith) u
+              (record {
+                script_stays = refl;
+                count = length-set w.nodes 0 m;
+                frames_to = _;
+                frames_from = _;
+                streams = changes-none (size_of script) beyond w.streams (square-of script w first k places pids u);
+                nodes = λ q l o. elsewhere m q l;
+                partings = λ q l o. ap (λ x. get x q) partings;
+                pids_stay = λ q l o. refl;
+                places_stay = λ q l h o. goes.other (pids q) (not-mine q l h);
+                lives = λ q l h o x. living (pids q) (pid-not-one script w first k places q (pids q) (u.children q l h)) x;
+              })
+              (record {
+                legal = goes.legal;
+                fits = goes.fits;
+                ordered = goes.ordered_places;
+                first_at = node-same w.nodes 1 first m u.first_at;
+                leader = leader-then places' (ap (λ x. get places' x) (sym u.leader.pid) ∙ goes.here);
+                child = λ h. absurd (omega arith);
+                apart = u.apart;
+                below = λ q. let b = u.below q in omega (arith, b, more);
+                known = known-after script places places' pids first.pid (place_of script first) u.known place-there goes.other;
+              }) };
+      }
+
+  ahead-still : {call : Call} → Due script first call → (block : ℕ)
+      → list_any (λ l. names_block block l.call) (drop (first.caller.line + 1) (lines_of script first.number)) ≡ true
+      → list_any (λ l. names_block block l.call) (place_of script first).left ≡ true
+  ahead-still {call} known block h =
+      let next = next-line (lines_of script first.number) first.caller.line known.first.line known.first.rest known.first.left
+      in ap (list_any (λ l. names_block block l.call)) known.first.left
+      ∙ ahead-behind block known.first.line known.first.rest (sym (ap (list_any (λ l. names_block block l.call)) next.1) ∙ h)
+
+  -- process 1 goes on
+  goes-on-with : (call : Call) (reply : Reply) (m : Node) (next : Kernel) (places' : Places) → due (place_of script first) ≡ Some call
+      → is_exit call ≡ false → m.number ≡ first.number → m.pid ≡ first.pid → m.stage ≡ first.stage
+      → m.caller ≡ at_once script first call reply
+      → StandsFor m.held m.leader next → (a : Alive) → get m.held.processes 1 ≡ Some (LivingProcess a)
+      → m.leader.next_process ≤ first.leader.next_process + 0 → m.leader.next_queue ≤ first.leader.next_queue + 1
+      → m.leader.next_set ≤ first.leader.next_set + 1
+      → get places' 1 ≡ Some (place-then call reply) → IsLeader script m next places' pids
+  goes-on-with call reply m next places' d goes_on number pid stage caller stands a there np nq ns place =
+      let known = due-is script first call r numbered d
+      in let place-is : place-then call reply ≡ record { left = drop (first.caller.line + 1) (lines_of script first.number); tried = 0; vars = (at_once script first call reply).vars } =
+          answered-place (lines_of script first.number) first.caller.line first.caller.vars call reply known.first.line known.first.rest
+          known.first.left known.fine.once
+      in let moved : place_of script m ≡ record { left = drop (first.caller.line + 1) (lines_of script first.number); tried = 0; vars = (at_once script first call reply).vars } =
+          rw (number, caller) refl
+      in let left : (place_of script m).left ≡ drop (first.caller.line + 1) (lines_of script first.number) = ap (λ (z : Place). z.left) moved
+      in let line : m.caller.line ≡ first.caller.line + 1 = ap (λ c. c.line) caller
+      in let fp = runs.few_processes
+      in let fq = runs.few_queues
+      in let fs = runs.few_sets
+      in record {
+        number = number ∙ u.leader.number;
+        pid = pid ∙ u.leader.pid;
+        none_under_way = ap (λ c. c.under_way) caller;
+        stands = stands;
+        life = inl (record {
+          stage = stage ∙ runs.stage;
+          alive = a;
+          lives = there;
+          place = place ∙ ap Some (place-is ∙ sym moved);
+          ends = subst EndsInExit (sym left) (ends-behind script first call known runs.ends goes_on);
+          ticket = ap (λ c. c.ticket) caller ∙ ap (λ x. x + 1) runs.ticket ∙ sym line;
+          rising = ap are_rising (ap (λ c. c.vars) caller) ∙ rising-set first.caller.vars _ _ runs.rising;
+          few_processes = omega (arith, np, fp, line);
+          few_queues = omega (arith, nq, fq, line);
+          few_sets = omega (arith, ns, fs, line);
+          ahead = λ block h. runs.ahead block (ahead-still known block (ap (list_any (λ l. names_block block l.call)) (sym left) ∙ h));
+        });
+      }
