@@ -56,7 +56,7 @@ buried-living [] ps p a h = h
 buried-living (e ∷ es) ps p a h = gone-living ps e.0 p a (buried-living es (put ps e.0 Gone) p a h)
 
 -- who isn't an ended child stays
-buried-apart : (es : List (ℕ × Ending)) (ps : Numbered Process) (q : ℕ) → ((ending : Ending) → Contains es (q, ending) → ⊥)
+pub buried-apart : (es : List (ℕ × Ending)) (ps : Numbered Process) (q : ℕ) → ((ending : Ending) → Contains es (q, ending) → ⊥)
     → get (fold bury ps es) q ≡ get ps q
 buried-apart [] ps q h = refl
 buried-apart (e ∷ es) ps q h =

@@ -1,6 +1,6 @@
 -- Process 1 starts its next call: the leader carries it out at once.
 use Rattle.std.proofs.Common.{◌≡◌, ◌≢◌, ◌⊎◌, ℕ, suc, ◌+◌, ◌-◌, ◌%◌, ◌<◌, ◌≤◌, Bool, true, false, List, [], ◌∷◌, ◌++◌, length, drop, Option, Some, None, refl, ap, sym, subst, ◌∙◌, inl, inr, arith}
-use Rattle.std.specs.Prelude.{◌&&◌, ◌||◌, not, nat_eq, nat_lt, set, slice_get, IsSome, Result, Ok, Err, if◌then◌else◌}
+use Rattle.std.specs.Prelude.{◌&&◌, ◌||◌, not, nat_eq, nat_lt, set, slice_get, IsSome, Result, Ok, Err, if◌then◌else◌, fold, Contains}
 use Rattle.std.specs.List.{list_any}
 use Rattle.std.specs.Option.{option_and_then}
 use Rattle.std.proofs.lemmas.List.{length-set}
@@ -9,6 +9,7 @@ use Rattle.pico_base.specs.declared.call.Call.{Call}
 use Rattle.pico_base.specs.declared.call.Call.TheVariants as calls
 use Rattle.pico_base.specs.declared.reply.Reply.{Reply}
 use Rattle.pico_base.specs.declared.reply.Reply.TheVariants as replies
+use Rattle.pico_base.specs.declared.reply.Ending.{Ending}
 use Rattle.pico_base.specs.declared.reply.Ending.TheVariants.{Exited}
 use Rattle.pico_base.specs.declared.reply.Errno.{Errno}
 use Rattle.pico_base.specs.declared.script.Line.{Line}
@@ -20,25 +21,29 @@ use Rattle.kernel_model.specs.SemaphoreSet.{Semaphore, new_set}
 use Rattle.kernel_model.specs.Row.{Alive}
 use Rattle.kernel_model.specs.Kernel.{Kernel, Living as LivingProcess, Gone as GoneProcess, alive_in, living_at, living_in}
 use Rattle.kernel_model.specs.Effect.{Effect}
+use Rattle.kernel_model.specs.ProcessCalls.{bury}
 use Rattle.kernel_model.specs.Script.{is_exit}
 use Rattle.kernel_model.specs.Waiting.{is_waiting}
 use Rattle.kernel_model.specs.Fitting.{Place, Places, due, after}
 use Rattle.machine_model.specs.Built.{IsRunnable, is_shared, is_built, is_private}
-use Rattle.machine_model.specs.Node.{Node, Held, Leader, Living, Over, is_living, place_of, lines_of, is_leader}
+use Rattle.machine_model.specs.Node.{Node, Held, Leader, Living, Over, new_process, is_living, place_of, lines_of, is_leader}
 use Rattle.machine_model.specs.Deeds.{held_in, served, first_ended}
-use Rattle.machine_model.specs.Calls.{Step, run, starts_call, carried, carried_out, at_once, entry_by, with_leader, makes_queue, makes_set, makes_set_of, number_end, set_by}
+use Rattle.machine_model.specs.Calls.{Step, run, shares, ends_first, starts_call, carried, carried_out, at_once, entry_by, with_leader, makes_queue, makes_set, makes_set_of, number_end, set_by}
 use Rattle.machine_model.specs.Frames.{names_block, are_rising}
 use Rattle.machine_model.specs.World.{World, node_at, stream, size_of, after as world_after, step}
 use Rattle.deed_laws.specs.Carrying.{Makes, StandsFor, Carries}
 use Rattle.deed_laws.proofs.Steps.{own_calls, bad_sets}
 use Rattle.deed_laws.proofs.News.{new_queues, new_sets}
 use Rattle.deed_laws.proofs.Shared.{shared_calls, served_calls}
-use Rattle.deed_laws.proofs.Endings.{first_ends}
+use Rattle.deed_laws.proofs.Endings.{first_ends, buried-apart}
+use Rattle.kernel_laws.proofs.ValidLaws.{reachable_kernels_are_valid_lemma}
+use Rattle.kernel_laws.proofs.Families.{living-ended}
+use Rattle.kernel_laws.proofs.MapLaws.{get-put-same, get-put-other}
 use Rattle.machine_laws.specs.Lines.{EndsInExit}
 use Rattle.machine_laws.specs.Situations.{Situation, Awaited, Forked, Free, Asking, Answered, Telling, Recalled, HandedOver, Gone, Sight, IsIn, Lives}
 use Rattle.machine_laws.specs.Invariant.{IsUnderWay, IsLeader, FirstRuns, FirstIsOver, IsChild, HasInvariant}
 use Rattle.machine_laws.proofs.Streams.{changes-none}
-use Rattle.machine_laws.proofs.Lines.{answered-place, next-line}
+use Rattle.machine_laws.proofs.Lines.{answered-place, next-line, some-is}
 use Rattle.machine_laws.proofs.Nodes.{node-same, node-other}
 use Rattle.machine_laws.proofs.Entries.{GoesOn, goes-on, IsOrdinary}
 use Rattle.machine_laws.proofs.Moves.{Keeps, News, goes-over, square-of}
@@ -46,6 +51,22 @@ use Rattle.machine_laws.proofs.Steps.{Goes, Due, due-is, run-is, step-run, ends-
 use Rattle.machine_laws.proofs.Rests.{known-after}
 use Rattle.machine_laws.proofs.Rising.{rising-set}
 use Rattle.machine_laws.proofs.LeaderTakes.{shared-is-ordinary}
+
+gone-not-living : {B : Type 0} (a : Alive) → Some GoneProcess ≡ Some (LivingProcess a) → B
+gone-not-living a h = cc
+
+shared-rule-at : (script : Script) (n : Node) (call : Call) → is_shared call ≡ true → starts_call script n call ≡ shares script n call
+shared-rule-at script n (calls.MsgSnd id class text nowait) h = refl
+shared-rule-at script n (calls.MsgGet key create excl) h = absurd (false≢true h)
+shared-rule-at script n (calls.SemGet key count create excl) h = absurd (false≢true h)
+shared-rule-at script n (calls.Fork block) h = absurd (false≢true h)
+shared-rule-at script n (calls.Exit status) h = absurd (false≢true h)
+shared-rule-at script n calls.GetPid h = absurd (false≢true h)
+shared-rule-at script n call h = refl
+
+shared-goes-on : (call : Call) → is_shared call ≡ true → is_exit call ≡ false
+shared-goes-on (calls.Exit status) h = absurd (false≢true h)
+shared-goes-on call h = refl
 
 or-true : (b : Bool) → (b || true) ≡ true
 or-true true = refl
@@ -211,3 +232,162 @@ module _ (script : Script) (r : IsRunnable script) (w : World) (first : Node) (k
           ahead = λ block h. runs.ahead block (ahead-still known block (ap (list_any (λ l. names_block block l.call)) (sym left) ∙ h));
         });
       }
+
+  if-both : {X : Type 0} (a b : Bool) (x y : X) → a ≡ true → b ≡ true → (if a && b then x else y) ≡ x
+  if-both a b x y h g = rw (h, g) refl
+
+  shared-here : (call : Call) → is_shared call ≡ true → is_waiting call ≡ false → shares script first call ≡ carried script first call (served first.held first.pid call)
+  shared-here call s h = rw (s, h, leads) refl
+
+  -- a process that lives isn't among the ended ones
+  not-ended : (q : ℕ) → get k.processes q ≡ Some (LivingProcess new_process) → (ending : Ending)
+      → Contains runs.alive.row.family.ended (q, ending) → ⊥
+  not-ended q lives ending there =
+      let valid = reachable_kernels_are_valid_lemma k (w.journal, u.legal)
+      in let ended = (valid.alive 1 runs.alive first-lives-now).ended q ending there
+      in living-ended new_process ending (some-is _ _ (sym lives ∙ ended))
+
+  -- ---- its own number, a new queue and a new set
+
+  mine : {call : Call} {reply : Reply} {next : Kernel} → Makes k 1 call reply next → Makes k first.pid call reply next
+  mine {call} {reply} {next} m = subst (λ x. Makes k x call reply next) (sym u.leader.pid) m
+
+  gets-pid : due (place_of script first) ≡ Some calls.GetPid → Goes script w (events.Run 1)
+  gets-pid d =
+      let reply : Reply = replies.Num first.pid
+      in let m : Node = (carried_out script first calls.GetPid reply first.held).node
+      in enters calls.GetPid reply m k d refl (record { not_killed = refl; not_fork = λ s ps place reply. refl })
+      (own_calls k first.pid runs.alive u.leader.stands.plain lives-now) refl (omega arith) (λ q o x. x)
+      (λ places' h. goes-on-with calls.GetPid reply m k places' d refl refl refl refl refl u.leader.stands runs.alive runs.lives
+      (omega arith) (omega arith) (omega arith) h)
+
+  few-lines : {call : Call} → due (place_of script first) ≡ Some call → first.caller.line < 20000
+  few-lines {call} d =
+      let known = due-is script first call r numbered d
+      in let e = known.early
+      in let f = known.few
+      in omega (arith, e, f)
+
+  new-queue : (create excl : Bool) → due (place_of script first) ≡ Some (calls.MsgGet None create excl) → Goes script w (events.Run 1)
+  new-queue create excl d =
+      let call : Call = calls.MsgGet None create excl
+      in let number : ℕ = first.leader.next_queue
+      in let reply : Reply = replies.Num number
+      in let held : Held = record first.held { queues = put first.held.queues number empty_queue }
+      in let leader : Leader = record first.leader { next_queue = number + 1 }
+      in let m : Node = (with_leader leader (carried_out script first call reply held)).node
+      in let law = new_queues first.held first.leader k runs.alive create excl u.leader.stands first-lives-now
+      in let small : nat_lt number number_end ≡ true =
+          lt-ltb number number_end (let f = runs.few_queues in let l = few-lines d in omega (arith, f, l))
+      in enters call reply m law.next d (rw (leads, small) refl) (record { not_killed = refl; not_fork = λ s ps place reply. refl })
+      (mine law.carries.makes) refl (omega arith)
+      (λ q o x. record { process = ap (λ ps. get ps q) law.processes ∙ x.process; away = x.away; listed = x.listed })
+      (λ places' h. goes-on-with call reply m law.next places' d refl refl refl refl refl law.carries.stands runs.alive runs.lives
+      (omega arith) (omega arith) (omega arith) h)
+
+  new-set : (count : ℕ) (create excl : Bool) (set : List Semaphore) → new_set count ≡ Ok set
+      → due (place_of script first) ≡ Some (calls.SemGet None count create excl) → Goes script w (events.Run 1)
+  new-set count create excl set made d =
+      let call : Call = calls.SemGet None count create excl
+      in let number : ℕ = first.leader.next_set
+      in let reply : Reply = replies.Num number
+      in let held : Held = record first.held { sets = put first.held.sets number set }
+      in let leader : Leader = record first.leader { next_set = number + 1 }
+      in let m : Node = (with_leader leader (carried_out script first call reply held)).node
+      in let law = new_sets first.held first.leader k runs.alive count set create excl u.leader.stands first-lives-now made
+      in let small : nat_lt number number_end ≡ true =
+          lt-ltb number number_end (let f = runs.few_sets in let l = few-lines d in omega (arith, f, l))
+      in enters call reply m law.next d
+      (if-both _ _ (Some (makes_set_of script first call (new_set count))) None leads small
+      ∙ ap (λ x. Some (makes_set_of script first call x)) made)
+      (record { not_killed = refl; not_fork = λ s ps place reply. refl })
+      (mine law.carries.makes) refl (omega arith)
+      (λ q o x. record { process = ap (λ ps. get ps q) law.processes ∙ x.process; away = x.away; listed = x.listed })
+      (λ places' h. goes-on-with call reply m law.next places' d refl refl refl refl refl law.carries.stands runs.alive runs.lives
+      (omega arith) (omega arith) (omega arith) h)
+
+  bad-set : (count : ℕ) (create excl : Bool) (error : Errno) → new_set count ≡ Err error
+      → due (place_of script first) ≡ Some (calls.SemGet None count create excl) → Goes script w (events.Run 1)
+  bad-set count create excl error made d =
+      let call : Call = calls.SemGet None count create excl
+      in let reply : Reply = replies.Fail error
+      in let m : Node = (carried_out script first call reply first.held).node
+      in let small : nat_lt first.leader.next_set number_end ≡ true =
+          lt-ltb first.leader.next_set number_end (let f = runs.few_sets in let l = few-lines d in omega (arith, f, l))
+      in enters call reply m k d
+      (if-both _ _ (Some (makes_set_of script first call (new_set count))) None leads small
+      ∙ ap (λ x. Some (makes_set_of script first call x)) made)
+      (record { not_killed = refl; not_fork = λ s ps place reply. refl })
+      (bad_sets k first.pid runs.alive count error create excl u.leader.stands.plain lives-now made) refl (omega arith) (λ q o x. x)
+      (λ places' h. goes-on-with call reply m k places' d refl refl refl refl refl u.leader.stands runs.alive runs.lives
+      (omega arith) (omega arith) (omega arith) h)
+
+  set-by : (count : ℕ) (create excl : Bool) (o : Result (List Semaphore) Errno) → new_set count ≡ o
+      → due (place_of script first) ≡ Some (calls.SemGet None count create excl) → Goes script w (events.Run 1)
+  set-by count create excl (Ok set) made d = new-set count create excl set made d
+  set-by count create excl (Err error) made d = bad-set count create excl error made d
+
+  -- ---- a shared call
+
+  serves : (call : Call) (e : Effect) → is_shared call ≡ true → is_waiting call ≡ false → served first.held first.pid call ≡ Some e
+      → due (place_of script first) ≡ Some call → Goes script w (events.Run 1)
+  serves call e shared waits h d =
+      let law = served_calls first.held first.leader k first.pid runs.alive call e u.leader.stands lives-now shared h
+      in let m : Node = (carried_out script first call e.reply (held_in e.kernel)).node
+      in let same-held : (q : ℕ) → get m.held.processes q ≡ get first.held.processes q = λ q. ap (λ ps. get ps q) law.held
+      in enters call e.reply m law.next d
+      (shared-rule-at script first call shared ∙ shared-here call shared waits ∙ ap (carried script first call) h)
+      (shared-is-ordinary call shared) law.carries.makes refl (omega arith)
+      (λ q o x. record {
+        process = ap (λ ps. get ps q) law.processes ∙ x.process;
+        away = same-held q ∙ x.away;
+        listed = λ a g. x.listed a (sym (same-held 1) ∙ g);
+      })
+      (λ places' g. goes-on-with call e.reply m law.next places' d (shared-goes-on call shared) refl refl refl refl law.carries.stands
+      runs.alive (same-held 1 ∙ runs.lives) (omega arith) (omega arith) (omega arith) g)
+
+  served-by : (call : Call) (o : Option Effect) → is_shared call ≡ true → is_waiting call ≡ false → served first.held first.pid call ≡ o
+      → IsSome o → due (place_of script first) ≡ Some call → Goes script w (events.Run 1)
+  served-by call None shared waits h s d = absurd (false≢true s)
+  served-by call (Some e) shared waits h s d = serves call e shared waits h d
+
+  shared-call : (call : Call) → is_shared call ≡ true → is_waiting call ≡ false → due (place_of script first) ≡ Some call
+      → Goes script w (events.Run 1)
+  shared-call call shared waits d = served-by call _ shared waits refl (shared_calls first.held first.pid call shared waits) d
+
+  -- ---- the exit
+
+  ends : (status : ℕ) → due (place_of script first) ≡ Some (calls.Exit status) → Goes script w (events.Run 1)
+  ends status d =
+      let call : Call = calls.Exit status
+      in let held : Held = first_ended first.held first.pid runs.alive (Exited (status % 256))
+      in let m : Node = record (carried_out script first call replies.Ended held).node { stage = Over }
+      in let law = first_ends first.held first.leader k runs.alive status (w.journal, u.legal) u.leader.stands runs.lives
+      in let same : held ≡ first_ended first.held 1 runs.alive (Exited (status % 256)) =
+          ap (λ x. first_ended first.held x runs.alive (Exited (status % 256))) u.leader.pid
+      in let buried-now : List _ = fold bury first.held.processes runs.alive.row.family.ended
+      in let gone : get held.processes 1 ≡ Some GoneProcess =
+          ap (λ (h : Held). get h.processes 1) same ∙ get-put-same buried-now 1 GoneProcess
+      in let known = due-is script first call r numbered d
+      in let over : (place-then call replies.Ended).left ≡ [] =
+          ap (λ (z : Place). z.left)
+          (answered-place (lines_of script first.number) first.caller.line first.caller.vars call replies.Ended known.first.line
+          known.first.rest known.first.left known.fine.once)
+          ∙ nothing-behind script first call known runs.ends refl
+      in enters call replies.Ended m law.next d
+      (rw leads (ap (ends_first script first status) held-now))
+      (record { not_killed = refl; not_fork = λ s ps place reply. refl })
+      (mine law.carries.makes) refl (omega arith)
+      (λ q o x. record {
+        process = law.carries.stay q new_process o o x.process;
+        away = ap (λ (h : Held). get h.processes q) same ∙ get-put-other buried-now 1 GoneProcess q o
+            ∙ buried-apart runs.alive.row.family.ended first.held.processes q (not-ended q x.process) ∙ x.away;
+        listed = λ a g. gone-not-living a (sym gone ∙ g);
+      })
+      (λ places' h. record {
+        number = u.leader.number;
+        pid = u.leader.pid;
+        none_under_way = refl;
+        stands = subst (λ x. StandsFor x first.leader law.next) (sym same) law.carries.stands;
+        life = inr (record { stage = refl; gone = gone; last = place-then call replies.Ended; place = h; over = over });
+      })
