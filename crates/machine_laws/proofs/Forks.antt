@@ -21,7 +21,7 @@ use Rattle.std.proofs.lemmas.List.Folds.{list_all-append}
 use Rattle.machine_laws.proofs.Calls.{all-from, is-true, and-left, and-right}
 
 -- how many pass a test
-abbrev hits : {X : Type 0} → (X → Bool) → List X → ℕ
+abbrev pub hits : {X : Type 0} → (X → Bool) → List X → ℕ
 hits p [] = 0
 hits p (x ∷ xs) = one_if (p x) + hits p xs
 
@@ -32,7 +32,7 @@ add-if false m = omega arith
 hits-count : {X : Type 0} (p : X → Bool) (xs : List X) → hits p xs ≡ count_by p xs
 hits-count p xs = is_count_by (hits p) p refl (λ x xs. add-if (p x) (hits p xs)) xs
 
-pub names : ℕ → Line → Bool
+abbrev pub names : ℕ → Line → Bool
 names block line = names_block block line.call
 
 -- the forks of lines, and those of block k with it
@@ -59,11 +59,10 @@ hits-line k block (calls.Fork to) = omega arith
 hits-line k block call = refl
 
 -- how often lines name a block
-pub named : ℕ → List Line → ℕ
+abbrev pub named : ℕ → List Line → ℕ
 named block lines = hits (names block) lines
 
 hits-lines : (k block : ℕ) (lines : List Line) → hits (is_to block) (pairs k (tos_of lines)) ≡ named block lines
-unfolding named names
 hits-lines k block [] = refl
 hits-lines k block (line ∷ lines) =
     let rest = hits-lines k block lines
@@ -73,28 +72,23 @@ hits-lines k block (line ∷ lines) =
 
 named-if : (block : ℕ) (line : Line) (lines rest : List Line) (b : Bool) → named block lines ≤ named block rest
     → named block (if b then line ∷ [] else line ∷ lines) ≤ named block (line ∷ rest)
-unfolding named names
 named-if block line lines rest true h = omega (arith, h)
 named-if block line lines rest false h = omega (arith, h)
 
 named-with_exit : (block : ℕ) (lines : List Line) → named block (with_exit lines) ≤ named block lines
-unfolding named names
 named-with_exit block [] = omega arith
 named-with_exit block (line ∷ lines) = named-if block line (with_exit lines) lines (is_exit line.call) (named-with_exit block lines)
 
 pub named-drop : (block i : ℕ) (lines : List Line) → named block (drop i lines) ≤ named block lines
-unfolding named names
 named-drop block zero lines = omega arith
 named-drop block (suc i) [] = omega arith
 named-drop block (suc i) (line ∷ lines) = let rest = named-drop block i lines in omega (arith, rest)
 
 pub named-cons : (block : ℕ) (line : Line) (lines : List Line) → named block (line ∷ lines) ≡ one_if (names block line) + named block lines
-unfolding named names
 named-cons block line lines = refl
 
 -- a line that names the block counts
 pub any-named : (block : ℕ) (lines : List Line) → list_any (names block) lines ≡ true → 1 ≤ named block lines
-unfolding named names
 any-named block [] h = absurd (false≢true h)
 any-named block (line ∷ lines) h =
     elim (cases_Bool (names_block block line.call)) [
@@ -152,7 +146,6 @@ named-once s r block low high =
     ]
 
 named-any : (block : ℕ) (lines : List Line) → 1 ≤ named block lines → list_any (names block) lines ≡ true
-unfolding named names
 named-any block [] h = absurd (omega (arith, h))
 named-any block (line ∷ lines) h =
     elim (cases_Bool (names_block block line.call)) [
@@ -170,7 +163,6 @@ line-forward g k block call h n = absurd (false≢true n)
 
 all-forward : (g : ℕ × ℕ → Bool) (k block : ℕ) (lines : List Line) → list_all g (pairs k (tos_of lines)) ≡ true → 1 ≤ named block lines
     → g (k, block) ≡ true
-unfolding named names
 all-forward g k block [] h l = absurd (omega (arith, l))
 all-forward g k block (line ∷ lines) h l =
     let both = sym (list_all-append g (pairs k (forked_by line.call)) (pairs k (tos_of lines)))
@@ -189,7 +181,6 @@ pub record IsForkable (s : Script) (block : ℕ) : Type 0 where
   pub by_first : is_forked_by s 1 block ≡ true
 
 pub forkable : (s : Script) → IsRunnable s → (block : ℕ) → 1 ≤ named block (lines_of s 1) → IsForkable s block
-unfolding named names
 forkable s r block h =
     elim (cases-blocks s.blocks) [
       | inl none ↦ absurd (let z : named block (lines_of s 1) ≡ 0 = ap (λ bs. named block (lines_in (slice_get bs 0))) none in omega (arith, z, h))

@@ -68,7 +68,7 @@ shared-goes-on : (call : Call) → is_shared call ≡ true → is_exit call ≡ 
 shared-goes-on (calls.Exit status) h = absurd (false≢true h)
 shared-goes-on call h = refl
 
-or-true : (b : Bool) → (b || true) ≡ true
+pub or-true : (b : Bool) → (b || true) ≡ true
 or-true true = refl
 or-true false = refl
 
@@ -95,10 +95,10 @@ ahead-behind block line rest h = rw h (or-true (names_block block line.call))
 
 module _ (script : Script) (r : IsRunnable script) (w : World) (first : Node) (k : Kernel) (places : Places) (pids : ℕ → ℕ)
     (u : IsUnderWay script w first k places pids) (runs : FirstRuns script first places pids) where
-  numbered : 1 ≤ first.number
+  pub numbered : 1 ≤ first.number
   numbered = let e = u.leader.number in omega (arith, e)
 
-  leads : is_leader first ≡ true
+  pub leads : is_leader first ≡ true
   leads = eq-eqb first.number 1 u.leader.number
 
   lives-now : living_at k first.pid ≡ Some runs.alive
@@ -106,13 +106,13 @@ module _ (script : Script) (r : IsRunnable script) (w : World) (first : Node) (k
       ap (λ x. living_at k x) u.leader.pid
       ∙ ap (option_and_then alive_in) (u.leader.stands.here.processes 1 (LivingProcess runs.alive) runs.lives)
 
-  first-lives-now : living_at k 1 ≡ Some runs.alive
+  pub first-lives-now : living_at k 1 ≡ Some runs.alive
   first-lives-now = ap (option_and_then alive_in) (u.leader.stands.here.processes 1 (LivingProcess runs.alive) runs.lives)
 
-  held-now : living_in first.held.processes first.pid ≡ Some runs.alive
+  pub held-now : living_in first.held.processes first.pid ≡ Some runs.alive
   held-now = ap (λ x. living_in first.held.processes x) u.leader.pid ∙ ap (option_and_then alive_in) runs.lives
 
-  place-there : get places first.pid ≡ Some (place_of script first)
+  pub place-there : get places first.pid ≡ Some (place_of script first)
   place-there = ap (λ x. get places x) u.leader.pid ∙ runs.place
 
   runs-call : (call : Call) → due (place_of script first) ≡ Some call → run script first ≡ starts_call script first call
@@ -121,11 +121,11 @@ module _ (script : Script) (r : IsRunnable script) (w : World) (first : Node) (k
       in run-is script first call (ap is_living runs.stage) u.leader.none_under_way
       (let t = runs.ticket in let e = known.early in let f = known.few in omega (arith, t, e, f)) d
 
-  run-in : (call : Call) (s : Step) → due (place_of script first) ≡ Some call → starts_call script first call ≡ Some s
+  pub run-in : (call : Call) (s : Step) → due (place_of script first) ≡ Some call → starts_call script first call ≡ Some s
       → step w (events.Run 1) ≡ Some (world_after w 1 s)
   run-in call s d e = step-run w 1 first s u.first_at (ap (λ x. run x first) u.of_script ∙ runs-call call d ∙ e)
 
-  elsewhere : (m : Node) (q : ℕ) → 2 ≤ q → slice_get (set w.nodes 0 m) (q - 1) ≡ slice_get w.nodes (q - 1)
+  pub elsewhere : (m : Node) (q : ℕ) → 2 ≤ q → slice_get (set w.nodes 0 m) (q - 1) ≡ slice_get w.nodes (q - 1)
   elsewhere m q l = node-other w.nodes 1 q m (omega arith) (omega arith) (λ e. omega arith)
 
   -- ---- an entry of process 1 that concerns no child
@@ -134,7 +134,7 @@ module _ (script : Script) (r : IsRunnable script) (w : World) (first : Node) (k
   abbrev beyond : ℕ
   beyond = size_of script + 2
 
-  abbrev place-then : (call : Call) (reply : Reply) → Place
+  abbrev pub place-then : (call : Call) (reply : Reply) → Place
   place-then call reply = after (place_of script first) call (Some reply)
 
   abbrev entering : (m : Node) (call : Call) (reply : Reply) → Step
@@ -185,7 +185,7 @@ module _ (script : Script) (r : IsRunnable script) (w : World) (first : Node) (k
               }) };
       }
 
-  ahead-still : {call : Call} → Due script first call → (block : ℕ)
+  pub ahead-still : {call : Call} → Due script first call → (block : ℕ)
       → list_any (λ l. names_block block l.call) (drop (first.caller.line + 1) (lines_of script first.number)) ≡ true
       → list_any (λ l. names_block block l.call) (place_of script first).left ≡ true
   ahead-still {call} known block h =
@@ -193,15 +193,17 @@ module _ (script : Script) (r : IsRunnable script) (w : World) (first : Node) (k
       in ap (list_any (λ l. names_block block l.call)) known.first.left
       ∙ ahead-behind block known.first.line known.first.rest (sym (ap (list_any (λ l. names_block block l.call)) next.1) ∙ h)
 
-  -- process 1 goes on
-  goes-on-with : (call : Call) (reply : Reply) (m : Node) (next : Kernel) (places' : Places) → due (place_of script first) ≡ Some call
+  -- process 1 goes on; what is still ahead of it isn't forked yet
+  pub goes-on-to : (call : Call) (reply : Reply) (m : Node) (next : Kernel) (places' : Places) (pids' : ℕ → ℕ)
+      → due (place_of script first) ≡ Some call
       → is_exit call ≡ false → m.number ≡ first.number → m.pid ≡ first.pid → m.stage ≡ first.stage
       → m.caller ≡ at_once script first call reply
       → StandsFor m.held m.leader next → (a : Alive) → get m.held.processes 1 ≡ Some (LivingProcess a)
-      → m.leader.next_process ≤ first.leader.next_process + 0 → m.leader.next_queue ≤ first.leader.next_queue + 1
+      → m.leader.next_process ≤ first.leader.next_process + 1 → m.leader.next_queue ≤ first.leader.next_queue + 1
       → m.leader.next_set ≤ first.leader.next_set + 1
-      → get places' 1 ≡ Some (place-then call reply) → IsLeader script m next places' pids
-  goes-on-with call reply m next places' d goes_on number pid stage caller stands a there np nq ns place =
+      → ((block : ℕ) → list_any (λ l. names_block block l.call) (drop (first.caller.line + 1) (lines_of script first.number)) ≡ true → pids' block ≡ 0)
+      → get places' 1 ≡ Some (place-then call reply) → IsLeader script m next places' pids'
+  goes-on-to call reply m next places' pids' d goes_on number pid stage caller stands a there np nq ns ahead place =
       let known = due-is script first call r numbered d
       in let place-is : place-then call reply ≡ record { left = drop (first.caller.line + 1) (lines_of script first.number); tried = 0; vars = (at_once script first call reply).vars } =
           answered-place (lines_of script first.number) first.caller.line first.caller.vars call reply known.first.line known.first.rest
@@ -229,9 +231,20 @@ module _ (script : Script) (r : IsRunnable script) (w : World) (first : Node) (k
           few_processes = omega (arith, np, fp, line);
           few_queues = omega (arith, nq, fq, line);
           few_sets = omega (arith, ns, fs, line);
-          ahead = λ block h. runs.ahead block (ahead-still known block (ap (list_any (λ l. names_block block l.call)) (sym left) ∙ h));
+          ahead = λ block h. ahead block (ap (list_any (λ l. names_block block l.call)) (sym left) ∙ h);
         });
       }
+
+  goes-on-with : (call : Call) (reply : Reply) (m : Node) (next : Kernel) (places' : Places) → due (place_of script first) ≡ Some call
+      → is_exit call ≡ false → m.number ≡ first.number → m.pid ≡ first.pid → m.stage ≡ first.stage
+      → m.caller ≡ at_once script first call reply
+      → StandsFor m.held m.leader next → (a : Alive) → get m.held.processes 1 ≡ Some (LivingProcess a)
+      → m.leader.next_process ≤ first.leader.next_process + 1 → m.leader.next_queue ≤ first.leader.next_queue + 1
+      → m.leader.next_set ≤ first.leader.next_set + 1
+      → get places' 1 ≡ Some (place-then call reply) → IsLeader script m next places' pids
+  goes-on-with call reply m next places' d goes_on number pid stage caller stands a there np nq ns place =
+      goes-on-to call reply m next places' pids d goes_on number pid stage caller stands a there np nq ns
+      (λ block h. runs.ahead block (ahead-still (due-is script first call r numbered d) block h)) place
 
   if-both : {X : Type 0} (a b : Bool) (x y : X) → a ≡ true → b ≡ true → (if a && b then x else y) ≡ x
   if-both a b x y h g = rw (h, g) refl
@@ -249,10 +262,10 @@ module _ (script : Script) (r : IsRunnable script) (w : World) (first : Node) (k
 
   -- ---- its own number, a new queue and a new set
 
-  mine : {call : Call} {reply : Reply} {next : Kernel} → Makes k 1 call reply next → Makes k first.pid call reply next
+  pub mine : {call : Call} {reply : Reply} {next : Kernel} → Makes k 1 call reply next → Makes k first.pid call reply next
   mine {call} {reply} {next} m = subst (λ x. Makes k x call reply next) (sym u.leader.pid) m
 
-  gets-pid : due (place_of script first) ≡ Some calls.GetPid → Goes script w (events.Run 1)
+  pub gets-pid : due (place_of script first) ≡ Some calls.GetPid → Goes script w (events.Run 1)
   gets-pid d =
       let reply : Reply = replies.Num first.pid
       in let m : Node = (carried_out script first calls.GetPid reply first.held).node
@@ -261,14 +274,14 @@ module _ (script : Script) (r : IsRunnable script) (w : World) (first : Node) (k
       (λ places' h. goes-on-with calls.GetPid reply m k places' d refl refl refl refl refl u.leader.stands runs.alive runs.lives
       (omega arith) (omega arith) (omega arith) h)
 
-  few-lines : {call : Call} → due (place_of script first) ≡ Some call → first.caller.line < 20000
+  pub few-lines : {call : Call} → due (place_of script first) ≡ Some call → first.caller.line < 20000
   few-lines {call} d =
       let known = due-is script first call r numbered d
       in let e = known.early
       in let f = known.few
       in omega (arith, e, f)
 
-  new-queue : (create excl : Bool) → due (place_of script first) ≡ Some (calls.MsgGet None create excl) → Goes script w (events.Run 1)
+  pub new-queue : (create excl : Bool) → due (place_of script first) ≡ Some (calls.MsgGet None create excl) → Goes script w (events.Run 1)
   new-queue create excl d =
       let call : Call = calls.MsgGet None create excl
       in let number : ℕ = first.leader.next_queue
@@ -322,7 +335,7 @@ module _ (script : Script) (r : IsRunnable script) (w : World) (first : Node) (k
       (λ places' h. goes-on-with call reply m k places' d refl refl refl refl refl u.leader.stands runs.alive runs.lives
       (omega arith) (omega arith) (omega arith) h)
 
-  set-by : (count : ℕ) (create excl : Bool) (o : Result (List Semaphore) Errno) → new_set count ≡ o
+  pub set-by : (count : ℕ) (create excl : Bool) (o : Result (List Semaphore) Errno) → new_set count ≡ o
       → due (place_of script first) ≡ Some (calls.SemGet None count create excl) → Goes script w (events.Run 1)
   set-by count create excl (Ok set) made d = new-set count create excl set made d
   set-by count create excl (Err error) made d = bad-set count create excl error made d
@@ -351,13 +364,13 @@ module _ (script : Script) (r : IsRunnable script) (w : World) (first : Node) (k
   served-by call None shared waits h s d = absurd (false≢true s)
   served-by call (Some e) shared waits h s d = serves call e shared waits h d
 
-  shared-call : (call : Call) → is_shared call ≡ true → is_waiting call ≡ false → due (place_of script first) ≡ Some call
+  pub shared-call : (call : Call) → is_shared call ≡ true → is_waiting call ≡ false → due (place_of script first) ≡ Some call
       → Goes script w (events.Run 1)
   shared-call call shared waits d = served-by call _ shared waits refl (shared_calls first.held first.pid call shared waits) d
 
   -- ---- the exit
 
-  ends : (status : ℕ) → due (place_of script first) ≡ Some (calls.Exit status) → Goes script w (events.Run 1)
+  pub ends : (status : ℕ) → due (place_of script first) ≡ Some (calls.Exit status) → Goes script w (events.Run 1)
   ends status d =
       let call : Call = calls.Exit status
       in let held : Held = first_ended first.held first.pid runs.alive (Exited (status % 256))

@@ -13,3 +13,6 @@ pub mod LeaderTakes
 pub mod Forks
 pub mod Rising
 pub mod LeaderRuns
+pub mod LeaderForks
+pub mod Opening
+pub mod Events
