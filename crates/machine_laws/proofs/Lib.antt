@@ -16,3 +16,4 @@ pub mod LeaderRuns
 pub mod LeaderForks
 pub mod Opening
 pub mod Events
+pub mod Runs

@@ -37,13 +37,13 @@ step-take w p q n f fs s a h r =
     ap (λ x. takes_at w p q x (stream w p q)) a ∙ ap (takes_at w p q (Some n)) h
     ∙ ap (after_turn (record w { streams = with_stream w.streams p q fs }) p) r
 
-can-run : (stage : Stage) (call : Option Call) → is_living stage ≡ true → call ≡ None → (is_living stage && not (is_some call)) ≡ true
+pub can-run : (stage : Stage) (call : Option Call) → is_living stage ≡ true → call ≡ None → (is_living stage && not (is_some call)) ≡ true
 can-run stage call l c = rw (l, c) refl
 
 if-true : {X : Type 0} (b : Bool) (x y : X) → b ≡ true → (if b then x else y) ≡ x
 if-true b x y h = rw h refl
 
-and-true : (a b : Bool) → a ≡ true → b ≡ true → (a && b) ≡ true
+pub and-true : (a b : Bool) → a ≡ true → b ≡ true → (a && b) ≡ true
 and-true a b h g = rw (h, g) refl
 
 pub run-is : (script : Script) (n : Node) (call : Call) → is_living n.stage ≡ true → n.caller.under_way ≡ None
