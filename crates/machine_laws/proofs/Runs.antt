@@ -20,11 +20,11 @@ use Rattle.machine_model.specs.Laws.{JournalsAreLegal, RestIsWhole, EnabledEvent
 use Rattle.machine_laws.specs.Situations.{Situation, Awaited, Forked, Free, Asking, Answered, Telling, Recalled, HandedOver, Gone, IsIn}
 use Rattle.machine_laws.specs.Invariant.{IsUnderWay, IsChild, HasInvariant, sight}
 use Rattle.machine_laws.proofs.Lines.{some-is}
-use Rattle.machine_laws.proofs.Steps.{can-run, and-true}
+use Rattle.machine_laws.proofs.Steps.{Goes, can-run, and-true}
 use Rattle.machine_laws.proofs.Opening.{opening-holds}
 use Rattle.machine_laws.proofs.Events as events_of
 
-pub goes-from : (script : Script) → IsRunnable script → (w : World) → HasInvariant script w → (e : Event) → is_enabled w e ≡ true → _
+pub goes-from : (script : Script) → IsRunnable script → (w : World) → HasInvariant script w → (e : Event) → is_enabled w e ≡ true → Goes script w e
 goes-from script r w i e h = events_of.goes script r w i.first i.kernel i.places i.pids i.under_way e h
 
 pub along : (script : Script) → IsRunnable script → (w last : World) (es : List Event) → HasInvariant script w → Runs w es last → HasInvariant script last
