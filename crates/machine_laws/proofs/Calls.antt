@@ -193,3 +193,12 @@ few-in script r p low (Some b) h =
 
 pub lines-few : (script : Script) → IsRunnable script → (p : ℕ) → 1 ≤ p → length (lines_of script p) ≤ 20000
 lines-few script r p low = few-in script r p low (block_at script p) refl
+
+-- and a block's calls are at least its lines
+pub calls-enough : (script : Script) → IsRunnable script → (p : ℕ) → 1 ≤ p → (b : Block) → block_at script p ≡ Some b
+    → length (lines_of script p) ≤ calls_in b
+calls-enough script r p low b h =
+    let enough : length (with_exit b.lines) ≤ calls_in b =
+        tries-enough p (with_exit b.lines) (subst (λ o. AllByRecursion (IsFine p) (lines_in o)) h (lines-fine script r p low))
+    in let same : lines_of script p ≡ with_exit b.lines = ap lines_in h
+    in subst (λ ls. length ls ≤ calls_in b) (sym same) enough

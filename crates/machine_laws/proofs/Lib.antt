@@ -17,3 +17,5 @@ pub mod LeaderForks
 pub mod Opening
 pub mod Events
 pub mod Runs
+pub mod Sums
+pub mod Weights
