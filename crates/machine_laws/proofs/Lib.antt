@@ -19,3 +19,4 @@ pub mod Events
 pub mod Runs
 pub mod Sums
 pub mod Weights
+pub mod OneOwner
