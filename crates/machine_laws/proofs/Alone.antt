@@ -1,5 +1,5 @@
 -- An event that concerns one child alone: no entry, and the leader stays as it is.
-use Rattle.std.proofs.Common.{◌≡◌, ◌≢◌, ℕ, ◌+◌, ◌-◌, ◌<◌, ◌≤◌, List, [], ◌∷◌, length, Option, Some, None, refl, ap, sym, subst, ◌∙◌, arith}
+use Rattle.std.proofs.Common.{◌≡◌, ◌≢◌, ℕ, ◌-◌, ◌≤◌, List, length, refl, ap, sym, subst, ◌∙◌, arith}
 use Rattle.std.specs.Prelude.{set, slice_get}
 use Rattle.std.proofs.lemmas.List.{length-set}
 use Rattle.pico_base.specs.declared.reply.Entry.{Entry}
@@ -22,7 +22,7 @@ pub moves-alone : (script : Script) (w : World) (first : Node) (k : Kernel) (pla
     → IsChild script w' first k places p (pids p) → HasInvariant script w'
 moves-alone script w first k places pids u p low high w' m a b of nodes changes journal child =
     let elsewhere : (q : ℕ) → 1 ≤ q → q ≢ p → node_at w' q ≡ node_at w q =
-        λ q l o. ap (λ (ns : List Node). slice_get ns (q - 1)) nodes ∙ node-other w.nodes p q m (omega arith) l o
+    λ q l o. ap (λ (ns : List Node). slice_get ns (q - 1)) nodes ∙ node-other w.nodes p q m (omega arith) l o
     in record {
       first = first;
       kernel = k;

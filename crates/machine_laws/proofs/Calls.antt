@@ -1,21 +1,21 @@
 -- What is known of the call that is due.
-use Rattle.std.proofs.Common.{◌≡◌, ◌≢◌, ◌⊎◌, ℕ, zero, suc, ◌+◌, ◌-◌, ◌<◌, ◌≤◌, Bool, true, false, cond, List, [], ◌∷◌, ◌++◌, length, drop, Option, Some, None, refl, ap, sym, subst, ◌∙◌, inl, inr, arith}
-use Rattle.std.specs.Prelude.{◌&&◌, not, slice_get, nat_eq, nat_le, IsTrue, if◌then◌else◌, sum_by}
+use Rattle.std.proofs.Common.{◌≡◌, ◌⊎◌, ℕ, zero, suc, ◌+◌, ◌-◌, ◌≤◌, Bool, true, false, List, [], ◌∷◌, length, Option, Some, None, refl, ap, sym, subst, ◌∙◌, inl, inr, arith}
+use Rattle.std.specs.Prelude.{◌&&◌, not, slice_get, IsTrue, if◌then◌else◌, sum_by}
 use Rattle.std.specs.List.{AllByRecursion, list_all, enumerate_from}
 use Rattle.pico_base.specs.declared.call.Call.{Call}
 use Rattle.pico_base.specs.declared.call.Call.TheVariants as calls
 use Rattle.pico_base.specs.declared.script.Line.{Line}
 use Rattle.pico_base.specs.declared.script.Block.{Block}
 use Rattle.pico_base.specs.declared.script.Script.{Script}
-use Rattle.kernel_model.specs.Script.{Vars, naming, call_of, call_from, implied_exit, is_exit, with_exit, each_line, calls_in}
+use Rattle.kernel_model.specs.Script.{Vars, naming, call_of, call_from, implied_exit, is_exit, with_exit, calls_in}
 use Rattle.kernel_model.specs.Waiting.{is_waiting}
 use Rattle.kernel_model.specs.Fitting.{block_at}
-use Rattle.machine_model.specs.Built.{IsRunnable, is_built, is_built_line, is_built_block, is_shared}
+use Rattle.machine_model.specs.Built.{IsRunnable, is_built, is_built_line, is_built_block}
 use Rattle.machine_model.specs.Node.{lines_in, lines_of}
 use Rattle.machine_model.specs.Frames.{names_block}
 use Rattle.std.proofs.lemmas.Bool.{false≢true, eqb-true, leb-true}
 use Rattle.std.proofs.lemmas.List.Sums.{sum_by-cons}
-use Rattle.machine_laws.proofs.Lines.{all-at, some-is}
+use Rattle.machine_laws.proofs.Lines.{some-is}
 
 -- the number in place of a call's process or object changes nothing of its kind
 
@@ -139,7 +139,7 @@ fine-block script r p low None h = tt
 fine-block script r p low (Some b) h =
     let same : 1 + (p - 1) ≡ p = omega arith
     in let built : is_built_block (p, b) ≡ true =
-        subst (λ q. is_built_block (q, b) ≡ true) same (all-from is_built_block 1 script.blocks (p - 1) b (is-true _ r.built) h)
+    subst (λ q. is_built_block (q, b) ≡ true) same (all-from is_built_block 1 script.blocks (p - 1) b (is-true _ r.built) h)
     in fine-lines p b.lines built (all-get _ script.blocks (p - 1) b (is-true _ r.sound.at_once) h)
 
 pub lines-fine : (script : Script) → IsRunnable script → (p : ℕ) → 1 ≤ p → AllByRecursion (IsFine p) (lines_of script p)
@@ -188,7 +188,7 @@ few-in script r p low (Some b) h =
     let all : sum_by calls_in script.blocks ≤ 20000 = leb-true _ _ (is-true _ r.sound.calls)
     in let one : calls_in b ≤ sum_by calls_in script.blocks = sum-at calls_in script.blocks (p - 1) b h
     in let enough : length (with_exit b.lines) ≤ calls_in b =
-        tries-enough p (with_exit b.lines) (subst (λ o. AllByRecursion (IsFine p) (lines_in o)) h (lines-fine script r p low))
+    tries-enough p (with_exit b.lines) (subst (λ o. AllByRecursion (IsFine p) (lines_in o)) h (lines-fine script r p low))
     in omega (arith, all, one, enough)
 
 pub lines-few : (script : Script) → IsRunnable script → (p : ℕ) → 1 ≤ p → length (lines_of script p) ≤ 20000
@@ -199,6 +199,6 @@ pub calls-enough : (script : Script) → IsRunnable script → (p : ℕ) → 1 �
     → length (lines_of script p) ≤ calls_in b
 calls-enough script r p low b h =
     let enough : length (with_exit b.lines) ≤ calls_in b =
-        tries-enough p (with_exit b.lines) (subst (λ o. AllByRecursion (IsFine p) (lines_in o)) h (lines-fine script r p low))
+    tries-enough p (with_exit b.lines) (subst (λ o. AllByRecursion (IsFine p) (lines_in o)) h (lines-fine script r p low))
     in let same : lines_of script p ≡ with_exit b.lines = ap lines_in h
     in subst (λ ls. length ls ≤ calls_in b) (sym same) enough

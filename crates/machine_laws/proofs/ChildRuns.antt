@@ -1,9 +1,9 @@
 -- A child's process starts its next call.
-use Rattle.std.proofs.Common.{◌≡◌, ◌≢◌, ◌⊎◌, ℕ, ◌+◌, ◌-◌, ◌<◌, ◌≤◌, Bool, true, false, List, [], ◌∷◌, ◌++◌, length, drop, Option, Some, None, refl, ap, sym, subst, ◌∙◌, inl, inr, arith}
-use Rattle.std.specs.Prelude.{◌&&◌, nat_eq, set, slice_get}
+use Rattle.std.proofs.Common.{◌≡◌, ◌≢◌, ℕ, ◌+◌, ◌-◌, ◌≤◌, Bool, true, false, [], ◌∷◌, ◌++◌, Some, None, refl, ap, sym, subst, ◌∙◌, inl, inr, arith}
+use Rattle.std.specs.Prelude.{◌&&◌, nat_eq}
 use Rattle.std.specs.Option.{option_and_then}
 use Rattle.std.proofs.lemmas.List.{length-set, append-nil}
-use Rattle.std.proofs.lemmas.Bool.{false≢true, eqb-false, ne_eqb}
+use Rattle.std.proofs.lemmas.Bool.{false≢true, ne_eqb}
 use Rattle.pico_base.specs.declared.call.Call.{Call}
 use Rattle.pico_base.specs.declared.call.Call.TheVariants as calls
 use Rattle.pico_base.specs.declared.reply.Reply.{Reply}
@@ -13,26 +13,24 @@ use Rattle.pico_base.specs.declared.script.Event.TheVariants as events
 use Rattle.rpc_frame.specs.declared.frame.Frame.{Frame}
 use Rattle.rpc_frame.specs.declared.frame.Frame.TheVariants as frames
 use Rattle.kernel_model.specs.Maps.{get, put}
-use Rattle.kernel_model.specs.Kernel.{Kernel, alive_in, living_at, opening}
-use Rattle.kernel_model.specs.History.{Replays}
+use Rattle.kernel_model.specs.Kernel.{Kernel, alive_in, living_at}
 use Rattle.kernel_model.specs.Script.{is_exit}
-use Rattle.kernel_model.specs.Fitting.{Place, Places, Follows, opening_places, due, after}
+use Rattle.kernel_model.specs.Fitting.{Places, due}
 use Rattle.kernel_model.specs.Waiting.{is_waiting}
 use Rattle.machine_model.specs.Built.{IsRunnable, is_shared, is_built}
-use Rattle.machine_model.specs.Node.{Node, Living, Leaving, is_living, new_process, only, place_of, lines_of}
-use Rattle.machine_model.specs.Calls.{Step, run, starts_call, shares, asks, leaves, carried_out, at_once, number_end}
+use Rattle.machine_model.specs.Node.{Node, is_living, new_process, place_of, lines_of}
+use Rattle.machine_model.specs.Calls.{Step, run, starts_call, shares, asks, leaves, carried_out}
 use Rattle.machine_model.specs.World.{World, node_at, stream, stream_in, with_stream, size_of, after as world_after, step}
 use Rattle.deed_laws.specs.Carrying.{Makes}
 use Rattle.deed_laws.proofs.Steps.{own_calls}
-use Rattle.machine_laws.specs.Lines.{EndsInExit}
-use Rattle.machine_laws.specs.Situations.{Situation, Free, Asking, Telling, Sight, IsFree, IsAsking, TellsEnd, HasCall, HasExit, IsBorn, Lives}
+use Rattle.machine_laws.specs.Situations.{Free, Asking, Telling, IsFree, Lives}
 use Rattle.machine_laws.specs.Invariant.{IsUnderWay, IsChild, HasInvariant, sight}
-use Rattle.machine_laws.proofs.Streams.{Changes, changes-none, changes-from}
+use Rattle.machine_laws.proofs.Streams.{changes-none, changes-from}
 use Rattle.machine_laws.proofs.Lines.{answered-place}
 use Rattle.machine_laws.proofs.Nodes.{node-same, node-other}
-use Rattle.machine_laws.proofs.Entries.{GoesOn, goes-on, IsOrdinary}
+use Rattle.machine_laws.proofs.Entries.{goes-on}
 use Rattle.machine_laws.proofs.Moves.{Keeps, News, goes-over, square-of}
-use Rattle.machine_laws.proofs.Steps.{Goes, Due, due-is, run-is, step-run, ends-behind}
+use Rattle.machine_laws.proofs.Steps.{Goes, due-is, run-is, step-run, ends-behind}
 use Rattle.machine_laws.proofs.Rests.{leader-places, known-after, born-again}
 use Rattle.machine_laws.proofs.Alone.{moves-alone}
 
@@ -77,58 +75,63 @@ module _ (script : Script) (r : IsRunnable script) (w : World) (first : Node) (k
       in let s : Step = carried_out script n calls.GetPid reply n.held
       in let w' : World = world_after w p s
       in let makes : Makes k n.pid calls.GetPid reply k =
-          own_calls k n.pid new_process u.leader.stands.plain
-          (ap (λ x. living_at k x) free.born.process ∙ ap (option_and_then alive_in) lives.process)
+      own_calls k n.pid new_process u.leader.stands.plain
+      (ap (λ x. living_at k x) free.born.process ∙ ap (option_and_then alive_in) lives.process)
       in let goes = goes-on script w.journal k k places n.number n.pid calls.GetPid reply (place_of script n) (place_of script s.node)
-          u.legal u.fits u.ordered place-there d (record { not_killed = refl; not_fork = λ s ps place reply. refl }) makes
-          (answered-place (lines_of script n.number) n.caller.line n.caller.vars calls.GetPid reply known.first.line known.first.rest
-          known.first.left known.fine.once)
+      u.legal u.fits u.ordered place-there d (record { not_killed = refl; not_fork = λ s ps place reply. refl }) makes
+      (answered-place (lines_of script n.number) n.caller.line n.caller.vars calls.GetPid reply known.first.line known.first.rest
+      known.first.left known.fine.once)
       in let places' : Places = put places n.pid (place_of script s.node)
       in let keeps : Keeps script w w' first first k k places places' pids pids p =
-          record {
-            script_stays = refl;
-            count = length-set w.nodes (p - 1) s.node;
-            frames_to = _;
-            frames_from = _;
-            streams = changes-none (size_of script) p w.streams (square-of script w first k places pids u);
-            nodes = λ q l o. node-other w.nodes p q s.node (omega arith) (omega arith) o;
-            partings = λ q l o. refl;
-            pids_stay = λ q l o. refl;
-            places_stay = λ q l h o. goes.other (pids q) (other-pid q o);
-            lives = λ q l h o x. x;
-          }
+      record {
+        script_stays = refl;
+        count = length-set w.nodes (p - 1) s.node;
+        frames_to = _;
+        frames_from = _;
+        streams = changes-none (size_of script) p w.streams (square-of script w first k places pids u);
+        nodes = λ q l o. node-other w.nodes p q s.node (omega arith) (omega arith) o;
+        partings = λ q l o. refl;
+        pids_stay = λ q l o. refl;
+        places_stay = λ q l h o. goes.other (pids q) (other-pid q o);
+        lives = λ q l h o x. x;
+      }
       in let news : News script w' first k places' pids p =
-          record {
-            legal = goes.legal;
-            fits = goes.fits;
-            ordered = goes.ordered_places;
-            first_at = node-other w.nodes p 1 s.node (omega arith) (omega arith) (λ e. omega arith) ∙ u.first_at;
-            leader = leader-places script first k places places' pids (goes.other 1 (λ e. not-first (sym e))) u.leader;
-            child = λ h. record {
-              situation = Free;
-              node = s.node;
-              at = node-same w.nodes p n s.node at;
-              is_in = record {
-                born = born-again p (pids p) n s.node free.born refl refl refl refl;
-                has = record { has_stage = free.has.has_stage; has_call = refl; has_deeds = free.has.has_deeds };
-                ticket = ap (λ x. x + 1) free.ticket;
-                shows = record { to_it = free.shows.to_it; from_it = free.shows.from_it; parting = free.shows.parting };
-                at = record {
-                  place = subst (λ x. get places' x ≡ Some (place_of script s.node)) free.born.process goes.here;
-                  ends = ends-behind script n calls.GetPid known free.at.ends refl;
-                };
-              };
-              lives = lives;
+      record {
+        legal = goes.legal;
+        fits = goes.fits;
+        ordered = goes.ordered_places;
+        first_at = node-other w.nodes p 1 s.node (omega arith) (omega arith) (λ e. omega arith) ∙ u.first_at;
+        leader = leader-places script first k places places' pids (goes.other 1 (λ e. not-first (sym e))) u.leader;
+        child = λ h. record {
+          situation = Free;
+          node = s.node;
+          at = node-same w.nodes p n s.node at;
+          is_in = record {
+            born = born-again p (pids p) n s.node free.born refl refl refl refl;
+            has = record { has_stage = free.has.has_stage; has_call = refl; has_deeds = free.has.has_deeds };
+            ticket = ap (λ x. x + 1) free.ticket;
+            shows = record { to_it = free.shows.to_it; from_it = free.shows.from_it; parting = free.shows.parting };
+            at = record {
+              place = subst (λ x. get places' x ≡ Some (place_of script s.node)) free.born.process goes.here;
+              ends = ends-behind script n calls.GetPid known free.at.ends refl;
             };
-            apart = u.apart;
-            below = u.below;
-            known = known-after script places places' pids n.pid (place_of script n) u.known place-there goes.other;
-          }
+          };
+          lives = lives;
+        };
+        apart = u.apart;
+        below = u.below;
+        known = known-after script places places' pids n.pid (place_of script n) u.known place-there goes.other;
+      }
       in record {
         next = w';
         is_step = run-in calls.GetPid s d refl;
-        keeps = record { first = first; kernel = k; places = places'; pids = pids;
-          under_way = goes-over script w w' first first k k places places' pids pids p low u keeps news };
+        keeps = record {
+          first = first;
+          kernel = k;
+          places = places';
+          pids = pids;
+          under_way = goes-over script w w' first first k k places places' pids pids p low u keeps news;
+        };
       }
 
   -- ---- it asks the leader for a shared call, or tells it that it ends: no entry, and one frame to the leader

@@ -1,6 +1,6 @@
 -- A child takes a frame from the leader.
-use Rattle.std.proofs.Common.{◌≡◌, ◌≢◌, ◌⊎◌, ℕ, ◌+◌, ◌-◌, ◌<◌, ◌≤◌, Bool, true, false, List, [], ◌∷◌, ◌++◌, length, drop, Option, Some, None, refl, ap, sym, subst, ◌∙◌, inl, inr, arith}
-use Rattle.std.specs.Prelude.{◌&&◌, nat_eq, nat_lt, set, slice_get, bytes_eq}
+use Rattle.std.proofs.Common.{◌≡◌, ℕ, ◌-◌, ◌≤◌, true, false, [], ◌∷◌, ◌++◌, Option, Some, None, refl, ap, sym, subst, ◌∙◌, inl, inr, arith}
+use Rattle.std.specs.Prelude.{nat_lt, bytes_eq}
 use Rattle.std.proofs.lemmas.List.{append-nil}
 use Rattle.std.proofs.lemmas.Bool.{false≢true, eq-eqb, lt-ltb}
 use Rattle.std.proofs.lemmas.Option.{slice_get_cases}
@@ -15,17 +15,17 @@ use Rattle.rpc_frame.specs.declared.frame.Frame.TheVariants as frames
 use Rattle.kernel_model.specs.Maps.{get}
 use Rattle.kernel_model.specs.Kernel.{Kernel}
 use Rattle.kernel_model.specs.Script.{Vars, is_exit}
-use Rattle.kernel_model.specs.Fitting.{Place, Places, due, after, block_at}
+use Rattle.kernel_model.specs.Fitting.{Places, after, block_at}
 use Rattle.machine_model.specs.Built.{IsRunnable, is_shared}
-use Rattle.machine_model.specs.Node.{Node, Stage, Living, Leaving, Left, is_unborn, is_leaving, nothing, only, unborn_node, place_of, lines_in, lines_of}
+use Rattle.machine_model.specs.Node.{Node, Leaving, Left, is_unborn, nothing, unborn_node, place_of, lines_in, lines_of}
 use Rattle.machine_model.specs.Deeds.{new_body, new_deed, is_new_deed, is_process}
 use Rattle.machine_model.specs.Calls.{Step, answered}
-use Rattle.machine_model.specs.Frames.{takes, takes_checkpoint, takes_answer, takes_recall, hands_over, is_awaited, is_forked_by, are_rising, born, parcel_of}
+use Rattle.machine_model.specs.Frames.{takes, is_awaited, is_forked_by, are_rising, born, parcel_of}
 use Rattle.machine_model.specs.World.{World, Streams, node_at, stream, stream_in, with_stream, size_of, after as world_after, step}
 use Rattle.machine_laws.specs.Lines.{EndsInExit}
-use Rattle.machine_laws.specs.Situations.{Situation, Free, HandedOver, Sight, IsForked, IsAnswered, IsRecalled, HasCall, HasExit, Lives}
+use Rattle.machine_laws.specs.Situations.{Free, HandedOver, IsForked, IsAnswered, IsRecalled, Lives}
 use Rattle.machine_laws.specs.Invariant.{IsUnderWay, IsChild, HasInvariant, sight}
-use Rattle.machine_laws.proofs.Streams.{Changes, changes-to, changes-from, changes-both, square-with}
+use Rattle.machine_laws.proofs.Streams.{Changes, changes-to, changes-from, changes-both}
 use Rattle.machine_laws.proofs.Lines.{answered-place, ends-with_exit}
 use Rattle.machine_laws.proofs.Nodes.{node-same}
 use Rattle.machine_laws.proofs.Moves.{square-of}
@@ -127,8 +127,8 @@ module _ (script : Script) (r : IsRunnable script) (w : World) (first : Node) (k
       in let numbered : 1 ≤ n.number = let b = i.has.born.number in omega (arith, b)
       in let known = due-is script n call r numbered i.has.is_due
       in let place-is : after (place_of script n) call (Some reply) ≡ place_of script m =
-          answered-place (lines_of script n.number) n.caller.line n.caller.vars call reply known.first.line known.first.rest
-          known.first.left known.fine.once
+      answered-place (lines_of script n.number) n.caller.line n.caller.vars call reply known.first.line known.first.rest
+      known.first.left known.fine.once
       in record {
         next = world_after without-first p (quietly m);
         is_step = takes-in _ (quietly m) i.shows.to_it (answer-rule call reply i.has.has.has_call i.has.shared);
@@ -170,7 +170,7 @@ module _ (script : Script) (r : IsRunnable script) (w : World) (first : Node) (k
       in let f : Frame = frames.Left (parcel_of n (calls.Exit status))
       in let mid : Streams = with_stream w.streams p 1 []
       in let changes = changes-both (size_of script) p w.streams mid _ _ _ _ _ taken
-          (changes-from (size_of script) p mid (stream_in mid 1 p ++ f ∷ []) taken.square low high)
+      (changes-from (size_of script) p mid (stream_in mid 1 p ++ f ∷ []) taken.square low high)
       in let w' : World = world_after without-first p (handing status)
       in record {
         next = w';

@@ -1,6 +1,6 @@
 -- One more entry in the journal.
-use Rattle.std.proofs.Common.{◌≡◌, ◌≢◌, ◌⊎◌, ℕ, ◌+◌, ◌<◌, ◌≤◌, Bool, true, false, cond, List, [], ◌∷◌, ◌++◌, Option, Some, None, refl, ap, sym, subst, ◌∙◌, inl, inr}
-use Rattle.std.proofs.lemmas.Bool.{cases_eq, false≢true}
+use Rattle.std.proofs.Common.{◌≡◌, ◌≢◌, ℕ, false, List, [], ◌∷◌, ◌++◌, Option, Some, refl, ap, sym, subst, ◌∙◌, inl, inr}
+use Rattle.std.proofs.lemmas.Bool.{cases_eq}
 use Rattle.pico_base.specs.declared.call.Call.{Call}
 use Rattle.pico_base.specs.declared.call.Call.TheVariants as calls
 use Rattle.pico_base.specs.declared.reply.Reply.{Reply}
@@ -56,8 +56,8 @@ pub goes-on : (s : Script) (h : List Entry) (k next : Kernel) (places : Places) 
     → GoesOn s h k places node pid call reply place then next (put places pid then)
 goes-on s h k next places node pid call reply place then legal fits ord at is_due plain makes goes =
     let leads : places_after s places (entry_by node pid call reply) place ≡ put places pid then =
-        plain.not_fork s (put places pid (moved place call (Some reply))) place (Some reply)
-        ∙ ap (λ x. put places pid x) (moved-is place call (Some reply) plain.not_killed ∙ goes)
+    plain.not_fork s (put places pid (moved place call (Some reply))) place (Some reply)
+    ∙ ap (λ x. put places pid x) (moved-is place call (Some reply) plain.not_killed ∙ goes)
     in record {
       legal = replays-more opening k next h (entry_by node pid call reply) legal makes.step;
       fits = subst (λ (x : Places). Follows s (opening_places s) (h ++ entry_by node pid call reply ∷ []) x) leads
@@ -80,19 +80,21 @@ forks-on s h k next places node pid block child place then legal fits ord at is_
     in let begins : Place = block_place (block_at s block) (child_vars place)
     in let after_places : Places = put (put places pid then) child begins
     in let leads : places_after s places e place ≡ after_places =
-        ap (λ x. put (put places pid x) child begins) goes
-    in (after_places,
-    record {
-      legal = replays-more opening k next h e legal makes.step;
-      fits = subst (λ (x : Places). Follows s (opening_places s) (h ++ e ∷ []) x) leads
-          (follows-more s (opening_places s) places h e place fits at (inl is_due));
-      ordered_places = ordered-put _ child begins (ordered-put places pid then ord);
-      here = get-put-other (put places pid then) child begins pid (λ x. apart (sym x)) ∙ get-put-same places pid then;
-      other = λ p o. elim (cases_eq p child) [
-        | inl same ↦ ap (λ q. get after_places q) same ∙ get-put-same (put places pid then) child begins
-            ∙ sym (get-put-same places child begins) ∙ ap (λ q. get (put places child begins) q) (sym same)
-        | inr differs ↦ get-put-other (put places pid then) child begins p differs ∙ get-put-other places pid then p o
-            ∙ sym (get-put-other places child begins p differs)
-      ];
-    },
-    get-put-same (put places pid then) child begins)
+    ap (λ x. put (put places pid x) child begins) goes
+    in (
+      after_places,
+      record {
+        legal = replays-more opening k next h e legal makes.step;
+        fits = subst (λ (x : Places). Follows s (opening_places s) (h ++ e ∷ []) x) leads
+            (follows-more s (opening_places s) places h e place fits at (inl is_due));
+        ordered_places = ordered-put _ child begins (ordered-put places pid then ord);
+        here = get-put-other (put places pid then) child begins pid (λ x. apart (sym x)) ∙ get-put-same places pid then;
+        other = λ p o. elim (cases_eq p child) [
+          | inl same ↦ ap (λ q. get after_places q) same ∙ get-put-same (put places pid then) child begins
+              ∙ sym (get-put-same places child begins) ∙ ap (λ q. get (put places child begins) q) (sym same)
+          | inr differs ↦ get-put-other (put places pid then) child begins p differs ∙ get-put-other places pid then p o
+              ∙ sym (get-put-other places child begins p differs)
+        ];
+      },
+      get-put-same (put places pid then) child begins,
+    )

@@ -1,6 +1,6 @@
 -- Every enabled event has a step, which keeps the invariant.
-use Rattle.std.proofs.Common.{◌≡◌, ◌≢◌, ◌⊎◌, ℕ, ◌+◌, ◌-◌, ◌<◌, ◌≤◌, Bool, true, false, List, [], ◌∷◌, length, get_or, Option, Some, None, refl, ap, sym, subst, ◌∙◌, inl, inr, arith}
-use Rattle.std.specs.Prelude.{◌&&◌, ◌||◌, not, is_some, slice_get}
+use Rattle.std.proofs.Common.{◌≡◌, ℕ, ◌-◌, ◌≤◌, true, false, List, [], ◌∷◌, length, get_or, Option, Some, None, refl, ap, sym, subst, ◌∙◌, inl, inr, arith}
+use Rattle.std.specs.Prelude.{◌&&◌, not, is_some}
 use Rattle.std.proofs.lemmas.List.{get_or_past}
 use Rattle.std.proofs.lemmas.Option.{slice_get_within}
 use Rattle.std.proofs.lemmas.Bool.{false≢true, ltb-true, cases_eq, cases_lt}
@@ -14,12 +14,12 @@ use Rattle.kernel_model.specs.Kernel.{Kernel}
 use Rattle.kernel_model.specs.Script.{call_of}
 use Rattle.kernel_model.specs.Waiting.{is_waiting}
 use Rattle.kernel_model.specs.Fitting.{Places, due, call_due}
-use Rattle.machine_model.specs.Built.{IsRunnable, is_built, is_private}
+use Rattle.machine_model.specs.Built.{IsRunnable, is_built}
 use Rattle.machine_model.specs.Node.{Node, Stage, is_living, can_run, place_of}
-use Rattle.machine_model.specs.World.{World, node_at, stream, size_of, step, is_enabled, is_run_enabled, is_take_enabled}
+use Rattle.machine_model.specs.World.{World, node_at, stream, size_of, is_enabled, is_run_enabled, is_take_enabled}
 use Rattle.machine_laws.specs.Lines.{EndsInExit}
 use Rattle.machine_laws.specs.Situations.{Situation, Awaited, Forked, Free, Asking, Answered, Telling, Recalled, HandedOver, Gone, IsIn, LivesIn}
-use Rattle.machine_laws.specs.Invariant.{IsUnderWay, FirstRuns, FirstIsOver, IsChild, HasInvariant, sight}
+use Rattle.machine_laws.specs.Invariant.{IsUnderWay, FirstRuns, sight}
 use Rattle.machine_laws.proofs.Lines.{ends-some, some-is, not-nil}
 use Rattle.machine_laws.proofs.Calls.{and-left, and-right}
 use Rattle.machine_laws.proofs.Steps.{Goes, due-is}
@@ -43,7 +43,6 @@ under-way stage call s h = absurd (false≢true (sym (ap not s) ∙ and-right _ 
 
 module _ (script : Script) (r : IsRunnable script) (w : World) (first : Node) (k : Kernel) (places : Places) (pids : ℕ → ℕ)
     (u : IsUnderWay script w first k places pids) where
-
   -- ---- runs
 
   first-call : FirstRuns script first places pids → (call : Call) → due (place_of script first) ≡ Some call → is_built first.number call ≡ true

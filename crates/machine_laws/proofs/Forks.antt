@@ -1,16 +1,15 @@
 -- The forks of a block's lines: forward, and each block once.
-use Rattle.std.proofs.Common.{◌≡◌, ◌≢◌, ◌⊎◌, ℕ, zero, suc, ◌+◌, ◌-◌, ◌<◌, ◌≤◌, Bool, true, false, cond, List, [], ◌∷◌, ◌++◌, length, map, drop, Option, Some, None, refl, ap, sym, subst, ◌∙◌, inl, inr, arith}
-use Rattle.std.specs.Prelude.{◌&&◌, ◌||◌, nat_eq, nat_lt, nat_le, slice_get, count_by, if◌then◌else◌, IsTrue}
+use Rattle.std.proofs.Common.{◌≡◌, ◌⊎◌, ℕ, zero, suc, ◌+◌, ◌-◌, ◌≤◌, Bool, true, false, cond, List, [], ◌∷◌, ◌++◌, length, map, drop, refl, ap, sym, subst, ◌∙◌, inl, inr, arith}
+use Rattle.std.specs.Prelude.{◌||◌, nat_eq, slice_get, count_by, if◌then◌else◌}
 use Rattle.std.specs.List.{list_all, list_any, flat_map, enumerate_from}
 use Rattle.std.proofs.lemmas.List.Recursion.{is_count_by}
-use Rattle.std.proofs.lemmas.Bool.{false≢true, eqb-true, eq-eqb, ne_eqb, ltb-true, leb-true, cases_Bool}
+use Rattle.std.proofs.lemmas.Bool.{false≢true, eqb-true, ne_eqb, ltb-true, leb-true, cases_Bool}
 use Rattle.pico_base.specs.declared.call.Call.{Call}
 use Rattle.pico_base.specs.declared.call.Call.TheVariants as calls
 use Rattle.pico_base.specs.declared.script.Line.{Line}
 use Rattle.pico_base.specs.declared.script.Block.{Block}
 use Rattle.pico_base.specs.declared.script.Script.{Script}
-use Rattle.kernel_model.specs.Script.{forked_by, forks_of, goes_forward, is_forked_once, implied_exit, is_exit, with_exit}
-use Rattle.kernel_model.specs.Fitting.{block_at}
+use Rattle.kernel_model.specs.Script.{forked_by, forks_of, goes_forward, is_forked_once, is_exit, with_exit}
 use Rattle.machine_model.specs.Built.{IsRunnable}
 use Rattle.machine_model.specs.Node.{lines_in, lines_of}
 use Rattle.machine_model.specs.Frames.{names_block, forks_in, is_forked_by}
@@ -109,7 +108,7 @@ forks-in : (s : Script) (b : Block) (bs : List Block) → s.blocks ≡ b ∷ bs 
 forks-in s b bs e p =
     let rest : List (ℕ × ℕ) = flat_map (λ c. pairs c.0 (tos_of c.1.lines)) (enumerate_from 2 bs)
     in let cut : forks_of s ≡ pairs 1 (tos_of b.lines) ++ rest =
-        ap (λ blocks. flat_map (λ c. pairs c.0 (tos_of c.1.lines)) (enumerate_from 1 blocks)) e
+    ap (λ blocks. flat_map (λ c. pairs c.0 (tos_of c.1.lines)) (enumerate_from 1 blocks)) e
     in let sum = ap (hits p) cut ∙ hits-append p (pairs 1 (tos_of b.lines)) rest
     in omega (arith, sum)
 
@@ -166,7 +165,7 @@ all-forward : (g : ℕ × ℕ → Bool) (k block : ℕ) (lines : List Line) → 
 all-forward g k block [] h l = absurd (omega (arith, l))
 all-forward g k block (line ∷ lines) h l =
     let both = sym (list_all-append g (pairs k (forked_by line.call)) (pairs k (tos_of lines)))
-        ∙ sym (ap (list_all g) (map-append k (forked_by line.call) (tos_of lines))) ∙ h
+    ∙ sym (ap (list_all g) (map-append k (forked_by line.call) (tos_of lines))) ∙ h
     in elim (cases_Bool (names_block block line.call)) [
       | inl t ↦ line-forward g k block line.call (and-left _ _ both) t
       | inr f ↦
@@ -192,9 +191,9 @@ forkable s r block h =
           in let there : 1 ≤ named block b.lines = omega (arith, h, cut, counted)
           in let rest : List (ℕ × ℕ) = flat_map (λ c. pairs c.0 (tos_of c.1.lines)) (enumerate_from 2 some.1)
           in let parts : forks_of s ≡ pairs 1 (tos_of b.lines) ++ rest =
-              ap (λ blocks. flat_map (λ c. pairs c.0 (tos_of c.1.lines)) (enumerate_from 1 blocks)) some.2
+          ap (λ blocks. flat_map (λ c. pairs c.0 (tos_of c.1.lines)) (enumerate_from 1 blocks)) some.2
           in let all = sym (list_all-append (goes_forward s) (pairs 1 (tos_of b.lines)) rest)
-              ∙ sym (ap (list_all (goes_forward s)) parts) ∙ is-true _ r.sound.forward
+          ∙ sym (ap (list_all (goes_forward s)) parts) ∙ is-true _ r.sound.forward
           in let forward = all-forward (goes_forward s) 1 block b.lines (and-left _ _ all) there
           in let l = ltb-true 1 block (and-left _ _ forward)
           in record {

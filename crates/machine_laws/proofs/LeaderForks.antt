@@ -1,14 +1,11 @@
 -- Process 1 forks.
-use Rattle.std.proofs.Common.{◌≡◌, ◌≢◌, ◌⊎◌, ℕ, suc, ◌+◌, ◌-◌, ◌<◌, ◌≤◌, Bool, true, false, cond, List, [], ◌∷◌, ◌++◌, length, drop, Option, Some, None, refl, ap, sym, subst, ◌∙◌, inl, inr, arith}
-use Rattle.std.specs.Prelude.{◌&&◌, ◌||◌, not, nat_eq, nat_lt, set, slice_get, is_some}
+use Rattle.std.proofs.Common.{◌≡◌, ◌≢◌, ℕ, ◌+◌, ◌≤◌, true, false, cond, List, [], ◌∷◌, ◌++◌, drop, Option, Some, None, refl, ap, sym, subst, ◌∙◌, inl, inr, arith}
+use Rattle.std.specs.Prelude.{nat_eq, nat_lt, is_some}
 use Rattle.std.specs.List.{list_any}
-use Rattle.std.specs.Option.{option_and_then}
 use Rattle.std.proofs.lemmas.List.{length-set}
 use Rattle.std.proofs.lemmas.List.Folds.{list_any-append}
 use Rattle.std.proofs.lemmas.Bool.{false≢true, eq-eqb, ne_eqb, lt-ltb, cases_eq}
-use Rattle.pico_base.specs.declared.call.Call.{Call}
 use Rattle.pico_base.specs.declared.call.Call.TheVariants as calls
-use Rattle.pico_base.specs.declared.reply.Reply.{Reply}
 use Rattle.pico_base.specs.declared.reply.Reply.TheVariants as replies
 use Rattle.pico_base.specs.declared.script.Line.{Line}
 use Rattle.pico_base.specs.declared.script.Block.{Block}
@@ -20,26 +17,26 @@ use Rattle.kernel_model.specs.Maps.{get, put, is_used}
 use Rattle.kernel_model.specs.Row.{Alive, lists}
 use Rattle.kernel_model.specs.Kernel.{Kernel, Process, Living as LivingProcess}
 use Rattle.kernel_model.specs.ProcessCalls.{forking}
-use Rattle.kernel_model.specs.Script.{Vars, call_of}
-use Rattle.kernel_model.specs.Fitting.{Place, Places, due, after, block_place, block_at, child_vars, child_vars_at, setting}
+use Rattle.kernel_model.specs.Script.{Vars}
+use Rattle.kernel_model.specs.Fitting.{Place, Places, due, block_place, block_at, child_vars, child_vars_at}
 use Rattle.machine_model.specs.Built.{IsRunnable}
-use Rattle.machine_model.specs.Node.{Node, Held, Leader, new_process, place_of, lines_in, lines_of}
+use Rattle.machine_model.specs.Node.{Node, Held, new_process, place_of, lines_in, lines_of}
 use Rattle.machine_model.specs.Deeds.{new_deed}
 use Rattle.machine_model.specs.Calls.{Step, carried_out, entry_by, with_leader, fork_held, forks_as, number_end}
 use Rattle.machine_model.specs.Frames.{names_block, are_rising}
-use Rattle.machine_model.specs.World.{World, node_at, stream, size_of, after as world_after, step}
+use Rattle.machine_model.specs.World.{World, stream, size_of, after as world_after, step}
 use Rattle.deed_laws.specs.Carrying.{StandsFor}
 use Rattle.deed_laws.proofs.Forking.{forks}
 use Rattle.kernel_laws.proofs.ValidLaws.{reachable_kernels_are_valid_lemma}
 use Rattle.kernel_laws.proofs.MapLaws.{get-put-same, get-put-other}
-use Rattle.machine_laws.specs.Situations.{Situation, Awaited, Forked, Free, Asking, Answered, Telling, Recalled, HandedOver, Gone, Sight, IsIn, IsAwaited, Lives}
-use Rattle.machine_laws.specs.Invariant.{IsUnderWay, IsLeader, FirstRuns, IsChild, HasInvariant}
+use Rattle.machine_laws.specs.Situations.{Situation, Awaited, Forked, Free, Asking, Answered, Telling, Recalled, HandedOver, Gone, Sight, IsIn, IsAwaited}
+use Rattle.machine_laws.specs.Invariant.{IsUnderWay, FirstRuns, IsChild}
 use Rattle.machine_laws.proofs.Streams.{changes-to}
 use Rattle.machine_laws.proofs.Lines.{next-line, some-is}
 use Rattle.machine_laws.proofs.Calls.{call-names}
 use Rattle.machine_laws.proofs.Nodes.{node-same}
-use Rattle.machine_laws.proofs.Entries.{GoesOn, forks-on}
-use Rattle.machine_laws.proofs.Moves.{Keeps, News, goes-over, square-of}
+use Rattle.machine_laws.proofs.Entries.{forks-on}
+use Rattle.machine_laws.proofs.Moves.{goes-over, square-of}
 use Rattle.machine_laws.proofs.Steps.{Goes, due-is}
 use Rattle.machine_laws.proofs.Rests.{Known}
 use Rattle.machine_laws.proofs.Rising.{rising-set}
@@ -49,7 +46,7 @@ use Rattle.machine_laws.proofs.LeaderRuns.{pid-not-one, or-true}
 use Rattle.machine_model.specs.Owners.{one_if}
 
 -- a child without a number isn't forked yet
-awaited-is : (s : Situation) (script : Script) (p pid : ℕ) (x : Sight) → IsIn s script p pid x → pid ≡ 0 → IsAwaited p pid x
+pub awaited-is : (s : Situation) (script : Script) (p pid : ℕ) (x : Sight) → IsIn s script p pid x → pid ≡ 0 → IsAwaited p pid x
 awaited-is Awaited script p pid x i e = i
 awaited-is (Forked vars) script p pid x i e = let l = i.low in absurd (omega (arith, l, e))
 awaited-is Free script p pid x i e = let l = i.born.low in absurd (omega (arith, l, e))
@@ -152,7 +149,7 @@ module _ (script : Script) (r : IsRunnable script) (w : World) (first : Node) (k
       in let lines : List Line = lines_of script first.number
       in let next = next-line lines first.caller.line line rest known.first.left
       in let here : names block line ≡ true =
-          sym (call-names block line first.caller.vars) ∙ sym (ap (names_block block) known.first.is_call) ∙ eq-eqb block block refl
+      sym (call-names block line first.caller.vars) ∙ sym (ap (names_block block) known.first.is_call) ∙ eq-eqb block block refl
       in let cut : named block (drop first.caller.line lines) ≡ named block (line ∷ rest) = ap (named block) known.first.left
       in let counted = named-cons block line rest
       in let one : one_if (names block line) ≡ 1 = ap one_if here
@@ -225,12 +222,16 @@ module _ (script : Script) (r : IsRunnable script) (w : World) (first : Node) (k
           | inl e ↦ inr (block, low, high, with-same pids block child ∙ sym e, λ z. let c = high-child in omega (arith, c, e, z))
           | inr c ↦ elim (u.known x place (sym (get-put-other places child begins x c) ∙ (sym (other x o) ∙ h))) [
             | inl one ↦ inl one
-            | inr some ↦ inr (some.0, some.1, some.2,
-                elim (cases_eq some.0 block) [
-                  | inl e ↦ absurd (some.4 (sym some.3 ∙ ap pids e ∙ unforked-block))
-                  | inr o ↦ with-other pids block child some.0 o ∙ some.3
-                ],
-                some.4)
+            | inr some ↦ inr (
+              some.0,
+              some.1,
+              some.2,
+              elim (cases_eq some.0 block) [
+                | inl e ↦ absurd (some.4 (sym some.3 ∙ ap pids e ∙ unforked-block))
+                | inr o ↦ with-other pids block child some.0 o ∙ some.3
+              ],
+              some.4,
+            )
           ]
         ]
       ]
@@ -247,24 +248,28 @@ module _ (script : Script) (r : IsRunnable script) (w : World) (first : Node) (k
       in let m : Node = s.node
       in let w' : World = world_after w 1 s
       in let same-held : fork_held first.held first.pid runs.alive child ≡ fork_held first.held 1 runs.alive child =
-          ap (λ q. fork_held first.held q runs.alive child) u.leader.pid
+      ap (λ q. fork_held first.held q runs.alive child) u.leader.pid
       in let place : Place = place_of script first
       in let then : Place = runs_of.place-then script r w first k places pids u runs (calls.Fork block) (replies.Num child)
       in let begins : Place = block_place (block_at script block) vars
       in let not-mine : child ≢ first.pid = λ e. let h = high-child in let p = u.leader.pid in omega (arith, h, p, e)
       in let on = forks-on script w.journal k next places first.number first.pid block child place then u.legal u.fits u.ordered
-          (runs_of.place-there script r w first k places pids u runs) d
-          (runs_of.mine script r w first k places pids u runs law.carries.makes) refl not-mine
+      (runs_of.place-there script r w first k places pids u runs) d
+      (runs_of.mine script r w first k places pids u runs law.carries.makes) refl not-mine
       in let places' : Places = on.0
       in let goes = on.1
       in let changes = changes-to (size_of script) block w.streams (stream w block 1 ++ frame ∷ []) (square-of script w first k places pids u) low high
       in let not-one : (q : ℕ) → 2 ≤ q → q ≤ size_of script → pids q ≢ 1 =
-          λ q l h. pid-not-one script w first k places q (pids q) (u.children q l h)
+      λ q l h. pid-not-one script w first k places q (pids q) (u.children q l h)
       in let not-child : (q : ℕ) → pids q ≢ child = λ q e. let b = u.below q in omega (arith, b, e)
       in record {
         next = w';
         is_step = rule;
-        keeps = record { first = m; kernel = next; places = places'; pids = pids';
+        keeps = record {
+          first = m;
+          kernel = next;
+          places = places';
+          pids = pids';
           under_way = goes-over script w w' first m k next places places' pids pids' block low u
               (record {
                 script_stays = refl;
@@ -336,7 +341,8 @@ module _ (script : Script) (r : IsRunnable script) (w : World) (first : Node) (k
                   | inr o ↦ let h = with-other pids block child p o in let b = u.below p in omega (arith, h, b)
                 ];
                 known = known-still places' begins low high goes.other;
-              }) };
+              });
+        };
       }
 
   pub first-forks : Goes script w (events.Run 1)

@@ -1,10 +1,10 @@
 -- Process 1 starts its next call: the leader carries it out at once.
-use Rattle.std.proofs.Common.{◌≡◌, ◌≢◌, ◌⊎◌, ℕ, suc, ◌+◌, ◌-◌, ◌%◌, ◌<◌, ◌≤◌, Bool, true, false, List, [], ◌∷◌, ◌++◌, length, drop, Option, Some, None, refl, ap, sym, subst, ◌∙◌, inl, inr, arith}
-use Rattle.std.specs.Prelude.{◌&&◌, ◌||◌, not, nat_eq, nat_lt, set, slice_get, IsSome, Result, Ok, Err, if◌then◌else◌, fold, Contains}
+use Rattle.std.proofs.Common.{◌≡◌, ◌≢◌, ℕ, ◌+◌, ◌-◌, ◌%◌, ◌<◌, ◌≤◌, Bool, true, false, List, [], ◌∷◌, drop, Option, Some, None, refl, ap, sym, subst, ◌∙◌, inl, inr, arith}
+use Rattle.std.specs.Prelude.{◌&&◌, ◌||◌, nat_lt, set, slice_get, IsSome, Result, Ok, Err, if◌then◌else◌, fold, Contains}
 use Rattle.std.specs.List.{list_any}
 use Rattle.std.specs.Option.{option_and_then}
 use Rattle.std.proofs.lemmas.List.{length-set}
-use Rattle.std.proofs.lemmas.Bool.{false≢true, eq-eqb, lt-ltb, cases_eq}
+use Rattle.std.proofs.lemmas.Bool.{false≢true, eq-eqb, lt-ltb}
 use Rattle.pico_base.specs.declared.call.Call.{Call}
 use Rattle.pico_base.specs.declared.call.Call.TheVariants as calls
 use Rattle.pico_base.specs.declared.reply.Reply.{Reply}
@@ -25,13 +25,13 @@ use Rattle.kernel_model.specs.ProcessCalls.{bury}
 use Rattle.kernel_model.specs.Script.{is_exit}
 use Rattle.kernel_model.specs.Waiting.{is_waiting}
 use Rattle.kernel_model.specs.Fitting.{Place, Places, due, after}
-use Rattle.machine_model.specs.Built.{IsRunnable, is_shared, is_built, is_private}
-use Rattle.machine_model.specs.Node.{Node, Held, Leader, Living, Over, new_process, is_living, place_of, lines_of, is_leader}
+use Rattle.machine_model.specs.Built.{IsRunnable, is_shared}
+use Rattle.machine_model.specs.Node.{Node, Held, Leader, Over, new_process, is_living, place_of, lines_of, is_leader}
 use Rattle.machine_model.specs.Deeds.{held_in, served, first_ended}
-use Rattle.machine_model.specs.Calls.{Step, run, shares, ends_first, starts_call, carried, carried_out, at_once, entry_by, with_leader, makes_queue, makes_set, makes_set_of, number_end, set_by}
+use Rattle.machine_model.specs.Calls.{Step, run, shares, ends_first, starts_call, carried, carried_out, at_once, entry_by, with_leader, makes_set_of, number_end}
 use Rattle.machine_model.specs.Frames.{names_block, are_rising}
-use Rattle.machine_model.specs.World.{World, node_at, stream, size_of, after as world_after, step}
-use Rattle.deed_laws.specs.Carrying.{Makes, StandsFor, Carries}
+use Rattle.machine_model.specs.World.{World, size_of, after as world_after, step}
+use Rattle.deed_laws.specs.Carrying.{Makes, StandsFor}
 use Rattle.deed_laws.proofs.Steps.{own_calls, bad_sets}
 use Rattle.deed_laws.proofs.News.{new_queues, new_sets}
 use Rattle.deed_laws.proofs.Shared.{shared_calls, served_calls}
@@ -41,12 +41,12 @@ use Rattle.kernel_laws.proofs.Families.{living-ended}
 use Rattle.kernel_laws.proofs.MapLaws.{get-put-same, get-put-other}
 use Rattle.machine_laws.specs.Lines.{EndsInExit}
 use Rattle.machine_laws.specs.Situations.{Situation, Awaited, Forked, Free, Asking, Answered, Telling, Recalled, HandedOver, Gone, Sight, IsIn, Lives}
-use Rattle.machine_laws.specs.Invariant.{IsUnderWay, IsLeader, FirstRuns, FirstIsOver, IsChild, HasInvariant}
+use Rattle.machine_laws.specs.Invariant.{IsUnderWay, IsLeader, FirstRuns, IsChild}
 use Rattle.machine_laws.proofs.Streams.{changes-none}
 use Rattle.machine_laws.proofs.Lines.{answered-place, next-line, some-is}
 use Rattle.machine_laws.proofs.Nodes.{node-same, node-other}
-use Rattle.machine_laws.proofs.Entries.{GoesOn, goes-on, IsOrdinary}
-use Rattle.machine_laws.proofs.Moves.{Keeps, News, goes-over, square-of}
+use Rattle.machine_laws.proofs.Entries.{goes-on, IsOrdinary}
+use Rattle.machine_laws.proofs.Moves.{goes-over, square-of}
 use Rattle.machine_laws.proofs.Steps.{Goes, Due, due-is, run-is, step-run, ends-behind, nothing-behind}
 use Rattle.machine_laws.proofs.Rests.{known-after}
 use Rattle.machine_laws.proofs.Rising.{rising-set}
@@ -151,14 +151,18 @@ module _ (script : Script) (r : IsRunnable script) (w : World) (first : Node) (k
       let s : Step = entering m call reply
       in let w' : World = world_after w 1 s
       in let goes = goes-on script w.journal k next places first.number first.pid call reply (place_of script first) (place-then call reply)
-          u.legal u.fits u.ordered place-there d plain makes refl
+      u.legal u.fits u.ordered place-there d plain makes refl
       in let places' : Places = put places first.pid (place-then call reply)
       in let not-mine : (q : ℕ) → 2 ≤ q → q ≤ size_of script → pids q ≢ first.pid =
-          λ q l h e. pid-not-one script w first k places q (pids q) (u.children q l h) (e ∙ u.leader.pid)
+      λ q l h e. pid-not-one script w first k places q (pids q) (u.children q l h) (e ∙ u.leader.pid)
       in record {
         next = w';
         is_step = run-in call s d rule;
-        keeps = record { first = m; kernel = next; places = places'; pids = pids;
+        keeps = record {
+          first = m;
+          kernel = next;
+          places = places';
+          pids = pids;
           under_way = goes-over script w w' first m k next places places' pids pids beyond (omega arith) u
               (record {
                 script_stays = refl;
@@ -182,7 +186,8 @@ module _ (script : Script) (r : IsRunnable script) (w : World) (first : Node) (k
                 apart = u.apart;
                 below = λ q. let b = u.below q in omega (arith, b, more);
                 known = known-after script places places' pids first.pid (place_of script first) u.known place-there goes.other;
-              }) };
+              });
+        };
       }
 
   pub ahead-still : {call : Call} → Due script first call → (block : ℕ)
@@ -206,10 +211,10 @@ module _ (script : Script) (r : IsRunnable script) (w : World) (first : Node) (k
   goes-on-to call reply m next places' pids' d goes_on number pid stage caller stands a there np nq ns ahead place =
       let known = due-is script first call r numbered d
       in let place-is : place-then call reply ≡ record { left = drop (first.caller.line + 1) (lines_of script first.number); tried = 0; vars = (at_once script first call reply).vars } =
-          answered-place (lines_of script first.number) first.caller.line first.caller.vars call reply known.first.line known.first.rest
-          known.first.left known.fine.once
+      answered-place (lines_of script first.number) first.caller.line first.caller.vars call reply known.first.line known.first.rest
+      known.first.left known.fine.once
       in let moved : place_of script m ≡ record { left = drop (first.caller.line + 1) (lines_of script first.number); tried = 0; vars = (at_once script first call reply).vars } =
-          rw (number, caller) refl
+      rw (number, caller) refl
       in let left : (place_of script m).left ≡ drop (first.caller.line + 1) (lines_of script first.number) = ap (λ (z : Place). z.left) moved
       in let line : m.caller.line ≡ first.caller.line + 1 = ap (λ c. c.line) caller
       in let fp = runs.few_processes
@@ -291,7 +296,7 @@ module _ (script : Script) (r : IsRunnable script) (w : World) (first : Node) (k
       in let m : Node = (with_leader leader (carried_out script first call reply held)).node
       in let law = new_queues first.held first.leader k runs.alive create excl u.leader.stands first-lives-now
       in let small : nat_lt number number_end ≡ true =
-          lt-ltb number number_end (let f = runs.few_queues in let l = few-lines d in omega (arith, f, l))
+      lt-ltb number number_end (let f = runs.few_queues in let l = few-lines d in omega (arith, f, l))
       in enters call reply m law.next d (rw (leads, small) refl) (record { not_killed = refl; not_fork = λ s ps place reply. refl })
       (mine law.carries.makes) refl (omega arith)
       (λ q o x. record { process = ap (λ ps. get ps q) law.processes ∙ x.process; away = x.away; listed = x.listed })
@@ -309,7 +314,7 @@ module _ (script : Script) (r : IsRunnable script) (w : World) (first : Node) (k
       in let m : Node = (with_leader leader (carried_out script first call reply held)).node
       in let law = new_sets first.held first.leader k runs.alive count set create excl u.leader.stands first-lives-now made
       in let small : nat_lt number number_end ≡ true =
-          lt-ltb number number_end (let f = runs.few_sets in let l = few-lines d in omega (arith, f, l))
+      lt-ltb number number_end (let f = runs.few_sets in let l = few-lines d in omega (arith, f, l))
       in enters call reply m law.next d
       (if-both _ _ (Some (makes_set_of script first call (new_set count))) None leads small
       ∙ ap (λ x. Some (makes_set_of script first call x)) made)
@@ -326,7 +331,7 @@ module _ (script : Script) (r : IsRunnable script) (w : World) (first : Node) (k
       in let reply : Reply = replies.Fail error
       in let m : Node = (carried_out script first call reply first.held).node
       in let small : nat_lt first.leader.next_set number_end ≡ true =
-          lt-ltb first.leader.next_set number_end (let f = runs.few_sets in let l = few-lines d in omega (arith, f, l))
+      lt-ltb first.leader.next_set number_end (let f = runs.few_sets in let l = few-lines d in omega (arith, f, l))
       in enters call reply m k d
       (if-both _ _ (Some (makes_set_of script first call (new_set count))) None leads small
       ∙ ap (λ x. Some (makes_set_of script first call x)) made)
@@ -377,16 +382,16 @@ module _ (script : Script) (r : IsRunnable script) (w : World) (first : Node) (k
       in let m : Node = record (carried_out script first call replies.Ended held).node { stage = Over }
       in let law = first_ends first.held first.leader k runs.alive status (w.journal, u.legal) u.leader.stands runs.lives
       in let same : held ≡ first_ended first.held 1 runs.alive (Exited (status % 256)) =
-          ap (λ x. first_ended first.held x runs.alive (Exited (status % 256))) u.leader.pid
+      ap (λ x. first_ended first.held x runs.alive (Exited (status % 256))) u.leader.pid
       in let buried-now : List _ = fold bury first.held.processes runs.alive.row.family.ended
       in let gone : get held.processes 1 ≡ Some GoneProcess =
-          ap (λ (h : Held). get h.processes 1) same ∙ get-put-same buried-now 1 GoneProcess
+      ap (λ (h : Held). get h.processes 1) same ∙ get-put-same buried-now 1 GoneProcess
       in let known = due-is script first call r numbered d
       in let over : (place-then call replies.Ended).left ≡ [] =
-          ap (λ (z : Place). z.left)
-          (answered-place (lines_of script first.number) first.caller.line first.caller.vars call replies.Ended known.first.line
-          known.first.rest known.first.left known.fine.once)
-          ∙ nothing-behind script first call known runs.ends refl
+      ap (λ (z : Place). z.left)
+      (answered-place (lines_of script first.number) first.caller.line first.caller.vars call replies.Ended known.first.line
+      known.first.rest known.first.left known.fine.once)
+      ∙ nothing-behind script first call known runs.ends refl
       in enters call replies.Ended m law.next d
       (rw leads (ap (ends_first script first status) held-now))
       (record { not_killed = refl; not_fork = λ s ps place reply. refl })

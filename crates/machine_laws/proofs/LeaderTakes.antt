@@ -1,15 +1,14 @@
 -- The leader takes a frame from a child.
-use Rattle.std.proofs.Common.{◌≡◌, ◌≢◌, ◌⊎◌, ℕ, ◌+◌, ◌-◌, ◌%◌, ◌<◌, ◌≤◌, Bool, true, false, List, [], ◌∷◌, ◌++◌, length, drop, Option, Some, None, refl, ap, sym, subst, ◌∙◌, inl, inr, arith}
-use Rattle.std.specs.Prelude.{◌&&◌, ◌||◌, not, nat_eq, nat_lt, set, slice_get, is_none, IsSome}
+use Rattle.std.proofs.Common.{◌≡◌, ◌≢◌, ℕ, ◌-◌, ◌%◌, ◌<◌, ◌≤◌, Bool, true, false, List, [], ◌∷◌, ◌++◌, Option, Some, None, refl, ap, sym, subst, ◌∙◌, inl, inr, arith}
+use Rattle.std.specs.Prelude.{◌||◌, nat_eq, set, slice_get, IsSome}
 use Rattle.std.specs.Option.{option_and_then}
-use Rattle.std.specs.List.{filter, list_any}
+use Rattle.std.specs.List.{list_any}
 use Rattle.std.proofs.lemmas.List.{length-set, append-nil}
 use Rattle.std.proofs.lemmas.Bool.{false≢true, eq-eqb, ne_eqb, lt-ltb, cases_eq}
 use Rattle.pico_base.specs.declared.call.Call.{Call}
 use Rattle.pico_base.specs.declared.call.Call.TheVariants as calls
 use Rattle.pico_base.specs.declared.reply.Ending.{Ending}
 use Rattle.pico_base.specs.declared.reply.Ending.TheVariants.{Exited}
-use Rattle.pico_base.specs.declared.reply.Reply.{Reply}
 use Rattle.pico_base.specs.declared.reply.Reply.TheVariants as replies
 use Rattle.pico_base.specs.declared.reply.Entry.{Entry}
 use Rattle.pico_base.specs.declared.script.Script.{Script}
@@ -17,33 +16,30 @@ use Rattle.pico_base.specs.declared.script.Event.TheVariants as events
 use Rattle.rpc_frame.specs.declared.frame.Frame.{Frame}
 use Rattle.rpc_frame.specs.declared.frame.Frame.TheVariants as frames
 use Rattle.kernel_model.specs.Maps.{get, put}
-use Rattle.kernel_model.specs.Row.{Alive, Family, lists, others, with_end, with_ended_child, ignores_children, raised_at}
+use Rattle.kernel_model.specs.Row.{Alive, Family, lists, others, with_end, with_ended_child, ignores_children}
 use Rattle.kernel_model.specs.Kernel.{Kernel, Process, Living as LivingProcess, Ended as EndedProcess, Gone as GoneProcess, alive_in, living_at, opening}
 use Rattle.kernel_model.specs.ProcessCalls.{kept_as}
 use Rattle.kernel_model.specs.Effect.{Effect}
-use Rattle.kernel_model.specs.Script.{is_exit}
 use Rattle.kernel_model.specs.History.{Replays}
-use Rattle.kernel_model.specs.Fitting.{Place, Places, Follows, opening_places, due, after}
+use Rattle.kernel_model.specs.Fitting.{Place, Places, Follows, opening_places, after}
 use Rattle.machine_model.specs.Built.{IsRunnable, is_shared}
-use Rattle.machine_model.specs.Node.{Node, Held, Leader, Parting, IsLeaving, HasLeft, new_process, place_of, lines_of, is_leader}
-use Rattle.machine_model.specs.Deeds.{held_in, served, child_ended, may_end, new_deed, are_new_deeds, parent_of}
+use Rattle.machine_model.specs.Node.{Node, Held, Leader, IsLeaving, HasLeft, new_process, place_of, lines_of}
+use Rattle.machine_model.specs.Deeds.{held_in, served, child_ended, may_end}
 use Rattle.machine_model.specs.Calls.{Step, entry_by}
-use Rattle.machine_model.specs.Frames.{takes, is_to_leader, served_for, parting, leaves_as, ended_at}
+use Rattle.machine_model.specs.Frames.{takes, is_to_leader, parting, leaves_as, ended_at}
 use Rattle.machine_model.specs.World.{World, Streams, node_at, stream, stream_in, with_stream, size_of, after as world_after, step}
 use Rattle.kernel_laws.specs.Reachable.{IsReachable}
-use Rattle.deed_laws.specs.Carrying.{Makes, IsFresh, StandsFor, Carries}
-use Rattle.deed_laws.specs.Laws.{Serves, Ends}
+use Rattle.deed_laws.specs.Carrying.{IsFresh, StandsFor}
 use Rattle.deed_laws.proofs.Shared.{shared_calls, served_calls}
 use Rattle.deed_laws.proofs.Endings.{children_end}
 use Rattle.kernel_laws.proofs.MapLaws.{get-put-same, get-put-other}
-use Rattle.machine_laws.specs.Lines.{EndsInExit}
-use Rattle.machine_laws.specs.Situations.{Situation, Answered, Recalled, Gone, IsAsking, TellsEnd, HasHandedOver, HasCall, Lives, parcel_of}
-use Rattle.machine_laws.specs.Invariant.{IsUnderWay, IsLeader, FirstRuns, FirstIsOver, IsChild, HasInvariant, sight}
+use Rattle.machine_laws.specs.Situations.{Answered, Recalled, Gone, IsAsking, TellsEnd, HasHandedOver, Lives, parcel_of}
+use Rattle.machine_laws.specs.Invariant.{IsUnderWay, IsLeader, sight}
 use Rattle.machine_laws.proofs.Streams.{Changes, changes-to, changes-from, changes-both}
 use Rattle.machine_laws.proofs.Lines.{answered-place, some-is}
 use Rattle.machine_laws.proofs.Nodes.{node-same, node-other}
-use Rattle.machine_laws.proofs.Entries.{GoesOn, goes-on, IsOrdinary}
-use Rattle.machine_laws.proofs.Moves.{Keeps, News, goes-over, square-of}
+use Rattle.machine_laws.proofs.Entries.{goes-on, IsOrdinary}
+use Rattle.machine_laws.proofs.Moves.{goes-over, square-of}
 use Rattle.machine_laws.proofs.Steps.{Goes, due-is, step-take, nothing-behind}
 use Rattle.machine_laws.proofs.Rests.{known-after}
 use Rattle.machine_laws.proofs.ChildTakes.{new-deed-same}
@@ -156,24 +152,28 @@ module _ (script : Script) (r : IsRunnable script) (w : World) (first : Node) (k
       in let w' : World = world_after without-first 1 s
       in let mid : Streams = with_stream w.streams 1 p []
       in let changes = changes-both (size_of script) p w.streams mid _ _ _ _ _ taken
-          (changes-to (size_of script) p mid (stream_in mid p 1 ++ f ∷ []) taken.square low high)
+      (changes-to (size_of script) p mid (stream_in mid p 1 ++ f ∷ []) taken.square low high)
       in let then : Place = after (place_of script n) call (Some e.reply)
       in let goes = goes-on script w.journal k next places first.number (pids p) call e.reply (place_of script n) then
-          u.legal u.fits u.ordered i.place i.has.is_due (shared-is-ordinary call i.has.shared) law.carries.makes refl
+      u.legal u.fits u.ordered i.place i.has.is_due (shared-is-ordinary call i.has.shared) law.carries.makes refl
       in let places' : Places = put places (pids p) then
       in let same-held : (q : ℕ) → get m.held.processes q ≡ get first.held.processes q = λ q. ap (λ ps. get ps q) law.held
       in let living : (q : ℕ) → Lives k first.held q → Lives next m.held q =
-          λ q l. record {
-            process = ap (λ ps. get ps q) law.processes ∙ l.process;
-            away = same-held q ∙ l.away;
-            listed = λ a g. l.listed a (sym (same-held 1) ∙ g);
-          }
+      λ q l. record {
+        process = ap (λ ps. get ps q) law.processes ∙ l.process;
+        away = same-held q ∙ l.away;
+        listed = λ a g. l.listed a (sym (same-held 1) ∙ g);
+      }
       in let own : get places' 1 ≡ get places 1 = goes.other 1 (λ x. omega arith)
       in record {
         next = w';
         is_step = takes-in _ s i.shows.from_it
             (ask-rule n.caller.ticket call e (let t = i.has.ticket in omega (arith, t)) i.has.shared h);
-        keeps = record { first = m; kernel = next; places = places'; pids = pids;
+        keeps = record {
+          first = m;
+          kernel = next;
+          places = places';
+          pids = pids;
           under_way = goes-over script w w' first m k next places places' pids pids p low u
               (record {
                 script_stays = refl;
@@ -238,7 +238,8 @@ module _ (script : Script) (r : IsRunnable script) (w : World) (first : Node) (k
                 apart = u.apart;
                 below = u.below;
                 known = known-after script places places' pids (pids p) (place_of script n) u.known i.place goes.other;
-              }) };
+              });
+        };
       }
 
   asked : (call : Call) → IsAsking script p (pids p) (sight w first places p (pids p) n) call
@@ -264,12 +265,16 @@ module _ (script : Script) (r : IsRunnable script) (w : World) (first : Node) (k
       in let w' : World = world_after without-first 1 recalling
       in let mid : Streams = with_stream w.streams 1 p []
       in let changes = changes-both (size_of script) p w.streams mid _ _ _ _ _ taken
-          (changes-to (size_of script) p mid (stream_in mid p 1 ++ f ∷ []) taken.square low high)
+      (changes-to (size_of script) p mid (stream_in mid p 1 ++ f ∷ []) taken.square low high)
       in let journal : w'.journal ≡ w.journal = append-nil w.journal
       in record {
         next = w';
         is_step = takes-in _ recalling i.shows.from_it (leaving-rule i.shows.parting);
-        keeps = record { first = m; kernel = k; places = places; pids = pids;
+        keeps = record {
+          first = m;
+          kernel = k;
+          places = places;
+          pids = pids;
           under_way = goes-over script w w' first m k k places places pids pids p low u
               (record {
                 script_stays = refl;
@@ -329,7 +334,8 @@ module _ (script : Script) (r : IsRunnable script) (w : World) (first : Node) (k
                 apart = u.apart;
                 below = u.below;
                 known = u.known;
-              }) };
+              });
+        };
       }
 
   -- ---- a parcel: the exit is carried out
@@ -398,19 +404,23 @@ module _ (script : Script) (r : IsRunnable script) (w : World) (first : Node) (k
       in let known = due-is script n (calls.Exit status) r numbered i.at.is_due
       in let then : Place = after (place_of script n) (calls.Exit status) (Some replies.Ended)
       in let goes = goes-on script w.journal k next places first.number (pids p) (calls.Exit status) replies.Ended (place_of script n) then
-          u.legal u.fits u.ordered i.at.place i.at.is_due (record { not_killed = refl; not_fork = λ s ps place reply. refl })
-          law.carries.makes refl
+      u.legal u.fits u.ordered i.at.place i.at.is_due (record { not_killed = refl; not_fork = λ s ps place reply. refl })
+      law.carries.makes refl
       in let places' : Places = put places (pids p) then
       in let own : get places' 1 ≡ get places 1 = goes.other 1 (λ e. omega arith)
       in let over : then.left ≡ [] =
-          ap (λ (z : Place). z.left)
-          (answered-place (lines_of script n.number) n.caller.line n.caller.vars (calls.Exit status) replies.Ended known.first.line
-          known.first.rest known.first.left known.fine.once)
-          ∙ nothing-behind script n (calls.Exit status) known i.at.ends refl
+      ap (λ (z : Place). z.left)
+      (answered-place (lines_of script n.number) n.caller.line n.caller.vars (calls.Exit status) replies.Ended known.first.line
+      known.first.rest known.first.left known.fine.once)
+      ∙ nothing-behind script n (calls.Exit status) known i.at.ends refl
       in record {
         next = w';
         is_step = takes-in _ s i.shows.from_it (left-rule status x i.shows.parting there may);
-        keeps = record { first = m; kernel = next; places = places'; pids = pids;
+        keeps = record {
+          first = m;
+          kernel = next;
+          places = places';
+          pids = pids;
           under_way = goes-over script w w' first m k next places places' pids pids p low u
               (record {
                 script_stays = refl;
@@ -458,7 +468,8 @@ module _ (script : Script) (r : IsRunnable script) (w : World) (first : Node) (k
                 apart = u.apart;
                 below = u.below;
                 known = known-after script places places' pids (pids p) (place_of script n) u.known i.at.place goes.other;
-              }) };
+              });
+        };
       }
 
   pub takes-left : (status : ℕ) → HasHandedOver script p (pids p) (sight w first places p (pids p) n) status → Goes script w (events.Take 1 p)

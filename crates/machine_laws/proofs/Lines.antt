@@ -1,6 +1,6 @@
 -- The lines that a process has left, and where it is after one of them.
-use Rattle.std.proofs.Common.{◌≡◌, ◌≢◌, ◌⊎◌, ℕ, zero, suc, ◌+◌, ◌<◌, ◌≤◌, Bool, true, false, cond, List, [], ◌∷◌, ◌++◌, length, drop, Option, Some, None, refl, ap, sym, subst, ◌∙◌, inl, inr, add-one, arith}
-use Rattle.std.specs.Prelude.{◌&&◌, slice_get, nat_lt, if◌then◌else◌}
+use Rattle.std.proofs.Common.{◌≡◌, ℕ, zero, suc, ◌+◌, ◌<◌, Bool, true, false, List, [], ◌∷◌, length, drop, Some, refl, ap, sym, subst, ◌∙◌, inl, inr, add-one}
+use Rattle.std.specs.Prelude.{◌&&◌, slice_get, if◌then◌else◌}
 use Rattle.std.specs.List.{AllByRecursion}
 use Rattle.std.proofs.Math.Seq.{drop-cons}
 use Rattle.std.proofs.lemmas.List.{drop_all}
@@ -9,7 +9,7 @@ use Rattle.std.proofs.lemmas.Bool.{false≢true}
 use Rattle.pico_base.specs.declared.call.Call.{Call}
 use Rattle.pico_base.specs.declared.reply.Reply.{Reply}
 use Rattle.pico_base.specs.declared.script.Line.{Line}
-use Rattle.kernel_model.specs.Script.{Vars, call_of, implied_exit, is_exit, with_exit}
+use Rattle.kernel_model.specs.Script.{Vars, call_of, is_exit, with_exit}
 use Rattle.kernel_model.specs.Fitting.{Place, due, call_due, after, after_line, asks_again, setting, value_in}
 use Rattle.machine_model.specs.Calls.{set_by}
 use Rattle.machine_laws.specs.Lines.{EndsInExit}

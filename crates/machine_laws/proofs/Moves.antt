@@ -1,7 +1,6 @@
 -- The invariant after an event that concerns the leader and one child: what it has to show. All other children stay as
 -- they are.
-use Rattle.std.proofs.Common.{◌≡◌, ◌≢◌, ◌⊎◌, ℕ, ◌+◌, ◌-◌, ◌<◌, ◌≤◌, true, false, List, [], ◌∷◌, length, Option, Some, None, refl, ap, sym, subst, ◌∙◌, inl, inr, arith}
-use Rattle.std.specs.Prelude.{get_or}
+use Rattle.std.proofs.Common.{◌≡◌, ◌≢◌, ◌⊎◌, ℕ, ◌<◌, ◌≤◌, List, length, Option, Some, refl, sym, subst, ◌∙◌, inl, inr, arith}
 use Rattle.std.proofs.lemmas.Bool.{cases_eq}
 use Rattle.pico_base.specs.declared.script.Script.{Script}
 use Rattle.rpc_frame.specs.declared.frame.Frame.{Frame}
@@ -11,7 +10,7 @@ use Rattle.kernel_model.specs.History.{Replays}
 use Rattle.kernel_model.specs.Valid.{IsOrdered}
 use Rattle.kernel_model.specs.Fitting.{Place, Places, Follows, opening_places}
 use Rattle.machine_model.specs.Node.{Node, Parting}
-use Rattle.machine_model.specs.World.{World, Streams, node_at, stream, size_of}
+use Rattle.machine_model.specs.World.{World, node_at, stream, size_of}
 use Rattle.machine_laws.specs.Situations.{Situation, Awaited, Forked, Free, Asking, Answered, Telling, Recalled, HandedOver, Gone, Sight, IsIn, Lives, LivesIn}
 use Rattle.machine_laws.specs.Invariant.{IsLeader, IsChild, IsUnderWay, sight}
 use Rattle.machine_laws.proofs.Streams.{Changes, Square}
@@ -52,11 +51,11 @@ child-stays : (script : Script) (w w' : World) (first first' : Node) (k k' : Ker
     → IsChild script w' first' k' places' p (pids' p)
 child-stays script w w' first first' k k' places places' pids pids' c low_c keeps p low high other child =
     let to_it : stream w' p 1 ≡ stream w p 1 =
-        keeps.streams.others p 1 (omega arith) (omega arith) (λ e. absurd (other e)) (λ e. absurd (omega arith))
+    keeps.streams.others p 1 (omega arith) (omega arith) (λ e. absurd (other e)) (λ e. absurd (omega arith))
     in let from_it : stream w' 1 p ≡ stream w 1 p =
-        keeps.streams.others 1 p (omega arith) (omega arith) (λ e. absurd (omega arith)) (λ e. other)
+    keeps.streams.others 1 p (omega arith) (omega arith) (λ e. absurd (omega arith)) (λ e. other)
     in let same : sight w first places p (pids p) child.node ≡ sight w' first' places' p (pids p) child.node =
-        sight-is child.node _ _ _ _ _ _ _ _ (sym to_it) (sym from_it) (sym (keeps.partings p low other)) (sym (keeps.places_stay p low high other))
+    sight-is child.node _ _ _ _ _ _ _ _ (sym to_it) (sym from_it) (sym (keeps.partings p low other)) (sym (keeps.places_stay p low high other))
     in subst (λ pid. IsChild script w' first' k' places' p pid) (sym (keeps.pids_stay p low other))
     (record {
       situation = child.situation;

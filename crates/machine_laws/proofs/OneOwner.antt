@@ -1,29 +1,28 @@
 -- No name has two owners: all that counts stands at one place.
-use Rattle.std.proofs.Common.{◌≡◌, ◌≢◌, ◌⊎◌, ℕ, zero, suc, ◌+◌, ◌-◌, ◌<◌, ◌≤◌, Bool, true, false, List, [], ◌∷◌, length, get_or, Option, Some, None, refl, ap, sym, subst, ◌∙◌, inl, inr, arith}
-use Rattle.std.specs.Prelude.{slice_get, nat_eq, is_some, sum_by, count_by}
+use Rattle.std.proofs.Common.{◌≡◌, ◌≢◌, ◌⊎◌, ℕ, zero, suc, ◌+◌, ◌-◌, ◌≤◌, Bool, true, false, List, [], ◌∷◌, length, get_or, Option, Some, None, refl, ap, sym, subst, ◌∙◌, inl, inr, arith}
+use Rattle.std.specs.Prelude.{slice_get, is_some, sum_by, count_by}
 use Rattle.std.proofs.lemmas.List.Sums.{sum_by-cons}
 use Rattle.std.proofs.lemmas.Option.{slice_get_within}
-use Rattle.std.proofs.lemmas.Bool.{false≢true, eq-eqb, ne_eqb, cases_eq, cases_lt}
+use Rattle.std.proofs.lemmas.Bool.{ne_eqb, cases_eq, cases_lt}
 use Rattle.std.proofs.lemmas.List.{get_or_past}
 use Rattle.pico_base.specs.declared.numbers.Name.{Name}
 use Rattle.pico_base.specs.declared.numbers.Name.TheVariants.{Proc, Msg, Sem}
 use Rattle.pico_base.specs.declared.script.Script.{Script}
 use Rattle.rpc_frame.specs.declared.frame.Frame.{Frame}
-use Rattle.rpc_frame.specs.declared.frame.Frame.TheVariants as frames
 use Rattle.kernel_model.specs.Maps.{get}
 use Rattle.kernel_model.specs.Kernel.{Kernel, Process, Living as LivingProcess}
 use Rattle.kernel_model.specs.Fitting.{Places}
-use Rattle.kernel_laws.proofs.MapLaws.{get-first, get-later}
-use Rattle.machine_model.specs.Built.{IsRunnable}
+use Rattle.kernel_laws.proofs.MapLaws.{get-later}
 use Rattle.machine_model.specs.Node.{Node, Held, nothing, only, new_process}
 use Rattle.machine_model.specs.Deeds.{new_deed}
-use Rattle.machine_model.specs.World.{World, Streams, node_at, stream, stream_in, size_of}
+use Rattle.machine_model.specs.World.{World, Streams, node_at, stream, size_of}
 use Rattle.machine_model.specs.Owners.{one_if, holds, is_of, brings, holders, on_the_way, owners}
 use Rattle.machine_model.specs.Laws.{NoNameHasTwoOwners}
-use Rattle.machine_laws.specs.Situations.{Situation, Awaited, Forked, Free, Asking, Answered, Telling, Recalled, HandedOver, Gone, IsIn, LivesIn, Lives}
-use Rattle.machine_laws.specs.Invariant.{IsUnderWay, IsChild, HasInvariant, sight}
+use Rattle.machine_laws.specs.Situations.{Situation, Awaited, Forked, Free, Asking, Answered, Telling, Recalled, HandedOver, Gone, IsIn, LivesIn}
+use Rattle.machine_laws.specs.Invariant.{IsUnderWay, sight}
 use Rattle.kernel_laws.proofs.Plain.{not_some}
 use Rattle.machine_laws.proofs.Lines.{some-is}
+use Rattle.machine_laws.proofs.LeaderForks.{awaited-is}
 use Rattle.machine_laws.proofs.Runs.{reaches}
 
 -- ---- sums with one place that counts
@@ -122,7 +121,7 @@ proc-is : (x y : ℕ) → Proc x ≡ Proc y → x ≡ y
 proc-is x y h = cc
 
 name-is : (name : Name) (pid : ℕ) → (name ≡ Proc pid) ⊎ (name ≢ Proc pid)
-name-is (Proc x) pid = elim (cases_eq x pid) [ | inl e ↦ inl (ap Proc e) | inr o ↦ inr (λ h. o (proc-is x pid h)) ]
+name-is (Proc x) pid = elim (cases_eq x pid) [ inl e ↦ inl (ap Proc e) | inr o ↦ inr (λ h. o (proc-is x pid h)) ]
 name-is (Msg x) pid = inr (λ h. cc)
 name-is (Sem x) pid = inr (λ h. cc)
 
@@ -272,7 +271,6 @@ module _ (script : Script) (w : World) (first : Node) (k : Kernel) (places : Pla
       in let e : i ≡ i + 1 - 1 = omega arith
       in (omega (arith, o), omega (arith, l, c), subst (λ j. slice_get w.nodes j ≡ Some n) e h)
 
-
   -- all children but one count nowhere
   ZerosBut : ℕ → Type 0
   ZerosBut c = (p : ℕ) (low : 2 ≤ p) (high : p ≤ size_of script) → p ≢ c → Zero (here (u.children p low high).node) (to-count p) (from-count p)
@@ -292,7 +290,7 @@ module _ (script : Script) (w : World) (first : Node) (k : Kernel) (places : Pla
     to-zero i low g =
         let e : i + 1 - 1 ≡ i = omega arith
         in let moved : to-count (i + 1) ≡ brings-count name (at-place (brings name) w.streams i 0) =
-            ap (λ j. brings-count name (get_or (get_or w.streams j []) 0 [])) e
+        ap (λ j. brings-count name (get_or (get_or w.streams j []) 0 [])) e
         in elim (cases_lt (size_of script) (i + 1)) [
           | inl past ↦
               let r : length w.streams ≤ i = let x = u.rows in omega (arith, past, x)
@@ -308,7 +306,7 @@ module _ (script : Script) (w : World) (first : Node) (k : Kernel) (places : Pla
     from-zero j low g =
         let e : j + 1 - 1 ≡ j = omega arith
         in let moved : from-count (j + 1) ≡ brings-count name (at-place (brings name) w.streams 0 j) =
-            ap (λ i. brings-count name (get_or (get_or w.streams 0 []) i [])) e
+        ap (λ i. brings-count name (get_or (get_or w.streams 0 []) i [])) e
         in elim (cases_lt (size_of script) (j + 1)) [
           | inl past ↦
               let some : 1 ≤ size_of script = let l = slice_get_within w.nodes 0 first u.first_at in let x = u.nodes in omega (arith, l, x)
@@ -360,30 +358,135 @@ module _ (script : Script) (w : World) (first : Node) (k : Kernel) (places : Pla
           in omega (arith, x, y)
       counted (AtNode a b d) =
           let x : holders name w ≤ 1 = sum-one here w.nodes (c - 1) 1
-              (λ i m h o. elim (cases_eq i 0) [
-                | inl first-one ↦ sym (first-count m (subst (λ x. slice_get w.nodes x ≡ Some m) first-one h)) ∙ z
-                | inr later ↦ node-zero i m h later (λ e. o (omega (arith, e)))
-              ])
-              (λ m h. let same : n ≡ m = some-is _ _ (sym at ∙ h) in subst (λ v. here v ≤ 1) same a)
+          (λ i m h o. elim (cases_eq i 0) [
+            | inl first-one ↦ sym (first-count m (subst (λ x. slice_get w.nodes x ≡ Some m) first-one h)) ∙ z
+            | inr later ↦ node-zero i m h later (λ e. o (omega (arith, e)))
+          ])
+          (λ m h. let same : n ≡ m = some-is _ _ (sym at ∙ h) in subst (λ v. here v ≤ 1) same a)
           in let y = none-on-the-way (brings name) w.streams (λ i j. way-zero i j (λ e f. b) (λ e f. d))
           in omega (arith, x, y)
       counted (ToIt a b d) =
           let x = nodes-none a
           in let y = one-on-the-way (brings name) w.streams (c - 1) 0 1
-              (λ i j o. way-zero i j (λ e f. absurd (o (omega (arith, f)) e)) (λ e f. d)) b
+          (λ i j o. way-zero i j (λ e f. absurd (o (omega (arith, f)) e)) (λ e f. d)) b
           in omega (arith, x, y)
       counted (FromIt a b d) =
           let x = nodes-none a
           in let y = one-on-the-way (brings name) w.streams 0 (c - 1) 1
-              (λ i j o. way-zero i j (λ e f. b) (λ e f. absurd (o e (omega (arith, f))))) d
+          (λ i j o. way-zero i j (λ e f. b) (λ e f. absurd (o e (omega (arith, f))))) d
           in omega (arith, x, y)
 
   -- no child counts
   by-leader : ZerosBut 0 → owners name w ≤ 1
   by-leader zeros =
       let x : holders name w ≤ 1 = sum-one here w.nodes 0 1
-          (λ i m h o. node-zero 0 zeros i m h o (λ e. omega (arith, e)))
-          (λ m h. one-if-least (holds name m.held))
+      (λ i m h o. node-zero 0 zeros i m h o (λ e. omega (arith, e)))
+      (λ m h. one-if-least (holds name m.held))
       in let y = none-on-the-way (brings name) w.streams
-          (λ i j. way-zero 0 zeros i j (λ e f. absurd (omega (arith, f))) (λ e f. absurd (omega (arith, f))))
+      (λ i j. way-zero 0 zeros i j (λ e f. absurd (omega (arith, f))) (λ e f. absurd (omega (arith, f))))
       in omega (arith, x, y)
+
+-- ---- which place it is
+
+leader-none : (name : Name) (x : ℕ) (first : Node) → name ≡ Proc x → get first.held.processes x ≡ None → holds-count name first ≡ 0
+leader-none name x first e h = ap (λ m. one_if (holds m first.held)) e ∙ ap (λ o. one_if (is_some o)) h
+
+-- one of the numbers up to a bound is the one sought, or none is
+pub found-upto : (pids : ℕ → ℕ) (x count : ℕ) → ((p : ℕ) × (p ≤ count) × (2 ≤ p) × (pids p ≡ x)) ⊎ ((p : ℕ) → 2 ≤ p → p ≤ count → pids p ≢ x)
+found-upto pids x zero = inr (λ p low high e. omega (arith, low, high))
+found-upto pids x (suc count) =
+    elim (found-upto pids x count) [
+      | inl f ↦ inl (f.0, let h : f.0 ≤ count = f.1 in omega (arith, h), f.2, f.3)
+      | inr none ↦ elim (cases_eq (pids (suc count)) x) [
+        | inl e ↦ elim (cases_lt count 1) [
+          | inl small ↦ inr (λ p low high. absurd (omega (arith, low, high, small)))
+          | inr more ↦ inl (suc count, omega arith, omega (arith, more), e)
+        ]
+        | inr o ↦ inr (λ p low high. elim (cases_eq p (suc count)) [
+          | inl e ↦ subst (λ q. pids q ≢ x) (sym e) o
+          | inr other ↦ none p low (omega (arith, high, other))
+        ])
+      ]
+    ]
+
+module _ (script : Script) (w : World) (first : Node) (k : Kernel) (places : Places) (pids : ℕ → ℕ)
+    (u : IsUnderWay script w first k places pids) where
+  -- the zeros of children whose process it isn't
+  apart-zero : (name : Name) (p : ℕ) (low : 2 ≤ p) (high : p ≤ size_of script) → name ≢ Proc (pids p)
+      → Zero (holds-count name (u.children p low high).node) (brings-count name (stream w p 1)) (brings-count name (stream w 1 p))
+  apart-zero name p low high o =
+      let c = u.children p low high
+      in other-zero script w first k places pids u name p c.node c.situation c.is_in o
+
+  no-process : (name : Name) → ((x : ℕ) → name ≢ Proc x) → owners name w ≤ 1
+  unfolding ZerosBut
+  no-process name h = by-leader script w first k places pids u name (λ p low high o. apart-zero name p low high (h (pids p)))
+
+  at-leader : (x : ℕ) (y : Process) → get first.held.processes x ≡ Some y → owners (Proc x) w ≤ 1
+  unfolding ZerosBut
+  at-leader x y h =
+      by-leader script w first k places pids u (Proc x)
+      (λ p low high o. elim (cases_eq x (pids p)) [
+        | inl e ↦
+            let c = u.children p low high
+            in dead-zero script w first k places pids u (Proc x) p c.node c.situation c.is_in c.lives y
+            (ap (λ q. get first.held.processes q) (sym e) ∙ h)
+        | inr other ↦ apart-zero (Proc x) p low high (λ e. other (proc-is x (pids p) e))
+      ])
+
+  at-child : (x p : ℕ) → 2 ≤ p → p ≤ size_of script → pids p ≡ x → x ≢ 0 → get first.held.processes x ≡ None → owners (Proc x) w ≤ 1
+  unfolding ZerosBut
+  at-child x p low high e some h =
+      let c = u.children p low high
+      in by-child script w first k places pids u (Proc x) p
+      (λ q low_q high_q o. apart-zero (Proc x) q low_q high_q
+      (λ same. o (sym (u.apart p q (λ z. some (sym e ∙ z)) (e ∙ proc-is x (pids q) same)))))
+      (leader-none (Proc x) x first refl h) low c.node c.at
+      (child-counts script w first k places pids u (Proc x) p c.node c.situation c.is_in)
+
+  nowhere : (x : ℕ) → ((p : ℕ) → 2 ≤ p → p ≤ size_of script → pids p ≢ x) → owners (Proc x) w ≤ 1
+  unfolding ZerosBut
+  nowhere x none =
+      by-leader script w first k places pids u (Proc x)
+      (λ p low high o. apart-zero (Proc x) p low high (λ e. none p low high (sym (proc-is x (pids p) e))))
+
+  unforked : owners (Proc 0) w ≤ 1
+  unfolding ZerosBut
+  unforked =
+      by-leader script w first k places pids u (Proc 0)
+      (λ p low high o.
+      let c = u.children p low high
+      in awaited-zero p c.node c.situation c.is_in) where
+        awaited-zero : (p : ℕ) (n : Node) (s : Situation) → IsIn s script p (pids p) (sight w first places p (pids p) n)
+            → Zero (holds-count (Proc 0) n) (brings-count (Proc 0) (stream w p 1)) (brings-count (Proc 0) (stream w 1 p))
+        awaited-zero p n s i = elim (cases_eq 0 (pids p)) [
+          | inl e ↦
+              let a = awaited-is s script p (pids p) _ i (sym e)
+              in record {
+                at_node = held-count (Proc 0) n nothing (ap (λ (y : Node). y.held) a.unborn.node) ∙ nothing-counts (Proc 0);
+                to_node = no-frames-count (Proc 0) _ a.shows.to_it;
+                from_node = no-frames-count (Proc 0) _ a.shows.from_it;
+              }
+          | inr o ↦ other-zero script w first k places pids u (Proc 0) p n s i (λ e. o (proc-is 0 (pids p) e))
+        ]
+
+  sought : (x : ℕ) (o : Option Process) → get first.held.processes x ≡ o → owners (Proc x) w ≤ 1
+  sought x (Some y) h = at-leader x y h
+  sought x None h =
+      elim (cases_eq x 0) [
+        | inl e ↦ subst (λ q. owners (Proc q) w ≤ 1) (sym e) unforked
+        | inr some ↦ elim (found-upto pids x (size_of script)) [
+          | inl f ↦ at-child x f.0 f.2 f.1 f.3 some h
+          | inr none ↦ nowhere x none
+        ]
+      ]
+
+  pub one-owner : (name : Name) → owners name w ≤ 1
+  one-owner (Proc x) = sought x _ refl
+  one-owner (Msg id) = no-process (Msg id) (λ x e. cc)
+  one-owner (Sem id) = no-process (Sem id) (λ x e. cc)
+
+pub no_name_has_two_owners_lemma : NoNameHasTwoOwners
+no_name_has_two_owners_lemma script w name r h =
+    let i = reaches script r w h
+    in one-owner script w i.first i.kernel i.places i.pids i.under_way name

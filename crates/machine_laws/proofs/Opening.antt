@@ -1,24 +1,24 @@
 -- The invariant holds in the opening world.
-use Rattle.std.proofs.Common.{◌≡◌, ◌≢◌, ◌⊎◌, ℕ, zero, suc, ◌+◌, ◌-◌, ◌<◌, ◌≤◌, Bool, true, false, List, [], ◌∷◌, length, map, get_or, Option, Some, None, refl, ap, sym, subst, ◌∙◌, inl, inr, arith}
-use Rattle.std.specs.Prelude.{replicate, slice_get, nat_eq}
+use Rattle.std.proofs.Common.{◌≡◌, ℕ, zero, suc, ◌+◌, ◌-◌, ◌<◌, ◌≤◌, Bool, true, false, List, [], ◌∷◌, length, map, get_or, Some, refl, ap, sym, subst, ◌∙◌, inl, inr, arith}
+use Rattle.std.specs.Prelude.{replicate, slice_get}
 use Rattle.std.specs.Option.{option_map, option_and_then}
 use Rattle.std.proofs.lemmas.Option.{slice_get-map}
-use Rattle.std.proofs.lemmas.Bool.{false≢true, ne_eqb, cases_eq, leb-true}
+use Rattle.std.proofs.lemmas.Bool.{ne_eqb, cases_eq, leb-true}
 use Rattle.pico_base.specs.declared.script.Script.{Script}
 use Rattle.rpc_frame.specs.declared.frame.Frame.{Frame}
-use Rattle.kernel_model.specs.Maps.{Numbered, get}
+use Rattle.kernel_model.specs.Maps.{get}
 use Rattle.kernel_model.specs.Row.{Alive}
-use Rattle.kernel_model.specs.Kernel.{Kernel, Process, Living as LivingProcess, alive_in, living_at, opening}
-use Rattle.kernel_model.specs.Fitting.{Place, Places, opening_places, block_at}
+use Rattle.kernel_model.specs.Kernel.{Living as LivingProcess, alive_in, living_at, opening}
+use Rattle.kernel_model.specs.Fitting.{opening_places, block_at}
 use Rattle.machine_model.specs.Built.{IsRunnable}
-use Rattle.machine_model.specs.Node.{Node, first_node, first_numbers, unborn_node, opening_node, new_process, only, place_of, lines_of}
-use Rattle.machine_model.specs.World.{World, numbers, size_of, opening_world, node_at, stream}
+use Rattle.machine_model.specs.Node.{first_node, first_numbers, unborn_node, opening_node, new_process, only, place_of}
+use Rattle.machine_model.specs.World.{numbers, size_of, opening_world, node_at, stream}
 use Rattle.kernel_laws.proofs.MapLaws.{get-first, get-later, ordered}
 use Rattle.kernel_laws.proofs.Plain.{from_some, not_some}
 use Rattle.deed_laws.specs.Carrying.{StandsFor, IsPlain}
 use Rattle.machine_laws.specs.Situations.{Awaited}
-use Rattle.machine_laws.specs.Invariant.{IsUnderWay, FirstRuns, IsChild, HasInvariant}
-use Rattle.machine_laws.proofs.Calls.{and-left, and-right, is-true}
+use Rattle.machine_laws.specs.Invariant.{HasInvariant}
+use Rattle.machine_laws.proofs.Calls.{and-left, is-true}
 use Rattle.machine_laws.proofs.ChildTakes.{lines-end}
 use Rattle.machine_laws.proofs.LeaderForks.{block-place-is}
 
@@ -67,7 +67,7 @@ module _ (script : Script) (r : IsRunnable script) where
 
   later-node : (p : ℕ) → 2 ≤ p → opening_node p ≡ unborn_node p
   later-node p low =
-      ap (λ (b : Bool). elim b [ | true ↦ first_node | false ↦ unborn_node p ]) (ne_eqb p 1 (λ e. omega arith))
+      ap (λ (b : Bool). elim b [ true ↦ first_node | false ↦ unborn_node p ]) (ne_eqb p 1 (λ e. omega arith))
 
   -- nothing is on its way
   none-in : (m i j count : ℕ) → get_or (get_or (replicate count (replicate m no-frames)) i []) j [] ≡ []

@@ -1,5 +1,5 @@
 -- What stays true of the leader and of the history where a process makes an entry.
-use Rattle.std.proofs.Common.{◌≡◌, ◌≢◌, ◌⊎◌, ℕ, ◌+◌, ◌<◌, ◌≤◌, true, false, List, [], ◌∷◌, Option, Some, None, refl, ap, sym, subst, ◌∙◌, inl, inr, arith}
+use Rattle.std.proofs.Common.{◌≡◌, ◌≢◌, ◌⊎◌, ℕ, ◌≤◌, Some, ap, sym, ◌∙◌, inl, inr}
 use Rattle.std.proofs.lemmas.Bool.{cases_eq}
 use Rattle.pico_base.specs.declared.script.Script.{Script}
 use Rattle.kernel_model.specs.Maps.{get}
@@ -8,7 +8,7 @@ use Rattle.kernel_model.specs.Fitting.{Place, Places}
 use Rattle.machine_model.specs.Node.{Node}
 use Rattle.machine_model.specs.World.{size_of}
 use Rattle.machine_laws.specs.Situations.{IsBorn}
-use Rattle.machine_laws.specs.Invariant.{IsLeader, FirstRuns, FirstIsOver}
+use Rattle.machine_laws.specs.Invariant.{IsLeader}
 
 -- the leader's own place stays
 pub leader-places : (script : Script) (n : Node) (k : Kernel) (places places' : Places) (pids : ℕ → ℕ)

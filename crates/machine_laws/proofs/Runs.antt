@@ -1,24 +1,24 @@
 -- What the invariant gives along a run.
-use Rattle.std.proofs.Common.{◌≡◌, ◌≢◌, ◌⊎◌, ℕ, ◌+◌, ◌-◌, ◌<◌, ◌≤◌, Bool, true, false, List, [], ◌∷◌, length, Option, Some, None, refl, ap, sym, subst, ◌∙◌, inl, inr, arith}
-use Rattle.std.specs.Prelude.{◌&&◌, ◌||◌, not, is_some, nat_lt, IsSome}
+use Rattle.std.proofs.Common.{◌≡◌, ◌≢◌, ℕ, ◌≤◌, Bool, true, false, List, [], ◌∷◌, Some, refl, ap, sym, subst, ◌∙◌, inl, inr, arith}
+use Rattle.std.specs.Prelude.{◌||◌, not, is_some}
 use Rattle.std.specs.List.{AllByRecursion}
 use Rattle.std.proofs.lemmas.Bool.{false≢true, lt-ltb, cases_eq}
 use Rattle.pico_base.specs.declared.script.Script.{Script}
 use Rattle.pico_base.specs.declared.script.Event.{Event}
 use Rattle.pico_base.specs.declared.script.Event.TheVariants as events
 use Rattle.rpc_frame.specs.declared.frame.Frame.{Frame}
-use Rattle.kernel_model.specs.Maps.{Numbered, get}
+use Rattle.kernel_model.specs.Maps.{get}
 use Rattle.kernel_model.specs.Kernel.{Kernel}
 use Rattle.kernel_model.specs.Fitting.{Place, Places, IsOver}
-use Rattle.kernel_laws.proofs.MapLaws.{Above, Rising, rising, get-first, get-later, get-above}
+use Rattle.kernel_laws.proofs.MapLaws.{Rising, rising, get-first, get-later, get-above}
 use Rattle.kernel_laws.proofs.Plain.{not_some}
 use Rattle.machine_model.specs.Built.{IsRunnable}
 use Rattle.machine_model.specs.Node.{Node, Stage, is_living, is_unborn, can_run}
-use Rattle.machine_model.specs.World.{World, node_at, stream, size_of, opening_world, step, is_enabled, is_run_enabled, is_take_enabled, is_checkpoint}
+use Rattle.machine_model.specs.World.{World, node_at, stream, opening_world, is_enabled, is_run_enabled, is_take_enabled, is_checkpoint}
 use Rattle.machine_model.specs.Run.{Runs, IsReachable, IsAtRest}
 use Rattle.machine_model.specs.Laws.{JournalsAreLegal, RestIsWhole, EnabledEventsHaveSteps}
 use Rattle.machine_laws.specs.Situations.{Situation, Awaited, Forked, Free, Asking, Answered, Telling, Recalled, HandedOver, Gone, IsIn}
-use Rattle.machine_laws.specs.Invariant.{IsUnderWay, IsChild, HasInvariant, sight}
+use Rattle.machine_laws.specs.Invariant.{IsUnderWay, HasInvariant, sight}
 use Rattle.machine_laws.proofs.Lines.{some-is}
 use Rattle.machine_laws.proofs.Steps.{Goes, can-run, and-true}
 use Rattle.machine_laws.proofs.Opening.{opening-holds}
@@ -52,12 +52,13 @@ enabled_events_have_steps_lemma script w e r h enabled =
 -- each place in a map is one that the map has at a number
 over-each : (m : Places) → Rising m → ((pid : ℕ) (place : Place) → get m pid ≡ Some place → place.left ≡ []) → AllByRecursion IsOver m
 over-each [] r h = tt
-over-each (e ∷ m) r h =
-    (h e.0 e.1 (get-first e m e.0 refl),
-    over-each m r.1 (λ pid place g. elim (cases_eq pid e.0) [
-      | inl same ↦ not_some place (sym (get-above e.0 m r.0) ∙ ap (λ q. get m q) (sym same) ∙ g)
-      | inr o ↦ h pid place (get-later e m pid o ∙ g)
-    ]))
+over-each (e ∷ m) r h = (
+  h e.0 e.1 (get-first e m e.0 refl),
+  over-each m r.1 (λ pid place g. elim (cases_eq pid e.0) [
+    | inl same ↦ not_some place (sym (get-above e.0 m r.0) ∙ ap (λ q. get m q) (sym same) ∙ g)
+    | inr o ↦ h pid place (get-later e m pid o ∙ g)
+  ]),
+)
 
 run-enabled : (w : World) (p : ℕ) (n : Node) → 1 ≤ p → node_at w p ≡ Some n → can_run n ≡ true → is_enabled w (events.Run p) ≡ true
 run-enabled w p n low at h = and-true _ _ (lt-ltb 0 p low) (ap is_run_enabled at ∙ h)
@@ -81,7 +82,7 @@ module _ (script : Script) (w : World) (first : Node) (k : Kernel) (places : Pla
   stuck e h = absurd (false≢true (sym (rest e) ∙ h))
 
   first-is-born : is_unborn first.stage ≡ false
-  first-is-born = elim u.leader.life [ | inl runs ↦ ap is_unborn runs.stage | inr over ↦ ap is_unborn over.stage ]
+  first-is-born = elim u.leader.life [ inl runs ↦ ap is_unborn runs.stage | inr over ↦ ap is_unborn over.stage ]
 
   -- frames on their way could be taken, and calls that are due started: only what is gone is left
   child-over : (p : ℕ) → 2 ≤ p → (n : Node) → node_at w p ≡ Some n → (s : Situation) → IsIn s script p (pids p) (sight w first places p (pids p) n)
@@ -126,6 +127,9 @@ module _ (script : Script) (w : World) (first : Node) (k : Kernel) (places : Pla
 pub rest_is_whole_lemma : RestIsWhole
 rest_is_whole_lemma script w r h rest =
     let i = reaches script r w h
-    in (i.places, i.under_way.fits,
-    over-each i.places (rising i.places i.under_way.ordered)
-    (place-over script w i.first i.kernel i.places i.pids i.under_way rest))
+    in (
+      i.places,
+      i.under_way.fits,
+      over-each i.places (rising i.places i.under_way.ordered)
+          (place-over script w i.first i.kernel i.places i.pids i.under_way rest),
+    )

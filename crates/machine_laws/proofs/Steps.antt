@@ -1,14 +1,14 @@
 -- The world's step from a node's.
-use Rattle.std.proofs.Common.{◌≡◌, ◌≢◌, ◌⊎◌, ℕ, ◌+◌, ◌-◌, ◌<◌, ◌≤◌, Bool, true, false, List, [], ◌∷◌, ◌++◌, length, drop, Option, Some, None, refl, ap, sym, subst, ◌∙◌, inl, inr, arith}
-use Rattle.std.specs.Prelude.{◌&&◌, not, is_some, nat_lt, if◌then◌else◌, slice_get}
+use Rattle.std.proofs.Common.{◌≡◌, ℕ, ◌+◌, ◌<◌, ◌≤◌, Bool, true, false, List, [], ◌∷◌, length, drop, Option, Some, None, refl, ap, sym, subst, ◌∙◌}
+use Rattle.std.specs.Prelude.{◌&&◌, not, is_some, nat_lt, if◌then◌else◌}
 use Rattle.std.proofs.lemmas.Bool.{lt-ltb}
 use Rattle.pico_base.specs.declared.call.Call.{Call}
 use Rattle.pico_base.specs.declared.script.Script.{Script}
 use Rattle.pico_base.specs.declared.script.Event.{Event}
 use Rattle.pico_base.specs.declared.script.Event.TheVariants as events
 use Rattle.rpc_frame.specs.declared.frame.Frame.{Frame}
-use Rattle.kernel_model.specs.Script.{call_of, is_exit}
-use Rattle.kernel_model.specs.Fitting.{Place, due}
+use Rattle.kernel_model.specs.Script.{is_exit}
+use Rattle.kernel_model.specs.Fitting.{due}
 use Rattle.machine_model.specs.Built.{IsRunnable}
 use Rattle.machine_model.specs.Node.{Node, Stage, is_living, can_run, place_of, lines_of}
 use Rattle.machine_model.specs.Calls.{Step, run, starts, starts_call, number_end}
@@ -16,7 +16,7 @@ use Rattle.machine_model.specs.Frames.{takes}
 use Rattle.machine_model.specs.World.{World, node_at, stream, with_stream, after, after_turn, runs_at, takes_at, step}
 use Rattle.machine_laws.specs.Lines.{EndsInExit}
 use Rattle.machine_laws.specs.Invariant.{HasInvariant}
-use Rattle.machine_laws.proofs.Lines.{IsFirst, due-first, next-line, all-at, ends-next, ends-last, answered-place}
+use Rattle.machine_laws.proofs.Lines.{IsFirst, due-first, next-line, all-at, ends-next, ends-last}
 use Rattle.machine_laws.proofs.Calls.{IsFine, IsCall, lines-fine, lines-few, call-of-line, call-exit}
 use Rattle.std.proofs.lemmas.Option.{slice_get_within}
 
@@ -67,7 +67,7 @@ due-is script n call r low d =
     let f : IsFirst (place_of script n) call = due-first (place_of script n) call d
     in let next = next-line (lines_of script n.number) n.caller.line f.line f.rest f.left
     in let fine : IsFine n.number f.line =
-        all-at (IsFine n.number) (lines_of script n.number) n.caller.line f.line (lines-fine script r n.number low) next.0
+    all-at (IsFine n.number) (lines_of script n.number) n.caller.line f.line (lines-fine script r n.number low) next.0
     in record {
       first = f;
       fine = fine;

@@ -1,6 +1,6 @@
 -- A sum over the nodes, or over the frames on their way: how it changes where one node, or one stream, does.
-use Rattle.std.proofs.Common.{◌≡◌, ◌≢◌, ℕ, zero, suc, ◌+◌, ◌-◌, ◌<◌, ◌≤◌, List, [], ◌∷◌, ◌++◌, length, get_or, Option, Some, None, refl, ap, sym, subst, ◌∙◌, arith}
-use Rattle.std.specs.Prelude.{set, slice_get, sum_by, fold}
+use Rattle.std.proofs.Common.{◌≡◌, ℕ, zero, suc, ◌+◌, ◌-◌, ◌≤◌, List, [], ◌∷◌, ◌++◌, get_or, Some, refl, ap, ◌∙◌, arith}
+use Rattle.std.specs.Prelude.{set, slice_get, sum_by}
 use Rattle.std.proofs.lemmas.List.Sums.{sum_by-cons, sum_by_push}
 use Rattle.rpc_frame.specs.declared.frame.Frame.{Frame}
 use Rattle.machine_model.specs.Owners.{on_the_way}

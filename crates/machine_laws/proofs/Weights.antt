@@ -1,12 +1,11 @@
 -- Each event lowers the weight of the world.
-use Rattle.std.proofs.Common.{◌≡◌, ◌≢◌, ◌⊎◌, ℕ, zero, suc, ◌+◌, ◌-◌, ◌*◌, ◌%◌, ◌<◌, ◌≤◌, Bool, true, false, List, [], ◌∷◌, ◌++◌, length, drop, map, replicate, Option, Some, None, refl, ap, sym, subst, ◌∙◌, inl, inr, arith}
+use Rattle.std.proofs.Common.{◌≡◌, ◌⊎◌, ℕ, zero, suc, ◌+◌, ◌-◌, ◌*◌, ◌%◌, ◌<◌, ◌≤◌, Bool, true, false, List, [], ◌∷◌, length, drop, map, replicate, Option, Some, None, refl, ap, sym, subst, ◌∙◌, inl, inr, arith}
 use Rattle.std.specs.Prelude.{◌&&◌, not, is_some, is_none, nat_lt, nat_eq, slice_get, sum_by, set, if◌then◌else◌, Result, Ok, Err}
 use Rattle.std.proofs.lemmas.List.{length-drop}
 use Rattle.std.proofs.lemmas.List.Sums.{sum_by-cons}
 use Rattle.std.proofs.lemmas.Bool.{false≢true, eqb-true}
 use Rattle.pico_base.specs.declared.call.Call.{Call}
 use Rattle.pico_base.specs.declared.call.Call.TheVariants as calls
-use Rattle.pico_base.specs.declared.reply.Reply.{Reply}
 use Rattle.pico_base.specs.declared.script.Line.{Line}
 use Rattle.pico_base.specs.declared.script.Block.{Block}
 use Rattle.pico_base.specs.declared.script.Script.{Script}
@@ -20,27 +19,27 @@ use Rattle.kernel_model.specs.Kernel.{Process, living_in}
 use Rattle.kernel_model.specs.Row.{Alive}
 use Rattle.kernel_model.specs.Effect.{Effect}
 use Rattle.kernel_model.specs.Maps.{get, put}
-use Rattle.kernel_model.specs.Script.{calls_in, with_exit, call_of}
+use Rattle.kernel_model.specs.Script.{calls_in, call_of}
 use Rattle.kernel_model.specs.Queue.{empty_queue}
-use Rattle.kernel_model.specs.Fitting.{Place, due, call_due, block_at}
+use Rattle.kernel_model.specs.Fitting.{due, call_due, block_at}
 use Rattle.machine_model.specs.Built.{IsRunnable}
-use Rattle.machine_model.specs.Node.{Node, Caller, Held, Leader, Stage, Unborn, Living, Leaving, Left, Over, is_living, is_unborn, can_run, place_of, lines_of, lines_in, first_node, unborn_node, opening_node, is_leader, IsLeaving, HasLeft}
+use Rattle.machine_model.specs.Node.{Node, Caller, Stage, Unborn, Living, Leaving, Left, Over, is_living, is_unborn, can_run, place_of, lines_of, first_node, unborn_node, opening_node, is_leader, IsLeaving, HasLeft}
 use Rattle.machine_model.specs.Deeds.{served}
-use Rattle.machine_model.specs.Calls.{Step, run, starts, starts_call, carried, carried_out, answered, started, with_leader, makes_set_of, forks_as, shares, exits, ends_first, leaves, asks, entry_by, number_end}
+use Rattle.machine_model.specs.Calls.{Step, run, starts, starts_call, carried, carried_out, answered, with_leader, makes_set_of, forks_as, shares, exits, ends_first, leaves, asks, entry_by, number_end}
 use Rattle.pico_base.specs.declared.reply.Reply.TheVariants.{Num, Ended}
 use Rattle.pico_base.specs.declared.reply.Ending.TheVariants.{Exited}
 use Rattle.machine_model.specs.Deeds.{child_ended, may_end}
 use Rattle.machine_model.specs.Built.{is_shared}
 use Rattle.kernel_model.specs.Waiting.{is_waiting}
 use Rattle.machine_model.specs.Frames.{takes, parting, is_to_leader, served_for, is_awaited, hands_over, ended_at, ended_by}
-use Rattle.machine_model.specs.World.{World, node_at, stream, after, after_turn, runs_at, takes_at, step, size_of, numbers, opening_world, with_stream}
+use Rattle.machine_model.specs.World.{World, node_at, stream, after, after_turn, runs_at, takes_at, size_of, numbers, opening_world, with_stream}
 use Rattle.machine_model.specs.Run.{Runs}
 use Rattle.machine_model.specs.Owners.{one_if, on_the_way}
 use Rattle.machine_model.specs.Weights.{frame_weight, left_to_start, to_start_in, to_start, weight, calls_of}
 use Rattle.machine_model.specs.Laws.{StepsLowerWeights, RunsAreShort}
 use Rattle.machine_laws.proofs.Lines.{next-line, some-is}
 use Rattle.machine_laws.proofs.Calls.{and-left, and-right, calls-enough}
-use Rattle.machine_laws.proofs.Sums.{sum-set, sent-all, sent-count, taken-one}
+use Rattle.machine_laws.proofs.Sums.{sum-set, sent-all, taken-one}
 
 abbrev sends-weight : List (ℕ × Frame) → ℕ
 sends-weight sends = sum_by (λ s. frame_weight s.1) sends
@@ -66,7 +65,7 @@ module _ (script : Script) (n : Node) (living : n.stage ≡ Living) (idle : n.ca
   before : to_start script n ≡ length rest + 1
   before =
       let c : left_to_start script n.number n.caller ≡ length (drop n.caller.line (lines_of script n.number)) - 0 =
-          ap (λ o. length (drop n.caller.line (lines_of script n.number)) - one_if (is_some o)) idle
+      ap (λ o. length (drop n.caller.line (lines_of script n.number)) - one_if (is_some o)) idle
       in let l : length (drop n.caller.line (lines_of script n.number)) ≡ length (line ∷ rest) = ap length left
       in ap (to_start_in script n) living ∙ c ∙ (omega (arith, l))
 
@@ -78,7 +77,7 @@ module _ (script : Script) (n : Node) (living : n.stage ≡ Living) (idle : n.ca
       → to_start script m ≡ length rest
   over-at-once m s k l c =
       let here : left_to_start script m.number m.caller ≡ length rest - 0 =
-          rw (k, l, c) (ap (λ (ls : List Line). length ls - 0) behind)
+      rw (k, l, c) (ap (λ (ls : List Line). length ls - 0) behind)
       in ap (to_start_in script m) (s ∙ living) ∙ here ∙ (omega arith)
 
   at-once : (s : Step) → s.node.stage ≡ n.stage → s.node.number ≡ n.number → s.node.caller.line ≡ n.caller.line + 1
@@ -94,7 +93,7 @@ module _ (script : Script) (n : Node) (living : n.stage ≡ Living) (idle : n.ca
       let x = before
       in let l : length (drop n.caller.line (lines_of script n.number)) ≡ length (line ∷ rest) = ap length left
       in let y : to_start script (asks n call).node ≡ length rest =
-          ap (to_start_in script (asks n call).node) living ∙ (omega (arith, l))
+      ap (to_start_in script (asks n call).node) living ∙ (omega (arith, l))
       in record { lower = omega (arith, x, y) }
 
   leaving : (status : ℕ) → Lowers script (leaves n status) (32 * to_start script n)
@@ -145,8 +144,8 @@ module _ (script : Script) (n : Node) (living : n.stage ≡ Living) (idle : n.ca
   lowers-call (calls.MsgGet None create excl) s h =
       let number : ℕ = n.leader.next_queue
       in let m : Step =
-          with_leader (record n.leader { next_queue = number + 1 })
-          (carried_out script n (calls.MsgGet None create excl) (Num number) (record n.held { queues = put n.held.queues number empty_queue }))
+      with_leader (record n.leader { next_queue = number + 1 })
+      (carried_out script n (calls.MsgGet None create excl) (Num number) (record n.held { queues = put n.held.queues number empty_queue }))
       in let low : Lowers script m (32 * to_start script n) = at-once m refl refl refl refl (omega arith)
       in subst (λ x. Lowers script x (32 * to_start script n)) (some-is m s (passed (is_leader n && nat_lt number number_end) (Some m) s h).1) low
   lowers-call (calls.SemGet None count create excl) s h =
@@ -205,7 +204,7 @@ answered-below script n c Living l u a = awaited-below n.caller.under_way refl a
       in let y = length-drop n.caller.line (lines_of script n.number)
       in let z : to_start_in script (record n { caller = c }) Living ≡ length (drop (n.caller.line + 1) (lines_of script n.number)) - 0 = rw (l, u) refl
       in let v : to_start_in script n Living ≡ length (drop n.caller.line (lines_of script n.number)) - 1 =
-          ap (λ w. length (drop n.caller.line (lines_of script n.number)) - one_if (is_some w)) e
+      ap (λ w. length (drop n.caller.line (lines_of script n.number)) - one_if (is_some w)) e
       in omega (arith, x, y, z, v)
 answered-below script n c Leaving l u a = omega arith
 answered-below script n c Left l u a = omega arith
@@ -221,11 +220,11 @@ left-lowers-at : (script : Script) (n : Node) (from : ℕ) (parcel : Parcel) (st
 left-lowers-at script n from parcel status None s h = of-some s h
 left-lowers-at script n from parcel status (Some p) s h =
     let m : Step =
-        record {
-          node = record (parting n from HasLeft) { held = child_ended n.held parcel.pid parcel.parent p (Exited (status % 256)) };
-          entries = entry_by n.number parcel.pid parcel.call Ended ∷ [];
-          sends = [];
-        }
+    record {
+      node = record (parting n from HasLeft) { held = child_ended n.held parcel.pid parcel.parent p (Exited (status % 256)) };
+      entries = entry_by n.number parcel.pid parcel.call Ended ∷ [];
+      sends = [];
+    }
     in let low : Lowers script m (with-frame script n (frames.Left parcel)) = record { lower = omega arith }
     in subst (λ x. Lowers script x (with-frame script n (frames.Left parcel))) (some-is m s (passed (may_end parcel.pid p) (Some m) s h).1) low
 
@@ -322,9 +321,9 @@ numbered-sum script [] first h = omega arith
 numbered-sum script (b ∷ bs) first h =
     let e : first + 0 ≡ first = omega arith
     in let here : to_start script (opening_node first) ≤ calls_in b =
-        subst (λ q. to_start script (opening_node q) ≤ calls_in b) e (h 0 b refl)
+    subst (λ q. to_start script (opening_node q) ≤ calls_in b) e (h 0 b refl)
     in let rest = numbered-sum script bs (first + 1)
-        (λ i c g. let f : first + suc i ≡ first + 1 + i = omega arith in subst (λ q. to_start script (opening_node q) ≤ calls_in c) f (h (suc i) c g))
+    (λ i c g. let f : first + suc i ≡ first + 1 + i = omega arith in subst (λ q. to_start script (opening_node q) ≤ calls_in c) f (h (suc i) c g))
     in let x = sum_by-cons (to_start script) (opening_node first) (map opening_node (numbers (first + 1) (length bs)))
     in let y = sum_by-cons calls_in b bs
     in omega (arith, here, rest, x, y)
@@ -336,7 +335,7 @@ opening-to-start script p = by-test (nat_eq p 1) refl where
       let e : p ≡ 1 = eqb-true p 1 h
       in subst (λ q. to_start script (opening_node q) ≤ length (lines_of script q)) (sym e) (omega arith)
   by-test false h =
-      let e : opening_node p ≡ unborn_node p = ap (λ (b : Bool). elim b [ | true ↦ first_node | false ↦ unborn_node p ]) h
+      let e : opening_node p ≡ unborn_node p = ap (λ (b : Bool). elim b [ true ↦ first_node | false ↦ unborn_node p ]) h
       in subst (λ (m : Node). to_start script m ≤ length (lines_of script p)) (sym e) (omega arith)
 
 block-calls : (script : Script) → IsRunnable script → (i : ℕ) (b : Block) → slice_get script.blocks i ≡ Some b

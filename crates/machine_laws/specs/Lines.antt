@@ -1,5 +1,5 @@
 -- What a process has left of its block.
-use Rattle.std.specs.Prelude.{◌≡◌, ℕ, Bool, true, false, List, [], ◌∷◌}
+use Rattle.std.specs.Prelude.{◌≡◌, true, false, List, [], ◌∷◌}
 use Rattle.pico_base.specs.declared.script.Line.{Line}
 use Rattle.kernel_model.specs.Script.{is_exit}
 

@@ -1,6 +1,6 @@
 -- Where a child's process is in its life, and where its call under way is: one situation at a time. A rule moves one
 -- child from one situation to the next, and leaves the others alone.
-use Rattle.std.specs.Prelude.{◌≡◌, ◌≤◌, ℕ, ◌+◌, Bool, true, false, List, [], ◌∷◌, Option, Some, None}
+use Rattle.std.specs.Prelude.{◌≡◌, ◌≤◌, ℕ, ◌+◌, true, false, List, [], ◌∷◌, Option, Some, None}
 use Rattle.pico_base.specs.declared.call.Call.{Call}
 use Rattle.pico_base.specs.declared.call.Call.TheVariants.{Exit}
 use Rattle.pico_base.specs.declared.reply.Reply.{Reply}
@@ -10,7 +10,7 @@ use Rattle.rpc_frame.specs.declared.frame.Frame.{Frame}
 use Rattle.rpc_frame.specs.declared.frame.Frame.TheVariants as frames
 use Rattle.kernel_model.specs.Maps.{get}
 use Rattle.kernel_model.specs.Row.{Alive, lists}
-use Rattle.kernel_model.specs.Kernel.{Kernel, Process, Living as LivingProcess}
+use Rattle.kernel_model.specs.Kernel.{Kernel, Living as LivingProcess}
 use Rattle.kernel_model.specs.Waiting.{is_waiting}
 use Rattle.kernel_model.specs.Script.{Vars}
 use Rattle.kernel_model.specs.Fitting.{Place, due, after}
