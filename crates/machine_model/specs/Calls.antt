@@ -1,5 +1,5 @@
 -- A node starts its process's next call, rule by rule. A rule gives a step, or there is none.
-use Rattle.std.specs.Prelude.{ℕ, ◌+◌, ◌%◌, ◌^◌, Bool, true, false, not, ◌&&◌, nat_lt, List, [], ◌∷◌, if◌then◌else◌, Option, Some, None, Result, Ok, Err, slice_get}
+use Rattle.std.specs.Prelude.{ℕ, ◌+◌, ◌%◌, ◌^◌, not, ◌&&◌, nat_lt, List, [], ◌∷◌, if◌then◌else◌, Option, Some, None, Result, Ok, Err, slice_get}
 use Rattle.pico_base.specs.declared.call.Call.{Call}
 use Rattle.pico_base.specs.declared.call.Call.TheVariants as calls
 use Rattle.pico_base.specs.declared.script.Line.{Line}
@@ -21,7 +21,7 @@ use Rattle.kernel_model.specs.ProcessCalls.{forking}
 use Rattle.kernel_model.specs.Waiting.{is_waiting}
 use Rattle.kernel_model.specs.Fitting.{due, child_vars, setting, value_in}
 use Rattle.machine_model.specs.Node.{Node, Caller, Held, Leader, Over, Leaving, place_of, lines_of, is_leader, can_run}
-use Rattle.machine_model.specs.Built.{is_shared, is_private}
+use Rattle.machine_model.specs.Built.{is_shared}
 use Rattle.machine_model.specs.Deeds.{held_in, served, first_ended, new_deed}
 
 -- the node after a turn, the entries that it made, and the frames that it sent, each with its receiver, in order

@@ -5,7 +5,6 @@ use Rattle.pico_base.specs.declared.numbers.Name.{Name}
 use Rattle.pico_base.specs.declared.numbers.Name.TheVariants.{Proc, Msg, Sem}
 use Rattle.pico_base.specs.declared.reply.Ending.{Ending}
 use Rattle.rpc_frame.specs.declared.deed.PackedDeed.{PackedDeed}
-use Rattle.kernel_model.specs.Maps.{Numbered, put}
 use Rattle.kernel_model.specs.Row.{Alive, lists}
 use Rattle.kernel_model.specs.Kernel.{Kernel, Process, Living, Ended, Gone, Parent}
 use Rattle.kernel_model.specs.Effect.{Effect}

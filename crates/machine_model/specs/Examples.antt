@@ -2,7 +2,6 @@
 use Rattle.std.specs.Prelude.{◌≡◌, ℕ, zero, suc, pos, true, false, List, [], ◌∷◌, Option, Some, None, refl, codes}
 use Rattle.pico_base.specs.declared.call.Call.{Call}
 use Rattle.pico_base.specs.declared.call.Call.TheVariants.{MsgGet, MsgRcv, Fork, Exit, GetPid}
-use Rattle.pico_base.specs.declared.reply.Reply.{Reply}
 use Rattle.pico_base.specs.declared.reply.Reply.TheVariants.{Num, Ended, Fail}
 use Rattle.pico_base.specs.declared.reply.Errno.TheVariants.{Enomsg}
 use Rattle.pico_base.specs.declared.reply.Entry.{Entry}

@@ -1,9 +1,8 @@
 -- A node takes a frame, rule by rule. Where a frame has no rule in a state there is no step.
-use Rattle.std.specs.Prelude.{ℕ, ◌%◌, Bool, true, false, not, ◌&&◌, nat_eq, nat_lt, List, [], ◌∷◌, if◌then◌else◌, Option, Some, None, is_none}
+use Rattle.std.specs.Prelude.{ℕ, ◌%◌, Bool, true, false, not, ◌&&◌, nat_eq, nat_lt, [], ◌∷◌, if◌then◌else◌, Option, Some, None, is_none}
 use Rattle.std.specs.List.{list_any}
 use Rattle.pico_base.specs.declared.call.Call.{Call}
 use Rattle.pico_base.specs.declared.call.Call.TheVariants as calls
-use Rattle.pico_base.specs.declared.script.Line.{Line}
 use Rattle.pico_base.specs.declared.script.Block.{Block}
 use Rattle.pico_base.specs.declared.script.Script.{Script}
 use Rattle.pico_base.specs.declared.reply.Reply.{Reply}
@@ -18,7 +17,7 @@ use Rattle.kernel_model.specs.Kernel.{Process}
 use Rattle.kernel_model.specs.Effect.{Effect}
 use Rattle.kernel_model.specs.Script.{Vars}
 use Rattle.kernel_model.specs.Fitting.{block_at}
-use Rattle.machine_model.specs.Node.{Node, Held, Living, Left, Parting, IsLeaving, HasLeft, only, nothing, beginning, is_leader, is_unborn, is_leaving}
+use Rattle.machine_model.specs.Node.{Node, Living, Left, Parting, IsLeaving, HasLeft, only, nothing, beginning, is_leader, is_unborn, is_leaving}
 use Rattle.machine_model.specs.Built.{is_shared}
 use Rattle.machine_model.specs.Deeds.{held_in, served, child_ended, may_end, new_deed, is_new_deed, are_new_deeds}
 use Rattle.machine_model.specs.Calls.{Step, entry_by, answered}

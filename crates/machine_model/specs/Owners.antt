@@ -1,12 +1,12 @@
 -- How many owners a name has: the nodes that hold its deed, and the frames that bring it.
-use Rattle.std.specs.Prelude.{ℕ, ◌+◌, Bool, true, false, nat_eq, cond, Option, is_some, sum_by, count_by}
+use Rattle.std.specs.Prelude.{ℕ, ◌+◌, Bool, false, nat_eq, cond, is_some, sum_by, count_by}
 use Rattle.pico_base.specs.declared.numbers.Name.{Name}
 use Rattle.pico_base.specs.declared.numbers.Name.TheVariants.{Proc, Msg, Sem}
 use Rattle.rpc_frame.specs.declared.deed.PackedDeed.{PackedDeed}
 use Rattle.rpc_frame.specs.declared.frame.Frame.{Frame}
 use Rattle.rpc_frame.specs.declared.frame.Frame.TheVariants as frames
 use Rattle.kernel_model.specs.Maps.{get}
-use Rattle.machine_model.specs.Node.{Node, Held}
+use Rattle.machine_model.specs.Node.{Held}
 use Rattle.machine_model.specs.World.{World, Streams}
 
 abbrev pub one_if : Bool → ℕ
