@@ -137,7 +137,7 @@ abbrev pub ends_first : Script → Node → ℕ → Option Alive → Option Step
 ends_first script n status None = None
 ends_first script n status (Some a) =
     let step : Step =
-        carried_out script n (calls.Exit status) replies.Ended (first_ended n.held n.pid a (Exited (status % 256)))
+    carried_out script n (calls.Exit status) replies.Ended (first_ended n.held n.pid a (Exited (status % 256)))
     in Some (record step { node = record step.node { stage = Over } })
 
 abbrev pub leaves : Node → ℕ → Step

@@ -36,7 +36,7 @@ both_find_nothing =
 
 abbrev pub after_events : World → List Event → Option World
 after_events w [] = Some w
-after_events w (e ∷ events) = elim (step w e) [ | None ↦ None | Some next ↦ after_events next events ]
+after_events w (e ∷ events) = elim (step w e) [ None ↦ None | Some next ↦ after_events next events ]
 
 abbrev pub journal_in : Option World → Option (List Entry)
 journal_in None = None
@@ -64,7 +64,7 @@ taken zero w schedule = []
 taken (suc count) w schedule =
     elim (choice w schedule) [
       | None ↦ []
-      | Some e ↦ e ∷ elim (step w e) [ | None ↦ [] | Some next ↦ taken count next (schedule_after schedule e) ]
+      | Some e ↦ e ∷ elim (step w e) [ None ↦ [] | Some next ↦ taken count next (schedule_after schedule e) ]
     ]
 
 abbrev pub simulated : ℕ → Script → List Event

@@ -94,7 +94,7 @@ abbrev pub unborn_node : ℕ → Node
 unborn_node number = record first_node { number = number; stage = Unborn; pid = 0; held = nothing }
 
 abbrev pub opening_node : ℕ → Node
-opening_node number = elim (nat_eq number 1) [ | true ↦ first_node | false ↦ unborn_node number ]
+opening_node number = elim (nat_eq number 1) [ true ↦ first_node | false ↦ unborn_node number ]
 
 -- Where its process is in the script: what its block has left, and its variables.
 
