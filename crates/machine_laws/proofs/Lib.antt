@@ -20,3 +20,4 @@ pub mod Runs
 pub mod Sums
 pub mod Weights
 pub mod OneOwner
+pub mod NewDeeds

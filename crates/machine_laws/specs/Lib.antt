@@ -1,3 +1,4 @@
 pub mod Lines
 pub mod Situations
 pub mod Invariant
+pub mod NewDeeds

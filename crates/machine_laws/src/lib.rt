@@ -2,6 +2,7 @@
 //! `specs/Invariant.antt` and `specs/Situations.antt`. Nothing runs here.
 #![tactic(auto)]
 
+ghost use Rattle.machine_laws.specs.NewDeeds.{NewDeedsAreNewRows};
 ghost use Rattle.machine_model.specs.Laws.{JournalsAreLegal, RestIsWhole, EnabledEventsHaveSteps, NoNameHasTwoOwners, StepsLowerWeights, RunsAreShort};
 
 /// The journal of each world that a run leads to is one history of a single POSIX kernel, and each process's calls
@@ -35,4 +36,9 @@ pub fn steps_lower_weights()
 /// A run has at most 32 events for each call of its script.
 pub fn runs_are_short()
     ensures { RunsAreShort }
+{}
+
+/// The deed that a new process's Checkpoint brings spells a new row: new signals, and no children.
+pub fn new_deeds_are_new_rows()
+    ensures { NewDeedsAreNewRows }
 {}
