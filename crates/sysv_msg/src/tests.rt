@@ -21,6 +21,38 @@ const SELECTED: [([i32; 3], i32, u8); 14] = [
     ([2147483647, 2147483647, 2147483647], -2147483648, b'a'),
 ];
 
+/// All contents of three messages with types from 1 to 3 and the texts a, b and c, each with the texts that the types
+/// from -3 to 3 select, `.` for none.
+const EVERY: [([i32; 3], &[u8; 7]); 27] = [
+    ([1, 1, 1], b"aaaaa.."),
+    ([1, 1, 2], b"aaaaac."),
+    ([1, 1, 3], b"aaaaa.c"),
+    ([1, 2, 1], b"aaaaab."),
+    ([1, 2, 2], b"aaaaab."),
+    ([1, 2, 3], b"aaaaabc"),
+    ([1, 3, 1], b"aaaaa.b"),
+    ([1, 3, 2], b"aaaaacb"),
+    ([1, 3, 3], b"aaaaa.b"),
+    ([2, 1, 1], b"bbbaba."),
+    ([2, 1, 2], b"bbbaba."),
+    ([2, 1, 3], b"bbbabac"),
+    ([2, 2, 1], b"cccaca."),
+    ([2, 2, 2], b"aa.a.a."),
+    ([2, 2, 3], b"aa.a.ac"),
+    ([2, 3, 1], b"cccacab"),
+    ([2, 3, 2], b"aa.a.ab"),
+    ([2, 3, 3], b"aa.a.ab"),
+    ([3, 1, 1], b"bbbab.a"),
+    ([3, 1, 2], b"bbbabca"),
+    ([3, 1, 3], b"bbbab.a"),
+    ([3, 2, 1], b"cccacba"),
+    ([3, 2, 2], b"bb.a.ba"),
+    ([3, 2, 3], b"bb.a.ba"),
+    ([3, 3, 1], b"cccac.a"),
+    ([3, 3, 2], b"cc.a.ca"),
+    ([3, 3, 3], b"a..a..a"),
+];
+
 /// A `msg_qbytes`, the length of a text, and the refusal of the text by an empty queue.
 const ROOM: [(u32, usize, Option<Errno>); 8] = [
     (0, 0, None),
@@ -85,6 +117,21 @@ fn the_type_selects(rt: HostRuntime) -> Result<(), Fail> {
             text,
             "{classes:?} {asked}"
         );
+    }
+    Ok(())
+}
+
+#[test]
+fn every_type_on_three_messages(rt: HostRuntime) -> Result<(), Fail> {
+    for (classes, texts) in EVERY {
+        for (asked, text) in (-3..4).zip(texts.iter()) {
+            let wanted = if *text == b'.' { 0 } else { *text };
+            assert_eq!(rt;
+                selected(rt.alloc(), classes, asked)?,
+                wanted,
+                "{classes:?} {asked}"
+            );
+        }
     }
     Ok(())
 }
