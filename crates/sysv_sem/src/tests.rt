@@ -109,7 +109,9 @@ fn limits_of_an_operation(rt: HostRuntime) -> Result<(), Fail> {
     assert_eq!(rt; set.value(1), Ok(32));
     assert_eq!(rt; set.op(Pid(7), &[step(2, 1); 33]), Err(Errno::E2big));
     assert_eq!(rt; set.op(Pid(7), &[step(2, 1); 32]), Err(Errno::Efbig));
+    assert_eq!(rt; set.op(Pid(7), &[step(3, 1)]), Err(Errno::Efbig));
     assert_eq!(rt; set.value(2), Err(Errno::Einval));
+    assert_eq!(rt; set.value(3), Err(Errno::Einval));
     assert_eq!(rt; set.set_value(2, 32768), Err(Errno::Einval));
     assert_eq!(rt; set.set_value(1, 32768), Err(Errno::Erange));
     assert_eq!(rt; set.set_all(&[1]), Err(Errno::Einval));
