@@ -1,5 +1,5 @@
 -- A world: the nodes of a script, the frames on the way between them, and the journal of what they carried out.
-use Rattle.std.specs.Prelude.{ℕ, zero, suc, ◌+◌, ◌-◌, Bool, true, false, ◌||◌, List, [], ◌∷◌, ◌++◌, length, map, replicate, set, get_or, slice_get, fold, Option, Some, None}
+use Rattle.std.specs.Prelude.{ℕ, zero, suc, ◌+◌, ◌-◌, Bool, true, false, ◌&&◌, ◌||◌, nat_lt, List, [], ◌∷◌, ◌++◌, length, map, replicate, set, get_or, slice_get, fold, Option, Some, None}
 use Rattle.pico_base.specs.declared.script.Script.{Script}
 use Rattle.pico_base.specs.declared.script.Event.{Event}
 use Rattle.pico_base.specs.declared.script.Event.TheVariants as events
@@ -108,6 +108,10 @@ is_take_enabled None frames_there = false
 is_take_enabled (Some n) [] = false
 is_take_enabled (Some n) (frame ∷ frames_left) = is_born n || is_checkpoint frame
 
+-- the number of a node is at least 1
+abbrev pub is_number : ℕ → Bool
+is_number p = nat_lt 0 p
+
 abbrev pub is_enabled : World → Event → Bool
-is_enabled w (events.Run p) = is_run_enabled (node_at w p)
-is_enabled w (events.Take p from) = is_take_enabled (node_at w p) (stream w p from)
+is_enabled w (events.Run p) = is_number p && is_run_enabled (node_at w p)
+is_enabled w (events.Take p from) = is_number p && is_number from && is_take_enabled (node_at w p) (stream w p from)
