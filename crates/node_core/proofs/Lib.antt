@@ -1,0 +1,3 @@
+pub mod MapLemmas
+pub mod ResultLemmas
+pub mod StepLemmas

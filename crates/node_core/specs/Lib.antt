@@ -1,0 +1,5 @@
+pub mod Answers
+pub mod Deed
+pub mod Life
+pub mod Rising
+pub mod Serving
