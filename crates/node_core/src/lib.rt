@@ -7,5 +7,6 @@ mod family;
 mod fault;
 mod maps;
 mod process;
+mod serve;
 
 pub use fault::TurnFault;

@@ -1,10 +1,8 @@
 //! Calls on the queue or the set of a number.
 ghost use Rattle.std.specs.Prelude.{◌≡◌, IfOk};
-ghost use Rattle.std.specs.List.{list_any};
 ghost use Rattle.kernel_model.specs.Queue.{send, receive, set_qbytes};
 ghost use Rattle.kernel_model.specs.SemaphoreSet.{op, set_value, set_all};
-ghost use Rattle.kernel_model.specs.Waiting.{may_wait};
-ghost use Rattle.node_core.specs.Answers.{Changes, Receives, answered, reply_to};
+ghost use Rattle.node_core.specs.Answers.{Changes, Receives, answered, reply_to, waiting_reply};
 
 use pico_base::{Bytes, Errno, Memory, Pid, Reply, SemStep};
 use std::collections::BTreeMap;
@@ -37,6 +35,26 @@ pub(crate) fn looked(found: Result<u32, Errno>) -> Reply
     }
 }
 
+/// The reply of a look at the last process of a semaphore.
+pub(crate) fn looked_last(found: Result<Pid, Errno>) -> Reply
+    ensures { result ≡ reply_to found }
+{
+    match found {
+        Ok(pid) => Reply::Num(pid.0),
+        Err(errno) => Reply::Fail(errno),
+    }
+}
+
+/// The reply of a look at the callers that wait at a semaphore, which is there where it has a value: nobody waits.
+pub(crate) fn looked_waiting(found: Result<u32, Errno>) -> Reply
+    ensures { result ≡ waiting_reply found }
+{
+    match found {
+        Ok(_) => Reply::Num(0),
+        Err(errno) => Reply::Fail(errno),
+    }
+}
+
 /// The reply that is a message.
 fn received(message: Message) -> Reply
     ensures { result ≡ Reply.Message message.class message.text }
@@ -45,13 +63,6 @@ fn received(message: Message) -> Reply
         class: message.class,
         text: message.text,
     }
-}
-
-/// Whether an operation may have to wait.
-pub(crate) fn waits(steps: &[SemStep]) -> bool
-    ensures { result ≡ list_any may_wait steps.now }
-{
-    steps.iter().any(|step| step.add <= 0 && !step.nowait)
 }
 
 /// msgsnd to the queue of a number.

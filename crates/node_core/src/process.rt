@@ -1,9 +1,9 @@
 //! A process as a deed.
 ghost use Rattle.std.specs.Prelude.{◌≡◌, [], IfOk, IfSome, OnOk, is_some};
-ghost use Rattle.kernel_model.specs.Kernel.{Living, Ended, Gone, alive_in};
+ghost use Rattle.kernel_model.specs.Kernel.{Living, Gone, alive_in};
 ghost use Rattle.machine_model.specs.Node.{new_process};
 ghost use Rattle.machine_model.specs.Deeds.{may_end};
-ghost use Rattle.node_core.specs.Deed.{with_child_there, with_end_there, ended_there};
+ghost use Rattle.node_core.specs.Deed.{with_child_there, with_end_there, ended_there, kept_by};
 
 use crate::family::Family;
 use pico_base::{Ending, Memory, Pid};
@@ -41,15 +41,6 @@ impl Process {
     {
         Process {
             life: Life::Living(Family::new(alloc)),
-        }
-    }
-
-    /// A process that ended and is kept for its parent.
-    pub(crate) fn ended(ending: Ending) -> Process
-        ensures { result ≡ Ended ending }
-    {
-        Process {
-            life: Life::Ended(ending),
         }
     }
 
@@ -105,5 +96,16 @@ impl Process {
             Life::Living(family) => family.ended(alloc),
             Life::Ended(_) | Life::Gone => Ok(Vec::new(alloc)),
         }
+    }
+
+    /// What becomes of its child that ends: it keeps the ending if it lives, and else the child is gone.
+    pub(crate) fn kept(&self, ending: Ending) -> Process
+        ensures { result ≡ kept_by ending self.now }
+    {
+        let life = match &self.life {
+            Life::Living(_) => Life::Ended(ending),
+            Life::Ended(_) | Life::Gone => Life::Gone,
+        };
+        Process { life }
     }
 }
