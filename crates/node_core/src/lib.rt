@@ -2,11 +2,18 @@
 //! that gives the entries made and the frames to send. A turn does what the picoprocess machine says, and nothing else.
 #![tactic(auto)]
 
+mod caller;
 mod deeds;
 mod family;
 mod fault;
+mod leader;
+mod lines;
 mod maps;
 mod process;
 mod serve;
+mod state;
+mod turn;
+mod variables;
 
 pub use fault::TurnFault;
+pub use turn::{Input, Sends, Turn};
