@@ -10,8 +10,10 @@ mod leader;
 mod lines;
 mod maps;
 mod process;
+mod run;
 mod serve;
 mod state;
+mod take;
 mod turn;
 mod variables;
 
