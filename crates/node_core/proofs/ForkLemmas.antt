@@ -1,5 +1,5 @@
 -- The fork rule, from what its parts give.
-use Rattle.std.proofs.Common.{◌≡◌, ◌∙◌, ℕ, ◌+◌, Bool, true, false, cond, ◌&&◌, nat_lt, List, [], ◌∷◌, Option, Some, None, is_some, IfSome, refl, sym, ap, subst}
+use Rattle.std.proofs.Common.{◌≡◌, ◌∙◌, ℕ, ◌+◌, Bool, true, false, cond, ◌&&◌, nat_lt, List, [], ◌∷◌, Option, Some, None, is_some, IfSome, refl, sym, ap}
 use Rattle.std.specs.Prelude.{slice_get}
 use Rattle.pico_base.specs.declared.call.Call.TheVariants.{Fork}
 use Rattle.pico_base.specs.declared.reply.Entry.{Entry}
@@ -8,14 +8,13 @@ use Rattle.pico_base.specs.declared.script.Script.{Script}
 use Rattle.rpc_frame.specs.declared.deed.PackedDeed.{PackedDeed}
 use Rattle.rpc_frame.specs.declared.frame.Frame.{Frame}
 use Rattle.rpc_frame.specs.declared.frame.Frame.TheVariants.{Checkpoint}
-use Rattle.kernel_model.specs.Maps.{put}
 use Rattle.kernel_model.specs.Script.{Vars}
 use Rattle.kernel_model.specs.Row.{Alive}
 use Rattle.kernel_model.specs.Kernel.{living_in}
 use Rattle.kernel_model.specs.Fitting.{setting}
 use Rattle.machine_model.specs.Node.{Node, Caller, Held, Leader, lines_of, is_leader}
 use Rattle.machine_model.specs.Deeds.{new_deed}
-use Rattle.machine_model.specs.Calls.{Step, number_end, set_by, answered, started, carried_out, entry_by, forks, forks_as, fork_held}
+use Rattle.machine_model.specs.Calls.{Step, number_end, set_by, answered, started, carried_out, forks, forks_as, fork_held}
 use Rattle.node_core.specs.Caller.{child_variables}
 use Rattle.node_core.specs.Leader.{numbered}
 use Rattle.node_core.proofs.MapLemmas.{put-put}
@@ -88,6 +87,7 @@ forks-are script n m block child caller held leader vars deed entries none sends
   where
     next : (nat_lt n.leader.next_process number_end ≡ true) × (n.leader.next_process ≡ child)
     next = numbered-is n.leader.next_process child number
+
     node_is : (a : Alive) → held ≡ fork_held n.held n.pid a child
         → parts n (answered script n.number (started n.caller (Fork block)) (Num child)) (fork_held n.held n.pid a child) (record n.leader { next_process = child + 1 }) ≡ m
     node_is a h =
@@ -96,11 +96,13 @@ forks-are script n m block child caller held leader vars deed entries none sends
         ∙ ap (λ (x : Held). parts n (answered script n.number (started n.caller (Fork block)) (Num child)) x leader) h
         ∙ ap (parts n (answered script n.number (started n.caller (Fork block)) (Num child)) (fork_held n.held n.pid a child))
         (leader_is ∙ ap (λ (k : ℕ). record n.leader { next_process = k + 1 }) next.1))
+
     sent : (block, Checkpoint child n.pid (new_deed child) (child_variables script n.number n.caller)) ∷ [] ≡ sends
     sent =
         sym (sends_are ∙ ap (λ (p : ℕ). (block, Checkpoint child p deed vars) ∷ []) (ap (λ (s : Step). s.node.pid) carried)
         ∙ ap (λ (d : PackedDeed). (block, Checkpoint child n.pid d vars) ∷ []) deed_is
         ∙ ap (λ (v : Vars). (block, Checkpoint child n.pid (new_deed child) v) ∷ []) is)
+
     made : (o : Option Alive) → is_some o ≡ true → IfSome o (λ a. held ≡ fork_held n.held n.pid a child)
         → forks_as script n block child o ≡ Some (record { node = m; entries = entries; sends = sends })
     made None l h = absurd (cc)

@@ -1,5 +1,5 @@
 -- A change through the entry of a process lands in the map.
-use Rattle.std.proofs.Common.{◌≡◌, ◌∙◌, ℕ, Bool, true, false, nat_eq, Option, Some, None, IsSome, IfSome, Result, OnOk, refl, sym, ap, subst}
+use Rattle.std.proofs.Common.{◌≡◌, ◌∙◌, ℕ, Bool, true, false, nat_eq, Option, Some, None, IfSome, refl, sym, ap, subst}
 use Rattle.std.specs.Option.{option_map_or}
 use Rattle.std.specs.Ordering.{nat_cmp}
 use Rattle.std.specs.Map.{set_value}
@@ -7,7 +7,6 @@ use Rattle.std.specs.BTreeMap.{is_at}
 use Rattle.std.proofs.lemmas.Map.Steps.{set_value_same}
 use Rattle.pico_base.specs.declared.reply.Ending.{Ending}
 use Rattle.kernel_model.specs.Maps.{Numbered, get, put}
-use Rattle.kernel_model.specs.Row.{Alive}
 use Rattle.kernel_model.specs.Kernel.{Process, Living, Ended, Gone, living_in}
 use Rattle.kernel_model.specs.ProcessCalls.{forking, ended_under}
 use Rattle.machine_model.specs.Deeds.{parent_of}
@@ -75,7 +74,7 @@ unfolding Ends
 end_found ps mid es pid parent ending child None at elsewhere kept is rising ends = tt
 end_found ps mid es pid parent ending child (Some p) at elsewhere kept is rising ends =
     let there : get mid parent ≡ Some p =
-        ap (λ (m : Numbered Process). get m parent) is ∙ get-put_other ps pid parent child (apart ps pid parent p at elsewhere) ∙ at
+    ap (λ (m : Numbered Process). get m parent) is ∙ get-put_other ps pid parent child (apart ps pid parent p at elsewhere) ∙ at
     in ended_at ps mid es pid parent ending p (is ∙ ap (put ps pid) kept) rising there (rw there at ends)
 
 pub ended-lands : (ps mid es : Numbered Process) (n pid parent : ℕ) (ending : Ending) (child : Process) → n ≡ pid → get ps pid ≡ None

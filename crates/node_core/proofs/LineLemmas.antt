@@ -1,5 +1,5 @@
 -- The lines of a runnable script, with the exit that its blocks' ends stand for.
-use Rattle.std.proofs.Common.{◌≡◌, ◌∙◌, ℕ, ◌+◌, zero, suc, Bool, true, false, cond, ◌&&◌, nat_eq, List, [], ◌∷◌, ◌++◌, length, drop, Option, Some, None, refl, sym, ap, arith}
+use Rattle.std.proofs.Common.{◌≡◌, ◌∙◌, ℕ, ◌+◌, zero, suc, Bool, true, false, ◌&&◌, nat_eq, List, [], ◌∷◌, ◌++◌, length, drop, Option, Some, None, refl, sym, ap, arith}
 use Rattle.std.specs.Prelude.{slice_get}
 use Rattle.std.specs.List.{list_all, enumerate_from}
 use Rattle.pico_base.specs.declared.call.Call.{Call}
@@ -94,7 +94,7 @@ due_in : (script : Script) (node : ℕ) (block : Block) (own : List Line) (i : �
 unfolding place_at
 due_in script node block own i vars runnable there is =
     let lines : lines_of script node ≡ own ++ implied_exit ∷ [] =
-        lines-are script node block runnable (sym there) ∙ ap (λ (ls : List Line). ls ++ implied_exit ∷ []) (sym is)
+    lines-are script node block runnable (sym there) ∙ ap (λ (ls : List Line). ls ++ implied_exit ∷ []) (sym is)
     in ap (λ (ls : List Line). call_due (place_at vars) (drop i ls)) lines
 
 pub line-due : (script : Script) (node : ℕ) (block : Block) (own : List Line) (i : ℕ) (line : Line) (vars : Vars) (call : Call) → IsRunnable script

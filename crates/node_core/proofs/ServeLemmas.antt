@@ -1,5 +1,5 @@
 -- A change of what a map has is the call's effect on the kernel that has just what is held.
-use Rattle.std.proofs.Common.{◌≡◌, ◌∙◌, ℕ, List, Option, Some, None, Result, Ok, Err, IfOk, refl, sym, ap, subst}
+use Rattle.std.proofs.Common.{◌≡◌, ◌∙◌, ℕ, List, Option, Some, None, Result, Ok, Err, IfOk, sym, ap, subst}
 use Rattle.std.specs.Option.{option_map}
 use Rattle.pico_base.specs.declared.fault.Memory.{Memory}
 use Rattle.pico_base.specs.declared.reply.Errno.{Errno}

@@ -1,9 +1,9 @@
 -- Variables by rising number.
-use Rattle.std.proofs.Common.{◌≡◌, ◌∙◌, ℕ, ◌+◌, ◌<◌, ◌≤◌, Bool, true, false, ◌&&◌, nat_lt, List, [], ◌∷◌, length, get_or, take, refl, sym, ap, arith, subst, Ordering, IsTrue, add-one, zero, suc}
+use Rattle.std.proofs.Common.{◌≡◌, ◌∙◌, ℕ, ◌+◌, ◌<◌, ◌≤◌, Bool, true, false, ◌&&◌, nat_lt, [], ◌∷◌, length, get_or, take, refl, sym, ap, arith, subst, Ordering, zero, suc}
 use Rattle.std.specs.declared.cmp.Ordering.TheVariants.{Less, Equal, Greater}
 use Rattle.std.specs.List.{AllByRecursion}
 use Rattle.std.specs.Ordering.{nat_cmp, match_ordering}
-use Rattle.kernel_model.specs.Maps.{Numbered, put}
+use Rattle.kernel_model.specs.Maps.{put}
 use Rattle.kernel_model.specs.Script.{Vars}
 use Rattle.machine_model.specs.Frames.{are_rising}
 use Rattle.node_core.specs.Rising.{IsVariable, rising_from}

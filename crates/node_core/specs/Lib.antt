@@ -8,3 +8,4 @@ pub mod Rising
 pub mod Serving
 pub mod State
 pub mod Step
+pub mod Turns

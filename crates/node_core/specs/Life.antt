@@ -1,8 +1,6 @@
 -- A process held at a node, as one of the kernel's: its signals are new, since no call changes them.
-use Rattle.std.specs.Prelude.{ℕ, Bool, true, false}
-use Rattle.pico_base.specs.declared.reply.Ending.{Ending}
 use Rattle.kernel_model.specs.Signals.{new_signals}
-use Rattle.kernel_model.specs.Row.{Alive, Family, Free, with_end, with_child}
+use Rattle.kernel_model.specs.Row.{Alive, Family, Free}
 use Rattle.kernel_model.specs.Kernel as kernels
 use Rattle.node_core.specs.declared.process.Life.{Life}
 use Rattle.node_core.specs.declared.process.Life.TheVariants.{Living, Ended, Gone}

@@ -1,5 +1,5 @@
 -- The node's part of the machine, by input.
-use Rattle.std.specs.Prelude.{◌≡◌, ℕ, Option, Some, None, Result, Ok, Err}
+use Rattle.std.specs.Prelude.{◌≡◌, Option, Some, None, Result, Ok, Err}
 use Rattle.pico_base.specs.declared.script.Script.{Script}
 use Rattle.machine_model.specs.Node.{Node}
 use Rattle.machine_model.specs.Calls.{Step, run}

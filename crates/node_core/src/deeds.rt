@@ -194,12 +194,7 @@ impl Deeds {
     }
 
     /// The end of a process that isn't held and whose parent is.
-    pub(crate) fn end_child(
-        &mut self,
-        pid: Pid,
-        parent: Pid,
-        ending: Ending,
-    ) -> Result<(), Memory>
+    pub(crate) fn end_child(&mut self, pid: Pid, parent: Pid, ending: Ending) -> Result<(), Memory>
         requires there { IsSome (get self.old.processes parent) }
         requires elsewhere { get self.old.processes pid ≡ None }
         ensures { OnOk result (IfSome (get self.old.processes parent) (λ p. self.new ≡ child_ended self.old pid parent p ending)) }

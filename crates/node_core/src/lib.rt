@@ -9,6 +9,7 @@ mod fault;
 mod leader;
 mod lines;
 mod maps;
+mod node;
 mod process;
 mod run;
 mod serve;
@@ -18,4 +19,5 @@ mod turn;
 mod variables;
 
 pub use fault::TurnFault;
+pub use node::PicoNode;
 pub use turn::{Input, Sends, Turn};

@@ -204,7 +204,9 @@ impl State {
             Call::GetPid => self.get_pid(alloc, script),
             Call::MsgGet { key: None, .. } => self.make_queue(alloc, script, call),
             Call::SemGet {
-                key: None, count, ..
+                key: None,
+                count,
+                ..
             } => {
                 let count = *count;
                 self.make_set(alloc, script, call, count)

@@ -14,7 +14,10 @@ ghost use Rattle.node_core.specs.Serving.{Serves, serving};
 
 use crate::TurnFault;
 use crate::deeds::Deeds;
-use crate::maps::{looked, looked_last, looked_waiting, op_at, receive_at, send_at, set_all_at, set_qbytes_at, set_value_at};
+use crate::maps::{
+    looked, looked_last, looked_waiting, op_at, receive_at, send_at, set_all_at, set_qbytes_at,
+    set_value_at,
+};
 use pico_base::{Bytes, Call, Errno, Id, Memory, Pid, Reply, SemStep, Steps, Values};
 use std::alloc::Global;
 
@@ -193,8 +196,7 @@ impl Deeds {
             Call::SemGetVal { id, num } => Ok(self.value(*id, *num)),
             Call::SemGetPid { id, num } => Ok(self.last(*id, *num)),
             Call::SemGetNcnt { id, num } | Call::SemGetZcnt { id, num } => Ok(self.waiting(
-                *id,
-                *num,
+                *id, *num,
             )),
             Call::SemSetVal { id, num, value } => Ok(self.set_value(*id, *num, *value)),
             Call::SemGetAll { id } => Ok(self.all_values(*id)?),

@@ -201,7 +201,10 @@ impl State {
         self.deeds.end_child(pid, parent, ending)?;
         self.leader.note_left(from)?;
         Ok(Turn {
-            entries: one(alloc, entry(alloc, self.number, pid, Call::Exit { status }, Reply::Ended))?,
+            entries: one(
+                alloc,
+                entry(alloc, self.number, pid, Call::Exit { status }, Reply::Ended),
+            )?,
             sends: Sequence::new(alloc),
         })
     }

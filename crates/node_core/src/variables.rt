@@ -56,11 +56,7 @@ pub(crate) fn are_rising(vars: &Vars) -> bool
 }
 
 /// The one variable that a line asks for, if it asks for one that is set.
-fn asked(
-    alloc: Global,
-    from: Option<Var>,
-    values: &BTreeMap<u16, u32>,
-) -> Result<Vars, Memory>
+fn asked(alloc: Global, from: Option<Var>, values: &BTreeMap<u16, u32>) -> Result<Vars, Memory>
     ensures { IfOk result (λ one. (v : ℕ) → from ≡ Some v → value_of one v ≡ value_of values.now.entries v) }
 {
     let mut one = Sequence::new(alloc);
