@@ -1,4 +1,5 @@
 pub mod CallerLemmas
+pub mod Examples
 pub mod ForkLemmas
 pub mod LandLemmas
 pub mod LineLemmas

@@ -2,6 +2,7 @@ pub mod Answers
 pub mod Caller
 pub mod Deed
 pub mod Due
+pub mod Examples
 pub mod Leader
 pub mod Life
 pub mod Rising

@@ -21,3 +21,6 @@ mod variables;
 pub use fault::TurnFault;
 pub use node::PicoNode;
 pub use turn::{Input, Sends, Turn};
+
+#[cfg(test)]
+mod tests;

@@ -14,7 +14,7 @@ pub enum Input {
 pub type Sends = Sequence<(Node, Frame)>;
 
 /// What a turn gives: the calls that the node carried out, and the frames that it sends.
-#[derive(Debug, Drop)]
+#[derive(Debug, PartialEq, Eq, Drop)]
 pub struct Turn {
     pub entries: Entries,
     pub sends: Sends,
