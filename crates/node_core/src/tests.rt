@@ -1,17 +1,17 @@
 //! Two nodes that are handed each other's frames.
-ghost use Rattle.std.specs.Prelude.{◌≡◌, pos, true, false, IfOk, length};
+ghost use Rattle.std.specs.Prelude.{◌≡◌, ◌≤◌, pos, true, false, IfOk, length};
 ghost use Rattle.machine_model.specs.Built.{IsRunnable};
 ghost use Rattle.machine_model.specs.Examples.{line};
 ghost use Rattle.node_core.specs.Examples.{main_block, parent_and_child};
 
-
 use crate::{Input, PicoNode, Sends, Turn, TurnFault};
 use pico_base::{
-    Block, Bytes, Call, Entries, Entry, Errno, Id, Line, Lines, Memory, Name, Node, Outcome, Pid, Reply, Script, Sequence,
-    Var, Vars,
+    Block, Bytes, Call, Entries, Entry, Errno, Id, Line, Lines, Memory, Name, Node, Outcome, Pid,
+    Reply, Script, Sequence, Var, Vars,
 };
 use rpc_frame::{Frame, PackedDeed, Parcel};
 use std::alloc::Global;
+use std::process::Abort;
 use std::test::Fail;
 
 /// The variable q.
@@ -53,7 +53,6 @@ fn send(id: u32, text: Bytes) -> Call
         nowait: true,
     }
 }
-
 
 /// The first block's lines.
 fn main_lines(alloc: Global) -> Result<Lines, Memory>
@@ -101,6 +100,19 @@ fn script(alloc: Global) -> Result<Script, Memory>
     Ok(script)
 }
 
+/// Asserts what a node's turn gives.
+fn expect(
+    rt: &impl Abort,
+    node: &mut PicoNode,
+    script: &Script,
+    input: Input,
+    turned: Result<Turn, TurnFault>,
+)
+    requires { IsRunnable script.now }
+{
+    assert_eq!(rt; node.turn(script, input), turned);
+}
+
 /// The entry of a call that node 1 carried out, alone.
 fn entered(alloc: Global, pid: u32, call: Call, reply: Reply) -> Result<Entries, Memory> {
     let mut entries = Entries::new(alloc);
@@ -114,9 +126,11 @@ fn entered(alloc: Global, pid: u32, call: Call, reply: Reply) -> Result<Entries,
 }
 
 /// A frame to a node, alone.
-fn sent(alloc: Global, to: Node, frame: Frame) -> Result<Sends, Memory> {
+fn sent(alloc: Global, to: u8, frame: Frame) -> Result<Sends, Memory>
+    requires { (1 ≤ to) × (to ≤ 32) }
+{
     let mut sends = Sends::new(alloc);
-    sends.push((to, frame))?;
+    sends.push((Node(to), frame))?;
     Ok(sends)
 }
 
@@ -129,7 +143,9 @@ fn carried(alloc: Global, pid: u32, call: Call, reply: Reply) -> Result<Turn, Me
 }
 
 /// A turn that only sends a frame.
-fn sends(alloc: Global, to: Node, frame: Frame) -> Result<Turn, Memory> {
+fn sends(alloc: Global, to: u8, frame: Frame) -> Result<Turn, Memory>
+    requires { (1 ≤ to) × (to ≤ 32) }
+{
     Ok(Turn {
         entries: Sequence::new(alloc),
         sends: sent(alloc, to, frame)?,
@@ -160,6 +176,98 @@ fn checkpoint(alloc: Global) -> Result<Frame, Memory> {
     })
 }
 
+/// The first turn: a queue is made.
+fn made(alloc: Global) -> Result<Turn, Memory> {
+    let get = Call::MsgGet {
+        key: None,
+        create: false,
+        excl: false,
+    };
+    carried(alloc, 1, get, Reply::Num(1))
+}
+
+/// The second turn: a message is sent.
+fn message_sent(alloc: Global) -> Result<Turn, Memory> {
+    let text = Bytes::from_slice(alloc, b"hi")?;
+    carried(alloc, 1, send(1, text), Reply::Num(0))
+}
+
+/// The third turn: it is received.
+fn message_received(alloc: Global) -> Result<Turn, Memory> {
+    let text = Bytes::from_slice(alloc, b"hi")?;
+    carried(alloc, 1, receive(1), Reply::Message { class: 7, text })
+}
+
+/// The fourth turn: process 2 is forked.
+fn forked(alloc: Global) -> Result<Turn, Memory> {
+    let fork = Call::Fork { block: Node(2) };
+    Ok(Turn {
+        entries: entered(alloc, 1, fork, Reply::Num(2))?,
+        sends: sent(alloc, 2, checkpoint(alloc)?)?,
+    })
+}
+
+/// A process's exit.
+fn ended(alloc: Global, pid: u32) -> Result<Turn, Memory> {
+    carried(alloc, pid, Call::Exit { status: 0 }, Reply::Ended)
+}
+
+/// What process 2 asks for.
+fn ask() -> Frame {
+    Frame::Ask {
+        ticket: 1,
+        pid: Pid(2),
+        call: receive(1),
+    }
+}
+
+/// The answer to it.
+fn answer() -> Frame {
+    Frame::Answer {
+        ticket: 1,
+        reply: Reply::Fail(Errno::Enomsg),
+    }
+}
+
+/// The leader serves it.
+fn served(alloc: Global) -> Result<Turn, Memory> {
+    Ok(Turn {
+        entries: entered(alloc, 2, receive(1), Reply::Fail(Errno::Enomsg))?,
+        sends: sent(alloc, 2, answer())?,
+    })
+}
+
+/// What process 2 tells at its end.
+fn leaving() -> Frame {
+    Frame::Leaving {
+        pid: Pid(2),
+        parent: Pid(1),
+        parent_node: Node(1),
+    }
+}
+
+/// What process 2 hands over.
+fn left(alloc: Global) -> Result<Frame, Memory> {
+    let mut deeds = Sequence::new(alloc);
+    deeds.push(deed(alloc)?)?;
+    Ok(Frame::Left {
+        parcel: Parcel {
+            pid: Pid(2),
+            parent: Pid(1),
+            call: Call::Exit { status: 0 },
+            deeds,
+        },
+    })
+}
+
+/// A turn that carries out and sends nothing.
+fn quiet(alloc: Global) -> Turn {
+    Turn {
+        entries: Sequence::new(alloc),
+        sends: Sequence::new(alloc),
+    }
+}
+
 /// The frame, from node 1.
 fn from_leader(frame: Frame) -> Input {
     Input::Take {
@@ -176,16 +284,49 @@ fn from_child(frame: Frame) -> Input {
     }
 }
 
-/// What a process hands over that ends by `exit 0`.
-fn parcel(alloc: Global) -> Result<Parcel, Memory> {
-    let mut deeds = Sequence::new(alloc);
-    deeds.push(deed(alloc)?)?;
-    Ok(Parcel {
-        pid: Pid(2),
-        parent: Pid(1),
-        call: Call::Exit { status: 0 },
-        deeds,
-    })
+/// Node 1 runs to the fork.
+fn run_to_fork(
+    rt: &impl Abort,
+    alloc: Global,
+    script: &Script,
+    parent: &mut PicoNode,
+) -> Result<(), Memory>
+    requires { IsRunnable script.now }
+{
+    expect(rt, parent, script, Input::Run, Ok(made(alloc)?));
+    expect(rt, parent, script, Input::Run, Ok(message_sent(alloc)?));
+    expect(rt, parent, script, Input::Run, Ok(message_received(alloc)?));
+    expect(rt, parent, script, Input::Run, Ok(forked(alloc)?));
+    Ok(())
+}
+
+/// Node 2 is born, asks, and has its answer.
+fn ask_as_child(
+    rt: &impl Abort,
+    alloc: Global,
+    script: &Script,
+    child: &mut PicoNode,
+) -> Result<(), Memory>
+    requires { IsRunnable script.now }
+{
+    expect(
+        rt,
+        child,
+        script,
+        from_leader(checkpoint(alloc)?),
+        Ok(quiet(alloc)),
+    );
+    expect(
+        rt,
+        child,
+        script,
+        from_leader(checkpoint(alloc)?),
+        Err(TurnFault::NotAllowed),
+    );
+    expect(rt, child, script, Input::Run, Ok(sends(alloc, 1, ask())?));
+    expect(rt, child, script, Input::Run, Err(TurnFault::NotAllowed));
+    expect(rt, child, script, from_leader(answer()), Ok(quiet(alloc)));
+    Ok(())
 }
 
 #[test]
@@ -193,10 +334,9 @@ fn begins(rt: HostRuntime) -> Result<(), Fail> {
     let alloc = rt.alloc();
     let script = script(alloc)?;
     let parent = PicoNode::new(alloc, &script, Node(1))?;
-    let mut child = PicoNode::new(alloc, &script, Node(2))?;
+    let child = PicoNode::new(alloc, &script, Node(2))?;
     assert!(rt; parent.born() && parent.can_run());
     assert!(rt; !child.born() && !child.can_run());
-    assert_eq!(rt; child.turn(&script, Input::Run), Err(TurnFault::NotAllowed));
     Ok(())
 }
 
@@ -205,26 +345,15 @@ fn parent_calls(rt: HostRuntime) -> Result<(), Fail> {
     let alloc = rt.alloc();
     let script = script(alloc)?;
     let mut parent = PicoNode::new(alloc, &script, Node(1))?;
-    let get = Call::MsgGet {
-        key: None,
-        create: false,
-        excl: false,
-    };
-    let text = Bytes::from_slice(alloc, b"hi")?;
-    let message = Reply::Message {
-        class: 7,
-        text: Bytes::from_slice(alloc, b"hi")?,
-    };
-    let fork = Call::Fork { block: Node(2) };
-    assert_eq!(rt; parent.turn(&script, Input::Run)?, carried(alloc, 1, get, Reply::Num(1))?);
-    assert_eq!(rt; parent.turn(&script, Input::Run)?, carried(alloc, 1, send(1, text), Reply::Num(0))?);
-    assert_eq!(rt; parent.turn(&script, Input::Run)?, carried(alloc, 1, receive(1), message)?);
-    let forked = parent.turn(&script, Input::Run)?;
-    assert_eq!(rt; forked.entries, entered(alloc, 1, fork, Reply::Num(2))?);
-    assert_eq!(rt; forked.sends, sent(alloc, Node(2), checkpoint(alloc)?)?);
-    let exit = Call::Exit { status: 0 };
-    assert_eq!(rt; parent.turn(&script, Input::Run)?, carried(alloc, 1, exit, Reply::Ended)?);
-    assert_eq!(rt; parent.turn(&script, Input::Run), Err(TurnFault::NotAllowed));
+    run_to_fork(&rt, alloc, &script, &mut parent)?;
+    expect(&rt, &mut parent, &script, Input::Run, Ok(ended(alloc, 1)?));
+    expect(
+        &rt,
+        &mut parent,
+        &script,
+        Input::Run,
+        Err(TurnFault::NotAllowed),
+    );
     Ok(())
 }
 
@@ -233,37 +362,28 @@ fn child_asks_and_leaves(rt: HostRuntime) -> Result<(), Fail> {
     let alloc = rt.alloc();
     let script = script(alloc)?;
     let mut child = PicoNode::new(alloc, &script, Node(2))?;
-    let born = from_leader(checkpoint(alloc)?);
-    let nothing = Turn {
-        entries: Sequence::new(alloc),
-        sends: Sequence::new(alloc),
-    };
-    assert_eq!(rt; child.turn(&script, born)?, nothing);
-    let again = from_leader(checkpoint(alloc)?);
-    assert_eq!(rt; child.turn(&script, again), Err(TurnFault::NotAllowed));
-    let ask = Frame::Ask {
-        ticket: 1,
-        pid: Pid(2),
-        call: receive(1),
-    };
-    assert_eq!(rt; child.turn(&script, Input::Run)?, sends(alloc, Node(1), ask)?);
-    assert_eq!(rt; child.turn(&script, Input::Run), Err(TurnFault::NotAllowed));
-    let answer = Frame::Answer {
-        ticket: 1,
-        reply: Reply::Fail(Errno::Enomsg),
-    };
-    assert_eq!(rt; child.turn(&script, from_leader(answer))?, nothing);
-    let leaving = Frame::Leaving {
-        pid: Pid(2),
-        parent: Pid(1),
-        parent_node: Node(1),
-    };
-    assert_eq!(rt; child.turn(&script, Input::Run)?, sends(alloc, Node(1), leaving)?);
-    let left = Frame::Left {
-        parcel: parcel(alloc)?,
-    };
-    assert_eq!(rt; child.turn(&script, from_leader(Frame::RecallAll))?, sends(alloc, Node(1), left)?);
-    assert_eq!(rt; child.turn(&script, from_leader(Frame::RecallAll)), Err(TurnFault::NotAllowed));
+    ask_as_child(&rt, alloc, &script, &mut child)?;
+    expect(
+        &rt,
+        &mut child,
+        &script,
+        Input::Run,
+        Ok(sends(alloc, 1, leaving())?),
+    );
+    expect(
+        &rt,
+        &mut child,
+        &script,
+        from_leader(Frame::RecallAll),
+        Ok(sends(alloc, 1, left(alloc)?)?),
+    );
+    expect(
+        &rt,
+        &mut child,
+        &script,
+        from_leader(Frame::RecallAll),
+        Err(TurnFault::NotAllowed),
+    );
     Ok(())
 }
 
@@ -272,31 +392,27 @@ fn leader_answers_and_ends_the_child(rt: HostRuntime) -> Result<(), Fail> {
     let alloc = rt.alloc();
     let script = script(alloc)?;
     let mut parent = PicoNode::new(alloc, &script, Node(1))?;
-    for _ in 0..4 {
-        assert!(rt; parent.turn(&script, Input::Run).is_ok());
-    }
-    let ask = Frame::Ask {
-        ticket: 1,
-        pid: Pid(2),
-        call: receive(1),
-    };
-    let answer = Frame::Answer {
-        ticket: 1,
-        reply: Reply::Fail(Errno::Enomsg),
-    };
-    let served = parent.turn(&script, from_child(ask))?;
-    assert_eq!(rt; served.entries, entered(alloc, 2, receive(1), Reply::Fail(Errno::Enomsg))?);
-    assert_eq!(rt; served.sends, sent(alloc, Node(2), answer)?);
-    let leaving = Frame::Leaving {
-        pid: Pid(2),
-        parent: Pid(1),
-        parent_node: Node(1),
-    };
-    assert_eq!(rt; parent.turn(&script, from_child(leaving))?, sends(alloc, Node(2), Frame::RecallAll)?);
-    let left = Frame::Left {
-        parcel: parcel(alloc)?,
-    };
-    let exit = Call::Exit { status: 0 };
-    assert_eq!(rt; parent.turn(&script, from_child(left))?, carried(alloc, 2, exit, Reply::Ended)?);
+    run_to_fork(&rt, alloc, &script, &mut parent)?;
+    expect(
+        &rt,
+        &mut parent,
+        &script,
+        from_child(ask()),
+        Ok(served(alloc)?),
+    );
+    expect(
+        &rt,
+        &mut parent,
+        &script,
+        from_child(leaving()),
+        Ok(sends(alloc, 2, Frame::RecallAll)?),
+    );
+    expect(
+        &rt,
+        &mut parent,
+        &script,
+        from_child(left(alloc)?),
+        Ok(ended(alloc, 2)?),
+    );
     Ok(())
 }
