@@ -1,0 +1,5 @@
+pub mod Alive
+pub mod Enabled
+pub mod Streams
+pub mod Wholes
+pub mod Worlds

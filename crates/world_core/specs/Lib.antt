@@ -1,0 +1,5 @@
+pub mod Inbox
+pub mod State
+pub mod Stepped
+pub mod Turns
+pub mod World
