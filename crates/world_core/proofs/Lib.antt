@@ -1,5 +1,9 @@
 pub mod Alive
 pub mod Enabled
+pub mod Lists
+pub mod Seats
+pub mod Senders
 pub mod Streams
+pub mod Walks
 pub mod Wholes
 pub mod Worlds

@@ -50,7 +50,7 @@ pub may_run-at : (slot o : Option Node) (r : Bool)
 may_run-at None o r same some e = absurd (let f : ⊥ = cc in f)
 may_run-at (Some n) o r same some e = e ∙ sym (ap is_run_enabled same)
 
-take_enabled : (n : Node) (fs : List Frame) → may_take (is_born n) fs ≡ is_take_enabled (Some n) fs
+pub take_enabled : (n : Node) (fs : List Frame) → may_take (is_born n) fs ≡ is_take_enabled (Some n) fs
 take_enabled n [] = refl
 take_enabled n (f ∷ fs) = refl
 

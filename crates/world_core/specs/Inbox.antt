@@ -1,7 +1,8 @@
 -- What is on its way to one node: a stream of frames from each node, each in the order of sending.
-use Rattle.std.specs.Prelude.{◌≡◌, ℕ, ◌-◌, Bool, true, false, ◌||◌, List, [], ◌∷◌, set, get_or, Option, Some, None, count_by}
+use Rattle.std.specs.Prelude.{◌≡◌, ℕ, ◌-◌, Bool, true, false, ◌||◌, List, [], ◌∷◌, set, get_or, Option, length, Some, None, count_by}
 use Rattle.rpc_frame.specs.declared.frame.Frame.{Frame}
-use Rattle.machine_model.specs.World.{is_checkpoint}
+use Rattle.std.specs.List.{filter}
+use Rattle.machine_model.specs.World.{numbers, is_checkpoint}
 
 -- the frames from this node
 abbrev pub from_node : List (List Frame) → ℕ → List Frame
@@ -34,3 +35,7 @@ filled_in row = count_by is_filled row
 abbrev pub may_take : Bool → List Frame → Bool
 may_take is_born [] = false
 may_take is_born (frame ∷ frames) = is_born || is_checkpoint frame
+
+-- who sent the frames that the node may take, by rising number
+abbrev pub senders : Bool → List (List Frame) → List ℕ
+senders is_born row = filter (λ from. may_take is_born (from_node row from)) (numbers 1 (length row))

@@ -1,5 +1,5 @@
-ghost use Rattle.std.specs.Prelude.{◌≡◌, ◌≤◌, ◌-◌, ◌+◌, [], ◌∷◌, ◌++◌, length, replicate, IfOk, OnOk};
-ghost use Rattle.world_core.specs.Inbox.{IsTaken, from_node, with_from, filled_in, may_take};
+ghost use Rattle.std.specs.Prelude.{◌≡◌, ◌≤◌, ◌-◌, ◌+◌, [], ◌∷◌, ◌++◌, length, replicate, false, count_by, slice_get, IfOk, OnOk};
+ghost use Rattle.world_core.specs.Inbox.{IsTaken, from_node, with_from, may_take, senders};
 
 use crate::stream::Stream;
 use pico_base::{Memory, Node};
@@ -46,11 +46,49 @@ impl Inbox {
         Ok(Inbox { streams, filled: 0 })
     }
 
-    /// How many of the streams have a frame.
-    pub(crate) fn filled(&self) -> usize
-        ensures { result ≡ filled_in self.now }
+    /// In how many of the streams a Checkpoint comes first.
+    fn checkpoints(&self) -> usize
+        ensures { result ≡ count_by (may_take false) self.now }
     {
-        self.filled
+        let mut count = 0;
+        for stream in &self.streams {
+            if stream.may_take(false) {
+                count += 1;
+            }
+        }
+        count
+    }
+
+    /// How many frames the node may take, each the first of its stream. No stream is looked at where none has a frame
+    /// and where the node takes any.
+    pub(crate) fn count(&self, is_born: bool) -> usize
+        ensures count { result ≡ length (senders is_born self.now) }
+        ensures few { result ≤ length self.now }
+    {
+        if is_born {
+            self.filled
+        } else if self.filled == 0 {
+            0
+        } else {
+            self.checkpoints()
+        }
+    }
+
+    /// Who sent the frame at this place of those that the node may take, from 0.
+    pub(crate) fn nth(&self, is_born: bool, index: u32) -> Option<Node>
+        requires { length self.now ≤ 32 }
+        ensures { result ≡ slice_get (senders is_born self.now) index }
+    {
+        let mut left = index;
+        for (at, stream) in self.streams.iter().enumerate() {
+            if stream.may_take(is_born) {
+                if left == 0 {
+                    return Some(Node(at as u8 + 1));
+                }
+                left -= 1;
+            }
+        }
+        None
     }
 
     /// Whether the node takes the first frame from that node, if there is one.

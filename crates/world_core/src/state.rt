@@ -1,8 +1,11 @@
-ghost use Rattle.std.specs.Prelude.{◌≡◌, ◌≤◌, ◌-◌, [], ◌∷◌, ◌++◌, length, map, replicate, true, Some, IfOk, OnOk, IfSome, IsSome};
+ghost use Rattle.std.specs.Prelude.{◌≡◌, ◌↔◌, ◌≤◌, ◌-◌, [], ◌∷◌, ◌++◌, length, map, replicate, true, Some, slice_get, ◌+◌, IfOk, OnOk, IfSome, IsSome, IsTrue};
 ghost use Rattle.std.specs.List.{flat_map};
 ghost use Rattle.machine_model.specs.Built.{IsRunnable};
 ghost use Rattle.machine_model.specs.Node.{opening_node};
-ghost use Rattle.machine_model.specs.World.{numbers, opening_world, node_at, is_run_enabled, is_take_enabled, is_enabled, stream, with_all_sent, after_turn, step};
+ghost use Rattle.machine_model.specs.World.{numbers, size_of, opening_world, node_at, is_run_enabled, is_take_enabled, is_enabled, stream, with_all_sent, after_turn, step};
+ghost use Rattle.machine_model.specs.Run.{IsAtRest};
+ghost use Rattle.machine_model.specs.Schedule.{enabled_at, enabled_events, in_turn};
+ghost use Rattle.world_core.specs.Seat.{IsSeat};
 ghost use Rattle.world_core.specs.Turns.{IsTurn};
 ghost use Rattle.world_core.specs.State.{AreWhole, IsSquare, world_of, IsAfterTurn, IsStep, IsAlive};
 
@@ -147,6 +150,113 @@ impl State {
             Event::Run(node) => self.may_run(node),
             Event::Take { node, from } => self.may_take(node, from),
         }
+    }
+
+    /// The node and what is on its way to it.
+    fn seat(&self, node: Node) -> (&PicoNode, &Inbox)
+        requires alive { IsAlive self.now }
+        requires there { node ≤ size_of self.now.script }
+        ensures { IsSeat (world_of self.now) node result.0.now result.1.now }
+    {
+        let at = place(node);
+        (&self.nodes[at], &self.inboxes[at])
+    }
+
+    /// How many events of the node may come next.
+    fn count_at(&self, node: Node) -> u32
+        requires alive { IsAlive self.now }
+        requires there { node ≤ size_of self.now.script }
+        ensures count { result ≡ length (enabled_at (world_of self.now) node) }
+        ensures few { result ≤ 33 }
+    {
+        let (pico, inbox) = self.seat(node);
+        let takes = inbox.count(pico.born()) as u32;
+        if pico.can_run() { takes + 1 } else { takes }
+    }
+
+    /// The event at this place of those of the node that may come next, from 0.
+    fn nth_at(&self, node: Node, index: u32) -> Option<Event>
+        requires alive { IsAlive self.now }
+        requires there { node ≤ size_of self.now.script }
+        ensures { result ≡ slice_get (enabled_at (world_of self.now) node) index }
+    {
+        let (pico, inbox) = self.seat(node);
+        let is_born = pico.born();
+        let takes = inbox.count(is_born) as u32;
+        if index < takes {
+            let from = inbox.nth(is_born, index)?;
+            return Some(Event::Take { node, from });
+        }
+        let may_run = pico.can_run();
+        if may_run && index == takes {
+            Some(Event::Run(node))
+        } else {
+            None
+        }
+    }
+
+    /// How many events may come next.
+    pub(crate) fn count(&self) -> u32
+        requires { IsAlive self.now }
+        ensures { result ≡ length (enabled_events (world_of self.now)) }
+    {
+        let mut count = 0;
+        for number in 0..size(&self.script) {
+            count += self.count_at(Node(number + 1));
+        }
+        count
+    }
+
+    /// The event at this place of those that may come next, from 0.
+    pub(crate) fn nth(&self, index: u32) -> Option<Event>
+        requires { IsAlive self.now }
+        ensures { result ≡ slice_get (enabled_events (world_of self.now)) index }
+    {
+        let mut left = index;
+        for number in 0..size(&self.script) {
+            let node = Node(number + 1);
+            let count = self.count_at(node);
+            if left < count {
+                return self.nth_at(node, left);
+            }
+            left -= count;
+        }
+        None
+    }
+
+    /// The first event that may come next, of the nodes after the one number up to the other.
+    fn first_of(&self, after: u8, last: u8) -> Option<Event>
+        requires alive { IsAlive self.now }
+        requires there { last ≤ size_of self.now.script }
+        ensures { result ≡ slice_get (flat_map (enabled_at (world_of self.now)) (numbers (after + 1) (last - after))) 0 }
+    {
+        for number in after..last {
+            let first = self.nth_at(Node(number + 1), 0);
+            if first.is_some() {
+                return first;
+            }
+        }
+        None
+    }
+
+    /// The first event that may come next, round the nodes: of those behind this one, and then of those up to it.
+    pub(crate) fn in_turn(&self, after: Node) -> Option<Event>
+        requires alive { IsAlive self.now }
+        requires there { after ≤ size_of self.now.script }
+        ensures { result ≡ in_turn (world_of self.now) after }
+    {
+        match self.first_of(after.0, size(&self.script)) {
+            Some(event) => Some(event),
+            None => self.first_of(0, after.0),
+        }
+    }
+
+    /// Whether no event may come next.
+    pub(crate) fn at_rest(&self) -> bool
+        requires { IsAlive self.now }
+        ensures { IsTrue result ↔ IsAtRest (world_of self.now) }
+    {
+        self.count() == 0
     }
 
     /// The node's turn: its entries follow in the journal, and its frames go their ways.

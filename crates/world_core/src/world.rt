@@ -1,13 +1,13 @@
-ghost use Rattle.std.specs.Prelude.{◌≡◌, ◌↔◌, true, length, slice_get, Some, None, IfOk, OnOk, OnErr, IfSome, IsSome, IsErr, IsTrue};
+ghost use Rattle.std.specs.Prelude.{◌≡◌, ◌↔◌, ◌≤◌, true, length, slice_get, Some, None, IfOk, OnOk, OnErr, IfSome, IsSome, IsErr, IsTrue};
 ghost use Rattle.machine_model.specs.Built.{IsRunnable};
-ghost use Rattle.machine_model.specs.World.{World as MachineWorld, opening_world, is_enabled};
+ghost use Rattle.machine_model.specs.World.{World as MachineWorld, size, opening_world, is_enabled};
 ghost use Rattle.machine_model.specs.Run.{IsRunOf, IsAtRest};
 ghost use Rattle.machine_model.specs.Schedule.{enabled_events, in_turn};
 ghost use Rattle.world_core.specs.State.{IsAlive, world_of};
 ghost use Rattle.world_core.specs.Stepped.{IsStepped};
 
 use crate::state::State;
-use pico_base::{Entries, Event, Memory, Script};
+use pico_base::{Entries, Event, Memory, Node, Script};
 use std::alloc::Global;
 use std::marker::Model;
 
@@ -63,6 +63,41 @@ impl World {
         self.state().enabled(event)
     }
 
+    /// How many events may come next.
+    pub fn count(&self) -> u32
+        requires whole { IsSome self.now }
+        ensures { IfSome self.now (λ w. result ≡ length (enabled_events w)) }
+    {
+        self.state().count()
+    }
+
+    /// The event at this place of those that may come next, from 0: node after node, each node's takes by rising sender
+    /// and then its run. None where there are no more than `index`.
+    pub fn nth(&self, index: u32) -> Option<Event>
+        requires whole { IsSome self.now }
+        ensures { IfSome self.now (λ w. result ≡ slice_get (enabled_events w) index) }
+    {
+        self.state().nth(index)
+    }
+
+    /// The first event that may come next, round the nodes: of the nodes behind `after`, and then of those up to it.
+    /// None at rest.
+    pub fn in_turn(&self, after: Node) -> Option<Event>
+        requires whole { IsSome self.now }
+        requires there { IfSome self.now (λ w. after ≤ size w) }
+        ensures { IfSome self.now (λ w. result ≡ in_turn w after) }
+    {
+        self.state().in_turn(after)
+    }
+
+    /// Whether no event may come next.
+    pub fn at_rest(&self) -> bool
+        requires whole { IsSome self.now }
+        ensures { IfSome self.now (λ w. IsTrue result ↔ IsAtRest w) }
+    {
+        self.state().at_rest()
+    }
+
     /// All that was carried out so far, in order.
     pub fn journal(&self) -> &Entries
         requires whole { IsSome self.now }
@@ -90,5 +125,20 @@ impl World {
         let state = self.state.take().ok_or(Memory)?;
         self.state = Some(state.after(event)?);
         Ok(())
+    }
+
+    /// The world of a script after these events, of which each may come when it comes. An `Err` says that an allocation
+    /// was refused.
+    pub fn of_logs(alloc: Global, script: Script, events: &[Event]) -> Result<World, Memory>
+        requires runnable { IsRunnable script }
+        requires run { (w : MachineWorld) × IsRunOf script events.now w }
+        ensures run { IfOk result (λ w. IfSome w (IsRunOf script events.now)) }
+        ensures whole { IfOk result (λ w. IsSome w) }
+    {
+        let mut world = World::start(alloc, script)?;
+        for event in events {
+            world.step(*event)?;
+        }
+        Ok(world)
     }
 }
