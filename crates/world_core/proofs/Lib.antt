@@ -1,9 +1,12 @@
 pub mod Alive
 pub mod Enabled
 pub mod Lists
+pub mod Members
+pub mod Rest
 pub mod Seats
 pub mod Senders
 pub mod Streams
+pub mod Under
 pub mod Walks
 pub mod Wholes
 pub mod Worlds

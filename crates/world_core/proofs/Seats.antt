@@ -1,5 +1,5 @@
 -- The events of a node that are enabled: the frames that it may take, by rising sender, and its run.
-use Rattle.std.proofs.Common.{◌≡◌, ℕ, ◌+◌, ◌-◌, ◌<◌, ◌≤◌, zero, suc, Bool, true, false, ◌&&◌, List, [], ◌∷◌, ◌++◌, length, map, get_or, slice_get, cond, nat_lt, Option, Some, None, IfSome, IsSome, IsTrue, refl, sym, ap, subst, ◌∙◌, arith, length-append}
+use Rattle.std.proofs.Common.{◌≡◌, ℕ, ◌+◌, ◌-◌, ◌<◌, ◌≤◌, zero, suc, Bool, true, false, ◌&&◌, List, [], ◌∷◌, ◌++◌, length, map, get_or, slice_get, cond, Option, Some, None, IfSome, IsSome, IsTrue, refl, sym, ap, subst, ◌∙◌, arith, length-append}
 use Rattle.std.specs.List.{filter, count_by}
 use Rattle.std.specs.Option.{option_map}
 use Rattle.std.proofs.lemmas.List.{length-map}
@@ -10,8 +10,8 @@ use Rattle.pico_base.specs.declared.script.Event.{Event}
 use Rattle.pico_base.specs.declared.script.Event.TheVariants as events
 use Rattle.rpc_frame.specs.declared.frame.Frame.{Frame}
 use Rattle.machine_model.specs.Node.{Node, is_born, can_run}
-use Rattle.machine_model.specs.World.{World, numbers, size, node_at, is_number, is_enabled, is_checkpoint, is_take_enabled, is_run_enabled}
-use Rattle.machine_model.specs.Schedule.{enabled_at, events_of}
+use Rattle.machine_model.specs.World.{World, numbers, size, node_at, is_number, is_enabled, is_take_enabled, is_run_enabled}
+use Rattle.machine_model.specs.Schedule.{enabled_at}
 use Rattle.world_core.specs.Inbox.{filled_in, is_filled, may_take, from_node, senders}
 use Rattle.world_core.specs.Seat.{IsSeat}
 use Rattle.world_core.proofs.Lists.{slice_get-left, slice_get-right, filter-map, filter_same, count_numbers}

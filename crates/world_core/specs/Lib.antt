@@ -1,4 +1,5 @@
 pub mod Inbox
+pub mod Laws
 pub mod Seat
 pub mod State
 pub mod Stepped

@@ -1,5 +1,5 @@
 use Rattle.std.proofs.Common.{sym, ap, ◌∙◌}
-use Rattle.world_core.specs.Inbox.{senders, filled_in}
+use Rattle.world_core.specs.Inbox.{filled_in}
 use Rattle.world_core.proofs.Seats.{takes_born, takes_none, takes_unborn}
 use Rattle.world_core.proofs.inbox.Inbox.count.Goals as goal
 

@@ -1,4 +1,4 @@
-use Rattle.std.proofs.Common.{◌≡◌, ◌+◌, true, false, Bool, cond, length, sym, ap, ◌∙◌, arith}
+use Rattle.std.proofs.Common.{◌+◌, Bool, cond, length, sym, ap, ◌∙◌, arith}
 use Rattle.world_core.specs.Inbox.{senders}
 use Rattle.world_core.specs.State.{world_of}
 use Rattle.world_core.proofs.Seats.{seat-count}

@@ -1,8 +1,7 @@
-use Rattle.std.proofs.Common.{◌≡◌, ◌+◌, ◌-◌, ◌<◌, ◌≤◌, ℕ, true, false, length, sym, ap, subst, slice_get, ◌∙◌, arith}
-use Rattle.std.specs.Prelude.{is_some}
+use Rattle.std.proofs.Common.{sym, ◌∙◌, arith}
 use Rattle.machine_model.specs.Schedule.{enabled_at}
 use Rattle.world_core.specs.State.{world_of}
-use Rattle.world_core.proofs.Walks.{IsWalk, IsWalk-first_here, IsWalk-first_next}
+use Rattle.world_core.proofs.Walks.{IsWalk-first_here, IsWalk-first_next}
 use Rattle.world_core.proofs.state.State.first_of.Goals as goal
 
 pub returns-then-is_some : goal.returns-then-is_some

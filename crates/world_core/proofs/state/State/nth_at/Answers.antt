@@ -1,5 +1,4 @@
-use Rattle.std.proofs.Common.{◌≡◌, ◌+◌, ◌<◌, ◌≤◌, true, false, length, sym, ap, ◌∙◌, arith}
-use Rattle.world_core.specs.Inbox.{senders}
+use Rattle.std.proofs.Common.{arith}
 use Rattle.world_core.specs.State.{world_of}
 use Rattle.world_core.proofs.Seats.{seat-taken, seat-run, seat-past, seat-rests}
 use Rattle.world_core.proofs.state.State.nth_at.Goals as goal
@@ -23,9 +22,9 @@ returns-else-may_run c =
     let row = c.seat.result.1.now in
     elim c.else-may_run.branch [
       | else-may_run-via-then-may_run+else-index-takes-2 r ↦
-        seat-past w c.args.node c.args.index found row c.born-is_born.result c.can_run-may_run.result c.seat.ensures
-        c.born-is_born.ensures c.can_run-may_run.ensures (omega (arith, c.count-takes.ensures.count))
+          seat-past w c.args.node c.args.index found row c.born-is_born.result c.can_run-may_run.result c.seat.ensures
+          c.born-is_born.ensures c.can_run-may_run.ensures (omega (arith, c.count-takes.ensures.count))
       | else-may_run-via-else-may_run r ↦
-        seat-rests w c.args.node c.args.index found row c.born-is_born.result c.can_run-may_run.result c.seat.ensures
-        c.born-is_born.ensures c.can_run-may_run.ensures (omega (arith, c.count-takes.ensures.count)) r.if-may_run.false
+          seat-rests w c.args.node c.args.index found row c.born-is_born.result c.can_run-may_run.result c.seat.ensures
+          c.born-is_born.ensures c.can_run-may_run.ensures (omega (arith, c.count-takes.ensures.count)) r.if-may_run.false
     ]

@@ -1,4 +1,4 @@
-use Rattle.std.proofs.Common.{length, arith, sym, ◌∙◌}
+use Rattle.std.proofs.Common.{arith}
 use Rattle.world_core.specs.State.{world_of}
 use Rattle.world_core.proofs.Seats.{seat_is}
 use Rattle.world_core.proofs.Wholes.{length-whole}
