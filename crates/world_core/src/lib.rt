@@ -12,6 +12,9 @@ mod world;
 
 pub use world::World;
 
+#[cfg(test)]
+mod tests;
+
 /// The events that a schedule takes are a run: each may come when it comes.
 pub fn schedules_are_runs()
     ensures { SchedulesAreRuns }
