@@ -2,6 +2,7 @@ pub mod Alive
 pub mod Enabled
 pub mod Lists
 pub mod Members
+pub mod Openings
 pub mod Rest
 pub mod Seats
 pub mod Senders

@@ -14,7 +14,7 @@ use Rattle.node_core.specs.declared.turn.Input.TheVariants as inputs
 use Rattle.node_core.specs.declared.turn.Turn.{Turn}
 use Rattle.world_core.specs.declared.state.State.{State}
 use Rattle.world_core.specs.Inbox.{IsTaken, may_take}
-use Rattle.world_core.specs.Turns.{IsTurn}
+use Rattle.node_core.specs.Turns.{IsTurn}
 use Rattle.world_core.specs.State.{whole, AreWhole, world_of, IsAfterTurn, IsStep}
 
 pub whole-map : (xs : List Node) → whole (map Some xs) ≡ xs
@@ -84,23 +84,23 @@ same_world script other nodes nodes' streams streams' journal journal' a b c d =
 
 pub turn_taken : (s next : State) (p k : ℕ) (input : Input) (turn : Turn) (old new : Option Node)
     → AreWhole s.nodes.items → k ≡ p - 1 → k < length s.nodes.items → old ≡ get_or s.nodes.items k old
-    → IsTurn s.script old input turn new → next.script ≡ s.script
+    → IsTurn s.script old input new turn → next.script ≡ s.script
     → next.nodes.items ≡ set s.nodes.items k new
     → next.inboxes.items ≡ with_all_sent p s.inboxes.items turn.sends
     → next.journal ≡ s.journal ++ turn.entries → IsAfterTurn s p input next
-turn_taken s next p k input turn old new all place lt old_is is_turn script nodes streams journal =
-    let n = is_turn.node in
-    let m = is_turn.left in
+turn_taken s next p k input turn None new all place lt old_is is_turn script nodes streams journal = absurd is_turn
+turn_taken s next p k input turn (Some n) None all place lt old_is is_turn script nodes streams journal = absurd is_turn
+turn_taken s next p k input turn (Some n) (Some m) all place lt old_is is_turn script nodes streams journal =
     let here : slice_get (whole s.nodes.items) k ≡ Some n =
-    slice_get-whole s.nodes.items k all ∙ sym (get_or_read s.nodes.items k old lt old_is None) ∙ is_turn.here
+    slice_get-whole s.nodes.items k all ∙ sym (get_or_read s.nodes.items k (Some n) lt old_is None)
     in let there : next.nodes.items ≡ set s.nodes.items (p - 1) (Some m) =
-    nodes ∙ ap (λ (o : Option Node). set s.nodes.items k o) is_turn.there ∙ ap (λ (i : ℕ). set s.nodes.items i (Some m)) place
+    nodes ∙ ap (λ (i : ℕ). set s.nodes.items i (Some m)) place
     in record {
       nodes = subst AreWhole (sym there) (AreWhole-set s.nodes.items (p - 1) m all);
       node = n;
       here = ap (λ (i : ℕ). slice_get (whole s.nodes.items) i) (sym place) ∙ here;
       taken =
-          ap (λ (t : Option Step). after_turn (world_of s) p t) is_turn.taken
+          ap (λ (t : Option Step). after_turn (world_of s) p t) is_turn
           ∙ ap (λ (w : World). Some w)
           (same_world s.script next.script (set (whole s.nodes.items) (p - 1) m) (whole next.nodes.items)
           (with_all_sent p s.inboxes.items turn.sends) next.inboxes.items (s.journal ++ turn.entries) next.journal

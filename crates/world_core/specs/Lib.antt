@@ -3,5 +3,4 @@ pub mod Laws
 pub mod Seat
 pub mod State
 pub mod Stepped
-pub mod Turns
 pub mod World

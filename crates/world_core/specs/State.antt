@@ -6,7 +6,7 @@ use Rattle.machine_model.specs.Built.{IsRunnable}
 use Rattle.machine_model.specs.World.{World, Streams, node_at, after_turn, step}
 use Rattle.machine_model.specs.Run.{IsReachable}
 use Rattle.node_core.specs.declared.turn.Input.{Input}
-use Rattle.world_core.specs.Turns.{step_of}
+use Rattle.node_core.specs.Step.{step_of}
 use Rattle.world_core.specs.declared.state.State.{State}
 
 -- the nodes that aren't spent

@@ -6,7 +6,7 @@ ghost use Rattle.machine_model.specs.World.{numbers, size_of, opening_world, nod
 ghost use Rattle.machine_model.specs.Run.{IsAtRest};
 ghost use Rattle.machine_model.specs.Schedule.{enabled_at, enabled_events, in_turn};
 ghost use Rattle.world_core.specs.Seat.{IsSeat};
-ghost use Rattle.world_core.specs.Turns.{IsTurn};
+ghost use Rattle.node_core.specs.Turns.{IsTurn};
 ghost use Rattle.world_core.specs.State.{AreWhole, IsSquare, world_of, IsAfterTurn, IsStep, IsAlive};
 
 use crate::inbox::{Inbox, place};
@@ -58,7 +58,7 @@ fn empty_inboxes(alloc: Global, count: usize) -> Result<Vec<Inbox>, Memory>
 /// The node's turn. After a fault the node is spent.
 fn take_turn(node: &mut PicoNode, script: &Script, input: Input) -> Result<Turn, Memory>
     requires { IsRunnable script.now }
-    ensures { IfOk result (λ turn. IsTurn script.now node.old input turn node.new) }
+    ensures { IfOk result (λ turn. IsTurn script.now node.old input node.new turn) }
 {
     match node.turn(script, input) {
         Ok(turn) => Ok(turn),

@@ -21,7 +21,7 @@ some c =
     (subst (λ (l : List (Option Node)). c.place.result < length l) c.deref.ensures.value lt))
 
 pub can_run-requires : goal.can_run-requires
-can_run-requires c = some (goal.at.can_run-requires c).In-Some
+can_run-requires c = record { whole = some (goal.at.can_run-requires c).In-Some }
 
 pub returns-in-Some : goal.returns-in-Some
 returns-in-Some c =

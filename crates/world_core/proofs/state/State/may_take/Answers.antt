@@ -21,7 +21,7 @@ some c =
     (subst (λ (l : List (Option Node)). c.place-at.result < length l) c.deref.ensures.value lt))
 
 pub born-requires : goal.born-requires
-born-requires c = some (goal.at.born-requires c).In-Some
+born-requires c = record { whole = some (goal.at.born-requires c).In-Some }
 
 pub returns : goal.returns
 returns c =

@@ -1,0 +1,9 @@
+pub mod CallerLemmas
+pub mod ForkLemmas
+pub mod LandLemmas
+pub mod LineLemmas
+pub mod MapLemmas
+pub mod ResultLemmas
+pub mod ServeLemmas
+pub mod StepLemmas
+pub mod VariableLemmas

@@ -1,0 +1,11 @@
+pub mod Answers
+pub mod Caller
+pub mod Deed
+pub mod Due
+pub mod Leader
+pub mod Life
+pub mod Rising
+pub mod Serving
+pub mod State
+pub mod Step
+pub mod Turns

@@ -1,0 +1,112 @@
+ghost use Rattle.std.specs.Prelude.{◌≡◌, ◌≤◌, length, Some, None, Err, IfOk, IfSome, IsErr, IsSome};
+ghost use Rattle.machine_model.specs.Node.{opening_node, can_run, is_born};
+ghost use Rattle.machine_model.specs.Built.{IsRunnable};
+ghost use Rattle.node_core.specs.declared.fault.TurnFault.TheVariants.{Memory as OutOfMemory, NotAllowed};
+ghost use Rattle.node_core.specs.State.{node_of};
+ghost use Rattle.node_core.specs.Step.{Steps, step_of};
+ghost use Rattle.node_core.specs.Turns.{IsTurn, IsRefusal};
+
+use crate::TurnFault;
+use crate::state::State;
+use crate::turn::{Input, Turn};
+use pico_base::{Memory, Node, Script};
+use std::alloc::Global;
+use std::marker::Model;
+
+/// The node of a picoprocess, which contracts see as a node of the picoprocess machine, or none once it is spent: an
+/// allocation was refused in a turn. Node k runs block k of the script. Its process has a number, a parent and a place in
+/// the block; it holds the deeds of processes, queues and sets; and node 1 is the leader.
+#[derive(Drop)]
+pub struct PicoNode {
+    alloc: Global,
+    // none once the node is spent
+    state: Option<State>,
+}
+
+impl Model for PicoNode {
+    ghost use Rattle.std.specs.Prelude.{Option};
+    ghost use Rattle.std.specs.Option.{option_map};
+    ghost use Rattle.machine_model.specs.Node.{Node as NodeValue};
+
+    ghost Value = { Option NodeValue };
+
+    ghost use Rattle.node_core.specs.State.{node_of};
+
+    ghost view = { λ n. option_map node_of n.state };
+}
+
+impl State {
+    /// Makes the turn of an input.
+    fn turn(&mut self, alloc: Global, script: &Script, input: Input) -> Result<Turn, TurnFault>
+        requires { IsRunnable script.now }
+        ensures { Steps (step_of script.now (node_of self.old) input) (node_of self.old) (node_of self.new) result }
+    {
+        match input {
+            Input::Run => self.run(alloc, script),
+            Input::Take { from, frame } => self.take(alloc, script, from, frame),
+        }
+    }
+}
+
+impl PicoNode {
+    /// The node at its opening: node 1 is born, with process 1, and the others aren't. It keeps the allocator for its turns.
+    pub fn new(alloc: Global, script: &Script, node: Node) -> Result<PicoNode, Memory>
+        requires block { node ≤ length script.now.blocks }
+        ensures { IfOk result (λ n. n ≡ Some (opening_node node)) }
+    {
+        let _blocks = &script.blocks;
+        Ok(PicoNode {
+            alloc,
+            state: Some(State::new(alloc, node)?),
+        })
+    }
+
+    /// Whether its process can start a call: it makes calls, and none is under way. It takes no memory.
+    pub fn can_run(&self) -> bool
+        requires whole { IsSome self.now }
+        ensures { IfSome self.now (λ n. result ≡ can_run n) }
+    {
+        match &self.state {
+            Some(state) => state.can_run(),
+            None => false,
+        }
+    }
+
+    /// Whether its Checkpoint has come, or it is node 1. It takes no memory.
+    pub fn born(&self) -> bool
+        requires whole { IsSome self.now }
+        ensures { IfSome self.now (λ n. result ≡ is_born n) }
+    {
+        match &self.state {
+            Some(state) => state.is_born(),
+            None => false,
+        }
+    }
+
+    /// Makes the turn of an input: its process's next call is started, or a frame is taken.
+    ///
+    /// NotAllowed comes exactly where the machine has no step for the input, and the node is unchanged. Memory: an
+    /// allocation was refused, in this turn or in an earlier one; the node is spent, and answers Memory from now on.
+    pub fn turn(&mut self, script: &Script, input: Input) -> Result<Turn, TurnFault>
+        requires runnable { IsRunnable script.now }
+        // A turn is the machine's step, and the node is left as the step leaves it.
+        ensures ok { IfOk result (λ turn. IsTurn script.now self.old input self.new turn) }
+        // A refusal: there is no step, and the node is unchanged.
+        ensures not_allowed { result ≡ Err NotAllowed → IsRefusal script.now self.old input self.new }
+        // Without memory the node is spent, and a spent node has no memory.
+        ensures memory { result ≡ Err OutOfMemory → self.new ≡ None }
+        ensures spent { self.old ≡ None → result ≡ Err OutOfMemory }
+        // Where memory doesn't run out, there is a turn exactly where there is a step.
+        ensures step { IfSome self.old (λ n. IsSome (step_of script.now n input) → (result ≡ Err NotAllowed) → ⊥) }
+        ensures no_step { IfSome self.old (λ n. step_of script.now n input ≡ None → IsErr result) }
+    {
+        let Some(mut state) = self.state.take() else {
+            return Err(TurnFault::Memory);
+        };
+        let turned = state.turn(self.alloc, script, input);
+        if !matches!(turned, Err(TurnFault::Memory)) {
+            self.state = Some(state);
+        }
+        turned
+    }
+}
