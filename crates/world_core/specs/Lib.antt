@@ -1,0 +1,6 @@
+pub mod Inbox
+pub mod Laws
+pub mod Seat
+pub mod State
+pub mod Stepped
+pub mod World

@@ -1,0 +1,26 @@
+//! The world of picoprocesses as one plain value: its nodes, the frames on their way between them, and the journal.
+//! It carries out one event at a time, and says which events may come next.
+#![tactic(auto)]
+
+ghost use Rattle.machine_model.specs.Laws.{SchedulesAreRuns};
+ghost use Rattle.world_core.specs.Laws.{RestIsWhereNothingIsChosen};
+
+mod inbox;
+mod state;
+mod stream;
+mod world;
+
+pub use world::World;
+
+#[cfg(test)]
+mod tests;
+
+/// The events that a schedule takes are a run: each may come when it comes.
+pub fn schedules_are_runs()
+    ensures { SchedulesAreRuns }
+{}
+
+/// A schedule finds no event only where the world is at rest, in each world that a run leads to.
+pub fn rest_is_where_nothing_is_chosen()
+    ensures { RestIsWhereNothingIsChosen }
+{}

@@ -1,0 +1,293 @@
+ghost use Rattle.std.specs.Prelude.{◌≡◌, ◌↔◌, ◌≤◌, ◌-◌, [], ◌∷◌, ◌++◌, length, map, replicate, true, Some, slice_get, ◌+◌, IfOk, OnOk, IfSome, IsSome, IsTrue};
+ghost use Rattle.std.specs.List.{flat_map};
+ghost use Rattle.machine_model.specs.Built.{IsRunnable};
+ghost use Rattle.machine_model.specs.Node.{opening_node};
+ghost use Rattle.machine_model.specs.World.{numbers, size_of, opening_world, node_at, is_run_enabled, is_take_enabled, is_enabled, stream, with_all_sent, after_turn, step};
+ghost use Rattle.machine_model.specs.Run.{IsAtRest};
+ghost use Rattle.machine_model.specs.Schedule.{enabled_at, enabled_events, in_turn};
+ghost use Rattle.world_core.specs.Seat.{IsSeat};
+ghost use Rattle.node_core.specs.Turns.{IsTurn};
+ghost use Rattle.world_core.specs.State.{AreWhole, IsSquare, world_of, IsAfterTurn, IsStep, IsAlive};
+
+use crate::inbox::{Inbox, place};
+use node_core::{Input, PicoNode, Sends, Turn, TurnFault};
+use pico_base::{Entries, Event, Memory, Node, Script};
+use std::alloc::Global;
+
+/// A world: nodes by number, what is on its way to each of them, and what they carried out.
+#[derive(Drop)]
+pub(crate) struct State {
+    pub(crate) script: Script,
+    pub(crate) nodes: Vec<PicoNode>,
+    pub(crate) inboxes: Vec<Inbox>,
+    pub(crate) journal: Entries,
+}
+
+/// How many nodes a script has.
+pub(crate) fn size(script: &Script) -> u8
+    requires { IsRunnable script.now }
+    ensures size { result ≡ length script.now.blocks }
+    ensures few { (1 ≤ result) × (result ≤ 32) }
+{
+    script.blocks.len() as u8
+}
+
+/// The nodes of a script before any event.
+fn opening_nodes(alloc: Global, script: &Script) -> Result<Vec<PicoNode>, Memory>
+    requires { IsRunnable script.now }
+    ensures { IfOk result (λ nodes. nodes.items ≡ map Some (map opening_node (numbers 1 (length script.now.blocks)))) }
+{
+    let mut nodes = Vec::new(alloc);
+    for number in 0..size(script) {
+        nodes.push(PicoNode::new(alloc, script, Node(number + 1))?)?;
+    }
+    Ok(nodes)
+}
+
+/// Nothing is on its way to any of so many nodes.
+fn empty_inboxes(alloc: Global, count: usize) -> Result<Vec<Inbox>, Memory>
+    ensures { IfOk result (λ inboxes. inboxes.items ≡ replicate count (replicate count [])) }
+{
+    let mut inboxes = Vec::new(alloc);
+    for _node in 0..count {
+        inboxes.push(Inbox::new(alloc, count)?)?;
+    }
+    Ok(inboxes)
+}
+
+/// The node's turn. After a fault the node is spent.
+fn take_turn(node: &mut PicoNode, script: &Script, input: Input) -> Result<Turn, Memory>
+    requires { IsRunnable script.now }
+    ensures { IfOk result (λ turn. IsTurn script.now node.old input node.new turn) }
+{
+    match node.turn(script, input) {
+        Ok(turn) => Ok(turn),
+        Err(fault) => Err(memory_of(fault)),
+    }
+}
+
+/// A node that is enabled has a turn.
+fn memory_of(fault: TurnFault) -> Memory {
+    match fault {
+        TurnFault::Memory => Memory,
+        // until the law stands
+        TurnFault::NotAllowed => Memory,
+    }
+}
+
+/// The entries of a turn follow in the journal.
+fn add_entries(journal: &mut Entries, entries: Entries) -> Result<(), Memory>
+    ensures { OnOk result (journal.new ≡ journal.old ++ entries) }
+{
+    for entry in entries.into_vec() {
+        journal.push(entry)?;
+    }
+    Ok(())
+}
+
+/// The frames that a node sends go their ways. One to a node that there isn't is lost.
+fn send_all(inboxes: &mut Vec<Inbox>, from: Node, sends: Sends) -> Result<(), Memory>
+    requires square { IsSquare inboxes.old.items }
+    requires there { from ≤ length inboxes.old.items }
+    ensures { OnOk result (inboxes.new.items ≡ with_all_sent from inboxes.old.items sends) }
+{
+    for (to, frame) in sends.into_vec() {
+        if place(to) < inboxes.len() {
+            inboxes[place(to)].push(from, frame)?;
+        }
+    }
+    Ok(())
+}
+
+impl State {
+    /// The world of a script before any event.
+    pub(crate) fn start(alloc: Global, script: Script) -> Result<State, Memory>
+        requires { IsRunnable script }
+        ensures { IfOk result (λ s. AreWhole s.nodes.items × (world_of s ≡ opening_world script)) }
+    {
+        let nodes = opening_nodes(alloc, &script)?;
+        let inboxes = empty_inboxes(alloc, script.blocks.len())?;
+        Ok(State {
+            script,
+            nodes,
+            inboxes,
+            journal: Entries::new(alloc),
+        })
+    }
+
+    /// Whether the node can start a call.
+    pub(crate) fn may_run(&self, node: Node) -> bool
+        requires { AreWhole self.now.nodes.items }
+        ensures { result ≡ is_run_enabled (node_at (world_of self.now) node) }
+    {
+        match self.nodes.get(place(node)) {
+            Some(node) => node.can_run(),
+            None => false,
+        }
+    }
+
+    /// Whether the node takes the first frame from that node, if there is one.
+    pub(crate) fn may_take(&self, node: Node, from: Node) -> bool
+        requires { AreWhole self.now.nodes.items }
+        ensures { result ≡ is_take_enabled (node_at (world_of self.now) node) (stream (world_of self.now) node from) }
+    {
+        let at = place(node);
+        let Some(pico) = self.nodes.get(at) else {
+            return false;
+        };
+        let Some(inbox) = self.inboxes.get(at) else {
+            return false;
+        };
+        inbox.may_take(from, pico.born())
+    }
+
+    /// Whether the event may come next.
+    pub(crate) fn enabled(&self, event: Event) -> bool
+        requires { AreWhole self.now.nodes.items }
+        ensures { result ≡ is_enabled (world_of self.now) event }
+    {
+        match event {
+            Event::Run(node) => self.may_run(node),
+            Event::Take { node, from } => self.may_take(node, from),
+        }
+    }
+
+    /// The node and what is on its way to it.
+    fn seat(&self, node: Node) -> (&PicoNode, &Inbox)
+        requires alive { IsAlive self.now }
+        requires there { node ≤ size_of self.now.script }
+        ensures { IsSeat (world_of self.now) node result.0.now result.1.now }
+    {
+        let at = place(node);
+        (&self.nodes[at], &self.inboxes[at])
+    }
+
+    /// How many events of the node may come next.
+    fn count_at(&self, node: Node) -> u32
+        requires alive { IsAlive self.now }
+        requires there { node ≤ size_of self.now.script }
+        ensures count { result ≡ length (enabled_at (world_of self.now) node) }
+        ensures few { result ≤ 33 }
+    {
+        let (pico, inbox) = self.seat(node);
+        let takes = inbox.count(pico.born()) as u32;
+        if pico.can_run() { takes + 1 } else { takes }
+    }
+
+    /// The event at this place of those of the node that may come next, from 0.
+    fn nth_at(&self, node: Node, index: u32) -> Option<Event>
+        requires alive { IsAlive self.now }
+        requires there { node ≤ size_of self.now.script }
+        ensures { result ≡ slice_get (enabled_at (world_of self.now) node) index }
+    {
+        let (pico, inbox) = self.seat(node);
+        let is_born = pico.born();
+        let takes = inbox.count(is_born) as u32;
+        if index < takes {
+            let from = inbox.nth(is_born, index)?;
+            return Some(Event::Take { node, from });
+        }
+        let may_run = pico.can_run();
+        if may_run && index == takes {
+            Some(Event::Run(node))
+        } else {
+            None
+        }
+    }
+
+    /// How many events may come next.
+    pub(crate) fn count(&self) -> u32
+        requires { IsAlive self.now }
+        ensures { result ≡ length (enabled_events (world_of self.now)) }
+    {
+        let mut count = 0;
+        for number in 0..size(&self.script) {
+            count += self.count_at(Node(number + 1));
+        }
+        count
+    }
+
+    /// The event at this place of those that may come next, from 0.
+    pub(crate) fn nth(&self, index: u32) -> Option<Event>
+        requires { IsAlive self.now }
+        ensures { result ≡ slice_get (enabled_events (world_of self.now)) index }
+    {
+        let mut left = index;
+        for number in 0..size(&self.script) {
+            let node = Node(number + 1);
+            let count = self.count_at(node);
+            if left < count {
+                return self.nth_at(node, left);
+            }
+            left -= count;
+        }
+        None
+    }
+
+    /// The first event that may come next, of the nodes after the one number up to the other.
+    fn first_of(&self, after: u8, last: u8) -> Option<Event>
+        requires alive { IsAlive self.now }
+        requires there { last ≤ size_of self.now.script }
+        ensures { result ≡ slice_get (flat_map (enabled_at (world_of self.now)) (numbers (after + 1) (last - after))) 0 }
+    {
+        for number in after..last {
+            let first = self.nth_at(Node(number + 1), 0);
+            if first.is_some() {
+                return first;
+            }
+        }
+        None
+    }
+
+    /// The first event that may come next, round the nodes: of those behind this one, and then of those up to it.
+    pub(crate) fn in_turn(&self, after: Node) -> Option<Event>
+        requires alive { IsAlive self.now }
+        requires there { after ≤ size_of self.now.script }
+        ensures { result ≡ in_turn (world_of self.now) after }
+    {
+        match self.first_of(after.0, size(&self.script)) {
+            Some(event) => Some(event),
+            None => self.first_of(0, after.0),
+        }
+    }
+
+    /// Whether no event may come next.
+    pub(crate) fn at_rest(&self) -> bool
+        requires { IsAlive self.now }
+        ensures { IsTrue result ↔ IsAtRest (world_of self.now) }
+    {
+        self.count() == 0
+    }
+
+    /// The node's turn: its entries follow in the journal, and its frames go their ways.
+    fn turn(mut self, node: Node, input: Input) -> Result<State, Memory>
+        requires nodes { AreWhole self.nodes.items }
+        requires runnable { IsRunnable self.script }
+        requires there { node ≤ length self.nodes.items }
+        requires square { IsSquare self.inboxes.items }
+        requires streams { node ≤ length self.inboxes.items }
+        ensures { IfOk result (λ next. IsAfterTurn self node input next) }
+    {
+        let Turn { entries, sends } = take_turn(&mut self.nodes[place(node)], &self.script, input)?;
+        add_entries(&mut self.journal, entries)?;
+        send_all(&mut self.inboxes, node, sends)?;
+        Ok(self)
+    }
+
+    /// The world after an event.
+    pub(crate) fn after(mut self, event: Event) -> Result<State, Memory>
+        requires alive { IsAlive self }
+        requires enabled { is_enabled (world_of self) event ≡ true }
+        ensures { IfOk result (λ next. IsStep self event next) }
+    {
+        match event {
+            Event::Run(node) => self.turn(node, Input::Run),
+            Event::Take { node, from } => {
+                let Some(frame) = self.inboxes[place(node)].take(from) else {
+                    unreachable!()
+                };
+                self.turn(node, Input::Take { from, frame })
+            }
+        }
+    }
+}

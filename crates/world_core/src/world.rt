@@ -1,0 +1,144 @@
+ghost use Rattle.std.specs.Prelude.{◌≡◌, ◌↔◌, ◌≤◌, true, length, slice_get, Some, None, IfOk, OnOk, OnErr, IfSome, IsSome, IsErr, IsTrue};
+ghost use Rattle.machine_model.specs.Built.{IsRunnable};
+ghost use Rattle.machine_model.specs.World.{World as MachineWorld, size, opening_world, is_enabled};
+ghost use Rattle.machine_model.specs.Run.{IsRunOf, IsAtRest};
+ghost use Rattle.machine_model.specs.Schedule.{enabled_events, in_turn};
+ghost use Rattle.world_core.specs.State.{IsAlive, world_of};
+ghost use Rattle.world_core.specs.Stepped.{IsStepped};
+
+use crate::state::State;
+use pico_base::{Entries, Event, Memory, Node, Script};
+use std::alloc::Global;
+use std::marker::Model;
+
+/// A world of picoprocesses that runs a script. Contracts see a world of the machine, which a run of the script has led
+/// to, or none where the world is spent: an allocation was refused in the middle of a step.
+#[derive(Drop)]
+pub struct World {
+    state: Option<State>,
+}
+
+impl Model for World {
+    ghost use Rattle.std.specs.Prelude.{Option};
+    ghost use Rattle.machine_model.specs.World.{World as MachineWorld};
+
+    ghost Value = { Option MachineWorld };
+
+    ghost use Rattle.world_core.specs.World.{world_in, IsSound};
+
+    ghost view = { λ w. world_in w.state };
+
+    ghost invariant = { λ w. IsSound w.state };
+}
+
+impl World {
+    /// The script's world before any event: node 1 is born with process 1, and nothing was carried out. An `Err` says
+    /// that an allocation was refused.
+    pub fn start(alloc: Global, script: Script) -> Result<World, Memory>
+        requires runnable { IsRunnable script }
+        ensures { IfOk result (λ w. w ≡ Some (opening_world script)) }
+    {
+        Ok(World {
+            state: Some(State::start(alloc, script)?),
+        })
+    }
+
+    /// The state of a world that isn't spent.
+    fn state(&self) -> &State
+        requires whole { IsSome self.now }
+        ensures world { self.now ≡ Some (world_of result.now) }
+        ensures alive { IsAlive result.now }
+    {
+        match &self.state {
+            Some(state) => state,
+            None => unreachable!(),
+        }
+    }
+
+    /// Whether the event may come next.
+    pub fn enabled(&self, event: Event) -> bool
+        requires whole { IsSome self.now }
+        ensures { IfSome self.now (λ w. result ≡ is_enabled w event) }
+    {
+        self.state().enabled(event)
+    }
+
+    /// How many events may come next.
+    pub fn count(&self) -> u32
+        requires whole { IsSome self.now }
+        ensures { IfSome self.now (λ w. result ≡ length (enabled_events w)) }
+    {
+        self.state().count()
+    }
+
+    /// The event at this place of those that may come next, from 0: node after node, each node's takes by rising sender
+    /// and then its run. None where there are no more than `index`.
+    pub fn nth(&self, index: u32) -> Option<Event>
+        requires whole { IsSome self.now }
+        ensures { IfSome self.now (λ w. result ≡ slice_get (enabled_events w) index) }
+    {
+        self.state().nth(index)
+    }
+
+    /// The first event that may come next, round the nodes: of the nodes behind `after`, and then of those up to it.
+    /// None at rest.
+    pub fn in_turn(&self, after: Node) -> Option<Event>
+        requires whole { IsSome self.now }
+        requires there { IfSome self.now (λ w. after ≤ size w) }
+        ensures { IfSome self.now (λ w. result ≡ in_turn w after) }
+    {
+        self.state().in_turn(after)
+    }
+
+    /// Whether no event may come next.
+    pub fn at_rest(&self) -> bool
+        requires whole { IsSome self.now }
+        ensures { IfSome self.now (λ w. IsTrue result ↔ IsAtRest w) }
+    {
+        self.state().at_rest()
+    }
+
+    /// All that was carried out so far, in order.
+    pub fn journal(&self) -> &Entries
+        requires whole { IsSome self.now }
+        ensures { IfSome self.now (λ w. result.now ≡ w.journal) }
+    {
+        &self.state().journal
+    }
+
+    /// The script that the world runs.
+    pub fn script(&self) -> &Script
+        requires whole { IsSome self.now }
+        ensures { IfSome self.now (λ w. result.now ≡ w.script) }
+    {
+        &self.state().script
+    }
+
+    /// Carries out an event that may come next. After an `Err` the world is spent: an allocation was refused, or it was
+    /// spent before.
+    pub fn step(&mut self, event: Event) -> Result<(), Memory>
+        requires enabled { IfSome self.old (λ w. is_enabled w event ≡ true) }
+        ensures ok { OnOk result (IsStepped self.old event self.new) }
+        ensures err { OnErr result (self.new ≡ None) }
+        ensures spent { self.old ≡ None → IsErr result }
+    {
+        let state = self.state.take().ok_or(Memory)?;
+        self.state = Some(state.after(event)?);
+        Ok(())
+    }
+
+    /// The world of a script after these events, of which each may come when it comes. An `Err` says that an allocation
+    /// was refused.
+    pub fn of_logs(alloc: Global, script: Script, events: &[Event]) -> Result<World, Memory>
+        requires runnable { IsRunnable script }
+        requires run { (w : MachineWorld) × IsRunOf script events.now w }
+        ensures run { IfOk result (λ w. IfSome w (IsRunOf script events.now)) }
+        ensures whole { IfOk result (λ w. IsSome w) }
+    {
+        let mut world = World::start(alloc, script)?;
+        for event in events {
+            world.step(*event)?;
+        }
+        Ok(world)
+    }
+}
