@@ -6,10 +6,13 @@ mod calls;
 mod fault;
 mod parts;
 mod script;
+mod state;
+mod steps;
+mod tables;
 
 pub use calls::call_with;
 pub use fault::{ScriptFault, ScriptStop};
 pub use script::read_script;
 
-#[cfg(test)]
-mod tests;
+
+
