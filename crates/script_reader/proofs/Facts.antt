@@ -262,18 +262,20 @@ good_proc names (first ∷ others) name is forked h =
     (h.0, h.1, h.2, record { good = good_new (length others + 2) (known_behind (first ∷ others)) name is; quiet = refl; forked = forked })
 
 good_fork : (names : List (List ℕ)) (name : List ℕ) (lines : List Line) (set : Option ℕ) (place : ℕ) → 1 ≤ place → place < length names → list_any (nat_eq (place + 1)) (forks_in lines) ≡ false → AreGood names [] (Some (block_of name lines)) → AreGood names [] (Some (block_of name (lines ++ fork_line set (place + 1) ∷ [])))
-good_fork names name lines set place low within free h =
-    (good_more 1 [] name lines (fork_line set (place + 1)) h.0 (fork_fine set place) refl,
-     subst (AreForks names) (sym (forks_in-push lines (fork_line set (place + 1)))) (forks_more names (forks_in lines) place low within free h.1))
+good_fork names name lines set place low within free h = (
+  good_more 1 [] name lines (fork_line set (place + 1)) h.0 (fork_fine set place) refl,
+  subst (AreForks names) (sym (forks_in-push lines (fork_line set (place + 1)))) (forks_more names (forks_in lines) place low within free h.1),
+)
 
 same_forks : (lines : List Line) (line : Line) → model.forked_by line.call ≡ [] → forks_in (lines ++ line ∷ []) ≡ forks_in lines
 same_forks lines line none = forks_in-push lines line ∙ ap (λ (r : List ℕ). forks_in lines ++ r) none ∙ append-nil (forks_in lines)
 
 good_call : (names : List (List ℕ)) (blocks : List Block) (name : List ℕ) (lines : List Line) (line : Line) (bytes : List ℕ) → IsCallLine (length blocks + 1) (known_after (known_behind blocks) lines) line bytes → AreGood names blocks (Some (block_of name lines)) → AreGood names blocks (Some (block_of name (lines ++ line ∷ [])))
 good_call names [] name lines line bytes is h =
-    let none = forks_nothing 1 line.from line.call is.rest is.call in
-    (good_more 1 [] name lines line h.0 (line_fine 1 (known_after [] lines) line bytes is) is.was_set,
-     subst (AreForks names) (sym (same_forks lines line none)) h.1)
+    let none = forks_nothing 1 line.from line.call is.rest is.call in (
+      good_more 1 [] name lines line h.0 (line_fine 1 (known_after [] lines) line bytes is) is.was_set,
+      subst (AreForks names) (sym (same_forks lines line none)) h.1,
+    )
 good_call names (first ∷ others) name lines line bytes is h =
     let number : ℕ = length (first ∷ others) + 1 in
     let none = forks_nothing number line.from line.call is.rest is.call in

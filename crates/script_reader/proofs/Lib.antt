@@ -13,3 +13,4 @@ pub mod Machine
 pub mod Facts
 pub mod Sound
 pub mod Scripts
+pub mod Examples

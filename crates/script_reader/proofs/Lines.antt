@@ -49,4 +49,3 @@ some_from_not_empty n e = grind (arith, eqb-false)
 pub lines_of-none : (xs : List ℕ) → position is_feed xs ≡ None → 0 < length xs → lines_of xs ≡ xs ∷ []
 lines_of-none [] e some = absurd (omega arith)
 lines_of-none (x ∷ xs) e some = lines_of-plain x xs (Plain-none (x ∷ xs) e)
-

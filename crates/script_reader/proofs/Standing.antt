@@ -182,8 +182,7 @@ first_of-push (block ∷ blocks) name lines = refl
 
 closes : (names : List (List ℕ)) (read : Read) (p : Part) (blocks : List Block) (part : Option Block) (h : StandsIn names read p blocks part) → Stands names (ended read p) (blocks ++ block_of p.name h.lines ∷ []) None
 closes names read p blocks part h =
-    let last : block_of p.name p.lines ≡ kept_block (block_of p.name h.lines) = ap (block_of p.name) h.lines_are in
-    (
+    let last : block_of p.name p.lines ≡ kept_block (block_of p.name h.lines) = ap (block_of p.name) h.lines_are in (
       refl,
       record {
         blocks_are = ap (λ (bs : List Block). bs ++ block_of p.name p.lines ∷ []) h.stands.blocks_are ∙ ap (λ (b : Block). map kept_block blocks ++ b ∷ []) last ∙ sym (map_push kept_block blocks (block_of p.name h.lines));

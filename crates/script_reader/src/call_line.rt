@@ -110,7 +110,12 @@ fn plain(is_first: bool, bytes: &[u8]) -> Option<FromCall>
 
 /// A call but fork, in the first block or a later one.
 #[tactic(auto, unfolding(crate::specs::Reading::call_at))]
-fn call(alloc: Global, is_first: bool, flags: &Flags, bytes: &[u8]) -> Result<Option<FromCall>, Memory>
+fn call(
+    alloc: Global,
+    is_first: bool,
+    flags: &Flags,
+    bytes: &[u8],
+) -> Result<Option<FromCall>, Memory>
     ensures { IfOk result (λ call. call ≡ call_at is_first flags.now bytes.now) }
 {
     if let Some(rest) = strip_front(bytes, b"msgsnd $") {

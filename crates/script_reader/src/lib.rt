@@ -14,5 +14,5 @@ pub use calls::call_with;
 pub use fault::{ScriptFault, ScriptStop};
 pub use script::read_script;
 
-
-
+#[cfg(test)]
+mod tests;

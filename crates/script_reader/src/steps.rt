@@ -111,7 +111,12 @@ fn node(place: usize) -> Node
 }
 
 /// Notes what the block at a place begins with, where it may be a block.
-fn note_begun(alloc: Global, begun: &mut Sequence<Begun>, place: usize, known: &Flags) -> Result<(), Memory>
+fn note_begun(
+    alloc: Global,
+    begun: &mut Sequence<Begun>,
+    place: usize,
+    known: &Flags,
+) -> Result<(), Memory>
     ensures { IfOk result (λ _. begun.new ≡ with_begun begun.old place known.now) }
 {
     if place < MAX_BLOCKS {
@@ -145,7 +150,14 @@ fn forking(alloc: Global, read: Read, place: usize, known: &Flags) -> Result<Rea
 
 /// A line that forks the block of this name.
 #[tactic(auto, unfolding(crate::specs::Reading::fork_step))]
-fn fork(alloc: Global, names: &Names, read: Read, part: Part, set: Option<Var>, name: &[u8]) -> Result<Option<State>, Memory>
+fn fork(
+    alloc: Global,
+    names: &Names,
+    read: Read,
+    part: Part,
+    set: Option<Var>,
+    name: &[u8],
+) -> Result<Option<State>, Memory>
     requires { read.calls < 20000 }
     ensures { IfOk result (λ next. next ≡ fork_step names.now read part set name.now) }
 {
@@ -165,7 +177,13 @@ fn fork(alloc: Global, names: &Names, read: Read, part: Part, set: Option<Var>, 
 
 /// A line with another call.
 #[tactic(auto, unfolding(crate::specs::Reading::call_step))]
-fn other_call(alloc: Global, read: Read, part: Part, set: Option<Var>, bytes: &[u8]) -> Result<Option<State>, Memory>
+fn other_call(
+    alloc: Global,
+    read: Read,
+    part: Part,
+    set: Option<Var>,
+    bytes: &[u8],
+) -> Result<Option<State>, Memory>
     requires { read.calls < 20000 }
     ensures { IfOk result (λ next. next ≡ call_step read part set bytes.now) }
 {
@@ -194,7 +212,13 @@ fn end(read: Read, part: Part) -> Result<State, Memory>
 
 /// A line of a block.
 #[tactic(auto, unfolding(crate::specs::Reading::inside_step))]
-fn inside(alloc: Global, names: &Names, read: Read, part: Part, bytes: &[u8]) -> Result<Option<State>, Memory>
+fn inside(
+    alloc: Global,
+    names: &Names,
+    read: Read,
+    part: Part,
+    bytes: &[u8],
+) -> Result<Option<State>, Memory>
     ensures { IfOk result (λ next. next ≡ inside_step names.now read part bytes.now) }
 {
     if read.calls >= MAX_CALLS {
@@ -215,7 +239,12 @@ fn inside(alloc: Global, names: &Names, read: Read, part: Part, bytes: &[u8]) ->
 
 /// A further line; none where it isn't built.
 #[tactic(auto, unfolding(crate::specs::Reading::step))]
-pub(crate) fn step(alloc: Global, names: &Names, state: State, bytes: &[u8]) -> Result<Option<State>, Memory>
+pub(crate) fn step(
+    alloc: Global,
+    names: &Names,
+    state: State,
+    bytes: &[u8],
+) -> Result<Option<State>, Memory>
     ensures { IfOk result (λ next. next ≡ step_of names.now state bytes.now) }
 {
     match state {
