@@ -1,18 +1,18 @@
 -- A call that is read is spelled so, and the spelling of a call is read.
-use Rattle.std.proofs.Common.{◌≡◌, ◌⊎◌, inl, inr, ℕ, ◌+◌, ◌≤◌, Bool, true, false, ◌&&◌, not, cond, eqb, ltb, List, ◌∷◌, ◌++◌, length, get_or, Option, Some, None, refl, sym, ap, subst, ◌∙◌, append_assoc, pos, arith}
-use Rattle.std.specs.Prelude.{codes, bytes_eq, decimal, option_map, All}
+use Rattle.std.proofs.Common.{◌≡◌, ◌⊎◌, inl, inr, ℕ, ◌+◌, ◌≤◌, Bool, true, false, ◌&&◌, not, cond, eqb, List, ◌∷◌, ◌++◌, get_or, Option, Some, None, refl, sym, ap, subst, ◌∙◌, append_assoc, pos, arith}
+use Rattle.std.specs.Prelude.{codes, bytes_eq, decimal, option_map}
 use Rattle.std.specs.List.{list_all}
 use Rattle.std.proofs.lemmas.Bool.{and_parts, and_from, eqb-false, ne_eqb, not-true, false_from_ne_true}
-use Rattle.std.proofs.lemmas.Option.{same_Some, none-some}
+use Rattle.std.proofs.lemmas.Option.{same_Some}
 use Rattle.std.proofs.lemmas.Slice.Eq.{bytes_eq-Decides}
 use Rattle.pico_base.specs.declared.call.Call.{Call}
 use Rattle.pico_base.specs.declared.call.Call.TheVariants.{GetPid, MsgGet, MsgSnd, MsgRcv}
 use Rattle.pico_base.specs.declared.script.Line.{Line}
 use Rattle.script_reader.specs.Spelling.{variable_text, set_text, end_text}
-use Rattle.script_reader.specs.Form.{IsVariable, IsTextByte, IsCall, MaySet}
+use Rattle.script_reader.specs.Form.{IsVariable, IsCall, MaySet}
 use Rattle.script_reader.specs.Form.IsCall.{own, get, send, receive}
 use Rattle.script_reader.specs.Parts.{◌>>=◌, strip, strip_end, is_text_byte, digit_at, variable_at, number_at, opening_at, assigned_at, set_from, set_at}
-use Rattle.script_reader.specs.Reading.{FromCall, known_variable_at, send_at, send_of, receive_at, receive_of, plain_at, form_at, call_at, may_set, line_with, line_of, call_line_at}
+use Rattle.script_reader.specs.Reading.{FromCall, known_variable_at, send_at, receive_at, plain_at, form_at, call_at, may_set, line_with, line_of, call_line_at}
 use Rattle.script_reader.proofs.Chains.{bind_some, chosen, none_from}
 use Rattle.script_reader.proofs.Bytes.{text_decides}
 use Rattle.script_reader.proofs.Strips.{strip_takes, strip_again, strip_end_takes, strip_end_again}

@@ -1,24 +1,22 @@
 -- What holds of blocks whose lines begin a script.
-use Rattle.std.proofs.Common.{◌≡◌, ◌⊎◌, inl, inr, ℕ, ◌+◌, ◌-◌, ◌<◌, ◌≤◌, Bool, true, false, ◌&&◌, ◌||◌, not, cond, eqb, leb, ltb, List, [], ◌∷◌, ◌++◌, map, length, take, get_or, Option, Some, None, refl, sym, ap, subst, ◌∙◌, append_assoc, pos, arith}
-use Rattle.std.specs.Prelude.{bytes_eq, codes, count_by, fold, nat_eq, position, All}
-use Rattle.std.specs.List.{AllByRecursion, list_all, list_any, flat_map}
-use Rattle.std.proofs.lemmas.Bool.{and_parts, and_from, cases_eq, eqb-true, le-leb, leb-true, lt-ltb, ltb-true, eq-eqb, ne_eqb, false_from_ne_true}
+use Rattle.std.proofs.Common.{◌≡◌, inl, inr, ℕ, ◌+◌, ◌<◌, ◌≤◌, Bool, true, false, ◌&&◌, ◌||◌, not, cond, eqb, leb, ltb, List, [], ◌∷◌, ◌++◌, map, length, take, get_or, Option, Some, None, refl, sym, ap, subst, ◌∙◌, arith}
+use Rattle.std.specs.Prelude.{bytes_eq, codes, count_by, nat_eq, position, All}
+use Rattle.std.specs.List.{AllByRecursion, list_all, list_any}
+use Rattle.std.proofs.lemmas.Bool.{and_parts, and_from, cases_eq, eqb-true, le-leb, leb-true, lt-ltb, eq-eqb, ne_eqb, false_from_ne_true}
 use Rattle.std.proofs.lemmas.List.{append-nil, length-append, length-map, map_push, take_more, length-take, get_or-take}
 use Rattle.std.proofs.lemmas.List.Elements.{All-from_get_or}
 use Rattle.std.proofs.lemmas.List.Folds.{list_all-append, list_any-append, list_any_none}
 use Rattle.std.proofs.lemmas.List.Quantifiers.{position-Some}
 use Rattle.std.proofs.lemmas.List.Sums.{fold-append, sum_by-append}
-use Rattle.std.proofs.lemmas.Option.{same_Some, none-some}
 use Rattle.std.proofs.lemmas.Slice.Eq.{bytes_eq-Decides}
 use Rattle.pico_base.specs.declared.call.Call.{Call}
-use Rattle.pico_base.specs.declared.call.Call.TheVariants as calls
 use Rattle.pico_base.specs.declared.script.Line.{Line}
 use Rattle.pico_base.specs.declared.script.Block.{Block}
 use Rattle.kernel_model.specs.Script as model
 use Rattle.kernel_model.specs.Waiting.{is_waiting}
 use Rattle.machine_model.specs.Built.{is_built_line}
 use Rattle.script_reader.specs.Spelling.{variable_text, set_text, opening_text, end_text}
-use Rattle.script_reader.specs.Form.{IsVariable, IsName, IsTextByte, IsCall, IsCallLine, fork_line, forks_in, known_after, known_behind, IsForked, calls_of, HasRoom, block_of, Begins}
+use Rattle.script_reader.specs.Form.{IsName, IsCall, IsCallLine, fork_line, forks_in, known_after, known_behind, IsForked, calls_of, block_of, Begins}
 use Rattle.script_reader.specs.Form.IsCall.{own, get, send, receive}
 use Rattle.script_reader.specs.Form.Begins.{nothing, proc, fork, call, end}
 use Rattle.script_reader.specs.Fault.{with_name, with_opening, names_of}
@@ -26,8 +24,8 @@ use Rattle.script_reader.specs.Parts.{opening_at}
 use Rattle.script_reader.specs.Reading.{number_of}
 use Rattle.script_reader.proofs.Bytes.{name_bytes_decides, lowercase_decides}
 use Rattle.script_reader.proofs.CallLines.{not_opening, fork_not_opening, end_not_opening}
-use Rattle.script_reader.proofs.Knowing.{known_after-push, forks_in-push}
-use Rattle.script_reader.proofs.Standing.{kept_line, kept_block, opening_again, forks_nothing, fork_kept, calls_of-push}
+use Rattle.script_reader.proofs.Knowing.{forks_in-push}
+use Rattle.script_reader.proofs.Standing.{kept_line, opening_again, forks_nothing, fork_kept, calls_of-push}
 
 -- ---- names
 

@@ -1,16 +1,16 @@
 -- What the tables of reading say of the lines before.
-use Rattle.std.proofs.Common.{◌≡◌, ◌⊎◌, inl, inr, ℕ, ◌+◌, ◌-◌, ◌<◌, ◌≤◌, Bool, true, false, ◌||◌, not, cond, eqb, ltb, List, [], ◌∷◌, ◌++◌, map, length, get_or, replicate, Option, Some, None, refl, sym, ap, subst, ◌∙◌, append_assoc, arith}
-use Rattle.std.specs.Prelude.{nat_eq, fold, slice_set, is_some}
-use Rattle.std.specs.List.{flat_map, list_any}
+use Rattle.std.proofs.Common.{◌≡◌, inl, inr, ℕ, ◌+◌, ◌<◌, ◌≤◌, Bool, true, false, ◌||◌, cond, eqb, List, [], ◌∷◌, ◌++◌, map, length, get_or, replicate, Option, Some, None, refl, sym, ap, ◌∙◌, append_assoc, arith}
+use Rattle.std.specs.Prelude.{nat_eq, slice_set, is_some}
+use Rattle.std.specs.List.{list_any}
 use Rattle.std.specs.Map.{lookup}
-use Rattle.std.proofs.lemmas.Bool.{cases_lt, cases_eq, eqb-true, eqb-false, ne_eqb, eq-eqb, lt-ltb, le-ltb, ltb-true, ltb-false}
+use Rattle.std.proofs.lemmas.Bool.{cases_lt, cases_eq, ne_eqb, eq-eqb, lt-ltb, le-ltb}
 use Rattle.std.proofs.lemmas.List.{append-nil, get_or-replicate, get_or_past, get_or-set_same, get_or-set_other, length-replicate, length-set}
 use Rattle.std.proofs.lemmas.List.Sums.{fold-append}
 use Rattle.std.proofs.lemmas.List.Folds.{list_any-append}
 use Rattle.std.proofs.lemmas.Grind.{flat_map-append}
-use Rattle.std.proofs.lemmas.Option.{same_Some, none-some}
+use Rattle.std.proofs.lemmas.Option.{none-some}
 use Rattle.pico_base.specs.declared.script.Line.{Line}
-use Rattle.kernel_model.specs.Script.{forked_by, known_with, is_known, begun_in, known_at}
+use Rattle.kernel_model.specs.Script.{forked_by, known_with, begun_in}
 use Rattle.script_reader.specs.declared.state.Begun.{Begun}
 use Rattle.script_reader.specs.Form.{fork_line, forks_in, known_after}
 use Rattle.script_reader.specs.Reading.{no_flags, set_after, begun_at, with_begun}

@@ -1,10 +1,10 @@
 -- Lines in turn: where reading stands after them, what they begin, and what is answered.
-use Rattle.std.proofs.Common.{◌≡◌, ◌⊎◌, inl, inr, ℕ, zero, suc, ◌+◌, ◌-◌, ◌<◌, ◌≤◌, List, [], ◌∷◌, ◌++◌, length, take, Option, Some, None, Result, Ok, Err, refl, sym, ap, subst, ◌∙◌, append_assoc, arith}
+use Rattle.std.proofs.Common.{◌≡◌, ◌⊎◌, inl, inr, ℕ, zero, suc, ◌+◌, ◌-◌, ◌<◌, List, [], ◌∷◌, ◌++◌, length, take, Option, Some, None, Err, refl, sym, ap, subst, ◌∙◌, append_assoc, arith}
 use Rattle.std.proofs.lemmas.List.{append-nil}
 use Rattle.std.proofs.lemmas.Option.{same_Some, none-some}
 use Rattle.pico_base.specs.declared.script.Block.{Block}
 use Rattle.script_reader.specs.declared.state.State.{State}
-use Rattle.script_reader.specs.Spelling.{set_text, opening_text, end_text}
+use Rattle.script_reader.specs.Spelling.{opening_text, end_text}
 use Rattle.script_reader.specs.Form.{Begins}
 use Rattle.script_reader.specs.Form.Begins.{nothing, proc, fork, call, end}
 use Rattle.script_reader.specs.Fault.{names_of, CanBegin, IsFirstBad}

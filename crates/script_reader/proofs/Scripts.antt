@@ -1,5 +1,5 @@
 -- What is read is spelled so, and what is spelled so is read; a fault is the first one, and the first one is answered.
-use Rattle.std.proofs.Common.{◌≡◌, ◌⊎◌, inl, inr, ℕ, ◌+◌, ◌-◌, ◌<◌, ◌≤◌, Bool, true, false, cond, eqb, ltb, List, [], ◌∷◌, map, length, take, Option, Some, None, Result, Ok, Err, refl, sym, ap, subst, ◌∙◌, arith}
+use Rattle.std.proofs.Common.{◌≡◌, ◌⊎◌, inl, inr, ℕ, ◌+◌, ◌-◌, ◌<◌, ◌≤◌, Bool, true, false, cond, eqb, ltb, List, [], ◌∷◌, length, take, Option, Some, None, Result, Ok, Err, refl, sym, ap, subst, ◌∙◌, arith}
 use Rattle.std.specs.Prelude.{IfOk, IfErr, count_by}
 use Rattle.std.proofs.lemmas.Bool.{ltb-true, ltb-false, lt-ltb, le-ltb}
 use Rattle.std.proofs.lemmas.List.{length-map}
@@ -13,7 +13,6 @@ use Rattle.script_reader.specs.declared.fault.ScriptFault.TheVariants.{ScriptToo
 use Rattle.script_reader.specs.declared.fault.ScriptStop.{ScriptStop}
 use Rattle.script_reader.specs.declared.fault.ScriptStop.TheVariants.{Memory, At}
 use Rattle.script_reader.specs.declared.state.Read.{Read}
-use Rattle.script_reader.specs.declared.state.Part.{Part}
 use Rattle.script_reader.specs.declared.state.State.{State}
 use Rattle.script_reader.specs.declared.state.State.TheVariants.{Between, Inside}
 use Rattle.script_reader.specs.Form.{block_of}
@@ -21,7 +20,7 @@ use Rattle.script_reader.specs.Fault.{lines_of, names_of, IsWhole, Reads, IsFirs
 use Rattle.script_reader.specs.Reading.{has_blocks, start, ending, blocks_of, script_from, outcome, GivesScript}
 use Rattle.script_reader.proofs.CallLines.{parted}
 use Rattle.script_reader.proofs.Standing.{kept_block, Stands}
-use Rattle.script_reader.proofs.Machine.{run, run_after, begins_run, begins_where, blocks_from-run, BreaksAt, breaks, blocks_from-breaks, bad_where, breaks_where}
+use Rattle.script_reader.proofs.Machine.{run, run_after, begins_run, begins_where, blocks_from-run, breaks, blocks_from-breaks, bad_where, breaks_where}
 use Rattle.script_reader.proofs.Sound.{IsRunnable-whole, kept-whole}
 
 abbrev script_of : List Block → Script

@@ -1,9 +1,9 @@
 -- A script that is read is sound, and nodes can run it.
-use Rattle.std.proofs.Common.{◌≡◌, ℕ, ◌+◌, ◌<◌, ◌≤◌, Bool, true, false, ◌&&◌, ◌||◌, not, cond, eqb, leb, ltb, List, [], ◌∷◌, ◌++◌, map, length, Option, Some, None, refl, sym, ap, subst, ◌∙◌, arith}
+use Rattle.std.proofs.Common.{◌≡◌, ℕ, ◌+◌, ◌<◌, ◌≤◌, Bool, true, false, ◌&&◌, ◌||◌, not, cond, leb, ltb, List, [], ◌∷◌, ◌++◌, map, length, None, refl, sym, ap, ◌∙◌, arith}
 use Rattle.std.specs.Prelude.{nat_eq, sum_by, count_by, fold}
 use Rattle.std.specs.List.{AllByRecursion, list_all, list_any, flat_map, enumerate_from}
 use Rattle.std.proofs.lemmas.Bool.{and_parts, and_from, le-leb, leb-true, ltb-true, lt-ltb}
-use Rattle.std.proofs.lemmas.List.{append-nil, length-append, length-map}
+use Rattle.std.proofs.lemmas.List.{append-nil, length-map}
 use Rattle.std.proofs.lemmas.List.Folds.{list_all-append, fold-map}
 use Rattle.std.proofs.lemmas.List.Sums.{sum_by-cons}
 use Rattle.pico_base.specs.declared.script.Line.{Line}
@@ -15,7 +15,7 @@ use Rattle.machine_model.specs.Built.{is_built_line, is_built_block, IsRunnable}
 use Rattle.script_reader.specs.Form.{forks_in, calls_of}
 use Rattle.script_reader.specs.Fault.{names_of, IsWhole}
 use Rattle.script_reader.proofs.Standing.{kept_line, kept_block}
-use Rattle.script_reader.proofs.Facts.{differ, name_of, IsFine, IsGood, AreForks, IsLater, AreLater, AreGood, Facts, facts}
+use Rattle.script_reader.proofs.Facts.{differ, name_of, IsFine, AreForks, AreLater, Facts, facts}
 
 -- ---- lines
 

@@ -1,5 +1,5 @@
 -- Worked examples, which the checker computes.
-use Rattle.std.specs.Prelude.{◌≡◌, ℕ, ◌++◌, true, false, pos, List, [], ◌∷◌, codes, Some, None, refl}
+use Rattle.std.specs.Prelude.{◌≡◌, ◌++◌, true, false, pos, [], ◌∷◌, codes, Some, None, refl}
 use Rattle.pico_base.specs.declared.call.Call.TheVariants.{Fork, GetPid, MsgGet, MsgSnd, MsgRcv}
 use Rattle.pico_base.specs.declared.script.Block.{Block}
 use Rattle.pico_base.specs.declared.script.Script.{Script}

@@ -1,5 +1,5 @@
 -- The scripts that are built, as a grammar of lines from the first one on.
-use Rattle.std.specs.Prelude.{◌≡◌, ◌≢◌, ◌⊎◌, ℕ, ◌+◌, ◌≤◌, ◌<◌, Bool, true, false, pos, List, [], ◌∷◌, ◌++◌, length, All, IsTrue, Option, Some, None, codes, decimal, fold, position, bytes_eq, nat_eq, sum_by}
+use Rattle.std.specs.Prelude.{◌≡◌, ◌≢◌, ◌⊎◌, ℕ, ◌+◌, ◌≤◌, ◌<◌, true, false, pos, List, [], ◌∷◌, ◌++◌, length, All, IsTrue, Option, Some, None, codes, decimal, fold, position, bytes_eq, nat_eq, sum_by}
 use Rattle.std.specs.List.{flat_map, list_any}
 use Rattle.pico_base.specs.declared.call.Call.{Call}
 use Rattle.pico_base.specs.declared.call.Call.TheVariants.{Fork, GetPid, MsgGet, MsgSnd, MsgRcv}
