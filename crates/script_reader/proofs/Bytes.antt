@@ -5,7 +5,7 @@ use Rattle.std.specs.List.{list_all}
 use Rattle.std.proofs.lemmas.Bool.{and_parts, and_from, or_cases, leb-true, le-leb, eqb-true, eqb-false, not-true}
 use Rattle.std.proofs.lemmas.Bool.Decides.{Decides-by_and}
 use Rattle.script_reader.specs.Form.{IsLowercase, IsDigit, IsNameByte, IsName, IsTextByte}
-use Rattle.script_reader.specs.Reading.{is_lowercase, is_digit, is_name_byte, is_text_byte, is_name}
+use Rattle.script_reader.specs.Parts.{is_lowercase, is_digit, is_name_byte, is_text_byte, is_name}
 use Rattle.script_reader.proofs.Chains.{between_true, between_from}
 
 pub lowercase_decides : (b : ℕ) → Decides (is_lowercase b) (IsLowercase b)

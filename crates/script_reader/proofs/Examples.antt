@@ -1,34 +1,54 @@
--- The script of five lines reads as its value, and texts that are no script have their first fault.
+-- Scripts read as their values, and texts that are no script have their first fault.
 use Rattle.std.proofs.Common.{◌≡◌, ℕ, List, [], Ok, Err, refl}
 use Rattle.std.specs.Prelude.{codes}
 use Rattle.script_reader.specs.declared.fault.ScriptFault.TheVariants.{NotBuilt}
 use Rattle.script_reader.specs.declared.fault.ScriptStop.TheVariants.{At}
 use Rattle.script_reader.specs.Fault.{Reads, IsFirstFault}
-use Rattle.script_reader.specs.Reading.{strip, strip_end, digit_at, second_digit_at, first_digit_at, variable_at, digits_at, number_at, is_name, none_set, set_variable_at, send_at, receive_at, get_at, call_line_at, opening_at, step, block_from, outcome}
-use Rattle.script_reader.specs.Examples.{first_script}
+use Rattle.script_reader.specs.Parts.{strip, strip_end, digit_at, second_digit_at, first_digit_at, variable_at, digits_at, number_at, is_name, opening_at, assigned_at, set_at}
+use Rattle.script_reader.specs.Reading.{no_flags, known_variable_at, send_at, receive_at, plain_at, call_at, call_line_at, begun_at, place_at, known_next, open_step, fork_step, call_step, inside_step, step, blocks_from, blocks_of, outcome}
+use Rattle.script_reader.specs.Examples.{first_script, family}
 use Rattle.script_reader.proofs.Scripts.{outcome_ok, outcome_err}
 
 abbrev five_lines : List ℕ
 five_lines = codes "proc main\nq = msgget private\nmsgsnd $q 1 \"hi\" nowait\nmsgrcv $q 0 16 nowait\nend\n"
 
 five_lines-outcome : outcome five_lines ≡ Ok first_script
-unfolding outcome block_from step opening_at strip is_name none_set call_line_at get_at variable_at first_digit_at digit_at second_digit_at send_at set_variable_at strip_end receive_at number_at digits_at
+unfolding strip strip_end digit_at second_digit_at first_digit_at variable_at digits_at number_at is_name opening_at assigned_at set_at no_flags known_variable_at send_at receive_at plain_at call_at call_line_at begun_at place_at known_next open_step fork_step call_step inside_step step blocks_from blocks_of outcome
 five_lines-outcome = refl
 
 five_lines-reads : Reads five_lines first_script
 five_lines-reads = outcome_ok five_lines first_script five_lines-outcome
 
--- a call that isn't built
-other_call-outcome : outcome (codes "proc main\ngetpid\nend") ≡ Err (At 2 NotBuilt)
-unfolding outcome block_from step opening_at strip is_name none_set call_line_at get_at variable_at first_digit_at digit_at second_digit_at send_at set_variable_at strip_end receive_at number_at digits_at
-other_call-outcome = refl
+-- a child that uses what its fork line sets
+abbrev family_text : List ℕ
+family_text = codes "proc main\nq = msgget private\nc = fork child\np = getpid\nend\nproc child\nmsgrcv $c 0 16 nowait\nend"
 
-other_call-fault : IsFirstFault (codes "proc main\ngetpid\nend") 2 NotBuilt
-other_call-fault = outcome_err (codes "proc main\ngetpid\nend") 2 NotBuilt other_call-outcome
+family-outcome : outcome family_text ≡ Ok family
+unfolding strip strip_end digit_at second_digit_at first_digit_at variable_at digits_at number_at is_name opening_at assigned_at set_at no_flags known_variable_at send_at receive_at plain_at call_at call_line_at begun_at place_at known_next open_step fork_step call_step inside_step step blocks_from blocks_of outcome
+family-outcome = refl
+
+family-reads : Reads family_text family
+family-reads = outcome_ok family_text family family-outcome
+
+-- a fork of no block
+unknown-outcome : outcome (codes "proc main\nfork b\nend") ≡ Err (At 2 NotBuilt)
+unfolding strip strip_end digit_at second_digit_at first_digit_at variable_at digits_at number_at is_name opening_at assigned_at set_at no_flags known_variable_at send_at receive_at plain_at call_at call_line_at begun_at place_at known_next open_step fork_step call_step inside_step step blocks_from blocks_of outcome
+unknown-outcome = refl
+
+unknown-fault : IsFirstFault (codes "proc main\nfork b\nend") 2 NotBuilt
+unknown-fault = outcome_err (codes "proc main\nfork b\nend") 2 NotBuilt unknown-outcome
+
+-- a block that nothing forks
+unforked-outcome : outcome (codes "proc a\nend\nproc b\nend") ≡ Err (At 3 NotBuilt)
+unfolding strip strip_end digit_at second_digit_at first_digit_at variable_at digits_at number_at is_name opening_at assigned_at set_at no_flags known_variable_at send_at receive_at plain_at call_at call_line_at begun_at place_at known_next open_step fork_step call_step inside_step step blocks_from blocks_of outcome
+unforked-outcome = refl
+
+unforked-fault : IsFirstFault (codes "proc a\nend\nproc b\nend") 3 NotBuilt
+unforked-fault = outcome_err (codes "proc a\nend\nproc b\nend") 3 NotBuilt unforked-outcome
 
 -- a text without lines
 nothing-outcome : outcome [] ≡ Err (At 1 NotBuilt)
-unfolding outcome block_from
+unfolding outcome blocks_of blocks_from
 nothing-outcome = refl
 
 nothing-fault : IsFirstFault [] 1 NotBuilt
@@ -36,7 +56,7 @@ nothing-fault = outcome_err [] 1 NotBuilt nothing-outcome
 
 -- a block without its end
 open-outcome : outcome (codes "proc main\n") ≡ Err (At 2 NotBuilt)
-unfolding outcome block_from step opening_at strip is_name none_set call_line_at get_at variable_at first_digit_at digit_at second_digit_at send_at set_variable_at strip_end receive_at number_at digits_at
+unfolding strip strip_end digit_at second_digit_at first_digit_at variable_at digits_at number_at is_name opening_at assigned_at set_at no_flags known_variable_at send_at receive_at plain_at call_at call_line_at begun_at place_at known_next open_step fork_step call_step inside_step step blocks_from blocks_of outcome
 open-outcome = refl
 
 open-fault : IsFirstFault (codes "proc main\n") 2 NotBuilt

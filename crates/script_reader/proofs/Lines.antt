@@ -1,14 +1,13 @@
 -- Lines of bytes: where the first one ends, and what text they are of.
-use Rattle.std.proofs.Common.{◌≡◌, ◌⊎◌, inl, inr, ℕ, ◌+◌, ◌<◌, ◌≤◌, Bool, true, false, not, cond, eqb, ltb, List, [], ◌∷◌, ◌++◌, length, get_or, take, drop, Some, None, refl, sym, ap, subst, ◌∙◌, append_assoc, arith}
+use Rattle.std.proofs.Common.{◌≡◌, ℕ, ◌+◌, ◌<◌, ◌≤◌, Bool, true, false, not, cond, eqb, ltb, List, [], ◌∷◌, ◌++◌, length, get_or, take, drop, Some, None, refl, sym, ap, ◌∙◌, arith}
 use Rattle.std.specs.Prelude.{position}
-use Rattle.std.specs.List.{AllByRecursion, onto_first, position_or_len}
+use Rattle.std.specs.List.{AllByRecursion, position_or_len}
 use Rattle.std.proofs.lemmas.Bool.{eqb-true, eqb-false, ltb-false, not-true}
 use Rattle.std.proofs.lemmas.List.{take-append-drop, drop_more, get_or-take, length-take}
 use Rattle.std.proofs.lemmas.List.Elements.{recursion_from_All, All-from_get_or}
 use Rattle.std.proofs.lemmas.List.Quantifiers.{position-Some}
 use Rattle.std.proofs.lemmas.List.Sums.{prefix_len_passes}
-use Rattle.script_reader.specs.Spelling.{text_of}
-use Rattle.script_reader.specs.Fault.{lines_of, IsText}
+use Rattle.script_reader.specs.Fault.{lines_of}
 
 -- a list without line feeds
 abbrev pub Plain : List ℕ → Type 0
@@ -50,44 +49,3 @@ some_from_not_empty n e = grind (arith, eqb-false)
 pub lines_of-none : (xs : List ℕ) → position is_feed xs ≡ None → 0 < length xs → lines_of xs ≡ xs ∷ []
 lines_of-none [] e some = absurd (omega arith)
 lines_of-none (x ∷ xs) e some = lines_of-plain x xs (Plain-none (x ∷ xs) e)
-
--- ---- lines and their text
-
-pub lines_of-text : (lines : List (List ℕ)) (rest : List ℕ) → AllByRecursion Plain lines → lines_of (text_of lines ++ rest) ≡ lines ++ lines_of rest
-lines_of-text [] rest h = refl
-lines_of-text (line ∷ lines) rest h =
-    let regrouped : text_of (line ∷ lines) ++ rest ≡ line ++ 10 ∷ (text_of lines ++ rest) = append_assoc (line ++ 10 ∷ []) (text_of lines) rest ∙ append_assoc line (10 ∷ []) (text_of lines ++ rest) in
-    ap lines_of regrouped ∙ lines_of-feed line (text_of lines ++ rest) h.0 ∙ ap (λ ls. line ∷ ls) (lines_of-text lines rest h.1)
-
--- the text of a text's lines is the text, or has one more line feed at the end
-abbrev Ends : List ℕ → List ℕ → Type 0
-Ends text xs = (text ≡ xs) ⊎ (text ≡ xs ++ 10 ∷ [])
-
-Ends-more : (b : ℕ) (text xs : List ℕ) → Ends text xs → Ends (b ∷ text) (b ∷ xs)
-Ends-more b text xs (inl e) = inl (ap (λ ys. b ∷ ys) e)
-Ends-more b text xs (inr e) = inr (ap (λ ys. b ∷ ys) e)
-
--- no lines, no text
-none_left : (xs : List ℕ) → Ends [] xs → xs ≡ []
-none_left [] h = refl
-none_left (x ∷ xs) (inl e) = absurd cc
-none_left (x ∷ xs) (inr e) = absurd cc
-
-Ends-onto : (b : ℕ) (lines : List (List ℕ)) (xs : List ℕ) → Ends (text_of lines) xs → Ends (text_of (onto_first b lines)) (b ∷ xs)
-Ends-onto b [] xs h = inr (ap (λ ys. b ∷ (ys ++ 10 ∷ [])) (sym (none_left xs h)))
-Ends-onto b (line ∷ lines) xs h = Ends-more b (text_of (line ∷ lines)) xs h
-
-Ends-step : (t : Bool) (b : ℕ) (xs : List ℕ) → eqb b 10 ≡ t → Ends (text_of (lines_of xs)) xs → Ends (text_of (cond t ([] ∷ lines_of xs) (onto_first b (lines_of xs)))) (b ∷ xs)
-Ends-step true b xs e h = subst (λ (k : ℕ). Ends (10 ∷ text_of (lines_of xs)) (k ∷ xs)) (sym (eqb-true b 10 e)) (Ends-more 10 (text_of (lines_of xs)) xs h)
-Ends-step false b xs e h = Ends-onto b (lines_of xs) xs h
-
-pub text_of-lines : (xs : List ℕ) → Ends (text_of (lines_of xs)) xs
-text_of-lines [] = inl refl
-text_of-lines (b ∷ xs) = Ends-step (eqb b 10) b xs refl (text_of-lines xs)
-
-pub IsText-lines : (xs : List ℕ) (lines : List (List ℕ)) → lines_of xs ≡ lines → IsText (text_of lines) xs
-IsText-lines xs lines e = subst (λ ls. IsText (text_of ls) xs) e (turned (text_of-lines xs))
-  where
-    turned : Ends (text_of (lines_of xs)) xs → IsText (text_of (lines_of xs)) xs
-    turned (inl h) = inl (sym h)
-    turned (inr h) = inr (sym h)

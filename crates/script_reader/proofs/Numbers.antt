@@ -7,7 +7,7 @@ use Rattle.std.specs.Str.Parse.{digits_value, digits_value_after}
 use Rattle.std.proofs.lemmas.Bool.{and_parts, and_from, leb-true, le-leb, eqb-false, ne_eqb}
 use Rattle.std.proofs.lemmas.Fmt.{decimal_is_IsNumeral, decimal-digits_value, decimal_digit, first_decimal}
 use Rattle.std.proofs.lemmas.Str.Parse.{IsNumeralModel, numerals_by_value, tells_all_ascii_digits}
-use Rattle.script_reader.specs.Reading.{is_digit, digits_at, number_at}
+use Rattle.script_reader.specs.Parts.{is_digit, digits_at, number_at}
 use Rattle.script_reader.proofs.Chains.{chosen, not_chosen, between_true}
 
 abbrev AreDigits : List ℕ → Type 0

@@ -3,7 +3,7 @@ use Rattle.std.proofs.Common.{◌≡◌, inl, inr, ℕ, ◌+◌, ◌-◌, ◌*�
 use Rattle.std.proofs.lemmas.Bool.{ne_eqb, lt-ltb, le-ltb, cases_lt, cases_eq}
 use Rattle.std.proofs.lemmas.Option.{some_pair_parts}
 use Rattle.script_reader.specs.Spelling.{digits_of_variable, variable_text}
-use Rattle.script_reader.specs.Reading.{is_lowercase, is_digit, digit_at, second_digit_at, first_digit_at, variable_at}
+use Rattle.script_reader.specs.Parts.{is_lowercase, is_digit, digit_at, second_digit_at, first_digit_at, variable_at}
 use Rattle.script_reader.proofs.Chains.{chosen, between_true, between_from}
 
 -- ---- a digit

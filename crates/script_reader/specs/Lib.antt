@@ -1,4 +1,5 @@
 pub mod Spelling
+pub mod Parts
 pub mod Form
 pub mod Fault
 pub mod Reading

@@ -1,187 +1,230 @@
 -- Reading from left to right, as the code does. What the answers mean is said by `Fault`.
-use Rattle.std.specs.Prelude.{◌≡◌, ℕ, ◌+◌, ◌-◌, ◌*◌, Bool, true, false, ◌&&◌, ◌||◌, not, ◌==◌, nat_lt, nat_le, List, [], ◌∷◌, ◌++◌, length, take, drop, slice_index_or, slice_set, replicate, codes, bytes_eq, count_by, if◌then◌else◌, Option, Some, None, option_map, option_and_then, Result, Ok, Err}
+use Rattle.std.specs.Prelude.{◌≡◌, ℕ, ◌+◌, pos, Bool, true, false, ◌&&◌, not, ◌==◌, nat_lt, List, [], ◌∷◌, ◌++◌, length, take, slice_index_or, slice_set, replicate, codes, bytes_eq, position, count_by, if◌then◌else◌, Option, Some, None, option_map, Result, Ok, Err}
 use Rattle.std.specs.List.{list_all}
 use Rattle.std.specs.Option.{option_map_or}
+use Rattle.pico_base.specs.declared.call.Call.{Call}
+use Rattle.pico_base.specs.declared.call.Call.TheVariants.{GetPid, MsgGet, MsgSnd, MsgRcv}
 use Rattle.pico_base.specs.declared.script.Line.{Line}
 use Rattle.pico_base.specs.declared.script.Block.{Block}
 use Rattle.pico_base.specs.declared.script.Script.{Script}
 use Rattle.script_reader.specs.declared.fault.ScriptFault.TheVariants.{ScriptTooLong, NotBuilt}
 use Rattle.script_reader.specs.declared.fault.ScriptStop.{ScriptStop}
 use Rattle.script_reader.specs.declared.fault.ScriptStop.TheVariants.{Memory, At}
+use Rattle.script_reader.specs.declared.state.Begun.{Begun}
+use Rattle.script_reader.specs.declared.state.Read.{Read}
+use Rattle.script_reader.specs.declared.state.Part.{Part}
+use Rattle.script_reader.specs.declared.state.State.{State}
+use Rattle.script_reader.specs.declared.state.State.TheVariants.{Between, Inside}
 use Rattle.script_reader.specs.Spelling.{end_text}
-use Rattle.script_reader.specs.Form.{get_line, send_line, receive_line}
-use Rattle.script_reader.specs.Fault.{lines_of}
+use Rattle.script_reader.specs.Form.{fork_line}
+use Rattle.script_reader.specs.Fault.{lines_of, names_of}
+use Rattle.script_reader.specs.Parts.{◌>>=◌, strip, strip_end, is_text_byte, digit_at, variable_at, number_at, opening_at, set_at}
 
-infixl 10 ◌>>=◌
-abbrev pub ◌>>=◌ : {A B : Type 0} → Option A → (A → Option B) → Option B
-o >>= f = option_and_then f o
-
--- ---- parts of a line
-
--- what follows the prefix, or stands before the suffix
-unfoldable pub strip : List ℕ → List ℕ → Option (List ℕ)
-strip prefix bytes =
-    if bytes_eq (take (length prefix) bytes) prefix then Some (drop (length prefix) bytes) else None
-
-unfoldable pub strip_end : List ℕ → List ℕ → Option (List ℕ)
-strip_end suffix bytes =
-    if bytes_eq (drop (length bytes - length suffix) bytes) suffix
-    then Some (take (length bytes - length suffix) bytes)
-    else None
-
-abbrev pub is_lowercase : ℕ → Bool
-is_lowercase b = nat_le 97 b && nat_le b 122
-
-abbrev pub is_digit : ℕ → Bool
-is_digit b = nat_le 48 b && nat_le b 57
-
-abbrev pub is_name_byte : ℕ → Bool
-is_name_byte b = is_lowercase b || (is_digit b || b == 95)
-
-abbrev pub is_text_byte : ℕ → Bool
-is_text_byte b = nat_le 32 b && (nat_le b 126 && (not (b == 34) && not (b == 92)))
-
--- a digit at the front
-unfoldable pub digit_at : List ℕ → Option (ℕ × List ℕ)
-digit_at [] = None
-digit_at (b ∷ rest) = if is_digit b then Some (b - 48, rest) else None
-
--- the digits of a variable behind its letter, of which there are at most two
-unfoldable pub second_digit_at : ℕ → Option (ℕ × List ℕ) → List ℕ → ℕ × List ℕ
-second_digit_at tens None rest = (1 + tens, rest)
-second_digit_at tens (Some ones) rest = (11 + (10 * tens + ones.0), ones.1)
-
-unfoldable pub first_digit_at : Option (ℕ × List ℕ) → List ℕ → ℕ × List ℕ
-first_digit_at None rest = (0, rest)
-first_digit_at (Some tens) rest = second_digit_at tens.0 (digit_at tens.1) tens.1
-
-unfoldable pub variable_at : List ℕ → Option (ℕ × List ℕ)
-variable_at [] = None
-variable_at (b ∷ rest) =
-    let digits = first_digit_at (digit_at rest) rest in
-    if is_lowercase b then Some (111 * (b - 97) + digits.0, digits.1) else None
-
--- a number of at most 65,535, behind digits of this value
-unfoldable pub digits_at : ℕ → List ℕ → Option ℕ
-digits_at value [] = Some value
-digits_at value (b ∷ rest) =
-    if is_digit b && nat_le (value * 10 + (b - 48)) 65535 then digits_at (value * 10 + (b - 48)) rest else None
-
--- a whole number without leading zeros
-unfoldable pub number_at : List ℕ → Option ℕ
-number_at [] = None
-number_at (b ∷ []) = digits_at 0 (b ∷ [])
-number_at (b ∷ c ∷ rest) = if b == 48 then None else digits_at 0 (b ∷ c ∷ rest)
-
--- a block's name, the whole of what follows `proc `
-unfoldable pub is_name : List ℕ → Bool
-is_name [] = false
-is_name (first ∷ others) = is_lowercase first && (nat_le (length others) 31 && list_all is_name_byte others)
-
--- ---- lines. Which variables are set is a table of flags
+-- ---- call lines. Which variables are known is a table of flags
 
 abbrev pub variables : ℕ
 variables = 2886
 
-unfoldable pub none_set : List Bool
-none_set = replicate variables false
+unfoldable pub no_flags : ℕ → List Bool
+no_flags count = replicate count false
+
+abbrev pub is_at : List Bool → ℕ → Bool
+is_at flags index = slice_index_or flags index false
 
 abbrev pub set_after : List Bool → Option ℕ → List Bool
 set_after flags None = flags
 set_after flags (Some variable) = slice_set flags variable true
 
--- a variable that is set
-unfoldable pub set_variable_at : List Bool → List ℕ → Option (ℕ × List ℕ)
-set_variable_at flags bytes = do
+-- a variable that is known
+unfoldable pub known_variable_at : List Bool → List ℕ → Option (ℕ × List ℕ)
+known_variable_at flags bytes = do
   v ← variable_at bytes
-  if slice_index_or flags v.0 false then Some v else None
+  if is_at flags v.0 then Some v else None
 
--- the variable, the type and the text behind `msgsnd $`
+-- a call with the variable that it takes its identifier from
+abbrev pub FromCall : Type 0
+FromCall = Option ℕ × Call
+
+-- the send behind `msgsnd $`
 unfoldable pub send_at : List Bool → List ℕ → Option (ℕ × ℕ × List ℕ)
 send_at flags bytes = do
-  variable ← set_variable_at flags bytes
+  variable ← known_variable_at flags bytes
   behind ← strip (codes " ") variable.1
   class ← digit_at behind
   quoted ← strip (codes " \"") class.1
   text ← strip_end (codes "\" nowait") quoted
   if not (class.0 == 0) && list_all is_text_byte text then Some (variable.0, class.0, text) else None
 
--- the variable and the size behind `msgrcv $`
+-- the receive behind `msgrcv $`
 unfoldable pub receive_at : List Bool → List ℕ → Option (ℕ × ℕ)
 receive_at flags bytes = do
-  variable ← set_variable_at flags bytes
+  variable ← known_variable_at flags bytes
   behind ← strip (codes " 0 ") variable.1
   digits ← strip_end (codes " nowait") behind
   size ← number_at digits
   Some (variable.0, size)
 
--- the variable before ` = msgget private`
-unfoldable pub get_at : List ℕ → Option ℕ
-get_at bytes = do
-  variable ← variable_at bytes
-  if bytes_eq variable.1 (codes " = msgget private") then Some variable.0 else None
+abbrev pub send_of : Option (ℕ × ℕ × List ℕ) → Option FromCall
+send_of parts = option_map (λ (p : ℕ × ℕ × List ℕ). (Some p.0, MsgSnd 0 (pos p.1) p.2 true)) parts
 
-abbrev pub send_of : Option (ℕ × ℕ × List ℕ) → Option Line
-send_of parts = option_map (λ (p : ℕ × ℕ × List ℕ). send_line p.0 p.1 p.2) parts
+abbrev pub receive_of : Option (ℕ × ℕ) → Option FromCall
+receive_of parts = option_map (λ (p : ℕ × ℕ). (Some p.0, MsgRcv 0 (pos 0) p.1 false true)) parts
 
-abbrev pub receive_of : Option (ℕ × ℕ) → Option Line
-receive_of parts = option_map (λ (p : ℕ × ℕ). receive_line p.0 p.1) parts
+-- the calls without arguments
+unfoldable pub plain_at : Bool → List ℕ → Option FromCall
+plain_at is_first bytes =
+    if bytes_eq bytes (codes "getpid")
+    then Some (None, GetPid)
+    else if is_first && bytes_eq bytes (codes "msgget private") then Some (None, MsgGet None false false) else None
 
--- a line that begins neither with `msgsnd $` nor with `msgrcv $`, with the second, or with the first of them
-abbrev pub form_at : List Bool → Option (List ℕ) → Option (List ℕ) → List ℕ → Option Line
-form_at flags (Some sent) received bytes = send_of (send_at flags sent)
-form_at flags None (Some received) bytes = receive_of (receive_at flags received)
-form_at flags None None bytes = option_map get_line (get_at bytes)
+-- a call that begins neither with `msgsnd $` nor with `msgrcv $`, with the second, or with the first of them
+abbrev pub form_at : Bool → List Bool → Option (List ℕ) → Option (List ℕ) → List ℕ → Option FromCall
+form_at is_first flags (Some sent) received bytes = send_of (send_at flags sent)
+form_at is_first flags None (Some received) bytes = receive_of (receive_at flags received)
+form_at is_first flags None None bytes = plain_at is_first bytes
 
-unfoldable pub call_line_at : List Bool → List ℕ → Option Line
-call_line_at flags bytes =
-    if nat_lt 4096 (length bytes)
-    then None
-    else form_at flags (strip (codes "msgsnd $") bytes) (strip (codes "msgrcv $") bytes) bytes
+-- a call but fork, in the first block or a later one
+unfoldable pub call_at : Bool → List Bool → List ℕ → Option FromCall
+call_at is_first flags bytes = form_at is_first flags (strip (codes "msgsnd $") bytes) (strip (codes "msgrcv $") bytes) bytes
 
-unfoldable pub opening_at : List ℕ → Option (List ℕ)
-opening_at bytes = do
-  name ← strip (codes "proc ") bytes
-  if is_name name then Some name else None
+-- `VAR =` stands before a get, may stand before `getpid`, and stands before no other call
+abbrev pub may_set : Call → Option ℕ → Bool
+may_set GetPid set = true
+may_set (MsgGet key create excl) None = false
+may_set (MsgGet key create excl) (Some v) = true
+may_set call None = true
+may_set call (Some v) = false
+
+abbrev pub line_with : Option ℕ → FromCall → Line
+line_with set call = record { set = set; tries = 1; from = call.0; call = call.1 }
+
+abbrev pub line_of : Option ℕ → FromCall → Option Line
+line_of set call = if may_set call.1 set then Some (line_with set call) else None
+
+-- a call line but a fork, whose call is these bytes
+unfoldable pub call_line_at : Bool → List Bool → Option ℕ → List ℕ → Option Line
+call_line_at is_first flags set bytes = call_at is_first flags bytes >>= line_of set
+
+-- ---- forks
+
+-- the flags that the block at this place begins with
+unfoldable pub begun_at : List Begun → ℕ → Option (List Bool)
+begun_at [] place = None
+begun_at (b ∷ begun) place = if b.place == place then Some b.known else begun_at begun place
+
+abbrev pub has_blocks : List Block → Bool
+has_blocks [] = false
+has_blocks (block ∷ blocks) = true
+
+-- the place of the block that a fork of this name forks
+unfoldable pub place_at : List (List ℕ) → Read → List ℕ → Option ℕ
+place_at names read name = do
+  place ← position (bytes_eq name) names
+  if nat_lt 0 place && (not (has_blocks read.blocks) && not (is_at read.forked place)) then Some place else None
+
+-- the number of the block at a place. No block has a number above 32; where a fork names one, 32 stands for it
+abbrev pub number_of : ℕ → ℕ
+number_of place = if nat_lt place 32 then place + 1 else 32
+
+abbrev pub with_begun : List Begun → ℕ → List Bool → List Begun
+with_begun begun place known =
+    if nat_lt place 32 then begun ++ record { place = place; known = known } ∷ [] else begun
+
+-- behind a further line of a block
+abbrev pub with_line : Part → Line → Part
+with_line part line =
+    record { name = part.name; known = set_after part.known line.set; lines = part.lines ++ line ∷ [] }
+
+abbrev pub one_call_more : Read → Read
+one_call_more read = record read { calls = read.calls + 1 }
+
+abbrev pub forking : Read → ℕ → List Bool → Read
+forking read place known =
+    record {
+      blocks = read.blocks;
+      calls = read.calls + 1;
+      forked = slice_set read.forked place true;
+      begun = with_begun read.begun place known;
+    }
 
 -- ---- scripts
 
--- before the first line; in a block, of which these lines are read; and behind its end
-pub data State : Type 0 where
-  Start : State
-  Inside : List ℕ → List Bool → List Line → State
-  Whole : Block → State
+-- the flags that the next block begins with, where it may begin
+unfoldable pub known_next : Read → Option (List Bool)
+known_next read = if has_blocks read.blocks then begun_at read.begun (length read.blocks) else Some (no_flags variables)
 
-abbrev pub inside : List ℕ → List Bool → List Line → Line → State
-inside name flags lines line = Inside name (set_after flags line.set) (lines ++ line ∷ [])
+-- the place of a name, which is that of the next block
+abbrev pub is_next : List (List ℕ) → Read → List ℕ → Bool
+is_next names read name = nat_lt (length read.blocks) 32 && option_map_or (λ place. place == length read.blocks) (position (bytes_eq name) names) false
 
--- a further line in its place
-unfoldable pub step : State → List ℕ → Option State
-step Start bytes = option_map (λ name. Inside name none_set []) (opening_at bytes)
-step (Inside name flags lines) bytes =
-    if nat_lt (length lines) 20000
+unfoldable pub open_step : List (List ℕ) → Read → List ℕ → Option State
+open_step names read bytes = do
+  name ← opening_at bytes
+  known ← known_next read
+  if is_next names read name then Some (Inside read (record { name = name; known = known; lines = [] })) else None
+
+unfoldable pub fork_step : List (List ℕ) → Read → Part → Option ℕ → List ℕ → Option State
+fork_step names read part set name = do
+  place ← place_at names read name
+  Some (Inside (forking read place (set_after part.known set)) (with_line part (fork_line set (number_of place))))
+
+unfoldable pub call_step : Read → Part → Option ℕ → List ℕ → Option State
+call_step read part set bytes = do
+  line ← call_line_at (not (has_blocks read.blocks)) part.known set bytes
+  Some (Inside (one_call_more read) (with_line part line))
+
+abbrev pub ended : Read → Part → State
+ended read part =
+    Between (record {
+      blocks = read.blocks ++ record { name = part.name; lines = part.lines } ∷ [];
+      calls = read.calls + 1;
+      forked = read.forked;
+      begun = read.begun;
+    })
+
+-- a call line, where a fork is told by its first word
+abbrev pub line_step : List (List ℕ) → Read → Part → Option ℕ → List ℕ → Option (List ℕ) → Option State
+line_step names read part set bytes (Some name) = fork_step names read part set name
+line_step names read part set bytes None = call_step read part set bytes
+
+unfoldable pub inside_step : List (List ℕ) → Read → Part → List ℕ → Option State
+inside_step names read part bytes =
+    if nat_lt read.calls 20000
     then
     if bytes_eq bytes end_text
-    then Some (Whole (record { name = name; lines = lines }))
-    else option_map (inside name flags lines) (call_line_at flags bytes)
+    then Some (ended read part)
+    else
+    if nat_lt 4096 (length bytes)
+    then None
+    else line_step names read part (set_at bytes).0 (set_at bytes).1 (strip (codes "fork ") (set_at bytes).1)
     else None
-step (Whole block) bytes = None
 
--- where the input ends
-abbrev pub ending : State → ℕ → Result Block ℕ
-ending Start number = Err number
-ending (Inside name flags lines) number = Err number
-ending (Whole block) number = Ok block
+-- a further line in its place
+unfoldable pub step : List (List ℕ) → State → List ℕ → Option State
+step names (Between read) bytes = open_step names read bytes
+step names (Inside read part) bytes = inside_step names read part bytes
 
--- the block of these lines, the first of which has this number; or the number of the first that isn't built
-unfoldable pub block_from : State → ℕ → List (List ℕ) → Result Block ℕ
-block_from state number [] = ending state number
-block_from state number (line ∷ lines) =
-    option_map_or (λ next. block_from next (number + 1) lines) (step state line) (Err number)
+-- before the first line
+abbrev pub start : List (List ℕ) → State
+start names = Between (record { blocks = []; calls = 0; forked = no_flags (length names); begun = [] })
 
--- the script of that block, or the fault
-abbrev pub script_from : Result Block ℕ → Result Script ScriptStop
-script_from (Ok block) = Ok (record { blocks = block ∷ [] })
+-- where the input ends, the blocks, or the number of the line behind the last
+abbrev pub ending : State → ℕ → Result (List Block) ℕ
+ending (Between read) number = if has_blocks read.blocks then Ok read.blocks else Err number
+ending (Inside read part) number = Err number
+
+-- the blocks of these lines, the first of which has this number; or the number of the first that isn't built
+unfoldable pub blocks_from : List (List ℕ) → State → ℕ → List (List ℕ) → Result (List Block) ℕ
+blocks_from names state number [] = ending state number
+blocks_from names state number (line ∷ lines) =
+    option_map_or (λ next. blocks_from names next (number + 1) lines) (step names state line) (Err number)
+
+unfoldable pub blocks_of : List (List ℕ) → Result (List Block) ℕ
+blocks_of lines = blocks_from (names_of lines) (start (names_of lines)) 1 lines
+
+-- the script of those blocks, or the fault
+abbrev pub script_from : Result (List Block) ℕ → Result Script ScriptStop
+script_from (Ok blocks) = Ok (record { blocks = blocks })
 script_from (Err line) = Err (At line NotBuilt)
 
 -- what the bytes give, where memory lasts
@@ -189,16 +232,16 @@ unfoldable pub outcome : List ℕ → Result Script ScriptStop
 outcome bytes =
     if nat_lt 1048576 (length bytes)
     then Err (At (1 + count_by (λ b. b == 10) (take 1048576 bytes)) ScriptTooLong)
-    else script_from (block_from Start 1 (lines_of bytes))
+    else script_from (blocks_of (lines_of bytes))
 
 -- What a function returned is what reading gives, unless memory ran out.
-abbrev pub Fails : ScriptStop → Result Block ℕ → Type 0
+abbrev pub Fails : ScriptStop → Result (List Block) ℕ → Type 0
 Fails Memory read = Unit {0}
 Fails (At line ScriptTooLong) read = ⊥
 Fails (At line NotBuilt) read = read ≡ Err line
 
-abbrev pub Gives : Result Block ScriptStop → Result Block ℕ → Type 0
-Gives (Ok block) read = read ≡ Ok block
+abbrev pub Gives : Result (List Block) ScriptStop → Result (List Block) ℕ → Type 0
+Gives (Ok blocks) read = read ≡ Ok blocks
 Gives (Err stop) read = Fails stop read
 
 abbrev pub Stops : ScriptStop → Result Script ScriptStop → Type 0

@@ -6,6 +6,9 @@ mod calls;
 mod fault;
 mod parts;
 mod script;
+mod state;
+mod steps;
+mod tables;
 
 pub use calls::call_with;
 pub use fault::{ScriptFault, ScriptStop};

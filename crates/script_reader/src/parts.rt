@@ -2,7 +2,9 @@
 
 ghost use Rattle.std.specs.Prelude.{◌≡◌, ◌≤◌, IfSome, option_map, option_copied};
 ghost use Rattle.std.specs.List.{list_all};
-ghost use Rattle.script_reader.specs.Reading.{strip, strip_end, is_name_byte, is_text_byte, digit_at, first_digit_at, second_digit_at, variable_at, digits_at, number_at, is_name};
+ghost use Rattle.script_reader.specs.Parts.{strip, strip_end, is_name_byte, is_text_byte, digit_at, first_digit_at, second_digit_at, variable_at, digits_at, number_at, is_name, assigned_at, set_at};
+
+use pico_base::Var;
 
 /// The greatest number that a line has.
 const MAX_NUMBER: u32 = 65_535;
@@ -22,7 +24,7 @@ pub(crate) fn strip_back<'a>(bytes: &'a [u8], suffix: &[u8]) -> Option<&'a [u8]>
 }
 
 /// A digit's value.
-#[tactic(auto, unfolding(crate::specs::Reading::digit_at))]
+#[tactic(auto, unfolding(crate::specs::Parts::digit_at))]
 pub(crate) fn digit(bytes: &[u8]) -> Option<(u8, &[u8])>
     ensures value { option_map (λ x. (x.0, x.1.now)) result ≡ digit_at bytes.now }
     ensures small { IfSome result (λ x. x.0 ≤ 9) }
@@ -34,7 +36,7 @@ pub(crate) fn digit(bytes: &[u8]) -> Option<(u8, &[u8])>
 }
 
 /// What a variable's digits behind the first one, of this value, add to its letter's index.
-#[tactic(auto, unfolding(crate::specs::Reading::second_digit_at))]
+#[tactic(auto, unfolding(crate::specs::Parts::second_digit_at))]
 fn second_digit(tens: u8, rest: &[u8]) -> (u16, &[u8])
     requires { tens ≤ 9 }
     ensures value { (result.0, result.1.now) ≡ second_digit_at tens (digit_at rest.now) rest.now }
@@ -47,7 +49,7 @@ fn second_digit(tens: u8, rest: &[u8]) -> (u16, &[u8])
 }
 
 /// What a variable's digits add to its letter's index.
-#[tactic(auto, unfolding(crate::specs::Reading::first_digit_at))]
+#[tactic(auto, unfolding(crate::specs::Parts::first_digit_at))]
 fn first_digit(rest: &[u8]) -> (u16, &[u8])
     ensures value { (result.0, result.1.now) ≡ first_digit_at (digit_at rest.now) rest.now }
     ensures small { result.0 ≤ 110 }
@@ -59,7 +61,7 @@ fn first_digit(rest: &[u8]) -> (u16, &[u8])
 }
 
 /// A variable's index.
-#[tactic(auto, unfolding(crate::specs::Reading::variable_at))]
+#[tactic(auto, unfolding(crate::specs::Parts::variable_at))]
 pub(crate) fn variable(bytes: &[u8]) -> Option<(u16, &[u8])>
     ensures value { option_map (λ x. (x.0, x.1.now)) result ≡ variable_at bytes.now }
     ensures small { IfSome result (λ x. x.0 ≤ 2885) }
@@ -74,7 +76,7 @@ pub(crate) fn variable(bytes: &[u8]) -> Option<(u16, &[u8])>
 }
 
 /// The value of these digits.
-#[tactic(auto, unfolding(crate::specs::Reading::digits_at))]
+#[tactic(auto, unfolding(crate::specs::Parts::digits_at))]
 fn digits(word: &[u8]) -> Option<u32>
     ensures value { result ≡ digits_at 0 word.now }
     ensures small { IfSome result (λ n. n ≤ 65535) }
@@ -93,7 +95,7 @@ fn digits(word: &[u8]) -> Option<u32>
 }
 
 /// The value of a whole word, which is a number without leading zeros.
-#[tactic(auto, unfolding(crate::specs::Reading::number_at))]
+#[tactic(auto, unfolding(crate::specs::Parts::number_at))]
 pub(crate) fn number(word: &[u8]) -> Option<u32>
     ensures { result ≡ number_at word.now }
 {
@@ -117,7 +119,7 @@ fn are_name_parts(bytes: &[u8]) -> bool
 }
 
 /// Whether the word can be a block's name.
-#[tactic(auto, unfolding(crate::specs::Reading::is_name))]
+#[tactic(auto, unfolding(crate::specs::Parts::is_name))]
 pub(crate) fn is_block_name(word: &[u8]) -> bool
     ensures { result ≡ is_name word.now }
 {
@@ -140,4 +142,25 @@ pub(crate) fn is_text(bytes: &[u8]) -> bool
     ensures { result ≡ list_all is_text_byte bytes.now }
 {
     bytes.iter().all(|b| is_text_part(*b))
+}
+
+/// The variable in front of ` = `.
+#[tactic(auto, unfolding(crate::specs::Parts::assigned_at))]
+fn assigned(bytes: &[u8]) -> Option<(u16, &[u8])>
+    ensures value { option_map (λ x. (x.0, x.1.now)) result ≡ assigned_at bytes.now }
+    ensures small { IfSome result (λ x. x.0 ≤ 2885) }
+{
+    let (index, rest) = variable(bytes)?;
+    Some((index, strip_front(rest, b" = ")?))
+}
+
+/// The variable that a line sets, with the line's call.
+#[tactic(auto, unfolding(crate::specs::Parts::set_at))]
+pub(crate) fn set_front(bytes: &[u8]) -> (Option<Var>, &[u8])
+    ensures { (result.0, result.1.now) ≡ set_at bytes.now }
+{
+    match assigned(bytes) {
+        None => (None, bytes),
+        Some((index, rest)) => (Some(Var(index)), rest),
+    }
 }

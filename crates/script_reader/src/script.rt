@@ -4,21 +4,20 @@ ghost use Rattle.std.specs.Prelude.{◌≡◌, ◌⊎◌, ◌+◌, ◌<◌, ◌�
 ghost use Rattle.pico_base.specs.declared.script.Script.{Script as ScriptValue};
 ghost use Rattle.script_reader.specs.declared.fault.ScriptFault.{ScriptFault as FaultValue};
 ghost use Rattle.kernel_model.specs.Script.{IsSound};
-ghost use Rattle.script_reader.specs.Form.{IsBuilt};
-ghost use Rattle.script_reader.specs.Fault.{lines_of, Reads, IsFirstFault, HasFault};
-ghost use Rattle.script_reader.specs.Reading.State.{Start, Inside, Whole};
-ghost use Rattle.script_reader.specs.Reading.{none_set, block_from, script_from, outcome, Gives, GivesScript};
+ghost use Rattle.machine_model.specs.Built.{IsRunnable};
+ghost use Rattle.script_reader.specs.Fault.{lines_of, names_of, Reads, IsFirstFault, HasFault};
+ghost use Rattle.script_reader.specs.Reading.{start, ending as ending_of, blocks_from, blocks_of, script_from, outcome, Gives, GivesScript};
 
-use crate::call_line::{Flags, call_line, opening};
+use crate::call_line::opening;
 use crate::fault::{ScriptFault, ScriptStop};
-use pico_base::{Block, Bytes, Lines, Script, Sequence};
+use crate::state::{Read, State};
+use crate::steps::{has_blocks, step};
+use crate::tables::{Flags, Names};
+use pico_base::{Blocks, Memory, Script, Sequence};
 use std::alloc::Global;
 
 /// The longest script.
 const MAX_BYTES: usize = 1_048_576;
-
-/// The most calls of a script. The `exit 0` that a block's end stands for is one.
-const MAX_CALLS: usize = 20_000;
 
 /// The line isn't built.
 fn not_built(line: u32) -> ScriptStop
@@ -49,56 +48,59 @@ fn next_line(bytes: &[u8]) -> Option<(&[u8], &[u8])>
     }
 }
 
-/// The block that ends here, where nothing follows it.
-#[tactic(auto, unfolding(crate::specs::Reading::block_from, crate::specs::Reading::step))]
-fn whole_block(name: Bytes, lines: Lines, rest: &[u8], number: u32) -> Result<Block, ScriptStop>
-    ensures { Gives result (block_from (Whole (record { name = name; lines = lines })) number (lines_of rest.now)) }
+/// The names in the lines `proc NAME`.
+fn block_names(alloc: Global, text: &[u8]) -> Result<Names, Memory>
+    ensures { IfOk result (λ names. names ≡ names_of (lines_of text.now)) }
 {
-    match next_line(rest) {
-        Some(_) => Err(not_built(number)),
-        None => Ok(Block { name, lines }),
+    let mut names = Names::new(alloc);
+    let mut rest = text;
+    while let Some((bytes, after)) = next_line(rest) {
+        if let Some(name) = opening(bytes) {
+            names.mention(alloc, name)?;
+        }
+        rest = after;
+    }
+    Ok(names)
+}
+
+/// The blocks where the input ends, behind the line before this one.
+fn ending(state: State, number: u32) -> Result<Blocks, ScriptStop>
+    ensures { Gives result (ending_of state number) }
+{
+    match state {
+        State::Between(read) => {
+            if has_blocks(&read) {
+                Ok(read.blocks)
+            } else {
+                Err(not_built(number))
+            }
+        }
+        State::Inside(_, _) => Err(not_built(number)),
     }
 }
 
-/// The block of this name, from its second line on.
-#[tactic(auto, unfolding(crate::specs::Reading::block_from, crate::specs::Reading::step))]
-fn block_behind(alloc: Global, name: Bytes, text: &[u8]) -> Result<Block, ScriptStop>
-    ensures { Gives result (block_from (Inside name none_set []) 2 (lines_of text.now)) }
+/// The blocks of a text in which the blocks have these names.
+fn blocks_with(alloc: Global, names: &Names, text: &[u8]) -> Result<Blocks, ScriptStop>
+    requires { length text.now ≤ 1048576 }
+    ensures { Gives result (blocks_from names.now (start names.now) 1 (lines_of text.now)) }
 {
-    let mut flags = Flags::new();
-    let mut lines = Sequence::new(alloc);
+    let mut state = State::Between(Read {
+        blocks: Sequence::new(alloc),
+        calls: 0,
+        forked: Flags::new(alloc, names.len())?,
+        begun: Sequence::new(alloc),
+    });
     let mut rest = text;
-    let mut number: u32 = 2;
+    let mut number: u32 = 1;
     while let Some((bytes, after)) = next_line(rest) {
-        if lines.len() >= MAX_CALLS {
-            return Err(not_built(number));
-        }
-        if bytes == b"end".as_slice() {
-            return whole_block(name, lines, after, number + 1);
-        }
-        let Some(line) = call_line(alloc, &flags, bytes)? else {
+        let Some(next) = step(alloc, names, state, bytes)? else {
             return Err(not_built(number));
         };
-        flags.note(line.set);
-        lines.push(line)?;
+        state = next;
         rest = after;
         number += 1;
     }
-    Err(not_built(number))
-}
-
-/// The one block of a text.
-#[tactic(auto, unfolding(crate::specs::Reading::block_from, crate::specs::Reading::step))]
-fn block_of(alloc: Global, bytes: &[u8]) -> Result<Block, ScriptStop>
-    ensures { Gives result (block_from Start 1 (lines_of bytes.now)) }
-{
-    let Some((first, rest)) = next_line(bytes) else {
-        return Err(not_built(1));
-    };
-    let Some(name) = opening(first) else {
-        return Err(not_built(1));
-    };
-    block_behind(alloc, Bytes::from_slice(alloc, name)?, rest)
+    ending(state, number)
 }
 
 /// How many line feeds there are.
@@ -111,12 +113,13 @@ fn line_feeds(bytes: &[u8]) -> u32
 }
 
 /// A script of at most 1,048,576 bytes.
+#[tactic(auto, unfolding(crate::specs::Reading::blocks_of))]
 fn short_script(alloc: Global, bytes: &[u8]) -> Result<Script, ScriptStop>
-    ensures { GivesScript result (script_from (block_from Start 1 (lines_of bytes.now))) }
+    requires { length bytes.now ≤ 1048576 }
+    ensures { GivesScript result (script_from (blocks_of (lines_of bytes.now))) }
 {
-    let block = block_of(alloc, bytes)?;
-    let mut blocks = Sequence::new(alloc);
-    blocks.push(block)?;
+    let names = block_names(alloc, bytes)?;
+    let blocks = blocks_with(alloc, &names, bytes)?;
     Ok(Script { blocks })
 }
 
@@ -142,8 +145,9 @@ fn read(alloc: Global, bytes: &[u8]) -> Result<Script, ScriptStop>
     }
 }
 
-/// The script that the bytes are the text of. Until more is built a script is one block, whose lines are
-/// `VAR = msgget private`, `msgsnd $VAR T "X" nowait` and `msgrcv $VAR 0 Z nowait`.
+/// The script that the bytes are the text of. Until more is built a script is one block or more, whose lines are
+/// `getpid`, `msgsnd $VAR T "X" nowait` and `msgrcv $VAR 0 Z nowait`, and in the first one `VAR = msgget private` and
+/// a `fork NAME` of each other block; `VAR =` may stand before `getpid` and `fork`.
 ///
 /// `ScriptTooLong` comes where there are more than 1,048,576 bytes, at the line of the first byte too many.
 /// Else `NotBuilt` comes at the first line that doesn't stand in such a script in its place; where the text
@@ -151,8 +155,8 @@ fn read(alloc: Global, bytes: &[u8]) -> Result<Script, ScriptStop>
 pub fn read_script(alloc: Global, bytes: &[u8]) -> Result<Script, ScriptStop>
     // What is read is spelled so.
     ensures ok { IfOk result (Reads bytes.now) }
-    ensures built { IfOk result IsBuilt }
     ensures sound { IfOk result IsSound }
+    ensures runnable { IfOk result IsRunnable }
     // A fault is the first one.
     ensures fault { IfErr result (HasFault bytes.now) }
     // What is spelled so is read, and what has a fault is refused for it, unless memory runs out.

@@ -1,5 +1,5 @@
 use Rattle.std.proofs.Common.{◌≡◌, ◌≤◌, drop}
-use Rattle.script_reader.specs.Reading.{digits_at}
+use Rattle.script_reader.specs.Parts.{digits_at}
 use Rattle.script_reader.proofs.parts.digits.Given as goal
 
 -- the digits left, behind those so far
