@@ -1,6 +1,6 @@
 use Rattle.std.proofs.lemmas.Result.{on_ok_weaker}
-use Rattle.pico_cmd.proofs.Appends.{three_parts}
-use Rattle.pico_cmd.proofs.print.push_how.Goals as goal
+use Rattle.trace_text.proofs.Appends.{three_parts}
+use Rattle.trace_text.proofs.print.push_how.Goals as goal
 
 pub returns : goal.returns
 returns c =

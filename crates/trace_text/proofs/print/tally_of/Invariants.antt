@@ -1,6 +1,6 @@
 use Rattle.std.proofs.Common.{◌≡◌, ◌≤◌, take, count_by}
 use Rattle.kernel_model.specs.Trace as trace
-use Rattle.pico_cmd.proofs.print.tally_of.Given as goal
+use Rattle.trace_text.proofs.print.tally_of.Given as goal
 
 -- the entries so far
 abbrev pub invariant-loop-entry : goal.invariant-loop-entry

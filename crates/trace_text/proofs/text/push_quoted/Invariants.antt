@@ -1,7 +1,7 @@
 use Rattle.std.proofs.Common.{◌≡◌, ◌++◌, ◌∷◌, take}
 use Rattle.std.specs.List.{flat_map}
 use Rattle.kernel_model.specs.Trace.{escaped}
-use Rattle.pico_cmd.proofs.text.push_quoted.Given as goal
+use Rattle.trace_text.proofs.text.push_quoted.Given as goal
 
 -- the opening quote and the bytes so far
 abbrev pub invariant-loop-byte : goal.invariant-loop-byte

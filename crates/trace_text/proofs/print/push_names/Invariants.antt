@@ -1,7 +1,7 @@
 use Rattle.std.proofs.Common.{◌≡◌, ◌++◌, ◌∷◌, take}
 use Rattle.std.specs.List.{flat_map}
 use Rattle.kernel_model.specs.Trace as trace
-use Rattle.pico_cmd.proofs.print.push_names.Given as goal
+use Rattle.trace_text.proofs.print.push_names.Given as goal
 
 -- the first one and those so far
 abbrev pub invariant-loop-sig : goal.invariant-loop-sig

@@ -10,8 +10,8 @@ ghost use Rattle.pico_base.specs.declared.reply.Reply.TheVariants.{Stat};
 
 use crate::text::{push, push_byte, push_message, push_number, push_signed};
 use pico_base::{
-    Act, Block, Bytes, Call, Ending, Entry, Errno, How, Id, Key, Memory, Node, Pid, Reply, Script,
-    SemStep, Sig, SigArg, SigSet,
+    Act, Block, Bytes, Call, Ending, Entries, Entry, Errno, How, Id, Key, Memory, Node, Pid, Reply,
+    Script, SemStep, Sig, SigArg, SigSet,
 };
 use std::alloc::Global;
 
@@ -671,14 +671,25 @@ fn push_totals(out: &mut Vec<u8>, journal: &[Entry]) -> Result<(), Memory>
     push_byte(out, b'\n')
 }
 
-/// The text of a history: a line for each entry, and the totals line.
-pub fn trace_of(alloc: Global, script: &Script, journal: &[Entry]) -> Result<Bytes, Memory>
+/// The text of a history of a script's processes: a line for each entry, and the totals line. Each line has one line
+/// feed.
+pub fn write_trace(alloc: Global, script: &Script, journal: &Entries) -> Result<Bytes, Memory>
     ensures { IfOk result (λ text. text ≡ trace.trace_text script.now journal.now) }
 {
     let mut out = Vec::new(alloc);
-    for entry in journal {
+    for entry in journal.as_slice() {
         push_entry(alloc, &mut out, script, entry)?;
     }
-    push_totals(&mut out, journal)?;
+    push_totals(&mut out, journal.as_slice())?;
+    Ok(Bytes::from_vec(out))
+}
+
+/// The last line of a history's text: its entries, its processes (one more than its forks), the entries where nothing
+/// was ready (ENOMSG and EAGAIN), and the other refusals.
+pub fn write_totals(alloc: Global, journal: &Entries) -> Result<Bytes, Memory>
+    ensures { IfOk result (λ text. text ≡ trace.totals_line journal.now) }
+{
+    let mut out = Vec::new(alloc);
+    push_totals(&mut out, journal.as_slice())?;
     Ok(Bytes::from_vec(out))
 }
