@@ -1,6 +1,5 @@
-pub mod Appends
-pub mod Lines
-pub mod Makes
-pub mod Numbered
+pub mod Chosen
+pub mod Ends
 pub mod Promises
 pub mod Runs
+pub mod Spelled

@@ -1,14 +1,17 @@
 -- From the bytes that are read to the bytes that were left, and from an answer to what is promised of it.
-use Rattle.std.proofs.Common.{refl, ◌≡◌, ℕ, ◌+◌, ◌<◌, ◌≤◌, List, [], ◌∷◌, length, take, map, get_or, Option, Some, None, ap, sym, subst, ◌∙◌, arith, inl, inr, ◌⊎◌, length-take}
-use Rattle.std.proofs.lemmas.List.{take-take}
-use Rattle.std.specs.Prelude.{IfSome, count_by, ◌==◌}
+use Rattle.std.proofs.Common.{refl, ◌≡◌, ℕ, ◌+◌, ◌<◌, ◌≤◌, List, [], ◌∷◌, ◌++◌, length, drop, take, map, get_or, Option, Some, None, ap, sym, subst, ◌∙◌, arith, inl, inr, ◌⊎◌, length-take}
+use Rattle.std.proofs.lemmas.List.{drop_all, take-take}
+use Rattle.std.proofs.Math.Seq.{drop-append_seam}
+use Rattle.host_iface.specs.Told.{led_by}
+use Rattle.std.specs.Prelude.{IfSome, is_some, count_by, ◌==◌}
 use Rattle.pico_base.specs.declared.script.Script.{Script}
 use Rattle.script_reader.specs.declared.fault.ScriptFault.{ScriptFault}
 use Rattle.script_reader.specs.declared.fault.ScriptFault.TheVariants.{ScriptTooLong, NotBuilt}
 use Rattle.script_reader.specs.Fault.{Reads, IsFirstFault}
 use Rattle.pico_cmd.specs.declared.status.Status.{Status}
 use Rattle.pico_cmd.specs.declared.status.Status.TheVariants as status
-use Rattle.pico_cmd.specs.Stop.{AreScriptBytes}
+use Rattle.pico_cmd.specs.declared.words.Options.{Options}
+use Rattle.pico_cmd.specs.Stop.{AreScriptBytes, left_behind}
 use Rattle.pico_cmd.specs.Promise.{Answers, AnswersTold, Allows, IsTraceOf, IsOrStops, IsWritten, Wrote, WroteFront}
 
 -- the front that was read is longer than a script
@@ -39,22 +42,30 @@ script_read bytes left script (inl same) r = subst (λ (b : List ℕ). Reads b s
 script_read bytes left script (inr long) r = absurd (omega (arith, r.short, long.0))
 
 -- what goes with the bytes that were read goes with those that were left
-pub Answers-left : (bytes left : List ℕ) (s : Status) (text : List ℕ) → AreScriptBytes bytes left → Answers bytes s text → Answers left s text
-Answers-left bytes left status.Done text (inl same) a = subst (λ (b : List ℕ). IsTraceOf b text) same.0 a
-Answers-left bytes left status.Done text (inr long) a = absurd (omega (arith, a.reads.short, long_front bytes left long.0 long.1))
-Answers-left bytes left status.BadScript text r a =
+pub Answers-left : (o : Options) (bytes left : List ℕ) (s : Status) (text : List ℕ) → AreScriptBytes bytes left → Answers o bytes s text → Answers o left s text
+Answers-left o bytes left status.Done text (inl same) a = subst (λ (b : List ℕ). IsTraceOf o b text) same.0 a
+Answers-left o bytes left status.Done text (inr long) a = absurd (omega (arith, a.reads.short, long_front bytes left long.0 long.1))
+Answers-left o bytes left status.BadScript text r a =
     record { line = a.line; fault = a.fault; first = fault_left bytes left a.line a.fault r a.first; is_text = a.is_text }
-Answers-left bytes left status.Usage text r a = a
-Answers-left bytes left status.Memory text r a = a
-Answers-left bytes left status.ReadFault text r a = a
-Answers-left bytes left status.WriteFault text r a = a
+Answers-left o bytes left status.Usage text r a = a
+Answers-left o bytes left status.Memory text r a = a
+Answers-left o bytes left status.ReadFault text r a = a
+Answers-left o bytes left status.WriteFault text r a = a
 
--- one word is read
-pub one_word : {A : Type 0} (f : A → List ℕ) (xs : List A) (w : A) (y : List ℕ) → 1 ≤ length xs → length xs < 2 → w ≡ get_or xs 0 w
-    → (f w ≡ y → map f xs ≡ y ∷ []) × (map f xs ≡ y ∷ [] → f w ≡ y)
-one_word f [] w y low high e = absurd (omega arith)
-one_word f (x ∷ []) w y low high e = (λ h. ap (λ t. t ∷ []) (ap f (sym e) ∙ h), λ h. ap f e ∙ ap (λ t. get_or t 0 y) h)
-one_word f (x ∷ z ∷ xs) w y low high e = absurd (omega arith)
+-- What is left behind what was read.
+
+pub left_at_end : (old new : Option (List ℕ)) (bytes : List ℕ) → IfSome old (λ left. bytes ≡ left) → IfSome new (λ left. left ≡ [])
+    → length bytes ≤ 1048576 → is_some new ≡ is_some old → new ≡ left_behind old
+left_at_end None None bytes whole end within told = refl
+left_at_end None (Some n) bytes whole end within told = absurd (let f : ⊥ = cc in f)
+left_at_end (Some l) None bytes whole end within told = absurd (let f : ⊥ = cc in f)
+left_at_end (Some l) (Some n) bytes whole end within told =
+    ap Some (end ∙ sym (drop_all 1048577 l (omega (arith, within, ap length whole))))
+
+pub left_past_limit : (old new : Option (List ℕ)) (read : List ℕ) → old ≡ led_by read new → length read ≡ 1048577 → new ≡ left_behind old
+left_past_limit old None read led is = sym (ap left_behind led)
+left_past_limit old (Some n) read led is =
+    sym (ap left_behind led ∙ ap Some (ap (λ (k : ℕ). drop k (read ++ n)) (sym is) ∙ drop-append_seam read n))
 
 -- an answer that was written whole
 pub wrote : (words : List (List ℕ)) (left : Option (List ℕ)) (s : Status) (text : List ℕ) (old new : Option (List ℕ)) (cause : Type 0) (r wanted : Status)
@@ -73,11 +84,11 @@ wrote_front words left s text old new cause r a (inr c) e =
 
 -- The same where the source may tell nothing.
 
-pub told_answer : (told : Option (List ℕ)) (bytes read : List ℕ) (s : Status) (text : List ℕ) → IfSome told (AreScriptBytes bytes)
-    → read ≡ bytes → Answers read s text → AnswersTold told s text
-told_answer None bytes read s text r e a = record { bytes = read; told = tt; answers = a }
-told_answer (Some left) bytes read s text r e a =
-    record { bytes = left; told = refl; answers = Answers-left bytes left s text r (subst (λ (b : List ℕ). Answers b s text) e a) }
+pub told_answer : (o : Options) (told : Option (List ℕ)) (bytes read : List ℕ) (s : Status) (text : List ℕ) → IfSome told (AreScriptBytes bytes)
+    → read ≡ bytes → Answers o read s text → AnswersTold o told s text
+told_answer o None bytes read s text r e a = record { bytes = read; told = tt; answers = a }
+told_answer o (Some left) bytes read s text r e a =
+    record { bytes = left; told = refl; answers = Answers-left o bytes left s text r (subst (λ (b : List ℕ). Answers o b s text) e a) }
 
 pub told_done : (told : Option (List ℕ)) (bytes read : List ℕ) (s : Status) → IfSome told (AreScriptBytes bytes)
     → read ≡ bytes → ((script : Script) → Reads read script → s ≡ status.Done) → IfSome told (λ left. (script : Script) → Reads left script → s ≡ status.Done)

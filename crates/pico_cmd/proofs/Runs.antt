@@ -1,107 +1,168 @@
--- A run of one process, entry by entry.
-use Rattle.std.proofs.Common.{◌≡◌, true, false, Bool, List, [], ◌∷◌, ◌++◌, Option, Some, refl, ap, sym, subst, ◌∙◌, inl}
-use Rattle.std.specs.Prelude.{◌&&◌, slice_get}
-use Rattle.std.specs.List.{AllByRecursion}
-use Rattle.pico_base.specs.declared.call.Call.{Call}
-use Rattle.pico_base.specs.declared.call.Call.TheVariants.{Exit, Fork}
-use Rattle.pico_base.specs.declared.reply.Reply.{Reply}
-use Rattle.pico_base.specs.declared.reply.Reply.TheVariants.{Ended}
-use Rattle.pico_base.specs.declared.reply.Entry.{Entry}
-use Rattle.pico_base.specs.declared.script.Line.{Line}
-use Rattle.pico_base.specs.declared.script.Block.{Block}
+-- A run as it goes on, event by event.
+use Rattle.std.proofs.Common.{◌≡◌, ℕ, ◌*◌, ◌<◌, ◌≤◌, true, List, [], ◌∷◌, ◌++◌, length, take, Bool, false, nat_eq, if◌then◌else◌, Option, Some, None, refl, sym, ap, subst, ◌∙◌, arith}
+use Rattle.std.specs.Prelude.{IfSome, IsSome}
+use Rattle.pico_base.specs.declared.script.Event.{Event}
+use Rattle.pico_base.specs.declared.script.Event.TheVariants as events
 use Rattle.pico_base.specs.declared.script.Script.{Script}
-use Rattle.kernel_model.specs.Maps.{get}
-use Rattle.kernel_model.specs.Queue.{Queue}
-use Rattle.kernel_model.specs.Kernel.{Kernel, opening}
-use Rattle.kernel_model.specs.Script.{Vars, call_of}
-use Rattle.kernel_model.specs.Transition.{transition}
-use Rattle.kernel_model.specs.History.{Replays, number_in}
-use Rattle.kernel_model.specs.Fitting.{Place, Places, Follows, IsDue, opening_places, block_place, places_after, after_line, asks_again, value_in, setting, with_exit, is_exit, is_killed, forked_place}
-use Rattle.kernel_model.specs.Trace.{is_fork}
-use Rattle.std.proofs.lemmas.Bool.{false≢true}
-use Rattle.pico_cmd.specs.Node.{kernel_with, Makes}
-use Rattle.pico_cmd.specs.Run.{IsByFirst, IsRunOf, IsUnderWay, entry_of, place_before}
+use Rattle.rpc_frame.specs.declared.frame.Frame.{Frame}
+use Rattle.machine_model.specs.Node.{Node}
+use Rattle.machine_model.specs.Calls.{Step, run}
+use Rattle.machine_model.specs.Frames.{takes}
+use Rattle.machine_model.specs.World.{World, opening_world, size, size_of, step, is_enabled, node_at, stream, with_stream, after, after_turn, runs_at, takes_at}
+use Rattle.machine_model.specs.Schedule.{Schedule, InTurn, Drawn, Follows, choice, schedule_of, schedule_after, node_of}
+use Rattle.machine_model.specs.Weights.{weight}
+use Rattle.machine_model.specs.Built.{IsRunnable}
+use Rattle.machine_model.specs.Run.{IsRunOf, IsReachable, IsAtRest}
+use Rattle.machine_model.specs.Laws.{JournalsAreLegal, RestIsWhole, NoNameHasTwoOwners, StepsLowerWeights, RunsAreShort, SchedulesAreRuns}
+use Rattle.world_core.specs.Laws.{IsWithin, RestIsWhereNothingIsChosen}
+use Rattle.world_core.specs.Stepped.{IsStepped}
+use Rattle.pico_cmd.specs.Run.{IsRunTo, IsScheduledRun}
+use Rattle.pico_cmd.proofs.Chosen.{IsNext, choice_next}
 
--- one more entry is replayed
-pub Replays-more : (k mid next : Kernel) (h : List Entry) (e : Entry) → Replays k h mid
-    → transition mid e.pid e.call (number_in e.outcome.own) ≡ Some (next, e.outcome) → Replays k (h ++ e ∷ []) next
-Replays-more k mid next [] e p t =
-    (next, subst (λ (x : Kernel). transition x e.pid e.call (number_in e.outcome.own) ≡ Some (next, e.outcome)) (sym p) t, refl)
-Replays-more k mid next (f ∷ h) e p t = (p.0, p.1, Replays-more p.0 mid next h e p.2 t)
+-- a step keeps the script
 
--- one more entry fits
-pub Follows-more : (s : Script) (ps mid : Places) (h : List Entry) (e : Entry) (place : Place) → Follows s ps h mid
-    → get mid e.pid ≡ Some place → IsDue place e.call → Follows s ps (h ++ e ∷ []) (places_after s mid e place)
-Follows-more s ps mid [] e place p g d =
-    (place, subst (λ (x : Places). get x e.pid ≡ Some place) (sym p) g, d, ap (λ (x : Places). places_after s x e place) p)
-Follows-more s ps mid (f ∷ h) e place p g d = (p.0, p.1, p.2, Follows-more s (places_after s ps f p.0) mid h e place p.3 g d)
+after_turn_script : (w : World) (p : ℕ) (o : Option Step) (next : World) → after_turn w p o ≡ Some next → next.script ≡ w.script
+after_turn_script w p None next e = absurd (let f : ⊥ = cc in f)
+after_turn_script w p (Some s) next e = let is : after w p s ≡ next = cc in sym (ap (λ (x : World). x.script) is)
 
-pub All-more : (h : List Entry) (e : Entry) → AllByRecursion IsByFirst h → IsByFirst e → AllByRecursion IsByFirst (h ++ e ∷ [])
-All-more [] e p q = (q, tt)
-All-more (f ∷ h) e p q = (p.0, All-more h e p.1 q)
+runs_script : (w : World) (p : ℕ) (o : Option Node) (next : World) → runs_at w p o ≡ Some next → next.script ≡ w.script
+runs_script w p None next e = absurd (let f : ⊥ = cc in f)
+runs_script w p (Some n) next e = after_turn_script w p (run w.script n) next e
 
--- a line that is tried once, and whose call neither ends the process nor makes one
-pub record IsPlain (line : Line) (vars : Vars) : Type 0 where
-  pub once : line.tries ≡ 1
-  pub goes_on : is_exit line.call ≡ false
-  pub not_killed : is_killed (call_of line vars) ≡ false
-  pub not_fork : is_fork (call_of line vars) ≡ false
+takes_script : (w : World) (p from : ℕ) (o : Option Node) (fs : List Frame) (next : World) → takes_at w p from o fs ≡ Some next → next.script ≡ w.script
+takes_script w p from None fs next e = absurd (let f : ⊥ = cc in f)
+takes_script w p from (Some n) [] next e = absurd (let f : ⊥ = cc in f)
+takes_script w p from (Some n) (frame ∷ fs) next e =
+    after_turn_script (record w { streams = with_stream w.streams p from fs }) p (takes w.script n from frame) next e
 
-and_false : (b : Bool) → (b && false) ≡ false
-and_false true = refl
-and_false false = refl
+pub step_script : (w : World) (e : Event) (next : World) → step w e ≡ Some next → next.script ≡ w.script
+step_script w (events.Run p) next e = runs_script w p (node_at w p) next e
+step_script w (events.Take p from) next e = takes_script w p from (node_at w p) (stream w p from) next e
 
-not_forked : (s : Script) (ps : Places) (place : Place) (call : Call) (reply : Reply) → is_fork call ≡ false → forked_place s ps place call (Some reply) ≡ ps
-not_forked s ps place (Fork block) reply h = absurd (false≢true (sym h))
-not_forked s ps place call reply h = refl
+-- these events are what the schedule takes from a world, and they lead to another world and schedule
+abbrev pub Takes : World → Schedule → List Event → World → Schedule → Type 0
+Takes w s [] now at = (w ≡ now) × (s ≡ at)
+Takes w s (e ∷ es) now at =
+    (choice w s ≡ Some e) × (next : World) × (step w e ≡ Some next) × Takes next (schedule_after s e) es now at
 
--- the place after a line that is tried once
-after_once : (line : Line) (rest : List Line) (vars : Vars) (call : Call) (reply : Reply) → line.tries ≡ 1
-    → after_line (record { left = line ∷ with_exit rest; tried = 0; vars = vars }) call (Some reply) (line ∷ with_exit rest)
-    ≡ place_before rest (setting vars line.set (value_in (Some reply)))
-after_once line rest vars call reply t = rw (t, and_false (asks_again call (Some reply))) refl
+Takes-more : (w : World) (s : Schedule) (es : List Event) (now : World) (at : Schedule) (e : Event) (next : World)
+    → Takes w s es now at → choice now at ≡ Some e → step now e ≡ Some next → Takes w s (es ++ e ∷ []) next (schedule_after at e)
+Takes-more w s [] now at e next t chosen stepped =
+    subst (λ (x : World). Takes x s (e ∷ []) next (schedule_after at e)) (sym t.0)
+    (subst (λ (y : Schedule). Takes now y (e ∷ []) next (schedule_after at e)) (sym t.1) (chosen, next, stepped, (refl, refl)))
+Takes-more w s (e1 ∷ es) now at e next t chosen stepped =
+    (t.0, t.1, t.2, Takes-more t.1 (schedule_after s e1) es now at e next t.3 chosen stepped)
 
--- where the places lead after the entry of such a line
-places_once : (s : Script) (line : Line) (rest : List Line) (vars : Vars) (reply : Reply) → IsPlain line vars
-    → places_after s ((1, place_before (line ∷ rest) vars) ∷ []) (entry_of (call_of line vars) reply) (place_before (line ∷ rest) vars)
-    ≡ (1, place_before rest (setting vars line.set (value_in (Some reply)))) ∷ []
-places_once s line rest vars reply p =
-    let left : with_exit (line ∷ rest) ≡ line ∷ with_exit rest = rw p.goes_on refl
-    in not_forked s _ (place_before (line ∷ rest) vars) (call_of line vars) reply p.not_fork
-    ∙ ap (λ (x : Place). (1, x) ∷ []) (rw (p.not_killed, left) (after_once line rest vars (call_of line vars) reply p.once))
+Takes-end : (w : World) (s : Schedule) (es : List Event) (now : World) (at : Schedule)
+    → Takes w s es now at → choice now at ≡ None → Follows w s es now
+Takes-end w s [] now at t none =
+    (subst (λ (x : World). choice x s ≡ None) (sym t.0) (subst (λ (y : Schedule). choice now y ≡ None) (sym t.1) none), t.0)
+Takes-end w s (e ∷ es) now at t none = (t.0, t.1, t.2, Takes-end t.1 (schedule_after s e) es now at t.3 none)
 
--- a run goes on by one line
-pub IsUnderWay-more : (s : Script) (line : Line) (rest : List Line) (vars : Vars) (old new : List Queue) (h : List Entry) (reply : Reply)
-    → IsUnderWay s (line ∷ rest) vars old h → IsPlain line vars → Makes old (call_of line vars) reply new
-    → IsUnderWay s rest (setting vars line.set (value_in (Some reply))) new (h ++ entry_of (call_of line vars) reply ∷ [])
-IsUnderWay-more s line rest vars old new h reply u p m =
-    let e : Entry = entry_of (call_of line vars) reply
-    in let place : Place = place_before (line ∷ rest) vars
-    in let left : with_exit (line ∷ rest) ≡ line ∷ with_exit rest = rw p.goes_on refl
-    in let due : IsDue place (call_of line vars) = inl (rw left refl)
-    in record {
-      legal = Replays-more opening (kernel_with old) (kernel_with new) h e u.legal m.step;
-      fits = subst (λ (x : Places). Follows s (opening_places s) (h ++ e ∷ []) x) (places_once s line rest vars reply p)
-          (Follows-more s (opening_places s) ((1, place) ∷ []) h e place u.fits refl due);
-      owner = All-more h e u.owner refl;
-    }
+-- the run so far
+pub record IsUnderWay (script : Script) (seed : ℕ) (taken : List Event) (world : Option World) (at : Schedule) : Type 0 where
+  pub now : World
+  pub is_now : world ≡ Some now
+  pub same : now.script ≡ script
+  pub of_world : IsWithin (size now) at
+  pub takes : Takes (opening_world script) (schedule_of seed (size_of script)) taken now at
+
+-- what is still to happen, where the world isn't spent
+abbrev pub weight_of : Option World → ℕ
+weight_of None = 0
+weight_of (Some w) = weight w
+
+of_first : (w : World) (b : Bool) (count seed : ℕ) → count ≤ size w → IsWithin (size w) (if b then InTurn count else Drawn seed)
+of_first w true count seed le = le
+of_first w false count seed le = tt
+
+of_after : (w next : World) (at : Schedule) (e : Event) → next.script ≡ w.script → node_of e ≤ size w → IsWithin (size next) (schedule_after at e)
+of_after w next (InTurn last) e same le = subst (λ (s : Script). node_of e ≤ size_of s) (sym same) le
+of_after w next (Drawn x) e same le = tt
 
 -- a run begins
-pub IsUnderWay-start : (s : Script) (block : Block) → s.blocks ≡ block ∷ [] → IsUnderWay s block.lines [] [] []
-IsUnderWay-start s block one =
+pub IsUnderWay-start : (script : Script) (seed : ℕ) (taken : List Event) (world : Option World) (at : Schedule)
+    → taken ≡ [] → world ≡ Some (opening_world script) → at ≡ schedule_of seed (size_of script)
+    → IsUnderWay script seed taken world at
+IsUnderWay-start script seed taken world at none opening first =
     record {
-      legal = refl;
-      fits = ap (λ (o : Option Block). (1, block_place o []) ∷ []) (ap (λ (bs : List Block). slice_get bs 0) one);
-      owner = tt;
+      now = opening_world script;
+      is_now = opening;
+      same = refl;
+      of_world = subst (λ (s : Schedule). IsWithin (size_of script) s) (sym first)
+          (of_first (opening_world script) (nat_eq seed 0) (size_of script) seed (omega arith));
+      takes = subst (λ (s : Schedule). Takes (opening_world script) (schedule_of seed (size_of script)) taken (opening_world script) s) (sym first)
+          (subst (λ (es : List Event). Takes (opening_world script) (schedule_of seed (size_of script)) es (opening_world script) (schedule_of seed (size_of script))) (sym none) (refl, refl));
     }
 
--- a run ends with the exit that its end stands for
-pub IsUnderWay-end : (s : Script) (vars : Vars) (queues : List Queue) (h : List Entry) → IsUnderWay s [] vars queues h
-    → IsRunOf s (h ++ entry_of (Exit 0) Ended ∷ [])
-IsUnderWay-end s vars queues h u =
-    let e : Entry = entry_of (Exit 0) Ended
+-- the event that the schedule chooses
+chosen_now : (script : Script) (seed : ℕ) (taken : List Event) (world : Option World) (at : Schedule) (r : Option Event)
+    (u : IsUnderWay script seed taken world at) → IfSome world (λ w. r ≡ choice w at) → choice u.now at ≡ r
+chosen_now script seed taken world at r u chosen = sym (subst (λ (o : Option World). IfSome o (λ w. r ≡ choice w at)) u.is_now chosen)
+
+next_now : (script : Script) (seed : ℕ) (taken : List Event) (world : Option World) (at : Schedule) (r : Option Event) (e : Event)
+    (u : IsUnderWay script seed taken world at) → IfSome world (λ w. r ≡ choice w at) → r ≡ Some e → IsNext u.now (size u.now) e
+next_now script seed taken world at r e u chosen is =
+    choice_next u.now at e u.of_world (chosen_now script seed taken world at r u chosen ∙ is)
+
+pub world_is_whole : (script : Script) (seed : ℕ) (taken : List Event) (world : Option World) (at : Schedule)
+    → IsUnderWay script seed taken world at → IsSome world
+world_is_whole script seed taken world at u = subst IsSome (sym u.is_now) refl
+
+pub world_has_last : (script : Script) (seed : ℕ) (taken : List Event) (world : Option World) (at : Schedule)
+    → IsUnderWay script seed taken world at → IfSome world (λ w. IsWithin (size w) at)
+world_has_last script seed taken world at u =
+    subst (λ (o : Option World). IfSome o (λ w. IsWithin (size w) at)) (sym u.is_now) u.of_world
+
+pub chosen_is_enabled : (script : Script) (seed : ℕ) (taken : List Event) (world : Option World) (at : Schedule) (r : Option Event) (e : Event)
+    → IsUnderWay script seed taken world at → IfSome world (λ w. r ≡ choice w at) → r ≡ Some e → IfSome world (λ w. is_enabled w e ≡ true)
+chosen_is_enabled script seed taken world at r e u chosen is =
+    subst (λ (o : Option World). IfSome o (λ w. is_enabled w e ≡ true)) (sym u.is_now) (next_now script seed taken world at r e u chosen is).enabled
+
+same_world : (world : Option World) (w now : World) → world ≡ Some w → world ≡ Some now → w ≡ now
+same_world world w now a b = let e : Some w ≡ Some now = sym a ∙ b in cc
+
+-- a run goes on
+pub IsUnderWay-more : (script : Script) (seed : ℕ) (taken more : List Event) (world new : Option World) (at next_at : Schedule) (r : Option Event) (e : Event)
+    → IsUnderWay script seed taken world at → IfSome world (λ w. r ≡ choice w at) → r ≡ Some e → IsStepped world e new
+    → next_at ≡ schedule_after at e → more ≡ taken ++ e ∷ [] → IsUnderWay script seed more new next_at
+IsUnderWay-more script seed taken more world new at next_at r e u chosen is s after_it with_it =
+    let stepped : step u.now e ≡ Some s.1 = subst (λ (x : World). step x e ≡ Some s.1) (same_world world s.0 u.now s.2 u.is_now) s.4
+    in let same : s.1.script ≡ u.now.script = step_script u.now e s.1 stepped
+    in let first : World = opening_world script
+    in let begins : Schedule = schedule_of seed (size_of script)
     in record {
-      legal = (_, Replays-more opening (kernel_with queues) _ h e u.legal refl);
-      whole = (_, Follows-more s (opening_places s) _ h e (place_before [] vars) u.fits refl (inl refl), (refl, tt));
-      owner = All-more h e u.owner refl;
+      now = s.1;
+      is_now = s.3;
+      same = same ∙ u.same;
+      of_world = subst (λ (x : Schedule). IsWithin (size s.1) x) (sym after_it)
+          (of_after u.now s.1 at e same (next_now script seed taken world at r e u chosen is).within);
+      takes = subst (λ (x : Schedule). Takes first begins more s.1 x) (sym after_it)
+          (subst (λ (es : List Event). Takes first begins es s.1 (schedule_after at e)) (sym with_it)
+          (Takes-more first begins taken u.now at e s.1 u.takes (chosen_now script seed taken world at r u chosen ∙ is) stepped));
     }
+
+pub weight_lowered : (world new : Option World) (e : Event) → StepsLowerWeights → IsStepped world e new → weight_of new < weight_of world
+weight_lowered world new e lower s =
+    subst (λ (o : Option World). weight_of new < weight_of o) (sym s.2)
+    (subst (λ (o : Option World). weight_of o < weight s.0) (sym s.3) (lower s.0 s.1 e s.4))
+
+-- a run ends
+pub IsUnderWay-end : (script : Script) (seed : ℕ) (taken : List Event) (world : Option World) (at : Schedule) (r : Option Event)
+    → JournalsAreLegal → RestIsWhole → NoNameHasTwoOwners → RunsAreShort → SchedulesAreRuns → RestIsWhereNothingIsChosen → IsRunnable script
+    → IsUnderWay script seed taken world at → IfSome world (λ w. r ≡ choice w at) → r ≡ None → IsRunTo script seed taken world
+IsUnderWay-end script seed taken world at r legal whole owned short runs rests runnable u chosen none =
+    let nothing : choice u.now at ≡ None = chosen_now script seed taken world at r u chosen ∙ none
+    in let follows = Takes-end (opening_world script) (schedule_of seed (size_of script)) taken u.now at u.takes nothing
+    in let run : IsRunOf script taken u.now = runs (opening_world script) u.now (schedule_of seed (size_of script)) taken follows
+    in let rest : IsAtRest u.now = rests script u.now at (taken, run) u.of_world nothing
+    in let ended : IsScheduledRun script seed taken u.now = record {
+      schedule = follows;
+      run = run;
+      rest = rest;
+      legal = (legal script u.now runnable (taken, run)).0;
+      whole = whole script u.now runnable (taken, run) rest;
+      owners = λ count w name front. owned script w name runnable (take count taken, front);
+      short = short script taken u.now runnable run;
+    }
+    in subst (λ (o : Option World). IsRunTo script seed taken o) (sym u.is_now) ended

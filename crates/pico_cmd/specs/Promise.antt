@@ -2,38 +2,26 @@
 use Rattle.std.specs.Prelude.{◌≡◌, ◌⊎◌, ◌≤◌, ℕ, List, [], ◌∷◌, ◌++◌, length, take, codes, Option, IfSome}
 use Rattle.std.specs.Fmt.{decimal}
 use Rattle.pico_base.specs.declared.script.Script.{Script}
-use Rattle.pico_base.specs.declared.reply.Entry.{Entry}
-use Rattle.kernel_model.specs.Trace.{trace_text}
 use Rattle.host_iface.specs.Told.{followed_by}
 use Rattle.script_reader.specs.declared.fault.ScriptFault.{ScriptFault}
-use Rattle.script_reader.specs.declared.fault.ScriptFault.TheVariants.{ScriptTooLong, NotBuilt}
-use Rattle.script_reader.specs.Fault.{Reads, IsFirstFault}
+use Rattle.script_reader.specs.Fault.{Reads, IsFirstFault, name_of}
 use Rattle.pico_cmd.specs.declared.status.Status.{Status}
 use Rattle.pico_cmd.specs.declared.status.Status.TheVariants as status
-use Rattle.pico_cmd.specs.Run.{IsRunOf}
-
--- the words behind the program's name ask for the simulation: there is one, `sim`
-abbrev pub IsInOrder : List (List ℕ) → Type 0
-IsInOrder words = words ≡ codes "sim" ∷ []
+use Rattle.pico_cmd.specs.declared.words.Options.{Options}
+use Rattle.pico_cmd.specs.Run.{IsTextOfRun}
+use Rattle.pico_cmd.specs.Words.{Asks, IsInOrder}
 
 unfoldable pub usage_text : List ℕ
 usage_text = codes "usage: pico run|sim|check|gen [--seed N] [--steps]\n"
 
-abbrev pub fault_name : ScriptFault → List ℕ
-fault_name ScriptTooLong = codes "ScriptTooLong"
-fault_name NotBuilt = codes "NotBuilt"
-
 abbrev pub fault_text : ℕ → ScriptFault → List ℕ
-fault_text line fault = codes "fault: line " ++ decimal line ++ codes ": " ++ fault_name fault ++ 10 ∷ []
+fault_text line fault = codes "fault: line " ++ decimal line ++ codes ": " ++ name_of fault ++ 10 ∷ []
 
--- The bytes are a script, and the text is the trace of a run of it: one history of a single POSIX kernel, which
--- has each call of the script's process once and in order, to the process's end.
-pub record IsTraceOf (bytes text : List ℕ) : Type 0 where
+-- the bytes are a script, and the text is that of its run by the schedule that is asked for
+pub record IsTraceOf (options : Options) (bytes text : List ℕ) : Type 0 where
   pub script : Script
-  pub history : List Entry
   pub reads : Reads bytes script
-  pub run : IsRunOf script history
-  pub is_text : text ≡ trace_text script history
+  pub run : IsTextOfRun script options text
 
 -- the text names the first fault of the bytes
 pub record IsFaultOf (bytes text : List ℕ) : Type 0 where
@@ -42,22 +30,28 @@ pub record IsFaultOf (bytes text : List ℕ) : Type 0 where
   pub first : IsFirstFault bytes line fault
   pub is_text : text ≡ fault_text line fault
 
--- what goes with a status for words in order and these bytes
-abbrev pub Answers : List ℕ → Status → List ℕ → Type 0
-Answers bytes status.Done text = IsTraceOf bytes text
-Answers bytes status.BadScript text = IsFaultOf bytes text
-Answers bytes _ text = ⊥
+-- what goes with a status for these options and bytes
+abbrev pub Answers : Options → List ℕ → Status → List ℕ → Type 0
+Answers options bytes status.Done text = IsTraceOf options bytes text
+Answers options bytes status.BadScript text = IsFaultOf bytes text
+Answers options bytes _ text = ⊥
 
--- what goes with a status for words in order, and bytes that are those that the source had left where it tells them
-pub record AnswersTold (left : Option (List ℕ)) (s : Status) (text : List ℕ) : Type 0 where
+-- the same for bytes that are those that the source had left where it tells them
+pub record AnswersTold (options : Options) (left : Option (List ℕ)) (s : Status) (text : List ℕ) : Type 0 where
   pub bytes : List ℕ
   pub told : IfSome left (λ bytes_left. bytes_left ≡ bytes)
-  pub answers : Answers bytes s text
+  pub answers : Answers options bytes s text
+
+-- and for the options that the words ask for
+pub record AnswersAsked (words : List (List ℕ)) (left : Option (List ℕ)) (s : Status) (text : List ℕ) : Type 0 where
+  pub options : Options
+  pub asks : Asks words options
+  pub answers : AnswersTold options left s text
 
 -- The text that goes with a status, by the words and the source. With a status that writes nothing no text goes.
 abbrev pub Allows : List (List ℕ) → Option (List ℕ) → Status → List ℕ → Type 0
-Allows words left status.Done text = IsInOrder words × AnswersTold left status.Done text
-Allows words left status.BadScript text = IsInOrder words × AnswersTold left status.BadScript text
+Allows words left status.Done text = AnswersAsked words left status.Done text
+Allows words left status.BadScript text = AnswersAsked words left status.BadScript text
 Allows words left status.Usage text = (IsInOrder words → ⊥) × (text ≡ usage_text)
 Allows words left _ text = ⊥
 

@@ -1,54 +1,47 @@
--- What a run of one process comes to.
-use Rattle.std.specs.Prelude.{◌≡◌, ◌<◌, ℕ, List, [], ◌∷◌, length, Some}
-use Rattle.std.specs.List.{AllByRecursion}
-use Rattle.pico_base.specs.declared.call.Call.{Call}
-use Rattle.pico_base.specs.declared.reply.Reply.{Reply}
-use Rattle.pico_base.specs.declared.reply.Entry.{Entry}
-use Rattle.pico_base.specs.declared.script.Line.{Line}
-use Rattle.pico_base.specs.declared.script.Block.{Block}
+-- What a run of a script comes to.
+use Rattle.std.specs.Prelude.{◌≡◌, ◌≤◌, ℕ, ◌*◌, Bool, true, false, List, [], ◌++◌, length, take, Option, Some, None}
+use Rattle.pico_base.specs.declared.numbers.Name.{Name}
 use Rattle.pico_base.specs.declared.script.Script.{Script}
-use Rattle.kernel_model.specs.Queue.{Queue}
-use Rattle.kernel_model.specs.Kernel.{opening}
-use Rattle.kernel_model.specs.Script.{Vars}
-use Rattle.kernel_model.specs.History.{IsLegal, Replays}
-use Rattle.kernel_model.specs.Fitting.{Place, FitsWhole, Follows, opening_places, with_exit}
+use Rattle.pico_base.specs.declared.script.Event.{Event}
+use Rattle.kernel_model.specs.History.{IsLegal}
+use Rattle.kernel_model.specs.Fitting.{FitsWhole}
 use Rattle.kernel_model.specs.Trace.{trace_text}
-use Rattle.script_reader.specs.Form.{AreCallLines}
-use Rattle.pico_cmd.specs.Node.{kernel_with}
+use Rattle.machine_model.specs.World.{World, opening_world, size_of}
+use Rattle.machine_model.specs.Run.{IsRunOf, IsAtRest}
+use Rattle.machine_model.specs.Schedule.{Follows, schedule_of}
+use Rattle.machine_model.specs.Owners.{owners}
+use Rattle.machine_model.specs.Weights.{calls_of}
+use Rattle.trace_text.specs.Steps.{steps_text}
+use Rattle.pico_cmd.specs.declared.words.Options.{Options}
 
--- node 1 carried it out
-abbrev pub IsByFirst : Entry → Type 0
-IsByFirst e = e.by ≡ 1
+-- The run of a script's picoprocesses that the schedule of this number takes, and the world that it ends in.
+pub record IsScheduledRun (script : Script) (seed : ℕ) (events : List Event) (last : World) : Type 0 where
+  -- what the schedule takes from the opening world is a run of the machine, to rest
+  pub schedule : Follows (opening_world script) (schedule_of seed (size_of script)) events last
+  pub run : IsRunOf script events last
+  pub rest : IsAtRest last
+  -- the journal is one history of a single POSIX kernel, and each process's calls stand in it once and in order, to
+  -- the process's end
+  pub legal : IsLegal last.journal
+  pub whole : FitsWhole script last.journal
+  -- after any first events no name has two owners
+  pub owners : (count : ℕ) (w : World) (name : Name) → IsRunOf script (take count events) w → owners name w ≤ 1
+  -- there are at most 32 events for each call
+  pub short : length events ≤ 32 * calls_of script
 
--- The history is that of one POSIX kernel, each call of the script's process stands in it once and in order, to
--- the process's end, and node 1 is the one owner of every name.
-pub record IsRunOf (script : Script) (history : List Entry) : Type 0 where
-  pub legal : IsLegal history
-  pub whole : FitsWhole script history
-  pub owner : AllByRecursion IsByFirst history
+-- such a run ends in this world, which isn't spent
+abbrev pub IsRunTo : Script → ℕ → List Event → Option World → Type 0
+IsRunTo script seed events None = ⊥
+IsRunTo script seed events (Some last) = IsScheduledRun script seed events last
 
--- process 1 made the call and had this reply
-abbrev pub entry_of : Call → Reply → Entry
-entry_of call reply = record { pid = 1; call = call; outcome = record { own = Some reply; woken = [] }; by = 1 }
+-- the text of the events, where it is wanted
+abbrev pub steps_if : Bool → List Event → List ℕ
+steps_if true events = steps_text events
+steps_if false events = []
 
--- before these lines, with these variables
-abbrev pub place_before : List Line → Vars → Place
-place_before lines vars = record { left = with_exit lines; tried = 0; vars = vars }
-
--- the history so far, where these lines are left and the node has these variables and queues
-pub record IsUnderWay (script : Script) (lines : List Line) (vars : Vars) (queues : List Queue) (history : List Entry) : Type 0 where
-  pub legal : Replays opening history (kernel_with queues)
-  pub fits : Follows script (opening_places script) history ((1, place_before lines vars) ∷ [])
-  pub owner : AllByRecursion IsByFirst history
-
--- the script's one block, of at most 19,999 lines of the forms that are built
-pub record IsOnlyBlock (script : Script) (block : Block) : Type 0 where
-  pub one : script.blocks ≡ block ∷ []
-  pub lines : AreCallLines block.lines
-  pub few : length block.lines < 20000
-
--- the text is the trace of a run
-pub record IsTextOfRun (script : Script) (text : List ℕ) : Type 0 where
-  pub history : List Entry
-  pub run : IsRunOf script history
-  pub is_text : text ≡ trace_text script history
+-- the text of a run: its trace, and its events where they are wanted
+pub record IsTextOfRun (script : Script) (options : Options) (text : List ℕ) : Type 0 where
+  pub events : List Event
+  pub last : World
+  pub run : IsScheduledRun script options.seed events last
+  pub is_text : text ≡ trace_text script last.journal ++ steps_if options.steps events

@@ -1,34 +1,26 @@
 //! The answer to a script's bytes: a status, and the text that goes with it.
-ghost use Rattle.std.specs.Prelude.{◌≡◌, ◌⊎◌, ◌++◌, ℕ, IfOk, OnOk};
+ghost use Rattle.std.specs.Prelude.{◌≡◌, ◌⊎◌, ◌++◌, ℕ, IfOk, OnOk, IfSome, IsSome};
 ghost use Rattle.pico_base.specs.declared.script.Script.{Script as ScriptValue};
+ghost use Rattle.kernel_model.specs.Trace.{trace_text};
+ghost use Rattle.machine_model.specs.Built.{IsRunnable};
 ghost use Rattle.script_reader.specs.declared.fault.ScriptFault.{ScriptFault as FaultValue};
 ghost use Rattle.script_reader.specs.Fault.{Reads, IsFirstFault};
-ghost use Rattle.script_reader.specs.Form.{IsBuilt};
-ghost use Rattle.pico_cmd.specs.Run.{IsTextOfRun};
-ghost use Rattle.pico_cmd.specs.Promise.{Answers, fault_name, fault_text};
+ghost use Rattle.pico_cmd.specs.Run.{IsRunTo, IsTextOfRun, steps_if};
+ghost use Rattle.pico_cmd.specs.Promise.{Answers, fault_text};
 
-use crate::print::trace_of;
-use crate::run::run;
+use crate::run::{Run, run_script};
 use crate::status::Status;
-use crate::text::{push, push_byte, push_number};
+use crate::words::Options;
 use pico_base::{Bytes, Memory, Script};
 use script_reader::{ScriptFault, ScriptStop, read_script};
 use std::alloc::Global;
+use trace_text::{push, push_byte, push_number, write_steps, write_trace};
 
 /// A status, and the text that is written with it.
 #[derive(Drop)]
 pub struct Answer {
     pub status: Status,
     pub text: Bytes,
-}
-
-fn name_of(fault: ScriptFault) -> &'static [u8]
-    ensures { result.now ≡ fault_name fault }
-{
-    match fault {
-        ScriptFault::ScriptTooLong => b"ScriptTooLong",
-        ScriptFault::NotBuilt => b"NotBuilt",
-    }
 }
 
 // The line that names a script's fault.
@@ -39,23 +31,38 @@ fn text_of_fault(alloc: Global, line: u32, fault: ScriptFault) -> Result<Bytes, 
     push(&mut out, b"fault: line ")?;
     push_number(&mut out, u64::from(line))?;
     push(&mut out, b": ")?;
-    push(&mut out, name_of(fault))?;
+    push(&mut out, fault.name().as_bytes())?;
     push_byte(&mut out, b'\n')?;
     Ok(Bytes::from_vec(out))
 }
 
-// The trace of a script's run.
-fn text_of_run(alloc: Global, script: &Script) -> Result<Bytes, Memory>
-    requires { IsBuilt script.now }
-    ensures { IfOk result (IsTextOfRun script.now) }
+// The text of a run: its trace, and its events where they are wanted.
+fn text_of(alloc: Global, run: &Run, steps: bool) -> Result<Bytes, Memory>
+    requires { IsSome run.now.world }
+    ensures { IfOk result (λ text. IfSome run.now.world (λ last. text ≡ trace_text last.script last.journal ++ steps_if steps run.now.events.items)) }
 {
-    let journal = run(alloc, script)?;
-    trace_of(alloc, script, journal.as_slice())
+    let trace = write_trace(alloc, run.world.script(), run.world.journal())?;
+    if !steps {
+        return Ok(trace);
+    }
+    let mut text = trace.into_vec();
+    push(&mut text, write_steps(alloc, &run.events)?.as_slice())?;
+    Ok(Bytes::from_vec(text))
 }
 
-/// The answer to these bytes: the trace of the script that they are, or their first fault.
-pub fn answer_to(alloc: Global, bytes: &[u8]) -> Result<Answer, Memory>
-    ensures answer { IfOk result (λ answer. Answers bytes.now answer.status answer.text) }
+// The text of a script's run by the schedule that is asked for.
+fn text_of_run(alloc: Global, script: Script, options: Options) -> Result<Bytes, Memory>
+    requires { IsRunnable script }
+    ensures { IfOk result (IsTextOfRun script options) }
+{
+    let run = run_script(alloc, script, options.seed)?;
+    text_of(alloc, &run, options.steps)
+}
+
+/// The answer to these bytes: the trace of the script that they are, and its events where they are wanted, or their
+/// first fault.
+pub fn answer_to(alloc: Global, bytes: &[u8], options: Options) -> Result<Answer, Memory>
+    ensures answer { IfOk result (λ answer. Answers options bytes.now answer.status answer.text) }
     ensures status { IfOk result (λ answer. (answer.status ≡ Status.Done) ⊎ (answer.status ≡ Status.BadScript)) }
     ensures done { (script : ScriptValue) → Reads bytes.now script → IfOk result (λ answer. answer.status ≡ Status.Done) }
     ensures fault { (line : ℕ) (fault : FaultValue) → IsFirstFault bytes.now line fault → IfOk result (λ answer. answer.status ≡ Status.BadScript) }
@@ -63,7 +70,7 @@ pub fn answer_to(alloc: Global, bytes: &[u8]) -> Result<Answer, Memory>
     match read_script(alloc, bytes) {
         Ok(script) => Ok(Answer {
             status: Status::Done,
-            text: text_of_run(alloc, &script)?,
+            text: text_of_run(alloc, script, options)?,
         }),
         Err(ScriptStop::At { line, fault }) => Ok(Answer {
             status: Status::BadScript,

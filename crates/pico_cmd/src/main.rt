@@ -2,14 +2,11 @@
 #![tactic(auto)]
 
 mod answer;
-mod node;
-mod print;
+mod laws;
 mod program;
-mod queue;
 mod run;
+mod schedule;
 mod status;
-mod text;
-mod variables;
 mod words;
 
 use host_iface::{OpenGate, StdSink, StdSource};

@@ -1,17 +1,18 @@
 //! The program, from words and bytes to bytes.
-ghost use Rattle.std.specs.Prelude.{◌≡◌, ◌⊎◌, ℕ, map, string_bytes, IfOk, IfSome, IfErr};
+ghost use Rattle.std.specs.Prelude.{◌≡◌, ◌⊎◌, ℕ, map, string_bytes, IfOk, OnOk, IfSome, IfErr};
 ghost use Rattle.pico_base.specs.declared.script.Script.{Script as ScriptValue};
 ghost use Rattle.script_reader.specs.declared.fault.ScriptFault.{ScriptFault as FaultValue};
 ghost use Rattle.script_reader.specs.Fault.{Reads, IsFirstFault};
 ghost use Rattle.host_iface.specs.Faults.{HasRisen};
 ghost use Rattle.host_iface.specs.Told.{followed_by};
-ghost use Rattle.pico_cmd.specs.Promise.{IsInOrder, Allows, AnswersTold, Wrote, WroteFront, IsOrFails, IsOrStops, IsWritten, usage_text};
+ghost use Rattle.pico_cmd.specs.Promise.{Allows, AnswersTold, Wrote, WroteFront, IsOrFails, IsOrStops, IsWritten, usage_text};
+ghost use Rattle.pico_cmd.specs.Words.{IsInOrder};
 ghost use Rattle.pico_cmd.specs.declared.program.Stop.TheVariants.{Memory as OutOfMemory};
-ghost use Rattle.pico_cmd.specs.Stop.{IsReadFault, AreScriptBytes};
+ghost use Rattle.pico_cmd.specs.Stop.{IsReadFault, AreScriptBytes, left_behind};
 
 use crate::answer::{Answer, answer_to};
 use crate::status::Status;
-use crate::words::is_sim;
+use crate::words::{Options, options_of};
 use host_iface::{Gate, ReadStop, Sink, Source, read_all, write_all};
 use pico_base::{Bytes, Memory};
 use std::alloc::Global;
@@ -55,6 +56,7 @@ fn usage(alloc: Global) -> Result<Answer, Memory>
 // The bytes of the source, one past the greatest script at most.
 fn script_bytes<S: Source>(alloc: Global, source: &mut S) -> Result<Bytes, Stop>
     ensures bytes { IfOk result (λ bytes. IfSome (S.left source.old) (AreScriptBytes bytes)) }
+    ensures rest { OnOk result (S.left source.new ≡ left_behind (S.left source.old)) }
     ensures fault { IfErr result (IsReadFault (HasRisen (S.faults source.old) (S.faults source.new))) }
 {
     match read_all(alloc, source, MAX_SCRIPT) {
@@ -66,15 +68,16 @@ fn script_bytes<S: Source>(alloc: Global, source: &mut S) -> Result<Bytes, Stop>
 }
 
 // The answer to the bytes of the source.
-fn simulate<S: Source>(alloc: Global, source: &mut S) -> Result<Answer, Stop>
-    ensures answer { IfOk result (λ answer. AnswersTold (S.left source.old) answer.status answer.text) }
+fn simulate<S: Source>(alloc: Global, options: Options, source: &mut S) -> Result<Answer, Stop>
+    ensures answer { IfOk result (λ answer. AnswersTold options (S.left source.old) answer.status answer.text) }
     ensures status { IfOk result (λ answer. (answer.status ≡ Status.Done) ⊎ (answer.status ≡ Status.BadScript)) }
     ensures done { IfSome (S.left source.old) (λ bytes. (script : ScriptValue) → Reads bytes script → IfOk result (λ answer. answer.status ≡ Status.Done)) }
     ensures fault { IfSome (S.left source.old) (λ bytes. (line : ℕ) (fault : FaultValue) → IsFirstFault bytes line fault → IfOk result (λ answer. answer.status ≡ Status.BadScript)) }
+    ensures rest { OnOk result (S.left source.new ≡ left_behind (S.left source.old)) }
     ensures stop { IfErr result (IsReadFault (HasRisen (S.faults source.old) (S.faults source.new))) }
 {
     let bytes = script_bytes(alloc, source)?;
-    Ok(answer_to(alloc, bytes.as_slice())?)
+    Ok(answer_to(alloc, bytes.as_slice(), options)?)
 }
 
 // The answer to the words and the bytes.
@@ -85,12 +88,12 @@ fn answer<S: Source>(alloc: Global, words: &[String], source: &mut S) -> Result<
         (script : ScriptValue) → Reads bytes script → IfOk result (λ answer. answer.status ≡ Status.Done)) }
     ensures fault { IsInOrder (map string_bytes words.now) → IfSome (S.left source.old) (λ bytes.
         (line : ℕ) (fault : FaultValue) → IsFirstFault bytes line fault → IfOk result (λ answer. answer.status ≡ Status.BadScript)) }
+    ensures rest { IsInOrder (map string_bytes words.now) → OnOk result (S.left source.new ≡ left_behind (S.left source.old)) }
     ensures stop { IfErr result (IsReadFault (IsInOrder (map string_bytes words.now) × HasRisen (S.faults source.old) (S.faults source.new))) }
 {
-    if is_sim(words) {
-        simulate(alloc, source)
-    } else {
-        Ok(usage(alloc)?)
+    match options_of(words) {
+        Some(options) => simulate(alloc, options, source),
+        None => Ok(usage(alloc)?),
     }
 }
 
@@ -106,8 +109,10 @@ fn write_answer<K: Sink>(sink: &mut K, answer: Answer) -> Status
 
 /// Runs the program: it looks at the words, reads the source to its end, does the job, and writes the whole answer.
 ///
-/// The words are those behind the program's name; for now they are in order where they are `sim` alone, which runs
-/// the script on one node and writes its trace.
+/// The words are those behind the program's name. They are in order where they are `sim`, then `--seed N` if wanted,
+/// with N from 0 to 2147483646 in decimal digits without a sign or a leading zero, and then `--steps` if wanted. The
+/// script's processes are then run as picoprocesses, one event at a time, by the schedule of number N, or 0 where none is
+/// given, and the trace is written; with `--steps` the events are written behind it.
 pub fn pico<R, S: Source, K: Sink, G: Gate>(
     _rt: &R,
     alloc: Global,
@@ -116,8 +121,8 @@ pub fn pico<R, S: Source, K: Sink, G: Gate>(
     sink: &mut K,
     _gate: &G,
 ) -> Ran
-    // What is written with each status: the trace of one history of a single POSIX kernel, the script's first fault,
-    // or the usage line; and nothing where memory or the source failed.
+    // What is written with each status: the trace of a run of the script's processes, which is one history of a single
+    // POSIX kernel, the script's first fault, or the usage line; and nothing where memory or the source failed.
     ensures done { result.status ≡ Status.Done →
         Wrote (map string_bytes words.now) (S.left source.old) Status.Done (K.taken sink.old) (K.taken sink.new) }
     ensures bad_script { result.status ≡ Status.BadScript →
@@ -133,6 +138,10 @@ pub fn pico<R, S: Source, K: Sink, G: Gate>(
     ensures write_cause { result.status ≡ Status.WriteFault → HasRisen (K.faults sink.old) (K.faults sink.new) }
     ensures write_front { result.status ≡ Status.WriteFault →
         WroteFront (map string_bytes words.now) (S.left source.old) (K.taken sink.old) (K.taken sink.new) }
+
+    // The source is read to its end, or one byte past the greatest script.
+    ensures rest { IsInOrder (map string_bytes words.now) → (result.status ≡ Status.ReadFault → ⊥) → (result.status ≡ Status.Memory → ⊥)
+        → S.left source.new ≡ left_behind (S.left source.old) }
 
     // Words out of order give the usage line, and a script with a fault its fault.
     ensures usage_exactly { (IsInOrder (map string_bytes words.now) → ⊥) → IsOrFails result.status Status.Usage }

@@ -1,48 +1,44 @@
-//! The run of a script with one process, on node 1.
-ghost use Rattle.std.specs.Prelude.{◌≡◌, ◌++◌, ◌∷◌, [], IfOk};
-ghost use Rattle.script_reader.specs.Form.{IsBuilt};
-ghost use Rattle.pico_cmd.specs.Run.{IsRunOf, IsOnlyBlock, entry_of};
+//! The run of a script's picoprocesses by a schedule.
+ghost use Rattle.std.specs.Prelude.{◌≡◌, IfOk};
+ghost use Rattle.kernel_model.specs.Script.{IsSound};
+ghost use Rattle.machine_model.specs.Built.{IsRunnable};
+ghost use Rattle.machine_model.specs.World.{size_of};
+ghost use Rattle.pico_cmd.specs.Run.{IsRunTo};
 
-use crate::node::carry_out;
-use crate::variables::{Variables, call_due, set_by};
-use pico_base::{Block, Call, Entries, Entry, Memory, Node, Outcome, Pid, Reply, Script};
+use crate::laws::laws;
+use crate::schedule::Schedule;
+use pico_base::{Event, Memory, Node, Script};
 use std::alloc::Global;
+use world_core::World;
 
-// The entry of a call of process 1 that node 1 carried out.
-fn entry(alloc: Global, call: Call, reply: Reply) -> Entry
-    ensures { result ≡ entry_of call reply }
-{
-    Entry {
-        pid: Pid(1),
-        call,
-        outcome: Outcome::reply(alloc, reply),
-        by: Node(1),
-    }
+/// A run: its events, and the world that it ended in.
+#[derive(Drop)]
+pub struct Run {
+    pub events: Vec<Event>,
+    pub world: World,
 }
 
-// The one block of a script that is built.
-fn only_block(script: &Script) -> &Block
-    requires { IsBuilt script.now }
-    ensures { IsOnlyBlock script.now result.now }
+// How many nodes a script has.
+fn nodes_of(script: &Script) -> Node
+    requires { IsSound script.now }
+    ensures { result ≡ size_of script.now }
 {
-    &script.blocks.as_slice()[0]
+    Node(script.blocks.len() as u8)
 }
 
-/// The journal of the script's run: each call of its block once and in order, and then `exit 0`.
-pub fn run(alloc: Global, script: &Script) -> Result<Entries, Memory>
-    requires { IsBuilt script.now }
-    ensures { IfOk result (IsRunOf script.now) }
+/// Runs a script by the schedule of this number, to rest.
+pub fn run_script(alloc: Global, script: Script, seed: u32) -> Result<Run, Memory>
+    requires { IsRunnable script }
+    ensures { IfOk result (λ run. IsRunTo script seed run.events.items run.world) }
 {
-    let lines = only_block(script).lines.as_slice();
-    let mut variables = Variables::new(alloc);
-    let mut queues = Vec::new(alloc);
-    let mut journal = Vec::new(alloc);
-    for line in lines {
-        let call = call_due(alloc, line, &variables)?;
-        let reply = carry_out(alloc, &mut queues, &call)?;
-        set_by(&mut variables, line.set, &reply)?;
-        journal.push(entry(alloc, call, reply))?;
+    laws();
+    let mut schedule = Schedule::numbered(seed, nodes_of(&script));
+    let mut world = World::start(alloc, script)?;
+    let mut events = Vec::new(alloc);
+    while let Some(event) = schedule.choice(&world) {
+        schedule = schedule.after(&event);
+        world.step(event)?;
+        events.push(event)?;
     }
-    journal.push(entry(alloc, Call::Exit { status: 0 }, Reply::Ended))?;
-    Ok(Entries::from_vec(journal))
+    Ok(Run { events, world })
 }

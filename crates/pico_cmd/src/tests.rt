@@ -10,8 +10,24 @@ use std::test::Fail;
 const HELLO: &str =
     "proc main\nq = msgget private\nmsgsnd $q 1 \"hi\" nowait\nmsgrcv $q 0 16 nowait\nend\n";
 
+// The first script's trace.
 const TRACE: &str =
     "1 msgget private = 1 by 1\n1 msgsnd 1 1 \"hi\" nowait = 0 by 1\n1 msgrcv 1 0 16 nowait = 1 \"hi\" by 1\n1 exit 0 = ended by 1\ntotals entries 4 processes 1 notready 0 refused 0\n";
+
+// Two processes that find a queue of the first one empty.
+const BOTH_FIND_NOTHING: &str =
+    "proc main\nq = msgget private\nmsgrcv $q 0 8 nowait\nfork child\nend\nproc child\nmsgrcv $q 0 8 nowait\nend\n";
+
+// The node that holds the queue carries the second process's call out.
+const BOTH_FIND_NOTHING_TEXT: &str =
+    "1 msgget private = 1 by 1\n1 msgrcv 1 0 8 nowait = ENOMSG by 1\n1 fork child = 2 by 1\n1 exit 0 = ended by 1\n2 msgrcv 1 0 8 nowait = ENOMSG by 1\n2 exit 0 = ended by 1\ntotals entries 6 processes 2 notready 2 refused 0\nsteps 12\nrun 1\nrun 1\nrun 1\ntake 2 from 1\nrun 1\nrun 2\ntake 1 from 2\ntake 2 from 1\nrun 2\ntake 1 from 2\ntake 2 from 1\ntake 1 from 2\n";
+
+// A process that forks another, which asks for its number.
+const GETPID: &str = "proc main\nfork child\nend\nproc child\ngetpid\nend\n";
+
+// By the first drawn schedule.
+const GETPID_TEXT: &str =
+    "1 fork child = 2 by 1\n1 exit 0 = ended by 1\n2 getpid = 2 by 2\n2 exit 0 = ended by 1\ntotals entries 4 processes 2 notready 0 refused 0\nsteps 8\nrun 1\nrun 1\ntake 2 from 1\nrun 2\nrun 2\ntake 1 from 2\ntake 2 from 1\ntake 1 from 2\n";
 
 // The list of one failing call, or of none.
 fn failing(alloc: Global, call: Option<u64>) -> Result<CallList, Fail> {
@@ -26,10 +42,19 @@ fn bytes_of(alloc: Global, text: &str) -> Result<Bytes, Fail> {
     Ok(Bytes::from_slice(alloc, text.as_bytes())?)
 }
 
+// The words of a line, between single spaces.
+fn words_in(alloc: Global, line: &str) -> Result<Vec<String>, Fail> {
+    let mut words = Vec::new(alloc);
+    for word in line.split(' ') {
+        words.push(word.to_string(alloc)?)?;
+    }
+    Ok(words)
+}
+
 // Runs the program on a script, with one read and one write that may fail, and gives its status and what it wrote.
 fn run_on(
     alloc: Global,
-    word: &str,
+    line: &str,
     text: &str,
     read: Option<u64>,
     write: Option<u64>,
@@ -37,7 +62,7 @@ fn run_on(
     let mut source = MemSource::new(bytes_of(alloc, text)?, failing(alloc, read)?);
     let mut sink = MemSink::new(alloc, failing(alloc, write)?);
     sink.reserve(4096)?;
-    let words = vec![in alloc; word.to_string(alloc)?]?;
+    let words = words_in(alloc, line)?;
     let ran = pico(&(), alloc, &words, &mut source, &mut sink, &OpenGate);
     let written = String::from_utf8_lossy(alloc, sink.taken())?;
     Ok((ran.status, written))
@@ -52,10 +77,49 @@ fn the_first_script_gives_its_trace(rt: HostRuntime) -> Result<(), Fail> {
 }
 
 #[test]
+fn two_processes_take_turns(rt: HostRuntime) -> Result<(), Fail> {
+    for line in ["sim --steps", "sim --seed 0 --steps"] {
+        let (status, written) = run_on(rt.alloc(), line, BOTH_FIND_NOTHING, None, None)?;
+        assert_eq!(rt; status, Status::Done, "{line}");
+        assert_eq!(rt; written.as_str(), BOTH_FIND_NOTHING_TEXT, "{line}");
+    }
+    Ok(())
+}
+
+#[test]
+fn a_drawn_schedule_takes_other_turns(rt: HostRuntime) -> Result<(), Fail> {
+    let (status, written) = run_on(rt.alloc(), "sim --seed 1 --steps", GETPID, None, None)?;
+    assert_eq!(rt; status, Status::Done);
+    assert_eq!(rt; written.as_str(), GETPID_TEXT);
+    Ok(())
+}
+
+#[test]
+fn the_greatest_number_is_a_schedule(rt: HostRuntime) -> Result<(), Fail> {
+    let (status, written) = run_on(rt.alloc(), "sim --seed 2147483646", HELLO, None, None)?;
+    assert_eq!(rt; status, Status::Done);
+    assert_eq!(rt; written.as_str(), TRACE);
+    Ok(())
+}
+
+#[test]
 fn other_words_give_the_usage_line(rt: HostRuntime) -> Result<(), Fail> {
-    for word in ["walk", "sims", "", "--steps"] {
-        let (status, written) = run_on(rt.alloc(), word, HELLO, None, None)?;
-        assert_eq!(rt; status, Status::Usage, "{word}");
+    for line in [
+        "",
+        "walk",
+        "sims",
+        "--steps",
+        "sim --steps --seed 1",
+        "sim --steps --steps",
+        "sim --seed",
+        "sim --seed --steps",
+        "sim --seed 01",
+        "sim --seed +1",
+        "sim --seed 2147483647",
+        "sim --seed 1 --steps 2",
+    ] {
+        let (status, written) = run_on(rt.alloc(), line, HELLO, None, None)?;
+        assert_eq!(rt; status, Status::Usage, "{line}");
         assert_eq!(rt;
             written.as_str(),
             "usage: pico run|sim|check|gen [--seed N] [--steps]\n"
@@ -77,7 +141,7 @@ fn a_script_with_a_fault_is_told_where(rt: HostRuntime) -> Result<(), Fail> {
             "proc main\nq =  msgget private\nend\n",
             "fault: line 2: NotBuilt\n",
         ),
-        ("proc main\ngetpid\nend\n", "fault: line 2: NotBuilt\n"),
+        ("proc main\nwaitpid any\nend\n", "fault: line 2: NotBuilt\n"),
         (
             "proc main\nmsgrcv $q 0 8 nowait\nend\n",
             "fault: line 2: NotBuilt\n",

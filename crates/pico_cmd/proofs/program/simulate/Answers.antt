@@ -3,7 +3,7 @@ use Rattle.pico_cmd.proofs.program.simulate.Goals as goal
 
 pub returns-clause-answer : goal.returns-clause-answer
 returns-clause-answer g c =
-    told_answer (g.S.Source.left c.args.source.now) _ _ _ _ c.in_ok-bytes.ensures.bytes c.as_slice.ensures c.in_ok-answer_to.ensures.answer
+    told_answer _ (g.S.Source.left c.args.source.now) _ _ _ _ c.in_ok-bytes.ensures.bytes c.as_slice.ensures c.in_ok-answer_to.ensures.answer
 
 pub returns-clause-done : goal.returns-clause-done
 returns-clause-done g c =

@@ -1,0 +1,31 @@
+-- What a run ends in, and its text.
+use Rattle.std.proofs.Common.{◌≡◌, List, [], ◌∷◌, ◌++◌, ℕ, Option, Some, None, Result, Ok, Err, sym, ap, ◌∙◌}
+use Rattle.std.specs.Prelude.{IfOk, IfSome}
+use Rattle.pico_base.specs.declared.script.Event.{Event}
+use Rattle.pico_base.specs.declared.script.Script.{Script}
+use Rattle.kernel_model.specs.Trace.{trace_text}
+use Rattle.machine_model.specs.World.{World, opening_world}
+use Rattle.machine_model.specs.Run.{Runs}
+use Rattle.pico_cmd.specs.declared.words.Options.{Options}
+use Rattle.pico_cmd.specs.Run.{IsRunTo, IsTextOfRun, steps_if}
+use Rattle.pico_cmd.proofs.Runs.{step_script}
+
+-- a run keeps the script
+runs_keep : (w last : World) (es : List Event) → Runs w es last → last.script ≡ w.script
+runs_keep w last [] r = ap (λ (x : World). x.script) (sym r)
+runs_keep w last (e ∷ es) r = runs_keep r.1 last es r.3 ∙ step_script w e r.1 r.2
+
+-- the text of a run is that of the script's
+pub text_told : {E : Type 0} (script : Script) (options : Options) (es : List Event) (world : Option World) (r : Result (List ℕ) E)
+    → IsRunTo script options.seed es world
+    → IfOk r (λ text. IfSome world (λ last. text ≡ trace_text last.script last.journal ++ steps_if options.steps es))
+    → IfOk r (IsTextOfRun script options)
+text_told script options es None r run told = absurd run
+text_told script options es (Some last) (Err e) run told = tt
+text_told script options es (Some last) (Ok text) run told =
+    record {
+      events = es;
+      last = last;
+      run = run;
+      is_text = told ∙ ap (λ (s : Script). trace_text s last.journal ++ steps_if options.steps es) (runs_keep (opening_world script) last es run.run);
+    }

@@ -1,0 +1,695 @@
+//! The text of a history: a line for each entry, and the totals.
+ghost use Rattle.std.specs.Prelude.{◌≡◌, ◌+◌, ◌<◌, ◌≤◌, ◌^◌, [], ◌∷◌, ◌++◌, codes, length, count_by, IfOk, OnOk};
+ghost use Rattle.std.specs.List.{flat_map, filter};
+ghost use Rattle.pico_base.specs.Signal.{at};
+ghost use Rattle.kernel_model.specs.Signals.{all_signals};
+ghost use Rattle.std.specs.Fmt.{decimal, signed_decimal};
+ghost use Rattle.kernel_model.specs.Fitting.{block_at};
+ghost use Rattle.kernel_model.specs.Trace as trace;
+ghost use Rattle.pico_base.specs.declared.reply.Reply.TheVariants.{Stat};
+
+use crate::text::{push, push_byte, push_message, push_number, push_signed};
+use pico_base::{
+    Act, Block, Bytes, Call, Ending, Entries, Entry, Errno, How, Id, Key, Memory, Node, Pid, Reply,
+    Script, SemStep, Sig, SigArg, SigSet,
+};
+use std::alloc::Global;
+
+// The table of signals, in order.
+const TABLE: [Sig; 10] = [
+    Sig::Hup,
+    Sig::Int,
+    Sig::Quit,
+    Sig::Kill,
+    Sig::Usr1,
+    Sig::Usr2,
+    Sig::Pipe,
+    Sig::Alrm,
+    Sig::Term,
+    Sig::Chld,
+];
+
+fn signal_name(sig: Sig) -> &'static [u8]
+    ensures { result.now ≡ trace.signal_name sig }
+{
+    match sig {
+        Sig::Hup => b"HUP",
+        Sig::Int => b"INT",
+        Sig::Quit => b"QUIT",
+        Sig::Kill => b"KILL",
+        Sig::Usr1 => b"USR1",
+        Sig::Usr2 => b"USR2",
+        Sig::Pipe => b"PIPE",
+        Sig::Alrm => b"ALRM",
+        Sig::Term => b"TERM",
+        Sig::Chld => b"CHLD",
+    }
+}
+
+fn error_name(errno: Errno) -> &'static [u8]
+    ensures { result.now ≡ trace.error_name errno }
+{
+    match errno {
+        Errno::Esrch => b"ESRCH",
+        Errno::Einval => b"EINVAL",
+        Errno::Echild => b"ECHILD",
+        Errno::Enoent => b"ENOENT",
+        Errno::Eexist => b"EEXIST",
+        Errno::Enomsg => b"ENOMSG",
+        Errno::Eagain => b"EAGAIN",
+        Errno::E2big => b"E2BIG",
+        Errno::Efbig => b"EFBIG",
+        Errno::Erange => b"ERANGE",
+        Errno::Eidrm => b"EIDRM",
+        Errno::Eintr => b"EINTR",
+    }
+}
+
+fn act_name(act: Act) -> &'static [u8]
+    ensures { result.now ≡ trace.action_name act }
+{
+    match act {
+        Act::Dfl => b"dfl",
+        Act::Ign => b"ign",
+        Act::Catch => b"catch",
+    }
+}
+
+fn how_name(how: How) -> &'static [u8]
+    ensures { result.now ≡ trace.how_name how }
+{
+    match how {
+        How::Block => b"block",
+        How::Unblock => b"unblock",
+        How::SetMask => b"setmask",
+    }
+}
+
+fn signal_argument(sig: SigArg) -> &'static [u8]
+    ensures { result.now ≡ trace.signal_argument sig }
+{
+    match sig {
+        SigArg::Zero => b"0",
+        SigArg::Is(sig) => signal_name(sig),
+        SigArg::Bad => b"badsig",
+    }
+}
+
+// A word behind a space, where it is wanted.
+fn push_word(out: &mut Vec<u8>, wanted: bool, word: &[u8]) -> Result<(), Memory>
+    ensures { OnOk result (out.new.items ≡ out.old.items ++ trace.word wanted word.now) }
+{
+    if wanted {
+        push_byte(out, b' ')?;
+        push(out, word)?;
+    }
+    Ok(())
+}
+
+// A label and a number.
+fn push_labelled(out: &mut Vec<u8>, label: &[u8], number: u64) -> Result<(), Memory>
+    ensures { OnOk result (out.new.items ≡ out.old.items ++ trace.labelled label.now number) }
+{
+    push(out, label)?;
+    push_number(out, number)
+}
+
+fn push_pid(out: &mut Vec<u8>, pid: Pid) -> Result<(), Memory>
+    ensures { OnOk result (out.new.items ≡ out.old.items ++ decimal pid) }
+{
+    push_number(out, u64::from(pid.0))
+}
+
+fn push_node(out: &mut Vec<u8>, node: Node) -> Result<(), Memory>
+    ensures { OnOk result (out.new.items ≡ out.old.items ++ decimal node) }
+{
+    push_number(out, u64::from(node.0))
+}
+
+fn push_id(out: &mut Vec<u8>, id: Id) -> Result<(), Memory>
+    ensures { OnOk result (out.new.items ≡ out.old.items ++ decimal id) }
+{
+    push_number(out, u64::from(id.0))
+}
+
+fn push_create_words(out: &mut Vec<u8>, create: bool, excl: bool) -> Result<(), Memory>
+    ensures { OnOk result (out.new.items ≡ out.old.items ++ trace.create_words create excl) }
+{
+    push_word(out, create, b"create")?;
+    push_word(out, excl, b"excl")
+}
+
+fn push_msgget(out: &mut Vec<u8>, key: Option<Key>, create: bool, excl: bool) -> Result<(), Memory>
+    ensures { OnOk result (out.new.items ≡ out.old.items ++ trace.msgget_text key create excl) }
+{
+    let Some(key) = key else {
+        return push(out, b"msgget private");
+    };
+    push_labelled(out, b"msgget ", u64::from(key.0))?;
+    push_create_words(out, create, excl)
+}
+
+// A call's name, the queue and the type of message.
+fn push_queue_words(out: &mut Vec<u8>, name: &[u8], id: Id, class: i32) -> Result<(), Memory>
+    ensures { OnOk result (out.new.items ≡ out.old.items ++ trace.queue_words name.now id class) }
+{
+    push(out, name)?;
+    push_id(out, id)?;
+    push_byte(out, b' ')?;
+    push_signed(out, class)?;
+    push_byte(out, b' ')
+}
+
+fn push_msgsnd(
+    out: &mut Vec<u8>,
+    id: Id,
+    class: i32,
+    text: &[u8],
+    nowait: bool,
+) -> Result<(), Memory>
+    ensures { OnOk result (out.new.items ≡ out.old.items ++ trace.msgsnd_text id class text.now nowait) }
+{
+    push_queue_words(out, b"msgsnd ", id, class)?;
+    push_message(out, text)?;
+    push_word(out, nowait, b"nowait")
+}
+
+fn push_msgrcv(
+    out: &mut Vec<u8>,
+    id: Id,
+    class: i32,
+    size: u32,
+    noerror: bool,
+    nowait: bool,
+) -> Result<(), Memory>
+    ensures { OnOk result (out.new.items ≡ out.old.items ++ trace.msgrcv_text id class size noerror nowait) }
+{
+    push_queue_words(out, b"msgrcv ", id, class)?;
+    push_number(out, u64::from(size))?;
+    push_word(out, noerror, b"noerror")?;
+    push_word(out, nowait, b"nowait")
+}
+
+fn push_exit(out: &mut Vec<u8>, status: u16) -> Result<(), Memory>
+    ensures { OnOk result (out.new.items ≡ out.old.items ++ codes "exit " ++ decimal status) }
+{
+    push(out, b"exit ")?;
+    push_number(out, u64::from(status))
+}
+
+// The name of a script's block; nothing where there is no such block.
+fn push_block_name(out: &mut Vec<u8>, script: &Script, block: Node) -> Result<(), Memory>
+    ensures { OnOk result (out.new.items ≡ out.old.items ++ trace.name_of_block (block_at script.now block)) }
+{
+    match script.blocks.as_slice().get(usize::from(block.0) - 1) {
+        Some(block) => push(out, block.name.as_slice()),
+        None => Ok(()),
+    }
+}
+
+fn push_fork(out: &mut Vec<u8>, script: &Script, block: Node) -> Result<(), Memory>
+    ensures { OnOk result (out.new.items ≡ out.old.items ++ codes "fork " ++ trace.name_of_block (block_at script.now block)) }
+{
+    push(out, b"fork ")?;
+    push_block_name(out, script, block)
+}
+
+fn push_kill(out: &mut Vec<u8>, pid: Pid, sig: SigArg) -> Result<(), Memory>
+    ensures { OnOk result (out.new.items ≡ out.old.items ++ codes "kill " ++ decimal pid ++ 32 ∷ trace.signal_argument sig) }
+{
+    push(out, b"kill ")?;
+    push_pid(out, pid)?;
+    push_byte(out, b' ')?;
+    push(out, signal_argument(sig))
+}
+
+fn push_sigaction(out: &mut Vec<u8>, sig: SigArg, act: Act) -> Result<(), Memory>
+    ensures { OnOk result (out.new.items ≡ out.old.items ++ codes "sigaction " ++ trace.signal_argument sig ++ 32 ∷ trace.action_name act) }
+{
+    push(out, b"sigaction ")?;
+    push(out, signal_argument(sig))?;
+    push_byte(out, b' ')?;
+    push(out, act_name(act))
+}
+
+fn push_signal_call(out: &mut Vec<u8>, name: &[u8], sig: Sig) -> Result<(), Memory>
+    ensures { OnOk result (out.new.items ≡ out.old.items ++ name.now ++ trace.signal_name sig) }
+{
+    push(out, name)?;
+    push(out, signal_name(sig))
+}
+
+fn push_waitpid(out: &mut Vec<u8>, child: Option<Pid>, nohang: bool) -> Result<(), Memory>
+    ensures { OnOk result (out.new.items ≡ out.old.items ++ codes "waitpid " ++ trace.child_text child ++ trace.word nohang (codes "nohang")) }
+{
+    push(out, b"waitpid ")?;
+    match child {
+        None => push(out, b"any")?,
+        Some(pid) => push_pid(out, pid)?,
+    }
+    push_word(out, nohang, b"nohang")
+}
+
+fn push_msgctl(out: &mut Vec<u8>, id: Id, command: &[u8]) -> Result<(), Memory>
+    ensures { OnOk result (out.new.items ≡ out.old.items ++ codes "msgctl " ++ decimal id ++ command.now) }
+{
+    push(out, b"msgctl ")?;
+    push_id(out, id)?;
+    push(out, command)
+}
+
+fn push_msgset(out: &mut Vec<u8>, id: Id, qbytes: u32) -> Result<(), Memory>
+    ensures { OnOk result (out.new.items ≡ out.old.items ++ codes "msgctl " ++ decimal id ++ codes " set " ++ decimal qbytes) }
+{
+    push_msgctl(out, id, b" set ")?;
+    push_number(out, u64::from(qbytes))
+}
+
+fn push_ending(out: &mut Vec<u8>, ending: Ending) -> Result<(), Memory>
+    ensures { OnOk result (out.new.items ≡ out.old.items ++ trace.ending_text ending) }
+{
+    match ending {
+        Ending::Exited(status) => {
+            push(out, b" exited ")?;
+            push_number(out, u64::from(status))
+        }
+        Ending::Killed(sig) => push_signal_call(out, b" killed ", sig),
+    }
+}
+
+fn push_child(out: &mut Vec<u8>, pid: Pid, ending: Ending) -> Result<(), Memory>
+    ensures { OnOk result (out.new.items ≡ out.old.items ++ decimal pid ++ trace.ending_text ending) }
+{
+    push_pid(out, pid)?;
+    push_ending(out, ending)
+}
+
+fn push_received(out: &mut Vec<u8>, class: i32, text: &[u8]) -> Result<(), Memory>
+    ensures { OnOk result (out.new.items ≡ out.old.items ++ signed_decimal class ++ 32 ∷ trace.message_text text.now) }
+{
+    push_signed(out, class)?;
+    push_byte(out, b' ')?;
+    push_message(out, text)
+}
+
+fn members(alloc: Global, set: SigSet) -> Result<Vec<Sig>, Memory>
+    ensures { IfOk result (λ v. v.items ≡ filter (at set) all_signals) }
+{
+    Ok(
+        TABLE
+            .iter()
+            .copied()
+            .filter(|sig| set.has(*sig))
+            .collect(alloc)?,
+    )
+}
+
+fn push_names(out: &mut Vec<u8>, first: Sig, others: &[Sig]) -> Result<(), Memory>
+    ensures { OnOk result (out.new.items ≡ out.old.items ++ trace.commas trace.signal_name (first ∷ others.now)) }
+{
+    push(out, signal_name(first))?;
+    for sig in others {
+        push_byte(out, b',')?;
+        push(out, signal_name(*sig))?;
+    }
+    Ok(())
+}
+
+fn push_signals(out: &mut Vec<u8>, signals: &[Sig]) -> Result<(), Memory>
+    ensures { OnOk result (out.new.items ≡ out.old.items ++ trace.signals_text signals.now) }
+{
+    match signals.split_first() {
+        None => push(out, b"none"),
+        Some((first, others)) => push_names(out, *first, others),
+    }
+}
+
+#[tactic(auto, unfolding(kernel_model::specs::Trace::set_text))]
+fn push_set(alloc: Global, out: &mut Vec<u8>, set: SigSet) -> Result<(), Memory>
+    ensures { OnOk result (out.new.items ≡ out.old.items ++ trace.set_text set) }
+{
+    let signals = members(alloc, set)?;
+    push_signals(out, &signals)
+}
+
+fn push_values(out: &mut Vec<u8>, values: &[u32]) -> Result<(), Memory>
+    ensures { OnOk result (out.new.items ≡ out.old.items ++ trace.values_text values.now) }
+{
+    let Some((first, others)) = values.split_first() else {
+        return Ok(());
+    };
+    push_number(out, u64::from(*first))?;
+    for value in others {
+        push_byte(out, b',')?;
+        push_number(out, u64::from(*value))?;
+    }
+    Ok(())
+}
+
+fn push_step(out: &mut Vec<u8>, step: SemStep) -> Result<(), Memory>
+    ensures { OnOk result (out.new.items ≡ out.old.items ++ trace.step_text step) }
+{
+    push_byte(out, b' ')?;
+    push_number(out, u64::from(step.num))?;
+    push_byte(out, b':')?;
+    push_signed(out, step.add)?;
+    if step.nowait {
+        push(out, b":nowait")
+    } else {
+        Ok(())
+    }
+}
+
+fn push_semop(out: &mut Vec<u8>, id: Id, steps: &[SemStep]) -> Result<(), Memory>
+    ensures { OnOk result (out.new.items ≡ out.old.items ++ codes "semop " ++ decimal id ++ flat_map trace.step_text steps.now) }
+{
+    push(out, b"semop ")?;
+    push_id(out, id)?;
+    for step in steps {
+        push_step(out, *step)?;
+    }
+    Ok(())
+}
+
+fn push_semctl(out: &mut Vec<u8>, id: Id, command: &[u8]) -> Result<(), Memory>
+    ensures { OnOk result (out.new.items ≡ out.old.items ++ codes "semctl " ++ decimal id ++ command.now) }
+{
+    push(out, b"semctl ")?;
+    push_id(out, id)?;
+    push(out, command)
+}
+
+fn push_semctl_at(out: &mut Vec<u8>, id: Id, command: &[u8], num: u16) -> Result<(), Memory>
+    ensures { OnOk result (out.new.items ≡ out.old.items ++ trace.semctl_at id command.now num) }
+{
+    push_semctl(out, id, command)?;
+    push_number(out, u64::from(num))
+}
+
+fn push_semget(
+    out: &mut Vec<u8>,
+    key: Option<Key>,
+    count: u32,
+    create: bool,
+    excl: bool,
+) -> Result<(), Memory>
+    ensures { OnOk result (out.new.items ≡ out.old.items ++ trace.semget_text key count create excl) }
+{
+    let Some(key) = key else {
+        return push_labelled(out, b"semget private ", u64::from(count));
+    };
+    push_labelled(out, b"semget ", u64::from(key.0))?;
+    push_labelled(out, b" ", u64::from(count))?;
+    push_create_words(out, create, excl)
+}
+
+fn push_setval(out: &mut Vec<u8>, id: Id, num: u16, value: u32) -> Result<(), Memory>
+    ensures { OnOk result (out.new.items ≡ out.old.items ++ trace.semctl_at id (codes " setval ") num ++ 32 ∷ decimal value) }
+{
+    push_semctl_at(out, id, b" setval ", num)?;
+    push_byte(out, b' ')?;
+    push_number(out, u64::from(value))
+}
+
+fn push_setall(out: &mut Vec<u8>, id: Id, values: &[u32]) -> Result<(), Memory>
+    ensures { OnOk result (out.new.items ≡ out.old.items ++ codes "semctl " ++ decimal id ++ codes " setall " ++ trace.values_text values.now) }
+{
+    push_semctl(out, id, b" setall ")?;
+    push_values(out, values)
+}
+
+fn push_how(out: &mut Vec<u8>, how: How) -> Result<(), Memory>
+    ensures { OnOk result (out.new.items ≡ out.old.items ++ trace.how_words how) }
+{
+    push(out, b"sigprocmask ")?;
+    push(out, how_name(how))?;
+    push_byte(out, b' ')
+}
+
+fn push_sigprocmask(alloc: Global, out: &mut Vec<u8>, how: How, set: SigSet) -> Result<(), Memory>
+    ensures { OnOk result (out.new.items ≡ out.old.items ++ trace.sigprocmask_text how set) }
+{
+    push_how(out, how)?;
+    push_set(alloc, out, set)
+}
+
+// A call as a script would have it, with actual numbers.
+fn push_call(alloc: Global, out: &mut Vec<u8>, script: &Script, call: &Call) -> Result<(), Memory>
+    ensures { OnOk result (out.new.items ≡ out.old.items ++ trace.call_text script.now call.now) }
+{
+    match call {
+        Call::Fork { block } => push_fork(out, script, *block),
+        Call::Exit { status } => push_exit(out, *status),
+        Call::Killed { sig } => push_signal_call(out, b"killed ", *sig),
+        Call::GetPid => push(out, b"getpid"),
+        Call::Kill { pid, sig } => push_kill(out, *pid, *sig),
+        Call::SigAction { sig, act } => push_sigaction(out, *sig, *act),
+        Call::SigProcMask { how, set } => push_sigprocmask(alloc, out, *how, *set),
+        Call::SigPending => push(out, b"sigpending"),
+        Call::Handled { sig } => push_signal_call(out, b"handled ", *sig),
+        Call::WaitPid { child, nohang } => push_waitpid(out, *child, *nohang),
+        Call::MsgGet { key, create, excl } => push_msgget(out, *key, *create, *excl),
+        Call::MsgSnd {
+            id,
+            class,
+            text,
+            nowait,
+        } => push_msgsnd(out, *id, *class, text.as_slice(), *nowait),
+        Call::MsgRcv {
+            id,
+            class,
+            size,
+            noerror,
+            nowait,
+        } => push_msgrcv(out, *id, *class, *size, *noerror, *nowait),
+        Call::MsgStat { id } => push_msgctl(out, *id, b" stat"),
+        Call::MsgSet { id, qbytes } => push_msgset(out, *id, *qbytes),
+        Call::MsgRmid { id } => push_msgctl(out, *id, b" rmid"),
+        Call::SemGet {
+            key,
+            count,
+            create,
+            excl,
+        } => push_semget(out, *key, *count, *create, *excl),
+        Call::SemOp { id, steps } => push_semop(out, *id, steps.as_slice()),
+        Call::SemGetVal { id, num } => push_semctl_at(out, *id, b" getval ", *num),
+        Call::SemGetPid { id, num } => push_semctl_at(out, *id, b" getpid ", *num),
+        Call::SemGetNcnt { id, num } => push_semctl_at(out, *id, b" getncnt ", *num),
+        Call::SemGetZcnt { id, num } => push_semctl_at(out, *id, b" getzcnt ", *num),
+        Call::SemSetVal { id, num, value } => push_setval(out, *id, *num, *value),
+        Call::SemGetAll { id } => push_semctl(out, *id, b" getall"),
+        Call::SemSetAll { id, values } => push_setall(out, *id, values.as_slice()),
+        Call::SemRmid { id } => push_semctl(out, *id, b" rmid"),
+    }
+}
+
+fn push_stat(
+    out: &mut Vec<u8>,
+    qnum: u32,
+    qbytes: u32,
+    lspid: Pid,
+    lrpid: Pid,
+) -> Result<(), Memory>
+    ensures { OnOk result (out.new.items ≡ out.old.items ++ trace.reply_text (Stat qnum qbytes lspid lrpid)) }
+{
+    push_labelled(out, b"qnum ", u64::from(qnum))?;
+    push_labelled(out, b" qbytes ", u64::from(qbytes))?;
+    push_labelled(out, b" lspid ", u64::from(lspid.0))?;
+    push_labelled(out, b" lrpid ", u64::from(lrpid.0))
+}
+
+fn push_all(out: &mut Vec<u8>, values: &[u32]) -> Result<(), Memory>
+    ensures { OnOk result (out.new.items ≡ out.old.items ++ codes "all " ++ trace.values_text values.now) }
+{
+    push(out, b"all ")?;
+    push_values(out, values)
+}
+
+fn push_reply(alloc: Global, out: &mut Vec<u8>, reply: &Reply) -> Result<(), Memory>
+    ensures { OnOk result (out.new.items ≡ out.old.items ++ trace.reply_text reply.now) }
+{
+    match reply {
+        Reply::Num(number) => push_number(out, u64::from(*number)),
+        Reply::Child { pid, ending } => push_child(out, *pid, *ending),
+        Reply::Message { class, text } => push_received(out, *class, text.as_slice()),
+        Reply::Bits(set) => push_set(alloc, out, *set),
+        Reply::Stat {
+            qnum,
+            qbytes,
+            lspid,
+            lrpid,
+        } => push_stat(out, *qnum, *qbytes, *lspid, *lrpid),
+        Reply::All(values) => push_all(out, values.as_slice()),
+        Reply::Ended => push(out, b"ended"),
+        Reply::Fail(errno) => push(out, error_name(*errno)),
+    }
+}
+
+fn push_own(alloc: Global, out: &mut Vec<u8>, own: &Option<Reply>) -> Result<(), Memory>
+    ensures { OnOk result (out.new.items ≡ out.old.items ++ trace.own_text own.now) }
+{
+    match own {
+        None => push(out, b"parked"),
+        Some(reply) => push_reply(alloc, out, reply),
+    }
+}
+
+// Who made which call.
+fn push_made(
+    alloc: Global,
+    out: &mut Vec<u8>,
+    script: &Script,
+    pid: Pid,
+    call: &Call,
+) -> Result<(), Memory>
+    ensures { OnOk result (out.new.items ≡ out.old.items ++ trace.made_text script.now pid call.now) }
+{
+    push_pid(out, pid)?;
+    push_byte(out, b' ')?;
+    push_call(alloc, out, script, call)
+}
+
+// Who carried it out.
+fn push_by(out: &mut Vec<u8>, node: Node) -> Result<(), Memory>
+    ensures { OnOk result (out.new.items ≡ out.old.items ++ trace.by_text node) }
+{
+    push(out, b" by ")?;
+    push_node(out, node)?;
+    push_byte(out, b'\n')
+}
+
+fn push_entry(
+    alloc: Global,
+    out: &mut Vec<u8>,
+    script: &Script,
+    entry: &Entry,
+) -> Result<(), Memory>
+    ensures { OnOk result (out.new.items ≡ out.old.items ++ trace.entry_line script.now entry.now) }
+{
+    push_made(alloc, out, script, entry.pid, &entry.call)?;
+    push(out, b" = ")?;
+    push_own(alloc, out, &entry.outcome.own)?;
+    push_by(out, entry.by)
+}
+
+fn is_fork(entry: &Entry) -> bool
+    ensures { result ≡ trace.is_fork entry.now.call }
+{
+    matches!(entry.call, Call::Fork { .. })
+}
+
+// ENOMSG or EAGAIN: nothing was ready.
+fn is_wait_error(errno: Errno) -> bool
+    ensures { result ≡ trace.is_wait_error errno }
+{
+    matches!(errno, Errno::Enomsg | Errno::Eagain)
+}
+
+fn is_not_ready(entry: &Entry) -> bool
+    ensures { result ≡ trace.is_not_ready_reply entry.now.outcome.own }
+{
+    match &entry.outcome.own {
+        Some(Reply::Fail(errno)) => is_wait_error(*errno),
+        _ => false,
+    }
+}
+
+fn is_refused(entry: &Entry) -> bool
+    ensures { result ≡ trace.is_refused_reply entry.now.outcome.own }
+{
+    match &entry.outcome.own {
+        Some(Reply::Fail(errno)) => !is_wait_error(*errno),
+        _ => false,
+    }
+}
+
+// What the totals line counts beside the entries.
+#[derive(Clone, Copy)]
+struct Tally {
+    forks: usize,
+    not_ready: usize,
+    refused: usize,
+}
+
+fn tally_of(journal: &[Entry]) -> Tally
+    ensures forks { result.forks ≡ count_by (λ e. trace.is_fork e.call) journal.now }
+    ensures few { result.forks ≤ length journal.now }
+    ensures not_ready { result.not_ready ≡ count_by (λ e. trace.is_not_ready_reply e.outcome.own) journal.now }
+    ensures refused { result.refused ≡ count_by (λ e. trace.is_refused_reply e.outcome.own) journal.now }
+{
+    let mut forks = 0;
+    let mut not_ready = 0;
+    let mut refused = 0;
+    for entry in journal {
+        forks += usize::from(is_fork(entry));
+        not_ready += usize::from(is_not_ready(entry));
+        refused += usize::from(is_refused(entry));
+    }
+    Tally {
+        forks,
+        not_ready,
+        refused,
+    }
+}
+
+#[tactic(auto, unfolding(kernel_model::specs::Trace::entries_total))]
+fn push_entries_total(out: &mut Vec<u8>, count: u64) -> Result<(), Memory>
+    ensures { OnOk result (out.new.items ≡ out.old.items ++ trace.entries_total count) }
+{
+    push_labelled(out, b"totals entries ", count)
+}
+
+#[tactic(auto, unfolding(kernel_model::specs::Trace::processes_total))]
+fn push_processes_total(out: &mut Vec<u8>, count: u64) -> Result<(), Memory>
+    ensures { OnOk result (out.new.items ≡ out.old.items ++ trace.processes_total count) }
+{
+    push_labelled(out, b" processes ", count)
+}
+
+#[tactic(auto, unfolding(kernel_model::specs::Trace::not_ready_total))]
+fn push_not_ready_total(out: &mut Vec<u8>, count: u64) -> Result<(), Memory>
+    ensures { OnOk result (out.new.items ≡ out.old.items ++ trace.not_ready_total count) }
+{
+    push_labelled(out, b" notready ", count)
+}
+
+#[tactic(auto, unfolding(kernel_model::specs::Trace::refused_total))]
+fn push_refused_total(out: &mut Vec<u8>, count: u64) -> Result<(), Memory>
+    ensures { OnOk result (out.new.items ≡ out.old.items ++ trace.refused_total count) }
+{
+    push_labelled(out, b" refused ", count)
+}
+
+fn push_totals(out: &mut Vec<u8>, journal: &[Entry]) -> Result<(), Memory>
+    ensures { OnOk result (out.new.items ≡ out.old.items ++ trace.totals_line journal.now) }
+{
+    let tally = tally_of(journal);
+    push_entries_total(out, journal.len() as u64)?;
+    push_processes_total(out, 1 + tally.forks as u64)?;
+    push_not_ready_total(out, tally.not_ready as u64)?;
+    push_refused_total(out, tally.refused as u64)?;
+    push_byte(out, b'\n')
+}
+
+/// The text of a history of a script's processes: a line for each entry, and the totals line. Each line has one line
+/// feed.
+pub fn write_trace(alloc: Global, script: &Script, journal: &Entries) -> Result<Bytes, Memory>
+    ensures { IfOk result (λ text. text ≡ trace.trace_text script.now journal.now) }
+{
+    let mut out = Vec::new(alloc);
+    for entry in journal.as_slice() {
+        push_entry(alloc, &mut out, script, entry)?;
+    }
+    push_totals(&mut out, journal.as_slice())?;
+    Ok(Bytes::from_vec(out))
+}
+
+/// The last line of a history's text: its entries, its processes (one more than its forks), the entries where nothing
+/// was ready (ENOMSG and EAGAIN), and the other refusals.
+pub fn write_totals(alloc: Global, journal: &Entries) -> Result<Bytes, Memory>
+    ensures { IfOk result (λ text. text ≡ trace.totals_line journal.now) }
+{
+    let mut out = Vec::new(alloc);
+    push_totals(&mut out, journal.as_slice())?;
+    Ok(Bytes::from_vec(out))
+}
