@@ -86,7 +86,7 @@ fn add_entries(journal: &mut Entries, entries: Entries) -> Result<(), Memory>
 }
 
 /// The frames that a node sends go their ways, each behind those that it has sent to that node before. A frame to a node
-/// that there isn't is lost, as in the machine; no rule sends one.
+/// that there isn't is lost, as in the machine.
 fn send_all(inboxes: &mut Vec<Inbox>, from: Node, sends: Sends) -> Result<(), Memory>
     requires square { IsSquare inboxes.old.items }
     requires there { from ≤ length inboxes.old.items }
