@@ -1,8 +1,8 @@
-ghost use Rattle.std.specs.Prelude.{◌≡◌, ◌↔◌, ◌≤◌, ◌-◌, [], ◌∷◌, ◌++◌, length, map, replicate, true, Some, slice_get, ◌+◌, IfOk, OnOk, IfSome, IsSome, IsTrue};
+ghost use Rattle.std.specs.Prelude.{◌≡◌, ◌↔◌, ◌≤◌, ◌-◌, [], ◌++◌, length, map, replicate, true, Some, slice_get, ◌+◌, IfOk, OnOk, IsTrue};
 ghost use Rattle.std.specs.List.{flat_map};
 ghost use Rattle.machine_model.specs.Built.{IsRunnable};
 ghost use Rattle.machine_model.specs.Node.{opening_node};
-ghost use Rattle.machine_model.specs.World.{numbers, size_of, opening_world, node_at, is_run_enabled, is_take_enabled, is_enabled, stream, with_all_sent, after_turn, step};
+ghost use Rattle.machine_model.specs.World.{numbers, size_of, opening_world, node_at, is_run_enabled, is_take_enabled, is_enabled, stream, with_all_sent};
 ghost use Rattle.machine_model.specs.Run.{IsAtRest};
 ghost use Rattle.machine_model.specs.Schedule.{enabled_at, enabled_events, in_turn};
 ghost use Rattle.world_core.specs.Seat.{IsSeat};
@@ -85,7 +85,8 @@ fn add_entries(journal: &mut Entries, entries: Entries) -> Result<(), Memory>
     Ok(())
 }
 
-/// The frames that a node sends go their ways. One to a node that there isn't is lost.
+/// The frames that a node sends go their ways, each behind those that it has sent to that node before. A frame to a node
+/// that there isn't is lost, as in the machine.
 fn send_all(inboxes: &mut Vec<Inbox>, from: Node, sends: Sends) -> Result<(), Memory>
     requires square { IsSquare inboxes.old.items }
     requires there { from ≤ length inboxes.old.items }
