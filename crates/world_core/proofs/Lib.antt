@@ -11,3 +11,4 @@ pub mod Under
 pub mod Walks
 pub mod Wholes
 pub mod Worlds
+mod Allowed

@@ -1,4 +1,4 @@
-ghost use Rattle.std.specs.Prelude.{◌≡◌, ◌↔◌, ◌≤◌, ◌-◌, [], ◌++◌, length, map, replicate, true, Some, slice_get, ◌+◌, IfOk, OnOk, IsTrue};
+ghost use Rattle.std.specs.Prelude.{◌≡◌, ◌↔◌, ◌≤◌, ◌-◌, [], ◌++◌, length, map, replicate, true, Some, slice_get, ◌+◌, IfOk, OnOk, IfSome, IsSome, IsTrue};
 ghost use Rattle.std.specs.List.{flat_map};
 ghost use Rattle.machine_model.specs.Built.{IsRunnable};
 ghost use Rattle.machine_model.specs.Node.{opening_node};
@@ -6,10 +6,12 @@ ghost use Rattle.machine_model.specs.World.{numbers, size_of, opening_world, nod
 ghost use Rattle.machine_model.specs.Run.{IsAtRest};
 ghost use Rattle.machine_model.specs.Schedule.{enabled_at, enabled_events, in_turn};
 ghost use Rattle.world_core.specs.Seat.{IsSeat};
+ghost use Rattle.node_core.specs.Step.{step_of};
 ghost use Rattle.node_core.specs.Turns.{IsTurn};
 ghost use Rattle.world_core.specs.State.{AreWhole, IsSquare, world_of, IsAfterTurn, IsStep, IsAlive};
 
 use crate::inbox::{Inbox, place};
+use machine_laws::enabled_events_have_steps;
 use node_core::{Input, PicoNode, Sends, Turn, TurnFault};
 use pico_base::{Entries, Event, Memory, Node, Script};
 use std::alloc::Global;
@@ -55,23 +57,16 @@ fn empty_inboxes(alloc: Global, count: usize) -> Result<Vec<Inbox>, Memory>
     Ok(inboxes)
 }
 
-/// The node's turn. After a fault the node is spent.
+/// The turn of a node that the machine has a step for. After an `Err` the node is spent.
 fn take_turn(node: &mut PicoNode, script: &Script, input: Input) -> Result<Turn, Memory>
-    requires { IsRunnable script.now }
+    requires runnable { IsRunnable script.now }
+    requires allowed { IfSome node.old (λ n. IsSome (step_of script.now n input)) }
     ensures { IfOk result (λ turn. IsTurn script.now node.old input node.new turn) }
 {
     match node.turn(script, input) {
         Ok(turn) => Ok(turn),
-        Err(fault) => Err(memory_of(fault)),
-    }
-}
-
-/// A node that is enabled has a turn.
-fn memory_of(fault: TurnFault) -> Memory {
-    match fault {
-        TurnFault::Memory => Memory,
-        // until the law stands
-        TurnFault::NotAllowed => Memory,
+        Err(TurnFault::Memory) => Err(Memory),
+        Err(TurnFault::NotAllowed) => unreachable!(),
     }
 }
 
@@ -267,6 +262,7 @@ impl State {
         requires there { node ≤ length self.nodes.items }
         requires square { IsSquare self.inboxes.items }
         requires streams { node ≤ length self.inboxes.items }
+        requires allowed { IfSome (node_at (world_of self) node) (λ n. IsSome (step_of self.script n input)) }
         ensures { IfOk result (λ next. IsAfterTurn self node input next) }
     {
         let Turn { entries, sends } = take_turn(&mut self.nodes[place(node)], &self.script, input)?;
@@ -281,6 +277,7 @@ impl State {
         requires enabled { is_enabled (world_of self) event ≡ true }
         ensures { IfOk result (λ next. IsStep self event next) }
     {
+        enabled_events_have_steps();
         match event {
             Event::Run(node) => self.turn(node, Input::Run),
             Event::Take { node, from } => {
