@@ -1,5 +1,5 @@
 -- An enabled event of a run has a step, so the node that it is of has a turn.
-use Rattle.std.proofs.Common.{◌≡◌, ℕ, ◌-◌, ◌<◌, true, List, [], ◌∷◌, length, get_or, Option, Some, None, IfSome, IsSome, refl, sym, ap, subst, ◌∙◌}
+use Rattle.std.proofs.Common.{◌≡◌, ℕ, ◌-◌, ◌<◌, List, [], ◌∷◌, length, get_or, Option, Some, None, IfSome, IsSome, refl, sym, ap, subst, ◌∙◌}
 use Rattle.std.proofs.lemmas.List.{get_or_read}
 use Rattle.pico_base.specs.declared.script.Event.{Event}
 use Rattle.pico_base.specs.declared.script.Event.TheVariants as events
@@ -7,7 +7,7 @@ use Rattle.rpc_frame.specs.declared.frame.Frame.{Frame}
 use Rattle.machine_model.specs.Node.{Node}
 use Rattle.machine_model.specs.Calls.{Step, run}
 use Rattle.machine_model.specs.Frames.{takes}
-use Rattle.machine_model.specs.World.{World, Streams, node_at, stream, with_stream, after_turn, runs_at, takes_at, step}
+use Rattle.machine_model.specs.World.{World, node_at, stream, with_stream, after_turn, runs_at, takes_at, step}
 use Rattle.world_core.specs.Inbox.{IsTaken}
 
 turn_some : (w : World) (p : ℕ) (turn : Option Step) → IsSome (after_turn w p turn) → IsSome turn

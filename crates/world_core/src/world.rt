@@ -1,4 +1,6 @@
 ghost use Rattle.std.specs.Prelude.{◌≡◌, ◌↔◌, ◌≤◌, true, length, slice_get, Some, None, IfOk, OnOk, OnErr, IfSome, IsSome, IsErr, IsTrue};
+ghost use Rattle.kernel_model.specs.History.{IsLegal};
+ghost use Rattle.kernel_model.specs.Fitting.{Fits, FitsWhole};
 ghost use Rattle.machine_model.specs.Built.{IsRunnable};
 ghost use Rattle.machine_model.specs.World.{World as MachineWorld, size, opening_world, is_enabled};
 ghost use Rattle.machine_model.specs.Run.{IsRunOf, IsAtRest};
@@ -7,6 +9,7 @@ ghost use Rattle.world_core.specs.State.{IsAlive, world_of};
 ghost use Rattle.world_core.specs.Stepped.{IsStepped};
 
 use crate::state::State;
+use machine_laws::{journals_are_legal, rest_is_whole};
 use pico_base::{Entries, Event, Memory, Node, Script};
 use std::alloc::Global;
 use std::marker::Model;
@@ -90,19 +93,25 @@ impl World {
         self.state().in_turn(after)
     }
 
-    /// Whether no event may come next.
+    /// Whether no event may come next. At rest the journal has each process's calls to its end.
     pub fn at_rest(&self) -> bool
         requires whole { IsSome self.now }
-        ensures { IfSome self.now (λ w. IsTrue result ↔ IsAtRest w) }
+        ensures rest { IfSome self.now (λ w. IsTrue result ↔ IsAtRest w) }
+        ensures ended { IfSome self.now (λ w. IsTrue result → FitsWhole w.script w.journal) }
     {
+        rest_is_whole();
         self.state().at_rest()
     }
 
-    /// All that was carried out so far, in order.
+    /// All that was carried out so far, in order: one history of a single POSIX kernel, in which each process's calls
+    /// stand once and in its order.
     pub fn journal(&self) -> &Entries
         requires whole { IsSome self.now }
-        ensures { IfSome self.now (λ w. result.now ≡ w.journal) }
+        ensures journal { IfSome self.now (λ w. result.now ≡ w.journal) }
+        ensures legal { IsLegal result.now }
+        ensures fits { IfSome self.now (λ w. Fits w.script result.now) }
     {
+        journals_are_legal();
         &self.state().journal
     }
 
