@@ -1,6 +1,6 @@
 -- A script of two blocks, for examples.
 use Rattle.std.specs.Prelude.{pos, true, false, [], ◌∷◌, Some, None, codes}
-use Rattle.pico_base.specs.declared.call.Call.TheVariants.{MsgGet, MsgSnd, MsgRcv, Fork}
+use Rattle.pico_base.specs.declared.call.Call.TheVariants.{MsgGet, MsgSnd, Fork}
 use Rattle.pico_base.specs.declared.script.Block.{Block}
 use Rattle.pico_base.specs.declared.script.Script.{Script}
 use Rattle.machine_model.specs.Examples.{line, receive}
