@@ -16,3 +16,4 @@ pub mod Machine
 pub mod Facts
 pub mod Sound
 pub mod Scripts
+pub mod Examples

@@ -37,7 +37,12 @@ fn verb(bytes: &[u8]) -> Option<(Verb, &[u8])>
 
 /// A call on a queue or a set, behind its first word.
 #[tactic(auto, unfolding(crate::specs::Reading::shared_at))]
-fn shared(alloc: Global, flags: &Flags, verb: Verb, bytes: &[u8]) -> Result<Option<FromCall>, Memory>
+fn shared(
+    alloc: Global,
+    flags: &Flags,
+    verb: Verb,
+    bytes: &[u8],
+) -> Result<Option<FromCall>, Memory>
     ensures { IfOk result (λ call. call ≡ shared_at flags.now (verb, bytes.now)) }
 {
     let Some(((from, id), rest)) = object(flags, bytes) else {

@@ -18,3 +18,6 @@ mod verb;
 pub use calls::call_with;
 pub use fault::{ScriptFault, ScriptStop};
 pub use script::read_script;
+
+#[cfg(test)]
+mod tests;
