@@ -146,7 +146,12 @@ every_form =
     }
 
 abbrev pub every_text : List ℕ
-every_text = codes "proc main\nmsgget private\nsemget private 3\nq = msgsnd 7 -3 \"a\\x0a~\" nowait\nmsgsnd 0 5 rep:4:9 nowait\nmsgrcv 4294967295 -4 65535 noerror nowait\nmsgctl $q stat\nmsgctl 1 set 4096\nsemop 2 0:-1:nowait 65535:7 1:0:nowait\nsemctl 2 getval 0\nsemctl 2 getpid 1\nsemctl 2 getncnt 2\nsemctl 2 getzcnt 3\nsemctl 2 getall\nsemctl 2 setval 65535 40000\nsemctl 2 setall 7,0,32767\nend\n"
+every_text =
+    codes "proc main\nmsgget private\nsemget private 3\nq = msgsnd 7 -3 \"a\\x0a~\" nowait\n"
+    ++ codes "msgsnd 0 5 rep:4:9 nowait\nmsgrcv 4294967295 -4 65535 noerror nowait\nmsgctl $q stat\n"
+    ++ codes "msgctl 1 set 4096\nsemop 2 0:-1:nowait 65535:7 1:0:nowait\nsemctl 2 getval 0\n"
+    ++ codes "semctl 2 getpid 1\nsemctl 2 getncnt 2\nsemctl 2 getzcnt 3\nsemctl 2 getall\n"
+    ++ codes "semctl 2 setval 65535 40000\nsemctl 2 setall 7,0,32767\nend\n"
 
 -- a line feed ends a line, and the last one may lack
 one-line : lines_of (codes "end\n") ≡ codes "end" ∷ []
@@ -162,6 +167,9 @@ no-line : lines_of [] ≡ []
 no-line = refl
 
 -- each name counts once, and only a line `proc NAME` has one
-three-names : names_of (codes "proc b" ∷ codes "proc a" ∷ codes "proc  c" ∷ codes "proc b" ∷ codes "end" ∷ []) ≡ codes "b" ∷ codes "a" ∷ []
+abbrev five_lines : List (List ℕ)
+five_lines = codes "proc b" ∷ codes "proc a" ∷ codes "proc  c" ∷ codes "proc b" ∷ codes "end" ∷ []
+
+two-names : names_of five_lines ≡ codes "b" ∷ codes "a" ∷ []
 unfolding opening_at strip is_name
-three-names = refl
+two-names = refl

@@ -11,7 +11,7 @@ use Rattle.kernel_model.specs.Script.{forked_by, known_with, is_known, begun_in,
 use Rattle.kernel_model.specs.Waiting.{may_wait}
 use Rattle.script_reader.specs.declared.verb.Verb.{Verb}
 use Rattle.script_reader.specs.declared.verb.Verb.TheVariants.{Send, Receive, QueueControl, Operate, SetControl}
-use Rattle.script_reader.specs.Spelling.{set_text, object_text, escape_text, step_text, separated, noerror_text, opening_text, end_text}
+use Rattle.script_reader.specs.Spelling.{set_text, fork_text, object_text, escape_text, step_text, separated, noerror_text, opening_text, end_text}
 
 -- ---- bytes
 
@@ -82,13 +82,16 @@ IsObject (Some v) id = (v ≤ 2885) × (id ≡ 0)
 pub data IsTail (id : ℕ) : Verb → Call → List ℕ → Type 0 where
   -- `msgsnd Q T X nowait`
   send : (class : ℤ) (text bytes : List ℕ) → IsWithin 2147483647 class → IsText text bytes
-      → IsTail id Send (MsgSnd id class text true) (codes " " ++ (signed_decimal class ++ (codes " " ++ (bytes ++ codes " nowait"))))
+      → IsTail id Send (MsgSnd id class text true)
+      (codes " " ++ (signed_decimal class ++ (codes " " ++ (bytes ++ codes " nowait"))))
   -- `msgrcv Q T Z nowait` and `msgrcv Q T Z noerror nowait`
   receive : (class : ℤ) (size : ℕ) (noerror : Bool) → IsWithin 2147483647 class → size ≤ 65535
-      → IsTail id Receive (MsgRcv id class size noerror true) (codes " " ++ (signed_decimal class ++ (codes " " ++ (decimal size ++ noerror_text noerror))))
+      → IsTail id Receive (MsgRcv id class size noerror true)
+      (codes " " ++ (signed_decimal class ++ (codes " " ++ (decimal size ++ noerror_text noerror))))
   -- `msgctl Q stat` and `msgctl Q set B`
   queue_state : IsTail id QueueControl (MsgStat id) (codes " stat")
-  queue_limit : (qbytes : ℕ) → qbytes ≤ 65535 → IsTail id QueueControl (MsgSet id qbytes) (codes " set " ++ decimal qbytes)
+  queue_limit : (qbytes : ℕ) → qbytes ≤ 65535
+      → IsTail id QueueControl (MsgSet id qbytes) (codes " set " ++ decimal qbytes)
   -- `semop S OPS`
   operate : (steps : List SemStep) → 1 ≤ length steps → AllByRecursion IsStep steps
       → IsTail id Operate (SemOp id steps) (codes " " ++ separated 32 step_text steps)
@@ -112,9 +115,11 @@ pub data IsCall (block : ℕ) : Option ℕ → Call → List ℕ → Type 0 wher
   -- `msgget private`
   new_queue : block ≡ 1 → IsCall block None (MsgGet None false false) (codes "msgget private")
   -- `semget private N`
-  new_set : (count : ℕ) → block ≡ 1 → count ≤ 65535 → IsCall block None (SemGet None count false false) (codes "semget private " ++ decimal count)
+  new_set : (count : ℕ) → block ≡ 1 → count ≤ 65535
+      → IsCall block None (SemGet None count false false) (codes "semget private " ++ decimal count)
   -- a call on a queue or a set
-  shared : (from : Option ℕ) (id : ℕ) (verb : Verb) (call : Call) (tail : List ℕ) → IsObject from id → IsTail id verb call tail
+  shared : (from : Option ℕ) (id : ℕ) (verb : Verb) (call : Call) (tail : List ℕ)
+      → IsObject from id → IsTail id verb call tail
       → IsCall block from call (verb_text verb ++ (object_text from id ++ tail))
 
 -- ---- call lines
@@ -183,8 +188,8 @@ pub data Begins (names : List (List ℕ)) : List Block → Option Block → List
       → Begins names [] (Some (block_of name lines)) texts → HasRoom [] lines → IsVariable set
       → position (bytes_eq forked) names ≡ Some place → 1 ≤ place
       → list_any (nat_eq (place + 1)) (forks_in lines) ≡ false
-      → length (set_text set ++ (codes "fork " ++ forked)) ≤ 4096
-      → Begins names [] (Some (block_of name (lines ++ fork_line set (place + 1) ∷ []))) (texts ++ (set_text set ++ (codes "fork " ++ forked)) ∷ [])
+      → length (fork_text set forked) ≤ 4096
+      → Begins names [] (Some (block_of name (lines ++ fork_line set (place + 1) ∷ []))) (texts ++ fork_text set forked ∷ [])
   call : (blocks : List Block) (name : List ℕ) (lines : List Line) (texts : List (List ℕ)) (line : Line) (bytes : List ℕ)
       → Begins names blocks (Some (block_of name lines)) texts → HasRoom blocks lines
       → IsCallLine (length blocks + 1) (known_after (known_behind blocks) lines) line bytes

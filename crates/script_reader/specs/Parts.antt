@@ -123,7 +123,10 @@ with_byte b text = (b ∷ text.0, text.1)
 unfoldable pub quoted_at : ℕ → List ℕ → Option (List ℕ × List ℕ)
 quoted_at zero bytes = closed_at [] bytes
 quoted_at (suc most) bytes =
-    option_map_or (λ (b : ℕ × List ℕ). option_map (with_byte b.0) (quoted_at most b.1)) (text_byte_at bytes) (closed_at [] bytes)
+    option_map_or
+    (λ (b : ℕ × List ℕ). option_map (with_byte b.0) (quoted_at most b.1))
+    (text_byte_at bytes)
+    (closed_at [] bytes)
 
 -- the letter or digit of `rep:N:C`, so many times
 unfoldable pub repeated_at : ℕ → List ℕ → Option (List ℕ × List ℕ)
@@ -177,12 +180,17 @@ abbrev pub has_ended : List ℕ → Bool
 has_ended [] = true
 has_ended (b ∷ bytes) = false
 
+abbrev pub with_part : {A : Type 0} → A → List A → List A
+with_part part parts = part ∷ parts
+
 -- at most so many parts to the end, with this byte between two
 unfoldable pub listed : {A : Type 0} → ℕ → (List ℕ → Option (A × List ℕ)) → ℕ → List ℕ → Option (List A)
 listed byte reader zero bytes = None
-listed byte reader (suc most) bytes = do
-  part ← reader bytes
-  if has_ended part.1 then Some (part.0 ∷ []) else (strip (byte ∷ []) part.1 >>= λ rest. option_map (λ parts. part.0 ∷ parts) (listed byte reader most rest))
+listed byte reader (suc most) bytes =
+    reader bytes >>= λ part.
+    if has_ended part.1
+    then Some (part.0 ∷ [])
+    else strip (byte ∷ []) part.1 >>= λ rest. option_map (with_part part.0) (listed byte reader most rest)
 
 -- operations with a blank, and values with a comma between two
 abbrev pub steps_at : ℕ → List ℕ → Option (List SemStep)

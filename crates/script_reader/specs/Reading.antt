@@ -100,8 +100,12 @@ value_at id bytes = do
   value ← number_at digits
   Some (SemSetVal id num.0 value)
 
+-- what follows a word, where it is there
+abbrev pub Behind : Type 0
+Behind = Option (List ℕ)
+
 -- what follows the first of these words that is there
-abbrev pub semaphore_of : ℕ → Option (List ℕ) → Option (List ℕ) → Option (List ℕ) → Option (List ℕ) → Option (List ℕ) → Option (List ℕ) → Option Call
+abbrev pub semaphore_of : ℕ → Behind → Behind → Behind → Behind → Behind → Behind → Option Call
 semaphore_of id (Some num) last increase zero value values = option_map (SemGetVal id) (number_at num)
 semaphore_of id None (Some num) increase zero value values = option_map (SemGetPid id) (number_at num)
 semaphore_of id None None (Some num) zero value values = option_map (SemGetNcnt id) (number_at num)
@@ -114,7 +118,14 @@ unfoldable pub semaphores_at : ℕ → List ℕ → Option Call
 semaphores_at id bytes =
     if bytes_eq bytes (codes " getall")
     then Some (SemGetAll id)
-    else semaphore_of id (strip (codes " getval ") bytes) (strip (codes " getpid ") bytes) (strip (codes " getncnt ") bytes) (strip (codes " getzcnt ") bytes) (strip (codes " setval ") bytes) (strip (codes " setall ") bytes)
+    else
+    semaphore_of id
+    (strip (codes " getval ") bytes)
+    (strip (codes " getpid ") bytes)
+    (strip (codes " getncnt ") bytes)
+    (strip (codes " getzcnt ") bytes)
+    (strip (codes " setval ") bytes)
+    (strip (codes " setall ") bytes)
 
 abbrev pub tail_at : Verb → ℕ → List ℕ → Option Call
 tail_at Send id bytes = send_at id bytes
@@ -127,7 +138,7 @@ tail_at SetControl id bytes = semaphores_at id bytes
 abbrev pub FromCall : Type 0
 FromCall = Option ℕ × Call
 
-abbrev pub verb_of : Option (List ℕ) → Option (List ℕ) → Option (List ℕ) → Option (List ℕ) → Option (List ℕ) → Option (Verb × List ℕ)
+abbrev pub verb_of : Behind → Behind → Behind → Behind → Behind → Option (Verb × List ℕ)
 verb_of (Some rest) receive queue operate set = Some (Send, rest)
 verb_of None (Some rest) queue operate set = Some (Receive, rest)
 verb_of None None (Some rest) operate set = Some (QueueControl, rest)
@@ -136,7 +147,13 @@ verb_of None None None None (Some rest) = Some (SetControl, rest)
 verb_of None None None None None = None
 
 unfoldable pub verb_at : List ℕ → Option (Verb × List ℕ)
-verb_at bytes = verb_of (strip (codes "msgsnd ") bytes) (strip (codes "msgrcv ") bytes) (strip (codes "msgctl ") bytes) (strip (codes "semop ") bytes) (strip (codes "semctl ") bytes)
+verb_at bytes =
+    verb_of
+    (strip (codes "msgsnd ") bytes)
+    (strip (codes "msgrcv ") bytes)
+    (strip (codes "msgctl ") bytes)
+    (strip (codes "semop ") bytes)
+    (strip (codes "semctl ") bytes)
 
 -- a call on a queue or a set, behind its first word
 unfoldable pub shared_at : List Bool → Verb × List ℕ → Option FromCall
@@ -150,7 +167,9 @@ unfoldable pub get_at : List ℕ → Option Call
 get_at bytes =
     if bytes_eq bytes (codes "msgget private")
     then Some (MsgGet None false false)
-    else strip (codes "semget private ") bytes >>= λ digits. option_map (λ count. SemGet None count false false) (number_at digits)
+    else
+    strip (codes "semget private ") bytes >>= λ digits.
+    option_map (λ count. SemGet None count false false) (number_at digits)
 
 -- the calls on no queue or set that is there
 unfoldable pub plain_at : Bool → List ℕ → Option FromCall
@@ -224,7 +243,9 @@ known_next read = if has_blocks read.blocks then begun_at read.begun (length rea
 
 -- the place of a name, which is that of the next block
 abbrev pub is_next : List (List ℕ) → Read → List ℕ → Bool
-is_next names read name = nat_lt (length read.blocks) 32 && option_map_or (λ place. place == length read.blocks) (position (bytes_eq name) names) false
+is_next names read name =
+    nat_lt (length read.blocks) 32
+    && option_map_or (λ place. place == length read.blocks) (position (bytes_eq name) names) false
 
 unfoldable pub open_step : List (List ℕ) → Read → List ℕ → Option State
 open_step names read bytes = do

@@ -17,6 +17,10 @@ abbrev pub set_text : Option ℕ → List ℕ
 set_text None = []
 set_text (Some v) = variable_text v ++ codes " = "
 
+-- a line that forks the block of a name
+abbrev pub fork_text : Option ℕ → List ℕ → List ℕ
+fork_text set name = set_text set ++ (codes "fork " ++ name)
+
 -- the line that opens a block, and the one that ends it
 abbrev pub opening_text : List ℕ → List ℕ
 opening_text name = codes "proc " ++ name
