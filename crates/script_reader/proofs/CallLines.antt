@@ -1,5 +1,5 @@
 -- A call that is read is spelled so, and the spelling of a call is read.
-use Rattle.std.proofs.Common.{◌≡◌, ◌⊎◌, inl, inr, ℕ, ◌+◌, ◌≤◌, ℤ, pos, negsuc, Bool, true, false, ◌&&◌, not, cond, eqb, List, [], ◌∷◌, ◌++◌, length, get_or, Option, Some, None, refl, sym, ap, subst, ◌∙◌, append_assoc, arith}
+use Rattle.std.proofs.Common.{◌≡◌, ◌⊎◌, inl, inr, ℕ, ◌≤◌, ℤ, pos, negsuc, Bool, true, false, cond, List, [], ◌∷◌, ◌++◌, length, get_or, Option, Some, None, refl, sym, ap, subst, ◌∙◌, append_assoc, arith}
 use Rattle.std.specs.Prelude.{codes, bytes_eq, decimal, option_map}
 use Rattle.std.specs.Fmt.{signed_decimal}
 use Rattle.std.specs.List.{AllByRecursion}
@@ -14,7 +14,7 @@ use Rattle.pico_base.specs.declared.script.Line.{Line}
 use Rattle.script_reader.specs.declared.verb.Verb.{Verb}
 use Rattle.script_reader.specs.declared.verb.Verb.TheVariants.{Send, Receive, QueueControl, Operate, SetControl}
 use Rattle.script_reader.specs.Spelling.{variable_text, set_text, object_text, nowait_text, step_text, separated, noerror_text, end_text}
-use Rattle.script_reader.specs.Form.{IsVariable, IsText, IsStep, IsWithin, IsObject, verb_text, IsTail, IsCall}
+use Rattle.script_reader.specs.Form.{IsVariable, IsStep, IsWithin, IsObject, verb_text, IsTail, IsCall}
 use Rattle.script_reader.specs.Form.IsTail.{send, receive, queue_state, queue_limit, operate, get_value, get_last, get_increase, get_zero, get_all, set_value, set_all}
 use Rattle.script_reader.specs.Form.IsCall.{own, new_queue, new_set, shared}
 use Rattle.script_reader.specs.Parts.{◌>>=◌, strip, digit_at, variable_at, number_at, number_front, signed_front, text_at, step_at, steps_at, values_at, opening_at, assigned_at, set_from, set_at}
@@ -25,7 +25,7 @@ use Rattle.script_reader.proofs.WholeNumbers.{number_takes, number_again}
 use Rattle.script_reader.proofs.Numerals.{front_number_takes, front_number_again, signed_takes, signed_again, decimal_first, not_before_number}
 use Rattle.script_reader.proofs.Variables.{variable_takes, variable_again, behind_letter}
 use Rattle.script_reader.proofs.Spelled.{listed-takes, listed-again, separated-length}
-use Rattle.script_reader.proofs.TextLaws.{text_takes, text_again, step_part_takes, Behind, step_part_again}
+use Rattle.script_reader.proofs.TextLaws.{text_takes, text_again, step_part_takes, step_part_again}
 
 -- a blank is no digit
 no_digit : (rest : List ℕ) → digit_at (32 ∷ rest) ≡ None

@@ -1,18 +1,18 @@
 -- Numbers at the front of what is left: what is read is spelled so, and a spelling is read.
-use Rattle.std.proofs.Common.{◌≡◌, ℕ, zero, suc, ◌+◌, ◌-◌, ◌*◌, ◌<◌, ◌≤◌, ℤ, pos, negsuc, Bool, true, false, ◌&&◌, cond, eqb, leb, List, [], ◌∷◌, ◌++◌, length, get_or, Option, Some, None, refl, sym, ap, subst, ◌∙◌, arith}
-use Rattle.std.specs.Prelude.{decimal, codes, option_map}
+use Rattle.std.proofs.Common.{◌≡◌, ℕ, suc, ◌+◌, ◌-◌, ◌*◌, ◌<◌, ◌≤◌, ℤ, pos, negsuc, Bool, true, false, cond, eqb, leb, List, [], ◌∷◌, ◌++◌, length, get_or, Option, Some, None, refl, sym, ap, subst, ◌∙◌, arith}
+use Rattle.std.specs.Prelude.{decimal, codes}
 use Rattle.std.specs.Char.{digit_value}
 use Rattle.std.specs.Fmt.{signed_decimal}
 use Rattle.std.specs.Str.{all_ascii_digits}
 use Rattle.std.specs.Str.Parse.{digits_value, digits_value_after}
-use Rattle.std.proofs.lemmas.Bool.{and_parts, and_from, leb-true, le-leb, leb-false, lt-leb, eqb-true, eqb-false, ne_eqb}
-use Rattle.std.proofs.lemmas.Fmt.{decimal_is_IsNumeral, decimal-digits_value, decimal_digit, first_decimal}
+use Rattle.std.proofs.lemmas.Bool.{and_parts, and_from, leb-true, le-leb, lt-leb, eqb-true, eqb-false, ne_eqb}
+use Rattle.std.proofs.lemmas.Fmt.{decimal_is_IsNumeral, decimal-digits_value, decimal_digit}
 use Rattle.std.proofs.lemmas.Option.{same_Some, none-some}
 use Rattle.script_reader.specs.Form.{IsWithin}
-use Rattle.script_reader.specs.Parts.{◌>>=◌, strip, is_digit, digit_at, digits_front, number_front, negative, signed_of, signed_front}
+use Rattle.script_reader.specs.Parts.{strip, is_digit, digit_at, digits_front, number_front, negative, signed_of, signed_front}
 use Rattle.script_reader.proofs.Chains.{bind_some, chosen, not_chosen, between_true, none_from, mapped}
 use Rattle.script_reader.proofs.Strips.{strip_takes, strip_again}
-use Rattle.script_reader.proofs.Variables.{digit_takes, digit_again}
+use Rattle.script_reader.proofs.Variables.{digit_takes}
 use Rattle.script_reader.proofs.WholeNumbers.{AreDigits, own, value_of_digit, digits_value_after-grows, leads}
 
 -- ---- the loop over digits

@@ -24,7 +24,7 @@ use Rattle.script_reader.specs.Form.{IsVariable, IsName, IsTail, IsCall, IsCallL
 use Rattle.script_reader.specs.declared.verb.Verb.{Verb}
 use Rattle.script_reader.specs.Form.IsTail.{send, receive, queue_state, queue_limit, operate, get_value, get_last, get_increase, get_zero, get_all, set_value, set_all}
 use Rattle.script_reader.specs.Form.IsCall.{own, new_queue, new_set, shared}
-use Rattle.script_reader.specs.Form.Begins.{nothing, proc, fork, call, end}
+use Rattle.script_reader.specs.Form.Begins.{proc, fork, call, end}
 use Rattle.script_reader.specs.Parts.{◌>>=◌, strip, is_name, opening_at, set_at}
 use Rattle.script_reader.specs.Reading.{no_flags, is_at, set_after, call_line_at, begun_at, has_blocks, place_at, number_of, with_line, one_call_more, forking, known_next, is_next, open_step, fork_step, call_step, ended, line_step, inside_step, step, start}
 use Rattle.script_reader.proofs.Chains.{bind_some, chosen, not_chosen, parted}

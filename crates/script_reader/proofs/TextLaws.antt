@@ -1,21 +1,19 @@
 -- Texts and operations: what is read is spelled so, and a spelling is read.
-use Rattle.std.proofs.Common.{◌≡◌, ◌⊎◌, inl, inr, ℕ, zero, suc, ◌+◌, ◌-◌, ◌*◌, ◌/◌, ◌%◌, ◌<◌, ◌≤◌, ℤ, pos, Bool, true, false, ◌&&◌, ◌||◌, not, cond, eqb, ltb, leb, List, [], ◌∷◌, ◌++◌, length, replicate, Option, Some, None, refl, sym, ap, subst, ◌∙◌, append_assoc, arith}
+use Rattle.std.proofs.Common.{◌≡◌, ◌⊎◌, inl, inr, ℕ, zero, suc, ◌+◌, ◌-◌, ◌*◌, ◌/◌, ◌%◌, ◌≤◌, ℤ, pos, Bool, true, false, ◌&&◌, ◌||◌, not, cond, eqb, leb, List, [], ◌∷◌, ◌++◌, length, replicate, Option, Some, None, refl, sym, ap, subst, ◌∙◌, append_assoc, arith}
 use Rattle.std.specs.Prelude.{codes, decimal, option_map, int_le}
 use Rattle.std.specs.Fmt.{signed_decimal}
-use Rattle.std.specs.List.{AllByRecursion}
 use Rattle.std.specs.Option.{option_map_or}
-use Rattle.std.proofs.lemmas.Bool.{and_parts, and_from, or_cases, leb-true, le-leb, ltb-false, lt-ltb, le-ltb, eqb-true, eqb-false, ne_eqb, eq-eqb, cases_lt}
-use Rattle.std.proofs.lemmas.List.{append-nil, length-append, length-replicate}
+use Rattle.std.proofs.lemmas.Bool.{or_cases, lt-ltb, le-ltb, eqb-true, ne_eqb, cases_lt}
+use Rattle.std.proofs.lemmas.List.{length-append, length-replicate}
 use Rattle.std.proofs.lemmas.Option.{same_Some, none-some}
 use Rattle.pico_base.specs.declared.call.SemStep.{SemStep}
-use Rattle.kernel_model.specs.Waiting.{may_wait}
 use Rattle.script_reader.specs.Spelling.{hex_digit, escape_text, nowait_text, step_text}
-use Rattle.script_reader.specs.Form.{IsLowercase, IsDigit, IsTextByte, IsAlphanumeric, IsQuoted, IsText, IsStep, IsWithin}
+use Rattle.script_reader.specs.Form.{IsDigit, IsTextByte, IsAlphanumeric, IsQuoted, IsText, IsStep}
 use Rattle.script_reader.specs.Form.IsQuoted.{closing, itself, escaped}
 use Rattle.script_reader.specs.Form.IsText.{repeated, quoted}
 use Rattle.script_reader.specs.Parts.{◌>>=◌, strip, is_lowercase, is_digit, is_text_byte, is_alphanumeric, digit_at, number_front, signed_front, hex_at, escape_at, text_byte_at, closed_at, with_byte, quoted_at, repeated_at, count_at, repetition_at, text_of, text_at, nowait_of, nowait_at, step_of, step_at}
 use Rattle.script_reader.proofs.Bytes.{lowercase_decides, digit_decides, text_byte_decides}
-use Rattle.script_reader.proofs.Chains.{bind_some, chosen, not_chosen, none_from, between_true, between_from, mapped, parted}
+use Rattle.script_reader.proofs.Chains.{bind_some, chosen, not_chosen, between_true, between_from, mapped, parted}
 use Rattle.script_reader.proofs.Strips.{strip_takes, strip_again}
 use Rattle.script_reader.proofs.Numerals.{front_number_takes, front_number_again, signed_takes, signed_again}
 

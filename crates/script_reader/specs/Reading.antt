@@ -1,6 +1,5 @@
 -- Reading from left to right, as the code does. What the answers mean is said by `Fault`.
-use Rattle.std.specs.Prelude.{◌≡◌, ℕ, ◌+◌, ℤ, pos, Bool, true, false, ◌&&◌, not, ◌==◌, nat_lt, List, [], ◌∷◌, ◌++◌, length, take, slice_index_or, slice_set, replicate, codes, bytes_eq, position, count_by, if◌then◌else◌, Option, Some, None, option_map, Result, Ok, Err}
-use Rattle.std.specs.List.{list_all}
+use Rattle.std.specs.Prelude.{◌≡◌, ℕ, ◌+◌, ℤ, Bool, true, false, ◌&&◌, not, ◌==◌, nat_lt, List, [], ◌∷◌, ◌++◌, length, take, slice_index_or, slice_set, replicate, codes, bytes_eq, position, count_by, if◌then◌else◌, Option, Some, None, option_map, Result, Ok, Err}
 use Rattle.std.specs.Option.{option_map_or}
 use Rattle.pico_base.specs.declared.call.Call.{Call}
 use Rattle.pico_base.specs.declared.call.Call.TheVariants.{GetPid, MsgGet, MsgSnd, MsgRcv, MsgStat, MsgSet, SemGet, SemOp, SemGetVal, SemGetPid, SemGetNcnt, SemGetZcnt, SemSetVal, SemGetAll, SemSetAll}
