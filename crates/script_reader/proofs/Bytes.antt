@@ -11,7 +11,7 @@ use Rattle.script_reader.proofs.Chains.{between_true, between_from}
 pub lowercase_decides : (b : ℕ) → Decides (is_lowercase b) (IsLowercase b)
 lowercase_decides b = (between_true 97 122 b, λ h. between_from 97 122 b h.0 h.1)
 
-digit_decides : (b : ℕ) → Decides (is_digit b) (IsDigit b)
+pub digit_decides : (b : ℕ) → Decides (is_digit b) (IsDigit b)
 digit_decides b = (between_true 48 57 b, λ h. between_from 48 57 b h.0 h.1)
 
 name_byte_decides : (b : ℕ) → Decides (is_name_byte b) (IsNameByte b)
@@ -31,7 +31,7 @@ name_byte_decides b = (to, from)
     from : IsNameByte b → is_name_byte b ≡ true
     from h = grind (arith, lowercase_decides, digit_decides)
 
-text_byte_decides : (b : ℕ) → Decides (is_text_byte b) (IsTextByte b)
+pub text_byte_decides : (b : ℕ) → Decides (is_text_byte b) (IsTextByte b)
 text_byte_decides b = (to, from)
   where
     to : is_text_byte b ≡ true → IsTextByte b

@@ -1,6 +1,8 @@
 -- Tests and chains of options, taken apart.
-use Rattle.std.proofs.Common.{◌≡◌, ◌≤◌, ℕ, Bool, true, false, ◌&&◌, cond, leb, Option, Some, None, refl}
+use Rattle.std.proofs.Common.{◌≡◌, ◌⊎◌, inl, inr, ◌≤◌, ℕ, Bool, true, false, ◌&&◌, cond, leb, Option, Some, None, refl}
 use Rattle.std.proofs.lemmas.Bool.{and_parts, and_from, leb-true, le-leb}
+use Rattle.std.specs.Prelude.{option_map}
+use Rattle.std.proofs.lemmas.Option.{same_Some, none-some}
 use Rattle.script_reader.specs.Parts.{◌>>=◌}
 
 -- the value of a step that gave something
@@ -29,3 +31,13 @@ between_true low high b e =
 
 pub between_from : (low high b : ℕ) → low ≤ b → b ≤ high → (leb low b && leb b high) ≡ true
 between_from low high b l h = and_from (leb low b) (leb b high) (le-leb low b l) (le-leb b high h)
+
+-- a value that was mapped
+pub mapped : {A B : Type 0} (f : A → B) (o : Option A) (y : B) → option_map f o ≡ Some y → (x : A) × (o ≡ Some x) × (f x ≡ y)
+mapped f (Some x) y e = (x, refl, same_Some (f x) y e)
+mapped f None y e = absurd (none-some y e)
+
+-- which way a test went
+pub parted : {A : Type 0} (b : Bool) (x y z : A) → cond b x y ≡ z → ((b ≡ true) × (x ≡ z)) ⊎ ((b ≡ false) × (y ≡ z))
+parted true x y z e = inl (refl, e)
+parted false x y z e = inr (refl, e)

@@ -1,6 +1,7 @@
 -- What holds of blocks whose lines begin a script.
-use Rattle.std.proofs.Common.{◌≡◌, inl, inr, ℕ, ◌+◌, ◌<◌, ◌≤◌, Bool, true, false, ◌&&◌, ◌||◌, not, cond, eqb, leb, ltb, List, [], ◌∷◌, ◌++◌, map, length, take, get_or, Option, Some, None, refl, sym, ap, subst, ◌∙◌, arith}
-use Rattle.std.specs.Prelude.{bytes_eq, codes, count_by, nat_eq, position, All}
+use Rattle.std.proofs.Common.{◌≡◌, inl, inr, ℕ, ◌+◌, ◌<◌, ◌≤◌, ℤ, pos, negsuc, Bool, true, false, ◌&&◌, ◌||◌, not, cond, eqb, leb, ltb, List, [], ◌∷◌, ◌++◌, map, length, take, get_or, Option, Some, None, refl, sym, ap, subst, ◌∙◌, arith}
+use Rattle.std.specs.Prelude.{bytes_eq, codes, count_by, decimal, int_le, is_some, nat_eq, position, All}
+use Rattle.std.specs.Fmt.{signed_decimal}
 use Rattle.std.specs.List.{AllByRecursion, list_all, list_any}
 use Rattle.std.proofs.lemmas.Bool.{and_parts, and_from, cases_eq, eqb-true, le-leb, leb-true, lt-ltb, eq-eqb, ne_eqb, false_from_ne_true}
 use Rattle.std.proofs.lemmas.List.{append-nil, length-append, length-map, map_push, take_more, length-take, get_or-take}
@@ -10,22 +11,27 @@ use Rattle.std.proofs.lemmas.List.Quantifiers.{position-Some}
 use Rattle.std.proofs.lemmas.List.Sums.{fold-append, sum_by-append}
 use Rattle.std.proofs.lemmas.Slice.Eq.{bytes_eq-Decides}
 use Rattle.pico_base.specs.declared.call.Call.{Call}
+use Rattle.pico_base.specs.declared.call.SemStep.{SemStep}
 use Rattle.pico_base.specs.declared.script.Line.{Line}
 use Rattle.pico_base.specs.declared.script.Block.{Block}
 use Rattle.kernel_model.specs.Script as model
-use Rattle.kernel_model.specs.Waiting.{is_waiting}
-use Rattle.machine_model.specs.Built.{is_built_line}
-use Rattle.script_reader.specs.Spelling.{variable_text, set_text, opening_text, end_text}
-use Rattle.script_reader.specs.Form.{IsName, IsCall, IsCallLine, fork_line, forks_in, known_after, known_behind, IsForked, calls_of, block_of, Begins}
-use Rattle.script_reader.specs.Form.IsCall.{own, get, send, receive}
+use Rattle.kernel_model.specs.Waiting.{may_wait, is_waiting}
+use Rattle.machine_model.specs.Built.{is_shared, is_built, is_built_line}
+use Rattle.script_reader.specs.declared.verb.Verb.{Verb}
+use Rattle.script_reader.specs.Spelling.{set_text, object_text, step_text, opening_text, end_text}
+use Rattle.script_reader.specs.Form.{IsName, IsStep, IsWithin, verb_text, IsTail, IsCall, IsCallLine, fork_line, forks_in, known_after, known_behind, IsForked, calls_of, block_of, Begins}
+use Rattle.script_reader.specs.Form.IsTail.{send, receive, queue_state, queue_limit, operate, get_value, get_last, get_increase, get_zero, get_all, set_value, set_all}
+use Rattle.script_reader.specs.Form.IsCall.{own, new_queue, new_set, shared}
 use Rattle.script_reader.specs.Form.Begins.{nothing, proc, fork, call, end}
 use Rattle.script_reader.specs.Fault.{with_name, with_opening, names_of}
-use Rattle.script_reader.specs.Parts.{opening_at}
+use Rattle.script_reader.specs.Parts.{number_front, step_at, opening_at}
 use Rattle.script_reader.specs.Reading.{number_of}
 use Rattle.script_reader.proofs.Bytes.{name_bytes_decides, lowercase_decides}
-use Rattle.script_reader.proofs.CallLines.{not_opening, fork_not_opening, end_not_opening}
+use Rattle.script_reader.proofs.CallLines.{step_long, value_long, not_opening, fork_not_opening, end_not_opening}
+use Rattle.script_reader.proofs.Spelled.{separated-length}
+use Rattle.script_reader.proofs.TextLaws.{text_length}
 use Rattle.script_reader.proofs.Knowing.{forks_in-push}
-use Rattle.script_reader.proofs.Standing.{kept_line, opening_again, forks_nothing, fork_kept, calls_of-push}
+use Rattle.script_reader.proofs.Standing.{kept_call, kept_line, opening_again, forks_nothing, fork_kept, calls_of-push}
 
 -- ---- names
 
@@ -115,25 +121,92 @@ pub record IsFine (number : ℕ) (line : Line) : Type 0 where
 abbrev line_at : Option ℕ → Option ℕ → Call → Line
 line_at set from c = record { set = set; tries = 1; from = from; call = c }
 
-text_within : (v t : ℕ) (text : List ℕ) → length text ≤ length (codes "msgsnd $" ++ (variable_text v ++ (codes " " ++ ((48 + t) ∷ (codes " \"" ++ (text ++ codes "\" nowait"))))))
-text_within v t text =
-    omega (arith, length-append (variable_text v) (codes " " ++ ((48 + t) ∷ (codes " \"" ++ (text ++ codes "\" nowait")))), length-append text (codes "\" nowait"))
+-- what a call other than a fork is, wherever it stands
+record IsTame (call : Call) : Type 0 where
+  range : model.is_in_range call ≡ true
+  named : model.can_name call ≡ true
+  process : model.is_process_in_range call ≡ true
+  no_exit : model.is_exit call ≡ false
+  at_once : is_waiting call ≡ false
+  shared_call : is_shared call ≡ true
+  built : (block : ℕ) → is_built block call ≡ is_shared call
+  kept : kept_call call ≡ call
+
+class_in_range : (class : ℤ) → IsWithin 2147483647 class → model.is_type class ≡ true
+class_in_range (pos n) h = refl
+class_in_range (negsuc n) h = le-leb n 2147483646 (omega (arith, h))
+
+step_in_range : (step : SemStep) → IsStep step → model.is_step_in_range step ≡ true
+step_in_range step h = of step.add h.add
+  where
+    of : (z : ℤ) → IsWithin 65535 z → (int_le (negsuc 65534) z && int_le z (pos 65535)) ≡ true
+    of (pos n) w = le-leb n 65535 w
+    of (negsuc n) w = and_from (leb n 65534) true (le-leb n 65534 (omega (arith, w))) refl
+
+steps_in_range : (steps : List SemStep) → AllByRecursion IsStep steps → list_all model.is_step_in_range steps ≡ true
+steps_in_range [] h = refl
+steps_in_range (step ∷ steps) h = and_from (model.is_step_in_range step) (list_all model.is_step_in_range steps) (step_in_range step h.0) (steps_in_range steps h.1)
+
+steps_at_once : (steps : List SemStep) → AllByRecursion IsStep steps → list_any may_wait steps ≡ false
+steps_at_once [] h = refl
+steps_at_once (step ∷ steps) h = rw (h.0.at_once) (steps_at_once steps h.1)
+
+values_in_range : (values : List ℕ) → AllByRecursion (λ v. v ≤ 65535) values → list_all (λ v. leb v 65535) values ≡ true
+values_in_range [] h = refl
+values_in_range (v ∷ values) h = and_from (leb v 65535) (list_all (λ w. leb w 65535) values) (le-leb v 65535 h.0) (values_in_range values h.1)
+
+tail_tame : (id : ℕ) (verb : Verb) (c : Call) (bytes : List ℕ) → length bytes ≤ 4096 → IsTail id verb c bytes → IsTame c
+tail_tame id _ _ _ short (send class text bytes within is) =
+    let room : length bytes ≤ 4096 = omega (arith, short, length-append (signed_decimal class) (codes " " ++ (bytes ++ codes " nowait")), length-append bytes (codes " nowait")) in
+    record { range = and_from (model.is_type class) (leb (length text) 8192) (class_in_range class within) (le-leb (length text) 8192 (text_length text bytes is room)); named = refl; process = refl; no_exit = refl; at_once = refl; shared_call = refl; built = λ _. refl; kept = refl }
+tail_tame id _ _ _ short (receive class size noerror within small) =
+    record { range = and_from (model.is_type class) (leb size 65535) (class_in_range class within) (le-leb size 65535 small); named = refl; process = refl; no_exit = refl; at_once = refl; shared_call = refl; built = λ _. refl; kept = refl }
+tail_tame id _ _ _ short queue_state = record { range = refl; named = refl; process = refl; no_exit = refl; at_once = refl; shared_call = refl; built = λ _. refl; kept = refl }
+tail_tame id _ _ _ short (queue_limit qbytes small) = record { range = le-leb qbytes 65535 small; named = refl; process = refl; no_exit = refl; at_once = refl; shared_call = refl; built = λ _. refl; kept = refl }
+tail_tame id _ _ _ short (operate steps some is) =
+    let room : length steps ≤ 1024 = omega (arith, short, separated-length 32 step_at step_text IsStep 3 steps step_long is) in
+    record { range = and_from (leb 1 (length steps) && leb (length steps) 1024) (list_all model.is_step_in_range steps) (and_from (leb 1 (length steps)) (leb (length steps) 1024) (le-leb 1 (length steps) some) (le-leb (length steps) 1024 room)) (steps_in_range steps is); named = refl; process = refl; no_exit = refl; at_once = steps_at_once steps is; shared_call = refl; built = λ _. refl; kept = refl }
+tail_tame id _ _ _ short (get_value num small) = record { range = refl; named = refl; process = refl; no_exit = refl; at_once = refl; shared_call = refl; built = λ _. refl; kept = refl }
+tail_tame id _ _ _ short (get_last num small) = record { range = refl; named = refl; process = refl; no_exit = refl; at_once = refl; shared_call = refl; built = λ _. refl; kept = refl }
+tail_tame id _ _ _ short (get_increase num small) = record { range = refl; named = refl; process = refl; no_exit = refl; at_once = refl; shared_call = refl; built = λ _. refl; kept = refl }
+tail_tame id _ _ _ short (get_zero num small) = record { range = refl; named = refl; process = refl; no_exit = refl; at_once = refl; shared_call = refl; built = λ _. refl; kept = refl }
+tail_tame id _ _ _ short get_all = record { range = refl; named = refl; process = refl; no_exit = refl; at_once = refl; shared_call = refl; built = λ _. refl; kept = refl }
+tail_tame id _ _ _ short (set_value num value small high) = record { range = le-leb value 65535 high; named = refl; process = refl; no_exit = refl; at_once = refl; shared_call = refl; built = λ _. refl; kept = refl }
+tail_tame id _ _ _ short (set_all values some is) =
+    let room : length values ≤ 2048 = omega (arith, short, separated-length 44 (number_front 65535) decimal (λ v. v ≤ 65535) 1 values value_long is) in
+    record { range = and_from (leb 1 (length values) && leb (length values) 2048) (list_all (λ v. leb v 65535) values) (and_from (leb 1 (length values)) (leb (length values) 2048) (le-leb 1 (length values) some) (le-leb (length values) 2048 room)) (values_in_range values is); named = refl; process = refl; no_exit = refl; at_once = refl; shared_call = refl; built = λ _. refl; kept = refl }
+
+sets_rightly_of : (set : Option ℕ) (b : Bool) → b ≡ false → not (is_some set && b) ≡ true
+sets_rightly_of None b e = refl
+sets_rightly_of (Some v) b e = ap not e
+
+from_rightly : (from : Option ℕ) (x y : Bool) → x ≡ true → y ≡ true → cond (is_some from) x y ≡ true
+from_rightly None x y e f = f
+from_rightly (Some v) x y e f = e
+
+tame_fine : (number : ℕ) (set from : Option ℕ) (c : Call) → IsTame c → IsFine number (line_at set from c)
+tame_fine number set from c h =
+    let rest : (model.is_in_range c && cond (is_some from) (model.can_name c) (model.is_process_in_range c)) ≡ true = and_from (model.is_in_range c) (cond (is_some from) (model.can_name c) (model.is_process_in_range c)) h.range (from_rightly from (model.can_name c) (model.is_process_in_range c) h.named h.process) in
+    let sets : not (is_some set && model.is_exit c) ≡ true = sets_rightly_of set (model.is_exit c) h.no_exit in
+    record {
+      in_range = and_from (not (is_some set && model.is_exit c)) (model.is_in_range c && cond (is_some from) (model.can_name c) (model.is_process_in_range c)) sets rest;
+      at_once = h.at_once;
+      no_exit = h.no_exit;
+      once = refl;
+      built = h.built number ∙ h.shared_call;
+      kept = λ _. ap (λ (k : Call). line_at set from k) h.kept;
+    }
 
 call_fine : (number : ℕ) (set from : Option ℕ) (c : Call) (bytes : List ℕ) → length bytes ≤ 4096 → IsCall number from c bytes → IsFine number (line_at set from c)
 call_fine number None _ _ _ short own = record { in_range = refl; at_once = refl; no_exit = refl; once = refl; built = refl; kept = λ _. refl }
 call_fine number (Some v) _ _ _ short own = record { in_range = refl; at_once = refl; no_exit = refl; once = refl; built = refl; kept = λ _. refl }
-call_fine number None _ _ _ short (get one) = record { in_range = refl; at_once = refl; no_exit = refl; once = refl; built = rw one refl; kept = λ _. refl }
-call_fine number (Some v) _ _ _ short (get one) = record { in_range = refl; at_once = refl; no_exit = refl; once = refl; built = rw one refl; kept = λ _. refl }
-call_fine number None _ _ _ short (send v t text small low high bytes) =
-    let room : length text ≤ 8192 = omega (arith, short, text_within v t text) in
-    record { in_range = rw (le-leb (length text) 8192 room) refl; at_once = refl; no_exit = refl; once = refl; built = refl; kept = λ _. refl }
-call_fine number (Some w) _ _ _ short (send v t text small low high bytes) =
-    let room : length text ≤ 8192 = omega (arith, short, text_within v t text) in
-    record { in_range = rw (le-leb (length text) 8192 room) refl; at_once = refl; no_exit = refl; once = refl; built = refl; kept = λ _. refl }
-call_fine number None _ _ _ short (receive v size small high) =
-    record { in_range = rw (le-leb size 65535 high) refl; at_once = refl; no_exit = refl; once = refl; built = refl; kept = λ _. refl }
-call_fine number (Some w) _ _ _ short (receive v size small high) =
-    record { in_range = rw (le-leb size 65535 high) refl; at_once = refl; no_exit = refl; once = refl; built = refl; kept = λ _. refl }
+call_fine number None _ _ _ short (new_queue one) = record { in_range = refl; at_once = refl; no_exit = refl; once = refl; built = rw one refl; kept = λ _. refl }
+call_fine number (Some v) _ _ _ short (new_queue one) = record { in_range = refl; at_once = refl; no_exit = refl; once = refl; built = rw one refl; kept = λ _. refl }
+call_fine number None _ _ _ short (new_set count one small) = record { in_range = rw (le-leb count 65535 small) refl; at_once = refl; no_exit = refl; once = refl; built = rw one refl; kept = λ _. refl }
+call_fine number (Some v) _ _ _ short (new_set count one small) = record { in_range = rw (le-leb count 65535 small) refl; at_once = refl; no_exit = refl; once = refl; built = rw one refl; kept = λ _. refl }
+call_fine number set _ _ _ short (shared from id verb c tail object is) =
+    let room : length tail ≤ 4096 = omega (arith, short, length-append (verb_text verb) (object_text from id ++ tail), length-append (object_text from id) tail) in
+    tame_fine number set from c (tail_tame id verb c tail room is)
 
 line_fine : (number : ℕ) (known : List ℕ) (line : Line) (bytes : List ℕ) → IsCallLine number known line bytes → IsFine number line
 line_fine number known line bytes h =

@@ -18,7 +18,7 @@ use Rattle.script_reader.specs.declared.state.State.TheVariants.{Between, Inside
 use Rattle.script_reader.specs.Form.{block_of}
 use Rattle.script_reader.specs.Fault.{lines_of, names_of, IsWhole, Reads, IsFirstBad, EndsEarly, IsFirstFault, HasFault}
 use Rattle.script_reader.specs.Reading.{has_blocks, start, ending, blocks_of, script_from, outcome, GivesScript}
-use Rattle.script_reader.proofs.CallLines.{parted}
+use Rattle.script_reader.proofs.Chains.{parted}
 use Rattle.script_reader.proofs.Standing.{kept_block, Stands}
 use Rattle.script_reader.proofs.Machine.{run, run_after, begins_run, begins_where, blocks_from-run, breaks, blocks_from-breaks, bad_where, breaks_where}
 use Rattle.script_reader.proofs.Sound.{IsRunnable-whole, kept-whole}

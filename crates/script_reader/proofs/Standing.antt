@@ -20,15 +20,17 @@ use Rattle.script_reader.specs.declared.state.Part.{Part}
 use Rattle.script_reader.specs.declared.state.State.{State}
 use Rattle.script_reader.specs.declared.state.State.TheVariants.{Between, Inside}
 use Rattle.script_reader.specs.Spelling.{set_text, opening_text, end_text}
-use Rattle.script_reader.specs.Form.{IsVariable, IsName, IsCall, IsCallLine, fork_line, forks_in, known_after, known_behind, IsForked, calls_of, HasRoom, block_of, Begins}
-use Rattle.script_reader.specs.Form.IsCall.{own, get, send, receive}
-use Rattle.script_reader.specs.Form.Begins.{nothing, proc, fork, call, end}
+use Rattle.script_reader.specs.Form.{IsVariable, IsName, IsTail, IsCall, IsCallLine, fork_line, forks_in, known_after, known_behind, IsForked, calls_of, HasRoom, block_of, Begins}
+use Rattle.script_reader.specs.declared.verb.Verb.{Verb}
+use Rattle.script_reader.specs.Form.IsTail.{send, receive, queue_state, queue_limit, operate, get_value, get_last, get_increase, get_zero, get_all, set_value, set_all}
+use Rattle.script_reader.specs.Form.IsCall.{own, new_queue, new_set, shared}
+use Rattle.script_reader.specs.Form.Begins.{proc, fork, call, end}
 use Rattle.script_reader.specs.Parts.{◌>>=◌, strip, is_name, opening_at, set_at}
 use Rattle.script_reader.specs.Reading.{no_flags, is_at, set_after, call_line_at, begun_at, has_blocks, place_at, number_of, with_line, one_call_more, forking, known_next, is_next, open_step, fork_step, call_step, ended, line_step, inside_step, step, start}
-use Rattle.script_reader.proofs.Chains.{bind_some, chosen, not_chosen}
+use Rattle.script_reader.proofs.Chains.{bind_some, chosen, not_chosen, parted}
 use Rattle.script_reader.proofs.Bytes.{name_decides}
 use Rattle.script_reader.proofs.Strips.{strip_takes, strip_again}
-use Rattle.script_reader.proofs.CallLines.{Uses, IsFirst, IsLine, set_takes, set_of, call_second, call_line_takes, call_line_again, not_end, fork_no_end, not_fork, parted}
+use Rattle.script_reader.proofs.CallLines.{Uses, IsFirst, IsLine, set_takes, set_of, call_second, call_line_takes, call_line_again, not_end, fork_no_end, not_fork}
 use Rattle.script_reader.proofs.Knowing.{Knows, Knows-none, Knows-more, known_after-push, Matches, Tables, Tables-none, Tables-same, Tables-fork, forked_begins}
 
 -- ---- lines as they are kept: a fork of a block past the 32nd is kept as one of the 32nd
@@ -43,17 +45,31 @@ kept_line line = record { set = line.set; tries = line.tries; from = line.from; 
 abbrev pub kept_block : Block → Block
 kept_block block = block_of block.name (map kept_line block.lines)
 
+tail_kept : (id : ℕ) (verb : Verb) (call : Call) (bytes : List ℕ) → IsTail id verb call bytes → (kept_call call ≡ call) × (forked_by call ≡ [])
+tail_kept id _ _ _ (send class text bytes within is) = (refl, refl)
+tail_kept id _ _ _ (receive class size noerror within small) = (refl, refl)
+tail_kept id _ _ _ queue_state = (refl, refl)
+tail_kept id _ _ _ (queue_limit qbytes small) = (refl, refl)
+tail_kept id _ _ _ (operate steps some is) = (refl, refl)
+tail_kept id _ _ _ (get_value num small) = (refl, refl)
+tail_kept id _ _ _ (get_last num small) = (refl, refl)
+tail_kept id _ _ _ (get_increase num small) = (refl, refl)
+tail_kept id _ _ _ (get_zero num small) = (refl, refl)
+tail_kept id _ _ _ get_all = (refl, refl)
+tail_kept id _ _ _ (set_value num value small high) = (refl, refl)
+tail_kept id _ _ _ (set_all values some is) = (refl, refl)
+
 call_is_kept : (block : ℕ) (from : Option ℕ) (call : Call) (bytes : List ℕ) → IsCall block from call bytes → kept_call call ≡ call
 call_is_kept block _ _ _ own = refl
-call_is_kept block _ _ _ (get one) = refl
-call_is_kept block _ _ _ (send v t text small low high bytes) = refl
-call_is_kept block _ _ _ (receive v size small high) = refl
+call_is_kept block _ _ _ (new_queue one) = refl
+call_is_kept block _ _ _ (new_set count one small) = refl
+call_is_kept block _ _ _ (shared from id verb c tail object is) = (tail_kept id verb c tail is).0
 
 pub forks_nothing : (block : ℕ) (from : Option ℕ) (call : Call) (bytes : List ℕ) → IsCall block from call bytes → forked_by call ≡ []
 forks_nothing block _ _ _ own = refl
-forks_nothing block _ _ _ (get one) = refl
-forks_nothing block _ _ _ (send v t text small low high bytes) = refl
-forks_nothing block _ _ _ (receive v size small high) = refl
+forks_nothing block _ _ _ (new_queue one) = refl
+forks_nothing block _ _ _ (new_set count one small) = refl
+forks_nothing block _ _ _ (shared from id verb c tail object is) = (tail_kept id verb c tail is).1
 
 line_kept : (line : Line) → kept_call line.call ≡ line.call → kept_line line ≡ line
 line_kept line e = ap (λ (c : Call). record { set = line.set; tries = line.tries; from = line.from; call = c }) e
@@ -300,7 +316,6 @@ call_takes names read p blocks part texts bytes rest set next h begins room shor
       spelled = spelled ∙ ap (λ (s : Option ℕ). set_text s ++ rest) (sym l.set_is);
       short = short;
       variable = set_small;
-      may_set = subst (λ (s : Option ℕ). Rattle.script_reader.specs.Form.MaySet line.call s) (sym l.set_is) l.may_set;
       once = l.once;
       call = l.call;
       was_set = uses_known p.known (known_after (known_behind blocks) h.lines) line.from h.knows l.uses;
@@ -383,7 +398,7 @@ call_goes names (Inside read p) blocks name lines line bytes h room is =
     let other : bytes_eq bytes end_text ≡ false = ap (λ (b : List ℕ). bytes_eq b end_text) is.spelled ∙ not_end number line.set line.from line.call is.rest is.variable is.call in
     let told = inside_line names read p line.set bytes is.rest None (omega (arith, h.stands.calls_are, ap length s.1, room)) other is.short set_is (not_fork number line.from line.call is.rest is.call) in
     let known : is_known (known_after (known_behind blocks) h.lines) line.from ≡ true = subst (λ (ls : List Line). is_known (known_after (known_behind blocks) ls) line.from ≡ true) s.1 is.was_set in
-    let l : IsLine number p.known line.set line is.rest = record { set_is = refl; once = is.once; may_set = is.may_set; call = is.call; uses = known_used p.known (known_after (known_behind blocks) h.lines) line.from h.knows known } in
+    let l : IsLine number p.known line.set line is.rest = record { set_is = refl; once = is.once; call = is.call; uses = known_used p.known (known_after (known_behind blocks) h.lines) line.from h.knows known } in
     let again = call_line_again (not (has_blocks read.blocks)) number p.known line.set is.rest line (is_first_of names read blocks (first_of blocks h.lines) (calls_of blocks + length h.lines) h.stands) l in
     let stands = went_on names read p blocks (Some (block_of name lines)) line h (line_kept line (call_is_kept number line.from line.call is.rest is.call)) (forks_nothing number line.from line.call is.rest is.call) is.variable in
     let same : block_of p.name (h.lines ++ line ∷ []) ≡ block_of name (lines ++ line ∷ []) = rw (s.0, s.1) refl in

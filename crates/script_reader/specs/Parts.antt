@@ -1,6 +1,8 @@
 -- The parts of a line, read from the front. A part comes with what follows it.
-use Rattle.std.specs.Prelude.{ℕ, ◌+◌, ◌-◌, ◌*◌, Bool, false, ◌&&◌, ◌||◌, not, ◌==◌, nat_le, List, [], ◌∷◌, length, take, drop, codes, bytes_eq, if◌then◌else◌, Option, Some, None, option_and_then}
+use Rattle.std.specs.Prelude.{ℕ, zero, suc, ◌+◌, ◌-◌, ◌*◌, ℤ, pos, negsuc, int_le, Bool, true, false, ◌&&◌, ◌||◌, not, ◌==◌, nat_le, List, [], ◌∷◌, length, take, drop, replicate, codes, bytes_eq, if◌then◌else◌, Option, Some, None, option_map, option_and_then}
 use Rattle.std.specs.List.{list_all}
+use Rattle.std.specs.Option.{option_map_or}
+use Rattle.pico_base.specs.declared.call.SemStep.{SemStep}
 
 infixl 10 ◌>>=◌
 abbrev pub ◌>>=◌ : {A B : Type 0} → Option A → (A → Option B) → Option B
@@ -62,6 +64,140 @@ unfoldable pub number_at : List ℕ → Option ℕ
 number_at [] = None
 number_at (b ∷ []) = digits_at 0 (b ∷ [])
 number_at (b ∷ c ∷ rest) = if b == 48 then None else digits_at 0 (b ∷ c ∷ rest)
+
+-- the number whose digits stand at the front, behind digits of this value
+unfoldable pub digits_front : ℕ → ℕ → List ℕ → Option (ℕ × List ℕ)
+digits_front limit value [] = Some (value, [])
+digits_front limit value (b ∷ rest) =
+    if is_digit b
+    then if nat_le (value * 10 + (b - 48)) limit then digits_front limit (value * 10 + (b - 48)) rest else None
+    else Some (value, b ∷ rest)
+
+-- a number up to the limit, which is at least 9. A zero is a number of its own
+unfoldable pub number_front : ℕ → List ℕ → Option (ℕ × List ℕ)
+number_front limit bytes = do
+  first ← digit_at bytes
+  if first.0 == 0 then Some first else digits_front limit first.0 first.1
+
+abbrev pub negative : ℕ × List ℕ → Option (ℤ × List ℕ)
+negative number = if number.0 == 0 then None else Some (negsuc (number.0 - 1), number.1)
+
+abbrev pub signed_of : ℕ → Option (List ℕ) → List ℕ → Option (ℤ × List ℕ)
+signed_of limit (Some digits) bytes = number_front limit digits >>= negative
+signed_of limit None bytes = option_map (λ (number : ℕ × List ℕ). (pos number.0, number.1)) (number_front limit bytes)
+
+-- a number from the limit below zero to the limit
+unfoldable pub signed_front : ℕ → List ℕ → Option (ℤ × List ℕ)
+signed_front limit bytes = signed_of limit (strip (codes "-") bytes) bytes
+
+-- ---- texts
+
+abbrev pub is_alphanumeric : ℕ → Bool
+is_alphanumeric b = is_lowercase b || (is_digit b || (nat_le 65 b && nat_le b 90))
+
+-- the value of a lower-case hex digit
+unfoldable pub hex_at : ℕ → Option ℕ
+hex_at b = if is_digit b then Some (b - 48) else if nat_le 97 b && nat_le b 102 then Some (b - 87) else None
+
+-- the byte of `\xhh` behind its `\`
+unfoldable pub escape_at : List ℕ → Option (ℕ × List ℕ)
+escape_at (x ∷ h ∷ l ∷ rest) = do
+  high ← hex_at h
+  low ← hex_at l
+  if x == 120 then Some (16 * high + low, rest) else None
+escape_at _ = None
+
+-- one byte of a text between quotes
+unfoldable pub text_byte_at : List ℕ → Option (ℕ × List ℕ)
+text_byte_at [] = None
+text_byte_at (b ∷ rest) = if b == 92 then escape_at rest else if is_text_byte b then Some (b, rest) else None
+
+-- the text before a closing quote, and what follows that
+abbrev pub closed_at : List ℕ → List ℕ → Option (List ℕ × List ℕ)
+closed_at text bytes = option_map (λ (rest : List ℕ). (text, rest)) (strip (codes "\"") bytes)
+
+abbrev pub with_byte : ℕ → List ℕ × List ℕ → List ℕ × List ℕ
+with_byte b text = (b ∷ text.0, text.1)
+
+-- a text up to its closing quote, of at most so many bytes
+unfoldable pub quoted_at : ℕ → List ℕ → Option (List ℕ × List ℕ)
+quoted_at zero bytes = closed_at [] bytes
+quoted_at (suc most) bytes =
+    option_map_or
+    (λ (b : ℕ × List ℕ). option_map (with_byte b.0) (quoted_at most b.1))
+    (text_byte_at bytes)
+    (closed_at [] bytes)
+
+-- the letter or digit of `rep:N:C`, so many times
+unfoldable pub repeated_at : ℕ → List ℕ → Option (List ℕ × List ℕ)
+repeated_at count [] = None
+repeated_at count (b ∷ rest) = if is_alphanumeric b then Some (replicate count b, rest) else None
+
+-- the count of `N:C`, with what follows the colon
+unfoldable pub count_at : List ℕ → Option (ℕ × List ℕ)
+count_at bytes = do
+  count ← number_front 8192 bytes
+  letter ← strip (codes ":") count.1
+  Some (count.0, letter)
+
+-- `N:C`
+unfoldable pub repetition_at : List ℕ → Option (List ℕ × List ℕ)
+repetition_at bytes = count_at bytes >>= λ count. repeated_at count.0 count.1
+
+abbrev pub text_of : Option (List ℕ) → Option (List ℕ) → Option (List ℕ × List ℕ)
+text_of (Some repetition) quoted = repetition_at repetition
+text_of None (Some bytes) = quoted_at (length bytes) bytes
+text_of None None = None
+
+unfoldable pub text_at : List ℕ → Option (List ℕ × List ℕ)
+text_at bytes = text_of (strip (codes "rep:") bytes) (strip (codes "\"") bytes)
+
+-- ---- operations and values
+
+-- what `:nowait` behind an operation says, and what follows
+abbrev pub nowait_of : Option (List ℕ) → List ℕ → Bool × List ℕ
+nowait_of None bytes = (false, bytes)
+nowait_of (Some rest) bytes = (true, rest)
+
+unfoldable pub nowait_at : List ℕ → Bool × List ℕ
+nowait_at bytes = nowait_of (strip (codes ":nowait") bytes) bytes
+
+abbrev pub step_of : ℕ → ℤ → Bool × List ℕ → Option (SemStep × List ℕ)
+step_of num add nowait =
+    if int_le add (pos 0) && not nowait.0
+    then None
+    else Some (record { num = num; add = add; nowait = nowait.0 }, nowait.1)
+
+-- an operation that doesn't wait
+unfoldable pub step_at : List ℕ → Option (SemStep × List ℕ)
+step_at bytes = do
+  num ← number_front 65535 bytes
+  behind ← strip (codes ":") num.1
+  add ← signed_front 65535 behind
+  step_of num.0 add.0 (nowait_at add.1)
+
+abbrev pub has_ended : List ℕ → Bool
+has_ended [] = true
+has_ended (b ∷ bytes) = false
+
+abbrev pub with_part : {A : Type 0} → A → List A → List A
+with_part part parts = part ∷ parts
+
+-- at most so many parts to the end, with this byte between two
+unfoldable pub listed : {A : Type 0} → ℕ → (List ℕ → Option (A × List ℕ)) → ℕ → List ℕ → Option (List A)
+listed byte reader zero bytes = None
+listed byte reader (suc most) bytes =
+    reader bytes >>= λ part.
+    if has_ended part.1
+    then Some (part.0 ∷ [])
+    else strip (byte ∷ []) part.1 >>= λ rest. option_map (with_part part.0) (listed byte reader most rest)
+
+-- operations with a blank, and values with a comma between two
+abbrev pub steps_at : ℕ → List ℕ → Option (List SemStep)
+steps_at most bytes = listed 32 step_at most bytes
+
+abbrev pub values_at : ℕ → List ℕ → Option (List ℕ)
+values_at most bytes = listed 44 (number_front 65535) most bytes
 
 -- a block's name, the whole of what follows `proc `
 unfoldable pub is_name : List ℕ → Bool

@@ -1,9 +1,8 @@
 -- Reading from left to right, as the code does. What the answers mean is said by `Fault`.
-use Rattle.std.specs.Prelude.{◌≡◌, ℕ, ◌+◌, pos, Bool, true, false, ◌&&◌, not, ◌==◌, nat_lt, List, [], ◌∷◌, ◌++◌, length, take, slice_index_or, slice_set, replicate, codes, bytes_eq, position, count_by, if◌then◌else◌, Option, Some, None, option_map, Result, Ok, Err}
-use Rattle.std.specs.List.{list_all}
+use Rattle.std.specs.Prelude.{◌≡◌, ℕ, ◌+◌, ℤ, Bool, true, false, ◌&&◌, not, ◌==◌, nat_lt, List, [], ◌∷◌, ◌++◌, length, take, slice_index_or, slice_set, replicate, codes, bytes_eq, position, count_by, if◌then◌else◌, Option, Some, None, option_map, Result, Ok, Err}
 use Rattle.std.specs.Option.{option_map_or}
 use Rattle.pico_base.specs.declared.call.Call.{Call}
-use Rattle.pico_base.specs.declared.call.Call.TheVariants.{GetPid, MsgGet, MsgSnd, MsgRcv}
+use Rattle.pico_base.specs.declared.call.Call.TheVariants.{GetPid, MsgGet, MsgSnd, MsgRcv, MsgStat, MsgSet, SemGet, SemOp, SemGetVal, SemGetPid, SemGetNcnt, SemGetZcnt, SemSetVal, SemGetAll, SemSetAll}
 use Rattle.pico_base.specs.declared.script.Line.{Line}
 use Rattle.pico_base.specs.declared.script.Block.{Block}
 use Rattle.pico_base.specs.declared.script.Script.{Script}
@@ -18,7 +17,9 @@ use Rattle.script_reader.specs.declared.state.State.TheVariants.{Between, Inside
 use Rattle.script_reader.specs.Spelling.{end_text}
 use Rattle.script_reader.specs.Form.{fork_line}
 use Rattle.script_reader.specs.Fault.{lines_of, names_of}
-use Rattle.script_reader.specs.Parts.{◌>>=◌, strip, strip_end, is_text_byte, digit_at, variable_at, number_at, opening_at, set_at}
+use Rattle.script_reader.specs.declared.verb.Verb.{Verb}
+use Rattle.script_reader.specs.declared.verb.Verb.TheVariants.{Send, Receive, QueueControl, Operate, SetControl}
+use Rattle.script_reader.specs.Parts.{◌>>=◌, strip, variable_at, number_at, number_front, signed_front, text_at, steps_at, values_at, opening_at, set_at}
 
 -- ---- call lines. Which variables are known is a table of flags
 
@@ -41,69 +42,155 @@ known_variable_at flags bytes = do
   v ← variable_at bytes
   if is_at flags v.0 then Some v else None
 
+-- a variable that is known, or an identifier
+abbrev pub object_of : List Bool → Option (List ℕ) → List ℕ → Option ((Option ℕ × ℕ) × List ℕ)
+object_of flags (Some variable) bytes =
+    option_map (λ (v : ℕ × List ℕ). ((Some v.0, 0), v.1)) (known_variable_at flags variable)
+object_of flags None bytes =
+    option_map (λ (n : ℕ × List ℕ). ((None, n.0), n.1)) (number_front 4294967295 bytes)
+
+unfoldable pub object_at : List Bool → List ℕ → Option ((Option ℕ × ℕ) × List ℕ)
+object_at flags bytes = object_of flags (strip (codes "$") bytes) bytes
+
+-- a message's type between two blanks
+unfoldable pub class_at : List ℕ → Option (ℤ × List ℕ)
+class_at bytes = do
+  behind ← strip (codes " ") bytes
+  class ← signed_front 2147483647 behind
+  rest ← strip (codes " ") class.1
+  Some (class.0, rest)
+
+-- what follows the identifier, by the call's first word
+unfoldable pub send_at : ℕ → List ℕ → Option Call
+send_at id bytes = do
+  class ← class_at bytes
+  text ← text_at class.1
+  if bytes_eq text.1 (codes " nowait") then Some (MsgSnd id class.0 text.0 true) else None
+
+unfoldable pub noerror_at : List ℕ → Option Bool
+noerror_at bytes =
+    if bytes_eq bytes (codes " nowait")
+    then Some false
+    else if bytes_eq bytes (codes " noerror nowait") then Some true else None
+
+unfoldable pub receive_at : ℕ → List ℕ → Option Call
+receive_at id bytes = do
+  class ← class_at bytes
+  size ← number_front 65535 class.1
+  noerror ← noerror_at size.1
+  Some (MsgRcv id class.0 size.0 noerror true)
+
+unfoldable pub queue_at : ℕ → List ℕ → Option Call
+queue_at id bytes =
+    if bytes_eq bytes (codes " stat")
+    then Some (MsgStat id)
+    else strip (codes " set ") bytes >>= λ digits. option_map (MsgSet id) (number_at digits)
+
+unfoldable pub operate_at : ℕ → List ℕ → Option Call
+operate_at id bytes = do
+  words ← strip (codes " ") bytes
+  steps ← steps_at (length words) words
+  Some (SemOp id steps)
+
+unfoldable pub value_at : ℕ → List ℕ → Option Call
+value_at id bytes = do
+  num ← number_front 65535 bytes
+  digits ← strip (codes " ") num.1
+  value ← number_at digits
+  Some (SemSetVal id num.0 value)
+
+-- what follows a word, where it is there
+abbrev pub Behind : Type 0
+Behind = Option (List ℕ)
+
+-- what follows the first of these words that is there
+abbrev pub semaphore_of : ℕ → Behind → Behind → Behind → Behind → Behind → Behind → Option Call
+semaphore_of id (Some num) last increase zero value values = option_map (SemGetVal id) (number_at num)
+semaphore_of id None (Some num) increase zero value values = option_map (SemGetPid id) (number_at num)
+semaphore_of id None None (Some num) zero value values = option_map (SemGetNcnt id) (number_at num)
+semaphore_of id None None None (Some num) value values = option_map (SemGetZcnt id) (number_at num)
+semaphore_of id None None None None (Some words) values = value_at id words
+semaphore_of id None None None None None (Some words) = option_map (SemSetAll id) (values_at (length words) words)
+semaphore_of id None None None None None None = None
+
+unfoldable pub semaphores_at : ℕ → List ℕ → Option Call
+semaphores_at id bytes =
+    if bytes_eq bytes (codes " getall")
+    then Some (SemGetAll id)
+    else
+    semaphore_of id
+    (strip (codes " getval ") bytes)
+    (strip (codes " getpid ") bytes)
+    (strip (codes " getncnt ") bytes)
+    (strip (codes " getzcnt ") bytes)
+    (strip (codes " setval ") bytes)
+    (strip (codes " setall ") bytes)
+
+abbrev pub tail_at : Verb → ℕ → List ℕ → Option Call
+tail_at Send id bytes = send_at id bytes
+tail_at Receive id bytes = receive_at id bytes
+tail_at QueueControl id bytes = queue_at id bytes
+tail_at Operate id bytes = operate_at id bytes
+tail_at SetControl id bytes = semaphores_at id bytes
+
 -- a call with the variable that it takes its identifier from
 abbrev pub FromCall : Type 0
 FromCall = Option ℕ × Call
 
--- the send behind `msgsnd $`
-unfoldable pub send_at : List Bool → List ℕ → Option (ℕ × ℕ × List ℕ)
-send_at flags bytes = do
-  variable ← known_variable_at flags bytes
-  behind ← strip (codes " ") variable.1
-  class ← digit_at behind
-  quoted ← strip (codes " \"") class.1
-  text ← strip_end (codes "\" nowait") quoted
-  if not (class.0 == 0) && list_all is_text_byte text then Some (variable.0, class.0, text) else None
+abbrev pub verb_of : Behind → Behind → Behind → Behind → Behind → Option (Verb × List ℕ)
+verb_of (Some rest) receive queue operate set = Some (Send, rest)
+verb_of None (Some rest) queue operate set = Some (Receive, rest)
+verb_of None None (Some rest) operate set = Some (QueueControl, rest)
+verb_of None None None (Some rest) set = Some (Operate, rest)
+verb_of None None None None (Some rest) = Some (SetControl, rest)
+verb_of None None None None None = None
 
--- the receive behind `msgrcv $`
-unfoldable pub receive_at : List Bool → List ℕ → Option (ℕ × ℕ)
-receive_at flags bytes = do
-  variable ← known_variable_at flags bytes
-  behind ← strip (codes " 0 ") variable.1
-  digits ← strip_end (codes " nowait") behind
-  size ← number_at digits
-  Some (variable.0, size)
+unfoldable pub verb_at : List ℕ → Option (Verb × List ℕ)
+verb_at bytes =
+    verb_of
+    (strip (codes "msgsnd ") bytes)
+    (strip (codes "msgrcv ") bytes)
+    (strip (codes "msgctl ") bytes)
+    (strip (codes "semop ") bytes)
+    (strip (codes "semctl ") bytes)
 
-abbrev pub send_of : Option (ℕ × ℕ × List ℕ) → Option FromCall
-send_of parts = option_map (λ (p : ℕ × ℕ × List ℕ). (Some p.0, MsgSnd 0 (pos p.1) p.2 true)) parts
+-- a call on a queue or a set, behind its first word
+unfoldable pub shared_at : List Bool → Verb × List ℕ → Option FromCall
+shared_at flags verb = do
+  object ← object_at flags verb.1
+  call ← tail_at verb.0 object.0.1 object.1
+  Some (object.0.0, call)
 
-abbrev pub receive_of : Option (ℕ × ℕ) → Option FromCall
-receive_of parts = option_map (λ (p : ℕ × ℕ). (Some p.0, MsgRcv 0 (pos 0) p.1 false true)) parts
+-- the calls that make a queue or a set
+unfoldable pub get_at : List ℕ → Option Call
+get_at bytes =
+    if bytes_eq bytes (codes "msgget private")
+    then Some (MsgGet None false false)
+    else
+    strip (codes "semget private ") bytes >>= λ digits.
+    option_map (λ count. SemGet None count false false) (number_at digits)
 
--- the calls without arguments
+-- the calls on no queue or set that is there
 unfoldable pub plain_at : Bool → List ℕ → Option FromCall
 plain_at is_first bytes =
     if bytes_eq bytes (codes "getpid")
     then Some (None, GetPid)
-    else if is_first && bytes_eq bytes (codes "msgget private") then Some (None, MsgGet None false false) else None
+    else if is_first then option_map (λ call. (None, call)) (get_at bytes) else None
 
--- a call that begins neither with `msgsnd $` nor with `msgrcv $`, with the second, or with the first of them
-abbrev pub form_at : Bool → List Bool → Option (List ℕ) → Option (List ℕ) → List ℕ → Option FromCall
-form_at is_first flags (Some sent) received bytes = send_of (send_at flags sent)
-form_at is_first flags None (Some received) bytes = receive_of (receive_at flags received)
-form_at is_first flags None None bytes = plain_at is_first bytes
+abbrev pub form_at : Bool → List Bool → Option (Verb × List ℕ) → List ℕ → Option FromCall
+form_at is_first flags (Some verb) bytes = shared_at flags verb
+form_at is_first flags None bytes = plain_at is_first bytes
 
 -- a call but fork, in the first block or a later one
 unfoldable pub call_at : Bool → List Bool → List ℕ → Option FromCall
-call_at is_first flags bytes = form_at is_first flags (strip (codes "msgsnd $") bytes) (strip (codes "msgrcv $") bytes) bytes
-
--- `VAR =` stands before a get, may stand before `getpid`, and stands before no other call
-abbrev pub may_set : Call → Option ℕ → Bool
-may_set GetPid set = true
-may_set (MsgGet key create excl) None = false
-may_set (MsgGet key create excl) (Some v) = true
-may_set call None = true
-may_set call (Some v) = false
+call_at is_first flags bytes = form_at is_first flags (verb_at bytes) bytes
 
 abbrev pub line_with : Option ℕ → FromCall → Line
 line_with set call = record { set = set; tries = 1; from = call.0; call = call.1 }
 
-abbrev pub line_of : Option ℕ → FromCall → Option Line
-line_of set call = if may_set call.1 set then Some (line_with set call) else None
-
 -- a call line but a fork, whose call is these bytes
 unfoldable pub call_line_at : Bool → List Bool → Option ℕ → List ℕ → Option Line
-call_line_at is_first flags set bytes = call_at is_first flags bytes >>= line_of set
+call_line_at is_first flags set bytes = option_map (line_with set) (call_at is_first flags bytes)
 
 -- ---- forks
 
@@ -155,7 +242,9 @@ known_next read = if has_blocks read.blocks then begun_at read.begun (length rea
 
 -- the place of a name, which is that of the next block
 abbrev pub is_next : List (List ℕ) → Read → List ℕ → Bool
-is_next names read name = nat_lt (length read.blocks) 32 && option_map_or (λ place. place == length read.blocks) (position (bytes_eq name) names) false
+is_next names read name =
+    nat_lt (length read.blocks) 32
+    && option_map_or (λ place. place == length read.blocks) (position (bytes_eq name) names) false
 
 unfoldable pub open_step : List (List ℕ) → Read → List ℕ → Option State
 open_step names read bytes = do

@@ -4,11 +4,16 @@
 mod call_line;
 mod calls;
 mod fault;
+mod lists;
+mod numbers;
 mod parts;
 mod script;
+mod shared_call;
 mod state;
 mod steps;
 mod tables;
+mod texts;
+mod verb;
 
 pub use calls::call_with;
 pub use fault::{ScriptFault, ScriptStop};

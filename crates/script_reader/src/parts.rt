@@ -16,13 +16,6 @@ pub(crate) fn strip_front<'a>(bytes: &'a [u8], prefix: &[u8]) -> Option<&'a [u8]
     bytes.strip_prefix(prefix)
 }
 
-/// What stands before this suffix.
-pub(crate) fn strip_back<'a>(bytes: &'a [u8], suffix: &[u8]) -> Option<&'a [u8]>
-    ensures { option_copied result ≡ strip_end suffix.now bytes.now }
-{
-    bytes.strip_suffix(suffix)
-}
-
 /// A digit's value.
 #[tactic(auto, unfolding(crate::specs::Parts::digit_at))]
 pub(crate) fn digit(bytes: &[u8]) -> Option<(u8, &[u8])>
@@ -97,7 +90,8 @@ fn digits(word: &[u8]) -> Option<u32>
 /// The value of a whole word, which is a number without leading zeros.
 #[tactic(auto, unfolding(crate::specs::Parts::number_at))]
 pub(crate) fn number(word: &[u8]) -> Option<u32>
-    ensures { result ≡ number_at word.now }
+    ensures value { result ≡ number_at word.now }
+    ensures small { IfSome result (λ n. n ≤ 65535) }
 {
     match word {
         [] => None,
@@ -131,17 +125,11 @@ pub(crate) fn is_block_name(word: &[u8]) -> bool
     }
 }
 
-fn is_text_part(byte: u8) -> bool
+/// Whether the byte may stand for itself between quotes.
+pub(crate) fn is_text_part(byte: u8) -> bool
     ensures { result ≡ is_text_byte byte }
 {
     byte >= b' ' && byte <= b'~' && byte != b'"' && byte != b'\\'
-}
-
-/// Whether each byte may stand for itself between quotes.
-pub(crate) fn is_text(bytes: &[u8]) -> bool
-    ensures { result ≡ list_all is_text_byte bytes.now }
-{
-    bytes.iter().all(|b| is_text_part(*b))
 }
 
 /// The variable in front of ` = `.

@@ -145,9 +145,12 @@ fn read(alloc: Global, bytes: &[u8]) -> Result<Script, ScriptStop>
     }
 }
 
-/// The script that the bytes are the text of. Until more is built a script is one block or more, whose lines are
-/// `getpid`, `msgsnd $VAR T "X" nowait` and `msgrcv $VAR 0 Z nowait`, and in the first one `VAR = msgget private` and
-/// a `fork NAME` of each other block; `VAR =` may stand before `getpid` and `fork`.
+/// The script that the bytes are the text of. Until more is built a script has these lines, each word parted from the
+/// next by one blank. A block is `proc NAME`, its calls and `end`; each block but the first is forked by one line of
+/// the first, `fork NAME`. Calls are `getpid`, and for a queue or a set Q, which is a number or a variable that is
+/// known, `msgsnd Q T X nowait`, `msgrcv Q T Z [noerror] nowait`, `msgctl Q stat`, `msgctl Q set B`, `semop Q OPS`
+/// without an operation that may wait, and `semctl` but for `rmid`; `msgget private` and `semget private N` stand in
+/// the first block alone. `VAR =` may stand before each call.
 ///
 /// `ScriptTooLong` comes where there are more than 1,048,576 bytes, at the line of the first byte too many.
 /// Else `NotBuilt` comes at the first line that doesn't stand in such a script in its place; where the text

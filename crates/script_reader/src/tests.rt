@@ -1,5 +1,5 @@
 use super::*;
-use pico_base::{Block, Bytes, Call, Id, Line, Memory, Node, Script, Sequence, Var};
+use pico_base::{Block, Bytes, Call, Id, Line, Memory, Node, Script, SemStep, Sequence, Var};
 use std::alloc::Global;
 use std::test::Fail;
 
@@ -123,6 +123,136 @@ fn reads_a_family(rt: HostRuntime) -> Result<(), Fail> {
     Ok(())
 }
 
+const EVERY_FORM: &str =
+    "proc main\nmsgget private\nsemget private 3\nq = msgsnd 7 -3 \"a\\x0a~\" nowait\n\
+    msgsnd 0 2147483647 rep:17:9 nowait\nmsgrcv 4294967295 -2147483647 65535 noerror nowait\n\
+    msgctl $q stat\nmsgctl 1 set 4096\nsemop 2 0:-1:nowait 65535:7 1:0:nowait\nsemctl 2 getval 0\n\
+    semctl 2 getpid 1\nsemctl 2 getncnt 2\nsemctl 2 getzcnt 3\nsemctl 2 getall\n\
+    semctl 2 setval 65535 40000\nsemctl 2 setall 7,0,32767\nend\n";
+
+/// The calls on queues of that script.
+fn queue_lines(alloc: Global, lines: &mut Vec<Line>) -> Result<(), Memory> {
+    let sent = |class: i32, id: Id, text: Bytes| Call::MsgSnd {
+        id,
+        class,
+        text,
+        nowait: true,
+    };
+    let text = Bytes::from_slice(alloc, b"a\n~")?;
+    let letters = Bytes::from_slice(alloc, b"99999999999999999")?;
+    lines.push(plain(Some(Q), sent(-3, Id(7), text)))?;
+    lines.push(plain(None, sent(2_147_483_647, Id(0), letters)))?;
+    lines.push(plain(
+        None,
+        Call::MsgRcv {
+            id: Id(4_294_967_295),
+            class: -2_147_483_647,
+            size: 65_535,
+            noerror: true,
+            nowait: true,
+        },
+    ))?;
+    lines.push(from_q(Call::MsgStat { id: Id(0) }))?;
+    lines.push(plain(
+        None,
+        Call::MsgSet {
+            id: Id(1),
+            qbytes: 4096,
+        },
+    ))?;
+    Ok(())
+}
+
+fn step(num: u16, add: i32, nowait: bool) -> SemStep {
+    SemStep { num, add, nowait }
+}
+
+/// The calls on sets of that script.
+fn set_lines(alloc: Global, lines: &mut Vec<Line>) -> Result<(), Memory> {
+    let id = Id(2);
+    let steps = vec![in alloc; step(0, -1, true), step(65_535, 7, false), step(1, 0, true)]?;
+    let steps = Sequence::from_vec(steps);
+    let values = Sequence::from_vec(vec![in alloc; 7, 0, 32_767]?);
+    lines.push(plain(None, Call::SemOp { id, steps }))?;
+    lines.push(plain(None, Call::SemGetVal { id, num: 0 }))?;
+    lines.push(plain(None, Call::SemGetPid { id, num: 1 }))?;
+    lines.push(plain(None, Call::SemGetNcnt { id, num: 2 }))?;
+    lines.push(plain(None, Call::SemGetZcnt { id, num: 3 }))?;
+    lines.push(plain(None, Call::SemGetAll { id }))?;
+    lines.push(plain(
+        None,
+        Call::SemSetVal {
+            id,
+            num: 65_535,
+            value: 40_000,
+        },
+    ))?;
+    lines.push(plain(None, Call::SemSetAll { id, values }))?;
+    Ok(())
+}
+
+#[test]
+fn reads_every_form(rt: HostRuntime) -> Result<(), Fail> {
+    let alloc = rt.alloc();
+    let mut lines = Vec::new(alloc);
+    lines.push(plain(None, get().call))?;
+    lines.push(plain(
+        None,
+        Call::SemGet {
+            key: None,
+            count: 3,
+            create: false,
+            excl: false,
+        },
+    ))?;
+    queue_lines(alloc, &mut lines)?;
+    set_lines(alloc, &mut lines)?;
+    let mut blocks = Sequence::new(alloc);
+    blocks.push(block(alloc, "main", lines)?)?;
+    assert_eq!(rt;
+        read_script(alloc, EVERY_FORM.as_bytes())?,
+        Script { blocks }
+    );
+    Ok(())
+}
+
+#[test]
+fn refuses_calls(rt: HostRuntime) -> Result<(), Fail> {
+    for call in [
+        "msgsnd 1 0 \"\"",
+        "msgsnd 1 0 \"a\"b\" nowait",
+        "msgsnd 1 0 \"\\x0A\" nowait",
+        "msgsnd 1 -0 \"\" nowait",
+        "msgsnd 1 -2147483648 \"\" nowait",
+        "msgsnd 1 1 rep:8193:a nowait",
+        "msgsnd 1 1 rep:01:a nowait",
+        "msgsnd 4294967296 1 \"\" nowait",
+        "msgrcv 1 0 8",
+        "msgrcv 1 0 8 nowait noerror",
+        "msgrcv 1 +1 8 nowait",
+        "msgctl 1 set 65536",
+        "msgctl 1 rmid",
+        "msgget 5",
+        "semget private 65536",
+        "semop 1",
+        "semop 1 0:0",
+        "semop 1 0:-1 0:1",
+        "semop 1 0:1 ",
+        "semop 1 0:65536",
+        "semctl 1 getval 65536",
+        "semctl 1 getall 0",
+        "semctl 1 setall 1,,2",
+        "semctl 1 setall",
+        "semctl 01 getall",
+        "exit 0",
+    ] {
+        let text = format!(in rt.alloc(); "proc main\n{call}\nend\n")?;
+        let fault = read_script(rt.alloc(), text.as_bytes()).err();
+        assert_eq!(rt; fault, not_built(2), "{call}");
+    }
+    Ok(())
+}
+
 #[test]
 fn refuses(rt: HostRuntime) {
     for (text, line) in [
@@ -133,13 +263,8 @@ fn refuses(rt: HostRuntime) {
         ("proc  main\nend\n", 1),
         ("proc Main\nend\n", 1),
         ("proc main\nq =  msgget private\nend\n", 2),
-        ("proc main\nmsgget private\nend\n", 2),
         ("proc main\nproc other\nend\n", 2),
         ("proc main\nmsgsnd $q 1 \"hi\" nowait\nend\n", 2),
-        (
-            "proc main\nq = msgget private\nmsgsnd $q 0 \"hi\" nowait\nend\n",
-            3,
-        ),
         (
             "proc main\nq = msgget private\nmsgrcv $q 0 08 nowait\nend\n",
             3,

@@ -10,16 +10,16 @@ use Rattle.std.proofs.lemmas.Str.Parse.{IsNumeralModel, numerals_by_value, tells
 use Rattle.script_reader.specs.Parts.{is_digit, digits_at, number_at}
 use Rattle.script_reader.proofs.Chains.{chosen, not_chosen, between_true}
 
-abbrev AreDigits : List ℕ → Type 0
+abbrev pub AreDigits : List ℕ → Type 0
 AreDigits ds = all_ascii_digits ds ≡ true
 
-own : IsNumeralModel AreDigits (digits_value 10)
+pub own : IsNumeralModel AreDigits (digits_value 10)
 own = numerals_by_value AreDigits tells_all_ascii_digits
 
-value_of_digit : (b : ℕ) → 48 ≤ b → b ≤ 57 → digit_value b ≡ b - 48
+pub value_of_digit : (b : ℕ) → 48 ≤ b → b ≤ 57 → digit_value b ≡ b - 48
 value_of_digit b l h = grind arith
 
-digits_value_after-grows : (v : ℕ) (ds : List ℕ) → v ≤ digits_value_after 10 v ds
+pub digits_value_after-grows : (v : ℕ) (ds : List ℕ) → v ≤ digits_value_after 10 v ds
 digits_value_after-grows v [] = omega arith
 digits_value_after-grows v (d ∷ ds) = omega (arith, digits_value_after-grows (v * 10 + digit_value d) ds)
 
@@ -68,11 +68,11 @@ number_again_of (b ∷ c ∷ rest) n h v small some lead =
     two : length (b ∷ c ∷ rest) ≡ 1 → ⊥
     two e = omega arith
 
-leads : (n : ℕ) → n ≤ 65535 → get_or (decimal n) 0 0 ≡ 48 → length (decimal n) ≡ 1
+pub leads : (n : ℕ) → n ≤ 4294967295 → get_or (decimal n) 0 0 ≡ 48 → length (decimal n) ≡ 1
 leads zero small h = rw (decimal_digit 0 (omega arith)) refl
 leads (suc n) small h = absurd (omega (arith, first_decimal (suc n) (omega arith) (omega arith)))
 
 pub number_again : (n : ℕ) → n ≤ 65535 → number_at (decimal n) ≡ Some n
 number_again n small =
     let h = decimal_is_IsNumeral n (omega arith) in
-    number_again_of (decimal n) n (own.from (decimal n) h.0.1) h.1 small h.0.0 (leads n small)
+    number_again_of (decimal n) n (own.from (decimal n) h.0.1) h.1 small h.0.0 (leads n (omega arith))

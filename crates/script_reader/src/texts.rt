@@ -1,0 +1,143 @@
+//! Texts at the front of what is left of a line.
+
+ghost use Rattle.std.specs.Prelude.{◌≡◌, ◌≤◌, IfOk, IfSome, option_map, length};
+ghost use Rattle.script_reader.specs.Parts.{is_alphanumeric as is_alphanumeric_of, hex_at, escape_at, text_byte_at, closed_at, quoted_at, repeated_at, count_at, repetition_at, text_at};
+
+use crate::numbers::number_front;
+use crate::parts::{is_text_part, strip_front};
+use pico_base::{Bytes, Memory, Sequence};
+use std::alloc::Global;
+
+/// The longest text of `rep:N:C`.
+const MAX_REPEATED: u32 = 8192;
+
+/// The value of a lower-case hex digit.
+#[tactic(auto, unfolding(crate::specs::Parts::hex_at))]
+fn hex(byte: u8) -> Option<u8>
+    ensures value { result ≡ hex_at byte }
+    ensures small { IfSome result (λ n. n ≤ 15) }
+{
+    match byte {
+        b'0'..=b'9' => Some(byte - b'0'),
+        b'a'..=b'f' => Some(byte - b'a' + 10),
+        _ => None,
+    }
+}
+
+/// The byte of `\xhh` behind its `\`.
+#[tactic(auto, unfolding(crate::specs::Parts::escape_at))]
+fn escape(bytes: &[u8]) -> Option<(u8, &[u8])>
+    ensures { option_map (λ x. (x.0, x.1.now)) result ≡ escape_at bytes.now }
+{
+    match bytes {
+        [x, high, low, rest @ ..] => {
+            let high = hex(*high)?;
+            let low = hex(*low)?;
+            if *x == b'x' {
+                Some((16 * high + low, rest))
+            } else {
+                None
+            }
+        }
+        _ => None,
+    }
+}
+
+/// One byte of a text between quotes.
+#[tactic(auto, unfolding(crate::specs::Parts::text_byte_at))]
+fn text_byte(bytes: &[u8]) -> Option<(u8, &[u8])>
+    ensures { option_map (λ x. (x.0, x.1.now)) result ≡ text_byte_at bytes.now }
+{
+    match bytes {
+        [] => None,
+        [byte, rest @ ..] => {
+            if *byte == b'\\' {
+                escape(rest)
+            } else if is_text_part(*byte) {
+                Some((*byte, rest))
+            } else {
+                None
+            }
+        }
+    }
+}
+
+/// The text where its closing quote is next.
+fn closed(text: Bytes, bytes: &[u8]) -> Option<(Bytes, &[u8])>
+    ensures { option_map (λ x. (x.0, x.1.now)) result ≡ closed_at text bytes.now }
+{
+    let rest = strip_front(bytes, b"\"")?;
+    Some((text, rest))
+}
+
+/// A text behind its opening quote.
+fn quoted(alloc: Global, bytes: &[u8]) -> Result<Option<(Bytes, &[u8])>, Memory>
+    ensures { IfOk result (λ text. option_map (λ x. (x.0, x.1.now)) text ≡ quoted_at (length bytes.now) bytes.now) }
+{
+    let mut text = Sequence::new(alloc);
+    let mut rest = bytes;
+    for _ in 0..bytes.len() {
+        match text_byte(rest) {
+            None => return Ok(closed(text, rest)),
+            Some((byte, after)) => {
+                text.push(byte)?;
+                rest = after;
+            }
+        }
+    }
+    Ok(closed(text, rest))
+}
+
+fn is_alphanumeric(byte: u8) -> bool
+    ensures { result ≡ is_alphanumeric_of byte }
+{
+    byte.is_ascii_lowercase() || byte.is_ascii_digit() || byte.is_ascii_uppercase()
+}
+
+/// The letter or digit of `rep:N:C`, so many times.
+#[tactic(auto, unfolding(crate::specs::Parts::repeated_at))]
+fn repeated(alloc: Global, count: u32, bytes: &[u8]) -> Result<Option<(Bytes, &[u8])>, Memory>
+    ensures { IfOk result (λ text. option_map (λ x. (x.0, x.1.now)) text ≡ repeated_at count bytes.now) }
+{
+    match bytes {
+        [letter, rest @ ..] if is_alphanumeric(*letter) => {
+            let text = vec![in alloc; *letter; count as usize]?;
+            Ok(Some((Sequence::from_vec(text), rest)))
+        }
+        _ => Ok(None),
+    }
+}
+
+/// The count of `N:C`, and what stands behind the colon.
+#[tactic(auto, unfolding(crate::specs::Parts::count_at))]
+fn count_front(bytes: &[u8]) -> Option<(u32, &[u8])>
+    ensures { option_map (λ x. (x.0, x.1.now)) result ≡ count_at bytes.now }
+{
+    let (count, rest) = number_front(MAX_REPEATED, bytes)?;
+    Some((count, strip_front(rest, b":")?))
+}
+
+/// The text of `N:C`.
+#[tactic(auto, unfolding(crate::specs::Parts::repetition_at))]
+fn repetition(alloc: Global, bytes: &[u8]) -> Result<Option<(Bytes, &[u8])>, Memory>
+    ensures { IfOk result (λ text. option_map (λ x. (x.0, x.1.now)) text ≡ repetition_at bytes.now) }
+{
+    match count_front(bytes) {
+        None => Ok(None),
+        Some((count, rest)) => repeated(alloc, count, rest),
+    }
+}
+
+/// A text, `rep:N:C` or between quotes.
+#[tactic(auto, unfolding(crate::specs::Parts::text_at))]
+pub(crate) fn text_front(alloc: Global, bytes: &[u8]) -> Result<Option<(Bytes, &[u8])>, Memory>
+    ensures { IfOk result (λ text. option_map (λ x. (x.0, x.1.now)) text ≡ text_at bytes.now) }
+{
+    if let Some(rest) = strip_front(bytes, b"rep:") {
+        return repetition(alloc, rest);
+    }
+    match strip_front(bytes, b"\"") {
+        None => Ok(None),
+        Some(rest) => quoted(alloc, rest),
+    }
+}
