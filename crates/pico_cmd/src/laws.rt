@@ -2,8 +2,9 @@
 ghost use Rattle.machine_model.specs.Laws.{JournalsAreLegal, RestIsWhole, NoNameHasTwoOwners, StepsLowerWeights, RunsAreShort, SchedulesAreRuns};
 ghost use Rattle.world_core.specs.Laws.{RestIsWhereNothingIsChosen};
 
-use machine_bound::{runs_are_short, steps_lower_weights};
-use machine_laws::{journals_are_legal, no_name_has_two_owners, rest_is_whole};
+use machine_laws::{
+    journals_are_legal, no_name_has_two_owners, rest_is_whole, runs_are_short, steps_lower_weights,
+};
 use world_core::{rest_is_where_nothing_is_chosen, schedules_are_runs};
 
 /// The laws of runs, in one place: it does nothing.
