@@ -1,5 +1,5 @@
 -- A run as it goes on, event by event.
-use Rattle.std.proofs.Common.{◌≡◌, ℕ, ◌*◌, ◌<◌, ◌≤◌, true, List, [], ◌∷◌, ◌++◌, length, take, Bool, false, nat_eq, if◌then◌else◌, Option, Some, None, refl, sym, ap, subst, ◌∙◌, arith}
+use Rattle.std.proofs.Common.{◌≡◌, ℕ, ◌<◌, ◌≤◌, true, List, [], ◌∷◌, ◌++◌, take, Bool, false, nat_eq, if◌then◌else◌, Option, Some, None, refl, sym, ap, subst, ◌∙◌, arith}
 use Rattle.std.specs.Prelude.{IfSome, IsSome}
 use Rattle.pico_base.specs.declared.script.Event.{Event}
 use Rattle.pico_base.specs.declared.script.Event.TheVariants as events
@@ -12,7 +12,7 @@ use Rattle.machine_model.specs.World.{World, opening_world, size, size_of, step,
 use Rattle.machine_model.specs.Schedule.{Schedule, InTurn, Drawn, Follows, choice, schedule_of, schedule_after, node_of}
 use Rattle.machine_model.specs.Weights.{weight}
 use Rattle.machine_model.specs.Built.{IsRunnable}
-use Rattle.machine_model.specs.Run.{IsRunOf, IsReachable, IsAtRest}
+use Rattle.machine_model.specs.Run.{IsRunOf, IsAtRest}
 use Rattle.machine_model.specs.Laws.{JournalsAreLegal, RestIsWhole, NoNameHasTwoOwners, StepsLowerWeights, RunsAreShort, SchedulesAreRuns}
 use Rattle.world_core.specs.Laws.{IsWithin, RestIsWhereNothingIsChosen}
 use Rattle.world_core.specs.Stepped.{IsStepped}

@@ -1,5 +1,5 @@
 -- Words and what they ask for.
-use Rattle.std.proofs.Common.{◌≡◌, ◌≤◌, ◌<◌, ℕ, suc, Bool, List, [], ◌∷◌, ◌++◌, length, map, drop, take, ◌-◌, length-drop, get_or, Option, None, Some, Result, true, false, refl, sym, ap, subst, ◌∙◌, arith, inl, inr}
+use Rattle.std.proofs.Common.{◌≡◌, ◌≤◌, ◌<◌, ℕ, Bool, List, [], ◌∷◌, length, map, drop, take, ◌-◌, length-drop, get_or, Option, None, Some, Result, true, false, sym, ap, subst, ◌∙◌, arith, inr}
 use Rattle.std.specs.Prelude.{codes, IfSome, IsTrue}
 use Rattle.std.specs.Fmt.{decimal}
 use Rattle.std.specs.Str.Parse.{ParsesUnsigned}
@@ -7,7 +7,7 @@ use Rattle.std.specs.Result.{result_ok}
 use Rattle.std.proofs.lemmas.List.{take_all}
 use Rattle.std.proofs.lemmas.Fmt.{parse-decimal}
 use Rattle.pico_cmd.specs.declared.words.Options.{Options}
-use Rattle.pico_cmd.specs.Words.{Asks, seed_words, steps_words}
+use Rattle.pico_cmd.specs.Words.{Asks, steps_words}
 
 -- one word
 pub one_word : {A : Type 0} (f : A → List ℕ) (xs : List A) (w : A) (y : List ℕ) → 1 ≤ length xs → length xs < 2 → w ≡ get_or xs 0 w

@@ -39,7 +39,8 @@ fn text_of_fault(alloc: Global, line: u32, fault: ScriptFault) -> Result<Bytes, 
 // The text of a run: its trace, and its events where they are wanted.
 fn text_of(alloc: Global, run: &Run, steps: bool) -> Result<Bytes, Memory>
     requires { IsSome run.now.world }
-    ensures { IfOk result (λ text. IfSome run.now.world (λ last. text ≡ trace_text last.script last.journal ++ steps_if steps run.now.events.items)) }
+    ensures { IfOk result (λ text. IfSome run.now.world (λ last.
+        text ≡ trace_text last.script last.journal ++ steps_if steps run.now.events.items)) }
 {
     let trace = write_trace(alloc, run.world.script(), run.world.journal())?;
     if !steps {

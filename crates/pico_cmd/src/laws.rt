@@ -2,7 +2,6 @@
 ghost use Rattle.machine_model.specs.Laws.{JournalsAreLegal, RestIsWhole, NoNameHasTwoOwners, StepsLowerWeights, RunsAreShort, SchedulesAreRuns};
 ghost use Rattle.world_core.specs.Laws.{RestIsWhereNothingIsChosen};
 
-
 use machine_laws::{
     journals_are_legal, no_name_has_two_owners, rest_is_whole, runs_are_short, steps_lower_weights,
 };

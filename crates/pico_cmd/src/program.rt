@@ -88,7 +88,8 @@ fn answer<S: Source>(alloc: Global, words: &[String], source: &mut S) -> Result<
         (script : ScriptValue) → Reads bytes script → IfOk result (λ answer. answer.status ≡ Status.Done)) }
     ensures fault { IsInOrder (map string_bytes words.now) → IfSome (S.left source.old) (λ bytes.
         (line : ℕ) (fault : FaultValue) → IsFirstFault bytes line fault → IfOk result (λ answer. answer.status ≡ Status.BadScript)) }
-    ensures rest { IsInOrder (map string_bytes words.now) → OnOk result (S.left source.new ≡ left_behind (S.left source.old)) }
+    ensures rest { IsInOrder (map string_bytes words.now)
+        → OnOk result (S.left source.new ≡ left_behind (S.left source.old)) }
     ensures stop { IfErr result (IsReadFault (IsInOrder (map string_bytes words.now) × HasRisen (S.faults source.old) (S.faults source.new))) }
 {
     match options_of(words) {
@@ -111,8 +112,8 @@ fn write_answer<K: Sink>(sink: &mut K, answer: Answer) -> Status
 ///
 /// The words are those behind the program's name. They are in order where they are `sim`, then `--seed N` if wanted,
 /// with N from 0 to 2147483646 in decimal digits without a sign or a leading zero, and then `--steps` if wanted. The
-/// script's processes are then run as picoprocesses, one event at a time, by the schedule of number N, or 0 where none is
-/// given, and the trace is written; with `--steps` the events are written behind it.
+/// script's processes then run as picoprocesses, one event at a time, by the schedule of number N, which is 0 where
+/// none is given. The trace is written, and with `--steps` the events behind it.
 pub fn pico<R, S: Source, K: Sink, G: Gate>(
     _rt: &R,
     alloc: Global,

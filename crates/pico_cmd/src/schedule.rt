@@ -37,7 +37,8 @@ fn node_of(event: &Event) -> Node
 // The enabled event that a drawn number stands for.
 fn event_drawn(world: &World, number: u32) -> Option<Event>
     requires { IsSome world.now }
-    ensures { IfSome world.now (λ w. result ≡ slice_get (machine.enabled_events w) (number % length (machine.enabled_events w))) }
+    ensures { IfSome world.now (λ w.
+        result ≡ slice_get (machine.enabled_events w) (number % length (machine.enabled_events w))) }
 {
     let count = world.count();
     if count == 0 {

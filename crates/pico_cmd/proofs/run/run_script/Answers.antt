@@ -1,6 +1,5 @@
-use Rattle.std.proofs.Common.{◌≡◌, ◌∙◌, ap}
+use Rattle.std.proofs.Common.{◌∙◌, ap}
 use Rattle.machine_model.specs.Schedule.{schedule_of}
-use Rattle.pico_cmd.specs.Schedule.{schedule_in}
 use Rattle.pico_cmd.proofs.Runs.{IsUnderWay-start, IsUnderWay-more, IsUnderWay-end, world_is_whole, world_has_last, chosen_is_enabled, weight_lowered}
 use Rattle.pico_cmd.proofs.run.run_script.Goals as goal
 

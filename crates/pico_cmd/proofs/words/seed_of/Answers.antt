@@ -1,4 +1,4 @@
-use Rattle.std.proofs.Common.{◌≡◌, arith}
+use Rattle.std.proofs.Common.{arith}
 use Rattle.pico_cmd.proofs.Spelled.{not_both, not_spelled, read_seed, same_number}
 use Rattle.pico_cmd.proofs.words.seed_of.Goals as goal
 use Rattle.pico_cmd.proofs.words.seed_of.Goals.{else-seed-le-MAX_SEED-via-then-seed-le-MAX_SEED+else-is_word, else-seed-le-MAX_SEED-via-else-seed-le-MAX_SEED}
