@@ -1,38 +1,72 @@
 #!/usr/bin/env python3
-"""Times `pico sim` on a script and on one of twice its calls, side by side, and prints the ratio of the times.
+"""Times `pico sim` side by side on scripts and on scripts of twice their calls, and on the host's own System V queue.
 
 usage: bench/sim.py [ROUNDS]
 """
 import pathlib
 import subprocess
 import sys
+import tempfile
 import time
 
 TOP = pathlib.Path(__file__).resolve().parent.parent
 PROGRAM = TOP / "crates/pico_cmd/out/pico_cmd"
+TEXT = "m" * 56
+PAIR = [f'msgsnd $q 1 "{TEXT}" nowait', "msgrcv $q 0 64 nowait"]
 
 
-def script(pairs: int) -> bytes:
-    """Sends and receives in turn, each line as long as makes the greatest script of 9,999 pairs about 1 MiB."""
-    lines = ["proc main", "q = msgget private"]
-    for _ in range(pairs):
-        lines.append('msgsnd $q 1 "%s" nowait' % ("m" * 56))
-        lines.append("msgrcv $q 0 64 nowait")
-    return ("\n".join(lines + ["end"]) + "\n").encode()
+def block(name: str, lines: list[str]) -> list[str]:
+    return [f"proc {name}", *lines, "end"]
 
 
-def seconds(text: bytes) -> float:
+def one_process(calls: int) -> bytes:
+    """A new queue, sends and receives in turn, and the exit: so many calls."""
+    lines = ["q = msgget private", *(PAIR * ((calls - 2) // 2))]
+    return ("\n".join(block("main", lines)) + "\n").encode()
+
+
+def two_processes(calls: int) -> bytes:
+    """Two processes that send and receive in turn on one queue, with half of the calls each."""
+    half = calls // 2
+    first = ["q = msgget private", "fork other", *(PAIR * ((half - 3) // 2))]
+    other = PAIR * ((half - 1) // 2)
+    return ("\n".join(block("main", first) + block("other", other)) + "\n").encode()
+
+
+def seconds(text: bytes, seed: str) -> float:
     start = time.perf_counter()
-    subprocess.run([PROGRAM, "sim"], input=text, stdout=subprocess.DEVNULL, check=True)
+    subprocess.run([PROGRAM, "sim", "--seed", seed], input=text, stdout=subprocess.DEVNULL, check=True)
     return time.perf_counter() - start
+
+
+def ratio(what: str, script, seed: str, rounds: int) -> float:
+    """Prints the least times for 10,000 and 20,000 calls, and their ratio; gives the second."""
+    texts = [script(10000), script(20000)]
+    times = [[seconds(text, seed) for text in texts] for _ in range(rounds)]
+    one, two = (min(column) for column in zip(*times))
+    print(f"{what}, schedule {seed}: {one * 1000:.1f} ms and {two * 1000:.1f} ms, ratio {two / one:.2f}")
+    return two
+
+
+def host(pairs: int, rounds: int) -> float:
+    """The least time of as many sends and receives on the host's own queue."""
+    with tempfile.TemporaryDirectory() as folder:
+        program = pathlib.Path(folder) / "host_queue"
+        subprocess.run(["gcc", "-O2", "-o", program, TOP / "bench/host_queue.c"], check=True)
+        return min(float(subprocess.run([program, str(pairs)], capture_output=True, check=True).stdout) for _ in range(rounds))
 
 
 def main() -> None:
     rounds = int(sys.argv[1]) if len(sys.argv) > 1 else 9
-    one, two = script(4999), script(9998)
-    times = [(seconds(one), seconds(two)) for _ in range(rounds)]
-    least = [min(column) for column in zip(*times)]
-    print(f"bytes {len(one)} and {len(two)}: {least[0] * 1000:.1f} ms and {least[1] * 1000:.1f} ms, ratio {least[1] / least[0]:.2f}")
+    whole = ratio("one process", one_process, "0", rounds)
+    for seed in ("0", "1"):
+        ratio("two processes", two_processes, seed, rounds)
+    pairs = 9999
+    native = host(pairs, rounds)
+    print(
+        f"{2 * pairs / whole:.0f} calls a second in pico, its reading and writing with them, and {2 * pairs / native:.0f} on the host's queue: "
+        f"{whole / native:.2f} times the host's time"
+    )
 
 
 if __name__ == "__main__":
