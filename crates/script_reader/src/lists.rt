@@ -4,12 +4,9 @@ ghost use Rattle.std.specs.Prelude.{◌≡◌, ◌≤◌, IfOk, IfSome, option_m
 ghost use Rattle.script_reader.specs.Parts.{nowait_at, step_of, step_at, has_ended as has_ended_of, steps_at, values_at};
 
 use crate::numbers::{number_front, signed_front};
-use crate::parts::strip_front;
+use crate::parts::{MAX_NUMBER, strip_front};
 use pico_base::{Memory, SemStep, Sequence, Steps, Values};
 use std::alloc::Global;
-
-/// The greatest index and value of a semaphore in a line.
-const MAX_NUMBER: u32 = 65_535;
 
 /// What `:nowait` behind an operation says.
 #[tactic(auto, unfolding(crate::specs::Parts::nowait_at))]

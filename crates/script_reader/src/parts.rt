@@ -6,8 +6,8 @@ ghost use Rattle.script_reader.specs.Parts.{strip, strip_end, is_name_byte, is_t
 
 use pico_base::Var;
 
-/// The greatest number that a line has.
-const MAX_NUMBER: u32 = 65_535;
+/// The greatest size, index and value in a line.
+pub(crate) const MAX_NUMBER: u32 = 65_535;
 
 /// What follows this prefix.
 pub(crate) fn strip_front<'a>(bytes: &'a [u8], prefix: &[u8]) -> Option<&'a [u8]>

@@ -7,7 +7,7 @@ ghost use Rattle.script_reader.specs.Reading.{known_variable_at, object_at, clas
 
 use crate::lists::{steps, values};
 use crate::numbers::{number_front, signed_front};
-use crate::parts::{number, strip_front, variable};
+use crate::parts::{MAX_NUMBER, number, strip_front, variable};
 use crate::tables::Flags;
 use crate::texts::text_front;
 use crate::verb::Verb;
@@ -16,9 +16,6 @@ use std::alloc::Global;
 
 /// The greatest message type, and the least one below zero.
 const MAX_TYPE: u32 = 2_147_483_647;
-
-/// The greatest size, index and value in a line.
-const MAX_NUMBER: u32 = 65_535;
 
 /// A variable that is known.
 #[tactic(auto, unfolding(crate::specs::Reading::known_variable_at))]
