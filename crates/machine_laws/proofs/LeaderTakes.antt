@@ -15,7 +15,7 @@ use Rattle.pico_base.specs.declared.script.Script.{Script}
 use Rattle.pico_base.specs.declared.script.Event.TheVariants as events
 use Rattle.rpc_frame.specs.declared.frame.Frame.{Frame}
 use Rattle.rpc_frame.specs.declared.frame.Frame.TheVariants as frames
-use Rattle.kernel_model.specs.Maps.{get, put}
+use Rattle.kernel_model.specs.Maps.{Numbered, get, put}
 use Rattle.kernel_model.specs.Row.{Alive, Family, lists, others, with_end, with_ended_child, ignores_children}
 use Rattle.kernel_model.specs.Kernel.{Kernel, Process, Living as LivingProcess, Ended as EndedProcess, Gone as GoneProcess, alive_in, living_at, opening}
 use Rattle.kernel_model.specs.ProcessCalls.{kept_as}
@@ -23,7 +23,7 @@ use Rattle.kernel_model.specs.Effect.{Effect}
 use Rattle.kernel_model.specs.History.{Replays}
 use Rattle.kernel_model.specs.Fitting.{Place, Places, Follows, opening_places, after}
 use Rattle.machine_model.specs.Built.{IsRunnable, is_shared}
-use Rattle.machine_model.specs.Node.{Node, Held, Leader, IsLeaving, HasLeft, new_process, place_of, lines_of}
+use Rattle.machine_model.specs.Node.{Node, Held, Leader, Parting, IsLeaving, HasLeft, new_process, place_of, lines_of}
 use Rattle.machine_model.specs.Deeds.{held_in, served, child_ended, may_end}
 use Rattle.machine_model.specs.Calls.{Step, entry_by}
 use Rattle.machine_model.specs.Frames.{takes, is_to_leader, parting, leaves_as, ended_at}
@@ -34,14 +34,14 @@ use Rattle.deed_laws.proofs.Shared.{shared_calls, served_calls}
 use Rattle.deed_laws.proofs.Endings.{children_end}
 use Rattle.kernel_laws.proofs.MapLaws.{get-put-same, get-put-other}
 use Rattle.machine_laws.specs.Situations.{Answered, Recalled, Gone, IsAsking, TellsEnd, HasHandedOver, Lives, parcel_of}
-use Rattle.machine_laws.specs.Invariant.{IsUnderWay, IsLeader, sight}
+use Rattle.machine_laws.specs.Invariant.{IsUnderWay, sight}
 use Rattle.machine_laws.proofs.Streams.{Changes, changes-to, changes-from, changes-both}
 use Rattle.machine_laws.proofs.Lines.{answered-place, some-is}
 use Rattle.machine_laws.proofs.Nodes.{node-same, node-other}
 use Rattle.machine_laws.proofs.Entries.{goes-on, IsOrdinary}
 use Rattle.machine_laws.proofs.Moves.{goes-over, square-of}
 use Rattle.machine_laws.proofs.Steps.{Goes, due-is, step-take, nothing-behind}
-use Rattle.machine_laws.proofs.Rests.{known-after}
+use Rattle.machine_laws.proofs.Rests.{Idles, leader-idles, known-after}
 use Rattle.machine_laws.proofs.ChildTakes.{new-deed-same}
 
 -- the numbers to come are the same where only the partings change
@@ -127,6 +127,25 @@ module _ (script : Script) (r : IsRunnable script) (w : World) (first : Node) (k
   elsewhere : (m : Node) (q : ℕ) → 2 ≤ q → slice_get (set w.nodes 0 m) (q - 1) ≡ slice_get w.nodes (q - 1)
   elsewhere m q l = node-other w.nodes 1 q m (omega arith) (omega arith) (λ e. omega arith)
 
+  -- the leader with other deeds and other notes of who parts
+  idle : (held : Held) (partings : Numbered Parting) (places' : Places) → get places' 1 ≡ get places 1
+      → ((a : Alive) → get first.held.processes 1 ≡ Some (LivingProcess a) → (b : Alive) × (get held.processes 1 ≡ Some (LivingProcess b)))
+      → (get first.held.processes 1 ≡ Some GoneProcess → get held.processes 1 ≡ Some GoneProcess)
+      → Idles first (record first { held = held; leader = record first.leader { partings = partings } }) places places'
+  idle held partings places' place lives-on gone =
+      record {
+        number = refl;
+        pid = refl;
+        stage = refl;
+        caller = refl;
+        next_process = refl;
+        next_queue = refl;
+        next_set = refl;
+        place = place;
+        lives = lives-on;
+        gone = gone;
+      }
+
   -- ---- an Ask: the call is carried out, and answered
 
   abbrev answering : (ticket : ℕ) (call : Call) (e : Effect) → Step
@@ -192,34 +211,9 @@ module _ (script : Script) (r : IsRunnable script) (w : World) (first : Node) (k
                 fits = goes.fits;
                 ordered = goes.ordered_places;
                 first_at = node-same w.nodes 1 first m u.first_at;
-                leader = record {
-                  number = u.leader.number;
-                  pid = u.leader.pid;
-                  none_under_way = u.leader.none_under_way;
-                  stands = law.carries.stands;
-                  life = elim u.leader.life [
-                    | inl runs ↦ inl (record {
-                      stage = runs.stage;
-                      alive = runs.alive;
-                      lives = same-held 1 ∙ runs.lives;
-                      place = own ∙ runs.place;
-                      ends = runs.ends;
-                      ticket = runs.ticket;
-                      rising = runs.rising;
-                      few_processes = runs.few_processes;
-                      few_queues = runs.few_queues;
-                      few_sets = runs.few_sets;
-                      ahead = runs.ahead;
-                    })
-                    | inr over ↦ inr (record {
-                      stage = over.stage;
-                      gone = same-held 1 ∙ over.gone;
-                      last = over.last;
-                      place = own ∙ over.place;
-                      over = over.over;
-                    })
-                  ];
-                };
+                leader = leader-idles script first m k next places places' pids
+                    (idle m.held m.leader.partings places' own (λ a g. (a, same-held 1 ∙ g)) (λ g. same-held 1 ∙ g))
+                    law.carries.stands u.leader;
                 child = λ h. record {
                   situation = Answered call e.reply;
                   node = n;
@@ -293,28 +287,9 @@ module _ (script : Script) (r : IsRunnable script) (w : World) (first : Node) (k
                 fits = subst (λ (h : List Entry). Follows script (opening_places script) h places) (sym journal) u.fits;
                 ordered = u.ordered;
                 first_at = node-same w.nodes 1 first m u.first_at;
-                leader = record {
-                  number = u.leader.number;
-                  pid = u.leader.pid;
-                  none_under_way = u.leader.none_under_way;
-                  stands = stands-still first.held first.leader m.leader k refl refl refl u.leader.stands;
-                  life = elim u.leader.life [
-                    | inl runs ↦ inl (record {
-                      stage = runs.stage;
-                      alive = runs.alive;
-                      lives = runs.lives;
-                      place = runs.place;
-                      ends = runs.ends;
-                      ticket = runs.ticket;
-                      rising = runs.rising;
-                      few_processes = runs.few_processes;
-                      few_queues = runs.few_queues;
-                      few_sets = runs.few_sets;
-                      ahead = runs.ahead;
-                    })
-                    | inr over ↦ inr (record { stage = over.stage; gone = over.gone; last = over.last; place = over.place; over = over.over })
-                  ];
-                };
+                leader = leader-idles script first m k k places places pids
+                    (idle m.held m.leader.partings places refl (λ a g. (a, g)) (λ g. g))
+                    (stands-still first.held first.leader m.leader k refl refl refl u.leader.stands) u.leader;
                 child = λ h. record {
                   situation = Recalled status;
                   node = n;
@@ -387,13 +362,23 @@ module _ (script : Script) (r : IsRunnable script) (w : World) (first : Node) (k
       before b (sym (get-put-other first.held.processes (pids p) _ 1 (λ e. omega arith)) ∙ g)
   listed-still GoneProcess ending q h one other before b g = before b (sym (first-gone ending) ∙ g)
 
+  -- process 1 lives or is gone as before
+  still-lives : (x : Process) (ending : Ending) (a : Alive) → get first.held.processes 1 ≡ Some x
+      → get first.held.processes 1 ≡ Some (LivingProcess a)
+      → (b : Alive) × (get (child_ended first.held (pids p) 1 x ending).processes 1 ≡ Some (LivingProcess b))
+  still-lives (LivingProcess b) ending a h g = (with_ended_child b (pids p) ending, first-living b ending)
+  still-lives (EndedProcess e) ending a h g = let both : Some (EndedProcess e) ≡ Some (LivingProcess a) = sym h ∙ g in cc
+  still-lives GoneProcess ending a h g = let both : Some GoneProcess ≡ Some (LivingProcess a) = sym h ∙ g in cc
+
+  still-gone : (x : Process) (ending : Ending) → get first.held.processes 1 ≡ Some x → get first.held.processes 1 ≡ Some GoneProcess
+      → get (child_ended first.held (pids p) 1 x ending).processes 1 ≡ Some GoneProcess
+  still-gone (LivingProcess b) ending h g = let both : Some (LivingProcess b) ≡ Some GoneProcess = sym h ∙ g in cc
+  still-gone (EndedProcess e) ending h g = let both : Some (EndedProcess e) ≡ Some GoneProcess = sym h ∙ g in cc
+  still-gone GoneProcess ending h g = first-gone ending ∙ g
+
   ends-with : (status : ℕ) (x : Process) → get first.held.processes 1 ≡ Some x → may_end (pids p) x ≡ true
-      → HasHandedOver script p (pids p) (sight w first places p (pids p) n) status
-      → ((places' : Places) (next : Kernel) → get places' 1 ≡ get places 1
-      → StandsFor (ending-step status x).node.held (ending-step status x).node.leader next
-      → IsLeader script (ending-step status x).node next places' pids)
-      → Goes script w (events.Take 1 p)
-  ends-with status x there may i leader-then =
+      → HasHandedOver script p (pids p) (sight w first places p (pids p) n) status → Goes script w (events.Take 1 p)
+  ends-with status x there may i =
       let ending : Ending = Exited (status % 256)
       in let law = children_end first.held first.leader k x (pids p) status reachable u.leader.stands (λ e. omega arith) lives.process lives.away there may
       in let next : Kernel = law.next
@@ -445,8 +430,9 @@ module _ (script : Script) (r : IsRunnable script) (w : World) (first : Node) (k
                 fits = goes.fits;
                 ordered = goes.ordered_places;
                 first_at = node-same w.nodes 1 first m u.first_at;
-                leader = leader-then places' next own
-                    (stands-still m.held first.leader m.leader next refl refl refl law.carries.stands);
+                leader = leader-idles script first m k next places places' pids
+                    (idle m.held m.leader.partings places' own (λ a g. still-lives x ending a there g) (λ g. still-gone x ending there g))
+                    (stands-still m.held first.leader m.leader next refl refl refl law.carries.stands) u.leader;
                 child = λ h. record {
                   situation = Gone;
                   node = n;
@@ -476,37 +462,5 @@ module _ (script : Script) (r : IsRunnable script) (w : World) (first : Node) (k
   takes-left status i =
       elim u.leader.life [
         | inl runs ↦ ends-with status (LivingProcess runs.alive) runs.lives (lives.listed runs.alive runs.lives) i
-            (λ places' next own stands. record {
-              number = u.leader.number;
-              pid = u.leader.pid;
-              none_under_way = u.leader.none_under_way;
-              stands = stands;
-              life = inl (record {
-                stage = runs.stage;
-                alive = with_ended_child runs.alive (pids p) (Exited (status % 256));
-                lives = first-living runs.alive (Exited (status % 256));
-                place = own ∙ runs.place;
-                ends = runs.ends;
-                ticket = runs.ticket;
-                rising = runs.rising;
-                few_processes = runs.few_processes;
-                few_queues = runs.few_queues;
-                few_sets = runs.few_sets;
-                ahead = runs.ahead;
-              });
-            })
         | inr over ↦ ends-with status GoneProcess over.gone refl i
-            (λ places' next own stands. record {
-              number = u.leader.number;
-              pid = u.leader.pid;
-              none_under_way = u.leader.none_under_way;
-              stands = stands;
-              life = inr (record {
-                stage = over.stage;
-                gone = first-gone (Exited (status % 256)) ∙ over.gone;
-                last = over.last;
-                place = own ∙ over.place;
-                over = over.over;
-              });
-            })
       ]
