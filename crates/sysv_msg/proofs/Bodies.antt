@@ -9,8 +9,9 @@ use Rattle.pico_base.specs.declared.fault.UnpackFault.{UnpackFault}
 use Rattle.pico_base.specs.declared.fault.UnpackFault.TheVariants.{Memory, NotABody}
 use Rattle.kernel_model.specs.Queue.{Queue, max_queue_bytes, max_messages}
 use Rattle.sysv_msg.specs.Body.{queue_code, message_field, IsBodyOf, Unpacks}
-use Rattle.sysv_msg.specs.Reading.{◌>>=◌, Gives, number_at, number_upto, messages_at, fields_at, queue_at}
-use Rattle.sysv_msg.proofs.Fields.{IsBytes, IsBytes-rest, bind_some, guard_ended, guard_then, some_is, Takes-then, wide16, wide32, number_takes, number_again, number_upto_takes, number_upto_again}
+use Rattle.body_fields.specs.Fields.{◌>>=◌, Gives, number_at, number_upto}
+use Rattle.sysv_msg.specs.Reading.{messages_at, fields_at, queue_at}
+use Rattle.body_fields.proofs.Fields.{IsBytes, IsBytes-rest, bind_some, guard_ended, guard_then, some_is, Takes-then, wide16, wide32, number_takes, number_again, number_upto_takes, number_upto_again}
 use Rattle.sysv_msg.proofs.Messages.{messages_take, messages_again}
 
 abbrev num : ℕ → List ℕ

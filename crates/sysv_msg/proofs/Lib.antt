@@ -1,4 +1,3 @@
-pub mod Fields
 pub mod Lowest
 pub mod Messages
 pub mod Receiving

@@ -5,7 +5,8 @@ use Rattle.pico_base.specs.declared.fault.UnpackFault.{UnpackFault}
 use Rattle.pico_base.specs.declared.fault.UnpackFault.TheVariants.{Memory, NotABody}
 use Rattle.std.proofs.lemmas.Grind.{common_steps}
 use Rattle.kernel_model.specs.Queue.{Message, bytes_of}
-use Rattle.sysv_msg.specs.Reading.{◌>>=◌, Fails, message_at, messages_at}
+use Rattle.body_fields.specs.Fields.{◌>>=◌, Fails}
+use Rattle.sysv_msg.specs.Reading.{message_at, messages_at}
 
 -- what was read before, and what is still read
 abbrev pub with_front : List Message → Option (List Message × List ℕ) → Option (List Message × List ℕ)

@@ -12,8 +12,9 @@ use Rattle.std.proofs.lemmas.List.Sums.{sum_by-cons}
 use Rattle.kernel_model.specs.Queue.{Message, max_text, bytes_of}
 use Rattle.sysv_msg.specs.Limits.{IsSendable}
 use Rattle.sysv_msg.specs.Body.{text_field, message_field}
-use Rattle.sysv_msg.specs.Reading.{◌>>=◌, number_at, number_upto, text_at, class_at, message_at, messages_at}
-use Rattle.sysv_msg.proofs.Fields.{IsBytes, IsBytes-drop, bind_some, guard_some, some_is, Takes, Takes-then, wide32, number_takes, number_again, number_upto_takes, number_upto_again}
+use Rattle.body_fields.specs.Fields.{◌>>=◌, number_at, number_upto}
+use Rattle.sysv_msg.specs.Reading.{text_at, class_at, message_at, messages_at}
+use Rattle.body_fields.proofs.Fields.{IsBytes, IsBytes-drop, bind_some, guard_some, some_is, Takes, Takes-then, wide32, number_takes, number_again, number_upto_takes, number_upto_again}
 
 text_takes : (limit : ℕ) (bytes : List ℕ) (x : List ℕ × List ℕ) → IsBytes bytes → text_at limit bytes ≡ Some x → Takes bytes (text_field x.0) x.1 × (length x.0 ≤ limit)
 unfolding text_at

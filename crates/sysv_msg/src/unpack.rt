@@ -6,59 +6,16 @@ ghost use Rattle.kernel_model.specs.Queue as definition;
 ghost use Rattle.kernel_model.specs.Queue.{max_text, max_queue_bytes, bytes_of};
 ghost use Rattle.sysv_msg.specs.Body.{IsBodyOf, Unpacks};
 ghost use Rattle.sysv_msg.specs.Limits.{IsSendable};
-ghost use Rattle.sysv_msg.specs.Reading.{Gives, number_at, number_upto, text_at, class_at, message_at, messages_at, fields_at, queue_at};
+ghost use Rattle.body_fields.specs.Fields.{Gives, number_upto};
+ghost use Rattle.sysv_msg.specs.Reading.{text_at, class_at, message_at, messages_at, fields_at, queue_at};
 
 use crate::pack::CODE;
 use crate::queue::{MAX_BYTES, MAX_MESSAGES, MAX_TEXT};
 use crate::{Message, Queue};
+use body_fields::{u16_at, u16_upto, u32_at, u32_upto};
 use pico_base::{Bytes, Pid, UnpackFault};
 use std::alloc::Global;
 use std::collections::VecDeque;
-
-fn u16_at(bytes: &[u8]) -> Result<(u16, &[u8]), UnpackFault>
-    ensures { Gives (λ x. (x.0, x.1.now)) result (number_at w16 bytes.now) }
-{
-    if bytes.len() < 2 {
-        return Err(UnpackFault::NotABody);
-    }
-    let (front, rest) = bytes.split_at(2);
-    Ok((u16::from_be_bytes([front[0], front[1]]), rest))
-}
-
-fn u32_at(bytes: &[u8]) -> Result<(u32, &[u8]), UnpackFault>
-    ensures { Gives (λ x. (x.0, x.1.now)) result (number_at w32 bytes.now) }
-{
-    if bytes.len() < 4 {
-        return Err(UnpackFault::NotABody);
-    }
-    let (front, rest) = bytes.split_at(4);
-    let number = u32::from_be_bytes([front[0], front[1], front[2], front[3]]);
-    Ok((number, rest))
-}
-
-#[tactic(auto, unfolding(crate::specs::Reading::number_upto))]
-fn u16_upto(limit: u16, bytes: &[u8]) -> Result<(u16, &[u8]), UnpackFault>
-    ensures read { Gives (λ x. (x.0, x.1.now)) result (number_upto w16 limit bytes.now) }
-    ensures within { IfOk result (λ x. x.0 ≤ limit) }
-{
-    let (number, rest) = u16_at(bytes)?;
-    if number > limit {
-        return Err(UnpackFault::NotABody);
-    }
-    Ok((number, rest))
-}
-
-#[tactic(auto, unfolding(crate::specs::Reading::number_upto))]
-fn u32_upto(limit: u32, bytes: &[u8]) -> Result<(u32, &[u8]), UnpackFault>
-    ensures read { Gives (λ x. (x.0, x.1.now)) result (number_upto w32 limit bytes.now) }
-    ensures within { IfOk result (λ x. x.0 ≤ limit) }
-{
-    let (number, rest) = u32_at(bytes)?;
-    if number > limit {
-        return Err(UnpackFault::NotABody);
-    }
-    Ok((number, rest))
-}
 
 #[tactic(auto, unfolding(crate::specs::Reading::text_at))]
 fn text_of(alloc: Global, limit: u32, bytes: &[u8]) -> Result<(Bytes, &[u8]), UnpackFault>

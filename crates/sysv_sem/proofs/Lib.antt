@@ -1,5 +1,4 @@
 mod Examples
-pub mod Fields
 pub mod Loop
 pub mod Rows
 pub mod Semaphores

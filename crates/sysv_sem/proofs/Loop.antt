@@ -4,7 +4,8 @@ use Rattle.std.proofs.lemmas.List.{append-nil}
 use Rattle.pico_base.specs.declared.fault.UnpackFault.{UnpackFault}
 use Rattle.pico_base.specs.declared.fault.UnpackFault.TheVariants.{Memory, NotABody}
 use Rattle.kernel_model.specs.SemaphoreSet.{Semaphore}
-use Rattle.sysv_sem.specs.Reading.{◌>>=◌, Fails, semaphore_at, semaphores_at}
+use Rattle.body_fields.specs.Fields.{◌>>=◌, Fails}
+use Rattle.sysv_sem.specs.Reading.{semaphore_at, semaphores_at}
 
 -- what was read before, and what is still read
 abbrev pub with_front : List Semaphore → Option (List Semaphore × List ℕ) → Option (List Semaphore × List ℕ)

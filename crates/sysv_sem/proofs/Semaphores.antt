@@ -12,8 +12,9 @@ use Rattle.pico_base.specs.declared.fault.UnpackFault.TheVariants.{Memory, NotAB
 use Rattle.kernel_model.specs.SemaphoreSet.{Semaphore, max_value, max_semaphores, is_bad_count}
 use Rattle.sysv_sem.specs.Limits.{IsWithinLimits}
 use Rattle.sysv_sem.specs.Body.{set_code, semaphore_field, HasProcess, IsBodyOf, Unpacks}
-use Rattle.sysv_sem.specs.Reading.{◌>>=◌, Gives, number_at, number_upto, semaphore_at, semaphores_at, fields_at, counted_at, set_at}
-use Rattle.sysv_sem.proofs.Fields.{IsBytes, IsBytes-rest, bind_some, guard_ended, guard_then, some_is, Takes, Takes-then, wide16, wide32, number_takes, number_again, number_upto_takes, number_upto_again}
+use Rattle.body_fields.specs.Fields.{◌>>=◌, Gives, number_at, number_upto}
+use Rattle.sysv_sem.specs.Reading.{semaphore_at, semaphores_at, fields_at, counted_at, set_at}
+use Rattle.body_fields.proofs.Fields.{IsBytes, IsBytes-rest, bind_some, guard_ended, guard_then, some_is, Takes, Takes-then, wide16, wide32, number_takes, number_again, number_upto_takes, number_upto_again}
 
 abbrev IsFine : Semaphore → Type 0
 IsFine s = s.value ≤ max_value

@@ -5,46 +5,22 @@ ghost use Rattle.std.specs.List.{AllByRecursion};
 ghost use Rattle.kernel_model.specs.SemaphoreSet as definition;
 ghost use Rattle.kernel_model.specs.SemaphoreSet.{max_value};
 ghost use Rattle.sysv_sem.specs.Body.{IsBodyOf, Unpacks};
-ghost use Rattle.sysv_sem.specs.Reading.{Gives, number_at, number_upto, semaphore_at, semaphores_at, fields_at, counted_at, set_at};
+ghost use Rattle.body_fields.specs.Fields.{Gives, number_upto};
+ghost use Rattle.sysv_sem.specs.Reading.{semaphore_at, semaphores_at, fields_at, counted_at, set_at};
 
 use crate::SemSet;
 use crate::pack::CODE;
 use crate::semaphore::Semaphore;
 use crate::set::{MAX_SEMAPHORES, MAX_VALUE};
+use body_fields::{u16_upto, u32_at};
 use pico_base::{Pid, UnpackFault};
 use std::alloc::Global;
 
-fn u16_at(bytes: &[u8]) -> Result<(u16, &[u8]), UnpackFault>
-    ensures { Gives (λ x. (x.0, x.1.now)) result (number_at w16 bytes.now) }
-{
-    if bytes.len() < 2 {
-        return Err(UnpackFault::NotABody);
-    }
-    let (front, rest) = bytes.split_at(2);
-    Ok((u16::from_be_bytes([front[0], front[1]]), rest))
-}
-
-fn u32_at(bytes: &[u8]) -> Result<(u32, &[u8]), UnpackFault>
-    ensures { Gives (λ x. (x.0, x.1.now)) result (number_at w32 bytes.now) }
-{
-    if bytes.len() < 4 {
-        return Err(UnpackFault::NotABody);
-    }
-    let (front, rest) = bytes.split_at(4);
-    let number = u32::from_be_bytes([front[0], front[1], front[2], front[3]]);
-    Ok((number, rest))
-}
-
-#[tactic(auto, unfolding(crate::specs::Reading::number_upto))]
 fn value_of(bytes: &[u8]) -> Result<(u32, &[u8]), UnpackFault>
     ensures { Gives (λ x. (x.0, x.1.now)) result (number_upto w16 max_value bytes.now) }
 {
-    let (number, rest) = u16_at(bytes)?;
-    let value = u32::from(number);
-    if value > MAX_VALUE {
-        return Err(UnpackFault::NotABody);
-    }
-    Ok((value, rest))
+    let (value, rest) = u16_upto(MAX_VALUE as u16, bytes)?;
+    Ok((u32::from(value), rest))
 }
 
 /// The value of a semaphore, its last process, and the bytes after it.
