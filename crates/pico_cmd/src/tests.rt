@@ -29,6 +29,30 @@ const GETPID: &str = "proc main\nfork child\nend\nproc child\ngetpid\nend\n";
 const GETPID_TEXT: &str =
     "1 fork child = 2 by 1\n1 exit 0 = ended by 1\n2 getpid = 2 by 2\n2 exit 0 = ended by 1\ntotals entries 4 processes 2 notready 0 refused 0\nsteps 8\nrun 1\nrun 1\ntake 2 from 1\nrun 2\nrun 2\ntake 1 from 2\ntake 2 from 1\ntake 1 from 2\n";
 
+// A negative type takes the lowest type first, and 0 the oldest message.
+const LOWEST_FIRST: (&str, &str) = (
+    "proc main\nq = msgget private\nmsgsnd $q 5 \"e\" nowait\nmsgsnd $q 4 \"d\" nowait\nmsgsnd $q 3 \"a\" nowait\nmsgsnd $q 3 \"b\" nowait\nmsgrcv $q -4 16 nowait\nmsgrcv $q 0 16 nowait\nend\n",
+    "1 msgget private = 1 by 1\n1 msgsnd 1 5 \"e\" nowait = 0 by 1\n1 msgsnd 1 4 \"d\" nowait = 0 by 1\n1 msgsnd 1 3 \"a\" nowait = 0 by 1\n1 msgsnd 1 3 \"b\" nowait = 0 by 1\n1 msgrcv 1 -4 16 nowait = 3 \"a\" by 1\n1 msgrcv 1 0 16 nowait = 5 \"e\" by 1\n1 exit 0 = ended by 1\ntotals entries 8 processes 1 notready 0 refused 0\n",
+);
+
+// A text and a queue at their limits.
+const LIMITS: (&str, &str) = (
+    "proc main\nq = msgget private\nmsgctl $q set 4096\nmsgsnd $q 1 rep:4097:a nowait\nmsgsnd $q 1 rep:4096:a nowait\nmsgsnd $q 1 \"\" nowait\nmsgsnd $q 1 \"b\" nowait\nmsgctl $q stat\nend\n",
+    "1 msgget private = 1 by 1\n1 msgctl 1 set 4096 = 0 by 1\n1 msgsnd 1 1 rep:4097:a nowait = EINVAL by 1\n1 msgsnd 1 1 rep:4096:a nowait = 0 by 1\n1 msgsnd 1 1 \"\" nowait = 0 by 1\n1 msgsnd 1 1 \"b\" nowait = EAGAIN by 1\n1 msgctl 1 stat = qnum 2 qbytes 4096 lspid 1 lrpid 0 by 1\n1 exit 0 = ended by 1\ntotals entries 8 processes 1 notready 1 refused 1\n",
+);
+
+// A text above the size asked stays, or is cut.
+const TOO_LONG: (&str, &str) = (
+    "proc main\nq = msgget private\nmsgsnd $q 1 \"abc\" nowait\nmsgrcv $q 0 2 nowait\nmsgrcv $q 0 2 noerror nowait\nmsgrcv $q 0 2 nowait\nend\n",
+    "1 msgget private = 1 by 1\n1 msgsnd 1 1 \"abc\" nowait = 0 by 1\n1 msgrcv 1 0 2 nowait = E2BIG by 1\n1 msgrcv 1 0 2 noerror nowait = 1 \"ab\" by 1\n1 msgrcv 1 0 2 nowait = ENOMSG by 1\n1 exit 0 = ended by 1\ntotals entries 6 processes 1 notready 1 refused 1\n",
+);
+
+// Operations that stop leave all values.
+const STOPPED: (&str, &str) = (
+    "proc main\ns = semget private 2\nsemctl $s setval 0 1\nsemop $s 0:-1:nowait 1:-1:nowait\nsemctl $s getall\nsemctl $s setval 0 32767\nsemop $s 0:1\nsemop $s 2:1\nsemctl $s getall\nend\n",
+    "1 semget private 2 = 1 by 1\n1 semctl 1 setval 0 1 = 0 by 1\n1 semop 1 0:-1:nowait 1:-1:nowait = EAGAIN by 1\n1 semctl 1 getall = all 1,0 by 1\n1 semctl 1 setval 0 32767 = 0 by 1\n1 semop 1 0:1 = ERANGE by 1\n1 semop 1 2:1 = EFBIG by 1\n1 semctl 1 getall = all 32767,0 by 1\n1 exit 0 = ended by 1\ntotals entries 9 processes 1 notready 1 refused 2\n",
+);
+
 // The list of one failing call, or of none.
 fn failing(alloc: Global, call: Option<u64>) -> Result<CallList, Fail> {
     let mut calls = Vec::new(alloc);
@@ -73,6 +97,16 @@ fn the_first_script_gives_its_trace(rt: HostRuntime) -> Result<(), Fail> {
     let (status, written) = run_on(rt.alloc(), "sim", HELLO, None, None)?;
     assert_eq!(rt; status, Status::Done);
     assert_eq!(rt; written.as_str(), TRACE);
+    Ok(())
+}
+
+#[test]
+fn queues_and_sets_give_their_traces(rt: HostRuntime) -> Result<(), Fail> {
+    for (script, trace) in [LOWEST_FIRST, LIMITS, TOO_LONG, STOPPED] {
+        let (status, written) = run_on(rt.alloc(), "sim", script, None, None)?;
+        assert_eq!(rt; status, Status::Done, "{script}");
+        assert_eq!(rt; written.as_str(), trace, "{script}");
+    }
     Ok(())
 }
 
