@@ -1,5 +1,5 @@
 use crate::{Asked, PackedDeed, Parcel};
-use pico_base::{Call, Kind, Name, Node, Pid, Reply, Vars};
+use pico_base::{Call, Kind, Name, Node, Pid, Reply, Sequence, Vars};
 
 /// A message from one picoprocess to another. Node 1 is the leader. A ticket numbers the calls that a node has
 /// started, from 1.
@@ -90,3 +90,6 @@ pub enum Frame {
         parcel: Parcel,
     },
 }
+
+/// Frames, in order.
+pub type Frames = Sequence<Frame>;

@@ -8,4 +8,4 @@ mod frame;
 
 pub use asked::Asked;
 pub use deed::{PackedDeed, PackedDeeds, Parcel};
-pub use frame::Frame;
+pub use frame::{Frame, Frames};
