@@ -1,0 +1,4 @@
+pub mod Inverse
+pub mod FieldLaws
+pub mod CallLaws
+pub mod FrameLaws

@@ -1,0 +1,5 @@
+pub mod Readers
+pub mod Fields
+pub mod Calls
+pub mod Replies
+pub mod Frames
