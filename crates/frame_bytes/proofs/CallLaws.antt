@@ -69,28 +69,59 @@ values-field = record { Fits = AreValues; spell = values_field; read = values_at
 asked-takes : Reads Call IsAskedCall call_bytes asked_call_at []
 unfolding asked_call_at
 asked-takes =
-    tabled-takes Call IsAskedCall call_bytes asked_rows
-    (two-takes Call IsAskedCall call_bytes ℕ SigArg word-field sigarg-field calls.Kill (1 ∷ []) (λ a b. refl) (λ a b p q. (p, q)),
-    (three-takes Call IsAskedCall call_bytes ℕ Bool Bool positive-field flag-field flag-field (λ key. calls.MsgGet (Some key)) (2 ∷ []) (λ a b c. refl) (λ a b c p q r. p),
-    (four-takes Call IsAskedCall call_bytes ℕ ℤ (List ℕ) Bool word-field signed-field text-field flag-field calls.MsgSnd (3 ∷ []) (λ a b c d. refl)
-    (λ a b c d p q r s. record { id = p; class = q; text = r }),
-    (five-takes Call IsAskedCall call_bytes ℕ ℤ ℕ Bool Bool word-field signed-field word-field flag-field flag-field calls.MsgRcv (4 ∷ []) (λ a b c d e. refl)
-    (λ a b c d e p q r s t. record { id = p; class = q; size = r }),
-    (one-takes Call IsAskedCall call_bytes ℕ word-field calls.MsgStat (5 ∷ []) (λ a. refl) (λ a p. p),
-    (two-takes Call IsAskedCall call_bytes ℕ ℕ word-field word-field calls.MsgSet (6 ∷ []) (λ a b. refl) (λ a b p q. (p, q)),
-    (one-takes Call IsAskedCall call_bytes ℕ word-field calls.MsgRmid (7 ∷ []) (λ a. refl) (λ a p. p),
-    (four-takes Call IsAskedCall call_bytes ℕ ℕ Bool Bool positive-field word-field flag-field flag-field (λ key. calls.SemGet (Some key)) (8 ∷ []) (λ a b c d. refl)
-    (λ a b c d p q r s. (p, q)),
-    (two-takes Call IsAskedCall call_bytes ℕ (List SemStep) word-field steps-field calls.SemOp (9 ∷ []) (λ a b. refl) (λ a b p q. (p, q)),
-    (two-takes Call IsAskedCall call_bytes ℕ ℕ word-field half-field calls.SemGetVal (10 ∷ []) (λ a b. refl) (λ a b p q. (p, q)),
-    (three-takes Call IsAskedCall call_bytes ℕ ℕ ℕ word-field half-field word-field calls.SemSetVal (11 ∷ []) (λ a b c. refl)
-    (λ a b c p q r. record { id = p; num = q; value = r }),
-    (one-takes Call IsAskedCall call_bytes ℕ word-field calls.SemGetAll (12 ∷ []) (λ a. refl) (λ a p. p),
-    (two-takes Call IsAskedCall call_bytes ℕ (List ℕ) word-field set-field calls.SemSetAll (13 ∷ []) (λ a b. refl) (λ a b p q. (p, q)),
-    (two-takes Call IsAskedCall call_bytes ℕ ℕ word-field half-field calls.SemGetPid (14 ∷ []) (λ a b. refl) (λ a b p q. (p, q)),
-    (two-takes Call IsAskedCall call_bytes ℕ ℕ word-field half-field calls.SemGetNcnt (15 ∷ []) (λ a b. refl) (λ a b p q. (p, q)),
-    (two-takes Call IsAskedCall call_bytes ℕ ℕ word-field half-field calls.SemGetZcnt (16 ∷ []) (λ a b. refl) (λ a b p q. (p, q)),
-    (one-takes Call IsAskedCall call_bytes ℕ word-field calls.SemRmid (17 ∷ []) (λ a. refl) (λ a p. p), tt)))))))))))))))))
+    tabled-takes Call IsAskedCall call_bytes asked_rows (
+      two-takes Call IsAskedCall call_bytes ℕ SigArg word-field sigarg-field calls.Kill (1 ∷ []) (λ a b. refl) (λ a b p q. (p, q)),
+      (
+        three-takes Call IsAskedCall call_bytes ℕ Bool Bool positive-field flag-field flag-field (λ key. calls.MsgGet (Some key)) (2 ∷ []) (λ a b c. refl) (λ a b c p q r. p),
+        (
+          four-takes Call IsAskedCall call_bytes ℕ ℤ (List ℕ) Bool word-field signed-field text-field flag-field calls.MsgSnd (3 ∷ []) (λ a b c d. refl)
+              (λ a b c d p q r s. record { id = p; class = q; text = r }),
+          (
+            five-takes Call IsAskedCall call_bytes ℕ ℤ ℕ Bool Bool word-field signed-field word-field flag-field flag-field calls.MsgRcv (4 ∷ []) (λ a b c d e. refl)
+                (λ a b c d e p q r s t. record { id = p; class = q; size = r }),
+            (
+              one-takes Call IsAskedCall call_bytes ℕ word-field calls.MsgStat (5 ∷ []) (λ a. refl) (λ a p. p),
+              (
+                two-takes Call IsAskedCall call_bytes ℕ ℕ word-field word-field calls.MsgSet (6 ∷ []) (λ a b. refl) (λ a b p q. (p, q)),
+                (
+                  one-takes Call IsAskedCall call_bytes ℕ word-field calls.MsgRmid (7 ∷ []) (λ a. refl) (λ a p. p),
+                  (
+                    four-takes Call IsAskedCall call_bytes ℕ ℕ Bool Bool positive-field word-field flag-field flag-field (λ key. calls.SemGet (Some key)) (8 ∷ []) (λ a b c d. refl)
+                        (λ a b c d p q r s. (p, q)),
+                    (
+                      two-takes Call IsAskedCall call_bytes ℕ (List SemStep) word-field steps-field calls.SemOp (9 ∷ []) (λ a b. refl) (λ a b p q. (p, q)),
+                      (
+                        two-takes Call IsAskedCall call_bytes ℕ ℕ word-field half-field calls.SemGetVal (10 ∷ []) (λ a b. refl) (λ a b p q. (p, q)),
+                        (
+                          three-takes Call IsAskedCall call_bytes ℕ ℕ ℕ word-field half-field word-field calls.SemSetVal (11 ∷ []) (λ a b c. refl)
+                              (λ a b c p q r. record { id = p; num = q; value = r }),
+                          (
+                            one-takes Call IsAskedCall call_bytes ℕ word-field calls.SemGetAll (12 ∷ []) (λ a. refl) (λ a p. p),
+                            (
+                              two-takes Call IsAskedCall call_bytes ℕ (List ℕ) word-field set-field calls.SemSetAll (13 ∷ []) (λ a b. refl) (λ a b p q. (p, q)),
+                              (
+                                two-takes Call IsAskedCall call_bytes ℕ ℕ word-field half-field calls.SemGetPid (14 ∷ []) (λ a b. refl) (λ a b p q. (p, q)),
+                                (
+                                  two-takes Call IsAskedCall call_bytes ℕ ℕ word-field half-field calls.SemGetNcnt (15 ∷ []) (λ a b. refl) (λ a b p q. (p, q)),
+                                  (
+                                    two-takes Call IsAskedCall call_bytes ℕ ℕ word-field half-field calls.SemGetZcnt (16 ∷ []) (λ a b. refl) (λ a b p q. (p, q)),
+                                    (one-takes Call IsAskedCall call_bytes ℕ word-field calls.SemRmid (17 ∷ []) (λ a. refl) (λ a p. p), tt),
+                                  ),
+                                ),
+                              ),
+                            ),
+                          ),
+                        ),
+                      ),
+                    ),
+                  ),
+                ),
+              ),
+            ),
+          ),
+        ),
+      ),
+    )
 
 -- the flag behind a text
 send-bytes : (id : ℕ) (class : ℤ) (bytes : List ℕ) (nowait : Bool) (rest : List ℕ)
@@ -140,9 +171,10 @@ asked_call-inverse = whole-inverse Call IsAskedCall call_bytes asked_call_at ask
 last-takes : Reads Call IsLastCall call_bytes last_call_at []
 unfolding last_call_at
 last-takes =
-    tabled-takes Call IsLastCall call_bytes last_rows
-    (one-takes Call IsLastCall call_bytes ℕ half-field calls.Exit (18 ∷ []) (λ a. refl) (λ a p. p),
-    (one-takes Call IsLastCall call_bytes Sig sig-field calls.Killed (19 ∷ []) (λ a. refl) (λ a p. p), tt))
+    tabled-takes Call IsLastCall call_bytes last_rows (
+      one-takes Call IsLastCall call_bytes ℕ half-field calls.Exit (18 ∷ []) (λ a. refl) (λ a p. p),
+      (one-takes Call IsLastCall call_bytes Sig sig-field calls.Killed (19 ∷ []) (λ a. refl) (λ a p. p), tt),
+    )
 
 last-again : (call : Call) (rest : List ℕ) → IsLastCall call → last_call_at (call_bytes call ++ rest) ≡ Some (call, rest)
 unfolding last_call_at
@@ -158,13 +190,20 @@ last_call-inverse = whole-inverse Call IsLastCall call_bytes last_call_at last-t
 reply-takes : Reads Reply IsAnswer reply_bytes reply_at []
 unfolding reply_at
 reply-takes =
-    tabled-takes Reply IsAnswer reply_bytes reply_rows
-    (one-takes Reply IsAnswer reply_bytes ℕ word-field replies.Num (1 ∷ []) (λ a. refl) (λ a p. p),
-    (two-takes Reply IsAnswer reply_bytes ℤ (List ℕ) signed-field text-field replies.Message (2 ∷ []) (λ a b. refl) (λ a b p q. (p, q)),
-    (four-takes Reply IsAnswer reply_bytes ℕ ℕ ℕ ℕ word-field word-field word-field word-field replies.Stat (3 ∷ []) (λ a b c d. refl)
-    (λ a b c d p q r s. record { qnum = p; qbytes = q; sender = r; receiver = s }),
-    (one-takes Reply IsAnswer reply_bytes (List ℕ) values-field replies.All (4 ∷ []) (λ a. refl) (λ a p. p),
-    (one-takes Reply IsAnswer reply_bytes Errno errno-field replies.Fail (5 ∷ []) (λ a. refl) (λ a p. p), tt)))))
+    tabled-takes Reply IsAnswer reply_bytes reply_rows (
+      one-takes Reply IsAnswer reply_bytes ℕ word-field replies.Num (1 ∷ []) (λ a. refl) (λ a p. p),
+      (
+        two-takes Reply IsAnswer reply_bytes ℤ (List ℕ) signed-field text-field replies.Message (2 ∷ []) (λ a b. refl) (λ a b p q. (p, q)),
+        (
+          four-takes Reply IsAnswer reply_bytes ℕ ℕ ℕ ℕ word-field word-field word-field word-field replies.Stat (3 ∷ []) (λ a b c d. refl)
+              (λ a b c d p q r s. record { qnum = p; qbytes = q; sender = r; receiver = s }),
+          (
+            one-takes Reply IsAnswer reply_bytes (List ℕ) values-field replies.All (4 ∷ []) (λ a. refl) (λ a p. p),
+            (one-takes Reply IsAnswer reply_bytes Errno errno-field replies.Fail (5 ∷ []) (λ a. refl) (λ a p. p), tt),
+          ),
+        ),
+      ),
+    )
 
 reply-again : (reply : Reply) (rest : List ℕ) → IsAnswer reply → reply_at (reply_bytes reply ++ rest) ≡ Some (reply, rest)
 unfolding reply_at

@@ -75,6 +75,7 @@ signed-inverse = record { takes = take; again = give } where
       in let whole : Takes bytes (word (cast_unsigned w32 (cast_signed w32 n.0))) n.1 = subst (λ (k : ℕ). Takes bytes (word k) n.1) (sym back) t.0
       in subst (λ (p : ℤ × List ℕ). Takes bytes (signed p.0) p.1 × FitsSigned w32 p.0) (some_is (cast_signed w32 n.0, n.1) x b.2)
       (whole, sfits_to_z (record { fits = t.1 }))
+
   give : (z : ℤ) (rest : List ℕ) → FitsSigned w32 z → signed_at (signed z ++ rest) ≡ Some (z, rest)
   give z rest fits =
       let lt : cast_unsigned w32 z < 2 ^ 32 = (Fits-of_z fits).fits
@@ -180,6 +181,7 @@ text-inverse = record { takes = take-text; again = give } where
       in let whole : Takes bytes (text (take n.0 n.1)) (drop n.0 n.1) =
       subst (λ (k : ℕ). Takes bytes (word k ++ take n.0 n.1) (drop n.0 n.1)) (sym len) both
       in subst (λ (p : List ℕ × List ℕ). Takes bytes (text p.0) p.1 × IsText p.0) g.1 (whole, omega (arith, t.1))
+
   give : (bytes rest : List ℕ) → IsText bytes → text_at (text bytes ++ rest) ≡ Some (bytes, rest)
   give bytes rest lt =
       let long : ltb (length (bytes ++ rest)) (length bytes) ≡ false = le-ltb _ _ (omega (arith, length-append bytes rest))

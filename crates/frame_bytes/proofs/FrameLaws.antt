@@ -133,7 +133,7 @@ asked-inverse =
     (four-takes Asked IsAsked asked_field ℕ ℕ ℕ Call node-field positive-field word-field call-field asked-of [] (λ a b c d. refl)
     (λ a b c d p q r s. record { caller = p; asking = record { ticket = q; pid = r; call = s } }))
     (λ a rest h. four-again ℕ ℕ ℕ Call Asked node-field positive-field word-field call-field asked-of a.caller a.ticket a.pid a.call rest
-        h.caller h.asking.ticket h.asking.pid h.asking.call)
+    h.caller h.asking.ticket h.asking.pid h.asking.call)
 
 abbrev parcel-field : Field Parcel
 parcel-field = record { Fits = IsParcel; spell = parcel_field; read = parcel_at; inverse = parcel-inverse }
@@ -146,29 +146,62 @@ asked-field = record { Fits = IsAsked; spell = asked_field; read = asked_at; inv
 frame-takes : Reads Frame HasFields frame_body frame_at []
 unfolding frame_at
 frame-takes =
-    tabled-takes Frame HasFields frame_body frame_rows
-    (three-takes Frame HasFields frame_body ℕ ℕ Call positive-field word-field call-field frames.Ask (1 ∷ []) (λ a b c. refl)
-    (λ a b c p q r. record { ticket = p; pid = q; call = r }),
-    (three-takes Frame HasFields frame_body ℕ ℕ Call positive-field word-field call-field frames.Request (2 ∷ []) (λ a b c. refl)
-    (λ a b c p q r. record { ticket = p; pid = q; call = r }),
-    (one-takes Frame HasFields frame_body Asked asked-field frames.Forward (3 ∷ []) (λ a. refl) (λ a p. p),
-    (one-takes Frame HasFields frame_body Asked asked-field frames.Bounce (4 ∷ []) (λ a. refl) (λ a p. p),
-    (two-takes Frame HasFields frame_body ℕ Reply positive-field reply-field frames.Answer (5 ∷ []) (λ a b. refl) (λ a b p q. (p, q)),
-    (one-takes Frame HasFields frame_body ℕ positive-field frames.NotOwner (6 ∷ []) (λ a. refl) (λ a p. p),
-    (one-takes Frame HasFields frame_body Kind kind-field frames.LeaseAsk (7 ∷ []) (λ a. refl) (λ a p. p),
-    (two-takes Frame HasFields frame_body Kind ℕ kind-field word-field frames.Lease (8 ∷ []) (λ a b. refl) (λ a b p q. q),
-    (two-takes Frame HasFields frame_body Name ℕ name-field node-field frames.Placed (9 ∷ []) (λ a b. refl) (λ a b p q. (p, q)),
-    (four-takes Frame HasFields frame_body ℕ ℕ PackedDeed (List (ℕ × ℕ)) word-field word-field deed-field vars-field frames.Checkpoint (10 ∷ []) (λ a b c d. refl)
-    (λ a b c d p q r s. record { pid = p; parent = q; deed = r; vars = s }),
-    (two-takes Frame HasFields frame_body Name ℕ name-field node-field frames.Suggest (11 ∷ []) (λ a b. refl) (λ a b p q. (p, q)),
-    (one-takes Frame HasFields frame_body Name name-field frames.Recall (12 ∷ []) (λ a. refl) (λ a p. p),
-    (one-takes Frame HasFields frame_body PackedDeed deed-field frames.GiveBack (13 ∷ []) (λ a. refl) (λ a p. p),
-    (one-takes Frame HasFields frame_body PackedDeed deed-field frames.Grant (14 ∷ []) (λ a. refl) (λ a p. p),
-    (three-takes Frame HasFields frame_body ℕ ℕ ℕ word-field word-field node-field frames.Leaving (15 ∷ []) (λ a b c. refl)
-    (λ a b c p q r. record { pid = p; parent = q; parent_node = r }),
-    (none-takes Frame HasFields frame_body (16 ∷ []) frames.RecallAll refl tt,
-    (one-takes Frame HasFields frame_body Parcel parcel-field frames.Left (17 ∷ []) (λ a. refl) (λ a p. p),
-    (one-takes Frame HasFields frame_body Parcel parcel-field frames.ExitTo (18 ∷ []) (λ a. refl) (λ a p. p), tt))))))))))))))))))
+    tabled-takes Frame HasFields frame_body frame_rows (
+      three-takes Frame HasFields frame_body ℕ ℕ Call positive-field word-field call-field frames.Ask (1 ∷ []) (λ a b c. refl)
+          (λ a b c p q r. record { ticket = p; pid = q; call = r }),
+      (
+        three-takes Frame HasFields frame_body ℕ ℕ Call positive-field word-field call-field frames.Request (2 ∷ []) (λ a b c. refl)
+            (λ a b c p q r. record { ticket = p; pid = q; call = r }),
+        (
+          one-takes Frame HasFields frame_body Asked asked-field frames.Forward (3 ∷ []) (λ a. refl) (λ a p. p),
+          (
+            one-takes Frame HasFields frame_body Asked asked-field frames.Bounce (4 ∷ []) (λ a. refl) (λ a p. p),
+            (
+              two-takes Frame HasFields frame_body ℕ Reply positive-field reply-field frames.Answer (5 ∷ []) (λ a b. refl) (λ a b p q. (p, q)),
+              (
+                one-takes Frame HasFields frame_body ℕ positive-field frames.NotOwner (6 ∷ []) (λ a. refl) (λ a p. p),
+                (
+                  one-takes Frame HasFields frame_body Kind kind-field frames.LeaseAsk (7 ∷ []) (λ a. refl) (λ a p. p),
+                  (
+                    two-takes Frame HasFields frame_body Kind ℕ kind-field word-field frames.Lease (8 ∷ []) (λ a b. refl) (λ a b p q. q),
+                    (
+                      two-takes Frame HasFields frame_body Name ℕ name-field node-field frames.Placed (9 ∷ []) (λ a b. refl) (λ a b p q. (p, q)),
+                      (
+                        four-takes Frame HasFields frame_body ℕ ℕ PackedDeed (List (ℕ × ℕ)) word-field word-field deed-field vars-field frames.Checkpoint (10 ∷ []) (λ a b c d. refl)
+                            (λ a b c d p q r s. record { pid = p; parent = q; deed = r; vars = s }),
+                        (
+                          two-takes Frame HasFields frame_body Name ℕ name-field node-field frames.Suggest (11 ∷ []) (λ a b. refl) (λ a b p q. (p, q)),
+                          (
+                            one-takes Frame HasFields frame_body Name name-field frames.Recall (12 ∷ []) (λ a. refl) (λ a p. p),
+                            (
+                              one-takes Frame HasFields frame_body PackedDeed deed-field frames.GiveBack (13 ∷ []) (λ a. refl) (λ a p. p),
+                              (
+                                one-takes Frame HasFields frame_body PackedDeed deed-field frames.Grant (14 ∷ []) (λ a. refl) (λ a p. p),
+                                (
+                                  three-takes Frame HasFields frame_body ℕ ℕ ℕ word-field word-field node-field frames.Leaving (15 ∷ []) (λ a b c. refl)
+                                      (λ a b c p q r. record { pid = p; parent = q; parent_node = r }),
+                                  (
+                                    none-takes Frame HasFields frame_body (16 ∷ []) frames.RecallAll refl tt,
+                                    (
+                                      one-takes Frame HasFields frame_body Parcel parcel-field frames.Left (17 ∷ []) (λ a. refl) (λ a p. p),
+                                      (one-takes Frame HasFields frame_body Parcel parcel-field frames.ExitTo (18 ∷ []) (λ a. refl) (λ a p. p), tt),
+                                    ),
+                                  ),
+                                ),
+                              ),
+                            ),
+                          ),
+                        ),
+                      ),
+                    ),
+                  ),
+                ),
+              ),
+            ),
+          ),
+        ),
+      ),
+    )
 
 -- what stands behind a deed goes on behind its body
 behind-deed : (pid parent : ℕ) (deed : PackedDeed) (more rest : List ℕ)

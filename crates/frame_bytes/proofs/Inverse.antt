@@ -37,6 +37,7 @@ passing-inverse A Fits spell read test i = record { takes = take; again = give }
       in let g = guard_ended (test a.0.0) a.0 x a.2
       in let t = i.takes bytes a.0 fits a.1
       in subst (λ (y : A × List ℕ). Takes bytes (spell y.0) y.1 × Passes A Fits test y.0) g.1 (t.0, record { fits = t.1; passes = g.0 })
+
   give : (a : A) (rest : List ℕ) → Passes A Fits test a → passing test read (spell a ++ rest) ≡ Some (a, rest)
   give a rest p = rw (i.again a rest p.fits, p.passes) refl
 
@@ -56,10 +57,10 @@ found-is : (A : Type 0) (code : A → ℕ) (b : ℕ) (values : List A) (a : A) (
 found-is A code b [] a Fits all e = absurd cc
 found-is A code b (v ∷ values) a Fits all e =
     by-test (eqb (code v) b) refl (λ g. found-is A code b values a Fits all.1 g) e where
-  by-test : (t : Bool) → eqb (code v) b ≡ t → (find (λ x. eqb (code x) b) values ≡ Some a → (code a ≡ b) × Fits a)
-      → cond t (Some v) (find (λ x. eqb (code x) b) values) ≡ Some a → (code a ≡ b) × Fits a
-  by-test true t later g = subst (λ (y : A). (code y ≡ b) × Fits y) (some_is v a g) (eqb-true (code v) b t, all.0)
-  by-test false t later g = later g
+      by-test : (t : Bool) → eqb (code v) b ≡ t → (find (λ x. eqb (code x) b) values ≡ Some a → (code a ≡ b) × Fits a)
+          → cond t (Some v) (find (λ x. eqb (code x) b) values) ≡ Some a → (code a ≡ b) × Fits a
+      by-test true t later g = subst (λ (y : A). (code y ≡ b) × Fits y) (some_is v a g) (eqb-true (code v) b t, all.0)
+      by-test false t later g = later g
 
 pub one_of-inverse : (A : Type 0) (Fits : A → Type 0) (code : A → ℕ) (values : List A) → AllByRecursion Fits values
     → ((a : A) → Fits a → find (λ x. eqb (code x) (code a)) values ≡ Some a) → Inverse A Fits (λ a. code a ∷ []) (one_of code values)
@@ -72,6 +73,7 @@ one_of-inverse A Fits code values all there = record { takes = take; again = giv
       in let is = found-is A code a.0.0 values b.0 Fits all b.1
       in let spelled : Takes bytes (code b.0 ∷ []) a.0.1 = subst (λ (n : ℕ). Takes bytes (n ∷ []) a.0.1) (sym is.0) t.0
       in subst (λ (y : A × List ℕ). Takes bytes (code y.0 ∷ []) y.1 × Fits y.0) (some_is (b.0, a.0.1) x b.2) (spelled, is.1)
+
   give : (a : A) (rest : List ℕ) → Fits a → one_of code values (code a ∷ rest) ≡ Some (a, rest)
   give a rest fits = ap (λ (o : Option A). o >>= λ value. Some (value, rest)) (there a fits)
 
@@ -119,8 +121,11 @@ counted-inverse A Counts spell_count count Fits spell read j i = record { takes 
       in let first = j.takes bytes a.0 fits a.1
       in let second = many-takes A Fits spell read i a.0.0 a.0.1 x first.0.rest_fits a.2
       in let both = Takes-then bytes (spell_count a.0.0) a.0.1 (flat_map spell x.0) x.1 first.0 second.0
-      in (subst (λ (n : ℕ). Takes bytes (spell_count n ++ flat_map spell x.0) x.1) (sym second.1.0) both,
-          record { count = subst Counts (sym second.1.0) first.1; each = second.1.1 })
+      in (
+        subst (λ (n : ℕ). Takes bytes (spell_count n ++ flat_map spell x.0) x.1) (sym second.1.0) both,
+        record { count = subst Counts (sym second.1.0) first.1; each = second.1.1 },
+      )
+
   give : (xs : List A) (rest : List ℕ) → Counted A Counts Fits xs → counted count read ((spell_count (length xs) ++ flat_map spell xs) ++ rest) ≡ Some (xs, rest)
   give xs rest c =
       ap (counted count read) (append_assoc (spell_count (length xs)) (flat_map spell xs) rest)
@@ -189,7 +194,7 @@ module _ (Z : Type 0) (Fits : Z → Type 0) (spell : Z → List ℕ) where
 
   pub five-takes : (A B C D E : Type 0) (f : Field A) (g : Field B) (h : Field C) (i : Field D) (j : Field E) (make : A → B → C → D → E → Z) (front : List ℕ)
       → ((a : A) (b : B) (c : C) (d : D) (e : E)
-          → spell (make a b c d e) ≡ ((((front ++ f.spell a) ++ g.spell b) ++ h.spell c) ++ i.spell d) ++ j.spell e)
+      → spell (make a b c d e) ≡ ((((front ++ f.spell a) ++ g.spell b) ++ h.spell c) ++ i.spell d) ++ j.spell e)
       → ((a : A) (b : B) (c : C) (d : D) (e : E) → f.Fits a → g.Fits b → h.Fits c → i.Fits d → j.Fits e → Fits (make a b c d e))
       → Reads (five f.read g.read h.read i.read j.read make) front
   five-takes A B C D E f g h i j make front same has =

@@ -2,3 +2,4 @@ pub mod Inverse
 pub mod FieldLaws
 pub mod CallLaws
 pub mod FrameLaws
+pub mod Loop

@@ -1,4 +1,8 @@
 //! Frames as bytes, and frames out of a stream of bytes that comes in any pieces.
 #![tactic(auto)]
 
-pub fn nothing() {}
+mod call_reading;
+mod fields;
+mod frame_reading;
+mod many;
+mod reply_reading;
