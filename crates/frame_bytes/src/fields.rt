@@ -4,7 +4,7 @@ ghost use Rattle.std.specs.Prelude.{◌≡◌, ◌≤◌, ◌==◌, IfOk, find};
 ghost use Rattle.body_fields.specs.Fields.{Gives};
 ghost use Rattle.kernel_model.specs.Signals.{all_signals, number_of};
 ghost use Rattle.frame_bytes.specs.Readers.{byte_at};
-ghost use Rattle.frame_bytes.specs.Fields.{all_errors, count_at, errno_at, errno_byte, flag_at, kind_at, name_at, node_at, positive_at, sig_at, sigarg_at, signed_at, text_at};
+ghost use Rattle.frame_bytes.specs.Fields.{all_errors, count_at, errno_at, errno_byte, flag_at, kind_at, name_at, name_of, node_at, positive_at, sig_at, sigarg_at, signed_at, text_at};
 
 use body_fields::{u16_at, u32_at};
 use pico_base::{Bytes, Errno, Id, Kind, Name, Pid, Sig, SigArg, UnpackFault};
@@ -173,19 +173,25 @@ pub(crate) fn kind(bytes: &[u8]) -> Read<'_, Kind>
     }
 }
 
-/// A name: a kind, and a number that is at least 1.
+/// The kind and the number of a name. The number is at least 1.
 #[tactic(auto, unfolding(crate::specs::Fields::name_at))]
-pub(crate) fn name(bytes: &[u8]) -> Read<'_, Name>
-    ensures { Gives (λ x. (x.0, x.1.now)) result (name_at bytes.now) }
+pub(crate) fn named(bytes: &[u8]) -> Read<'_, (Kind, u32)>
+    ensures { Gives (λ x. (name_of x.0.0 x.0.1, x.1.now)) result (name_at bytes.now) }
 {
     let (kind, rest) = kind(bytes)?;
     let (number, rest) = positive(rest)?;
-    let name = match kind {
+    Ok(((kind, number), rest))
+}
+
+/// The name of this kind with this number.
+pub(crate) fn name_of(kind: Kind, number: u32) -> Name
+    ensures { result ≡ name_of kind number }
+{
+    match kind {
         Kind::Proc => Name::Proc(Pid(number)),
         Kind::Msg => Name::Msg(Id(number)),
         Kind::Sem => Name::Sem(Id(number)),
-    };
-    Ok((name, rest))
+    }
 }
 
 /// A text: its length in 4 bytes, and so many bytes.

@@ -9,7 +9,7 @@ ghost use Rattle.frame_bytes.specs.Replies.{reply_at};
 ghost use Rattle.frame_bytes.specs.Frames.{process_of, are_processes, asked_at, deed_at, deeds_at, frame_at, frame_rows, have_order, parcel_at, vars_at, whole_at};
 
 use crate::call_reading::{asked_call, last_call};
-use crate::fields::{Read, byte, kind, name, node, positive, text};
+use crate::fields::{Read, byte, kind, name_of, named, node, positive, text};
 use crate::many::{Item, many};
 use crate::reply_reading::reply;
 use body_fields::{u16_at, u32_at};
@@ -21,8 +21,9 @@ use std::alloc::Global;
 fn deed(alloc: Global, bytes: &[u8]) -> Read<'_, PackedDeed>
     ensures { Gives (λ x. (x.0, x.1.now)) result (deed_at bytes.now) }
 {
-    let (name, rest) = name(bytes)?;
+    let ((kind, number), rest) = named(bytes)?;
     let (body, rest) = text(alloc, rest)?;
+    let name = name_of(kind, number);
     Ok((PackedDeed { name, body }, rest))
 }
 
@@ -78,7 +79,7 @@ impl Item for (Var, u32) {
 
     ghost reader = { value_at };
 
-    #[tactic(auto, unfolding(crate::specs::Frames::value_at), unfolding(crate::specs::Frames::index_at))]
+    #[tactic(auto, unfolding(crate::specs::Frames::value_at, crate::specs::Frames::index_at))]
     fn read(_alloc: Global, bytes: &[u8]) -> Read<'_, (Var, u32)> {
         let (index, rest) = u16_at(bytes)?;
         if index > 2885 {
@@ -188,8 +189,9 @@ fn lease(bytes: &[u8]) -> Read<'_, Frame>
 fn placed(bytes: &[u8]) -> Read<'_, Frame>
     ensures { Gives (λ x. (x.0, x.1.now)) result (two name_at node_at frames.Placed bytes.now) }
 {
-    let (name, rest) = name(bytes)?;
+    let ((kind, number), rest) = named(bytes)?;
     let (node, rest) = node(rest)?;
+    let name = name_of(kind, number);
     let node = Node(node);
     Ok((Frame::Placed { name, node }, rest))
 }
@@ -213,8 +215,9 @@ fn checkpoint(alloc: Global, bytes: &[u8]) -> Read<'_, Frame>
 fn suggest(bytes: &[u8]) -> Read<'_, Frame>
     ensures { Gives (λ x. (x.0, x.1.now)) result (two name_at node_at frames.Suggest bytes.now) }
 {
-    let (name, rest) = name(bytes)?;
+    let ((kind, number), rest) = named(bytes)?;
     let (node, rest) = node(rest)?;
+    let name = name_of(kind, number);
     let node = Node(node);
     Ok((Frame::Suggest { name, node }, rest))
 }
@@ -262,7 +265,8 @@ fn frame_fields(alloc: Global, code: u8, bytes: &[u8]) -> Read<'_, Frame>
         10 => checkpoint(alloc, bytes),
         11 => suggest(bytes),
         12 => {
-            let (name, rest) = name(bytes)?;
+            let ((kind, number), rest) = named(bytes)?;
+            let name = name_of(kind, number);
             Ok((Frame::Recall { name }, rest))
         }
         13 => {
