@@ -3,3 +3,4 @@ pub mod FieldLaws
 pub mod CallLaws
 pub mod FrameLaws
 pub mod Loop
+pub mod StreamLaws

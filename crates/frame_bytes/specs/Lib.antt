@@ -3,3 +3,4 @@ pub mod Fields
 pub mod Calls
 pub mod Replies
 pub mod Frames
+pub mod Streams

@@ -2,7 +2,11 @@
 #![tactic(auto)]
 
 mod call_reading;
+mod fault;
 mod fields;
 mod frame_reading;
 mod many;
 mod reply_reading;
+mod writing;
+
+pub use fault::FrameFault;
