@@ -4,3 +4,4 @@ pub mod Calls
 pub mod Replies
 pub mod Frames
 pub mod Streams
+pub mod Limits

@@ -8,14 +8,21 @@ ghost use Rattle.frame_bytes.specs.Calls.{asked_call_at, asked_rows, last_call_a
 
 use crate::fields::{Read, byte, count, flag, positive, sig, sigarg, signed, text};
 use crate::many::{Item, many};
+use crate::writing::{put_flag, put_signed, put_word};
 use body_fields::{u16_at, u32_at};
-use pico_base::{Call, Id, Key, Pid, SemStep, Steps, UnpackFault, Values};
+use pico_base::{Call, Id, Key, Memory, Pid, SemStep, Steps, UnpackFault, Values};
 use std::alloc::Global;
 
 impl Item for SemStep {
-    ghost use Rattle.frame_bytes.specs.Calls.{step_at};
+    ghost use Rattle.frame_bytes.specs.Calls.{IsStep, step_at, step_field};
 
     ghost reader = { step_at };
+
+    ghost spelling = { step_field };
+
+    ghost fits = { λ s. IsStep s };
+
+    ghost within = { λ _. Unit {0} };
 
     #[tactic(auto, unfolding(crate::specs::Calls::step_at))]
     fn read(_alloc: Global, bytes: &[u8]) -> Read<'_, SemStep> {
@@ -24,15 +31,32 @@ impl Item for SemStep {
         let (nowait, rest) = flag(rest)?;
         Ok((SemStep { num, add, nowait }, rest))
     }
+
+    fn put(&self, out: &mut Vec<u8>) -> Result<(), Memory> {
+        out.extend_from_slice(&self.num.to_be_bytes())?;
+        put_signed(out, self.add)?;
+        put_flag(out, self.nowait)?;
+        Ok(())
+    }
 }
 
 impl Item for u32 {
-    ghost use Rattle.frame_bytes.specs.Fields.{word_at};
+    ghost use Rattle.frame_bytes.specs.Fields.{IsWord, word, word_at};
 
     ghost reader = { word_at };
 
+    ghost spelling = { word };
+
+    ghost fits = { IsWord };
+
+    ghost within = { λ _. Unit {0} };
+
     fn read(_alloc: Global, bytes: &[u8]) -> Read<'_, u32> {
         u32_at(bytes)
+    }
+
+    fn put(&self, out: &mut Vec<u8>) -> Result<(), Memory> {
+        put_word(out, *self)
     }
 }
 

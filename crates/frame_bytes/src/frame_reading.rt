@@ -12,8 +12,9 @@ use crate::call_reading::{asked_call, last_call};
 use crate::fields::{Read, byte, kind, name_of, named, node, positive, text};
 use crate::many::{Item, many};
 use crate::reply_reading::reply;
+use crate::writing::{put_deed, put_word};
 use body_fields::{u16_at, u32_at};
-use pico_base::{Name, Node, Pid, UnpackFault, Var, Vars};
+use pico_base::{Memory, Name, Node, Pid, UnpackFault, Var, Vars};
 use rpc_frame::{Asked, Frame, PackedDeed, PackedDeeds, Parcel};
 use std::alloc::Global;
 
@@ -28,12 +29,23 @@ fn deed(alloc: Global, bytes: &[u8]) -> Read<'_, PackedDeed>
 }
 
 impl Item for PackedDeed {
-    ghost use Rattle.frame_bytes.specs.Frames.{deed_at};
+    ghost use Rattle.frame_bytes.specs.Frames.{IsDeed, deed_at, deed_field};
+    ghost use Rattle.frame_bytes.specs.Limits.{IsDeedWithin};
 
     ghost reader = { deed_at };
 
+    ghost spelling = { deed_field };
+
+    ghost fits = { λ d. IsDeed d };
+
+    ghost within = { λ d. IsDeedWithin d };
+
     fn read(alloc: Global, bytes: &[u8]) -> Read<'_, PackedDeed> {
         deed(alloc, bytes)
+    }
+
+    fn put(&self, out: &mut Vec<u8>) -> Result<(), Memory> {
+        put_deed(out, self)
     }
 }
 
@@ -75,9 +87,15 @@ fn deeds(alloc: Global, bytes: &[u8]) -> Read<'_, PackedDeeds>
 }
 
 impl Item for (Var, u32) {
-    ghost use Rattle.frame_bytes.specs.Frames.{value_at};
+    ghost use Rattle.frame_bytes.specs.Frames.{IsValue, value_at, value_field};
 
     ghost reader = { value_at };
+
+    ghost spelling = { value_field };
+
+    ghost fits = { λ v. IsValue v };
+
+    ghost within = { λ _. Unit {0} };
 
     #[tactic(auto, unfolding(crate::specs::Frames::value_at, crate::specs::Frames::index_at))]
     fn read(_alloc: Global, bytes: &[u8]) -> Read<'_, (Var, u32)> {
@@ -87,6 +105,11 @@ impl Item for (Var, u32) {
         }
         let (value, rest) = u32_at(rest)?;
         Ok(((Var(index), value), rest))
+    }
+
+    fn put(&self, out: &mut Vec<u8>) -> Result<(), Memory> {
+        out.extend_from_slice(&self.0.0.to_be_bytes())?;
+        put_word(out, self.1)
     }
 }
 
