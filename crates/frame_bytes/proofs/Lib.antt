@@ -4,3 +4,5 @@ pub mod CallLaws
 pub mod FrameLaws
 pub mod Loop
 pub mod StreamLaws
+pub mod FirstLaws
+pub mod Appending

@@ -5,3 +5,4 @@ pub mod Replies
 pub mod Frames
 pub mod Streams
 pub mod Limits
+pub mod Splitting

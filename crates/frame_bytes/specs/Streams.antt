@@ -1,5 +1,5 @@
 -- A stream of bytes as frames: the frames that it begins with, and what is behind them.
-use Rattle.std.specs.Prelude.{◌≡◌, ◌≢◌, ℕ, ◌<◌, ◌≤◌, ◌⊎◌, List, [], ◌∷◌, ◌++◌, length, Result, Ok, Err}
+use Rattle.std.specs.Prelude.{◌≡◌, ◌≢◌, ℕ, ◌<◌, ◌≤◌, ◌⊎◌, List, [], ◌∷◌, ◌++◌, length, drop, Option, Some, None, Result, Ok, Err}
 use Rattle.std.specs.List.{flat_map, AllByRecursion}
 use Rattle.rpc_frame.specs.declared.frame.Frame.{Frame}
 use Rattle.frame_bytes.specs.declared.fault.FrameFault.{FrameFault}
@@ -45,6 +45,10 @@ Stands NotAFrame bytes = IsNoFrame bytes
 pub data Left : Type 0 where
   Rest : (bytes : List ℕ) → Left
   Broken : (fault : FrameFault) → Left
+
+abbrev pub left_of : List ℕ → Option FrameFault → Left
+left_of rest None = Rest rest
+left_of rest (Some fault) = Broken fault
 
 abbrev pub Ends : List ℕ → Left → Type 0
 Ends bytes (Rest rest) = (bytes ≡ rest) × IsPartial rest
@@ -92,3 +96,10 @@ pub data AllFed : Left → List (List ℕ) → List Frame → Left → Type 0 wh
   Nothing : (left : Left) → AllFed left [] [] left
   Further : (old mid new : Left) (piece : List ℕ) (pieces : List (List ℕ)) (first others : List Frame)
       → Fed old piece first mid → AllFed mid pieces others new → AllFed old (piece ∷ pieces) (first ++ others) new
+
+-- a frame stands at the front of the bytes, and takes this many of them
+pub record Begins (f : Frame) (len : ℕ) (bytes : List ℕ) : Type 0 where
+  pub fits : IsFrame f
+  pub spelled : bytes ≡ frame_bytes f ++ drop len bytes
+  pub within : len ≤ length bytes
+  pub long : 4 ≤ len
