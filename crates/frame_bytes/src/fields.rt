@@ -39,11 +39,11 @@ pub(crate) fn positive(bytes: &[u8]) -> Read<'_, u32>
 pub(crate) fn count(bytes: &[u8]) -> Read<'_, u16>
     ensures { Gives (λ x. (x.0, x.1.now)) result (count_at bytes.now) }
 {
-    let (number, rest) = u16_at(bytes)?;
-    if number == 0 {
+    let (count, rest) = u16_at(bytes)?;
+    if count == 0 {
         return Err(UnpackFault::NotABody);
     }
-    Ok((number, rest))
+    Ok((count, rest))
 }
 
 /// A signed number of 4 bytes, in two's complement.
@@ -117,11 +117,11 @@ pub(crate) fn sig(bytes: &[u8]) -> Read<'_, Sig>
 pub(crate) fn sigarg(bytes: &[u8]) -> Read<'_, SigArg>
     ensures { Gives (λ x. (x.0, x.1.now)) result (sigarg_at bytes.now) }
 {
-    let (number, rest) = byte(bytes)?;
-    if number == 0 {
+    let (code, rest) = byte(bytes)?;
+    if code == 0 {
         return Ok((SigArg::Zero, rest));
     }
-    match sig_of(number) {
+    match sig_of(code) {
         Some(sig) => Ok((SigArg::Is(sig), rest)),
         None => Err(UnpackFault::NotABody),
     }
