@@ -7,7 +7,6 @@ use Rattle.pico_base.specs.declared.reply.Errno.{Errno}
 use Rattle.pico_base.specs.declared.reply.Errno.TheVariants.{Esrch, Einval, Echild, Enoent, Eexist, Enomsg, Eagain, E2big, Efbig, Erange}
 use Rattle.pico_base.specs.declared.reply.Reply.{Reply}
 use Rattle.pico_base.specs.declared.reply.Reply.TheVariants.{Num, Child, Message, Bits, Stat, All, Ended, Fail}
-use Rattle.pico_base.specs.declared.reply.Outcome.{Outcome}
 use Rattle.pico_base.specs.declared.reply.Ending.TheVariants.{Exited, Killed}
 use Rattle.pico_base.specs.declared.signal.Sig.TheVariants.{Kill, Usr1, Term, Chld}
 use Rattle.pico_base.specs.declared.signal.SigArg.TheVariants.{Zero, Is, Bad}
@@ -16,7 +15,7 @@ use Rattle.pico_base.specs.declared.signal.How.TheVariants.{Block, Unblock, SetM
 use Rattle.pico_base.specs.declared.signal.PerSignal.{PerSignal}
 use Rattle.pico_base.specs.Signal.{put_at, everywhere}
 use Rattle.kernel_model.specs.Kernel.{Kernel, opening}
-use Rattle.kernel_model.specs.Transition.{transition}
+use Rattle.kernel_model.specs.Transition.{Successor, transition}
 
 -- a call that a process makes, and the number for what it may create
 pub record Made : Type 0 where
@@ -31,18 +30,18 @@ abbrev pub creating : ℕ → Call → ℕ → Made
 creating pid call number = record { pid = pid; call = call; number = number }
 
 -- the replies to these calls, in order; none where there is no transition, and the kernel stays
-abbrev pub reply_in : Option (Kernel × Outcome) → Option Reply
+abbrev pub reply_in : Option Successor → Option Reply
 reply_in None = None
-reply_in (Some step) = step.1.own
+reply_in (Some step) = step.outcome.own
 
-abbrev pub kernel_in : Kernel → Option (Kernel × Outcome) → Kernel
+abbrev pub kernel_in : Kernel → Option Successor → Kernel
 kernel_in k None = k
-kernel_in k (Some step) = step.0
+kernel_in k (Some step) = step.kernel
 
 abbrev pub replies_from : Kernel → List Made → List (Option Reply)
 replies_from k [] = []
 replies_from k (m ∷ ms) =
-    let step : Option (Kernel × Outcome) = transition k m.pid m.call m.number
+    let step : Option Successor = transition k m.pid m.call m.number
     in reply_in step ∷ replies_from (kernel_in k step) ms
 
 abbrev pub replies : List Made → List (Option Reply)
