@@ -24,8 +24,7 @@ use Rattle.pico_base.specs.declared.signal.How.TheVariants.{Block, Unblock, SetM
 use Rattle.pico_base.specs.declared.signal.PerSignal.{PerSignal}
 use Rattle.pico_base.specs.declared.script.Script.{Script}
 use Rattle.pico_base.specs.declared.script.Block.{Block as ScriptBlock}
-use Rattle.pico_base.specs.Signal.{at}
-use Rattle.kernel_model.specs.Signals.{all_signals}
+use Rattle.pico_base.specs.Signal.{at, all_signals}
 use Rattle.kernel_model.specs.Fitting.{block_at}
 use Rattle.kernel_model.specs.Texts.{message_text}
 pub use Rattle.kernel_model.specs.Script.{is_fork}

@@ -7,9 +7,9 @@ use Rattle.pico_base.specs.declared.reply.Reply.TheVariants as replies
 use Rattle.pico_base.specs.declared.reply.Outcome.{Outcome}
 use Rattle.pico_base.specs.declared.reply.Ending.TheVariants as endings
 use Rattle.pico_base.specs.declared.signal.Sig.{Sig}
-use Rattle.pico_base.specs.Signal.{at}
+use Rattle.pico_base.specs.Signal.{at, signal_number}
 use Rattle.number_maps.specs.Maps.{get}
-use Rattle.kernel_model.specs.Signals.{act_on, with_mask, number_of}
+use Rattle.kernel_model.specs.Signals.{act_on, with_mask}
 use Rattle.kernel_model.specs.Row.{Alive, Allowance, Free, One, Spent, wait}
 use Rattle.kernel_model.specs.Queue.{send, receive, set_qbytes}
 use Rattle.kernel_model.specs.SemaphoreSet.{value_at, last_at, waiting_at, set_value, set_all}
@@ -75,7 +75,7 @@ is_spent Free = false
 
 abbrev pub is_doomed_by : Option Sig → Sig → Bool
 is_doomed_by None g = false
-is_doomed_by (Some doom) g = nat_eq (number_of doom) (number_of g)
+is_doomed_by (Some doom) g = nat_eq (signal_number doom) (signal_number g)
 
 abbrev pub may_make : Alive → Call → Bool
 may_make a (calls.Killed sig) = is_doomed_by a.row.signals.doom sig
