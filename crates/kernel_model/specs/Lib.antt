@@ -18,4 +18,5 @@ pub mod Fitting
 pub mod Trace
 pub mod Footprint
 pub mod Examples
+pub mod TextExamples
 pub mod FirstExample

@@ -1,9 +1,9 @@
 -- What a process knows of signals (POSIX.1-2017: System Interfaces 2.4; sigaction, sigprocmask, sigpending, kill). The ten
 -- signals, their numbers and their order are the profile's.
-use Rattle.std.specs.Prelude.{◌≡◌, ℕ, ◌+◌, min, Bool, true, false, not, ◌||◌, ◌&&◌, List, [], ◌∷◌, if◌then◌else◌, Option, Some, None, is_some, fold, Result, Ok, Err}
+use Rattle.std.specs.Prelude.{◌≡◌, ℕ, ◌+◌, min, Bool, true, false, not, ◌||◌, ◌&&◌, if◌then◌else◌, Option, Some, None, is_some, fold, Result, Ok, Err}
 use Rattle.pico_base.specs.declared.signal.PerSignal.{PerSignal}
 use Rattle.pico_base.specs.declared.signal.Sig.{Sig}
-use Rattle.pico_base.specs.declared.signal.Sig.TheVariants.{Hup, Int, Quit, Kill, Usr1, Usr2, Pipe, Alrm, Term, Chld}
+use Rattle.pico_base.specs.declared.signal.Sig.TheVariants.{Kill, Chld}
 use Rattle.pico_base.specs.declared.signal.Act.{Act}
 use Rattle.pico_base.specs.declared.signal.Act.TheVariants.{Dfl, Ign, Catch}
 use Rattle.pico_base.specs.declared.signal.How.{How}
@@ -12,7 +12,7 @@ use Rattle.pico_base.specs.declared.signal.SigArg.{SigArg}
 use Rattle.pico_base.specs.declared.signal.SigArg.TheVariants.{Zero, Is, Bad}
 use Rattle.pico_base.specs.declared.reply.Errno.{Errno}
 use Rattle.pico_base.specs.declared.reply.Errno.TheVariants.{Einval}
-use Rattle.pico_base.specs.Signal.{at, put_at, everywhere}
+use Rattle.pico_base.specs.Signal.{all_signals, at, put_at, everywhere}
 
 -- An action and a count of catches for each signal, the mask, the pending signals, and the signal by which
 -- the process will end, if there is one.
