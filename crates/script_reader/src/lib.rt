@@ -2,7 +2,6 @@
 #![tactic(auto)]
 
 mod call_line;
-mod calls;
 mod fault;
 mod lists;
 mod numbers;
@@ -15,9 +14,9 @@ mod tables;
 mod texts;
 mod verb;
 
-pub use calls::call_with;
 pub use fault::{ScriptFault, ScriptStop};
 pub use script::read_script;
+pub use script_lines::call_with;
 
 #[cfg(test)]
 mod tests;

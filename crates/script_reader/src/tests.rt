@@ -382,28 +382,6 @@ fn keeps_limits(rt: HostRuntime) -> Result<(), Fail> {
 }
 
 #[test]
-fn replaces_variables(rt: HostRuntime) -> Result<(), Fail> {
-    let alloc = rt.alloc();
-    let mut vars = Sequence::new(alloc);
-    assert_eq!(rt;
-        call_with(alloc, &from_q(receive(Id(9))), &vars)?,
-        receive(Id(0))
-    );
-    vars.push((Var(0), 4))?;
-    vars.push((Q, 7))?;
-    assert_eq!(rt;
-        call_with(alloc, &from_q(receive(Id(0))), &vars)?,
-        receive(Id(7))
-    );
-    assert_eq!(rt;
-        call_with(alloc, &from_q(send(alloc, Id(0))?), &vars)?,
-        send(alloc, Id(7))?
-    );
-    assert_eq!(rt; call_with(alloc, &get(), &vars)?, get().call);
-    Ok(())
-}
-
-#[test]
 fn prints_faults(rt: HostRuntime) -> Result<(), Fail> {
     assert_eq!(rt; ScriptFault::NotBuilt.name(), "NotBuilt");
     assert_eq!(rt; ScriptFault::ScriptTooLong.name(), "ScriptTooLong");

@@ -1,6 +1,6 @@
 use Rattle.std.proofs.Common.{◌≡◌, drop}
 use Rattle.kernel_model.specs.Script.{value_of}
-use Rattle.script_reader.proofs.calls.value.Given as goal
+use Rattle.script_lines.proofs.calls.value.Given as goal
 
 -- the variable isn't among those so far
 abbrev pub invariant-loop-name : goal.invariant-loop-name
