@@ -14,7 +14,7 @@ use Rattle.body_fields.specs.Fields.{◌>>=◌, byte_at, byte_upto, number_at}
 use Rattle.body_fields.proofs.Fields.{IsBytes, bind_some, guard_ended, some_is, refused, Takes, Takes-then, wide32, byte_takes, byte_upto_takes, byte_upto_again, number_takes, number_again}
 use Rattle.body_fields.proofs.Many.{many_takes, many_again}
 use Rattle.kernel_model.specs.Row.{Family}
-use Rattle.kernel_model.specs.Signals.{all_signals, number_of}
+use Rattle.pico_base.specs.Signal.{all_signals, signal_number}
 use Rattle.fork_wait.proofs.Loops.{ended_repeat, numbers_repeat}
 use Rattle.fork_wait.specs.Children.{AreChildren, children}
 use Rattle.fork_wait.specs.Reading.{all_ended_at, ended_at, ending_from, family_at, most, numbers_at, signal_from}
@@ -36,7 +36,7 @@ is_number n k e = grind (arith, nat_tests)
 killed_takes : (value : ℕ) (found : Option Sig) (ending : Ending) → signal_from value ≡ found → option_map Killed found ≡ Some ending → 1 ∷ value ∷ [] ≡ ending_bytes ending
 killed_takes value None ending is e = absurd cc
 killed_takes value (Some g) ending is e =
-    ap (λ (v : ℕ). 1 ∷ v ∷ []) (sym (is_number (number_of g) value (find-passes (λ g. eqb (number_of g) value) all_signals g is)))
+    ap (λ (v : ℕ). 1 ∷ v ∷ []) (sym (is_number (signal_number g) value (find-passes (λ g. eqb (signal_number g) value) all_signals g is)))
     ∙ ap ending_bytes (some_is (Killed g) ending e)
 
 ending_takes : (kind value : ℕ) (ending : Ending) → ending_from kind value ≡ Some ending → kind ∷ value ∷ [] ≡ ending_bytes ending
