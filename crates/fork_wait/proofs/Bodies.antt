@@ -13,7 +13,7 @@ use Rattle.pico_base.specs.declared.signal.Sig.TheVariants.{Hup, Int, Quit, Kill
 use Rattle.body_fields.specs.Fields.{◌>>=◌, byte_at, byte_upto, number_at}
 use Rattle.body_fields.proofs.Fields.{IsBytes, bind_some, guard_ended, some_is, refused, Takes, Takes-then, wide32, byte_takes, byte_upto_takes, byte_upto_again, number_takes, number_again}
 use Rattle.body_fields.proofs.Many.{many_takes, many_again}
-use Rattle.kernel_model.specs.Row.{Family}
+use Rattle.kernel_model.specs.Row.{Family, EndedChild, ended_child}
 use Rattle.pico_base.specs.Signal.{all_signals, signal_number}
 use Rattle.fork_wait.proofs.Loops.{ended_repeat, numbers_repeat}
 use Rattle.fork_wait.specs.Children.{AreChildren, children}
@@ -49,7 +49,7 @@ ending_takes kind value ending e =
       ] refl other
     ] refl e
 
-ended_takes : (bytes : List ℕ) (child : (ℕ × Ending) × List ℕ) → IsBytes bytes → ended_at bytes ≡ Some child → Takes bytes (ended_bytes child.0) child.1 × (child.0.0 < 2 ^ 32)
+ended_takes : (bytes : List ℕ) (child : EndedChild × List ℕ) → IsBytes bytes → ended_at bytes ≡ Some child → Takes bytes (ended_bytes child.0) child.1 × (child.0.pid < 2 ^ 32)
 unfolding ended_at
 ended_takes bytes child fits e =
     let pid = bind_some (number_at w32 bytes) _ child e in
@@ -61,13 +61,13 @@ ended_takes bytes child fits e =
     let second = byte_takes kind.0.1 value.0 first.rest_fits value.1 in
     let two = Takes-then pid.0.1 (kind.0.0 ∷ []) kind.0.1 (value.0.0 ∷ []) value.0.1 first second in
     let whole = Takes-then bytes (to_be_bytes w32 pid.0.0) pid.0.1 (kind.0.0 ∷ value.0.0 ∷ []) value.0.1 number.0 two in
-    let spelled : Takes bytes (ended_bytes (pid.0.0, ending.0)) value.0.1 = subst (λ (t : List ℕ). Takes bytes (to_be_bytes w32 pid.0.0 ++ t) value.0.1) (ending_takes kind.0.0 value.0.0 ending.0 ending.1) whole in
-    subst (λ (p : (ℕ × Ending) × List ℕ). Takes bytes (ended_bytes p.0) p.1 × (p.0.0 < 2 ^ 32)) (some_is ((pid.0.0, ending.0), value.0.1) child ending.2) (spelled, number.1)
+    let spelled : Takes bytes (ended_bytes (ended_child pid.0.0 ending.0)) value.0.1 = subst (λ (t : List ℕ). Takes bytes (to_be_bytes w32 pid.0.0 ++ t) value.0.1) (ending_takes kind.0.0 value.0.0 ending.0 ending.1) whole in
+    subst (λ (p : EndedChild × List ℕ). Takes bytes (ended_bytes p.0) p.1 × (p.0.pid < 2 ^ 32)) (some_is (ended_child pid.0.0 ending.0, value.0.1) child ending.2) (spelled, number.1)
 
-behind_number : Option (ℕ × List ℕ) → Option ((ℕ × Ending) × List ℕ)
-behind_number r = r >>= λ pid. byte_at pid.1 >>= λ kind. byte_at kind.1 >>= λ value. ending_from kind.0 value.0 >>= λ ending. Some ((pid.0, ending), value.1)
+behind_number : Option (ℕ × List ℕ) → Option (EndedChild × List ℕ)
+behind_number r = r >>= λ pid. byte_at pid.1 >>= λ kind. byte_at kind.1 >>= λ value. ending_from kind.0 value.0 >>= λ ending. Some (ended_child pid.0 ending, value.1)
 
-ending_again : (number : ℕ) (ending : Ending) (rest : List ℕ) → behind_number (Some (number, ending_bytes ending ++ rest)) ≡ Some ((number, ending), rest)
+ending_again : (number : ℕ) (ending : Ending) (rest : List ℕ) → behind_number (Some (number, ending_bytes ending ++ rest)) ≡ Some (ended_child number ending, rest)
 unfolding behind_number
 ending_again number (Exited status) rest = refl
 ending_again number (Killed Hup) rest = refl
@@ -81,24 +81,24 @@ ending_again number (Killed Alrm) rest = refl
 ending_again number (Killed Term) rest = refl
 ending_again number (Killed Chld) rest = refl
 
-child_again : (child : ℕ × Ending) (rest : List ℕ) → child.0 < 2 ^ 32 → ended_at (ended_bytes child ++ rest) ≡ Some (child, rest)
+child_again : (child : EndedChild) (rest : List ℕ) → child.pid < 2 ^ 32 → ended_at (ended_bytes child ++ rest) ≡ Some (child, rest)
 unfolding ended_at behind_number
 child_again child rest small =
-    ap behind_number (number_again w32 (2 ^ 32) wide32 child.0 (ending_bytes child.1 ++ rest) small) ∙ ending_again child.0 child.1 rest
+    ap behind_number (number_again w32 (2 ^ 32) wide32 child.pid (ending_bytes child.ending ++ rest) small) ∙ ending_again child.pid child.ending rest
 
 -- ---- the whole family
 
 abbrev pub Small : ℕ → Type 0
 Small n = n < 2 ^ 32
 
-pub Small-split : (xs : List ℕ) (es : List (ℕ × Ending)) → AllByRecursion Small (xs ++ map (λ e. e.0) es) → AllByRecursion Small xs × AllByRecursion (λ (e : ℕ × Ending). Small e.0) es
+pub Small-split : (xs : List ℕ) (es : List (EndedChild)) → AllByRecursion Small (xs ++ map (λ e. e.pid) es) → AllByRecursion Small xs × AllByRecursion (λ (e : EndedChild). Small e.pid) es
 Small-split [] [] h = (tt, tt)
 Small-split [] (e ∷ es) h = (tt, (h.0, (Small-split [] es h.1).1))
 Small-split (x ∷ xs) es h =
     let more = Small-split xs es h.1 in
     ((h.0, more.0), more.1)
 
-pub Small-join : (xs : List ℕ) (es : List (ℕ × Ending)) → AllByRecursion Small xs → AllByRecursion (λ (e : ℕ × Ending). Small e.0) es → AllByRecursion Small (xs ++ map (λ e. e.0) es)
+pub Small-join : (xs : List ℕ) (es : List (EndedChild)) → AllByRecursion Small xs → AllByRecursion (λ (e : EndedChild). Small e.pid) es → AllByRecursion Small (xs ++ map (λ e. e.pid) es)
 Small-join [] [] p q = tt
 Small-join [] (e ∷ es) p q = (q.0, Small-join [] es tt q.1)
 Small-join (x ∷ xs) es p q = (p.0, Small-join xs es p.1 q)
@@ -128,7 +128,7 @@ family_takes bytes f fits e =
     let t1 = (byte_upto_takes most bytes count.0 fits count.1).0 in
     let t2 = many_takes numbers_repeat (to_be_bytes w32) Small (number_takes w32 (2 ^ 32) wide32) count.0.0 count.0.1 numbers.0 t1.rest_fits numbers.1 in
     let t3 = (byte_upto_takes most numbers.0.1 more.0 t2.0.rest_fits more.1).0 in
-    let t4 = many_takes ended_repeat ended_bytes (λ (c : ℕ × Ending). Small c.0) ended_takes more.0.0 more.0.1 endings.0 t3.rest_fits endings.1 in
+    let t4 = many_takes ended_repeat ended_bytes (λ (c : EndedChild). Small c.pid) ended_takes more.0.0 more.0.1 endings.0 t3.rest_fits endings.1 in
     subst (λ (f : Family). (bytes ≡ family_bytes f) × AllByRecursion Small (children f)) {x = record { living = numbers.0.0; ended = endings.0.0 }} g.1 (
       family_parts bytes count.0.1 numbers.0.1 more.0.1 endings.0.1 (record { living = numbers.0.0; ended = endings.0.0 }) count.0.0 more.0.0 t1 t2.0 t3 t4.0 t2.1 t4.1 (nothing_left endings.0.1 g.0),
       Small-join numbers.0.0 endings.0.0 t2.2 t4.2,
@@ -142,7 +142,7 @@ family_again f few few' small =
     let numbers = many_again numbers_repeat (to_be_bytes w32) Small (number_again w32 (2 ^ 32) wide32) f.living (length f.ended ∷ flat_map ended_bytes f.ended) parts.0 in
     let more = byte_upto_again most (length f.ended) (flat_map ended_bytes f.ended) few' in
     let endings : all_ended_at (length f.ended) (flat_map ended_bytes f.ended) ≡ Some (f.ended, []) =
-    ap (all_ended_at (length f.ended)) (sym (append-nil (flat_map ended_bytes f.ended))) ∙ many_again ended_repeat ended_bytes (λ (c : ℕ × Ending). Small c.0) child_again f.ended [] parts.1
+    ap (all_ended_at (length f.ended)) (sym (append-nil (flat_map ended_bytes f.ended))) ∙ many_again ended_repeat ended_bytes (λ (c : EndedChild). Small c.pid) child_again f.ended [] parts.1
     in
     rw (count, numbers, more, endings) refl
 
@@ -150,8 +150,8 @@ family_again f few few' small =
 
 few-children : (f : Family) → AreChildren (children f) → (length f.living ≤ most) × (length f.ended ≤ most)
 few-children f are =
-    let together = length-append f.living (map (λ e. e.0) f.ended) in
-    let mapped : length (map (λ e. e.0) f.ended) ≡ length f.ended = length-map f.ended (λ e. e.0) in
+    let together = length-append f.living (map (λ e. e.pid) f.ended) in
+    let mapped : length (map (λ e. e.pid) f.ended) ≡ length f.ended = length-map f.ended (λ e. e.pid) in
     let few = are.few in
     (omega arith, omega arith)
 
@@ -174,3 +174,7 @@ pub unsound : (bytes : List ℕ) (read : Family) → family_at bytes ≡ Some re
 unsound bytes read e not f spelled has =
     let same : f ≡ read = some_is f read (sym (bytes_again bytes f spelled has) ∙ e) in
     not (subst (λ (f : Family). AreChildren (children f)) same has.sound)
+
+-- bytes are those of one family at most
+pub one-family : (bytes : List ℕ) (f g : Family) → bytes ≡ family_bytes f → HasBytes f → bytes ≡ family_bytes g → HasBytes g → f ≡ g
+one-family bytes f g spelled has spelled' has' = some_is f g (sym (bytes_again bytes f spelled has) ∙ bytes_again bytes g spelled' has')

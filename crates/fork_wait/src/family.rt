@@ -8,7 +8,8 @@ ghost use Rattle.fork_wait.specs.Children.{children, is_child, members_of};
 ghost use Rattle.fork_wait.specs.Waiting.{answer_of, family_after};
 
 use crate::checking::are_children;
-use crate::reading::{Ended, Living, lists_of};
+use crate::ended::Ended;
+use crate::reading::{EndedList, LivingList, lists_of};
 use crate::writing::{write_ended, write_numbers};
 use pico_base::{Bytes, Ending, Errno, Memory, Pid, UnpackFault};
 use std::alloc::{AllocError, Global};
@@ -31,7 +32,7 @@ pub enum Waited {
 #[derive(Debug, Drop)]
 pub struct Family {
     living: Vec<Pid>,
-    ended: Vec<(Pid, Ending)>,
+    ended: Vec<Ended>,
 }
 
 impl Model for Family {
@@ -78,7 +79,7 @@ impl Family {
     {
         take_out(&mut self.living, child);
         if !ignored {
-            self.ended.push((child, ending)).unwrap();
+            self.ended.push(Ended { pid: child, ending }).unwrap();
         }
         !ignored
     }
@@ -99,7 +100,7 @@ impl Family {
         ensures left { self.new ≡ family_after (wait self.old which) self.old }
     {
         match first_ended(&which, &self.ended) {
-            Some((pid, ending)) => {
+            Some(Ended { pid, ending }) => {
                 forget(&mut self.ended, pid);
                 Ok(Waited::Child { pid, ending })
             }
@@ -130,7 +131,7 @@ impl Family {
     /// 0 or there twice, or there are more than 31. So Memory comes only where a family has them.
     pub fn unpack(alloc: Global, bytes: &[u8]) -> Result<Family, UnpackFault>
         ensures found { IfOk result (λ family. (bytes.now ≡ family_bytes family) × HasBytes family) }
-        ensures only { (f : Members) → HasBytes f → bytes.now ≡ family_bytes f → IfOk result (λ family. family ≡ f) }
+        ensures only { (f : Members) → bytes.now ≡ family_bytes f → HasBytes f → IfOk result (λ family. family ≡ f) }
         ensures refused { IfErr result (Refuses (λ f. (bytes.now ≡ family_bytes f) × HasBytes f)) }
     {
         let (living, ended) = family_lists(bytes).ok_or(UnpackFault::NotABody)?;
@@ -142,7 +143,7 @@ impl Family {
 }
 
 /// The lists in these bytes, if they are those of a process.
-fn family_lists(bytes: &[u8]) -> Option<(Living, Ended)>
+fn family_lists(bytes: &[u8]) -> Option<(LivingList, EndedList)>
     ensures { MatchOption result ((f : Members) → bytes.now ≡ family_bytes f → HasBytes f → ⊥)
         (λ x. let f = members_of x.0.items x.1.items in (bytes.now ≡ family_bytes f) × HasBytes f) }
 {
@@ -181,12 +182,12 @@ fn any_matches(which: &Option<Pid>, living: &[Pid]) -> bool
 }
 
 /// The first ended child that is waited for.
-fn first_ended(which: &Option<Pid>, ended: &[(Pid, Ending)]) -> Option<(Pid, Ending)>
+fn first_ended(which: &Option<Pid>, ended: &[Ended]) -> Option<Ended>
     ensures { result ≡ first_ended_child which.now ended.now }
 {
-    for (pid, ending) in ended {
-        if matches(which, *pid) {
-            return Some((*pid, *ending));
+    for child in ended {
+        if matches(which, child.pid) {
+            return Some(*child);
         }
     }
     None
@@ -201,9 +202,9 @@ fn take_out(living: &mut Vec<Pid>, child: Pid)
 }
 
 /// Takes a child out of the ended ones.
-fn forget(ended: &mut Vec<(Pid, Ending)>, child: Pid)
-    ensures out { ended.new.items ≡ filter (λ e. not (nat_eq child e.0)) ended.old.items }
+fn forget(ended: &mut Vec<Ended>, child: Pid)
+    ensures out { ended.new.items ≡ filter (λ e. not (nat_eq child e.pid)) ended.old.items }
     ensures room { vec_capacity ended.new ≡ vec_capacity ended.old }
 {
-    ended.retain(|(pid, _)| child != *pid);
+    ended.retain(|e| child != e.pid);
 }
