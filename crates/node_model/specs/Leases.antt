@@ -26,8 +26,8 @@ is_used_up (number ∷ numbers) = false
 abbrev pub lease_of : ℕ → List ℕ
 lease_of first = range_with_len first range_size
 
-abbrev pub refilled : Leases → Kind → ℕ → Leases
-refilled leases kind first = with_kind leases kind (lease_of first)
+abbrev pub refill : Leases → Kind → ℕ → Leases
+refill leases kind first = with_kind leases kind (lease_of first)
 
 -- the number is still to be taken
 abbrev pub leases_hold : Leases → Name → Bool
