@@ -17,10 +17,10 @@ number_of (names.Proc pid) = pid
 number_of (names.Msg id) = id
 number_of (names.Sem id) = id
 
-abbrev pub named : Kind → ℕ → Name
-named kinds.Proc number = names.Proc number
-named kinds.Msg number = names.Msg number
-named kinds.Sem number = names.Sem number
+abbrev pub name_of : Kind → ℕ → Name
+name_of kinds.Proc number = names.Proc number
+name_of kinds.Msg number = names.Msg number
+name_of kinds.Sem number = names.Sem number
 
 abbrev pub is_same_kind : Kind → Kind → Bool
 is_same_kind kinds.Proc kinds.Proc = true

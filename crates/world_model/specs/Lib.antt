@@ -1,0 +1,16 @@
+pub mod Node
+pub mod Step
+pub mod Serving
+pub mod Numbers
+pub mod Routing
+pub mod Starting
+pub mod Calls
+pub mod Ranges
+pub mod Moves
+pub mod Lives
+pub mod Grammar
+pub mod Turn
+pub mod World
+pub mod Run
+pub mod Schedule
+pub mod Census
