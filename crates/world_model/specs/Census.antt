@@ -1,6 +1,6 @@
 -- How many owners a name has: the nodes that hold its deed, the frames that bring it, and the parcels that the leader
 -- holds with it.
-use Rattle.std.specs.Prelude.{ℕ, ◌+◌, Bool, is_some, cond, List, sum_by, count_by}
+use Rattle.std.specs.Prelude.{ℕ, ◌+◌, Bool, cond, sum_by, count_by}
 use Rattle.pico_base.specs.declared.numbers.Name.{Name}
 use Rattle.rpc_frame.specs.declared.deed.PackedDeed.{PackedDeed}
 use Rattle.rpc_frame.specs.declared.frame.Frame.{Frame}
@@ -9,7 +9,7 @@ use Rattle.number_maps.specs.Maps.{Numbered}
 use Rattle.node_model.specs.Kinds.{is_same_name}
 use Rattle.node_model.specs.Directory.{Place, items_of, has_deed_of, is_parcel_with}
 use Rattle.std.specs.Prelude.{Some}
-use Rattle.world_model.specs.Node.{Node, holds}
+use Rattle.world_model.specs.Node.{holds}
 use Rattle.world_model.specs.World.{World, Streams}
 
 abbrev pub one_if : Bool → ℕ

@@ -14,3 +14,5 @@ pub mod World
 pub mod Run
 pub mod Schedule
 pub mod Census
+pub mod Example
+pub mod Examples

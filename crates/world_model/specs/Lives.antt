@@ -1,11 +1,11 @@
 -- A node takes a frame about a process's life.
-use Rattle.std.specs.Prelude.{ℕ, Bool, true, false, not, ◌&&◌, ◌||◌, nat_eq, nat_lt, List, [], ◌∷◌, length, map, fold, if◌then◌else◌, Option, Some, None, is_none}
+use Rattle.std.specs.Prelude.{ℕ, Bool, true, false, not, ◌&&◌, ◌||◌, nat_eq, nat_lt, [], ◌∷◌, length, fold, if◌then◌else◌, Option, Some, None, is_none}
 use Rattle.std.specs.List.{list_all, list_any}
-use Rattle.std.specs.Option.{option_map, option_and_then}
+use Rattle.std.specs.Option.{option_and_then}
 use Rattle.pico_base.specs.declared.call.Call.{Call}
 use Rattle.pico_base.specs.declared.call.Call.TheVariants as calls
 use Rattle.pico_base.specs.declared.numbers.Name.{Name}
-use Rattle.pico_base.specs.declared.numbers.Name.TheVariants.{Proc, Msg, Sem}
+use Rattle.pico_base.specs.declared.numbers.Name.TheVariants.{Proc}
 use Rattle.pico_base.specs.declared.script.Block.{Block}
 use Rattle.pico_base.specs.declared.script.Script.{Script}
 use Rattle.rpc_frame.specs.declared.deed.PackedDeed.{PackedDeed}
@@ -17,11 +17,11 @@ use Rattle.kernel_model.specs.Row.{Row}
 use Rattle.kernel_model.specs.Script.{Vars}
 use Rattle.kernel_model.specs.Fitting.{block_at}
 use Rattle.node_model.specs.declared.held.Held.TheVariants.{Ending}
-use Rattle.node_model.specs.Kinds.{none_named, put_named, get_named, is_same_name}
+use Rattle.node_model.specs.Kinds.{none_named, put_named, is_same_name}
 use Rattle.node_model.specs.Directory.{Directory, is_known, is_coming, is_in_parcel, place_name, stays, is_leaving, with_leaving, with_left}
 use Rattle.node_model.specs.Leases.{leases_hold}
 use Rattle.node_model.specs.Caller.{new_caller}
-use Rattle.node_model.specs.Bodies.{Body, Living as LivingBody, Deeds}
+use Rattle.node_model.specs.Bodies.{Body, Living as LivingBody}
 use Rattle.node_model.specs.Spelling.{read_deed}
 use Rattle.node_model.specs.Parcels.{give_all, fitting_bodies}
 use Rattle.world_model.specs.Node.{Node, Living, Left, is_leader, is_unborn, is_leaving_stage, is_node}

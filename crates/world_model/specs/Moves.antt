@@ -1,5 +1,5 @@
 -- A node takes a frame about a queue or set that moves.
-use Rattle.std.specs.Prelude.{ℕ, Bool, true, false, not, ◌&&◌, nat_eq, if◌then◌else◌, Option, Some, None, is_some}
+use Rattle.std.specs.Prelude.{ℕ, Bool, false, not, ◌&&◌, nat_eq, if◌then◌else◌, Option, Some, None}
 use Rattle.std.specs.Option.{option_map, option_and_then}
 use Rattle.pico_base.specs.declared.numbers.Name.{Name}
 use Rattle.pico_base.specs.declared.script.Script.{Script}
@@ -11,7 +11,7 @@ use Rattle.node_model.specs.Leases.{leases_hold}
 use Rattle.node_model.specs.Bodies.{Body}
 use Rattle.node_model.specs.Spelling.{pack, read_deed}
 use Rattle.world_model.specs.Node.{Node, is_leader, holds, is_node}
-use Rattle.world_model.specs.Step.{Step, step_to, with_node, with_directory, send}
+use Rattle.world_model.specs.Step.{Step, step_to, with_directory, send}
 use Rattle.world_model.specs.Serving.{without_deed}
 use Rattle.world_model.specs.Routing.{recall_from, release}
 use Rattle.world_model.specs.Calls.{is_to_leader, is_from_leader}

@@ -1,10 +1,9 @@
 -- One picoprocess, as plain data.
-use Rattle.std.specs.Prelude.{ℕ, Bool, true, false, not, ◌&&◌, nat_eq, nat_le, List, [], ◌∷◌, length, Option, Some, None, is_some}
+use Rattle.std.specs.Prelude.{ℕ, Bool, true, false, not, ◌&&◌, nat_eq, nat_le, [], length, Option, None, is_some}
 use Rattle.pico_base.specs.declared.call.Call.{Call}
 use Rattle.pico_base.specs.declared.numbers.Name.{Name}
 use Rattle.pico_base.specs.declared.numbers.Name.TheVariants.{Proc}
 use Rattle.pico_base.specs.declared.script.Script.{Script}
-use Rattle.pico_base.specs.declared.signal.Sig.{Sig}
 use Rattle.key_table.specs.declared.Bound.{Bound}
 use Rattle.rpc_frame.specs.declared.asked.Asked.{Asked}
 use Rattle.number_maps.specs.Maps.{Numbered}

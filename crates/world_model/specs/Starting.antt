@@ -1,5 +1,5 @@
 -- A node starts its process's next call.
-use Rattle.std.specs.Prelude.{ℕ, ◌+◌, Bool, not, ◌&&◌, nat_eq, List, [], ◌∷◌, if◌then◌else◌, Option, Some, None, Result, Ok, Err}
+use Rattle.std.specs.Prelude.{ℕ, ◌+◌, not, ◌&&◌, nat_eq, List, if◌then◌else◌, Option, Some, None, Result, Ok, Err}
 use Rattle.std.specs.Option.{option_map, option_and_then}
 use Rattle.pico_base.specs.declared.call.Call.{Call}
 use Rattle.pico_base.specs.declared.call.Call.TheVariants as calls
@@ -8,13 +8,11 @@ use Rattle.pico_base.specs.declared.call.Home.TheVariants as homes
 use Rattle.pico_base.specs.declared.numbers.Kind.{Kind}
 use Rattle.pico_base.specs.declared.numbers.Kind.TheVariants as kinds
 use Rattle.pico_base.specs.declared.numbers.Name.{Name}
-use Rattle.pico_base.specs.declared.numbers.Name.TheVariants.{Proc}
 use Rattle.pico_base.specs.declared.reply.Errno.{Errno}
 use Rattle.pico_base.specs.declared.reply.Reply.TheVariants as replies
 use Rattle.pico_base.specs.declared.script.Script.{Script}
 use Rattle.pico_base.specs.Home.{home_of}
 use Rattle.rpc_frame.specs.declared.frame.Frame.TheVariants as frames
-use Rattle.kernel_model.specs.Numbers.{is_u32}
 use Rattle.kernel_model.specs.Waiting.{is_waiting}
 use Rattle.kernel_model.specs.SemaphoreSet.{Semaphore, new_set}
 use Rattle.kernel_model.specs.Row.{Row}
@@ -25,7 +23,7 @@ use Rattle.node_model.specs.Caller.{due_call, start_call}
 use Rattle.node_model.specs.Serving.{Served, serve}
 use Rattle.node_model.specs.Parcels.{end_first}
 use Rattle.world_model.specs.Node.{Node, Leaving, Over, is_leader, can_run, holds, own_row, asked_here}
-use Rattle.world_model.specs.Step.{Step, step_to, with_node, with_deeds, send, enter, carry_out}
+use Rattle.world_model.specs.Step.{Step, is_u32, step_to, with_node, with_deeds, send, carry_out}
 use Rattle.world_model.specs.Serving.{serve_asked}
 use Rattle.world_model.specs.Numbers.{make}
 use Rattle.world_model.specs.Routing.{route_call}

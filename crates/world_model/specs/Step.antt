@@ -1,5 +1,5 @@
 -- What a node does in a turn: its state afterwards, the entries that it makes, and the frames that it sends.
-use Rattle.std.specs.Prelude.{ℕ, nat_eq, List, [], ◌∷◌, ◌++◌, if◌then◌else◌, Option, Some, None}
+use Rattle.std.specs.Prelude.{ℕ, ◌^◌, Bool, nat_lt, nat_eq, List, [], ◌∷◌, ◌++◌, if◌then◌else◌, Option, Some, None}
 use Rattle.pico_base.specs.declared.call.Call.{Call}
 use Rattle.pico_base.specs.declared.reply.Reply.{Reply}
 use Rattle.pico_base.specs.declared.reply.Entry.{Entry}
@@ -17,6 +17,9 @@ pub record Step : Type 0 where
   pub node : Node
   pub entries : List Entry
   pub sends : List (ℕ × Frame)
+
+abbrev pub is_u32 : ℕ → Bool
+is_u32 n = nat_lt n (2 ^ 32)
 
 abbrev pub step_to : Node → Step
 step_to n = record { node = n; entries = []; sends = [] }
