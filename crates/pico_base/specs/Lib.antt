@@ -1,2 +1,3 @@
 pub mod Home
+pub mod NameOrder
 pub mod Signal
