@@ -3,9 +3,9 @@
 #![tactic(auto)]
 
 mod deed;
-
+mod deeds;
 mod shared;
 
 pub use deed::Deed;
-
+pub use deeds::Deeds;
 pub use shared::Shared;

@@ -1,12 +1,13 @@
 -- The order in which a node hands over what it holds: queues, then sets, then processes, by rising number within a
 -- kind. Finite maps from names stand in it.
-use Rattle.std.specs.Prelude.{◌≡◌, ℕ, refl}
+use Rattle.std.specs.Prelude.{◌≡◌, ◌⊎◌, ℕ, refl}
 use Rattle.std.specs.Cmp.{IsTotalOrder, nat_cmp_total, on_total, then_total}
 use Rattle.std.specs.FinMap.{IsAntisymmetric, nat_cmp-IsAntisymmetric}
 use Rattle.std.specs.Ordering.{on, nat_cmp, then_cmp}
 use Rattle.std.specs.declared.cmp.Ordering.{Ordering}
 use Rattle.std.specs.declared.cmp.Ordering.TheVariants.{Less, Equal, Greater}
-use Rattle.std.proofs.Common.{ap}
+use Rattle.std.proofs.Common.{ap, inl, inr}
+use Rattle.std.specs.Coded.{Coded, code_by, coded⊎, coded_ℕ}
 use Rattle.pico_base.specs.declared.numbers.Name.{Name}
 use Rattle.pico_base.specs.declared.numbers.Name.TheVariants.{Proc, Msg, Sem}
 
@@ -46,3 +47,19 @@ name_order_antisymmetric (Sem a) (Msg b) e = absurd (cc)
 name_order_antisymmetric (Sem a) (Proc b) e = absurd (cc)
 name_order_antisymmetric (Proc a) (Msg b) e = absurd (cc)
 name_order_antisymmetric (Proc a) (Sem b) e = absurd (cc)
+
+-- a name is stored as one of three numbers
+abbrev pub name_to_sum : Name → ℕ ⊎ (ℕ ⊎ ℕ)
+name_to_sum (Msg id) = inl id
+name_to_sum (Sem id) = inr (inl id)
+name_to_sum (Proc pid) = inr (inr pid)
+
+abbrev pub name_from_sum : ℕ ⊎ (ℕ ⊎ ℕ) → Name
+name_from_sum (inl id) = Msg id
+name_from_sum (inr (inl id)) = Sem id
+name_from_sum (inr (inr pid)) = Proc pid
+
+abbrev pub coded_name : Coded Name
+coded_name =
+    code_by (ℕ ⊎ (ℕ ⊎ ℕ)) (coded⊎ coded_ℕ (coded⊎ coded_ℕ coded_ℕ)) name_to_sum name_from_sum
+    (elim [ Msg id ↦ refl | Sem id ↦ refl | Proc pid ↦ refl ])
