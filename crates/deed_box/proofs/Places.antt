@@ -1,13 +1,14 @@
--- Where a binary search stops among entries by rising name.
+-- Where a binary search stops among entries by rising number.
 use Rattle.std.proofs.Common.{◌≡◌, ℕ, zero, suc, ◌+◌, ◌≤◌, ◌<◌, Bool, true, false, ◌&&◌, List, [], ◌∷◌, ◌++◌, length, get_or, Result, Ok, Err, MatchResult, refl, ap, subst, ◌∙◌, arith, IsTrue}
 use Rattle.std.specs.FinMap.Entries.{below_all, is_sorted}
 use Rattle.std.specs.List.{AllByRecursion}
 use Rattle.std.specs.List.Sorted.{IsBinarySearchResult, IsNonDecreasingBy, IsSearchInRange}
-use Rattle.std.specs.Ordering.{is_lt, ordering_index, ordering_reverse}
+use Rattle.std.specs.Ordering.{is_lt, nat_cmp, ordering_index, ordering_reverse}
 use Rattle.std.specs.declared.cmp.Ordering.{Ordering}
 use Rattle.std.specs.declared.cmp.Ordering.TheVariants.{Less, Equal, Greater}
-use Rattle.pico_base.specs.NameOrder.{name_order, name_order_total, name_order_antisymmetric}
-use Rattle.pico_base.specs.declared.numbers.Name.{Name}
+use Rattle.std.specs.Cmp.{nat_cmp_total}
+use Rattle.std.specs.FinMap.{nat_cmp-IsAntisymmetric}
+use Rattle.kernel_model.specs.Maps.{Numbered}
 use Rattle.deed_box.specs.Placing.{BelongsAt, StandsAt}
 
 first : (a b : Bool) → IsTrue (a && b) → IsTrue a
@@ -23,50 +24,50 @@ less Less p = refl
 less Equal p = absurd (cc)
 less Greater p = absurd (cc)
 
-reversed : (x y : Name) → name_order x y ≡ Less → name_order y x ≡ Greater
-reversed x y e = name_order_total.antisymm y x ∙ ap ordering_reverse e
+reversed : (x y : ℕ) → nat_cmp x y ≡ Less → nat_cmp y x ≡ Greater
+reversed x y e = nat_cmp_total.antisymm y x ∙ ap ordering_reverse e
 
-turned : (x y : Name) → name_order x y ≡ Greater → name_order y x ≡ Less
-turned x y e = name_order_total.antisymm y x ∙ ap ordering_reverse e
+turned : (x y : ℕ) → nat_cmp x y ≡ Greater → nat_cmp y x ≡ Less
+turned x y e = nat_cmp_total.antisymm y x ∙ ap ordering_reverse e
 
 -- a greater name stands no lower to a third one
-rising : (x y n : Name) → name_order x y ≡ Less → ordering_index (name_order x n) ≤ ordering_index (name_order y n)
+rising : (x y n : ℕ) → nat_cmp x y ≡ Less → ordering_index (nat_cmp x n) ≤ ordering_index (nat_cmp y n)
 rising x y n e =
-    elim (name_order x n) as (λ o. name_order x n ≡ o → ordering_index o ≤ ordering_index (name_order y n)) [
+    elim (nat_cmp x n) as (λ o. nat_cmp x n ≡ o → ordering_index o ≤ ordering_index (nat_cmp y n)) [
       | Less ↦ λ is. omega arith
-      | Equal ↦ λ is. let greater : name_order y n ≡ Greater = subst (λ z. name_order y z ≡ Greater) (name_order_antisymmetric x n is) (reversed x y e) in rw greater (omega arith)
-      | Greater ↦ λ is. let greater : name_order y n ≡ Greater = reversed n y (name_order_total.trans n x y (turned x n is) e) in rw greater (omega arith)
+      | Equal ↦ λ is. let greater : nat_cmp y n ≡ Greater = subst (λ z. nat_cmp y z ≡ Greater) (nat_cmp-IsAntisymmetric x n is) (reversed x y e) in rw greater (omega arith)
+      | Greater ↦ λ is. let greater : nat_cmp y n ≡ Greater = reversed n y (nat_cmp_total.trans n x y (turned x n is) e) in rw greater (omega arith)
     ] refl
 
 module _ {B : Type 0} where
-  below_in : (x : Name) (before : List (Name × B)) (n : Name) (b : B) (after : List (Name × B)) → IsTrue (below_all name_order x (before ++ (n, b) ∷ after)) → name_order x n ≡ Less
+  below_in : (x : ℕ) (before : Numbered B) (n : ℕ) (b : B) (after : Numbered B) → IsTrue (below_all nat_cmp x (before ++ (n, b) ∷ after)) → nat_cmp x n ≡ Less
   below_in x [] n b after h = less _ (first _ _ h)
   below_in x (e ∷ es) n b after h = below_in x es n b after (second _ _ h)
 
-  above_all : (x : Name) (es : List (Name × B)) → IsTrue (below_all name_order x es) → AllByRecursion (λ e. name_order e.0 x ≡ Greater) es
+  above_all : (x : ℕ) (es : Numbered B) → IsTrue (below_all nat_cmp x es) → AllByRecursion (λ e. nat_cmp e.0 x ≡ Greater) es
   above_all x [] h = tt
   above_all x (e ∷ es) h = (reversed x e.0 (less _ (first _ _ h)), above_all x es (second _ _ h))
 
-  below_at : (x : Name) (es : List (Name × B)) (i : ℕ) (d : Name × B) → IsTrue (below_all name_order x es) → i < length es → name_order x (get_or es i d).0 ≡ Less
+  below_at : (x : ℕ) (es : Numbered B) (i : ℕ) (d : ℕ × B) → IsTrue (below_all nat_cmp x es) → i < length es → nat_cmp x (get_or es i d).0 ≡ Less
   below_at x [] i d h lt = absurd (omega arith)
   below_at x (e ∷ es) zero d h lt = less _ (first _ _ h)
   below_at x (e ∷ es) (suc i) d h lt = below_at x es i d (second _ _ h) (omega arith)
 
-  pub rises : (es : List (Name × B)) (n : Name) → IsTrue (is_sorted name_order es) → IsNonDecreasingBy (λ e. ordering_index (name_order e.0 n)) es
+  pub rises : (es : Numbered B) (n : ℕ) → IsTrue (is_sorted nat_cmp es) → IsNonDecreasingBy (λ e. ordering_index (nat_cmp e.0 n)) es
   rises [] n h i j d le lt = absurd (omega arith)
   rises (e ∷ es) n h zero zero d le lt = omega arith
   rises (e ∷ es) n h zero (suc j) d le lt = rising _ _ n (below_at e.0 es j d (first _ _ h) (omega arith))
   rises (e ∷ es) n h (suc i) zero d le lt = absurd (omega arith)
   rises (e ∷ es) n h (suc i) (suc j) d le lt = rises es n (second _ _ h) i j d (omega arith) (omega arith)
 
-  all_at : (P : Name × B → Type 0) (es : List (Name × B)) → ((k : ℕ) (d : Name × B) → k < length es → P (get_or es k d)) → AllByRecursion P es
+  all_at : (P : ℕ × B → Type 0) (es : Numbered B) → ((k : ℕ) (d : ℕ × B) → k < length es → P (get_or es k d)) → AllByRecursion P es
   all_at P [] h = tt
   all_at P (e ∷ es) h = (h 0 e (omega arith), all_at P es (λ k d lt. h (suc k) d (omega arith)))
 
-  pub stands_at : (es : List (Name × B)) (i : ℕ) (n : Name) → IsTrue (is_sorted name_order es) → i < length es → ((d : Name × B) → name_order (get_or es i d).0 n ≡ Equal) → StandsAt es n i
+  pub stands_at : (es : Numbered B) (i : ℕ) (n : ℕ) → IsTrue (is_sorted nat_cmp es) → i < length es → ((d : ℕ × B) → nat_cmp (get_or es i d).0 n ≡ Equal) → StandsAt es n i
   stands_at [] i n h lt is = absurd (omega arith)
   stands_at (e ∷ es) zero n h lt is =
-      let same : e.0 ≡ n = name_order_antisymmetric e.0 n (is e) in
+      let same : e.0 ≡ n = nat_cmp-IsAntisymmetric e.0 n (is e) in
       record {
         before = [];
         body = e.1;
@@ -74,11 +75,11 @@ module _ {B : Type 0} where
         split = ap (λ m. (m, e.1) ∷ es) same;
         counted = refl;
         lower = tt;
-        higher = subst (λ m. AllByRecursion (λ x. name_order x.0 m ≡ Greater) es) same (above_all e.0 es (first _ _ h));
+        higher = subst (λ m. AllByRecursion (λ x. nat_cmp x.0 m ≡ Greater) es) same (above_all e.0 es (first _ _ h));
       }
   stands_at (e ∷ es) (suc i) n h lt is =
       let r : StandsAt es n i = stands_at es i n (second _ _ h) (omega arith) is in
-      let below : IsTrue (below_all name_order e.0 (r.before ++ (n, r.body) ∷ r.after)) = subst (λ xs. IsTrue (below_all name_order e.0 xs)) r.split (first _ _ h) in
+      let below : IsTrue (below_all nat_cmp e.0 (r.before ++ (n, r.body) ∷ r.after)) = subst (λ xs. IsTrue (below_all nat_cmp e.0 xs)) r.split (first _ _ h) in
       record {
         before = e ∷ r.before;
         body = r.body;
@@ -89,7 +90,7 @@ module _ {B : Type 0} where
         higher = r.higher;
       }
 
-  pub belongs_at : (es : List (Name × B)) (i : ℕ) (n : Name) → i ≤ length es → ((k : ℕ) (d : Name × B) → k < i → name_order (get_or es k d).0 n ≡ Less) → ((k : ℕ) (d : Name × B) → i ≤ k → k < length es → name_order (get_or es k d).0 n ≡ Greater) → BelongsAt es n i
+  pub belongs_at : (es : Numbered B) (i : ℕ) (n : ℕ) → i ≤ length es → ((k : ℕ) (d : ℕ × B) → k < i → nat_cmp (get_or es k d).0 n ≡ Less) → ((k : ℕ) (d : ℕ × B) → i ≤ k → k < length es → nat_cmp (get_or es k d).0 n ≡ Greater) → BelongsAt es n i
   belongs_at [] i n le low high = record { before = []; after = []; split = refl; counted = omega arith; lower = tt; higher = tt }
   belongs_at (e ∷ es) zero n le low high = record { before = []; after = e ∷ es; split = refl; counted = refl; lower = tt; higher = all_at _ (e ∷ es) (λ k d lt. high k d (omega arith) lt) }
   belongs_at (e ∷ es) (suc i) n le low high =
@@ -104,7 +105,7 @@ module _ {B : Type 0} where
       }
 
   -- what a binary search by the names says
-  pub place_from : (es : List (Name × B)) (n : Name) (r : Result ℕ ℕ) → IsTrue (is_sorted name_order es) → IsSearchInRange r (length es) → IsBinarySearchResult (λ e. name_order e.0 n) es r → MatchResult r (StandsAt es n) (BelongsAt es n)
+  pub place_from : (es : Numbered B) (n : ℕ) (r : Result ℕ ℕ) → IsTrue (is_sorted nat_cmp es) → IsSearchInRange r (length es) → IsBinarySearchResult (λ e. nat_cmp e.0 n) es r → MatchResult r (StandsAt es n) (BelongsAt es n)
   place_from es n (Ok i) h lt is = stands_at es i n h lt is
   place_from es n (Err i) h le is =
       let parts = is (rises es n h) in
