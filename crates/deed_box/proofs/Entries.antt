@@ -2,7 +2,7 @@
 use Rattle.std.proofs.Common.{◌≡◌, ℕ, zero, suc, ◌+◌, ◌≤◌, ◌<◌, Bool, true, false, cond, not, nat_eq, List, [], ◌∷◌, ◌++◌, length, get_or, set, take, drop, insert, remove, Option, Some, None, is_some, Result, Ok, Err, is_ok, MatchResult, refl, sym, ap, subst, ◌∙◌, arith, IsTrue, T}
 use Rattle.std.proofs.Math.Seq.{take-append_seam, drop-append_seam, set-append_seam}
 use Rattle.std.proofs.lemmas.Bool.Decides.{nat_tests}
-use Rattle.std.proofs.lemmas.List.{length-append}
+use Rattle.std.proofs.lemmas.List.{length-append, length-set}
 use Rattle.std.specs.Cmp.{nat_cmp_total, tied_itself}
 use Rattle.std.specs.FinMap.Entries.{by_order, is_sorted, is_sorted-put, is_sorted-where_key, put as put_in_order}
 use Rattle.std.specs.List.{AllByRecursion}
@@ -174,3 +174,10 @@ module _ {B : Type 0} where
 
   pub without_absent : (xs es : Numbered B) (n i : ℕ) → xs ≡ es → BelongsAt xs n i → es ≡ without es n
   without_absent xs es n i seen s = sym seen ∙ sym (without-belongs xs n i s) ∙ ap (λ zs. without zs n) seen
+
+  pub set_there : (xs es : Numbered B) (n i : ℕ) (e : ℕ × B) (b : B) → xs ≡ es → StandsAt xs n i → e ≡ get_or xs i e → set xs i (e.0, b) ≡ put es n b
+  set_there xs es n i e b seen s is =
+      ap (λ x. set xs i (x.0, b)) (is ∙ get_or-stands xs n i s e) ∙ sym (put-stands xs n i b s) ∙ ap (λ zs. put zs n b) seen
+
+  pub length-put_stands : (es : Numbered B) (n i : ℕ) (b : B) → StandsAt es n i → length (put es n b) ≡ length es
+  length-put_stands es n i b s = ap length (put-stands es n i b s) ∙ length-set es i (n, b)

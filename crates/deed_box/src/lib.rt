@@ -3,8 +3,10 @@
 #![tactic(auto)]
 
 mod deed;
+mod deeds;
 mod shared;
 mod table;
 
 pub use deed::Deed;
+pub use deeds::Deeds;
 pub use shared::Shared;

@@ -2,7 +2,7 @@
 ghost use Rattle.std.specs.Prelude.{◌≡◌, ◌≤◌, ◌<◌, ◌+◌, ◌∷◌, [], None, Some, IsTrue, IsSome, IfOk, IfErr, OnOk, OnErr, MatchResult, is_some, if◌then◌else◌, length};
 ghost use Rattle.std.specs.Borrow.{sem};
 ghost use Rattle.std.specs.FinMap.{is_sorted};
-ghost use Rattle.std.specs.Option.{option_copied, option_copied_mut};
+ghost use Rattle.std.specs.Option.{option_copied};
 ghost use Rattle.std.specs.Ordering.{nat_cmp};
 ghost use Rattle.kernel_model.specs.Maps.{get, put, without};
 ghost use Rattle.deed_box.specs.Placing.{BelongsAt, StandsAt};
@@ -40,6 +40,8 @@ fn place_of<B>(entries: &[(u32, B)], number: u32) -> Result<usize, usize>
 }
 
 impl<B> Table<B> {
+    ghost use Rattle.deed_box.specs.Lending.{lends_entry};
+
 
     pub(crate) fn new(alloc: Global) -> Table<B>
         ensures { result.entries ≡ [] }
@@ -105,6 +107,49 @@ impl<B> Table<B> {
         match place_of(self.entries.as_slice(), number) {
             Ok(_) => unreachable!(),
             Err(place) => self.entries.insert(place, (number, body)).unwrap(),
+        }
+    }
+
+    /// The entry at a place that has one, to be changed.
+    fn value_mut(&mut self, number: u32, place: usize) -> &mut B
+        requires { StandsAt self.old.entries number place }
+        ensures* writes_back { sem 𝓛 (lends_entry B.row self.entry number result) }
+        ensures value { get self.old.entries number ≡ Some result.now }
+    {
+        &mut self.entries[place].1
+    }
+
+    /// The entry of a number that has one, to be changed. A change leaves as many entries.
+    pub(crate) fn body_mut(&mut self, number: u32) -> &mut B
+        requires { IsSome (get self.old.entries number) }
+        ensures* writes_back { sem 𝓛 (lends_entry B.row self.entry number result) }
+        ensures value { get self.old.entries number ≡ Some result.now }
+        ensures len { (body : B) → length (put self.old.entries number body) ≡ length self.old.entries }
+    {
+        match self.place(number) {
+            Ok(place) => self.value_mut(number, place),
+            Err(_) => unreachable!(),
+        }
+    }
+
+    fn place(&self, number: u32) -> Result<usize, usize>
+        ensures { MatchResult result (StandsAt self.now.entries number) (BelongsAt self.now.entries number) }
+    {
+        place_of(self.entries.as_slice(), number)
+    }
+
+    /// Adds an entry, for which there is room, or takes the place of one.
+    pub(crate) fn set(&mut self, number: u32, body: B)
+    where
+        B: Drop,
+        requires room { length self.old.entries < self.old.capacity }
+        ensures entries { self.new.entries ≡ put self.old.entries number body }
+        ensures len { length self.new.entries ≤ length self.old.entries + 1 }
+        ensures capacity { self.new.capacity ≡ self.old.capacity }
+    {
+        match self.place(number) {
+            Ok(place) => *self.value_mut(number, place) = body,
+            Err(_) => self.put(number, body),
         }
     }
 
