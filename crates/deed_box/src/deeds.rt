@@ -132,11 +132,7 @@ impl<B> Deeds<B> {
     pub fn has(&self, name: Name) -> bool
         ensures { result ≡ is_some (get_named self.now.bodies name) }
     {
-        match name {
-            Name::Proc(pid) => self.processes.has(pid.0),
-            Name::Msg(id) => self.queues.has(id.0),
-            Name::Sem(id) => self.sets.has(id.0),
-        }
+        self.holds(&name)
     }
 
     /// The body of the name, where its deed is there.
@@ -155,18 +151,24 @@ impl<B> Deeds<B> {
         ensures* writes_back { sem 𝓛 (lends_body_if B.row self.entry name result) }
         ensures value { option_copied_mut result ≡ get_named self.old.bodies name }
     {
-        if self.has(name) {
-            Some(self.body_mut(name))
-        } else {
-            None
+        if self.holds(&name) { Some(self.body_mut(&name)) } else { None }
+    }
+
+    fn holds(&self, name: &Name) -> bool
+        ensures { result ≡ is_some (get_named self.now.bodies name.now) }
+    {
+        match name {
+            Name::Proc(pid) => self.processes.has(pid.0),
+            Name::Msg(id) => self.queues.has(id.0),
+            Name::Sem(id) => self.sets.has(id.0),
         }
     }
 
     /// The body of a name whose deed is there, to be changed.
-    fn body_mut(&mut self, name: Name) -> &mut B
-        requires { IsSome (get_named self.old.bodies name) }
-        ensures* writes_back { sem 𝓛 (lends_body B.row self.entry name result) }
-        ensures value { get_named self.old.bodies name ≡ Some result.now }
+    fn body_mut(&mut self, name: &Name) -> &mut B
+        requires { IsSome (get_named self.old.bodies name.now) }
+        ensures* writes_back { sem 𝓛 (lends_body B.row self.entry name.now result) }
+        ensures value { get_named self.old.bodies name.now ≡ Some result.now }
     {
         match name {
             Name::Proc(pid) => self.processes.body_mut(pid.0),
