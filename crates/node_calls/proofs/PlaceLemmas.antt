@@ -101,8 +101,10 @@ tried_on again c set n =
     else record c { caller = record (ended_call c.caller) { line = c.caller.line + 1; tried = 0; vars = setting c.caller.vars set n } }
 
 tried_in : (again : Bool) (c : BlockCaller) (line : Line) (n : ℕ)
-    → record c { caller = if again then record (ended_call c.caller) { tried = c.caller.tried + 1 }
-    else record (ended_call c.caller) { line = c.caller.line + 1; tried = 0; vars = setting c.caller.vars line.set n } }
+    → record c {
+      caller = if again then record (ended_call c.caller) { tried = c.caller.tried + 1 }
+          else record (ended_call c.caller) { line = c.caller.line + 1; tried = 0; vars = setting c.caller.vars line.set n };
+    }
     ≡ tried_on again c line.set n
 unfolding tried_on
 tried_in true c line n = refl

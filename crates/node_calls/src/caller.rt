@@ -1,9 +1,12 @@
-ghost use Rattle.std.specs.Prelude.{◌≡◌, None, Some, IfOk, IfSome, OnOk, OnErr, IsSome, IsTrue};
+ghost use Rattle.std.specs.Prelude.{◌≡◌, ◌↔◌, None, Some, IfOk, IfSome, OnOk, OnErr, IsSome, IsTrue};
 ghost use Rattle.std.specs.Option.{option_copied};
+ghost use Rattle.kernel_model.specs.Script.{IsSound};
 ghost use Rattle.kernel_model.specs.Fitting.{child_vars};
 ghost use Rattle.node_calls.specs.Caller.{BlockCaller, HasLine, are_rising, answered, beginning, call_due, place_of, started};
 
-use crate::lines::{terms_at, written_line};
+#[cfg(test)]
+use crate::lines::is_reached;
+use crate::lines::{count, terms_at, written_line};
 use crate::replies::{tries_again, value_in};
 use crate::variables::Variables;
 use pico_base::{Call, Memory, Node, Reply, Script, Sig, Vars};
@@ -46,6 +49,15 @@ impl Caller {
             ticket: 0,
             under_way: None,
         }
+    }
+
+    /// Whether the script has the block, and the line that is reached stands in it, an implied `exit 0` counted. It doesn't
+    /// once the process has ended.
+    pub fn has_line(&self, script: &Script) -> bool
+        requires { IsSound script.now }
+        ensures { IsTrue result ↔ HasLine script.now self.now }
+    {
+        self.line < count(script, self.block)
     }
 
     /// The call due: the end by the signal that dooms the process, or the call of the line that is reached, with its
@@ -120,5 +132,15 @@ impl Caller {
     {
         let terms = terms_at(script, self.block, self.line);
         self.variables.with_zero(self.alloc, terms.set)
+    }
+}
+
+#[cfg(test)]
+impl Caller {
+    /// Whether no line before the reached one is an exit, and the reached one isn't past the end.
+    pub(crate) fn reaches(&self, script: &Script) -> bool
+        ensures { IsTrue result → HasLine script.now self.now }
+    {
+        is_reached(script, self.block, self.line)
     }
 }

@@ -1,11 +1,13 @@
 //! The lines of a block, with the exit that its end stands for.
-ghost use Rattle.std.specs.Prelude.{◌≡◌, ◌+◌, ◌<◌, IfSome, length, slice_get};
+ghost use Rattle.std.specs.Prelude.{◌≡◌, ◌+◌, ◌<◌, IfSome, IsTrue, length, slice_get};
+ghost use Rattle.std.specs.List.{list_any};
 ghost use Rattle.std.specs.Option.{option_copied};
 ghost use Rattle.kernel_model.specs.Fitting.{block_at};
+ghost use Rattle.kernel_model.specs.Script.{IsSound, is_exit};
 ghost use Rattle.node_calls.specs.Model.{lines_of};
-ghost use Rattle.node_calls.specs.Lines.{written_lines};
+ghost use Rattle.node_calls.specs.Lines.{written_lines, written_count};
 
-use pico_base::{Block, Line, Node, Script, Var};
+use pico_base::{Block, Call, Line, Node, Script, Var};
 
 /// What a line says beside its call: the variable that it sets, how often it is tried at most, and the place behind it.
 #[derive(Clone, Copy)]
@@ -64,5 +66,50 @@ pub(crate) fn terms_at(script: &Script, node: Node, line: usize) -> Terms
             tries: 1,
             next: lines.len() + 1,
         },
+    }
+}
+
+/// How many lines these are with the exit that their end stands for, where only the last one can be an exit.
+fn count_with_exit(lines: &[Line]) -> usize
+    ensures { result ≡ written_count lines.now }
+{
+    match lines.last() {
+        Some(line) if matches!(line.call, Call::Exit { .. }) => lines.len(),
+        _ => lines.len() + 1,
+    }
+}
+
+/// How many lines a block has, with the exit that its end stands for.
+pub(crate) fn count(script: &Script, node: Node) -> usize
+    requires { IsSound script.now }
+    ensures { result ≡ length (lines_of script.now node) }
+{
+    match block_of(script, node) {
+        Some(block) => count_with_exit(block.lines.as_slice()),
+        None => 0,
+    }
+}
+
+/// Whether one of the lines is an exit.
+#[cfg(test)]
+fn any_exit(lines: &[Line]) -> bool
+    ensures { result ≡ list_any (λ l. is_exit l.call) lines.now }
+{
+    lines
+        .iter()
+        .any(|line| matches!(line.call, Call::Exit { .. }))
+}
+
+/// Whether a line is reached, for scripts of which it isn't known that they are sound.
+#[cfg(test)]
+pub(crate) fn is_reached(script: &Script, node: Node, line: usize) -> bool
+    ensures { IsTrue result → line < length (lines_of script.now node) }
+{
+    match block_of(script, node) {
+        Some(block) => {
+            let lines = block.lines.as_slice();
+            line <= lines.len() && !any_exit(&lines[..line])
+        }
+        None => false,
     }
 }
