@@ -1,5 +1,5 @@
 -- A process as a caller: its block of the script, where it is in the block, and its call under way.
-use Rattle.std.specs.Prelude.{◌≡◌, ℕ, ◌<◌, Bool, true, ◌&&◌, [], ◌∷◌, length, drop, Option, Some, None, nat_lt}
+use Rattle.std.specs.Prelude.{ℕ, ◌<◌, Bool, true, ◌&&◌, [], ◌∷◌, length, Option, Some, nat_lt}
 use Rattle.pico_base.specs.declared.call.Call.{Call}
 use Rattle.pico_base.specs.declared.script.Script.{Script}
 use Rattle.pico_base.specs.declared.reply.Reply.{Reply}

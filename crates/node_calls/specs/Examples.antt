@@ -1,5 +1,5 @@
 -- A caller that tries again, sets a variable and forks, worked out by the checker.
-use Rattle.std.specs.Prelude.{◌≡◌, pos, true, false, [], ◌∷◌, Some, None, codes, refl}
+use Rattle.std.specs.Prelude.{◌≡◌, true, [], ◌∷◌, Some, None, codes, refl}
 use Rattle.pico_base.specs.declared.call.Call.TheVariants.{Exit, Fork, Killed, WaitPid}
 use Rattle.pico_base.specs.declared.reply.Ending.TheVariants.{Exited}
 use Rattle.pico_base.specs.declared.reply.Reply.TheVariants.{Num, Child}

@@ -1,6 +1,4 @@
-use Rattle.std.proofs.Common.{ℕ, ◌+◌, ◌≡◌, ◌∙◌, None, Option, length, refl, sym, ap}
-use Rattle.std.specs.Prelude.{slice_get}
-use Rattle.pico_base.specs.declared.script.Line.{Line}
+use Rattle.std.proofs.Common.{ℕ, ◌+◌, ◌∙◌, length, refl, ap}
 use Rattle.node_calls.proofs.LineLemmas.{reached-written, reached-implied, implied-last, written-there}
 use Rattle.node_calls.proofs.lines.terms_at.Goals as goal
 

@@ -1,4 +1,4 @@
-use Rattle.std.proofs.Common.{◌≡◌, ◌<◌, ◌≤◌, ◌+◌, ◌-◌, ◌/◌, ℕ, ap, arith}
+use Rattle.std.proofs.Common.{◌<◌, ◌+◌, ◌-◌, ◌/◌, ℕ, ap, arith}
 use Rattle.node_calls.specs.Place.{variable_at}
 use Rattle.node_calls.proofs.VariableLemmas.{narrow-up, narrow-down, read-at}
 use Rattle.node_calls.proofs.variables.search.Goals as goal

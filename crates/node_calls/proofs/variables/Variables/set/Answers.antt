@@ -1,4 +1,3 @@
-use Rattle.std.proofs.Common.{OnOk, ap, sym}
 use Rattle.node_calls.proofs.VariableLemmas.{rising-set}
 use Rattle.node_calls.proofs.variables.Variables.set.Goals as goal
 
