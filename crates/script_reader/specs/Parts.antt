@@ -11,8 +11,7 @@ use Rattle.pico_base.specs.declared.signal.Act.TheVariants.{Dfl, Ign, Catch}
 use Rattle.pico_base.specs.declared.signal.How.{How}
 use Rattle.pico_base.specs.declared.signal.How.TheVariants.{Block, Unblock, SetMask}
 use Rattle.pico_base.specs.declared.signal.PerSignal.{PerSignal}
-use Rattle.pico_base.specs.Signal.{at, put, everywhere}
-use Rattle.kernel_model.specs.Signals.{all_signals}
+use Rattle.pico_base.specs.Signal.{at, put_at, everywhere, all_signals}
 use Rattle.kernel_model.specs.Trace.{signal_name, action_name, how_name}
 use Rattle.script_reader.specs.Words.{pieces}
 
@@ -122,7 +121,7 @@ how word = find (λ h. bytes_eq (how_name h) word) (Block ∷ Unblock ∷ SetMas
 -- the set with the signals of these names, which are different and not in it
 unfoldable pub signals_with : PerSignal Bool → List (List ℕ) → Option (PerSignal Bool)
 signals_with set [] = Some set
-signals_with set (word ∷ words) = signal word >>= λ g. if at set g then None else signals_with (put set g true) words
+signals_with set (word ∷ words) = signal word >>= λ g. if at set g then None else signals_with (put_at set g true) words
 
 -- `none`, or different signals joined by commas
 unfoldable pub signal_set : List ℕ → Option (PerSignal Bool)

@@ -2,7 +2,7 @@
 
 ghost use Rattle.std.specs.Prelude.{◌≡◌, ◌⊎◌, ◌+◌, ◌<◌, ◌≤◌, ◌==◌, ℕ, IfOk, true, false, length, count_by};
 ghost use Rattle.std.specs.Str.Lossy.{utf8_valid_len};
-ghost use Rattle.kernel_model.specs.Script.{IsSound};
+ghost use Rattle.kernel_model.specs.Script.{IsSoundScript};
 ghost use Rattle.machine_model.specs.Built.{IsRunnable};
 ghost use Rattle.script_reader.specs.Words.{lines_of};
 ghost use Rattle.script_reader.specs.Says.{names_of};
