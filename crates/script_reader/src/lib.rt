@@ -1,7 +1,6 @@
 //! Reads the text of a script.
 #![tactic(auto)]
 
-mod calls;
 mod checks;
 mod fault;
 mod forms;
@@ -15,6 +14,5 @@ mod texts;
 mod verb;
 mod words;
 
-pub use calls::call_with;
 pub use fault::{ScriptFault, ScriptStop};
 pub use script::{read_runnable, read_script};
