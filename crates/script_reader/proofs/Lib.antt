@@ -1,0 +1,6 @@
+pub mod Lines
+pub mod Cuts
+pub mod Strips
+pub mod Names
+pub mod Each
+pub mod Quotes

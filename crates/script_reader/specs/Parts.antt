@@ -170,13 +170,17 @@ unfoldable pub letter : List ℕ → Option ℕ
 letter (b ∷ []) = if is_alphanumeric b then Some b else None
 letter _ = None
 
--- `N:C`, which is N times C
-unfoldable pub repetition : List ℕ → Option (List ℕ)
-repetition word = do
+-- `N:C`
+unfoldable pub counted : List ℕ → Option (ℕ × ℕ)
+counted word = do
   parts ← cut 58 word
   count ← number 8192 parts.0
   byte ← letter parts.1
-  Some (replicate count byte)
+  Some (count, byte)
+
+-- which is N times C
+unfoldable pub repetition : List ℕ → Option (List ℕ)
+repetition word = option_map (λ (c : ℕ × ℕ). replicate c.0 c.1) (counted word)
 
 abbrev pub text_from : Option (List ℕ) → Option (List ℕ) → Option (List ℕ)
 text_from (Some word) quoted = repetition word

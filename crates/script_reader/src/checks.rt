@@ -7,7 +7,7 @@ ghost use Rattle.machine_model.specs.Built.{is_shared as is_shared_call, is_buil
 ghost use Rattle.script_reader.specs.Fault as spec;
 
 use crate::fault::ScriptFault;
-use crate::place::{MAX_BLOCKS, Place, calls_of, fork_line};
+use crate::place::{MAX_BLOCKS, Place, calls_of};
 use crate::says::Said;
 use pico_base::{Call, Line, SemStep, Var};
 
@@ -213,9 +213,7 @@ fn has_no_rule(place: &Place, said: &Said) -> bool
     ensures { result ≡ spec.has_no_rule place.now said.now }
 {
     match said {
-        Said::Forks(set, Some(number)) => {
-            !is_built_line(place.number(), &fork_line(*set, *number))
-        }
+        Said::Forks(_, Some(_)) => place.number() != 1,
         Said::Calls(line) => !is_built_line(place.number(), line),
         _ => false,
     }

@@ -1,6 +1,6 @@
 //! Words that are variables, names or signals.
 
-ghost use Rattle.std.specs.Prelude.{◌≡◌, ◌≤◌, ◌==◌, false, IfOk, IfSome, option_map, option_copied, position};
+ghost use Rattle.std.specs.Prelude.{◌≡◌, ◌≤◌, ◌==◌, false, IfOk, IfSome, option_map, option_copied, position, length, ◌<◌};
 ghost use Rattle.std.specs.List.{list_all, find};
 ghost use Rattle.pico_base.specs.Signal.{everywhere};
 ghost use Rattle.kernel_model.specs.Trace.{signal_name, action_name, how_name};
@@ -27,7 +27,8 @@ fn first_of(byte: u8, word: &[u8]) -> Option<usize>
 /// What stands before the first of these bytes, and what behind it.
 #[tactic(auto, unfolding(crate::specs::Parts::cut))]
 pub(crate) fn cut(byte: u8, word: &[u8]) -> Option<(&[u8], &[u8])>
-    ensures { option_map (λ x. (x.0.now, x.1.now)) result ≡ cut_of byte word.now }
+    ensures value { option_map (λ x. (x.0.now, x.1.now)) result ≡ cut_of byte word.now }
+    ensures shorter { IfSome result (λ x. length x.1.now < length word.now) }
 {
     let at = first_of(byte, word)?;
     Some((&word[..at], &word[at + 1..]))
@@ -189,6 +190,7 @@ pub(crate) fn how(word: &[u8]) -> Option<How>
 }
 
 /// The set of the signals of these names, which are to be different.
+#[tactic(auto, unfolding(crate::specs::Parts::signals_with))]
 fn signals(words: &[&[u8]]) -> Option<SigSet>
     ensures { result ≡ signals_with (everywhere false) (texts words.now) }
 {

@@ -80,20 +80,6 @@ fn node(number: usize) -> Node
     }
 }
 
-/// The line that forks the block of this number.
-pub(crate) fn fork_line(set: Option<Var>, number: usize) -> Line
-    ensures { result ≡ spec.fork_line set number }
-{
-    Line {
-        set,
-        tries: 1,
-        from: None,
-        call: Call::Fork {
-            block: node(number),
-        },
-    }
-}
-
 fn is_exit(call: &Call) -> bool
     ensures { result ≡ is_exit_call call.now }
 {
@@ -171,8 +157,16 @@ impl Place {
     {
         let mut place = self;
         place.calls += 1;
-        place.known.note(set);
-        place.lines.push(fork_line(set, number))?;
+        let line = Line {
+            set,
+            tries: 1,
+            from: None,
+            call: Call::Fork {
+                block: node(number),
+            },
+        };
+        place.known.note(line.set);
+        place.lines.push(line)?;
         place.forked.set(number);
         place.note_begun(alloc, number)?;
         Ok(place)

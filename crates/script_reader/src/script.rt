@@ -1,6 +1,6 @@
 //! The script, line after line.
 
-ghost use Rattle.std.specs.Prelude.{◌≡◌, ◌⊎◌, ◌+◌, ◌<◌, ◌≤◌, ◌==◌, ℕ, IfOk, true, false, length, count_by};
+ghost use Rattle.std.specs.Prelude.{◌≡◌, ◌+◌, ◌<◌, ◌≤◌, ◌==◌, ℕ, IfOk, true, false, length, count_by};
 ghost use Rattle.std.specs.Str.Lossy.{utf8_valid_len};
 ghost use Rattle.kernel_model.specs.Script.{IsSoundScript};
 ghost use Rattle.machine_model.specs.Built.{IsRunnable};

@@ -130,6 +130,7 @@ impl Names {
     pub(crate) fn number(&self, name: &[u8]) -> Option<usize>
         ensures { result ≡ number_of self.now name.now }
     {
+        let _count = self.len();
         let place = self.place(name)?;
         Some(place + 1)
     }

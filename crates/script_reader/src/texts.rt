@@ -1,9 +1,9 @@
 //! Words that are texts of messages, operations and values.
 
-ghost use Rattle.std.specs.Prelude.{◌≡◌, ◌≤◌, not, IfOk, IfSome, option_map, length, replicate};
+ghost use Rattle.std.specs.Prelude.{◌≡◌, ◌≤◌, not, IfOk, IfSome, option_map, length, position};
 ghost use Rattle.std.specs.List.{position_or_len};
 ghost use Rattle.script_reader.specs.Words.{texts};
-ghost use Rattle.script_reader.specs.Parts.{is_text_byte, is_alphanumeric as is_alphanumeric_of, hex_at, escape_at, text_byte_at, closed_at, quoted_at, letter as letter_of, repetition as repetition_of, text as text_of, added as added_of, step as step_of, each, number as number_of, values as values_of};
+ghost use Rattle.script_reader.specs.Parts.{is_text_byte, is_alphanumeric as is_alphanumeric_of, hex_at, escape_at, text_byte_at, closed_at, quoted_at, letter as letter_of, counted as counted_of, repetition as repetition_of, text as text_of, added as added_of, step as step_of, each, number as number_of, values as values_of};
 
 use crate::numbers::{MAX_NUMBER, index, number, signed};
 use crate::parts::{cut, is_text_part, strip_front};
@@ -94,14 +94,20 @@ fn escaped(alloc: Global, bytes: &[u8]) -> Result<Option<Bytes>, Memory>
     Ok(closed(text, rest))
 }
 
-/// How many bytes stand for themselves before the first that doesn't.
-fn plain_len(bytes: &[u8]) -> usize
-    ensures { result ≡ position_or_len (λ b. not (is_text_byte b)) bytes.now }
+/// Where the first byte is that doesn't stand for itself.
+fn first_other(bytes: &[u8]) -> Option<usize>
+    ensures { result ≡ position (λ b. not (is_text_byte b)) bytes.now }
 {
-    bytes
-        .iter()
-        .position(|b| !is_text_part(*b))
-        .unwrap_or(bytes.len())
+    bytes.iter().position(|b| !is_text_part(*b))
+}
+
+/// How many bytes stand for themselves before the first that doesn't.
+#[tactic(auto, using(crate::proofs::Cuts::else_length, crate::proofs::Cuts::place_within))]
+fn plain_len(bytes: &[u8]) -> usize
+    ensures value { result ≡ position_or_len (λ b. not (is_text_byte b)) bytes.now }
+    ensures within { result ≤ length bytes.now }
+{
+    first_other(bytes).unwrap_or(bytes.len())
 }
 
 /// A text behind its opening quote. Most have no escape, and are copied at once.
@@ -133,8 +139,9 @@ fn letter(word: &[u8]) -> Option<u8>
 }
 
 /// The count and the byte of `N:C`.
-fn repetition(word: &[u8]) -> Option<(u32, u8)>
-    ensures { option_map (λ x. replicate x.0 x.1) result ≡ repetition_of word.now }
+#[tactic(auto, unfolding(crate::specs::Parts::counted))]
+fn counted(word: &[u8]) -> Option<(u32, u8)>
+    ensures { result ≡ counted_of word.now }
 {
     let (count, byte) = cut(b':', word)?;
     let count = number(MAX_REPEATED, count)?;
@@ -143,10 +150,11 @@ fn repetition(word: &[u8]) -> Option<(u32, u8)>
 }
 
 /// The text of `N:C`.
+#[tactic(auto, unfolding(crate::specs::Parts::repetition))]
 fn repeated(alloc: Global, word: &[u8]) -> Result<Option<Bytes>, Memory>
     ensures { IfOk result (λ text. text ≡ repetition_of word.now) }
 {
-    match repetition(word) {
+    match counted(word) {
         None => Ok(None),
         Some((count, byte)) => {
             let text = vec![in alloc; byte; count as usize]?;
@@ -202,6 +210,7 @@ fn step(word: &[u8]) -> Option<SemStep>
 }
 
 /// The operations of these words.
+#[tactic(auto, unfolding(crate::specs::Parts::each))]
 pub(crate) fn steps(alloc: Global, words: &[&[u8]]) -> Result<Option<Steps>, Memory>
     ensures { IfOk result (λ steps. steps ≡ each step_of (texts words.now)) }
 {
@@ -216,6 +225,7 @@ pub(crate) fn steps(alloc: Global, words: &[&[u8]]) -> Result<Option<Steps>, Mem
 }
 
 /// The values of these words.
+#[tactic(auto, unfolding(crate::specs::Parts::each))]
 fn numbers(alloc: Global, words: &[&[u8]]) -> Result<Option<Values>, Memory>
     ensures { IfOk result (λ values. values ≡ each (number_of 65535) (texts words.now)) }
 {
