@@ -4,3 +4,4 @@ pub mod Strips
 pub mod Names
 pub mod Each
 pub mod Quotes
+pub mod Steps

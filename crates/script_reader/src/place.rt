@@ -90,9 +90,11 @@ impl Place {
     /// Before the first line of a text of so many names.
     #[tactic(auto, unfolding(crate::specs::Fault::start))]
     pub(crate) fn new(alloc: Global, names: usize) -> Result<Place, Memory>
-        requires { names < 2 ^ 32 }
         ensures { IfOk result (λ place. place ≡ spec.start names) }
     {
+        let Some(count) = names.checked_add(1) else {
+            return Err(Memory);
+        };
         Ok(Place {
             blocks: Sequence::new(alloc),
             inside: false,
@@ -100,7 +102,7 @@ impl Place {
             lines: Sequence::new(alloc),
             over: false,
             known: Flags::new(alloc, VARIABLES)?,
-            forked: Flags::new(alloc, names + 1)?,
+            forked: Flags::new(alloc, count)?,
             begun: Sequence::new(alloc),
             calls: 0,
         })
