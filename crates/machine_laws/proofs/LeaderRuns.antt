@@ -18,7 +18,7 @@ use Rattle.pico_base.specs.declared.script.Event.TheVariants as events
 use Rattle.number_maps.specs.Maps.{get, put}
 use Rattle.kernel_model.specs.Queue.{empty_queue}
 use Rattle.kernel_model.specs.SemaphoreSet.{SemaphoreSet, new_set}
-use Rattle.kernel_model.specs.Row.{Alive}
+use Rattle.kernel_model.specs.Row.{Alive, ended_child}
 use Rattle.kernel_model.specs.Kernel.{Kernel, Living as LivingProcess, Gone as GoneProcess, alive_in, living_at, living_in}
 use Rattle.kernel_model.specs.Effect.{Effect}
 use Rattle.kernel_model.specs.ProcessCalls.{bury}
@@ -260,7 +260,7 @@ module _ (script : Script) (r : IsRunnable script) (w : World) (first : Node) (k
 
   -- a process that lives isn't among the ended ones
   not-ended : (q : ℕ) → get k.processes q ≡ Some (LivingProcess new_process) → (ending : Ending)
-      → Contains runs.alive.row.family.ended (q, ending) → ⊥
+      → Contains runs.alive.row.family.ended (ended_child q ending) → ⊥
   not-ended q lives ending there =
       let valid = reachable_kernels_are_valid_lemma k (w.journal, u.legal)
       in let ended = (valid.alive 1 runs.alive first-lives-now).ended q ending there
