@@ -7,14 +7,14 @@ use Rattle.pico_base.specs.declared.call.Call.TheVariants as calls
 use Rattle.pico_base.specs.declared.reply.Reply.TheVariants as replies
 use Rattle.pico_base.specs.declared.reply.Ending.{Ending}
 use Rattle.pico_base.specs.declared.reply.Ending.TheVariants.{Exited}
-use Rattle.kernel_model.specs.Maps.{Numbered, get, put}
+use Rattle.number_maps.specs.Maps.{Numbered, get, put}
 use Rattle.kernel_model.specs.Signals.{Signals}
-use Rattle.kernel_model.specs.Row.{Alive, lists, ignores_children, with_ended_child}
+use Rattle.kernel_model.specs.Row.{Alive, lists, ignores_children, with_ended_child, EndedChild, ended_child}
 use Rattle.kernel_model.specs.Kernel.{Kernel, Process, Living, Ended, Gone, Parent, alive_in, living_at, living_in, parent_in}
 use Rattle.kernel_model.specs.Effect.{Effect}
-use Rattle.kernel_model.specs.ProcessCalls.{bury, kept_as, ended_under}
+use Rattle.kernel_model.specs.ProcessCalls.{bury, process_after_end, end_under}
 use Rattle.kernel_model.specs.Valid.{IsValid}
-use Rattle.kernel_laws.specs.Reachable.{IsReachable}
+use Rattle.kernel_laws.specs.Reachable.{IsReachableKernel}
 use Rattle.kernel_laws.proofs.Families.{living-ended}
 use Rattle.kernel_laws.proofs.MapLaws.{get-put-other}
 use Rattle.kernel_laws.proofs.Members.{contains-first, contains-later}
@@ -22,8 +22,8 @@ use Rattle.kernel_laws.proofs.People.{to-living}
 use Rattle.kernel_laws.proofs.Plain.{from_some, not_some}
 use Rattle.kernel_laws.proofs.ValidLaws.{children_have_one_parent_lemma, reachable_kernels_are_valid_lemma}
 use Rattle.machine_model.specs.Node.{Held, Leader, new_process}
-use Rattle.machine_model.specs.Deeds.{child_ended}
-use Rattle.deed_laws.specs.Carrying.{StandsFor, IsPlain, HasPlain}
+use Rattle.machine_model.specs.Deeds.{end_child}
+use Rattle.deed_laws.specs.Carrying.{StandsFor, IsPlainProcess, HasPlain}
 use Rattle.deed_laws.specs.Laws.{Ends, FirstEndsAsInTheKernel, ChildrenEndAsInTheKernel}
 use Rattle.deed_laws.proofs.Parents.{no-parent, first-orphan}
 use Rattle.deed_laws.proofs.Stands.{fresh-same}
@@ -33,13 +33,13 @@ use Rattle.deed_laws.proofs.Within.{IsWithin, within-put, living-put-same, livin
 -- the effect of an end, by the parent that is found
 abbrev effect_by : Kernel → Numbered Process → ℕ → Ending → Option Parent → Option Effect
 effect_by k ps pid ending parent =
-    Some (record { kernel = record k { processes = ended_under ps pid ending parent }; reply = replies.Ended })
+    Some (record { kernel = record k { processes = end_under ps pid ending parent }; reply = replies.Ended })
 
 -- The burial of ended children.
 
-within-buried : (es : List (ℕ × Ending)) (m n : Numbered Process) → IsWithin m n → IsWithin (fold bury m es) (fold bury n es)
+within-buried : (es : List EndedChild) (m n : Numbered Process) → IsWithin m n → IsWithin (fold bury m es) (fold bury n es)
 within-buried [] m n h = h
-within-buried (e ∷ es) m n h = within-buried es (put m e.0 Gone) (put n e.0 Gone) (within-put m n e.0 Gone h)
+within-buried (e ∷ es) m n h = within-buried es (put m e.pid Gone) (put n e.pid Gone) (within-put m n e.pid Gone h)
 
 -- who lives afterwards lived before
 gone-living : (ps : Numbered Process) (n p : ℕ) (a : Alive) → living_in (put ps n Gone) p ≡ Some a → living_in ps p ≡ Some a
@@ -51,21 +51,21 @@ gone-living ps n p a h =
       | inr ne ↦ sym (living-put-other ps n Gone p ne) ∙ h
     ]
 
-buried-living : (es : List (ℕ × Ending)) (ps : Numbered Process) (p : ℕ) (a : Alive) → living_in (fold bury ps es) p ≡ Some a → living_in ps p ≡ Some a
+buried-living : (es : List EndedChild) (ps : Numbered Process) (p : ℕ) (a : Alive) → living_in (fold bury ps es) p ≡ Some a → living_in ps p ≡ Some a
 buried-living [] ps p a h = h
-buried-living (e ∷ es) ps p a h = gone-living ps e.0 p a (buried-living es (put ps e.0 Gone) p a h)
+buried-living (e ∷ es) ps p a h = gone-living ps e.pid p a (buried-living es (put ps e.pid Gone) p a h)
 
 -- who isn't an ended child stays
-pub buried-apart : (es : List (ℕ × Ending)) (ps : Numbered Process) (q : ℕ) → ((ending : Ending) → Contains es (q, ending) → ⊥)
+pub buried-apart : (es : List EndedChild) (ps : Numbered Process) (q : ℕ) → ((ending : Ending) → Contains es (ended_child q ending) → ⊥)
     → get (fold bury ps es) q ≡ get ps q
 buried-apart [] ps q h = refl
 buried-apart (e ∷ es) ps q h =
-    let ne : q ≢ e.0 = λ same. h e.1 (subst (λ (r : ℕ). Contains (e ∷ es) (r, e.1)) (sym same) (contains-first e es))
-    in buried-apart es (put ps e.0 Gone) q (λ ending c. h ending (contains-later e es (q, ending) c)) ∙ get-put-other ps e.0 Gone q ne
+    let ne : q ≢ e.pid = λ same. h e.ending (subst (λ (r : ℕ). Contains (e ∷ es) (ended_child r e.ending)) (sym same) (contains-first e es))
+    in buried-apart es (put ps e.pid Gone) q (λ ending c. h ending (contains-later e es (ended_child q ending) c)) ∙ get-put-other ps e.pid Gone q ne
 
 -- The end of process 1.
 
-first-plain : (k next : Kernel) (es : List (ℕ × Ending)) → next.processes ≡ put (fold bury k.processes es) 1 Gone → HasPlain k → HasPlain next
+first-plain : (k next : Kernel) (es : List EndedChild) → next.processes ≡ put (fold bury k.processes es) 1 Gone → HasPlain k → HasPlain next
 first-plain k next es is plain =
     let before : Numbered Process = fold bury k.processes es
     in record {
@@ -101,7 +101,7 @@ first_ends h l k a status reachable stands held =
           plain = plain;
         };
         stay = λ other b one caller living.
-            let apart : (e : Ending) → Contains es (other, e) → ⊥ = λ e c.
+            let apart : (e : Ending) → Contains es (ended_child other e) → ⊥ = λ e c.
             living-ended b e (from_some (Living b) (Ended e) (sym living ∙ (valid.alive 1 a lives).ended other e c))
             in get-put-other before 1 Gone other one ∙ (buried-apart es k.processes other apart ∙ living);
       };
@@ -110,12 +110,12 @@ first_ends h l k a status reachable stands held =
 
 -- The end of a child of process 1.
 
-kept-dead : (ignored : Bool) (ending : Ending) → alive_in (kept_as ignored ending) ≡ None
+kept-dead : (ignored : Bool) (ending : Ending) → alive_in (process_after_end ignored ending) ≡ None
 kept-dead true ending = refl
 kept-dead false ending = refl
 
 -- CHLD is discarded at new signals
-plain-keeper : (a : Alive) (child : ℕ) (ending : Ending) → IsPlain a → IsPlain (with_ended_child a child ending)
+plain-keeper : (a : Alive) (child : ℕ) (ending : Ending) → IsPlainProcess a → IsPlainProcess (with_ended_child a child ending)
 plain-keeper a child ending plain =
     let with_signals : Signals → Alive = λ s.
     with_ended_child (record { row = record { signals = s; family = a.row.family }; allowance = a.allowance }) child ending
@@ -142,30 +142,30 @@ dead-plain k next child v is dead ne plain =
     }
 
 -- and then process 1 is another one
-keeper-plain : (ps : Numbered Process) (k next : Kernel) (a : Alive) → k.processes ≡ ps → next.processes ≡ put ps 1 (Living a) → IsPlain a → HasPlain k
+keeper-plain : (ps : Numbered Process) (k next : Kernel) (a : Alive) → k.processes ≡ ps → next.processes ≡ put ps 1 (Living a) → IsPlainProcess a → HasPlain k
     → HasPlain next
 keeper-plain ps k next a was is mine plain =
     record {
       first = λ b lives.
           let same : a ≡ b = from_some a b (sym (living-put-same ps 1 (Living a)) ∙ (sym (ap (λ qs. living_in qs 1) is) ∙ lives))
-          in subst (λ (x : Alive). IsPlain x) same mine;
+          in subst (λ (x : Alive). IsPlainProcess x) same mine;
       others = λ pid b one lives.
           let there : living_in ps pid ≡ Some b = sym (living-put-other ps 1 (Living a) pid one) ∙ (sym (ap (λ qs. living_in qs pid) is) ∙ lives)
           in plain.others pid b one (ap (λ qs. living_in qs pid) was ∙ there);
     }
 
-module _ (h : Held) (l : Leader) (k : Kernel) (child status : ℕ) (reachable : IsReachable k) (stands : StandsFor h l k) (ne : child ≢ 1)
+module _ (h : Held) (l : Leader) (k : Kernel) (child status : ℕ) (reachable : IsReachableKernel k) (stands : StandsFor h l k) (ne : child ≢ 1)
     (there : get k.processes child ≡ Some (Living new_process)) where
   abbrev ending : Ending
   ending = Exited (status % 256)
 
   -- under a parent that lives
   kept-ends : (a : Alive) → get h.processes 1 ≡ Some (Living a) → lists a.row.family child ≡ true
-      → Ends k child status (child_ended h child 1 (Living a) ending) l
+      → Ends k child status (end_child h child 1 (Living a) ending) l
   kept-ends a held listed =
       let lives : living_at k child ≡ Some new_process = to-living k.processes child new_process there
       in let first : living_at k 1 ≡ Some a = to-living k.processes 1 a (stands.here.processes 1 (Living a) held)
-      in let v : Process = kept_as (ignores_children a.row) ending
+      in let v : Process = process_after_end (ignores_children a.row) ending
       in let dead : alive_in v ≡ None = kept-dead (ignores_children a.row) ending
       in let keeper : Alive = with_ended_child a child ending
       in let ps : Numbered Process = put k.processes child v

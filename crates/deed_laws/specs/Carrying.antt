@@ -1,18 +1,19 @@
 -- What it comes to for the kernel when a node carries out a call on the deeds that it holds.
-use Rattle.std.specs.Prelude.{◌≡◌, ◌≢◌, ◌≤◌, ℕ, false, [], Some}
+use Rattle.std.specs.Prelude.{◌≡◌, ◌≢◌, ◌≤◌, ℕ, false, Some}
 use Rattle.pico_base.specs.declared.call.Call.{Call}
 use Rattle.pico_base.specs.declared.reply.Reply.{Reply}
-use Rattle.kernel_model.specs.Maps.{get, is_used}
+use Rattle.number_maps.specs.Maps.{get, is_used}
 use Rattle.kernel_model.specs.Signals.{new_signals}
 use Rattle.kernel_model.specs.Row.{Alive, Free}
 use Rattle.kernel_model.specs.Kernel.{Kernel, Process, Living, living_at}
+use Rattle.kernel_model.specs.Effect.{reply_alone}
 use Rattle.kernel_model.specs.History.{number_in}
-use Rattle.kernel_model.specs.Transition.{transition}
+use Rattle.kernel_model.specs.Transition.{successor, transition}
 use Rattle.machine_model.specs.Node.{Held, Leader, new_process}
 
 -- the kernel's transition for this process's call has this reply, and leads to the next kernel
 pub record Makes (k : Kernel) (pid : ℕ) (call : Call) (reply : Reply) (next : Kernel) : Type 0 where
-  pub step : transition k pid call (number_in (Some reply)) ≡ Some (next, record { own = Some reply; woken = [] })
+  pub step : transition k pid call (number_in (Some reply)) ≡ Some (successor next (reply_alone reply))
 
 -- each deed that is held has the state that the kernel has for its name
 pub record AreOf (h : Held) (k : Kernel) : Type 0 where
@@ -31,12 +32,12 @@ pub record IsFresh (l : Leader) (k : Kernel) : Type 0 where
 
 -- Nobody has touched a signal: process 1 has new signals and is free to act, and each other living process is as it
 -- was when it was forked.
-pub record IsPlain (a : Alive) : Type 0 where
+pub record IsPlainProcess (a : Alive) : Type 0 where
   pub signals : a.row.signals ≡ new_signals
   pub allowance : a.allowance ≡ Free
 
 pub record HasPlain (k : Kernel) : Type 0 where
-  pub first : (a : Alive) → living_at k 1 ≡ Some a → IsPlain a
+  pub first : (a : Alive) → living_at k 1 ≡ Some a → IsPlainProcess a
   pub others : (pid : ℕ) (a : Alive) → pid ≢ 1 → living_at k pid ≡ Some a → a ≡ new_process
 
 -- The leader, which holds these deeds and knows these numbers, stands for the kernel.

@@ -2,9 +2,10 @@
 //! field stands there.
 ghost use Rattle.std.specs.Prelude.{◌≡◌, ◌≤◌, ◌==◌, IfOk, find};
 ghost use Rattle.body_fields.specs.Fields.{Gives};
-ghost use Rattle.kernel_model.specs.Signals.{all_signals, number_of};
+ghost use Rattle.pico_base.specs.ErrorNumber.{all_errors, error_number};
+ghost use Rattle.pico_base.specs.Signal.{all_signals, signal_number};
 ghost use Rattle.frame_bytes.specs.Readers.{byte_at};
-ghost use Rattle.frame_bytes.specs.Fields.{all_errors, count_at, errno_at, errno_byte, flag_at, kind_at, name_at, name_of, node_at, positive_at, sig_at, sigarg_at, signed_at, text_at};
+ghost use Rattle.frame_bytes.specs.Fields.{count_at, errno_at, flag_at, kind_at, name_at, name_of, node_at, positive_at, sig_at, sigarg_at, signed_at, text_at};
 
 use body_fields::{u16_at, u32_at};
 use pico_base::{Bytes, Errno, Id, Kind, Name, Pid, Sig, SigArg, UnpackFault};
@@ -83,7 +84,7 @@ pub(crate) fn flag(bytes: &[u8]) -> Read<'_, bool>
 
 /// The signal with this number.
 fn sig_of(byte: u8) -> Option<Sig>
-    ensures { result ≡ find (λ g. number_of g == byte) all_signals }
+    ensures { result ≡ find (λ g. signal_number g == byte) all_signals }
 {
     match byte {
         1 => Some(Sig::Hup),
@@ -129,7 +130,7 @@ pub(crate) fn sigarg(bytes: &[u8]) -> Read<'_, SigArg>
 
 /// The error with this number.
 fn errno_of(byte: u8) -> Option<Errno>
-    ensures { result ≡ find (λ e. errno_byte e == byte) all_errors }
+    ensures { result ≡ find (λ e. error_number e == byte) all_errors }
 {
     match byte {
         1 => Some(Errno::Esrch),

@@ -2,9 +2,9 @@
 use Rattle.std.specs.Prelude.{◌≡◌, ◌↔◌, ℕ, true, map, Some, None, is_some, IsTrue, Contains}
 use Rattle.std.specs.List.Sorted.{IsStrictlyIncreasing}
 use Rattle.pico_base.specs.declared.reply.Ending.{Ending}
-use Rattle.kernel_model.specs.Maps.{Numbered, get, is_used}
-use Rattle.kernel_model.specs.Signals.{IsSound}
-use Rattle.kernel_model.specs.Row.{Alive, Free, lists}
+use Rattle.number_maps.specs.Maps.{Numbered, get, is_used}
+use Rattle.kernel_model.specs.Signals.{AreSoundSignals}
+use Rattle.kernel_model.specs.Row.{Alive, Free, ended_child, lists}
 use Rattle.kernel_model.specs.Kernel.{Kernel, Ended, living_at}
 
 -- a map is by rising number
@@ -19,15 +19,23 @@ pub record AreKeys {V : Type 0} (keys : Numbered ℕ) (things : Numbered V) : Ty
 
 -- a living process: its signals are sound, it is doomed exactly where its allowance isn't free, its living
 -- children live, and its ended ones have these endings
-pub record IsAlive (k : Kernel) (pid : ℕ) (a : Alive) : Type 0 where
-  pub signals : IsSound a.row.signals
+pub record IsValidProcess (k : Kernel) (pid : ℕ) (a : Alive) : Type 0 where
+  pub signals : AreSoundSignals a.row.signals
   pub allowed : (a.row.signals.doom ≡ None) ↔ (a.allowance ≡ Free)
   pub living : (child : ℕ) → lists a.row.family child ≡ true → IsTrue (is_some (living_at k child))
-  pub ended : (child : ℕ) (ending : Ending) → Contains a.row.family.ended (child, ending) → get k.processes child ≡ Some (Ended ending)
+  pub ended : (child : ℕ) (ending : Ending) → Contains a.row.family.ended (ended_child child ending)
+      → get k.processes child ≡ Some (Ended ending)
 
 -- it lists the child as ended
 abbrev pub ListsEnded : Alive → ℕ → Type 0
-ListsEnded a child = (ending : Ending) × Contains a.row.family.ended (child, ending)
+ListsEnded a child = (ending : Ending) × Contains a.row.family.ended (ended_child child ending)
+
+-- a living process keeps the ended child, with its ending
+pub record HasKeeper (k : Kernel) (child : ℕ) (ending : Ending) : Type 0 where
+  pub keeper : ℕ
+  pub alive : Alive
+  pub lives : living_at k keeper ≡ Some alive
+  pub kept : Contains alive.row.family.ended (ended_child child ending)
 
 pub record IsValid (k : Kernel) : Type 0 where
   pub processes : IsOrdered k.processes
@@ -39,7 +47,7 @@ pub record IsValid (k : Kernel) : Type 0 where
   pub used_sets : (n : ℕ) → IsTrue (is_some (get k.sets n)) → IsTrue (is_used k.used_sets n)
   pub queue_keys : AreKeys k.queue_keys k.queues
   pub set_keys : AreKeys k.set_keys k.sets
-  pub alive : (pid : ℕ) (a : Alive) → living_at k pid ≡ Some a → IsAlive k pid a
+  pub alive : (pid : ℕ) (a : Alive) → living_at k pid ≡ Some a → IsValidProcess k pid a
   -- no two processes list the same child
   pub one_parent : (p q : ℕ) (a b : Alive) (child : ℕ) → living_at k p ≡ Some a → living_at k q ≡ Some b
       → lists a.row.family child ≡ true → lists b.row.family child ≡ true → p ≡ q
@@ -47,4 +55,4 @@ pub record IsValid (k : Kernel) : Type 0 where
       → ListsEnded a child → ListsEnded b child → p ≡ q
   -- an ended process is kept for a living one
   pub kept : (pid : ℕ) (ending : Ending) → get k.processes pid ≡ Some (Ended ending)
-      → (p : ℕ) × (a : Alive) × (living_at k p ≡ Some a) × Contains a.row.family.ended (pid, ending)
+      → HasKeeper k pid ending

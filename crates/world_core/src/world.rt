@@ -1,3 +1,4 @@
+//! A world as callers see it, which a refused allocation spends.
 ghost use Rattle.std.specs.Prelude.{◌≡◌, ◌↔◌, ◌≤◌, true, length, slice_get, Some, None, IfOk, OnOk, OnErr, IfSome, IsSome, IsErr, IsTrue};
 ghost use Rattle.kernel_model.specs.History.{IsLegal};
 ghost use Rattle.kernel_model.specs.Fitting.{Fits, FitsWhole};
@@ -27,11 +28,11 @@ impl Model for World {
 
     ghost Value = { Option MachineWorld };
 
-    ghost use Rattle.world_core.specs.World.{world_in, IsSound};
+    ghost use Rattle.world_core.specs.World.{world_in, IsSoundWorld};
 
     ghost view = { λ w. world_in w.state };
 
-    ghost invariant = { λ w. IsSound w.state };
+    ghost invariant = { λ w. IsSoundWorld w.state };
 }
 
 impl World {
