@@ -1,11 +1,10 @@
 //! Fields as they are read: a value from the front of the bytes, with the bytes behind it. NotABody: no value of the
 //! field stands there.
 ghost use Rattle.std.specs.Prelude.{◌≡◌, ◌≤◌, ◌==◌, IfOk, find};
-ghost use Rattle.body_fields.specs.Fields.{Gives};
 ghost use Rattle.pico_base.specs.ErrorNumber.{all_errors, error_number};
 ghost use Rattle.pico_base.specs.Signal.{all_signals, signal_number};
-ghost use Rattle.frame_bytes.specs.Readers.{byte_at};
-ghost use Rattle.frame_bytes.specs.Fields.{count_at, errno_at, flag_at, kind_at, name_at, name_of, node_at, positive_at, sig_at, sigarg_at, signed_at, text_at};
+ghost use Rattle.frame_bytes.specs.Readers.{Gives, byte_at};
+ghost use Rattle.frame_bytes.specs.Fields.{count_at, errno_at, flag_at, half_at, kind_at, name_at, name_of, node_at, positive_at, sig_at, sigarg_at, signed_at, text_at, word_at};
 
 use body_fields::{u16_at, u32_at};
 use pico_base::{Bytes, Errno, Id, Kind, Name, Pid, Sig, SigArg, UnpackFault};
@@ -23,12 +22,32 @@ pub(crate) fn byte(bytes: &[u8]) -> Read<'_, u8>
     }
 }
 
+/// A number of 4 bytes.
+pub(crate) fn word(bytes: &[u8]) -> Read<'_, u32>
+    ensures { Gives (λ x. (x.0, x.1.now)) result (word_at bytes.now) }
+{
+    match u32_at(bytes) {
+        Some((number, rest)) => Ok((number, rest)),
+        None => Err(UnpackFault::NotABody),
+    }
+}
+
+/// A number of 2 bytes.
+pub(crate) fn half(bytes: &[u8]) -> Read<'_, u16>
+    ensures { Gives (λ x. (x.0, x.1.now)) result (half_at bytes.now) }
+{
+    match u16_at(bytes) {
+        Some((number, rest)) => Ok((number, rest)),
+        None => Err(UnpackFault::NotABody),
+    }
+}
+
 /// A number of 4 bytes that is at least 1.
 #[tactic(auto, unfolding(crate::specs::Fields::positive_at))]
 pub(crate) fn positive(bytes: &[u8]) -> Read<'_, u32>
     ensures { Gives (λ x. (x.0, x.1.now)) result (positive_at bytes.now) }
 {
-    let (number, rest) = u32_at(bytes)?;
+    let (number, rest) = word(bytes)?;
     if number == 0 {
         return Err(UnpackFault::NotABody);
     }
@@ -40,7 +59,7 @@ pub(crate) fn positive(bytes: &[u8]) -> Read<'_, u32>
 pub(crate) fn count(bytes: &[u8]) -> Read<'_, u16>
     ensures { Gives (λ x. (x.0, x.1.now)) result (count_at bytes.now) }
 {
-    let (count, rest) = u16_at(bytes)?;
+    let (count, rest) = half(bytes)?;
     if count == 0 {
         return Err(UnpackFault::NotABody);
     }
@@ -52,7 +71,7 @@ pub(crate) fn count(bytes: &[u8]) -> Read<'_, u16>
 pub(crate) fn signed(bytes: &[u8]) -> Read<'_, i32>
     ensures { Gives (λ x. (x.0, x.1.now)) result (signed_at bytes.now) }
 {
-    let (number, rest) = u32_at(bytes)?;
+    let (number, rest) = word(bytes)?;
     Ok((number.cast_signed(), rest))
 }
 
@@ -200,7 +219,7 @@ pub(crate) fn name_of(kind: Kind, number: u32) -> Name
 pub(crate) fn text(alloc: Global, bytes: &[u8]) -> Read<'_, Bytes>
     ensures { Gives (λ x. (x.0, x.1.now)) result (text_at bytes.now) }
 {
-    let (len, rest) = u32_at(bytes)?;
+    let (len, rest) = word(bytes)?;
     let len = len as usize;
     if rest.len() < len {
         return Err(UnpackFault::NotABody);
