@@ -1,3 +1,4 @@
+//! A source and a sink in memory, which fail at the calls that they are told.
 ghost use Rattle.std.specs.Prelude.{◌≡◌, ◌-◌, ◌⊎◌, ◌<◌, ◌≤◌, ◌↔◌, [], ◌++◌, length, Some, take, drop, min, max, Contains, IsErr, IfOk, OnOk, OnErr};
 ghost use Rattle.host_iface.specs.Faults.{next_count, HasRisen};
 
@@ -56,6 +57,7 @@ impl Source for MemSource {
         ensures bytes { IfOk result (λ count. take count into.new ≡ take count self.old.left) }
         ensures ok { IfOk result (λ count. self.new ≡ record self.old { left = drop count self.old.left; calls = next_count self.old.calls }) }
         ensures err { OnErr result (self.new ≡ record self.old { calls = next_count self.old.calls; faults = next_count self.old.faults }) }
+        ensures same { OnOk result (self.new.faults ≡ self.old.faults) }
         ensures failed { OnErr result (HasRisen self.old.faults self.new.faults) }
         ensures faults { self.old.faults ≤ self.new.faults }
     {
@@ -137,6 +139,7 @@ impl Sink for MemSink {
         ensures ok { IfOk result (λ count. self.new ≡ record self.old { taken = self.old.taken ++ take count piece.now; room = self.old.room - count; calls = next_count self.old.calls }) }
         ensures err { OnErr result (self.new ≡ record self.old { calls = next_count self.old.calls; faults = next_count self.old.faults }) }
         ensures some { IfOk result (λ count. 0 < length piece.now → 0 < count) }
+        ensures same { OnOk result (self.new.faults ≡ self.old.faults) }
         ensures failed { OnErr result (HasRisen self.old.faults self.new.faults) }
         ensures faults { self.old.faults ≤ self.new.faults }
     {

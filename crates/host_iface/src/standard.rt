@@ -1,3 +1,4 @@
+//! A source over a reader of std, and a sink over a writer.
 ghost use Rattle.std.specs.Prelude.{◌≡◌, ◌<◌, ◌≤◌, None, length, IfOk, OnOk, OnErr};
 ghost use Rattle.std.specs.Io.KnownBytes.{ReadConsumes, WriteAppends};
 ghost use Rattle.host_iface.specs.Faults.{next_count, HasRisen};

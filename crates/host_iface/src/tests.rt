@@ -1,3 +1,4 @@
+//! Sources and sinks of every kind of answer.
 use crate::{
     CallList, Gate, MemSink, MemSource, OpenGate, ReadStop, StdSink, StdSource, SureSink,
     SureSource, WriteStop, read_all, write_all,
