@@ -17,7 +17,7 @@ impl Model for Node {
 }
 
 /// A process number. Process 1 is there at first, and 0 names no process.
-#[derive(Clone, Copy, Debug, PartialEq, Eq, PartialOrd, Ord)]
+#[derive(Clone, Copy, Debug, PartialEq, Eq, PartialOrd, Ord, Hash)]
 pub struct Pid(pub u32);
 
 impl Model for Pid {
@@ -38,7 +38,7 @@ impl Default for Pid {
 }
 
 /// The identifier of a message queue or of a semaphore set. 0 names none.
-#[derive(Clone, Copy, Debug, PartialEq, Eq, PartialOrd, Ord)]
+#[derive(Clone, Copy, Debug, PartialEq, Eq, PartialOrd, Ord, Hash)]
 pub struct Id(pub u32);
 
 impl Model for Id {
@@ -70,7 +70,7 @@ pub enum Kind {
 }
 
 /// What a call may be carried out on: a process, a message queue or a semaphore set.
-#[derive(Clone, Copy, Debug, PartialEq, Eq)]
+#[derive(Clone, Copy, Debug, PartialEq, Eq, Hash)]
 pub enum Name {
     Proc(Pid),
     Msg(Id),
