@@ -9,7 +9,7 @@ use Rattle.kernel_model.specs.Kernel.{Process, Gone, living_in, parent_in}
 use Rattle.kernel_model.specs.ProcessCalls.{bury, end_under, processes_after_end}
 use Rattle.mono_kernel.specs.Table.{IsTable, IfLiving, lists_there, parent_at, as_parent}
 use Rattle.mono_kernel.proofs.TableLemmas.{living-put_same, living-put_other}
-use Rattle.mono_kernel.proofs.MapLemmas.{same-from-nat_eq}
+use Rattle.number_maps.proofs.Order.{same-from-nat_eq}
 
 same-number : (n : ℕ) → nat_eq n n ≡ true
 same-number n = grind arith

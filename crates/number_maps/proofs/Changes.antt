@@ -1,5 +1,5 @@
 -- Changes of a map that undo one another, and changes as the code's ordered maps make them.
-use Rattle.std.proofs.Common.{◌≡◌, ◌∙◌, ℕ, Bool, true, false, cond, not, ◌||◌, nat_eq, List, [], ◌∷◌, Some, None, is_some, refl, sym, ap, Ordering}
+use Rattle.std.proofs.Common.{◌≡◌, ◌∙◌, ℕ, Bool, true, false, cond, not, ◌||◌, nat_eq, List, [], ◌∷◌, Some, None, is_some, refl, ap, Ordering}
 use Rattle.std.specs.declared.cmp.Ordering.TheVariants.{Less, Equal, Greater}
 use Rattle.std.specs.List.{list_any, AllByRecursion}
 use Rattle.std.specs.Ordering.{nat_cmp, match_ordering}
@@ -11,7 +11,7 @@ use Rattle.std.proofs.lemmas.Map.Entries.{none_below_head}
 use Rattle.std.proofs.lemmas.Map.Keys.{sorted_head, sorted_tail}
 use Rattle.number_maps.specs.Maps.{Numbered, get, put, without, is_used, used_with}
 use Rattle.number_maps.specs.Rising.{IsRising}
-use Rattle.number_maps.proofs.Order.{cmp-same, is_at-nat_eq, less-apart, greater-apart, equal-same, same-from-nat_eq}
+use Rattle.number_maps.proofs.Order.{cmp-same, is_at-nat_eq, less-apart, same-from-nat_eq}
 
 module _ {V : Type 0} where
   -- changes that undo one another
