@@ -4,6 +4,7 @@
 
 mod deed;
 mod deeds;
+mod packing;
 mod shared;
 mod table;
 

@@ -1,3 +1,4 @@
+//! The two lists of a family, and the bytes that they travel as.
 ghost use Rattle.std.specs.Prelude.{◌≡◌, ◌<◌, ◌≤◌, IfErr, IfOk, IsTrue, MatchOption, OnOk, false, length, nat_eq, not};
 ghost use Rattle.std.specs.List.{filter, list_any};
 ghost use Rattle.std.specs.Vec.{vec_capacity};

@@ -5,3 +5,5 @@ pub mod Names
 pub mod Each
 pub mod Quotes
 pub mod Steps
+pub mod Given
+pub mod Ranges

@@ -13,7 +13,7 @@ use Rattle.script_reader.specs.declared.says.Said.{Said}
 use Rattle.script_reader.specs.declared.says.Said.TheVariants.{Skipped, Opens, BadProc, Ends, Unknown, Bad, Forks, Calls}
 use Rattle.script_reader.specs.Says.{said_of}
 use Rattle.script_reader.specs.Fault as spec
-use Rattle.script_reader.specs.Fault.{has_fault, fault_of, blocks_from, Blocks, Fails, GivesBlocks}
+use Rattle.script_reader.specs.Fault.{start, has_fault, fault_of, blocks_from, Blocks, Fails, GivesBlocks}
 
 -- ---- what no fault says
 
@@ -95,6 +95,10 @@ behind_blocks place (Calls line) = omega arith
 pub calls_within : (runnable : Bool) (place : Place) (size : ℕ) (said : Said) → fault_of runnable place size said ≡ None → (spec.behind place said).calls ≤ 20000
 calls_within runnable place size said e =
     omega (arith, behind_calls place said, ltb-false 20000 (place.calls + spec.calls_of place said) (faultless runnable place size said e).few_calls)
+
+pub start_place : (names : ℕ) (place : Place) → place ≡ start names → (length place.blocks ≡ 0) × (place.calls ≡ 0)
+unfolding start
+start_place names place e = (ap (λ (p : Place). length p.blocks) e, ap (λ (p : Place). p.calls) e)
 
 -- ---- one line of a text
 

@@ -1,3 +1,4 @@
+//! A semaphore set as its node holds it.
 ghost use Rattle.std.specs.Prelude.{◌≡◌, ◌↔◌, Ok, Err, IfOk, IfErr, OnErr, IsTrue, length};
 ghost use Rattle.sysv_sem.specs.declared.fault.NewFault.TheVariants.{BadCount};
 ghost use Rattle.kernel_model.specs.SemaphoreSet as definition;
