@@ -1,6 +1,7 @@
 -- The keys and the used numbers of one kind, queues or sets.
 use Rattle.std.specs.Prelude.{◌≡◌, ℕ, true, List, Option, Some, None}
 use Rattle.number_maps.specs.Maps.{Numbered, get, put, is_used, used_with}
+use Rattle.number_maps.specs.Rising.{IsRising}
 
 pub record NameTable : Type 0 where
   pub keys : Numbered ℕ
