@@ -260,6 +260,7 @@ takes-lowers script n from (frames.Leaving pid parent parent_node) s h =
     (some-is m s (passed ((is_to_leader n from && is_none (get n.leader.partings from)) && (nat_lt 0 pid && (nat_lt 0 parent && not (nat_eq pid parent)))) (Some m) s h).1) low
 takes-lowers script n from frames.RecallAll s h = recall-lowers script n n.caller.under_way s (passed _ _ s h).1
 takes-lowers script n from (frames.Left parcel) s h = left-lowers script n from parcel parcel.call s (passed _ _ s h).1
+takes-lowers script n from f s h = of-some s h
 
 -- ---- the world
 

@@ -137,7 +137,7 @@ takes_left n from parcel =
     then end_by n from parcel parcel.call
     else None
 
--- the rule of the frame
+-- the rule of the frame; no node sends the others yet
 abbrev pub takes : Script → Node → ℕ → Frame → Option Step
 takes script n from (frames.Ask ticket pid call) = takes_ask n from ticket pid call
 takes script n from (frames.Answer ticket reply) = takes_answer script n ticket reply
@@ -145,3 +145,15 @@ takes script n from (frames.Checkpoint pid parent deed vars) = takes_checkpoint 
 takes script n from (frames.Leaving pid parent parent_node) = takes_leaving n from pid parent
 takes script n from frames.RecallAll = takes_recall n from
 takes script n from (frames.Left parcel) = takes_left n from parcel
+takes script n from (frames.Request ticket pid call) = None
+takes script n from (frames.Forward asked) = None
+takes script n from (frames.Bounce asked) = None
+takes script n from (frames.NotOwner ticket) = None
+takes script n from (frames.LeaseAsk kind) = None
+takes script n from (frames.Lease kind first) = None
+takes script n from (frames.Placed name node) = None
+takes script n from (frames.Suggest name node) = None
+takes script n from (frames.Recall name) = None
+takes script n from (frames.GiveBack deed) = None
+takes script n from (frames.Grant deed) = None
+takes script n from (frames.ExitTo parcel) = None

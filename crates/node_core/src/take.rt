@@ -232,6 +232,18 @@ impl State {
             Frame::Leaving { pid, parent, .. } => self.take_leaving(alloc, from, pid, parent),
             Frame::RecallAll => self.take_recall(alloc, from),
             Frame::Left { parcel } => self.take_left(alloc, from, parcel),
+            Frame::Request { .. }
+            | Frame::Forward { .. }
+            | Frame::Bounce { .. }
+            | Frame::NotOwner { .. }
+            | Frame::LeaseAsk { .. }
+            | Frame::Lease { .. }
+            | Frame::Placed { .. }
+            | Frame::Suggest { .. }
+            | Frame::Recall { .. }
+            | Frame::GiveBack { .. }
+            | Frame::Grant { .. }
+            | Frame::ExitTo { .. } => Err(TurnFault::NotAllowed),
         }
     }
 }
