@@ -3,7 +3,7 @@ use Rattle.std.specs.Prelude.{◌≡◌, ℕ, true, List, [], ◌∷◌, ◌++�
 use Rattle.std.specs.Coded.{Coded, code_by, coded×, coded_list, coded_ℕ}
 use Rattle.pico_base.specs.declared.numbers.Name.{Name}
 use Rattle.pico_base.specs.declared.numbers.Name.TheVariants.{Proc, Msg, Sem}
-use Rattle.kernel_model.specs.Maps.{Numbered}
+use Rattle.number_maps.specs.Maps.{Numbered}
 use Rattle.node_model.specs.Kinds.{Named, get_named, put_named}
 
 -- the bodies of the names that are held

@@ -12,7 +12,7 @@ ghost use Rattle.node_core.specs.Deed.{ended_there, kept_by, with_end_there};
 
 use crate::maps::{Queues, Sets};
 use crate::process::Process;
-use pico_base::{Ending, Memory, Pid};
+use pico_base::{EndedChild, Ending, Memory, Pid};
 use std::alloc::Global;
 use std::collections::BTreeMap;
 use std::marker::Model;
@@ -39,21 +39,17 @@ impl Model for Deeds {
 }
 
 /// Children that have ended are gone.
-fn bury(processes: &mut Processes, children: &[(Pid, Ending)]) -> Result<(), Memory>
+fn bury(processes: &mut Processes, children: &[EndedChild]) -> Result<(), Memory>
     ensures { OnOk result (processes.new.entries ≡ fold bury processes.old.entries children.now) }
 {
-    for (child, _) in children {
-        processes.insert(child.0, Process::gone())?;
+    for child in children {
+        processes.insert(child.pid.0, Process::gone())?;
     }
     Ok(())
 }
 
 /// The ended children of the process at a number.
-fn ended_children(
-    processes: &Processes,
-    alloc: Global,
-    pid: Pid,
-) -> Result<Vec<(Pid, Ending)>, Memory>
+fn ended_children(processes: &Processes, alloc: Global, pid: Pid) -> Result<Vec<EndedChild>, Memory>
     ensures { IfOk result (λ ended. ended.items ≡ option_map_or ended_there (get processes.now.entries pid) []) }
 {
     match processes.get(&pid.0) {
