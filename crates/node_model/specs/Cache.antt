@@ -11,20 +11,20 @@ Cache = List (Name × ℕ)
 abbrev pub max_cached : ℕ
 max_cached = 64
 
-abbrev pub cached : Cache → Name → Option ℕ
-cached cache name = lookup (is_same_name name) cache
+abbrev pub owner_in : Cache → Name → Option ℕ
+owner_in cache name = lookup (is_same_name name) cache
 
-abbrev pub forgotten : Cache → Name → Cache
-forgotten cache name = filter (λ e. not (is_same_name name e.0)) cache
+abbrev pub forget : Cache → Name → Cache
+forget cache name = filter (λ e. not (is_same_name name e.0)) cache
 
 -- the pair goes to the front, and past 64 names the one used longest ago goes
-abbrev pub learnt : Cache → Name → ℕ → Cache
-learnt cache name node = take max_cached ((name, node) ∷ forgotten cache name)
+abbrev pub learn : Cache → Name → ℕ → Cache
+learn cache name node = take max_cached ((name, node) ∷ forget cache name)
 
 -- a look brings the name to the front
-abbrev pub looked_by : Cache → Name → Option ℕ → Cache
-looked_by cache name None = cache
-looked_by cache name (Some node) = (name, node) ∷ forgotten cache name
+abbrev pub look_by : Cache → Name → Option ℕ → Cache
+look_by cache name None = cache
+look_by cache name (Some node) = (name, node) ∷ forget cache name
 
-abbrev pub looked : Cache → Name → Cache
-looked cache name = looked_by cache name (cached cache name)
+abbrev pub look : Cache → Name → Cache
+look cache name = look_by cache name (owner_in cache name)

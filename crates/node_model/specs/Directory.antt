@@ -8,7 +8,7 @@ use Rattle.node_model.specs.declared.held.Held.{Held}
 use Rattle.node_model.specs.declared.held.Held.TheVariants as held
 use Rattle.node_model.specs.declared.route.Route.{Route}
 use Rattle.node_model.specs.declared.route.Route.TheVariants as routes
-use Rattle.kernel_model.specs.Maps.{Numbered, get, put}
+use Rattle.number_maps.specs.Maps.{Numbered, get, put}
 use Rattle.node_model.specs.Kinds.{PerKind, Named, kind_of, number_of, is_same_name, for_kind, with_kind, get_named, put_named}
 
 -- A known name is at a node, which owns it or will once it has taken what is on its way there; or its deed is on its
@@ -112,8 +112,8 @@ with_place d name place = record d { places = put_named d.places name place }
 abbrev pub is_known : Directory → Name → Bool
 is_known d name = not (is_none (place_of d name))
 
-abbrev pub placed : Directory → Name → ℕ → Directory
-placed d name node = if is_known d name then d else with_place d name (At node)
+abbrev pub place_name : Directory → Name → ℕ → Directory
+place_name d name node = if is_known d name then d else with_place d name (At node)
 
 -- Where a call on a name goes, by its place, the node that was given its number, and whether that node stays.
 abbrev pub route_by_maker : Bool → Option ℕ → Route
@@ -133,17 +133,17 @@ abbrev pub route : Directory → Name → Route
 route d name = route_by (place_of d name) (maker_stays d (maker d name)) (maker d name)
 
 -- the deed is asked back, perhaps for another node, and nothing is held yet
-abbrev pub recalled : Directory → Name → Option ℕ → Directory
-recalled d name to = with_place d name (Coming to [])
+abbrev pub recall : Directory → Name → Option ℕ → Directory
+recall d name to = with_place d name (Coming to [])
 
 -- a further item is held for a name that is coming
-abbrev pub holding_at : Directory → Name → Held → Option Place → Directory
-holding_at d name item None = d
-holding_at d name item (Some (At node)) = d
-holding_at d name item (Some (Coming to items)) = with_place d name (Coming to (items ++ item ∷ []))
+abbrev pub hold_at : Directory → Name → Held → Option Place → Directory
+hold_at d name item None = d
+hold_at d name item (Some (At node)) = d
+hold_at d name item (Some (Coming to items)) = with_place d name (Coming to (items ++ item ∷ []))
 
-abbrev pub holding : Directory → Name → Held → Directory
-holding d name item = holding_at d name item (place_of d name)
+abbrev pub hold : Directory → Name → Held → Directory
+hold d name item = hold_at d name item (place_of d name)
 
 -- what is held for a name, in order, and where its deed is to go
 abbrev pub items_of : Option Place → List Held
@@ -171,8 +171,8 @@ abbrev pub is_coming : Directory → Name → Bool
 is_coming d name = is_coming_to (place_of d name)
 
 -- the deed has come, or goes on at once
-abbrev pub arrived : Directory → Name → ℕ → Directory
-arrived d name node = with_place d name (At node)
+abbrev pub arrive : Directory → Name → ℕ → Directory
+arrive d name node = with_place d name (At node)
 
 -- ---- parcels that are held
 

@@ -1,10 +1,10 @@
 -- The three kinds of names, and maps from names.
-use Rattle.std.specs.Prelude.{ℕ, Bool, true, false, ◌&&◌, nat_eq, [], Option}
+use Rattle.std.specs.Prelude.{ℕ, Bool, true, false, ◌&&◌, nat_eq, List, [], fold, Option}
 use Rattle.pico_base.specs.declared.numbers.Kind.{Kind}
 use Rattle.pico_base.specs.declared.numbers.Kind.TheVariants as kinds
 use Rattle.pico_base.specs.declared.numbers.Name.{Name}
 use Rattle.pico_base.specs.declared.numbers.Name.TheVariants as names
-use Rattle.kernel_model.specs.Maps.{Numbered, get, put, without}
+use Rattle.number_maps.specs.Maps.{Numbered, get, put, without}
 
 -- a name is a kind and a number, and number 0 names nothing
 abbrev pub kind_of : Name → Kind
@@ -17,10 +17,10 @@ number_of (names.Proc pid) = pid
 number_of (names.Msg id) = id
 number_of (names.Sem id) = id
 
-abbrev pub named : Kind → ℕ → Name
-named kinds.Proc number = names.Proc number
-named kinds.Msg number = names.Msg number
-named kinds.Sem number = names.Sem number
+abbrev pub name_of : Kind → ℕ → Name
+name_of kinds.Proc number = names.Proc number
+name_of kinds.Msg number = names.Msg number
+name_of kinds.Sem number = names.Sem number
 
 abbrev pub is_same_kind : Kind → Kind → Bool
 is_same_kind kinds.Proc kinds.Proc = true
@@ -71,3 +71,10 @@ put_named m name v = with_kind m (kind_of name) (put (for_kind m (kind_of name))
 
 abbrev pub without_named : {V : Type 0} → Named V → Name → Named V
 without_named m name = with_kind m (kind_of name) (without (for_kind m (kind_of name)) (number_of name))
+
+-- the map with these values
+abbrev pub put_pair : {V : Type 0} → Named V → Name × V → Named V
+put_pair m pair = put_named m pair.0 pair.1
+
+abbrev pub put_all : {V : Type 0} → Named V → List (Name × V) → Named V
+put_all m pairs = fold put_pair m pairs

@@ -26,16 +26,16 @@ is_used_up (number ∷ numbers) = false
 abbrev pub lease_of : ℕ → List ℕ
 lease_of first = range_with_len first range_size
 
-abbrev pub refilled : Leases → Kind → ℕ → Leases
-refilled leases kind first = with_kind leases kind (lease_of first)
+abbrev pub refill : Leases → Kind → ℕ → Leases
+refill leases kind first = with_kind leases kind (lease_of first)
 
 -- the number is still to be taken
 abbrev pub leases_hold : Leases → Name → Bool
 leases_hold leases name = list_any (nat_eq (number_of name)) (for_kind leases (kind_of name))
 
--- the kind of number that a call of one's own takes
-abbrev pub kind_taken : Call → Option Kind
-kind_taken (calls.Fork block) = Some Proc
-kind_taken (calls.MsgGet key create excl) = Some Msg
-kind_taken (calls.SemGet key count create excl) = Some Sem
-kind_taken call = None
+-- a call of one's own that takes a number of the kind
+abbrev pub takes_number : Kind → Call → Bool
+takes_number Proc (calls.Fork block) = true
+takes_number Msg (calls.MsgGet None create excl) = true
+takes_number Sem (calls.SemGet None count create excl) = true
+takes_number kind call = false

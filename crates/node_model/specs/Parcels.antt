@@ -12,31 +12,31 @@ use Rattle.rpc_frame.specs.declared.deed.PackedDeed.{PackedDeed}
 use Rattle.rpc_frame.specs.declared.deed.Parcel.{Parcel}
 use Rattle.rpc_frame.specs.declared.frame.Frame.{Frame}
 use Rattle.rpc_frame.specs.declared.frame.Frame.TheVariants as frames
-use Rattle.kernel_model.specs.Maps.{Numbered, get}
+use Rattle.number_maps.specs.Maps.{Numbered, get}
 use Rattle.kernel_model.specs.Row.{Row, lists}
 use Rattle.kernel_model.specs.Kernel.{Kernel, Parent}
-use Rattle.kernel_model.specs.ProcessCalls.{ended_under}
+use Rattle.kernel_model.specs.ProcessCalls.{end_under}
 use Rattle.kernel_model.specs.Transition.{is_doomed_by}
 use Rattle.node_model.specs.Kinds.{put_named}
 use Rattle.node_model.specs.Bodies.{Body, Living, Gone, Deeds, empty_kernel, free_to_act, is_over_body}
-use Rattle.node_model.specs.Spelling.{packed, read_deed}
-use Rattle.node_model.specs.Serving.{all_read_again}
+use Rattle.node_model.specs.Spelling.{pack, read_deed}
+use Rattle.node_model.specs.Serving.{parts_in}
 
 -- ---- to hand over
 
-abbrev pub packed_all : (ℕ → Name) → Numbered Body → List PackedDeed
-packed_all name bodies = map (λ e. packed (name e.0) e.1) bodies
+abbrev pub pack_all : (ℕ → Name) → Numbered Body → List PackedDeed
+pack_all name bodies = map (λ e. pack (name e.0) e.1) bodies
 
-abbrev pub gives_back : PackedDeed → Frame
-gives_back deed = frames.GiveBack deed
+abbrev pub give_back : PackedDeed → Frame
+give_back deed = frames.GiveBack deed
 
 abbrev pub parcel_of : Deeds → ℕ → ℕ → Call → Parcel
-parcel_of deeds pid parent call = record { pid = pid; parent = parent; call = call; deeds = packed_all Proc deeds.processes }
+parcel_of deeds pid parent call = record { pid = pid; parent = parent; call = call; deeds = pack_all Proc deeds.processes }
 
 -- a GiveBack for each queue and then for each set, and then all process deeds in a parcel
-abbrev pub given_all : Deeds → ℕ → ℕ → Call → List Frame
-given_all deeds pid parent call =
-    map gives_back (packed_all Msg deeds.queues ++ packed_all Sem deeds.sets) ++ frames.Left (parcel_of deeds pid parent call) ∷ []
+abbrev pub give_all : Deeds → ℕ → ℕ → Call → List Frame
+give_all deeds pid parent call =
+    map give_back (pack_all Msg deeds.queues ++ pack_all Sem deeds.sets) ++ frames.Left (parcel_of deeds pid parent call) ∷ []
 
 -- ---- a parcel that can be taken
 
@@ -108,28 +108,25 @@ lets_end child (Living row) = lists row.family child
 lets_end child _ = true
 
 abbrev pub kernel_after_end : ℕ → ℕ → Body → Ending → Kernel
-kernel_after_end pid parent body ending = record empty_kernel { processes = ended_under [] pid ending (parent_with parent body) }
+kernel_after_end pid parent body ending = record empty_kernel { processes = end_under [] pid ending (parent_with parent body) }
 
 abbrev pub names_after_end : ℕ → ℕ → Body → List Name
 names_after_end pid parent (Living row) = Proc pid ∷ Proc parent ∷ []
 names_after_end pid parent body = Proc pid ∷ []
 
--- an ended process whose parent ends is gone
-abbrev pub with_gone : Deeds → ℕ → Deeds
-with_gone deeds pid = put_named deeds (Proc pid) Gone
+-- processes of these numbers are gone
+abbrev pub all_gone : List ℕ → List (Name × Body)
+all_gone pids = map (λ pid. (Proc pid, Gone)) pids
 
--- The process ends under its parent, which has this body, and all processes of these numbers are gone.
-abbrev pub end_under : Deeds → ℕ → List ℕ → Ending → ℕ → Body → Deeds
-end_under deeds pid over ending parent body =
-    all_read_again (kernel_after_end pid parent body ending) (fold with_gone deeds over) (names_after_end pid parent body)
-
--- an end is carried out where the parent's deed is, with the bodies of the parcel
-abbrev pub committed : Deeds → Parcel → Numbered Body → Body → Option Deeds
-committed deeds parcel bodies parent =
+-- An end is carried out where the parent's deed is, which has this body: all ended processes of the parcel are gone,
+-- and the process and its parent are as after an end in the kernel. None where a living parent doesn't list the child.
+abbrev pub commit_exit : Parcel → Numbered Body → Body → Option (List (Name × Body))
+commit_exit parcel bodies parent =
     if lets_end parcel.pid parent
-    then Some (end_under deeds parcel.pid (map (λ e. e.0) bodies) (ending_of parcel.call) parcel.parent parent)
+    then Some (all_gone (map (λ e. e.0) bodies)
+    ++ parts_in (kernel_after_end parcel.pid parcel.parent parent (ending_of parcel.call)) (names_after_end parcel.pid parcel.parent parent))
     else None
 
 -- process 1 ends, which no process is the parent of, and with it what it keeps of its children
-abbrev pub end_first : Deeds → ℕ → Row → Deeds
-end_first deeds pid row = with_gone (fold with_gone deeds (map (λ e. e.0) row.family.ended)) pid
+abbrev pub end_first : ℕ → Row → List (Name × Body)
+end_first pid row = all_gone (map (λ e. e.0) row.family.ended ++ pid ∷ [])

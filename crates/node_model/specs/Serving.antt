@@ -1,8 +1,8 @@
 -- A call is carried out on the deeds that a node holds: it does what the kernel does, on a kernel that has just the
 -- name of the call.
-use Rattle.std.specs.Prelude.{ℕ, pos, Bool, true, false, List, [], ◌∷◌, fold, int_lt, Option, Some, None}
+use Rattle.std.specs.Prelude.{ℕ, pos, Bool, true, false, List, [], ◌∷◌, map, int_lt, if◌then◌else◌, Option, Some, None}
 use Rattle.std.specs.List.{list_any}
-use Rattle.std.specs.Option.{option_map}
+use Rattle.std.specs.Option.{option_map, option_and_then}
 use Rattle.pico_base.specs.declared.call.Call.{Call}
 use Rattle.pico_base.specs.declared.call.Call.TheVariants as calls
 use Rattle.pico_base.specs.declared.call.Home.{Home}
@@ -18,9 +18,9 @@ use Rattle.pico_base.specs.Home.{home_of}
 use Rattle.kernel_model.specs.Row.{Alive, Row, new_row}
 use Rattle.kernel_model.specs.Kernel.{Kernel}
 use Rattle.kernel_model.specs.Effect.{Effect}
-use Rattle.kernel_model.specs.ProcessCalls.{forking, new_child}
+use Rattle.kernel_model.specs.ProcessCalls.{parent_after_fork, new_child}
 use Rattle.kernel_model.specs.Transition.{effect}
-use Rattle.node_model.specs.Kinds.{get_named, put_named}
+use Rattle.node_model.specs.Kinds.{get_named}
 use Rattle.node_model.specs.Bodies.{Body, Living, Deeds, body_in, kernel_with, free_to_act}
 
 -- the name on which a call is carried out, where it isn't one of the keys' or an end
@@ -40,36 +40,27 @@ abbrev pub changed_names : Name → Reply → List Name
 changed_names name (replies.Child child ending) = name ∷ Proc child ∷ []
 changed_names name reply = name ∷ []
 
--- these names have the kernel's part
-abbrev pub read_again : Kernel → Deeds → Name → Deeds
-read_again k deeds name = put_named deeds name (body_in k name)
+-- these names, each with its part of the kernel
+abbrev pub parts_in : Kernel → List Name → List (Name × Body)
+parts_in k names = map (λ name. (name, body_in k name)) names
 
-abbrev pub all_read_again : Kernel → Deeds → List Name → Deeds
-all_read_again k deeds names = fold (read_again k) deeds names
-
--- what is held once a call is carried out, and its reply
+-- the bodies that are other ones once a call is carried out, and its reply
 pub record Served : Type 0 where
-  pub deeds : Deeds
+  pub changes : List (Name × Body)
   pub reply : Reply
 
-abbrev pub served_by : Deeds → Name → Effect → Served
-served_by deeds name e = record { deeds = all_read_again e.kernel deeds (changed_names name e.reply); reply = e.reply }
+abbrev pub serve_by : Name → Effect → Served
+serve_by name e = record { changes = parts_in e.kernel (changed_names name e.reply); reply = e.reply }
 
 -- a process acts on its own row; for a call on any other name its row doesn't matter
 abbrev pub actor : Body → Alive
 actor (Living row) = free_to_act row
 actor _ = free_to_act new_row
 
-abbrev pub served_on : Deeds → ℕ → Call → Name → Option Body → Option Served
-served_on deeds caller call name None = None
-served_on deeds caller call name (Some body) =
-    option_map (served_by deeds name) (effect (kernel_with name body) caller (actor body) call 0)
-
--- A call of this process on a name that is held, or an own call of a process that is held. There is none where the
--- deed isn't held, and for calls that make something, get something by a key, end their process, or may have to wait.
-abbrev pub served_at : Deeds → ℕ → Call → Option Name → Option Served
-served_at deeds caller call None = None
-served_at deeds caller call (Some name) = served_on deeds caller call name (get_named deeds name)
+-- A call of this process on a name with this body, or its own call. There is none for calls that make something, get
+-- something by a key, end their process, or may have to wait.
+abbrev pub serve_on : Name → Body → ℕ → Call → Option Served
+serve_on name body caller call = option_map (serve_by name) (effect (kernel_with name body) caller (actor body) call 0)
 
 abbrev pub makes_something : Call → Bool
 makes_something (calls.Fork block) = true
@@ -77,14 +68,19 @@ makes_something (calls.MsgGet key create excl) = true
 makes_something (calls.SemGet key count create excl) = true
 makes_something call = false
 
-abbrev pub served : Deeds → ℕ → Call → Option Served
-served deeds caller call = elim (makes_something call) [ true ↦ None | false ↦ served_at deeds caller call (name_for caller call) ]
+abbrev pub serve_at : Deeds → ℕ → Call → Option Name → Option Served
+serve_at deeds caller call None = None
+serve_at deeds caller call (Some name) = option_and_then (λ body. serve_on name body caller call) (get_named deeds name)
+
+-- nor is there one where the name's deed isn't held
+abbrev pub serve : Deeds → ℕ → Call → Option Served
+serve deeds caller call = if makes_something call then None else serve_at deeds caller call (name_for caller call)
 
 -- a fork: the parent lists the new child, which has a row of its own
-abbrev pub with_child : Deeds → ℕ → Row → ℕ → Deeds
-with_child deeds pid row child =
-    let parent : Alive = forking (free_to_act row) child
-    in put_named deeds (Proc pid) (Living parent.row)
+abbrev pub parent_body : Row → ℕ → Body
+parent_body row child =
+    let parent : Alive = parent_after_fork (free_to_act row) child
+    in Living parent.row
 
 abbrev pub child_body : Row → Body
 child_body row =

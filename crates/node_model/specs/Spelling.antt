@@ -36,8 +36,8 @@ body_bytes (ASet semaphores) = set_bytes semaphores
 body_bytes Removed = 6 ∷ []
 
 -- the deed of a name on its way
-abbrev pub packed : Name → Body → PackedDeed
-packed name body = record { name = name; body = body_bytes body }
+abbrev pub pack : Name → Body → PackedDeed
+pack name body = record { name = name; body = body_bytes body }
 
 -- ---- reading: what bytes that are no body's come to is none
 

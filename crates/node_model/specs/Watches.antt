@@ -20,5 +20,5 @@ abbrev pub moves_to : Watches → ℕ → Name → ℕ → Option ℕ
 moves_to watches owner name reader = move_at (watch_over watches owner name) reader
 
 -- a deed that goes away takes its watch's count with it
-abbrev pub unwatched : Watches → Name → Watches
-unwatched watches name = without_named watches name
+abbrev pub unwatch : Watches → Name → Watches
+unwatch watches name = without_named watches name

@@ -7,7 +7,7 @@ use Rattle.pico_base.specs.declared.signal.Act.TheVariants.{Dfl, Ign, Catch}
 use Rattle.pico_base.specs.declared.signal.PerSignal.{PerSignal}
 use Rattle.pico_base.specs.declared.signal.Sig.{Sig}
 use Rattle.pico_base.specs.declared.signal.Sig.TheVariants.{Hup, Chld}
-use Rattle.pico_base.specs.Signal.{at, everywhere, put}
+use Rattle.pico_base.specs.Signal.{at, everywhere, put_at}
 use Rattle.kernel_model.specs.Signals.{Signals, all_signals, number_of}
 use Rattle.signal_state.specs.Held.{IsHeld}
 
@@ -46,8 +46,8 @@ pub record HasBytes (s : Signals) : Type 0 where
   pub counts : (g : Sig) → at s.handled g < 2 ^ 32
 
 -- HUP and CHLD are the lowest and the highest of ten bits
-lowest : set_number (put (everywhere false) Hup true) ≡ 1
+lowest : set_number (put_at (everywhere false) Hup true) ≡ 1
 lowest = refl
 
-highest : set_number (put (everywhere false) Chld true) ≡ 512
+highest : set_number (put_at (everywhere false) Chld true) ≡ 512
 highest = refl

@@ -580,7 +580,7 @@ fn is_fork(entry: &Entry) -> bool
 
 // ENOMSG or EAGAIN: nothing was ready.
 fn is_wait_error(errno: Errno) -> bool
-    ensures { result ≡ trace.is_wait_error errno }
+    ensures { result ≡ trace.is_not_ready errno }
 {
     matches!(errno, Errno::Enomsg | Errno::Eagain)
 }
