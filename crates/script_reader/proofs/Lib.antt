@@ -10,3 +10,4 @@ pub mod Ranges
 pub mod Widths
 pub mod CallRanges
 pub mod Saying
+pub mod Opened

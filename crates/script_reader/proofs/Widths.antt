@@ -69,7 +69,7 @@ module _ {B : Type 0} (f : List ℕ → Option B) (test : B → Bool) (least : �
   each_wide h (w ∷ ws) =
       if_bind (f w) (λ y. option_map (λ ys. y ∷ ys) (each f ws)) (λ y. (least ≤ length w) × (test y ≡ true)) (Passes (width (w ∷ ws))) (h w)
       (λ y one. if_map (each f ws) (λ ys. y ∷ ys) (Passes (width ws)) (Passes (width (w ∷ ws))) (each_wide h ws)
-        (λ ys more. (more_room (length ys) (length w) (width ws) more.0 one.0, and_from (test y) (list_all test ys) one.1 more.1)))
+      (λ ys more. (more_room (length ys) (length w) (width ws) more.0 one.0, and_from (test y) (list_all test ys) one.1 more.1)))
 
 module _ {A B : Type 0} (f : A → Option B) where
   pub each_length : (xs : List A) → IfSome (each f xs) (λ ys. length ys ≡ length xs)
@@ -147,8 +147,8 @@ unfolding step
 step_wide w =
     if_bind (cut 58 w) (λ p. number 65535 p.0 >>= λ num. added p.1 >>= λ a. Some (record { num = num; add = a.0; nowait = a.1 })) (λ p. length p.0 + 1 + length p.1 ≡ length w) (IsStep w) (cut_width 58 w)
     (λ p split. if_bind (number 65535 p.0) (λ num. added p.1 >>= λ a. Some (record { num = num; add = a.0; nowait = a.1 })) (λ n. (1 ≤ length p.0) × (n ≤ 65535)) (IsStep w) (number_wide 65535 p.0)
-      (λ num n. if_bind (added p.1) (λ a. Some (record { num = num; add = a.0; nowait = a.1 })) (IsAdded p.1) (IsStep w) (added_wide p.1)
-        (λ a k. (omega (arith, split, n.0, k.0), in_range_from num a.0 a.1 n.1 k.1))))
+    (λ num n. if_bind (added p.1) (λ a. Some (record { num = num; add = a.0; nowait = a.1 })) (IsAdded p.1) (IsStep w) (added_wide p.1)
+    (λ a k. (omega (arith, split, n.0, k.0), in_range_from num a.0 a.1 n.1 k.1))))
 
 pub steps_wide : (ws : List (List ℕ)) → IfSome (each step ws) (Passes step model.is_step_in_range 3 (width ws))
 steps_wide ws = each_wide step model.is_step_in_range 3 step_wide ws
@@ -189,7 +189,7 @@ escape_small (x ∷ h ∷ []) = tt
 escape_small (x ∷ h ∷ l ∷ rest) =
     if_bind (hex_at h) (λ high. hex_at l >>= λ low. cond (eqb x 120) (Some (16 * high + low, rest)) None) (λ n. n ≤ 15) (IsEscaped (x ∷ h ∷ l ∷ rest)) (hex_small h)
     (λ high a. if_bind (hex_at l) (λ low. cond (eqb x 120) (Some (16 * high + low, rest)) None) (λ n. n ≤ 15) (IsEscaped (x ∷ h ∷ l ∷ rest)) (hex_small l)
-      (λ low b. if_cond (eqb x 120) (Some (16 * high + low, rest)) None (IsEscaped (x ∷ h ∷ l ∷ rest)) (λ _. (omega (arith, a, b), omega arith)) (λ _. tt)))
+    (λ low b. if_cond (eqb x 120) (Some (16 * high + low, rest)) None (IsEscaped (x ∷ h ∷ l ∷ rest)) (λ _. (omega (arith, a, b), omega arith)) (λ _. tt)))
 
 cond_length : (c : Bool) (x y : List ℕ) (n : ℕ) → length x ≤ n → length y ≤ n → length (cond c x y) ≤ n
 cond_length true x y n f g = f
@@ -296,7 +296,7 @@ unfolding counted
 counted_is w =
     if_bind (cut 58 w) (λ p. number 8192 p.0 >>= λ count. letter p.1 >>= λ byte. Some (count, byte)) Anything IsCounted (anything (cut 58 w))
     (λ p _. if_bind (number 8192 p.0) (λ count. letter p.1 >>= λ byte. Some (count, byte)) (λ n. n ≤ 8192) IsCounted (number_small 8192 p.0)
-      (λ count h. if_bind (letter p.1) (λ byte. Some (count, byte)) (λ c. parts.is_alphanumeric c ≡ true) IsCounted (letter_is p.1) (λ byte k. (h, k))))
+    (λ count h. if_bind (letter p.1) (λ byte. Some (count, byte)) (λ c. parts.is_alphanumeric c ≡ true) IsCounted (letter_is p.1) (λ byte k. (h, k))))
 
 repetition_spelled : (w : List ℕ) → IfSome (repetition w) IsSpelled
 unfolding repetition
