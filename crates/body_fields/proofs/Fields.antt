@@ -86,10 +86,13 @@ number_takes w limit wide bytes n fits e =
     let g = guard_some (ltb (length bytes) (byte_len w)) (from_be_bytes w front, drop (byte_len w) bytes) n e in
     let long : byte_len w ≤ length bytes = ltb-false _ _ g.0 in
     let back : to_be_bytes w (from_be_bytes w front) ≡ front =
-        wide.back front (omega (arith, length-take (byte_len w) bytes)) (IsBytes-take (byte_len w) bytes fits) in
+    wide.back front (omega (arith, length-take (byte_len w) bytes)) (IsBytes-take (byte_len w) bytes fits) in
     subst (λ (x : ℕ × List ℕ). Takes bytes (to_be_bytes w x.0) x.1 × (x.0 < limit)) g.1 (
-      record { parts = rw back (sym (take-append-drop (byte_len w) bytes)); rest_fits =
-          IsBytes-drop (byte_len w) bytes fits },
+      record {
+        parts = rw back (sym (take-append-drop (byte_len w) bytes));
+        rest_fits =
+            IsBytes-drop (byte_len w) bytes fits;
+      },
       wide.below front (IsBytes-take (byte_len w) bytes fits),
     )
 
@@ -98,9 +101,13 @@ pub number_again : (w : Width) (limit : ℕ) (wide : IsWide w limit) (n : ℕ) (
 number_again w limit wide n rest lt =
     let len = wide.len n in
     let long : ltb (length (to_be_bytes w n ++ rest)) (byte_len w) ≡ false =
-        le-ltb _ _ (omega (arith, length-append (to_be_bytes w n) rest)) in
-    rw (long, take_at (to_be_bytes w n) rest (byte_len w) len, drop_at (to_be_bytes w n) rest (byte_len w) len,
-        wide.again n lt) refl
+    le-ltb _ _ (omega (arith, length-append (to_be_bytes w n) rest)) in
+    rw (
+      long,
+      take_at (to_be_bytes w n) rest (byte_len w) len,
+      drop_at (to_be_bytes w n) rest (byte_len w) len,
+      wide.again n lt,
+    ) refl
 
 pub number_upto_takes : (w : Width) (limit : ℕ) (wide : IsWide w limit) (most : ℕ) (bytes : List ℕ) (n : ℕ × List ℕ)
     → IsBytes bytes → number_upto w most bytes ≡ Some n → Takes bytes (to_be_bytes w n.0) n.1 × (n.0 ≤ most)
@@ -122,7 +129,7 @@ pub byte_takes : (bytes : List ℕ) (b : ℕ × List ℕ) → IsBytes bytes → 
 byte_takes [] b fits e = absurd cc
 byte_takes (x ∷ xs) b fits e =
     subst (λ (p : ℕ × List ℕ). Takes (x ∷ xs) (p.0 ∷ []) p.1) (some_is (x, xs) b e)
-        (record { parts = refl; rest_fits = IsBytes-rest x xs fits })
+    (record { parts = refl; rest_fits = IsBytes-rest x xs fits })
 
 pub byte_upto_takes : (most : ℕ) (bytes : List ℕ) (b : ℕ × List ℕ) → IsBytes bytes → byte_upto most bytes ≡ Some b
     → Takes bytes (b.0 ∷ []) b.1 × (b.0 ≤ most)
@@ -131,7 +138,7 @@ byte_upto_takes most bytes b fits e =
     let a = bind_some (byte_at bytes) (λ b. cond (ltb most b.0) None (Some b)) b e in
     let g = guard_some (ltb most a.0.0) a.0 b a.2 in
     subst (λ (x : ℕ × List ℕ). Takes bytes (x.0 ∷ []) x.1 × (x.0 ≤ most)) g.1
-        (byte_takes bytes a.0 fits a.1, ltb-false _ _ g.0)
+    (byte_takes bytes a.0 fits a.1, ltb-false _ _ g.0)
 
 pub byte_upto_again : (most b : ℕ) (rest : List ℕ) → b ≤ most → byte_upto most (b ∷ rest) ≡ Some (b, rest)
 unfolding byte_upto

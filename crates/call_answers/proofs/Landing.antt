@@ -48,7 +48,7 @@ received-lands step m es id v w message reply rising there ok written is =
 
 pub refused-lands : (step : Queue → Result Received Errno) (m es : Numbered Queue) (id : ℕ) (v w : Queue) (e : Errno)
     → get m id ≡ Some v → step v ≡ Err e → w ≡ v → es ≡ set_value (is_at (nat_cmp id)) m w
-        → Receives step m id es (Fail e)
+    → Receives step m id es (Fail e)
 refused-lands step m es id v w e there bad same written =
     rw (there, bad) (same-lands m es id v w there same written, refl)
 
@@ -60,6 +60,6 @@ sent-lands step m es id v w rising there ok written =
 
 pub unsent-lands : (step : Queue → Result Queue Errno) (m es : Numbered Queue) (id : ℕ) (v w : Queue) (e : Errno)
     → get m id ≡ Some v → step v ≡ Err e → w ≡ v → es ≡ set_value (is_at (nat_cmp id)) m w
-        → Changes step m id es (Fail e)
+    → Changes step m id es (Fail e)
 unsent-lands step m es id v w e there bad same written =
     rw (there, bad) (same-lands m es id v w there same written, refl)

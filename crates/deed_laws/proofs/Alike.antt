@@ -23,7 +23,7 @@ same-put {V} m n k v h q =
     elim (cases_eq q k) [
       | inl same ↦
           subst (λ (r : ℕ). get (put m k v) r ≡ get (put n k v) r) (sym same)
-              (get-put-same m k v ∙ sym (get-put-same n k v))
+          (get-put-same m k v ∙ sym (get-put-same n k v))
       | inr ne ↦ get-put-other m k v q ne ∙ (h q ∙ sym (get-put-other n k v q ne))
     ]
 
@@ -61,7 +61,7 @@ module _ (j k : Kernel) (queues : SameAt j.queues k.queues) (sets : SameAt j.set
 
   queue-put : (id : ℕ) (q : Queue) (r : Reply)
       → AreAlike j k (replying (record j { queues = put j.queues id q }) r)
-          (replying (record k { queues = put k.queues id q }) r)
+      (replying (record k { queues = put k.queues id q }) r)
   queue-put id q r =
       record {
         reply = refl;
@@ -73,7 +73,7 @@ module _ (j k : Kernel) (queues : SameAt j.queues k.queues) (sets : SameAt j.set
 
   set-put : (id : ℕ) (s : SemaphoreSet) (r : Reply)
       → AreAlike j k (replying (record j { sets = put j.sets id s }) r)
-          (replying (record k { sets = put k.sets id s }) r)
+      (replying (record k { sets = put k.sets id s }) r)
   set-put id s r =
       record {
         reply = refl;

@@ -49,7 +49,7 @@ gone-living ps n p a h =
     elim (cases_eq p n) [
       | inl same ↦
           let here : living_in (put ps n Gone) n ≡ Some a =
-              subst (λ (q : ℕ). living_in (put ps n Gone) q ≡ Some a) same h
+          subst (λ (q : ℕ). living_in (put ps n Gone) q ≡ Some a) same h
           in not_some a (sym (living-put-same ps n Gone) ∙ here)
       | inr ne ↦ sym (living-put-other ps n Gone p ne) ∙ h
     ]
@@ -66,9 +66,9 @@ pub buried-apart : (es : List EndedChild) (ps : Numbered Process) (q : ℕ)
 buried-apart [] ps q h = refl
 buried-apart (e ∷ es) ps q h =
     let ne : q ≢ e.pid = λ same.
-        h e.ending (subst (λ (r : ℕ). Contains (e ∷ es) (ended_child r e.ending)) (sym same) (contains-first e es))
+    h e.ending (subst (λ (r : ℕ). Contains (e ∷ es) (ended_child r e.ending)) (sym same) (contains-first e es))
     in buried-apart es (put ps e.pid Gone) q (λ ending c. h ending (contains-later e es (ended_child q ending) c))
-        ∙ get-put-other ps e.pid Gone q ne
+    ∙ get-put-other ps e.pid Gone q ne
 
 -- The end of process 1.
 
@@ -82,7 +82,7 @@ first-plain k next es is plain =
       others = λ pid b ne lives.
           plain.others pid b ne
           (buried-living es k.processes pid b
-              (gone-living before 1 pid b (sym (ap (λ ps. living_in ps pid) is) ∙ lives)));
+          (gone-living before 1 pid b (sym (ap (λ ps. living_in ps pid) is) ∙ lives)));
     }
 
 pub first_ends : FirstEndsAsInTheKernel
@@ -104,7 +104,7 @@ first_ends h l k a status reachable stands held =
           here = record {
             processes =
                 within-put (fold bury h.processes es) before 1 Gone
-                    (within-buried es h.processes k.processes stands.here.processes);
+                (within-buried es h.processes k.processes stands.here.processes);
             queues = stands.here.queues;
             sets = stands.here.sets;
           };
@@ -131,7 +131,7 @@ plain-keeper : (a : Alive) (child : ℕ) (ending : Ending) → IsPlainProcess a
 plain-keeper a child ending plain =
     let with_signals : Signals → Alive = λ s.
     with_ended_child (record { row = record { signals = s; family = a.row.family }; allowance = a.allowance }) child
-        ending
+    ending
     in record {
       signals = ap (λ s. (with_signals s).row.signals) plain.signals;
       allowance = ap (λ s. (with_signals s).allowance) plain.signals ∙ plain.allowance;
@@ -147,7 +147,7 @@ dead-plain k next child v is dead ne plain =
     in elim (cases_eq pid child) [
       | inl same ↦
           let here : living_in (put k.processes child v) child ≡ Some b =
-              subst (λ (q : ℕ). living_in (put k.processes child v) q ≡ Some b) same there
+          subst (λ (q : ℕ). living_in (put k.processes child v) q ≡ Some b) same there
           in not_some b (sym (living-put-same k.processes child v ∙ dead) ∙ here)
       | inr apart ↦ sym (living-put-other k.processes child v pid apart) ∙ there
     ]
@@ -164,11 +164,11 @@ keeper-plain ps k next a was is mine plain =
     record {
       first = λ b lives.
           let same : a ≡ b = from_some a b
-              (sym (living-put-same ps 1 (Living a)) ∙ (sym (ap (λ qs. living_in qs 1) is) ∙ lives))
+          (sym (living-put-same ps 1 (Living a)) ∙ (sym (ap (λ qs. living_in qs 1) is) ∙ lives))
           in subst (λ (x : Alive). IsPlainProcess x) same mine;
       others = λ pid b one lives.
           let there : living_in ps pid ≡ Some b =
-              sym (living-put-other ps 1 (Living a) pid one) ∙ (sym (ap (λ qs. living_in qs pid) is) ∙ lives)
+          sym (living-put-other ps 1 (Living a) pid one) ∙ (sym (ap (λ qs. living_in qs pid) is) ∙ lives)
           in plain.others pid b one (ap (λ qs. living_in qs pid) was ∙ there);
     }
 
@@ -194,7 +194,7 @@ module _ (h : Held) (l : Leader) (k : Kernel) (child status : ℕ) (reachable : 
       keeper-plain ps middle next keeper refl refl (plain-keeper a child ending (plain-at k 1 a stands.plain first))
       (dead-plain k middle child v refl dead ne stands.plain)
       in let gives = ap (effect_by k k.processes child ending)
-          ((children_have_one_parent_lemma k reachable child).is_parent 1 a first listed)
+      ((children_have_one_parent_lemma k reachable child).is_parent 1 a first listed)
       in record {
         next = next;
         carries = record {
@@ -203,7 +203,7 @@ module _ (h : Held) (l : Leader) (k : Kernel) (child status : ℕ) (reachable : 
             here = record {
               processes =
                   within-put (put h.processes child v) ps 1 (Living keeper)
-                      (within-put h.processes k.processes child v stands.here.processes);
+                  (within-put h.processes k.processes child v stands.here.processes);
               queues = stands.here.queues;
               sets = stands.here.sets;
             };

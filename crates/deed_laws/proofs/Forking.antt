@@ -37,12 +37,12 @@ forked-plain k a n plain mine =
     in record {
       first = λ b lives.
           let same : parent_after_fork a n ≡ b =
-              from_some (parent_after_fork a n) b (sym (living-put-same ps 1 (Living (parent_after_fork a n))) ∙ lives)
+          from_some (parent_after_fork a n) b (sym (living-put-same ps 1 (Living (parent_after_fork a n))) ∙ lives)
           in subst (λ (x : Alive). IsPlainProcess x) same
-              (record { signals = mine.signals; allowance = mine.allowance });
+          (record { signals = mine.signals; allowance = mine.allowance });
       others = λ pid b ne lives.
           let before : living_in ps pid ≡ Some b =
-              sym (living-put-other ps 1 (Living (parent_after_fork a n)) pid ne) ∙ lives
+          sym (living-put-other ps 1 (Living (parent_after_fork a n)) pid ne) ∙ lives
           in elim (cases_eq pid n) [
             | inl same ↦
                 let born : living_in ps n ≡ Some b = subst (λ (q : ℕ). living_in ps q ≡ Some b) same before
@@ -98,5 +98,5 @@ forks h l k a block reachable stands held fits =
       child =
           get-put-other ps 1 (Living (parent_after_fork a n)) n apart
           ∙ (get-put-same k.processes n (Living (new_child a))
-              ∙ ap (λ (x : Alive). Some (Living x)) (new-child a mine));
+          ∙ ap (λ (x : Alive). Some (Living x)) (new-child a mine));
     }

@@ -34,7 +34,7 @@ pub no-parent : (k : Kernel) (child : ℕ) → HasPlain k → IsReachableKernel 
     → parent_in child k.processes ≡ None
 no-parent k child plain reachable unlisted =
     no-parent-by k child plain (children_have_one_parent_lemma k reachable child) unlisted
-        (parent_in child k.processes) refl
+    (parent_in child k.processes) refl
 
 pub first-orphan : (k : Kernel) → HasPlain k → IsReachableKernel k → parent_in 1 k.processes ≡ None
 first-orphan k plain reachable = no-parent k 1 plain reachable (children_have_one_parent_lemma k reachable 1).not_itself

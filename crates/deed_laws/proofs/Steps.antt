@@ -38,19 +38,19 @@ result next reply = record { kernel = next; reply = reply }
 pub makes : (k next : Kernel) (pid : ℕ) (a : Alive) (call : Call) (reply : Reply) → HasPlain k → HasPlain next
     → living_at k pid ≡ Some a
     → may_make a call ≡ not (is_spent a.allowance)
-        → effect k pid a call (number_in (Some reply)) ≡ Some (result next reply)
+    → effect k pid a call (number_in (Some reply)) ≡ Some (result next reply)
     → Makes k pid call reply next
 makes k next pid a call reply plain after lives may gives =
     let n = number_in (Some reply)
     in let effects = effect k pid a call n
     in let free : may_make a call ≡ true = may ∙ ap (λ x. not (is_spent x)) (plain-at k pid a plain lives).allowance
     in let begins : transition k pid call n ≡ transition_by k pid call n (Some a) =
-        ap (transition_by k pid call n) lives
+    ap (transition_by k pid call n) lives
     in let goes : transition_by k pid call n (Some a) ≡ outcome_of pid effects =
-        ap (λ (t : Bool). if t then outcome_of pid effects else None) free
+    ap (λ (t : Bool). if t then outcome_of pid effects else None) free
     in let ends : outcome_of pid effects ≡ outcome_of pid (Some (result next reply)) = ap (outcome_of pid) gives
     in let stays : finish_call next pid (living_at next pid) ≡ next =
-        finished-plain next pid (living_at next pid) (λ b l. plain-at next pid b after l)
+    finished-plain next pid (living_at next pid) (λ b l. plain-at next pid b after l)
     in let leads : outcome_of pid (Some (result next reply)) ≡ Some (successor next (reply_alone reply)) =
     ap (λ (x : Kernel). Some (successor x (reply_alone reply))) stays
     in record { step = begins ∙ (goes ∙ (ends ∙ leads)) }
@@ -61,4 +61,4 @@ own_calls k pid a plain lives = makes k k pid a calls.GetPid (Num pid) plain pla
 pub bad_sets : BadSetsAreRefused
 bad_sets k pid a count error create excl plain lives bad =
     makes k k pid a (calls.SemGet None count create excl) (Fail error) plain plain lives refl
-        (ap (new_set_of k k.set_keys 0) bad)
+    (ap (new_set_of k k.set_keys 0) bad)

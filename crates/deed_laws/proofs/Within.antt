@@ -20,7 +20,7 @@ within-put {V} m n k v h q w there =
       | inl same ↦
           let mine : get (put m k v) k ≡ Some w = subst (λ (r : ℕ). get (put m k v) r ≡ Some w) same there
           in subst (λ (r : ℕ). get (put n k v) r ≡ Some w) (sym same)
-              (get-put-same n k v ∙ (sym (get-put-same m k v) ∙ mine))
+          (get-put-same n k v ∙ (sym (get-put-same m k v) ∙ mine))
       | inr ne ↦ get-put-other n k v q ne ∙ h q w (sym (get-put-other m k v q ne) ∙ there)
     ]
 

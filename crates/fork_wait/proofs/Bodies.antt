@@ -38,24 +38,24 @@ killed_takes : (value : ℕ) (found : Option Sig) (ending : Ending) → signal_f
 killed_takes value None ending is e = absurd cc
 killed_takes value (Some g) ending is e =
     ap (λ (v : ℕ). 1 ∷ v ∷ [])
-        (sym (is_number (signal_number g) value (find-passes (λ g. eqb (signal_number g) value) all_signals g is)))
+    (sym (is_number (signal_number g) value (find-passes (λ g. eqb (signal_number g) value) all_signals g is)))
     ∙ ap ending_bytes (some_is (Killed g) ending e)
 
 ending_takes : (kind value : ℕ) (ending : Ending) → ending_from kind value ≡ Some ending
     → kind ∷ value ∷ [] ≡ ending_bytes ending
 ending_takes kind value ending e =
     elim (eqb kind 0) as (λ (t : Bool). eqb kind 0 ≡ t
-        → cond t (Some (Exited value)) (cond (eqb kind 1) (option_map Killed (signal_from value)) None) ≡ Some ending
-        → kind ∷ value ∷ [] ≡ ending_bytes ending) [
+    → cond t (Some (Exited value)) (cond (eqb kind 1) (option_map Killed (signal_from value)) None) ≡ Some ending
+    → kind ∷ value ∷ [] ≡ ending_bytes ending) [
       | true ↦ λ zero_is exited. ap (λ (k : ℕ). k ∷ value ∷ []) (is_number kind 0 zero_is)
           ∙ ap ending_bytes (some_is (Exited value) ending exited)
       | false ↦ λ _ other. elim (eqb kind 1) as (λ (t : Bool). eqb kind 1 ≡ t
           → cond t (option_map Killed (signal_from value)) None ≡ Some ending
           → kind ∷ value ∷ [] ≡ ending_bytes ending) [
-        | true ↦ λ one_is killed. ap (λ (k : ℕ). k ∷ value ∷ []) (is_number kind 1 one_is)
-            ∙ killed_takes value (signal_from value) ending refl killed
-        | false ↦ λ _ none. absurd cc
-      ] refl other
+            | true ↦ λ one_is killed. ap (λ (k : ℕ). k ∷ value ∷ []) (is_number kind 1 one_is)
+                ∙ killed_takes value (signal_from value) ending refl killed
+            | false ↦ λ _ none. absurd cc
+          ] refl other
     ] refl e
 
 ended_takes : (bytes : List ℕ) (child : EndedChild × List ℕ) → IsBytes bytes → ended_at bytes ≡ Some child
@@ -72,10 +72,10 @@ ended_takes bytes child fits e =
     let two = Takes-then pid.0.1 (kind.0.0 ∷ []) kind.0.1 (value.0.0 ∷ []) value.0.1 first second in
     let whole = Takes-then bytes (to_be_bytes w32 pid.0.0) pid.0.1 (kind.0.0 ∷ value.0.0 ∷ []) value.0.1 number.0 two in
     let spelled : Takes bytes (ended_bytes (ended_child pid.0.0 ending.0)) value.0.1 =
-        subst (λ (t : List ℕ). Takes bytes (to_be_bytes w32 pid.0.0 ++ t) value.0.1)
-        (ending_takes kind.0.0 value.0.0 ending.0 ending.1) whole in
+    subst (λ (t : List ℕ). Takes bytes (to_be_bytes w32 pid.0.0 ++ t) value.0.1)
+    (ending_takes kind.0.0 value.0.0 ending.0 ending.1) whole in
     subst (λ (p : EndedChild × List ℕ). Takes bytes (ended_bytes p.0) p.1 × (p.0.pid < 2 ^ 32))
-        (some_is (ended_child pid.0.0 ending.0, value.0.1) child ending.2) (spelled, number.1)
+    (some_is (ended_child pid.0.0 ending.0, value.0.1) child ending.2) (spelled, number.1)
 
 behind_number : Option (ℕ × List ℕ) → Option (EndedChild × List ℕ)
 behind_number r = r >>= λ pid. byte_at pid.1 >>= λ kind. byte_at kind.1 >>= λ value.
@@ -101,7 +101,7 @@ child_again : (child : EndedChild) (rest : List ℕ) → child.pid < 2 ^ 32
 unfolding ended_at behind_number
 child_again child rest small =
     ap behind_number (number_again w32 (2 ^ 32) wide32 child.pid (ending_bytes child.ending ++ rest) small)
-        ∙ ending_again child.pid child.ending rest
+    ∙ ending_again child.pid child.ending rest
 
 -- ---- the whole family
 
@@ -128,19 +128,19 @@ nothing_left (b ∷ bytes) e = absurd (omega (arith, is_number (length (b ∷ by
 
 family_parts : (bytes living_rest numbers_rest ended_rest left : List ℕ) (f : Family) (count more : ℕ)
     → Takes bytes (count ∷ []) living_rest → Takes living_rest (flat_map (to_be_bytes w32) f.living) numbers_rest
-        → Takes numbers_rest (more ∷ []) ended_rest → Takes ended_rest (flat_map ended_bytes f.ended) left
+    → Takes numbers_rest (more ∷ []) ended_rest → Takes ended_rest (flat_map ended_bytes f.ended) left
     → length f.living ≡ count → length f.ended ≡ more → left ≡ [] → bytes ≡ family_bytes f
 unfolding family_bytes
 family_parts bytes living_rest numbers_rest ended_rest left f count more t1 t2 t3 t4 is_count is_more nil =
     t1.parts
     ∙ ap (λ (r : List ℕ). count ∷ r)
-        (t2.parts ∙ ap (λ (r : List ℕ). flat_map (to_be_bytes w32) f.living ++ r)
-        (t3.parts ∙ ap (λ (r : List ℕ). more ∷ r)
-        (t4.parts ∙ ap (λ (r : List ℕ). flat_map ended_bytes f.ended ++ r) nil
-        ∙ append-nil (flat_map ended_bytes f.ended))))
+    (t2.parts ∙ ap (λ (r : List ℕ). flat_map (to_be_bytes w32) f.living ++ r)
+    (t3.parts ∙ ap (λ (r : List ℕ). more ∷ r)
+    (t4.parts ∙ ap (λ (r : List ℕ). flat_map ended_bytes f.ended ++ r) nil
+    ∙ append-nil (flat_map ended_bytes f.ended))))
     ∙ ap (λ (k : ℕ). k ∷ flat_map (to_be_bytes w32) f.living ++ more ∷ flat_map ended_bytes f.ended) (sym is_count)
     ∙ ap (λ (k : ℕ). length f.living ∷ flat_map (to_be_bytes w32) f.living ++ k ∷ flat_map ended_bytes f.ended)
-        (sym is_more)
+    (sym is_more)
 
 pub family_takes : (bytes : List ℕ) (f : Family) → IsBytes bytes → family_at bytes ≡ Some f → (bytes ≡ family_bytes f)
     × AllByRecursion Small (children f)
@@ -151,15 +151,15 @@ family_takes bytes f fits e =
     let more = bind_some (byte_upto most numbers.0.1) _ f numbers.2 in
     let endings = bind_some (all_ended_at more.0.0 more.0.1) _ f more.2 in
     let g = guard_ended (eqb (length endings.0.1) 0)
-        (record { living = numbers.0.0; ended = endings.0.0 }) f endings.2 in
+    (record { living = numbers.0.0; ended = endings.0.0 }) f endings.2 in
     let t1 = (byte_upto_takes most bytes count.0 fits count.1).0 in
     let t2 = many_takes numbers_repeat (to_be_bytes w32) Small
-        (number_takes w32 (2 ^ 32) wide32) count.0.0 count.0.1 numbers.0 t1.rest_fits numbers.1 in
+    (number_takes w32 (2 ^ 32) wide32) count.0.0 count.0.1 numbers.0 t1.rest_fits numbers.1 in
     let t3 = (byte_upto_takes most numbers.0.1 more.0 t2.0.rest_fits more.1).0 in
     let t4 = many_takes ended_repeat ended_bytes
-        (λ (c : EndedChild). Small c.pid) ended_takes more.0.0 more.0.1 endings.0 t3.rest_fits endings.1 in
+    (λ (c : EndedChild). Small c.pid) ended_takes more.0.0 more.0.1 endings.0 t3.rest_fits endings.1 in
     subst (λ (f : Family). (bytes ≡ family_bytes f) × AllByRecursion Small (children f)) {x =
-        record { living = numbers.0.0; ended = endings.0.0 }} g.1 (
+    record { living = numbers.0.0; ended = endings.0.0 }} g.1 (
       family_parts bytes count.0.1 numbers.0.1 more.0.1 endings.0.1
           (record { living = numbers.0.0; ended = endings.0.0 }) count.0.0 more.0.0 t1 t2.0 t3 t4.0 t2.1 t4.1
           (nothing_left endings.0.1 g.0),
@@ -172,13 +172,13 @@ unfolding family_at family_bytes
 family_again f few few' small =
     let parts = Small-split f.living f.ended small in
     let count = byte_upto_again most (length f.living)
-        (flat_map (to_be_bytes w32) f.living ++ length f.ended ∷ flat_map ended_bytes f.ended) few in
+    (flat_map (to_be_bytes w32) f.living ++ length f.ended ∷ flat_map ended_bytes f.ended) few in
     let numbers = many_again numbers_repeat (to_be_bytes w32) Small (number_again w32 (2 ^ 32) wide32) f.living
-        (length f.ended ∷ flat_map ended_bytes f.ended) parts.0 in
+    (length f.ended ∷ flat_map ended_bytes f.ended) parts.0 in
     let more = byte_upto_again most (length f.ended) (flat_map ended_bytes f.ended) few' in
     let endings : all_ended_at (length f.ended) (flat_map ended_bytes f.ended) ≡ Some (f.ended, []) =
     ap (all_ended_at (length f.ended)) (sym (append-nil (flat_map ended_bytes f.ended)))
-        ∙ many_again ended_repeat ended_bytes (λ (c : EndedChild). Small c.pid) child_again f.ended [] parts.1
+    ∙ many_again ended_repeat ended_bytes (λ (c : EndedChild). Small c.pid) child_again f.ended [] parts.1
     in
     rw (count, numbers, more, endings) refl
 

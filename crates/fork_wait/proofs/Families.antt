@@ -72,7 +72,7 @@ absent-others : (c : ℕ) (xs : List ℕ) → list_any (nat_eq c) (others c xs) 
 absent-others c [] = refl
 absent-others c (x ∷ xs) =
     elim (nat_eq c x) as (λ (t : Bool). nat_eq c x ≡ t
-        → list_any (nat_eq c) (cond (not t) (x ∷ others c xs) (others c xs)) ≡ false) [
+    → list_any (nat_eq c) (cond (not t) (x ∷ others c xs) (others c xs)) ≡ false) [
       | true ↦ λ e. absent-others c xs
       | false ↦ λ e. or_from (nat_eq c x) _ e (absent-others c xs)
     ] refl
@@ -131,7 +131,7 @@ different-apart c [] ys h there = absurd (false≢true there)
 different-apart c (x ∷ xs) ys h there =
     let here = both_true (list_any (nat_eq x) (xs ++ ys)) (are_different (xs ++ ys)) h in
     elim (nat_eq c x) as (λ (t : Bool). nat_eq c x ≡ t → (t || list_any (nat_eq c) xs) ≡ true
-        → list_any (nat_eq c) ys ≡ false) [
+    → list_any (nat_eq c) ys ≡ false) [
       | true ↦ λ e _. rw (same_number c x e) (absent-after x xs ys here.0)
       | false ↦ λ e later. different-apart c xs ys here.1 later
     ] refl there
@@ -166,7 +166,7 @@ length-others : (c : ℕ) (xs : List ℕ) → list_any (nat_eq c) xs ≡ true �
 length-others c [] there = absurd (false≢true there)
 length-others c (x ∷ xs) there =
     elim (nat_eq c x) as (λ (t : Bool). nat_eq c x ≡ t → (t || list_any (nat_eq c) xs) ≡ true
-        → length (cond (not t) (x ∷ others c xs) (others c xs)) < length (x ∷ xs)) [
+    → length (cond (not t) (x ∷ others c xs) (others c xs)) < length (x ∷ xs)) [
       | true ↦ λ e _. omega (arith, length-filter_le (λ n. not (nat_eq c n)) xs)
       | false ↦ λ e later. omega (arith, length-others c xs later)
     ] refl there
@@ -181,9 +181,9 @@ map-filter_pids : (c : ℕ) (es : List EndedChild)
 map-filter_pids c [] = refl
 map-filter_pids c (e ∷ es) =
     elim (nat_eq c e.pid) as
-        (λ (t : Bool). map pid_of
-        (cond (not t) (e ∷ filter (λ e. not (nat_eq c e.pid)) es) (filter (λ e. not (nat_eq c e.pid)) es))
-        ≡ cond (not t) (e.pid ∷ others c (map pid_of es)) (others c (map pid_of es))) [
+    (λ (t : Bool). map pid_of
+    (cond (not t) (e ∷ filter (λ e. not (nat_eq c e.pid)) es) (filter (λ e. not (nat_eq c e.pid)) es))
+    ≡ cond (not t) (e.pid ∷ others c (map pid_of es)) (others c (map pid_of es))) [
       | true ↦ map-filter_pids c es
       | false ↦ ap (λ (ns : List ℕ). e.pid ∷ ns) (map-filter_pids c es)
     ]
@@ -198,8 +198,12 @@ module _ (living : List ℕ) (ended : List EndedChild) (c : ℕ)
       → AreChildren ((living ++ c ∷ []) ++ map (λ e. e.pid) ended)
   children-added positive room absent =
       record {
-        few = omega (arith, length-append (living ++ c ∷ []) (map pid_of ended), length-append living (c ∷ []),
-            length-append living (map pid_of ended));
+        few = omega (
+          arith,
+          length-append (living ++ c ∷ []) (map pid_of ended),
+          length-append living (c ∷ []),
+          length-append living (map pid_of ended),
+        );
         positive = absent-insert 0 c living (map pid_of ended) (not_zero c positive) sound.positive;
         different = different-insert c living (map pid_of ended) sound.different absent;
       }
@@ -207,8 +211,13 @@ module _ (living : List ℕ) (ended : List EndedChild) (c : ℕ)
   pub children-left : AreChildren (others c living ++ map (λ e. e.pid) ended)
   children-left =
       record {
-        few = omega (arith, sound.few, length-append (others c living) (map pid_of ended),
-            length-append living (map pid_of ended), length-filter_le (λ n. not (nat_eq c n)) living);
+        few = omega (
+          arith,
+          sound.few,
+          length-append (others c living) (map pid_of ended),
+          length-append living (map pid_of ended),
+          length-filter_le (λ n. not (nat_eq c n)) living,
+        );
         positive = absent-filter (λ n. not (nat_eq c n)) 0 living (map pid_of ended) sound.positive;
         different = different-filter (λ n. not (nat_eq c n)) living (map pid_of ended) sound.different;
       }
@@ -219,15 +228,20 @@ module _ (living : List ℕ) (ended : List EndedChild) (c : ℕ)
       let left = children-left in
       let before : List ℕ = others c living ++ map pid_of ended in
       let gone : list_any (nat_eq c) before ≡ false =
-          absent-append c (others c living) (map pid_of ended) (absent-others c living)
-          (different-apart c living (map pid_of ended) sound.different there) in
+      absent-append c (others c living) (map pid_of ended) (absent-others c living)
+      (different-apart c living (map pid_of ended) sound.different there) in
       let shape : before ++ c ∷ [] ≡ others c living ++ map (λ e. e.pid) (ended ++ ended_child c ending ∷ []) =
-          append_assoc (others c living) (map pid_of ended) (c ∷ [])
-          ∙ ap (λ (ns : List ℕ). others c living ++ ns) (sym (map_push pid_of ended (ended_child c ending))) in
+      append_assoc (others c living) (map pid_of ended) (c ∷ [])
+      ∙ ap (λ (ns : List ℕ). others c living ++ ns) (sym (map_push pid_of ended (ended_child c ending))) in
       rw (← shape) record {
-        few = omega (arith, sound.few, length-append before (c ∷ []),
-            length-append (others c living) (map pid_of ended), length-append living (map pid_of ended),
-            length-others c living there);
+        few = omega (
+          arith,
+          sound.few,
+          length-append before (c ∷ []),
+          length-append (others c living) (map pid_of ended),
+          length-append living (map pid_of ended),
+          length-others c living there,
+        );
         positive = absent-push 0 c before
             (absent-other 0 c living (map pid_of ended) sound.positive there) left.positive;
         different = different-push c before left.different gone;
@@ -236,8 +250,13 @@ module _ (living : List ℕ) (ended : List EndedChild) (c : ℕ)
   pub children-waited : AreChildren (living ++ map (λ e. e.pid) (filter (λ e. not (nat_eq c e.pid)) ended))
   children-waited =
       rw (map-filter_pids c ended) record {
-        few = omega (arith, sound.few, length-append living (others c (map pid_of ended)),
-            length-append living (map pid_of ended), length-filter_le (λ n. not (nat_eq c n)) (map pid_of ended));
+        few = omega (
+          arith,
+          sound.few,
+          length-append living (others c (map pid_of ended)),
+          length-append living (map pid_of ended),
+          length-filter_le (λ n. not (nat_eq c n)) (map pid_of ended),
+        );
         positive = absent-filter_after (λ n. not (nat_eq c n)) 0 living (map pid_of ended) sound.positive;
         different = different-filter_after (λ n. not (nat_eq c n)) living (map pid_of ended) sound.different;
       }
@@ -264,7 +283,7 @@ pub differ-ended : (first : EndedChild) (es rest : List EndedChild) (there r : B
     → (not there && r) ≡ are_different (map (λ e. e.pid) es)
 differ-ended first es rest there r parts is_there is_r =
     rw (parts, is_there, is_r)
-        (ap (λ (t : Bool). not t && are_different (map pid_of rest)) (sym (list_any-pids first.pid rest)))
+    (ap (λ (t : Bool). not t && are_different (map pid_of rest)) (sym (list_any-pids first.pid rest)))
 
 pub differ-living : (first : ℕ) (xs rest : List ℕ) (es : List EndedChild) (there r : Bool) → xs ≡ first ∷ rest
     → there ≡ list_any (nat_eq first) (rest ++ map (λ e. e.pid) es) → r ≡ are_different (rest ++ map (λ e. e.pid) es)

@@ -15,4 +15,4 @@ followed_by_more None bytes n more = refl
 followed_by_more (Some told) bytes n more =
     ap Some (append_assoc told (take n bytes) (take more (take (length bytes - n) (drop n bytes)))
     ∙ ap (λ xs. told ++ xs)
-        (ap (λ rest. take n bytes ++ take more rest) (rest_slice bytes n) ∙ sym (take-add n more bytes)))
+    (ap (λ rest. take n bytes ++ take more rest) (rest_slice bytes n) ∙ sym (take-add n more bytes)))

@@ -23,7 +23,8 @@ pub trait Source {
     fn read(&mut self, into: &mut [u8]) -> Result<usize, Failed>
         ensures within { IfOk result (λ count. count ≤ length into.new) }
         ensures bytes { IfOk result (λ count. left self.old ≡ led_by (take count into.new) (left self.new)) }
-        ensures end { IfOk result (λ count. count ≡ 0 → 0 < length into.new → IfSome (left self.new) (λ bytes. bytes ≡ [])) }
+        ensures end { IfOk result (λ count. count ≡ 0 → 0 < length into.new
+            → IfSome (left self.new) (λ bytes. bytes ≡ [])) }
 
         // A count rises with a failure alone.
         ensures same { OnOk result (faults self.new ≡ faults self.old) }

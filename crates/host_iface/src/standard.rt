@@ -37,7 +37,8 @@ impl<R: Read> Source for StdSource<R> {
         ensures within { IfOk result (λ count. count ≤ length into.new) }
 
         // The bytes are those of the reader, where that is one whose bytes are known.
-        ensures bytes { ReadConsumes (R.remaining (reader_of self.old)) (R.remaining (reader_of self.new)) result into.new }
+        ensures bytes { ReadConsumes (R.remaining (reader_of self.old))
+            (R.remaining (reader_of self.new)) result into.new }
 
         ensures same { OnOk result (failed_reads self.new ≡ failed_reads self.old) }
         ensures one_more { OnErr result (failed_reads self.new ≡ next_count (failed_reads self.old)) }
@@ -86,7 +87,8 @@ impl<W: Write> Sink for StdSink<W> {
         ensures some { IfOk result (λ count. 0 < length piece.now → 0 < count) }
 
         // The bytes go to the writer, where that is one whose bytes are known.
-        ensures bytes { WriteAppends (W.contents (writer_of self.old)) (W.contents (writer_of self.new)) result piece.now }
+        ensures bytes { WriteAppends (W.contents (writer_of self.old))
+            (W.contents (writer_of self.new)) result piece.now }
 
         ensures same { OnOk result (failed_writes self.new ≡ failed_writes self.old) }
         ensures one_more { OnErr result (failed_writes self.new ≡ next_count (failed_writes self.old)) }

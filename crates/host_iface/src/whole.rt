@@ -24,7 +24,8 @@ pub fn read_all<S: Source>(alloc: Global, source: &mut S, limit: usize) -> Resul
     ensures within { IfOk result (λ bytes. length bytes ≤ limit) }
 
     ensures one_more { IfTooLong result (λ read. length read ≡ limit + 1) }
-    ensures front { IfTooLong result (λ read. IfSome (S.left source.old) (λ left. (limit < length left) × (read ≡ take (limit + 1) left))) }
+    ensures front { IfTooLong result
+        (λ read. IfSome (S.left source.old) (λ left. (limit < length left) × (read ≡ take (limit + 1) left))) }
     ensures rest { IfTooLong result (λ read. S.left source.old ≡ led_by read (S.left source.new)) }
 
     ensures fault { OnReadFault result (HasRisen (S.faults source.old) (S.faults source.new)) }
@@ -57,7 +58,8 @@ pub fn read_all<S: Source>(alloc: Global, source: &mut S, limit: usize) -> Resul
 pub fn write_all<K: Sink>(sink: &mut K, bytes: &[u8]) -> Result<(), WriteStop>
     ensures all { OnOk result (K.taken sink.new ≡ followed_by (K.taken sink.old) bytes.now) }
 
-    ensures part { IfWriteFault result (λ taken. K.taken sink.new ≡ followed_by (K.taken sink.old) (take taken bytes.now)) }
+    ensures part { IfWriteFault result
+        (λ taken. K.taken sink.new ≡ followed_by (K.taken sink.old) (take taken bytes.now)) }
     ensures not_all { IfWriteFault result (λ taken. taken < length bytes.now) }
     ensures fault { OnErr result (HasRisen (K.faults sink.old) (K.faults sink.new)) }
     ensures same { OnOk result (K.faults sink.new ≡ K.faults sink.old) }

@@ -64,7 +64,7 @@ module _ (parts : List Part) (j k : Kernel) where
 
     pub queues-changed : (a b : Numbered Queue) (keys_a keys_b : Numbered ℕ) (used_a used_b : List ℕ) (r : Reply)
         → Changes (has_queue parts) j.queues k.queues a b
-            → Changes (has_queue_keys parts) j.queue_keys k.queue_keys keys_a keys_b
+        → Changes (has_queue_keys parts) j.queue_keys k.queue_keys keys_a keys_b
         → SameEffect parts j k
         (record { kernel = record j { queues = a; queue_keys = keys_a; used_queues = used_a }; reply = r })
         (record { kernel = record k { queues = b; queue_keys = keys_b; used_queues = used_b }; reply = r })

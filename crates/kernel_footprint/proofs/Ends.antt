@@ -66,8 +66,8 @@ gone-living ps n p a h =
     elim (cases_eq p n) [
       | inl e ↦
           let none : living_in (put ps n Gone) p ≡ None =
-              subst (λ (q : ℕ). living_in (put ps n Gone) q ≡ None) (sym e)
-              (ap (option_and_then alive_in) (get-put-same ps n Gone))
+          subst (λ (q : ℕ). living_in (put ps n Gone) q ≡ None) (sym e)
+          (ap (option_and_then alive_in) (get-put-same ps n Gone))
           in cc
       | inr ne ↦ sym (ap (option_and_then alive_in) (get-put-other ps n Gone p ne)) ∙ h
     ]
@@ -96,11 +96,11 @@ module _ (ps : Numbered Process) (rises : Rising ps)
         | inl e ↦
             let none : living_in (put (fold bury ps es) pid v) p ≡ None =
             subst (λ (q : ℕ). living_in (put (fold bury ps es) pid v) q ≡ None) (sym e)
-                (ap (option_and_then alive_in) (get-put-same (fold bury ps es) pid v) ∙ dead)
+            (ap (option_and_then alive_in) (get-put-same (fold bury ps es) pid v) ∙ dead)
             in cc
         | inr off ↦
             let before = buried-living es ps p b
-                (sym (ap (option_and_then alive_in) (get-put-other (fold bury ps es) pid v p off)) ∙ l)
+            (sym (ap (option_and_then alive_in) (get-put-other (fold bury ps es) pid v p off)) ∙ l)
             in let is = parent-is pid ps r rises h
             in elim (cases_Bool (lists b.row.family pid)) [
               | inl t ↦ absurd (ne (one_parent p r.pid b r.alive pid before is.0 t is.1))
@@ -116,12 +116,12 @@ module _ (ps : Numbered Process) (rises : Rising ps)
       in let row = Living (with_ended_child r.alive pid ending)
       in let middle = put (fold bury ps es) pid kept
       in orphan-from_unlisted pid (put middle r.pid row)
-          (rising-put middle r.pid row (rising-put (fold bury ps es) pid kept (buried-rises es ps rises)))
+      (rising-put middle r.pid row (rising-put (fold bury ps es) pid kept (buried-rises es ps rises)))
       (λ p b l. elim (cases_eq p r.pid) [
         | inl e ↦
             let there : living_in (put middle r.pid row) p ≡ Some (with_ended_child r.alive pid ending) =
             subst (λ (q : ℕ). living_in (put middle r.pid row) q ≡ Some (with_ended_child r.alive pid ending)) (sym e)
-                (ap (option_and_then alive_in) (get-put-same middle r.pid row))
+            (ap (option_and_then alive_in) (get-put-same middle r.pid row))
             in let same : b ≡ with_ended_child r.alive pid ending = cc
             in ap (λ x. lists x.row.family pid) same ∙ ended-unlisted r.alive pid ending
         | inr ne ↦
@@ -158,7 +158,7 @@ any-left : {X : Type 0} (test : X → Bool) (xs ys : List X) → list_any test x
 any-left test [] ys h = absurd (false≢true h)
 any-left test (x ∷ xs) ys h =
     elim (or_cases (test x) (list_any test xs) h)
-        [ inl t ↦ or_left _ _ t | inr t ↦ or_right _ _ (any-left test xs ys t) ]
+    [ inl t ↦ or_left _ _ t | inr t ↦ or_right _ _ (any-left test xs ys t) ]
 
 any-right : {X : Type 0} (test : X → Bool) (xs ys : List X) → list_any test ys ≡ true → list_any test (xs ++ ys) ≡ true
 any-right test [] ys h = h
@@ -214,7 +214,7 @@ same-record r s x y =
 module _ (j k : Kernel) (vj : IsValid j) (vk : IsValid k) (pid : ℕ) where
   same-parent-by : (o p : Option Parent) → parent_in pid j.processes ≡ o → parent_in pid k.processes ≡ p
       → option_map (λ r. r.pid) o ≡ option_map (λ r. r.pid) p → AgreeOn (parent_parts (option_map (λ r. r.pid) o)) j k
-          → o ≡ p
+      → o ≡ p
   same-parent-by None None x y e h = refl
   same-parent-by None (Some s) x y e h = cc
   same-parent-by (Some r) None x y e h = cc
@@ -224,7 +224,7 @@ module _ (j k : Kernel) (vj : IsValid j) (vk : IsValid k) (pid : ℕ) where
       in let is_k = parent-is pid k.processes s (rising k.processes vk.processes) y
       in let there : living_in k.processes r.pid ≡ Some r.alive = sym (ap (option_and_then alive_in) h.0) ∙ is_j.0
       in let too : living_in k.processes s.pid ≡ Some r.alive =
-          subst (λ (q : ℕ). living_in k.processes q ≡ Some r.alive) number there
+      subst (λ (q : ℕ). living_in k.processes q ≡ Some r.alive) number there
       in let row : r.alive ≡ s.alive = cc
       in ap Some (same-record r s number row)
 
@@ -251,20 +251,20 @@ whole-of_ended pid p a parent h = or_right _ _ (any-left (is_whole p) (parts_of_
 end-changes : (j k : Kernel) (pid : ℕ) (a : Alive) (ending : Ending) → living_at j pid ≡ Some a
     → parent_in pid j.processes ≡ parent_in pid k.processes
     → Changes (has_whole (parts_at j pid)) j.processes k.processes (processes_after_end j.processes pid a ending)
-        (processes_after_end k.processes pid a ending)
+    (processes_after_end k.processes pid a ending)
 end-changes j k pid a ending lives same =
     let touched = has_whole (parts_at j pid)
     in subst (λ o. Changes touched j.processes k.processes (processes_after_end j.processes pid a ending)
-        (end_under (bury_all k.processes a.row.family) pid ending o)) same
+    (end_under (bury_all k.processes a.row.family) pid ending o)) same
     (ended-changes touched j.processes k.processes (parent_in pid j.processes) (bury_all j.processes a.row.family)
-        (bury_all k.processes a.row.family) pid ending
+    (bury_all k.processes a.row.family) pid ending
     (or_left _ _ (eq-same pid))
     (λ r e. subst (λ q. has_whole (exit_parts pid (living_at j pid) (option_map (λ x. x.pid) q)) r.pid ≡ true) (sym e)
-        (whole-of_parent pid (living_at j pid) r))
+    (whole-of_parent pid (living_at j pid) r))
     (buried-changes touched j.processes k.processes a.row.family.ended j.processes k.processes
     (all-whole touched a.row.family.ended
     (λ p u. subst (λ o. has_whole (exit_parts pid o (parent_number j pid)) p ≡ true) (sym lives)
-        (whole-of_ended pid p a (parent_number j pid) u)))
+    (whole-of_ended pid p a (parent_number j pid) u)))
     (changes-none touched j.processes k.processes)))
 
 end-alike : (j k : Kernel) (pid n : ℕ) (a : Alive) (ending : Ending) → IsValid j → IsValid k → living_at j pid ≡ Some a
@@ -287,7 +287,7 @@ end-alike j k pid n a ending vj vk lives same =
     orphan-of i v p t =
         let e = has_parent-is pid p (living_at j pid) (parent_number j pid) t
         in subst (λ (q : ℕ). parent_in q (processes_after_end i.processes pid a ending) ≡ None) (sym e)
-            (orphaned i v a.row.family.ended pid ending)
+        (orphaned i v a.row.family.ended pid ending)
 
 end-law : (j k : Kernel) (pid n : ℕ) (call : Call) (ending : Ending) → IsValid j → IsValid k
     → AgreeOn (parts_at j pid) j k
@@ -296,11 +296,11 @@ end-law : (j k : Kernel) (pid n : ℕ) (call : Call) (ending : Ending) → IsVal
 end-law j k pid n call ending vj vk h is =
     let parts = parts_at j pid
     in let same = same-parent j k vj vk pid h.1.1.0
-        (agree-right (parts_of_ended (living_at j pid)) (parent_parts (parent_number j pid)) j k h.1.1.1)
+    (agree-right (parts_of_ended (living_at j pid)) (parent_parts (parent_number j pid)) j k h.1.1.1)
     in whole-steps parts n j k pid call h (or_left _ _ (eq-same pid)) h.1.0
     (λ a x y. subst (λ e. SameEffects parts j k e (effect k pid a call n)) (sym (is j a))
     (subst (λ e. SameEffects parts j k (Some (end_process j pid a ending)) e) (sym (is k a))
-        (end-alike j k pid n a ending vj vk x same)))
+    (end-alike j k pid n a ending vj vk x same)))
 
 pub exit-law : (j k : Kernel) (pid n status : ℕ) → LawAt j k pid (calls.Exit status) n
 exit-law j k pid n status vj vk h uj uk =

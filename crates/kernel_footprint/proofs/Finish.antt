@@ -60,14 +60,14 @@ module _ (parts : List Part) (j k : Kernel) (e f : Effect) (pid : ℕ) (s : Same
         set_keys = p.set_keys;
         parents = λ q t. orphans-number q (with_alive e.kernel pid (spent a)) (with_alive f.kernel pid (spent a))
             (orphan-put q e.kernel.processes pid (Living (spent a))
-                (orphan-unlisted q e.kernel.processes pid a (s.parents q t).0 le) (s.parents q t).0)
+            (orphan-unlisted q e.kernel.processes pid a (s.parents q t).0 le) (s.parents q t).0)
             (orphan-put q f.kernel.processes pid (Living (spent a))
-                (orphan-unlisted q f.kernel.processes pid a (s.parents q t).1 lf) (s.parents q t).1);
+            (orphan-unlisted q f.kernel.processes pid a (s.parents q t).1 lf) (s.parents q t).1);
       }
 
   spent-if : (a : Alive) (b : Bool) → living_at e.kernel pid ≡ Some a → living_at f.kernel pid ≡ Some a
       → Stepped parts j k (cond b (with_alive e.kernel pid (spent a)) e.kernel)
-          (cond b (with_alive f.kernel pid (spent a)) f.kernel)
+      (cond b (with_alive f.kernel pid (spent a)) f.kernel)
   spent-if a true le lf = with-spent a le lf
   spent-if a false le lf = plain parts j k e f s
 
@@ -78,12 +78,12 @@ module _ (parts : List Part) (j k : Kernel) (e f : Effect) (pid : ℕ) (s : Same
 
   pub whole-stepped : get j.processes pid ≡ get k.processes pid
       → Stepped parts j k (finish_call e.kernel pid (living_at e.kernel pid))
-          (finish_call f.kernel pid (living_at f.kernel pid))
+      (finish_call f.kernel pid (living_at f.kernel pid))
   whole-stepped h =
       let same : living_at e.kernel pid ≡ living_at f.kernel pid =
-          ap (option_and_then alive_in) (change-agree _ _ _ _ _ (s.processes pid) h)
+      ap (option_and_then alive_in) (change-agree _ _ _ _ _ (s.processes pid) h)
       in subst (λ o. Stepped parts j k (finish_call e.kernel pid (living_at e.kernel pid)) (finish_call f.kernel pid o))
-          same
+      same
       (finished-by (living_at e.kernel pid) refl (sym same))
 
 -- Where the caller's allowance alone is a part.
@@ -102,7 +102,7 @@ bare-spent o a h = sym (ap (option_map bare) h)
 
 module _ (parts : List Part) (j k : Kernel) (e f : Effect) (pid : ℕ) (s : SameEffect parts j k e f)
     (away : has_whole parts pid ≡ false) (allowed : has_allowance parts pid ≡ true) (childless : (p : ℕ)
-        → has_parent parts p ≡ false)
+    → has_parent parts p ≡ false)
     (a b : Alive) (lives : living_at j pid ≡ Some a) (lives_too : living_at k pid ≡ Some b) where
   doomed-at : (q : ℕ) → Moved (has_whole parts q) (has_allowance parts q) (get j.processes q) (get k.processes q)
       (get (put e.kernel.processes pid (Living (spent a))) q) (get (put f.kernel.processes pid (Living (spent b))) q)
@@ -110,9 +110,9 @@ module _ (parts : List Part) (j k : Kernel) (e f : Effect) (pid : ℕ) (s : Same
       elim (cases_eq q pid) [
         | inl h ↦
             let P : ℕ → Type 0 = λ r.
-                Moved (has_whole parts r) (has_allowance parts r) (get j.processes r) (get k.processes r)
+            Moved (has_whole parts r) (has_allowance parts r) (get j.processes r) (get k.processes r)
             (get (put e.kernel.processes pid (Living (spent a))) r)
-                (get (put f.kernel.processes pid (Living (spent b))) r)
+            (get (put f.kernel.processes pid (Living (spent b))) r)
             in let x = get-put-same e.kernel.processes pid (Living (spent a))
             in let y = get-put-same f.kernel.processes pid (Living (spent b))
             in subst P (sym h) (Doomed away allowed (ap allowance_in x ∙ sym (ap allowance_in y))
@@ -120,7 +120,7 @@ module _ (parts : List Part) (j k : Kernel) (e f : Effect) (pid : ℕ) (s : Same
             (ap (option_map bare) y ∙ bare-spent _ b (living-stands _ b lives_too)))
         | inr h ↦ moved-from_change _ _ _ _ _ _ (change-move _ _ _ _ _ _ _ (s.processes q)
             (get-put-other e.kernel.processes pid (Living (spent a)) q h)
-                (get-put-other f.kernel.processes pid (Living (spent b)) q h))
+            (get-put-other f.kernel.processes pid (Living (spent b)) q h))
       ]
 
   both-spent : Stepped parts j k (with_alive e.kernel pid (spent a)) (with_alive f.kernel pid (spent b))
@@ -137,7 +137,7 @@ module _ (parts : List Part) (j k : Kernel) (e f : Effect) (pid : ℕ) (s : Same
 
   both-by : (x y : Bool) → x ≡ y
       → Stepped parts j k (cond x (with_alive e.kernel pid (spent a)) e.kernel)
-          (cond y (with_alive f.kernel pid (spent b)) f.kernel)
+      (cond y (with_alive f.kernel pid (spent b)) f.kernel)
   both-by true true h = both-spent
   both-by false false h = plain parts j k e f s
   both-by true false h = cc
@@ -145,14 +145,14 @@ module _ (parts : List Part) (j k : Kernel) (e f : Effect) (pid : ℕ) (s : Same
 
   pub away-stepped : IsValidProcess j pid a → IsValidProcess k pid b → a.allowance ≡ b.allowance
       → Stepped parts j k (finish_call e.kernel pid (living_at e.kernel pid))
-          (finish_call f.kernel pid (living_at f.kernel pid))
+      (finish_call f.kernel pid (living_at f.kernel pid))
   away-stepped va vb h =
       let le : living_at e.kernel pid ≡ Some a =
-          ap (option_and_then alive_in) (change-first _ _ _ _ _ (s.processes pid) away) ∙ lives
+      ap (option_and_then alive_in) (change-first _ _ _ _ _ (s.processes pid) away) ∙ lives
       in let lf : living_at f.kernel pid ≡ Some b =
-          ap (option_and_then alive_in) (change-second _ _ _ _ _ (s.processes pid) away) ∙ lives_too
+      ap (option_and_then alive_in) (change-second _ _ _ _ _ (s.processes pid) away) ∙ lives_too
       in let alike = doomed-alike a.row.signals.doom b.row.signals.doom a.allowance b.allowance va.allowed vb.allowed h
       in subst (λ o. Stepped parts j k (finish_call e.kernel pid o) (finish_call f.kernel pid (living_at f.kernel pid)))
-          (sym le)
+      (sym le)
       (subst (λ o. Stepped parts j k (finish_call e.kernel pid (Some a)) (finish_call f.kernel pid o)) (sym lf)
       (both-by (is_some a.row.signals.doom) (is_some b.row.signals.doom) alike))

@@ -110,8 +110,11 @@ IsQuiet own n k = (kind : Kind) → has_created own k kind n ≡ false
 unchanged-grew : (own : Option Kind) (n : ℕ) (k : Kernel) (r : Reply) → IsQuiet own n k → (kind : Kind)
     → Grew own n k (record { kernel = k; reply = r }) kind
 unchanged-grew own n k r quiet kind =
-    record { used = ap (λ b. grown_by b (used_of k kind) n) (sym (quiet kind)); says =
-        λ t. absurd (false≢true (sym (quiet kind) ∙ t)) }
+    record {
+      used = ap (λ b. grown_by b (used_of k kind) n) (sym (quiet kind));
+      says =
+          λ t. absurd (false≢true (sym (quiet kind) ∙ t));
+    }
 
 unused-absent : (b used : Bool) → (IsTrue b → IsTrue used) → used ≡ false → b ≡ false
 unused-absent false used h u = refl
@@ -146,7 +149,7 @@ grown-there b used n h = ap (λ c. grown_by c used n) (sym h)
 module _ (k : Kernel) (n : ℕ) where
   grew-process : (ps : Numbered Process) → is_some (get ps n) ≡ true
       → (kind : Kind) → Grew (Some kinds.Proc) n k
-          (reply_with (record k { processes = ps; used_processes = used_with k.used_processes n }) n) kind
+      (reply_with (record k { processes = ps; used_processes = used_with k.used_processes n }) n) kind
   grew-process ps h kinds.Proc =
       record { used = grown-there (is_some (get ps n)) k.used_processes n h; says = λ t. refl }
   grew-process ps h kinds.Msg = record { used = refl; says = λ t. refl }
@@ -154,22 +157,32 @@ module _ (k : Kernel) (n : ℕ) where
 
   grew-queue : (keys : Numbered ℕ) (kind : Kind)
       → Grew (Some kinds.Msg) n k
-          (reply_with (record k { queues = put k.queues n empty_queue; queue_keys = keys; used_queues =
-          used_with k.used_queues n }) n) kind
+      (reply_with (record k {
+        queues = put k.queues n empty_queue;
+        queue_keys = keys;
+        used_queues =
+            used_with k.used_queues n;
+      }) n) kind
   grew-queue keys kinds.Proc = record { used = refl; says = λ t. refl }
   grew-queue keys kinds.Msg =
-      record { used = grown-there (is_some (get (put k.queues n empty_queue) n)) k.used_queues n
-      (put-there k.queues n empty_queue); says = λ t. refl }
+      record {
+        used = grown-there (is_some (get (put k.queues n empty_queue) n)) k.used_queues n
+            (put-there k.queues n empty_queue);
+        says = λ t. refl;
+      }
   grew-queue keys kinds.Sem = record { used = refl; says = λ t. refl }
 
   grew-set : (keys : Numbered ℕ) (s : SemaphoreSet) (kind : Kind)
       → Grew (Some kinds.Sem) n k
-          (reply_with (record k { sets = put k.sets n s; set_keys = keys; used_sets = used_with k.used_sets n }) n) kind
+      (reply_with (record k { sets = put k.sets n s; set_keys = keys; used_sets = used_with k.used_sets n }) n) kind
   grew-set keys s kinds.Proc = record { used = refl; says = λ t. refl }
   grew-set keys s kinds.Msg = record { used = refl; says = λ t. refl }
   grew-set keys s kinds.Sem =
-      record { used = grown-there (is_some (get (put k.sets n s) n)) k.used_sets n (put-there k.sets n s); says =
-      λ t. refl }
+      record {
+        used = grown-there (is_some (get (put k.sets n s) n)) k.used_sets n (put-there k.sets n s);
+        says =
+            λ t. refl;
+      }
 
   grew-if : (own : Option Kind) (b : Bool) (e : Effect) → ((kind : Kind) → Grew own n k e kind)
       → AllGrew own n k (if b then Some e else None)
@@ -179,8 +192,11 @@ module _ (k : Kernel) (n : ℕ) where
   grew-fork : (pid : ℕ) (a : Alive) → AllGrew (Some kinds.Proc) n k
       (if is_fresh k.used_processes n
       then Some (reply_with
-          (record k { processes = processes_after_fork k.processes pid a n; used_processes =
-          used_with k.used_processes n }) n)
+      (record k {
+        processes = processes_after_fork k.processes pid a n;
+        used_processes =
+            used_with k.used_processes n;
+      }) n)
       else None)
   grew-fork pid a =
       grew-if (Some kinds.Proc) (is_fresh k.used_processes n) _
@@ -198,7 +214,7 @@ module _ (k : Kernel) (n : ℕ) where
 
   unchanged-if : (own : Option Kind) (b : Bool) (r s : Reply) → IsQuiet own n k
       → (kind : Kind) → Grew own n k
-          (if b then record { kernel = k; reply = r } else record { kernel = k; reply = s }) kind
+      (if b then record { kernel = k; reply = r } else record { kernel = k; reply = s }) kind
   unchanged-if own true r s quiet = unchanged-grew own n k r quiet
   unchanged-if own false r s quiet = unchanged-grew own n k s quiet
 
@@ -253,7 +269,7 @@ module _ (k : Kernel) (pid : ℕ) (a : Alive) (n : ℕ) (v : IsValid k) where
       grew-get_set_at k n key count create excl (get k.set_keys key) (quiet-sets k n v u)
   grew-effect (calls.SemOp id steps) u =
       grew-operated k n (list_any may_wait steps) _
-          (keeps-named k (get k.sets id) _ (λ s. keeps-set k id (op s pid steps)))
+      (keeps-named k (get k.sets id) _ (λ s. keeps-set k id (op s pid steps)))
   grew-effect (calls.SemGetVal id num) u =
       from-keeps n k _ (keeps-named k (get k.sets id) _ (λ s. keeps-look k (value_at s num)))
   grew-effect (calls.SemGetPid id num) u =
@@ -324,7 +340,7 @@ module _ (k : Kernel) (pid : ℕ) (call : Call) (n : ℕ) where
   grows-after e g kind =
       let same = finish-numbers n e.kernel pid (living_at e.kernel pid) refl kind
       in let created = created-same (created_kind call) n e.kernel
-          (finish_call e.kernel pid (living_at e.kernel pid)) kind same.there
+      (finish_call e.kernel pid (living_at e.kernel pid)) kind same.there
       in record {
         used = same.used ∙ (g kind).used ∙ ap (λ b. grown_by b (used_of k kind) n) (sym created);
         reply = λ t. ap Some ((g kind).says (sym created ∙ t));

@@ -83,10 +83,10 @@ pub orphan-from_unlisted : (child : ℕ) (ps : Numbered Process) → Rising ps
 orphan-from_unlisted child [] r h = refl
 orphan-from_unlisted child (e ∷ es) r h =
     let first : lists_in child e.1 ≡ false =
-        first-unlisted child e.1 (λ a l. h e.0 a (ap (option_and_then alive_in) (get-first e es e.0 refl) ∙ l))
+    first-unlisted child e.1 (λ a l. h e.0 a (ap (option_and_then alive_in) (get-first e es e.0 refl) ∙ l))
     in parent-skip child e.0 e.1 (parent_in child es) first
     ∙ orphan-from_unlisted child es r.1
-        (λ p a l. h p a (ap (option_and_then alive_in) (get-later e es p (rest-apart e es p a r.0 l)) ∙ l))
+    (λ p a l. h p a (ap (option_and_then alive_in) (get-later e es p (rest-apart e es p a r.0 l)) ∙ l))
 
 -- the parent lives and lists the child
 abbrev pub IsParentIn : ℕ → Numbered Process → Parent → Type 0

@@ -32,9 +32,9 @@ module _ (parts : List Part) (n : ℕ) (j k : Kernel) (childless : Childless par
       (record { kernel = record k { queues = put k.queues id q }; reply = r })
   queue-put id q r t =
       queues-changed parts j k childless (put j.queues id q)
-          (put k.queues id q) j.queue_keys k.queue_keys j.used_queues k.used_queues r
+      (put k.queues id q) j.queue_keys k.queue_keys j.used_queues k.used_queues r
       (changes-put (has_queue parts) j.queues k.queues j.queues k.queues id q t
-          (changes-none (has_queue parts) j.queues k.queues))
+      (changes-none (has_queue parts) j.queues k.queues))
       (changes-none (has_queue_keys parts) j.queue_keys k.queue_keys)
 
   changed-alike : (id : ℕ) (r : Result Queue Errno) → has_queue parts id ≡ true
@@ -50,13 +50,13 @@ module _ (parts : List Part) (n : ℕ) (j k : Kernel) (childless : Childless par
   new-alike : (keys_j keys_k : Numbered ℕ) → Changes (has_queue_keys parts) j.queue_keys k.queue_keys keys_j keys_k
       → has_queue parts n ≡ true
       → is_used j.used_queues n ≡ false → is_used k.used_queues n ≡ false
-          → SameEffects parts j k (new_queue j keys_j n) (new_queue k keys_k n)
+      → SameEffects parts j k (new_queue j keys_j n) (new_queue k keys_k n)
   new-alike keys_j keys_k c t uj uk =
       made-if parts j k _ _ _ _ (fresh-alike j.used_queues k.used_queues n uj uk)
       (queues-changed parts j k childless (put j.queues n empty_queue) (put k.queues n empty_queue) keys_j keys_k
       (used_with j.used_queues n) (used_with k.used_queues n) (Num n)
       (changes-put (has_queue parts) j.queues k.queues j.queues k.queues n empty_queue t
-          (changes-none (has_queue parts) j.queues k.queues))
+      (changes-none (has_queue parts) j.queues k.queues))
       c)
 
   bound-alike : (id : ℕ) (b : Bool)
@@ -72,7 +72,7 @@ module _ (parts : List Part) (n : ℕ) (j k : Kernel) (childless : Childless par
   got-alike key true excl None s t uj uk =
       new-alike (put j.queue_keys key n) (put k.queue_keys key n)
       (changes-put (has_queue_keys parts) j.queue_keys k.queue_keys j.queue_keys k.queue_keys key n s
-          (changes-none (has_queue_keys parts) j.queue_keys k.queue_keys))
+      (changes-none (has_queue_keys parts) j.queue_keys k.queue_keys))
       t uj uk
   got-alike key false excl None s t uj uk = unchanged parts j k childless (Fail Enoent)
 
@@ -93,7 +93,7 @@ queue-steps j k pid call n id vj vk h m s =
 
 send-effects : (j k : Kernel) (pid n id : ℕ) (class : ℤ) (text : List ℕ) (nowait : Bool) → AgreeOn (at_queue pid id) j k
     → (a b : Alive) → SameEffects (at_queue pid id) j k (effect j pid a (calls.MsgSnd id class text nowait) n)
-        (effect k pid b (calls.MsgSnd id class text nowait) n)
+    (effect k pid b (calls.MsgSnd id class text nowait) n)
 send-effects j k pid n id class text true h a b =
     named-alike (at_queue pid id) j k (λ p. refl) (get j.queues id) (get k.queues id) _ _ h.1.0
     (λ q. changed-alike (at_queue pid id) n j k (λ p. refl) id (send q pid class text) (queue-here pid id))
@@ -103,12 +103,12 @@ pub send-law : (j k : Kernel) (pid n id : ℕ) (class : ℤ) (text : List ℕ) (
     → LawAt j k pid (calls.MsgSnd id class text nowait) n
 send-law j k pid n id class text nowait vj vk h uj uk =
     queue-steps j k pid (calls.MsgSnd id class text nowait) n id vj vk h (λ a b e. ap (λ x. not (is_spent x)) e)
-        (send-effects j k pid n id class text nowait h)
+    (send-effects j k pid n id class text nowait h)
 
 receive-effects : (j k : Kernel) (pid n id : ℕ) (class : ℤ) (size : ℕ) (noerror nowait : Bool)
     → AgreeOn (at_queue pid id) j k
     → (a b : Alive) → SameEffects (at_queue pid id) j k (effect j pid a (calls.MsgRcv id class size noerror nowait) n)
-        (effect k pid b (calls.MsgRcv id class size noerror nowait) n)
+    (effect k pid b (calls.MsgRcv id class size noerror nowait) n)
 receive-effects j k pid n id class size noerror true h a b =
     named-alike (at_queue pid id) j k (λ p. refl) (get j.queues id) (get k.queues id) _ _ h.1.0
     (λ q. received-alike (at_queue pid id) n j k (λ p. refl) id (receive q pid class size noerror) (queue-here pid id))
@@ -118,7 +118,7 @@ pub receive-law : (j k : Kernel) (pid n id : ℕ) (class : ℤ) (size : ℕ) (no
     → LawAt j k pid (calls.MsgRcv id class size noerror nowait) n
 receive-law j k pid n id class size noerror nowait vj vk h uj uk =
     queue-steps j k pid (calls.MsgRcv id class size noerror nowait) n id vj vk h (λ a b e. ap (λ x. not (is_spent x)) e)
-        (receive-effects j k pid n id class size noerror nowait h)
+    (receive-effects j k pid n id class size noerror nowait h)
 
 pub stat-law : (j k : Kernel) (pid n id : ℕ) → LawAt j k pid (calls.MsgStat id) n
 stat-law j k pid n id vj vk h uj uk =
@@ -141,15 +141,15 @@ pub remove_queue-law : (j k : Kernel) (pid n id : ℕ) → LawAt j k pid (calls.
 remove_queue-law j k pid n id vj vk h uj uk =
     let parts = queue_and_keys pid id
     in away-steps parts n j k pid (calls.MsgRmid id) h refl (or_left _ _ (eq-same pid)) (λ p. refl) vj vk h.0
-        (λ a b e. ap (λ x. not (is_spent x)) e)
+    (λ a b e. ap (λ x. not (is_spent x)) e)
     (λ a b. named-alike parts j k (λ p. refl) (get j.queues id) (get k.queues id) _ _ h.1.0
     (λ q. queues-changed parts j k (λ p. refl) (without j.queues id) (without k.queues id) (unbind j.queue_keys id)
-        (unbind k.queue_keys id)
+    (unbind k.queue_keys id)
     j.used_queues k.used_queues (Num 0)
     (changes-without (has_queue parts) j.queues k.queues j.queues k.queues id (or_left _ _ (eq-same id))
-        (changes-none (has_queue parts) j.queues k.queues))
+    (changes-none (has_queue parts) j.queues k.queues))
     (λ key. Same refl (unbound-same j.queue_keys k.queue_keys id key vj.queue_keys.ordered vk.queue_keys.ordered
-        (h.1.1.0 key)))
+    (h.1.1.0 key)))
     ))
 
 -- A get, at the caller or at the keys.
@@ -160,12 +160,12 @@ get_queue-law j k pid n None create excl vj vk h uj uk =
     let parts = MayDo pid ∷ Whole pid ∷ QueueAt n ∷ []
     in whole-steps parts n j k pid (calls.MsgGet None create excl) h (or_left _ _ (eq-same pid)) h.1.0
     (λ a x y. new-alike parts n j k (λ p. refl) j.queue_keys k.queue_keys
-        (changes-none (has_queue_keys parts) j.queue_keys k.queue_keys)
+    (changes-none (has_queue_keys parts) j.queue_keys k.queue_keys)
     (or_left _ _ (eq-same n)) uj uk)
 get_queue-law j k pid n (Some key) create excl vj vk h uj uk =
     let parts = MayDo pid ∷ QueueKeys ∷ QueueAt n ∷ []
     in away-steps parts n j k pid (calls.MsgGet (Some key) create excl) h refl (or_left _ _ (eq-same pid))
-        (λ p. refl) vj vk h.0 (λ a b e. ap (λ x. not (is_spent x)) e)
+    (λ p. refl) vj vk h.0 (λ a b e. ap (λ x. not (is_spent x)) e)
     (λ a b. subst (λ o. SameEffects parts j k (get_queue_at j key create excl n (get j.queue_keys key))
-        (get_queue_at k key create excl n o)) (h.1.0 key)
+    (get_queue_at k key create excl n o)) (h.1.0 key)
     (got-alike parts n j k (λ p. refl) key create excl (get j.queue_keys key) refl (or_left _ _ (eq-same n)) uj uk))

@@ -17,7 +17,7 @@ use Rattle.kernel_footprint.proofs.Finish.{whole-stepped, away-stepped}
 step-by : (parts : List Part) (j k : Kernel) (e f : Effect) (to_j to_k : Kernel) → AgreeOn parts j k
     → SameEffect parts j k e f
     → Stepped parts j k to_j to_k
-        → AlikeStep parts j k (successor to_j (reply_alone e.reply)) (successor to_k (reply_alone f.reply))
+    → AlikeStep parts j k (successor to_j (reply_alone e.reply)) (successor to_k (reply_alone f.reply))
 step-by parts j k e f to_j to_k h s t =
     subst (λ r. AlikeStep parts j k (successor to_j (reply_alone e.reply)) (successor to_k (reply_alone r))) s.reply
     (step-from parts e.reply j k to_j to_k h t)
@@ -41,7 +41,7 @@ module _ (parts : List Part) (n : ℕ) (j k : Kernel) (pid : ℕ) (call : Call) 
 
   whole-by : (o : Option Alive) → living_at j pid ≡ o → living_at k pid ≡ o
       → ((a : Alive) → living_at j pid ≡ Some a → living_at k pid ≡ Some a
-          → SameEffects parts j k (effect j pid a call n) (effect k pid a call n))
+      → SameEffects parts j k (effect j pid a call n) (effect k pid a call n))
       → AlikeSteps parts j k (transition_by j pid call n o) (transition_by k pid call n o)
   whole-by None x y s = tt
   whole-by (Some a) x y s = whole-if (may_make a call) (effect j pid a call n) (effect k pid a call n) (s a x y)
@@ -52,14 +52,14 @@ module _ (parts : List Part) (n : ℕ) (j k : Kernel) (pid : ℕ) (call : Call) 
   whole-steps s =
       let alike : living_at j pid ≡ living_at k pid = ap (option_and_then alive_in) same
       in subst (λ o. AlikeSteps parts j k (transition j pid call n) (transition_by k pid call n o)) alike
-          (whole-by (living_at j pid) refl (sym alike) s)
+      (whole-by (living_at j pid) refl (sym alike) s)
 
 -- the caller's allowance alone is a part
 
 module _ (parts : List Part) (n : ℕ) (j k : Kernel) (pid : ℕ) (call : Call) (h : AgreeOn parts j k)
     (away : has_whole parts pid ≡ false)
     (allowed : has_allowance parts pid ≡ true) (childless : (p : ℕ) → has_parent parts p ≡ false) (vj : IsValid j)
-        (vk : IsValid k) where
+    (vk : IsValid k) where
   module _ (a b : Alive) (lives : living_at j pid ≡ Some a) (lives_too : living_at k pid ≡ Some b)
       (same : a.allowance ≡ b.allowance) where
     away-outcomes : (x y : Option Effect) → SameEffects parts j k x y
@@ -70,7 +70,7 @@ module _ (parts : List Part) (n : ℕ) (j k : Kernel) (pid : ℕ) (call : Call) 
     away-outcomes (Some e) (Some f) s =
         step-by parts j k e f _ _ h s
         (away-stepped parts j k e f pid s away allowed childless a b lives lives_too (vj.alive pid a lives)
-            (vk.alive pid b lives_too) same)
+        (vk.alive pid b lives_too) same)
 
     away-if : (b c : Bool) (x y : Option Effect) → b ≡ c → SameEffects parts j k x y
         → AlikeSteps parts j k (cond b (outcome_of pid x) None) (cond c (outcome_of pid y) None)
@@ -90,7 +90,7 @@ module _ (parts : List Part) (n : ℕ) (j k : Kernel) (pid : ℕ) (call : Call) 
   away-by (Some a) (Some b) x y e m s =
       let same : a.allowance ≡ b.allowance = cc
       in away-if a b x y same (may_make a call) (may_make b call) (effect j pid a call n) (effect k pid b call n)
-          (m a b same) (s a b)
+      (m a b same) (s a b)
 
   pub away-steps : allowance_at j pid ≡ allowance_at k pid
       → ((a b : Alive) → a.allowance ≡ b.allowance → may_make a call ≡ may_make b call)

@@ -80,8 +80,8 @@ cleared ps pid a fam l =
     let es = a.row.family.ended
     in let not_alive : (q : ℕ) (x : Alive) → get ps q ≡ Some (Living x) → Among es q → ⊥ =
     λ q x h w. living-ended {B =
-        ⊥} x w.0 (at-once (get ps q) (Living x) (Ended w.0) h
-        (fam.ended pid q w.0 (record { alive = a; there = l; kept = w.1 })))
+    ⊥} x w.0 (at-once (get ps q) (Living x) (Ended w.0) h
+    (fam.ended pid q w.0 (record { alive = a; there = l; kept = w.1 })))
     in record {
       alive_back = λ q x h.
           elim (among-or-not es q) [
@@ -101,25 +101,25 @@ cleared ps pid a fam l =
 
 first-parent : (child : ℕ) (p : ℕ × Process) (ps : Numbered Process) (pa : Parent) → Above p.0 ps
     → ((x : Parent) → parent_in child ps ≡ Some x → (get ps x.pid ≡ Some (Living x.alive))
-        × (lists x.alive.row.family child ≡ true))
+    × (lists x.alive.row.family child ≡ true))
     → parent_in child ps ≡ Some pa → (get (p ∷ ps) pa.pid ≡ Some (Living pa.alive))
-        × (lists pa.alive.row.family child ≡ true)
+    × (lists pa.alive.row.family child ≡ true)
 first-parent child p ps pa above ih h =
     let w = ih pa h
     in let ne : pa.pid ≢ p.0 =
-        λ same. not_some (Living pa.alive) (sym (ap (get ps) same ∙ get-above p.0 ps above) ∙ w.0)
+    λ same. not_some (Living pa.alive) (sym (ap (get ps) same ∙ get-above p.0 ps above) ∙ w.0)
     in (get-later p ps pa.pid ne ∙ w.0, w.1)
 
 parent-if : (child n : ℕ) (a : Alive) (ps : Numbered Process) (pa : Parent) → Above n ps
     → ((x : Parent) → parent_in child ps ≡ Some x → (get ps x.pid ≡ Some (Living x.alive))
-        × (lists x.alive.row.family child ≡ true))
+    × (lists x.alive.row.family child ≡ true))
     → (listed : Bool) → lists a.row.family child ≡ listed
     → (if listed then Some (record { pid = n; alive = a }) else parent_in child ps) ≡ Some pa
     → (get ((n, Living a) ∷ ps) pa.pid ≡ Some (Living pa.alive)) × (lists pa.alive.row.family child ≡ true)
 parent-if child n a ps pa above ih true e h =
     let is : record { pid = n; alive = a } ≡ pa = from_some (record { pid = n; alive = a }) pa h
     in subst (λ (x : Parent). (get ((n, Living a) ∷ ps) x.pid ≡ Some (Living x.alive))
-        × (lists x.alive.row.family child ≡ true)) is
+    × (lists x.alive.row.family child ≡ true)) is
     (get-first (n, Living a) ps n refl, e)
 parent-if child n a ps pa above ih false e h = first-parent child (n, Living a) ps pa above ih h
 
@@ -144,7 +144,7 @@ orphan-later child n v ps own ih p x h =
 
 orphan-if : (child n : ℕ) (a : Alive) (ps : Numbered Process) (listed : Bool) → lists a.row.family child ≡ listed
     → (if listed then Some (record { pid = n; alive = a }) else parent_in child ps) ≡ None
-        → (lists a.row.family child ≡ false) × (parent_in child ps ≡ None)
+    → (lists a.row.family child ≡ false) × (parent_in child ps ≡ None)
 orphan-if child n a ps true e h = not_none (record { pid = n; alive = a }) h
 orphan-if child n a ps false e h = (e, h)
 
@@ -154,7 +154,7 @@ orphan child [] h p x l = not_some (Living x) l
 orphan child ((n, Living a) ∷ ps) h p x l =
     let w = orphan-if child n a ps (lists a.row.family child) refl h
     in orphan-later child n (Living a) ps
-        (λ y e. ap (λ (z : Alive). lists z.row.family child) (sym (same-alive a y e)) ∙ w.0) (orphan child ps w.1) p x l
+    (λ y e. ap (λ (z : Alive). lists z.row.family child) (sym (same-alive a y e)) ∙ w.0) (orphan child ps w.1) p x l
 orphan child ((n, Ended e) ∷ ps) h p x l =
     orphan-later child n (Ended e) ps (λ y s. living-ended y e (sym s)) (orphan child ps h) p x l
 orphan child ((n, Gone) ∷ ps) h p x l =
@@ -167,7 +167,7 @@ keeps-cleared : (f m : Map) (pid : ℕ) (a : Alive) → Families f → f pid ≡
     → (p c : ℕ) (d : Ending) → KeepsEnded f p c d → p ≢ pid → m c ≡ Some (Ended d)
 keeps-cleared f m pid a fam l k p c d h ne =
     k.ended_on c d (fam.ended p c d h)
-        (λ w. ne (fam.one_keeper p pid c d w.0 h (record { alive = a; there = l; kept = w.1 })))
+    (λ w. ne (fam.one_keeper p pid c d w.0 h (record { alive = a; there = l; kept = w.1 })))
 
 own-keeps : (f m : Map) (pid : ℕ) (a : Alive) → f pid ≡ Some (Living a) → Cleared f m a.row.family.ended
     → (c : ℕ) (d : Ending) → m c ≡ Some (Ended d) → (f c ≡ Some (Ended d)) × (KeepsEnded f pid c d → ⊥)
@@ -200,9 +200,13 @@ over-alone f m g pid a fam l k t alone =
           );
       keeps_back = λ p c d h.
           let w = put-alive m g pid t p h.alive h.there in
-              inl (record { alive = h.alive; there = k.alive_back p h.alive w.1; kept = h.kept }, w.0);
-      keeps_on = λ p c d h ne. record { alive = h.alive; there = t.other p ne ∙ k.alive_on p h.alive h.there; kept =
-          h.kept };
+          inl (record { alive = h.alive; there = k.alive_back p h.alive w.1; kept = h.kept }, w.0);
+      keeps_on = λ p c d h ne. record {
+        alive = h.alive;
+        there = t.other p ne ∙ k.alive_on p h.alive h.there;
+        kept =
+            h.kept;
+      };
       lives_before = record { alive = a; there = l };
       lives_on = λ c h ne. record { alive = h.alive; there = t.other c ne ∙ k.alive_on c h.alive h.there };
       ended_back = λ c d h.
@@ -256,21 +260,24 @@ end-lists f m g pid a keeper old new ending ignored fam e p c h =
       | AtLast same is ↦
           let w = lists-end old.row.family pid ending ignored c
           (subst (λ (z : Family). lists z c ≡ true)
-              (end-family f m g pid a keeper old new ending ignored e h.alive is) h.listed)
+          (end-family f m g pid a keeper old new ending ignored e h.alive is) h.listed)
           in (record { alive = old; there = ap f same ∙ e.parent; listed = w.0 }, w.1)
       | Elsewhere first last was ↦
           let b = e.clear.alive_back p h.alive was
           in let l : Lists f p c = record { alive = h.alive; there = b; listed = h.listed }
-          in (l, λ same. last (fam.one_parent p keeper pid (subst (λ (x : ℕ). Lists f p x) same l)
-              (record { alive = old; there = e.parent; listed = e.listed })))
+          in (
+            l,
+            λ same. last (fam.one_parent p keeper pid (subst (λ (x : ℕ). Lists f p x) same l)
+                (record { alive = old; there = e.parent; listed = e.listed })),
+          )
     ]
 
 end-new : (f m g : Map) (pid : ℕ) (a : Alive) (keeper : ℕ) (old new : Alive) (ending : Ending) (ignored : Bool)
     → End f m g pid a keeper old new ending ignored → (c : ℕ) (d : Ending) → pid ≡ c → ending ≡ d → ignored ≡ false
-        → g c ≡ Some (Ended d)
+    → g c ≡ Some (Ended d)
 end-new f m g pid a keeper old new ending ignored e c d at is off =
     ap g (sym at) ∙ (e.two.first
-        ∙ (ap (λ (b : Bool). Some (process_after_end b ending)) off ∙ ap (λ (x : Ending). Some (Ended x)) is))
+    ∙ (ap (λ (b : Bool). Some (process_after_end b ending)) off ∙ ap (λ (x : Ending). Some (Ended x)) is))
 
 end-keeps : (f m g : Map) (pid : ℕ) (a : Alive) (keeper : ℕ) (old new : Alive) (ending : Ending) (ignored : Bool)
     → Families f
@@ -282,7 +289,7 @@ end-keeps f m g pid a keeper old new ending ignored fam e p c d h =
       | AtLast same is ↦
           elim (ended-end old.row.family pid ending ignored c d
           (subst (λ (z : Family). Contains z.ended (ended_child c d))
-              (end-family f m g pid a keeper old new ending ignored e h.alive is) h.kept)) [
+          (end-family f m g pid a keeper old new ending ignored e h.alive is) h.kept)) [
             | inl before ↦
                 inl (
                   record { alive = old; there = ap f same ∙ e.parent; kept = before },
@@ -296,22 +303,26 @@ end-keeps f m g pid a keeper old new ending ignored fam e p c d h =
 
 end-keeps-on : (f m g : Map) (pid : ℕ) (a : Alive) (keeper : ℕ) (old new : Alive) (ending : Ending) (ignored : Bool)
     → End f m g pid a keeper old new ending ignored → (p c : ℕ) (d : Ending) → KeepsEnded f p c d → p ≢ pid
-        → KeepsEnded g p c d
+    → KeepsEnded g p c d
 end-keeps-on f m g pid a keeper old new ending ignored e p c d h ne =
     elim (cases_eq p keeper) [
       | inl same ↦
           let is : h.alive ≡ old =
-              same-alive h.alive old (at-once (f p) (Living h.alive) (Living old) h.there (ap f same ∙ e.parent))
+          same-alive h.alive old (at-once (f p) (Living h.alive) (Living old) h.there (ap f same ∙ e.parent))
           in let k : Contains old.row.family.ended (ended_child c d) =
-              subst (λ (z : Alive). Contains z.row.family.ended (ended_child c d)) is h.kept
+          subst (λ (z : Alive). Contains z.row.family.ended (ended_child c d)) is h.kept
           in record {
             alive = new;
             there = ap g same ∙ e.two.last;
             kept = subst (λ (z : Family). Contains z.ended (ended_child c d)) (sym e.after)
                 (ended-stays old.row.family pid ending ignored (ended_child c d) k);
           }
-      | inr other ↦ record { alive = h.alive; there =
-          e.two.other p ne other ∙ e.clear.alive_on p h.alive h.there; kept = h.kept }
+      | inr other ↦ record {
+        alive = h.alive;
+        there =
+            e.two.other p ne other ∙ e.clear.alive_on p h.alive h.there;
+        kept = h.kept;
+      }
     ]
 
 end-lives : (f m g : Map) (pid : ℕ) (a : Alive) (keeper : ℕ) (old new : Alive) (ending : Ending) (ignored : Bool)
@@ -324,17 +335,21 @@ end-lives f m g pid a keeper old new ending ignored e c h ne =
 
 end-keeper : (f m g : Map) (pid : ℕ) (a : Alive) (keeper : ℕ) (old new : Alive) (ending : Ending) (ignored : Bool)
     → End f m g pid a keeper old new ending ignored → (c : ℕ) (d : Ending) → c ≡ pid → ending ≡ d → ignored ≡ false
-        → KeepsEnded g keeper c d
+    → KeepsEnded g keeper c d
 end-keeper f m g pid a keeper old new ending ignored e c d at is off =
     let k : Contains (family_after_end old.row.family pid ending ignored).ended (ended_child pid ending) =
     subst (λ (b : Bool). Contains (family_after_end old.row.family pid ending b).ended (ended_child pid ending))
-        (sym off) (ended-new old.row.family pid ending)
+    (sym off) (ended-new old.row.family pid ending)
     in let k2 : Contains new.row.family.ended (ended_child pid ending) =
-        subst (λ (z : Family). Contains z.ended (ended_child pid ending)) (sym e.after) k
+    subst (λ (z : Family). Contains z.ended (ended_child pid ending)) (sym e.after) k
     in let k3 : Contains new.row.family.ended (ended_child c ending) =
-        subst (λ (x : ℕ). Contains new.row.family.ended (ended_child x ending)) (sym at) k2
-    in record { alive = new; there = e.two.last; kept =
-        subst (λ (x : Ending). Contains new.row.family.ended (ended_child c x)) is k3 }
+    subst (λ (x : ℕ). Contains new.row.family.ended (ended_child x ending)) (sym at) k2
+    in record {
+      alive = new;
+      there = e.two.last;
+      kept =
+          subst (λ (x : Ending). Contains new.row.family.ended (ended_child c x)) is k3;
+    }
 
 end-ended : (f m g : Map) (pid : ℕ) (a : Alive) (keeper : ℕ) (old new : Alive) (ending : Ending) (ignored : Bool)
     → End f m g pid a keeper old new ending ignored → (c : ℕ) (d : Ending) → g c ≡ Some (Ended d)
@@ -343,7 +358,7 @@ end-ended f m g pid a keeper old new ending ignored e c d h =
     elim (from m g pid (process_after_end ignored ending) keeper (Living new) e.two c (Ended d) h) [
       | AtFirst same is ↦
           let w = kept-ended ignored ending d is in
-              inl (end-keeper f m g pid a keeper old new ending ignored e c d same w.1 w.0)
+          inl (end-keeper f m g pid a keeper old new ending ignored e c d same w.1 w.0)
       | AtLast same is ↦ living-ended new d is
       | Elsewhere first last was ↦ inr (own-keeps f m pid a e.lives e.clear c d was)
     ]

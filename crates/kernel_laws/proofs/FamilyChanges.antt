@@ -70,7 +70,7 @@ Each c = Unit {0}
 same-alive-back : (f g : Map) (pid : ℕ) (a b : Alive) → Put f g pid (Living b) → f pid ≡ Some (Living a)
     → b.row.family ≡ a.row.family
     → (p : ℕ) (x : Alive) → g p ≡ Some (Living x) → (y : Alive) × (f p ≡ Some (Living y))
-        × (x.row.family ≡ y.row.family)
+    × (x.row.family ≡ y.row.family)
 same-alive-back f g pid a b t l e p x h =
     elim (cases_eq p pid) [
       | inl same ↦
@@ -82,7 +82,7 @@ same-alive-back f g pid a b t l e p x h =
 same-alive-on : (f g : Map) (pid : ℕ) (a b : Alive) → Put f g pid (Living b) → f pid ≡ Some (Living a)
     → b.row.family ≡ a.row.family
     → (p : ℕ) (x : Alive) → f p ≡ Some (Living x) → (y : Alive) × (g p ≡ Some (Living y))
-        × (x.row.family ≡ y.row.family)
+    × (x.row.family ≡ y.row.family)
 same-alive-on f g pid a b t l e p x h =
     elim (cases_eq p pid) [
       | inl same ↦
@@ -153,11 +153,11 @@ born-lists f g pid n a child parent t l none more p c h =
     elim (from f g n (Living child) pid (Living parent) t p (Living h.alive) h.there) [
       | AtFirst same is ↦
           let e : no_family ≡ h.alive.row.family =
-              sym none ∙ ap (λ (z : Alive). z.row.family) (same-alive child h.alive is)
+          sym none ∙ ap (λ (z : Alive). z.row.family) (same-alive child h.alive is)
           in absurd (not_true {B = ⊥} (subst (λ (z : Family). lists z c ≡ true) (sym e) h.listed))
       | AtLast same is ↦
           let e : with_child a.row.family n ≡ h.alive.row.family =
-              sym more ∙ ap (λ (z : Alive). z.row.family) (same-alive parent h.alive is)
+          sym more ∙ ap (λ (z : Alive). z.row.family) (same-alive parent h.alive is)
           in elim (lists-child a.row.family n c (subst (λ (z : Family). lists z c ≡ true) (sym e) h.listed)) [
             | inl old ↦ inl (record { alive = a; there = ap f same ∙ l; listed = old })
             | inr new ↦ inr (same, new)
@@ -173,14 +173,18 @@ born-keeps f g pid n a child parent t l none more p c d h =
     elim (from f g n (Living child) pid (Living parent) t p (Living h.alive) h.there) [
       | AtFirst same is ↦
           let e : no_family ≡ h.alive.row.family =
-              sym none ∙ ap (λ (z : Alive). z.row.family) (same-alive child h.alive is)
+          sym none ∙ ap (λ (z : Alive). z.row.family) (same-alive child h.alive is)
           in absurd (contains-none (ended_child c d)
-              (subst (λ (z : Family). Contains z.ended (ended_child c d)) (sym e) h.kept))
+          (subst (λ (z : Family). Contains z.ended (ended_child c d)) (sym e) h.kept))
       | AtLast same is ↦
           let e : with_child a.row.family n ≡ h.alive.row.family =
-              sym more ∙ ap (λ (z : Alive). z.row.family) (same-alive parent h.alive is)
-          in record { alive = a; there = ap f same ∙ l; kept =
-              subst (λ (z : Family). Contains z.ended (ended_child c d)) (sym e) h.kept }
+          sym more ∙ ap (λ (z : Alive). z.row.family) (same-alive parent h.alive is)
+          in record {
+            alive = a;
+            there = ap f same ∙ l;
+            kept =
+                subst (λ (z : Family). Contains z.ended (ended_child c d)) (sym e) h.kept;
+          }
       | Elsewhere first last was ↦ record { alive = h.alive; there = was; kept = h.kept }
     ]
 
@@ -191,14 +195,22 @@ born-keeps-on f g pid n a child parent t l absent more p c d h =
     elim (cases_eq p pid) [
       | inl same ↦
           let is : h.alive ≡ a =
-              same-alive h.alive a (at-once (f p) (Living h.alive) (Living a) h.there (ap f same ∙ l))
+          same-alive h.alive a (at-once (f p) (Living h.alive) (Living a) h.there (ap f same ∙ l))
           in let e : h.alive.row.family.ended ≡ parent.row.family.ended =
           ap (λ (z : Alive). z.row.family.ended) is ∙ ap (λ (z : Family). z.ended) (sym more)
-          in record { alive = parent; there = ap g same ∙ t.last; kept =
-              subst (λ (z : List EndedChild). Contains z (ended_child c d)) e h.kept }
+          in record {
+            alive = parent;
+            there = ap g same ∙ t.last;
+            kept =
+                subst (λ (z : List EndedChild). Contains z (ended_child c d)) e h.kept;
+          }
       | inr ne ↦
-          record { alive = h.alive; there =
-              t.other p (absent-different f p n (Living h.alive) h.there absent) ne ∙ h.there; kept = h.kept }
+          record {
+            alive = h.alive;
+            there =
+                t.other p (absent-different f p n (Living h.alive) h.there absent) ne ∙ h.there;
+            kept = h.kept;
+          }
     ]
 
 born-lives : (f g : Map) (pid n : ℕ) (child parent : Alive) → Two f g n (Living child) pid (Living parent) → f n ≡ None
@@ -206,8 +218,11 @@ born-lives : (f g : Map) (pid n : ℕ) (child parent : Alive) → Two f g n (Liv
 born-lives f g pid n child parent t absent c h =
     elim (cases_eq c pid) [
       | inl same ↦ record { alive = parent; there = ap g same ∙ t.last }
-      | inr ne ↦ record { alive = h.alive; there =
-          t.other c (absent-different f c n (Living h.alive) h.there absent) ne ∙ h.there }
+      | inr ne ↦ record {
+        alive = h.alive;
+        there =
+            t.other c (absent-different f c n (Living h.alive) h.there absent) ne ∙ h.there;
+      }
     ]
 
 born-ended : (f g : Map) (pid n : ℕ) (child parent : Alive) → Two f g n (Living child) pid (Living parent)
@@ -234,7 +249,7 @@ born-is f g pid n a child parent t l absent none more =
       ended_back = born-ended f g pid n child parent t;
       ended_on = λ c d h.
           t.other c (absent-different f c n (Ended d) h absent)
-              (different f c pid (Ended d) (Living a) h l (λ s. living-ended a d (sym s))) ∙ h;
+          (different f c pid (Ended d) (Living a) h l (λ s. living-ended a d (sym s))) ∙ h;
     }
 
 -- 3. a child is reaped
@@ -256,8 +271,12 @@ reap-lists f g pid child a b ending r p c h =
       | AtFirst same is ↦
           let e : h.alive.row.family ≡ without_ended child a.row.family =
           ap (λ (z : Alive). z.row.family) (sym (same-alive b h.alive is)) ∙ r.less
-          in record { alive = a; there = ap f same ∙ r.lives; listed =
-              subst (λ (z : Family). lists z c ≡ true) e h.listed }
+          in record {
+            alive = a;
+            there = ap f same ∙ r.lives;
+            listed =
+                subst (λ (z : Family). lists z c ≡ true) e h.listed;
+          }
       | AtLast same is ↦ living-gone h.alive (sym is)
       | Elsewhere first last was ↦ record { alive = h.alive; there = was; listed = h.listed }
     ]
@@ -268,7 +287,7 @@ reap-other : (f g : Map) (pid child : ℕ) (a b : Alive) (ending : Ending) → F
     → (p c : ℕ) (d : Ending) → KeepsEnded f p c d → p ≢ pid → c ≢ child
 reap-other f g pid child a b ending fam r k p c d h ne same =
     ne (fam.one_keeper p pid child d ending (subst (λ (x : ℕ). KeepsEnded f p x d) same h)
-        (record { alive = a; there = r.lives; kept = k }))
+    (record { alive = a; there = r.lives; kept = k }))
 
 reap-keeps : (f g : Map) (pid child : ℕ) (a b : Alive) (ending : Ending) → Families f → Reap f g pid child a b ending
     → Contains a.row.family.ended (ended_child child ending)
@@ -279,13 +298,17 @@ reap-keeps f g pid child a b ending fam r k p c d h =
           let e : h.alive.row.family ≡ without_ended child a.row.family =
           ap (λ (z : Alive). z.row.family) (sym (same-alive b h.alive is)) ∙ r.less
           in let w = without-back a.row.family child c d
-              (subst (λ (z : Family). Contains z.ended (ended_child c d)) e h.kept)
+          (subst (λ (z : Family). Contains z.ended (ended_child c d)) e h.kept)
           in (record { alive = a; there = ap f same ∙ r.lives; kept = w.0 }, w.1)
       | AtLast same is ↦ living-gone h.alive (sym is)
       | Elsewhere first last was ↦
           let old : KeepsEnded f p c d =
-              record { alive = h.alive; there = was; kept =
-              h.kept } in (old, reap-other f g pid child a b ending fam r k p c d old first)
+          record {
+            alive = h.alive;
+            there = was;
+            kept =
+                h.kept;
+          } in (old, reap-other f g pid child a b ending fam r k p c d old first)
     ]
 
 reap-alive : (f g : Map) (pid child : ℕ) (a b : Alive) (ending : Ending) → Reap f g pid child a b ending
@@ -299,9 +322,9 @@ reap-keeps-on f g pid child a b ending r p c d h ne =
     elim (cases_eq p pid) [
       | inl same ↦
           let is : h.alive ≡ a =
-              same-alive h.alive a (at-once (f p) (Living h.alive) (Living a) h.there (ap f same ∙ r.lives))
+          same-alive h.alive a (at-once (f p) (Living h.alive) (Living a) h.there (ap f same ∙ r.lives))
           in let k : Contains a.row.family.ended (ended_child c d) =
-              subst (λ (z : Alive). Contains z.row.family.ended (ended_child c d)) is h.kept
+          subst (λ (z : Alive). Contains z.row.family.ended (ended_child c d)) is h.kept
           in record {
             alive = b;
             there = ap g same ∙ r.two.first;
@@ -309,8 +332,12 @@ reap-keeps-on f g pid child a b ending r p c d h ne =
                 (without-on a.row.family child c d k ne);
           }
       | inr other ↦
-          record { alive = h.alive; there =
-              r.two.other p other (reap-alive f g pid child a b ending r p h.alive h.there) ∙ h.there; kept = h.kept }
+          record {
+            alive = h.alive;
+            there =
+                r.two.other p other (reap-alive f g pid child a b ending r p h.alive h.there) ∙ h.there;
+            kept = h.kept;
+          }
     ]
 
 reap-lives : (f g : Map) (pid child : ℕ) (a b : Alive) (ending : Ending) → Reap f g pid child a b ending → (c : ℕ)
@@ -318,8 +345,11 @@ reap-lives : (f g : Map) (pid child : ℕ) (a b : Alive) (ending : Ending) → R
 reap-lives f g pid child a b ending r c h =
     elim (cases_eq c pid) [
       | inl same ↦ record { alive = b; there = ap g same ∙ r.two.first }
-      | inr other ↦ record { alive = h.alive; there =
-          r.two.other c other (reap-alive f g pid child a b ending r c h.alive h.there) ∙ h.there }
+      | inr other ↦ record {
+        alive = h.alive;
+        there =
+            r.two.other c other (reap-alive f g pid child a b ending r c h.alive h.there) ∙ h.there;
+      }
     ]
 
 reap-ended : (f g : Map) (pid child : ℕ) (a b : Alive) (ending : Ending) → Reap f g pid child a b ending

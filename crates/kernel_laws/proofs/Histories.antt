@@ -21,8 +21,8 @@ kept-along P h (e ∷ es) k last r p =
     let n = number_in e.outcome.own
     in let s = step k e.pid e.call n r.next e.outcome r.step
     in kept-along P h es r.next last r.rest
-        (after-step P k e.pid e.call n r.next e.outcome s (h.moves k e.pid e.call n r.next e.outcome s p)
-        (h.finishes e.pid))
+    (after-step P k e.pid e.call n r.next e.outcome s (h.moves k e.pid e.call n r.next e.outcome s p)
+    (h.finishes e.pid))
 
 -- the same where a fact is less in the course of an entry
 pub record KeptBy (P : Kernel → Type 0) (Q : ℕ → Kernel → Type 0) : Type 0 where
@@ -38,5 +38,5 @@ kept-by-along P Q h (e ∷ es) k last r p =
     let n = number_in e.outcome.own
     in let s = step k e.pid e.call n r.next e.outcome r.step
     in let m : Q e.pid s.result.kernel =
-        after-call (Q e.pid) k e.pid e.call n r.next e.outcome s (h.moves k e.pid e.call n r.next e.outcome s p)
+    after-call (Q e.pid) k e.pid e.call n r.next e.outcome s (h.moves k e.pid e.call n r.next e.outcome s p)
     in kept-by-along P Q h es r.next last r.rest (subst P s.leads (h.finishes e.pid s.result.kernel m))

@@ -60,7 +60,7 @@ goes-alive : (pid : ℕ) (p : Process) (ps : Numbered Process) → Goes pid p ps
     → get ps k ≡ Some (Living a) → Goes pid p (put ps k v)
 goes-alive pid p ps g k a v l =
     goes-put pid p ps g k v
-        (λ w e m. from-alive p a v (subst (λ (x : Process). MayBecome p x) (at-once (get ps k) w (Living a) e l) m))
+    (λ w e m. from-alive p a v (subst (λ (x : Process). MayBecome p x) (at-once (get ps k) w (Living a) e l) m))
 
 goes-new : (pid : ℕ) (p : Process) (ps : Numbered Process) → Goes pid p ps → (k : ℕ) (v : Process) → get ps k ≡ None
     → Goes pid p (put ps k v)
@@ -91,7 +91,7 @@ goes-forked pid p ps used h g caller a n l f =
     in let ne : caller ≢ n = λ same. not_some (Living a) (sym absent ∙ (ap (get ps) (sym same) ∙ l))
     in let v = Living (new_child a)
     in goes-alive pid p (put ps n v) (goes-new pid p ps g n v absent) caller a (Living (parent_after_fork a n))
-        (alive-put ps n caller v a l ne)
+    (alive-put ps n caller v a l ne)
 
 goes-ended : (pid : ℕ) (p : Process) (ps : Numbered Process) (used : List ℕ) → People IsStrong ps used → Goes pid p ps
     → (caller : ℕ) (a : Alive) (ending : Ending)
@@ -109,14 +109,14 @@ goes-ended pid p ps used h g caller a ending l (Some parent) e =
     in let v = process_after_end (ignores_children parent.alive.row) ending
     in let first = goes-alive pid p mid (goes-buried pid p a.row.family.ended ps g) caller a v (c.alive_on caller a l)
     in goes-alive pid p (put mid caller v) first parent.pid parent.alive
-        (Living (with_ended_child parent.alive caller ending))
+    (Living (with_ended_child parent.alive caller ending))
     (alive-put mid caller parent.pid v parent.alive (c.alive_on parent.pid parent.alive w.0) ne)
 
 goes-reaped : (pid : ℕ) (p : Process) (ps : Numbered Process) → Goes pid p ps → (caller : ℕ) (a : Alive) (child : ℕ)
     → get ps caller ≡ Some (Living a) → Goes pid p (processes_after_wait ps caller a child)
 goes-reaped pid p ps g caller a child l =
     let v = Living (parent_after_wait a child) in
-        goes-gone pid p (put ps caller v) (goes-alive pid p ps g caller a v l) child
+    goes-gone pid p (put ps caller v) (goes-alive pid p ps g caller a v l) child
 
 abbrev GoesIn : ℕ → Process → Kernel → Type 0
 GoesIn pid p k = Goes pid p k.processes
@@ -152,7 +152,7 @@ goes-moves pid p k caller a n h l g =
 goes-doom : (pid : ℕ) (p : Process) (k : Kernel) (caller : ℕ) (a : Alive) → Goes pid p k.processes
     → get k.processes caller ≡ Some (Living a)
     → (doomed : Bool) → Goes pid p
-        (if doomed then with_alive k caller (record a { allowance = Spent }) else k).processes
+    (if doomed then with_alive k caller (record a { allowance = Spent }) else k).processes
 goes-doom pid p k caller a g l true = goes-alive pid p k.processes g caller a _ l
 goes-doom pid p k caller a g l false = g
 
@@ -169,17 +169,20 @@ goes-kept pid p =
     record {
       moves = λ k caller call n next outcome s b.
           both-moves (Midway caller) (GoesIn pid p) k caller s.alive n
-              (people-kept.moves k caller call n next outcome s b.order)
+          (people-kept.moves k caller call n next outcome s b.order)
           (goes-moves pid p k caller s.alive n b.order (from-living k.processes caller s.alive s.lives) b.other);
       finishes = λ caller k b.
-          record { order = people-kept.finishes caller k b.order; other =
-              goes-finished pid p k caller b.other (living_at k caller) refl };
+          record {
+            order = people-kept.finishes caller k b.order;
+            other =
+                goes-finished pid p k caller b.other (living_at k caller) refl;
+          };
     }
 
 pub lives_go_one_way_lemma : LivesGoOneWay
 lives_go_one_way_lemma k last entries r h pid p l =
     let start : Both Settled (GoesIn pid p) k =
-        record { order = settled k r; other = record { now = p; there = l; follows = itself p } }
+    record { order = settled k r; other = record { now = p; there = l; follows = itself p } }
     in let end = kept-by-along (Both Settled (GoesIn pid p)) (λ caller. Both (Midway caller) (GoesIn pid p))
-        (goes-kept pid p) entries k last h start
+    (goes-kept pid p) entries k last h start
     in (end.other.now, end.other.there, end.other.follows)

@@ -54,7 +54,7 @@ strong-raised a g h =
       free = λ d.
           let b = raise-stays a.row.signals g d
           in free-by_other (is_some a.row.signals.doom) (is_some (raise a.row.signals g).doom) a.allowance
-              (ap is_some b) (ap is_some d) ∙ h.free b;
+          (ap is_some b) (ap is_some d) ∙ h.free b;
       undoomed = undoomed-by_other a.row.signals.doom (raise a.row.signals g).doom a.allowance h.undoomed;
     }
 
@@ -82,11 +82,16 @@ strong-ended_child a child ending h =
 pub family-ended_child : (a : Alive) (child : ℕ) (ending : Ending)
     → (with_ended_child a child ending).row.family ≡ family_after_end a.row.family child ending (ignores_children a.row)
 family-ended_child a child ending =
-    let next : Alive = record a { row =
-        record { signals = a.row.signals; family =
-        family_after_end a.row.family child ending (ignores_children a.row) } }
+    let next : Alive = record a {
+      row =
+          record {
+            signals = a.row.signals;
+            family =
+                family_after_end a.row.family child ending (ignores_children a.row);
+          };
+    }
     in by_test (λ (x : Alive). x.row.family ≡ family_after_end a.row.family child ending (ignores_children a.row))
-        (ignores_children a.row) next (raise_by_other next Chld)
+    (ignores_children a.row) next (raise_by_other next Chld)
     (λ t. refl) (λ t. refl)
 
 -- after the entry

@@ -27,9 +27,10 @@ contains-none y h = let l : h.0 < 0 = h.1 in absurd (omega arith)
 
 pub contains-filtered : {X : Type 0} (p : X → Bool) (xs : List X) (x : X) → Contains (filter p xs) x → Contains xs x
     × (p x ≡ true)
-contains-filtered p xs x h =
-    (All-contains (Contains xs) (filter p xs) x (All-filter p (Contains xs) xs (All-contains_itself xs)) h,
-        All-contains (λ y. p y ≡ true) (filter p xs) x (filter_passes p xs) h)
+contains-filtered p xs x h = (
+  All-contains (Contains xs) (filter p xs) x (All-filter p (Contains xs) xs (All-contains_itself xs)) h,
+  All-contains (λ y. p y ≡ true) (filter p xs) x (filter_passes p xs) h,
+)
 
 pub contains-filter : {X : Type 0} (p : X → Bool) (xs : List X) (x : X) → Contains xs x → p x ≡ true
     → Contains (filter p xs) x
@@ -84,9 +85,10 @@ any-others n (x ∷ ns) m h =
       | inr f ↦
           let e : others n (x ∷ ns) ≡ x ∷ others n ns = rw f refl
           in elim (any-cons (nat_eq m) x (others n ns) (ap (λ zs. list_any (nat_eq m) zs) (sym e) ∙ h)) [
-            | inl first ↦
-                (or_left (nat_eq m x) (list_any (nat_eq m) ns) first,
-                    λ same. not_true {B = ⊥} (sym f ∙ eq-eqb n x (sym same ∙ eqb-true m x first)))
+            | inl first ↦ (
+              or_left (nat_eq m x) (list_any (nat_eq m) ns) first,
+              λ same. not_true {B = ⊥} (sym f ∙ eq-eqb n x (sym same ∙ eqb-true m x first)),
+            )
             | inr later ↦ let i = any-others n ns m later in (or_right (nat_eq m x) (list_any (nat_eq m) ns) i.0, i.1)
           ]
     ]
@@ -128,14 +130,14 @@ pub without-on : (f : Family) (n c : ℕ) (e : Ending) → Contains f.ended (end
     → Contains (without_ended n f).ended (ended_child c e)
 without-on f n c e h ne =
     contains-filter (λ (x : EndedChild). not (nat_eq n x.pid)) f.ended (ended_child c e) h
-        (not_from_false (nat_eq n c) (ne_eqb n c (λ same. ne (sym same))))
+    (not_from_false (nat_eq n c) (ne_eqb n c (λ same. ne (sym same))))
 
 first-is : (which : Option ℕ) (es : List EndedChild) (e x : EndedChild)
     → ((y : EndedChild) → first_ended_child which es ≡ Some y → Contains es y)
     → (b : Bool) → (if b then Some e else first_ended_child which es) ≡ Some x → Contains (e ∷ es) x
 first-is which es e x h true g =
     let same : e ≡ x = from_some e x g in let P : EndedChild → Type 0 =
-        λ y. Contains (e ∷ es) y in subst P same (contains-first e es)
+    λ y. Contains (e ∷ es) y in subst P same (contains-first e es)
 first-is which es e x h false g = contains-later e es x (h x g)
 
 first-contained : (which : Option ℕ) (es : List EndedChild) (x : EndedChild) → first_ended_child which es ≡ Some x
@@ -161,4 +163,4 @@ pub found-contained : (f : Family) (which : Option ℕ) (child : ℕ) (ending : 
     → Contains f.ended (ended_child child ending)
 found-contained f which child ending h =
     first-contained which f.ended (ended_child child ending)
-        (found-is (first_ended_child which f.ended) (list_any (matches which) f.living) child ending h)
+    (found-is (first_ended_child which f.ended) (list_any (matches which) f.living) child ending h)

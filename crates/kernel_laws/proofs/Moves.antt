@@ -36,8 +36,11 @@ use Rattle.kernel_laws.proofs.Steps.{Step}
 pub record Moves (P : Kernel → Type 0) (k : Kernel) (pid : ℕ) (a : Alive) (n : ℕ) : Type 0 where
   pub same : P k
   pub forks : is_fresh k.used_processes n ≡ true
-      → P (record k { processes = processes_after_fork k.processes pid a n; used_processes =
-          used_with k.used_processes n })
+      → P (record k {
+        processes = processes_after_fork k.processes pid a n;
+        used_processes =
+            used_with k.used_processes n;
+      })
   pub ends : (ending : Ending) → P (record k { processes = processes_after_end k.processes pid a ending })
   pub acts : (g : Sig) (act : Act) → is_kill g ≡ false → P (with_signals k pid a (with_action a.row.signals g act))
   pub masks : (how : How) (set : PerSignal Bool) → P (with_signals k pid a (with_mask a.row.signals how set))
@@ -50,8 +53,12 @@ pub record Moves (P : Kernel → Type 0) (k : Kernel) (pid : ℕ) (a : Alive) (n
   pub makes_queue : is_fresh k.used_queues n ≡ true
       → P (record k { queues = put k.queues n empty_queue; used_queues = used_with k.used_queues n })
   pub binds_queue : (key : ℕ) → is_fresh k.used_queues n ≡ true
-      → P (record k { queues = put k.queues n empty_queue; queue_keys = put k.queue_keys key n; used_queues =
-          used_with k.used_queues n })
+      → P (record k {
+        queues = put k.queues n empty_queue;
+        queue_keys = put k.queue_keys key n;
+        used_queues =
+            used_with k.used_queues n;
+      })
   pub sends : (id : ℕ) (class : ℤ) (text : List ℕ) (q next : Queue) → get k.queues id ≡ Some q
       → send q pid class text ≡ Ok next → P (with_queue k id next)
   pub receives : (id : ℕ) (class : ℤ) (size : ℕ) (noerror : Bool) (q : Queue) (r : Received) → get k.queues id ≡ Some q
@@ -88,8 +95,11 @@ after-fork : (P : Kernel → Type 0) (k : Kernel) (pid : ℕ) (a : Alive) (n : �
     → is_fresh k.used_processes n ≡ fresh
     → Of (After P)
     (if fresh then Some (reply_with
-        (record k { processes = processes_after_fork k.processes pid a n; used_processes =
-        used_with k.used_processes n }) n) else None)
+    (record k {
+      processes = processes_after_fork k.processes pid a n;
+      used_processes =
+          used_with k.used_processes n;
+    }) n) else None)
 after-fork P k pid a n m true e = m.forks e
 after-fork P k pid a n m false e = tt
 
@@ -117,7 +127,7 @@ after-raise : (P : Kernel → Type 0) (k : Kernel) (pid : ℕ) (a : Alive) (n : 
     → (other : ℕ) (target : Alive) (g : Sig)
     → get k.processes other ≡ Some (Living target) → (own : Bool) → nat_eq pid other ≡ own
     → P (if own then with_signals k other target (raise target.row.signals g) else with_alive k other
-        (raise_by_other target g))
+    (raise_by_other target g))
 after-raise P k pid a n m other target g l true e =
     let same : pid ≡ other = eqb-true pid other e
     in subst (λ (q : ℕ). P (with_signals k q target (raise target.row.signals g))) same
@@ -147,13 +157,17 @@ after-kill P k pid a n m other (Is g) = after-killed P k pid a n m other (Is g) 
 
 after-new_queue : (P : Kernel → Type 0) (k : Kernel) (keys : Numbered ℕ) (n : ℕ)
     → (is_fresh k.used_queues n ≡ true
-        → P (record k { queues = put k.queues n empty_queue; queue_keys = keys; used_queues =
-        used_with k.used_queues n }))
+    → P (record k {
+      queues = put k.queues n empty_queue;
+      queue_keys = keys;
+      used_queues =
+          used_with k.used_queues n;
+    }))
     → (fresh : Bool) → is_fresh k.used_queues n ≡ fresh
     → Of (After P)
     (if fresh then Some (reply_with
-        (record k { queues = put k.queues n empty_queue; queue_keys = keys; used_queues = used_with k.used_queues n })
-        n) else None)
+    (record k { queues = put k.queues n empty_queue; queue_keys = keys; used_queues = used_with k.used_queues n })
+    n) else None)
 after-new_queue P k keys n h true e = h e
 after-new_queue P k keys n h false e = tt
 
@@ -188,17 +202,17 @@ after-received P k id (Err e) h g = h
 
 after-new_set : (P : Kernel → Type 0) (k : Kernel) (keys : Numbered ℕ) (n : ℕ) (set : SemaphoreSet)
     → (is_fresh k.used_sets n ≡ true
-        → P (record k { sets = put k.sets n set; set_keys = keys; used_sets = used_with k.used_sets n }))
+    → P (record k { sets = put k.sets n set; set_keys = keys; used_sets = used_with k.used_sets n }))
     → (fresh : Bool) → is_fresh k.used_sets n ≡ fresh
     → Of (After P)
     (if fresh then Some (reply_with
-        (record k { sets = put k.sets n set; set_keys = keys; used_sets = used_with k.used_sets n }) n) else None)
+    (record k { sets = put k.sets n set; set_keys = keys; used_sets = used_with k.used_sets n }) n) else None)
 after-new_set P k keys n set h true e = h e
 after-new_set P k keys n set h false e = tt
 
 after-new_set_of : (P : Kernel → Type 0) (k : Kernel) (keys : Numbered ℕ) (n : ℕ) (r : Result SemaphoreSet Errno) → P k
     → ((set : SemaphoreSet) → r ≡ Ok set → is_fresh k.used_sets n ≡ true
-        → P (record k { sets = put k.sets n set; set_keys = keys; used_sets = used_with k.used_sets n }))
+    → P (record k { sets = put k.sets n set; set_keys = keys; used_sets = used_with k.used_sets n }))
     → Of (After P) (new_set_of k keys n r)
 after-new_set_of P k keys n (Err e) h g = h
 after-new_set_of P k keys n (Ok set) h g = after-new_set P k keys n set (g set refl) (is_fresh k.used_sets n) refl
@@ -206,14 +220,14 @@ after-new_set_of P k keys n (Ok set) h g = after-new_set P k keys n set (g set r
 after-found_set : (P : Kernel → Type 0) (k : Kernel) (id count : ℕ) → P k → After P (find_set k id count)
 after-found_set P k id count h =
     by_test (After P) (nat_eq count 0 || nat_le count (set_size k id)) (reply_with k id) (refuse k Einval) (λ t. h)
-        (λ t. h)
+    (λ t. h)
 
 after-get_set_at : (P : Kernel → Type 0) (k : Kernel) (pid : ℕ) (a : Alive) (n : ℕ) → Moves P k pid a n
     → (key count : ℕ) (create excl : Bool) (found : Option ℕ)
     → Of (After P) (get_set_at k key count create excl n found)
 after-get_set_at P k pid a n m key count create excl (Some id) =
     by_test (After P) (create && excl) (refuse k Eexist) (find_set k id count) (λ t. m.same)
-        (λ t. after-found_set P k id count m.same)
+    (λ t. after-found_set P k id count m.same)
 after-get_set_at P k pid a n m key count create excl None =
     of_choice (After P) create (new_set_of k (put k.set_keys key n) n (new_set count)) (Some (refuse k Enoent))
     (after-new_set_of P k (put k.set_keys key n) n (new_set count) m.same (m.binds_set key count)) m.same
@@ -236,7 +250,7 @@ after-operated : (P : Kernel → Type 0) (k : Kernel) (pid : ℕ) (a : Alive) (n
     → Of (After P) (operate k pid id steps)
 after-operated P k pid a n m id steps =
     of_choice (After P) (list_any may_wait steps) None
-        (Some (on_named k (get k.sets id) (λ set. change_set k id (op set pid steps)))) tt
+    (Some (on_named k (get k.sets id) (λ set. change_set k id (op set pid steps)))) tt
     (after-named P k (get k.sets id) (λ set. change_set k id (op set pid steps)) m.same
     (λ set l. after-changed_set P k id (op set pid steps) m.same (λ next. m.operates id steps set next l)))
 
@@ -261,7 +275,7 @@ after-effect P k pid a (calls.MsgSnd id class text false) n m = tt
 after-effect P k pid a (calls.MsgRcv id class size noerror true) n m =
     after-named P k (get k.queues id) (λ q. receive_effect k id (receive q pid class size noerror)) m.same
     (λ q l. after-received P k id (receive q pid class size noerror) m.same
-        (λ r. m.receives id class size noerror q r l))
+    (λ r. m.receives id class size noerror q r l))
 after-effect P k pid a (calls.MsgRcv id class size noerror false) n m = tt
 after-effect P k pid a (calls.MsgStat id) n m = after-named P k (get k.queues id) (stat_effect k) m.same (λ q l. m.same)
 after-effect P k pid a (calls.MsgSet id qbytes) n m =
@@ -273,16 +287,16 @@ after-effect P k pid a (calls.SemGet key count create excl) n m = after-get_set 
 after-effect P k pid a (calls.SemOp id steps) n m = after-operated P k pid a n m id steps
 after-effect P k pid a (calls.SemGetVal id num) n m =
     after-named P k (get k.sets id) (λ s. look_up k (value_at s num)) m.same
-        (λ s l. after-looked_up P k (value_at s num) m.same)
+    (λ s l. after-looked_up P k (value_at s num) m.same)
 after-effect P k pid a (calls.SemGetPid id num) n m =
     after-named P k (get k.sets id) (λ s. look_up k (last_at s num)) m.same
-        (λ s l. after-looked_up P k (last_at s num) m.same)
+    (λ s l. after-looked_up P k (last_at s num) m.same)
 after-effect P k pid a (calls.SemGetNcnt id num) n m =
     after-named P k (get k.sets id) (λ s. look_up k (waiting_at s num)) m.same
-        (λ s l. after-looked_up P k (waiting_at s num) m.same)
+    (λ s l. after-looked_up P k (waiting_at s num) m.same)
 after-effect P k pid a (calls.SemGetZcnt id num) n m =
     after-named P k (get k.sets id) (λ s. look_up k (waiting_at s num)) m.same
-        (λ s l. after-looked_up P k (waiting_at s num) m.same)
+    (λ s l. after-looked_up P k (waiting_at s num) m.same)
 after-effect P k pid a (calls.SemSetVal id num value) n m =
     after-named P k (get k.sets id) (λ s. change_set k id (set_value s num value)) m.same
     (λ s l. after-changed_set P k id (set_value s num value) m.same (λ next. m.sets_one id num value s next l))
@@ -297,12 +311,12 @@ after-effect P k pid a (calls.SemRmid id) n m =
 abbrev pub Finishes : (Kernel → Type 0) → ℕ → Type 0
 Finishes P pid =
     (k : Kernel) (a : Alive) → P k → living_at k pid ≡ Some a → is_some a.row.signals.doom ≡ true
-        → P (with_alive k pid (record a { allowance = Spent }))
+    → P (with_alive k pid (record a { allowance = Spent }))
 
 after-doom : (P : Kernel → Type 0) (pid : ℕ) → Finishes P pid → (k : Kernel) (a : Alive) → P k
     → living_at k pid ≡ Some a
     → (doomed : Bool) → is_some a.row.signals.doom ≡ doomed
-        → P (if doomed then with_alive k pid (record a { allowance = Spent }) else k)
+    → P (if doomed then with_alive k pid (record a { allowance = Spent }) else k)
 after-doom P pid f k a h l true d = f k a h l d
 after-doom P pid f k a h l false d = h
 

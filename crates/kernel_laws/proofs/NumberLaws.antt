@@ -44,20 +44,32 @@ Grows first k = Grown first k.used_processes k.used_queues k.used_sets
 with_process : (first k : Kernel) (n : ℕ) → Grows first k
     → Grown first (used_with k.used_processes n) k.used_queues k.used_sets
 with_process first k n g =
-    record { of_processes = holds-more first.used_processes k.used_processes n g.of_processes; of_queues =
-    g.of_queues; of_sets = g.of_sets }
+    record {
+      of_processes = holds-more first.used_processes k.used_processes n g.of_processes;
+      of_queues =
+          g.of_queues;
+      of_sets = g.of_sets;
+    }
 
 with_queue : (first k : Kernel) (n : ℕ) → Grows first k
     → Grown first k.used_processes (used_with k.used_queues n) k.used_sets
 with_queue first k n g =
-    record { of_processes = g.of_processes; of_queues =
-    holds-more first.used_queues k.used_queues n g.of_queues; of_sets = g.of_sets }
+    record {
+      of_processes = g.of_processes;
+      of_queues =
+          holds-more first.used_queues k.used_queues n g.of_queues;
+      of_sets = g.of_sets;
+    }
 
 with_set : (first k : Kernel) (n : ℕ) → Grows first k
     → Grown first k.used_processes k.used_queues (used_with k.used_sets n)
 with_set first k n g =
-    record { of_processes = g.of_processes; of_queues = g.of_queues; of_sets =
-    holds-more first.used_sets k.used_sets n g.of_sets }
+    record {
+      of_processes = g.of_processes;
+      of_queues = g.of_queues;
+      of_sets =
+          holds-more first.used_sets k.used_sets n g.of_sets;
+    }
 
 grows-moves : (first k : Kernel) (pid : ℕ) (a : Alive) (n : ℕ) → Grows first k → Moves (Grows first) k pid a n
 grows-moves first k pid a n g =
@@ -85,14 +97,17 @@ grows-moves first k pid a n g =
     }
 
 grows-kept : (first : Kernel) → Kept (Grows first)
-grows-kept first = record { moves = λ k pid call n next outcome s g. grows-moves first k pid s.alive n g; finishes =
-    λ pid k a g l d. g }
+grows-kept first = record {
+  moves = λ k pid call n next outcome s g. grows-moves first k pid s.alive n g;
+  finishes =
+      λ pid k a g l d. g;
+}
 
 pub used_numbers_stay_lemma : UsedNumbersStay
 used_numbers_stay_lemma k last entries r n =
     let g : Grows k last =
     kept-along (Grows k) (grows-kept k) entries k last r
-        (record { of_processes = λ q u. u; of_queues = λ q u. u; of_sets = λ q u. u })
+    (record { of_processes = λ q u. u; of_queues = λ q u. u; of_sets = λ q u. u })
     in record { processes = g.of_processes n; queues = g.of_queues n; sets = g.of_sets n }
 
 -- a number that was used and leads to nothing
@@ -155,8 +170,11 @@ gone_queue-moves gone k pid a n g =
 
 gone_queue-kept : (gone : ℕ) → Kept (GoneQueue gone)
 gone_queue-kept gone =
-    record { moves = λ k pid call n next outcome s g. gone_queue-moves gone k pid s.alive n g; finishes =
-    λ pid k a g l d. g }
+    record {
+      moves = λ k pid call n next outcome s g. gone_queue-moves gone k pid s.alive n g;
+      finishes =
+          λ pid k a g l d. g;
+    }
 
 gone_set-moves : (gone : ℕ) (k : Kernel) (pid : ℕ) (a : Alive) (n : ℕ) → GoneSet gone k → Moves (GoneSet gone) k pid a n
 gone_set-moves gone k pid a n g =
@@ -184,8 +202,11 @@ gone_set-moves gone k pid a n g =
     }
 
 gone_set-kept : (gone : ℕ) → Kept (GoneSet gone)
-gone_set-kept gone = record { moves = λ k pid call n next outcome s g. gone_set-moves gone k pid s.alive n g; finishes =
-    λ pid k a g l d. g }
+gone_set-kept gone = record {
+  moves = λ k pid call n next outcome s g. gone_set-moves gone k pid s.alive n g;
+  finishes =
+      λ pid k a g l d. g;
+}
 
 pub removed_queues_stay_removed_lemma : RemovedQueuesStayRemoved
 removed_queues_stay_removed_lemma first second third p id there gone =
@@ -227,14 +248,14 @@ gone_queue-finished : (gone : ℕ) (k : Kernel) (pid : ℕ) (found : Option Aliv
 gone_queue-finished gone k pid None g = g
 gone_queue-finished gone k pid (Some a) g =
     by_test (GoneQueue gone) (is_some a.row.signals.doom) (with_alive k pid (record a { allowance = Spent })) k (λ t. g)
-        (λ t. g)
+    (λ t. g)
 
 gone_set-finished : (gone : ℕ) (k : Kernel) (pid : ℕ) (found : Option Alive) → GoneSet gone k
     → GoneSet gone (finish_call k pid found)
 gone_set-finished gone k pid None g = g
 gone_set-finished gone k pid (Some a) g =
     by_test (GoneSet gone) (is_some a.row.signals.doom) (with_alive k pid (record a { allowance = Spent })) k (λ t. g)
-        (λ t. g)
+    (λ t. g)
 
 reply-is : (r s : Effect) (own : Option Reply) → r ≡ s → Some r.reply ≡ own → Some s.reply ≡ own
 reply-is r s own e h = subst (λ (x : Effect). Some x.reply ≡ own) e h
@@ -244,14 +265,14 @@ queue_removals_last_lemma k next last pid id n outcome entries r t is h =
     let s = step k pid (MsgRmid id) n next outcome t
     in let table = kept-along Queues queues-kept r.0 opening k r.1 queues-opening
     in let e : on_named k (get k.queues id) (λ _. remove_queue k id) ≡ s.result =
-        from_some (on_named k (get k.queues id) (λ _. remove_queue k id)) s.result s.gives
+    from_some (on_named k (get k.queues id) (λ _. remove_queue k id)) s.result s.gives
     in let says = reply-is s.result (on_named k (get k.queues id) (λ _. remove_queue k id)) outcome.own (sym e) s.says
     in let gone = gone_named k k.queues k.used_queues id (λ _. remove_queue k id) (GoneQueue id) outcome.own
-        (get k.queues id) refl says is
+    (get k.queues id) refl says is
     (λ q l. removed_queue_gone k id q table l)
     in let after : GoneQueue id s.result.kernel = subst (λ (x : Effect). GoneQueue id x.kernel) e gone
     in let there : GoneQueue id next =
-        subst (GoneQueue id) s.leads (gone_queue-finished id s.result.kernel pid (living_at s.result.kernel pid) after)
+    subst (GoneQueue id) s.leads (gone_queue-finished id s.result.kernel pid (living_at s.result.kernel pid) after)
     in (kept-along (GoneQueue id) (gone_queue-kept id) entries next last h there).1
 
 pub set_removals_last_lemma : SetRemovalsLast
@@ -259,12 +280,12 @@ set_removals_last_lemma k next last pid id n outcome entries r t is h =
     let s = step k pid (SemRmid id) n next outcome t
     in let table = kept-along Sets sets-kept r.0 opening k r.1 sets-opening
     in let e : on_named k (get k.sets id) (λ _. remove_set k id) ≡ s.result =
-        from_some (on_named k (get k.sets id) (λ _. remove_set k id)) s.result s.gives
+    from_some (on_named k (get k.sets id) (λ _. remove_set k id)) s.result s.gives
     in let says = reply-is s.result (on_named k (get k.sets id) (λ _. remove_set k id)) outcome.own (sym e) s.says
     in let gone = gone_named k k.sets k.used_sets id (λ _. remove_set k id) (GoneSet id) outcome.own
-        (get k.sets id) refl says is
+    (get k.sets id) refl says is
     (λ q l. removed_set_gone k id q table l)
     in let after : GoneSet id s.result.kernel = subst (λ (x : Effect). GoneSet id x.kernel) e gone
     in let there : GoneSet id next =
-        subst (GoneSet id) s.leads (gone_set-finished id s.result.kernel pid (living_at s.result.kernel pid) after)
+    subst (GoneSet id) s.leads (gone_set-finished id s.result.kernel pid (living_at s.result.kernel pid) after)
     in (kept-along (GoneSet id) (gone_set-kept id) entries next last h there).1

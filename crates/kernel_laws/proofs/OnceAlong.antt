@@ -69,10 +69,10 @@ kept-dead false ending x h = living-ended {B = ⊥} x ending (sym h)
 once-ended : (ps : Numbered Process) (used : List ℕ) → People IsStrong ps used → EachOnce ps
     → (pid : ℕ) (a : Alive) (ending : Ending)
     → get ps pid ≡ Some (Living a) → (found : Option Parent) → parent_in pid ps ≡ found
-        → EachOnce (end_under (bury_all ps a.row.family) pid ending found)
+    → EachOnce (end_under (bury_all ps a.row.family) pid ending found)
 once-ended ps used h o pid a ending l None e =
     once-dead (bury_all ps a.row.family) pid Gone (once-buried a.row.family.ended ps o)
-        (λ x s. living-gone {B = ⊥} x (sym s))
+    (λ x s. living-gone {B = ⊥} x (sym s))
 once-ended ps used h o pid a ending l (Some p) e =
     let mid = bury_all ps a.row.family
     in let old = p.alive
@@ -81,12 +81,12 @@ once-ended ps used h o pid a ending l (Some p) e =
     in let v = process_after_end ignored ending
     in let new : (d : Ending) → Contains old.row.family.ended (ended_child pid d) → ⊥ =
     λ d c. living-ended {B =
-        ⊥} a d (at-once (get ps pid) (Living a) (Ended d) l
-        (h.families.ended p.pid pid d (record { alive = old; there = w.0; kept = c })))
+    ⊥} a d (at-once (get ps pid) (Living a) (Ended d) l
+    (h.families.ended p.pid pid d (record { alive = old; there = w.0; kept = c })))
     in once-put (put mid pid v) p.pid (with_ended_child old pid ending)
     (once-dead mid pid v (once-buried a.row.family.ended ps o) (kept-dead ignored ending))
     (subst ListsOnce (sym (family-ended_child old pid ending))
-        (once-end old.row.family pid ending ignored (o p.pid old w.0) new))
+    (once-end old.row.family pid ending ignored (o p.pid old w.0) new))
 
 once-moves : (k : Kernel) (pid : ℕ) (a : Alive) (n : ℕ) → Settled k → get k.processes pid ≡ Some (Living a) → OnceIn k
     → Moves OnceIn k pid a n
@@ -103,7 +103,7 @@ once-moves k pid a n h l o =
       raises_other = λ other target g t. once-put ps other _ o (o other target t);
       reaps = λ which child ending e.
           once-dead (put ps pid (Living (parent_after_wait a child))) child Gone
-              (once-put ps pid (parent_after_wait a child) o (once-without a.row.family child same))
+          (once-put ps pid (parent_after_wait a child) o (once-without a.row.family child same))
           (λ x s. living-gone {B = ⊥} x (sym s));
       makes_queue = λ f. o;
       binds_queue = λ key f. o;
@@ -134,11 +134,14 @@ once-kept =
     record {
       moves = λ k caller call n next outcome s b.
           both-moves (Midway caller) OnceIn k caller s.alive n
-              (people-kept.moves k caller call n next outcome s b.order)
+          (people-kept.moves k caller call n next outcome s b.order)
           (once-moves k caller s.alive n b.order (from-living k.processes caller s.alive s.lives) b.other);
       finishes = λ caller k b.
-          record { order = people-kept.finishes caller k b.order; other =
-              once-finished k caller b.other (living_at k caller) refl };
+          record {
+            order = people-kept.finishes caller k b.order;
+            other =
+                once-finished k caller b.other (living_at k caller) refl;
+          };
     }
 
 once-opening : OnceIn opening
@@ -148,5 +151,5 @@ pub children_are_listed_once_lemma : ChildrenAreListedOnce
 children_are_listed_once_lemma k r pid a l =
     let start : Both Settled OnceIn opening = record { order = settled-opening; other = once-opening }
     in let end = kept-by-along (Both Settled OnceIn)
-        (λ caller. Both (Midway caller) OnceIn) once-kept r.0 opening k r.1 start
+    (λ caller. Both (Midway caller) OnceIn) once-kept r.0 opening k r.1 start
     in end.other pid a (from-living k.processes pid a l)

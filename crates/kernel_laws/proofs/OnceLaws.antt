@@ -35,7 +35,7 @@ distinct-filtered p (x ∷ xs) h =
       | inl t ↦
           let e : filter p (x ∷ xs) ≡ x ∷ filter p xs = rw t refl
           in subst Q (sym e) (IsDistinct-cons nat_eq x (filter p xs)
-              (all-filtered (λ y. nat_eq x y ≡ false) p xs (IsDistinct-head nat_eq x xs h)) i)
+          (all-filtered (λ y. nat_eq x y ≡ false) p xs (IsDistinct-head nat_eq x xs h)) i)
       | inr f ↦ let e : filter p (x ∷ xs) ≡ filter p xs = rw f refl in subst Q (sym e) i
     ]
 
@@ -61,7 +61,7 @@ distinct-numbers p (x ∷ xs) h =
           let e : filter p (x ∷ xs) ≡ x ∷ filter p xs = rw t refl
           in subst Q (sym e)
           (IsDistinct-cons nat_eq x.pid (map (λ e. e.pid) (filter p xs))
-              (all-numbers (λ y. nat_eq x.pid y ≡ false) p xs (IsDistinct-head nat_eq x.pid (map (λ e. e.pid) xs) h)) i)
+          (all-numbers (λ y. nat_eq x.pid y ≡ false) p xs (IsDistinct-head nat_eq x.pid (map (λ e. e.pid) xs) h)) i)
       | inr f ↦ let e : filter p (x ∷ xs) ≡ filter p xs = rw f refl in subst Q (sym e) i
     ]
 
@@ -75,8 +75,11 @@ among-numbers : (n : ℕ) (es : List EndedChild) → list_any (nat_eq n) (map (�
 among-numbers n [] h = not_true h
 among-numbers n (x ∷ xs) h =
     elim (or_cases (nat_eq n x.pid) (list_any (nat_eq n) (map (λ y. y.pid) xs)) h) [
-      | inl t ↦ (x.ending, subst (λ (m : ℕ). Contains (x ∷ xs) (ended_child m x.ending)) (sym (eqb-true n x.pid t))
-          (contains-first x xs))
+      | inl t ↦ (
+        x.ending,
+        subst (λ (m : ℕ). Contains (x ∷ xs) (ended_child m x.ending)) (sym (eqb-true n x.pid t))
+            (contains-first x xs),
+      )
       | inr r ↦ let i = among-numbers n xs r in (i.0, contains-later x xs (ended_child n i.0) i.1)
     ]
 
@@ -92,15 +95,18 @@ ended-once : (f : Family) (n : ℕ) (e : Ending) (ignored : Bool) → ListsOnce 
 ended-once f n e true h absent = h.ended
 ended-once f n e false h absent =
     let new = false_from_ne_true (list_any (nat_eq n) (map (λ x. x.pid) f.ended)) (λ t. let w =
-        among-numbers n f.ended t in absent w.0 w.1)
+    among-numbers n f.ended t in absent w.0 w.1)
     in subst (λ (ys : List ℕ). IsDistinct nat_eq ys) (sym (numbers-push f.ended n e))
-        (IsDistinct-push nat_eq_equiv (map (λ x. x.pid) f.ended) n h.ended new)
+    (IsDistinct-push nat_eq_equiv (map (λ x. x.pid) f.ended) n h.ended new)
 
 pub once-end : (f : Family) (n : ℕ) (e : Ending) (ignored : Bool) → ListsOnce f
     → ((d : Ending) → Contains f.ended (ended_child n d) → ⊥) → ListsOnce (family_after_end f n e ignored)
 once-end f n e ignored h absent =
-    record { living = distinct-filtered (λ c. not (nat_eq n c)) f.living h.living; ended =
-        ended-once f n e ignored h absent }
+    record {
+      living = distinct-filtered (λ c. not (nat_eq n c)) f.living h.living;
+      ended =
+          ended-once f n e ignored h absent;
+    }
 
 pub once-without : (f : Family) (n : ℕ) → ListsOnce f → ListsOnce (without_ended n f)
 once-without f n h = record { living = h.living; ended = distinct-numbers (λ e. not (nat_eq n e.pid)) f.ended h.ended }

@@ -33,7 +33,7 @@ each-put A ps k v h own p x g =
     elim (cases_eq p k) [
       | inl same ↦
           let is : v ≡ Living x =
-              from_some v (Living x) (sym (get-put-same ps k v) ∙ (ap (get (put ps k v)) (sym same) ∙ g))
+          from_some v (Living x) (sym (get-put-same ps k v) ∙ (ap (get (put ps k v)) (sym same) ∙ g))
           in subst (λ (q : ℕ). A q x) (sym same) (own x is)
       | inr ne ↦ h p x (sym (get-put-other ps k v p ne) ∙ g)
     ]
@@ -45,7 +45,7 @@ used-there ps k v used h there n =
     elim (cases_eq n k) [
       | inl same ↦
           h n ∙ (ap (λ q. is_some (get ps q)) same
-              ∙ (there ∙ sym (ap (λ q. is_some (get (put ps k v) q)) same ∙ ap is_some (get-put-same ps k v))))
+          ∙ (there ∙ sym (ap (λ q. is_some (get (put ps k v) q)) same ∙ ap is_some (get-put-same ps k v))))
       | inr ne ↦ h n ∙ sym (ap is_some (get-put-other ps k v n ne))
     ]
 
@@ -54,8 +54,12 @@ pub body-put : (A : ℕ → Alive → Type 0) (ps : Numbered Process) (used : Li
     → is_some (get ps k) ≡ true
     → ((x : Alive) → v ≡ Living x → A k x) → Body A (put ps k v) used
 body-put A ps used b k v there own =
-    record { rise = rising-put ps k v b.rise; used_is = used-there ps k v used b.used_is there; each =
-        each-put A ps k v b.each own }
+    record {
+      rise = rising-put ps k v b.rise;
+      used_is = used-there ps k v used b.used_is there;
+      each =
+          each-put A ps k v b.each own;
+    }
 
 used-new : (ps : Numbered Process) (k : ℕ) (v : Process) (used : List ℕ)
     → ((n : ℕ) → is_used used n ≡ is_some (get ps n))
@@ -64,8 +68,8 @@ used-new ps k v used h n =
     elim (cases_eq n k) [
       | inl same ↦
           ap (is_used (used_with used k)) same
-              ∙ (used-with-same used k
-              ∙ sym (ap (λ q. is_some (get (put ps k v) q)) same ∙ ap is_some (get-put-same ps k v)))
+          ∙ (used-with-same used k
+          ∙ sym (ap (λ q. is_some (get (put ps k v) q)) same ∙ ap is_some (get-put-same ps k v)))
       | inr ne ↦ used-with-other used k n ne ∙ (h n ∙ sym (ap is_some (get-put-other ps k v n ne)))
     ]
 
@@ -73,8 +77,12 @@ used-new ps k v used h n =
 pub body-new : (A : ℕ → Alive → Type 0) (ps : Numbered Process) (used : List ℕ) → Body A ps used → (k : ℕ) (v : Process)
     → ((x : Alive) → v ≡ Living x → A k x) → Body A (put ps k v) (used_with used k)
 body-new A ps used b k v own =
-    record { rise = rising-put ps k v b.rise; used_is = used-new ps k v used b.used_is; each =
-        each-put A ps k v b.each own }
+    record {
+      rise = rising-put ps k v b.rise;
+      used_is = used-new ps k v used b.used_is;
+      each =
+          each-put A ps k v b.each own;
+    }
 
 -- ended processes that are gone
 pub body-buried : (A : ℕ → Alive → Type 0) (es : List EndedChild) (ps : Numbered Process) (used : List ℕ)
@@ -83,7 +91,7 @@ pub body-buried : (A : ℕ → Alive → Type 0) (es : List EndedChild) (ps : Nu
 body-buried A [] ps used b h = b
 body-buried A (e ∷ es) ps used b h =
     body-buried A es (bury ps e) used
-        (body-put A ps used b e.pid Gone (h e.pid e.ending (contains-first e es)) (λ x g. living-gone x (sym g)))
+    (body-put A ps used b e.pid Gone (h e.pid e.ending (contains-first e es)) (λ x g. living-gone x (sym g)))
     (λ q d c. there-put ps e.pid Gone q (h q d (contains-later e es (ended_child q d) c)))
 
 pub buried-there : (es : List EndedChild) (ps : Numbered Process) (k : ℕ) → is_some (get ps k) ≡ true

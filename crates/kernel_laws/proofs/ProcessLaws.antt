@@ -34,8 +34,12 @@ Midway caller k = People (Weak caller) k.processes k.used_processes
 weaken : (ps : Numbered Process) (used : List ℕ) (caller : ℕ) → People IsStrong ps used → People (Weak caller) ps used
 weaken ps used caller h =
     record {
-      body = record { rise = h.body.rise; used_is = h.body.used_is; each =
-          λ p x l. weak caller p x (h.body.each p x l) };
+      body = record {
+        rise = h.body.rise;
+        used_is = h.body.used_is;
+        each =
+            λ p x l. weak caller p x (h.body.each p x l);
+      };
       families = h.families;
     }
 
@@ -69,19 +73,19 @@ forked ps used pid a n h l f =
     in let child = weak pid n (new_child a) (strong-child a s)
     in let parent = weak pid pid (parent_after_fork a n) (strong-forking a n s)
     in let b = body-new (Weak pid) ps used (weaken ps used pid h).body n (Living (new_child a))
-        (λ x e. subst (λ (y : Alive). Weak pid n y) (same-alive (new_child a) x e) child)
+    (λ x e. subst (λ (y : Alive). Weak pid n y) (same-alive (new_child a) x e) child)
     in let two = two-puts (get ps) (get mid) (get (processes_after_fork ps pid a n)) n pid (Living (new_child a))
-        (Living (parent_after_fork a n)) ne
+    (Living (parent_after_fork a n)) ne
     (put-is ps n (Living (new_child a))) (put-is mid pid (Living (parent_after_fork a n)))
     in record {
       body =
           body-put (Weak pid) mid (used_with used n) b pid (Living (parent_after_fork a n))
-              (there-put ps n (Living (new_child a)) pid (ap is_some l))
+          (there-put ps n (Living (new_child a)) pid (ap is_some l))
           (λ x e. subst (λ (y : Alive). Weak pid pid y) (same-alive (parent_after_fork a n) x e) parent);
       families =
           families-born (get ps) (get (processes_after_fork ps pid a n)) pid n h.families
           (born-is (get ps) (get (processes_after_fork ps pid a n)) pid n a (new_child a)
-              (parent_after_fork a n) two l absent refl refl);
+          (parent_after_fork a n) two l absent refl refl);
     }
 
 -- exit
@@ -105,12 +109,12 @@ ended-alone ps used pid a h l none =
     in record {
       body =
           body-put (Weak pid) mid used (buried-body ps used pid a h l) pid Gone
-              (buried-there a.row.family.ended ps pid (ap is_some l))
+          (buried-there a.row.family.ended ps pid (ap is_some l))
           (λ x e. living-gone x (sym e));
       families =
           families-over (get ps) (get (put mid pid Gone)) pid pid h.families
           (over-alone (get ps) (get mid) (get (put mid pid Gone)) pid a h.families l (cleared ps pid a h.families l)
-              (put-is mid pid Gone) (orphan pid ps none));
+          (put-is mid pid Gone) (orphan pid ps none));
     }
 
 end-is : (ps : Numbered Process) (used : List ℕ) (pid : ℕ) (a : Alive) (ending : Ending) (keeper : ℕ) (old : Alive)
@@ -120,7 +124,7 @@ end-is : (ps : Numbered Process) (used : List ℕ) (pid : ℕ) (a : Alive) (endi
     in let kept = put mid pid (process_after_end (ignores_children old.row) ending)
     in let last = put kept keeper (Living (with_ended_child old pid ending))
     in End (get ps) (get mid) (get last) pid a keeper old (with_ended_child old pid ending) ending
-        (ignores_children old.row))
+    (ignores_children old.row))
 end-is ps used pid a ending keeper old h l parent listed ne =
     let mid = bury_all ps a.row.family
     in let v = process_after_end (ignores_children old.row) ending
@@ -140,8 +144,8 @@ ended-kept : (ps : Numbered Process) (used : List ℕ) (pid : ℕ) (a : Alive) (
     → People IsStrong ps used
     → get ps pid ≡ Some (Living a) → get ps keeper ≡ Some (Living old) → lists old.row.family pid ≡ true
     → People (Weak pid) (put
-        (put (bury_all ps a.row.family) pid (process_after_end (ignores_children old.row) ending)) keeper
-        (Living (with_ended_child old pid ending))) used
+    (put (bury_all ps a.row.family) pid (process_after_end (ignores_children old.row) ending)) keeper
+    (Living (with_ended_child old pid ending))) used
 ended-kept ps used pid a ending keeper old h l parent listed =
     let mid = bury_all ps a.row.family
     in let v = process_after_end (ignores_children old.row) ending
@@ -149,27 +153,27 @@ ended-kept ps used pid a ending keeper old h l parent listed =
     in let new = with_ended_child old pid ending
     in let ne : pid ≢ keeper =
     λ same. h.families.alone pid
-        (subst (λ (x : ℕ). Lists (get ps) x pid) (sym same) (record { alive = old; there = parent; listed = listed }))
+    (subst (λ (x : ℕ). Lists (get ps) x pid) (sym same) (record { alive = old; there = parent; listed = listed }))
     in let b = body-put (Weak pid) mid used (buried-body ps used pid a h l) pid v
-        (buried-there a.row.family.ended ps pid (ap is_some l))
+    (buried-there a.row.family.ended ps pid (ap is_some l))
     (λ x e. kept-not-living (ignores_children old.row) ending x e)
     in let w = weak pid keeper new (strong-ended_child old pid ending (h.body.each keeper old parent))
     in record {
       body =
           body-put (Weak pid) kept used b keeper (Living new)
-              (there-put mid pid v keeper (buried-there a.row.family.ended ps keeper (ap is_some parent)))
+          (there-put mid pid v keeper (buried-there a.row.family.ended ps keeper (ap is_some parent)))
           (λ x e. subst (λ (y : Alive). Weak pid keeper y) (same-alive new x e) w);
       families =
           families-over (get ps) (get (put kept keeper (Living new))) pid keeper h.families
           (over-end (get ps) (get mid) (get (put kept keeper (Living new))) pid a keeper old new ending
-              (ignores_children old.row) h.families
+          (ignores_children old.row) h.families
           (end-is ps used pid a ending keeper old h l parent listed ne));
     }
 
 ended-under : (ps : Numbered Process) (used : List ℕ) (pid : ℕ) (a : Alive) (ending : Ending) → People IsStrong ps used
     → get ps pid ≡ Some (Living a)
     → (found : Option Parent) → parent_in pid ps ≡ found
-        → People (Weak pid) (end_under (bury_all ps a.row.family) pid ending found) used
+    → People (Weak pid) (end_under (bury_all ps a.row.family) pid ending found) used
 ended-under ps used pid a ending h l None e = ended-alone ps used pid a h l e
 ended-under ps used pid a ending h l (Some p) e =
     let w = parent-is pid ps h.body.rise p e in ended-kept ps used pid a ending p.pid p.alive h l w.0 w.1
@@ -178,16 +182,16 @@ ended-under ps used pid a ending h l (Some p) e =
 reaped : (ps : Numbered Process) (used : List ℕ) (pid : ℕ) (a : Alive) (child : ℕ) (ending : Ending)
     → People IsStrong ps used → get ps pid ≡ Some (Living a)
     → Contains a.row.family.ended (ended_child child ending)
-        → People (Weak pid) (processes_after_wait ps pid a child) used
+    → People (Weak pid) (processes_after_wait ps pid a child) used
 reaped ps used pid a child ending h l c =
     let s = h.body.each pid a l
     in let mid = put ps pid (Living (parent_after_wait a child))
     in let dead : get ps child ≡ Some (Ended ending) =
-        h.families.ended pid child ending (record { alive = a; there = l; kept = c })
+    h.families.ended pid child ending (record { alive = a; there = l; kept = c })
     in let ne : pid ≢ child = different (get ps) pid child (Living a) (Ended ending) l dead (living-ended a ending)
     in let w = weak pid pid (parent_after_wait a child) (strong-reaping a child s)
     in let b = body-put (Weak pid) ps used (weaken ps used pid h).body pid (Living (parent_after_wait a child))
-        (ap is_some l)
+    (ap is_some l)
     (λ x e. subst (λ (y : Alive). Weak pid pid y) (same-alive (parent_after_wait a child) x e) w)
     in record {
       body = body-put (Weak pid) mid used b child Gone
@@ -196,7 +200,7 @@ reaped ps used pid a child ending h l c =
       families =
           families-kept (get ps) (get (processes_after_wait ps pid a child)) (Not child) h.families
           (kept-reap (get ps) (get (processes_after_wait ps pid a child)) pid child a
-              (parent_after_wait a child) ending h.families
+          (parent_after_wait a child) ending h.families
           (record {
             two = two-puts (get ps) (get mid) (get (processes_after_wait ps pid a child)) pid child
                 (Living (parent_after_wait a child)) Gone ne
@@ -214,7 +218,7 @@ own-signals : (ps : Numbered Process) (used : List ℕ) (pid : ℕ) (a : Alive) 
     → People (Weak pid) (put ps pid (Living (record a { row = record { signals = s; family = a.row.family } }))) used
 own-signals ps used pid a s h l sound stays =
     change ps used pid h pid a (record a { row = record { signals = s; family = a.row.family } }) l refl
-        (weak-own pid a s (h.body.each pid a l) sound stays)
+    (weak-own pid a s (h.body.each pid a l) sound stays)
 
 people-moves : (k : Kernel) (pid : ℕ) (a : Alive) (n : ℕ) → Settled k → get k.processes pid ≡ Some (Living a)
     → Moves (Midway pid) k pid a n
@@ -233,11 +237,11 @@ people-moves k pid a n h l =
           (sound-mask a.row.signals how set sound) (mask-stays a.row.signals how set);
       raises_own = λ target g t.
           own-signals ps used pid target (raise target.row.signals g) h t
-              (sound-raise target.row.signals g (h.body.each pid target t).sound)
+          (sound-raise target.row.signals g (h.body.each pid target t).sound)
           (raise-stays target.row.signals g);
       raises_other = λ other target g t.
           change ps used pid h other target (raise_by_other target g) t refl
-              (weak pid other (raise_by_other target g) (strong-raised target g (h.body.each other target t)));
+          (weak pid other (raise_by_other target g) (strong-raised target g (h.body.each other target t)));
       reaps = λ which child ending e.
           reaped ps used pid a child ending h l (found-contained a.row.family which child ending e);
       makes_queue = λ f. w;

@@ -39,7 +39,7 @@ within-pushed : (q : Queue) (pid : ℕ) (m : Message) → IsQueueWithinLimits q 
     → IsQueueWithinLimits (record q { messages = q.messages ++ m ∷ []; last_sender = pid })
 within-pushed q pid m w h bytes count =
     let e : bytes_of (q.messages ++ m ∷ []) ≡ bytes_of q.messages + length m.text =
-        sum_by_push (λ (x : Message). length x.text) q.messages m
+    sum_by_push (λ (x : Message). length x.text) q.messages m
     in let l : length (q.messages ++ m ∷ []) ≡ length q.messages + length (m ∷ []) = length-append q.messages (m ∷ [])
     in record {
       limit = w.limit;
@@ -53,14 +53,14 @@ within-sent : (q : Queue) (pid : ℕ) (class : ℤ) (text : List ℕ) (next : Qu
 within-sent q pid class text next w h =
     let m : Message = record { class = class; text = text }
     in let t = both-tests (is_sendable class text) (has_room q text)
-        (record q { messages = q.messages ++ m ∷ []; last_sender = pid }) next _ _ h
+    (record q { messages = q.messages ++ m ∷ []; last_sender = pid }) next _ _ h
     in let sendable = and_parts (int_le (pos 1) class) (nat_le (length text) 4096) t.0
     in let room = and_parts (nat_le (bytes_in q + length text) q.qbytes) (nat_lt (length q.messages) 1024) t.1
     in let fits : bytes_in q + length text ≤ q.qbytes = leb-true (bytes_in q + length text) q.qbytes room.0
     in let few : length q.messages < 1024 = ltb-true (length q.messages) 1024 room.1
     in let below = w.limit
     in let good : IsMessage m =
-        record { class = in_order (pos 1) class sendable.0; text = leb-true (length text) 4096 sendable.1 }
+    record { class = in_order (pos 1) class sendable.0; text = leb-true (length text) 4096 sendable.1 }
     in subst IsQueueWithinLimits t.2 (within-pushed q pid m w good (omega arith) few)
 
 within-removed : (q : Queue) (pid place : ℕ) (m : Message) → IsQueueWithinLimits q → slice_get q.messages place ≡ Some m
@@ -77,7 +77,7 @@ within-removed q pid place m w h =
       count = omega (arith, c, count);
       messages =
           All-append IsMessage (take place q.messages) (drop (suc place) q.messages)
-              (All-take IsMessage place q.messages w.messages) (All-drop IsMessage (suc place) q.messages w.messages);
+          (All-take IsMessage place q.messages w.messages) (All-drop IsMessage (suc place) q.messages w.messages);
     }
 
 within-taken : (q : Queue) (pid size : ℕ) (noerror : Bool) (place : ℕ) (o : Option Message) (r : Received)
@@ -117,7 +117,7 @@ pub queues-moves : (P : Queue → Type 0) → QueueRule P → (k : Kernel) (pid 
     → Moves (QueueTable P) k pid a n
 queues-moves P rule k pid a n t =
     let change : (id : ℕ) (q next : Queue) → get k.queues id ≡ Some q → P next
-        → QueueTable P (record k { queues = put k.queues id next }) =
+    → QueueTable P (record k { queues = put k.queues id next }) =
     λ id q next l w. table-change P k.queues k.queue_keys k.used_queues t id next (ap is_some l) w
     in record {
       same = t;
@@ -162,8 +162,10 @@ queues-opening = table-empty IsQueueWithinLimits
 
 pub queues-kept : Kept Queues
 queues-kept =
-    record { moves = λ k pid call n next outcome s t. queues-moves IsQueueWithinLimits within-rule k pid s.alive n t;
-        finishes = λ pid k a t l d. t }
+    record {
+      moves = λ k pid call n next outcome s t. queues-moves IsQueueWithinLimits within-rule k pid s.alive n t;
+      finishes = λ pid k a t l d. t;
+    }
 
 pub queues_are_within_limits_lemma : QueuesAreWithinLimits
 queues_are_within_limits_lemma k r id q l = (kept-along Queues queues-kept r.0 opening k r.1 queues-opening).each id q l

@@ -32,7 +32,7 @@ all-at {X} P xs i x h g = subst P (get_or_from_slice_get xs i x x g) (All-get_or
 -- semget
 made-within : (count : ℕ) (set : SemaphoreSet) → (bad : Bool) → is_bad_count count ≡ bad
     → (let r : Result SemaphoreSet Errno =
-        Ok set in (if bad then Err Einval else Ok (set_of (replicate count new_semaphore))) ≡ r) → IsSetWithinLimits set
+    Ok set in (if bad then Err Einval else Ok (set_of (replicate count new_semaphore))) ≡ r) → IsSetWithinLimits set
 made-within count set true e h = not_ok Einval set h
 made-within count set false e h =
     let t = or_parts (nat_eq count 0) (nat_lt 64 count) e
@@ -40,8 +40,12 @@ made-within count set false e h =
     in let few : count ≤ 64 = ltb-false 64 count t.1
     in let l : length (replicate count new_semaphore) ≡ count = length-replicate count new_semaphore
     in subst IsSetWithinLimits (from_ok (set_of (replicate count new_semaphore)) set h)
-    (record { least = omega arith; most = omega arith; values =
-        All-replicate IsLowAt count new_semaphore (omega arith) })
+    (record {
+      least = omega arith;
+      most = omega arith;
+      values =
+          All-replicate IsLowAt count new_semaphore (omega arith);
+    })
 
 -- semctl with SETVAL
 changed-within : (set : SemaphoreSet) (num : ℕ) (s : Semaphore) → IsSetWithinLimits set → IsLowAt s
@@ -50,19 +54,23 @@ changed-within set num s w low =
     let l : length (slice_set set.semaphores num s) ≡ length set.semaphores = length-set set.semaphores num s
     in let least = w.least
     in let most = w.most
-    in record { least = omega (arith, l, least); most = omega (arith, l, most); values =
-        All-set IsLowAt set.semaphores num s low w.values }
+    in record {
+      least = omega (arith, l, least);
+      most = omega (arith, l, most);
+      values =
+          All-set IsLowAt set.semaphores num s low w.values;
+    }
 
 valued-test : (set : SemaphoreSet) (num value : ℕ) (s : Semaphore) (next : SemaphoreSet) → IsSetWithinLimits set
     → (high : Bool) → nat_lt 32767 value ≡ high
     → (let r : Result SemaphoreSet Errno =
-        Ok next in (if high then Err Erange else Ok
-        (record set { semaphores = slice_set set.semaphores num (record s { value = value }) })) ≡ r)
-        → IsSetWithinLimits next
+    Ok next in (if high then Err Erange else Ok
+    (record set { semaphores = slice_set set.semaphores num (record s { value = value }) })) ≡ r)
+    → IsSetWithinLimits next
 valued-test set num value s next w true e h = not_ok Erange next h
 valued-test set num value s next w false e h =
     subst IsSetWithinLimits
-        (from_ok (record set { semaphores = slice_set set.semaphores num (record s { value = value }) }) next h)
+    (from_ok (record set { semaphores = slice_set set.semaphores num (record s { value = value }) }) next h)
     (changed-within set num (record s { value = value }) w (ltb-false 32767 value e))
 
 valued-at : (set : SemaphoreSet) (num value : ℕ) (o : Option Semaphore) (next : SemaphoreSet) → IsSetWithinLimits set
@@ -91,8 +99,12 @@ values-within set values w g =
     let l = length-values set.semaphores values
     in let least = w.least
     in let most = w.most
-    in record { least = omega (arith, l, least); most = omega (arith, l, most); values =
-        all-values set.semaphores values w.values g }
+    in record {
+      least = omega (arith, l, least);
+      most = omega (arith, l, most);
+      values =
+          all-values set.semaphores values w.values g;
+    }
 
 -- semctl with SETALL
 all-low : (values : List ℕ) → list_any (nat_lt 32767) values ≡ false → All IsLow values
@@ -104,13 +116,13 @@ all-low (value ∷ values) h =
 filled-test : (set : SemaphoreSet) (values : List ℕ) (next : SemaphoreSet) → IsSetWithinLimits set → (equal high : Bool)
     → list_any (nat_lt 32767) values ≡ high
     → (let r : Result SemaphoreSet Errno =
-        Ok next in (if equal then if high then Err Erange else Ok
-        (record set { semaphores = with_values set.semaphores values }) else Err Einval) ≡ r)
+    Ok next in (if equal then if high then Err Erange else Ok
+    (record set { semaphores = with_values set.semaphores values }) else Err Einval) ≡ r)
     → IsSetWithinLimits next
 filled-test set values next w true true e h = not_ok Erange next h
 filled-test set values next w true false e h =
     subst IsSetWithinLimits (from_ok (record set { semaphores = with_values set.semaphores values }) next h)
-        (values-within set values w (all-low values e))
+    (values-within set values w (all-low values e))
 filled-test set values next w false high e h = not_ok Einval next h
 
 -- semop's trial
@@ -143,7 +155,7 @@ tried-on : (index : ℕ) (values : List ℕ) (step : SemStep) (steps : List SemS
 tried-on index values step steps out h rest (To value) e g =
     rest (slice_set values step.num value)
     (All-set IsLow values step.num value
-        (moved-at values step.add step.num (slice_get values step.num) value h refl e) h) g
+    (moved-at values step.add step.num (slice_get values step.num) value h refl e) h) g
 tried-on index values step steps out h rest Waits e g = cc
 tried-on index values step steps out h rest TooHigh e g = cc
 
@@ -152,7 +164,7 @@ tried-low : (index : ℕ) (values : List ℕ) (steps : List SemStep) (out : List
 tried-low index values [] out h g = let is : values ≡ out = cc in subst (λ (xs : List ℕ). All IsLow xs) is h
 tried-low index values (step ∷ steps) out h g =
     tried-on index values step steps out h (λ next low e. tried-low (index + 1) next steps out low e)
-        (move_at step.add (slice_get values step.num)) refl g
+    (move_at step.add (slice_get values step.num)) refl g
 
 -- the named semaphores' last processes
 marked-at-within : (set : SemaphoreSet) (pid num : ℕ) (o : Option Semaphore) → IsSetWithinLimits set
@@ -174,11 +186,11 @@ operated-tried : (set : SemaphoreSet) (pid : ℕ) (steps : List SemStep) (t : Tr
     → try_ops (values_of set.semaphores) steps ≡ t → op_after_trial set pid steps t ≡ Ok next → IsSetWithinLimits next
 operated-tried set pid steps (Done values) next w e h =
     let low = tried-low 0 (values_of set.semaphores) steps values
-        (All-map IsLow (λ (s : Semaphore). s.value) set.semaphores w.values) e
+    (All-map IsLow (λ (s : Semaphore). s.value) set.semaphores w.values) e
     in subst IsSetWithinLimits
-        (from_ok (record set { semaphores = fold (mark pid) (with_values set.semaphores values) steps }) next h)
+    (from_ok (record set { semaphores = fold (mark pid) (with_values set.semaphores values) steps }) next h)
     (marked-within pid steps (record set { semaphores = with_values set.semaphores values })
-        (values-within set values w low))
+    (values-within set values w low))
 operated-tried set pid steps (StopsAt index) next w e h = not_ok Eagain next h
 operated-tried set pid steps OutOfRange next w e h = not_ok Erange next h
 
@@ -186,7 +198,7 @@ operated-test : (set : SemaphoreSet) (pid : ℕ) (steps : List SemStep) (next : 
     → (many outside : Bool)
     → (let r : Result SemaphoreSet Errno = Ok next
     in (if many then Err E2big else if outside then Err Efbig else op_after_trial set pid steps
-        (try_ops (values_of set.semaphores) steps)) ≡ r) → IsSetWithinLimits next
+    (try_ops (values_of set.semaphores) steps)) ≡ r) → IsSetWithinLimits next
 operated-test set pid steps next w true outside h = not_ok E2big next h
 operated-test set pid steps next w false true h = not_ok Efbig next h
 operated-test set pid steps next w false false h =
@@ -196,7 +208,7 @@ operated-within : (set : SemaphoreSet) (pid : ℕ) (steps : List SemStep) (next 
     → op set pid steps ≡ Ok next → IsSetWithinLimits next
 operated-within set pid steps next w h =
     operated-test set pid steps next w (nat_lt 32 (length steps))
-        (list_any (λ step. nat_le (length set.semaphores) step.num) steps) h
+    (list_any (λ step. nat_le (length set.semaphores) step.num) steps) h
 
 -- the table of sets, with what each call keeps of a set
 abbrev pub SetTable : (SemaphoreSet → Type 0) → Kernel → Type 0
@@ -215,7 +227,7 @@ pub sets-moves : (P : SemaphoreSet → Type 0) → SetRule P → (k : Kernel) (p
     → Moves (SetTable P) k pid a n
 sets-moves P rule k pid a n t =
     let change : (id : ℕ) (set next : SemaphoreSet) → get k.sets id ≡ Some set → P next
-        → SetTable P (record k { sets = put k.sets id next }) =
+    → SetTable P (record k { sets = put k.sets id next }) =
     λ id set next l w. table-change P k.sets k.set_keys k.used_sets t id next (ap is_some l) w
     in record {
       same = t;
@@ -250,7 +262,7 @@ within-rule =
       one_set = λ set num value next w h. valued-at set num value (slice_get set.semaphores num) next w h;
       filled = λ set values next w h.
           filled-test set values next w (nat_eq (length values) (length set.semaphores))
-              (list_any (nat_lt 32767) values) refl h;
+          (list_any (nat_lt 32767) values) refl h;
     }
 
 abbrev pub Sets : Kernel → Type 0
@@ -261,8 +273,10 @@ sets-opening = table-empty IsSetWithinLimits
 
 pub sets-kept : Kept Sets
 sets-kept =
-    record { moves = λ k pid call n next outcome s t. sets-moves IsSetWithinLimits within-rule k pid s.alive n t;
-        finishes = λ pid k a t l d. t }
+    record {
+      moves = λ k pid call n next outcome s t. sets-moves IsSetWithinLimits within-rule k pid s.alive n t;
+      finishes = λ pid k a t l d. t;
+    }
 
 pub sets_are_within_limits_lemma : SetsAreWithinLimits
 sets_are_within_limits_lemma k r id set l = (kept-along Sets sets-kept r.0 opening k r.1 sets-opening).each id set l

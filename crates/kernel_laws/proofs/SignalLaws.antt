@@ -145,32 +145,36 @@ pub sound-raise : (s : Signals) (g : Sig) → AreSoundSignals s → AreSoundSign
 sound-raise s g h =
     by_test AreSoundSignals (is_some s.doom) s
     (if is_kill g then doom_by s g else if discards
-        (at s.actions g) g then s else if at s.mask g then record s { pending =
-        put_at s.pending g true } else arrive s g)
+    (at s.actions g) g then s else if at s.mask g then record s {
+      pending =
+          put_at s.pending g true;
+    } else arrive s g)
     (λ _. h)
     (λ _. by_test AreSoundSignals (is_kill g) (doom_by s g)
-    (if discards (at s.actions g) g then s else if at s.mask g then record s { pending =
-        put_at s.pending g true } else arrive s g)
+    (if discards (at s.actions g) g then s else if at s.mask g then record s {
+      pending =
+          put_at s.pending g true;
+    } else arrive s g)
     (λ _. sound-doomed s g h)
     (λ _. by_test AreSoundSignals (discards (at s.actions g) g) s
-        (if at s.mask g then record s { pending = put_at s.pending g true } else arrive s g) (λ _. h)
+    (if at s.mask g then record s { pending = put_at s.pending g true } else arrive s g) (λ _. h)
     (λ d. by_test AreSoundSignals (at s.mask g) (record s { pending = put_at s.pending g true }) (arrive s g)
-        (λ _. sound-pended s g h d) (λ _. sound-arrive s g h))))
+    (λ _. sound-pended s g h d) (λ _. sound-arrive s g h))))
 
 kept-acted : (actions : PerSignal Act) (pending : PerSignal Bool) (g : Sig) (act : Act)
     → ((h : Sig) → at pending h ≡ true → discards (at actions h) h ≡ false)
     → (h : Sig) → at (put_at pending g (at pending g && not (discards act g))) h ≡ true
-        → discards (at (put_at actions g act) h) h ≡ false
+    → discards (at (put_at actions g act) h) h ≡ false
 kept-acted actions pending g act k h p =
     elim (same-or-apart g h) [
       | inl same ↦
           let P : Sig → Type 0 = λ x. at (put_at pending g (at pending g && not (discards act g))) x ≡ true
           in let own = subst P (sym same) p
           in let both = and_parts (at pending g) (not (discards act g))
-              (sym (at-put-same pending g (at pending g && not (discards act g))) ∙ own)
+          (sym (at-put-same pending g (at pending g && not (discards act g))) ∙ own)
           in let Q : Sig → Type 0 = λ x. discards (at (put_at actions g act) x) x ≡ false
           in subst Q same (ap (λ (x : Act). discards x g) (at-put-same actions g act)
-              ∙ not-true (discards act g) both.1)
+          ∙ not-true (discards act g) both.1)
       | inr apart ↦
           ap (λ (x : Act). discards x h) (at-put-other actions g h act apart)
           ∙ k h (sym (at-put-other pending g h (at pending g && not (discards act g)) apart) ∙ p)
@@ -198,13 +202,17 @@ kept-taken actions pending g k h p =
 
 sound-taken : (s : Signals) (g : Sig) → AreSoundSignals s
     → AreSoundSignals (record s { pending = put_at s.pending g false })
-sound-taken s g h = record { kept = kept-taken s.actions s.pending g h.kept; unmasked = h.unmasked; kill_default =
-    h.kill_default }
+sound-taken s g h = record {
+  kept = kept-taken s.actions s.pending g h.kept;
+  unmasked = h.unmasked;
+  kill_default =
+      h.kill_default;
+}
 
 sound-deliver : (s : Signals) (g : Sig) → AreSoundSignals s → AreSoundSignals (deliver s g)
 sound-deliver s g h =
     by_test AreSoundSignals (not (is_some s.doom) && (at s.pending g && not (at s.mask g)))
-        (arrive (record s { pending = put_at s.pending g false }) g) s
+    (arrive (record s { pending = put_at s.pending g false }) g) s
     (λ _. sound-arrive (record s { pending = put_at s.pending g false }) g (sound-taken s g h))
     (λ _. h)
 
@@ -236,16 +244,18 @@ pub raise-stays : (s : Signals) (g : Sig) → Stays s (raise s g)
 raise-stays s g =
     by_test (Stays s) (is_some s.doom) s
     (if is_kill g then doom_by s g else if discards
-        (at s.actions g) g then s else if at s.mask g then record s { pending =
-        put_at s.pending g true } else arrive s g)
+    (at s.actions g) g then s else if at s.mask g then record s {
+      pending =
+          put_at s.pending g true;
+    } else arrive s g)
     (λ t h. h) (λ f h. no-doom s.doom f)
 
 deliver-stays : (s : Signals) (g : Sig) → Stays s (deliver s g)
 deliver-stays s g =
     by_test (Stays s) (not (is_some s.doom) && (at s.pending g && not (at s.mask g)))
-        (arrive (record s { pending = put_at s.pending g false }) g) s
+    (arrive (record s { pending = put_at s.pending g false }) g) s
     (λ t h. no-doom s.doom
-        (not-true (is_some s.doom) (and_parts (not (is_some s.doom)) (at s.pending g && not (at s.mask g)) t).0))
+    (not-true (is_some s.doom) (and_parts (not (is_some s.doom)) (at s.pending g && not (at s.mask g)) t).0))
     (λ f h. h)
 
 delivered-stays : (gs : List Sig) (s : Signals) → Stays s (fold deliver s gs)

@@ -20,11 +20,11 @@ pub record Step (k : Kernel) (pid : ℕ) (call : Call) (n : ℕ) (next : Kernel)
 from_effect : (k : Kernel) (pid : ℕ) (call : Call) (n : ℕ) (next : Kernel) (outcome : Outcome) (a : Alive)
     → living_at k pid ≡ Some a
     → (e : Option Effect) → effect k pid a call n ≡ e → outcome_of pid e ≡ Some (successor next outcome)
-        → Step k pid call n next outcome
+    → Step k pid call n next outcome
 from_effect k pid call n next outcome a l None g h = not_some (successor next outcome) h
 from_effect k pid call n next outcome a l (Some e) g h =
     let same = from_some (successor (finish_call e.kernel pid (living_at e.kernel pid)) (reply_alone e.reply))
-        (successor next outcome) h
+    (successor next outcome) h
     in record {
       alive = a;
       result = e;
@@ -37,7 +37,7 @@ from_effect k pid call n next outcome a l (Some e) g h =
 from_may : (k : Kernel) (pid : ℕ) (call : Call) (n : ℕ) (next : Kernel) (outcome : Outcome) (a : Alive)
     → living_at k pid ≡ Some a
     → (may : Bool) → (if may then outcome_of pid (effect k pid a call n) else None) ≡ Some (successor next outcome)
-        → Step k pid call n next outcome
+    → Step k pid call n next outcome
 from_may k pid call n next outcome a l false h = not_some (successor next outcome) h
 from_may k pid call n next outcome a l true h = from_effect k pid call n next outcome a l (effect k pid a call n) refl h
 

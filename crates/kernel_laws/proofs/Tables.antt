@@ -53,7 +53,7 @@ each-put P m k v p h n w g =
     elim (cases_eq n k) [
       | inl same ↦
           let e : v ≡ w = from_some v w (sym (get-put-same m k v) ∙ (ap (λ r. get (put m k v) r) (sym same) ∙ g)) in
-              subst P e p
+          subst P e p
       | inr ne ↦ h n w (sym (get-put-other m k v n ne) ∙ g)
     ]
 
@@ -114,7 +114,7 @@ lead-bind things keys n key v h other id g =
     elim (cases_eq other key) [
       | inl same ↦
           let e : n ≡ id = from_some n id
-              (sym (get-put-same keys key n) ∙ (ap (λ r. get (put keys key n) r) (sym same) ∙ g))
+          (sym (get-put-same keys key n) ∙ (ap (λ r. get (put keys key n) r) (sym same) ∙ g))
           in ap is_some (ap (λ r. get (put things n v) r) (sym e) ∙ get-put-same things n v)
       | inr ne ↦ there-put things n v id (h other id (sym (get-put-other keys key n other ne) ∙ g))
     ]
@@ -131,7 +131,7 @@ bound-other keys n key other id g ne = sym (get-put-other keys key n other ne) �
 apart-bind : {V : Type 0} (P : V → Type 0) (things : Numbered V) (keys : Numbered ℕ) (used : List ℕ)
     → Table P things keys used → (n key : ℕ)
     → is_used used n ≡ false → (one other id : ℕ) → get (put keys key n) one ≡ Some id
-        → get (put keys key n) other ≡ Some id → one ≡ other
+    → get (put keys key n) other ≡ Some id → one ≡ other
 apart-bind P things keys used t n key f one other id g h =
     elim (cases_eq one key) [
       | inl a ↦
@@ -139,13 +139,13 @@ apart-bind P things keys used t n key f one other id g h =
             | inl b ↦ a ∙ sym b
             | inr b ↦
                 absurd (unbound-new P things keys used t n f other
-                    (bound-other keys n key other id h b ∙ ap Some (sym (bound-same keys n key one id g a))))
+                (bound-other keys n key other id h b ∙ ap Some (sym (bound-same keys n key one id g a))))
           ]
       | inr a ↦
           elim (cases_eq other key) [
             | inl b ↦
                 absurd (unbound-new P things keys used t n f one
-                    (bound-other keys n key one id g a ∙ ap Some (sym (bound-same keys n key other id h b))))
+                (bound-other keys n key one id g a ∙ ap Some (sym (bound-same keys n key other id h b))))
             | inr b ↦ t.apart one other id (bound-other keys n key one id g a) (bound-other keys n key other id h b)
           ]
     ]

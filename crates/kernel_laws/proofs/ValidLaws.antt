@@ -80,8 +80,12 @@ first-families =
 first-settled : People IsStrong start (1 ∷ [])
 first-settled =
     record {
-      body = record { rise = (tt, tt); used_is = first-used; each =
-          λ p x l. subst Strong (first-living p x l) first-strong };
+      body = record {
+        rise = (tt, tt);
+        used_is = first-used;
+        each =
+            λ p x l. subst Strong (first-living p x l) first-strong;
+      };
       families = first-families;
     }
 
@@ -128,15 +132,20 @@ valid-from P R k h q s =
           (record { alive = b; there = from-living k.processes q b m; kept = y.1 });
       kept = λ pid ending e.
           let w = h.families.kept pid ending e
-          in record { keeper = w.0; alive = w.1.alive; lives = to-living k.processes w.0 w.1.alive w.1.there; kept =
-              w.1.kept };
+          in record {
+            keeper = w.0;
+            alive = w.1.alive;
+            lives = to-living k.processes w.0 w.1.alive w.1.there;
+            kept =
+                w.1.kept;
+          };
     }
 
 pub reachable_kernels_are_valid_lemma : ReachableKernelsAreValid
 reachable_kernels_are_valid_lemma k r =
     valid-from IsQueueWithinLimits IsSetWithinLimits k (settled k r)
-        (kept-along Queues queues-kept r.0 opening k r.1 queues-opening)
-        (kept-along Sets sets-kept r.0 opening k r.1 sets-opening)
+    (kept-along Queues queues-kept r.0 opening k r.1 queues-opening)
+    (kept-along Sets sets-kept r.0 opening k r.1 sets-opening)
 
 pub signals_are_sound_lemma : SignalsAreSound
 signals_are_sound_lemma k r pid a l = ((reachable_kernels_are_valid_lemma k r).alive pid a l).signals
@@ -147,7 +156,7 @@ parent-same : (ps : Numbered Process) (child pid : ℕ) (a : Alive) (p : Parent)
     → p ≡ record { pid = pid; alive = a }
 parent-same ps child pid a p same l m =
     let is : p.alive ≡ a =
-        same-alive p.alive a (at-once (get ps pid) (Living p.alive) (Living a) (ap (get ps) same ∙ m) l)
+    same-alive p.alive a (at-once (get ps pid) (Living p.alive) (Living a) (ap (get ps) same ∙ m) l)
     in let P : ℕ → Type 0 = λ n. p ≡ record { pid = n; alive = a }
     in let Q : Alive → Type 0 = λ x. p ≡ record { pid = p.pid; alive = x }
     in subst P (sym same) (subst Q is refl)
@@ -159,7 +168,7 @@ parent-of k h child pid a l listed None e = not_true (sym (orphan child k.proces
 parent-of k h child pid a l listed (Some p) e =
     let w = parent-is child k.processes h.body.rise p e
     in let same = h.families.one_parent pid p.pid child (record { alive = a; there = l; listed = listed })
-        (record { alive = p.alive; there = w.0; listed = w.1 })
+    (record { alive = p.alive; there = w.0; listed = w.1 })
     in ap Some (parent-same k.processes child pid a p same l w.0)
 
 pub children_have_one_parent_lemma : ChildrenHaveOneParent

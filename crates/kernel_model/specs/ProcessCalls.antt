@@ -27,8 +27,11 @@ abbrev pub fork_effect : Kernel → ℕ → Alive → ℕ → Option Effect
 fork_effect k pid a n =
     if is_fresh k.used_processes n
     then Some (reply_with
-        (record k { processes = processes_after_fork k.processes pid a n; used_processes =
-        used_with k.used_processes n }) n)
+    (record k {
+      processes = processes_after_fork k.processes pid a n;
+      used_processes =
+          used_with k.used_processes n;
+    }) n)
     else None
 
 -- The end of a process (_Exit: consequences of the end of a process). Its own ended children are gone, and its living
@@ -47,7 +50,7 @@ abbrev pub end_under : Numbered Process → ℕ → Ending → Option Parent →
 end_under ps pid ending None = put ps pid Gone
 end_under ps pid ending (Some p) =
     put (put ps pid (process_after_end (ignores_children p.alive.row) ending)) p.pid
-        (Living (with_ended_child p.alive pid ending))
+    (Living (with_ended_child p.alive pid ending))
 
 abbrev pub processes_after_end : Numbered Process → ℕ → Alive → Ending → Numbered Process
 processes_after_end ps pid a ending = end_under (bury_all ps a.row.family) pid ending (parent_in pid ps)
@@ -67,8 +70,11 @@ processes_after_wait ps pid a child = put (put ps pid (Living (parent_after_wait
 
 abbrev pub reap_child : Kernel → ℕ → Alive → Waited → Effect
 reap_child k pid a (Found child ending) =
-    record { kernel = record k { processes = processes_after_wait k.processes pid a child }; reply =
-        replies.Child child ending }
+    record {
+      kernel = record k { processes = processes_after_wait k.processes pid a child };
+      reply =
+          replies.Child child ending;
+    }
 reap_child k pid a NotYet = reply_with k 0
 reap_child k pid a NoChild = refuse k Echild
 

@@ -18,8 +18,8 @@ abbrev pub new_queue : Kernel → Numbered ℕ → ℕ → Option Effect
 new_queue k keys n =
     if is_fresh k.used_queues n
     then Some (reply_with
-        (record k { queues = put k.queues n empty_queue; queue_keys = keys; used_queues = used_with k.used_queues n })
-        n)
+    (record k { queues = put k.queues n empty_queue; queue_keys = keys; used_queues = used_with k.used_queues n })
+    n)
     else None
 
 abbrev pub get_queue_at : Kernel → ℕ → Bool → Bool → ℕ → Option ℕ → Option Effect

@@ -116,6 +116,8 @@ raise_by_other a g =
 abbrev pub with_ended_child : Alive → ℕ → Ending → Alive
 with_ended_child a child ending =
     let ignored = ignores_children a.row
-    in let next = record a { row =
-        record { signals = a.row.signals; family = family_after_end a.row.family child ending ignored } }
+    in let next = record a {
+      row =
+          record { signals = a.row.signals; family = family_after_end a.row.family child ending ignored };
+    }
     in if ignored then next else raise_by_other next Chld

@@ -23,7 +23,7 @@ new_set_of k keys n (Err e) = Some (refuse k e)
 new_set_of k keys n (Ok set) =
     if is_fresh k.used_sets n
     then Some (reply_with
-        (record k { sets = put k.sets n set; set_keys = keys; used_sets = used_with k.used_sets n }) n)
+    (record k { sets = put k.sets n set; set_keys = keys; used_sets = used_with k.used_sets n }) n)
     else None
 
 -- the size of the set of a number

@@ -26,7 +26,7 @@ escapes_bytes = refl
 
 pub names_errors : map error_name all_errors
     ≡ codes "ESRCH" ∷ codes "EINVAL" ∷ codes "ECHILD" ∷ codes "ENOENT" ∷ codes "EEXIST" ∷ codes "ENOMSG"
-        ∷ codes "EAGAIN"
+    ∷ codes "EAGAIN"
     ∷ codes "E2BIG" ∷ codes "EFBIG" ∷ codes "ERANGE" ∷ codes "EIDRM" ∷ codes "EINTR" ∷ []
 names_errors = refl
 
@@ -74,16 +74,24 @@ abbrev pub no_blocks : Script
 no_blocks = record { blocks = [] }
 
 abbrev pub parked_receive : Entry
-parked_receive = record { pid = 1; call = calls.MsgRcv 1 (pos 0) 8 false false; outcome =
-    record { own = None; woken = [] }; by = 1 }
+parked_receive = record {
+  pid = 1;
+  call = calls.MsgRcv 1 (pos 0) 8 false false;
+  outcome =
+      record { own = None; woken = [] };
+  by = 1;
+}
 
 abbrev pub waking_send : Entry
 waking_send =
     record {
       pid = 2;
       call = calls.MsgSnd 1 (pos 1) (codes "hi") false;
-      outcome = record { own = Some (replies.Num 0); woken =
-          (1, replies.Message (pos 1) (codes "hi")) ∷ (3, replies.Fail Eagain) ∷ [] };
+      outcome = record {
+        own = Some (replies.Num 0);
+        woken =
+            (1, replies.Message (pos 1) (codes "hi")) ∷ (3, replies.Fail Eagain) ∷ [];
+      };
       by = 1;
     }
 

@@ -134,7 +134,7 @@ msgsnd_text id class text nowait =
 abbrev pub msgrcv_text : ℕ → ℤ → ℕ → Bool → Bool → List ℕ
 msgrcv_text id class size noerror nowait =
     queue_words (codes "msgrcv ") id class ++ decimal size ++ word noerror (codes "noerror")
-        ++ word nowait (codes "nowait")
+    ++ word nowait (codes "nowait")
 
 abbrev pub how_words : How → List ℕ
 how_words how = codes "sigprocmask " ++ how_name how ++ 32 ∷ []

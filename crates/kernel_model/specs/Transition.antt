@@ -38,8 +38,11 @@ effect k pid a calls.GetPid n = Some (reply_with k pid)
 effect k pid a (calls.Kill target sig) n = Some (kill k pid target sig)
 effect k pid a (calls.SigAction sig act) n = Some (action_effect k pid a (act_on a.row.signals sig act))
 effect k pid a (calls.SigProcMask how set) n =
-    Some (record { kernel = with_signals k pid a (with_mask a.row.signals how set); reply =
-        replies.Bits a.row.signals.mask })
+    Some (record {
+      kernel = with_signals k pid a (with_mask a.row.signals how set);
+      reply =
+          replies.Bits a.row.signals.mask;
+    })
 effect k pid a calls.SigPending n = Some (record { kernel = k; reply = replies.Bits a.row.signals.pending })
 effect k pid a (calls.Handled sig) n = Some (reply_with k (at a.row.signals.handled sig))
 effect k pid a (calls.WaitPid child true) n = Some (reap_child k pid a (wait a.row.family child))

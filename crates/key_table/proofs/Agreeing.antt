@@ -18,7 +18,7 @@ module _ (bound bound' : ℕ → Option Bound) (key_of key_of' : ℕ → Option 
   -- a key that wasn't bound is bound to an identifier that had none
   pub agree-bound : (k : ℕ) (b : Bound) → bound k ≡ None → ((q : ℕ) → IsTrue (is_bound_to b.id (bound q)) → ⊥)
       → ((q : ℕ) → bound' q ≡ cond (nat_eq k q) (Some b) (bound q))
-          → ((i : ℕ) → key_of' i ≡ cond (nat_eq b.id i) (Some k) (key_of i)) → Agree bound' key_of'
+      → ((i : ℕ) → key_of' i ≡ cond (nat_eq b.id i) (Some k) (key_of i)) → Agree bound' key_of'
   agree-bound k b unbound absent keys ids id q =
       ⊎_elim
       (λ key. ⊎_elim

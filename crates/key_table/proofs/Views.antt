@@ -51,7 +51,7 @@ view-without es fs id alike =
     get-view fs q ∙ alike q ∙ ap (λ (x : Option Bound). cond (is_bound_to id x) None x) (sym (get-view es q))
     ∙ chosen (is_bound_to id (get m q)) (get m q)
     ∙ sym (get-retain_keys m (λ k. not (is_bound_to id (get m k))) q
-        (λ k same. ap (λ (n : ℕ). not (is_bound_to id (get m n))) (sym (nat_cmp-IsAntisymmetric q k same)))))
+    (λ k same. ap (λ (n : ℕ). not (is_bound_to id (get m n))) (sym (nat_cmp-IsAntisymmetric q k same)))))
 
 taken_out : (t : Bool) (x : Option Bound) (id : ℕ) → is_bound_to id x ≡ t → is_bound_to id (cond (not t) x None) ≡ true
     → ⊥
@@ -62,5 +62,5 @@ taken_out false x id e there = false≢true (sym e ∙ there)
 pub Binds-without_id : (m : KeyMap) (id : ℕ) → Binds (without_id m id) id → ⊥
 Binds-without_id m id held =
     let left = get-retain_keys m (λ k. not (is_bound_to id (get m k))) held.0
-        (λ k same. ap (λ (n : ℕ). not (is_bound_to id (get m n))) (sym (nat_cmp-IsAntisymmetric held.0 k same))) in
+    (λ k same. ap (λ (n : ℕ). not (is_bound_to id (get m n))) (sym (nat_cmp-IsAntisymmetric held.0 k same))) in
     taken_out (is_bound_to id (get m held.0)) (get m held.0) id refl (ap (is_bound_to id) (sym left) ∙ held.1)

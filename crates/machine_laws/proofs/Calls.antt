@@ -147,7 +147,7 @@ fine-block script r p low (Some b) h =
     let same : 1 + (p - 1) ≡ p = omega arith
     in let built : is_built_block (p, b) ≡ true =
     subst (λ q. is_built_block (q, b) ≡ true) same
-        (all-from is_built_block 1 script.blocks (p - 1) b (is-true _ r.built) h)
+    (all-from is_built_block 1 script.blocks (p - 1) b (is-true _ r.built) h)
     in fine-lines p b.lines built (all-get _ script.blocks (p - 1) b (is-true _ r.sound.at_once) h)
 
 pub lines-fine : (script : Script) → IsRunnable script → (p : ℕ) → 1 ≤ p → AllByRecursion (IsFine p) (lines_of script p)
@@ -199,7 +199,7 @@ few-in script r p low (Some b) h =
     in let one : calls_in b ≤ sum_by calls_in script.blocks = sum-at calls_in script.blocks (p - 1) b h
     in let enough : length (with_exit b.lines) ≤ calls_in b =
     tries-enough p (with_exit b.lines)
-        (subst (λ o. AllByRecursion (IsFine p) (lines_in o)) h (lines-fine script r p low))
+    (subst (λ o. AllByRecursion (IsFine p) (lines_in o)) h (lines-fine script r p low))
     in omega (arith, all, one, enough)
 
 pub lines-few : (script : Script) → IsRunnable script → (p : ℕ) → 1 ≤ p → length (lines_of script p) ≤ 20000
@@ -211,6 +211,6 @@ pub calls-enough : (script : Script) → IsRunnable script → (p : ℕ) → 1 �
 calls-enough script r p low b h =
     let enough : length (with_exit b.lines) ≤ calls_in b =
     tries-enough p (with_exit b.lines)
-        (subst (λ o. AllByRecursion (IsFine p) (lines_in o)) h (lines-fine script r p low))
+    (subst (λ o. AllByRecursion (IsFine p) (lines_in o)) h (lines-fine script r p low))
     in let same : lines_of script p ≡ with_exit b.lines = ap lines_in h
     in subst (λ ls. length ls ≤ calls_in b) (sym same) enough

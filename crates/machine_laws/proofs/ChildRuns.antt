@@ -40,9 +40,9 @@ and-is-false a b h = rw h refl
 module _ (script : Script) (r : IsRunnable script) (w : World) (first : Node) (k : Kernel) (places : Places) (pids : ℕ
     → ℕ)
     (u : IsUnderWay script w first k places pids) (p : ℕ) (low : 2 ≤ p) (high : p ≤ node_count script) (n : Node)
-        (at : node_at w p ≡ Some n)
+    (at : node_at w p ≡ Some n)
     (free : IsFree script p (pids p) (sight w first places p (pids p) n))
-        (lives : LivesHere k first.held (pids p)) where
+    (lives : LivesHere k first.held (pids p)) where
   -- the node's number and its process's
   numbered : 1 ≤ n.number
   numbered = let e = free.born.number in omega (arith, e)
@@ -81,10 +81,10 @@ module _ (script : Script) (r : IsRunnable script) (w : World) (first : Node) (k
       own_calls k n.pid new_process u.leader.stands.plain
       (ap (λ x. living_at k x) free.born.process ∙ ap (option_and_then alive_in) lives.process)
       in let goes = goes-on script w.journal k k places n.number n.pid calls.GetPid reply (place_of script n)
-          (place_of script s.node)
+      (place_of script s.node)
       u.legal u.fits u.ordered place-there d (record { not_killed = refl; not_fork = λ s ps place reply. refl }) makes
       (answered-place (lines_of script n.number) n.caller.line n.caller.vars calls.GetPid reply known.first.line
-          known.first.rest
+      known.first.rest
       known.first.left known.fine.once)
       in let places' : Places = put places n.pid (place_of script s.node)
       in let keeps : KeepsOthers script w w' first first k k places places' pids pids p =
@@ -153,7 +153,7 @@ module _ (script : Script) (r : IsRunnable script) (w : World) (first : Node) (k
   tells m f child =
       moves-alone script w first k places pids u p low high (world_after w p (sends-one m f)) m _ _ refl refl
       (changes-from (node_count script) p w.streams (stream w 1 p ++ f ∷ [])
-          (square-of script w first k places pids u) low high)
+      (square-of script w first k places pids u) low high)
       (append-nil w.journal) child
 
   stream-from : (f : Frame) (ss : _) → ss ≡ w.streams
@@ -161,13 +161,13 @@ module _ (script : Script) (r : IsRunnable script) (w : World) (first : Node) (k
   stream-from f ss e =
       ap (λ x. stream_in (with_stream x 1 p (stream_in x 1 p ++ f ∷ [])) 1 p) e
       ∙ (changes-from (node_count script) p w.streams (stream w 1 p ++ f ∷ [])
-          (square-of script w first k places pids u) low high).from_it
+      (square-of script w first k places pids u) low high).from_it
       ∙ ap (λ x. x ++ f ∷ []) free.shows.from_it
 
   stream-to : (f : Frame) → stream_in (with_stream w.streams 1 p (stream w 1 p ++ f ∷ [])) p 1 ≡ []
   stream-to f =
       (changes-from (node_count script) p w.streams (stream w 1 p ++ f ∷ [])
-          (square-of script w first k places pids u) low high).to ∙ free.shows.to_it
+      (square-of script w first k places pids u) low high).to ∙ free.shows.to_it
 
   asks-leader : (call : Call) → due (place_of script n) ≡ Some call → is_shared call ≡ true → is_waiting call ≡ false
       → is_exit call ≡ false

@@ -53,7 +53,7 @@ lines-end script p low high =
 module _ (script : Script) (r : IsRunnable script) (w : World) (first : Node) (k : Kernel) (places : Places) (pids : ℕ
     → ℕ)
     (u : IsUnderWay script w first k places pids) (p : ℕ) (low : 2 ≤ p) (high : p ≤ node_count script) (n : Node)
-        (at : node_at w p ≡ Some n)
+    (at : node_at w p ≡ Some n)
     (lives : LivesHere k first.held (pids p)) where
   abbrev without-first : World
   without-first = record w { streams = with_stream w.streams p 1 [] }
@@ -72,7 +72,7 @@ module _ (script : Script) (r : IsRunnable script) (w : World) (first : Node) (k
       → HasInvariant script (world_after without-first p (quietly m))
   becomes m child =
       moves-alone script w first k places pids u p low high
-          (world_after without-first p (quietly m)) m _ _ refl refl taken
+      (world_after without-first p (quietly m)) m _ _ refl refl taken
       (append-nil w.journal) child
 
   -- ---- the Checkpoint: it is born
@@ -80,7 +80,7 @@ module _ (script : Script) (r : IsRunnable script) (w : World) (first : Node) (k
   checkpoint-rule : (vars : Vars) → n ≡ unborn_node p → 2 ≤ pids p → is_forked_by script 1 p ≡ true
       → are_rising vars ≡ true
       → takes script n 1 (frames.Checkpoint (pids p) 1 (new_deed (pids p)) vars)
-          ≡ Some (quietly (bear n 1 (pids p) 1 vars))
+      ≡ Some (quietly (bear n 1 (pids p) 1 vars))
   checkpoint-rule vars e l f v =
       let unborn : is_unborn n.stage ≡ true = ap (λ (x : Node). is_unborn x.stage) e
       in let forked : is_forked_by script 1 n.number ≡ true = ap (λ (x : Node). is_forked_by script 1 x.number) e ∙ f

@@ -20,7 +20,7 @@ use Rattle.number_maps.proofs.Rising.{rising, rising-put, ordered}
 
 pub replays-more : (k mid next : Kernel) (h : List Entry) (e : Entry) → Replays k h mid
     → transition mid e.pid e.call (number_in e.outcome.own) ≡ Some (successor next e.outcome)
-        → Replays k (h ++ e ∷ []) next
+    → Replays k (h ++ e ∷ []) next
 replays-more k mid next [] e p t =
     record {
       next = next;
@@ -33,7 +33,7 @@ replays-more k mid next (f ∷ h) e p t =
 
 pub follows-more : (s : Script) (ps mid : Places) (h : List Entry) (e : Entry) (place : Place) → FitsFrom s ps h mid
     → get mid e.pid ≡ Some place → IsDue place e.call → HasReplyAlone e.outcome
-        → FitsFrom s ps (h ++ e ∷ []) (places_after s mid e place)
+    → FitsFrom s ps (h ++ e ∷ []) (places_after s mid e place)
 follows-more s ps mid [] e place p g d r =
     record {
       place = place;
@@ -88,7 +88,7 @@ goes-on s h k next places node pid call reply place then legal fits ord at is_du
       legal = replays-more opening k next h (entry_by node pid call reply) legal makes.step;
       fits = subst (λ (x : Places). FitsFrom s (opening_places s) (h ++ entry_by node pid call reply ∷ []) x) leads
           (follows-more s (opening_places s) places h (entry_by node pid call reply) place fits at (inl is_due)
-              (record { reply = _; alone = refl }));
+          (record { reply = _; alone = refl }));
       ordered_places = ordered-put places pid then ord;
       here = get-put-same places pid then;
       other = λ p o. get-put-other places pid then p o;
@@ -99,10 +99,10 @@ pub forks-on : (s : Script) (h : List Entry) (k next : Kernel) (places : Places)
     (place then : Place)
     → Replays opening h k → FitsFrom s (opening_places s) h places → IsOrdered places
     → get places pid ≡ Some place → due place ≡ Some (calls.Fork block)
-        → Makes k pid (calls.Fork block) (replies.Num child) next
+    → Makes k pid (calls.Fork block) (replies.Num child) next
     → place_after place (calls.Fork block) (Some (replies.Num child)) ≡ then → child ≢ pid
     → (places' : Places) × GoesOn s h k (put places child (block_place (block_at s block) (child_vars place))) node pid
-        (calls.Fork block)
+    (calls.Fork block)
     (replies.Num child) place then next places'
     × (get places' child ≡ Some (block_place (block_at s block) (child_vars place)))
 forks-on s h k next places node pid block child place then legal fits ord at is_due makes goes apart =
@@ -117,7 +117,7 @@ forks-on s h k next places node pid block child place then legal fits ord at is_
         legal = replays-more opening k next h e legal makes.step;
         fits = subst (λ (x : Places). FitsFrom s (opening_places s) (h ++ e ∷ []) x) leads
             (follows-more s (opening_places s) places h e place fits at (inl is_due)
-                (record { reply = _; alone = refl }));
+            (record { reply = _; alone = refl }));
         ordered_places = ordered-put _ child begins (ordered-put places pid then ord);
         here = get-put-other (put places pid then) child begins pid (λ x. apart (sym x)) ∙ get-put-same places pid then;
         other = λ p o. elim (cases_eq p child) [

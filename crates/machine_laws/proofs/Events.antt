@@ -79,7 +79,7 @@ module _ (script : Script) (r : IsRunnable script) (w : World) (first : Node) (k
 
   runs-child : (p : ℕ) → 2 ≤ p → p ≤ node_count script → (n : Node) → node_at w p ≡ Some n → (s : Situation)
       → IsIn s script p (pids p) (sight w first places p (pids p) n) → LivesIn s k first.held (pids p)
-          → can_run n ≡ true
+      → can_run n ≡ true
       → Goes script w (events.Run p)
   runs-child p low high n at Awaited i l h =
       not-living n.stage n.caller.under_way (ap (λ (x : Node). is_living x.stage) i.unborn.node) h
@@ -163,7 +163,7 @@ module _ (script : Script) (r : IsRunnable script) (w : World) (first : Node) (k
       elim (cases_lt (node_count script) q) [
         | inl past ↦
             let row : length (get_or w.streams 0 []) ≤ q - 1 = let c =
-                u.row 0 (let s = size-some in omega (arith, s)) in omega (arith, c, low, past)
+            u.row 0 (let s = size-some in omega (arith, s)) in omega (arith, c, low, past)
             in not-nil f fs (sym (get_or_past (get_or w.streams 0 []) (q - 1) [] row) ∙ h)
         | inr there ↦ there
       ]
@@ -207,4 +207,4 @@ module _ (script : Script) (r : IsRunnable script) (w : World) (first : Node) (k
   goes (events.Run p) h = runs-node p (ltb-true 0 p (and-left _ _ h)) _ refl (and-right _ _ h)
   goes (events.Take p q) h =
       takes-node p q (ltb-true 0 p (and-left _ _ (and-left _ _ h)))
-          (ltb-true 0 q (and-right _ _ (and-left _ _ h))) _ refl _ refl (and-right _ _ h)
+      (ltb-true 0 q (and-right _ _ (and-left _ _ h))) _ refl _ refl (and-right _ _ h)

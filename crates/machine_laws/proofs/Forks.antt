@@ -122,13 +122,13 @@ is-forked-once s r block low high =
     elim (slice_get_cases s.blocks (block - 1)).1 [
       | inl found ↦
           let once = all-from (λ b. nat_eq b.0 1 || is_forked_once s b.0) 1 s.blocks (block - 1) found.0
-              (is-true _ r.sound.forked_once) found.2
+          (is-true _ r.sound.forked_once) found.2
           in let same : 1 + (block - 1) ≡ block = omega arith
           in let once' : (nat_eq block 1 || is_forked_once s block) ≡ true =
-              subst (λ q. (nat_eq q 1 || is_forked_once s q) ≡ true) same once
+          subst (λ q. (nat_eq q 1 || is_forked_once s q) ≡ true) same once
           in let other : nat_eq block 1 ≡ false = ne_eqb block 1 (λ x. omega arith)
           in eqb-true (count_by (is_to block) (forks_of s)) 1
-              (sym (ap (λ b. b || is_forked_once s block) other) ∙ once')
+          (sym (ap (λ b. b || is_forked_once s block) other) ∙ once')
       | inr past ↦ let l = past.0 in absurd (omega (arith, l, low, high))
     ]
 

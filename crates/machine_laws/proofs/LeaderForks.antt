@@ -117,7 +117,7 @@ module _ (script : Script) (r : IsRunnable script) (w : World) (first : Node) (k
       record {
         node = (with_leader (record first.leader { next_process = child + 1 })
             (step_here script first (calls.Fork block) (replies.Num child)
-                (fork_held first.held first.pid runs.alive child))).node;
+            (fork_held first.held first.pid runs.alive child))).node;
         entries = entry_by first.number first.pid (calls.Fork block) (replies.Num child) ∷ [];
         sends = (block, frame) ∷ [];
       }
@@ -156,14 +156,14 @@ module _ (script : Script) (r : IsRunnable script) (w : World) (first : Node) (k
       in let next = next-line lines first.caller.line line rest known.first.left
       in let here : names block line ≡ true =
       sym (call-names block line first.caller.vars) ∙ sym (ap (names_block block) known.first.is_call)
-          ∙ eq-eqb block block refl
+      ∙ eq-eqb block block refl
       in let cut : named block (drop first.caller.line lines) ≡ named block (line ∷ rest) =
-          ap (named block) known.first.left
+      ap (named block) known.first.left
       in let counted = named-cons block line rest
       in let one : one_if (names block line) ≡ 1 = ap one_if here
       in let dropped = named-drop block first.caller.line lines
       in let same : named block lines ≡ named block (lines_of script 1) =
-          ap (λ q. named block (lines_of script q)) u.leader.number
+      ap (λ q. named block (lines_of script q)) u.leader.number
       in let f = forkable script r block (omega (arith, cut, counted, one, dropped, same))
       in let once = named-once script r block f.low f.high
       in record {
@@ -230,8 +230,14 @@ module _ (script : Script) (r : IsRunnable script) (w : World) (first : Node) (k
       elim (cases_eq x first.pid) [
         | inl e ↦ inl (e ∙ u.leader.pid)
         | inr o ↦ elim (cases_eq x child) [
-          | inl e ↦ inr (block, low, high, with-same pids block child ∙ sym e, λ z. let c =
-              high-child in omega (arith, c, e, z))
+          | inl e ↦ inr (
+            block,
+            low,
+            high,
+            with-same pids block child ∙ sym e,
+            λ z. let c =
+                high-child in omega (arith, c, e, z),
+          )
           | inr c ↦ elim (u.known x place (sym (get-put-other places child begins x c) ∙ (sym (other x o) ∙ h))) [
             | inl one ↦ inl one
             | inr some ↦ inr (
@@ -255,7 +261,7 @@ module _ (script : Script) (r : IsRunnable script) (w : World) (first : Node) (k
       in let old = u.children block low high
       in let awaited = awaited-is old.situation script block (pids block) _ old.is_in facts.unforked
       in let law = forks first.held first.leader k runs.alive block
-          (w.journal, u.legal) u.leader.stands runs.lives small
+      (w.journal, u.legal) u.leader.stands runs.lives small
       in let next : Kernel = law.next
       in let s : Step = forking-step
       in let m : Node = s.node
@@ -264,17 +270,17 @@ module _ (script : Script) (r : IsRunnable script) (w : World) (first : Node) (k
       ap (λ q. fork_held first.held q runs.alive child) u.leader.pid
       in let place : Place = place_of script first
       in let then : Place =
-          runs_of.place-then script r w first k places pids u runs (calls.Fork block) (replies.Num child)
+      runs_of.place-then script r w first k places pids u runs (calls.Fork block) (replies.Num child)
       in let begins : Place = block_place (block_at script block) vars
       in let not-mine : child ≢ first.pid = λ e. let h = high-child in let p = u.leader.pid in omega (arith, h, p, e)
       in let on = forks-on script w.journal k next places first.number first.pid block child place then u.legal u.fits
-          u.ordered
+      u.ordered
       (runs_of.place-there script r w first k places pids u runs) d
       (runs_of.mine script r w first k places pids u runs law.carries.makes) refl not-mine
       in let places' : Places = on.0
       in let goes = on.1
       in let changes = changes-to (node_count script) block w.streams (stream w block 1 ++ frame ∷ [])
-          (square-of script w first k places pids u) low high
+      (square-of script w first k places pids u) low high
       in let not-one : (q : ℕ) → 2 ≤ q → q ≤ node_count script → pids q ≢ 1 =
       λ q l h. pid-not-one script w first k places q (pids q) (u.children q l h)
       in let not-child : (q : ℕ) → pids q ≢ child = λ q e. let b = u.below q in omega (arith, b, e)
@@ -298,7 +304,7 @@ module _ (script : Script) (r : IsRunnable script) (w : World) (first : Node) (k
                 pids_stay = λ q l o. with-other pids block child q o;
                 places_stay = λ q l h o.
                     goes.other (pids q) (λ e. not-one q l h (e ∙ u.leader.pid))
-                        ∙ get-put-other places child begins (pids q) (not-child q);
+                    ∙ get-put-other places child begins (pids q) (not-child q);
                 lives = λ q l h o x.
                     let one : pids q ≢ 1 = not-one q l h
                     in record {
@@ -306,7 +312,7 @@ module _ (script : Script) (r : IsRunnable script) (w : World) (first : Node) (k
                       away = others-now (pids q) one ∙ x.away;
                       listed = λ a g.
                           let same : parent_after_fork runs.alive child ≡ a =
-                              living-is _ _ (some-is _ _ (sym first-now ∙ g))
+                          living-is _ _ (some-is _ _ (sym first-now ∙ g))
                           in subst (λ (b : Alive). lists b.row.family (pids q) ≡ true) same
                           (lists-old runs.alive child (pids q) (x.listed runs.alive runs.lives));
                     };
@@ -320,7 +326,7 @@ module _ (script : Script) (r : IsRunnable script) (w : World) (first : Node) (k
                     (replies.Num child) m next places' pids'
                     d refl refl refl refl refl
                     (subst (λ h. StandsFor h (record first.leader { next_process = child + 1 }) next)
-                        (sym same-held) law.carries.stands)
+                    (sym same-held) law.carries.stands)
                     (parent_after_fork runs.alive child) first-now (omega arith) (omega arith) (omega arith)
                     (λ b h. elim (cases_eq b block) [
                       | inl same ↦ absurd (facts.none-behind
@@ -354,7 +360,7 @@ module _ (script : Script) (r : IsRunnable script) (w : World) (first : Node) (k
                         away = others-now child (λ e. let h = high-child in omega (arith, h, e)) ∙ no-process;
                         listed = λ a g.
                             let same : parent_after_fork runs.alive child ≡ a =
-                                living-is _ _ (some-is _ _ (sym first-now ∙ g))
+                            living-is _ _ (some-is _ _ (sym first-now ∙ g))
                             in subst (λ (b : Alive). lists b.row.family child ≡ true) same (lists-new runs.alive child);
                       };
                     });

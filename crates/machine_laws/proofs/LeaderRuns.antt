@@ -156,7 +156,7 @@ module _ (script : Script) (r : IsRunnable script) (w : World) (first : Node) (k
       let s : Step = entering m call reply
       in let w' : World = world_after w 1 s
       in let goes = goes-on script w.journal k next places first.number first.pid call reply (place_of script first)
-          (place-then call reply)
+      (place-then call reply)
       u.legal u.fits u.ordered place-there d plain makes refl
       in let places' : Places = put places first.pid (place-then call reply)
       in let not-mine : (q : ℕ) → 2 ≤ q → q ≤ node_count script → pids q ≢ first.pid =
@@ -203,10 +203,10 @@ module _ (script : Script) (r : IsRunnable script) (w : World) (first : Node) (k
       → list_any (λ l. names_block block l.call) (place_of script first).left ≡ true
   ahead-still {call} known block h =
       let next = next-line (lines_of script first.number) first.caller.line known.first.line known.first.rest
-          known.first.left
+      known.first.left
       in ap (list_any (λ l. names_block block l.call)) known.first.left
       ∙ ahead-behind block known.first.line known.first.rest
-          (sym (ap (list_any (λ l. names_block block l.call)) next.1) ∙ h)
+      (sym (ap (list_any (λ l. names_block block l.call)) next.1) ∙ h)
 
   -- process 1 goes on; what is still ahead of it isn't forked yet
   pub goes-on-to : (call : Call) (reply : Reply) (m : Node) (next : Kernel) (places' : Places) (pids' : ℕ → ℕ)
@@ -217,22 +217,30 @@ module _ (script : Script) (r : IsRunnable script) (w : World) (first : Node) (k
       → m.leader.next_process ≤ first.leader.next_process + 1 → m.leader.next_queue ≤ first.leader.next_queue + 1
       → m.leader.next_set ≤ first.leader.next_set + 1
       → ((block : ℕ) → list_any (λ l. names_block block l.call)
-          (drop (first.caller.line + 1) (lines_of script first.number)) ≡ true → pids' block ≡ 0)
+      (drop (first.caller.line + 1) (lines_of script first.number)) ≡ true → pids' block ≡ 0)
       → get places' 1 ≡ Some (place-then call reply) → IsLeader script m next places' pids'
   goes-on-to call reply m next places' pids' d goes_on number pid stage caller stands a there np nq ns ahead place =
       let known = due-is script first call r numbered d
       in let place-is : place-then call reply
-          ≡ record { left = drop (first.caller.line + 1) (lines_of script first.number); tried = 0; vars =
-          (at_once script first call reply).vars } =
+      ≡ record {
+        left = drop (first.caller.line + 1) (lines_of script first.number);
+        tried = 0;
+        vars =
+            (at_once script first call reply).vars;
+      } =
       answered-place (lines_of script first.number) first.caller.line first.caller.vars call reply known.first.line
-          known.first.rest
+      known.first.rest
       known.first.left known.fine.once
       in let moved : place_of script m
-          ≡ record { left = drop (first.caller.line + 1) (lines_of script first.number); tried = 0; vars =
-          (at_once script first call reply).vars } =
+      ≡ record {
+        left = drop (first.caller.line + 1) (lines_of script first.number);
+        tried = 0;
+        vars =
+            (at_once script first call reply).vars;
+      } =
       rw (number, caller) refl
       in let left : (place_of script m).left ≡ drop (first.caller.line + 1) (lines_of script first.number) =
-          ap (λ (z : Place). z.left) moved
+      ap (λ (z : Place). z.left) moved
       in let line : m.caller.line ≡ first.caller.line + 1 = ap (λ c. c.line) caller
       in let fp = runs.few_processes
       in let fq = runs.few_queues
@@ -297,7 +305,7 @@ module _ (script : Script) (r : IsRunnable script) (w : World) (first : Node) (k
       in enters calls.GetPid reply m k d refl (record { not_killed = refl; not_fork = λ s ps place reply. refl })
       (own_calls k first.pid runs.alive u.leader.stands.plain lives-now) refl (omega arith) (λ q o x. x)
       (λ places' h. goes-on-with calls.GetPid reply m k places' d refl refl refl refl refl u.leader.stands runs.alive
-          runs.lives
+      runs.lives
       (omega arith) (omega arith) (omega arith) h)
 
   pub few-lines : {call : Call} → due (place_of script first) ≡ Some call → first.caller.line < 20000
@@ -320,11 +328,11 @@ module _ (script : Script) (r : IsRunnable script) (w : World) (first : Node) (k
       lt-ltb number number_end (let f = runs.few_queues in let l = few-lines d in omega (arith, f, l))
       in let law = new_queues first.held first.leader k runs.alive create excl u.leader.stands first-lives-now small
       in enters call reply m law.next d (rw (leads, small) refl)
-          (record { not_killed = refl; not_fork = λ s ps place reply. refl })
+      (record { not_killed = refl; not_fork = λ s ps place reply. refl })
       (mine law.carries.makes) refl (omega arith)
       (λ q o x. record { process = ap (λ ps. get ps q) law.processes ∙ x.process; away = x.away; listed = x.listed })
       (λ places' h. goes-on-with call reply m law.next places' d refl refl refl refl refl law.carries.stands runs.alive
-          runs.lives
+      runs.lives
       (omega arith) (omega arith) (omega arith) h)
 
   new-set : (count : ℕ) (create excl : Bool) (set : SemaphoreSet) → new_set count ≡ Ok set
@@ -339,7 +347,7 @@ module _ (script : Script) (r : IsRunnable script) (w : World) (first : Node) (k
       in let small : nat_lt number number_end ≡ true =
       lt-ltb number number_end (let f = runs.few_sets in let l = few-lines d in omega (arith, f, l))
       in let law = new_sets first.held first.leader k runs.alive count set create excl u.leader.stands first-lives-now
-          made small
+      made small
       in enters call reply m law.next d
       (if-both _ _ (Some (makes_set_of script first call (new_set count))) None leads small
       ∙ ap (λ x. Some (makes_set_of script first call x)) made)
@@ -347,7 +355,7 @@ module _ (script : Script) (r : IsRunnable script) (w : World) (first : Node) (k
       (mine law.carries.makes) refl (omega arith)
       (λ q o x. record { process = ap (λ ps. get ps q) law.processes ∙ x.process; away = x.away; listed = x.listed })
       (λ places' h. goes-on-with call reply m law.next places' d refl refl refl refl refl law.carries.stands runs.alive
-          runs.lives
+      runs.lives
       (omega arith) (omega arith) (omega arith) h)
 
   bad-set : (count : ℕ) (create excl : Bool) (error : Errno) → new_set count ≡ Err error
@@ -363,7 +371,7 @@ module _ (script : Script) (r : IsRunnable script) (w : World) (first : Node) (k
       ∙ ap (λ x. Some (makes_set_of script first call x)) made)
       (record { not_killed = refl; not_fork = λ s ps place reply. refl })
       (bad_sets k first.pid runs.alive count error create excl u.leader.stands.plain lives-now made) refl (omega arith)
-          (λ q o x. x)
+      (λ q o x. x)
       (λ places' h. goes-on-with call reply m k places' d refl refl refl refl refl u.leader.stands runs.alive runs.lives
       (omega arith) (omega arith) (omega arith) h)
 
@@ -381,7 +389,7 @@ module _ (script : Script) (r : IsRunnable script) (w : World) (first : Node) (k
       let law = served_calls first.held first.leader k first.pid runs.alive call e u.leader.stands lives-now shared h
       in let m : Node = (step_here script first call e.reply (held_in e.kernel)).node
       in let same-held : (q : ℕ) → get m.held.processes q ≡ get first.held.processes q =
-          λ q. ap (λ ps. get ps q) law.held
+      λ q. ap (λ ps. get ps q) law.held
       in enters call e.reply m law.next d
       (shared-rule-at script first call shared ∙ shared-here call shared waits ∙ ap (carry_out script first call) h)
       (shared-is-ordinary call shared) law.carries.makes refl (omega arith)
@@ -391,7 +399,7 @@ module _ (script : Script) (r : IsRunnable script) (w : World) (first : Node) (k
         listed = λ a g. x.listed a (sym (same-held 1) ∙ g);
       })
       (λ places' g. goes-on-with call e.reply m law.next places' d
-          (shared-goes-on call shared) refl refl refl refl law.carries.stands
+      (shared-goes-on call shared) refl refl refl refl law.carries.stands
       runs.alive (same-held 1 ∙ runs.lives) (omega arith) (omega arith) (omega arith) g)
 
   served-by : (call : Call) (o : Option Effect) → is_shared call ≡ true → is_waiting call ≡ false
@@ -414,7 +422,7 @@ module _ (script : Script) (r : IsRunnable script) (w : World) (first : Node) (k
       in let held : Held = end_first first.held first.pid runs.alive (Exited (status % 256))
       in let m : Node = record (step_here script first call replies.Ended held).node { stage = Over }
       in let law = first_ends first.held first.leader k runs.alive status
-          (w.journal, u.legal) u.leader.stands runs.lives
+      (w.journal, u.legal) u.leader.stands runs.lives
       in let same : held ≡ end_first first.held 1 runs.alive (Exited (status % 256)) =
       ap (λ x. end_first first.held x runs.alive (Exited (status % 256))) u.leader.pid
       in let buried-now : List _ = fold bury first.held.processes runs.alive.row.family.ended
@@ -424,7 +432,7 @@ module _ (script : Script) (r : IsRunnable script) (w : World) (first : Node) (k
       in let over : (place-then call replies.Ended).left ≡ [] =
       ap (λ (z : Place). z.left)
       (answered-place (lines_of script first.number) first.caller.line first.caller.vars call replies.Ended
-          known.first.line
+      known.first.line
       known.first.rest known.first.left known.fine.once)
       ∙ nothing-behind script first call known runs.ends refl
       in enters call replies.Ended m law.next d

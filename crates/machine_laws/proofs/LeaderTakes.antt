@@ -92,7 +92,7 @@ lists-still : (a : Alive) (child q : ℕ) (ending : Ending) → q ≢ child
     → lists (with_ended_child a child ending).row.family q ≡ lists a.row.family q
 lists-still a child q ending h =
     ap (λ (f : Family). lists f q) (ended-family a child ending (ignores_children a.row) refl)
-        ∙ any-others child q a.row.family.living h
+    ∙ any-others child q a.row.family.living h
 
 living-is : (a b : Alive) → LivingProcess a ≡ LivingProcess b → a ≡ b
 living-is a b h = cc
@@ -100,7 +100,7 @@ living-is a b h = cc
 module _ (script : Script) (r : IsRunnable script) (w : World) (first : Node) (k : Kernel) (places : Places) (pids : ℕ
     → ℕ)
     (u : IsUnderWay script w first k places pids) (p : ℕ) (low : 2 ≤ p) (high : p ≤ node_count script) (n : Node)
-        (at : node_at w p ≡ Some n)
+    (at : node_at w p ≡ Some n)
     (lives : LivesHere k first.held (pids p)) (high_pid : 2 ≤ pids p) where
   abbrev without-first : World
   without-first = record w { streams = with_stream w.streams 1 p [] }
@@ -137,7 +137,7 @@ module _ (script : Script) (r : IsRunnable script) (w : World) (first : Node) (k
   -- the leader with other deeds and other notes of who parts
   idle : (held : Held) (partings : Numbered Parting) (places' : Places) → get places' 1 ≡ get places 1
       → ((a : Alive) → get first.held.processes 1 ≡ Some (LivingProcess a) → (b : Alive)
-          × (get held.processes 1 ≡ Some (LivingProcess b)))
+      × (get held.processes 1 ≡ Some (LivingProcess b)))
       → (get first.held.processes 1 ≡ Some GoneProcess → get held.processes 1 ≡ Some GoneProcess)
       → Idles first (record first { held = held; leader = record first.leader { partings = partings } }) places places'
   idle held partings places' place lives-on gone =
@@ -173,7 +173,7 @@ module _ (script : Script) (r : IsRunnable script) (w : World) (first : Node) (k
       → (e : Effect) → serve first.held (pids p) call ≡ Some e → Goes script w (events.Take 1 p)
   answers call i e h =
       let law = served_calls first.held first.leader k
-          (pids p) new_process call e u.leader.stands lives-now i.has.shared h
+      (pids p) new_process call e u.leader.stands lives-now i.has.shared h
       in let next : Kernel = law.next
       in let s : Step = answering n.caller.ticket call e
       in let m : Node = s.node
@@ -187,7 +187,7 @@ module _ (script : Script) (r : IsRunnable script) (w : World) (first : Node) (k
       u.legal u.fits u.ordered i.place i.has.is_due (shared-is-ordinary call i.has.shared) law.carries.makes refl
       in let places' : Places = put places (pids p) then
       in let same-held : (q : ℕ) → get m.held.processes q ≡ get first.held.processes q =
-          λ q. ap (λ ps. get ps q) law.held
+      λ q. ap (λ ps. get ps q) law.held
       in let living : (q : ℕ) → LivesHere k first.held q → LivesHere next m.held q =
       λ q l. record {
         process = ap (λ ps. get ps q) law.processes ∙ l.process;
@@ -259,8 +259,12 @@ module _ (script : Script) (r : IsRunnable script) (w : World) (first : Node) (k
   -- ---- a Leaving: the leader asks for all
 
   abbrev recalling : Step
-  recalling = record { node = with_parting first p (IsLeaving (pids p)); entries = []; sends =
-      (p, frames.RecallAll) ∷ [] }
+  recalling = record {
+    node = with_parting first p (IsLeaving (pids p));
+    entries = [];
+    sends =
+        (p, frames.RecallAll) ∷ [];
+  }
 
   leaving-rule : get first.leader.partings p ≡ None
       → takes script first p (frames.Leaving (pids p) 1 1) ≡ Some recalling
@@ -334,8 +338,10 @@ module _ (script : Script) (r : IsRunnable script) (w : World) (first : Node) (k
   abbrev ending-step : (status : ℕ) (x : Process) → Step
   ending-step status x =
       record {
-        node = record (with_parting first p HasLeft) { held =
-            end_child first.held (pids p) 1 x (Exited (status % 256)) };
+        node = record (with_parting first p HasLeft) {
+          held =
+              end_child first.held (pids p) 1 x (Exited (status % 256));
+        };
         entries = entry_by first.number (pids p) (calls.Exit status) replies.Ended ∷ [];
         sends = [];
       }
@@ -347,10 +353,10 @@ module _ (script : Script) (r : IsRunnable script) (w : World) (first : Node) (k
   left-rule : (status : ℕ) (x : Process) → get first.leader.partings p ≡ Some (IsLeaving (pids p))
       → get first.held.processes 1 ≡ Some x
       → may_end (pids p) x ≡ true
-          → takes script first p (frames.Left (parcel_from (pids p) status)) ≡ Some (ending-step status x)
+      → takes script first p (frames.Left (parcel_from (pids p) status)) ≡ Some (ending-step status x)
   left-rule status x h g m =
       rw (from-other, leaves-as-told h, lives.away, new-deed-same (pids p))
-          (ap (end_at first p (parcel_from (pids p) status) status) g ∙ rw m refl)
+      (ap (end_at first p (parcel_from (pids p) status) status) g ∙ rw m refl)
 
   -- what the leader has of processes afterwards
   away-still : (q : ℕ) (ending : Ending) (x : Process) → q ≢ 1 → q ≢ pids p
@@ -364,7 +370,7 @@ module _ (script : Script) (r : IsRunnable script) (w : World) (first : Node) (k
 
   first-living : (a : Alive) (ending : Ending)
       → get (end_child first.held (pids p) 1 (LivingProcess a) ending).processes 1
-          ≡ Some (LivingProcess (with_ended_child a (pids p) ending))
+      ≡ Some (LivingProcess (with_ended_child a (pids p) ending))
   first-living a ending =
       get-put-same (put first.held.processes (pids p) (process_after_end (ignores_children a.row) ending)) 1
       (LivingProcess (with_ended_child a (pids p) ending))
@@ -377,10 +383,10 @@ module _ (script : Script) (r : IsRunnable script) (w : World) (first : Node) (k
   listed-still : (x : Process) (ending : Ending) (q : ℕ) → get first.held.processes 1 ≡ Some x → q ≢ 1 → q ≢ pids p
       → ((a : Alive) → get first.held.processes 1 ≡ Some (LivingProcess a) → lists a.row.family q ≡ true)
       → (b : Alive) → get (end_child first.held (pids p) 1 x ending).processes 1 ≡ Some (LivingProcess b)
-          → lists b.row.family q ≡ true
+      → lists b.row.family q ≡ true
   listed-still (LivingProcess a) ending q h one other before b g =
       let same : LivingProcess (with_ended_child a (pids p) ending) ≡ LivingProcess b =
-          some-is _ _ (sym (first-living a ending) ∙ g)
+      some-is _ _ (sym (first-living a ending) ∙ g)
       in let alive : with_ended_child a (pids p) ending ≡ b = living-is _ _ same
       in subst (λ (c : Alive). lists c.row.family q ≡ true) alive (lists-still a (pids p) q ending other ∙ before a h)
   listed-still (EndedProcess e) ending q h one other before b g =
@@ -408,7 +414,7 @@ module _ (script : Script) (r : IsRunnable script) (w : World) (first : Node) (k
   ends-with status x there may i =
       let ending : Ending = Exited (status % 256)
       in let law = children_end first.held first.leader k x (pids p) status reachable u.leader.stands
-          (λ e. omega arith) lives.process lives.away there may
+      (λ e. omega arith) lives.process lives.away there may
       in let next : Kernel = law.next
       in let s : Step = ending-step status x
       in let m : Node = s.node
@@ -417,16 +423,16 @@ module _ (script : Script) (r : IsRunnable script) (w : World) (first : Node) (k
       in let known = due-is script n (calls.Exit status) r numbered i.at.is_due
       in let then : Place = place_after (place_of script n) (calls.Exit status) (Some replies.Ended)
       in let goes = goes-on script w.journal k next places first.number (pids p) (calls.Exit status) replies.Ended
-          (place_of script n) then
+      (place_of script n) then
       u.legal u.fits u.ordered i.at.place i.at.is_due
-          (record { not_killed = refl; not_fork = λ s ps place reply. refl })
+      (record { not_killed = refl; not_fork = λ s ps place reply. refl })
       law.carries.makes refl
       in let places' : Places = put places (pids p) then
       in let own : get places' 1 ≡ get places 1 = goes.other 1 (λ e. omega arith)
       in let over : then.left ≡ [] =
       ap (λ (z : Place). z.left)
       (answered-place (lines_of script n.number) n.caller.line n.caller.vars
-          (calls.Exit status) replies.Ended known.first.line
+      (calls.Exit status) replies.Ended known.first.line
       known.first.rest known.first.left known.fine.once)
       ∙ nothing-behind script n (calls.Exit status) known i.at.ends refl
       in record {
@@ -463,7 +469,7 @@ module _ (script : Script) (r : IsRunnable script) (w : World) (first : Node) (k
                 first_at = node-same w.nodes 1 first m u.first_at;
                 leader = leader-idles script first m k next places places' pids
                     (idle m.held m.leader.partings places' own (λ a g. still-lives x ending a there g)
-                        (λ g. still-gone x ending there g))
+                    (λ g. still-gone x ending there g))
                     (stands-still m.held first.leader m.leader next refl refl refl law.carries.stands) u.leader;
                 child = λ h. record {
                   situation = Gone;

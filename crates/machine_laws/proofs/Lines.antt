@@ -67,8 +67,12 @@ pub answered-place : (lines : List Line) (i : ℕ) (vars : Vars) (call : Call) (
     (rest : List Line)
     → drop i lines ≡ line ∷ rest → line.tries ≡ 1
     → place_after (record { left = drop i lines; tried = 0; vars = vars }) call (Some reply)
-    ≡ record { left = drop (i + 1) lines; tried = 0; vars =
-        set_variable vars (set_by (slice_get lines i)) (value_in (Some reply)) }
+    ≡ record {
+      left = drop (i + 1) lines;
+      tried = 0;
+      vars =
+          set_variable vars (set_by (slice_get lines i)) (value_in (Some reply));
+    }
 answered-place lines i vars call reply line rest cut once =
     let next = next-line lines i line rest cut
     in ap (λ l. after_line (record { left = drop i lines; tried = 0; vars = vars }) call (Some reply) l) cut

@@ -61,7 +61,7 @@ child-stays script w w' first first' k k' places places' pids pids' c low_c keep
     keeps.streams.others 1 p (omega arith) (omega arith) (λ e. absurd (omega arith)) (λ e. other)
     in let same : sight w first places p (pids p) child.node ≡ sight w' first' places' p (pids p) child.node =
     sight-is child.node _ _ _ _ _ _ _ _ (sym to_it) (sym from_it) (sym (keeps.partings p low other))
-        (sym (keeps.places_stay p low high other))
+    (sym (keeps.places_stay p low high other))
     in subst (λ pid. IsChild script w' first' k' places' p pid) (sym (keeps.pids_stay p low other))
     (record {
       situation = child.situation;
@@ -108,14 +108,14 @@ goes-over script w w' first first' k k' places places' pids pids' c low u keeps 
             subst (λ q. IsChild script w' first' k' places' q (pids' q)) (sym same) (news.child (omega arith))
         | inr other ↦
             child-stays script w w' first first' k k' places places' pids pids' c low keeps p a b other
-                (u.children p a b)
+            (u.children p a b)
       ];
       quiet = λ p q a b.
           keeps.streams.others p q (omega arith) (omega arith) (λ e f. omega arith) (λ e f. omega arith)
-              ∙ u.quiet p q a b;
+          ∙ u.quiet p q a b;
       quiet_leader =
           keeps.streams.others 1 1 (omega arith) (omega arith) (λ e f. omega arith) (λ e f. omega arith)
-              ∙ u.quiet_leader;
+          ∙ u.quiet_leader;
       apart = news.apart;
       below = news.below;
       known = news.known;

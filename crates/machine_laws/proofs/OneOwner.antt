@@ -74,7 +74,7 @@ module _ (count : Frame → ℕ) (ss : Streams) where
   one-on-the-way a b m h g =
       sum-one _ ss a m
       (λ i row e o. sum-none _ row
-          (λ j fs x. ap (sum_by count) (sym (in-place i j row fs e x)) ∙ h i j (λ z. absurd (o z))))
+      (λ j fs x. ap (sum_by count) (sym (in-place i j row fs e x)) ∙ h i j (λ z. absurd (o z))))
       (λ row e. sum-one _ row b m
       (λ j fs x o. ap (sum_by count) (sym (in-place a j row fs e x)) ∙ h a j (λ z. o))
       (λ fs x. subst (λ l. sum_by count l ≤ m) (in-place a b row fs e x) g))
@@ -165,23 +165,23 @@ module _ (script : Script) (w : World) (first : Node) (k : Kernel) (places : Pla
   child-counts p n (Forked vars) i =
       ToIt (held-count name n nothing (ap (λ (x : Node). x.held) i.unborn.node) ∙ nothing-counts name)
       (let a = one-frame-count name _ _ i.shows.to_it in let b =
-          one-if-least (is_of name (new_deed (pids p))) in omega (arith, a, b))
+      one-if-least (is_of name (new_deed (pids p))) in omega (arith, a, b))
       (no-frames-count name _ i.shows.from_it)
   child-counts p n Free i =
       AtNode (one-if-least (holds name n.held)) (no-frames-count name _ i.shows.to_it)
-          (no-frames-count name _ i.shows.from_it)
+      (no-frames-count name _ i.shows.from_it)
   child-counts p n (Asking call) i =
       AtNode (one-if-least (holds name n.held)) (no-frames-count name _ i.shows.to_it)
-          (one-frame-count name _ _ i.shows.from_it)
+      (one-frame-count name _ _ i.shows.from_it)
   child-counts p n (Answered call reply) i =
       AtNode (one-if-least (holds name n.held)) (one-frame-count name _ _ i.shows.to_it)
-          (no-frames-count name _ i.shows.from_it)
+      (no-frames-count name _ i.shows.from_it)
   child-counts p n (Telling status) i =
       AtNode (one-if-least (holds name n.held)) (no-frames-count name _ i.shows.to_it)
-          (one-frame-count name _ _ i.shows.from_it)
+      (one-frame-count name _ _ i.shows.from_it)
   child-counts p n (Recalled status) i =
       AtNode (one-if-least (holds name n.held)) (one-frame-count name _ _ i.shows.to_it)
-          (no-frames-count name _ i.shows.from_it)
+      (no-frames-count name _ i.shows.from_it)
   child-counts p n (HandedOver status) i =
       FromIt (held-count name n nothing i.has.has_deeds ∙ nothing-counts name) (no-frames-count name _ i.shows.to_it)
       (let a = one-frame-count name _ _ i.shows.from_it
@@ -329,9 +329,9 @@ module _ (script : Script) (w : World) (first : Node) (k : Kernel) (places : Pla
         in elim (cases_lt (node_count script) (j + 1)) [
           | inl past ↦
               let some : 1 ≤ node_count script = let l = slice_get_within w.nodes 0 first u.first_at in let x =
-                  u.nodes in omega (arith, l, x)
+              u.nodes in omega (arith, l, x)
               in let r : length (get_or w.streams 0 []) ≤ j = let x =
-                  u.row 0 (omega (arith, some)) in omega (arith, past, x)
+              u.row 0 (omega (arith, some)) in omega (arith, past, x)
               in ap (brings-count name) (get_or_past (get_or w.streams 0 []) j [] r)
           | inr there ↦ elim (cases_eq (j + 1) c) [
             | inl same ↦ sym moved ∙ ap from-count same ∙ g same
@@ -438,7 +438,7 @@ module _ (script : Script) (w : World) (first : Node) (k : Kernel) (places : Pla
   -- the zeros of children whose process it isn't
   apart-zero : (name : Name) (p : ℕ) (low : 2 ≤ p) (high : p ≤ node_count script) → name ≢ Proc (pids p)
       → Zero (holds-count name (u.children p low high).node) (brings-count name (stream w p 1))
-          (brings-count name (stream w 1 p))
+      (brings-count name (stream w 1 p))
   apart-zero name p low high o =
       let c = u.children p low high
       in other-zero script w first k places pids u name p c.node c.situation c.is_in o
@@ -486,7 +486,7 @@ module _ (script : Script) (w : World) (first : Node) (k : Kernel) (places : Pla
       in awaited-zero p c.node c.situation c.is_in) where
         awaited-zero : (p : ℕ) (n : Node) (s : Situation) → IsIn s script p (pids p) (sight w first places p (pids p) n)
             → Zero (holds-count (Proc 0) n) (brings-count (Proc 0) (stream w p 1))
-                (brings-count (Proc 0) (stream w 1 p))
+            (brings-count (Proc 0) (stream w 1 p))
         awaited-zero p n s i = elim (cases_eq 0 (pids p)) [
           | inl e ↦
               let a = awaited-is s script p (pids p) _ i (sym e)

@@ -82,8 +82,11 @@ module _ (script : Script) (r : IsRunnable script) where
   only-first : (pid : ℕ) (a : Alive) → living_at opening pid ≡ Some a → (pid ≡ 1) × (a ≡ new_process)
   only-first pid a h =
       elim (cases_eq pid 1) [
-        | inl e ↦ (e, sym (from_some new_process a
-            (sym (ap (option_and_then alive_in) (get-first (1, LivingProcess new_process) [] pid e)) ∙ h)))
+        | inl e ↦ (
+          e,
+          sym (from_some new_process a
+              (sym (ap (option_and_then alive_in) (get-first (1, LivingProcess new_process) [] pid e)) ∙ h)),
+        )
         | inr o ↦ not_some a (sym (ap (option_and_then alive_in) (get-later (1, LivingProcess new_process) [] pid o))
             ∙ h)
       ]

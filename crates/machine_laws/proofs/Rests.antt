@@ -112,5 +112,11 @@ known-after script places places' pids pid old known had other x place h =
 pub born-again : (p pid : ℕ) (n m : Node) → IsBorn p pid n → m.number ≡ n.number → m.pid ≡ n.pid → m.parent ≡ n.parent
     → m.parent_node ≡ n.parent_node → IsBorn p pid m
 born-again p pid n m b a c d e =
-    record { number = a ∙ b.number; process = c ∙ b.process; low = b.low; parent = d ∙ b.parent; parent_node =
-        e ∙ b.parent_node }
+    record {
+      number = a ∙ b.number;
+      process = c ∙ b.process;
+      low = b.low;
+      parent = d ∙ b.parent;
+      parent_node =
+          e ∙ b.parent_node;
+    }

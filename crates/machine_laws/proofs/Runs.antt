@@ -97,28 +97,28 @@ module _ (script : Script) (w : World) (first : Node) (k : Kernel) (places : Pla
   child-over p low n at Awaited i some place h = absurd (some i.none)
   child-over p low n at (Forked vars) i some place h =
       stuck (events.Take p 1)
-          (take-enabled w p 1 n _ [] (omega arith) (omega arith) at i.shows.to_it (any-takes (not (is_unborn n.stage))))
+      (take-enabled w p 1 n _ [] (omega arith) (omega arith) at i.shows.to_it (any-takes (not (is_unborn n.stage))))
   child-over p low n at Free i some place h =
       stuck (events.Run p) (run-enabled w p n
-          (omega arith) at (can-run n.stage n.caller.under_way (ap is_living i.has.has_stage) i.has.has_call))
+      (omega arith) at (can-run n.stage n.caller.under_way (ap is_living i.has.has_stage) i.has.has_call))
   child-over p low n at (Asking call) i some place h =
       stuck (events.Take 1 p)
-          (take-enabled w 1 p first _ [] (omega arith) (omega arith) u.first_at i.shows.from_it
-          (born-takes first.stage _ first-is-born))
+      (take-enabled w 1 p first _ [] (omega arith) (omega arith) u.first_at i.shows.from_it
+      (born-takes first.stage _ first-is-born))
   child-over p low n at (Answered call reply) i some place h =
       stuck (events.Take p 1) (take-enabled w p 1 n _ [] (omega arith) (omega arith) at i.shows.to_it
       (born-takes n.stage _ (ap is_unborn i.has.has.has_stage)))
   child-over p low n at (Telling status) i some place h =
       stuck (events.Take 1 p)
-          (take-enabled w 1 p first _ [] (omega arith) (omega arith) u.first_at i.shows.from_it
-          (born-takes first.stage _ first-is-born))
+      (take-enabled w 1 p first _ [] (omega arith) (omega arith) u.first_at i.shows.from_it
+      (born-takes first.stage _ first-is-born))
   child-over p low n at (Recalled status) i some place h =
       stuck (events.Take p 1) (take-enabled w p 1 n _ [] (omega arith) (omega arith) at i.shows.to_it
       (born-takes n.stage _ (ap is_unborn i.has.has_stage)))
   child-over p low n at (HandedOver status) i some place h =
       stuck (events.Take 1 p)
-          (take-enabled w 1 p first _ [] (omega arith) (omega arith) u.first_at i.shows.from_it
-          (born-takes first.stage _ first-is-born))
+      (take-enabled w 1 p first _ [] (omega arith) (omega arith) u.first_at i.shows.from_it
+      (born-takes first.stage _ first-is-born))
   child-over p low n at Gone i some place h = ap (λ (x : Place). x.left) (some-is _ _ (sym h ∙ i.place)) ∙ i.over
 
   first-over : (place : Place) → get places 1 ≡ Some place → place.left ≡ []

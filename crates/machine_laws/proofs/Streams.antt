@@ -28,9 +28,9 @@ pub stream-same : (n : ℕ) (ss : Streams) (p q : ℕ) (fs : List Frame) → Squ
     → stream_in (with_stream ss p q fs) p q ≡ fs
 stream-same n ss p q fs s low high low_q high_q =
     ap (λ row. get_or row (q - 1) [])
-        (get_or-set_same ss (p - 1) _ [] (subst (λ x. p - 1 < x) (sym s.rows) (omega arith)))
+    (get_or-set_same ss (p - 1) _ [] (subst (λ x. p - 1 < x) (sym s.rows) (omega arith)))
     ∙ get_or-set_same (get_or ss (p - 1) []) (q - 1) fs []
-        (subst (λ x. q - 1 < x) (sym (s.row (p - 1) (omega arith))) (omega arith))
+    (subst (λ x. q - 1 < x) (sym (s.row (p - 1) (omega arith))) (omega arith))
 
 -- in another row, or at another place of the same row
 pub stream-row : (n : ℕ) (ss : Streams) (p q r t : ℕ) (fs : List Frame) → r - 1 ≢ p - 1
@@ -41,7 +41,7 @@ pub stream-column : (n : ℕ) (ss : Streams) (p q t : ℕ) (fs : List Frame) →
     → stream_in (with_stream ss p q fs) p t ≡ stream_in ss p t
 stream-column n ss p q t fs s low high other =
     ap (λ row. get_or row (t - 1) [])
-        (get_or-set_same ss (p - 1) _ [] (subst (λ x. p - 1 < x) (sym s.rows) (omega arith)))
+    (get_or-set_same ss (p - 1) _ [] (subst (λ x. p - 1 < x) (sym s.rows) (omega arith)))
     ∙ get_or-set_other (get_or ss (p - 1) []) (q - 1) (t - 1) fs [] other
 
 pub stream-other : (n : ℕ) (ss : Streams) (p q r t : ℕ) (fs : List Frame) → Square n ss → 1 ≤ p → p ≤ n → 1 ≤ q → 1 ≤ r

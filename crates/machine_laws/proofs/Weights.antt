@@ -113,7 +113,7 @@ module _ (script : Script) (n : Node) (living : n.stage ≡ Living) (idle : n.ca
   lowers-shared call s h =
       elim (chosen (is_leader n) (carry_out script n call (serve n.held n.pid call)) (Some (asks n call)) s
       (passed (is_shared call && not (is_waiting call))
-          (if is_leader n then carry_out script n call (serve n.held n.pid call) else Some (asks n call)) s h).1) [
+      (if is_leader n then carry_out script n call (serve n.held n.pid call) else Some (asks n call)) s h).1) [
         | inl c ↦ lowers-carried call (serve n.held n.pid call) s c
         | inr a ↦ subst (λ x. Lowers script x (32 * to_start script n)) (some-is _ _ a) (asking call)
       ]
@@ -134,7 +134,7 @@ module _ (script : Script) (n : Node) (living : n.stage ≡ Living) (idle : n.ca
       → Lowers script s (32 * to_start script n)
   over status a s h =
       subst (λ x. Lowers script x (32 * to_start script n)) (some-is _ _ h) (let x =
-          before in record { lower = omega (arith, x) })
+      before in record { lower = omega (arith, x) })
 
   lowers-ended : (status : ℕ) (o : Option Alive) (s : Step) → ends_first script n status o ≡ Some s
       → Lowers script s (32 * to_start script n)
@@ -144,7 +144,7 @@ module _ (script : Script) (n : Node) (living : n.stage ≡ Living) (idle : n.ca
   lowers-exit : (status : ℕ) (s : Step) → exits script n status ≡ Some s → Lowers script s (32 * to_start script n)
   lowers-exit status s h =
       elim (chosen (is_leader n) (ends_first script n status (living_in n.held.processes n.pid))
-          (Some (leaves n status)) s h) [
+      (Some (leaves n status)) s h) [
         | inl c ↦ lowers-ended status (living_in n.held.processes n.pid) s c
         | inr a ↦ subst (λ x. Lowers script x (32 * to_start script n)) (some-is _ _ a) (leaving status)
       ]
@@ -163,16 +163,16 @@ module _ (script : Script) (n : Node) (living : n.stage ≡ Living) (idle : n.ca
       in let m : Step =
       with_leader (record n.leader { next_queue = number + 1 })
       (step_here script n (calls.MsgGet None create excl) (Num number)
-          (record n.held { queues = put n.held.queues number empty_queue }))
+      (record n.held { queues = put n.held.queues number empty_queue }))
       in let low : Lowers script m (32 * to_start script n) = at-once m refl refl refl refl (omega arith)
       in subst (λ x. Lowers script x (32 * to_start script n))
-          (some-is m s (passed (is_leader n && nat_lt number number_end) (Some m) s h).1) low
+      (some-is m s (passed (is_leader n && nat_lt number number_end) (Some m) s h).1) low
   lowers-call (calls.SemGet None count create excl) s h =
       let call : Call = calls.SemGet None count create excl
       in let m : Step = makes_set_of script n call (new_set count)
       in subst (λ x. Lowers script x (32 * to_start script n))
       (some-is m s (passed (is_leader n && nat_lt n.leader.next_set number_end) (Some m) s h).1)
-          (lowers-set call (new_set count))
+      (lowers-set call (new_set count))
   lowers-call call s h = lowers-shared call s h
 
 -- ---- a node runs
@@ -190,17 +190,17 @@ is-idle (Some call) h = absurd (false≢true h)
 
 run-due : (script : Script) (n : Node) (left : List Line) (s : Step) → n.stage ≡ Living → n.caller.under_way ≡ None
     → (place_of script n).left ≡ left → starts script n (call_due (place_of script n) left) ≡ Some s
-        → Lowers script s (32 * to_start script n)
+    → Lowers script s (32 * to_start script n)
 run-due script n [] s l c e h = of-some s h
 run-due script n (line ∷ rest) s l c e h = lowers-call script n l c line rest e (call_of line n.caller.vars) s h
 
 run-lowers : (script : Script) (n : Node) (s : Step) → run script n ≡ Some s → Lowers script s (32 * to_start script n)
 run-lowers script n s h =
     let p = passed (can_run n && nat_lt (n.caller.ticket + 1) number_end)
-        (starts script n (due (place_of script n))) s h
+    (starts script n (due (place_of script n))) s h
     in let can : can_run n ≡ true = and-left _ _ p.0
     in run-due script n (place_of script n).left s (is-living n.stage (and-left _ _ can))
-        (is-idle n.caller.under_way (and-right _ _ can)) refl p.1
+    (is-idle n.caller.under_way (and-right _ _ can)) refl p.1
 
 -- ---- a node takes a frame
 
@@ -213,7 +213,7 @@ ask-lowers : (script : Script) (n : Node) (from ticket pid : ℕ) (call : Call) 
 ask-lowers script n from ticket pid call None s h = of-some s h
 ask-lowers script n from ticket pid call (Some e) s h =
     subst (λ x. Lowers script x (with-frame script n (frames.Ask ticket pid call))) (some-is _ _ h)
-        (record { lower = omega arith })
+    (record { lower = omega arith })
 
 answered-below : (script : Script) (n : Node) (c : Caller) (stage : Stage) → c.line ≡ n.caller.line + 1
     → c.under_way ≡ None
@@ -228,7 +228,7 @@ answered-below script n c Living l u a = awaited-below n.caller.under_way refl a
       let x = length-drop (n.caller.line + 1) (lines_of script n.number)
       in let y = length-drop n.caller.line (lines_of script n.number)
       in let z : to_start_in script (record n { caller = c }) Living
-          ≡ length (drop (n.caller.line + 1) (lines_of script n.number)) - 0 = rw (l, u) refl
+      ≡ length (drop (n.caller.line + 1) (lines_of script n.number)) - 0 = rw (l, u) refl
       in let v : to_start_in script n Living ≡ length (drop n.caller.line (lines_of script n.number)) - 1 =
       ap (λ w. length (drop n.caller.line (lines_of script n.number)) - one_if (is_some w)) e
       in omega (arith, x, y, z, v)
@@ -248,14 +248,16 @@ left-lowers-at script n from parcel status None s h = of-some s h
 left-lowers-at script n from parcel status (Some p) s h =
     let m : Step =
     record {
-      node = record (with_parting n from HasLeft) { held =
-          end_child n.held parcel.pid parcel.parent p (Exited (status % 256)) };
+      node = record (with_parting n from HasLeft) {
+        held =
+            end_child n.held parcel.pid parcel.parent p (Exited (status % 256));
+      };
       entries = entry_by n.number parcel.pid parcel.call Ended ∷ [];
       sends = [];
     }
     in let low : Lowers script m (with-frame script n (frames.Left parcel)) = record { lower = omega arith }
     in subst (λ x. Lowers script x (with-frame script n (frames.Left parcel)))
-        (some-is m s (passed (may_end parcel.pid p) (Some m) s h).1) low
+    (some-is m s (passed (may_end parcel.pid p) (Some m) s h).1) low
 
 left-lowers : (script : Script) (n : Node) (from : ℕ) (parcel : Parcel) (call : Call) (s : Step)
     → end_by n from parcel call ≡ Some s
@@ -277,9 +279,9 @@ takes-lowers script n from (frames.Ask ticket pid call) s h =
 takes-lowers script n from (frames.Answer ticket reply) s h =
     let p = passed _ _ s h
     in let below = answered-below script n (take_reply script n.number n.caller reply) n.stage refl refl
-        (and-left _ _ p.0)
+    (and-left _ _ p.0)
     in subst (λ x. Lowers script x (with-frame script n (frames.Answer ticket reply))) (some-is _ _ p.1)
-        (record { lower = omega (arith, below) })
+    (record { lower = omega (arith, below) })
 takes-lowers script n from (frames.Checkpoint pid parent deed vars) s h =
     let p = passed _ _ s h
     in let unborn : n.stage ≡ Unborn = is-unborn n.stage (and-left _ _ (and-left _ _ p.0))
@@ -287,13 +289,17 @@ takes-lowers script n from (frames.Checkpoint pid parent deed vars) s h =
     in subst (λ x. Lowers script x (with-frame script n (frames.Checkpoint pid parent deed vars))) (some-is _ _ p.1)
     (record { lower = omega (arith, was) })
 takes-lowers script n from (frames.Leaving pid parent parent_node) s h =
-    let m : Step = record { node = with_parting n from (IsLeaving pid); entries = []; sends =
-        (from, frames.RecallAll) ∷ [] }
+    let m : Step = record {
+      node = with_parting n from (IsLeaving pid);
+      entries = [];
+      sends =
+          (from, frames.RecallAll) ∷ [];
+    }
     in let low : Lowers script m (with-frame script n (frames.Leaving pid parent parent_node)) =
-        record { lower = omega arith }
+    record { lower = omega arith }
     in subst (λ x. Lowers script x (with-frame script n (frames.Leaving pid parent parent_node)))
     (some-is m s (passed ((is_to_leader n from && is_none (get n.leader.partings from))
-        && (nat_lt 0 pid && (nat_lt 0 parent && not (nat_eq pid parent)))) (Some m) s h).1) low
+    && (nat_lt 0 pid && (nat_lt 0 parent && not (nat_eq pid parent)))) (Some m) s h).1) low
 takes-lowers script n from frames.RecallAll s h = recall-lowers script n n.caller.under_way s (passed _ _ s h).1
 takes-lowers script n from (frames.Left parcel) s h = left-lowers script n from parcel parcel.call s (passed _ _ s h).1
 takes-lowers script n from f s h = of-some s h
@@ -327,7 +333,7 @@ without-first w p q fs = record w { streams = with_stream w.streams p q fs }
 take-turned : (w next : World) (p q : ℕ) (n : Node) (f : Frame) (fs : List Frame) → node_at w p ≡ Some n
     → stream w p q ≡ f ∷ fs
     → (t : Option Step) → takes w.script n q f ≡ t → after_turn (without-first w p q fs) p t ≡ Some next
-        → weight next < weight w
+    → weight next < weight w
 take-turned w next p q n f fs at there None e g = of-some next g
 take-turned w next p q n f fs at there (Some s) e g =
     let l = takes-lowers w.script n q f s e
@@ -367,7 +373,7 @@ numbered-sum script (b ∷ bs) first h =
     subst (λ q. to_start script (opening_node q) ≤ calls_in b) e (h 0 b refl)
     in let rest = numbered-sum script bs (first + 1)
     (λ i c g. let f : first + suc i ≡ first + 1 + i =
-        omega arith in subst (λ q. to_start script (opening_node q) ≤ calls_in c) f (h (suc i) c g))
+    omega arith in subst (λ q. to_start script (opening_node q) ≤ calls_in c) f (h (suc i) c g))
     in let x = sum_by-cons (to_start script) (opening_node first) (map opening_node (numbers (first + 1) (length bs)))
     in let y = sum_by-cons calls_in b bs
     in omega (arith, here, rest, x, y)
@@ -404,7 +410,7 @@ no-streams (suc count) m =
     let rest = no-streams count m
     in let here = no-frames m
     in let x = sum_by-cons (λ (row : List (List Frame)). sum_by (λ fs. sum_by frame_weight fs) row) (replicate m [])
-        (replicate count (replicate m []))
+    (replicate count (replicate m []))
     in omega (arith, rest, here, x)
 
 opening-weight : (script : Script) → IsRunnable script → weight (opening_world script) ≤ 32 * calls_of script

@@ -96,7 +96,7 @@ makes_set_of script n call (Ok set) =
 abbrev pub makes_set : Script → Node → Call → ℕ → Option Step
 makes_set script n call count =
     if is_leader n && nat_lt n.leader.next_set number_end then Some
-        (makes_set_of script n call (new_set count)) else None
+    (makes_set_of script n call (new_set count)) else None
 
 -- the fork rule: the child has the leader's next number, and its deed and its variables go to its node
 abbrev pub fork_held : Held → ℕ → Alive → ℕ → Held
@@ -107,8 +107,10 @@ forks_as script n block child None = None
 forks_as script n block child (Some a) =
     let step : Step = step_here script n (calls.Fork block) (replies.Num child) (fork_held n.held n.pid a child)
     in Some (with_leader (record n.leader { next_process = child + 1 })
-    (record step { sends =
-        (block, frames.Checkpoint child n.pid (new_deed child) (child_vars (place_of script n))) ∷ [] }))
+    (record step {
+      sends =
+          (block, frames.Checkpoint child n.pid (new_deed child) (child_vars (place_of script n))) ∷ [];
+    }))
 
 abbrev pub forks : Script → Node → ℕ → Option Step
 forks script n block =

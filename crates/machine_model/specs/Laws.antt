@@ -26,7 +26,7 @@ RestIsWhole = (script : Script) (w : World) → IsRunnable script → IsReachabl
 abbrev pub EnabledEventsHaveSteps : Type 0
 EnabledEventsHaveSteps =
     (script : Script) (w : World) (e : Event) → IsRunnable script → IsReachableWorld script w → is_enabled w e ≡ true
-        → IsSome (step w e)
+    → IsSome (step w e)
 
 -- No process, queue or set ever has two owners.
 abbrev pub NoNameHasTwoOwners : Type 0

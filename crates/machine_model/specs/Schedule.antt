@@ -53,4 +53,4 @@ abbrev pub Follows : World → Schedule → List Event → World → Type 0
 Follows w schedule [] last = (choice w schedule ≡ None) × (w ≡ last)
 Follows w schedule (e ∷ es) last =
     (choice w schedule ≡ Some e) × (next : World) × (step w e ≡ Some next)
-        × Follows next (schedule_after schedule e) es last
+    × Follows next (schedule_after schedule e) es last

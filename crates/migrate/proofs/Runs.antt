@@ -59,8 +59,8 @@ runs owner [] node never other = refl
 runs owner (n ∷ reads) node never other =
     let w : Watching = watching_reads owner reads in
     let kept : (k : ℕ) → run_with w n ≡ k → k < 4
-        → run_of (watching_after w n).reader (watching_after w n).run node ≡ cond (eqb n node) k 0 =
-        λ k e below. rw (← e) (run-kept w.owner n node (run_with w n) (omega arith)) in
+    → run_of (watching_after w n).reader (watching_after w n).run node ≡ cond (eqb n node) k 0 =
+    λ k e below. rw (← e) (run-kept w.owner n node (run_with w n) (omega arith)) in
     ⊎_elim
     (λ own.
     let apart : eqb n node ≡ false = grind (arith, nat_tests) in
@@ -68,14 +68,14 @@ runs owner (n ∷ reads) node never other =
     (λ another.
     let below : in_a_row n reads + 1 < 4 = omega (arith, never.0 another.1, itself n reads) in
     let now : run_with w n ≡ in_a_row n reads + 1 =
-        next-run w n owner (reads-owner owner reads) another.1
-        ∙ ap (λ (k : ℕ). k + 1) (runs owner reads n never.1 another.1) in
+    next-run w n owner (reads-owner owner reads) another.1
+    ∙ ap (λ (k : ℕ). k + 1) (runs owner reads n never.1 another.1) in
     kept (in_a_row n reads + 1) now below ∙ same_reader n node reads)
     (eqb_tells n owner)
 
 pub fourth_moves : FourthMoves
 fourth_moves owner node reads never other =
     let run : run_with (watching_reads owner reads) node ≡ in_a_row node (node ∷ reads) =
-        next-run (watching_reads owner reads) node owner (reads-owner owner reads) other
-        ∙ ap (λ (k : ℕ). k + 1) (runs owner reads node never other) ∙ sym (itself node reads) in
+    next-run (watching_reads owner reads) node owner (reads-owner owner reads) other
+    ∙ ap (λ (k : ℕ). k + 1) (runs owner reads node never other) ∙ sym (itself node reads) in
     ap (λ (k : ℕ). cond {A = Option ℕ} (eqb k 4) (Some node) None) run

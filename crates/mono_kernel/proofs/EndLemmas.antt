@@ -43,18 +43,18 @@ pub left-under : (ps ns : Numbered Process) (pid parent : ℕ) (ending : Ending)
     → lists_there ps parent pid ≡ true
     → IfLiving (put ps pid (process_after_end (ignores_there ps parent) ending)) parent
     (λ a. ns ≡ put (put ps pid (process_after_end (ignores_there ps parent) ending)) parent
-        (Living (with_ended_child a pid ending)))
+    (Living (with_ended_child a pid ending)))
     → ns ≡ end_under ps pid ending (parent_at ps (Some parent))
 left-under ps ns pid parent ending apart h is =
     at (living_in ps parent) refl h
-        (rw (living-put_other ps pid parent (process_after_end (ignores_there ps parent) ending) apart) at is)
+    (rw (living-put_other ps pid parent (process_after_end (ignores_there ps parent) ending) apart) at is)
   where
     at : (o : Option Alive) → living_in ps parent ≡ o → option_map_or (λ a. lists a.row.family pid) o false ≡ true
         → IfSome o (λ a. ns ≡ put (put ps pid (process_after_end (ignores_there ps parent) ending)) parent
-            (Living (with_ended_child a pid ending)))
+        (Living (with_ended_child a pid ending)))
         → ns ≡ end_under ps pid ending (option_map (as_parent parent) o)
     at None here g k = absurd (cc)
     at (Some a) here g k =
         let ignored : ignores_there ps parent ≡ ignores_children a.row = rw here refl
         in k ∙ ap (λ (b : Bool).
-            put (put ps pid (process_after_end b ending)) parent (Living (with_ended_child a pid ending))) ignored
+        put (put ps pid (process_after_end b ending)) parent (Living (with_ended_child a pid ending))) ignored

@@ -30,7 +30,7 @@ found-kept which (e ∷ es) = at (matches which e.pid) (first_ended_child which 
 pub found-there : (ps : Numbered Process) (parents : Numbered ℕ) (pid : ℕ) (a : Alive) (which : Option ℕ)
     → IsTable ps parents
     → living_in ps pid ≡ Some a
-        → IfSome (first_ended_child which a.row.family.ended) (λ e. is_some (get ps e.pid) ≡ true)
+    → IfSome (first_ended_child which a.row.family.ended) (λ e. is_some (get ps e.pid) ≡ true)
 found-there ps parents pid a which t lives =
     at (first_ended_child which a.row.family.ended) (found-kept which a.row.family.ended)
   where

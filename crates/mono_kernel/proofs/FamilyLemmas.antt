@@ -22,4 +22,4 @@ pub fewer-others : (child : ℕ) (xs : List ℕ) → list_any (nat_eq child) xs 
 fewer-others child [] h = absurd (cc)
 fewer-others child (x ∷ xs) h =
     fewer (nat_eq child x) (list_any (nat_eq child) xs) x (others child xs) xs (length-others child xs)
-        (fewer-others child xs) h
+    (fewer-others child xs) h

@@ -60,4 +60,4 @@ unbound-one [] id key rising all = let there : None ≡ Some id = all.0 in absur
 unbound-one (e ∷ es) id key rising all =
     freed id key e es (nat_cmp key e.0) refl rising all
     (λ later. unbound-one es id key (sorted_tail nat_cmp e.0 (keys_of es) rising)
-        (later, λ q h. all.1 q (get-rest e es q id rising h)))
+    (later, λ q h. all.1 q (get-rest e es q id rising h)))

@@ -35,7 +35,7 @@ pub child-lands : (ps es : Numbered Process) (pid child : ℕ) (v w : Process) �
     → IfLiving ps pid (λ a. es ≡ put ps pid (Living (parent_after_fork a child)))
 child-lands ps es pid child v w rising there is written =
     lands ps es pid (λ a. parent_after_fork a child) v w rising there
-        (λ a living. is ∙ ap (with_child_there child) living) written
+    (λ a living. is ∙ ap (with_child_there child) living) written
 
 -- what was asked of the living process holds of its place
 pub can-there : (ps : Numbered Process) (pid : ℕ) (change : Change) (v : Process) → get ps pid ≡ Some v

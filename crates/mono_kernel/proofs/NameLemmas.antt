@@ -54,8 +54,10 @@ HasWayBack-bound keys key_of used n key h new rising =
         nat_eq-same a = grind arith
     at q id there false is =
         let old : get keys q ≡ Some id = sym (get-put-apart keys key q n is) ∙ there
-        in ((HasWayBack-stale keys key_of used n key h new).back q id old,
-            used-with used n id (inr (h.given_out q id old)))
+        in (
+          (HasWayBack-stale keys key_of used n key h new).back q id old,
+          used-with used n id (inr (h.given_out q id old)),
+        )
 
 pub HasWayBack-noted : (keys key_of : Numbered ℕ) (used : List ℕ) (n : ℕ) (key : Option ℕ) → HasWayBack keys key_of used
     → is_used used n ≡ false → HasWayBack keys (ways_with key_of key n) used
@@ -64,6 +66,6 @@ HasWayBack-noted keys key_of used n (Some key) h new = HasWayBack-stale keys key
 
 pub HasWayBack-added : (keys key_of : Numbered ℕ) (used : List ℕ) (n : ℕ) (key : Option ℕ) → HasWayBack keys key_of used
     → is_used used n ≡ false → IsRising (keys_with keys key n)
-        → HasWayBack (keys_with keys key n) (ways_with key_of key n) (used_with used n)
+    → HasWayBack (keys_with keys key n) (ways_with key_of key n) (used_with used n)
 HasWayBack-added keys key_of used n None h new rising = HasWayBack-used keys key_of used n h
 HasWayBack-added keys key_of used n (Some key) h new rising = HasWayBack-bound keys key_of used n key h new rising

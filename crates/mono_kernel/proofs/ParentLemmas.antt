@@ -38,7 +38,7 @@ parent-none [] child rising none = refl
 parent-none (e ∷ es) child rising none =
     passed child e.0 e.1 (parent_in child es) (λ b is it. none e.0 (b, get-first e es ∙ ap Some is, it))
     ∙ parent-none es child (sorted_tail nat_cmp e.0 (keys_of es) rising)
-        (λ q l. none q (l.0, get-rest e es q (Living l.0) rising l.1, l.2))
+    (λ q l. none q (l.0, get-rest e es q (Living l.0) rising l.1, l.2))
 
 found : (child p : ℕ) (a : Alive) (e : ℕ × Process) (es : Numbered Process) (o : Ordering) → nat_cmp p e.0 ≡ o
     → IsRising (e ∷ es)
@@ -55,7 +55,7 @@ found child p a e es Equal h rising there it only rec =
 found child p a e es Greater h rising there it only rec =
     let later : get es p ≡ Some (Living a) = rw h at there
     in passed child e.0 e.1 (parent_in child es)
-        (λ b is lists_it. greater-differs p e.0 h (only e.0 (b, get-first e es ∙ ap Some is, lists_it))) ∙ rec later
+    (λ b is lists_it. greater-differs p e.0 h (only e.0 (b, get-first e es ∙ ap Some is, lists_it))) ∙ rec later
 
 pub parent-one : (ps : Numbered Process) (child p : ℕ) (a : Alive) → IsRising ps → get ps p ≡ Some (Living a)
     → lists a.row.family child ≡ true
@@ -113,7 +113,7 @@ pub parent_number-one : (ps : Numbered Process) (parents : Numbered ℕ) (child 
 parent_number-one ps parents child p t here h =
     let l = listing ps p child h
     in rw (parent_in-one ps parents child p t here h)
-        (ap (λ (o : Option Alive). option_map (λ x. x.pid) (option_map (as_parent p) o)) (living-get ps p l.0 l.1))
+    (ap (λ (o : Option Alive). option_map (λ x. x.pid) (option_map (as_parent p) o)) (living-get ps p l.0 l.1))
 
 pub parent_in-stale : (ps : Numbered Process) (parents : Numbered ℕ) (child p : ℕ) → IsTable ps parents
     → get parents child ≡ Some p

@@ -23,7 +23,7 @@ select-positive ms (negsuc n) above = absurd (cc)
 
 pub receive-too_long : (q : Queue) (pid : ℕ) (class : ℤ) (size : ℕ) (noerror : Bool) (place : ℕ) (m : Message)
     → select q.messages class ≡ Some place → slice_get q.messages place ≡ Some m → size < length m.text
-        → noerror ≡ false
+    → noerror ≡ false
     → receive q pid class size noerror ≡ Err E2big
 receive-too_long q pid class size noerror place m chosen there long strict =
     let le : nat_le (length m.text) size ≡ false = grind arith
@@ -31,7 +31,7 @@ receive-too_long q pid class size noerror place m chosen there long strict =
 
 pub receive-takes : (q : Queue) (pid : ℕ) (class : ℤ) (size : ℕ) (noerror : Bool) (place : ℕ) (m : Message)
     → select q.messages class ≡ Some place → slice_get q.messages place ≡ Some m
-        → (nat_le (length m.text) size || noerror) ≡ true
+    → (nat_le (length m.text) size || noerror) ≡ true
     → receive q pid class size noerror ≡ Ok (take_message q pid size place m)
 receive-takes q pid class size noerror place m chosen there may = rw (chosen, there, may)
 

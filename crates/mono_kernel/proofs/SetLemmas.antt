@@ -36,11 +36,16 @@ write-step S V ys i s t some alike is same read =
 pub mark-step : (S : List Semaphore) (pid : ℕ) (steps : List SemStep) (i n : ℕ) (d : SemStep) (ys : List Semaphore)
     (s t : Semaphore)
     → i < length steps → n ≡ (get_or steps i d).num → n < length ys → ys ≡ fold (mark pid) S (take i steps) → t ≡ s
-        → s ≡ get_or ys n s
+    → s ≡ get_or ys n s
     → set ys n (record t { last = pid }) ≡ fold (mark pid) S (take (i + 1) steps)
 mark-step S pid steps i n d ys s t inside is_num within is same read =
-    rw (same, fold_more (mark pid) S steps i d inside, ← is, ← is_num,
-        slice_get_read ys (length ys) n s refl within read)
+    rw (
+      same,
+      fold_more (mark pid) S steps i d inside,
+      ← is,
+      ← is_num,
+      slice_get_read ys (length ys) n s refl within read,
+    )
 
 -- where no step names a number from this size on, each is below
 pub below-size : (size : ℕ) (steps : List SemStep) → list_any (λ step. nat_le size step.num) steps ≡ false
@@ -52,7 +57,7 @@ below-size size (step ∷ steps) none zero d inside = first_below size step (lis
     first_below size step b none = grind arith
 below-size size (step ∷ steps) none (suc k) d inside =
     below-size size steps (rest_none (nat_le size step.num) (list_any (λ s. nat_le size s.num) steps) none) k d
-        (omega arith)
+    (omega arith)
   where
     rest_none : (a b : Bool) → (a || b) ≡ false → b ≡ false
     rest_none true b none = absurd (cc)

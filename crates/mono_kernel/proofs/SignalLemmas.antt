@@ -21,7 +21,7 @@ signals-land k next pid b f s here is landed =
 
 pub own-signal : (k next : Kernel) (caller pid : ℕ) (g : Sig) (o : Option Alive) → caller ≡ pid
     → IfSome o (λ a. next ≡ with_signals k pid a (raise a.row.signals g))
-        → IfSome o (λ a. next ≡ signalled_kernel k caller pid a g)
+    → IfSome o (λ a. next ≡ signalled_kernel k caller pid a g)
 own-signal k next caller pid g None same h = tt
 own-signal k next caller pid g (Some a) same h = let yes : nat_eq caller pid ≡ true = grind arith in rw yes h
 

@@ -98,7 +98,7 @@ IsTable-changed ps parents pid a b t here no_more kept_before rising =
     at : (p child : ℕ) (c : Alive) → living_in (put ps pid (Living b)) p ≡ Some c → (x : Bool) → nat_eq p pid ≡ x
         → (lists c.row.family child ≡ true → get parents child ≡ Some p)
         × (lists c.row.family child ≡ true → (is_some (get (put ps pid (Living b)) child) ≡ true)
-            × (nat_eq child p ≡ false))
+        × (nat_eq child p ≡ false))
         × (keeps c.row.family child ≡ true
         → (is_some (get (put ps pid (Living b)) child) ≡ true) × (living_in (put ps pid (Living b)) child ≡ None))
     at p child c lives true is =
@@ -206,7 +206,7 @@ ended-keeps a c ending child h = at (ignores_children a.row) refl
         first : (x any : Bool)
             → (list_any (λ y. nat_eq child y.pid) (es ++ ended_child c ending ∷ []) ≡ true → (any ≡ true) ⊎ (child ≡ c))
             → (x || list_any (λ y. nat_eq child y.pid) (es ++ ended_child c ending ∷ [])) ≡ true → ((x || any) ≡ true)
-                ⊎ (child ≡ c)
+            ⊎ (child ≡ c)
         first true any rec k = inl refl
         first false any rec k = rec k
 
@@ -231,7 +231,7 @@ IsTable-ended_child ps ns parents pid c ending t lives listed ended is rising =
         λ child k. from (ended-keeps a c ending child k)
         in rw h
         (IsTable-changed ps parents pid a (with_ended_child a c ending) t here (ended-lists a c ending) kept
-            (rw h at rising))
+        (rw h at rising))
       where
         from : {child : ℕ} → (keeps a.row.family child ≡ true) ⊎ (child ≡ c)
             → (keeps a.row.family child ≡ true) ⊎ ((is_some (get ps child) ≡ true) × (living_in ps child ≡ None))
@@ -331,7 +331,7 @@ module _ (ps : Numbered Process) (parents : Numbered ℕ) (n pid : ℕ) (a : Ali
       (lists c.row.family child ≡ true → get (put parents n pid) child ≡ Some p)
       × (lists c.row.family child ≡ true → (is_some (get forked_table child) ≡ true) × (nat_eq child p ≡ false))
       × (keeps c.row.family child ≡ true → (is_some (get forked_table child) ≡ true)
-          × (living_in forked_table child ≡ None))
+      × (living_in forked_table child ≡ None))
 
   fits-old : (p child : ℕ) (c : Alive) → living_in ps p ≡ Some c → Fits p child c
   unfolding Fits
@@ -386,7 +386,7 @@ module _ (ps : Numbered Process) (parents : Numbered ℕ) (n pid : ℕ) (a : Ali
 
   pub IsTable-forked : (ns : Numbered Process) → IsRising ns
       → IfLiving ps pid (λ b. ns ≡ put (put ps n (Living (new_child a))) pid (Living (parent_after_fork b n)))
-          → IsTable ns (put parents n pid)
+      → IsTable ns (put parents n pid)
   unfolding forked_table Fits
   IsTable-forked ns rising is =
       let whole : ns ≡ forked_table = rw here at is

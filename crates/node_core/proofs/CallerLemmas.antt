@@ -16,10 +16,10 @@ pub child-variables-are : (script : Script) (node : ℕ) (c : Caller) (line tick
     (under_way : Option Call) (variable : Option ℕ)
     (r : Result Vars Memory) → record { line = line; vars = vars; ticket = ticket; under_way = under_way } ≡ c
     → variable ≡ set_by (slice_get (lines_of script node) line) → set ≡ set_variable vars variable 0
-        → IfOk r (λ v. v ≡ set)
+    → IfOk r (λ v. v ≡ set)
     → IfOk r (λ v. v ≡ child_variables script node c)
 child-variables-are script node c line ticket vars set under_way variable r view at is all =
     if_ok r _ _
     (λ v e. e ∙ is ∙ ap (λ (x : Option ℕ). set_variable vars x 0) at ∙ sym
-        (child-vars-are vars (lines_of script node) line)
+    (child-vars-are vars (lines_of script node) line)
     ∙ ap (child_variables script node) view) all

@@ -79,14 +79,14 @@ ended_at ps mid es pid parent ending Gone is rising there ended = ended ∙ put-
 end_found : (ps mid es : Numbered Process) (pid parent : ℕ) (ending : Ending) (child : Process) (o : Option Process)
     → get ps parent ≡ o
     → get ps pid ≡ None → child ≡ option_map_or (kept_by ending) o Gone → mid ≡ put ps pid child → IsRising mid
-        → Ends mid es pid ending parent
+    → Ends mid es pid ending parent
     → IfSome o (λ p. es ≡ end_under ps pid ending (parent_of parent p))
 unfolding Ends
 end_found ps mid es pid parent ending child None at elsewhere kept is rising ends = tt
 end_found ps mid es pid parent ending child (Some p) at elsewhere kept is rising ends =
     let there : get mid parent ≡ Some p =
     ap (λ (m : Numbered Process). get m parent) is
-        ∙ get-put-apart ps pid parent child (apart ps pid parent p at elsewhere) ∙ at
+    ∙ get-put-apart ps pid parent child (apart ps pid parent p at elsewhere) ∙ at
     in ended_at ps mid es pid parent ending p (is ∙ ap (put ps pid) kept) rising there (rw there at ends)
 
 pub ended-lands : (ps mid es : Numbered Process) (n pid parent : ℕ) (ending : Ending) (child : Process) → n ≡ pid
@@ -97,4 +97,4 @@ pub ended-lands : (ps mid es : Numbered Process) (n pid parent : ℕ) (ending : 
 unfolding Ends
 ended-lands ps mid es n pid parent ending child at elsewhere kept is rising ends =
     end_found ps mid es pid parent ending child (get ps parent) refl elsewhere kept
-        (is ∙ ap (λ (k : ℕ). put ps k child) at) rising ends
+    (is ∙ ap (λ (k : ℕ). put ps k child) at) rising ends

@@ -108,21 +108,21 @@ pub line-due : (script : Script) (node : ℕ) (block : Block) (own : List Line) 
 unfolding place_at
 line-due script node block own i line vars call runnable there is at due =
     ap (λ (x : Call). Some x) due
-        ∙ sym (due_in script node block own i vars runnable there is ∙ due_line (place_at vars) own i line (sym at))
+    ∙ sym (due_in script node block own i vars runnable there is ∙ due_line (place_at vars) own i line (sym at))
 
 pub end-due : (script : Script) (node : ℕ) (block : Block) (own : List Line) (i : ℕ) (vars : Vars) → IsRunnable script
     → Some block ≡ block_at script node → own ≡ block.lines → i ≡ length own → Some (Exit 0) ≡ due_at script node i vars
 end-due script node block own i vars runnable there is at =
     sym (due_in script node block own i vars runnable there is
-        ∙ ap (λ (k : ℕ). call_due (place_at vars) (drop k (own ++ implied_exit ∷ []))) at
+    ∙ ap (λ (k : ℕ). call_due (place_at vars) (drop k (own ++ implied_exit ∷ []))) at
     ∙ due_end (place_at vars) own)
 
 pub past-due : (script : Script) (node : ℕ) (block : Block) (own : List Line) (i : ℕ) (vars : Vars) → IsRunnable script
     → Some block ≡ block_at script node → own ≡ block.lines → None ≡ slice_get own i → (i ≡ length own → ⊥)
-        → None ≡ due_at script node i vars
+    → None ≡ due_at script node i vars
 past-due script node block own i vars runnable there is at apart =
     sym (due_in script node block own i vars runnable there is
-        ∙ due_past (place_at vars) own i (sym at) (tested i (length own) apart))
+    ∙ due_past (place_at vars) own i (sym at) (tested i (length own) apart))
   where
     tested : (a b : ℕ) → (a ≡ b → ⊥) → nat_eq a b ≡ false
     tested a b h = grind arith
@@ -130,8 +130,8 @@ past-due script node block own i vars runnable there is at apart =
 pub set-at : (script : Script) (node : ℕ) (block : Block) (own : List Line) (i : ℕ) (o : Option Line)
     → IsRunnable script
     → Some block ≡ block_at script node → own ≡ block.lines → o ≡ slice_get own i
-        → set_by o ≡ set_by (slice_get (lines_of script node) i)
+    → set_by o ≡ set_by (slice_get (lines_of script node) i)
 set-at script node block own i o runnable there is at =
     ap set_by at ∙ sym (ap (λ (ls : List Line). set_by (slice_get ls i))
     (lines-are script node block runnable (sym there) ∙ ap (λ (ls : List Line). ls ++ implied_exit ∷ []) (sym is))
-        ∙ set_line own i)
+    ∙ set_line own i)

@@ -55,7 +55,7 @@ next last (suc i) (v ∷ vars) d rising h =
     let low : i < length vars = omega arith
     in let up : rising_from v.0 vars ≡ true = (both (nat_lt last v.0) (rising_from v.0 vars) rising).1
     in let greater : nat_cmp (get_or vars i d).0 v.0 ≡ Greater =
-        above v.0 (get_or vars i d).0 (is-above v.0 i vars d up low)
+    above v.0 (get_or vars i d).0 (is-above v.0 i vars d up low)
     in rw greater (ap (λ (xs : Vars). v ∷ xs) (next v.0 i vars d up low))
 
 next_rising : (i : ℕ) (vars : Vars) (d : ℕ × ℕ) → are_rising vars ≡ true → i < length vars
@@ -66,7 +66,7 @@ next_rising (suc i) (v ∷ vars) d rising h =
     let low : i < length vars = omega arith
     in let up : rising_from v.0 vars ≡ true = sym (rising-first v vars) ∙ rising
     in let greater : nat_cmp (get_or vars i d).0 v.0 ≡ Greater =
-        above v.0 (get_or vars i d).0 (is-above v.0 i vars d up low)
+    above v.0 (get_or vars i d).0 (is-above v.0 i vars d up low)
     in rw greater (ap (λ (xs : Vars). v ∷ xs) (next v.0 i vars d up low))
 
 -- As the code has it: own is the slice of the variables.
@@ -86,4 +86,4 @@ put-more vars own m new i n item rising e low is at so_far put_is =
     subst (λ (x : ℕ × ℕ). put (take i vars) x.0 x.1 ≡ take (suc i) vars) (sym is') (next_rising i vars item rising low')
     in let more : suc i ≡ i + 1 = omega arith
     in put_is ∙ ap (λ (x : Vars). put x n item.1) so_far ∙ ap (λ (k : ℕ). put (take i vars) k item.1) at ∙ now
-        ∙ ap (λ (k : ℕ). take k vars) more
+    ∙ ap (λ (k : ℕ). take k vars) more

@@ -58,7 +58,7 @@ module _ {V : Type 0} where
       at : (b : Bool) → nat_eq q e.0 ≡ b → get (e ∷ es) q ≡ Some x
       at true is =
           let none : get es q ≡ None =
-              rw (same-from-nat_eq q e.0 is) (past-none e.0 es (sorted_head nat_cmp e.0 (keys_of es) rising))
+          rw (same-from-nat_eq q e.0 is) (past-none e.0 es (sorted_head nat_cmp e.0 (keys_of es) rising))
           in absurd (cc)
       at false is = let no : is_at (nat_cmp q) e.0 ≡ false = is_at-nat_eq q e.0 ∙ is in rw no there
 
@@ -77,7 +77,7 @@ module _ {V : Type 0} where
   set_value-put [] k v w rising there = absurd (cc)
   set_value-put (e ∷ es) k v w rising there =
       written k v w e es (put es k v) (nat_cmp k e.0) refl rising there
-          (set_value-put es k v w (sorted_tail nat_cmp e.0 (keys_of es) rising))
+      (set_value-put es k v w (sorted_tail nat_cmp e.0 (keys_of es) rising))
 
   keep-all : (k : ℕ) (es : Numbered V) → AllByRecursion (λ y. nat_cmp k y ≡ Less) (keys_of es) → without es k ≡ es
   keep-all k [] above = refl
@@ -95,7 +95,7 @@ module _ {V : Type 0} where
   without-remove (e ∷ es) k rising =
       rw (is_at-nat_eq k e.0)
       (left_out k e es (remove_entry (is_at (nat_cmp k)) es) (nat_eq k e.0) refl rising
-          (without-remove es k (sorted_tail nat_cmp e.0 (keys_of es) rising)))
+      (without-remove es k (sorted_tail nat_cmp e.0 (keys_of es) rising)))
 
   -- the numbers of a map
 

@@ -84,7 +84,7 @@ ordered (e ∷ m) r (suc k) h =
     let i = ordered m r.1 k (omega arith)
     in let s : suc k + 1 ≡ suc (k + 1) = omega arith
     in subst (λ (j : ℕ). slice_index (map (λ e. e.0) (e ∷ m)) (suc k) < slice_index (map (λ e. e.0) (e ∷ m)) j)
-        (sym s) i
+    (sym s) i
 
 above-first : {V : Type 0} (n : ℕ) (m : Numbered V) → Rising m
     → (0 < length (map (λ e. e.0) m) → n < slice_index (map (λ e. e.0) m) 0) → Above n m
@@ -96,7 +96,7 @@ ordered-later : {V : Type 0} (e : ℕ × V) (m : Numbered V) → IsStrictlyIncre
 ordered-later e m h k l =
     let s : suc k + 1 ≡ suc (k + 1) = omega arith
     in subst (λ (j : ℕ). slice_index (map (λ d. d.0) (e ∷ m)) (suc k) < slice_index (map (λ d. d.0) (e ∷ m)) j) s
-        (h (suc k) (omega arith))
+    (h (suc k) (omega arith))
 
 pub rising : {V : Type 0} (m : Numbered V) → IsStrictlyIncreasing (map (λ e. e.0) m) → Rising m
 rising [] h = tt

@@ -36,7 +36,7 @@ used-with-same (x ∷ u) n =
             | inr g ↦
                 let ne : n ≢ x = omega arith
                 in ap (λ r. is_used r n) (with-greater x u n g)
-                    ∙ (used-later x (used_with u n) n ne ∙ used-with-same u n)
+                ∙ (used-later x (used_with u n) n ne ∙ used-with-same u n)
           ]
     ]
 
@@ -85,7 +85,7 @@ taken_back : (n x : ℕ) (xs rest : List ℕ) (o : Ordering) → nat_cmp n x ≡
 taken_back n x xs rest Less h new rec = rw (cmp-same n)
 taken_back n x xs rest Equal h new rec =
     let yes : nat_eq n x ≡ true = sym (is_at-nat_eq n x) ∙ ap is_eq h in let no : true ≡ false =
-        rw yes at new in absurd (cc)
+    rw yes at new in absurd (cc)
 taken_back n x xs rest Greater h new rec =
     let later : is_used xs n ≡ false = rw (greater-apart n x h) at new in rw (h, rec later)
 

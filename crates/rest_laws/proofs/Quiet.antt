@@ -19,7 +19,7 @@ use Rattle.rest_laws.specs.Rest.{NothingIsOnItsWayAtRest}
 -- a frame that is there, and that the node takes, is none at rest
 empty-at-rest : (w : World) → IsAtRest w → (p q : ℕ) (n : Node) → 1 ≤ p → 1 ≤ q → node_at w p ≡ Some n
     → (fs : List Frame) → stream w p q ≡ fs
-        → ((f : Frame) (left : List Frame) → fs ≡ f ∷ left → (not (is_unborn n.stage) || is_checkpoint f) ≡ true)
+    → ((f : Frame) (left : List Frame) → fs ≡ f ∷ left → (not (is_unborn n.stage) || is_checkpoint f) ≡ true)
     → stream w p q ≡ []
 empty-at-rest w rest p q n low low_q at [] there takes = there
 empty-at-rest w rest p q n low low_q at (f ∷ left) there takes =

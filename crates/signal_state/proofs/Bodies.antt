@@ -82,14 +82,14 @@ pub mask-again : (s : Signals) → set_at (signal_bytes s) 10 ≡ s.mask
 unfolding signal_bytes
 mask-again s =
     ap (λ (n : ℕ). set_from n all_signals (everywhere false))
-        (from_be_bytes-to_be_bytes_2 (set_number s.mask) (set_small s.mask))
+    (from_be_bytes-to_be_bytes_2 (set_number s.mask) (set_small s.mask))
     ∙ set-again s.mask (everywhere false) all_signals
 
 pub pending-again : (s : Signals) → set_at (signal_bytes s) 12 ≡ s.pending
 unfolding signal_bytes
 pending-again s =
     ap (λ (n : ℕ). set_from n all_signals (everywhere false))
-        (from_be_bytes-to_be_bytes_2 (set_number s.pending) (set_small s.pending))
+    (from_be_bytes-to_be_bytes_2 (set_number s.pending) (set_small s.pending))
     ∙ set-again s.pending (everywhere false) all_signals
 
 pub counts-again : (s : Signals) → ((g : Sig) → at s.handled g < 2 ^ 32) → counts_from (signal_bytes s) ≡ s.handled
@@ -166,7 +166,7 @@ pub fields-again : (bytes : List ℕ) (s : Signals) (actions : PerSignal Act) (m
     (handled : PerSignal ℕ) (doom : Option Sig)
     → HasBytes s → bytes ≡ signal_bytes s
     → actions ≡ actions_from bytes → mask ≡ set_at bytes 10 → pending ≡ set_at bytes 12 → handled ≡ counts_from bytes
-        → doom ≡ doom_from (get_or bytes 54 0)
+    → doom ≡ doom_from (get_or bytes 54 0)
     → ◌≡◌ {A = Signals} (record { actions = actions; mask = mask; pending = pending; handled = handled; doom = doom }) s
 fields-again bytes s actions mask pending handled doom has spelled is_actions is_mask is_pending is_handled is_doom =
     let same_actions : actions ≡ s.actions = is_actions ∙ ap actions_from spelled ∙ actions-again s in
@@ -174,7 +174,13 @@ fields-again bytes s actions mask pending handled doom has spelled is_actions is
     let same_pending : pending ≡ s.pending = is_pending ∙ ap (λ (b : List ℕ). set_at b 12) spelled ∙ pending-again s in
     let same_handled : handled ≡ s.handled = is_handled ∙ ap counts_from spelled ∙ counts-again s has.counts in
     let same_doom : doom ≡ s.doom =
-        is_doom ∙ ap (λ (b : List ℕ). doom_from (get_or b 54 0)) spelled ∙ ap doom_from (last-again s)
-        ∙ doom-again s.doom in
-    λ i. record { actions = same_actions i; mask = same_mask i; pending = same_pending i; handled =
-        same_handled i; doom = same_doom i }
+    is_doom ∙ ap (λ (b : List ℕ). doom_from (get_or b 54 0)) spelled ∙ ap doom_from (last-again s)
+    ∙ doom-again s.doom in
+    λ i. record {
+      actions = same_actions i;
+      mask = same_mask i;
+      pending = same_pending i;
+      handled =
+          same_handled i;
+      doom = same_doom i;
+    }

@@ -20,15 +20,15 @@ two-at bytes place within =
 
 four-at : (bytes : List ℕ) (place : ℕ) → place + 4 ≤ length bytes
     → take 4 (drop place bytes) ≡ get_or bytes place 0 ∷ get_or bytes (place + 1) 0 ∷ get_or bytes (place + 2) 0
-        ∷ get_or bytes (place + 3) 0 ∷ []
+    ∷ get_or bytes (place + 3) 0 ∷ []
 four-at bytes place within =
     let first = cons-at bytes place (place + 1) (omega arith) (omega arith) in
     let second = cons-at bytes (place + 1) (place + 2) (omega arith) (omega arith) in
     let third = cons-at bytes (place + 2) (place + 3) (omega arith) (omega arith) in
     let last = cons-at bytes (place + 3) (place + 4) (omega arith) (omega arith) in
     ap (take 4) (first ∙ ap (λ (r : List ℕ). get_or bytes place 0 ∷ r)
-        (second ∙ ap (λ (r : List ℕ). get_or bytes (place + 1) 0 ∷ r)
-        (third ∙ ap (λ (r : List ℕ). get_or bytes (place + 2) 0 ∷ r) last)))
+    (second ∙ ap (λ (r : List ℕ). get_or bytes (place + 1) 0 ∷ r)
+    (third ∙ ap (λ (r : List ℕ). get_or bytes (place + 2) 0 ∷ r) last)))
 
 -- the slice from a place on
 pub rest-of : (bytes : List ℕ) (place : ℕ) → take (length bytes - place) (drop place bytes) ≡ drop place bytes
@@ -40,7 +40,7 @@ number-of : (w : Width) (bytes : List ℕ) (place : ℕ) (n : ℕ × List ℕ) �
     → number_at w (drop place bytes) ≡ Some n → n.0 ≡ from_be_bytes w (take (byte_len w) (drop place bytes))
 number-of w bytes place n within read =
     let g = guard_some (ltb (length (drop place bytes)) (byte_len w))
-        (from_be_bytes w (take (byte_len w) (drop place bytes)), drop (byte_len w) (drop place bytes)) n read in
+    (from_be_bytes w (take (byte_len w) (drop place bytes)), drop (byte_len w) (drop place bytes)) n read in
     sym (ap (λ (p : ℕ × List ℕ). p.0) g.1)
 
 -- the numbers of two and of four bytes, by their bytes

@@ -13,13 +13,13 @@ use Rattle.sysv_msg.specs.Measured.{Measures}
 pub goes_on : (front : List Message) (count i room : ℕ) (bytes : List ℕ) (m : Message) (after : List ℕ)
     (total : Option (List Message × List ℕ)) → i < count → message_at room bytes ≡ Some (m, after)
     → with_front front (messages_at (count - i) room bytes) ≡ total
-        → with_front (front ++ m ∷ []) (messages_at (count - (i + 1)) (room - length m.text) after) ≡ total
+    → with_front (front ++ m ∷ []) (messages_at (count - (i + 1)) (room - length m.text) after) ≡ total
 unfolding messages_at
 goes_on front count i room bytes m after total lt h so_far =
     let k : count - i ≡ suc (count - (i + 1)) = omega arith in
     let one : with_front front (messages_at (count - i) room bytes)
-        ≡ with_front (front ++ m ∷ []) (messages_at (count - (i + 1)) (room - length m.text) after) =
-        rw (k, h) (regroup front m (messages_at (count - (i + 1)) (room - length m.text) after)) in
+    ≡ with_front (front ++ m ∷ []) (messages_at (count - (i + 1)) (room - length m.text) after) =
+    rw (k, h) (regroup front m (messages_at (count - (i + 1)) (room - length m.text) after)) in
     sym one ∙ so_far
 
 pub ends : (front : List Message) (count i room : ℕ) (bytes : List ℕ) (total : Option (List Message × List ℕ))
@@ -37,7 +37,7 @@ unfolding messages_at
 is_done front count i room bytes total le so_far =
     let k : count - i ≡ 0 = omega arith in
     let one : with_front front (messages_at (count - i) room bytes) ≡ Some (front, bytes) =
-        rw k (ap (λ (ms : List Message). Some (ms, bytes)) (append-nil front)) in
+    rw k (ap (λ (ms : List Message). Some (ms, bytes)) (append-nil front)) in
     sym so_far ∙ one
 
 pub room_left : (front : List Message) (m : Message) (room most : ℕ) → length m.text ≤ room
@@ -70,8 +70,12 @@ has_read_more count i room bytes m after total lt h within read =
 pub measured : (count i room : ℕ) (bytes : List ℕ) (total : Option (List Message × List ℕ)) → count ≤ i
     → HasRead total (count - i) room bytes → Measures total room bytes
 measured count i room bytes total le read =
-    record { messages = read.front; are_read = is_done read.front count i room bytes total le read.others; fit =
-        read.fit }
+    record {
+      messages = read.front;
+      are_read = is_done read.front count i room bytes total le read.others;
+      fit =
+          read.fit;
+    }
 
 -- where all can be read, the next one can
 pub some_message : {X : Type 0} (view : X → Message × List ℕ) (r : Option X) (front : List Message) (count i room : ℕ)

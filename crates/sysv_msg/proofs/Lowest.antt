@@ -53,10 +53,10 @@ shift start (Some k) = ap (λ (n : ℕ). Some n) (omega arith)
 -- the place of a later message, seen from one place further in front
 from_here : (start : ℕ) (class : ℤ) (m : Message) (rest : List Message) (place : ℕ) → class <ℤ m.class
     → option_map (λ k. (start + 1) + k) (first_of class rest) ≡ Some place
-        → option_map (λ k. start + k) (first_of class (m ∷ rest)) ≡ Some place
+    → option_map (λ k. start + k) (first_of class (m ∷ rest)) ≡ Some place
 from_here start class m rest place high first =
     ap (option_map (λ k. start + k)) (first_later class m rest (eq_above m.class class high))
-        ∙ shift start (first_of class rest) ∙ first
+    ∙ shift start (first_of class rest) ∙ first
 
 at_start : (start : ℕ) (m : Message) (rest : List Message)
     → option_map (λ k. start + k) (first_of m.class (m ∷ rest)) ≡ Some start
@@ -111,12 +111,12 @@ found bound ms (Some best) kept = rw kept.lowest (sym kept.first ∙ plain (firs
 pub one_more : (items : List Message) (bound : ℤ) (place : ℕ) (m : Message) (behind lowest : Option (ℤ × ℕ)) → 0 < place
     → place ≤ length items → m ≡ get_or items (place - 1) m
     → (IsLowest bound ((place - 1) + 1) (drop place items) behind
-        → IsLowest bound (place - 1) (m ∷ drop place items) lowest)
+    → IsLowest bound (place - 1) (m ∷ drop place items) lowest)
     → IsLowest bound place (drop place items) behind → IsLowest bound (place - 1) (drop (place - 1) items) lowest
 one_more items bound place m behind lowest some within is step kept =
     let back : (place - 1) + 1 ≡ place = omega arith in
     let next : suc (place - 1) ≡ place = omega arith in
     let split : drop (place - 1) items ≡ m ∷ drop place items =
-        drop-cons items (place - 1) m (omega arith) ∙ ap (λ (x : Message). x ∷ drop (suc (place - 1)) items) (sym is)
-        ∙ ap (λ (k : ℕ). m ∷ drop k items) next in
+    drop-cons items (place - 1) m (omega arith) ∙ ap (λ (x : Message). x ∷ drop (suc (place - 1)) items) (sym is)
+    ∙ ap (λ (k : ℕ). m ∷ drop k items) next in
     rw split (step (rw back kept))

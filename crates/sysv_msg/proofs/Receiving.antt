@@ -16,22 +16,25 @@ queue_of messages qbytes sender receiver =
 pub receive_taken : (q : Queue) (pid : ℕ) (class : ℤ) (size : ℕ) (noerror : Bool) (place : ℕ) (m : Message)
     (rest : List Message)
     → Some place ≡ select q.messages class → place < length q.messages → m ≡ get_or q.messages place m
-        → (nat_le (length m.text) size || noerror) ≡ true → rest ≡ remove q.messages place
+    → (nat_le (length m.text) size || noerror) ≡ true → rest ≡ remove q.messages place
     → receive q pid class size noerror
-        ≡ Ok (record { queue = record q { messages = rest; last_receiver = pid }; message =
-        record m { text = take size m.text } })
+    ≡ Ok (record {
+      queue = record q { messages = rest; last_receiver = pid };
+      message =
+          record m { text = take size m.text };
+    })
 receive_taken q pid class size noerror place m rest selected within is fits left =
     let there : slice_get q.messages place ≡ Some m =
-        slice_get_read q.messages (length q.messages) place m refl within is in
+    slice_get_read q.messages (length q.messages) place m refl within is in
     rw (← selected, there, fits, left) refl
 
 pub receive_refused : (q : Queue) (pid : ℕ) (class : ℤ) (size : ℕ) (noerror : Bool) (place : ℕ) (m : Message)
     → Some place ≡ select q.messages class → place < length q.messages → m ≡ get_or q.messages place m
-        → (nat_le (length m.text) size || noerror) ≡ false
+    → (nat_le (length m.text) size || noerror) ≡ false
     → receive q pid class size noerror ≡ Err E2big
 receive_refused q pid class size noerror place m selected within is fits =
     let there : slice_get q.messages place ≡ Some m =
-        slice_get_read q.messages (length q.messages) place m refl within is in
+    slice_get_read q.messages (length q.messages) place m refl within is in
     rw (← selected, there, fits) refl
 
 each_removed : {X : Type 0} (P : X → Type 0) (xs : List X) (place : ℕ) → AllByRecursion P xs
@@ -49,7 +52,7 @@ bytes_removed ms place m within is =
 
 pub within_removed : (q : Queue) (place pid bytes : ℕ) (m : Message) (rest : List Message)
     → place < length q.messages → m ≡ get_or q.messages place m → rest ≡ remove q.messages place
-        → bytes ≡ bytes_of q.messages → IsWithinLimits q
+    → bytes ≡ bytes_of q.messages → IsWithinLimits q
     → (bytes - length m.text ≡ bytes_of rest) × IsWithinLimits (record q { messages = rest; last_receiver = pid })
 within_removed q place pid bytes m rest within is left count limits =
     let sum = bytes_removed q.messages place m within is in
@@ -69,4 +72,4 @@ pub same_item : (ms : List Message) (place : ℕ) (x y : Message) → place < le
     → y ≡ get_or ms place y → x ≡ y
 same_item ms place x y within x_is y_is =
     same_Some x y (sym (slice_get_read ms (length ms) place x refl within x_is)
-        ∙ slice_get_read ms (length ms) place y refl within y_is)
+    ∙ slice_get_read ms (length ms) place y refl within y_is)

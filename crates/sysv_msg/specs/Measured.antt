@@ -19,5 +19,10 @@ pub record HasFields (qbytes sender receiver count room : ℕ) (bytes : List ℕ
 -- the bytes are the body of the queue with these numbers and these messages
 pub record HasBody (qbytes sender receiver count room : ℕ) (bytes whole : List ℕ) : Type 0 where
   pub measured : Measures (messages_at count max_queue_bytes bytes) room []
-  pub body : IsBodyOf (record { messages = measured.messages; qbytes = qbytes; last_sender = sender; last_receiver =
-      receiver }) whole
+  pub body : IsBodyOf (record {
+    messages = measured.messages;
+    qbytes = qbytes;
+    last_sender = sender;
+    last_receiver =
+        receiver;
+  }) whole

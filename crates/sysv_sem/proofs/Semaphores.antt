@@ -23,24 +23,27 @@ semaphore_takes : (bytes : List ℕ) (x : Semaphore × List ℕ) → IsBytes byt
 unfolding semaphore_at
 semaphore_takes bytes x fits e =
     let a = bind_some (number_upto w16 max_value bytes)
-        (λ value. number_at w32 value.1 >>= λ last. Some (record { value = value.0; last = last.0 }, last.1)) x e in
+    (λ value. number_at w32 value.1 >>= λ last. Some (record { value = value.0; last = last.0 }, last.1)) x e in
     let b = bind_some (number_at w32 a.0.1) (λ last. Some (record { value = a.0.0; last = last.0 }, last.1)) x a.2 in
     let t0 = number_upto_takes w16 (2 ^ 16) wide16 max_value bytes a.0 fits a.1 in
     let t1 = number_takes w32 (2 ^ 32) wide32 a.0.1 b.0 t0.0.rest_fits b.1 in
     let both = Takes-then bytes (to_be_bytes w16 a.0.0) a.0.1 (to_be_bytes w32 b.0.0) b.0.1 t0.0 t1.0 in
     let made : Semaphore × List ℕ = (record { value = a.0.0; last = b.0.0 }, b.0.1) in
     subst (λ (y : Semaphore × List ℕ). Takes bytes (semaphore_field y.0) y.1 × IsFine y.0 × HasProcess y.0)
-        (some_is made x b.2) (both, t0.1, t1.1)
+    (some_is made x b.2) (both, t0.1, t1.1)
 
 semaphore_again : (s : Semaphore) (rest : List ℕ) → IsFine s → HasProcess s
     → semaphore_at (semaphore_field s ++ rest) ≡ Some (s, rest)
 unfolding semaphore_at
 semaphore_again s rest fine process =
     let regrouped : semaphore_field s ++ rest ≡ to_be_bytes w16 s.value ++ (to_be_bytes w32 s.last ++ rest) =
-        append_assoc (to_be_bytes w16 s.value) (to_be_bytes w32 s.last) rest in
+    append_assoc (to_be_bytes w16 s.value) (to_be_bytes w32 s.last) rest in
     ap semaphore_at regrouped
-        ∙ rw (number_upto_again w16 (2 ^ 16) wide16 max_value s.value (to_be_bytes w32 s.last ++ rest)
-        (omega arith) fine, number_again w32 (2 ^ 32) wide32 s.last rest process) refl
+    ∙ rw (
+      number_upto_again w16 (2 ^ 16) wide16 max_value s.value (to_be_bytes w32 s.last ++ rest)
+          (omega arith) fine,
+      number_again w32 (2 ^ 32) wide32 s.last rest process,
+    ) refl
 
 abbrev IsField : Semaphore → Type 0
 IsField s = IsFine s × HasProcess s
@@ -69,7 +72,7 @@ each_field (s ∷ set) all =
 pub semaphores_take : (n : ℕ) (bytes : List ℕ) (x : List Semaphore × List ℕ) → IsBytes bytes
     → semaphores_at n bytes ≡ Some x
     → Takes bytes (flat_map semaphore_field x.0) x.1 × (length x.0 ≡ n) × AllByRecursion IsFine x.0
-        × AllByRecursion HasProcess x.0
+    × AllByRecursion HasProcess x.0
 semaphores_take n bytes x fits e =
     let t = many_takes semaphores_repeat semaphore_field IsField one_takes n bytes x fits e in
     let all = each_field x.0 t.2 in
@@ -100,18 +103,22 @@ counted_takes : (count : ℕ) (bytes : List ℕ) (set : SemaphoreSet) → IsByte
 unfolding counted_at fields_at
 counted_takes count bytes set fits e =
     let g = let_through (is_bad_count count)
-        (semaphores_at count bytes >>= λ x. cond (eqb (length x.1) 0) (Some (set_of x.0)) None) set e in
+    (semaphores_at count bytes >>= λ x. cond (eqb (length x.1) 0) (Some (set_of x.0)) None) set e in
     let bad = or_parts (eqb count 0) (ltb max_semaphores count) g.0 in
     let a = bind_some (semaphores_at count bytes) (λ x. cond (eqb (length x.1) 0) (Some (set_of x.0)) None) set g.1 in
     let h = guard_ended (eqb (length a.0.1) 0) (set_of a.0.0) set a.2 in
     let t = semaphores_take count bytes a.0 fits a.1 in
     let nothing : a.0.1 ≡ [] = nil_from_length a.0.1 (eqb-true _ _ h.0) in
     let whole : bytes ≡ flat_map semaphore_field a.0.0 =
-        t.0.parts ∙ ap (λ (r : List ℕ). flat_map semaphore_field a.0.0 ++ r) nothing
-        ∙ append-nil (flat_map semaphore_field a.0.0) in
+    t.0.parts ∙ ap (λ (r : List ℕ). flat_map semaphore_field a.0.0 ++ r) nothing
+    ∙ append-nil (flat_map semaphore_field a.0.0) in
     subst (λ (x : SemaphoreSet). IsBodyOf x (set_code ∷ count ∷ bytes)) h.1 (record {
-      limits = record { some = omega (arith, t.1, some_count count bad.0); count =
-          omega (arith, t.1, ltb-false _ _ bad.1); each = t.2 };
+      limits = record {
+        some = omega (arith, t.1, some_count count bad.0);
+        count =
+            omega (arith, t.1, ltb-false _ _ bad.1);
+        each = t.2;
+      };
       processes = t.3;
       spelled = ap (λ (r : List ℕ). set_code ∷ count ∷ r) whole
           ∙ ap (λ (n : ℕ). set_code ∷ n ∷ flat_map semaphore_field a.0.0) (sym t.1);
@@ -122,8 +129,8 @@ counted_again : (set : List Semaphore) → IsWithinLimits (set_of set) → AllBy
 unfolding counted_at fields_at
 counted_again set limits processes =
     let rest : semaphores_at (length set) (flat_map semaphore_field set) ≡ Some (set, []) =
-        ap (semaphores_at (length set)) (sym (append-nil (flat_map semaphore_field set)))
-        ∙ semaphores_again set [] limits.each processes in
+    ap (semaphores_at (length set)) (sym (append-nil (flat_map semaphore_field set)))
+    ∙ semaphores_again set [] limits.each processes in
     rw (fine_count (length set) limits.some limits.count, rest) refl
 
 -- bytes that are read as a set are its body, and a set's body is read as that set

@@ -78,11 +78,14 @@ same_done a b e = cc
 went_on : (count i : ℕ) (values : List ℕ) (num : ℕ) (m : Moved) (rest : List ℕ → Tried) (out : List ℕ)
     → IsRowFor count values → MovesWithin m
     → ((next : List ℕ) → IsRowFor count next → rest next ≡ Done out → IsRowFor count out)
-        → go_on i values num m rest ≡ Done out → IsRowFor count out
+    → go_on i values num m rest ≡ Done out → IsRowFor count out
 went_on count i values num (To value) rest out row m further e =
     further (set values num value)
-        (record { count = length-set values num value ∙ row.count; each =
-        each_set IsValue values num value row.each m }) e
+    (record {
+      count = length-set values num value ∙ row.count;
+      each =
+          each_set IsValue values num value row.each m;
+    }) e
 went_on count i values num Waits rest out row m further e = absurd cc
 went_on count i values num TooHigh rest out row m further e = absurd cc
 
@@ -91,7 +94,7 @@ tried_within : (count i : ℕ) (values : List ℕ) (steps : List SemStep) (out :
 tried_within count i values [] out row e = subst (λ (x : List ℕ). IsRowFor count x) (same_done values out e) row
 tried_within count i values (step ∷ steps) out row e =
     went_on count i values step.num (move_at step.add (slice_get values step.num))
-        (λ next. try_from (i + 1) next steps) out row
+    (λ next. try_from (i + 1) next steps) out row
     (at_within step.add (slice_get values step.num) (each_get IsValue values step.num row.each))
     (λ next fine. tried_within count (i + 1) next steps out fine) e
 
@@ -143,7 +146,7 @@ tried_op_within old new pid steps (Done values) fine e h =
     let a = with_values_within old values (fine values refl) in
     let b = marked_within pid (with_values old values) steps a.0 in
     subst IsWithinLimits (same_made (set_of (fold (mark pid) (with_values old values) steps)) new e)
-        (same_size old (fold (mark pid) (with_values old values) steps) (b.1 ∙ a.1) b.0 h)
+    (same_size old (fold (mark pid) (with_values old values) steps) (b.1 ∙ a.1) b.0 h)
 tried_op_within old new pid steps (StopsAt index) fine e h = absurd cc
 tried_op_within old new pid steps OutOfRange fine e h = absurd cc
 
@@ -151,10 +154,10 @@ op_within : (old : List Semaphore) (new : SemaphoreSet) (pid : ℕ) (steps : Lis
     → op (set_of old) pid steps ≡ Ok new → IsWithinLimits (set_of old) → IsWithinLimits new
 op_within old new pid steps e h =
     let tried : op_after_trial (set_of old) pid steps (try_ops (values_of old) steps) ≡ Ok new =
-        passed _ Efbig _ new (passed _ E2big _ new e) in
+    passed _ Efbig _ new (passed _ E2big _ new e) in
     tried_op_within old new pid steps (try_ops (values_of old) steps)
-        (λ values. tried_within (length old) 0 (values_of old) steps values
-        (record { count = length-map old (λ (s : Semaphore). s.value); each = values_fine old h.each })) tried h
+    (λ values. tried_within (length old) 0 (values_of old) steps values
+    (record { count = length-map old (λ (s : Semaphore). s.value); each = values_fine old h.each })) tried h
 
 -- a test that did not fail, before an answer
 passed_to : {A : Type 0} (b : Bool) (x : Errno) (r : Result A Errno) (y : A) → cond b r (Err x) ≡ Ok y → (b ≡ true)
@@ -181,7 +184,7 @@ set_all_within old new values e h =
     let b = failed (list_any (ltb max_value) values) Erange (Ok (set_of (with_values old values))) new a.1 in
     let fine = with_values_within old values (record { count = eqb-true _ _ a.0; each = upto values b.0 }) in
     subst IsWithinLimits (same_made (set_of (with_values old values)) new b.1)
-        (same_size old (with_values old values) fine.1 fine.0 h)
+    (same_size old (with_values old values) fine.1 fine.0 h)
 
 kept_by_op : {E : Type 0} (r : Result E Errno) (old new : List Semaphore) (pid : ℕ) (steps : List SemStep)
     → IfOk r (λ _. op (set_of old) pid steps ≡ Ok (set_of new)) → OnErr r (new ≡ old) → IsWithinLimits (set_of old)
@@ -207,19 +210,19 @@ whole size xs ys = take size (xs ++ drop (length xs) ys)
 pub set_after_op : {E : Type 0} (r : Result E Errno) (old new : List Semaphore) (pid : ℕ) (steps : List SemStep)
     (scratch trial : List ℕ) (size room : ℕ)
     → IfOk r (λ _. op (set_of old) pid steps ≡ Ok (set_of new)) → OnErr r (new ≡ old) → length old ≡ size
-        → length scratch ≡ room → length new ≡ length old → length trial ≡ length scratch
+    → length scratch ≡ room → length new ≡ length old → length trial ≡ length scratch
     → (length scratch ≡ length old) × IsWithinLimits (set_of old)
-        → (length (whole room trial scratch) ≡ length (whole size new old))
-        × IsWithinLimits (set_of (whole size new old))
+    → (length (whole room trial scratch) ≡ length (whole size new old))
+    × IsWithinLimits (set_of (whole size new old))
 set_after_op r old new pid steps scratch trial size room done same size_is room_is len trial_len h =
     rw (rejoined size new old (omega arith), rejoined room trial scratch (omega arith))
-        (omega arith, kept_by_op r old new pid steps done same h.1)
+    (omega arith, kept_by_op r old new pid steps done same h.1)
 
 pub set_after_set_all : {E : Type 0} (r : Result E Errno) (old new : List Semaphore) (values scratch : List ℕ)
     (size : ℕ)
     → IfOk r (λ _. set_all (set_of old) values ≡ Ok (set_of new)) → OnErr r (new ≡ old) → length old ≡ size
-        → length new ≡ length old
+    → length new ≡ length old
     → (length scratch ≡ length old) × IsWithinLimits (set_of old) → (length scratch ≡ length (whole size new old))
-        × IsWithinLimits (set_of (whole size new old))
+    × IsWithinLimits (set_of (whole size new old))
 set_after_set_all r old new values scratch size done same size_is len h =
     rw (rejoined size new old (omega arith)) (omega arith, kept_by_set_all r old new values done same h.1)

@@ -34,14 +34,14 @@ take_some w p from (Some n) frame left some =
 pub take_allowed : (w : World) (e : Event) (p from k : ℕ) (frame : Frame) (row new : List (List Frame))
     → IsSome (step w e)
     → e ≡ events.Take p from → k ≡ p - 1 → k < length w.streams → row ≡ get_or w.streams k row
-        → IsTaken row from (Some frame) new
+    → IsTaken row from (Some frame) new
     → IfSome (node_at w p) (λ n. IsSome (takes w.script n from frame))
 take_allowed w e p from k frame row new some is place lt row_is taken =
     let at : row ≡ get_or w.streams (p - 1) [] =
     get_or_read w.streams k row lt row_is [] ∙ ap (λ j. get_or w.streams j []) place
     in let first : stream w p from ≡ frame ∷ taken.0 =
-        sym (ap (λ (r : List (List Frame)). get_or r (from - 1) []) at) ∙ taken.1
+    sym (ap (λ (r : List (List Frame)). get_or r (from - 1) []) at) ∙ taken.1
     in let there : IsSome (takes_at w p from (node_at w p) (stream w p from)) =
-        subst (λ (x : Event). IsSome (step w x)) is some
+    subst (λ (x : Event). IsSome (step w x)) is some
     in take_some w p from (node_at w p) frame taken.0
     (subst (λ (fs : List Frame). IsSome (takes_at w p from (node_at w p) fs)) first there)

@@ -29,7 +29,7 @@ within w p n e = let lt = slice_get_within w.nodes (p - 1) n e in omega arith
 pub run_within : (w : World) (e : Event) (p : ℕ) → is_enabled w e ≡ true → e ≡ events.Run p → p ≤ length w.nodes
 run_within w e p enabled is =
     let found = run_some (node_at w p)
-        (and_right (is_number p) _ (sym (ap (λ (x : Event). is_enabled w x) is) ∙ enabled))
+    (and_right (is_number p) _ (sym (ap (λ (x : Event). is_enabled w x) is) ∙ enabled))
     in within w p found.0 found.1
 
 pub take_within : (w : World) (e : Event) (p from : ℕ) → is_enabled w e ≡ true → e ≡ events.Take p from
@@ -48,7 +48,7 @@ IsSquare-taken streams k from frame row new lt row_is taken square =
     in let e : new ≡ set (get_or streams k []) (from - 1) taken.0 =
     taken.2 ∙ ap (λ (l : List (List Frame)). set l (from - 1) taken.0) at
     in subst (λ (l : List (List Frame)). IsSquare (set streams k l)) (sym e)
-        (IsSquare-set streams k (from - 1) taken.0 square)
+    (IsSquare-set streams k (from - 1) taken.0 square)
 
 -- each stream to a node that frames are sent to
 pub row_within : (old new : Streams) (from k : ℕ) (sends : List (ℕ × Frame)) (row : List (List Frame))

@@ -41,14 +41,14 @@ pub filter-map : {X Y : Type 0} (g : X → Y) (p : Y → Bool) (xs : List X)
 filter-map g p [] = refl
 filter-map {X} {Y} g p (x ∷ xs) =
     ap (λ (l : List Y). cond (p (g x)) (g x ∷ l) l) (filter-map g p xs)
-        ∙ cond-cons g (p (g x)) x (filter (λ y. p (g y)) xs)
+    ∙ cond-cons g (p (g x)) x (filter (λ y. p (g y)) xs)
 
 pub filter_same : (f g : ℕ → Bool) (count first : ℕ) → 1 ≤ first → ((k : ℕ) → 1 ≤ k → f k ≡ g k)
     → filter f (numbers first count) ≡ filter g (numbers first count)
 filter_same f g zero first le same = refl
 filter_same f g (suc count) first le same =
     ap (λ (b : Bool). cond b (first ∷ filter f (numbers (first + 1) count)) (filter f (numbers (first + 1) count)))
-        (same first le)
+    (same first le)
     ∙ ap (λ (l : List ℕ). cond (g first) (first ∷ l) l) (filter_same f g count (first + 1) (omega arith) same)
 
 pub count_numbers : {X : Type 0} (f : X → Bool) (g : ℕ → Bool) (d : X) (xs : List X) (first : ℕ)

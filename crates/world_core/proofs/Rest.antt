@@ -42,7 +42,7 @@ run_listed w p shaped enabled =
       omega (arith, shaped.nodes),
       Has-filter (is_enabled w) (events_of (size w) p) (events.Run p)
           (Has-right (map (λ from. events.Take p from) (numbers 1 (size w))) (events.Run p ∷ []) (events.Run p)
-              (inl refl)) enabled,
+          (inl refl)) enabled,
     )
 
 sender_within : (w : World) (p from : ℕ) → IsShaped w → 1 ≤ p → p ≤ size w → (stream w p from ≡ [] → ⊥) → from ≤ size w
@@ -50,7 +50,7 @@ sender_within w p from shaped pos le filled =
     let row : List (List Frame) = get_or w.streams (p - 1) []
     in let width : length row ≡ size w = shaped.square (p - 1) (omega (arith, shaped.streams)) ∙ shaped.streams
     in ⊎_elim (λ (lt : size w < from). absurd (filled (get_or_past row (from - 1) [] (omega arith))))
-        (λ (ok : from ≤ size w). ok)
+    (λ (ok : from ≤ size w). ok)
     (cases_lt (size w) from)
 
 take_listed : (w : World) (p from : ℕ) → IsShaped w → is_enabled w (events.Take p from) ≡ true
@@ -77,7 +77,7 @@ listed w ns (events.Run p) shaped all enabled =
     let l = run_listed w p shaped enabled in Has-flat_map (enabled_at w) ns p (events.Run p) (all p l.0 l.1) l.2
 listed w ns (events.Take p from) shaped all enabled =
     let l = take_listed w p from shaped enabled in
-        Has-flat_map (enabled_at w) ns p (events.Take p from) (all p l.0 l.1) l.2
+    Has-flat_map (enabled_at w) ns p (events.Take p from) (all p l.0 l.1) l.2
 
 not_true : (b : Bool) → (b ≡ true → ⊥) → b ≡ false
 not_true true h = absurd (h refl)
@@ -87,7 +87,7 @@ pub rests : (w : World) (ns : List ℕ) → IsShaped w → ((p : ℕ) → 1 ≤ 
     → length (flat_map (enabled_at w) ns) ≡ 0 → IsAtRest w
 rests w ns shaped all none e =
     not_true (is_enabled w e)
-        (λ enabled. nothing-there (flat_map (enabled_at w) ns) e none (listed w ns e shaped all enabled))
+    (λ enabled. nothing-there (flat_map (enabled_at w) ns) e none (listed w ns e shaped all enabled))
 
 pub all_numbers : (w : World) (p : ℕ) → 1 ≤ p → p ≤ size w → Has (numbers 1 (size w)) p
 all_numbers w p pos le = Has-numbers (size w) 1 p pos (omega arith)
@@ -96,7 +96,7 @@ pub all_after : (w : World) (last p : ℕ) → last ≤ size w → 1 ≤ p → p
 all_after w last p within pos le =
     ⊎_elim (λ (lt : last < p).
     Has-left (numbers (last + 1) (size w - last)) (numbers 1 last) p
-        (Has-numbers (size w - last) (last + 1) p (omega arith) (omega arith)))
+    (Has-numbers (size w - last) (last + 1) p (omega arith) (omega arith)))
     (λ (ok : p ≤ last).
     Has-right (numbers (last + 1) (size w - last)) (numbers 1 last) p (Has-numbers last 1 p pos (omega arith)))
     (cases_lt last p)
@@ -104,7 +104,7 @@ all_after w last p within pos le =
 pub nothing_at_rest : (w : World) → IsAtRest w → length (enabled_events w) ≡ 0
 nothing_at_rest w rest =
     ap length (flat_map-none (enabled_at w) (numbers 1 (size w))
-        (λ p. filter-none (is_enabled w) (events_of (size w) p) rest))
+    (λ p. filter-none (is_enabled w) (events_of (size w) p) rest))
 
 -- what a schedule finds
 

@@ -29,7 +29,7 @@ here b row at fs lt read =
 pub AreLeft-hit : (b : Bool) (row : List (List Frame)) (index at left : ℕ) (fs : List Frame)
     → AreLeft b row index at left
     → at < length row → fs ≡ get_or row at fs → may_take b fs ≡ true → left ≡ 0
-        → Some (at + 1) ≡ slice_get (senders b row) index
+    → Some (at + 1) ≡ slice_get (senders b row) index
 AreLeft-hit b row index at left fs all lt read e none =
     sym (all.same ∙ ap (λ (k : ℕ). slice_get (filter (may b row) (numbers (at + 1) (length row - at))) k) none
     ∙ filter_hit (may b row) (at + 1) (length row - at) (omega arith) (here b row at fs lt read ∙ e))
@@ -44,7 +44,7 @@ next_count b row at left =
 pub AreLeft-pass : (b : Bool) (row : List (List Frame)) (index at left : ℕ) (fs : List Frame)
     → AreLeft b row index at left
     → at < length row → fs ≡ get_or row at fs → may_take b fs ≡ true → 0 < left
-        → AreLeft b row index (at + 1) (left - 1)
+    → AreLeft b row index (at + 1) (left - 1)
 AreLeft-pass b row index at left fs all lt read e some = record {
   same =
       all.same

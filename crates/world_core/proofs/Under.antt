@@ -67,7 +67,7 @@ pub IsUnder-run : (script : Script) (events : List Event) (i : ℕ) (world : Opt
 IsUnder-run script events i world u le =
     let all : take i events ≡ events = take_all i events le
     in let run : IsRunOf script events u.now =
-        subst (λ (es : List Event). Runs (opening_world script) es u.now) all u.so_far
+    subst (λ (es : List Event). Runs (opening_world script) es u.now) all u.so_far
     in let P : Option World → Type 0 = λ o. IfSome o (IsRunOf script events) in subst P (sym u.is_now) run
 
 pub IsUnder-whole : (script : Script) (events : List Event) (i : ℕ) (world : Option World)

@@ -60,7 +60,7 @@ IsCount-next {X} f at count here counted is_here few =
     record {
       same =
           (let n = ap length step
-              ∙ length-append (flat_map f (numbers 1 at)) (f (at + 1)) in omega (arith, counted.same, is_here, n));
+          ∙ length-append (flat_map f (numbers 1 at)) (f (at + 1)) in omega (arith, counted.same, is_here, n));
       few = omega (arith, counted.few);
     }
 

@@ -46,7 +46,7 @@ row_at streams i k j fs square lt =
     (ap length (get_or-set_same streams i (set (get_or streams i []) j fs) [] lt_i)
     ∙ length-set (get_or streams i []) j fs ∙ square i lt_i))
     (λ (other : k ≢ i). ap length (get_or-set_other streams i k (set (get_or streams i []) j fs) [] other)
-        ∙ square k lt)
+    ∙ square k lt)
     (cases_eq k i)
 
 pub length-with_stream : (streams : Streams) (to from : ℕ) (fs : List Frame)

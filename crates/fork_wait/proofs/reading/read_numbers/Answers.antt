@@ -7,8 +7,8 @@ use Rattle.fork_wait.proofs.reading.read_numbers.Goals as goal
 pub returns-in_err-number : goal.returns-in_err-number
 returns-in_err-number c =
     rw c.from_residual.ensures
-        (ends numbers_repeat c.loop.into.items c.args.count c.loop.counter c.loop.rest.now
-        (numbers_at c.args.count c.args.bytes.now) c.loop-test.true c.in_err-number.ensures c.loop.invariant.read)
+    (ends numbers_repeat c.loop.into.items c.args.count c.loop.counter c.loop.rest.now
+    (numbers_at c.args.count c.args.bytes.now) c.loop-test.true c.in_err-number.ensures c.loop.invariant.read)
 
 pub loop-preserved : goal.loop-preserved
 loop-preserved c =

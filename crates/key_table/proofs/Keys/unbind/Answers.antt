@@ -37,15 +37,18 @@ was c = rw (← c.id.view_is) (sym c.in-Some.ensures.value)
 pub invariant_of-self-in-Some : goal.invariant_of-self-in-Some
 invariant_of-self-in-Some c =
     agree-unbound (get nat_eq c.self.inside.by_key) (get nat_eq c.swap_remove-in-Some.new.self)
-        (get nat_eq c.self.inside.key_of) (get nat_eq c.swap_remove.new.self) c.self.invariant
+    (get nat_eq c.self.inside.key_of) (get nat_eq c.swap_remove.new.self) c.self.invariant
     c.in-Some.key c.args.id (was c) c.swap_remove-in-Some.ensures.updates.0
-        (rw (← c.id.view_is) c.in-Some.ensures.updates.0)
+    (rw (← c.id.view_is) c.in-Some.ensures.updates.0)
 
 pub returns-in-Some-clause-bound : goal.returns-in-Some-clause-bound
 returns-in-Some-clause-bound c = (
-  λ _. (c.in-Some.key, ap (is_bound_to c.args.id)
-      (get-seen c.self.inside.by_key.entries c.args.self.now c.self.view_is c.in-Some.key)
-      ∙ (c.self.invariant c.args.id c.in-Some.key).1 (was c)),
+  λ _. (
+    c.in-Some.key,
+    ap (is_bound_to c.args.id)
+        (get-seen c.self.inside.by_key.entries c.args.self.now c.self.view_is c.in-Some.key)
+        ∙ (c.self.invariant c.args.id c.in-Some.key).1 (was c),
+  ),
   λ _. refl,
 )
 
@@ -54,8 +57,8 @@ returns-in-Some-clause-unbound c =
     view-without c.self.inside.by_key.entries c.swap_remove-in-Some.new.self.entries c.args.id
     (λ q. c.swap_remove-in-Some.ensures.updates.0 q
     ∙ ap (λ (t : Bool). cond t None (get nat_eq c.self.inside.by_key q))
-        (alone (get nat_eq c.self.inside.by_key)
-        (get nat_eq c.self.inside.key_of) c.self.invariant c.in-Some.key c.args.id (was c) q))
+    (alone (get nat_eq c.self.inside.by_key)
+    (get nat_eq c.self.inside.key_of) c.self.invariant c.in-Some.key c.args.id (was c) q))
     ∙ ap (λ (m : KeyMap). without_id m c.args.id) c.self.view_is
 
 pub returns-in-None-clause-gone : goal.returns-in-None-clause-gone

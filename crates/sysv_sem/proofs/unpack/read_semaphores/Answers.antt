@@ -8,8 +8,8 @@ use Rattle.sysv_sem.proofs.unpack.read_semaphores.Goals as goal
 pub returns-in_err-value : goal.returns-in_err-value
 returns-in_err-value c =
     rw c.from_residual.ensures
-        (ends semaphores_repeat c.loop.into.items c.args.count c.loop.counter c.loop.rest.now
-        (semaphores_at c.args.count c.args.bytes.now) c.loop-test.true c.in_err-value.ensures c.loop.invariant.read)
+    (ends semaphores_repeat c.loop.into.items c.args.count c.loop.counter c.loop.rest.now
+    (semaphores_at c.args.count c.args.bytes.now) c.loop-test.true c.in_err-value.ensures c.loop.invariant.read)
 
 pub loop-preserved : goal.loop-preserved
 loop-preserved c =

@@ -8,7 +8,7 @@ pub invariant_of-self : goal.invariant_of-self
 invariant_of-self c =
     let f = c.self.inside in
     let pushed : c.push.new.self.items ≡ f.living.items ++ c.args.child ∷ [] =
-        rw c.unwrap.ensures at c.push.ensures.items in
+    rw c.unwrap.ensures at c.push.ensures.items in
     rw pushed record {
       sound = children-added f.living.items f.ended.items c.args.child c.self.invariant.sound c.requires.positive
           (subst (λ (m : Family). length (children m) < 31) (sym c.self.view_is) c.requires.room)

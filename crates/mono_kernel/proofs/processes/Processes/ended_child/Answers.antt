@@ -7,4 +7,4 @@ returns-in-Some-clause-there c =
     let lives = rw (← c.self.view_is) at (sym c.in-Some.ensures)
     in rw (← c.self.view_is, c.first_ended.ensures)
     (found-there c.self.inside.cells.entries c.self.inside.parents.entries c.args.pid c.in-Some.alive.now c.args.which
-        c.self.invariant lives)
+    c.self.invariant lives)

@@ -10,5 +10,5 @@ returns-in-Some-clause-ended c =
     (IfOk-weaker c.all_ended.result _ _
     (λ children is. rw is
     (all-kept c.self.inside.cells.entries c.self.inside.parents.entries c.args.pid c.in-Some.alive.now c.self.invariant
-        lives))
+    lives))
     c.all_ended.ensures)

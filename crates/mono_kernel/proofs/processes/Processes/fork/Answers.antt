@@ -7,7 +7,7 @@ invariant_of-self-in_err-fork_at c =
     let fresh = rw (← c.self.view_is) at c.requires.fresh
     in rw (c.in_err-fork_at.ensures.err, c.in_ok-insert.ensures.entries)
     (IsTable-stale c.self.inside.cells.entries c.self.inside.parents.entries c.args.child c.args.pid c.self.invariant
-        fresh)
+    fresh)
 
 pub invariant_of-self-2 : goal.invariant_of-self-2
 invariant_of-self-2 c =
@@ -16,5 +16,5 @@ invariant_of-self-2 c =
     in let made = rw (c.living-cell.ensures, c.new_child.ensures) at c.in_ok-fork_at.ensures.ok
     in rw c.in_ok-insert.ensures.entries
     (IsTable-forked c.self.inside.cells.entries c.self.inside.parents.entries c.args.child c.args.pid
-        c.in-Some.parent.now
+    c.in-Some.parent.now
     c.self.invariant lives fresh c.fork_at.new.cells.entries c.fork_at.ensures.rising made)

@@ -6,4 +6,4 @@ invariant_of-self c =
     let rising = rw c.settle_at.ensures.settled at c.settle_at.ensures.rising
     in rw c.settle_at.ensures.settled
     (IsTable-settled c.self.inside.cells.entries c.self.inside.parents.entries c.args.pid c.args.cell c.self.invariant
-        c.requires.dead rising)
+    c.requires.dead rising)

@@ -21,6 +21,6 @@ pub invariant_of-self : goal.invariant_of-self
 invariant_of-self c =
     let s = c.self.inside in
     let before : Signals =
-        record { actions = s.actions; mask = s.mask; pending = s.pending; handled = s.handled; doom = s.doom } in
+    record { actions = s.actions; mask = s.mask; pending = s.pending; handled = s.handled; doom = s.doom } in
     rw (c.set.ensures, c.with-self-inside.ensures, stays c)
-        (with_action-held before c.in-Is.sig c.args.act (sym c.is_kill.ensures ∙ c.if-is_kill.false) c.self.invariant)
+    (with_action-held before c.in-Is.sig c.args.act (sym c.is_kill.ensures ∙ c.if-is_kill.false) c.self.invariant)

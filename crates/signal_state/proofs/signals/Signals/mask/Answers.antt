@@ -7,7 +7,7 @@ pub returns-clause-masked : goal.returns-clause-masked
 returns-clause-masked c =
     let s = c.self.inside in
     let before : Signals =
-        record { actions = s.actions; mask = s.mask; pending = s.pending; handled = s.handled; doom = s.doom } in
+    record { actions = s.actions; mask = s.mask; pending = s.pending; handled = s.handled; doom = s.doom } in
     mask-then-deliver before _ c.args.how c.args.set c.changed-self-inside.result c.changed-self-inside.ensures
-        c.deliver_each.ensures
+    c.deliver_each.ensures
     ∙ ap (λ (s : Signals). with_mask s c.args.how c.args.set) c.self.view_is
