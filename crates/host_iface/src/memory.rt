@@ -62,7 +62,8 @@ impl Source for MemSource {
         ensures count { IfOk result (λ count. count ≡ min (length into.new) (length self.old.left)) }
         ensures bytes { IfOk result (λ count. take count into.new ≡ take count self.old.left) }
         ensures ok { IfOk result
-            (λ count. self.new ≡ record self.old { left = drop count self.old.left; calls = next_count self.old.calls }) }
+            (λ count. self.new
+            ≡ record self.old { left = drop count self.old.left; calls = next_count self.old.calls }) }
         ensures err { OnErr result
             (self.new ≡ record self.old { calls = next_count self.old.calls; faults = next_count self.old.faults }) }
         ensures same { OnOk result (self.new.faults ≡ self.old.faults) }

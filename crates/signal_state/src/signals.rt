@@ -35,12 +35,11 @@ impl Model for Signals {
       mask = s.mask;
       pending = s.pending;
       handled = s.handled;
-      doom =
-          s.doom;
+      doom = s.doom;
     } };
 
-    ghost invariant = { λ s.
-        IsHeld (record { actions = s.actions; mask = s.mask; pending = s.pending; handled = s.handled; doom = s.doom }) };
+    ghost invariant = { λ s. IsHeld
+        (record { actions = s.actions; mask = s.mask; pending = s.pending; handled = s.handled; doom = s.doom }) };
 }
 
 impl Signals {
