@@ -67,14 +67,17 @@ node-inverse =
 pub signed-inverse : Inverse ℤ (λ z. FitsSigned w32 z) signed signed_at
 unfolding signed_at
 signed-inverse = record { takes = take; again = give } where
-  take : (bytes : List ℕ) (x : ℤ × List ℕ) → IsBytes bytes → signed_at bytes ≡ Some x → Takes bytes (signed x.0) x.1 × FitsSigned w32 x.0
+  take : (bytes : List ℕ) (x : ℤ × List ℕ) → IsBytes bytes → signed_at bytes ≡ Some x → Takes bytes (signed x.0) x.1
+      × FitsSigned w32 x.0
   take bytes x fits e =
       let b = bind_some (word_at bytes) (λ n. Some (cast_signed w32 n.0, n.1)) x e
       in let n = b.0
       in let t = word-inverse.takes bytes n fits b.1
       in let back : cast_unsigned w32 (cast_signed w32 n.0) ≡ n.0 = of_z-to_z w32 n.0 t.1
-      in let whole : Takes bytes (word (cast_unsigned w32 (cast_signed w32 n.0))) n.1 = subst (λ (k : ℕ). Takes bytes (word k) n.1) (sym back) t.0
-      in subst (λ (p : ℤ × List ℕ). Takes bytes (signed p.0) p.1 × FitsSigned w32 p.0) (some_is (cast_signed w32 n.0, n.1) x b.2)
+      in let whole : Takes bytes (word (cast_unsigned w32 (cast_signed w32 n.0))) n.1 =
+      subst (λ (k : ℕ). Takes bytes (word k) n.1) (sym back) t.0
+      in subst (λ (p : ℤ × List ℕ). Takes bytes (signed p.0) p.1 × FitsSigned w32 p.0)
+      (some_is (cast_signed w32 n.0, n.1) x b.2)
       (whole, sfits_to_z (record { fits = t.1 }))
 
   give : (z : ℤ) (rest : List ℕ) → FitsSigned w32 z → signed_at (signed z ++ rest) ≡ Some (z, rest)
@@ -168,7 +171,8 @@ kind-inverse = one_of-inverse Kind (λ k. Unit {0}) kind_byte all_kinds (tt, (tt
 pub text-inverse : Inverse (List ℕ) IsText text text_at
 unfolding text_at
 text-inverse = record { takes = take-text; again = give } where
-  take-text : (bytes : List ℕ) (x : List ℕ × List ℕ) → IsBytes bytes → text_at bytes ≡ Some x → Takes bytes (text x.0) x.1 × IsText x.0
+  take-text : (bytes : List ℕ) (x : List ℕ × List ℕ) → IsBytes bytes → text_at bytes ≡ Some x
+      → Takes bytes (text x.0) x.1 × IsText x.0
   take-text bytes x fits e =
       let b = bind_some (word_at bytes) (λ n. cond (ltb (length n.1) n.0) None (Some (take n.0 n.1, drop n.0 n.1))) x e
       in let n = b.0
@@ -185,8 +189,14 @@ text-inverse = record { takes = take-text; again = give } where
 
   give : (bytes rest : List ℕ) → IsText bytes → text_at (text bytes ++ rest) ≡ Some (bytes, rest)
   give bytes rest lt =
-      let long : ltb (length (bytes ++ rest)) (length bytes) ≡ false = le-ltb _ _ (omega (arith, length-append bytes rest))
-      in rw (word-inverse.again (length bytes) (bytes ++ rest) lt, long, take_at bytes rest (length bytes) refl, drop_at bytes rest (length bytes) refl) refl
+      let long : ltb (length (bytes ++ rest)) (length bytes) ≡ false =
+      le-ltb _ _ (omega (arith, length-append bytes rest))
+      in rw (
+        word-inverse.again (length bytes) (bytes ++ rest) lt,
+        long,
+        take_at bytes rest (length bytes) refl,
+        drop_at bytes rest (length bytes) refl,
+      ) refl
 
 -- ---- the fields as values, and those that are made of others
 
@@ -215,7 +225,13 @@ abbrev pub sigarg-field : Field SigArg
 sigarg-field = record { Fits = IsSigArg; spell = λ a. sigarg_byte a ∷ []; read = sigarg_at; inverse = sigarg-inverse }
 
 abbrev pub errno-field : Field Errno
-errno-field = record { Fits = λ e. Unit {0}; spell = λ e. error_number e ∷ []; read = errno_at; inverse = errno-inverse }
+errno-field = record {
+  Fits = λ e. Unit {0};
+  spell = λ e. error_number e ∷ [];
+  read = errno_at;
+  inverse =
+      errno-inverse;
+}
 
 abbrev pub kind-field : Field Kind
 kind-field = record { Fits = λ k. Unit {0}; spell = λ k. kind_byte k ∷ []; read = kind_at; inverse = kind-inverse }

@@ -165,7 +165,8 @@ frame_body (frames.NotOwner ticket) = 6 ∷ word ticket
 frame_body (frames.LeaseAsk kind) = 7 ∷ kind_byte kind ∷ []
 frame_body (frames.Lease kind first) = 8 ∷ kind_byte kind ∷ word first
 frame_body (frames.Placed name node) = 9 ∷ (name_field name ++ node ∷ [])
-frame_body (frames.Checkpoint pid parent deed vars) = 10 ∷ (word pid ++ (word parent ++ (deed_field deed ++ vars_field vars)))
+frame_body (frames.Checkpoint pid parent deed vars) =
+    10 ∷ (word pid ++ (word parent ++ (deed_field deed ++ vars_field vars)))
 frame_body (frames.Suggest name node) = 11 ∷ (name_field name ++ node ∷ [])
 frame_body (frames.Recall name) = 12 ∷ name_field name
 frame_body (frames.GiveBack deed) = 13 ∷ deed_field deed

@@ -37,7 +37,8 @@ IsAnswer _ = ⊥
 abbrev pub reply_bytes : Reply → List ℕ
 reply_bytes (replies.Num n) = 1 ∷ word n
 reply_bytes (replies.Message class bytes) = 2 ∷ (signed class ++ text bytes)
-reply_bytes (replies.Stat qnum qbytes sender receiver) = 3 ∷ (word qnum ++ (word qbytes ++ (word sender ++ word receiver)))
+reply_bytes (replies.Stat qnum qbytes sender receiver) =
+    3 ∷ (word qnum ++ (word qbytes ++ (word sender ++ word receiver)))
 reply_bytes (replies.All values) = 4 ∷ values_field values
 reply_bytes (replies.Fail errno) = 5 ∷ error_number errno ∷ []
 reply_bytes _ = []
