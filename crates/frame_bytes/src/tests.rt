@@ -82,41 +82,46 @@ fn frames_without_calls(rt: HostRuntime) -> Result<(), Fail> {
 }
 
 #[test]
-fn frames_with_calls(rt: HostRuntime) -> Result<(), Fail> {
-    let alloc = rt.alloc();
-    let receive = Frame::Ask {
+fn a_receive_that_is_asked_for(rt: HostRuntime) -> Result<(), Fail> {
+    let call = Call::MsgRcv {
+        id: Id(1),
+        class: 0,
+        size: 8,
+        noerror: false,
+        nowait: true,
+    };
+    let frame = Frame::Ask {
         ticket: 3,
         pid: Pid(2),
-        call: Call::MsgRcv {
-            id: Id(1),
-            class: 0,
-            size: 8,
-            noerror: false,
-            nowait: true,
-        },
+        call,
     };
-    spells(&rt, alloc, &receive, &RECEIVE)?;
-    let send = Frame::Ask {
+    spells(&rt, rt.alloc(), &frame, &RECEIVE)
+}
+
+#[test]
+fn a_send_that_is_asked_for(rt: HostRuntime) -> Result<(), Fail> {
+    let call = Call::MsgSnd {
+        id: Id(1),
+        class: 1,
+        text: Bytes::from_slice(rt.alloc(), b"hi")?,
+        nowait: true,
+    };
+    let frame = Frame::Ask {
         ticket: 2,
         pid: Pid(2),
-        call: Call::MsgSnd {
-            id: Id(1),
-            class: 1,
-            text: Bytes::from_slice(alloc, b"hi")?,
-            nowait: true,
-        },
+        call,
     };
-    spells(&rt, alloc, &send, &SEND)?;
-    let answer = Frame::Answer {
+    spells(&rt, rt.alloc(), &frame, &SEND)
+}
+
+#[test]
+fn an_answer(rt: HostRuntime) -> Result<(), Fail> {
+    let frame = Frame::Answer {
         ticket: 3,
         reply: Reply::Fail(Errno::Enomsg),
     };
-    spells(
-        &rt,
-        alloc,
-        &answer,
-        b"\x00\x00\x00\x07\x05\x00\x00\x00\x03\x05\x06",
-    )
+    let bytes = b"\x00\x00\x00\x07\x05\x00\x00\x00\x03\x05\x06";
+    spells(&rt, rt.alloc(), &frame, bytes)
 }
 
 #[test]
