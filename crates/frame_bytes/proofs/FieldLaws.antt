@@ -17,7 +17,7 @@ use Rattle.pico_base.specs.declared.signal.Sig.{Sig}
 use Rattle.pico_base.specs.declared.signal.Sig.TheVariants.{Hup, Int, Quit, Kill, Usr1, Usr2, Pipe, Alrm, Term, Chld}
 use Rattle.pico_base.specs.declared.signal.SigArg.{SigArg}
 use Rattle.pico_base.specs.declared.signal.SigArg.TheVariants.{Zero, Is, Bad}
-use Rattle.kernel_model.specs.Signals.{all_signals, number_of}
+use Rattle.pico_base.specs.Signal.{all_signals, signal_number}
 use Rattle.body_fields.specs.Fields.{◌>>=◌}
 use Rattle.body_fields.proofs.Fields.{IsBytes, IsBytes-drop, bind_some, guard_some, some_is, Takes, Takes-then, wide16, wide32, number_takes, number_again}
 use Rattle.frame_bytes.specs.Readers.{Reader, byte_at, one_of}
@@ -95,7 +95,7 @@ pub flag-inverse : Inverse Bool (λ b. Unit {0}) (λ b. flag_byte b ∷ []) flag
 unfolding flag_at
 flag-inverse = one_of-inverse Bool (λ b. Unit {0}) flag_byte all_flags (tt, (tt, tt)) flag-there
 
-sig-there : (g : Sig) → Unit {0} → IsThere Sig number_of all_signals g
+sig-there : (g : Sig) → Unit {0} → IsThere Sig signal_number all_signals g
 sig-there Hup fits = refl
 sig-there Int fits = refl
 sig-there Quit fits = refl
@@ -107,10 +107,10 @@ sig-there Alrm fits = refl
 sig-there Term fits = refl
 sig-there Chld fits = refl
 
-pub sig-inverse : Inverse Sig (λ g. Unit {0}) (λ g. number_of g ∷ []) sig_at
+pub sig-inverse : Inverse Sig (λ g. Unit {0}) (λ g. signal_number g ∷ []) sig_at
 unfolding sig_at
 sig-inverse =
-    one_of-inverse Sig (λ g. Unit {0}) number_of all_signals
+    one_of-inverse Sig (λ g. Unit {0}) signal_number all_signals
     (tt, (tt, (tt, (tt, (tt, (tt, (tt, (tt, (tt, (tt, tt)))))))))) sig-there
 
 sigarg-there : (a : SigArg) → IsSigArg a → IsThere SigArg sigarg_byte all_sigargs a
@@ -208,7 +208,7 @@ abbrev pub flag-field : Field Bool
 flag-field = record { Fits = λ b. Unit {0}; spell = λ b. flag_byte b ∷ []; read = flag_at; inverse = flag-inverse }
 
 abbrev pub sig-field : Field Sig
-sig-field = record { Fits = λ g. Unit {0}; spell = λ g. number_of g ∷ []; read = sig_at; inverse = sig-inverse }
+sig-field = record { Fits = λ g. Unit {0}; spell = λ g. signal_number g ∷ []; read = sig_at; inverse = sig-inverse }
 
 abbrev pub sigarg-field : Field SigArg
 sigarg-field = record { Fits = IsSigArg; spell = λ a. sigarg_byte a ∷ []; read = sigarg_at; inverse = sigarg-inverse }

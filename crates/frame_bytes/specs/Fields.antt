@@ -12,7 +12,7 @@ use Rattle.pico_base.specs.declared.reply.Errno.TheVariants.{Esrch, Einval, Echi
 use Rattle.pico_base.specs.declared.signal.Sig.{Sig}
 use Rattle.pico_base.specs.declared.signal.SigArg.{SigArg}
 use Rattle.pico_base.specs.declared.signal.SigArg.TheVariants.{Zero, Is, Bad}
-use Rattle.kernel_model.specs.Signals.{all_signals, number_of}
+use Rattle.pico_base.specs.Signal.{all_signals, signal_number}
 use Rattle.frame_bytes.specs.Readers.{Reader, byte_at, passing, one_of, two}
 
 -- a number of 4 bytes, and one of 2
@@ -89,11 +89,11 @@ flag_at bytes = one_of flag_byte all_flags bytes
 -- a signal, in one byte: its number; and what a call takes as a signal, which may also be 0
 
 unfoldable pub sig_at : Reader Sig
-sig_at bytes = one_of number_of all_signals bytes
+sig_at bytes = one_of signal_number all_signals bytes
 
 abbrev pub sigarg_byte : SigArg → ℕ
 sigarg_byte Zero = 0
-sigarg_byte (Is sig) = number_of sig
+sigarg_byte (Is sig) = signal_number sig
 sigarg_byte Bad = 0
 
 abbrev pub IsSigArg : SigArg → Type 0

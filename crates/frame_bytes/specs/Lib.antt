@@ -1,3 +1,4 @@
+pub mod Gives
 pub mod Readers
 pub mod Fields
 pub mod Calls

@@ -1,15 +1,14 @@
 //! Calls as they are read.
 ghost use Rattle.std.specs.Prelude.{ℕ, List, Option};
-ghost use Rattle.body_fields.specs.Fields.{Gives};
+ghost use Rattle.frame_bytes.specs.Gives.{Gives};
 ghost use Rattle.pico_base.specs.declared.call.Call.TheVariants as calls;
 ghost use Rattle.frame_bytes.specs.Readers.{pick, two, three, four, five};
 ghost use Rattle.frame_bytes.specs.Fields.{flag_at, half_at, positive_at, sigarg_at, signed_at, text_at, word_at};
 ghost use Rattle.frame_bytes.specs.Calls.{asked_call_at, asked_rows, last_call_at, set_at, step_at, steps_at};
 
-use crate::fields::{Read, byte, count, flag, positive, sig, sigarg, signed, text};
+use crate::fields::{Read, byte, count, flag, positive, sig, sigarg, signed, text, u16_at, u32_at};
 use crate::many::{Item, many};
 use crate::writing::{put_flag, put_signed, put_word};
-use body_fields::{u16_at, u32_at};
 use pico_base::{Call, Id, Key, Memory, Pid, SemStep, Steps, UnpackFault, Values};
 use std::alloc::Global;
 

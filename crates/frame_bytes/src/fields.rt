@@ -1,17 +1,32 @@
 //! Fields as they are read: a value from the front of the bytes, with the bytes behind it. NotABody: no value of the
 //! field stands there.
 ghost use Rattle.std.specs.Prelude.{◌≡◌, ◌≤◌, ◌==◌, IfOk, find};
-ghost use Rattle.body_fields.specs.Fields.{Gives};
-ghost use Rattle.kernel_model.specs.Signals.{all_signals, number_of};
+ghost use Rattle.std.specs.Int.{w16, w32};
+ghost use Rattle.body_fields.specs.Fields.{number_at};
+ghost use Rattle.frame_bytes.specs.Gives.{Gives};
+ghost use Rattle.pico_base.specs.Signal.{all_signals, signal_number};
 ghost use Rattle.frame_bytes.specs.Readers.{byte_at};
 ghost use Rattle.frame_bytes.specs.Fields.{all_errors, count_at, errno_at, errno_byte, flag_at, kind_at, name_at, name_of, node_at, positive_at, sig_at, sigarg_at, signed_at, text_at};
 
-use body_fields::{u16_at, u32_at};
 use pico_base::{Bytes, Errno, Id, Kind, Name, Pid, Sig, SigArg, UnpackFault};
 use std::alloc::Global;
 
 /// What a reader answers: a value and the bytes behind it.
 pub(crate) type Read<'a, T> = Result<(T, &'a [u8]), UnpackFault>;
+
+/// The number in the first two bytes, the high one first.
+pub(crate) fn u16_at(bytes: &[u8]) -> Read<'_, u16>
+    ensures { Gives (λ x. (x.0, x.1.now)) result (number_at w16 bytes.now) }
+{
+    body_fields::u16_at(bytes).ok_or(UnpackFault::NotABody)
+}
+
+/// The number in the first four bytes, the high ones first.
+pub(crate) fn u32_at(bytes: &[u8]) -> Read<'_, u32>
+    ensures { Gives (λ x. (x.0, x.1.now)) result (number_at w32 bytes.now) }
+{
+    body_fields::u32_at(bytes).ok_or(UnpackFault::NotABody)
+}
 
 pub(crate) fn byte(bytes: &[u8]) -> Read<'_, u8>
     ensures { Gives (λ x. (x.0, x.1.now)) result (byte_at bytes.now) }
@@ -83,7 +98,7 @@ pub(crate) fn flag(bytes: &[u8]) -> Read<'_, bool>
 
 /// The signal with this number.
 fn sig_of(byte: u8) -> Option<Sig>
-    ensures { result ≡ find (λ g. number_of g == byte) all_signals }
+    ensures { result ≡ find (λ g. signal_number g == byte) all_signals }
 {
     match byte {
         1 => Some(Sig::Hup),

@@ -1,6 +1,6 @@
 //! Frames as they are read.
 ghost use Rattle.std.specs.Prelude.{◌≡◌, ℕ, List, Some, map};
-ghost use Rattle.body_fields.specs.Fields.{Gives};
+ghost use Rattle.frame_bytes.specs.Gives.{Gives};
 ghost use Rattle.rpc_frame.specs.declared.frame.Frame.TheVariants as frames;
 ghost use Rattle.frame_bytes.specs.Readers.{pick, two, three, four};
 ghost use Rattle.frame_bytes.specs.Fields.{kind_at, name_at, node_at, positive_at, rise_from, word_at};
@@ -9,11 +9,10 @@ ghost use Rattle.frame_bytes.specs.Replies.{reply_at};
 ghost use Rattle.frame_bytes.specs.Frames.{process_of, are_processes, asked_at, deed_at, deeds_at, frame_at, frame_rows, have_order, parcel_at, vars_at, whole_at};
 
 use crate::call_reading::{asked_call, last_call};
-use crate::fields::{Read, byte, kind, name_of, named, node, positive, text};
+use crate::fields::{Read, byte, kind, name_of, named, node, positive, text, u16_at, u32_at};
 use crate::many::{Item, many};
 use crate::reply_reading::reply;
 use crate::writing::{put_deed, put_word};
-use body_fields::{u16_at, u32_at};
 use pico_base::{Memory, Name, Node, Pid, UnpackFault, Var, Vars};
 use rpc_frame::{Asked, Frame, PackedDeed, PackedDeeds, Parcel};
 use std::alloc::Global;

@@ -1,7 +1,7 @@
 //! Several items one behind the other, as they are read and written.
 ghost use Rattle.std.specs.Prelude.{◌≡◌, ◌++◌, ℕ, List, Option, OnOk};
 ghost use Rattle.std.specs.List.{flat_map, AllByRecursion};
-ghost use Rattle.body_fields.specs.Fields.{Gives};
+ghost use Rattle.frame_bytes.specs.Gives.{Gives};
 ghost use Rattle.frame_bytes.specs.Readers.{many};
 
 use crate::fields::Read;

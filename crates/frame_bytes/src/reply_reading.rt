@@ -1,13 +1,12 @@
 //! Replies as they are read.
-ghost use Rattle.body_fields.specs.Fields.{Gives};
+ghost use Rattle.frame_bytes.specs.Gives.{Gives};
 ghost use Rattle.pico_base.specs.declared.reply.Reply.TheVariants as replies;
 ghost use Rattle.frame_bytes.specs.Readers.{two, four};
 ghost use Rattle.frame_bytes.specs.Fields.{signed_at, text_at, word_at};
 ghost use Rattle.frame_bytes.specs.Replies.{reply_at, values_at};
 
-use crate::fields::{Read, byte, errno, signed, text};
+use crate::fields::{Read, byte, errno, signed, text, u16_at, u32_at};
 use crate::many::many;
-use body_fields::{u16_at, u32_at};
 use pico_base::{Pid, Reply, UnpackFault, Values};
 use std::alloc::Global;
 
