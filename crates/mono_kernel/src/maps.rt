@@ -37,7 +37,8 @@ pub(crate) fn send_at(
     class: i32,
     text: &Bytes,
 ) -> Result<Reply, Memory>
-    ensures ok { IfOk result (λ reply. Changes (λ q. send q pid class text.now) queues.old.entries id queues.new.entries reply) }
+    ensures ok { IfOk result
+        (λ reply. Changes (λ q. send q pid class text.now) queues.old.entries id queues.new.entries reply) }
     ensures err { OnErr result (queues.new.entries ≡ queues.old.entries) }
 {
     match queues.get_mut(&id) {

@@ -5,7 +5,7 @@ use Rattle.pico_base.specs.declared.script.Script.{Script}
 use Rattle.pico_base.specs.declared.reply.Reply.{Reply}
 use Rattle.pico_base.specs.declared.signal.Sig.{Sig}
 use Rattle.kernel_model.specs.Script.{Vars}
-use Rattle.kernel_model.specs.Signals.{counted}
+use Rattle.kernel_model.specs.Signals.{count_up}
 use Rattle.kernel_model.specs.Fitting.{Place}
 use Rattle.node_calls.specs.Model as model
 use Rattle.node_calls.specs.Model.{Caller, lines_of, caller_place, due_call}
@@ -43,7 +43,7 @@ beginning block vars = record { block = block; caller = model.beginning vars }
 
 -- A call is started. The count of calls stays at its greatest value.
 abbrev pub started : BlockCaller → Call → BlockCaller
-started c call = record c { caller = record c.caller { ticket = counted c.caller.ticket; under_way = Some call } }
+started c call = record c { caller = record c.caller { ticket = count_up c.caller.ticket; under_way = Some call } }
 
 -- the call under way has this reply
 abbrev pub answered : Script → BlockCaller → Call → Reply → BlockCaller

@@ -8,7 +8,7 @@ use Rattle.pico_base.specs.declared.script.Block.{Block}
 use Rattle.pico_base.specs.declared.script.Script.{Script}
 use Rattle.pico_base.specs.declared.signal.Sig.{Sig}
 use Rattle.kernel_model.specs.Script.{Vars}
-use Rattle.kernel_model.specs.Fitting.{Place, due, asks_again, setting, value_in, with_exit, block_at}
+use Rattle.kernel_model.specs.Fitting.{Place, due, asks_again, set_variable, value_in, with_exit, block_at}
 
 -- The lines passed, how often the line reached was tried, the variables, how many calls were started, and the call
 -- under way, from its start until its reply is here.
@@ -51,7 +51,7 @@ answered_at c call reply None = ended_call c
 answered_at c call reply (Some line) =
     if asks_again call (Some reply) && nat_lt (c.tried + 1) line.tries
     then record (ended_call c) { tried = c.tried + 1 }
-    else record (ended_call c) { line = c.line + 1; tried = 0; vars = setting c.vars line.set (value_in (Some reply)) }
+    else record (ended_call c) { line = c.line + 1; tried = 0; vars = set_variable c.vars line.set (value_in (Some reply)) }
 
 abbrev pub answered : Script → ℕ → Caller → Call → Reply → Caller
 answered script block c call reply = answered_at c call reply (slice_get (lines_of script block) c.line)

@@ -46,7 +46,8 @@ impl Kernel {
     /// the number is 0 or used.
     fn new_set(&mut self, key: Option<u32>, count: u32, chosen: u32) -> Result<Reply, CallFault>
         requires { bound_to self.old.set_keys key ≡ None }
-        ensures { Answers (new_set_of self.old (keys_with self.old.set_keys key chosen) chosen (new_set count)) result self.old self.new }
+        ensures { Answers (new_set_of self.old (keys_with self.old.set_keys key chosen) chosen (new_set count)) result
+            self.old self.new }
     {
         if is_bad_size(count) {
             return Ok(Reply::Fail(Errno::Einval));
@@ -122,7 +123,8 @@ impl Kernel {
 
     /// semctl with GETVAL: EINVAL.
     pub(super) fn value(&self, id: u32, num: u16) -> Reply
-        ensures { on_named self.now (get self.now.sets id) (λ s. look_up self.now (value_at s num)) ≡ record { kernel = self.now; reply = result } }
+        ensures { on_named self.now (get self.now.sets id) (λ s. look_up self.now (value_at s num))
+            ≡ record { kernel = self.now; reply = result } }
     {
         match self.sets.get(&id) {
             Some(set) => looked(set.value(num)),
@@ -132,7 +134,8 @@ impl Kernel {
 
     /// semctl with GETPID: EINVAL.
     pub(super) fn last(&self, id: u32, num: u16) -> Reply
-        ensures { on_named self.now (get self.now.sets id) (λ s. look_up self.now (last_at s num)) ≡ record { kernel = self.now; reply = result } }
+        ensures { on_named self.now (get self.now.sets id) (λ s. look_up self.now (last_at s num))
+            ≡ record { kernel = self.now; reply = result } }
     {
         match self.sets.get(&id) {
             Some(set) => looked(set.last(num)),
@@ -142,7 +145,8 @@ impl Kernel {
 
     /// semctl with GETNCNT and GETZCNT: EINVAL, and else 0.
     pub(super) fn waiting(&self, id: u32, num: u16) -> Reply
-        ensures { on_named self.now (get self.now.sets id) (λ s. look_up self.now (waiting_at s num)) ≡ record { kernel = self.now; reply = result } }
+        ensures { on_named self.now (get self.now.sets id) (λ s. look_up self.now (waiting_at s num))
+            ≡ record { kernel = self.now; reply = result } }
     {
         match self.sets.get(&id) {
             Some(set) => looked(set.waiting(num)),
@@ -160,7 +164,9 @@ impl Kernel {
 
     /// semctl with GETALL: EINVAL.
     pub(super) fn all_values(&self, id: u32) -> Result<Reply, Memory>
-        ensures { IfOk result (λ reply. on_named self.now (get self.now.sets id) (all_values self.now) ≡ record { kernel = self.now; reply = reply }) }
+        ensures { IfOk result
+            (λ reply. on_named self.now (get self.now.sets id) (all_values self.now)
+            ≡ record { kernel = self.now; reply = reply }) }
     {
         match self.sets.get(&id) {
             Some(set) => Ok(Reply::All(set.all(self.alloc)?)),

@@ -10,4 +10,5 @@ returns-in-Err-clause-err c =
 
 pub returns-clause-numbers : goal.returns-clause-numbers
 returns-clause-numbers c =
-    c.add_child_at.ensures.same_numbers ∙ ap keys_of c.in_ok-insert.ensures.entries ∙ keys-put c.args.cells.now.entries c.args.child c.args.cell
+    c.add_child_at.ensures.same_numbers ∙ ap keys_of c.in_ok-insert.ensures.entries
+    ∙ keys-put c.args.cells.now.entries c.args.child c.args.cell
