@@ -17,11 +17,12 @@ use Rattle.pico_base.specs.declared.signal.Sig.{Sig}
 use Rattle.pico_base.specs.declared.signal.Sig.TheVariants.{Hup, Int, Quit, Kill, Usr1, Usr2, Pipe, Alrm, Term, Chld}
 use Rattle.pico_base.specs.declared.signal.SigArg.{SigArg}
 use Rattle.pico_base.specs.declared.signal.SigArg.TheVariants.{Zero, Is, Bad}
+use Rattle.pico_base.specs.ErrorNumber.{all_errors, error_number}
 use Rattle.pico_base.specs.Signal.{all_signals, signal_number}
 use Rattle.body_fields.specs.Fields.{◌>>=◌}
 use Rattle.body_fields.proofs.Fields.{IsBytes, IsBytes-drop, bind_some, guard_some, some_is, Takes, Takes-then, wide16, wide32, number_takes, number_again}
 use Rattle.frame_bytes.specs.Readers.{Reader, byte_at, one_of}
-use Rattle.frame_bytes.specs.Fields.{IsWord, IsHalf, IsPositive, IsCount, IsNode, IsSigArg, IsName, IsText, is_node, word, half, signed, text, flag_byte, all_flags, sigarg_byte, all_sigargs, errno_byte, all_errors, kind_byte, all_kinds, kind_of, name_number, name_of, name_field, word_at, half_at, positive_at, count_at, signed_at, node_at, flag_at, sig_at, sigarg_at, errno_at, kind_at, name_at, text_at}
+use Rattle.frame_bytes.specs.Fields.{IsWord, IsHalf, IsPositive, IsCount, IsNode, IsSigArg, IsName, IsText, is_node, word, half, signed, text, flag_byte, all_flags, sigarg_byte, all_sigargs, kind_byte, all_kinds, kind_of, name_number, name_of, name_field, word_at, half_at, positive_at, count_at, signed_at, node_at, flag_at, sig_at, sigarg_at, errno_at, kind_at, name_at, text_at}
 use Rattle.frame_bytes.proofs.Inverse.{Inverse, Field, Passes, Behind, byte-inverse, passing-inverse, renamed, one_of-inverse, Reads, two-takes, two-again}
 
 -- ---- numbers
@@ -133,7 +134,7 @@ sigarg-inverse =
     one_of-inverse SigArg IsSigArg sigarg_byte all_sigargs
     (tt, (tt, (tt, (tt, (tt, (tt, (tt, (tt, (tt, (tt, (tt, tt))))))))))) sigarg-there
 
-errno-there : (e : Errno) → Unit {0} → IsThere Errno errno_byte all_errors e
+errno-there : (e : Errno) → Unit {0} → IsThere Errno error_number all_errors e
 errno-there Esrch fits = refl
 errno-there Einval fits = refl
 errno-there Echild fits = refl
@@ -147,10 +148,10 @@ errno-there Erange fits = refl
 errno-there Eidrm fits = refl
 errno-there Eintr fits = refl
 
-pub errno-inverse : Inverse Errno (λ e. Unit {0}) (λ e. errno_byte e ∷ []) errno_at
+pub errno-inverse : Inverse Errno (λ e. Unit {0}) (λ e. error_number e ∷ []) errno_at
 unfolding errno_at
 errno-inverse =
-    one_of-inverse Errno (λ e. Unit {0}) errno_byte all_errors
+    one_of-inverse Errno (λ e. Unit {0}) error_number all_errors
     (tt, (tt, (tt, (tt, (tt, (tt, (tt, (tt, (tt, (tt, (tt, (tt, tt)))))))))))) errno-there
 
 kind-there : (k : Kind) → Unit {0} → IsThere Kind kind_byte all_kinds k
@@ -214,7 +215,7 @@ abbrev pub sigarg-field : Field SigArg
 sigarg-field = record { Fits = IsSigArg; spell = λ a. sigarg_byte a ∷ []; read = sigarg_at; inverse = sigarg-inverse }
 
 abbrev pub errno-field : Field Errno
-errno-field = record { Fits = λ e. Unit {0}; spell = λ e. errno_byte e ∷ []; read = errno_at; inverse = errno-inverse }
+errno-field = record { Fits = λ e. Unit {0}; spell = λ e. error_number e ∷ []; read = errno_at; inverse = errno-inverse }
 
 abbrev pub kind-field : Field Kind
 kind-field = record { Fits = λ k. Unit {0}; spell = λ k. kind_byte k ∷ []; read = kind_at; inverse = kind-inverse }

@@ -4,8 +4,7 @@ use Rattle.std.proofs.lemmas.List.{append-nil}
 use Rattle.pico_base.specs.declared.fault.UnpackFault.{UnpackFault}
 use Rattle.pico_base.specs.declared.fault.UnpackFault.TheVariants.{Memory, NotABody}
 use Rattle.body_fields.specs.Fields.{◌>>=◌}
-use Rattle.frame_bytes.specs.Gives.{Fails}
-use Rattle.frame_bytes.specs.Readers.{Reader, many}
+use Rattle.frame_bytes.specs.Readers.{Fails, Reader, many}
 
 -- what was read before, and what is still read
 abbrev pub with_front : {A : Type 0} → List A → Option (List A × List ℕ) → Option (List A × List ℕ)

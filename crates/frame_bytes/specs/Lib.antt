@@ -1,4 +1,3 @@
-pub mod Gives
 pub mod Readers
 pub mod Fields
 pub mod Calls
@@ -7,3 +6,4 @@ pub mod Frames
 pub mod Streams
 pub mod Limits
 pub mod Splitting
+pub mod Examples

@@ -1,32 +1,17 @@
 //! Fields as they are read: a value from the front of the bytes, with the bytes behind it. NotABody: no value of the
 //! field stands there.
 ghost use Rattle.std.specs.Prelude.{◌≡◌, ◌≤◌, ◌==◌, IfOk, find};
-ghost use Rattle.std.specs.Int.{w16, w32};
-ghost use Rattle.body_fields.specs.Fields.{number_at};
-ghost use Rattle.frame_bytes.specs.Gives.{Gives};
+ghost use Rattle.pico_base.specs.ErrorNumber.{all_errors, error_number};
 ghost use Rattle.pico_base.specs.Signal.{all_signals, signal_number};
-ghost use Rattle.frame_bytes.specs.Readers.{byte_at};
-ghost use Rattle.frame_bytes.specs.Fields.{all_errors, count_at, errno_at, errno_byte, flag_at, kind_at, name_at, name_of, node_at, positive_at, sig_at, sigarg_at, signed_at, text_at};
+ghost use Rattle.frame_bytes.specs.Readers.{Gives, byte_at};
+ghost use Rattle.frame_bytes.specs.Fields.{count_at, errno_at, flag_at, half_at, kind_at, name_at, name_of, node_at, positive_at, sig_at, sigarg_at, signed_at, text_at, word_at};
 
+use body_fields::{u16_at, u32_at};
 use pico_base::{Bytes, Errno, Id, Kind, Name, Pid, Sig, SigArg, UnpackFault};
 use std::alloc::Global;
 
 /// What a reader answers: a value and the bytes behind it.
 pub(crate) type Read<'a, T> = Result<(T, &'a [u8]), UnpackFault>;
-
-/// The number in the first two bytes, the high one first.
-pub(crate) fn u16_at(bytes: &[u8]) -> Read<'_, u16>
-    ensures { Gives (λ x. (x.0, x.1.now)) result (number_at w16 bytes.now) }
-{
-    body_fields::u16_at(bytes).ok_or(UnpackFault::NotABody)
-}
-
-/// The number in the first four bytes, the high ones first.
-pub(crate) fn u32_at(bytes: &[u8]) -> Read<'_, u32>
-    ensures { Gives (λ x. (x.0, x.1.now)) result (number_at w32 bytes.now) }
-{
-    body_fields::u32_at(bytes).ok_or(UnpackFault::NotABody)
-}
 
 pub(crate) fn byte(bytes: &[u8]) -> Read<'_, u8>
     ensures { Gives (λ x. (x.0, x.1.now)) result (byte_at bytes.now) }
@@ -37,12 +22,32 @@ pub(crate) fn byte(bytes: &[u8]) -> Read<'_, u8>
     }
 }
 
+/// A number of 4 bytes.
+pub(crate) fn word(bytes: &[u8]) -> Read<'_, u32>
+    ensures { Gives (λ x. (x.0, x.1.now)) result (word_at bytes.now) }
+{
+    match u32_at(bytes) {
+        Some((number, rest)) => Ok((number, rest)),
+        None => Err(UnpackFault::NotABody),
+    }
+}
+
+/// A number of 2 bytes.
+pub(crate) fn half(bytes: &[u8]) -> Read<'_, u16>
+    ensures { Gives (λ x. (x.0, x.1.now)) result (half_at bytes.now) }
+{
+    match u16_at(bytes) {
+        Some((number, rest)) => Ok((number, rest)),
+        None => Err(UnpackFault::NotABody),
+    }
+}
+
 /// A number of 4 bytes that is at least 1.
 #[tactic(auto, unfolding(crate::specs::Fields::positive_at))]
 pub(crate) fn positive(bytes: &[u8]) -> Read<'_, u32>
     ensures { Gives (λ x. (x.0, x.1.now)) result (positive_at bytes.now) }
 {
-    let (number, rest) = u32_at(bytes)?;
+    let (number, rest) = word(bytes)?;
     if number == 0 {
         return Err(UnpackFault::NotABody);
     }
@@ -54,11 +59,11 @@ pub(crate) fn positive(bytes: &[u8]) -> Read<'_, u32>
 pub(crate) fn count(bytes: &[u8]) -> Read<'_, u16>
     ensures { Gives (λ x. (x.0, x.1.now)) result (count_at bytes.now) }
 {
-    let (number, rest) = u16_at(bytes)?;
-    if number == 0 {
+    let (count, rest) = half(bytes)?;
+    if count == 0 {
         return Err(UnpackFault::NotABody);
     }
-    Ok((number, rest))
+    Ok((count, rest))
 }
 
 /// A signed number of 4 bytes, in two's complement.
@@ -66,7 +71,7 @@ pub(crate) fn count(bytes: &[u8]) -> Read<'_, u16>
 pub(crate) fn signed(bytes: &[u8]) -> Read<'_, i32>
     ensures { Gives (λ x. (x.0, x.1.now)) result (signed_at bytes.now) }
 {
-    let (number, rest) = u32_at(bytes)?;
+    let (number, rest) = word(bytes)?;
     Ok((number.cast_signed(), rest))
 }
 
@@ -132,11 +137,11 @@ pub(crate) fn sig(bytes: &[u8]) -> Read<'_, Sig>
 pub(crate) fn sigarg(bytes: &[u8]) -> Read<'_, SigArg>
     ensures { Gives (λ x. (x.0, x.1.now)) result (sigarg_at bytes.now) }
 {
-    let (number, rest) = byte(bytes)?;
-    if number == 0 {
+    let (code, rest) = byte(bytes)?;
+    if code == 0 {
         return Ok((SigArg::Zero, rest));
     }
-    match sig_of(number) {
+    match sig_of(code) {
         Some(sig) => Ok((SigArg::Is(sig), rest)),
         None => Err(UnpackFault::NotABody),
     }
@@ -144,7 +149,7 @@ pub(crate) fn sigarg(bytes: &[u8]) -> Read<'_, SigArg>
 
 /// The error with this number.
 fn errno_of(byte: u8) -> Option<Errno>
-    ensures { result ≡ find (λ e. errno_byte e == byte) all_errors }
+    ensures { result ≡ find (λ e. error_number e == byte) all_errors }
 {
     match byte {
         1 => Some(Errno::Esrch),
@@ -214,7 +219,7 @@ pub(crate) fn name_of(kind: Kind, number: u32) -> Name
 pub(crate) fn text(alloc: Global, bytes: &[u8]) -> Read<'_, Bytes>
     ensures { Gives (λ x. (x.0, x.1.now)) result (text_at bytes.now) }
 {
-    let (len, rest) = u32_at(bytes)?;
+    let (len, rest) = word(bytes)?;
     let len = len as usize;
     if rest.len() < len {
         return Err(UnpackFault::NotABody);
