@@ -7,7 +7,7 @@ ghost use Rattle.mono_kernel.specs.Answers.{Changes, Receives, done_reply};
 
 use crate::queue::MessageQueue;
 use crate::semaphores::SemaphoreSet;
-use pico_base::{Bytes, Errno, Memory, Reply, SemStep};
+use pico_base::{Bytes, Errno, Memory, Pid, Reply, SemStep};
 use std::alloc::Global;
 use std::collections::BTreeMap;
 
@@ -32,7 +32,7 @@ pub(crate) fn send_at(
     alloc: Global,
     queues: &mut Queues,
     id: u32,
-    pid: u32,
+    pid: Pid,
     class: i32,
     text: &Bytes,
 ) -> Result<Reply, Memory>
@@ -49,7 +49,7 @@ pub(crate) fn send_at(
 pub(crate) fn receive_at(
     queues: &mut Queues,
     id: u32,
-    pid: u32,
+    pid: Pid,
     class: i32,
     size: u32,
     noerror: bool,
@@ -80,7 +80,7 @@ pub(crate) fn op_at(
     alloc: Global,
     sets: &mut Sets,
     id: u32,
-    pid: u32,
+    pid: Pid,
     steps: &[SemStep],
 ) -> Result<Reply, Memory>
     ensures ok { IfOk result (λ reply. Changes (λ s. op s pid steps.now) sets.old.entries id sets.new.entries reply) }
