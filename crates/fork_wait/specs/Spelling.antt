@@ -5,7 +5,7 @@ use Rattle.std.specs.List.{flat_map}
 use Rattle.pico_base.specs.declared.reply.Ending.{Ending}
 use Rattle.pico_base.specs.declared.reply.Ending.TheVariants.{Exited, Killed}
 use Rattle.pico_base.specs.declared.signal.Sig.TheVariants.{Term}
-use Rattle.kernel_model.specs.Row.{EndedChild, Family, ended_child}
+use Rattle.kernel_model.specs.Row.{Family, EndedChild, ended_child}
 use Rattle.pico_base.specs.Signal.{signal_number}
 use Rattle.fork_wait.specs.Children.{AreChildren, children}
 

@@ -4,7 +4,7 @@ use Rattle.pico_base.specs.declared.reply.Ending.TheVariants.{Exited}
 use Rattle.pico_base.specs.declared.reply.Errno.{Errno}
 use Rattle.pico_base.specs.declared.reply.Errno.TheVariants.{Echild}
 use Rattle.kernel_model.specs.Row as row
-use Rattle.kernel_model.specs.Row.{Family, ended_child, wait, without_ended}
+use Rattle.kernel_model.specs.Row.{Family, wait, without_ended, ended_child}
 use Rattle.fork_wait.specs.declared.family.Waited.{Waited}
 use Rattle.fork_wait.specs.declared.family.Waited.TheVariants.{Child, NotYet}
 

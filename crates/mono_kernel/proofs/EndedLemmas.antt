@@ -49,7 +49,7 @@ kept-at (e ∷ es) (suc k) d inside = rw (kept-at es k d (omega arith)) (either 
 
 pub all-kept : (ps : Numbered Process) (parents : Numbered ℕ) (pid : ℕ) (a : Alive) → IsTable ps parents → living_in ps pid ≡ Some a
     → All (λ e. (is_some (get ps e.pid) ≡ true) × (living_in ps e.pid ≡ None)) a.row.family.ended
-all-kept ps parents pid a t lives = λ k d inside. t.kept pid (get_or a.row.family.ended k d).0 a lives (kept-at a.row.family.ended k d inside)
+all-kept ps parents pid a t lives = λ k d inside. t.kept pid (get_or a.row.family.ended k d).pid a lives (kept-at a.row.family.ended k d inside)
 
 -- a living process lives on while others are buried
 dead-put : (ps : Numbered Process) (k q : ℕ) → living_in ps q ≡ None → living_in (put ps k Gone) q ≡ None

@@ -1,3 +1,4 @@
+//! One semaphore set: its values, the trial of a semop, and last processes.
 ghost use Rattle.std.specs.Prelude.{◌≡◌, ◌<◌, length, map, replicate, fold, MatchResult, Ok, Err, Some, IfOk, OnErr, nat_le, nat_lt, vec_len};
 ghost use Rattle.std.specs.List.{All, list_any};
 ghost use Rattle.kernel_model.specs.SemaphoreSet.{max_value, is_bad_count, new_semaphore, values_of, move_by, try_ops, Done, with_values, mark, op, value_at, last_at, waiting_at, set_of, set_value, set_all};

@@ -1,3 +1,4 @@
+//! The calls on processes and signals (fork, exit, waitpid, kill, sigaction, sigprocmask).
 ghost use Rattle.std.specs.Prelude.{◌≡◌, IsSome, IfSome, Some};
 ghost use Rattle.pico_base.specs.Signal.{at};
 ghost use Rattle.kernel_model.specs.Signals.{act_on, with_mask};

@@ -1,5 +1,5 @@
 use Rattle.std.proofs.Common.{true, subst, arith, sym, ◌≡◌, ◌++◌, ◌∷◌, []}
-use Rattle.kernel_model.specs.Row.{Family, ended_child, lists}
+use Rattle.kernel_model.specs.Row.{Family, lists, ended_child}
 use Rattle.fork_wait.proofs.Families.{children-kept, children-left}
 use Rattle.fork_wait.proofs.family.Family.child_ended.Goals as goal
 
