@@ -4,3 +4,6 @@ pub mod Plays
 pub mod Names
 pub mod Callers
 pub mod Ways
+pub mod Ranges
+pub mod Families
+pub mod Invariant
