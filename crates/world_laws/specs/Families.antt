@@ -1,9 +1,8 @@
 -- What holds of one node and its process, and of its family.
-use Rattle.std.specs.Prelude.{◌≡◌, ◌≢◌, ◌⊎◌, ◌≤◌, ◌<◌, ℕ, Bool, true, false, List, [], ◌∷◌, Option, Some, None, Contains}
+use Rattle.std.specs.Prelude.{◌≡◌, ◌≢◌, ◌⊎◌, ◌≤◌, ◌<◌, ℕ, Bool, true, false, [], ◌∷◌, Some, None, Contains}
 use Rattle.std.specs.List.{list_any, filter}
 use Rattle.pico_base.specs.declared.numbers.Name.{Name}
 use Rattle.pico_base.specs.declared.numbers.Name.TheVariants.{Proc}
-use Rattle.pico_base.specs.declared.reply.Ending.{Ending}
 use Rattle.pico_base.specs.declared.script.Script.{Script}
 use Rattle.rpc_frame.specs.declared.frame.Frame.{Frame}
 use Rattle.rpc_frame.specs.declared.frame.Frame.TheVariants as frames
@@ -13,16 +12,15 @@ use Rattle.kernel_model.specs.Kernel.{Kernel, Process, living_at}
 use Rattle.kernel_model.specs.Kernel as kernel
 use Rattle.kernel_model.specs.Valid.{ListsEnded}
 use Rattle.kernel_model.specs.Script.{Vars}
-use Rattle.kernel_model.specs.Fitting.{Place, Places, block_place, block_at}
+use Rattle.kernel_model.specs.Fitting.{Place, block_place, block_at}
 use Rattle.node_model.specs.Kinds.{none_named, get_named}
-use Rattle.node_model.specs.Bodies.{Body, Living as LivingBody}
+use Rattle.node_model.specs.Bodies.{Living as LivingBody}
 use Rattle.node_model.specs.Spelling.{pack}
-use Rattle.node_model.specs.Caller.{caller_place}
 use Rattle.world_model.specs.Node.{Node, Stage, Unborn, Living, Leaving, Left, Over, unborn_node}
 use Rattle.world_model.specs.Lives.{names_block, is_new_row}
 use Rattle.world_model.specs.World.{World, stream, node_count}
-use Rattle.world_laws.specs.Places.{DeedPlace, Unmade, InTable, InCheckpoint, InLeft, InKept, InHand, InExitTo, Beside}
-use Rattle.world_laws.specs.Sights.{node_of, is_born_in}
+use Rattle.world_laws.specs.Places.{DeedPlace, InTable, InCheckpoint, InLeft, InKept, InHand, InExitTo, Beside}
+use Rattle.world_laws.specs.Sights.{is_born_in}
 use Rattle.world_laws.specs.Names.{forker}
 
 -- ---- a node

@@ -22,7 +22,7 @@ use Rattle.world_laws.specs.Callers.{CallHolds, call_sight}
 use Rattle.world_laws.specs.Ways.{Way, way_sight, IsParcelIn, HasSender}
 use Rattle.world_laws.specs.Ranges.{KindHolds, FewRanges, KeysHold}
 use Rattle.world_laws.specs.Families.{NodeHolds, PidsHold, FamilyHolds}
-use Rattle.std.specs.Prelude.{true, false}
+use Rattle.std.specs.Prelude.{true}
 
 -- a node for each block, and a stream for each pair of nodes
 pub record IsShaped (script : Script) (w : World) : Type 0 where

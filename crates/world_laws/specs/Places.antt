@@ -1,7 +1,7 @@
 -- Where a name's deed is, where a call under way is, and what stands beside a world: the kernel and the places of its
 -- journal, the number of each node's process, and these two. All but the kernel and the places can be read off the
 -- world; written beside it they spare every "exactly one".
-use Rattle.std.specs.Prelude.{ℕ, List}
+use Rattle.std.specs.Prelude.{ℕ}
 use Rattle.pico_base.specs.declared.numbers.Kind.{Kind}
 use Rattle.pico_base.specs.declared.numbers.Name.{Name}
 use Rattle.pico_base.specs.declared.reply.Reply.{Reply}

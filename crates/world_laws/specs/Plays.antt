@@ -12,8 +12,8 @@ use Rattle.rpc_frame.specs.declared.frame.Frame.{Frame}
 use Rattle.rpc_frame.specs.declared.frame.Frame.TheVariants as frames
 use Rattle.node_model.specs.Kinds.{is_same_name}
 use Rattle.node_model.specs.Directory.{Place, At, Coming, has_deed_of}
-use Rattle.world_model.specs.Node.{Stage, Unborn, Living, Leaving, Left, Over}
-use Rattle.world_laws.specs.Places.{CallPlace, SentByPlace, SentByRange, InBounce}
+use Rattle.world_model.specs.Node.{Stage, Left}
+use Rattle.world_laws.specs.Places.{CallPlace, SentByPlace}
 
 -- a node holds the name's deed, or it doesn't, or it holds nothing any more
 pub data Hold : Type 0 where

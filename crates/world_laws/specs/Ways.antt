@@ -13,11 +13,11 @@ use Rattle.kernel_model.specs.Valid.{IsOrdered}
 use Rattle.node_model.specs.declared.held.Held.{Held}
 use Rattle.node_model.specs.declared.held.Held.TheVariants.{Ending}
 use Rattle.node_model.specs.Directory.{Directory, Parting, IsLeaving, HasLeft, is_known}
-use Rattle.node_model.specs.Bodies.{Body, Living as LivingBody, is_over_body}
+use Rattle.node_model.specs.Bodies.{Body, Living as LivingBody}
 use Rattle.node_model.specs.Parcels.{pack_all, may_end_with, is_over_but_for}
-use Rattle.world_model.specs.Node.{Node, Stage, Unborn, Living, Leaving, Left, Over}
+use Rattle.world_model.specs.Node.{Node, Stage, Unborn, Living, Leaving, Left}
 use Rattle.world_model.specs.World.{World, stream}
-use Rattle.world_laws.specs.Places.{DeedPlace, InLeft, InKept, InHand, InExitTo, Beside}
+use Rattle.world_laws.specs.Places.{Beside}
 use Rattle.world_laws.specs.Sights.{node_of, directory_of, items_in}
 use Rattle.world_laws.specs.Names.{forker}
 

@@ -1,6 +1,6 @@
 -- How many owners a name has: the nodes that hold its deed, the frames that bring it, and the parcels that the leader
 -- holds with it.
-use Rattle.std.specs.Prelude.{ℕ, ◌+◌, Bool, false, Some, is_some, cond, sum_by, count_by}
+use Rattle.std.specs.Prelude.{ℕ, ◌+◌, Bool, false, Some, cond, sum_by, count_by}
 use Rattle.pico_base.specs.declared.numbers.Name.{Name}
 use Rattle.rpc_frame.specs.declared.deed.PackedDeed.{PackedDeed}
 use Rattle.rpc_frame.specs.declared.frame.Frame.{Frame}
