@@ -1,10 +1,10 @@
 -- A number that is read is the number that was written, and what was written is read again.
-use Rattle.std.proofs.Common.{◌≡◌, ℕ, suc, ◌+◌, ◌^◌, ◌<◌, ◌≤◌, Bool, true, false, cond, ltb, List, ◌∷◌, ◌++◌, length, get_or, take, drop, Option, Some, None, refl, sym, ap, subst, ◌∙◌, append_assoc, arith, inl, inr}
+use Rattle.std.proofs.Common.{◌≡◌, ℕ, suc, ◌+◌, ◌^◌, ◌<◌, ◌≤◌, Bool, true, false, cond, ltb, List, [], ◌∷◌, ◌++◌, length, get_or, take, drop, Option, Some, None, refl, sym, ap, subst, ◌∙◌, append_assoc, arith, inl, inr}
 use Rattle.std.specs.Int.{Width, w16, w32, byte_len, from_be_bytes, to_be_bytes}
 use Rattle.std.proofs.lemmas.Bool.{cases_lt, ltb-false, le-ltb}
 use Rattle.std.proofs.lemmas.List.{take_at, drop_at, take-append-drop, length-append, length-take, get_or-drop, get_or-take, get_or_past}
 use Rattle.std.proofs.lemmas.Nat.{be_bytes_2, be_bytes_4, from_be_bytes-to_be_bytes_2, from_be_bytes-to_be_bytes_4}
-use Rattle.body_fields.specs.Fields.{◌>>=◌, number_at, number_upto}
+use Rattle.body_fields.specs.Fields.{◌>>=◌, byte_at, byte_upto, number_at, number_upto}
 
 abbrev pub IsBytes : List ℕ → Type 0
 IsBytes bytes = (i : ℕ) → get_or bytes i 0 < 256
@@ -106,3 +106,25 @@ unfolding number_upto
 number_upto_again w limit wide most n rest lt le =
     let low : ltb most n ≡ false = le-ltb _ _ le in
     rw (number_again w limit wide n rest lt, low) refl
+
+pub byte_takes : (bytes : List ℕ) (b : ℕ × List ℕ) → IsBytes bytes → byte_at bytes ≡ Some b → Takes bytes (b.0 ∷ []) b.1
+byte_takes [] b fits e = absurd cc
+byte_takes (x ∷ xs) b fits e =
+    subst (λ (p : ℕ × List ℕ). Takes (x ∷ xs) (p.0 ∷ []) p.1) (some_is (x, xs) b e) (record { parts = refl; rest_fits = IsBytes-rest x xs fits })
+
+pub byte_upto_takes : (most : ℕ) (bytes : List ℕ) (b : ℕ × List ℕ) → IsBytes bytes → byte_upto most bytes ≡ Some b → Takes bytes (b.0 ∷ []) b.1 × (b.0 ≤ most)
+unfolding byte_upto
+byte_upto_takes most bytes b fits e =
+    let a = bind_some (byte_at bytes) (λ b. cond (ltb most b.0) None (Some b)) b e in
+    let g = guard_some (ltb most a.0.0) a.0 b a.2 in
+    subst (λ (x : ℕ × List ℕ). Takes bytes (x.0 ∷ []) x.1 × (x.0 ≤ most)) g.1 (byte_takes bytes a.0 fits a.1, ltb-false _ _ g.0)
+
+pub byte_upto_again : (most b : ℕ) (rest : List ℕ) → b ≤ most → byte_upto most (b ∷ rest) ≡ Some (b, rest)
+unfolding byte_upto
+byte_upto_again most b rest le =
+    let low : ltb most b ≡ false = le-ltb _ _ le in
+    rw low refl
+
+-- a reader that is a test behind another: a value that one gives and the other refuses
+pub refused : {A : Type 0} (read : Option A) (x : A) → read ≡ None → read ≡ done x → ⊥
+refused read x none some = absurd cc

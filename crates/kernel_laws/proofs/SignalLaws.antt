@@ -8,8 +8,8 @@ use Rattle.pico_base.specs.declared.signal.Sig.TheVariants.{Hup, Int, Quit, Kill
 use Rattle.pico_base.specs.declared.signal.Act.{Act}
 use Rattle.pico_base.specs.declared.signal.Act.TheVariants.{Dfl, Ign, Catch}
 use Rattle.pico_base.specs.declared.signal.How.{How}
-use Rattle.pico_base.specs.Signal.{at, put_at, everywhere}
-use Rattle.kernel_model.specs.Signals.{Signals, AreSoundSignals, new_signals, inherit, all_signals, is_kill, discards, doom_by, arrive_by, arrive, raise, with_action, new_mask, deliver, with_mask, number_of}
+use Rattle.pico_base.specs.Signal.{at, put_at, everywhere, all_signals, signal_number}
+use Rattle.kernel_model.specs.Signals.{Signals, AreSoundSignals, new_signals, inherit, is_kill, discards, doom_by, arrive_by, arrive, raise, with_action, new_mask, deliver, with_mask}
 use Rattle.kernel_laws.proofs.Plain.{by_test, not_true}
 
 -- the value of a signal after another is put: the new one there, and the old one elsewhere
@@ -27,7 +27,7 @@ at-put-same m Chld x = refl
 
 -- another signal: no value that is put here changes what stands there
 abbrev Apart : Sig → Sig → Type 0
-Apart g h = nat_eq (number_of g) (number_of h) ≡ false
+Apart g h = nat_eq (signal_number g) (signal_number h) ≡ false
 
 at-put-other : {A : Type 0} (m : PerSignal A) (g h : Sig) (x : A) → Apart g h → at (put_at m g x) h ≡ at m h
 at-put-other m Hup Hup x d = not_true (sym d)

@@ -1,3 +1,4 @@
+//! Ordered maps by number, whose growth may be refused.
 ghost use Rattle.std.specs.Prelude.{◌≡◌, IfOk, OnErr, is_some};
 ghost use Rattle.std.specs.Bool.{OnFalse};
 ghost use Rattle.number_maps.specs.Maps.{get, without};

@@ -1,3 +1,4 @@
+//! Keys and the numbers used so far of one kind.
 ghost use Rattle.std.specs.Prelude.{◌≡◌, ℕ, false, None, [], OnOk, OnErr, MatchResult, MatchOption, IsTrue, ◌↔◌};
 ghost use Rattle.number_maps.specs.Maps.{Numbered, get, put, is_used, used_with};
 ghost use Rattle.kernel_model.specs.QueueCalls.{unbind};

@@ -1,3 +1,4 @@
+//! One message queue: its messages in order, and what a type selects.
 ghost use Rattle.std.specs.Prelude.{◌≡◌, ◌≤◌, ◌+◌, ◌&&◌, nat_le, nat_lt, length, take, drop, MatchResult, Ok, Err, IfOk, OnErr};
 ghost use Rattle.std.specs.Ordering.{int_eq};
 ghost use Rattle.kernel_model.specs.Queue.{empty_queue, bytes_of, bytes_in, max_messages, lower_of, lowest_upto, first_of, select, send, receive, set_qbytes, stat};

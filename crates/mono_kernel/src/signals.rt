@@ -1,3 +1,4 @@
+//! The signals of one process: actions, mask, what is pending, and the doom.
 ghost use Rattle.std.specs.Prelude.{◌≡◌, false, fold, MatchResult, Ok, Err};
 ghost use Rattle.pico_base.specs.Signal.{at, put_at, everywhere};
 ghost use Rattle.kernel_model.specs.Signals.{new_signals, inherit, raise, arrive, deliver, discards, with_action, act_on, with_mask, new_mask};

@@ -1,3 +1,4 @@
+//! A picoprocess as callers see it: its turns, and what it may do next.
 ghost use Rattle.std.specs.Prelude.{◌≡◌, ◌≤◌, length, Some, None, Err, IfOk, IfSome, IsErr, IsSome};
 ghost use Rattle.machine_model.specs.Node.{opening_node, can_run, is_born};
 ghost use Rattle.machine_model.specs.Built.{IsRunnable};

@@ -8,7 +8,8 @@ use Rattle.pico_base.specs.declared.reply.Ending.{Ending}
 use Rattle.pico_base.specs.declared.signal.Act.{Act}
 use Rattle.pico_base.specs.declared.signal.Act.TheVariants.{Dfl, Ign, Catch}
 use Rattle.rpc_frame.specs.declared.deed.PackedDeed.{PackedDeed}
-use Rattle.kernel_model.specs.Signals.{Signals, all_signals}
+use Rattle.kernel_model.specs.Signals.{Signals}
+use Rattle.pico_base.specs.Signal.{all_signals}
 use Rattle.kernel_model.specs.Row.{Row, Family}
 use Rattle.signal_state.specs.Held.{is_kept}
 use Rattle.signal_state.specs.Spelling.{signal_bytes}
@@ -32,7 +33,7 @@ body_bytes (Living row) = 1 ∷ row_bytes row
 body_bytes (Ended ending) = 2 ∷ ending_bytes ending
 body_bytes Gone = 3 ∷ []
 body_bytes (AQueue queue) = queue_bytes queue
-body_bytes (ASet semaphores) = set_bytes semaphores
+body_bytes (ASet set) = set_bytes set
 body_bytes Removed = 6 ∷ []
 
 -- the deed of a name on its way

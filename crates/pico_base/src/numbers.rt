@@ -1,4 +1,5 @@
-ghost use Rattle.std.specs.Prelude.{◌≤◌, ℕ};
+//! Numbers with names of their own: nodes, processes, identifiers, keys.
+ghost use Rattle.std.specs.Prelude.{◌≡◌, ◌≤◌, ℕ};
 
 use std::marker::Model;
 
@@ -26,6 +27,15 @@ impl Model for Pid {
     ghost view = { λ p. p.0 };
 
     ghost inverse = { λ n. record { 0 = n } };
+}
+
+/// No process.
+impl Default for Pid {
+    ghost is_default = { λ p. p ≡ 0 };
+
+    fn default() -> Self {
+        Pid(0)
+    }
 }
 
 /// The identifier of a message queue or of a semaphore set. 0 names none.

@@ -7,7 +7,7 @@ use Rattle.std.proofs.lemmas.List.{take-append-drop, drop_more, get_or-take, len
 use Rattle.std.proofs.lemmas.List.Elements.{recursion_from_All, All-from_get_or}
 use Rattle.std.proofs.lemmas.List.Quantifiers.{position-Some}
 use Rattle.std.proofs.lemmas.List.Sums.{prefix_len_passes}
-use Rattle.script_reader.specs.Fault.{lines_of}
+use Rattle.script_reader.specs.Words.{lines_of}
 
 -- a list without line feeds
 abbrev pub Plain : List ℕ → Type 0

@@ -10,8 +10,8 @@ use Rattle.pico_base.specs.declared.signal.Act.TheVariants.{Dfl, Ign, Catch}
 use Rattle.pico_base.specs.declared.signal.PerSignal.{PerSignal}
 use Rattle.pico_base.specs.declared.signal.Sig.{Sig}
 use Rattle.pico_base.specs.declared.signal.Sig.TheVariants.{Hup, Int, Quit, Kill, Usr1, Usr2, Pipe, Alrm, Term, Chld}
-use Rattle.pico_base.specs.Signal.{at, everywhere, put_at}
-use Rattle.kernel_model.specs.Signals.{Signals, all_signals, discards}
+use Rattle.pico_base.specs.Signal.{at, everywhere, put_at, all_signals}
+use Rattle.kernel_model.specs.Signals.{Signals, discards}
 use Rattle.signal_state.specs.Held.{AreHeld, IsHeld}
 use Rattle.signal_state.specs.Reading.{act_from, actions_from, counts_from, doom_from, set_at, set_from}
 use Rattle.signal_state.specs.Spelling.{HasBytes, act_byte, doom_byte, number_of_bits, set_number, signal_bytes}

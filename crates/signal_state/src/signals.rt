@@ -1,3 +1,4 @@
+//! The signals of one process, and the bytes that they travel as.
 ghost use Rattle.std.specs.List.{list_all};
 ghost use Rattle.std.specs.Prelude.{◌≡◌, ◌↔◌, Some, Ok, Err, IfSome, IfErr, IsTrue, OnOk, fold, not, ◌&&◌, ◌||◌};
 ghost use Rattle.kernel_model.specs.Row.{is_ign};

@@ -1,3 +1,4 @@
+//! A message queue as its node holds it.
 ghost use Rattle.std.specs.Prelude.{◌≡◌, ◌+◌, ◌||◌, nat_le, ◌≤◌, ◌∷◌, ◌++◌, [], Ok, Err, IfOk, IfErr, OnErr, IsOkAnd, length, take};
 ghost use Rattle.kernel_model.specs.Queue as definition;
 ghost use Rattle.sysv_msg.specs.Refusals.{RefusesSend};

@@ -1,3 +1,4 @@
+//! The world that isn't spent: its nodes, their inboxes and the journal.
 ghost use Rattle.std.specs.Prelude.{◌≡◌, ◌↔◌, ◌≤◌, ◌-◌, [], ◌++◌, length, map, replicate, true, Some, slice_get, ◌+◌, IfOk, OnOk, IfSome, IsSome, IsTrue};
 ghost use Rattle.std.specs.List.{flat_map};
 ghost use Rattle.machine_model.specs.Built.{IsRunnable};

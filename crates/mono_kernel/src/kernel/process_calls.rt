@@ -1,3 +1,4 @@
+//! The calls on processes and signals (fork, exit, waitpid, kill, sigaction, sigprocmask).
 ghost use Rattle.std.specs.Prelude.{◌≡◌, IsSome, IfSome, Some};
 ghost use Rattle.pico_base.specs.Signal.{at};
 ghost use Rattle.kernel_model.specs.Signals.{act_on, with_mask};
@@ -60,9 +61,9 @@ impl Kernel {
         ensures { IfSome (living_at self.old pid) (λ a. reap_child self.old pid a (wait a.row.family which) ≡ record { kernel = self.new; reply = result }) }
     {
         match self.processes.wait(pid, which) {
-            Ok(Some((child, ending))) => Reply::Child {
-                pid: Pid(child),
-                ending,
+            Ok(Some(child)) => Reply::Child {
+                pid: child.pid,
+                ending: child.ending,
             },
             Ok(None) => Reply::Num(0),
             Err(errno) => Reply::Fail(errno),

@@ -1,3 +1,4 @@
+//! The calls on message queues (msgget, msgsnd, msgrcv, msgctl).
 ghost use Rattle.std.specs.Prelude.{◌≡◌, None, IfOk, OnErr};
 ghost use Rattle.number_maps.specs.Maps.{get};
 ghost use Rattle.kernel_model.specs.Queue.{send, receive, set_qbytes};

@@ -1,3 +1,4 @@
+//! The calls on semaphore sets (semget, semop, semctl).
 ghost use Rattle.std.specs.Prelude.{◌≡◌, None, IfOk};
 ghost use Rattle.std.specs.List.{list_any};
 ghost use Rattle.number_maps.specs.Maps.{get};

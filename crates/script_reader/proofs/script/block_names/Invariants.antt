@@ -1,7 +1,7 @@
 use Rattle.std.proofs.Common.{◌≡◌, length}
 use Rattle.std.specs.Prelude.{fold}
-use Rattle.script_reader.specs.Parts.{opening_at}
-use Rattle.script_reader.specs.Fault.{lines_of, with_opening, names_of}
+use Rattle.script_reader.specs.Words.{lines_of}
+use Rattle.script_reader.specs.Says.{opening_at, with_opening, names_of}
 use Rattle.script_reader.proofs.script.block_names.Given as goal
 
 -- the names so far, and those of the lines left, are those of all lines
