@@ -22,7 +22,7 @@ pub struct Cache {
 impl Model for Cache {
     ghost use Rattle.std.specs.Prelude.{List, ℕ};
     ghost use Rattle.std.specs.Coded.{coded_list, coded×, coded_ℕ};
-    ghost use Rattle.pico_base.specs.NameOrder.{coded_name};
+    ghost use Rattle.owner_cache.specs.Coded.{coded_name};
     ghost use Rattle.node_model.specs.Cache.{Cache as Value_};
     ghost use Rattle.owner_cache.specs.Distinct.{IsWithin};
 
