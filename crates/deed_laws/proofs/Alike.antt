@@ -12,7 +12,7 @@ use Rattle.kernel_model.specs.Kernel.{Kernel}
 use Rattle.kernel_model.specs.Effect.{Effect, look_up, on_named}
 use Rattle.kernel_model.specs.QueueCalls.{change_queue, receive_effect}
 use Rattle.kernel_model.specs.SetCalls.{change_set}
-use Rattle.kernel_laws.proofs.MapLaws.{get-put-same, get-put-other}
+use Rattle.number_maps.proofs.LookUps.{get-put-same, get-put-other}
 
 -- the same at each number
 abbrev pub SameAt : {V : Type 0} → Numbered V → Numbered V → Type 0

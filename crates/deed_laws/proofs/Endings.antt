@@ -16,7 +16,7 @@ use Rattle.kernel_model.specs.ProcessCalls.{bury, process_after_end, end_under}
 use Rattle.kernel_model.specs.Valid.{IsValid}
 use Rattle.kernel_laws.specs.Reachable.{IsReachableKernel}
 use Rattle.kernel_laws.proofs.Families.{living-ended}
-use Rattle.kernel_laws.proofs.MapLaws.{get-put-other}
+use Rattle.number_maps.proofs.LookUps.{get-put-other}
 use Rattle.kernel_laws.proofs.Members.{contains-first, contains-later}
 use Rattle.kernel_laws.proofs.People.{to-living}
 use Rattle.kernel_laws.proofs.Plain.{from_some, not_some}

@@ -11,7 +11,7 @@ use Rattle.kernel_model.specs.Effect.{is_fresh}
 use Rattle.kernel_model.specs.ProcessCalls.{parent_after_fork, new_child, processes_after_fork}
 use Rattle.kernel_model.specs.Valid.{IsValid}
 use Rattle.machine_model.specs.Node.{new_process}
-use Rattle.kernel_laws.proofs.MapLaws.{get-put-same, get-put-other}
+use Rattle.number_maps.proofs.LookUps.{get-put-same, get-put-other}
 use Rattle.kernel_laws.proofs.People.{to-living}
 use Rattle.kernel_laws.proofs.Plain.{from_some, not_some}
 use Rattle.kernel_laws.proofs.ValidLaws.{reachable_kernels_are_valid_lemma}

@@ -7,7 +7,8 @@ use Rattle.number_maps.specs.Maps.{Numbered, get, put, is_used, used_with}
 use Rattle.kernel_model.specs.Kernel.{Kernel, Process, alive_in, living_in}
 use Rattle.kernel_model.specs.Numbers.{is_positive_u32, is_u32}
 use Rattle.kernel_model.specs.Effect.{Effect, is_fresh, reply_with}
-use Rattle.kernel_laws.proofs.MapLaws.{get-put-same, get-put-other, used-with-other}
+use Rattle.number_maps.proofs.LookUps.{get-put-same, get-put-other}
+use Rattle.number_maps.proofs.Sets.{used-with-other}
 use Rattle.kernel_laws.proofs.Plain.{not_some, not_false}
 
 abbrev pub IsWithin : {V : Type 0} → Numbered V → Numbered V → Type 0

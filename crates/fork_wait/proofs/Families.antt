@@ -1,20 +1,13 @@
 -- Children are added, end and are waited for, and their numbers stay different.
 use Rattle.std.proofs.Common.{◌≡◌, ℕ, ◌<◌, ◌≤◌, Bool, true, false, not, ◌&&◌, ◌||◌, cond, nat_eq, List, [], ◌∷◌, ◌++◌, length, map, filter, length-append, append_assoc, get_or, take, drop, suc, ◌-◌, refl, sym, ap, ◌∙◌, arith}
+use Rattle.std.proofs.Math.Seq.{take-length}
 use Rattle.std.proofs.lemmas.List.{map_push}
-use Rattle.std.proofs.lemmas.Bool.{false≢true}
+use Rattle.std.proofs.lemmas.Bool.{false≢true, or_parts, or_from}
 use Rattle.std.proofs.lemmas.Bool.Decides.{nat_tests}
 use Rattle.std.specs.List.{list_any}
 use Rattle.pico_base.specs.declared.reply.Ending.{Ending}
 use Rattle.kernel_model.specs.Row.{others, EndedChild, ended_child}
 use Rattle.fork_wait.specs.Children.{AreChildren, are_different}
-
-neither : (a b : Bool) → (a || b) ≡ false → (a ≡ false) × (b ≡ false)
-neither false b h = (refl, h)
-neither true b h = absurd (false≢true (sym h))
-
-none_of : (a b : Bool) → a ≡ false → b ≡ false → (a || b) ≡ false
-none_of false b p q = q
-none_of true b p q = absurd (false≢true (sym p))
 
 both_true : (a b : Bool) → (not a && b) ≡ true → (a ≡ false) × (b ≡ true)
 both_true false b h = (refl, h)
@@ -29,45 +22,45 @@ both_are true b p q = absurd (false≢true (sym p))
 absent-filter : (p : ℕ → Bool) (q : ℕ) (xs ys : List ℕ) → list_any (nat_eq q) (xs ++ ys) ≡ false → list_any (nat_eq q) (filter p xs ++ ys) ≡ false
 absent-filter p q [] ys h = h
 absent-filter p q (x ∷ xs) ys h =
-    let here = neither (nat_eq q x) (list_any (nat_eq q) (xs ++ ys)) h in
+    let here = or_parts (nat_eq q x) (list_any (nat_eq q) (xs ++ ys)) h in
     elim (p x) as (λ (t : Bool). list_any (nat_eq q) (cond t (x ∷ filter p xs) (filter p xs) ++ ys) ≡ false) [
-      | true ↦ none_of (nat_eq q x) _ here.0 (absent-filter p q xs ys here.1)
+      | true ↦ or_from (nat_eq q x) _ here.0 (absent-filter p q xs ys here.1)
       | false ↦ absent-filter p q xs ys here.1
     ]
 
 absent-filter_after : (p : ℕ → Bool) (q : ℕ) (xs ys : List ℕ) → list_any (nat_eq q) (xs ++ ys) ≡ false → list_any (nat_eq q) (xs ++ filter p ys) ≡ false
 absent-filter_after p q [] [] h = h
 absent-filter_after p q [] (y ∷ ys) h =
-    let here = neither (nat_eq q y) (list_any (nat_eq q) ys) h in
+    let here = or_parts (nat_eq q y) (list_any (nat_eq q) ys) h in
     elim (p y) as (λ (t : Bool). list_any (nat_eq q) (cond t (y ∷ filter p ys) (filter p ys)) ≡ false) [
-      | true ↦ none_of (nat_eq q y) _ here.0 (absent-filter_after p q [] ys here.1)
+      | true ↦ or_from (nat_eq q y) _ here.0 (absent-filter_after p q [] ys here.1)
       | false ↦ absent-filter_after p q [] ys here.1
     ]
 absent-filter_after p q (x ∷ xs) ys h =
-    let here = neither (nat_eq q x) (list_any (nat_eq q) (xs ++ ys)) h in
-    none_of (nat_eq q x) _ here.0 (absent-filter_after p q xs ys here.1)
+    let here = or_parts (nat_eq q x) (list_any (nat_eq q) (xs ++ ys)) h in
+    or_from (nat_eq q x) _ here.0 (absent-filter_after p q xs ys here.1)
 
 absent-insert : (q c : ℕ) (xs ys : List ℕ) → nat_eq q c ≡ false → list_any (nat_eq q) (xs ++ ys) ≡ false → list_any (nat_eq q) ((xs ++ c ∷ []) ++ ys) ≡ false
-absent-insert q c [] ys other h = none_of (nat_eq q c) _ other h
+absent-insert q c [] ys other h = or_from (nat_eq q c) _ other h
 absent-insert q c (x ∷ xs) ys other h =
-    let here = neither (nat_eq q x) (list_any (nat_eq q) (xs ++ ys)) h in
-    none_of (nat_eq q x) _ here.0 (absent-insert q c xs ys other here.1)
+    let here = or_parts (nat_eq q x) (list_any (nat_eq q) (xs ++ ys)) h in
+    or_from (nat_eq q x) _ here.0 (absent-insert q c xs ys other here.1)
 
 absent-push : (q c : ℕ) (xs : List ℕ) → nat_eq q c ≡ false → list_any (nat_eq q) xs ≡ false → list_any (nat_eq q) (xs ++ c ∷ []) ≡ false
-absent-push q c [] other h = none_of (nat_eq q c) _ other h
+absent-push q c [] other h = or_from (nat_eq q c) _ other h
 absent-push q c (x ∷ xs) other h =
-    let here = neither (nat_eq q x) (list_any (nat_eq q) xs) h in
-    none_of (nat_eq q x) _ here.0 (absent-push q c xs other here.1)
+    let here = or_parts (nat_eq q x) (list_any (nat_eq q) xs) h in
+    or_from (nat_eq q x) _ here.0 (absent-push q c xs other here.1)
 
 absent-after : (q : ℕ) (xs ys : List ℕ) → list_any (nat_eq q) (xs ++ ys) ≡ false → list_any (nat_eq q) ys ≡ false
 absent-after q [] ys h = h
-absent-after q (x ∷ xs) ys h = absent-after q xs ys (neither (nat_eq q x) (list_any (nat_eq q) (xs ++ ys)) h).1
+absent-after q (x ∷ xs) ys h = absent-after q xs ys (or_parts (nat_eq q x) (list_any (nat_eq q) (xs ++ ys)) h).1
 
 absent-append : (q : ℕ) (xs ys : List ℕ) → list_any (nat_eq q) xs ≡ false → list_any (nat_eq q) ys ≡ false → list_any (nat_eq q) (xs ++ ys) ≡ false
 absent-append q [] ys p h = h
 absent-append q (x ∷ xs) ys p h =
-    let here = neither (nat_eq q x) (list_any (nat_eq q) xs) p in
-    none_of (nat_eq q x) _ here.0 (absent-append q xs ys here.1 h)
+    let here = or_parts (nat_eq q x) (list_any (nat_eq q) xs) p in
+    or_from (nat_eq q x) _ here.0 (absent-append q xs ys here.1 h)
 
 -- what was taken out is no longer there
 absent-others : (c : ℕ) (xs : List ℕ) → list_any (nat_eq c) (others c xs) ≡ false
@@ -75,7 +68,7 @@ absent-others c [] = refl
 absent-others c (x ∷ xs) =
     elim (nat_eq c x) as (λ (t : Bool). nat_eq c x ≡ t → list_any (nat_eq c) (cond (not t) (x ∷ others c xs) (others c xs)) ≡ false) [
       | true ↦ λ e. absent-others c xs
-      | false ↦ λ e. none_of (nat_eq c x) _ e (absent-others c xs)
+      | false ↦ λ e. or_from (nat_eq c x) _ e (absent-others c xs)
     ] refl
 
 -- ---- different numbers
@@ -108,14 +101,14 @@ different-insert : (c : ℕ) (xs ys : List ℕ) → are_different (xs ++ ys) ≡
 different-insert c [] ys h absent = both_are _ _ absent h
 different-insert c (x ∷ xs) ys h absent =
     let here = both_true (list_any (nat_eq x) (xs ++ ys)) (are_different (xs ++ ys)) h in
-    let apart = neither (nat_eq c x) (list_any (nat_eq c) (xs ++ ys)) absent in
+    let apart = or_parts (nat_eq c x) (list_any (nat_eq c) (xs ++ ys)) absent in
     both_are _ _ (absent-insert x c xs ys (turned c x apart.0) here.0) (different-insert c xs ys here.1 apart.1)
 
 different-push : (c : ℕ) (xs : List ℕ) → are_different xs ≡ true → list_any (nat_eq c) xs ≡ false → are_different (xs ++ c ∷ []) ≡ true
 different-push c [] h absent = refl
 different-push c (x ∷ xs) h absent =
     let here = both_true (list_any (nat_eq x) xs) (are_different xs) h in
-    let apart = neither (nat_eq c x) (list_any (nat_eq c) xs) absent in
+    let apart = or_parts (nat_eq c x) (list_any (nat_eq c) xs) absent in
     both_are _ _ (absent-push x c xs (turned c x apart.0) here.0) (different-push c xs here.1 apart.1)
 
 same_number : (c x : ℕ) → nat_eq c x ≡ true → c ≡ x
@@ -134,8 +127,8 @@ different-apart c (x ∷ xs) ys h there =
 absent-before : (q : ℕ) (xs ys : List ℕ) → list_any (nat_eq q) (xs ++ ys) ≡ false → list_any (nat_eq q) xs ≡ false
 absent-before q [] ys h = refl
 absent-before q (x ∷ xs) ys h =
-    let here = neither (nat_eq q x) (list_any (nat_eq q) (xs ++ ys)) h in
-    none_of (nat_eq q x) _ here.0 (absent-before q xs ys here.1)
+    let here = or_parts (nat_eq q x) (list_any (nat_eq q) (xs ++ ys)) h in
+    or_from (nat_eq q x) _ here.0 (absent-before q xs ys here.1)
 
 -- a number that isn't there is another than one that is
 absent-other : (q c : ℕ) (xs ys : List ℕ) → list_any (nat_eq q) (xs ++ ys) ≡ false → list_any (nat_eq c) xs ≡ true → nat_eq q c ≡ false
@@ -240,13 +233,9 @@ pub differ-living : (first : ℕ) (xs rest : List ℕ) (es : List EndedChild) (t
     → (not there && r) ≡ are_different (xs ++ map (λ e. e.pid) es)
 differ-living first xs rest es there r parts is_there is_r = rw (parts, is_there, is_r) refl
 
-take-all : {A : Type 0} (xs : List A) → take (length xs) xs ≡ xs
-take-all [] = refl
-take-all (x ∷ xs) = ap (λ ys. x ∷ ys) (take-all xs)
-
 -- the first element and the slice after it
 pub first-rest : {A : Type 0} (xs : List A) (d : A) → 1 ≤ length xs → xs ≡ get_or xs 0 d ∷ take (length xs - 1) (drop 1 xs)
 first-rest [] d some = absurd (omega arith)
 first-rest (x ∷ xs) d some =
     let rest : suc (length xs) - 1 ≡ length xs = omega arith in
-    rw (rest, take-all xs) refl
+    rw (rest, take-length xs) refl

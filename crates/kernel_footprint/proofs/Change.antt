@@ -6,7 +6,7 @@ use Rattle.number_maps.specs.Maps.{Numbered, get, put, without}
 use Rattle.kernel_model.specs.Kernel.{Kernel, parent_in}
 use Rattle.kernel_model.specs.Effect.{Effect}
 use Rattle.kernel_model.specs.Footprint.{Part, ParentOf, is_whole, is_queue, is_set, is_queue_keys, is_set_keys}
-use Rattle.kernel_footprint.proofs.Maps.{get-put-same, get-put-other, get-without-same, get-without-other}
+use Rattle.number_maps.proofs.LookUps.{get-put-same, get-put-other, get-without-same, get-without-other}
 use Rattle.std.specs.Prelude.{nat_eq}
 
 pub data Change {X : Type 0} (touched : Bool) (j k to_j to_k : X) : Type 0 where

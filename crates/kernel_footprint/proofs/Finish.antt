@@ -10,7 +10,7 @@ use Rattle.kernel_model.specs.Effect.{Effect}
 use Rattle.kernel_model.specs.Transition.{finish_call}
 use Rattle.kernel_model.specs.Valid.{IsValidProcess}
 use Rattle.kernel_model.specs.Footprint.{Part, bare, parent_number}
-use Rattle.kernel_footprint.proofs.Maps.{get-put-same, get-put-other}
+use Rattle.number_maps.proofs.LookUps.{get-put-same, get-put-other}
 use Rattle.kernel_footprint.proofs.Parents.{orphan-put, orphan-unlisted}
 use Rattle.kernel_footprint.proofs.Change.{changes-put, change-agree, change-first, change-second, change-move, has_whole, has_parent, SameEffect, IsOrphan}
 use Rattle.kernel_footprint.proofs.Stepped.{Stepped, Moved, Doomed, moved-from_change, has_allowance, allowance_in}

@@ -28,7 +28,7 @@ use Rattle.kernel_model.specs.Waiting.{may_wait}
 use Rattle.kernel_model.specs.Transition.{Successor, successor, effect, may_make, finish_call, outcome_of, transition_by, transition}
 use Rattle.kernel_model.specs.Valid.{IsValid}
 use Rattle.kernel_model.specs.Footprint.{GrowsBy, created_kind, grown_by, has_created, is_same_kind, is_there, used_for, used_of}
-use Rattle.kernel_footprint.proofs.Maps.{get-put-same, get-put-other}
+use Rattle.number_maps.proofs.LookUps.{get-put-same, get-put-other}
 
 -- the numbers used after an effect
 pub record Grew (own : Option Kind) (n : ℕ) (k : Kernel) (e : Effect) (kind : Kind) : Type 0 where

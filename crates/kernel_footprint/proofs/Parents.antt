@@ -5,7 +5,9 @@ use Rattle.std.proofs.lemmas.Bool.{cases_order, cases_eq}
 use Rattle.number_maps.specs.Maps.{Numbered, get, put}
 use Rattle.kernel_model.specs.Row.{Alive, lists}
 use Rattle.kernel_model.specs.Kernel.{Process, Living, Ended, Gone, Parent, alive_in, living_in, parent_if, parent_in}
-use Rattle.kernel_footprint.proofs.Maps.{Rises, Above, cmp-equal, cmp-less, cmp-greater, get-here, get-there, get-below}
+use Rattle.number_maps.proofs.Rising.{Rising, Above, get-above}
+use Rattle.number_maps.proofs.Order.{cmp-equal, cmp-less, cmp-greater}
+use Rattle.number_maps.proofs.LookUps.{get-first, get-later}
 
 -- the process lives and lists the child
 abbrev pub lists_in : ℕ → Process → Bool
@@ -53,14 +55,14 @@ orphan-unlisted child [] p a h l = cc
 orphan-unlisted child (e ∷ es) p a h l =
     let s = parent-skipped child e.0 e.1 (parent_in child es) h
     in elim (cases_eq p e.0) [
-      | inl c ↦ living-lists child e.1 a (sym (ap (option_and_then alive_in) (get-here e es p c)) ∙ l) ∙ s.0
-      | inr c ↦ orphan-unlisted child es p a s.1 (sym (ap (option_and_then alive_in) (get-there e es p c)) ∙ l)
+      | inl c ↦ living-lists child e.1 a (sym (ap (option_and_then alive_in) (get-first e es p c)) ∙ l) ∙ s.0
+      | inr c ↦ orphan-unlisted child es p a s.1 (sym (ap (option_and_then alive_in) (get-later e es p c)) ∙ l)
     ]
 
 -- what stands in the rest isn't at the first number
 rest-apart : (e : ℕ × Process) (es : Numbered Process) (p : ℕ) (a : Alive) → Above e.0 es → living_in es p ≡ Some a → p ≢ e.0
 rest-apart e es p a above l h =
-    let n = ap (option_and_then alive_in) (subst (λ (q : ℕ). get es q ≡ None) (sym h) (get-below e.0 es above))
+    let n = ap (option_and_then alive_in) (subst (λ (q : ℕ). get es q ≡ None) (sym h) (get-above e.0 es above))
     in cc
 
 first-unlisted : (child : ℕ) (v : Process) → ((a : Alive) → alive_in v ≡ Some a → lists a.row.family child ≡ false) → lists_in child v ≡ false
@@ -68,12 +70,12 @@ first-unlisted child (Living a) h = h a refl
 first-unlisted child (Ended ending) h = refl
 first-unlisted child Gone h = refl
 
-pub orphan-from_unlisted : (child : ℕ) (ps : Numbered Process) → Rises ps → ((p : ℕ) (a : Alive) → living_in ps p ≡ Some a → lists a.row.family child ≡ false) → parent_in child ps ≡ None
+pub orphan-from_unlisted : (child : ℕ) (ps : Numbered Process) → Rising ps → ((p : ℕ) (a : Alive) → living_in ps p ≡ Some a → lists a.row.family child ≡ false) → parent_in child ps ≡ None
 orphan-from_unlisted child [] r h = refl
 orphan-from_unlisted child (e ∷ es) r h =
-    let first : lists_in child e.1 ≡ false = first-unlisted child e.1 (λ a l. h e.0 a (ap (option_and_then alive_in) (get-here e es e.0 refl) ∙ l))
+    let first : lists_in child e.1 ≡ false = first-unlisted child e.1 (λ a l. h e.0 a (ap (option_and_then alive_in) (get-first e es e.0 refl) ∙ l))
     in parent-skip child e.0 e.1 (parent_in child es) first
-    ∙ orphan-from_unlisted child es r.1 (λ p a l. h p a (ap (option_and_then alive_in) (get-there e es p (rest-apart e es p a r.0 l)) ∙ l))
+    ∙ orphan-from_unlisted child es r.1 (λ p a l. h p a (ap (option_and_then alive_in) (get-later e es p (rest-apart e es p a r.0 l)) ∙ l))
 
 -- the parent lives and lists the child
 abbrev pub IsParentIn : ℕ → Numbered Process → Parent → Type 0
@@ -95,12 +97,12 @@ parent-cases child pid (Living a) rest r h =
 parent-cases child pid (Ended ending) rest r h = inr h
 parent-cases child pid Gone rest r h = inr h
 
-pub parent-is : (child : ℕ) (ps : Numbered Process) (r : Parent) → Rises ps → parent_in child ps ≡ Some r → IsParentIn child ps r
+pub parent-is : (child : ℕ) (ps : Numbered Process) (r : Parent) → Rising ps → parent_in child ps ≡ Some r → IsParentIn child ps r
 parent-is child [] r s h = cc
 parent-is child (e ∷ es) r s h =
     elim (parent-cases child e.0 e.1 (parent_in child es) r h) [
-      | inl w ↦ (ap (option_and_then alive_in) (get-here e es r.pid w.0) ∙ w.1, w.2)
+      | inl w ↦ (ap (option_and_then alive_in) (get-first e es r.pid w.0) ∙ w.1, w.2)
       | inr w ↦
           let i = parent-is child es r s.1 w
-          in (ap (option_and_then alive_in) (get-there e es r.pid (rest-apart e es r.pid r.alive s.0 i.0)) ∙ i.0, i.1)
+          in (ap (option_and_then alive_in) (get-later e es r.pid (rest-apart e es r.pid r.alive s.0 i.0)) ∙ i.0, i.1)
     ]

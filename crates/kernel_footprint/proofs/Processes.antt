@@ -27,7 +27,7 @@ use Rattle.kernel_model.specs.ProcessCalls.{parent_after_fork, new_child, proces
 use Rattle.kernel_model.specs.Transition.{effect, transition, is_spent}
 use Rattle.kernel_model.specs.Valid.{IsValid}
 use Rattle.kernel_model.specs.Footprint.{Part, MayDo, Whole, is_whole, parts_of_ended, home_parts, AgreeOn}
-use Rattle.kernel_footprint.proofs.Maps.{eq-same, eq-other}
+use Rattle.number_maps.proofs.Order.{eq-same, eq-other}
 use Rattle.kernel_footprint.proofs.Change.{changes-none, changes-put, has_whole, is_parent, SameEffect, SameEffects}
 use Rattle.kernel_footprint.proofs.Effects.{Childless, fresh-alike, made-if, unchanged, processes-changed}
 use Rattle.kernel_footprint.proofs.Stepped.{AlikeSteps}

@@ -17,7 +17,7 @@ use Rattle.kernel_model.specs.QueueCalls.{new_queue, get_queue_at, change_queue,
 use Rattle.kernel_model.specs.Transition.{effect, transition, is_spent, may_make}
 use Rattle.kernel_model.specs.Valid.{IsValid}
 use Rattle.kernel_model.specs.Footprint.{Part, MayDo, Whole, QueueAt, QueueKeys, AgreeOn}
-use Rattle.kernel_footprint.proofs.Maps.{eq-same}
+use Rattle.number_maps.proofs.Order.{eq-same}
 use Rattle.kernel_footprint.proofs.Keys.{unbound-same}
 use Rattle.kernel_footprint.proofs.Change.{Same, Changes, changes-none, changes-put, changes-without, has_queue, has_queue_keys, SameEffect, SameEffects}
 use Rattle.kernel_footprint.proofs.Effects.{Childless, fresh-alike, made-if, unchanged, named-alike, queues-changed}

@@ -20,7 +20,7 @@ use Rattle.kernel_model.specs.SetCalls.{new_set_of, set_size, find_set, get_set_
 use Rattle.kernel_model.specs.Transition.{effect, transition, is_spent, may_make}
 use Rattle.kernel_model.specs.Valid.{IsValid}
 use Rattle.kernel_model.specs.Footprint.{Part, MayDo, Whole, SetAt, SetKeys, size_parts, AgreeOn}
-use Rattle.kernel_footprint.proofs.Maps.{eq-same}
+use Rattle.number_maps.proofs.Order.{eq-same}
 use Rattle.kernel_footprint.proofs.Keys.{unbound-same}
 use Rattle.kernel_footprint.proofs.Change.{Same, Changes, changes-none, changes-put, changes-without, has_set, has_set_keys, SameEffect, SameEffects}
 use Rattle.kernel_footprint.proofs.Effects.{Childless, fresh-alike, made-if, unchanged, looked-alike, named-alike, sets-changed}

@@ -8,7 +8,8 @@ use Rattle.kernel_model.specs.Row.{Alive, Family, lists, family_after_end, Ended
 use Rattle.kernel_model.specs.Kernel.{Process, Living, Ended, Gone, Parent, parent_in}
 use Rattle.kernel_model.specs.ProcessCalls.{bury, bury_all, process_after_end}
 use Rattle.kernel_laws.proofs.Plain.{from_some, not_some, not_none, not_true}
-use Rattle.kernel_laws.proofs.MapLaws.{Rising, Above, get-first, get-later, get-above}
+use Rattle.number_maps.proofs.Rising.{Rising, Above, get-above}
+use Rattle.number_maps.proofs.LookUps.{get-first, get-later}
 use Rattle.kernel_laws.proofs.Members.{contains-none, contains-first, contains-later, contains-cases, lists-end, ended-end, ended-stays, ended-new}
 use Rattle.kernel_laws.proofs.Families.{Map, Lists, KeepsEnded, IsLiving, Families, Over, living-ended, living-gone, ended-gone, same-alive, same-ending, at-once}
 use Rattle.kernel_laws.proofs.FamilyChanges.{Put, put-is, Two, AtFirst, AtLast, Elsewhere, from, different}

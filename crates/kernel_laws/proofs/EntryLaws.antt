@@ -10,7 +10,7 @@ use Rattle.kernel_model.specs.Kernel.{Kernel, Process, Living, living_in}
 use Rattle.kernel_model.specs.Valid.{IsValid}
 use Rattle.kernel_laws.specs.Processes.{NoneListsItself, EntriesKeepValidity}
 use Rattle.kernel_laws.proofs.Plain.{not_true}
-use Rattle.kernel_laws.proofs.MapLaws.{rising}
+use Rattle.number_maps.proofs.Rising.{rising}
 use Rattle.kernel_laws.proofs.Families.{IsLiving, Families}
 use Rattle.kernel_laws.proofs.Living.{Strong}
 use Rattle.kernel_laws.proofs.People.{from-living, to-living}

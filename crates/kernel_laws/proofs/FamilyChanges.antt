@@ -7,7 +7,7 @@ use Rattle.number_maps.specs.Maps.{Numbered, get, put}
 use Rattle.kernel_model.specs.Row.{Alive, Family, no_family, lists, with_child, without_ended, EndedChild, ended_child}
 use Rattle.kernel_model.specs.Kernel.{Process, Living, Ended, Gone}
 use Rattle.kernel_laws.proofs.Plain.{not_some, not_true}
-use Rattle.kernel_laws.proofs.MapLaws.{get-put-same, get-put-other}
+use Rattle.number_maps.proofs.LookUps.{get-put-same, get-put-other}
 use Rattle.kernel_laws.proofs.Members.{contains-none, lists-child, without-back, without-on}
 use Rattle.kernel_laws.proofs.Families.{Map, Lists, KeepsEnded, IsLiving, Families, Kept, Born, living-ended, living-gone, ended-gone, same-alive, at-once}
 

@@ -10,7 +10,7 @@ use Rattle.kernel_model.specs.ProcessCalls.{bury, bury_all, process_after_end, e
 use Rattle.kernel_model.specs.Transition.{finish_call}
 use Rattle.kernel_laws.specs.Lives.{MayBecome, LivesGoOneWay}
 use Rattle.kernel_laws.proofs.Plain.{not_some, not_true}
-use Rattle.kernel_laws.proofs.MapLaws.{get-put-same, get-put-other}
+use Rattle.number_maps.proofs.LookUps.{get-put-same, get-put-other}
 use Rattle.kernel_laws.proofs.Tables.{fresh-unused}
 use Rattle.kernel_laws.proofs.Families.{Lists, living-ended, living-gone, at-once}
 use Rattle.kernel_laws.proofs.EndChanges.{cleared, parent-is}

@@ -18,7 +18,8 @@ use Rattle.kernel_model.specs.Kernel.{Kernel, opening, living_at, with_alive}
 use Rattle.kernel_model.specs.Effect.{Effect, on_named, is_fresh}
 use Rattle.kernel_laws.specs.Numbers.{UsedNumbersStay, RemovedQueuesStayRemoved, RemovedSetsStayRemoved, QueueRemovalsLast, SetRemovalsLast}
 use Rattle.kernel_laws.proofs.Plain.{from_some, not_some, not_true, by_test}
-use Rattle.kernel_laws.proofs.MapLaws.{get-put-other, get-without-same, get-without-other, used-stays}
+use Rattle.number_maps.proofs.LookUps.{get-put-other, get-without-same, get-without-other}
+use Rattle.number_maps.proofs.Sets.{used-stays}
 use Rattle.kernel_laws.proofs.Tables.{fresh-unused}
 use Rattle.kernel_laws.proofs.Moves.{Moves}
 use Rattle.kernel_laws.proofs.Steps.{step}

@@ -10,7 +10,9 @@ use Rattle.kernel_model.specs.Row.{Alive, EndedChild, ended_child}
 use Rattle.kernel_model.specs.Kernel.{Process, Living, Ended, Gone, living_in, alive_in}
 use Rattle.kernel_model.specs.ProcessCalls.{bury}
 use Rattle.kernel_laws.proofs.Plain.{from_some, not_some}
-use Rattle.kernel_laws.proofs.MapLaws.{get-put-same, get-put-other, used-with-same, used-with-other, Rising, rising-put}
+use Rattle.number_maps.proofs.LookUps.{get-put-same, get-put-other}
+use Rattle.number_maps.proofs.Sets.{used-with-same, used-with-other}
+use Rattle.number_maps.proofs.Rising.{Rising, rising-put}
 use Rattle.kernel_laws.proofs.Tables.{there-put}
 use Rattle.kernel_laws.proofs.Members.{contains-first, contains-later}
 use Rattle.kernel_laws.proofs.Families.{Families, living-gone}

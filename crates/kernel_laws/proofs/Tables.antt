@@ -8,7 +8,10 @@ use Rattle.kernel_model.specs.Numbers.{is_positive_u32}
 use Rattle.kernel_model.specs.QueueCalls.{unbind}
 use Rattle.kernel_model.specs.Valid.{AreKeys}
 use Rattle.kernel_laws.proofs.Plain.{from_some, not_some, not_true}
-use Rattle.kernel_laws.proofs.MapLaws.{get-put-same, get-put-other, get-without-same, get-without-other, used-with-same, used-stays, Rising, rising-put, rising-filter, get-unbound, ordered}
+use Rattle.number_maps.proofs.LookUps.{get-put-same, get-put-other, get-without-same, get-without-other}
+use Rattle.number_maps.proofs.Sets.{used-with-same, used-stays}
+use Rattle.number_maps.proofs.Rising.{Rising, rising-put, rising-filter, ordered}
+use Rattle.kernel_laws.proofs.Unbinding.{get-unbound}
 
 -- with what holds of each thing
 pub record Table {V : Type 0} (P : V → Type 0) (things : Numbered V) (keys : Numbered ℕ) (used : List ℕ) : Type 0 where

@@ -12,7 +12,9 @@ use Rattle.kernel_model.specs.SemaphoreSet.{SemaphoreSet}
 use Rattle.kernel_laws.specs.Reachable.{IsReachableKernel}
 use Rattle.kernel_laws.specs.Processes.{ReachableKernelsAreValid, SignalsAreSound, ChildrenHaveOneParent}
 use Rattle.kernel_laws.proofs.Plain.{from_some, not_some, not_true}
-use Rattle.kernel_laws.proofs.MapLaws.{get-first, get-later, used-first, used-later, ordered}
+use Rattle.number_maps.proofs.LookUps.{get-first, get-later}
+use Rattle.number_maps.proofs.Sets.{used-first, used-later}
+use Rattle.number_maps.proofs.Rising.{ordered}
 use Rattle.kernel_laws.proofs.Members.{contains-none}
 use Rattle.kernel_laws.proofs.SignalLaws.{sound-new}
 use Rattle.kernel_laws.proofs.Families.{Lists, KeepsEnded, Families, living-ended, same-alive, at-once}

@@ -15,7 +15,8 @@ use Rattle.kernel_model.specs.History.{Replays, number_in}
 use Rattle.kernel_model.specs.Fitting.{Place, Places, FitsFrom, HasReplyAlone, IsDue, opening_places, places_after, places_after_fork, block_place, block_at, child_vars, move_on, place_after, due, is_killed}
 use Rattle.machine_model.specs.Calls.{entry_by}
 use Rattle.deed_laws.specs.Carrying.{Makes}
-use Rattle.kernel_laws.proofs.MapLaws.{get-put-same, get-put-other, rising, rising-put, ordered}
+use Rattle.number_maps.proofs.LookUps.{get-put-same, get-put-other}
+use Rattle.number_maps.proofs.Rising.{rising, rising-put, ordered}
 
 pub replays-more : (k mid next : Kernel) (h : List Entry) (e : Entry) → Replays k h mid
     → transition mid e.pid e.call (number_in e.outcome.own) ≡ Some (successor next e.outcome) → Replays k (h ++ e ∷ []) next

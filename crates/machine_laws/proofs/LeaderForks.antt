@@ -29,7 +29,7 @@ use Rattle.machine_model.specs.World.{World, stream, node_count, world_after, st
 use Rattle.deed_laws.specs.Carrying.{StandsFor}
 use Rattle.deed_laws.proofs.Forking.{forks}
 use Rattle.kernel_laws.proofs.ValidLaws.{reachable_kernels_are_valid_lemma}
-use Rattle.kernel_laws.proofs.MapLaws.{get-put-same, get-put-other}
+use Rattle.number_maps.proofs.LookUps.{get-put-same, get-put-other}
 use Rattle.machine_laws.specs.Situations.{Situation, Awaited, Forked, Free, Asking, Answered, Telling, Recalled, HandedOver, Gone, Sight, IsIn, IsAwaited}
 use Rattle.machine_laws.specs.Invariant.{IsUnderWay, FirstRuns, IsChild}
 use Rattle.machine_laws.proofs.Streams.{changes-to}

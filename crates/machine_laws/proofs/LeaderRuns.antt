@@ -39,7 +39,7 @@ use Rattle.deed_laws.proofs.Shared.{shared_calls, served_calls}
 use Rattle.deed_laws.proofs.Endings.{first_ends, buried-apart}
 use Rattle.kernel_laws.proofs.ValidLaws.{reachable_kernels_are_valid_lemma}
 use Rattle.kernel_laws.proofs.Families.{living-ended}
-use Rattle.kernel_laws.proofs.MapLaws.{get-put-same, get-put-other}
+use Rattle.number_maps.proofs.LookUps.{get-put-same, get-put-other}
 use Rattle.machine_laws.specs.Lines.{EndsInExit}
 use Rattle.machine_laws.specs.Situations.{Situation, Awaited, Forked, Free, Asking, Answered, Telling, Recalled, HandedOver, Gone, Sight, IsIn, LivesHere}
 use Rattle.machine_laws.specs.Invariant.{IsUnderWay, IsLeader, FirstRuns, IsChild}

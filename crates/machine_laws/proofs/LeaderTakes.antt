@@ -32,7 +32,7 @@ use Rattle.kernel_laws.specs.Reachable.{IsReachableKernel}
 use Rattle.deed_laws.specs.Carrying.{IsFresh, StandsFor}
 use Rattle.deed_laws.proofs.Shared.{shared_calls, served_calls}
 use Rattle.deed_laws.proofs.Endings.{children_end}
-use Rattle.kernel_laws.proofs.MapLaws.{get-put-same, get-put-other}
+use Rattle.number_maps.proofs.LookUps.{get-put-same, get-put-other}
 use Rattle.machine_laws.specs.Situations.{Answered, Recalled, Gone, IsAsking, TellsEnd, HasHandedOver, LivesHere, parcel_from}
 use Rattle.machine_laws.specs.Invariant.{IsUnderWay, sight}
 use Rattle.machine_laws.proofs.Streams.{Changes, changes-to, changes-from, changes-both}

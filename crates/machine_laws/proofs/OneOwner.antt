@@ -12,7 +12,7 @@ use Rattle.rpc_frame.specs.declared.frame.Frame.{Frame}
 use Rattle.number_maps.specs.Maps.{get}
 use Rattle.kernel_model.specs.Kernel.{Kernel, Process, Living as LivingProcess}
 use Rattle.kernel_model.specs.Fitting.{Places}
-use Rattle.kernel_laws.proofs.MapLaws.{get-later}
+use Rattle.number_maps.proofs.LookUps.{get-later}
 use Rattle.machine_model.specs.Node.{Node, Held, nothing, only, new_process}
 use Rattle.machine_model.specs.Deeds.{new_deed}
 use Rattle.machine_model.specs.World.{World, Streams, node_at, stream, node_count}

@@ -13,7 +13,8 @@ use Rattle.kernel_model.specs.Fitting.{opening_places, block_at}
 use Rattle.machine_model.specs.Built.{IsRunnable}
 use Rattle.machine_model.specs.Node.{first_node, first_numbers, unborn_node, opening_node, new_process, only, place_of}
 use Rattle.machine_model.specs.World.{numbers, node_count, opening_world, node_at, stream}
-use Rattle.kernel_laws.proofs.MapLaws.{get-first, get-later, ordered}
+use Rattle.number_maps.proofs.LookUps.{get-first, get-later}
+use Rattle.number_maps.proofs.Rising.{ordered}
 use Rattle.kernel_laws.proofs.Plain.{from_some, not_some}
 use Rattle.deed_laws.specs.Carrying.{StandsFor, IsPlainProcess}
 use Rattle.machine_laws.specs.Situations.{Awaited}

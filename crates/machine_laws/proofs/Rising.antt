@@ -4,7 +4,7 @@ use Rattle.std.proofs.lemmas.Bool.{lt-ltb, ltb-true}
 use Rattle.number_maps.specs.Maps.{put}
 use Rattle.kernel_model.specs.Script.{Vars}
 use Rattle.kernel_model.specs.Fitting.{set_variable}
-use Rattle.kernel_laws.proofs.MapLaws.{Above, Rising, rising-put}
+use Rattle.number_maps.proofs.Rising.{Above, Rising, rising-put}
 use Rattle.machine_model.specs.Frames.{are_rising}
 use Rattle.machine_laws.proofs.Calls.{and-left, and-right}
 

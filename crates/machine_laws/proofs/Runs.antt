@@ -10,7 +10,8 @@ use Rattle.rpc_frame.specs.declared.frame.Frame.{Frame}
 use Rattle.number_maps.specs.Maps.{get}
 use Rattle.kernel_model.specs.Kernel.{Kernel}
 use Rattle.kernel_model.specs.Fitting.{Place, Places, IsOver}
-use Rattle.kernel_laws.proofs.MapLaws.{Rising, rising, get-first, get-later, get-above}
+use Rattle.number_maps.proofs.Rising.{Rising, rising, get-above}
+use Rattle.number_maps.proofs.LookUps.{get-first, get-later}
 use Rattle.kernel_laws.proofs.Plain.{not_some}
 use Rattle.machine_model.specs.Built.{IsRunnable}
 use Rattle.machine_model.specs.Node.{Node, Stage, is_living, is_unborn, can_run}

@@ -8,7 +8,7 @@ use Rattle.kernel_model.specs.Row.{Alive, lists, ignores_children, with_ended_ch
 use Rattle.kernel_model.specs.Kernel.{Process, Living, alive_in, living_in}
 use Rattle.kernel_model.specs.ProcessCalls.{process_after_end, end_under}
 use Rattle.mono_kernel.specs.Table.{IfLiving, lists_there, ignores_there, parent_at, as_parent}
-use Rattle.mono_kernel.proofs.MapLemmas.{is_used-keys}
+use Rattle.number_maps.proofs.Changes.{is_used-keys}
 use Rattle.mono_kernel.proofs.TableLemmas.{living-put_other}
 
 -- the same numbers are there

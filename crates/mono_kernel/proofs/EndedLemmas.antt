@@ -1,5 +1,6 @@
 -- The ended children of a living process are in the table, and don't live.
 use Rattle.std.proofs.Common.{◌≡◌, ◌<◌, ◌∙◌, ℕ, zero, suc, Bool, true, false, ◌||◌, if◌then◌else◌, nat_eq, List, [], ◌∷◌, length, get_or, Option, Some, None, is_some, IfSome, refl, sym, ap, arith}
+use Rattle.std.proofs.Math.Bool.{or-true}
 use Rattle.std.specs.List.{All, list_any, fold}
 use Rattle.std.specs.Option.{option_map, option_map_or}
 use Rattle.pico_base.specs.declared.reply.Ending.{Ending}
@@ -9,14 +10,7 @@ use Rattle.kernel_model.specs.Kernel.{Process, Gone, living_in, parent_in}
 use Rattle.kernel_model.specs.ProcessCalls.{bury, end_under, processes_after_end}
 use Rattle.mono_kernel.specs.Table.{IsTable, IfLiving, lists_there, parent_at, as_parent}
 use Rattle.mono_kernel.proofs.TableLemmas.{living-put_same, living-put_other}
-use Rattle.mono_kernel.proofs.MapLemmas.{same-from-nat_eq}
-
-same-number : (n : ℕ) → nat_eq n n ≡ true
-same-number n = grind arith
-
-either : (b : Bool) → (b || true) ≡ true
-either true = refl
-either false = refl
+use Rattle.number_maps.proofs.Order.{same-from-nat_eq, eq-same}
 
 -- the ended child that is found is among them
 found-kept : (which : Option ℕ) (es : List EndedChild) → IfSome (first_ended_child which es) (λ e. list_any (λ x. nat_eq e.pid x.pid) es ≡ true)
@@ -24,13 +18,13 @@ found-kept which [] = tt
 found-kept which (e ∷ es) = at (matches which e.pid) (first_ended_child which es) (found-kept which es)
   where
     here : (any : Bool) → (nat_eq e.pid e.pid || any) ≡ true
-    here any = rw (same-number e.pid)
+    here any = rw (eq-same e.pid)
 
     at : (b : Bool) (o : Option EndedChild) → IfSome o (λ x. list_any (λ y. nat_eq x.pid y.pid) es ≡ true)
         → IfSome (if b then Some e else o) (λ x. list_any (λ y. nat_eq x.pid y.pid) (e ∷ es) ≡ true)
     at true o rec = here (list_any (λ y. nat_eq e.pid y.pid) es)
     at false None rec = tt
-    at false (Some x) rec = rw rec (either (nat_eq x.pid e.pid))
+    at false (Some x) rec = rw rec (or-true (nat_eq x.pid e.pid))
 
 pub found-there : (ps : Numbered Process) (parents : Numbered ℕ) (pid : ℕ) (a : Alive) (which : Option ℕ) → IsTable ps parents
     → living_in ps pid ≡ Some a → IfSome (first_ended_child which a.row.family.ended) (λ e. is_some (get ps e.pid) ≡ true)
@@ -44,8 +38,8 @@ found-there ps parents pid a which t lives = at (first_ended_child which a.row.f
 -- each of the ended children is among them
 kept-at : (es : List EndedChild) (k : ℕ) (d : EndedChild) → k < length es → list_any (λ x. nat_eq (get_or es k d).pid x.pid) es ≡ true
 kept-at [] k d inside = absurd (omega arith)
-kept-at (e ∷ es) zero d inside = rw (same-number e.pid)
-kept-at (e ∷ es) (suc k) d inside = rw (kept-at es k d (omega arith)) (either (nat_eq (get_or es k d).pid e.pid))
+kept-at (e ∷ es) zero d inside = rw (eq-same e.pid)
+kept-at (e ∷ es) (suc k) d inside = rw (kept-at es k d (omega arith)) (or-true (nat_eq (get_or es k d).pid e.pid))
 
 pub all-kept : (ps : Numbered Process) (parents : Numbered ℕ) (pid : ℕ) (a : Alive) → IsTable ps parents → living_in ps pid ≡ Some a
     → All (λ e. (is_some (get ps e.pid) ≡ true) × (living_in ps e.pid ≡ None)) a.row.family.ended

@@ -7,8 +7,10 @@ use Rattle.std.specs.BTreeMap.{is_at}
 use Rattle.std.proofs.lemmas.Map.Keys.{sorted_head, sorted_tail}
 use Rattle.number_maps.specs.Maps.{Numbered, get}
 use Rattle.kernel_model.specs.QueueCalls.{unbind}
-use Rattle.mono_kernel.specs.Names.{IsRising, LeadsNowhere, LeadsOnly}
-use Rattle.mono_kernel.proofs.MapLemmas.{cmp-same, equal-same, same-from-nat_eq, less-none, past-none, greater-differs, get-rest}
+use Rattle.number_maps.specs.Rising.{IsRising}
+use Rattle.mono_kernel.specs.Names.{LeadsNowhere, LeadsOnly}
+use Rattle.number_maps.proofs.Order.{cmp-same, equal-same, same-from-nat_eq, greater-differs}
+use Rattle.number_maps.proofs.Changes.{less-none, past-none, get-rest}
 
 get-first : (e : ℕ × ℕ) (es : Numbered ℕ) → get (e ∷ es) e.0 ≡ Some e.1
 get-first e es = rw (cmp-same e.0)

@@ -9,11 +9,11 @@ use Rattle.kernel_model.specs.Row.{Alive}
 use Rattle.kernel_model.specs.Kernel.{Process, Living, Ended, Gone}
 use Rattle.kernel_model.specs.ProcessCalls.{parent_after_fork}
 use Rattle.mono_kernel.specs.declared.process.Change.{Change}
-use Rattle.mono_kernel.specs.Names.{IsRising}
+use Rattle.number_maps.specs.Rising.{IsRising}
 use Rattle.mono_kernel.specs.Process.{changed, CanChange}
 use Rattle.mono_kernel.specs.Change.{on_living, with_child_there, CanChangeThere}
 use Rattle.mono_kernel.specs.Table.{IfLiving}
-use Rattle.mono_kernel.proofs.MapLemmas.{set_value-put}
+use Rattle.number_maps.proofs.Changes.{set_value-put}
 
 lands : (ps es : Numbered Process) (pid : ℕ) (f : Alive → Alive) (v w : Process) → IsRising ps → get ps pid ≡ Some v
     → ((a : Alive) → v ≡ Living a → w ≡ Living (f a)) → es ≡ set_value (is_at (nat_cmp pid)) ps w

@@ -8,9 +8,10 @@ use Rattle.std.proofs.lemmas.Map.Keys.{sorted_tail}
 use Rattle.number_maps.specs.Maps.{Numbered, get}
 use Rattle.kernel_model.specs.Row.{Alive, lists}
 use Rattle.kernel_model.specs.Kernel.{Process, Living, Ended, Gone, Parent, alive_in, living_in, parent_if, parent_in}
-use Rattle.mono_kernel.specs.Names.{IsRising}
+use Rattle.number_maps.specs.Rising.{IsRising}
 use Rattle.mono_kernel.specs.Table.{IsTable, lists_there, parent_number, parent_at, as_parent}
-use Rattle.mono_kernel.proofs.MapLemmas.{cmp-same, equal-same, less-none, greater-differs, get-rest}
+use Rattle.number_maps.proofs.Order.{cmp-same, equal-same, greater-differs}
+use Rattle.number_maps.proofs.Changes.{less-none, get-rest}
 
 -- a living process lists the child
 abbrev pub Lists : Numbered Process → ℕ → ℕ → Type 0

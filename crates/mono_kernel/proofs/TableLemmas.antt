@@ -10,24 +10,25 @@ use Rattle.kernel_model.specs.ProcessCalls.{parent_after_fork, new_child}
 use Rattle.mono_kernel.specs.declared.process.Change.{Change}
 use Rattle.mono_kernel.specs.declared.process.Change.TheVariants.{Signals, Raise, EndChild, Reap, Spend}
 use Rattle.mono_kernel.specs.Process.{changed, IsPlain}
-use Rattle.mono_kernel.specs.Names.{IsRising}
+use Rattle.number_maps.specs.Rising.{IsRising}
 use Rattle.mono_kernel.specs.Table.{IsTable, IfLiving, keeps}
-use Rattle.mono_kernel.proofs.MapLemmas.{get-put_same, get-put_other, same-from-nat_eq}
+use Rattle.number_maps.proofs.LookUps.{get-put-same, get-put-apart}
+use Rattle.number_maps.proofs.Order.{same-from-nat_eq}
 
 -- look-ups after a change at a number
 
 pub living-put_same : (ps : Numbered Process) (k : ℕ) (v : Process) → living_in (put ps k v) k ≡ alive_in v
-living-put_same ps k v = ap (option_and_then alive_in) (get-put_same ps k v)
+living-put_same ps k v = ap (option_and_then alive_in) (get-put-same ps k v)
 
 pub living-put_other : (ps : Numbered Process) (k q : ℕ) (v : Process) → nat_eq q k ≡ false → living_in (put ps k v) q ≡ living_in ps q
-living-put_other ps k q v apart = ap (option_and_then alive_in) (get-put_other ps k q v apart)
+living-put_other ps k q v apart = ap (option_and_then alive_in) (get-put-apart ps k q v apart)
 
 pub there-put : (ps : Numbered Process) (k q : ℕ) (v : Process) → is_some (get ps q) ≡ true → is_some (get (put ps k v) q) ≡ true
 there-put ps k q v there = at (nat_eq q k) refl
   where
     at : (b : Bool) → nat_eq q k ≡ b → is_some (get (put ps k v) q) ≡ true
-    at true is = rw (same-from-nat_eq q k is) (ap is_some (get-put_same ps k v))
-    at false is = ap is_some (get-put_other ps k q v is) ∙ there
+    at true is = rw (same-from-nat_eq q k is) (ap is_some (get-put-same ps k v))
+    at false is = ap is_some (get-put-apart ps k q v is) ∙ there
 
 -- where a process lives, something is there
 pub there-living : (ps : Numbered Process) (p : ℕ) (a : Alive) → living_in ps p ≡ Some a → is_some (get ps p) ≡ true
@@ -239,7 +240,7 @@ IsTable-stale ps parents n pid t fresh =
     at p child a lives it true is =
         let there : is_some (get ps n) ≡ true = rw (← same-from-nat_eq child n is) ((t.listed p child a lives it).0)
         in let none : false ≡ true = rw fresh at there in absurd (cc)
-    at p child a lives it false is = get-put_other parents n child pid is ∙ t.parent p child a lives it
+    at p child a lives it false is = get-put-apart parents n child pid is ∙ t.parent p child a lives it
 
 module _ (ps : Numbered Process) (parents : Numbered ℕ) (n pid : ℕ) (a : Alive) (t : IsTable ps parents)
     (here : living_in ps pid ≡ Some a) (fresh : get ps n ≡ None) where
@@ -267,7 +268,7 @@ module _ (ps : Numbered Process) (parents : Numbered ℕ) (n pid : ℕ) (a : Ali
 
   new-there : is_some (get forked_table n) ≡ true
   unfolding forked_table
-  new-there = there-put (put ps n (Living (new_child a))) pid n (Living (parent_after_fork a n)) (ap is_some (get-put_same ps n (Living (new_child a))))
+  new-there = there-put (put ps n (Living (new_child a))) pid n (Living (parent_after_fork a n)) (ap is_some (get-put-same ps n (Living (new_child a))))
 
   others-live : (q : ℕ) → nat_eq q pid ≡ false → nat_eq q n ≡ false → living_in forked_table q ≡ living_in ps q
   unfolding forked_table
@@ -311,7 +312,7 @@ module _ (ps : Numbered Process) (parents : Numbered ℕ) (n pid : ℕ) (a : Ali
   fits-old : (p child : ℕ) (c : Alive) → living_in ps p ≡ Some c → Fits p child c
   unfolding Fits
   fits-old p child c lives = (
-    (λ it. get-put_other parents n child pid (absent child (t.listed p child c lives it).0) ∙ t.parent p child c lives it),
+    (λ it. get-put-apart parents n child pid (absent child (t.listed p child c lives it).0) ∙ t.parent p child c lives it),
     (λ it. let old = t.listed p child c lives it in (there-forked child old.0, old.1)),
     (λ it. still-dead child (t.kept p child c lives it)),
   )
@@ -325,8 +326,8 @@ module _ (ps : Numbered Process) (parents : Numbered ℕ) (n pid : ℕ) (a : Ali
   )
     where
       parent : (list_any (nat_eq child) a.row.family.living ≡ true) ⊎ (child ≡ n) → get (put parents n pid) child ≡ Some pid
-      parent (inl old) = get-put_other parents n child pid (absent child (t.listed pid child a here old).0) ∙ t.parent pid child a here old
-      parent (inr same) = rw same (get-put_same parents n pid)
+      parent (inl old) = get-put-apart parents n child pid (absent child (t.listed pid child a here old).0) ∙ t.parent pid child a here old
+      parent (inr same) = rw same (get-put-same parents n pid)
 
       listed : (list_any (nat_eq child) a.row.family.living ≡ true) ⊎ (child ≡ n) → (is_some (get forked_table child) ≡ true) × (nat_eq child pid ≡ false)
       listed (inl old) = let o = t.listed pid child a here old in (there-forked child o.0, o.1)

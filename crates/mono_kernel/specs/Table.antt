@@ -8,7 +8,7 @@ use Rattle.number_maps.specs.Maps.{Numbered, get}
 use Rattle.kernel_model.specs.Row.{Alive, EndedChild, Family, ended_child, Waited, Found, NotYet, NoChild, lists, ignores_children}
 use Rattle.kernel_model.specs.Kernel.{Process, Parent, living_in, parent_in}
 use Rattle.kernel_model.specs.ProcessCalls.{processes_after_wait}
-use Rattle.mono_kernel.specs.Names.{IsRising}
+use Rattle.number_maps.specs.Rising.{IsRising}
 
 -- of the process that lives at a number
 abbrev pub IfLiving : Numbered Process → ℕ → (Alive → Type 0) → Type 0

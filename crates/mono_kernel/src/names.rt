@@ -2,7 +2,8 @@
 ghost use Rattle.std.specs.Prelude.{◌≡◌, ℕ, false, None, [], OnOk, OnErr, MatchResult, MatchOption, IsTrue, ◌↔◌};
 ghost use Rattle.number_maps.specs.Maps.{Numbered, get, put, is_used, used_with};
 ghost use Rattle.kernel_model.specs.QueueCalls.{unbind};
-ghost use Rattle.mono_kernel.specs.Names.{IsRising, with_name, keys_with, ways_with, bound_to, HasWays, LeadsNowhere, LeadsOnly};
+ghost use Rattle.number_maps.specs.Rising.{IsRising};
+ghost use Rattle.mono_kernel.specs.Names.{with_name, keys_with, ways_with, bound_to, HasWays, LeadsNowhere, LeadsOnly};
 
 use pico_base::Memory;
 use std::alloc::Global;

@@ -8,7 +8,7 @@ ghost use Rattle.kernel_model.specs.Row.{Free, new_row, wait, lists, matches, fi
 ghost use Rattle.kernel_model.specs.Kernel.{Living, Ended, Gone, alive_in, living_in, parent_in};
 ghost use Rattle.kernel_model.specs.ProcessCalls.{bury, process_after_end, end_under, parent_after_fork, processes_after_fork, processes_after_end, processes_after_wait};
 ghost use Rattle.mono_kernel.specs.Process.{changed, CanChange, IsPlain};
-ghost use Rattle.mono_kernel.specs.Names.{IsRising};
+ghost use Rattle.number_maps.specs.Rising.{IsRising};
 ghost use Rattle.mono_kernel.specs.Table.{IfLiving, lists_there, ignores_there, parent_number, parent_at, waited_as, table_after};
 
 use crate::process::{Change, LiveProcess, ProcessCell};

@@ -18,7 +18,7 @@ use Rattle.machine_model.specs.Calls.{Step, set_by, take_reply, start_call, step
 use Rattle.kernel_model.specs.Numbers.{number_end}
 use Rattle.node_core.specs.Caller.{child_variables}
 use Rattle.node_core.specs.Leader.{numbered}
-use Rattle.node_core.proofs.MapLemmas.{put-put}
+use Rattle.number_maps.proofs.Changes.{put-put}
 use Rattle.node_core.proofs.LineLemmas.{child-vars-are}
 
 -- a number that is given out

@@ -10,9 +10,11 @@ use Rattle.number_maps.specs.Maps.{Numbered, get, put}
 use Rattle.kernel_model.specs.Kernel.{Process, Living, Ended, Gone, living_in}
 use Rattle.kernel_model.specs.ProcessCalls.{parent_after_fork, end_under}
 use Rattle.machine_model.specs.Deeds.{parent_of}
-use Rattle.node_core.specs.Rising.{IsRising}
+use Rattle.number_maps.specs.Rising.{IsRising}
 use Rattle.node_core.specs.Deed.{with_child_there, with_end_there, kept_by}
-use Rattle.node_core.proofs.MapLemmas.{set_value-put, get-put_other, same-from-nat_eq}
+use Rattle.number_maps.proofs.Changes.{set_value-put}
+use Rattle.number_maps.proofs.LookUps.{get-put-apart}
+use Rattle.number_maps.proofs.Order.{same-from-nat_eq}
 
 Forks : Numbered Process → Numbered Process → ℕ → ℕ → Type 0
 Forks ps es child pid = IfSome (living_in ps pid) (λ a. es ≡ put ps pid (Living (parent_after_fork a child)))
@@ -74,7 +76,7 @@ unfolding Ends
 end_found ps mid es pid parent ending child None at elsewhere kept is rising ends = tt
 end_found ps mid es pid parent ending child (Some p) at elsewhere kept is rising ends =
     let there : get mid parent ≡ Some p =
-    ap (λ (m : Numbered Process). get m parent) is ∙ get-put_other ps pid parent child (apart ps pid parent p at elsewhere) ∙ at
+    ap (λ (m : Numbered Process). get m parent) is ∙ get-put-apart ps pid parent child (apart ps pid parent p at elsewhere) ∙ at
     in ended_at ps mid es pid parent ending p (is ∙ ap (put ps pid) kept) rising there (rw there at ends)
 
 pub ended-lands : (ps mid es : Numbered Process) (n pid parent : ℕ) (ending : Ending) (child : Process) → n ≡ pid → get ps pid ≡ None

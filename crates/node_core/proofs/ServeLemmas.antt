@@ -14,7 +14,7 @@ use Rattle.kernel_model.specs.Effect.{Effect, on_named}
 use Rattle.kernel_model.specs.QueueCalls.{change_queue}
 use Rattle.machine_model.specs.Node.{Held}
 use Rattle.machine_model.specs.Deeds.{kernel_of}
-use Rattle.node_core.specs.Answers.{ChangedBy, Changes}
+use Rattle.call_answers.specs.Answers.{ChangedBy, Changes}
 
 held : Numbered Process → Numbered Queue → Numbered (List Semaphore) → Held
 held ps qs ss = record { processes = ps; queues = qs; sets = ss }

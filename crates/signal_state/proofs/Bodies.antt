@@ -1,6 +1,6 @@
 -- What is read of the bytes of a state is that state.
 use Rattle.std.proofs.Common.{◌≡◌, ℕ, ◌+◌, ◌*◌, ◌/◌, ◌%◌, ◌<◌, ◌^◌, zero, suc, Bool, true, false, not, ◌&&◌, cond, eqb, List, [], ◌∷◌, length, map, fold, Option, Some, None, get_or, refl, ap, ◌∙◌, arith}
-use Rattle.std.proofs.lemmas.Bool.{false≢true}
+use Rattle.std.proofs.lemmas.Bool.{false≢true, and_parts}
 use Rattle.std.proofs.lemmas.Bool.Decides.{nat_tests}
 use Rattle.std.proofs.lemmas.Nat.{from_be_bytes-to_be_bytes_2, from_be_bytes-to_be_bytes_4}
 use Rattle.std.proofs.Math.Nat.{pow-suc}
@@ -123,15 +123,10 @@ held-parts s held =
       kept = λ g. kept-test (at s.pending g) (discards (at s.actions g) g) (held.sound.kept g);
     }
 
--- a test of each signal
-both_true : (a b : Bool) → (a && b) ≡ true → (a ≡ true) × (b ≡ true)
-both_true true b h = (refl, h)
-both_true false b h = absurd (false≢true h)
-
 list_all-at : (p : Sig → Bool) (gs : List Sig) (i : ℕ) (d : Sig) → i < length gs → list_all p gs ≡ true → p (get_or gs i d) ≡ true
 list_all-at p [] i d within h = absurd (omega arith)
-list_all-at p (g ∷ gs) zero d within h = (both_true (p g) (list_all p gs) h).0
-list_all-at p (g ∷ gs) (suc i) d within h = list_all-at p gs i d (omega arith) (both_true (p g) (list_all p gs) h).1
+list_all-at p (g ∷ gs) zero d within h = (and_parts (p g) (list_all p gs) h).0
+list_all-at p (g ∷ gs) (suc i) d within h = list_all-at p gs i d (omega arith) (and_parts (p g) (list_all p gs) h).1
 
 pub each-signal : (p : Sig → Bool) → list_all p all_signals ≡ true → (g : Sig) → p g ≡ true
 each-signal p h Hup = list_all-at p all_signals 0 Hup (omega arith) h

@@ -4,7 +4,7 @@ use Rattle.std.specs.Prelude.{MatchOption}
 use Rattle.std.specs.List.{flat_map, AllByRecursion}
 use Rattle.std.specs.Int.{w16, w32, to_be_bytes}
 use Rattle.std.proofs.lemmas.Bool.Decides.{nat_tests}
-use Rattle.std.proofs.lemmas.Bool.{eqb-true, ltb-false, le-ltb}
+use Rattle.std.proofs.lemmas.Bool.{eqb-true, ltb-false, le-ltb, or_parts}
 use Rattle.std.proofs.lemmas.List.{append-nil, nil_from_length}
 use Rattle.kernel_model.specs.SemaphoreSet.{Semaphore, SemaphoreSet, set_of, max_value, max_semaphores, is_bad_count}
 use Rattle.sysv_sem.specs.Limits.{IsWithinLimits}
@@ -71,10 +71,6 @@ let_through : {A : Type 0} (b : Bool) (o : Option A) (y : A) → cond b None o �
 let_through true o y e = absurd cc
 let_through false o y e = (refl, e)
 
-neither : (a b : Bool) → (a || b) ≡ false → (a ≡ false) × (b ≡ false)
-neither true b e = absurd cc
-neither false b e = (refl, e)
-
 some_count : (n : ℕ) → eqb n 0 ≡ false → 1 ≤ n
 some_count zero e = absurd cc
 some_count (suc n) e = omega arith
@@ -89,7 +85,7 @@ counted_takes : (count : ℕ) (bytes : List ℕ) (set : SemaphoreSet) → IsByte
 unfolding counted_at fields_at
 counted_takes count bytes set fits e =
     let g = let_through (is_bad_count count) (semaphores_at count bytes >>= λ x. cond (eqb (length x.1) 0) (Some (set_of x.0)) None) set e in
-    let bad = neither (eqb count 0) (ltb max_semaphores count) g.0 in
+    let bad = or_parts (eqb count 0) (ltb max_semaphores count) g.0 in
     let a = bind_some (semaphores_at count bytes) (λ x. cond (eqb (length x.1) 0) (Some (set_of x.0)) None) set g.1 in
     let h = guard_ended (eqb (length a.0.1) 0) (set_of a.0.0) set a.2 in
     let t = semaphores_take count bytes a.0 fits a.1 in

@@ -2,7 +2,7 @@
 use Rattle.std.proofs.Common.{◌≡◌, ℕ, zero, suc, ◌+◌, ◌-◌, ◌≤◌, Bool, true, false, cond, eqb, ltb, leb, ◌||◌, ℤ, pos, negsuc, List, [], ◌∷◌, Option, Some, None, Result, Ok, Err, ◌++◌, take, drop, length, set, refl, sym, ap, subst, ◌∙◌, arith}
 use Rattle.std.specs.Prelude.{fold, slice_get, IfOk, IfSome, OnErr}
 use Rattle.std.specs.List.{AllByRecursion, list_any}
-use Rattle.std.proofs.lemmas.Bool.{leb-true, ltb-false, eqb-true}
+use Rattle.std.proofs.lemmas.Bool.{leb-true, ltb-false, eqb-true, or_parts}
 use Rattle.std.proofs.lemmas.List.{length-set, length-map, take_at}
 use Rattle.pico_base.specs.declared.call.SemStep.{SemStep}
 use Rattle.pico_base.specs.declared.reply.Errno.{Errno}
@@ -134,10 +134,6 @@ op_within old new pid steps e h =
     let tried : op_after_trial (set_of old) pid steps (try_ops (values_of old) steps) ≡ Ok new = passed _ Efbig _ new (passed _ E2big _ new e) in
     tried_op_within old new pid steps (try_ops (values_of old) steps) (λ values. tried_within (length old) 0 (values_of old) steps values (record { count = length-map old (λ (s : Semaphore). s.value); each = values_fine old h.each })) tried h
 
-neither : (a b : Bool) → (a || b) ≡ false → (a ≡ false) × (b ≡ false)
-neither true b e = absurd cc
-neither false b e = (refl, e)
-
 -- a test that did not fail, before an answer
 passed_to : {A : Type 0} (b : Bool) (x : Errno) (r : Result A Errno) (y : A) → cond b r (Err x) ≡ Ok y → (b ≡ true) × (r ≡ Ok y)
 passed_to true x r y e = (refl, e)
@@ -151,7 +147,7 @@ failed false x r y e = (refl, e)
 upto : (values : List ℕ) → list_any (ltb max_value) values ≡ false → AllByRecursion IsValue values
 upto [] e = tt
 upto (value ∷ values) e =
-    let both = neither (ltb max_value value) (list_any (ltb max_value) values) e in
+    let both = or_parts (ltb max_value value) (list_any (ltb max_value) values) e in
     (ltb-false _ _ both.0, upto values both.1)
 
 set_all_within : (old : List Semaphore) (new : SemaphoreSet) (values : List ℕ) → set_all (set_of old) values ≡ Ok new → IsWithinLimits (set_of old) → IsWithinLimits new

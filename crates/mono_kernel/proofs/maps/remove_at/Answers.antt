@@ -1,5 +1,5 @@
 use Rattle.std.proofs.Common.{◌∙◌, sym}
-use Rattle.mono_kernel.proofs.MapLemmas.{without-remove}
+use Rattle.number_maps.proofs.Changes.{without-remove}
 use Rattle.mono_kernel.proofs.maps.remove_at.Goals as goal
 
 pub returns-clause-removed : goal.returns-clause-removed

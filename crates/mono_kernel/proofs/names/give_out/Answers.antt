@@ -1,4 +1,4 @@
-use Rattle.mono_kernel.proofs.MapLemmas.{remove-used}
+use Rattle.number_maps.proofs.Sets.{remove-used}
 use Rattle.mono_kernel.proofs.names.give_out.Goals as goal
 
 pub returns-in-Err-clause-used : goal.returns-in-Err-clause-used

@@ -1,6 +1,6 @@
 use Rattle.std.proofs.Common.{◌∙◌, ap}
 use Rattle.std.specs.Map.{keys_of}
-use Rattle.mono_kernel.proofs.MapLemmas.{remove-put, keys-put}
+use Rattle.number_maps.proofs.Changes.{remove-put, keys-put}
 use Rattle.mono_kernel.proofs.processes.fork_at.Goals as goal
 
 pub returns-in-Err-clause-err : goal.returns-in-Err-clause-err

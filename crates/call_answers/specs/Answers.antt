@@ -1,4 +1,4 @@
--- What an answer says of what is held, and of the node, before and after it.
+-- What the answer of a call on a queue or a set says of the map that they stand in, before and after it.
 use Rattle.std.specs.Prelude.{◌≡◌, ℕ, Option, Some, None, Result, Ok, Err}
 use Rattle.std.specs.Option.{option_map}
 use Rattle.pico_base.specs.declared.reply.Reply.{Reply}
