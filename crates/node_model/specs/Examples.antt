@@ -130,7 +130,7 @@ unfolding read_body Rattle.node_model.specs.Spelling.read_process
 no_removed_process = refl
 
 new_process_body : read_deed (pack (Proc 2) (Living new_row)) ≡ Some (Living new_row)
-unfolding read_deed read_body body_bytes Rattle.node_model.specs.Spelling.row_bytes Rattle.node_model.specs.Spelling.read_process Rattle.node_model.specs.Spelling.read_row Rattle.node_model.specs.Spelling.read_signals Rattle.node_model.specs.Spelling.read_family Rattle.signal_state.specs.Spelling.signal_bytes Rattle.fork_wait.specs.Spelling.family_bytes Rattle.fork_wait.specs.Reading.family_at Rattle.fork_wait.specs.Reading.numbers_at Rattle.fork_wait.specs.Reading.all_ended_at
+unfolding read_deed read_body body_bytes Rattle.node_model.specs.Spelling.row_bytes Rattle.node_model.specs.Spelling.read_process Rattle.node_model.specs.Spelling.read_row Rattle.node_model.specs.Spelling.read_signals Rattle.node_model.specs.Spelling.read_family Rattle.signal_state.specs.Spelling.signal_bytes Rattle.fork_wait.specs.Spelling.family_bytes Rattle.fork_wait.specs.Reading.family_at Rattle.fork_wait.specs.Reading.numbers_at Rattle.fork_wait.specs.Reading.all_ended_at Rattle.body_fields.specs.Fields.byte_upto
 new_process_body = refl
 
 -- ---- serving
