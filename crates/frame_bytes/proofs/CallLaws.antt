@@ -1,8 +1,5 @@
 -- Calls and replies read what they spell.
-use Rattle.std.proofs.Common.{◌≡◌, ℕ, ◌^◌, ◌<◌, Bool, ℤ, List, [], ◌∷◌, ◌++◌, length, Option, Some, None, refl, ap, ◌∙◌, append_assoc}
-use Rattle.std.specs.Prelude.{FitsSigned}
-use Rattle.std.specs.List.{flat_map, AllByRecursion}
-use Rattle.std.specs.Int.{w32}
+use Rattle.std.proofs.Common.{◌≡◌, ℕ, Bool, ℤ, List, [], ◌∷◌, ◌++◌, length, Some, None, refl, ap, ◌∙◌, append_assoc}
 use Rattle.pico_base.specs.declared.call.Call.{Call}
 use Rattle.pico_base.specs.declared.call.Call.TheVariants as calls
 use Rattle.pico_base.specs.declared.call.SemStep.{SemStep}
@@ -15,7 +12,7 @@ use Rattle.frame_bytes.specs.Readers.{tabled}
 use Rattle.frame_bytes.specs.Fields.{IsWord, IsHalf, IsCount, word, half, signed, text, flag_byte, word_at, half_at, count_at}
 use Rattle.frame_bytes.specs.Calls.{IsStep, AreSteps, AreSet, IsAskedCall, IsLastCall, step_field, steps_field, values_field, call_bytes, step_at, steps_at, set_at, asked_rows, asked_call_at, last_rows, last_call_at}
 use Rattle.frame_bytes.specs.Replies.{AreValues, IsAnswer, reply_bytes, values_at, reply_rows, reply_at}
-use Rattle.frame_bytes.proofs.Inverse.{Inverse, Field, Counted, Reads, counted-inverse, renamed, none-takes, one-takes, two-takes, three-takes, four-takes, five-takes, tabled-takes, one-again, two-again, three-again, four-again, five-again}
+use Rattle.frame_bytes.proofs.Inverse.{Inverse, Field, Counted, Reads, counted-inverse, renamed, one-takes, two-takes, three-takes, four-takes, five-takes, tabled-takes, one-again, two-again, three-again, four-again, five-again}
 use Rattle.frame_bytes.proofs.FieldLaws.{word-inverse, half-inverse, count-inverse, word-field, half-field, positive-field, signed-field, flag-field, sig-field, sigarg-field, errno-field, text-field, whole-inverse}
 
 -- ---- operations and values

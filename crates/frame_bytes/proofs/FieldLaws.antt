@@ -1,6 +1,6 @@
 -- Each field reads what it spells.
-use Rattle.std.proofs.Common.{◌≡◌, ℕ, ◌^◌, ◌<◌, ◌≤◌, Bool, true, false, ◌&&◌, cond, eqb, ltb, ℤ, List, [], ◌∷◌, ◌++◌, length, take, drop, Option, Some, None, SFits, refl, sym, ap, subst, ◌∙◌, append_assoc, arith}
-use Rattle.std.specs.Prelude.{nat_lt, nat_le, FitsSigned, find}
+use Rattle.std.proofs.Common.{◌≡◌, ℕ, ◌^◌, ◌<◌, ◌≤◌, Bool, true, false, cond, eqb, ltb, ℤ, List, [], ◌∷◌, ◌++◌, length, take, drop, Some, None, refl, sym, subst, arith}
+use Rattle.std.specs.Prelude.{nat_lt, FitsSigned, find}
 use Rattle.std.specs.Int.{w16, w32, cast_signed, cast_unsigned}
 use Rattle.std.proofs.Math.Facts.{sfits_to_z, Fits-of_z}
 use Rattle.std.proofs.lemmas.Bool.{ltb-false, le-ltb}
@@ -19,11 +19,10 @@ use Rattle.pico_base.specs.declared.signal.SigArg.{SigArg}
 use Rattle.pico_base.specs.declared.signal.SigArg.TheVariants.{Zero, Is, Bad}
 use Rattle.pico_base.specs.ErrorNumber.{all_errors, error_number}
 use Rattle.pico_base.specs.Signal.{all_signals, signal_number}
-use Rattle.body_fields.specs.Fields.{◌>>=◌}
 use Rattle.body_fields.proofs.Fields.{IsBytes, IsBytes-drop, bind_some, guard_some, some_is, Takes, Takes-then, wide16, wide32, number_takes, number_again}
-use Rattle.frame_bytes.specs.Readers.{Reader, byte_at, one_of}
-use Rattle.frame_bytes.specs.Fields.{IsWord, IsHalf, IsPositive, IsCount, IsNode, IsSigArg, IsName, IsText, is_node, word, half, signed, text, flag_byte, all_flags, sigarg_byte, all_sigargs, kind_byte, all_kinds, kind_of, name_number, name_of, name_field, word_at, half_at, positive_at, count_at, signed_at, node_at, flag_at, sig_at, sigarg_at, errno_at, kind_at, name_at, text_at}
-use Rattle.frame_bytes.proofs.Inverse.{Inverse, Field, Passes, Behind, byte-inverse, passing-inverse, renamed, one_of-inverse, Reads, two-takes, two-again}
+use Rattle.frame_bytes.specs.Readers.{Reader, byte_at}
+use Rattle.frame_bytes.specs.Fields.{IsWord, IsHalf, IsPositive, IsCount, IsNode, IsSigArg, IsName, IsText, is_node, word, half, signed, text, flag_byte, all_flags, sigarg_byte, all_sigargs, kind_byte, all_kinds, name_of, name_field, word_at, half_at, positive_at, count_at, signed_at, node_at, flag_at, sig_at, sigarg_at, errno_at, kind_at, name_at, text_at}
+use Rattle.frame_bytes.proofs.Inverse.{Inverse, Field, Passes, byte-inverse, passing-inverse, renamed, one_of-inverse, Reads, two-takes, two-again}
 
 -- ---- numbers
 

@@ -1,18 +1,17 @@
 -- What stands at the front of some bytes, by their length field.
-use Rattle.std.proofs.Common.{◌≡◌, ◌≢◌, ℕ, ◌^◌, ◌<◌, ◌≤◌, ◌+◌, inl, inr, List, [], ◌∷◌, ◌++◌, length, take, drop, Option, Some, None, refl, sym, ap, subst, ◌∙◌, append_assoc, get_or, arith}
+use Rattle.std.proofs.Common.{◌≡◌, ℕ, ◌<◌, ◌≤◌, ◌+◌, inl, inr, List, [], ◌∷◌, ◌++◌, length, take, drop, Option, Some, None, sym, ap, subst, ◌∙◌, append_assoc, arith}
 use Rattle.std.proofs.lemmas.Bool.{cases_lt}
 use Rattle.std.specs.List.{flat_map, AllByRecursion}
 use Rattle.std.specs.Int.{w32}
 use Rattle.std.proofs.lemmas.List.{take-append-drop, length-append, length-take, drop_at, drop-drop, get_or-take, get_or_past, length-drop, append-nil}
 use Rattle.std.proofs.lemmas.List.Concat.{flat_map-cons}
 use Rattle.rpc_frame.specs.declared.frame.Frame.{Frame}
-use Rattle.frame_bytes.specs.declared.fault.FrameFault.{FrameFault}
 use Rattle.body_fields.specs.Fields.{number_at}
 use Rattle.body_fields.proofs.Fields.{IsBytes, Takes}
 use Rattle.frame_bytes.specs.Fields.{IsWord, word, text}
-use Rattle.frame_bytes.specs.Frames.{HasFields, IsFrame, frame_body, frame_bytes, max_frame, whole_at}
-use Rattle.frame_bytes.specs.Streams.{IsCut, IsPartial, IsTooLong, IsNoFrame, Stands, Begins}
-use Rattle.frame_bytes.specs.Splitting.{Front, EndIs}
+use Rattle.frame_bytes.specs.Frames.{IsFrame, frame_body, frame_bytes, max_frame, whole_at}
+use Rattle.frame_bytes.specs.Streams.{IsPartial, IsTooLong, IsNoFrame, Begins}
+use Rattle.frame_bytes.specs.Splitting.{Front}
 use Rattle.frame_bytes.proofs.FieldLaws.{word-inverse}
 use Rattle.frame_bytes.proofs.FrameLaws.{whole-takes, whole-again}
 

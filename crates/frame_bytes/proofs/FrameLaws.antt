@@ -1,6 +1,5 @@
 -- Frames read what they spell.
-use Rattle.std.proofs.Common.{◌≡◌, ℕ, ◌^◌, ◌<◌, ◌≤◌, Bool, cond, eqb, List, [], ◌∷◌, ◌++◌, length, Option, Some, None, refl, sym, ap, subst, ◌∙◌, append_assoc, arith}
-use Rattle.std.specs.List.{flat_map, AllByRecursion}
+use Rattle.std.proofs.Common.{◌≡◌, ℕ, ◌<◌, cond, eqb, List, [], ◌∷◌, ◌++◌, length, Some, None, refl, sym, ap, subst, ◌∙◌, append_assoc}
 use Rattle.std.proofs.lemmas.Bool.{eqb-true}
 use Rattle.std.proofs.lemmas.List.{append-nil, nil_from_length}
 use Rattle.pico_base.specs.declared.call.Call.{Call}
@@ -12,15 +11,14 @@ use Rattle.rpc_frame.specs.declared.deed.PackedDeed.{PackedDeed}
 use Rattle.rpc_frame.specs.declared.deed.Parcel.{Parcel}
 use Rattle.rpc_frame.specs.declared.frame.Frame.{Frame}
 use Rattle.rpc_frame.specs.declared.frame.Frame.TheVariants as frames
-use Rattle.body_fields.specs.Fields.{◌>>=◌}
 use Rattle.body_fields.proofs.Fields.{IsBytes, bind_some, guard_ended}
-use Rattle.frame_bytes.specs.Readers.{byte_at, counted, one, four, tabled}
-use Rattle.frame_bytes.specs.Fields.{IsWord, IsHalf, word, half, text, name_field, word_at, half_at, name_at, text_at}
+use Rattle.frame_bytes.specs.Readers.{byte_at, counted, four, tabled}
+use Rattle.frame_bytes.specs.Fields.{IsHalf, word, half, name_field, word_at, half_at}
 use Rattle.frame_bytes.specs.Calls.{IsAskedCall, IsLastCall, call_bytes, asked_call_at, last_call_at}
 use Rattle.frame_bytes.specs.Replies.{IsAnswer, reply_bytes, reply_at}
-use Rattle.frame_bytes.specs.Frames.{IsDeed, IsValue, AreVars, AreDeeds, IsParcel, IsAsking, IsAsked, HasFields, is_index, have_order, are_processes, deed_field, value_field, vars_field, deeds_field, parcel_field, asking, asked_field, frame_body, deed_at, index_at, value_at, vars_at, deeds_at, parcel_at, asked_at, frame_rows, frame_at, whole_at}
+use Rattle.frame_bytes.specs.Frames.{IsDeed, IsValue, AreVars, AreDeeds, IsParcel, IsAsked, HasFields, is_index, have_order, are_processes, deed_field, value_field, vars_field, deeds_field, parcel_field, asked_field, frame_body, deed_at, index_at, value_at, vars_at, deeds_at, parcel_at, asked_at, frame_rows, frame_at, whole_at}
 use Rattle.frame_bytes.proofs.Inverse.{Inverse, Field, Counted, Passes, Reads, byte-inverse, passing-inverse, counted-inverse, renamed, none-takes, one-takes, two-takes, three-takes, four-takes, tabled-takes, one-again, two-again, three-again, four-again}
-use Rattle.frame_bytes.proofs.FieldLaws.{word-inverse, half-inverse, word-field, half-field, positive-field, node-field, kind-field, text-field, name-field, whole-inverse}
+use Rattle.frame_bytes.proofs.FieldLaws.{half-inverse, word-field, positive-field, node-field, kind-field, text-field, name-field, whole-inverse}
 use Rattle.frame_bytes.proofs.CallLaws.{asked_call-inverse, last_call-inverse, reply-inverse}
 
 -- ---- deeds

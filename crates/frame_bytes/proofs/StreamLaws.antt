@@ -1,5 +1,5 @@
 -- A stream has one reading, and the frames that come of it don't depend on its pieces.
-use Rattle.std.proofs.Common.{◌≡◌, ◌≢◌, ℕ, ◌^◌, ◌<◌, ◌≤◌, ◌+◌, ◌⊎◌, inl, inr, List, [], ◌∷◌, ◌++◌, length, Option, Some, None, Result, Ok, Err, refl, sym, ap, subst, ◌∙◌, append_assoc, arith}
+use Rattle.std.proofs.Common.{◌≡◌, ℕ, ◌≤◌, ◌+◌, inl, inr, List, [], ◌∷◌, ◌++◌, length, Option, Some, Result, Ok, Err, refl, sym, ap, subst, ◌∙◌, append_assoc, arith}
 use Rattle.std.specs.List.{flat_map, AllByRecursion}
 use Rattle.std.proofs.lemmas.List.{length-append, append-nil}
 use Rattle.std.proofs.lemmas.List.Concat.{flat_map-cons}
@@ -8,8 +8,8 @@ use Rattle.frame_bytes.specs.declared.fault.FrameFault.{FrameFault}
 use Rattle.frame_bytes.specs.declared.fault.FrameFault.TheVariants.{Memory, TooLong, NotAFrame}
 use Rattle.body_fields.proofs.Fields.{some_is}
 use Rattle.frame_bytes.specs.Fields.{IsWord, IsText, word, text, word_at, text_at}
-use Rattle.frame_bytes.specs.Frames.{HasFields, IsFrame, frame_body, frame_bytes, max_frame, whole_at}
-use Rattle.frame_bytes.specs.Streams.{IsCut, IsPartial, IsTooLong, IsNoFrame, Stands, Left, Rest, Broken, Ends, Splits, IsAnswered, Feeds, frames_of, HadMemory, Fed, AllFed, Nothing, Further}
+use Rattle.frame_bytes.specs.Frames.{IsFrame, frame_body, frame_bytes, max_frame, whole_at}
+use Rattle.frame_bytes.specs.Streams.{IsCut, IsPartial, IsTooLong, Stands, Left, Rest, Broken, Ends, Splits, Feeds, frames_of, HadMemory, AllFed, Nothing, Further}
 use Rattle.frame_bytes.proofs.FieldLaws.{word-inverse, text-inverse}
 use Rattle.frame_bytes.proofs.FrameLaws.{whole-again}
 

@@ -1,12 +1,12 @@
 -- Replies as bytes: a code, and the reply's values.
-use Rattle.std.specs.Prelude.{ℕ, ℤ, FitsSigned, List, [], ◌∷◌, ◌++◌, length, Option, Some, None}
-use Rattle.std.specs.List.{flat_map, AllByRecursion}
+use Rattle.std.specs.Prelude.{ℕ, FitsSigned, List, [], ◌∷◌, ◌++◌, length}
+use Rattle.std.specs.List.{AllByRecursion}
 use Rattle.std.specs.Int.{w32}
 use Rattle.pico_base.specs.declared.reply.Reply.{Reply}
 use Rattle.pico_base.specs.declared.reply.Reply.TheVariants as replies
 use Rattle.pico_base.specs.ErrorNumber.{error_number}
 use Rattle.frame_bytes.specs.Readers.{Reader, one, two, four, counted, tabled}
-use Rattle.frame_bytes.specs.Fields.{IsWord, IsHalf, IsText, word, half, signed, text, word_at, half_at, signed_at, errno_at, text_at}
+use Rattle.frame_bytes.specs.Fields.{IsWord, IsHalf, IsText, word, signed, text, word_at, half_at, signed_at, errno_at, text_at}
 use Rattle.frame_bytes.specs.Calls.{values_field}
 
 -- the values of a set

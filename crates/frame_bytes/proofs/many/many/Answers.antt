@@ -1,7 +1,6 @@
-use Rattle.std.proofs.Common.{◌≡◌, ◌++◌, ◌∷◌, [], List, subst, sym}
 use Rattle.std.proofs.lemmas.Result.{err_from_is_err_and}
 use Rattle.frame_bytes.specs.Readers.{many}
-use Rattle.frame_bytes.proofs.Loop.{with_front, goes_on, ends, is_done}
+use Rattle.frame_bytes.proofs.Loop.{goes_on, ends, is_done}
 use Rattle.frame_bytes.proofs.many.many.Goals as goal
 
 pub returns-in_err-item : goal.returns-in_err-item
