@@ -3,7 +3,7 @@ ghost use Rattle.std.specs.Prelude.{◌≡◌, ◌≤◌, ◌<◌, ◌+◌, ◌+
 ghost use Rattle.std.specs.List.{IsDistinct};
 ghost use Rattle.pico_base.specs.declared.fault.UnpackFault.TheVariants.{NotABody};
 ghost use Rattle.pico_base.specs.declared.numbers.Name.{Name as Named};
-ghost use Rattle.node_model.specs.Kinds.{is_same_name, named, none_named};
+ghost use Rattle.node_model.specs.Kinds.{is_same_name, name_of, none_named};
 ghost use Rattle.deed_box.specs.Deeds.{AreAbsent, all_deeds, deeds_of, with_deeds};
 ghost use Rattle.deed_box.specs.Packing.{AllFit, ArePackedDeeds, SomeIsNoDeed, names_of};
 
@@ -14,7 +14,7 @@ use std::alloc::Global;
 
 /// The name of a kind and a number.
 fn named(kind: Kind, number: u32) -> Name
-    ensures { result ≡ named kind number }
+    ensures { result ≡ name_of kind number }
 {
     match kind {
         Kind::Proc => Name::Proc(Pid(number)),
@@ -29,8 +29,8 @@ fn pack_kind<B: Shared>(
     kind: Kind,
     entries: &[(u32, B)],
 ) -> Result<Vec<PackedDeed>, Memory>
-    requires { AllFit B.fits (deeds_of (named kind) entries.now) }
-    ensures { IfOk result (λ packed. ArePackedDeeds B.fits B.IsSpelled (deeds_of (named kind) entries.now) packed.items) }
+    requires { AllFit B.fits (deeds_of (name_of kind) entries.now) }
+    ensures { IfOk result (λ packed. ArePackedDeeds B.fits B.IsSpelled (deeds_of (name_of kind) entries.now) packed.items) }
 {
     let mut packed = Vec::with_capacity(alloc, entries.len())?;
     for entry in entries {

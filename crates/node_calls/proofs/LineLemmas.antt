@@ -5,9 +5,9 @@ use Rattle.std.specs.List.{list_all, list_any}
 use Rattle.pico_base.specs.declared.script.Line.{Line}
 use Rattle.pico_base.specs.declared.script.Block.{Block}
 use Rattle.pico_base.specs.declared.script.Script.{Script}
-use Rattle.kernel_model.specs.Script.{IsSound, is_exit, with_exit, implied_exit, ends_rightly}
+use Rattle.kernel_model.specs.Script.{IsSoundScript, is_exit, with_exit, implied_exit, ends_rightly}
 use Rattle.kernel_model.specs.Fitting.{block_at}
-use Rattle.node_calls.specs.Model.{lines_in, lines_of}
+use Rattle.node_model.specs.Caller.{lines_in, lines_of}
 use Rattle.node_calls.specs.Lines.{written_in, written_lines, written_count, is_exit_line}
 
 -- A line that is reached is the written one, or the exit that the end stands for.
@@ -132,7 +132,7 @@ ends_last (b ∷ blocks) (suc k) block h there =
     ends_last blocks k block (both (ends_rightly b.lines) (list_all (λ (x : Block). ends_rightly x.lines) blocks) h).1 there
 
 -- as the code has it: own is the slice of the block's lines
-pub count-is : (script : Script) (node n : ℕ) (block : Block) (own : List Line) → IsSound script → Some block ≡ block_at script node
+pub count-is : (script : Script) (node n : ℕ) (block : Block) (own : List Line) → IsSoundScript script → Some block ≡ block_at script node
     → own ≡ block.lines → n ≡ written_count own → n ≡ length (lines_of script node)
 unfolding with_end
 count-is script node n block own sound there is count =

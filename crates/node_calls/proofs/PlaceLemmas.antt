@@ -10,10 +10,10 @@ use Rattle.pico_base.specs.declared.reply.Reply.{Reply}
 use Rattle.pico_base.specs.declared.script.Line.{Line}
 use Rattle.pico_base.specs.declared.script.Script.{Script}
 use Rattle.kernel_model.specs.Script.{Vars, call_of, implied_exit}
-use Rattle.kernel_model.specs.Fitting.{Place, after, after_line, call_due as call_due_at, child_vars, child_vars_at, due, asks_again, setting, value_in}
+use Rattle.kernel_model.specs.Fitting.{Place, place_after, after_line, call_due as call_due_at, child_vars, child_vars_at, due, asks_again, set_variable, value_in}
 use Rattle.node_calls.specs.Lines.{written_lines}
 use Rattle.node_calls.proofs.LineLemmas.{reached-written, reached-implied}
-use Rattle.node_calls.specs.Model.{Caller, answered_at, ended_call, lines_of}
+use Rattle.node_model.specs.Caller.{Caller, answer_at, end_call, lines_of}
 use Rattle.node_calls.specs.Caller.{BlockCaller, HasLine, answered, call_due, place_of}
 
 pub drop-at : (lines : List Line) (i : ℕ) (line : Line) → slice_get lines i ≡ Some line → drop i lines ≡ line ∷ drop (suc i) lines
@@ -51,29 +51,29 @@ place_at : List Line → Caller → Place
 place_at lines c = record { left = drop c.line lines; tried = c.tried; vars = c.vars }
 
 moved_by : (again : Bool) (lines : List Line) (c : Caller) (line : Line) (n : ℕ)
-    → place_at lines (if again then record (ended_call c) { tried = c.tried + 1 }
-    else record (ended_call c) { line = c.line + 1; tried = 0; vars = setting c.vars line.set n })
+    → place_at lines (if again then record (end_call c) { tried = c.tried + 1 }
+    else record (end_call c) { line = c.line + 1; tried = 0; vars = set_variable c.vars line.set n })
     ≡ (if again then record (place_at lines c) { tried = c.tried + 1 }
-    else record { left = drop (suc c.line) lines; tried = 0; vars = setting c.vars line.set n })
+    else record { left = drop (suc c.line) lines; tried = 0; vars = set_variable c.vars line.set n })
 unfolding place_at
 moved_by true lines c line n = refl
 moved_by false lines c line n =
     let more : c.line + 1 ≡ suc c.line = omega arith
-    in ap (λ (i : ℕ). at_left (drop i lines) 0 (setting c.vars line.set n)) more
+    in ap (λ (i : ℕ). at_left (drop i lines) 0 (set_variable c.vars line.set n)) more
   where
     at_left : List Line → ℕ → Vars → Place
     at_left left tried vars = record { left = left; tried = tried; vars = vars }
 
 moves_at : (lines : List Line) (c : Caller) (call : Call) (reply : Reply) (line : Line) → slice_get lines c.line ≡ Some line
-    → place_at lines (answered_at c call reply (slice_get lines c.line)) ≡ after (place_at lines c) call (Some reply)
+    → place_at lines (answer_at c call reply (slice_get lines c.line)) ≡ place_after (place_at lines c) call (Some reply)
 unfolding place_at
 moves_at lines c call reply line there =
-    ap (λ (o : Option Line). place_at lines (answered_at c call reply o)) there
+    ap (λ (o : Option Line). place_at lines (answer_at c call reply o)) there
     ∙ moved_by (asks_again call (Some reply) && nat_lt (c.tried + 1) line.tries) lines c line (value_in (Some reply))
     ∙ ap (after_line (place_at lines c) call (Some reply)) (sym (drop-at lines c.line line there))
 
 pub place-moves : (script : Script) (c : BlockCaller) (call : Call) (reply : Reply) → HasLine script c
-    → place_of script (answered script c call reply) ≡ after (place_of script c) call (Some reply)
+    → place_of script (answered script c call reply) ≡ place_after (place_of script c) call (Some reply)
 unfolding place_at
 place-moves script c call reply reached =
     let lines = lines_of script c.block
@@ -95,13 +95,13 @@ here_with script c new u call reply is answer = rw is answer
 -- the reply to a line that is reached, by whether it is tried again
 tried_on : Bool → BlockCaller → Option ℕ → ℕ → BlockCaller
 tried_on again c set n =
-    if again then record c { caller = record (ended_call c.caller) { tried = c.caller.tried + 1 } }
-    else record c { caller = record (ended_call c.caller) { line = c.caller.line + 1; tried = 0; vars = setting c.caller.vars set n } }
+    if again then record c { caller = record (end_call c.caller) { tried = c.caller.tried + 1 } }
+    else record c { caller = record (end_call c.caller) { line = c.caller.line + 1; tried = 0; vars = set_variable c.caller.vars set n } }
 
 tried_in : (again : Bool) (c : BlockCaller) (line : Line) (n : ℕ)
     → record c {
-      caller = if again then record (ended_call c.caller) { tried = c.caller.tried + 1 }
-          else record (ended_call c.caller) { line = c.caller.line + 1; tried = 0; vars = setting c.caller.vars line.set n };
+      caller = if again then record (end_call c.caller) { tried = c.caller.tried + 1 }
+          else record (end_call c.caller) { line = c.caller.line + 1; tried = 0; vars = set_variable c.caller.vars line.set n };
     }
     ≡ tried_on again c line.set n
 unfolding tried_on
@@ -113,7 +113,7 @@ answered_as : (script : Script) (c : BlockCaller) (set : Option ℕ) (tries : �
     → again ≡ (asks_again call (Some reply) && nat_lt (c.caller.tried + 1) tries)
     → tried_on again c set (value_in (Some reply)) ≡ answered script c call reply
 answered_as script c set tries call reply again line is =
-    sym (ap (λ (o : Option Line). at_block c (answered_at c.caller call reply o)) line.there
+    sym (ap (λ (o : Option Line). at_block c (answer_at c.caller call reply o)) line.there
     ∙ tried_in (asks_again call (Some reply) && nat_lt (c.caller.tried + 1) line.line.tries) c line.line (value_in (Some reply))
     ∙ ap (λ (s : Option ℕ). tried_on (asks_again call (Some reply) && nat_lt (c.caller.tried + 1) line.line.tries) c s (value_in (Some reply))) (sym line.sets)
     ∙ ap (λ (m : ℕ). tried_on (asks_again call (Some reply) && nat_lt (c.caller.tried + 1) m) c set (value_in (Some reply))) (sym line.tried)
@@ -141,13 +141,13 @@ pub next-answers : (script : Script) (c : BlockCaller) (block line tried ticket 
     → HasLine script c
     → IfSome (slice_get (lines_of script block) line) (λ l. (set ≡ l.set) × (tries ≡ l.tries))
     → (asks_again call (Some reply) && nat_lt (tried + 1) tries) ≡ false
-    → IfSome c.caller.under_way (λ call. caller_of block (line + 1) 0 (setting vars set (value_in (Some reply))) ticket None ≡ answered script c call reply)
+    → IfSome c.caller.under_way (λ call. caller_of block (line + 1) 0 (set_variable vars set (value_in (Some reply))) ticket None ≡ answered script c call reply)
 unfolding Answers Terms tried_on
 next-answers script c block line tried ticket tries vars set under_way call reply view is within terms once =
     let was = caller_of block line tried vars ticket under_way
     in let low : line < length (lines_of script block) = subst (HasLine script) (sym view) within
-    in subst (Answers script reply (caller_of block (line + 1) 0 (setting vars set (value_in (Some reply))) ticket None)) view
-    (here_with script was (caller_of block (line + 1) 0 (setting vars set (value_in (Some reply))) ticket None) under_way call reply is
+    in subst (Answers script reply (caller_of block (line + 1) 0 (set_variable vars set (value_in (Some reply))) ticket None)) view
+    (here_with script was (caller_of block (line + 1) 0 (set_variable vars set (value_in (Some reply))) ticket None) under_way call reply is
     (answered_as script was set tries call reply false (reached (lines_of script block) line set tries low terms) (sym once)))
 
 -- What is due, and what a child begins with, by the line that is reached.
@@ -162,11 +162,11 @@ line-due script c line call there is = due_with script c line there ∙ ap (λ (
 
 pub child-vars-are : (script : Script) (c : BlockCaller) (set : Option ℕ) (tries : ℕ) → HasLine script c
     → IfSome (slice_get (lines_of script c.block) c.caller.line) (λ l. (set ≡ l.set) × (tries ≡ l.tries))
-    → setting c.caller.vars set 0 ≡ child_vars (place_of script c)
+    → set_variable c.caller.vars set 0 ≡ child_vars (place_of script c)
 unfolding Terms
 child-vars-are script c set tries within terms =
     let line = reached (lines_of script c.block) c.caller.line set tries within terms
-    in ap (λ (s : Option ℕ). setting c.caller.vars s 0) line.sets ∙ sym (ap (child_vars_at c.caller.vars) line.left)
+    in ap (λ (s : Option ℕ). set_variable c.caller.vars s 0) line.sets ∙ sym (ap (child_vars_at c.caller.vars) line.left)
 
 Dues : Script → Option Sig → Result Call Memory → BlockCaller → Type 0
 Dues script doom r c = IfOk r (λ call. call_due script c doom ≡ Some call)
@@ -203,7 +203,7 @@ Begins script r c = IfOk r (λ vars. vars ≡ child_vars (place_of script c))
 
 begins : (script : Script) (c : BlockCaller) (set : Option ℕ) (tries : ℕ) (r : Result Vars Memory) → HasLine script c
     → IfSome (slice_get (lines_of script c.block) c.caller.line) (λ l. (set ≡ l.set) × (tries ≡ l.tries))
-    → IfOk r (λ vars. vars ≡ setting c.caller.vars set 0) → Begins script r c
+    → IfOk r (λ vars. vars ≡ set_variable c.caller.vars set 0) → Begins script r c
 unfolding Begins
 begins script c set tries (Ok vars) within terms is = is ∙ child-vars-are script c set tries within terms
 begins script c set tries (Err e) within terms is = tt
@@ -211,7 +211,7 @@ begins script c set tries (Err e) within terms is = tt
 pub begun-are : (script : Script) (c : BlockCaller) (block line tried ticket tries : ℕ) (vars : Vars) (set : Option ℕ) (under_way : Option Call)
     (r : Result Vars Memory) → caller_of block line tried vars ticket under_way ≡ c → HasLine script c
     → IfSome (slice_get (lines_of script block) line) (λ l. (set ≡ l.set) × (tries ≡ l.tries))
-    → IfOk r (λ zeroed. zeroed ≡ setting vars set 0) → IfOk r (λ zeroed. zeroed ≡ child_vars (place_of script c))
+    → IfOk r (λ zeroed. zeroed ≡ set_variable vars set 0) → IfOk r (λ zeroed. zeroed ≡ child_vars (place_of script c))
 unfolding Begins
 begun-are script c block line tried ticket tries vars set under_way r view within terms is =
     let was = caller_of block line tried vars ticket under_way

@@ -5,7 +5,7 @@ use Rattle.std.specs.List.{insert}
 use Rattle.std.specs.Ordering.{nat_cmp, match_ordering}
 use Rattle.std.proofs.lemmas.List.{get_or_default}
 use Rattle.pico_base.specs.declared.fault.Memory.{Memory}
-use Rattle.kernel_model.specs.Maps.{get, put}
+use Rattle.number_maps.specs.Maps.{get, put}
 use Rattle.kernel_model.specs.Script.{Vars, value_of}
 use Rattle.node_calls.specs.Caller.{are_rising, rise_from}
 use Rattle.node_calls.specs.Place.{IsAt, IsGapFor, variable_at}

@@ -1,6 +1,6 @@
 ghost use Rattle.std.specs.Prelude.{◌≡◌, ◌↔◌, None, Some, IfOk, IfSome, OnOk, OnErr, IsSome, IsTrue};
 ghost use Rattle.std.specs.Option.{option_copied};
-ghost use Rattle.kernel_model.specs.Script.{IsSound};
+ghost use Rattle.kernel_model.specs.Script.{IsSoundScript};
 ghost use Rattle.kernel_model.specs.Fitting.{child_vars};
 ghost use Rattle.node_calls.specs.Caller.{BlockCaller, HasLine, are_rising, answered, beginning, call_due, place_of, started};
 
@@ -54,7 +54,7 @@ impl Caller {
     /// Whether the script has the block, and the line that is reached stands in it, an implied `exit 0` counted. It doesn't
     /// once the process has ended.
     pub fn has_line(&self, script: &Script) -> bool
-        requires { IsSound script.now }
+        requires { IsSoundScript script.now }
         ensures { IsTrue result ↔ HasLine script.now self.now }
     {
         self.line < count(script, self.block)

@@ -1,0 +1,148 @@
+-- What each call's effect leaves of the kernel's parts.
+use Rattle.std.proofs.Common.{◌≡◌, ◌≢◌, ◌∙◌, ℕ, suc, arith, Bool, true, false, not, ◌&&◌, nat_eq, List, [], ◌∷◌, Option, Some, None, Result, Ok, Err, refl, sym, ap, subst, inl, inr}
+use Rattle.std.specs.Prelude.{if◌then◌else◌, Contains}
+use Rattle.std.specs.List.{list_any}
+use Rattle.pico_base.specs.declared.call.Call.{Call}
+use Rattle.pico_base.specs.declared.call.Call.TheVariants as calls
+use Rattle.pico_base.specs.declared.call.Home.TheVariants as homes
+use Rattle.pico_base.specs.declared.numbers.Name.{Name}
+use Rattle.pico_base.specs.declared.numbers.Name.TheVariants.{Proc, Msg, Sem}
+use Rattle.pico_base.specs.declared.reply.Ending.{Ending}
+use Rattle.pico_base.specs.declared.reply.EndedChild.{EndedChild}
+use Rattle.pico_base.specs.declared.reply.Errno.{Errno}
+use Rattle.pico_base.specs.declared.reply.Errno.TheVariants.{Einval, Esrch, Echild}
+use Rattle.pico_base.specs.declared.reply.Reply.{Reply}
+use Rattle.pico_base.specs.declared.reply.Reply.TheVariants as replies
+use Rattle.pico_base.specs.declared.signal.SigArg.{SigArg}
+use Rattle.pico_base.specs.declared.signal.SigArg.TheVariants.{Zero, Is, Bad}
+use Rattle.pico_base.specs.Home.{home_of, home_of_kill}
+use Rattle.pico_base.specs.Signal.{at}
+use Rattle.number_maps.specs.Maps.{get}
+use Rattle.kernel_model.specs.Signals.{Signals, act_on, with_mask, raise}
+use Rattle.kernel_model.specs.Queue.{send, receive, set_qbytes, stat}
+use Rattle.kernel_model.specs.SemaphoreSet.{op, value_at, last_at, waiting_at, set_value, set_all, values_of}
+use Rattle.kernel_model.specs.Row.{Alive, Waited, Found, NotYet, NoChild, ended_child, first_ended_child, matches, raise_by_other, wait, wait_result, Row}
+use Rattle.kernel_model.specs.Kernel.{Kernel, Process, living_at, with_alive}
+use Rattle.kernel_model.specs.Kernel as kernel
+use Rattle.kernel_model.specs.Effect.{Effect, look_up, on_named, reply_with, refuse}
+use Rattle.kernel_model.specs.ProcessCalls.{action_effect, kill, kill_at, parent_after_wait, reap_child, signal_living, with_signals}
+use Rattle.kernel_model.specs.QueueCalls.{change_queue, receive_effect, remove_queue, stat_effect}
+use Rattle.kernel_model.specs.SetCalls.{all_values, change_set, remove_set}
+use Rattle.kernel_model.specs.Waiting.{may_wait}
+use Rattle.kernel_model.specs.Transition.{effect}
+use Rattle.kernel_model.specs.Valid.{IsValid, IsValidProcess}
+use Rattle.node_model.specs.Bodies.{Body, Living, Ended, Gone, AQueue, ASet, body_in, process_body, queue_body, set_body}
+use Rattle.node_model.specs.Serving.{name_for, name_in}
+use Rattle.node_serve.specs.Carrying.{Done, act, done, in_body, is_own, is_own_home, is_served, on_body, on_row, reap, signal}
+use Rattle.serve_laws.proofs.Follow.{Acts, stays, at-queue, at-set, queue-changes, queue-receives, queue-removed, set-changes, set-looks, set-removed, same_living, process-changes, child-found}
+
+-- ---- the caller's own calls
+
+own_acts : (k : Kernel) (pid : ℕ) (a : Alive) (r : Result Signals Errno) → body_in k (Proc pid) ≡ Living a.row
+    → Acts k (Proc pid) (in_body Living (act a.row r)) (action_effect k pid a r)
+own_acts k pid a (Ok s) is = process-changes k pid (record a { row = record { signals = s; family = a.row.family } }) (replies.Num 0) (λ other. refl)
+own_acts k pid a (Err e) is = stays k (Proc pid) (Living a.row) (replies.Fail e) (λ other. refl) is
+
+first_there : (which : Option ℕ) (es : List EndedChild) (e : EndedChild) → first_ended_child which es ≡ Some e → Contains es e
+first_there which [] e h = absurd (cc)
+first_there which (x ∷ es) e h = by (matches which x.pid) h
+  where
+    by : (b : Bool) → (if b then Some x else first_ended_child which es) ≡ Some e → Contains (x ∷ es) e
+    by true h = let same : x ≡ e = cc in (0, omega arith, same)
+    by false h = let rest : Contains es e = first_there which es e h in (suc rest.0, omega (arith, rest.1), rest.2)
+
+-- what a wait finds is one of the ended children
+found_there : (a : Alive) (which : Option ℕ) (child : ℕ) (ending : Ending) → wait a.row.family which ≡ Found child ending
+    → Contains a.row.family.ended (ended_child child ending)
+found_there a which child ending h =
+    by (first_ended_child which a.row.family.ended) (list_any (matches which) a.row.family.living) refl h
+  where
+    by : (o : Option EndedChild) (b : Bool) → first_ended_child which a.row.family.ended ≡ o → wait_result o b ≡ Found child ending
+        → Contains a.row.family.ended (ended_child child ending)
+    by (Some e) b is found =
+        let child_is : e.pid ≡ child = cc
+        in let ending_is : e.ending ≡ ending = cc
+        in let same : e ≡ ended_child child ending =
+        ap (λ (p : ℕ). ended_child p e.ending) child_is ∙ ap (ended_child child) ending_is
+        in subst (λ (x : EndedChild). Contains a.row.family.ended x) same (first_there which a.row.family.ended e is)
+    by None true is found = absurd (cc)
+    by None false is found = absurd (cc)
+
+wait_acts : (k : Kernel) (pid : ℕ) (a : Alive) (which : Option ℕ) (w : Waited) → IsValid k → living_at k pid ≡ Some a
+    → wait a.row.family which ≡ w → body_in k (Proc pid) ≡ Living a.row
+    → Acts k (Proc pid) (in_body Living (reap a.row w)) (reap_child k pid a w)
+wait_acts k pid a which (Found child ending) valid lives is body =
+    child-found k pid child ending (parent_after_wait a child) apart
+  where
+    apart : pid ≢ child
+    apart same =
+        let kept : get k.processes child ≡ Some (kernel.Ended ending) = (valid.alive pid a lives).ended child ending (found_there a which child ending is)
+        in let living : get k.processes pid ≡ Some (kernel.Living a) = same_living (get k.processes pid) a lives
+        in let both : Some (kernel.Living a) ≡ Some (kernel.Ended ending) = sym living ∙ ap (get k.processes) same ∙ kept
+        in cc
+wait_acts k pid a which NotYet valid lives is body = stays k (Proc pid) (Living a.row) (replies.Num 0) (λ other. refl) body
+wait_acts k pid a which NoChild valid lives is body = stays k (Proc pid) (Living a.row) (replies.Fail Echild) (λ other. refl) body
+
+-- ---- kill
+
+same_number : (n m : ℕ) → nat_eq n m ≡ true → n ≡ m
+same_number n m h = grind arith
+
+self : (n : ℕ) → nat_eq n n ≡ true
+self n = grind arith
+
+other_way : (n m : ℕ) → nat_eq n m ≡ false → nat_eq m n ≡ false
+other_way n m h = grind arith
+
+-- a signal to oneself
+kill_self : (k : Kernel) (pid : ℕ) (a : Alive) (sig : SigArg) → body_in k (Proc pid) ≡ Living a.row
+    → Acts k (Proc pid) (in_body Living (signal a.row sig)) (signal_living k pid pid a sig)
+kill_self k pid a Zero is = stays k (Proc pid) (Living a.row) (replies.Num 0) (λ other. refl) is
+kill_self k pid a Bad is = stays k (Proc pid) (Living a.row) (replies.Fail Einval) (λ other. refl) is
+kill_self k pid a (Is g) is =
+    subst (λ (b : Bool). Acts k (Proc pid) (in_body Living (signal a.row (Is g)))
+    (reply_with (if b then with_signals k pid a (raise a.row.signals g) else with_alive k pid (raise_by_other a g)) 0)) (sym (self pid))
+    (process-changes k pid (record a { row = record { signals = raise a.row.signals g; family = a.row.family } }) (replies.Num 0) (λ other. refl))
+
+-- a signal to another process
+kill_living : (k : Kernel) (pid target : ℕ) (b : Alive) (sig : SigArg) → nat_eq pid target ≡ false → body_in k (Proc target) ≡ Living b.row
+    → Acts k (Proc target) (in_body Living (signal b.row sig)) (signal_living k pid target b sig)
+kill_living k pid target b Zero apart is = stays k (Proc target) (Living b.row) (replies.Num 0) (λ other. refl) is
+kill_living k pid target b Bad apart is = stays k (Proc target) (Living b.row) (replies.Fail Einval) (λ other. refl) is
+kill_living k pid target b (Is g) apart is =
+    subst (λ (t : Bool). Acts k (Proc target) (in_body Living (signal b.row (Is g)))
+    (reply_with (if t then with_signals k target b (raise b.row.signals g) else with_alive k target (raise_by_other b g)) 0)) (sym apart)
+    (process-changes k target (raise_by_other b g) (replies.Num 0) (λ other. refl))
+
+kill_other : (k : Kernel) (pid target : ℕ) (sig : SigArg) (call : Call) → nat_eq pid target ≡ false → is_own pid call ≡ false
+    → ((row : Row) → on_body (Proc target) (Living row) pid call ≡ in_body Living (signal row sig))
+    → (o : Option Process) → get k.processes target ≡ o
+    → Acts k (Proc target) (on_body (Proc target) (process_body o) pid call) (kill_at k pid target sig o)
+kill_other k pid target sig call apart own rows None there = stays k (Proc target) Gone (replies.Fail Esrch) (λ other. refl) (ap process_body there)
+kill_other k pid target sig call apart own rows (Some kernel.Gone) there =
+    stays k (Proc target) Gone (replies.Fail Esrch) (λ other. refl) (ap process_body there)
+kill_other k pid target sig call apart own rows (Some (kernel.Ended ending)) there =
+    subst (λ (b : Bool). Acts k (Proc target) (done (Ended ending) (if b then replies.Fail Esrch else replies.Num 0)) (reply_with k 0)) (sym own)
+    (stays k (Proc target) (Ended ending) (replies.Num 0) (λ other. refl) (ap process_body there))
+kill_other k pid target sig call apart own rows (Some (kernel.Living b)) there =
+    subst (λ (d : Done Body). Acts k (Proc target) d (signal_living k pid target b sig)) (sym (rows b.row))
+    (kill_living k pid target b sig apart (ap process_body there))
+
+-- ---- all calls
+
+Serves : Kernel → ℕ → Call → Name → Effect → Type 0
+Serves k pid call name e = Acts k name (on_body name (body_in k name) pid call) e
+
+some_same : {A : Type 0} (x y : A) → Some x ≡ Some y → x ≡ y
+some_same x y h = cc
+
+conclude : (k : Kernel) (pid : ℕ) (call : Call) (n m : Name) (d e : Effect) → Some n ≡ Some m → Some d ≡ Some e
+    → Serves k pid call n d → Serves k pid call m e
+conclude k pid call n m d e named effects serves =
+    subst (λ (x : Effect). Serves k pid call m x) (some_same d e effects) (subst (λ (x : Name). Serves k pid call x d) (some_same n m named) serves)
+
+-- an own call of a living process
+own : (k : Kernel) (pid : ℕ) (a : Alive) (call : Call) (e : Effect) → body_in k (Proc pid) ≡ Living a.row
+    → Acts k (Proc pid) (in_body Living (on_row a.row pid call)) e → Serves k pid call (Proc pid) e
+unfolding Serves
+own k pid a call e is acts = subst (λ (b : Body). Acts k (Proc pid) (on_body (Proc pid) b pid call) e) (sym is) acts
