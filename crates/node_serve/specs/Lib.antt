@@ -1,5 +1,5 @@
 pub mod Bodies
-pub mod Carrying
 pub mod Laws
+pub mod Serving
 pub mod Spelled
 pub mod Waits

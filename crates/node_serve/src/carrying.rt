@@ -1,7 +1,7 @@
 //! A call is carried out on a body.
 ghost use Rattle.std.specs.Prelude.{◌≡◌, IfOk, OnErr};
 ghost use Rattle.node_serve.specs.Bodies.{body_of};
-ghost use Rattle.node_serve.specs.Carrying.{done, is_own, is_removal, on_body};
+ghost use Rattle.node_model.specs.Carrying.{done, is_own, is_removal, on_body};
 
 use crate::Body;
 use crate::queues::on_queue;

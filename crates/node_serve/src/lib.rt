@@ -6,8 +6,10 @@ mod carrying;
 mod packing;
 mod queues;
 mod rows;
+mod serve;
 mod sets;
 mod shared;
 mod unpacking;
 
 pub use body::{Body, Row};
+pub use serve::{Served, serve};

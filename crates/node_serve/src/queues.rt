@@ -1,7 +1,7 @@
 //! Calls on a message queue.
 ghost use Rattle.std.specs.Prelude.{◌≡◌, IfOk, OnErr};
 ghost use Rattle.kernel_model.specs.Queue as definition;
-ghost use Rattle.node_serve.specs.Carrying.{change, done, on_queue, take_message};
+ghost use Rattle.node_model.specs.Carrying.{change, done, on_queue, take_message};
 
 use pico_base::{Bytes, Call, Errno, Memory, Pid, Reply};
 use std::alloc::Global;

@@ -4,7 +4,7 @@ ghost use Rattle.kernel_model.specs.Row as definition;
 ghost use Rattle.kernel_model.specs.Signals.{act_on};
 ghost use Rattle.node_serve.specs.Bodies.{row_of};
 ghost use Rattle.node_serve.specs.Waits.{reply_to};
-ghost use Rattle.node_serve.specs.Carrying.{act, done, on_row, reap, signal};
+ghost use Rattle.node_model.specs.Carrying.{act, done, on_row, reap, signal};
 
 use crate::Row;
 use fork_wait::Waited;

@@ -1,7 +1,7 @@
 //! Calls on a semaphore set.
 ghost use Rattle.std.specs.Prelude.{◌≡◌, IfOk, OnErr};
 ghost use Rattle.kernel_model.specs.SemaphoreSet as definition;
-ghost use Rattle.node_serve.specs.Carrying.{change, done, look, on_set};
+ghost use Rattle.node_model.specs.Carrying.{change, done, look, on_set};
 
 use pico_base::{Call, Errno, Memory, Pid, Reply, SemStep};
 use sysv_sem::SemSet;

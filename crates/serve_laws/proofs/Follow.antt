@@ -20,7 +20,7 @@ use Rattle.kernel_model.specs.QueueCalls.{change_queue, receive_effect, remove_q
 use Rattle.kernel_model.specs.SetCalls.{change_set, remove_set}
 use Rattle.kernel_laws.proofs.MapLaws.{get-put-same, get-put-other, get-without-same, get-without-other}
 use Rattle.node_model.specs.Bodies.{Body, Living, Gone, AQueue, ASet, Removed, body_in, process_body, queue_body, set_body}
-use Rattle.node_serve.specs.Carrying.{Done, done, change, look, take_message, in_body, is_removal, on_body, on_queue, on_set}
+use Rattle.node_model.specs.Carrying.{Done, done, change, look, take_message, in_body, is_removal, on_body, on_queue, on_set}
 use Rattle.serve_laws.specs.Laws.{Follows, is_found}
 
 abbrev pub Acts : Kernel → Name → Done Body → Effect → Type 0

@@ -12,7 +12,7 @@ use Rattle.kernel_model.specs.Valid.{IsValid}
 use Rattle.kernel_model.specs.Transition.{successor, transition}
 use Rattle.node_model.specs.Bodies.{Body, Gone, body_in}
 use Rattle.node_model.specs.Serving.{name_for}
-use Rattle.node_serve.specs.Carrying.{Done, is_served, on_body}
+use Rattle.node_model.specs.Carrying.{Done, is_served, on_body}
 
 -- the child that a reply to `waitpid` names
 abbrev pub is_found : Reply → Name → Bool
