@@ -61,7 +61,6 @@ pub row-rest : (row : Row) (bytes : List ℕ) → IsRow row bytes → drop 55 by
 row-rest row bytes is =
     ap (drop 55) is.spelled ∙ rest_of (signal_bytes row.signals) (family_bytes row.family) 55 (signal_bytes-length row.signals)
 
-
 state : PerSignal Act → PerSignal Bool → PerSignal Bool → PerSignal ℕ → Option Sig → Signals
 state actions mask pending handled doom =
     record { actions = actions; mask = mask; pending = pending; handled = handled; doom = doom }

@@ -13,3 +13,6 @@ mod unpacking;
 
 pub use body::{Body, Row};
 pub use serve::{Served, serve};
+
+#[cfg(test)]
+mod tests;

@@ -53,9 +53,7 @@ pub(crate) fn on_queue(
     ensures err { OnErr result (queue.new ≡ queue.old) }
 {
     match call {
-        Call::MsgSnd {
-            class, text, ..
-        } => send(queue, pid, *class, text.try_copy(alloc)?),
+        Call::MsgSnd { class, text, .. } => send(queue, pid, *class, text.try_copy(alloc)?),
         Call::MsgRcv {
             class,
             size,

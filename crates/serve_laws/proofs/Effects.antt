@@ -44,13 +44,14 @@ own_acts : (k : Kernel) (pid : ℕ) (a : Alive) (r : Result Signals Errno) → b
 own_acts k pid a (Ok s) is = process-changes k pid (record a { row = record { signals = s; family = a.row.family } }) (replies.Num 0) (λ other. refl)
 own_acts k pid a (Err e) is = stays k (Proc pid) (Living a.row) (replies.Fail e) (λ other. refl) is
 
+first_by : (which : Option ℕ) (x : EndedChild) (es : List EndedChild) (e : EndedChild) (b : Bool) → (first_ended_child which es ≡ Some e → Contains es e)
+    → (if b then Some x else first_ended_child which es) ≡ Some e → Contains (x ∷ es) e
+first_by which x es e true later h = let same : x ≡ e = cc in (0, omega arith, same)
+first_by which x es e false later h = let rest : Contains es e = later h in (suc rest.0, omega (arith, rest.1), rest.2)
+
 first_there : (which : Option ℕ) (es : List EndedChild) (e : EndedChild) → first_ended_child which es ≡ Some e → Contains es e
 first_there which [] e h = absurd (cc)
-first_there which (x ∷ es) e h = by (matches which x.pid) h
-  where
-    by : (b : Bool) → (if b then Some x else first_ended_child which es) ≡ Some e → Contains (x ∷ es) e
-    by true h = let same : x ≡ e = cc in (0, omega arith, same)
-    by false h = let rest : Contains es e = first_there which es e h in (suc rest.0, omega (arith, rest.1), rest.2)
+first_there which (x ∷ es) e h = first_by which x es e (matches which x.pid) (first_there which es e) h
 
 -- what a wait finds is one of the ended children
 found_there : (a : Alive) (which : Option ℕ) (child : ℕ) (ending : Ending) → wait a.row.family which ≡ Found child ending
@@ -131,7 +132,7 @@ kill_other k pid target sig call apart own rows (Some (kernel.Living b)) there =
 
 -- ---- all calls
 
-Serves : Kernel → ℕ → Call → Name → Effect → Type 0
+unfoldable pub Serves : Kernel → ℕ → Call → Name → Effect → Type 0
 Serves k pid call name e = Acts k name (on_body name (body_in k name) pid call) e
 
 some_same : {A : Type 0} (x y : A) → Some x ≡ Some y → x ≡ y
@@ -156,6 +157,7 @@ module _ (k : Kernel) (pid n : ℕ) (a : Alive) (valid : IsValid k) (lives : liv
       → home_of pid (calls.Kill target sig) ≡ home_of_kill pid target
       → name_in pid (if b then homes.Own else homes.At (Proc target)) ≡ Some name
       → Some (kill_at k pid target sig (get k.processes target)) ≡ Some e → Serves k pid (calls.Kill target sig) name e
+  unfolding Serves
   kill_named target sig name e true same home named eff =
       let is : target ≡ pid = same_number target pid same
       in conclude k pid (calls.Kill target sig) (Proc pid) name (kill_at k pid target sig (get k.processes target)) e named eff
@@ -171,6 +173,7 @@ module _ (k : Kernel) (pid n : ℕ) (a : Alive) (valid : IsValid k) (lives : liv
 
   operates : (id : ℕ) (steps : List SemStep) (name : Name) (e : Effect) → list_any may_wait steps ≡ false → Some (Sem id) ≡ Some name
       → operate k pid id steps ≡ Some e → Serves k pid (calls.SemOp id steps) name e
+  unfolding Serves
   operates id steps name e ready named eff =
       let found : Effect = on_named k (get k.sets id) (λ s. change_set k id (op s pid steps))
       in let is : operate k pid id steps ≡ Some found = ap (λ (b : Bool). if b then None else Some found) ready
@@ -179,6 +182,7 @@ module _ (k : Kernel) (pid n : ℕ) (a : Alive) (valid : IsValid k) (lives : liv
 
   pub effect-serves : (call : Call) (name : Name) (e : Effect) → is_served call ≡ true → name_for pid call ≡ Some name
       → effect k pid a call n ≡ Some e → Serves k pid call name e
+  unfolding Serves
   effect-serves (calls.Fork block) name e s named eff = absurd (cc)
   effect-serves (calls.Exit status) name e s named eff = absurd (cc)
   effect-serves (calls.Killed sig) name e s named eff = absurd (cc)

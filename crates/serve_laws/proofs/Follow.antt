@@ -1,5 +1,5 @@
 -- What single changes of a kernel leave of its names' parts.
-use Rattle.std.proofs.Common.{◌≡◌, ◌≢◌, ◌∙◌, ℕ, Bool, true, false, nat_eq, List, Option, Some, None, Result, Ok, Err, refl, sym, ap, subst}
+use Rattle.std.proofs.Common.{◌≡◌, ◌≢◌, ◌∙◌, ℕ, Bool, true, false, nat_eq, List, Option, Some, None, Result, Ok, Err, refl, sym, ap, subst, arith}
 use Rattle.std.specs.Option.{option_and_then}
 use Rattle.pico_base.specs.declared.call.Call.{Call}
 use Rattle.pico_base.specs.declared.numbers.Name.{Name}
@@ -33,7 +33,7 @@ stays k name body r none is = record {
   reply = refl;
   there = is;
   found = λ other yes. absurd (differ (none other) yes);
-  others = λ other apart no. refl;
+  others = λ other apart not_found. refl;
 }
   where
     differ : {b : Bool} → b ≡ false → b ≡ true → ⊥
@@ -51,11 +51,12 @@ queue_put k id q r none = record {
   where
     differ : {b : Bool} → b ≡ false → b ≡ true → ⊥
     differ p q = cc
+
     others : (other : Name) → other ≢ Msg id → is_found r other ≡ false
         → body_in (record k { queues = put k.queues id q }) other ≡ body_in k other
-    others (Proc p) apart no = refl
-    others (Sem s) apart no = refl
-    others (Msg i) apart no = ap queue_body (get-put-other k.queues id q i (λ (e : i ≡ id). apart (ap Msg e)))
+    others (Proc p) apart not_found = refl
+    others (Sem s) apart not_found = refl
+    others (Msg i) apart not_found = ap queue_body (get-put-other k.queues id q i (λ (e : i ≡ id). apart (ap Msg e)))
 
 set_put : (k : Kernel) (id : ℕ) (s : SemaphoreSet) (r : Reply) → ((other : Name) → is_found r other ≡ false)
     → Acts k (Sem id) (done (ASet s) r) (record { kernel = record k { sets = put k.sets id s }; reply = r })
@@ -68,11 +69,12 @@ set_put k id s r none = record {
   where
     differ : {b : Bool} → b ≡ false → b ≡ true → ⊥
     differ p q = cc
+
     others : (other : Name) → other ≢ Sem id → is_found r other ≡ false
         → body_in (record k { sets = put k.sets id s }) other ≡ body_in k other
-    others (Proc p) apart no = refl
-    others (Msg i) apart no = refl
-    others (Sem i) apart no = ap set_body (get-put-other k.sets id s i (λ (e : i ≡ id). apart (ap Sem e)))
+    others (Proc p) apart not_found = refl
+    others (Msg i) apart not_found = refl
+    others (Sem i) apart not_found = ap set_body (get-put-other k.sets id s i (λ (e : i ≡ id). apart (ap Sem e)))
 
 -- ---- by the kernel's words
 
@@ -105,9 +107,9 @@ queue-removed k id = record {
 }
   where
     others : (other : Name) → other ≢ Msg id → false ≡ false → body_in (record k { queues = without k.queues id }) other ≡ body_in k other
-    others (Proc p) apart no = refl
-    others (Sem s) apart no = refl
-    others (Msg i) apart no = ap queue_body (get-without-other k.queues id i (λ (e : i ≡ id). apart (ap Msg e)))
+    others (Proc p) apart not_found = refl
+    others (Sem s) apart not_found = refl
+    others (Msg i) apart not_found = ap queue_body (get-without-other k.queues id i (λ (e : i ≡ id). apart (ap Msg e)))
 
 pub set-removed : (k : Kernel) (id : ℕ) → Acts k (Sem id) (done Removed (replies.Num 0)) (remove_set k id)
 set-removed k id = record {
@@ -118,9 +120,9 @@ set-removed k id = record {
 }
   where
     others : (other : Name) → other ≢ Sem id → false ≡ false → body_in (record k { sets = without k.sets id }) other ≡ body_in k other
-    others (Proc p) apart no = refl
-    others (Msg s) apart no = refl
-    others (Sem i) apart no = ap set_body (get-without-other k.sets id i (λ (e : i ≡ id). apart (ap Sem e)))
+    others (Proc p) apart not_found = refl
+    others (Msg s) apart not_found = refl
+    others (Sem i) apart not_found = ap set_body (get-without-other k.sets id i (λ (e : i ≡ id). apart (ap Sem e)))
 
 -- a call on a queue or a set, which may not be there
 pub at-queue : (k : Kernel) (id pid : ℕ) (call : Call) (f : Queue → Effect)
@@ -155,11 +157,12 @@ process-changes k pid a r none = record {
   where
     differ : {b : Bool} → b ≡ false → b ≡ true → ⊥
     differ p q = cc
+
     others : (other : Name) → other ≢ Proc pid → is_found r other ≡ false
         → body_in (record k { processes = put k.processes pid (kernel.Living a) }) other ≡ body_in k other
-    others (Msg i) apart no = refl
-    others (Sem i) apart no = refl
-    others (Proc p) apart no = ap process_body (get-put-other k.processes pid (kernel.Living a) p (λ (e : p ≡ pid). apart (ap Proc e)))
+    others (Msg i) apart not_found = refl
+    others (Sem i) apart not_found = refl
+    others (Proc p) apart not_found = ap process_body (get-put-other k.processes pid (kernel.Living a) p (λ (e : p ≡ pid). apart (ap Proc e)))
 
 -- a child is found, and is gone
 pub child-found : (k : Kernel) (pid child : ℕ) (ending : Ending) (a : Alive) → pid ≢ child
@@ -174,22 +177,26 @@ child-found k pid child ending a apart = record {
   where
     next : Kernel
     next = record k { processes = put (put k.processes pid (kernel.Living a)) child kernel.Gone }
+
     is_number : (n m : ℕ) → nat_eq n m ≡ true → m ≡ n
     is_number n m h = grind arith
+
     isnt_number : (n m : ℕ) → nat_eq n m ≡ false → m ≢ n
     isnt_number n m h = grind arith
+
     found : (other : Name) → is_found (replies.Child child ending) other ≡ true
         → body_in (record k { processes = put (put k.processes pid (kernel.Living a)) child kernel.Gone }) other ≡ Gone
-    found (Msg i) yes = absurd (cc)
-    found (Sem i) yes = absurd (cc)
-    found (Proc p) yes =
-        ap (λ (q : ℕ). process_body (get (put (put k.processes pid (kernel.Living a)) child kernel.Gone) q)) (is_number child p yes)
+    found (Msg i) is_child = absurd (cc)
+    found (Sem i) is_child = absurd (cc)
+    found (Proc p) is_child =
+        ap (λ (q : ℕ). process_body (get (put (put k.processes pid (kernel.Living a)) child kernel.Gone) q)) (is_number child p is_child)
         ∙ ap process_body (get-put-same (put k.processes pid (kernel.Living a)) child kernel.Gone)
+
     others : (other : Name) → other ≢ Proc pid → is_found (replies.Child child ending) other ≡ false
         → body_in (record k { processes = put (put k.processes pid (kernel.Living a)) child kernel.Gone }) other ≡ body_in k other
-    others (Msg i) here no = refl
-    others (Sem i) here no = refl
-    others (Proc p) here no =
+    others (Msg i) here not_found = refl
+    others (Sem i) here not_found = refl
+    others (Proc p) here not_found =
         ap process_body
-        (get-put-other (put k.processes pid (kernel.Living a)) child kernel.Gone p (isnt_number child p no)
+        (get-put-other (put k.processes pid (kernel.Living a)) child kernel.Gone p (isnt_number child p not_found)
         ∙ get-put-other k.processes pid (kernel.Living a) p (λ (e : p ≡ pid). here (ap Proc e)))
