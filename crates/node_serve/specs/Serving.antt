@@ -11,8 +11,8 @@ use Rattle.node_model.specs.Kinds.{Named, get_named, put_named}
 use Rattle.node_model.specs.Serving.{name_for, has_read}
 use Rattle.node_serve.specs.declared.body.Body.{Body}
 use Rattle.node_serve.specs.declared.body.Body.TheVariants.{Gone}
-use Rattle.node_serve.specs.declared.serve.Served.{Served}
-use Rattle.node_serve.specs.declared.serve.Served.TheVariants.{Did, NotHeld}
+use Rattle.node_serve.specs.declared.serving.Served.{Served}
+use Rattle.node_serve.specs.declared.serving.Served.TheVariants.{Did, NotHeld}
 use Rattle.node_serve.specs.Bodies.{body_of}
 use Rattle.node_model.specs.Carrying.{done, on_body}
 

@@ -6,13 +6,13 @@ mod carrying;
 mod packing;
 mod queues;
 mod rows;
-mod serve;
+mod serving;
 mod sets;
 mod shared;
 mod unpacking;
 
 pub use body::{Body, Row};
-pub use serve::{Served, serve};
+pub use serving::{Served, serve};
 
 #[cfg(test)]
 mod tests;
