@@ -8,7 +8,7 @@ use Rattle.std.specs.declared.cmp.Ordering.{Ordering}
 use Rattle.std.specs.declared.cmp.Ordering.TheVariants.{Less, Equal, Greater}
 use Rattle.std.specs.Cmp.{nat_cmp_total}
 use Rattle.std.specs.FinMap.{nat_cmp-IsAntisymmetric}
-use Rattle.kernel_model.specs.Maps.{Numbered}
+use Rattle.number_maps.specs.Maps.{Numbered}
 use Rattle.deed_box.specs.Placing.{BelongsAt, StandsAt}
 
 first : (a b : Bool) → IsTrue (a && b) → IsTrue a

@@ -4,7 +4,7 @@ ghost use Rattle.std.specs.Borrow.{sem};
 ghost use Rattle.std.specs.FinMap.{is_sorted};
 ghost use Rattle.std.specs.Option.{option_copied};
 ghost use Rattle.std.specs.Ordering.{nat_cmp};
-ghost use Rattle.kernel_model.specs.Maps.{get, put, without};
+ghost use Rattle.number_maps.specs.Maps.{get, put, without};
 ghost use Rattle.deed_box.specs.Placing.{BelongsAt, StandsAt};
 
 use pico_base::Memory;

@@ -37,7 +37,11 @@ impl Model for LiveProcess {
 
     ghost Value = { Alive };
 
-    ghost view = { λ a. record { row = record { signals = a.signals; family = a.family }; allowance = allowance_of a.allowance } };
+    ghost view = { λ a. record {
+      row = record { signals = a.signals; family = a.family };
+      allowance =
+          allowance_of a.allowance;
+    } };
 }
 
 /// A change of a living process.

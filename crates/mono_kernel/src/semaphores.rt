@@ -197,7 +197,8 @@ impl SemaphoreSet {
 
     /// semctl with SETVAL: EINVAL likewise, then ERANGE for a value above the limit.
     pub(crate) fn set_value(&mut self, num: u16, value: u32) -> Result<(), Errno>
-        ensures { MatchResult result (λ _. set_value self.old num value ≡ Ok self.new) (λ e. (set_value self.old num value ≡ Err e) × (self.new ≡ self.old)) }
+        ensures { MatchResult result (λ _. set_value self.old num value ≡ Ok self.new)
+            (λ e. (set_value self.old num value ≡ Err e) × (self.new ≡ self.old)) }
     {
         let place = usize::from(num);
         if place >= self.semaphores.len() {
@@ -256,7 +257,8 @@ impl SemaphoreSet {
     /// semctl with SETALL: EINVAL for another count of values than the set's size, then ERANGE for a
     /// value above the limit.
     pub(crate) fn set_all(&mut self, values: &[u32]) -> Result<(), Errno>
-        ensures { MatchResult result (λ _. set_all self.old values.now ≡ Ok self.new) (λ e. (set_all self.old values.now ≡ Err e) × (self.new ≡ self.old)) }
+        ensures { MatchResult result (λ _. set_all self.old values.now ≡ Ok self.new)
+            (λ e. (set_all self.old values.now ≡ Err e) × (self.new ≡ self.old)) }
     {
         if values.len() != self.semaphores.len() {
             return Err(Errno::Einval);

@@ -1,6 +1,6 @@
 use Rattle.std.proofs.Common.{◌∙◌, ap}
 use Rattle.std.specs.Map.{keys_of}
-use Rattle.mono_kernel.proofs.MapLemmas.{remove-put, keys-put}
+use Rattle.number_maps.proofs.Changes.{remove-put, keys-put}
 use Rattle.mono_kernel.proofs.processes.fork_at.Goals as goal
 
 pub returns-in-Err-clause-err : goal.returns-in-Err-clause-err
@@ -10,4 +10,5 @@ returns-in-Err-clause-err c =
 
 pub returns-clause-numbers : goal.returns-clause-numbers
 returns-clause-numbers c =
-    c.add_child_at.ensures.same_numbers ∙ ap keys_of c.in_ok-insert.ensures.entries ∙ keys-put c.args.cells.now.entries c.args.child c.args.cell
+    c.add_child_at.ensures.same_numbers ∙ ap keys_of c.in_ok-insert.ensures.entries
+    ∙ keys-put c.args.cells.now.entries c.args.child c.args.cell

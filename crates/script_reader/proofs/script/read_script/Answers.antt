@@ -1,7 +1,8 @@
 use Rattle.std.proofs.Common.{true, false}
 use Rattle.script_reader.specs.Fault.{outcome}
 use Rattle.script_reader.proofs.Given.{given_ok, given_fault, given_only, given_only_fault}
-use Rattle.script_reader.proofs.Ranges.{process_small, signed_small, is_type_from}
+use Rattle.script_reader.proofs.Saying.{said_fine}
+use Rattle.script_reader.proofs.Opened.{names_step}
 use Rattle.script_reader.proofs.script.read_script.Goals as goal
 
 pub returns-clause-ok : goal.returns-clause-ok

@@ -1,5 +1,5 @@
 use Rattle.std.proofs.Common.{ap, refl, sym, ◌∙◌, vec_capacity}
-use Rattle.kernel_model.specs.Maps.{Numbered}
+use Rattle.number_maps.specs.Maps.{Numbered}
 use Rattle.deed_box.specs.Placing.{Shelf, StandsAt}
 use Rattle.deed_box.proofs.Entries.{found_get, is_sorted-put_at, set_there}
 use Rattle.deed_box.proofs.table.Table.value_mut.Goals as goal

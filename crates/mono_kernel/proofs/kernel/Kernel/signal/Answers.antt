@@ -8,6 +8,8 @@ pub returns-then-caller-pid : goal.returns-then-caller-pid
 returns-then-caller-pid c =
     let there = some-of (living_at c.args.self.now c.args.pid) c.requires.lives
     in let its = rw there.1 at c.requires.its
-    in own-signal c.args.self.now c.change.new.self c.args.caller c.args.pid c.args.sig (living_at c.args.self.now c.args.pid) c.if-caller-pid.true
-    (signals-land c.args.self.now c.change.new.self c.args.pid there.0 (λ s. raise s c.args.sig) c.raise.new.self there.1
+    in own-signal c.args.self.now c.change.new.self c.args.caller c.args.pid c.args.sig
+    (living_at c.args.self.now c.args.pid) c.if-caller-pid.true
+    (signals-land c.args.self.now c.change.new.self c.args.pid there.0
+    (λ s. raise s c.args.sig) c.raise.new.self there.1
     (c.raise.ensures ∙ ap (λ (s : Signals). raise s c.args.sig) its) c.change.ensures)
