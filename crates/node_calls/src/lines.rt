@@ -51,7 +51,8 @@ pub(crate) fn written_line(script: &Script, node: Node, line: usize) -> Option<&
 /// The terms of the line at this place, which may be the exit that the block's end stands for.
 pub(crate) fn terms_at(script: &Script, node: Node, line: usize) -> Terms
     requires { line < length (lines_of script.now node) }
-    ensures terms { IfSome (slice_get (lines_of script.now node) line) (λ l. (result.set ≡ l.set) × (result.tries ≡ l.tries)) }
+    ensures terms { IfSome (slice_get (lines_of script.now node) line) (λ l. (result.set ≡ l.set)
+        × (result.tries ≡ l.tries)) }
     ensures next { result.next ≡ line + 1 }
 {
     let lines = written_lines(script, node);

@@ -14,7 +14,12 @@ use Rattle.node_serve.specs.Laws.{row-front, row-rest}
 
 pub row-long : (row : Row) (bytes : List ℕ) → IsRow row bytes → length bytes < 55 → ⊥
 row-long row bytes is short =
-    absurd (omega (arith, ap length is.spelled, length-append (signal_bytes row.signals) (family_bytes row.family), signal_bytes-length row.signals))
+    absurd (omega (
+      arith,
+      ap length is.spelled,
+      length-append (signal_bytes row.signals) (family_bytes row.family),
+      signal_bytes-length row.signals,
+    ))
 
 pub no-signals : (row : Row) (bytes front : List ℕ) → front ≡ take 55 bytes
     → ((s : Signals) → HasSignalBytes s → front ≡ signal_bytes s → None ≡ Some s) → IsRow row bytes → ⊥
@@ -24,8 +29,10 @@ no-signals row bytes front cut only is = differ (only row.signals is.signals (cu
     differ e = cc
 
 -- the family's reading refused, though some family has the bytes
-pub no-family : (row : Row) (bytes rest : List ℕ) (fault : UnpackFault) → ◌≡◌ {A = Result Row UnpackFault} (Err fault) (Err NotABody) → rest ≡ drop 55 bytes
-    → ((f : Family) → HasFamilyBytes f → rest ≡ family_bytes f → Gives (λ (x : Family). x) (Err fault) (Some f)) → IsRow row bytes → ⊥
+pub no-family : (row : Row) (bytes rest : List ℕ) (fault : UnpackFault)
+    → ◌≡◌ {A = Result Row UnpackFault} (Err fault) (Err NotABody) → rest ≡ drop 55 bytes
+    → ((f : Family) → HasFamilyBytes f → rest ≡ family_bytes f → Gives (λ (x : Family). x) (Err fault) (Some f))
+    → IsRow row bytes → ⊥
 no-family row bytes rest Memory refused cut only is = cc
 no-family row bytes rest NotABody refused cut only is = differ (only row.family is.family (cut ∙ row-rest row bytes is))
   where

@@ -25,7 +25,8 @@ use Rattle.node_serve.specs.declared.body.Body.{Body}
 use Rattle.node_serve.specs.declared.body.Body.TheVariants.{Living, Ended, Gone, Queue, Set, Removed}
 use Rattle.node_serve.specs.Spelled.{IsRow, IsSpelled, suits}
 
-pub spellings_are_one : (body : Body) (bytes other : List ℕ) → IsSpelled body bytes → IsSpelled body other → bytes ≡ other
+pub spellings_are_one : (body : Body) (bytes other : List ℕ) → IsSpelled body bytes → IsSpelled body other
+    → bytes ≡ other
 spellings_are_one (Living row) [] other a b = absurd a
 spellings_are_one (Living row) (x ∷ xs) [] a b = absurd b
 spellings_are_one (Living row) (x ∷ xs) (y ∷ ys) a b =
@@ -55,11 +56,13 @@ rest_of (x ∷ s) f (suc n) h = rest_of s f n (omega arith)
 
 pub row-front : (row : Row) (bytes : List ℕ) → IsRow row bytes → take 55 bytes ≡ signal_bytes row.signals
 row-front row bytes is =
-    ap (take 55) is.spelled ∙ front_of (signal_bytes row.signals) (family_bytes row.family) 55 (signal_bytes-length row.signals)
+    ap (take 55) is.spelled
+    ∙ front_of (signal_bytes row.signals) (family_bytes row.family) 55 (signal_bytes-length row.signals)
 
 pub row-rest : (row : Row) (bytes : List ℕ) → IsRow row bytes → drop 55 bytes ≡ family_bytes row.family
 row-rest row bytes is =
-    ap (drop 55) is.spelled ∙ rest_of (signal_bytes row.signals) (family_bytes row.family) 55 (signal_bytes-length row.signals)
+    ap (drop 55) is.spelled
+    ∙ rest_of (signal_bytes row.signals) (family_bytes row.family) 55 (signal_bytes-length row.signals)
 
 state : PerSignal Act → PerSignal Bool → PerSignal Bool → PerSignal ℕ → Option Sig → Signals
 state actions mask pending handled doom =
@@ -70,10 +73,13 @@ unfolding state
 one_state s t hs ht e =
     let actions : s.actions ≡ t.actions = sym (actions-again s) ∙ ap actions_from e ∙ actions-again t
     in let mask : s.mask ≡ t.mask = sym (mask-again s) ∙ ap (λ (bs : List ℕ). set_at bs 10) e ∙ mask-again t
-    in let pending : s.pending ≡ t.pending = sym (pending-again s) ∙ ap (λ (bs : List ℕ). set_at bs 12) e ∙ pending-again t
-    in let handled : s.handled ≡ t.handled = sym (counts-again s hs.counts) ∙ ap counts_from e ∙ counts-again t ht.counts
+    in let pending : s.pending ≡ t.pending =
+    sym (pending-again s) ∙ ap (λ (bs : List ℕ). set_at bs 12) e ∙ pending-again t
+    in let handled : s.handled ≡ t.handled =
+    sym (counts-again s hs.counts) ∙ ap counts_from e ∙ counts-again t ht.counts
     in let doom : s.doom ≡ t.doom =
-    sym (doom-again s.doom) ∙ ap doom_from (sym (last-again s) ∙ ap (λ (bs : List ℕ). get_or bs 54 0) e ∙ last-again t) ∙ doom-again t.doom
+    sym (doom-again s.doom) ∙ ap doom_from (sym (last-again s) ∙ ap (λ (bs : List ℕ). get_or bs 54 0) e ∙ last-again t)
+    ∙ doom-again t.doom
     in ap (λ (x : PerSignal Act). state x s.mask s.pending s.handled s.doom) actions
     ∙ ap (λ (x : PerSignal Bool). state t.actions x s.pending s.handled s.doom) mask
     ∙ ap (λ (x : PerSignal Bool). state t.actions t.mask x s.handled s.doom) pending
@@ -81,7 +87,8 @@ one_state s t hs ht e =
     ∙ ap (λ (x : Option Sig). state t.actions t.mask t.pending t.handled x) doom
 
 one_family : (f g : Family) → HasFamilyBytes f → HasFamilyBytes g → family_bytes f ≡ family_bytes g → f ≡ g
-one_family f g hf hg e = some_is f g (sym (bytes_again (family_bytes f) f refl hf) ∙ bytes_again (family_bytes f) g e hg)
+one_family f g hf hg e =
+    some_is f g (sym (bytes_again (family_bytes f) f refl hf) ∙ bytes_again (family_bytes f) g e hg)
 
 row_with : Signals → Family → Row
 row_with signals family = record { signals = signals; family = family }
@@ -89,8 +96,10 @@ row_with signals family = record { signals = signals; family = family }
 one_row : (r q : Row) (bytes : List ℕ) → IsRow r bytes → IsRow q bytes → r ≡ q
 unfolding row_with
 one_row r q bytes a b =
-    let signals : r.signals ≡ q.signals = one_state r.signals q.signals a.signals b.signals (sym (row-front r bytes a) ∙ row-front q bytes b)
-    in let family : r.family ≡ q.family = one_family r.family q.family a.family b.family (sym (row-rest r bytes a) ∙ row-rest q bytes b)
+    let signals : r.signals ≡ q.signals =
+    one_state r.signals q.signals a.signals b.signals (sym (row-front r bytes a) ∙ row-front q bytes b)
+    in let family : r.family ≡ q.family =
+    one_family r.family q.family a.family b.family (sym (row-rest r bytes a) ∙ row-rest q bytes b)
     in ap (λ (x : Signals). row_with x r.family) signals ∙ ap (row_with q.signals) family
 
 one_ending : (e f : Ends) → ending_bytes e ≡ ending_bytes f → e ≡ f
@@ -99,7 +108,8 @@ one_ending (Exited s) (Killed g) same = absurd (cc)
 one_ending (Killed g) (Exited t) same = absurd (cc)
 one_ending (Killed g) (Killed h) same =
     let numbers : doom_byte (Some g) ≡ doom_byte (Some h) = cc
-    in some_is (Killed g) (Killed h) (ap killed_by (sym (doom-again (Some g)) ∙ ap doom_from numbers ∙ doom-again (Some h)))
+    in some_is (Killed g) (Killed h)
+    (ap killed_by (sym (doom-again (Some g)) ∙ ap doom_from numbers ∙ doom-again (Some h)))
   where
     killed_by : Option Sig → Option Ends
     killed_by None = None
@@ -113,7 +123,8 @@ one_set p q bytes a b = some_is p q (sym (set_laws.set_again p bytes a) ∙ set_
 
 -- ---- by the kind of name
 
-process_once : (body other : Body) (bytes : List ℕ) (pid : ℕ) → suits body (Proc pid) ≡ true → suits other (Proc pid) ≡ true
+process_once : (body other : Body) (bytes : List ℕ) (pid : ℕ) → suits body (Proc pid) ≡ true
+    → suits other (Proc pid) ≡ true
     → IsSpelled body bytes → IsSpelled other bytes → body ≡ other
 process_once (Living r) (Living q) [] pid f g a b = absurd a
 process_once (Living r) (Living q) (x ∷ xs) pid f g a b = ap Living (one_row r q xs a.1 b.1)
@@ -142,7 +153,8 @@ set_once (Set p) Removed bytes id f g a b = let e = a.spelled in absurd (cc)
 set_once Removed (Set q) bytes id f g a b = let e = b.spelled in absurd (cc)
 set_once body other bytes id f g a b = absurd (cc)
 
-pub bodies_are_one : (name : Name) (body other : Body) (bytes : List ℕ) → IsTrue (suits body name) → IsTrue (suits other name)
+pub bodies_are_one : (name : Name) (body other : Body) (bytes : List ℕ) → IsTrue (suits body name)
+    → IsTrue (suits other name)
     → IsSpelled body bytes → IsSpelled other bytes → body ≡ other
 bodies_are_one (Proc pid) body other bytes f g a b = process_once body other bytes pid f g a b
 bodies_are_one (Msg id) body other bytes f g a b = queue_once body other bytes id f g a b

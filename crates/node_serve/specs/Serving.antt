@@ -28,7 +28,8 @@ bury_found reply bodies = bodies
 
 -- The name of the call is held. It has the body that the call leaves there, a found child is gone, and all other bodies
 -- are those that they were.
-pub record Carries (old : Named Body) (caller : ℕ) (call : Call) (new : Named Body) (outcome : Outcome) (reads : Bool) : Type 0 where
+pub record Carries (old : Named Body) (caller : ℕ) (call : Call) (new : Named Body) (outcome : Outcome)
+    (reads : Bool) : Type 0 where
   pub name : Name
   pub body : Body
   pub left : Body
@@ -49,7 +50,8 @@ abbrev pub AreSame : Named Body → Named Body → Type 0
 AreSame old new = (name : Name) → get_named new name ≡ get_named old name
 
 -- what is left of a held name's body, and the reply; or there is no such body
-pub record CarriesName (old : Named Body) (name : Name) (caller : ℕ) (call : Call) (new : Named Body) (answer : Reply) : Type 0 where
+pub record CarriesName (old : Named Body) (name : Name) (caller : ℕ) (call : Call) (new : Named Body)
+    (answer : Reply) : Type 0 where
   pub body : Body
   pub left : Body
   pub held : get_named old name ≡ Some body

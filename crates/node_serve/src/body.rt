@@ -12,7 +12,8 @@ pub struct Row {
     pub family: Family,
 }
 
-/// What a deed carries: the state of a process, a message queue or a semaphore set. A process lives, has ended and isn't
+/// What a deed carries: the state of a process, a message queue or a semaphore set. A process lives, has ended and
+/// isn't
 /// waited for yet, or is gone. A queue or a set that was removed is never found again.
 #[derive(Debug, Drop)]
 pub enum Body {

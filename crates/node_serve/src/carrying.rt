@@ -44,7 +44,8 @@ fn on_queue_body(
     caller: Pid,
     call: &Call,
 ) -> Result<Reply, Memory>
-    ensures ok { IfOk result (λ reply. on_body (Name.Msg id) (body_of body.old) caller call.now ≡ done (body_of body.new) reply) }
+    ensures ok { IfOk result
+        (λ reply. on_body (Name.Msg id) (body_of body.old) caller call.now ≡ done (body_of body.new) reply) }
     ensures err { OnErr result (body.new ≡ body.old) }
 {
     match body {
@@ -59,7 +60,8 @@ fn on_queue_body(
 
 /// A call on the body of a set. A refusal for want of memory changes nothing.
 fn on_set_body(body: &mut Body, id: u32, caller: Pid, call: &Call) -> Result<Reply, Memory>
-    ensures ok { IfOk result (λ reply. on_body (Name.Sem id) (body_of body.old) caller call.now ≡ done (body_of body.new) reply) }
+    ensures ok { IfOk result
+        (λ reply. on_body (Name.Sem id) (body_of body.old) caller call.now ≡ done (body_of body.new) reply) }
     ensures err { OnErr result (body.new ≡ body.old) }
 {
     match body {
@@ -80,7 +82,8 @@ pub(crate) fn on_body(
     caller: Pid,
     call: &Call,
 ) -> Result<Reply, Memory>
-    ensures ok { IfOk result (λ reply. on_body name (body_of body.old) caller call.now ≡ done (body_of body.new) reply) }
+    ensures ok { IfOk result
+        (λ reply. on_body name (body_of body.old) caller call.now ≡ done (body_of body.new) reply) }
     ensures err { OnErr result (body.new ≡ body.old) }
 {
     match name {

@@ -9,7 +9,8 @@ use sysv_msg::{Queue, SendFault};
 
 /// msgsnd with IPC_NOWAIT: EINVAL or EAGAIN. A refusal for want of memory changes nothing.
 fn send(queue: &mut Queue, pid: Pid, class: i32, text: Bytes) -> Result<Reply, Memory>
-    ensures ok { IfOk result (λ reply. change queue.old (definition.send queue.old pid class text) ≡ done queue.new reply) }
+    ensures ok { IfOk result
+        (λ reply. change queue.old (definition.send queue.old pid class text) ≡ done queue.new reply) }
     ensures err { OnErr result (queue.new ≡ queue.old) }
 {
     match queue.send(pid, class, text) {

@@ -15,7 +15,8 @@ use std::alloc::Global;
 /// What serving a call came to.
 #[derive(Debug, Drop)]
 pub enum Served {
-    /// The call was carried out. `reads` says whether it was a receive that gave a message, or a `semop` that took from a
+    /// The call was carried out. `reads` says whether it was a receive that gave a message, or a `semop` that took from
+    /// a
     /// semaphore.
     Did { outcome: Outcome, reads: bool },
     /// The deed of the call's name isn't here.
@@ -87,7 +88,8 @@ fn on_held(
     }
 }
 
-/// Carries a call out on the deed of its name. NotHeld comes exactly where that isn't here, and then nothing has changed.
+/// Carries a call out on the deed of its name. NotHeld comes exactly where that isn't here, and then nothing has
+/// changed.
 /// A removal makes the body Removed; a child that `waitpid` found is gone; all other bodies stay. A refusal for want of
 /// memory changes no body.
 pub fn serve(

@@ -75,7 +75,8 @@ fn ending_of(kind: u8, value: u8) -> Option<Ending>
 fn process_of(alloc: Global, bytes: &[u8]) -> Result<Body, UnpackFault>
     ensures found { IfOk result (λ body. IsSpelled body bytes.now) }
     ensures suits { IfOk result (λ body. (pid : ℕ) → IsTrue (suits body (Name.Proc pid))) }
-    ensures refused { result ≡ Err NotABody → (pid : ℕ) (body : Bodies) → IsTrue (suits body (Name.Proc pid)) → IsSpelled body bytes.now → ⊥ }
+    ensures refused { result ≡ Err NotABody → (pid : ℕ) (body : Bodies) → IsTrue (suits body (Name.Proc pid))
+        → IsSpelled body bytes.now → ⊥ }
 {
     match bytes {
         [LIVING, row @ ..] => Ok(Body::Living(row_of(alloc, row)?)),
@@ -92,7 +93,8 @@ fn process_of(alloc: Global, bytes: &[u8]) -> Result<Body, UnpackFault>
 fn queue_of(alloc: Global, bytes: &[u8]) -> Result<Body, UnpackFault>
     ensures found { IfOk result (λ body. IsSpelled body bytes.now) }
     ensures suits { IfOk result (λ body. (id : ℕ) → IsTrue (suits body (Name.Msg id))) }
-    ensures refused { result ≡ Err NotABody → (id : ℕ) (body : Bodies) → IsTrue (suits body (Name.Msg id)) → IsSpelled body bytes.now → ⊥ }
+    ensures refused { result ≡ Err NotABody → (id : ℕ) (body : Bodies) → IsTrue (suits body (Name.Msg id))
+        → IsSpelled body bytes.now → ⊥ }
 {
     match bytes {
         [REMOVED] => Ok(Body::Removed),
@@ -104,7 +106,8 @@ fn queue_of(alloc: Global, bytes: &[u8]) -> Result<Body, UnpackFault>
 fn set_of(alloc: Global, bytes: &[u8]) -> Result<Body, UnpackFault>
     ensures found { IfOk result (λ body. IsSpelled body bytes.now) }
     ensures suits { IfOk result (λ body. (id : ℕ) → IsTrue (suits body (Name.Sem id))) }
-    ensures refused { result ≡ Err NotABody → (id : ℕ) (body : Bodies) → IsTrue (suits body (Name.Sem id)) → IsSpelled body bytes.now → ⊥ }
+    ensures refused { result ≡ Err NotABody → (id : ℕ) (body : Bodies) → IsTrue (suits body (Name.Sem id))
+        → IsSpelled body bytes.now → ⊥ }
 {
     match bytes {
         [REMOVED] => Ok(Body::Removed),
@@ -116,7 +119,8 @@ fn set_of(alloc: Global, bytes: &[u8]) -> Result<Body, UnpackFault>
 pub(crate) fn unpack(alloc: Global, name: Name, bytes: &[u8]) -> Result<Body, UnpackFault>
     ensures found { IfOk result (λ body. IsSpelled body bytes.now) }
     ensures suits { IfOk result (λ body. IsTrue (suits body name)) }
-    ensures refused { result ≡ Err NotABody → (body : Bodies) → IsTrue (suits body name) → IsSpelled body bytes.now → ⊥ }
+    ensures refused { result ≡ Err NotABody → (body : Bodies) → IsTrue (suits body name) → IsSpelled body bytes.now
+        → ⊥ }
 {
     match name {
         Name::Proc(_) => process_of(alloc, bytes),

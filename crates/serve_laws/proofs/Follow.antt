@@ -18,7 +18,7 @@ use Rattle.kernel_model.specs.Kernel as kernel
 use Rattle.kernel_model.specs.Effect.{Effect, look_up, on_named, refuse, reply_with}
 use Rattle.kernel_model.specs.QueueCalls.{change_queue, receive_effect, remove_queue}
 use Rattle.kernel_model.specs.SetCalls.{change_set, remove_set}
-use Rattle.kernel_laws.proofs.MapLaws.{get-put-same, get-put-other, get-without-same, get-without-other}
+use Rattle.number_maps.proofs.LookUps.{get-put-same, get-put-other, get-without-same, get-without-other}
 use Rattle.node_model.specs.Bodies.{Body, Living, Gone, AQueue, ASet, Removed, body_in, process_body, queue_body, set_body}
 use Rattle.node_model.specs.Carrying.{Done, done, change, look, take_message, in_body, is_removal, on_body, on_queue, on_set}
 use Rattle.serve_laws.specs.Laws.{Follows, is_found}
@@ -27,7 +27,8 @@ abbrev pub Acts : Kernel → Name → Done Body → Effect → Type 0
 Acts k name d e = Follows k name d e.kernel e.reply
 
 -- nothing changes
-pub stays : (k : Kernel) (name : Name) (body : Body) (r : Reply) → ((other : Name) → is_found r other ≡ false) → body_in k name ≡ body
+pub stays : (k : Kernel) (name : Name) (body : Body) (r : Reply) → ((other : Name) → is_found r other ≡ false)
+    → body_in k name ≡ body
     → Acts k name (done body r) (record { kernel = k; reply = r })
 stays k name body r none is = record {
   reply = refl;
@@ -85,7 +86,8 @@ queue-changes k id q (Err e) there = stays k (Msg id) (AQueue q) (replies.Fail e
 
 pub queue-receives : (k : Kernel) (id : ℕ) (q : Queue) (r : Result Received Errno) → get k.queues id ≡ Some q
     → Acts k (Msg id) (in_body AQueue (take_message q r)) (receive_effect k id r)
-queue-receives k id q (Ok w) there = queue_put k id w.queue (replies.Message w.message.class w.message.text) (λ other. refl)
+queue-receives k id q (Ok w) there =
+    queue_put k id w.queue (replies.Message w.message.class w.message.text) (λ other. refl)
 queue-receives k id q (Err e) there = stays k (Msg id) (AQueue q) (replies.Fail e) (λ other. refl) (ap queue_body there)
 
 pub set-changes : (k : Kernel) (id : ℕ) (s : SemaphoreSet) (r : Result SemaphoreSet Errno) → get k.sets id ≡ Some s
@@ -106,7 +108,8 @@ queue-removed k id = record {
   others = others;
 }
   where
-    others : (other : Name) → other ≢ Msg id → false ≡ false → body_in (record k { queues = without k.queues id }) other ≡ body_in k other
+    others : (other : Name) → other ≢ Msg id → false ≡ false
+        → body_in (record k { queues = without k.queues id }) other ≡ body_in k other
     others (Proc p) apart not_found = refl
     others (Sem s) apart not_found = refl
     others (Msg i) apart not_found = ap queue_body (get-without-other k.queues id i (λ (e : i ≡ id). apart (ap Msg e)))
@@ -119,7 +122,8 @@ set-removed k id = record {
   others = others;
 }
   where
-    others : (other : Name) → other ≢ Sem id → false ≡ false → body_in (record k { sets = without k.sets id }) other ≡ body_in k other
+    others : (other : Name) → other ≢ Sem id → false ≡ false
+        → body_in (record k { sets = without k.sets id }) other ≡ body_in k other
     others (Proc p) apart not_found = refl
     others (Msg s) apart not_found = refl
     others (Sem i) apart not_found = ap set_body (get-without-other k.sets id i (λ (e : i ≡ id). apart (ap Sem e)))
@@ -127,14 +131,18 @@ set-removed k id = record {
 -- a call on a queue or a set, which may not be there
 pub at-queue : (k : Kernel) (id pid : ℕ) (call : Call) (f : Queue → Effect)
     → ((q : Queue) → get k.queues id ≡ Some q → Acts k (Msg id) (on_body (Msg id) (AQueue q) pid call) (f q))
-    → (o : Option Queue) → get k.queues id ≡ o → Acts k (Msg id) (on_body (Msg id) (queue_body o) pid call) (on_named k o f)
-at-queue k id pid call f acts None there = stays k (Msg id) Removed (replies.Fail Einval) (λ other. refl) (ap queue_body there)
+    → (o : Option Queue) → get k.queues id ≡ o
+    → Acts k (Msg id) (on_body (Msg id) (queue_body o) pid call) (on_named k o f)
+at-queue k id pid call f acts None there =
+    stays k (Msg id) Removed (replies.Fail Einval) (λ other. refl) (ap queue_body there)
 at-queue k id pid call f acts (Some q) there = acts q there
 
 pub at-set : (k : Kernel) (id pid : ℕ) (call : Call) (f : SemaphoreSet → Effect)
     → ((s : SemaphoreSet) → get k.sets id ≡ Some s → Acts k (Sem id) (on_body (Sem id) (ASet s) pid call) (f s))
-    → (o : Option SemaphoreSet) → get k.sets id ≡ o → Acts k (Sem id) (on_body (Sem id) (set_body o) pid call) (on_named k o f)
-at-set k id pid call f acts None there = stays k (Sem id) Removed (replies.Fail Einval) (λ other. refl) (ap set_body there)
+    → (o : Option SemaphoreSet) → get k.sets id ≡ o
+    → Acts k (Sem id) (on_body (Sem id) (set_body o) pid call) (on_named k o f)
+at-set k id pid call f acts None there =
+    stays k (Sem id) Removed (replies.Fail Einval) (λ other. refl) (ap set_body there)
 at-set k id pid call f acts (Some s) there = acts s there
 
 -- ---- processes
@@ -147,7 +155,8 @@ same_living (Some kernel.Gone) a h = absurd (cc)
 
 -- a living process changes
 pub process-changes : (k : Kernel) (pid : ℕ) (a : Alive) (r : Reply) → ((other : Name) → is_found r other ≡ false)
-    → Acts k (Proc pid) (done (Living a.row) r) (record { kernel = record k { processes = put k.processes pid (kernel.Living a) }; reply = r })
+    → Acts k (Proc pid) (done (Living a.row) r)
+    (record { kernel = record k { processes = put k.processes pid (kernel.Living a) }; reply = r })
 process-changes k pid a r none = record {
   reply = refl;
   there = ap process_body (get-put-same k.processes pid (kernel.Living a));
@@ -162,15 +171,22 @@ process-changes k pid a r none = record {
         → body_in (record k { processes = put k.processes pid (kernel.Living a) }) other ≡ body_in k other
     others (Msg i) apart not_found = refl
     others (Sem i) apart not_found = refl
-    others (Proc p) apart not_found = ap process_body (get-put-other k.processes pid (kernel.Living a) p (λ (e : p ≡ pid). apart (ap Proc e)))
+    others (Proc p) apart not_found =
+        ap process_body (get-put-other k.processes pid (kernel.Living a) p (λ (e : p ≡ pid). apart (ap Proc e)))
 
 -- a child is found, and is gone
 pub child-found : (k : Kernel) (pid child : ℕ) (ending : Ending) (a : Alive) → pid ≢ child
     → Acts k (Proc pid) (done (Living a.row) (replies.Child child ending))
-    (record { kernel = record k { processes = put (put k.processes pid (kernel.Living a)) child kernel.Gone }; reply = replies.Child child ending })
+    (record {
+      kernel = record k { processes = put (put k.processes pid (kernel.Living a)) child kernel.Gone };
+      reply =
+          replies.Child child ending;
+    })
 child-found k pid child ending a apart = record {
   reply = refl;
-  there = ap process_body (get-put-other (put k.processes pid (kernel.Living a)) child kernel.Gone pid apart ∙ get-put-same k.processes pid (kernel.Living a));
+  there = ap process_body
+      (get-put-other (put k.processes pid (kernel.Living a)) child kernel.Gone pid apart
+      ∙ get-put-same k.processes pid (kernel.Living a));
   found = found;
   others = others;
 }
@@ -189,11 +205,13 @@ child-found k pid child ending a apart = record {
     found (Msg i) is_child = absurd (cc)
     found (Sem i) is_child = absurd (cc)
     found (Proc p) is_child =
-        ap (λ (q : ℕ). process_body (get (put (put k.processes pid (kernel.Living a)) child kernel.Gone) q)) (is_number child p is_child)
+        ap (λ (q : ℕ). process_body (get (put (put k.processes pid (kernel.Living a)) child kernel.Gone) q))
+        (is_number child p is_child)
         ∙ ap process_body (get-put-same (put k.processes pid (kernel.Living a)) child kernel.Gone)
 
     others : (other : Name) → other ≢ Proc pid → is_found (replies.Child child ending) other ≡ false
-        → body_in (record k { processes = put (put k.processes pid (kernel.Living a)) child kernel.Gone }) other ≡ body_in k other
+        → body_in (record k { processes = put (put k.processes pid (kernel.Living a)) child kernel.Gone }) other
+        ≡ body_in k other
     others (Msg i) here not_found = refl
     others (Sem i) here not_found = refl
     others (Proc p) here not_found =

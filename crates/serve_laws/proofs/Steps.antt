@@ -12,7 +12,7 @@ use Rattle.kernel_model.specs.Kernel as kernel
 use Rattle.kernel_model.specs.Effect.{Effect, reply_alone}
 use Rattle.kernel_model.specs.Transition.{Successor, successor, effect, finish_call, may_make, outcome_of, transition_by}
 use Rattle.kernel_model.specs.Valid.{IsValid}
-use Rattle.kernel_laws.proofs.MapLaws.{get-put-same, get-put-other}
+use Rattle.number_maps.proofs.LookUps.{get-put-same, get-put-other}
 use Rattle.node_model.specs.Bodies.{Body, Living, body_in, process_body}
 use Rattle.node_model.specs.Serving.{name_for}
 use Rattle.node_model.specs.Carrying.{Done, is_served, on_body}
@@ -34,15 +34,19 @@ allowed k pid a lives (Sem id) = refl
 allowed k pid a lives (Proc p) = by (nat_eq p pid) refl
   where
     by : (b : Bool) → nat_eq p pid ≡ b
-        → process_body (get (put k.processes pid (kernel.Living (record a { allowance = Spent }))) p) ≡ process_body (get k.processes p)
+        → process_body (get (put k.processes pid (kernel.Living (record a { allowance = Spent }))) p)
+        ≡ process_body (get k.processes p)
     by true is =
         let same : p ≡ pid = same_number p pid is
-        in subst (λ (q : ℕ). process_body (get (put k.processes pid (kernel.Living (record a { allowance = Spent }))) q) ≡ process_body (get k.processes q)) (sym same)
+        in subst (λ (q : ℕ). process_body (get (put k.processes pid (kernel.Living (record a { allowance = Spent }))) q)
+        ≡ process_body (get k.processes q)) (sym same)
         (ap process_body (get-put-same k.processes pid (kernel.Living (record a { allowance = Spent })))
         ∙ sym (ap process_body (same_living (get k.processes pid) a lives)))
-    by false is = ap process_body (get-put-other k.processes pid (kernel.Living (record a { allowance = Spent })) p (apart_numbers p pid is))
+    by false is = ap process_body
+        (get-put-other k.processes pid (kernel.Living (record a { allowance = Spent })) p (apart_numbers p pid is))
 
-finished : (k : Kernel) (pid : ℕ) (o : Option Alive) → living_at k pid ≡ o → (name : Name) → body_in (finish_call k pid o) name ≡ body_in k name
+finished : (k : Kernel) (pid : ℕ) (o : Option Alive) → living_at k pid ≡ o → (name : Name)
+    → body_in (finish_call k pid o) name ≡ body_in k name
 finished k pid None lives name = refl
 finished k pid (Some a) lives name = by (is_some a.row.signals.doom)
   where
@@ -50,7 +54,8 @@ finished k pid (Some a) lives name = by (is_some a.row.signals.doom)
     by true = allowed k pid a lives name
     by false = refl
 
-follows_on : (k : Kernel) (name : Name) (d : Done Body) (e : Effect) (next : Kernel) → ((other : Name) → body_in next other ≡ body_in e.kernel other)
+follows_on : (k : Kernel) (name : Name) (d : Done Body) (e : Effect) (next : Kernel)
+    → ((other : Name) → body_in next other ≡ body_in e.kernel other)
     → Follows k name d e.kernel e.reply → Follows k name d next e.reply
 follows_on k name d e next same f = record {
   reply = f.reply;
@@ -66,19 +71,22 @@ module _ (k : Kernel) (pid n : ℕ) (call : Call) (name : Name) (next : Kernel) 
   unfolding Serves
   of_outcome a None lives eff gives = absurd (cc)
   of_outcome a (Some e) lives eff gives =
-      let to : successor (finish_call e.kernel pid (living_at e.kernel pid)) (reply_alone e.reply) ≡ successor next outcome = cc
+      let to : successor (finish_call e.kernel pid (living_at e.kernel pid)) (reply_alone e.reply)
+      ≡ successor next outcome = cc
       in let kernels : finish_call e.kernel pid (living_at e.kernel pid) ≡ next = ap (λ (s : Successor). s.kernel) to
       in let outcomes : reply_alone e.reply ≡ outcome = ap (λ (s : Successor). s.outcome) to
       in record {
         answer = e.reply;
         alone = sym outcomes;
         follows = follows_on k name (on_body name (body_in k name) pid call) e next
-            (λ other. ap (λ (j : Kernel). body_in j other) (sym kernels) ∙ finished e.kernel pid (living_at e.kernel pid) refl other)
+            (λ other. ap (λ (j : Kernel). body_in j other) (sym kernels)
+            ∙ finished e.kernel pid (living_at e.kernel pid) refl other)
             (effect-serves k pid n a valid lives call name e served named eff);
       }
 
   of_may : (a : Alive) (b : Bool) → living_at k pid ≡ Some a
-      → (if b then outcome_of pid (effect k pid a call n) else None) ≡ Some (successor next outcome) → IsServed k pid call name next outcome
+      → (if b then outcome_of pid (effect k pid a call n) else None) ≡ Some (successor next outcome)
+      → IsServed k pid call name next outcome
   of_may a true lives gives = of_outcome a (effect k pid a call n) lives refl gives
   of_may a false lives gives = absurd (cc)
 

@@ -19,7 +19,8 @@ abbrev pub is_found : Reply → Name → Bool
 is_found (Child child ending) (Proc pid) = nat_eq child pid
 is_found reply name = false
 
--- The next kernel has this part for the name, and the reply is this one. A child that was found is gone, and other names
+-- The next kernel has this part for the name, and the reply is this one. A child that was found is gone, and other
+-- names
 -- have the parts that they had.
 pub record Follows (k : Kernel) (name : Name) (d : Done Body) (next : Kernel) (answer : Reply) : Type 0 where
   pub reply : answer ≡ d.reply
@@ -27,13 +28,15 @@ pub record Follows (k : Kernel) (name : Name) (d : Done Body) (next : Kernel) (a
   pub found : (other : Name) → is_found answer other ≡ true → body_in next other ≡ Gone
   pub others : (other : Name) → other ≢ name → is_found answer other ≡ false → body_in next other ≡ body_in k other
 
-pub record IsServed (k : Kernel) (pid : ℕ) (call : Call) (name : Name) (next : Kernel) (outcome : Outcome) : Type 0 where
+pub record IsServed (k : Kernel) (pid : ℕ) (call : Call) (name : Name) (next : Kernel)
+    (outcome : Outcome) : Type 0 where
   pub answer : Reply
   pub alone : outcome ≡ reply_alone answer
   pub follows : Follows k name (on_body name (body_in k name) pid call) next answer
 
 -- The deed has the kernel's part for its name, so the kernel agrees with it on the call's footprint.
 abbrev pub ServedCallsAreTheKernels : Type 0
-ServedCallsAreTheKernels = (k : Kernel) (pid n : ℕ) (call : Call) (name : Name) (next : Kernel) (outcome : Outcome) → IsValid k
+ServedCallsAreTheKernels =
+    (k : Kernel) (pid n : ℕ) (call : Call) (name : Name) (next : Kernel) (outcome : Outcome) → IsValid k
     → is_served call ≡ true → name_for pid call ≡ Some name → transition k pid call n ≡ Some (successor next outcome)
     → IsServed k pid call name next outcome
