@@ -17,11 +17,12 @@ use Rattle.pico_base.specs.declared.signal.Sig.{Sig}
 use Rattle.pico_base.specs.declared.signal.Sig.TheVariants.{Hup, Int, Quit, Kill, Usr1, Usr2, Pipe, Alrm, Term, Chld}
 use Rattle.pico_base.specs.declared.signal.SigArg.{SigArg}
 use Rattle.pico_base.specs.declared.signal.SigArg.TheVariants.{Zero, Is, Bad}
-use Rattle.kernel_model.specs.Signals.{all_signals, number_of}
+use Rattle.pico_base.specs.ErrorNumber.{all_errors, error_number}
+use Rattle.pico_base.specs.Signal.{all_signals, signal_number}
 use Rattle.body_fields.specs.Fields.{◌>>=◌}
 use Rattle.body_fields.proofs.Fields.{IsBytes, IsBytes-drop, bind_some, guard_some, some_is, Takes, Takes-then, wide16, wide32, number_takes, number_again}
 use Rattle.frame_bytes.specs.Readers.{Reader, byte_at, one_of}
-use Rattle.frame_bytes.specs.Fields.{IsWord, IsHalf, IsPositive, IsCount, IsNode, IsSigArg, IsName, IsText, is_node, word, half, signed, text, flag_byte, all_flags, sigarg_byte, all_sigargs, errno_byte, all_errors, kind_byte, all_kinds, kind_of, name_number, name_of, name_field, word_at, half_at, positive_at, count_at, signed_at, node_at, flag_at, sig_at, sigarg_at, errno_at, kind_at, name_at, text_at}
+use Rattle.frame_bytes.specs.Fields.{IsWord, IsHalf, IsPositive, IsCount, IsNode, IsSigArg, IsName, IsText, is_node, word, half, signed, text, flag_byte, all_flags, sigarg_byte, all_sigargs, kind_byte, all_kinds, kind_of, name_number, name_of, name_field, word_at, half_at, positive_at, count_at, signed_at, node_at, flag_at, sig_at, sigarg_at, errno_at, kind_at, name_at, text_at}
 use Rattle.frame_bytes.proofs.Inverse.{Inverse, Field, Passes, Behind, byte-inverse, passing-inverse, renamed, one_of-inverse, Reads, two-takes, two-again}
 
 -- ---- numbers
@@ -95,7 +96,7 @@ pub flag-inverse : Inverse Bool (λ b. Unit {0}) (λ b. flag_byte b ∷ []) flag
 unfolding flag_at
 flag-inverse = one_of-inverse Bool (λ b. Unit {0}) flag_byte all_flags (tt, (tt, tt)) flag-there
 
-sig-there : (g : Sig) → Unit {0} → IsThere Sig number_of all_signals g
+sig-there : (g : Sig) → Unit {0} → IsThere Sig signal_number all_signals g
 sig-there Hup fits = refl
 sig-there Int fits = refl
 sig-there Quit fits = refl
@@ -107,10 +108,10 @@ sig-there Alrm fits = refl
 sig-there Term fits = refl
 sig-there Chld fits = refl
 
-pub sig-inverse : Inverse Sig (λ g. Unit {0}) (λ g. number_of g ∷ []) sig_at
+pub sig-inverse : Inverse Sig (λ g. Unit {0}) (λ g. signal_number g ∷ []) sig_at
 unfolding sig_at
 sig-inverse =
-    one_of-inverse Sig (λ g. Unit {0}) number_of all_signals
+    one_of-inverse Sig (λ g. Unit {0}) signal_number all_signals
     (tt, (tt, (tt, (tt, (tt, (tt, (tt, (tt, (tt, (tt, tt)))))))))) sig-there
 
 sigarg-there : (a : SigArg) → IsSigArg a → IsThere SigArg sigarg_byte all_sigargs a
@@ -133,7 +134,7 @@ sigarg-inverse =
     one_of-inverse SigArg IsSigArg sigarg_byte all_sigargs
     (tt, (tt, (tt, (tt, (tt, (tt, (tt, (tt, (tt, (tt, (tt, tt))))))))))) sigarg-there
 
-errno-there : (e : Errno) → Unit {0} → IsThere Errno errno_byte all_errors e
+errno-there : (e : Errno) → Unit {0} → IsThere Errno error_number all_errors e
 errno-there Esrch fits = refl
 errno-there Einval fits = refl
 errno-there Echild fits = refl
@@ -147,10 +148,10 @@ errno-there Erange fits = refl
 errno-there Eidrm fits = refl
 errno-there Eintr fits = refl
 
-pub errno-inverse : Inverse Errno (λ e. Unit {0}) (λ e. errno_byte e ∷ []) errno_at
+pub errno-inverse : Inverse Errno (λ e. Unit {0}) (λ e. error_number e ∷ []) errno_at
 unfolding errno_at
 errno-inverse =
-    one_of-inverse Errno (λ e. Unit {0}) errno_byte all_errors
+    one_of-inverse Errno (λ e. Unit {0}) error_number all_errors
     (tt, (tt, (tt, (tt, (tt, (tt, (tt, (tt, (tt, (tt, (tt, (tt, tt)))))))))))) errno-there
 
 kind-there : (k : Kind) → Unit {0} → IsThere Kind kind_byte all_kinds k
@@ -208,13 +209,13 @@ abbrev pub flag-field : Field Bool
 flag-field = record { Fits = λ b. Unit {0}; spell = λ b. flag_byte b ∷ []; read = flag_at; inverse = flag-inverse }
 
 abbrev pub sig-field : Field Sig
-sig-field = record { Fits = λ g. Unit {0}; spell = λ g. number_of g ∷ []; read = sig_at; inverse = sig-inverse }
+sig-field = record { Fits = λ g. Unit {0}; spell = λ g. signal_number g ∷ []; read = sig_at; inverse = sig-inverse }
 
 abbrev pub sigarg-field : Field SigArg
 sigarg-field = record { Fits = IsSigArg; spell = λ a. sigarg_byte a ∷ []; read = sigarg_at; inverse = sigarg-inverse }
 
 abbrev pub errno-field : Field Errno
-errno-field = record { Fits = λ e. Unit {0}; spell = λ e. errno_byte e ∷ []; read = errno_at; inverse = errno-inverse }
+errno-field = record { Fits = λ e. Unit {0}; spell = λ e. error_number e ∷ []; read = errno_at; inverse = errno-inverse }
 
 abbrev pub kind-field : Field Kind
 kind-field = record { Fits = λ k. Unit {0}; spell = λ k. kind_byte k ∷ []; read = kind_at; inverse = kind-inverse }

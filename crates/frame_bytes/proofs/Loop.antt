@@ -3,8 +3,8 @@ use Rattle.std.proofs.Common.{◌≡◌, ℕ, suc, ◌-◌, ◌+◌, ◌≤◌, 
 use Rattle.std.proofs.lemmas.List.{append-nil}
 use Rattle.pico_base.specs.declared.fault.UnpackFault.{UnpackFault}
 use Rattle.pico_base.specs.declared.fault.UnpackFault.TheVariants.{Memory, NotABody}
-use Rattle.body_fields.specs.Fields.{◌>>=◌, Fails}
-use Rattle.frame_bytes.specs.Readers.{Reader, many}
+use Rattle.body_fields.specs.Fields.{◌>>=◌}
+use Rattle.frame_bytes.specs.Readers.{Fails, Reader, many}
 
 -- what was read before, and what is still read
 abbrev pub with_front : {A : Type 0} → List A → Option (List A × List ℕ) → Option (List A × List ℕ)

@@ -5,7 +5,7 @@ use Rattle.std.specs.Int.{w32}
 use Rattle.pico_base.specs.declared.call.Call.{Call}
 use Rattle.pico_base.specs.declared.call.Call.TheVariants as calls
 use Rattle.pico_base.specs.declared.call.SemStep.{SemStep}
-use Rattle.kernel_model.specs.Signals.{number_of}
+use Rattle.pico_base.specs.Signal.{signal_number}
 use Rattle.frame_bytes.specs.Readers.{Reader, one, two, three, four, five, counted, tabled}
 use Rattle.frame_bytes.specs.Fields.{IsWord, IsHalf, IsPositive, IsCount, IsSigArg, IsText, word, half, signed, text, flag_byte, sigarg_byte, word_at, half_at, positive_at, count_at, signed_at, flag_at, sig_at, sigarg_at, text_at}
 
@@ -109,7 +109,7 @@ call_bytes (calls.SemGetNcnt id num) = 15 ∷ (word id ++ half num)
 call_bytes (calls.SemGetZcnt id num) = 16 ∷ (word id ++ half num)
 call_bytes (calls.SemRmid id) = 17 ∷ word id
 call_bytes (calls.Exit status) = 18 ∷ half status
-call_bytes (calls.Killed sig) = 19 ∷ number_of sig ∷ []
+call_bytes (calls.Killed sig) = 19 ∷ signal_number sig ∷ []
 call_bytes _ = []
 
 -- Reading: each code with the fields behind it.

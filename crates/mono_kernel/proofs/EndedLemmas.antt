@@ -1,12 +1,12 @@
 -- The ended children of a living process are in the table, and don't live.
-use Rattle.std.proofs.Common.{◌≡◌, ◌<◌, ◌∙◌, ℕ, zero, suc, Bool, true, false, ◌||◌, if◌then◌else◌, nat_eq, List, [], ◌∷◌, length, get_or, Option, Some, None, is_some, IfSome, refl, sym, ap, arith}
+use Rattle.std.proofs.Common.{◌≡◌, ◌<◌, ◌∙◌, ℕ, zero, suc, Bool, true, false, ◌||◌, if◌then◌else◌, nat_eq, List, [], ◌∷◌, length, get_or, Option, Some, None, is_some, IfSome, IsSome, refl, sym, ap, arith}
 use Rattle.std.proofs.Math.Bool.{or-true}
 use Rattle.std.specs.List.{All, list_any, fold}
-use Rattle.std.specs.Option.{option_map, option_map_or}
+use Rattle.std.specs.Option.{option_map, option_map_or, option_and_then}
 use Rattle.pico_base.specs.declared.reply.Ending.{Ending}
 use Rattle.number_maps.specs.Maps.{Numbered, get, put}
 use Rattle.kernel_model.specs.Row.{Alive, lists, matches, first_ended_child, EndedChild}
-use Rattle.kernel_model.specs.Kernel.{Process, Gone, living_in, parent_in}
+use Rattle.kernel_model.specs.Kernel.{Process, Gone, alive_in, living_in, parent_in}
 use Rattle.kernel_model.specs.ProcessCalls.{bury, end_under, processes_after_end}
 use Rattle.mono_kernel.specs.Table.{IsTable, IfLiving, lists_there, parent_at, as_parent}
 use Rattle.mono_kernel.proofs.TableLemmas.{living-put_same, living-put_other}
@@ -117,3 +117,16 @@ end-is ps ns pid ending es parent children found same left = at (living_in ps pi
         → IfSome o (λ a. ns ≡ processes_after_end ps pid a ending)
     at None h = tt
     at (Some a) h = rw (← h, found, ← same) left
+
+-- what is put where nothing was leaves each process that lives
+pub living-beside : (ps : Numbered Process) (pid child : ℕ) (v : Process) → get ps child ≡ None
+    → IsSome (living_in ps pid)
+    → living_in (put ps child v) pid ≡ living_in ps pid
+living-beside ps pid child v fresh lives = at (nat_eq pid child) refl
+  where
+    at : (b : Bool) → nat_eq pid child ≡ b → living_in (put ps child v) pid ≡ living_in ps pid
+    at true is =
+        let none : get ps pid ≡ None = rw (same-from-nat_eq pid child is) fresh
+        in let no : living_in ps pid ≡ None = ap (option_and_then alive_in) none
+        in absurd (let some : is_some (living_in ps pid) ≡ true = lives in cc)
+    at false is = living-put_other ps child pid v is

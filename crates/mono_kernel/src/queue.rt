@@ -79,8 +79,8 @@ impl Message {
 pub(crate) struct MessageQueue {
     messages: VecDeque<Message>,
     qbytes: u32,
-    last_sender: u32,
-    last_receiver: u32,
+    last_sender: Pid,
+    last_receiver: Pid,
     bytes: usize,
 }
 
@@ -159,8 +159,8 @@ impl MessageQueue {
         MessageQueue {
             messages: VecDeque::new(alloc),
             qbytes: MAX_QUEUE_BYTES,
-            last_sender: 0,
-            last_receiver: 0,
+            last_sender: Pid(0),
+            last_receiver: Pid(0),
             bytes: 0,
         }
     }
@@ -172,8 +172,8 @@ impl MessageQueue {
         Reply::Stat {
             qnum: self.messages.len() as u32,
             qbytes: self.qbytes,
-            lspid: Pid(self.last_sender),
-            lrpid: Pid(self.last_receiver),
+            lspid: self.last_sender,
+            lrpid: self.last_receiver,
         }
     }
 
@@ -203,7 +203,7 @@ impl MessageQueue {
     pub(crate) fn send(
         &mut self,
         alloc: Global,
-        pid: u32,
+        pid: Pid,
         class: i32,
         text: &Bytes,
     ) -> Result<Result<(), Errno>, Memory>
@@ -231,7 +231,7 @@ impl MessageQueue {
     /// msgrcv: ENOMSG where no message is selected, E2BIG for a text above the size asked.
     pub(crate) fn receive(
         &mut self,
-        pid: u32,
+        pid: Pid,
         class: i32,
         size: u32,
         noerror: bool,

@@ -177,3 +177,8 @@ module _ (n : Name) (test : Name → Bool) (same : (k : Name) → test k ≡ is_
   put_is es v le h =
       ap (λ o. option_map_or (λ (e : Name × ℕ). (e.0, v) ∷ remove_entry test es) o ((n, v) ∷ take 63 es)) (entry_is es)
       ∙ put_by es v (owner_in es n) refl le h
+
+  pub put_cap : (es : Cache) (places v : ℕ) → IsWithin es places → option_map_or (λ (e : Name × ℕ). (e.0, v) ∷ remove_entry test es) (lookup_entry test es) ((n, v) ∷ take (places - 1) es) ≡ learn es n v
+  put_cap es places v h =
+      ap (λ k. option_map_or (λ (e : Name × ℕ). (e.0, v) ∷ remove_entry test es) (lookup_entry test es) ((n, v) ∷ take (k - 1) es)) h.cap
+      ∙ put_is es v h.size h.once

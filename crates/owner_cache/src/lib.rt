@@ -22,7 +22,7 @@ pub struct Cache {
 impl Model for Cache {
     ghost use Rattle.std.specs.Prelude.{List, ℕ};
     ghost use Rattle.std.specs.Coded.{coded_list, coded×, coded_ℕ};
-    ghost use Rattle.pico_base.specs.NameOrder.{coded_name};
+    ghost use Rattle.owner_cache.specs.Coded.{coded_name};
     ghost use Rattle.node_model.specs.Cache.{Cache as Value_};
     ghost use Rattle.owner_cache.specs.Distinct.{IsWithin};
 
@@ -71,5 +71,30 @@ impl Cache {
         ensures { self.new ≡ forget self.old name }
     {
         let _ = self.owners.pop(&name);
+    }
+}
+
+#[cfg(test)]
+mod tests {
+    use super::*;
+    use pico_base::Id;
+    use std::test::Fail;
+
+    #[test]
+    fn the_name_used_longest_ago_goes(rt: HostRuntime) -> Result<(), Fail> {
+        let mut cache = Cache::new(rt.alloc())?;
+        for number in 1..66 {
+            cache.learn(Name::Msg(Id(number)), Node(2))?;
+        }
+        assert_eq!(rt; cache.look(Name::Msg(Id(1))), None);
+        assert_eq!(rt; cache.look(Name::Msg(Id(2))), Some(Node(2)));
+        // The look has kept the second name, so the third is the one that goes.
+        cache.learn(Name::Sem(Id(2)), Node(3))?;
+        assert_eq!(rt; cache.look(Name::Msg(Id(3))), None);
+        assert_eq!(rt; cache.look(Name::Msg(Id(2))), Some(Node(2)));
+        assert_eq!(rt; cache.look(Name::Sem(Id(2))), Some(Node(3)));
+        cache.forget(Name::Sem(Id(2)));
+        assert_eq!(rt; cache.look(Name::Sem(Id(2))), None);
+        Ok(())
     }
 }

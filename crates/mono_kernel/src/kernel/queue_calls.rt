@@ -11,7 +11,7 @@ use crate::fault::CallFault;
 use crate::kernel::Kernel;
 use crate::maps::{receive_at, remove_at, send_at, set_qbytes_at};
 use crate::queue::MessageQueue;
-use pico_base::{Bytes, Errno, Key, Memory, Reply};
+use pico_base::{Bytes, Errno, Key, Memory, Pid, Reply};
 
 /// The calls on message queues.
 impl Kernel {
@@ -66,7 +66,7 @@ impl Kernel {
     /// msgsnd: EINVAL or EAGAIN.
     pub(super) fn send(
         &mut self,
-        pid: u32,
+        pid: Pid,
         id: u32,
         class: i32,
         text: &Bytes,
@@ -83,7 +83,7 @@ impl Kernel {
     /// msgrcv: EINVAL, ENOMSG or E2BIG.
     pub(super) fn receive(
         &mut self,
-        pid: u32,
+        pid: Pid,
         id: u32,
         class: i32,
         size: u32,

@@ -14,7 +14,7 @@ use crate::fault::CallFault;
 use crate::kernel::Kernel;
 use crate::maps::{op_at, remove_at, set_all_at, set_value_at};
 use crate::semaphores::{SemaphoreSet, is_bad_size};
-use pico_base::{Errno, Key, Memory, Reply, SemStep, Steps, Values};
+use pico_base::{Errno, Key, Memory, Pid, Reply, SemStep, Steps, Values};
 
 /// The reply of a look at a set.
 fn looked(found: Result<u32, Errno>) -> Reply
@@ -110,7 +110,7 @@ impl Kernel {
     }
 
     /// semop: EINVAL, E2BIG, EFBIG, EAGAIN or ERANGE. NotAllowed where an operation may have to wait.
-    pub(super) fn operate(&mut self, pid: u32, id: u32, steps: &Steps) -> Result<Reply, CallFault>
+    pub(super) fn operate(&mut self, pid: Pid, id: u32, steps: &Steps) -> Result<Reply, CallFault>
         ensures { Answers (operate self.old pid id steps.now) result self.old self.new }
     {
         let steps = steps.as_slice();
@@ -138,7 +138,10 @@ impl Kernel {
             ≡ record { kernel = self.now; reply = result } }
     {
         match self.sets.get(&id) {
-            Some(set) => looked(set.last(num)),
+            Some(set) => match set.last(num) {
+                Ok(pid) => Reply::Num(pid.0),
+                Err(errno) => Reply::Fail(errno),
+            },
             None => Reply::Fail(Errno::Einval),
         }
     }
