@@ -1,5 +1,0 @@
-pub mod Bodies
-pub mod Laws
-pub mod Serving
-pub mod Spelled
-pub mod Waits
