@@ -116,8 +116,8 @@ ended_names names so_far place implied h in_block =
       few = h.few;
     }
 
-bad_said : (a b : Bool) → (true || (a || b)) ≡ false → ⊥
-bad_said a b e = cc
+pub not_true : true ≡ false → ⊥
+not_true e = cc
 
 same_number : (n k : ℕ) → not (eqb n k) ≡ false → n ≡ k
 same_number n k e = eqb-true n k (not_false (eqb n k) e)
@@ -140,8 +140,8 @@ names_step runnable names so_far place size o (Forks set (Some number)) h fine f
     subst (λ ns. AreOpened names ns (spec.forking place set number)) (sym (same_names names so_far o (no_opening names o (Forks set (Some number)) from (forks_differs set (Some number))))) (record { opened = h.opened; numbered = h.numbered; few = h.few })
 names_step runnable names so_far place size o (Calls line) h fine from f =
     subst (λ ns. AreOpened names ns (spec.calling place line)) (sym (same_names names so_far o (no_opening names o (Calls line) from (calls_differs line)))) (record { opened = h.opened; numbered = h.numbered; few = h.few })
-names_step runnable names so_far place size o BadProc h fine from f = absurd (bad_said _ _ f.good)
-names_step runnable names so_far place size o Bad h fine from f = absurd (bad_said _ _ f.good)
+names_step runnable names so_far place size o BadProc h fine from f = absurd (not_true f.good)
+names_step runnable names so_far place size o Bad h fine from f = absurd (not_true f.good)
 names_step runnable names so_far place size o Unknown h fine from f =
     let out : place.inside ≡ false = not_both place.inside true f.known_call refl in
     let within : place.inside ≡ true = inside_of place Unknown f.no_proc refl in

@@ -95,6 +95,7 @@ ended place implied =
       inside = false;
       name = [];
       lines = [];
+      over = false;
       calls = place.calls + implied;
     }
 

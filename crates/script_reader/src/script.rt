@@ -149,6 +149,7 @@ fn read(alloc: Global, runnable: bool, bytes: &[u8]) -> Result<Script, ScriptSto
 pub fn read_script(alloc: Global, bytes: &[u8]) -> Result<Script, ScriptStop>
     // The bytes are the text of what is read.
     ensures ok { IfOk result (spec.Reads bytes.now) }
+    ensures sound { IfOk result IsSoundScript }
     // A fault is the first one.
     ensures fault { IfErr result (spec.HasFault bytes.now) }
     // A text of a script is read, and one with a fault is refused for it, unless memory runs out.
@@ -162,6 +163,8 @@ pub fn read_script(alloc: Global, bytes: &[u8]) -> Result<Script, ScriptStop>
 /// faults of the line.
 pub fn read_runnable(alloc: Global, bytes: &[u8]) -> Result<Script, ScriptStop>
     ensures ok { IfOk result (spec.ReadsRunnable bytes.now) }
+    ensures sound { IfOk result IsSoundScript }
+    ensures runnable { IfOk result IsRunnable }
     ensures fault { IfErr result (spec.HasFaultOfRunnable bytes.now) }
     ensures only { (script : ScriptValue) → spec.ReadsRunnable bytes.now script → (result ≡ Ok script) ⊎ (result ≡ Err ScriptStop.Memory) }
     ensures only_fault { (line : ℕ) (fault : FaultValue) → spec.IsFirstFaultOfRunnable bytes.now line fault → (result ≡ Err (ScriptStop.At line fault)) ⊎ (result ≡ Err ScriptStop.Memory) }
