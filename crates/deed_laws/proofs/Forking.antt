@@ -11,7 +11,7 @@ use Rattle.kernel_model.specs.Effect.{is_fresh}
 use Rattle.kernel_model.specs.ProcessCalls.{parent_after_fork, new_child, processes_after_fork}
 use Rattle.kernel_model.specs.Valid.{IsValid}
 use Rattle.machine_model.specs.Node.{new_process}
-use Rattle.kernel_laws.proofs.MapLaws.{get-put-same, get-put-other}
+use Rattle.number_maps.proofs.LookUps.{get-put-same, get-put-other}
 use Rattle.kernel_laws.proofs.People.{to-living}
 use Rattle.kernel_laws.proofs.Plain.{from_some, not_some}
 use Rattle.kernel_laws.proofs.ValidLaws.{reachable_kernels_are_valid_lemma}
@@ -36,10 +36,13 @@ forked-plain k a n plain mine =
     let ps : Numbered Process = put k.processes n (Living (new_child a))
     in record {
       first = λ b lives.
-          let same : parent_after_fork a n ≡ b = from_some (parent_after_fork a n) b (sym (living-put-same ps 1 (Living (parent_after_fork a n))) ∙ lives)
-          in subst (λ (x : Alive). IsPlainProcess x) same (record { signals = mine.signals; allowance = mine.allowance });
+          let same : parent_after_fork a n ≡ b =
+          from_some (parent_after_fork a n) b (sym (living-put-same ps 1 (Living (parent_after_fork a n))) ∙ lives)
+          in subst (λ (x : Alive). IsPlainProcess x) same
+          (record { signals = mine.signals; allowance = mine.allowance });
       others = λ pid b ne lives.
-          let before : living_in ps pid ≡ Some b = sym (living-put-other ps 1 (Living (parent_after_fork a n)) pid ne) ∙ lives
+          let before : living_in ps pid ≡ Some b =
+          sym (living-put-other ps 1 (Living (parent_after_fork a n)) pid ne) ∙ lives
           in elim (cases_eq pid n) [
             | inl same ↦
                 let born : living_in ps n ≡ Some b = subst (λ (q : ℕ). living_in ps q ≡ Some b) same before
@@ -51,7 +54,7 @@ forked-plain k a n plain mine =
     }
 
 pub forks : ForksAreTheKernels
-forks h l k a block reachable stands held =
+forks h l k a block reachable stands held fits =
     let n : ℕ = l.next_process
     in let valid : IsValid k = reachable_kernels_are_valid_lemma k reachable
     in let there : get k.processes 1 ≡ Some (Living a) = stands.here.processes 1 (Living a) held
@@ -61,7 +64,7 @@ forks h l k a block reachable stands held =
     in let plain : HasPlain next = forked-plain k a n stands.plain mine
     in let unused : is_used k.used_processes n ≡ false = stands.fresh.processes n (omega arith)
     in let low : 2 ≤ l.next_process = stands.fresh.process_low
-    in let fresh : is_fresh k.used_processes n ≡ true = fresh-number k.used_processes n (omega arith) unused
+    in let fresh : is_fresh k.used_processes n ≡ true = fresh-number k.used_processes n (omega arith) fits unused
     in let absent : get k.processes n ≡ None = none-at (get k.processes n) (sym (valid.used_processes n) ∙ unused)
     in let ps : Numbered Process = put k.processes n (Living (new_child a))
     in let apart : n ≢ 1 = omega arith
@@ -94,5 +97,6 @@ forks h l k a block reachable stands held =
       };
       child =
           get-put-other ps 1 (Living (parent_after_fork a n)) n apart
-          ∙ (get-put-same k.processes n (Living (new_child a)) ∙ ap (λ (x : Alive). Some (Living x)) (new-child a mine));
+          ∙ (get-put-same k.processes n (Living (new_child a))
+          ∙ ap (λ (x : Alive). Some (Living x)) (new-child a mine));
     }

@@ -1,11 +1,14 @@
 -- The children of a process, living and ended.
 use Rattle.std.specs.Prelude.{◌≡◌, ℕ, ◌≤◌, Bool, true, false, not, ◌&&◌, nat_eq, List, [], ◌∷◌, ◌++◌, length, map}
 use Rattle.std.specs.List.{list_any}
-use Rattle.kernel_model.specs.Row.{Family}
+use Rattle.kernel_model.specs.Row.{Family, EndedChild}
+
+abbrev pub members_of : List ℕ → List (EndedChild) → Family
+members_of living ended = record { living = living; ended = ended }
 
 -- their numbers
 abbrev pub children : Family → List ℕ
-children f = f.living ++ map (λ e. e.0) f.ended
+children f = f.living ++ map (λ e. e.pid) f.ended
 
 abbrev pub is_child : Family → ℕ → Bool
 is_child f child = list_any (nat_eq child) (children f)

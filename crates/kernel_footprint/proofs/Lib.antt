@@ -1,4 +1,3 @@
-pub mod Maps
 pub mod Keys
 pub mod Parents
 pub mod Change
@@ -11,4 +10,5 @@ pub mod Queues
 pub mod Sets
 pub mod Processes
 pub mod Ends
+pub mod Growth
 pub mod Law

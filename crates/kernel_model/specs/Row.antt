@@ -1,17 +1,13 @@
 -- A living process: its signals, its family, and what it may still do (POSIX.1-2017: fork, _Exit, wait).
 use Rattle.std.specs.Prelude.{ℕ, Bool, true, false, not, List, [], ◌∷◌, ◌++◌, if◌then◌else◌, Option, Some, None, is_some, nat_eq}
 use Rattle.std.specs.List.{filter, list_any}
+pub use Rattle.pico_base.specs.declared.reply.EndedChild.{EndedChild}
 use Rattle.pico_base.specs.declared.reply.Ending.{Ending}
 use Rattle.pico_base.specs.declared.signal.Sig.{Sig}
 use Rattle.pico_base.specs.declared.signal.Sig.TheVariants.{Chld}
 use Rattle.pico_base.specs.declared.signal.Act.{Act}
 use Rattle.pico_base.specs.declared.signal.Act.TheVariants.{Dfl, Ign, Catch}
 use Rattle.kernel_model.specs.Signals.{Signals, new_signals, inherit, raise}
-
--- a child that has ended, and how
-pub record EndedChild : Type 0 where
-  pub pid : ℕ
-  pub ending : Ending
 
 abbrev pub ended_child : ℕ → Ending → EndedChild
 ended_child pid ending = record { pid = pid; ending = ending }
@@ -45,7 +41,8 @@ lists f child = list_any (nat_eq child) f.living
 abbrev pub others : ℕ → List ℕ → List ℕ
 others child children = filter (λ c. not (nat_eq child c)) children
 
--- a child has ended: its ending is kept for waitpid, unless the parent ignores CHLD (_Exit: consequences of the end of a
+-- a child has ended: its ending is kept for waitpid, unless the parent ignores CHLD (_Exit: consequences of the end of
+-- a
 -- process)
 abbrev pub family_after_end : Family → ℕ → Ending → Bool → Family
 family_after_end f child ending ignored =
@@ -114,9 +111,13 @@ raise_by_other a g =
       allowance = allowance_after_raise (is_some a.row.signals.doom) (is_some signals.doom) a.allowance;
     }
 
--- a child of this process has ended: it is listed as ended, or forgotten, and CHLD is raised where it isn't ignored (_Exit)
+-- a child of this process has ended: it is listed as ended, or forgotten, and CHLD is raised where it isn't ignored
+-- (_Exit)
 abbrev pub with_ended_child : Alive → ℕ → Ending → Alive
 with_ended_child a child ending =
     let ignored = ignores_children a.row
-    in let next = record a { row = record { signals = a.row.signals; family = family_after_end a.row.family child ending ignored } }
+    in let next = record a {
+      row =
+          record { signals = a.row.signals; family = family_after_end a.row.family child ending ignored };
+    }
     in if ignored then next else raise_by_other next Chld

@@ -1,5 +1,5 @@
 -- A node starts its process's next call, rule by rule. A rule gives a step, or there is none.
-use Rattle.std.specs.Prelude.{ℕ, ◌+◌, ◌%◌, ◌^◌, not, ◌&&◌, nat_lt, List, [], ◌∷◌, if◌then◌else◌, Option, Some, None, Result, Ok, Err, slice_get}
+use Rattle.std.specs.Prelude.{ℕ, ◌+◌, ◌%◌, not, ◌&&◌, nat_lt, List, [], ◌∷◌, if◌then◌else◌, Option, Some, None, Result, Ok, Err, slice_get}
 use Rattle.pico_base.specs.declared.call.Call.{Call}
 use Rattle.pico_base.specs.declared.call.Call.TheVariants as calls
 use Rattle.pico_base.specs.declared.script.Line.{Line}
@@ -13,10 +13,11 @@ use Rattle.rpc_frame.specs.declared.frame.Frame.{Frame}
 use Rattle.rpc_frame.specs.declared.frame.Frame.TheVariants as frames
 use Rattle.number_maps.specs.Maps.{put}
 use Rattle.kernel_model.specs.Queue.{empty_queue}
-use Rattle.kernel_model.specs.SemaphoreSet.{Semaphore, new_set}
+use Rattle.kernel_model.specs.SemaphoreSet.{SemaphoreSet, new_set}
 use Rattle.kernel_model.specs.Row.{Alive}
 use Rattle.kernel_model.specs.Kernel.{Living as LivingProcess, living_in}
-use Rattle.kernel_model.specs.Effect.{Effect}
+use Rattle.kernel_model.specs.Numbers.{number_end}
+use Rattle.kernel_model.specs.Effect.{Effect, reply_alone}
 use Rattle.kernel_model.specs.ProcessCalls.{parent_after_fork}
 use Rattle.kernel_model.specs.Waiting.{is_waiting}
 use Rattle.kernel_model.specs.Fitting.{due, child_vars, set_variable, value_in}
@@ -30,15 +31,12 @@ pub record Step : Type 0 where
   pub entries : List Entry
   pub sends : List (ℕ × Frame)
 
--- one past the greatest number of four bytes
-abbrev pub number_end : ℕ
-number_end = 2 ^ 32
-
 -- the entry of a carried-out call
 abbrev pub entry_by : ℕ → ℕ → Call → Reply → Entry
-entry_by node pid call reply = record { pid = pid; call = call; outcome = record { own = Some reply; woken = [] }; by = node }
+entry_by node pid call reply = record { pid = pid; call = call; outcome = reply_alone reply; by = node }
 
--- the caller once it has started a call, and once it has the reply: the line's variable is set, and the next line is due
+-- the caller once it has started a call, and once it has the reply: the line's variable is set, and the next line is
+-- due
 abbrev pub start_call : Caller → Call → Caller
 start_call c call = record c { ticket = c.ticket + 1; under_way = Some call }
 
@@ -88,7 +86,7 @@ makes_queue script n call =
     (step_here script n call (replies.Num number) (record n.held { queues = put n.held.queues number empty_queue })))
     else None
 
-abbrev pub makes_set_of : Script → Node → Call → Result (List Semaphore) Errno → Step
+abbrev pub makes_set_of : Script → Node → Call → Result SemaphoreSet Errno → Step
 makes_set_of script n call (Err e) = step_here script n call (replies.Fail e) n.held
 makes_set_of script n call (Ok set) =
     let number : ℕ = n.leader.next_set
@@ -97,7 +95,8 @@ makes_set_of script n call (Ok set) =
 
 abbrev pub makes_set : Script → Node → Call → ℕ → Option Step
 makes_set script n call count =
-    if is_leader n && nat_lt n.leader.next_set number_end then Some (makes_set_of script n call (new_set count)) else None
+    if is_leader n && nat_lt n.leader.next_set number_end then Some
+    (makes_set_of script n call (new_set count)) else None
 
 -- the fork rule: the child has the leader's next number, and its deed and its variables go to its node
 abbrev pub fork_held : Held → ℕ → Alive → ℕ → Held
@@ -108,7 +107,10 @@ forks_as script n block child None = None
 forks_as script n block child (Some a) =
     let step : Step = step_here script n (calls.Fork block) (replies.Num child) (fork_held n.held n.pid a child)
     in Some (with_leader (record n.leader { next_process = child + 1 })
-    (record step { sends = (block, frames.Checkpoint child n.pid (new_deed child) (child_vars (place_of script n))) ∷ [] }))
+    (record step {
+      sends =
+          (block, frames.Checkpoint child n.pid (new_deed child) (child_vars (place_of script n))) ∷ [];
+    }))
 
 abbrev pub forks : Script → Node → ℕ → Option Step
 forks script n block =
@@ -158,7 +160,8 @@ starts_call script n (calls.Fork block) = forks script n block
 starts_call script n (calls.Exit status) = exits script n status
 starts_call script n calls.GetPid = gets_pid script n
 starts_call script n (calls.MsgGet None create excl) = makes_queue script n (calls.MsgGet None create excl)
-starts_call script n (calls.SemGet None count create excl) = makes_set script n (calls.SemGet None count create excl) count
+starts_call script n (calls.SemGet None count create excl) =
+    makes_set script n (calls.SemGet None count create excl) count
 starts_call script n call = shares script n call
 
 abbrev pub starts : Script → Node → Option Call → Option Step

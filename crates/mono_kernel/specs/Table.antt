@@ -2,14 +2,13 @@
 use Rattle.std.specs.Prelude.{◌≡◌, ℕ, Bool, true, false, nat_eq, Option, Some, None, is_some, Result, Ok, Err, IfSome}
 use Rattle.std.specs.List.{list_any}
 use Rattle.std.specs.Option.{option_map, option_map_or}
-use Rattle.pico_base.specs.declared.reply.Ending.{Ending}
 use Rattle.pico_base.specs.declared.reply.Errno.{Errno}
 use Rattle.pico_base.specs.declared.reply.Errno.TheVariants.{Echild}
 use Rattle.number_maps.specs.Maps.{Numbered, get}
-use Rattle.kernel_model.specs.Row.{Alive, Family, Waited, Found, NotYet, NoChild, lists, ignores_children}
+use Rattle.kernel_model.specs.Row.{Alive, EndedChild, Family, ended_child, Waited, Found, NotYet, NoChild, lists, ignores_children}
 use Rattle.kernel_model.specs.Kernel.{Process, Parent, living_in, parent_in}
 use Rattle.kernel_model.specs.ProcessCalls.{processes_after_wait}
-use Rattle.mono_kernel.specs.Names.{IsRising}
+use Rattle.number_maps.specs.Rising.{IsRising}
 
 -- of the process that lives at a number
 abbrev pub IfLiving : Numbered Process → ℕ → (Alive → Type 0) → Type 0
@@ -17,7 +16,7 @@ IfLiving ps pid P = IfSome (living_in ps pid) P
 
 -- the child is among the ended ones
 abbrev pub keeps : Family → ℕ → Bool
-keeps f child = list_any (λ e. nat_eq child e.0) f.ended
+keeps f child = list_any (λ e. nat_eq child e.pid) f.ended
 
 -- the process lives and lists the child
 abbrev pub lists_there : Numbered Process → ℕ → ℕ → Bool
@@ -31,7 +30,8 @@ ignores_there ps pid = option_map_or (λ a. ignores_children a.row) (living_in p
 -- isn't its own parent, and an ended one that is kept is in the table and doesn't live.
 pub record IsTable (ps : Numbered Process) (parents : Numbered ℕ) : Type 0 where
   pub rising : IsRising ps
-  pub parent : (p child : ℕ) (a : Alive) → living_in ps p ≡ Some a → lists a.row.family child ≡ true → get parents child ≡ Some p
+  pub parent : (p child : ℕ) (a : Alive) → living_in ps p ≡ Some a → lists a.row.family child ≡ true
+      → get parents child ≡ Some p
   pub listed : (p child : ℕ) (a : Alive) → living_in ps p ≡ Some a → lists a.row.family child ≡ true
       → (is_some (get ps child) ≡ true) × (nat_eq child p ≡ false)
   pub kept : (p child : ℕ) (a : Alive) → living_in ps p ≡ Some a → keeps a.row.family child ≡ true
@@ -50,8 +50,8 @@ parent_at ps None = None
 parent_at ps (Some pid) = option_map (as_parent pid) (living_in ps pid)
 
 -- waitpid: what is found, and the table afterwards
-abbrev pub waited_as : Waited → Result (Option (ℕ × Ending)) Errno
-waited_as (Found child ending) = Ok (Some (child, ending))
+abbrev pub waited_as : Waited → Result (Option EndedChild) Errno
+waited_as (Found child ending) = Ok (Some (ended_child child ending))
 waited_as NotYet = Ok None
 waited_as NoChild = Err Echild
 

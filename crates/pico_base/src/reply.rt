@@ -1,3 +1,4 @@
+//! Replies, endings, outcomes and the entries of a journal.
 ghost use Rattle.std.specs.Prelude.{◌≡◌, IfOk, Some, []};
 
 use crate::{Bytes, Call, Memory, Node, Pid, Sequence, Sig, SigSet, Values};
@@ -25,6 +26,13 @@ pub enum Errno {
 pub enum Ending {
     Exited(u8),
     Killed(Sig),
+}
+
+/// A child that has ended and is kept for its parent, and how it ended.
+#[derive(Clone, Copy, Debug, PartialEq, Eq)]
+pub struct EndedChild {
+    pub pid: Pid,
+    pub ending: Ending,
 }
 
 /// What a call gives its caller.

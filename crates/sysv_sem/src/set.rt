@@ -1,3 +1,4 @@
+//! A semaphore set as its node holds it.
 ghost use Rattle.std.specs.Prelude.{◌≡◌, ◌↔◌, Ok, Err, IfOk, IfErr, OnErr, IsTrue, length};
 ghost use Rattle.sysv_sem.specs.declared.fault.NewFault.TheVariants.{BadCount};
 ghost use Rattle.kernel_model.specs.SemaphoreSet as definition;
@@ -25,15 +26,16 @@ pub struct SemSet {
 }
 
 impl Model for SemSet {
-    ghost use Rattle.std.specs.Prelude.{◌≡◌, List, length};
-    ghost use Rattle.kernel_model.specs.SemaphoreSet.{Semaphore as Item};
+    ghost use Rattle.std.specs.Prelude.{◌≡◌, length};
+    ghost use Rattle.kernel_model.specs.SemaphoreSet.{SemaphoreSet as Value_};
     ghost use Rattle.sysv_sem.specs.Limits.{IsWithinLimits};
 
-    ghost Value = { List Item };
+    ghost Value = { Value_ };
 
-    ghost view = { λ s. s.semaphores.items };
+    ghost view = { λ s. record { semaphores = s.semaphores.items } };
 
-    ghost invariant = { λ s. (length s.scratch.items ≡ length s.semaphores.items) × IsWithinLimits s.semaphores.items };
+    ghost invariant = { λ s. (length s.scratch.items ≡ length s.semaphores.items)
+        × IsWithinLimits (record { semaphores = s.semaphores.items }) };
 }
 
 impl SemSet {
@@ -114,7 +116,7 @@ impl SemSet {
 
     /// `semctl` with GETALL: the values, in order.
     pub fn all(&self) -> Result<Values, Memory>
-        ensures { IfOk result (λ values. values ≡ definition.values_of self.now) }
+        ensures { IfOk result (λ values. values ≡ definition.values_of self.now.semaphores) }
     {
         let alloc = *self.semaphores.allocator();
         let mut values = vec![in alloc; 0; self.semaphores.len()]?;
@@ -124,7 +126,7 @@ impl SemSet {
 
     /// How many semaphores there are.
     pub fn size(&self) -> u32
-        ensures { result ≡ length self.now }
+        ensures { result ≡ length self.now.semaphores }
     {
         self.semaphores.len() as u32
     }

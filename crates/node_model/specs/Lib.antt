@@ -1,0 +1,11 @@
+pub mod Kinds
+pub mod Directory
+pub mod Cache
+pub mod Leases
+pub mod Caller
+pub mod Bodies
+pub mod Spelling
+pub mod Serving
+pub mod Parcels
+pub mod Watches
+pub mod Examples
