@@ -21,7 +21,8 @@ use Rattle.script_reader.proofs.Opened.{neither, not_both, inside_of, number_her
 
 -- ---- one item more
 
-pub all_push : {A : Type 0} (test : A → Bool) (xs : List A) (x : A) → list_all test xs ≡ true → test x ≡ true → list_all test (xs ++ x ∷ []) ≡ true
+pub all_push : {A : Type 0} (test : A → Bool) (xs : List A) (x : A) → list_all test xs ≡ true → test x ≡ true
+    → list_all test (xs ++ x ∷ []) ≡ true
 all_push test xs x h k = list_all-append test xs (x ∷ []) ∙ rw (h, k) refl
 
 and_true : (a : Bool) → (a && true) ≡ a
@@ -34,7 +35,8 @@ is_going line = not (model.is_exit line.call)
 abbrev pub is_prompt : Line → Bool
 is_prompt line = not (is_waiting line.call)
 
-ends_push : (lines : List Line) (line : Line) → list_all is_going lines ≡ true → model.ends_rightly (lines ++ line ∷ []) ≡ true
+ends_push : (lines : List Line) (line : Line) → list_all is_going lines ≡ true
+    → model.ends_rightly (lines ++ line ∷ []) ≡ true
 ends_push [] line h = ends_alone (model.is_exit line.call)
   where
     ends_alone : (b : Bool) → ((not b || true) && true) ≡ true
@@ -44,13 +46,15 @@ ends_push (l ∷ lines) line h =
     let p = and_parts (is_going l) (list_all is_going lines) h in
     rw (p.0, ends_push lines line p.1) refl
 
-exit_push : (lines : List Line) (line : Line) → list_all is_going lines ≡ true → model.is_exit line.call ≡ true → model.with_exit (lines ++ line ∷ []) ≡ lines ++ line ∷ []
+exit_push : (lines : List Line) (line : Line) → list_all is_going lines ≡ true → model.is_exit line.call ≡ true
+    → model.with_exit (lines ++ line ∷ []) ≡ lines ++ line ∷ []
 exit_push [] line h e = rw e refl
 exit_push (l ∷ lines) line h e =
     let p = and_parts (is_going l) (list_all is_going lines) h in
     rw (not-true (model.is_exit l.call) p.0, exit_push lines line p.1 e) refl
 
-exit_implied : (lines : List Line) → list_all is_going lines ≡ true → model.with_exit lines ≡ lines ++ model.implied_exit ∷ []
+exit_implied : (lines : List Line) → list_all is_going lines ≡ true
+    → model.with_exit lines ≡ lines ++ model.implied_exit ∷ []
 exit_implied [] h = refl
 exit_implied (l ∷ lines) h =
     let p = and_parts (is_going l) (list_all is_going lines) h in
@@ -59,13 +63,17 @@ exit_implied (l ∷ lines) h =
 abbrev pub tries_of : Line → ℕ
 tries_of line = line.tries
 
-tries_push : (lines : List Line) (line : Line) → sum_by tries_of (lines ++ line ∷ []) ≡ sum_by tries_of lines + line.tries
+tries_push : (lines : List Line) (line : Line)
+    → sum_by tries_of (lines ++ line ∷ []) ≡ sum_by tries_of lines + line.tries
 tries_push lines line = sum_by-append tries_of lines (line ∷ []) ∙ omega arith
 
-built_push : (k n : ℕ) (blocks : List Block) (block : Block) → k + length blocks ≡ n → list_all is_built_block (enumerate_from k blocks) ≡ true → list_all (is_built_line n) block.lines ≡ true → list_all is_built_block (enumerate_from k (blocks ++ block ∷ [])) ≡ true
+built_push : (k n : ℕ) (blocks : List Block) (block : Block) → k + length blocks ≡ n
+    → list_all is_built_block (enumerate_from k blocks) ≡ true → list_all (is_built_line n) block.lines ≡ true
+    → list_all is_built_block (enumerate_from k (blocks ++ block ∷ [])) ≡ true
 built_push k n [] block e h b =
     let same : n ≡ k = omega (arith, e) in
-    let there : list_all (is_built_line k) block.lines ≡ true = subst (λ (m : ℕ). list_all (is_built_line m) block.lines ≡ true) same b in
+    let there : list_all (is_built_line k) block.lines ≡ true =
+    subst (λ (m : ℕ). list_all (is_built_line m) block.lines ≡ true) same b in
     rw there refl
 built_push k n (x ∷ blocks) block e h b =
     let p = and_parts (is_built_block (k, x)) (list_all is_built_block (enumerate_from (k + 1) blocks)) h in
@@ -90,7 +98,9 @@ pub record IsTidy (runnable : Bool) (place : Place) : Type 0 where
   pub blocks_built : runnable ≡ true → list_all is_built_block (enumerate_from 1 place.blocks) ≡ true
   pub built : runnable ≡ true → list_all (is_built_line (length place.blocks + 1)) place.lines ≡ true
 
-tidy_open : (runnable : Bool) (place : Place) (size : ℕ) (name : List ℕ) (number : ℕ) → IsTidy runnable place → model.is_name name ≡ true → IsFaultless runnable place size (Opens name number) → IsTidy runnable (spec.opened place name number)
+tidy_open : (runnable : Bool) (place : Place) (size : ℕ) (name : List ℕ) (number : ℕ) → IsTidy runnable place
+    → model.is_name name ≡ true → IsFaultless runnable place size (Opens name number)
+    → IsTidy runnable (spec.opened place name number)
 tidy_open runnable place size name number h good f =
     let here = number_here runnable place size name number f in
     record {
@@ -105,23 +115,30 @@ tidy_open runnable place size name number h good f =
       end = refl;
       going = λ _. refl;
       gone = λ e. absurd (no_true (sym e));
-      counted = h.counted ∙ ap (λ (ls : List Line). sum_by model.calls_in place.blocks + sum_by tries_of ls) (h.outside here.0);
+      counted = h.counted ∙ ap (λ (ls : List Line). sum_by model.calls_in place.blocks + sum_by tries_of ls)
+          (h.outside here.0);
       few = h.few;
       blocks_built = h.blocks_built;
       built = λ _. refl;
     }
 
-implied_count : (over : Bool) (lines : List Line) → (over ≡ false → list_all is_going lines ≡ true) → (over ≡ true → model.with_exit lines ≡ lines) → sum_by tries_of (model.with_exit lines) ≡ sum_by tries_of lines + cond over 0 1
+implied_count : (over : Bool) (lines : List Line) → (over ≡ false → list_all is_going lines ≡ true)
+    → (over ≡ true → model.with_exit lines ≡ lines)
+    → sum_by tries_of (model.with_exit lines) ≡ sum_by tries_of lines + cond over 0 1
 implied_count true lines f g = ap (sum_by tries_of) (g refl) ∙ omega arith
 implied_count false lines f g = ap (sum_by tries_of) (exit_implied lines (f refl)) ∙ tries_push lines model.implied_exit
 
-tidy_end : (runnable : Bool) (place : Place) (size : ℕ) → IsTidy runnable place → IsFaultless runnable place size Ends → IsTidy runnable (spec.behind place Ends)
+tidy_end : (runnable : Bool) (place : Place) (size : ℕ) → IsTidy runnable place → IsFaultless runnable place size Ends
+    → IsTidy runnable (spec.behind place Ends)
 tidy_end runnable place size h f =
     let block : Block = record { name = place.name; lines = place.lines } in
     let within = inside_of place Ends f.no_proc refl in
     let one : sum_by model.calls_in (block ∷ []) ≡ model.calls_in block = omega arith in
-    let count : model.calls_in block ≡ sum_by tries_of place.lines + cond place.over 0 1 = implied_count place.over place.lines h.going h.gone in
-    let all : sum_by model.calls_in (place.blocks ++ block ∷ []) ≡ sum_by model.calls_in place.blocks + sum_by model.calls_in (block ∷ []) = sum_by-append model.calls_in place.blocks (block ∷ []) in
+    let count : model.calls_in block ≡ sum_by tries_of place.lines + cond place.over 0 1 =
+    implied_count place.over place.lines h.going h.gone in
+    let all : sum_by model.calls_in (place.blocks ++ block ∷ [])
+    ≡ sum_by model.calls_in place.blocks + sum_by model.calls_in (block ∷ []) =
+    sum_by-append model.calls_in place.blocks (block ∷ []) in
     let same : 1 + length place.blocks ≡ length place.blocks + 1 = omega arith in
     record {
       names = all_push (λ (b : Block). model.is_name b.name) place.blocks block h.names (h.name within);
@@ -142,7 +159,17 @@ tidy_end runnable place size h f =
     }
 
 -- one more line of the open block
-tidy_line : (runnable : Bool) (place : Place) (line : Line) (known : List Bool) → IsTidy runnable place → place.over ≡ false → model.is_line line ≡ true → is_prompt line ≡ true → (runnable ≡ true → is_built_line (length place.blocks + 1) line ≡ true) → place.inside ≡ true → place.calls + line.tries ≤ 20000 → IsTidy runnable (record place { lines = place.lines ++ line ∷ []; over = model.is_exit line.call; known = known; calls = place.calls + line.tries })
+tidy_line : (runnable : Bool) (place : Place) (line : Line) (known : List Bool) → IsTidy runnable place
+    → place.over ≡ false → model.is_line line ≡ true → is_prompt line ≡ true
+    → (runnable ≡ true → is_built_line (length place.blocks + 1) line ≡ true) → place.inside ≡ true
+    → place.calls + line.tries ≤ 20000
+    → IsTidy runnable (record place {
+      lines = place.lines ++ line ∷ [];
+      over = model.is_exit line.call;
+      known =
+          known;
+      calls = place.calls + line.tries;
+    })
 tidy_line runnable place line known h going is prompt built within few =
     record {
       names = h.names;
@@ -166,22 +193,32 @@ built_from : (runnable b : Bool) → (runnable && not b) ≡ false → runnable 
 built_from runnable true e r = refl
 built_from runnable false e r = absurd (no_true (sym r ∙ not_both runnable true e refl))
 
-going_of : (runnable : Bool) (place : Place) (size : ℕ) (said : Said) → IsFaultless runnable place size said → spec.is_call said ≡ true → place.over ≡ false
+going_of : (runnable : Bool) (place : Place) (size : ℕ) (said : Said) → IsFaultless runnable place size said
+    → spec.is_call said ≡ true → place.over ≡ false
 going_of runnable place size said f is =
-    not_both place.over (spec.is_call said) (neither (spec.repeats place said) (place.over && spec.is_call said) (neither (spec.is_bad said) (spec.repeats place said || (place.over && spec.is_call said)) f.good).1).1 is
+    not_both place.over (spec.is_call said)
+    (neither (spec.repeats place said) (place.over && spec.is_call said)
+    (neither (spec.is_bad said) (spec.repeats place said || (place.over && spec.is_call said)) f.good).1).1 is
 
-fork_is_line : (set : Option ℕ) (number : ℕ) → model.is_variable set ≡ true → model.is_line (spec.fork_line set number) ≡ true
+fork_is_line : (set : Option ℕ) (number : ℕ) → model.is_variable set ≡ true
+    → model.is_line (spec.fork_line set number) ≡ true
 fork_is_line None number h = refl
 fork_is_line (Some v) number h = rw h refl
 
-pub tidy_step : (runnable : Bool) (names : List (List ℕ)) (place : Place) (size : ℕ) (o : Option (List ℕ)) (said : Said) → IsTidy runnable place → IsFine names o said → IsFaultless runnable place size said → IsTidy runnable (spec.behind place said)
-tidy_step runnable names place size o (Opens name number) h fine f = tidy_open runnable place size name number h fine.0 f
+pub tidy_step : (runnable : Bool) (names : List (List ℕ)) (place : Place) (size : ℕ) (o : Option (List ℕ)) (said : Said)
+    → IsTidy runnable place → IsFine names o said → IsFaultless runnable place size said
+    → IsTidy runnable (spec.behind place said)
+tidy_step runnable names place size o (Opens name number) h fine f =
+    tidy_open runnable place size name number h fine.0 f
 tidy_step runnable names place size o Skipped h fine f = h
 tidy_step runnable names place size o Ends h fine f = tidy_end runnable place size h f
 tidy_step runnable names place size o (Forks set None) h fine f = h
 tidy_step runnable names place size o (Forks set (Some number)) h fine f =
     let line : Line = spec.fork_line set number in
-    let t = tidy_line runnable place line (spec.known_with place.known set) h (going_of runnable place size (Forks set (Some number)) f refl) (fork_is_line set number fine.0) refl (built_from runnable (is_built_line (length place.blocks + 1) line) f.built) (inside_of place (Forks set (Some number)) f.no_proc refl) (ltb-false 20000 (place.calls + 1) f.few_calls) in
+    let t = tidy_line runnable place line (spec.known_with place.known set) h
+    (going_of runnable place size (Forks set (Some number)) f refl) (fork_is_line set number fine.0) refl
+    (built_from runnable (is_built_line (length place.blocks + 1) line) f.built)
+    (inside_of place (Forks set (Some number)) f.no_proc refl) (ltb-false 20000 (place.calls + 1) f.few_calls) in
     record {
       names = t.names;
       name = t.name;
@@ -200,7 +237,10 @@ tidy_step runnable names place size o (Forks set (Some number)) h fine f =
       built = t.built;
     }
 tidy_step runnable names place size o (Calls line) h fine f =
-    tidy_line runnable place line (spec.known_with place.known line.set) h (going_of runnable place size (Calls line) f refl) fine.0 (ap not f.at_once) (built_from runnable (is_built_line (length place.blocks + 1) line) f.built) (inside_of place (Calls line) f.no_proc refl) (ltb-false 20000 (place.calls + line.tries) f.few_calls)
+    tidy_line runnable place line (spec.known_with place.known line.set) h
+    (going_of runnable place size (Calls line) f refl) fine.0 (ap not f.at_once)
+    (built_from runnable (is_built_line (length place.blocks + 1) line) f.built)
+    (inside_of place (Calls line) f.no_proc refl) (ltb-false 20000 (place.calls + line.tries) f.few_calls)
 tidy_step runnable names place size o BadProc h fine f = absurd (no_true f.good)
 tidy_step runnable names place size o Bad h fine f = absurd (no_true f.good)
 tidy_step runnable names place size o Unknown h fine f =
