@@ -3,7 +3,7 @@ ghost use Rattle.number_maps.specs.Maps.{Numbered, get, put, is_used, used_with}
 ghost use Rattle.kernel_model.specs.QueueCalls.{unbind};
 ghost use Rattle.mono_kernel.specs.Names.{IsRising, with_name, keys_with, ways_with, bound_to, HasWays, LeadsNowhere, LeadsOnly};
 
-use pico_base::Memory;
+use pico_base::{Id, Memory};
 use std::alloc::Global;
 use std::collections::{BTreeMap, BTreeSet};
 use std::marker::Model;
@@ -86,7 +86,7 @@ fn free(keys: &mut BTreeMap<u32, u32>, key: Option<u32>)
 fn give_out<T: Drop>(
     used: &mut BTreeSet<u32>,
     keys: &mut BTreeMap<u32, u32>,
-    things: &mut BTreeMap<u32, T>,
+    things: &mut BTreeMap<Id, T>,
     number: u32,
     key: Option<u32>,
     thing: T,
@@ -103,7 +103,7 @@ fn give_out<T: Drop>(
         used.remove(&number);
         return Err(memory);
     }
-    if things.insert(number, thing).is_err() {
+    if things.insert(Id(number), thing).is_err() {
         free(keys, key);
         used.remove(&number);
         return Err(Memory);
@@ -141,7 +141,7 @@ impl Names {
     /// changes nothing.
     pub(crate) fn add<T: Drop>(
         &mut self,
-        things: &mut BTreeMap<u32, T>,
+        things: &mut BTreeMap<Id, T>,
         number: u32,
         key: Option<u32>,
         thing: T,
