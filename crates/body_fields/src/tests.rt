@@ -1,3 +1,4 @@
+//! Numbers of two and of four bytes, read at their edges.
 use crate::{u8_at, u8_upto, u16_at, u16_upto, u32_at, u32_upto};
 use std::test::Fail;
 

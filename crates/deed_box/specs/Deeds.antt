@@ -4,7 +4,7 @@ use Rattle.std.specs.Coded.{Coded, code_by, coded×, coded_list, coded_ℕ}
 use Rattle.pico_base.specs.declared.numbers.Name.{Name}
 use Rattle.pico_base.specs.declared.numbers.Name.TheVariants.{Proc, Msg, Sem}
 use Rattle.number_maps.specs.Maps.{Numbered}
-use Rattle.node_model.specs.Kinds.{Named, get_named, put_named}
+use Rattle.node_model.specs.Kinds.{Named, get_named}
 
 -- the bodies of the names that are held
 pub record Holdings (B : Type 0) : Type 0 where
@@ -20,11 +20,6 @@ holdings_code {B} b =
     (coded× (coded_numbered b) (coded× (coded_numbered b) (coded× (coded_numbered b) coded_ℕ)))
     (λ h. (h.bodies.processes, (h.bodies.queues, (h.bodies.sets, h.spare))))
     (λ p. record { bodies = record { processes = p.0; queues = p.1.0; sets = p.1.1.0 }; spare = p.1.1.1 }) (λ _. refl)
-
--- with these deeds besides
-abbrev pub with_deeds : {B : Type 0} → Named B → List (Name × B) → Named B
-with_deeds bodies [] = bodies
-with_deeds bodies (deed ∷ deeds) = with_deeds (put_named bodies deed.0 deed.1) deeds
 
 -- The deeds one after another, in the order in which a node hands them over: queues, then sets, then processes, each by
 -- rising number.

@@ -65,10 +65,7 @@ impl<B> Deeds<B> {
         ensures keeps { self.old.spare ≤ self.new.spare }
         ensures same { self.new.bodies ≡ self.old.bodies }
     {
-        let count = self.count().and_then(|count| count.checked_add(more as usize)).ok_or(Memory)?;
-        self.processes.reserve_for(count)?;
-        self.queues.reserve_for(count)?;
-        self.sets.reserve_for(count)
+        self.reserve_many(more as usize)
     }
 
     /// For how many more deeds there is room.
@@ -175,5 +172,65 @@ impl<B> Deeds<B> {
             Name::Msg(id) => self.queues.body_mut(id.0),
             Name::Sem(id) => self.sets.body_mut(id.0),
         }
+    }
+
+    /// Takes room for so many more deeds.
+    pub(crate) fn reserve_many(&mut self, more: usize) -> Result<(), Memory>
+        ensures room { OnOk result (more ≤ self.new.spare) }
+        ensures keeps { self.old.spare ≤ self.new.spare }
+        ensures same { self.new.bodies ≡ self.old.bodies }
+    {
+        let count = self.count().and_then(|count| count.checked_add(more)).ok_or(Memory)?;
+        self.processes.reserve_for(count)?;
+        self.queues.reserve_for(count)?;
+        self.sets.reserve_for(count)
+    }
+
+    /// Puts a deed for which there is room, in place of one that is there.
+    pub(crate) fn set(&mut self, name: Name, body: B)
+    where
+        B: Drop,
+        requires { 0 < self.old.spare }
+        ensures bodies { self.new.bodies ≡ put_named self.old.bodies name body }
+        ensures spare { self.old.spare ≤ self.new.spare + 1 }
+    {
+        match name {
+            Name::Proc(pid) => self.processes.set(pid.0, body),
+            Name::Msg(id) => self.queues.set(id.0, body),
+            Name::Sem(id) => self.sets.set(id.0, body),
+        }
+    }
+
+    /// Drops all deeds, and keeps the room.
+    pub(crate) fn clear(&mut self)
+    where
+        B: Drop,
+        ensures { self.new.bodies ≡ none_named }
+    {
+        self.processes.clear();
+        self.queues.clear();
+        self.sets.clear();
+    }
+
+    pub(crate) fn allocator(&self) -> Global {
+        self.alloc
+    }
+
+    pub(crate) fn processes(&self) -> &[(u32, B)]
+        ensures { result.now ≡ self.now.bodies.processes }
+    {
+        self.processes.as_slice()
+    }
+
+    pub(crate) fn queues(&self) -> &[(u32, B)]
+        ensures { result.now ≡ self.now.bodies.queues }
+    {
+        self.queues.as_slice()
+    }
+
+    pub(crate) fn sets(&self) -> &[(u32, B)]
+        ensures { result.now ≡ self.now.bodies.sets }
+    {
+        self.sets.as_slice()
     }
 }

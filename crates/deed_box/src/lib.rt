@@ -4,8 +4,11 @@
 
 mod deed;
 mod deeds;
+mod packing;
 mod shared;
 mod table;
+#[cfg(test)]
+mod tests;
 
 pub use deed::Deed;
 pub use deeds::Deeds;

@@ -1,3 +1,4 @@
+//! The two lists of a family, and the bytes that they travel as.
 ghost use Rattle.std.specs.Prelude.{◌≡◌, ◌<◌, ◌≤◌, IfErr, IfOk, IsTrue, MatchOption, OnOk, false, length, nat_eq, not};
 ghost use Rattle.std.specs.List.{filter, list_any};
 ghost use Rattle.std.specs.Vec.{vec_capacity};
@@ -46,7 +47,9 @@ impl Model for Family {
 
     ghost view = { λ f. record { living = f.living.items; ended = f.ended.items } };
 
-    ghost invariant = { λ f. HasRoom (record { living = f.living.items; ended = f.ended.items }) (vec_capacity f.living) (vec_capacity f.ended) };
+    ghost invariant = { λ f.
+        HasRoom (record { living = f.living.items; ended = f.ended.items }) (vec_capacity f.living)
+        (vec_capacity f.ended) };
 }
 
 impl Family {

@@ -1,3 +1,4 @@
+//! The whole kernel as a plain program, one call at a time.
 ghost use Rattle.std.specs.Prelude.{◌≡◌, ◌↔◌, false, IfOk, OnErr, IsErrOf, IsSome, IfSome, Some, None};
 ghost use Rattle.std.specs.Option.{option_map_or};
 ghost use Rattle.number_maps.specs.Maps.{get};
@@ -71,7 +72,8 @@ impl Kernel {
     /// may still do. After `Memory` and `NotAllowed` the kernel is unchanged. `NotAllowed` comes
     /// exactly where the kernel has no transition.
     pub fn call(&mut self, pid: Pid, call: &Call, chosen: u32) -> Result<Outcome, CallFault>
-        ensures ok { IfOk result (λ outcome. transition self.old pid call.now chosen ≡ Some (successor self.new outcome)) }
+        ensures ok { IfOk result
+            (λ outcome. transition self.old pid call.now chosen ≡ Some (successor self.new outcome)) }
         ensures not_allowed { IsErrOf result CallFault.NotAllowed ↔ (transition self.old pid call.now chosen ≡ None) }
         ensures err { OnErr result (self.new ≡ self.old) }
     {
@@ -103,7 +105,8 @@ impl Kernel {
     /// The call's effect and reply.
     fn carry_out(&mut self, pid: Pid, call: &Call, chosen: u32) -> Result<Reply, CallFault>
         requires { IsSome (living_at self.old pid) }
-        ensures { IfSome (living_at self.old pid) (λ a. Answers (effect self.old pid a call.now chosen) result self.old self.new) }
+        ensures { IfSome (living_at self.old pid)
+            (λ a. Answers (effect self.old pid a call.now chosen) result self.old self.new) }
     {
         match call {
             Call::Fork { .. } => self.fork(pid, chosen),

@@ -1,9 +1,10 @@
+//! Ordered maps by number, whose growth may be refused.
 ghost use Rattle.std.specs.Prelude.{◌≡◌, IfOk, OnErr, is_some};
 ghost use Rattle.std.specs.Bool.{OnFalse};
 ghost use Rattle.number_maps.specs.Maps.{get, without};
 ghost use Rattle.kernel_model.specs.Queue.{send, receive, set_qbytes};
 ghost use Rattle.kernel_model.specs.SemaphoreSet.{op, set_value, set_all};
-ghost use Rattle.mono_kernel.specs.Answers.{Changes, Receives, done_reply};
+ghost use Rattle.call_answers.specs.Answers.{Changes, Receives, done_reply};
 
 use crate::queue::MessageQueue;
 use crate::semaphores::SemaphoreSet;
@@ -36,7 +37,8 @@ pub(crate) fn send_at(
     class: i32,
     text: &Bytes,
 ) -> Result<Reply, Memory>
-    ensures ok { IfOk result (λ reply. Changes (λ q. send q pid class text.now) queues.old.entries id queues.new.entries reply) }
+    ensures ok { IfOk result
+        (λ reply. Changes (λ q. send q pid class text.now) queues.old.entries id queues.new.entries reply) }
     ensures err { OnErr result (queues.new.entries ≡ queues.old.entries) }
 {
     match queues.get_mut(&id) {

@@ -1,3 +1,4 @@
+//! One living process: its signals, its family, and what it may still do.
 ghost use Rattle.std.specs.Prelude.{◌≡◌, ◌↔◌, true, OnOk, OnErr, IfOk, IsTrue};
 ghost use Rattle.std.specs.Option.{option_copied};
 ghost use Rattle.std.specs.List.{list_any};
@@ -36,7 +37,11 @@ impl Model for LiveProcess {
 
     ghost Value = { Alive };
 
-    ghost view = { λ a. record { row = record { signals = a.signals; family = a.family }; allowance = allowance_of a.allowance } };
+    ghost view = { λ a. record {
+      row = record { signals = a.signals; family = a.family };
+      allowance =
+          allowance_of a.allowance;
+    } };
 }
 
 /// A change of a living process.

@@ -1,3 +1,4 @@
+//! All processes by number: who lives, has ended or is gone, and who lists whom.
 ghost use Rattle.std.specs.Prelude.{◌≡◌, ◌∷◌, ◌↔◌, ℕ, [], true, not, map, fold, OnOk, OnErr, IfOk, IsTrue, Some, None, IsSome, IsNone, IfSome, is_some, false, nat_eq};
 ghost use Rattle.std.specs.Option.{option_copied, option_map};
 ghost use Rattle.std.specs.List.{All, list_any};
@@ -7,7 +8,7 @@ ghost use Rattle.kernel_model.specs.Row.{Free, new_row, wait, lists, matches, fi
 ghost use Rattle.kernel_model.specs.Kernel.{Living, Ended, Gone, alive_in, living_in, parent_in};
 ghost use Rattle.kernel_model.specs.ProcessCalls.{bury, process_after_end, end_under, parent_after_fork, processes_after_fork, processes_after_end, processes_after_wait};
 ghost use Rattle.mono_kernel.specs.Process.{changed, CanChange, IsPlain};
-ghost use Rattle.mono_kernel.specs.Names.{IsRising};
+ghost use Rattle.number_maps.specs.Rising.{IsRising};
 ghost use Rattle.mono_kernel.specs.Table.{IfLiving, lists_there, ignores_there, parent_number, parent_at, waited_as, table_after};
 
 use crate::process::{Change, LiveProcess, ProcessCell};
@@ -40,7 +41,8 @@ impl Model for Processes {
 fn change_at(cells: &mut BTreeMap<Pid, ProcessCell>, pid: Pid, change: Change)
     requires lives { IsSome (living_in cells.old.entries pid) }
     requires can { IfLiving cells.old.entries pid (CanChange change) }
-    ensures changed { IfLiving cells.old.entries pid (λ a. cells.new.entries ≡ put cells.old.entries pid (Living (changed change a))) }
+    ensures changed { IfLiving cells.old.entries pid
+        (λ a. cells.new.entries ≡ put cells.old.entries pid (Living (changed change a))) }
     ensures same_numbers { keys_of cells.new.entries ≡ keys_of cells.old.entries }
     ensures rising { IsRising cells.new.entries }
 {
@@ -65,7 +67,9 @@ fn settle_at(cells: &mut BTreeMap<Pid, ProcessCell>, pid: Pid, cell: ProcessCell
 /// A new child of the process that lives at a number. A refusal changes nothing.
 fn add_child_at(cells: &mut BTreeMap<Pid, ProcessCell>, pid: Pid, child: Pid) -> Result<(), Memory>
     requires { IsSome (living_in cells.old.entries pid) }
-    ensures ok { OnOk result (IfLiving cells.old.entries pid (λ a. cells.new.entries ≡ put cells.old.entries pid (Living (parent_after_fork a child)))) }
+    ensures ok { OnOk result
+        (IfLiving cells.old.entries pid
+        (λ a. cells.new.entries ≡ put cells.old.entries pid (Living (parent_after_fork a child)))) }
     ensures err { OnErr result (cells.new.entries ≡ cells.old.entries) }
     ensures same_numbers { keys_of cells.new.entries ≡ keys_of cells.old.entries }
     ensures rising { IsRising cells.new.entries }
@@ -85,7 +89,9 @@ fn fork_at(
 ) -> Result<(), Memory>
     requires lives { IsSome (living_in cells.old.entries pid) }
     requires fresh { get cells.old.entries child ≡ None }
-    ensures ok { OnOk result (IfLiving cells.old.entries pid (λ a. cells.new.entries ≡ put (put cells.old.entries child cell) pid (Living (parent_after_fork a child)))) }
+    ensures ok { OnOk result
+        (IfLiving cells.old.entries pid
+        (λ a. cells.new.entries ≡ put (put cells.old.entries child cell) pid (Living (parent_after_fork a child)))) }
     ensures numbers { OnOk result (keys_of cells.new.entries ≡ used_with (keys_of cells.old.entries) child) }
     ensures err { OnErr result (cells.new.entries ≡ cells.old.entries) }
     ensures rising { IsRising cells.new.entries }
@@ -161,7 +167,8 @@ impl Processes {
         requires lives { IsSome (living_in self.old parent) }
         requires listed { IfLiving self.old parent (λ a. lists a.row.family child ≡ true) }
         requires ended { living_in self.old child ≡ None }
-        ensures changed { IfLiving self.old parent (λ a. self.new ≡ put self.old parent (Living (with_ended_child a child ending))) }
+        ensures changed { IfLiving self.old parent
+            (λ a. self.new ≡ put self.old parent (Living (with_ended_child a child ending))) }
         ensures same_numbers { keys_of self.new ≡ keys_of self.old }
     {
         change_at(&mut self.cells, parent, Change::EndChild { child, ending });
@@ -244,7 +251,9 @@ impl Processes {
     fn ended_children(&self, alloc: Global, pid: Pid) -> Result<Vec<EndedChild>, Memory>
         requires { IsSome (living_in self.now pid) }
         ensures children { IfOk result (λ children. IfLiving self.now pid (λ a. children.items ≡ a.row.family.ended)) }
-        ensures ended { IfOk result (λ children. All (λ e. (is_some (get self.now e.pid) ≡ true) × (living_in self.now e.pid ≡ None)) children.items) }
+        ensures ended { IfOk result
+            (λ children. All (λ e. (is_some (get self.now e.pid) ≡ true)
+            × (living_in self.now e.pid ≡ None)) children.items) }
     {
         let _ = &self.cells;
         match self.alive(pid) {
@@ -256,7 +265,8 @@ impl Processes {
     /// The end of a process (exit).
     pub(crate) fn end(&mut self, alloc: Global, pid: Pid, ending: Ending) -> Result<(), Memory>
         requires { IsSome (living_in self.old pid) }
-        ensures ended { OnOk result (IfLiving self.old pid (λ a. self.new ≡ processes_after_end self.old pid a ending)) }
+        ensures ended { OnOk result
+            (IfLiving self.old pid (λ a. self.new ≡ processes_after_end self.old pid a ending)) }
         ensures err { OnErr result (self.new ≡ self.old) }
         ensures same_numbers { keys_of self.new ≡ keys_of self.old }
     {
@@ -324,7 +334,8 @@ impl Processes {
     pub(crate) fn fork(&mut self, alloc: Global, pid: Pid, child: Pid) -> Result<(), Memory>
         requires lives { IsSome (living_in self.old pid) }
         requires fresh { get self.old child ≡ None }
-        ensures forked { OnOk result (IfLiving self.old pid (λ a. self.new ≡ processes_after_fork self.old pid a child)) }
+        ensures forked { OnOk result
+            (IfLiving self.old pid (λ a. self.new ≡ processes_after_fork self.old pid a child)) }
         ensures numbers { OnOk result (keys_of self.new ≡ used_with (keys_of self.old) child) }
         ensures err { OnErr result (self.new ≡ self.old) }
     {

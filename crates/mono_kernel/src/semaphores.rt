@@ -1,3 +1,4 @@
+//! One semaphore set: its values, the trial of a semop, and last processes.
 ghost use Rattle.std.specs.Prelude.{◌≡◌, ◌<◌, length, map, replicate, fold, MatchResult, Ok, Err, Some, IfOk, OnErr, nat_le, nat_lt, vec_len};
 ghost use Rattle.std.specs.List.{All, list_any};
 ghost use Rattle.kernel_model.specs.SemaphoreSet.{max_value, is_bad_count, new_semaphore, values_of, move_by, try_ops, Done, with_values, mark, op, value_at, last_at, waiting_at, set_of, set_value, set_all};
@@ -199,7 +200,8 @@ impl SemaphoreSet {
 
     /// semctl with SETVAL: EINVAL likewise, then ERANGE for a value above the limit.
     pub(crate) fn set_value(&mut self, num: u16, value: u32) -> Result<(), Errno>
-        ensures { MatchResult result (λ _. set_value self.old num value ≡ Ok self.new) (λ e. (set_value self.old num value ≡ Err e) × (self.new ≡ self.old)) }
+        ensures { MatchResult result (λ _. set_value self.old num value ≡ Ok self.new)
+            (λ e. (set_value self.old num value ≡ Err e) × (self.new ≡ self.old)) }
     {
         let place = usize::from(num);
         if place >= self.semaphores.len() {
@@ -258,7 +260,8 @@ impl SemaphoreSet {
     /// semctl with SETALL: EINVAL for another count of values than the set's size, then ERANGE for a
     /// value above the limit.
     pub(crate) fn set_all(&mut self, values: &[u32]) -> Result<(), Errno>
-        ensures { MatchResult result (λ _. set_all self.old values.now ≡ Ok self.new) (λ e. (set_all self.old values.now ≡ Err e) × (self.new ≡ self.old)) }
+        ensures { MatchResult result (λ _. set_all self.old values.now ≡ Ok self.new)
+            (λ e. (set_all self.old values.now ≡ Err e) × (self.new ≡ self.old)) }
     {
         if values.len() != self.semaphores.len() {
             return Err(Errno::Einval);

@@ -7,7 +7,7 @@ ghost use Rattle.node_calls.specs.Caller.{are_rising};
 ghost use Rattle.node_calls.specs.Place.{IsAt, IsGapFor};
 
 use pico_base::{Call, Line, Memory, Sequence, Var, Vars};
-use script_reader::call_with;
+use script_lines::call_with;
 use std::alloc::Global;
 use std::marker::Model;
 

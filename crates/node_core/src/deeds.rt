@@ -168,7 +168,8 @@ impl Deeds {
     /// fork: a new child of the process that lives at a number.
     pub(crate) fn add_child(&mut self, pid: Pid, child: Pid) -> Result<(), Memory>
         requires { IsSome (living_in self.old.processes pid) }
-        ensures { OnOk result (IfSome (living_in self.old.processes pid) (λ a. self.new ≡ fork_held self.old pid a child)) }
+        ensures { OnOk result
+            (IfSome (living_in self.old.processes pid) (λ a. self.new ≡ fork_held self.old pid a child)) }
     {
         add_child_at(&mut self.processes, pid, child)
     }
@@ -181,7 +182,8 @@ impl Deeds {
         ending: Ending,
     ) -> Result<(), Memory>
         requires { IsSome (living_in self.old.processes pid) }
-        ensures { OnOk result (IfSome (living_in self.old.processes pid) (λ a. self.new ≡ end_first self.old pid a ending)) }
+        ensures { OnOk result
+            (IfSome (living_in self.old.processes pid) (λ a. self.new ≡ end_first self.old pid a ending)) }
     {
         let children = ended_children(&self.processes, alloc, pid)?;
         bury(&mut self.processes, children.as_slice())?;
@@ -193,7 +195,8 @@ impl Deeds {
     pub(crate) fn end_child(&mut self, pid: Pid, parent: Pid, ending: Ending) -> Result<(), Memory>
         requires there { IsSome (get self.old.processes parent) }
         requires elsewhere { get self.old.processes pid ≡ None }
-        ensures { OnOk result (IfSome (get self.old.processes parent) (λ p. self.new ≡ end_child self.old pid parent p ending)) }
+        ensures { OnOk result
+            (IfSome (get self.old.processes parent) (λ p. self.new ≡ end_child self.old pid parent p ending)) }
     {
         end_child_at(&mut self.processes, pid, parent, ending)
     }

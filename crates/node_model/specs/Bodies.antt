@@ -1,11 +1,11 @@
 -- What a node holds: for each name that it owns, its body, which is the kernel's part for the name.
-use Rattle.std.specs.Prelude.{ℕ, Bool, true, false, List, [], ◌∷◌, Option, Some, None}
+use Rattle.std.specs.Prelude.{ℕ, Bool, true, false, [], ◌∷◌, Option, Some, None}
 use Rattle.pico_base.specs.declared.numbers.Name.{Name}
 use Rattle.pico_base.specs.declared.numbers.Name.TheVariants.{Proc, Msg, Sem}
 use Rattle.pico_base.specs.declared.reply.Ending.{Ending}
 use Rattle.number_maps.specs.Maps.{Numbered, get}
 use Rattle.kernel_model.specs.Queue.{Queue}
-use Rattle.kernel_model.specs.SemaphoreSet.{Semaphore}
+use Rattle.kernel_model.specs.SemaphoreSet.{SemaphoreSet}
 use Rattle.kernel_model.specs.Row.{Alive, Row, Free}
 use Rattle.kernel_model.specs.Kernel.{Kernel, Process}
 use Rattle.kernel_model.specs.Kernel as kernel
@@ -17,7 +17,7 @@ pub data Body : Type 0 where
   Ended : (ending : Ending) → Body
   Gone : Body
   AQueue : (queue : Queue) → Body
-  ASet : (semaphores : List Semaphore) → Body
+  ASet : (set : SemaphoreSet) → Body
   Removed : Body
 
 -- the deeds that a node holds
@@ -36,9 +36,9 @@ abbrev pub queue_body : Option Queue → Body
 queue_body None = Removed
 queue_body (Some queue) = AQueue queue
 
-abbrev pub set_body : Option (List Semaphore) → Body
+abbrev pub set_body : Option SemaphoreSet → Body
 set_body None = Removed
-set_body (Some semaphores) = ASet semaphores
+set_body (Some set) = ASet set
 
 abbrev pub body_in : Kernel → Name → Body
 body_in k (Proc pid) = process_body (get k.processes pid)
@@ -60,8 +60,8 @@ abbrev pub queues_with : ℕ → Body → Numbered Queue
 queues_with id (AQueue queue) = (id, queue) ∷ []
 queues_with id _ = []
 
-abbrev pub sets_with : ℕ → Body → Numbered (List Semaphore)
-sets_with id (ASet semaphores) = (id, semaphores) ∷ []
+abbrev pub sets_with : ℕ → Body → Numbered SemaphoreSet
+sets_with id (ASet set) = (id, set) ∷ []
 sets_with id _ = []
 
 abbrev pub empty_kernel : Kernel
@@ -105,6 +105,6 @@ fits_name (Proc pid) (Ended ending) = true
 fits_name (Proc pid) Gone = true
 fits_name (Msg id) (AQueue queue) = true
 fits_name (Msg id) Removed = true
-fits_name (Sem id) (ASet semaphores) = true
+fits_name (Sem id) (ASet set) = true
 fits_name (Sem id) Removed = true
 fits_name name body = false

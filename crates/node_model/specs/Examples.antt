@@ -12,11 +12,11 @@ use Rattle.pico_base.specs.declared.signal.SigArg.TheVariants.{Is}
 use Rattle.rpc_frame.specs.declared.deed.Parcel.{Parcel}
 use Rattle.kernel_model.specs.Queue.{empty_queue}
 use Rattle.kernel_model.specs.Signals.{raise}
-use Rattle.kernel_model.specs.Row.{Row, new_row}
+use Rattle.kernel_model.specs.Row.{Row, new_row, ended_child}
 use Rattle.node_model.specs.declared.held.Held.{Held}
 use Rattle.node_model.specs.declared.held.Held.TheVariants.{Request}
 use Rattle.node_model.specs.declared.route.Route.TheVariants as routes
-use Rattle.node_model.specs.Kinds.{Named, none_named, put_named, put_all, get_named}
+use Rattle.node_model.specs.Kinds.{none_named, put_named, put_all, get_named}
 use Rattle.node_model.specs.Directory.{Directory, At, opening_directory, upcoming, with_range, route, place_name, recall, hold, held_for, bound_for, arrive, with_leaving, with_left, stays, place_of}
 use Rattle.node_model.specs.Cache.{Cache, owner_in, learn, look, forget}
 use Rattle.node_model.specs.Leases.{leader_leases, leases_hold}
@@ -130,7 +130,7 @@ unfolding read_body Rattle.node_model.specs.Spelling.read_process
 no_removed_process = refl
 
 new_process_body : read_deed (pack (Proc 2) (Living new_row)) ≡ Some (Living new_row)
-unfolding read_deed read_body body_bytes Rattle.node_model.specs.Spelling.row_bytes Rattle.node_model.specs.Spelling.read_process Rattle.node_model.specs.Spelling.read_row Rattle.node_model.specs.Spelling.read_signals Rattle.node_model.specs.Spelling.read_family Rattle.signal_state.specs.Spelling.signal_bytes Rattle.fork_wait.specs.Spelling.family_bytes Rattle.fork_wait.specs.Reading.family_at Rattle.fork_wait.specs.Reading.numbers_at Rattle.fork_wait.specs.Reading.all_ended_at
+unfolding read_deed read_body body_bytes Rattle.node_model.specs.Spelling.row_bytes Rattle.node_model.specs.Spelling.read_process Rattle.node_model.specs.Spelling.read_row Rattle.node_model.specs.Spelling.read_signals Rattle.node_model.specs.Spelling.read_family Rattle.signal_state.specs.Spelling.signal_bytes Rattle.fork_wait.specs.Spelling.family_bytes Rattle.fork_wait.specs.Reading.family_at Rattle.fork_wait.specs.Reading.numbers_at Rattle.fork_wait.specs.Reading.all_ended_at Rattle.body_fields.specs.Fields.byte_upto
 new_process_body = refl
 
 -- ---- serving
@@ -161,7 +161,7 @@ not_held : serve holding_queue 2 (calls.MsgStat 2) ≡ None
 not_held = refl
 
 abbrev pub parent_row : Row
-parent_row = record { signals = new_row.signals; family = record { living = 9 ∷ []; ended = (3, Exited 7) ∷ [] } }
+parent_row = record { signals = new_row.signals; family = record { living = 9 ∷ []; ended = ended_child 3 (Exited 7) ∷ [] } }
 
 abbrev pub with_family : Deeds
 with_family = put_named (put_named none_named (Proc 2) (Living parent_row)) (Proc 3) (Ended (Exited 7))
@@ -188,6 +188,6 @@ ends_there : commit_exit parcel_of_9 ((9, Living new_row) ∷ []) (Living parent
     ≡ Some (
     (Proc 9, Gone)
     ∷ (Proc 9, Ended (Exited 44))
-    ∷ (Proc 2, Living (record { signals = parent_row.signals; family = record { living = []; ended = (3, Exited 7) ∷ (9, Exited 44) ∷ [] } }))
+    ∷ (Proc 2, Living (record { signals = parent_row.signals; family = record { living = []; ended = ended_child 3 (Exited 7) ∷ ended_child 9 (Exited 44) ∷ [] } }))
     ∷ [])
 ends_there = refl

@@ -1,5 +1,5 @@
 -- The numbers that a node may still give to what it makes: for each kind the rest of its last range, in rising order.
-use Rattle.std.specs.Prelude.{ℕ, Bool, true, false, nat_eq, List, [], ◌∷◌, Option, Some, None}
+use Rattle.std.specs.Prelude.{ℕ, Bool, true, false, nat_eq, List, [], ◌∷◌, None}
 use Rattle.std.specs.List.{list_any, range_with_len}
 use Rattle.pico_base.specs.declared.call.Call.{Call}
 use Rattle.pico_base.specs.declared.call.Call.TheVariants as calls

@@ -1,5 +1,5 @@
 -- What a process hands over at its end, and what its end does to the deeds of who takes it.
-use Rattle.std.specs.Prelude.{ℕ, ◌%◌, Bool, true, false, ◌&&◌, ◌||◌, nat_eq, nat_lt, List, [], ◌∷◌, ◌++◌, map, fold, if◌then◌else◌, Option, Some, None, is_none}
+use Rattle.std.specs.Prelude.{ℕ, ◌%◌, Bool, true, false, ◌&&◌, ◌||◌, nat_eq, nat_lt, List, [], ◌∷◌, ◌++◌, map, if◌then◌else◌, Option, Some, None, is_none}
 use Rattle.std.specs.List.{list_all}
 use Rattle.std.specs.Option.{option_map, option_and_then}
 use Rattle.pico_base.specs.declared.call.Call.{Call}
@@ -17,7 +17,6 @@ use Rattle.kernel_model.specs.Row.{Row, lists}
 use Rattle.kernel_model.specs.Kernel.{Kernel, Parent}
 use Rattle.kernel_model.specs.ProcessCalls.{end_under}
 use Rattle.kernel_model.specs.Transition.{is_doomed_by}
-use Rattle.node_model.specs.Kinds.{put_named}
 use Rattle.node_model.specs.Bodies.{Body, Living, Gone, Deeds, empty_kernel, free_to_act, is_over_body}
 use Rattle.node_model.specs.Spelling.{pack, read_deed}
 use Rattle.node_model.specs.Serving.{parts_in}
@@ -129,4 +128,4 @@ commit_exit parcel bodies parent =
 
 -- process 1 ends, which no process is the parent of, and with it what it keeps of its children
 abbrev pub end_first : ℕ → Row → List (Name × Body)
-end_first pid row = all_gone (map (λ e. e.0) row.family.ended ++ pid ∷ [])
+end_first pid row = all_gone (map (λ e. e.pid) row.family.ended ++ pid ∷ [])

@@ -33,7 +33,7 @@ body_bytes (Living row) = 1 ∷ row_bytes row
 body_bytes (Ended ending) = 2 ∷ ending_bytes ending
 body_bytes Gone = 3 ∷ []
 body_bytes (AQueue queue) = queue_bytes queue
-body_bytes (ASet semaphores) = set_bytes semaphores
+body_bytes (ASet set) = set_bytes set
 body_bytes Removed = 6 ∷ []
 
 -- the deed of a name on its way

@@ -1,4 +1,3 @@
 pub mod ErrorNumber
 pub mod Home
-pub mod NameOrder
 pub mod Signal

@@ -1,3 +1,4 @@
+//! Numbers with names of their own: nodes, processes, identifiers, keys.
 ghost use Rattle.std.specs.Prelude.{◌≡◌, ◌≤◌, ℕ};
 
 use std::marker::Model;

@@ -1,3 +1,4 @@
+//! The kinds of frame.
 use crate::{Asked, PackedDeed, Parcel};
 use pico_base::{Call, Kind, Name, Node, Pid, Reply, Sequence, Vars};
 

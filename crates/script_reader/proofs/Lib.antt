@@ -5,3 +5,9 @@ pub mod Names
 pub mod Each
 pub mod Quotes
 pub mod Steps
+pub mod Given
+pub mod Ranges
+pub mod Widths
+pub mod CallRanges
+pub mod Saying
+pub mod Opened

@@ -13,11 +13,11 @@ use Rattle.script_reader.specs.declared.says.Said.{Said}
 use Rattle.script_reader.specs.declared.says.Said.TheVariants.{Skipped, Opens, BadProc, Ends, Unknown, Bad, Forks, Calls}
 use Rattle.script_reader.specs.Says.{said_of}
 use Rattle.script_reader.specs.Fault as spec
-use Rattle.script_reader.specs.Fault.{has_fault, fault_of, blocks_from, Blocks, Fails, GivesBlocks}
+use Rattle.script_reader.specs.Fault.{start, has_fault, fault_of, blocks_from, Blocks, Fails, GivesBlocks}
 
 -- ---- what no fault says
 
-pub record IsFaultless (place : Place) (size : ℕ) (said : Said) : Type 0 where
+pub record IsFaultless (runnable : Bool) (place : Place) (size : ℕ) (said : Said) : Type 0 where
   pub short : ltb 4096 size ≡ false
   pub no_proc : (not place.inside && not (spec.is_proc said || spec.is_skipped said)) ≡ false
   pub no_end : (place.inside && spec.is_proc said) ≡ false
@@ -31,12 +31,13 @@ pub record IsFaultless (place : Place) (size : ℕ) (said : Said) : Type 0 where
   pub few_procs : spec.is_proc_too_many place said ≡ false
   pub few_calls : ltb 20000 (place.calls + spec.calls_of place said) ≡ false
   pub at_once : spec.waits said ≡ false
+  pub built : (runnable && spec.has_no_rule place said) ≡ false
 
 after_none : (b : Bool) (x : ScriptFault) (o : Option ScriptFault) → cond b (Some x) o ≡ None → (b ≡ false) × (o ≡ None)
 after_none true x o e = absurd (none-some x (sym e))
 after_none false x o e = (refl, e)
 
-pub faultless : (runnable : Bool) (place : Place) (size : ℕ) (said : Said) → fault_of runnable place size said ≡ None → IsFaultless place size said
+pub faultless : (runnable : Bool) (place : Place) (size : ℕ) (said : Said) → fault_of runnable place size said ≡ None → IsFaultless runnable place size said
 unfolding fault_of has_fault
 faultless runnable place size said e =
     let a = after_none _ _ _ e in
@@ -52,6 +53,7 @@ faultless runnable place size said e =
     let l = after_none _ _ _ k.1 in
     let m = after_none _ _ _ l.1 in
     let n = after_none _ _ _ m.1 in
+    let q = after_none _ _ _ n.1 in
     record {
       short = a.0;
       no_proc = b.0;
@@ -66,6 +68,7 @@ faultless runnable place size said e =
       few_procs = l.0;
       few_calls = m.0;
       at_once = n.0;
+      built = q.0;
     }
 
 -- ---- what a line adds
@@ -95,6 +98,10 @@ behind_blocks place (Calls line) = omega arith
 pub calls_within : (runnable : Bool) (place : Place) (size : ℕ) (said : Said) → fault_of runnable place size said ≡ None → (spec.behind place said).calls ≤ 20000
 calls_within runnable place size said e =
     omega (arith, behind_calls place said, ltb-false 20000 (place.calls + spec.calls_of place said) (faultless runnable place size said e).few_calls)
+
+pub start_place : (names : ℕ) (place : Place) → place ≡ start names → (length place.blocks ≡ 0) × (place.calls ≡ 0)
+unfolding start
+start_place names place e = (ap (λ (p : Place). length p.blocks) e, ap (λ (p : Place). p.calls) e)
 
 -- ---- one line of a text
 

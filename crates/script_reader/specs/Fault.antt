@@ -154,9 +154,10 @@ is_bad Bad = true
 is_bad BadProc = true
 is_bad said = false
 
--- `proc NAME` with the name of an earlier block
+-- `proc NAME` with the name of an earlier block. Blocks are numbered in the order of the names' first lines, so each other
+-- name has the number of the next block
 abbrev pub repeats : Place → Said → Bool
-repeats place (Opens name number) = nat_lt number (number_at place)
+repeats place (Opens name number) = not (number == number_at place)
 repeats place said = false
 
 abbrev pub is_call : Said → Bool
@@ -327,6 +328,13 @@ Stops (At line fault) read = read ≡ Err (At line fault)
 abbrev pub Gives : Result Script ScriptStop → Result Script ScriptStop → Type 0
 Gives (Ok script) read = read ≡ Ok script
 Gives (Err stop) read = Stops stop read
+
+-- what stopped the reading, unless memory ran out, is that fault
+abbrev pub HasFault : List ℕ → ScriptStop → Type 0
+HasFault bytes stop = Stops stop (outcome false bytes)
+
+abbrev pub HasFaultOfRunnable : List ℕ → ScriptStop → Type 0
+HasFaultOfRunnable bytes stop = Stops stop (outcome true bytes)
 
 -- a fault's name, as it is printed
 abbrev pub name_of : ScriptFault → List ℕ

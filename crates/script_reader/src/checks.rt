@@ -72,7 +72,7 @@ fn repeats(place: &Place, said: &Said) -> bool
     ensures { result ≡ spec.repeats place.now said.now }
 {
     match said {
-        Said::Opens(_, number) => *number < place.number(),
+        Said::Opens(_, number) => *number != place.number(),
         _ => false,
     }
 }

@@ -1,7 +1,9 @@
 //! The script, line after line.
 
-ghost use Rattle.std.specs.Prelude.{◌≡◌, ◌+◌, ◌<◌, ◌≤◌, ◌==◌, ℕ, IfOk, true, false, length, count_by};
+ghost use Rattle.std.specs.Prelude.{◌≡◌, ◌⊎◌, ◌+◌, ◌<◌, ◌≤◌, ◌==◌, ℕ, IfOk, IfErr, Ok, Err, true, false, length, count_by};
 ghost use Rattle.std.specs.Str.Lossy.{utf8_valid_len};
+ghost use Rattle.pico_base.specs.declared.script.Script.{Script as ScriptValue};
+ghost use Rattle.script_reader.specs.declared.fault.ScriptFault.{ScriptFault as FaultValue};
 ghost use Rattle.kernel_model.specs.Script.{IsSoundScript};
 ghost use Rattle.machine_model.specs.Built.{IsRunnable};
 ghost use Rattle.script_reader.specs.Words.{lines_of};
@@ -145,7 +147,13 @@ fn read(alloc: Global, runnable: bool, bytes: &[u8]) -> Result<Script, ScriptSto
 /// first byte that isn't part of a character. A block that isn't ended where the input ends is `NoEnd` at the number of
 /// lines plus 1, and a text without words `NoProc` at line 1. `NotBuilt` is no fault here.
 pub fn read_script(alloc: Global, bytes: &[u8]) -> Result<Script, ScriptStop>
-    ensures { spec.Gives result (spec.outcome false bytes.now) }
+    // The bytes are the text of what is read.
+    ensures ok { IfOk result (spec.Reads bytes.now) }
+    // A fault is the first one.
+    ensures fault { IfErr result (spec.HasFault bytes.now) }
+    // A text of a script is read, and one with a fault is refused for it, unless memory runs out.
+    ensures only { (script : ScriptValue) → spec.Reads bytes.now script → (result ≡ Ok script) ⊎ (result ≡ Err ScriptStop.Memory) }
+    ensures only_fault { (line : ℕ) (fault : FaultValue) → spec.IsFirstFault bytes.now line fault → (result ≡ Err (ScriptStop.At line fault)) ⊎ (result ≡ Err ScriptStop.Memory) }
 {
     read(alloc, false, bytes)
 }
@@ -153,7 +161,10 @@ pub fn read_script(alloc: Global, bytes: &[u8]) -> Result<Script, ScriptStop>
 /// The same, of the scripts that the machine can run: a call line that it has no rule for is `NotBuilt`, after all other
 /// faults of the line.
 pub fn read_runnable(alloc: Global, bytes: &[u8]) -> Result<Script, ScriptStop>
-    ensures { spec.Gives result (spec.outcome true bytes.now) }
+    ensures ok { IfOk result (spec.ReadsRunnable bytes.now) }
+    ensures fault { IfErr result (spec.HasFaultOfRunnable bytes.now) }
+    ensures only { (script : ScriptValue) → spec.ReadsRunnable bytes.now script → (result ≡ Ok script) ⊎ (result ≡ Err ScriptStop.Memory) }
+    ensures only_fault { (line : ℕ) (fault : FaultValue) → spec.IsFirstFaultOfRunnable bytes.now line fault → (result ≡ Err (ScriptStop.At line fault)) ⊎ (result ≡ Err ScriptStop.Memory) }
 {
     read(alloc, true, bytes)
 }

@@ -1,3 +1,4 @@
+//! One semaphore: its value, and the last process that operated on it.
 use pico_base::Pid;
 use std::marker::Model;
 

@@ -1,3 +1,4 @@
+//! A semaphore set as its node holds it.
 ghost use Rattle.std.specs.Prelude.{◌≡◌, ◌↔◌, Ok, Err, IfOk, IfErr, OnErr, IsTrue, length};
 ghost use Rattle.sysv_sem.specs.declared.fault.NewFault.TheVariants.{BadCount};
 ghost use Rattle.kernel_model.specs.SemaphoreSet as definition;
@@ -33,7 +34,8 @@ impl Model for SemSet {
 
     ghost view = { λ s. record { semaphores = s.semaphores.items } };
 
-    ghost invariant = { λ s. (length s.scratch.items ≡ length s.semaphores.items) × IsWithinLimits (record { semaphores = s.semaphores.items }) };
+    ghost invariant = { λ s. (length s.scratch.items ≡ length s.semaphores.items)
+        × IsWithinLimits (record { semaphores = s.semaphores.items }) };
 }
 
 impl SemSet {

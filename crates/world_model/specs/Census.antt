@@ -1,6 +1,6 @@
 -- How many owners a name has: the nodes that hold its deed, the frames that bring it, and the parcels that the leader
 -- holds with it.
-use Rattle.std.specs.Prelude.{ℕ, ◌+◌, Bool, cond, sum_by, count_by}
+use Rattle.std.specs.Prelude.{ℕ, ◌+◌, Bool, false, Some, cond, sum_by, count_by}
 use Rattle.pico_base.specs.declared.numbers.Name.{Name}
 use Rattle.rpc_frame.specs.declared.deed.PackedDeed.{PackedDeed}
 use Rattle.rpc_frame.specs.declared.frame.Frame.{Frame}
@@ -8,7 +8,6 @@ use Rattle.rpc_frame.specs.declared.frame.Frame.TheVariants as frames
 use Rattle.number_maps.specs.Maps.{Numbered}
 use Rattle.node_model.specs.Kinds.{is_same_name}
 use Rattle.node_model.specs.Directory.{Place, items_of, has_deed_of, is_parcel_with}
-use Rattle.std.specs.Prelude.{Some}
 use Rattle.world_model.specs.Node.{holds}
 use Rattle.world_model.specs.World.{World, Streams}
 
@@ -18,32 +17,20 @@ one_if b = cond b 1 0
 abbrev pub is_of : Name → PackedDeed → Bool
 is_of name deed = is_same_name name deed.name
 
--- how often a frame brings the name's deed
-abbrev pub brings : Name → Frame → ℕ
-brings name (frames.Checkpoint pid parent deed vars) = one_if (is_of name deed)
-brings name (frames.GiveBack deed) = one_if (is_of name deed)
-brings name (frames.Grant deed) = one_if (is_of name deed)
-brings name (frames.Left parcel) = one_if (has_deed_of name parcel)
-brings name (frames.ExitTo parcel) = one_if (has_deed_of name parcel)
-brings name (frames.Ask ticket pid call) = 0
-brings name (frames.Request ticket pid call) = 0
-brings name (frames.Forward asked) = 0
-brings name (frames.Bounce asked) = 0
-brings name (frames.Answer ticket reply) = 0
-brings name (frames.NotOwner ticket) = 0
-brings name (frames.LeaseAsk kind) = 0
-brings name (frames.Lease kind first) = 0
-brings name (frames.Placed placed_name node) = 0
-brings name (frames.Suggest suggested node) = 0
-brings name (frames.Recall recalled) = 0
-brings name (frames.Leaving pid parent parent_node) = 0
-brings name frames.RecallAll = 0
+-- a frame brings the name's deed, alone or in a parcel
+abbrev pub brings : Name → Frame → Bool
+brings name (frames.Checkpoint pid parent deed vars) = is_of name deed
+brings name (frames.GiveBack deed) = is_of name deed
+brings name (frames.Grant deed) = is_of name deed
+brings name (frames.Left parcel) = has_deed_of name parcel
+brings name (frames.ExitTo parcel) = has_deed_of name parcel
+brings name frame = false
 
 abbrev pub holders : Name → World → ℕ
 holders name w = sum_by (λ n. one_if (holds n name)) w.nodes
 
-abbrev pub on_the_way : (Frame → ℕ) → Streams → ℕ
-on_the_way count streams = sum_by (λ row. sum_by (λ frames_there. sum_by count frames_there) row) streams
+abbrev pub on_the_way : (Frame → Bool) → Streams → ℕ
+on_the_way test streams = sum_by (λ row. sum_by (λ frames_there. count_by test frames_there) row) streams
 
 -- the parcels with it that a node holds for the processes that it knows of, which is the leader's alone
 abbrev pub parcels_with : Name → Numbered Place → ℕ

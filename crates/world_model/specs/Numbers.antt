@@ -12,7 +12,7 @@ use Rattle.pico_base.specs.declared.reply.Reply.TheVariants as replies
 use Rattle.pico_base.specs.declared.script.Script.{Script}
 use Rattle.rpc_frame.specs.declared.frame.Frame.TheVariants as frames
 use Rattle.kernel_model.specs.Queue.{empty_queue}
-use Rattle.kernel_model.specs.SemaphoreSet.{Semaphore, new_set}
+use Rattle.kernel_model.specs.SemaphoreSet.{SemaphoreSet, new_set}
 use Rattle.kernel_model.specs.Row.{Row}
 use Rattle.kernel_model.specs.Fitting.{child_vars}
 use Rattle.std.specs.Prelude.{Result, Ok, Err}
@@ -87,7 +87,7 @@ make_object script step call name body number =
     in let held : Step = with_deeds step (put_named n.deeds name body)
     in tell_place (carry_out script held (asked_here n call) (replies.Num number)) name n.number
 
-abbrev pub make_set : Script → Step → Call → ℕ → Result (List Semaphore) Errno → Option Step
+abbrev pub make_set : Script → Step → Call → ℕ → Result SemaphoreSet Errno → Option Step
 make_set script step call number (Err e) = None
 make_set script step call number (Ok set) = Some (make_object script step call (Sem number) (ASet set) number)
 

@@ -8,13 +8,14 @@ use Rattle.pico_base.specs.declared.numbers.Kind.TheVariants as kinds
 use Rattle.pico_base.specs.declared.numbers.Name.{Name}
 use Rattle.pico_base.specs.declared.script.Script.{Script}
 use Rattle.rpc_frame.specs.declared.frame.Frame.TheVariants as frames
+use Rattle.kernel_model.specs.Numbers.{is_u32}
 use Rattle.kernel_model.specs.Row.{lists}
 use Rattle.node_model.specs.Kinds.{for_kind, name_of}
 use Rattle.node_model.specs.Directory.{has_more, upcoming, with_range, place_name}
 use Rattle.node_model.specs.Leases.{is_used_up, lease_of, refill, leases_hold, takes_number}
 use Rattle.node_model.specs.Bodies.{Body, Living}
 use Rattle.world_model.specs.Node.{Node, holds, is_node}
-use Rattle.world_model.specs.Step.{Step, is_u32, step_to, with_directory, send}
+use Rattle.world_model.specs.Step.{Step, step_to, with_directory, send}
 use Rattle.world_model.specs.Numbers.{make}
 use Rattle.world_model.specs.Calls.{is_to_leader}
 

@@ -24,7 +24,7 @@ use Rattle.rpc_frame.specs.declared.deed.Parcel.{Parcel}
 use Rattle.rpc_frame.specs.declared.frame.Frame.TheVariants as frames
 use Rattle.number_maps.specs.Maps.{Numbered, get, put}
 use Rattle.kernel_model.specs.Queue.{empty_queue}
-use Rattle.kernel_model.specs.SemaphoreSet.{Semaphore, new_set}
+use Rattle.kernel_model.specs.SemaphoreSet.{SemaphoreSet, new_set}
 use Rattle.node_model.specs.declared.held.Held.{Held}
 use Rattle.node_model.specs.declared.held.Held.TheVariants.{Request, Ending}
 use Rattle.node_model.specs.declared.route.Route.{Route}
@@ -64,11 +64,11 @@ make_queue script step asked key t =
     in make_bound script (with_node step t.node) asked (Msg t.number) (AQueue empty_queue) t.number
     (record l { queue_keys = bind l.queue_keys key t.number 0 })
 
-abbrev pub make_set : Script → Step → Asked → ℕ → List Semaphore → Taken → Step
+abbrev pub make_set : Script → Step → Asked → ℕ → SemaphoreSet → Taken → Step
 make_set script step asked key set t =
     let l : Leader = t.node.leader
     in make_bound script (with_node step t.node) asked (Sem t.number) (ASet set) t.number
-    (record l { set_keys = bind l.set_keys key t.number (length set) })
+    (record l { set_keys = bind l.set_keys key t.number (length set.semaphores) })
 
 -- msgget and semget by a key (POSIX.1-2017)
 abbrev pub get_queue : Script → Step → Asked → ℕ → KeyAnswer → Option Step
@@ -79,7 +79,7 @@ get_queue script step asked key (answers.Fail e) = Some (carry_out script step a
 abbrev pub find_set : ℕ → ℕ → ℕ → Reply
 find_set id size count = if nat_eq count 0 || nat_le count size then replies.Num id else replies.Fail Einval
 
-abbrev pub create_set : Script → Step → Asked → ℕ → Result (List Semaphore) Errno → Option Step
+abbrev pub create_set : Script → Step → Asked → ℕ → Result SemaphoreSet Errno → Option Step
 create_set script step asked key (Err e) = Some (carry_out script step asked (replies.Fail e))
 create_set script step asked key (Ok set) = option_map (make_set script step asked key set) (take_number step.node kinds.Sem)
 

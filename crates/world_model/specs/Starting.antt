@@ -1,5 +1,5 @@
 -- A node starts its process's next call.
-use Rattle.std.specs.Prelude.{ℕ, ◌+◌, not, ◌&&◌, nat_eq, List, if◌then◌else◌, Option, Some, None, Result, Ok, Err}
+use Rattle.std.specs.Prelude.{ℕ, ◌+◌, not, ◌&&◌, nat_eq, if◌then◌else◌, Option, Some, None, Result, Ok, Err}
 use Rattle.std.specs.Option.{option_map, option_and_then}
 use Rattle.pico_base.specs.declared.call.Call.{Call}
 use Rattle.pico_base.specs.declared.call.Call.TheVariants as calls
@@ -13,8 +13,9 @@ use Rattle.pico_base.specs.declared.reply.Reply.TheVariants as replies
 use Rattle.pico_base.specs.declared.script.Script.{Script}
 use Rattle.pico_base.specs.Home.{home_of}
 use Rattle.rpc_frame.specs.declared.frame.Frame.TheVariants as frames
+use Rattle.kernel_model.specs.Numbers.{is_u32}
 use Rattle.kernel_model.specs.Waiting.{is_waiting}
-use Rattle.kernel_model.specs.SemaphoreSet.{Semaphore, new_set}
+use Rattle.kernel_model.specs.SemaphoreSet.{SemaphoreSet, new_set}
 use Rattle.kernel_model.specs.Row.{Row}
 use Rattle.node_model.specs.Kinds.{for_kind, put_all}
 use Rattle.node_model.specs.Cache.{owner_in, look}
@@ -23,7 +24,7 @@ use Rattle.node_model.specs.Caller.{due_call, start_call}
 use Rattle.node_model.specs.Serving.{Served, serve}
 use Rattle.node_model.specs.Parcels.{end_first}
 use Rattle.world_model.specs.Node.{Node, Leaving, Over, is_leader, can_run, holds, own_row, asked_here}
-use Rattle.world_model.specs.Step.{Step, is_u32, step_to, with_node, with_deeds, send, carry_out}
+use Rattle.world_model.specs.Step.{Step, step_to, with_node, with_deeds, send, carry_out}
 use Rattle.world_model.specs.Serving.{serve_asked}
 use Rattle.world_model.specs.Numbers.{make}
 use Rattle.world_model.specs.Routing.{route_call}
@@ -46,7 +47,7 @@ start_making script step call kind =
     else make script step call kind
 
 -- a set of a bad size is refused, and takes no number
-abbrev pub start_set : Script → Step → Call → Result (List Semaphore) Errno → Option Step
+abbrev pub start_set : Script → Step → Call → Result SemaphoreSet Errno → Option Step
 start_set script step call (Err e) = Some (carry_out script step (asked_here step.node call) (replies.Fail e))
 start_set script step call (Ok set) = start_making script step call kinds.Sem
 

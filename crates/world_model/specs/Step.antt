@@ -1,5 +1,5 @@
 -- What a node does in a turn: its state afterwards, the entries that it makes, and the frames that it sends.
-use Rattle.std.specs.Prelude.{ℕ, ◌^◌, Bool, nat_lt, nat_eq, List, [], ◌∷◌, ◌++◌, if◌then◌else◌, Option, Some, None}
+use Rattle.std.specs.Prelude.{ℕ, nat_eq, List, [], ◌∷◌, ◌++◌, if◌then◌else◌, Option, Some, None}
 use Rattle.pico_base.specs.declared.call.Call.{Call}
 use Rattle.pico_base.specs.declared.reply.Reply.{Reply}
 use Rattle.pico_base.specs.declared.reply.Entry.{Entry}
@@ -7,6 +7,7 @@ use Rattle.pico_base.specs.declared.script.Script.{Script}
 use Rattle.rpc_frame.specs.declared.asked.Asked.{Asked}
 use Rattle.rpc_frame.specs.declared.frame.Frame.{Frame}
 use Rattle.rpc_frame.specs.declared.frame.Frame.TheVariants as frames
+use Rattle.kernel_model.specs.Effect.{reply_alone}
 use Rattle.node_model.specs.Directory.{Directory}
 use Rattle.node_model.specs.Caller.{answer_call}
 use Rattle.node_model.specs.Bodies.{Deeds}
@@ -17,9 +18,6 @@ pub record Step : Type 0 where
   pub node : Node
   pub entries : List Entry
   pub sends : List (ℕ × Frame)
-
-abbrev pub is_u32 : ℕ → Bool
-is_u32 n = nat_lt n (2 ^ 32)
 
 abbrev pub step_to : Node → Step
 step_to n = record { node = n; entries = []; sends = [] }
@@ -41,7 +39,7 @@ send step to frame = record step { sends = step.sends ++ (to, frame) ∷ [] }
 
 -- the entry of a carried-out call
 abbrev pub entry_by : ℕ → ℕ → Call → Reply → Entry
-entry_by node pid call reply = record { pid = pid; call = call; outcome = record { own = Some reply; woken = [] }; by = node }
+entry_by node pid call reply = record { pid = pid; call = call; outcome = reply_alone reply; by = node }
 
 abbrev pub enter : Step → ℕ → Call → Reply → Step
 enter step pid call reply = record step { entries = step.entries ++ entry_by step.node.number pid call reply ∷ [] }

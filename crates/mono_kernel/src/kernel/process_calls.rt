@@ -1,3 +1,4 @@
+//! The calls on processes and signals (fork, exit, waitpid, kill, sigaction, sigprocmask).
 ghost use Rattle.std.specs.Prelude.{◌≡◌, IsSome, IfSome, Some};
 ghost use Rattle.pico_base.specs.Signal.{at};
 ghost use Rattle.kernel_model.specs.Signals.{act_on, with_mask};
@@ -36,7 +37,8 @@ impl Kernel {
     /// fork: NotAllowed where the number is 0 or used.
     pub(super) fn fork(&mut self, pid: Pid, chosen: u32) -> Result<Reply, CallFault>
         requires { IsSome (living_at self.old pid) }
-        ensures { IfSome (living_at self.old pid) (λ a. Answers (fork_effect self.old pid a chosen) result self.old self.new) }
+        ensures { IfSome (living_at self.old pid)
+            (λ a. Answers (fork_effect self.old pid a chosen) result self.old self.new) }
     {
         if !self.is_new_process(chosen) {
             return Err(CallFault::NotAllowed);
@@ -48,7 +50,8 @@ impl Kernel {
     /// exit, and the end by a signal.
     pub(super) fn end(&mut self, pid: Pid, ending: Ending) -> Result<Reply, CallFault>
         requires { IsSome (living_at self.old pid) }
-        ensures { IfSome (living_at self.old pid) (λ a. Answers (Some (end_process self.old pid a ending)) result self.old self.new) }
+        ensures { IfSome (living_at self.old pid)
+            (λ a. Answers (Some (end_process self.old pid a ending)) result self.old self.new) }
     {
         self.processes.end(self.alloc, pid, ending)?;
         Ok(Reply::Ended)
@@ -57,7 +60,8 @@ impl Kernel {
     /// waitpid: ECHILD where there is no such child.
     pub(super) fn wait(&mut self, pid: Pid, which: Option<Pid>) -> Reply
         requires { IsSome (living_at self.old pid) }
-        ensures { IfSome (living_at self.old pid) (λ a. reap_child self.old pid a (wait a.row.family which) ≡ record { kernel = self.new; reply = result }) }
+        ensures { IfSome (living_at self.old pid)
+            (λ a. reap_child self.old pid a (wait a.row.family which) ≡ record { kernel = self.new; reply = result }) }
     {
         match self.processes.wait(pid, which) {
             Ok(Some(child)) => Reply::Child {
@@ -72,7 +76,9 @@ impl Kernel {
     /// sigaction: EINVAL for KILL, 0 and a number that is no signal's.
     pub(super) fn act(&mut self, pid: Pid, sig: SigArg, act: Act) -> Reply
         requires { IsSome (living_at self.old pid) }
-        ensures { IfSome (living_at self.old pid) (λ a. action_effect self.old pid a (act_on a.row.signals sig act) ≡ record { kernel = self.new; reply = result }) }
+        ensures { IfSome (living_at self.old pid)
+            (λ a. action_effect self.old pid a (act_on a.row.signals sig act)
+            ≡ record { kernel = self.new; reply = result }) }
     {
         let Some(alive) = self.processes.alive(pid) else {
             return Reply::Num(0);
@@ -90,7 +96,8 @@ impl Kernel {
     /// sigprocmask: gives the old mask.
     pub(super) fn change_mask(&mut self, pid: Pid, how: How, set: SigSet) -> Reply
         requires { IsSome (living_at self.old pid) }
-        ensures masked { IfSome (living_at self.old pid) (λ a. self.new ≡ with_signals self.old pid a (with_mask a.row.signals how set)) }
+        ensures masked { IfSome (living_at self.old pid)
+            (λ a. self.new ≡ with_signals self.old pid a (with_mask a.row.signals how set)) }
         ensures reply { IfSome (living_at self.old pid) (λ a. result ≡ Reply.Bits a.row.signals.mask) }
     {
         let Some(alive) = self.processes.alive(pid) else {

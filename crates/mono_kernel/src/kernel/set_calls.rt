@@ -1,3 +1,4 @@
+//! The calls on semaphore sets (semget, semop, semctl).
 ghost use Rattle.std.specs.Prelude.{◌≡◌, None, IfOk};
 ghost use Rattle.std.specs.List.{list_any};
 ghost use Rattle.number_maps.specs.Maps.{get};
@@ -6,7 +7,8 @@ ghost use Rattle.kernel_model.specs.Effect.{is_fresh, on_named, look_up};
 ghost use Rattle.kernel_model.specs.SetCalls.{new_set_of, find_set, get_set, change_set, set_size, operate, all_values, remove_set};
 ghost use Rattle.kernel_model.specs.Waiting.{may_wait};
 ghost use Rattle.mono_kernel.specs.Names.{keys_with, bound_to};
-ghost use Rattle.mono_kernel.specs.Answers.{Answers, reply_to};
+ghost use Rattle.call_answers.specs.Answers.{reply_to};
+ghost use Rattle.mono_kernel.specs.Answers.{Answers};
 
 use crate::fault::CallFault;
 use crate::kernel::Kernel;
@@ -44,7 +46,8 @@ impl Kernel {
     /// the number is 0 or used.
     fn new_set(&mut self, key: Option<u32>, count: u32, chosen: u32) -> Result<Reply, CallFault>
         requires { bound_to self.old.set_keys key ≡ None }
-        ensures { Answers (new_set_of self.old (keys_with self.old.set_keys key chosen) chosen (new_set count)) result self.old self.new }
+        ensures { Answers (new_set_of self.old (keys_with self.old.set_keys key chosen) chosen (new_set count)) result
+            self.old self.new }
     {
         if is_bad_size(count) {
             return Ok(Reply::Fail(Errno::Einval));
@@ -120,7 +123,8 @@ impl Kernel {
 
     /// semctl with GETVAL: EINVAL.
     pub(super) fn value(&self, id: Id, num: u16) -> Reply
-        ensures { on_named self.now (get self.now.sets id) (λ s. look_up self.now (value_at s num)) ≡ record { kernel = self.now; reply = result } }
+        ensures { on_named self.now (get self.now.sets id) (λ s. look_up self.now (value_at s num))
+            ≡ record { kernel = self.now; reply = result } }
     {
         match self.sets.get(&id) {
             Some(set) => looked(set.value(num)),
@@ -130,7 +134,8 @@ impl Kernel {
 
     /// semctl with GETPID: EINVAL.
     pub(super) fn last(&self, id: Id, num: u16) -> Reply
-        ensures { on_named self.now (get self.now.sets id) (λ s. look_up self.now (last_at s num)) ≡ record { kernel = self.now; reply = result } }
+        ensures { on_named self.now (get self.now.sets id) (λ s. look_up self.now (last_at s num))
+            ≡ record { kernel = self.now; reply = result } }
     {
         match self.sets.get(&id) {
             Some(set) => match set.last(num) {
@@ -143,7 +148,8 @@ impl Kernel {
 
     /// semctl with GETNCNT and GETZCNT: EINVAL, and else 0.
     pub(super) fn waiting(&self, id: Id, num: u16) -> Reply
-        ensures { on_named self.now (get self.now.sets id) (λ s. look_up self.now (waiting_at s num)) ≡ record { kernel = self.now; reply = result } }
+        ensures { on_named self.now (get self.now.sets id) (λ s. look_up self.now (waiting_at s num))
+            ≡ record { kernel = self.now; reply = result } }
     {
         match self.sets.get(&id) {
             Some(set) => looked(set.waiting(num)),
@@ -161,7 +167,9 @@ impl Kernel {
 
     /// semctl with GETALL: EINVAL.
     pub(super) fn all_values(&self, id: Id) -> Result<Reply, Memory>
-        ensures { IfOk result (λ reply. on_named self.now (get self.now.sets id) (all_values self.now) ≡ record { kernel = self.now; reply = reply }) }
+        ensures { IfOk result
+            (λ reply. on_named self.now (get self.now.sets id) (all_values self.now)
+            ≡ record { kernel = self.now; reply = reply }) }
     {
         match self.sets.get(&id) {
             Some(set) => Ok(Reply::All(set.all(self.alloc)?)),

@@ -1,8 +1,18 @@
 use Rattle.std.proofs.Common.{◌+◌, length, sym, ap, ◌∙◌, arith}
 use Rattle.script_reader.specs.Words.{lines_of}
-use Rattle.script_reader.specs.Fault.{ending, blocks_from}
-use Rattle.script_reader.proofs.Steps.{blocks_from-stops, blocks_from-goes, blocks_from-ends, behind_blocks, calls_within, gives_same}
+use Rattle.script_reader.specs.Fault.{start, ending, blocks_from}
+use Rattle.script_reader.proofs.Steps.{blocks_from-stops, blocks_from-goes, blocks_from-ends, behind_blocks, calls_within, start_place, gives_same}
 use Rattle.script_reader.proofs.script.blocks_with.Goals as goal
+
+pub loop-bytes-init : goal.loop-bytes-init
+loop-bytes-init c =
+    let first = start_place c.len.result c.in_ok-place.place c.in_ok-place.ensures in
+    record {
+      reads = ap (λ p. blocks_from c.args.runnable c.args.names.now p 1 (lines_of c.args.text.now)) (c.in_ok-place.ensures ∙ ap start c.len.ensures);
+      counted = omega arith;
+      blocks = omega (arith, first.0);
+      calls = omega (arith, first.1);
+    }
 
 pub returns-in-Some-fault_of : goal.returns-in-Some-fault_of
 returns-in-Some-fault_of c =
