@@ -1,4 +1,4 @@
-ghost use Rattle.std.specs.Prelude.{◌≡◌, ℕ, ◌<◌, ◌≤◌, List, [], Option, length, take, is_some, IfOk, OnErr, IfSome};
+ghost use Rattle.std.specs.Prelude.{◌≡◌, ℕ, ◌<◌, ◌≤◌, List, [], Option, length, take, is_some, IfOk, OnOk, OnErr, IfSome};
 ghost use Rattle.host_iface.specs.Faults.{HasRisen};
 ghost use Rattle.host_iface.specs.Told.{led_by, followed_by};
 
@@ -26,6 +26,8 @@ pub trait Source {
 
         // Which bytes are left after a failure isn't said, but they are told as before.
         ensures told { OnErr result (is_some (left self.new) ≡ is_some (left self.old)) }
+        // A count rises only with a failure.
+        ensures calm { OnOk result (faults self.new ≡ faults self.old) }
         ensures failed { OnErr result (HasRisen (faults self.old) (faults self.new)) }
         ensures faults { faults self.old ≤ faults self.new };
 }
@@ -45,6 +47,8 @@ pub trait Sink {
         ensures some { IfOk result (λ count. 0 < length piece.now → 0 < count) }
         ensures bytes { IfOk result (λ count. taken self.new ≡ followed_by (taken self.old) (take count piece.now)) }
         ensures unchanged { OnErr result (taken self.new ≡ taken self.old) }
+        // A count rises only with a failure.
+        ensures calm { OnOk result (faults self.new ≡ faults self.old) }
         ensures failed { OnErr result (HasRisen (faults self.old) (faults self.new)) }
         ensures faults { faults self.old ≤ faults self.new };
 }

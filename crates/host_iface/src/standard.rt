@@ -38,7 +38,7 @@ impl<R: Read> Source for StdSource<R> {
         // The bytes are those of the reader, where that is one whose bytes are known.
         ensures bytes { ReadConsumes (R.remaining (reader_of self.old)) (R.remaining (reader_of self.new)) result into.new }
 
-        ensures same { OnOk result (failed_reads self.new ≡ failed_reads self.old) }
+        ensures calm { OnOk result (failed_reads self.new ≡ failed_reads self.old) }
         ensures one_more { OnErr result (failed_reads self.new ≡ next_count (failed_reads self.old)) }
         ensures failed { OnErr result (HasRisen (failed_reads self.old) (failed_reads self.new)) }
         ensures faults { failed_reads self.old ≤ failed_reads self.new }
@@ -87,7 +87,7 @@ impl<W: Write> Sink for StdSink<W> {
         // The bytes go to the writer, where that is one whose bytes are known.
         ensures bytes { WriteAppends (W.contents (writer_of self.old)) (W.contents (writer_of self.new)) result piece.now }
 
-        ensures same { OnOk result (failed_writes self.new ≡ failed_writes self.old) }
+        ensures calm { OnOk result (failed_writes self.new ≡ failed_writes self.old) }
         ensures one_more { OnErr result (failed_writes self.new ≡ next_count (failed_writes self.old)) }
         ensures failed { OnErr result (HasRisen (failed_writes self.old) (failed_writes self.new)) }
         ensures faults { failed_writes self.old ≤ failed_writes self.new }

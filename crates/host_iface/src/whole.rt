@@ -1,7 +1,7 @@
 ghost use Rattle.std.specs.Prelude.{◌≡◌, ◌+◌, ◌<◌, ◌≤◌, [], length, take, is_some, IfOk, OnOk, OnErr, IfSome};
 ghost use Rattle.host_iface.specs.Faults.{HasRisen};
 ghost use Rattle.host_iface.specs.Told.{led_by, followed_by};
-ghost use Rattle.host_iface.specs.Stops.{OnReadFault, IfTooLong, IfWriteFault};
+ghost use Rattle.host_iface.specs.Stops.{OnReadFault, UnlessReadFault, IfTooLong, IfWriteFault};
 
 use crate::{Failed, ReadStop, Sink, Source, WriteStop};
 use pico_base::Bytes;
@@ -26,7 +26,9 @@ pub fn read_all<S: Source>(alloc: Global, source: &mut S, limit: usize) -> Resul
     ensures front { IfTooLong result (λ read. IfSome (S.left source.old) (λ left. (limit < length left) × (read ≡ take (limit + 1) left))) }
     ensures rest { IfTooLong result (λ read. S.left source.old ≡ led_by read (S.left source.new)) }
 
+    // A failed read is never called want of memory, nor anything else.
     ensures fault { OnReadFault result (HasRisen (S.faults source.old) (S.faults source.new)) }
+    ensures calm { UnlessReadFault result (S.faults source.new ≡ S.faults source.old) }
     ensures faults { S.faults source.old ≤ S.faults source.new }
     ensures told { is_some (S.left source.new) ≡ is_some (S.left source.old) }
 {
@@ -56,6 +58,7 @@ pub fn write_all<K: Sink>(sink: &mut K, bytes: &[u8]) -> Result<(), WriteStop>
 
     ensures part { IfWriteFault result (λ taken. K.taken sink.new ≡ followed_by (K.taken sink.old) (take taken bytes.now)) }
     ensures not_all { IfWriteFault result (λ taken. taken < length bytes.now) }
+    ensures calm { OnOk result (K.faults sink.new ≡ K.faults sink.old) }
     ensures fault { OnErr result (HasRisen (K.faults sink.old) (K.faults sink.new)) }
     ensures faults { K.faults sink.old ≤ K.faults sink.new }
 {
