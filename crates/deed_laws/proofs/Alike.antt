@@ -5,13 +5,13 @@ use Rattle.pico_base.specs.declared.reply.Errno.{Errno}
 use Rattle.pico_base.specs.declared.reply.Errno.TheVariants.{Einval}
 use Rattle.pico_base.specs.declared.reply.Reply.{Reply}
 use Rattle.pico_base.specs.declared.reply.Reply.TheVariants.{Num, Fail, Message}
-use Rattle.kernel_model.specs.Maps.{Numbered, get, put}
+use Rattle.number_maps.specs.Maps.{Numbered, get, put}
 use Rattle.kernel_model.specs.Queue.{Queue, Received}
 use Rattle.kernel_model.specs.SemaphoreSet.{Semaphore}
 use Rattle.kernel_model.specs.Kernel.{Kernel}
-use Rattle.kernel_model.specs.Effect.{Effect, looked_up, on_named}
-use Rattle.kernel_model.specs.QueueCalls.{changed_queue, received}
-use Rattle.kernel_model.specs.SetCalls.{changed_set}
+use Rattle.kernel_model.specs.Effect.{Effect, look_up, on_named}
+use Rattle.kernel_model.specs.QueueCalls.{change_queue, receive_effect}
+use Rattle.kernel_model.specs.SetCalls.{change_set}
 use Rattle.kernel_laws.proofs.MapLaws.{get-put-same, get-put-other}
 
 -- the same at each number
@@ -79,19 +79,19 @@ module _ (j k : Kernel) (queues : SameAt j.queues k.queues) (sets : SameAt j.set
         second = leaves-sets k (put k.sets id s) r;
       }
 
-  pub queue-changed : (id : ℕ) (r : Result Queue Errno) → AreAlike j k (changed_queue j id r) (changed_queue k id r)
+  pub queue-changed : (id : ℕ) (r : Result Queue Errno) → AreAlike j k (change_queue j id r) (change_queue k id r)
   queue-changed id (Ok q) = queue-put id q (Num 0)
   queue-changed id (Err e) = unchanged (Fail e)
 
-  pub message-received : (id : ℕ) (r : Result Received Errno) → AreAlike j k (received j id r) (received k id r)
+  pub message-received : (id : ℕ) (r : Result Received Errno) → AreAlike j k (receive_effect j id r) (receive_effect k id r)
   message-received id (Ok r) = queue-put id r.queue (Message r.message.class r.message.text)
   message-received id (Err e) = unchanged (Fail e)
 
-  pub set-changed : (id : ℕ) (r : Result (List Semaphore) Errno) → AreAlike j k (changed_set j id r) (changed_set k id r)
+  pub set-changed : (id : ℕ) (r : Result (List Semaphore) Errno) → AreAlike j k (change_set j id r) (change_set k id r)
   set-changed id (Ok s) = set-put id s (Num 0)
   set-changed id (Err e) = unchanged (Fail e)
 
-  pub number-looked_up : (r : Result ℕ Errno) → AreAlike j k (looked_up j r) (looked_up k r)
+  pub number-looked_up : (r : Result ℕ Errno) → AreAlike j k (look_up j r) (look_up k r)
   number-looked_up (Ok n) = unchanged (Num n)
   number-looked_up (Err e) = unchanged (Fail e)
 

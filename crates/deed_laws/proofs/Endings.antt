@@ -7,14 +7,14 @@ use Rattle.pico_base.specs.declared.call.Call.TheVariants as calls
 use Rattle.pico_base.specs.declared.reply.Reply.TheVariants as replies
 use Rattle.pico_base.specs.declared.reply.Ending.{Ending}
 use Rattle.pico_base.specs.declared.reply.Ending.TheVariants.{Exited}
-use Rattle.kernel_model.specs.Maps.{Numbered, get, put}
+use Rattle.number_maps.specs.Maps.{Numbered, get, put}
 use Rattle.kernel_model.specs.Signals.{Signals}
 use Rattle.kernel_model.specs.Row.{Alive, lists, ignores_children, with_ended_child}
 use Rattle.kernel_model.specs.Kernel.{Kernel, Process, Living, Ended, Gone, Parent, alive_in, living_at, living_in, parent_in}
 use Rattle.kernel_model.specs.Effect.{Effect}
-use Rattle.kernel_model.specs.ProcessCalls.{bury, kept_as, ended_under}
+use Rattle.kernel_model.specs.ProcessCalls.{bury, process_after_end, end_under}
 use Rattle.kernel_model.specs.Valid.{IsValid}
-use Rattle.kernel_laws.specs.Reachable.{IsReachable}
+use Rattle.kernel_laws.specs.Reachable.{IsReachableKernel}
 use Rattle.kernel_laws.proofs.Families.{living-ended}
 use Rattle.kernel_laws.proofs.MapLaws.{get-put-other}
 use Rattle.kernel_laws.proofs.Members.{contains-first, contains-later}
@@ -22,8 +22,8 @@ use Rattle.kernel_laws.proofs.People.{to-living}
 use Rattle.kernel_laws.proofs.Plain.{from_some, not_some}
 use Rattle.kernel_laws.proofs.ValidLaws.{children_have_one_parent_lemma, reachable_kernels_are_valid_lemma}
 use Rattle.machine_model.specs.Node.{Held, Leader, new_process}
-use Rattle.machine_model.specs.Deeds.{child_ended}
-use Rattle.deed_laws.specs.Carrying.{StandsFor, IsPlain, HasPlain}
+use Rattle.machine_model.specs.Deeds.{end_child}
+use Rattle.deed_laws.specs.Carrying.{StandsFor, IsPlainProcess, HasPlain}
 use Rattle.deed_laws.specs.Laws.{Ends, FirstEndsAsInTheKernel, ChildrenEndAsInTheKernel}
 use Rattle.deed_laws.proofs.Parents.{no-parent, first-orphan}
 use Rattle.deed_laws.proofs.Stands.{fresh-same}
@@ -33,7 +33,7 @@ use Rattle.deed_laws.proofs.Within.{IsWithin, within-put, living-put-same, livin
 -- the effect of an end, by the parent that is found
 abbrev effect_by : Kernel → Numbered Process → ℕ → Ending → Option Parent → Option Effect
 effect_by k ps pid ending parent =
-    Some (record { kernel = record k { processes = ended_under ps pid ending parent }; reply = replies.Ended })
+    Some (record { kernel = record k { processes = end_under ps pid ending parent }; reply = replies.Ended })
 
 -- The burial of ended children.
 
@@ -110,12 +110,12 @@ first_ends h l k a status reachable stands held =
 
 -- The end of a child of process 1.
 
-kept-dead : (ignored : Bool) (ending : Ending) → alive_in (kept_as ignored ending) ≡ None
+kept-dead : (ignored : Bool) (ending : Ending) → alive_in (process_after_end ignored ending) ≡ None
 kept-dead true ending = refl
 kept-dead false ending = refl
 
 -- CHLD is discarded at new signals
-plain-keeper : (a : Alive) (child : ℕ) (ending : Ending) → IsPlain a → IsPlain (with_ended_child a child ending)
+plain-keeper : (a : Alive) (child : ℕ) (ending : Ending) → IsPlainProcess a → IsPlainProcess (with_ended_child a child ending)
 plain-keeper a child ending plain =
     let with_signals : Signals → Alive = λ s.
     with_ended_child (record { row = record { signals = s; family = a.row.family }; allowance = a.allowance }) child ending
@@ -142,30 +142,30 @@ dead-plain k next child v is dead ne plain =
     }
 
 -- and then process 1 is another one
-keeper-plain : (ps : Numbered Process) (k next : Kernel) (a : Alive) → k.processes ≡ ps → next.processes ≡ put ps 1 (Living a) → IsPlain a → HasPlain k
+keeper-plain : (ps : Numbered Process) (k next : Kernel) (a : Alive) → k.processes ≡ ps → next.processes ≡ put ps 1 (Living a) → IsPlainProcess a → HasPlain k
     → HasPlain next
 keeper-plain ps k next a was is mine plain =
     record {
       first = λ b lives.
           let same : a ≡ b = from_some a b (sym (living-put-same ps 1 (Living a)) ∙ (sym (ap (λ qs. living_in qs 1) is) ∙ lives))
-          in subst (λ (x : Alive). IsPlain x) same mine;
+          in subst (λ (x : Alive). IsPlainProcess x) same mine;
       others = λ pid b one lives.
           let there : living_in ps pid ≡ Some b = sym (living-put-other ps 1 (Living a) pid one) ∙ (sym (ap (λ qs. living_in qs pid) is) ∙ lives)
           in plain.others pid b one (ap (λ qs. living_in qs pid) was ∙ there);
     }
 
-module _ (h : Held) (l : Leader) (k : Kernel) (child status : ℕ) (reachable : IsReachable k) (stands : StandsFor h l k) (ne : child ≢ 1)
+module _ (h : Held) (l : Leader) (k : Kernel) (child status : ℕ) (reachable : IsReachableKernel k) (stands : StandsFor h l k) (ne : child ≢ 1)
     (there : get k.processes child ≡ Some (Living new_process)) where
   abbrev ending : Ending
   ending = Exited (status % 256)
 
   -- under a parent that lives
   kept-ends : (a : Alive) → get h.processes 1 ≡ Some (Living a) → lists a.row.family child ≡ true
-      → Ends k child status (child_ended h child 1 (Living a) ending) l
+      → Ends k child status (end_child h child 1 (Living a) ending) l
   kept-ends a held listed =
       let lives : living_at k child ≡ Some new_process = to-living k.processes child new_process there
       in let first : living_at k 1 ≡ Some a = to-living k.processes 1 a (stands.here.processes 1 (Living a) held)
-      in let v : Process = kept_as (ignores_children a.row) ending
+      in let v : Process = process_after_end (ignores_children a.row) ending
       in let dead : alive_in v ≡ None = kept-dead (ignores_children a.row) ending
       in let keeper : Alive = with_ended_child a child ending
       in let ps : Numbered Process = put k.processes child v

@@ -3,43 +3,43 @@ use Rattle.std.proofs.Common.{◌≡◌, ◌≢◌, ℕ, ◌≤◌, true, false,
 use Rattle.std.proofs.lemmas.Bool.{cases_eq}
 use Rattle.pico_base.specs.declared.call.Call.TheVariants as calls
 use Rattle.pico_base.specs.declared.reply.Reply.TheVariants.{Num}
-use Rattle.kernel_model.specs.Maps.{Numbered, get, put, is_used, used_with}
-use Rattle.kernel_model.specs.Signals.{Signals, inherited}
+use Rattle.number_maps.specs.Maps.{Numbered, get, put, is_used, used_with}
+use Rattle.kernel_model.specs.Signals.{Signals, inherit}
 use Rattle.kernel_model.specs.Row.{Alive, Free, no_family}
 use Rattle.kernel_model.specs.Kernel.{Kernel, Process, Living, living_at, living_in}
 use Rattle.kernel_model.specs.Effect.{is_fresh}
-use Rattle.kernel_model.specs.ProcessCalls.{forking, new_child, with_fork}
+use Rattle.kernel_model.specs.ProcessCalls.{parent_after_fork, new_child, processes_after_fork}
 use Rattle.kernel_model.specs.Valid.{IsValid}
 use Rattle.machine_model.specs.Node.{new_process}
 use Rattle.kernel_laws.proofs.MapLaws.{get-put-same, get-put-other}
 use Rattle.kernel_laws.proofs.People.{to-living}
 use Rattle.kernel_laws.proofs.Plain.{from_some, not_some}
 use Rattle.kernel_laws.proofs.ValidLaws.{reachable_kernels_are_valid_lemma}
-use Rattle.deed_laws.specs.Carrying.{IsPlain, HasPlain}
+use Rattle.deed_laws.specs.Carrying.{IsPlainProcess, HasPlain}
 use Rattle.deed_laws.specs.Laws.{ForksAreTheKernels}
 use Rattle.deed_laws.proofs.Steps.{makes, plain-at}
 use Rattle.deed_laws.proofs.Within.{effect_if, within-put, within-new, living-put-same, living-put-other, none-at, fresh-number, fresh-later}
 
 abbrev child_of : Signals → Alive
-child_of s = record { row = record { signals = inherited s; family = no_family }; allowance = Free }
+child_of s = record { row = record { signals = inherit s; family = no_family }; allowance = Free }
 
 -- the child of a plain process is a new one
-new-child : (a : Alive) → IsPlain a → new_child a ≡ new_process
+new-child : (a : Alive) → IsPlainProcess a → new_child a ≡ new_process
 new-child a plain = ap child_of plain.signals
 
 abbrev forked_kernel : Kernel → Alive → ℕ → Kernel
 forked_kernel k a n =
-    record k { processes = with_fork k.processes 1 a n; used_processes = used_with k.used_processes n }
+    record k { processes = processes_after_fork k.processes 1 a n; used_processes = used_with k.used_processes n }
 
-forked-plain : (k : Kernel) (a : Alive) (n : ℕ) → HasPlain k → IsPlain a → HasPlain (forked_kernel k a n)
+forked-plain : (k : Kernel) (a : Alive) (n : ℕ) → HasPlain k → IsPlainProcess a → HasPlain (forked_kernel k a n)
 forked-plain k a n plain mine =
     let ps : Numbered Process = put k.processes n (Living (new_child a))
     in record {
       first = λ b lives.
-          let same : forking a n ≡ b = from_some (forking a n) b (sym (living-put-same ps 1 (Living (forking a n))) ∙ lives)
-          in subst (λ (x : Alive). IsPlain x) same (record { signals = mine.signals; allowance = mine.allowance });
+          let same : parent_after_fork a n ≡ b = from_some (parent_after_fork a n) b (sym (living-put-same ps 1 (Living (parent_after_fork a n))) ∙ lives)
+          in subst (λ (x : Alive). IsPlainProcess x) same (record { signals = mine.signals; allowance = mine.allowance });
       others = λ pid b ne lives.
-          let before : living_in ps pid ≡ Some b = sym (living-put-other ps 1 (Living (forking a n)) pid ne) ∙ lives
+          let before : living_in ps pid ≡ Some b = sym (living-put-other ps 1 (Living (parent_after_fork a n)) pid ne) ∙ lives
           in elim (cases_eq pid n) [
             | inl same ↦
                 let born : living_in ps n ≡ Some b = subst (λ (q : ℕ). living_in ps q ≡ Some b) same before
@@ -57,7 +57,7 @@ forks h l k a block reachable stands held =
     in let there : get k.processes 1 ≡ Some (Living a) = stands.here.processes 1 (Living a) held
     in let lives : living_at k 1 ≡ Some a = to-living k.processes 1 a there
     in let next : Kernel = forked_kernel k a n
-    in let mine : IsPlain a = plain-at k 1 a stands.plain lives
+    in let mine : IsPlainProcess a = plain-at k 1 a stands.plain lives
     in let plain : HasPlain next = forked-plain k a n stands.plain mine
     in let unused : is_used k.used_processes n ≡ false = stands.fresh.processes n (omega arith)
     in let low : 2 ≤ l.next_process = stands.fresh.process_low
@@ -72,7 +72,7 @@ forks h l k a block reachable stands held =
         stands = record {
           here = record {
             processes =
-                within-put h.processes ps 1 (Living (forking a n))
+                within-put h.processes ps 1 (Living (parent_after_fork a n))
                 (within-new h.processes k.processes n (Living (new_child a)) absent stands.here.processes);
             queues = stands.here.queues;
             sets = stands.here.sets;
@@ -89,10 +89,10 @@ forks h l k a block reachable stands held =
         };
         stay = λ other b one caller living.
             let born : other ≢ n = λ same. not_some (Living b) (sym absent ∙ (ap (get k.processes) (sym same) ∙ living))
-            in get-put-other ps 1 (Living (forking a n)) other one
+            in get-put-other ps 1 (Living (parent_after_fork a n)) other one
             ∙ (get-put-other k.processes n (Living (new_child a)) other born ∙ living);
       };
       child =
-          get-put-other ps 1 (Living (forking a n)) n apart
+          get-put-other ps 1 (Living (parent_after_fork a n)) n apart
           ∙ (get-put-same k.processes n (Living (new_child a)) ∙ ap (λ (x : Alive). Some (Living x)) (new-child a mine));
     }

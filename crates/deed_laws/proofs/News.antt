@@ -2,7 +2,7 @@
 use Rattle.std.proofs.Common.{◌≡◌, ℕ, ◌≤◌, true, false, None, refl, ap, ◌∙◌, arith}
 use Rattle.pico_base.specs.declared.call.Call.TheVariants as calls
 use Rattle.pico_base.specs.declared.reply.Reply.TheVariants.{Num}
-use Rattle.kernel_model.specs.Maps.{put, is_used, used_with}
+use Rattle.number_maps.specs.Maps.{put, is_used, used_with}
 use Rattle.kernel_model.specs.Queue.{empty_queue}
 use Rattle.kernel_model.specs.Kernel.{Kernel}
 use Rattle.kernel_model.specs.Effect.{is_fresh}

@@ -4,7 +4,7 @@ use Rattle.std.proofs.lemmas.Bool.{cases_eq, false≢true}
 use Rattle.kernel_model.specs.Row.{Alive, lists}
 use Rattle.kernel_model.specs.Kernel.{Kernel, Parent, living_at, parent_in}
 use Rattle.kernel_laws.specs.Processes.{HasOneParent}
-use Rattle.kernel_laws.specs.Reachable.{IsReachable}
+use Rattle.kernel_laws.specs.Reachable.{IsReachableKernel}
 use Rattle.kernel_laws.proofs.ValidLaws.{children_have_one_parent_lemma}
 use Rattle.deed_laws.specs.Carrying.{HasPlain}
 
@@ -26,10 +26,10 @@ no-parent-by k child plain one unlisted (Some p) e =
     in absurd (false≢true (sym (unlisted p.alive first) ∙ found.1))
 
 -- a process that process 1 doesn't list has no parent, and process 1 itself has none
-pub no-parent : (k : Kernel) (child : ℕ) → HasPlain k → IsReachable k → ((a : Alive) → living_at k 1 ≡ Some a → lists a.row.family child ≡ false)
+pub no-parent : (k : Kernel) (child : ℕ) → HasPlain k → IsReachableKernel k → ((a : Alive) → living_at k 1 ≡ Some a → lists a.row.family child ≡ false)
     → parent_in child k.processes ≡ None
 no-parent k child plain reachable unlisted =
     no-parent-by k child plain (children_have_one_parent_lemma k reachable child) unlisted (parent_in child k.processes) refl
 
-pub first-orphan : (k : Kernel) → HasPlain k → IsReachable k → parent_in 1 k.processes ≡ None
+pub first-orphan : (k : Kernel) → HasPlain k → IsReachableKernel k → parent_in 1 k.processes ≡ None
 first-orphan k plain reachable = no-parent k 1 plain reachable (children_have_one_parent_lemma k reachable 1).not_itself

@@ -7,13 +7,13 @@ use Rattle.pico_base.specs.declared.call.Call.{Call}
 use Rattle.pico_base.specs.declared.call.Call.TheVariants as calls
 use Rattle.pico_base.specs.declared.call.SemStep.{SemStep}
 use Rattle.pico_base.specs.declared.reply.Reply.TheVariants.{All}
-use Rattle.kernel_model.specs.Maps.{get}
+use Rattle.number_maps.specs.Maps.{get}
 use Rattle.kernel_model.specs.Queue.{stat, send, receive, set_qbytes}
 use Rattle.kernel_model.specs.SemaphoreSet.{values_of, value_at, last_at, waiting_at, set_value, set_all, op}
 use Rattle.kernel_model.specs.Row.{Alive}
 use Rattle.kernel_model.specs.Kernel.{Kernel, living_at}
 use Rattle.kernel_model.specs.Effect.{Effect, on_named}
-use Rattle.kernel_model.specs.SetCalls.{changed_set}
+use Rattle.kernel_model.specs.SetCalls.{change_set}
 use Rattle.kernel_model.specs.Waiting.{may_wait}
 use Rattle.kernel_model.specs.Transition.{effect, may_make, is_spent}
 use Rattle.machine_model.specs.Built.{is_shared}
@@ -53,7 +53,7 @@ shared_calls h pid (calls.MsgSet id qbytes) s w = refl
 shared_calls h pid (calls.MsgRmid id) s w = absurd (false≢true s)
 shared_calls h pid (calls.SemGet key count create excl) s w = absurd (false≢true s)
 shared_calls h pid (calls.SemOp id steps) s w =
-    some-operated (list_any may_wait steps) (on_named (kernel_of h) (get h.sets id) (λ set. changed_set (kernel_of h) id (op set pid steps))) w
+    some-operated (list_any may_wait steps) (on_named (kernel_of h) (get h.sets id) (λ set. change_set (kernel_of h) id (op set pid steps))) w
 shared_calls h pid (calls.SemGetVal id num) s w = refl
 shared_calls h pid (calls.SemGetPid id num) s w = refl
 shared_calls h pid (calls.SemGetNcnt id num) s w = refl
@@ -79,12 +79,12 @@ second j k pid a call d e f may gives alike same =
 
 module _ (j k : Kernel) (pid : ℕ) (a b : Alive) (queues : SameAt j.queues k.queues) (sets : SameAt j.sets k.sets) where
   operated-second : (id : ℕ) (steps : List SemStep) (e : Effect) (waits : Bool) → list_any may_wait steps ≡ waits
-      → (let d = on_named j (get j.sets id) (λ set. changed_set j id (op set pid steps)) in (if waits then None else Some d) ≡ Some e)
+      → (let d = on_named j (get j.sets id) (λ set. change_set j id (op set pid steps)) in (if waits then None else Some d) ≡ Some e)
       → IsSecond j k pid a (calls.SemOp id steps) e
   operated-second id steps e true w h = not_some e h
   operated-second id steps e false w h =
-      let d : Effect = on_named j (get j.sets id) (λ set. changed_set j id (op set pid steps))
-      in let f : Effect = on_named k (get k.sets id) (λ set. changed_set k id (op set pid steps))
+      let d : Effect = on_named j (get j.sets id) (λ set. change_set j id (op set pid steps))
+      in let f : Effect = on_named k (get k.sets id) (λ set. change_set k id (op set pid steps))
       in second j k pid a (calls.SemOp id steps) d e f refl (λ n. ap (λ (t : Bool). if t then None else Some f) w)
       (named j k queues sets (get j.sets id) (get k.sets id) _ _ (sets id) (λ set. set-changed j k queues sets id (op set pid steps))) h
 

@@ -1,6 +1,6 @@
 -- What the leader stands for, where only queues and sets change.
 use Rattle.std.proofs.Common.{◌≡◌, ap, sym, ◌∙◌}
-use Rattle.kernel_model.specs.Maps.{is_used}
+use Rattle.number_maps.specs.Maps.{is_used}
 use Rattle.kernel_model.specs.Kernel.{Kernel, living_in}
 use Rattle.machine_model.specs.Node.{Leader}
 use Rattle.deed_laws.specs.Carrying.{IsFresh, HasPlain}

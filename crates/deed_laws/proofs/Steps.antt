@@ -12,20 +12,20 @@ use Rattle.kernel_model.specs.Kernel.{Kernel, living_at, with_alive}
 use Rattle.kernel_model.specs.Effect.{Effect}
 use Rattle.kernel_model.specs.SetCalls.{new_set_of}
 use Rattle.kernel_model.specs.History.{number_in}
-use Rattle.kernel_model.specs.Transition.{effect, finished, is_spent, may_make, outcome_of, transition, transition_by}
-use Rattle.deed_laws.specs.Carrying.{Makes, IsPlain, HasPlain}
+use Rattle.kernel_model.specs.Transition.{effect, finish_call, is_spent, may_make, outcome_of, transition, transition_by}
+use Rattle.deed_laws.specs.Carrying.{Makes, IsPlainProcess, HasPlain}
 use Rattle.deed_laws.specs.Laws.{OwnCallsAreTheKernels, BadSetsAreRefused}
 
 -- each living process is plain
-pub plain-at : (k : Kernel) (pid : ℕ) (a : Alive) → HasPlain k → living_at k pid ≡ Some a → IsPlain a
+pub plain-at : (k : Kernel) (pid : ℕ) (a : Alive) → HasPlain k → living_at k pid ≡ Some a → IsPlainProcess a
 plain-at k pid a h l =
     elim (cases_eq pid 1) [
       | inl same ↦ h.first a (subst (λ (q : ℕ). living_at k q ≡ Some a) same l)
-      | inr ne ↦ subst (λ (x : Alive). IsPlain x) (sym (h.others pid a ne l)) (record { signals = refl; allowance = refl })
+      | inr ne ↦ subst (λ (x : Alive). IsPlainProcess x) (sym (h.others pid a ne l)) (record { signals = refl; allowance = refl })
     ]
 
 -- a caller that isn't doomed stays as the call leaves it
-finished-plain : (k : Kernel) (pid : ℕ) (o : Option Alive) → ((b : Alive) → o ≡ Some b → IsPlain b) → finished k pid o ≡ k
+finished-plain : (k : Kernel) (pid : ℕ) (o : Option Alive) → ((b : Alive) → o ≡ Some b → IsPlainProcess b) → finish_call k pid o ≡ k
 finished-plain k pid None h = refl
 finished-plain k pid (Some b) h =
     let calm : is_some b.row.signals.doom ≡ false = ap (λ s. is_some s.doom) (h b refl).signals
@@ -47,7 +47,7 @@ makes k next pid a call reply plain after lives may gives =
     in let begins : transition k pid call n ≡ transition_by k pid call n (Some a) = ap (transition_by k pid call n) lives
     in let goes : transition_by k pid call n (Some a) ≡ outcome_of pid effects = ap (λ (t : Bool). if t then outcome_of pid effects else None) free
     in let ends : outcome_of pid effects ≡ outcome_of pid (Some (result next reply)) = ap (outcome_of pid) gives
-    in let stays : finished next pid (living_at next pid) ≡ next = finished-plain next pid (living_at next pid) (λ b l. plain-at next pid b after l)
+    in let stays : finish_call next pid (living_at next pid) ≡ next = finished-plain next pid (living_at next pid) (λ b l. plain-at next pid b after l)
     in let leads : outcome_of pid (Some (result next reply)) ≡ Some (next, outcome reply) = ap (λ (x : Kernel). Some (x, outcome reply)) stays
     in record { step = begins ∙ (goes ∙ (ends ∙ leads)) }
 

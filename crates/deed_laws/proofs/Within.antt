@@ -3,9 +3,9 @@ use Rattle.std.proofs.Common.{◌≡◌, ◌≢◌, ℕ, ◌≤◌, ◌+◌, Boo
 use Rattle.std.specs.Prelude.{is_some, if◌then◌else◌}
 use Rattle.std.specs.Option.{option_and_then}
 use Rattle.std.proofs.lemmas.Bool.{cases_eq, lt-ltb}
-use Rattle.kernel_model.specs.Maps.{Numbered, get, put, is_used, used_with}
+use Rattle.number_maps.specs.Maps.{Numbered, get, put, is_used, used_with}
 use Rattle.kernel_model.specs.Kernel.{Kernel, Process, alive_in, living_in}
-use Rattle.kernel_model.specs.Effect.{Effect, is_fresh, replied}
+use Rattle.kernel_model.specs.Effect.{Effect, is_fresh, reply_with}
 use Rattle.kernel_laws.proofs.MapLaws.{get-put-same, get-put-other, used-with-other}
 use Rattle.kernel_laws.proofs.Plain.{not_some, not_false}
 
@@ -41,7 +41,7 @@ none-at (Some v) h = not_false h
 
 -- the effect of giving out a number, and of none that may be given out
 abbrev pub effect_if : Kernel → ℕ → Bool → Option Effect
-effect_if next n fresh = if fresh then Some (replied next n) else None
+effect_if next n fresh = if fresh then Some (reply_with next n) else None
 
 -- a number that may be given out, and the numbers behind it
 pub fresh-number : (used : List ℕ) (n : ℕ) → 1 ≤ n → is_used used n ≡ false → is_fresh used n ≡ true

@@ -2,7 +2,7 @@
 use Rattle.std.specs.Prelude.{◌≡◌, ◌≢◌, ◌≤◌, ℕ, false, [], Some}
 use Rattle.pico_base.specs.declared.call.Call.{Call}
 use Rattle.pico_base.specs.declared.reply.Reply.{Reply}
-use Rattle.kernel_model.specs.Maps.{get, is_used}
+use Rattle.number_maps.specs.Maps.{get, is_used}
 use Rattle.kernel_model.specs.Signals.{new_signals}
 use Rattle.kernel_model.specs.Row.{Alive, Free}
 use Rattle.kernel_model.specs.Kernel.{Kernel, Process, Living, living_at}
@@ -31,12 +31,12 @@ pub record IsFresh (l : Leader) (k : Kernel) : Type 0 where
 
 -- Nobody has touched a signal: process 1 has new signals and is free to act, and each other living process is as it
 -- was when it was forked.
-pub record IsPlain (a : Alive) : Type 0 where
+pub record IsPlainProcess (a : Alive) : Type 0 where
   pub signals : a.row.signals ≡ new_signals
   pub allowance : a.allowance ≡ Free
 
 pub record HasPlain (k : Kernel) : Type 0 where
-  pub first : (a : Alive) → living_at k 1 ≡ Some a → IsPlain a
+  pub first : (a : Alive) → living_at k 1 ≡ Some a → IsPlainProcess a
   pub others : (pid : ℕ) (a : Alive) → pid ≢ 1 → living_at k pid ≡ Some a → a ≡ new_process
 
 -- The leader, which holds these deeds and knows these numbers, stands for the kernel.

@@ -5,17 +5,17 @@ use Rattle.pico_base.specs.declared.call.Call.TheVariants.{Fork, Exit, GetPid, M
 use Rattle.pico_base.specs.declared.reply.Errno.{Errno}
 use Rattle.pico_base.specs.declared.reply.Reply.TheVariants.{Num, Ended, Fail}
 use Rattle.pico_base.specs.declared.reply.Ending.TheVariants.{Exited}
-use Rattle.kernel_model.specs.Maps.{get, put}
+use Rattle.number_maps.specs.Maps.{get, put}
 use Rattle.kernel_model.specs.Queue.{empty_queue}
 use Rattle.kernel_model.specs.SemaphoreSet.{Semaphore, new_set}
 use Rattle.kernel_model.specs.Row.{Alive}
 use Rattle.kernel_model.specs.Kernel.{Kernel, Process, Living, living_at}
 use Rattle.kernel_model.specs.Effect.{Effect}
 use Rattle.kernel_model.specs.Waiting.{is_waiting}
-use Rattle.kernel_laws.specs.Reachable.{IsReachable}
+use Rattle.kernel_laws.specs.Reachable.{IsReachableKernel}
 use Rattle.machine_model.specs.Built.{is_shared}
 use Rattle.machine_model.specs.Node.{Held, Leader, new_process}
-use Rattle.machine_model.specs.Deeds.{held_in, served, child_ended, first_ended, may_end}
+use Rattle.machine_model.specs.Deeds.{held_in, serve, end_child, end_first, may_end}
 use Rattle.machine_model.specs.Calls.{fork_held}
 use Rattle.deed_laws.specs.Carrying.{Makes, StandsFor, Carries, HasPlain}
 
@@ -26,7 +26,7 @@ OwnCallsAreTheKernels =
 
 -- a shared call that doesn't wait is served, and as the kernel would; no process changes
 abbrev pub SharedCallsAreServed : Type 0
-SharedCallsAreServed = (h : Held) (pid : ℕ) (call : Call) → is_shared call ≡ true → is_waiting call ≡ false → IsSome (served h pid call)
+SharedCallsAreServed = (h : Held) (pid : ℕ) (call : Call) → is_shared call ≡ true → is_waiting call ≡ false → IsSome (serve h pid call)
 
 pub record Serves (h : Held) (l : Leader) (k : Kernel) (pid : ℕ) (call : Call) (e : Effect) : Type 0 where
   pub next : Kernel
@@ -37,7 +37,7 @@ pub record Serves (h : Held) (l : Leader) (k : Kernel) (pid : ℕ) (call : Call)
 abbrev pub ServedCallsAreTheKernels : Type 0
 ServedCallsAreTheKernels =
     (h : Held) (l : Leader) (k : Kernel) (pid : ℕ) (a : Alive) (call : Call) (e : Effect)
-    → StandsFor h l k → living_at k pid ≡ Some a → is_shared call ≡ true → served h pid call ≡ Some e → Serves h l k pid call e
+    → StandsFor h l k → living_at k pid ≡ Some a → is_shared call ≡ true → serve h pid call ≡ Some e → Serves h l k pid call e
 
 -- a new queue, a new set, and a set of a bad size
 pub record Creates (k : Kernel) (pid : ℕ) (call : Call) (number : ℕ) (h : Held) (l : Leader) : Type 0 where
@@ -72,7 +72,7 @@ pub record Forks (h : Held) (l : Leader) (k : Kernel) (a : Alive) (block : ℕ) 
 
 abbrev pub ForksAreTheKernels : Type 0
 ForksAreTheKernels =
-    (h : Held) (l : Leader) (k : Kernel) (a : Alive) (block : ℕ) → IsReachable k → StandsFor h l k
+    (h : Held) (l : Leader) (k : Kernel) (a : Alive) (block : ℕ) → IsReachableKernel k → StandsFor h l k
     → get h.processes 1 ≡ Some (Living a) → Forks h l k a block
 
 -- the end of process 1, and of a child whose parent is process 1
@@ -83,12 +83,12 @@ pub record Ends (k : Kernel) (pid status : ℕ) (h : Held) (l : Leader) : Type 0
 
 abbrev pub FirstEndsAsInTheKernel : Type 0
 FirstEndsAsInTheKernel =
-    (h : Held) (l : Leader) (k : Kernel) (a : Alive) (status : ℕ) → IsReachable k → StandsFor h l k
-    → get h.processes 1 ≡ Some (Living a) → Ends k 1 status (first_ended h 1 a (Exited (status % 256))) l
+    (h : Held) (l : Leader) (k : Kernel) (a : Alive) (status : ℕ) → IsReachableKernel k → StandsFor h l k
+    → get h.processes 1 ≡ Some (Living a) → Ends k 1 status (end_first h 1 a (Exited (status % 256))) l
 
 abbrev pub ChildrenEndAsInTheKernel : Type 0
 ChildrenEndAsInTheKernel =
-    (h : Held) (l : Leader) (k : Kernel) (p : Process) (child status : ℕ) → IsReachable k → StandsFor h l k → child ≢ 1
+    (h : Held) (l : Leader) (k : Kernel) (p : Process) (child status : ℕ) → IsReachableKernel k → StandsFor h l k → child ≢ 1
     → get k.processes child ≡ Some (Living new_process) → get h.processes child ≡ None
     → get h.processes 1 ≡ Some p → may_end child p ≡ true
-    → Ends k child status (child_ended h child 1 p (Exited (status % 256))) l
+    → Ends k child status (end_child h child 1 p (Exited (status % 256))) l

@@ -12,7 +12,7 @@ use Rattle.pico_base.specs.declared.reply.Ending.TheVariants.{Exited, Killed}
 use Rattle.pico_base.specs.declared.signal.Sig.{Sig}
 use Rattle.pico_base.specs.declared.signal.Sig.TheVariants.{Hup, Int, Quit, Kill, Usr1, Usr2, Pipe, Alrm, Term, Chld}
 use Rattle.kernel_model.specs.Row.{Family}
-use Rattle.kernel_model.specs.Signals.{all_signals, number_of}
+use Rattle.pico_base.specs.Signal.{all_signals, signal_number}
 use Rattle.fork_wait.proofs.Loops.{Repeats, ended_repeat, numbers_repeat}
 use Rattle.fork_wait.specs.Children.{children}
 use Rattle.fork_wait.specs.Reading.{◌>>=◌, all_ended_at, byte_at, ended_at, ending_from, family_at, number_at, numbers_at, signal_from}
@@ -122,7 +122,7 @@ is_number n k e = grind (arith, nat_tests)
 killed_takes : (value : ℕ) (found : Option Sig) (ending : Ending) → signal_from value ≡ found → option_map Killed found ≡ Some ending → 1 ∷ value ∷ [] ≡ ending_bytes ending
 killed_takes value None ending is e = absurd cc
 killed_takes value (Some g) ending is e =
-    ap (λ (v : ℕ). 1 ∷ v ∷ []) (sym (is_number (number_of g) value (find-passes (λ g. eqb (number_of g) value) all_signals g is)))
+    ap (λ (v : ℕ). 1 ∷ v ∷ []) (sym (is_number (signal_number g) value (find-passes (λ g. eqb (signal_number g) value) all_signals g is)))
     ∙ ap ending_bytes (some_is (Killed g) ending e)
 
 ending_takes : (kind value : ℕ) (ending : Ending) → ending_from kind value ≡ Some ending → kind ∷ value ∷ [] ≡ ending_bytes ending

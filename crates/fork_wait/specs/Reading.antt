@@ -8,7 +8,7 @@ use Rattle.pico_base.specs.declared.reply.Ending.{Ending}
 use Rattle.pico_base.specs.declared.reply.Ending.TheVariants.{Exited, Killed}
 use Rattle.pico_base.specs.declared.signal.Sig.{Sig}
 use Rattle.kernel_model.specs.Row.{Family}
-use Rattle.kernel_model.specs.Signals.{all_signals, number_of}
+use Rattle.pico_base.specs.Signal.{all_signals, signal_number}
 
 infixl 10 ◌>>=◌
 abbrev pub ◌>>=◌ : {A B : Type 0} → Option A → (A → Option B) → Option B
@@ -34,7 +34,7 @@ number_at bytes = if nat_lt (length bytes) 4 then None else Some (from_be_bytes 
 
 -- the signal with that number
 abbrev pub signal_from : ℕ → Option Sig
-signal_from number = find (λ g. number_of g == number) all_signals
+signal_from number = find (λ g. signal_number g == number) all_signals
 
 abbrev pub ending_from : ℕ → ℕ → Option Ending
 ending_from kind value = if kind == 0 then Some (Exited value) else if kind == 1 then option_map Killed (signal_from value) else None

@@ -6,13 +6,13 @@ use Rattle.pico_base.specs.declared.reply.Ending.{Ending}
 use Rattle.pico_base.specs.declared.reply.Ending.TheVariants.{Exited, Killed}
 use Rattle.pico_base.specs.declared.signal.Sig.TheVariants.{Term}
 use Rattle.kernel_model.specs.Row.{Family}
-use Rattle.kernel_model.specs.Signals.{number_of}
+use Rattle.pico_base.specs.Signal.{signal_number}
 use Rattle.fork_wait.specs.Children.{AreChildren, children}
 
 -- 0 and the status, or 1 and the signal's number
 abbrev pub ending_bytes : Ending → List ℕ
 ending_bytes (Exited status) = 0 ∷ status ∷ []
-ending_bytes (Killed g) = 1 ∷ number_of g ∷ []
+ending_bytes (Killed g) = 1 ∷ signal_number g ∷ []
 
 -- a number in four bytes, high bytes first, and an ending
 abbrev pub ended_bytes : ℕ × Ending → List ℕ

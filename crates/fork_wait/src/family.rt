@@ -3,7 +3,7 @@ ghost use Rattle.std.specs.List.{filter, list_any};
 ghost use Rattle.std.specs.Vec.{vec_capacity};
 ghost use Rattle.fork_wait.specs.Reading.{Gives};
 ghost use Rattle.fork_wait.specs.Spelling.{HasBytes, family_bytes};
-ghost use Rattle.kernel_model.specs.Row.{Family as Members, first_ended, lists, matches, no_family, others, wait, with_child, with_end};
+ghost use Rattle.kernel_model.specs.Row.{Family as Members, first_ended_child, lists, matches, no_family, others, wait, with_child, family_after_end};
 ghost use Rattle.fork_wait.specs.Children.{children, is_child};
 ghost use Rattle.fork_wait.specs.Waiting.{answer_of, family_after};
 
@@ -74,7 +74,7 @@ impl Family {
     pub fn child_ended(&mut self, child: Pid, ending: Ending, ignored: bool) -> bool
         requires { IsTrue (lists self.old child) }
         ensures kept { result ≡ not ignored }
-        ensures ended { self.new ≡ with_end self.old child ending ignored }
+        ensures ended { self.new ≡ family_after_end self.old child ending ignored }
     {
         take_out(&mut self.living, child);
         if !ignored {
@@ -159,7 +159,7 @@ fn any_matches(which: &Option<Pid>, living: &[Pid]) -> bool
 
 /// The first ended child that is waited for.
 fn first_ended(which: &Option<Pid>, ended: &[(Pid, Ending)]) -> Option<(Pid, Ending)>
-    ensures { result ≡ first_ended which.now ended.now }
+    ensures { result ≡ first_ended_child which.now ended.now }
 {
     for (pid, ending) in ended {
         if matches(which, *pid) {

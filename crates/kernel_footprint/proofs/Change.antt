@@ -4,7 +4,7 @@ use Rattle.std.specs.List.{list_any}
 use Rattle.std.proofs.lemmas.Bool.{cases_eq, false≢true}
 use Rattle.pico_base.specs.declared.reply.Reply.{Reply}
 use Rattle.pico_base.specs.declared.reply.Reply.TheVariants.{Num}
-use Rattle.kernel_model.specs.Maps.{Numbered, get, put, without, used_with}
+use Rattle.number_maps.specs.Maps.{Numbered, get, put, without, used_with}
 use Rattle.kernel_model.specs.Kernel.{Kernel, parent_in}
 use Rattle.kernel_model.specs.Effect.{Effect}
 use Rattle.kernel_model.specs.Footprint.{Part, ParentOf, is_whole, is_queue, is_set, is_queue_keys, is_set_keys}

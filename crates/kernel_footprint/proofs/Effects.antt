@@ -5,11 +5,11 @@ use Rattle.pico_base.specs.declared.reply.Reply.{Reply}
 use Rattle.pico_base.specs.declared.reply.Reply.TheVariants.{Num, Fail}
 use Rattle.pico_base.specs.declared.reply.Errno.{Errno}
 use Rattle.pico_base.specs.declared.reply.Errno.TheVariants.{Einval}
-use Rattle.kernel_model.specs.Maps.{Numbered, is_used}
+use Rattle.number_maps.specs.Maps.{Numbered, is_used}
 use Rattle.kernel_model.specs.Queue.{Queue}
 use Rattle.kernel_model.specs.SemaphoreSet.{Semaphore}
 use Rattle.kernel_model.specs.Kernel.{Kernel, Process}
-use Rattle.kernel_model.specs.Effect.{Effect, looked_up, on_named, is_fresh}
+use Rattle.kernel_model.specs.Effect.{Effect, look_up, on_named, is_fresh}
 use Rattle.kernel_model.specs.Footprint.{Part}
 use Rattle.kernel_footprint.proofs.Change.{Changes, changes-none, has_whole, has_queue, has_set, has_queue_keys, has_set_keys, has_parent, Grew, IsOrphan, SameEffect, SameEffects}
 
@@ -47,7 +47,7 @@ module _ (parts : List Part) (n : ℕ) (j k : Kernel) where
           used_sets = (inl refl, inl refl);
         }
 
-    pub looked-alike : (r : Result ℕ Errno) → SameEffect parts n j k (looked_up j r) (looked_up k r)
+    pub looked-alike : (r : Result ℕ Errno) → SameEffect parts n j k (look_up j r) (look_up k r)
     looked-alike (Ok m) = unchanged (Num m)
     looked-alike (Err e) = unchanged (Fail e)
 

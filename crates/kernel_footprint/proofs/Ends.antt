@@ -10,13 +10,13 @@ use Rattle.pico_base.specs.declared.reply.Ending.{Ending}
 use Rattle.pico_base.specs.declared.reply.Ending.TheVariants as endings
 use Rattle.pico_base.specs.declared.signal.Sig.{Sig}
 use Rattle.pico_base.specs.declared.signal.Sig.TheVariants.{Chld}
-use Rattle.kernel_model.specs.Maps.{Numbered, put}
-use Rattle.kernel_model.specs.Row.{Alive, lists, others, ignores_children, raised_at, with_ended_child}
+use Rattle.number_maps.specs.Maps.{Numbered, put}
+use Rattle.kernel_model.specs.Row.{Alive, lists, others, ignores_children, raise_by_other, with_ended_child}
 use Rattle.kernel_model.specs.Kernel.{Kernel, Process, Living, Gone, Parent, alive_in, living_in, living_at, parent_in}
-use Rattle.kernel_model.specs.ProcessCalls.{bury, buried, kept_as, ended_under, with_end, ended}
+use Rattle.kernel_model.specs.ProcessCalls.{bury, bury_all, process_after_end, end_under, processes_after_end, end_process}
 use Rattle.kernel_model.specs.Transition.{effect, transition}
 use Rattle.kernel_model.specs.Valid.{IsValid}
-use Rattle.kernel_model.specs.Footprint.{Part, MayDo, Whole, ParentOf, is_whole, ended_of, parent_parts, parent_number, Agree, SameSteps}
+use Rattle.kernel_model.specs.Footprint.{Part, MayDo, Whole, ParentOf, is_whole, parts_of_ended, parent_parts, parent_number, AgreeOn, SameSteps}
 use Rattle.kernel_footprint.proofs.Maps.{Rises, rises-put, rises-from_order, get-put-same, get-put-other, eq-same}
 use Rattle.kernel_footprint.proofs.Parents.{orphan-put, orphan-from_unlisted, parent-is}
 use Rattle.kernel_footprint.proofs.Change.{Changes, changes-none, changes-put, has_whole, has_queue, has_set, has_queue_keys, has_set_keys, has_parent, is_parent, SameEffect, SameEffects}
@@ -35,7 +35,7 @@ unlisted : (child : ℕ) (xs : List ℕ) → list_any (nat_eq child) (others chi
 unlisted child [] = refl
 unlisted child (x ∷ xs) = unlist-by child x xs (nat_eq child x) refl (unlisted child xs)
 
-family-kept : (b : Bool) (a : Alive) → (if b then a else raised_at a Chld).row.family ≡ a.row.family
+family-kept : (b : Bool) (a : Alive) → (if b then a else raise_by_other a Chld).row.family ≡ a.row.family
 family-kept true a = refl
 family-kept false a = refl
 
@@ -67,7 +67,7 @@ buried-living : (es : List (ℕ × Ending)) (ps : Numbered Process) (p : ℕ) (a
 buried-living [] ps p a h = h
 buried-living (e ∷ es) ps p a h = gone-living ps e.0 p a (buried-living es (put ps e.0 Gone) p a h)
 
-kept-dead : (b : Bool) (ending : Ending) → alive_in (kept_as b ending) ≡ None
+kept-dead : (b : Bool) (ending : Ending) → alive_in (process_after_end b ending) ≡ None
 kept-dead true ending = refl
 kept-dead false ending = refl
 
@@ -95,10 +95,10 @@ module _ (ps : Numbered Process) (rises : Rises ps)
             ]
       ]
 
-  orphan-under : (o : Option Parent) → parent_in pid ps ≡ o → parent_in pid (ended_under (fold bury ps es) pid ending o) ≡ None
+  orphan-under : (o : Option Parent) → parent_in pid ps ≡ o → parent_in pid (end_under (fold bury ps es) pid ending o) ≡ None
   orphan-under None h = orphan-put pid (fold bury ps es) pid Gone refl (buried-orphan pid es ps h)
   orphan-under (Some r) h =
-      let kept = kept_as (ignores_children r.alive.row) ending
+      let kept = process_after_end (ignores_children r.alive.row) ending
       in let row = Living (with_ended_child r.alive pid ending)
       in let middle = put (fold bury ps es) pid kept
       in orphan-from_unlisted pid (put middle r.pid row) (rises-put middle r.pid row (rises-put (fold bury ps es) pid kept (buried-rises es ps rises)))
@@ -113,7 +113,7 @@ module _ (ps : Numbered Process) (rises : Rises ps)
             (sym (ap (option_and_then alive_in) (get-put-other middle r.pid row p ne)) ∙ l)
       ])
 
-orphaned : (k : Kernel) → IsValid k → (es : List (ℕ × Ending)) (pid : ℕ) (ending : Ending) → parent_in pid (ended_under (fold bury k.processes es) pid ending (parent_in pid k.processes)) ≡ None
+orphaned : (k : Kernel) → IsValid k → (es : List (ℕ × Ending)) (pid : ℕ) (ending : Ending) → parent_in pid (end_under (fold bury k.processes es) pid ending (parent_in pid k.processes)) ≡ None
 orphaned k v es pid ending = orphan-under k.processes (rises-from_order k.processes v.processes) v.one_parent es pid ending (parent_in pid k.processes) refl
 
 -- The same changes.
@@ -124,11 +124,11 @@ module _ (touched : ℕ → Bool) (j k : Numbered Process) where
   buried-changes (e ∷ es) a b t c = buried-changes es (put a e.0 Gone) (put b e.0 Gone) t.1 (changes-put touched j k a b e.0 Gone t.0 c)
 
   ended-changes : (o : Option Parent) (a b : Numbered Process) (pid : ℕ) (ending : Ending) → touched pid ≡ true → ((r : Parent) → o ≡ Some r → touched r.pid ≡ true)
-      → Changes touched j k a b → Changes touched j k (ended_under a pid ending o) (ended_under b pid ending o)
+      → Changes touched j k a b → Changes touched j k (end_under a pid ending o) (end_under b pid ending o)
   ended-changes None a b pid ending t u c = changes-put touched j k a b pid Gone t c
   ended-changes (Some r) a b pid ending t u c =
       changes-put touched j k _ _ r.pid (Living (with_ended_child r.alive pid ending)) (u r refl)
-      (changes-put touched j k a b pid (kept_as (ignores_children r.alive.row) ending) t c)
+      (changes-put touched j k a b pid (process_after_end (ignores_children r.alive.row) ending) t c)
 
 -- The parts.
 
@@ -149,7 +149,7 @@ any-neither test (x ∷ xs) ys h =
       | inr t ↦ elim (any-neither test xs ys t) [ inl u ↦ inl (or_right _ _ u) | inr u ↦ inr u ]
     ]
 
-agree-right : (xs ys : List Part) (j k : Kernel) → Agree (xs ++ ys) j k → Agree ys j k
+agree-right : (xs ys : List Part) (j k : Kernel) → AgreeOn (xs ++ ys) j k → AgreeOn ys j k
 agree-right [] ys j k h = h
 agree-right (x ∷ xs) ys j k h = agree-right xs ys j k h.1
 
@@ -158,14 +158,14 @@ parents-childless p None = refl
 parents-childless p (Some q) = refl
 
 abbrev exit_parts : ℕ → Option Alive → Option ℕ → List Part
-exit_parts pid o parent = MayDo pid ∷ Whole pid ∷ ParentOf pid ∷ (ended_of o ++ parent_parts parent)
+exit_parts pid o parent = MayDo pid ∷ Whole pid ∷ ParentOf pid ∷ (parts_of_ended o ++ parent_parts parent)
 
 has_parent-is : (pid p : ℕ) (o : Option Alive) (parent : Option ℕ) → has_parent (exit_parts pid o parent) p ≡ true → p ≡ pid
 has_parent-is pid p o parent h =
     elim (or_cases (nat_eq p pid) _ h) [
       | inl t ↦ eqb-true p pid t
       | inr t ↦
-          elim (any-neither (is_parent p) (ended_of o) (parent_parts parent) t) [
+          elim (any-neither (is_parent p) (parts_of_ended o) (parent_parts parent) t) [
             | inl u ↦ absurd (false≢true (sym (ended-childless p o) ∙ u))
             | inr u ↦ absurd (false≢true (sym (parents-childless p parent) ∙ u))
           ]
@@ -187,7 +187,7 @@ same-record r s x y =
 
 module _ (j k : Kernel) (vj : IsValid j) (vk : IsValid k) (pid : ℕ) where
   same-parent-by : (o p : Option Parent) → parent_in pid j.processes ≡ o → parent_in pid k.processes ≡ p
-      → option_map (λ r. r.pid) o ≡ option_map (λ r. r.pid) p → Agree (parent_parts (option_map (λ r. r.pid) o)) j k → o ≡ p
+      → option_map (λ r. r.pid) o ≡ option_map (λ r. r.pid) p → AgreeOn (parent_parts (option_map (λ r. r.pid) o)) j k → o ≡ p
   same-parent-by None None x y e h = refl
   same-parent-by None (Some s) x y e h = cc
   same-parent-by (Some r) None x y e h = cc
@@ -200,7 +200,7 @@ module _ (j k : Kernel) (vj : IsValid j) (vk : IsValid k) (pid : ℕ) where
       in let row : r.alive ≡ s.alive = cc
       in ap Some (same-record r s number row)
 
-  same-parent : parent_number j pid ≡ parent_number k pid → Agree (parent_parts (parent_number j pid)) j k → parent_in pid j.processes ≡ parent_in pid k.processes
+  same-parent : parent_number j pid ≡ parent_number k pid → AgreeOn (parent_parts (parent_number j pid)) j k → parent_in pid j.processes ≡ parent_in pid k.processes
   same-parent e h = same-parent-by (parent_in pid j.processes) (parent_in pid k.processes) refl refl e h
 
 -- The ending, from the same row and the same parent.
@@ -210,18 +210,18 @@ parts_at j pid = exit_parts pid (living_at j pid) (parent_number j pid)
 
 -- a part at the end of the list, and one among the ended children
 whole-of_parent : (pid : ℕ) (o : Option Alive) (r : Parent) → has_whole (exit_parts pid o (Some r.pid)) r.pid ≡ true
-whole-of_parent pid o r = or_right _ _ (any-right (is_whole r.pid) (ended_of o) (parent_parts (Some r.pid)) (or_left _ _ (eq-same r.pid)))
+whole-of_parent pid o r = or_right _ _ (any-right (is_whole r.pid) (parts_of_ended o) (parent_parts (Some r.pid)) (or_left _ _ (eq-same r.pid)))
 
 whole-of_ended : (pid p : ℕ) (a : Alive) (parent : Option ℕ) → list_any (is_whole p) (map (λ y. Whole y.0) a.row.family.ended) ≡ true
     → has_whole (exit_parts pid (Some a) parent) p ≡ true
-whole-of_ended pid p a parent h = or_right _ _ (any-left (is_whole p) (ended_of (Some a)) (parent_parts parent) h)
+whole-of_ended pid p a parent h = or_right _ _ (any-left (is_whole p) (parts_of_ended (Some a)) (parent_parts parent) h)
 
 end-changes : (j k : Kernel) (pid : ℕ) (a : Alive) (ending : Ending) → living_at j pid ≡ Some a → parent_in pid j.processes ≡ parent_in pid k.processes
-    → Changes (has_whole (parts_at j pid)) j.processes k.processes (with_end j.processes pid a ending) (with_end k.processes pid a ending)
+    → Changes (has_whole (parts_at j pid)) j.processes k.processes (processes_after_end j.processes pid a ending) (processes_after_end k.processes pid a ending)
 end-changes j k pid a ending lives same =
     let touched = has_whole (parts_at j pid)
-    in subst (λ o. Changes touched j.processes k.processes (with_end j.processes pid a ending) (ended_under (buried k.processes a.row.family) pid ending o)) same
-    (ended-changes touched j.processes k.processes (parent_in pid j.processes) (buried j.processes a.row.family) (buried k.processes a.row.family) pid ending
+    in subst (λ o. Changes touched j.processes k.processes (processes_after_end j.processes pid a ending) (end_under (bury_all k.processes a.row.family) pid ending o)) same
+    (ended-changes touched j.processes k.processes (parent_in pid j.processes) (bury_all j.processes a.row.family) (bury_all k.processes a.row.family) pid ending
     (or_left _ _ (eq-same pid))
     (λ r e. subst (λ q. has_whole (exit_parts pid (living_at j pid) (option_map (λ x. x.pid) q)) r.pid ≡ true) (sym e) (whole-of_parent pid (living_at j pid) r))
     (buried-changes touched j.processes k.processes a.row.family.ended j.processes k.processes
@@ -230,7 +230,7 @@ end-changes j k pid a ending lives same =
     (changes-none touched j.processes k.processes)))
 
 end-alike : (j k : Kernel) (pid n : ℕ) (a : Alive) (ending : Ending) → IsValid j → IsValid k → living_at j pid ≡ Some a → parent_in pid j.processes ≡ parent_in pid k.processes
-    → SameEffect (parts_at j pid) n j k (ended j pid a ending) (ended k pid a ending)
+    → SameEffect (parts_at j pid) n j k (end_process j pid a ending) (end_process k pid a ending)
 end-alike j k pid n a ending vj vk lives same =
     let parts = parts_at j pid
     in record {
@@ -246,20 +246,20 @@ end-alike j k pid n a ending vj vk lives same =
       used_sets = (inl refl, inl refl);
     }
   where
-    orphan-of : (i : Kernel) → IsValid i → (p : ℕ) → has_parent (parts_at j pid) p ≡ true → parent_in p (with_end i.processes pid a ending) ≡ None
+    orphan-of : (i : Kernel) → IsValid i → (p : ℕ) → has_parent (parts_at j pid) p ≡ true → parent_in p (processes_after_end i.processes pid a ending) ≡ None
     orphan-of i v p t =
         let e = has_parent-is pid p (living_at j pid) (parent_number j pid) t
-        in subst (λ (q : ℕ). parent_in q (with_end i.processes pid a ending) ≡ None) (sym e) (orphaned i v a.row.family.ended pid ending)
+        in subst (λ (q : ℕ). parent_in q (processes_after_end i.processes pid a ending) ≡ None) (sym e) (orphaned i v a.row.family.ended pid ending)
 
-end-law : (j k : Kernel) (pid n : ℕ) (call : Call) (ending : Ending) → IsValid j → IsValid k → Agree (parts_at j pid) j k
-    → ((i : Kernel) (a : Alive) → effect i pid a call n ≡ Some (ended i pid a ending))
+end-law : (j k : Kernel) (pid n : ℕ) (call : Call) (ending : Ending) → IsValid j → IsValid k → AgreeOn (parts_at j pid) j k
+    → ((i : Kernel) (a : Alive) → effect i pid a call n ≡ Some (end_process i pid a ending))
     → SameSteps (parts_at j pid) n j k (transition j pid call n) (transition k pid call n)
 end-law j k pid n call ending vj vk h is =
     let parts = parts_at j pid
-    in let same = same-parent j k vj vk pid h.1.1.0 (agree-right (ended_of (living_at j pid)) (parent_parts (parent_number j pid)) j k h.1.1.1)
+    in let same = same-parent j k vj vk pid h.1.1.0 (agree-right (parts_of_ended (living_at j pid)) (parent_parts (parent_number j pid)) j k h.1.1.1)
     in whole-steps parts n j k pid call h (or_left _ _ (eq-same pid)) h.1.0
     (λ a x y. subst (λ e. SameEffects parts n j k e (effect k pid a call n)) (sym (is j a))
-    (subst (λ e. SameEffects parts n j k (Some (ended j pid a ending)) e) (sym (is k a)) (end-alike j k pid n a ending vj vk x same)))
+    (subst (λ e. SameEffects parts n j k (Some (end_process j pid a ending)) e) (sym (is k a)) (end-alike j k pid n a ending vj vk x same)))
 
 pub exit-law : (j k : Kernel) (pid n status : ℕ) → LawAt j k pid (calls.Exit status) n
 exit-law j k pid n status vj vk h uj uk = end-law j k pid n (calls.Exit status) (endings.Exited (status % 256)) vj vk h (λ i a. refl)

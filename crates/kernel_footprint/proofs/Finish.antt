@@ -3,12 +3,12 @@ use Rattle.std.proofs.Common.{◌≡◌, ◌↔◌, ℕ, Bool, true, false, cond
 use Rattle.std.specs.Option.{option_map, option_and_then}
 use Rattle.std.proofs.lemmas.Bool.{cases_eq, false≢true}
 use Rattle.pico_base.specs.declared.signal.Sig.{Sig}
-use Rattle.kernel_model.specs.Maps.{get, put}
+use Rattle.number_maps.specs.Maps.{get, put}
 use Rattle.kernel_model.specs.Row.{Alive, Allowance, Free, Spent}
 use Rattle.kernel_model.specs.Kernel.{Kernel, Process, Living, Ended, Gone, alive_in, living_at, with_alive}
 use Rattle.kernel_model.specs.Effect.{Effect}
-use Rattle.kernel_model.specs.Transition.{finished}
-use Rattle.kernel_model.specs.Valid.{IsAlive}
+use Rattle.kernel_model.specs.Transition.{finish_call}
+use Rattle.kernel_model.specs.Valid.{IsValidProcess}
 use Rattle.kernel_model.specs.Footprint.{Part, bare, parent_number}
 use Rattle.kernel_footprint.proofs.Maps.{get-put-same, get-put-other}
 use Rattle.kernel_footprint.proofs.Parents.{orphan-put, orphan-unlisted}
@@ -73,15 +73,15 @@ module _ (parts : List Part) (n : ℕ) (j k : Kernel) (e f : Effect) (pid : ℕ)
   spent-if a true le lf = with-spent a le lf
   spent-if a false le lf = plain parts n j k e f s
 
-  finished-by : (o : Option Alive) → living_at e.kernel pid ≡ o → living_at f.kernel pid ≡ o → Stepped parts n e.reply j k (finished e.kernel pid o) (finished f.kernel pid o)
+  finished-by : (o : Option Alive) → living_at e.kernel pid ≡ o → living_at f.kernel pid ≡ o → Stepped parts n e.reply j k (finish_call e.kernel pid o) (finish_call f.kernel pid o)
   finished-by None le lf = plain parts n j k e f s
   finished-by (Some a) le lf = spent-if a (is_some a.row.signals.doom) le lf
 
   pub whole-stepped : get j.processes pid ≡ get k.processes pid
-      → Stepped parts n e.reply j k (finished e.kernel pid (living_at e.kernel pid)) (finished f.kernel pid (living_at f.kernel pid))
+      → Stepped parts n e.reply j k (finish_call e.kernel pid (living_at e.kernel pid)) (finish_call f.kernel pid (living_at f.kernel pid))
   whole-stepped h =
       let same : living_at e.kernel pid ≡ living_at f.kernel pid = ap (option_and_then alive_in) (change-agree _ _ _ _ _ (s.processes pid) h)
-      in subst (λ o. Stepped parts n e.reply j k (finished e.kernel pid (living_at e.kernel pid)) (finished f.kernel pid o)) same
+      in subst (λ o. Stepped parts n e.reply j k (finish_call e.kernel pid (living_at e.kernel pid)) (finish_call f.kernel pid o)) same
       (finished-by (living_at e.kernel pid) refl (sym same))
 
 -- Where the caller's allowance alone is a part.
@@ -137,12 +137,12 @@ module _ (parts : List Part) (n : ℕ) (j k : Kernel) (e f : Effect) (pid : ℕ)
   both-by true false h = cc
   both-by false true h = cc
 
-  pub away-stepped : IsAlive j pid a → IsAlive k pid b → a.allowance ≡ b.allowance
-      → Stepped parts n e.reply j k (finished e.kernel pid (living_at e.kernel pid)) (finished f.kernel pid (living_at f.kernel pid))
+  pub away-stepped : IsValidProcess j pid a → IsValidProcess k pid b → a.allowance ≡ b.allowance
+      → Stepped parts n e.reply j k (finish_call e.kernel pid (living_at e.kernel pid)) (finish_call f.kernel pid (living_at f.kernel pid))
   away-stepped va vb h =
       let le : living_at e.kernel pid ≡ Some a = ap (option_and_then alive_in) (change-first _ _ _ _ _ (s.processes pid) away) ∙ lives
       in let lf : living_at f.kernel pid ≡ Some b = ap (option_and_then alive_in) (change-second _ _ _ _ _ (s.processes pid) away) ∙ lives_too
       in let alike = doomed-alike a.row.signals.doom b.row.signals.doom a.allowance b.allowance va.allowed vb.allowed h
-      in subst (λ o. Stepped parts n e.reply j k (finished e.kernel pid o) (finished f.kernel pid (living_at f.kernel pid))) (sym le)
-      (subst (λ o. Stepped parts n e.reply j k (finished e.kernel pid (Some a)) (finished f.kernel pid o)) (sym lf)
+      in subst (λ o. Stepped parts n e.reply j k (finish_call e.kernel pid o) (finish_call f.kernel pid (living_at f.kernel pid))) (sym le)
+      (subst (λ o. Stepped parts n e.reply j k (finish_call e.kernel pid (Some a)) (finish_call f.kernel pid o)) (sym lf)
       (both-by (is_some a.row.signals.doom) (is_some b.row.signals.doom) alike))

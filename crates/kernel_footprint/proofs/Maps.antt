@@ -9,7 +9,7 @@ use Rattle.std.specs.Cmp.{nat_cmp_is}
 use Rattle.std.proofs.lemmas.Cmp.{ranked}
 use Rattle.std.proofs.lemmas.Bool.{cases_order, cases_eq, eq-eqb, ne_eqb}
 use Rattle.std.proofs.lemmas.Map.Keys.{sorted_from_strictly_increasing}
-use Rattle.kernel_model.specs.Maps.{Numbered, get, put, without}
+use Rattle.number_maps.specs.Maps.{Numbered, get, put, without}
 use Rattle.kernel_model.specs.Valid.{IsOrdered}
 
 -- how two numbers compare

@@ -19,15 +19,15 @@ use Rattle.pico_base.specs.declared.signal.Sig.{Sig}
 use Rattle.pico_base.specs.declared.signal.SigArg.{SigArg}
 use Rattle.pico_base.specs.declared.signal.SigArg.TheVariants.{Zero, Is, Bad}
 use Rattle.pico_base.specs.Signal.{at}
-use Rattle.kernel_model.specs.Maps.{get, put, used_with}
+use Rattle.number_maps.specs.Maps.{get, put, used_with}
 use Rattle.kernel_model.specs.Signals.{Signals, act_on, with_mask, raise}
-use Rattle.kernel_model.specs.Row.{Alive, matches, first_ended, waited_from, raised_at}
+use Rattle.kernel_model.specs.Row.{Alive, matches, first_ended_child, wait_result, raise_by_other}
 use Rattle.kernel_model.specs.Kernel.{Kernel, Process, Living, Ended, Gone, living_at, with_alive}
-use Rattle.kernel_model.specs.Effect.{replied}
-use Rattle.kernel_model.specs.ProcessCalls.{forking, new_child, with_fork, reaping, reaped, with_signals, acted, killed_at, signalled, kill}
+use Rattle.kernel_model.specs.Effect.{reply_with}
+use Rattle.kernel_model.specs.ProcessCalls.{parent_after_fork, new_child, processes_after_fork, parent_after_wait, reap_child, with_signals, action_effect, kill_at, signal_living, kill}
 use Rattle.kernel_model.specs.Transition.{effect, transition, is_spent}
 use Rattle.kernel_model.specs.Valid.{IsValid}
-use Rattle.kernel_model.specs.Footprint.{Part, MayDo, Whole, is_whole, ended_of, home_parts, Agree, SameSteps}
+use Rattle.kernel_model.specs.Footprint.{Part, MayDo, Whole, is_whole, parts_of_ended, home_parts, AgreeOn, SameSteps}
 use Rattle.kernel_footprint.proofs.Maps.{eq-same, eq-other}
 use Rattle.kernel_footprint.proofs.Change.{changes-none, changes-put, has_whole, is_parent, SameEffect, SameEffects}
 use Rattle.kernel_footprint.proofs.Effects.{Childless, fresh-alike, made-if, unchanged, processes-changed}
@@ -42,34 +42,34 @@ module _ (parts : List Part) (n : ℕ) (j k : Kernel) (childless : Childless par
       (changes-put (has_whole parts) j.processes k.processes j.processes k.processes id (Living a) t (changes-none (has_whole parts) j.processes k.processes))
       (inl refl) (inl refl)
 
-  acted-alike : (pid : ℕ) (a : Alive) (r : Result Signals Errno) → has_whole parts pid ≡ true → SameEffect parts n j k (acted j pid a r) (acted k pid a r)
+  acted-alike : (pid : ℕ) (a : Alive) (r : Result Signals Errno) → has_whole parts pid ≡ true → SameEffect parts n j k (action_effect j pid a r) (action_effect k pid a r)
   acted-alike pid a (Ok s) t = alive-put pid (record a { row = record { signals = s; family = a.row.family } }) (Num 0) t
   acted-alike pid a (Err e) t = unchanged parts n j k childless (Fail e)
 
   raised-if : (pid : ℕ) (target : Alive) (g : Sig) (b : Bool) → has_whole parts pid ≡ true
       → SameEffect parts n j k
-      (replied (if b then with_signals j pid target (raise target.row.signals g) else with_alive j pid (raised_at target g)) 0)
-      (replied (if b then with_signals k pid target (raise target.row.signals g) else with_alive k pid (raised_at target g)) 0)
+      (reply_with (if b then with_signals j pid target (raise target.row.signals g) else with_alive j pid (raise_by_other target g)) 0)
+      (reply_with (if b then with_signals k pid target (raise target.row.signals g) else with_alive k pid (raise_by_other target g)) 0)
   raised-if pid target g true t = alive-put pid (record target { row = record { signals = raise target.row.signals g; family = target.row.family } }) (Num 0) t
-  raised-if pid target g false t = alive-put pid (raised_at target g) (Num 0) t
+  raised-if pid target g false t = alive-put pid (raise_by_other target g) (Num 0) t
 
   signalled-alike : (caller pid : ℕ) (target : Alive) (sig : SigArg) → has_whole parts pid ≡ true
-      → SameEffect parts n j k (signalled j caller pid target sig) (signalled k caller pid target sig)
+      → SameEffect parts n j k (signal_living j caller pid target sig) (signal_living k caller pid target sig)
   signalled-alike caller pid target Zero t = unchanged parts n j k childless (Num 0)
   signalled-alike caller pid target Bad t = unchanged parts n j k childless (Fail Einval)
   signalled-alike caller pid target (Is g) t = raised-if pid target g (nat_eq caller pid) t
 
   killed-alike : (caller pid : ℕ) (sig : SigArg) (o : Option Process) → has_whole parts pid ≡ true
-      → SameEffect parts n j k (killed_at j caller pid sig o) (killed_at k caller pid sig o)
+      → SameEffect parts n j k (kill_at j caller pid sig o) (kill_at k caller pid sig o)
   killed-alike caller pid sig None t = unchanged parts n j k childless (Fail Esrch)
   killed-alike caller pid sig (Some Gone) t = unchanged parts n j k childless (Fail Esrch)
   killed-alike caller pid sig (Some (Ended ending)) t = unchanged parts n j k childless (Num 0)
   killed-alike caller pid sig (Some (Living target)) t = signalled-alike caller pid target sig t
 
   killed-same : (caller pid : ℕ) (sig : SigArg) → has_whole parts pid ≡ true → get j.processes pid ≡ get k.processes pid
-      → SameEffect parts n j k (killed_at j caller pid sig (get j.processes pid)) (killed_at k caller pid sig (get k.processes pid))
+      → SameEffect parts n j k (kill_at j caller pid sig (get j.processes pid)) (kill_at k caller pid sig (get k.processes pid))
   killed-same caller pid sig t h =
-      subst (λ o. SameEffect parts n j k (killed_at j caller pid sig (get j.processes pid)) (killed_at k caller pid sig o)) h
+      subst (λ o. SameEffect parts n j k (kill_at j caller pid sig (get j.processes pid)) (kill_at k caller pid sig o)) h
       (killed-alike caller pid sig (get j.processes pid) t)
 
   kill-alike : (caller pid : ℕ) (sig : SigArg) → has_whole parts pid ≡ true → get j.processes pid ≡ get k.processes pid
@@ -80,15 +80,15 @@ module _ (parts : List Part) (n : ℕ) (j k : Kernel) (childless : Childless par
 
   reaped-alike : (pid : ℕ) (a : Alive) (o : Option (ℕ × Ending)) (living : Bool) → has_whole parts pid ≡ true
       → ((e : ℕ × Ending) → o ≡ Some e → has_whole parts e.0 ≡ true)
-      → SameEffect parts n j k (reaped j pid a (waited_from o living)) (reaped k pid a (waited_from o living))
+      → SameEffect parts n j k (reap_child j pid a (wait_result o living)) (reap_child k pid a (wait_result o living))
   reaped-alike pid a None true t u = unchanged parts n j k childless (Num 0)
   reaped-alike pid a None false t u = unchanged parts n j k childless (Fail Echild)
   reaped-alike pid a (Some e) living t u =
       processes-changed parts n j k childless
-      (put (put j.processes pid (Living (reaping a e.0))) e.0 Gone) (put (put k.processes pid (Living (reaping a e.0))) e.0 Gone)
+      (put (put j.processes pid (Living (parent_after_wait a e.0))) e.0 Gone) (put (put k.processes pid (Living (parent_after_wait a e.0))) e.0 Gone)
       j.used_processes k.used_processes (Child e.0 e.1)
       (changes-put (has_whole parts) j.processes k.processes _ _ e.0 Gone (u e refl)
-      (changes-put (has_whole parts) j.processes k.processes j.processes k.processes pid (Living (reaping a e.0)) t
+      (changes-put (has_whole parts) j.processes k.processes j.processes k.processes pid (Living (parent_after_wait a e.0)) t
       (changes-none (has_whole parts) j.processes k.processes)))
       (inl refl) (inl refl)
 
@@ -100,7 +100,7 @@ own pid = MayDo pid ∷ Whole pid ∷ []
 own-here : (pid : ℕ) → has_whole (own pid) pid ≡ true
 own-here pid = or_left _ false (eq-same pid)
 
-own-steps : (j k : Kernel) (pid : ℕ) (call : Call) (n : ℕ) → Agree (own pid) j k
+own-steps : (j k : Kernel) (pid : ℕ) (call : Call) (n : ℕ) → AgreeOn (own pid) j k
     → ((a : Alive) → SameEffects (own pid) n j k (effect j pid a call n) (effect k pid a call n))
     → SameSteps (own pid) n j k (transition j pid call n) (transition k pid call n)
 own-steps j k pid call n h s = whole-steps (own pid) n j k pid call h (own-here pid) h.1.0 (λ a x y. s a)
@@ -128,7 +128,7 @@ handled-law j k pid n sig vj vk h uj uk =
 
 -- kill
 
-kill-own : (j k : Kernel) (pid n target : ℕ) (sig : SigArg) → nat_eq target pid ≡ true → Agree (own pid) j k
+kill-own : (j k : Kernel) (pid n target : ℕ) (sig : SigArg) → nat_eq target pid ≡ true → AgreeOn (own pid) j k
     → SameSteps (own pid) n j k (transition j pid (calls.Kill target sig) n) (transition k pid (calls.Kill target sig) n)
 kill-own j k pid n target sig e h =
     let same : get j.processes target ≡ get k.processes target = subst (λ (q : ℕ). get j.processes q ≡ get k.processes q) (sym (eqb-true target pid e)) h.1.0
@@ -137,7 +137,7 @@ kill-own j k pid n target sig e h =
 abbrev other : ℕ → ℕ → List Part
 other pid target = MayDo pid ∷ Whole target ∷ []
 
-kill-other : (j k : Kernel) (pid n target : ℕ) (sig : SigArg) → nat_eq target pid ≡ false → IsValid j → IsValid k → Agree (other pid target) j k
+kill-other : (j k : Kernel) (pid n target : ℕ) (sig : SigArg) → nat_eq target pid ≡ false → IsValid j → IsValid k → AgreeOn (other pid target) j k
     → SameSteps (other pid target) n j k (transition j pid (calls.Kill target sig) n) (transition k pid (calls.Kill target sig) n)
 kill-other j k pid n target sig e vj vk h =
     let apart : nat_eq pid target ≡ false = eq-other pid target (λ s. eqb-false target pid e (sym s))
@@ -150,7 +150,7 @@ abbrev killed_parts : Kernel → ℕ → ℕ → ℕ → SigArg → Bool → Lis
 killed_parts j pid n target sig b = MayDo pid ∷ home_parts j pid (calls.Kill target sig) n (if b then homes.Own else homes.At (Proc target))
 
 kill-by : (j k : Kernel) (pid n target : ℕ) (sig : SigArg) (b : Bool) → nat_eq target pid ≡ b → IsValid j → IsValid k
-    → Agree (killed_parts j pid n target sig b) j k
+    → AgreeOn (killed_parts j pid n target sig b) j k
     → SameSteps (killed_parts j pid n target sig b) n j k (transition j pid (calls.Kill target sig) n) (transition k pid (calls.Kill target sig) n)
 kill-by j k pid n target sig true e vj vk h = kill-own j k pid n target sig e h
 kill-by j k pid n target sig false e vj vk h = kill-other j k pid n target sig e vj vk h
@@ -169,22 +169,22 @@ fork-law j k pid n block vj vk h uj uk =
     in let new : has_whole parts n ≡ true = or_right _ _ (or_left _ _ (eq-same n))
     in whole-steps parts n j k pid (calls.Fork block) h whole h.1.0
     (λ a x y. made-if parts n j k _ _ _ _ (fresh-alike j.used_processes k.used_processes n uj uk)
-    (processes-changed parts n j k (λ p. refl) (with_fork j.processes pid a n) (with_fork k.processes pid a n)
+    (processes-changed parts n j k (λ p. refl) (processes_after_fork j.processes pid a n) (processes_after_fork k.processes pid a n)
     (used_with j.used_processes n) (used_with k.used_processes n) (Num n)
-    (changes-put (has_whole parts) j.processes k.processes _ _ pid (Living (forking a n)) whole
+    (changes-put (has_whole parts) j.processes k.processes _ _ pid (Living (parent_after_fork a n)) whole
     (changes-put (has_whole parts) j.processes k.processes j.processes k.processes n (Living (new_child a)) new
     (changes-none (has_whole parts) j.processes k.processes)))
     (inr (refl, refl)) (inr (refl, refl))))
 
 -- waitpid
 
-first-by : (which : Option ℕ) (x : ℕ × Ending) (xs : List (ℕ × Ending)) (e : ℕ × Ending) (b : Bool) → cond b (Some x) (first_ended which xs) ≡ Some e
-    → (first_ended which xs ≡ Some e → list_any (is_whole e.0) (map (λ y. Whole y.0) xs) ≡ true)
+first-by : (which : Option ℕ) (x : ℕ × Ending) (xs : List (ℕ × Ending)) (e : ℕ × Ending) (b : Bool) → cond b (Some x) (first_ended_child which xs) ≡ Some e
+    → (first_ended_child which xs ≡ Some e → list_any (is_whole e.0) (map (λ y. Whole y.0) xs) ≡ true)
     → list_any (is_whole e.0) (map (λ y. Whole y.0) (x ∷ xs)) ≡ true
 first-by which x xs e true h rest = let s : e ≡ x = cc in or_left _ _ (eq-eqb e.0 x.0 (ap (λ y. y.0) s))
 first-by which x xs e false h rest = or_right _ _ (rest h)
 
-first-listed : (which : Option ℕ) (es : List (ℕ × Ending)) (e : ℕ × Ending) → first_ended which es ≡ Some e → list_any (is_whole e.0) (map (λ y. Whole y.0) es) ≡ true
+first-listed : (which : Option ℕ) (es : List (ℕ × Ending)) (e : ℕ × Ending) → first_ended_child which es ≡ Some e → list_any (is_whole e.0) (map (λ y. Whole y.0) es) ≡ true
 first-listed which [] e h = cc
 first-listed which (x ∷ xs) e h = first-by which x xs e (matches which x.0) h (first-listed which xs e)
 
@@ -192,20 +192,20 @@ parentless : (p : ℕ) (es : List (ℕ × Ending)) → list_any (is_parent p) (m
 parentless p [] = refl
 parentless p (e ∷ es) = parentless p es
 
-pub ended-childless : (p : ℕ) (o : Option Alive) → list_any (is_parent p) (ended_of o) ≡ false
+pub ended-childless : (p : ℕ) (o : Option Alive) → list_any (is_parent p) (parts_of_ended o) ≡ false
 ended-childless p None = refl
 ended-childless p (Some a) = parentless p a.row.family.ended
 
 wait-effects : (j k : Kernel) (pid n : ℕ) (child : Option ℕ) (nohang : Bool) (a : Alive) → living_at j pid ≡ Some a
-    → SameEffects (MayDo pid ∷ Whole pid ∷ ended_of (living_at j pid)) n j k (effect j pid a (calls.WaitPid child nohang) n) (effect k pid a (calls.WaitPid child nohang) n)
+    → SameEffects (MayDo pid ∷ Whole pid ∷ parts_of_ended (living_at j pid)) n j k (effect j pid a (calls.WaitPid child nohang) n) (effect k pid a (calls.WaitPid child nohang) n)
 wait-effects j k pid n child true a lives =
-    let parts = MayDo pid ∷ Whole pid ∷ ended_of (living_at j pid)
-    in reaped-alike parts n j k (λ p. ended-childless p (living_at j pid)) pid a (first_ended child a.row.family.ended) (list_any (matches child) a.row.family.living)
+    let parts = MayDo pid ∷ Whole pid ∷ parts_of_ended (living_at j pid)
+    in reaped-alike parts n j k (λ p. ended-childless p (living_at j pid)) pid a (first_ended_child child a.row.family.ended) (list_any (matches child) a.row.family.living)
     (or_left _ _ (eq-same pid))
-    (λ e h. or_right _ _ (subst (λ o. list_any (is_whole e.0) (ended_of o) ≡ true) (sym lives) (first-listed child a.row.family.ended e h)))
+    (λ e h. or_right _ _ (subst (λ o. list_any (is_whole e.0) (parts_of_ended o) ≡ true) (sym lives) (first-listed child a.row.family.ended e h)))
 wait-effects j k pid n child false a lives = tt
 
 pub wait-law : (j k : Kernel) (pid n : ℕ) (child : Option ℕ) (nohang : Bool) → LawAt j k pid (calls.WaitPid child nohang) n
 wait-law j k pid n child nohang vj vk h uj uk =
-    whole-steps (MayDo pid ∷ Whole pid ∷ ended_of (living_at j pid)) n j k pid (calls.WaitPid child nohang) h (or_left _ _ (eq-same pid)) h.1.0
+    whole-steps (MayDo pid ∷ Whole pid ∷ parts_of_ended (living_at j pid)) n j k pid (calls.WaitPid child nohang) h (or_left _ _ (eq-same pid)) h.1.0
     (λ a x y. wait-effects j k pid n child nohang a x)

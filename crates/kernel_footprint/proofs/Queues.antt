@@ -1,7 +1,7 @@
 -- The law at the calls on message queues.
 use Rattle.std.proofs.Common.{◌≡◌, ℕ, ℤ, Bool, true, false, not, ◌&&◌, List, [], ◌∷◌, Option, Some, None, Result, Ok, Err, refl, ap, subst, inl, inr}
 use Rattle.std.specs.Prelude.{if◌then◌else◌}
-use Rattle.kernel_model.specs.Effect.{replied, refused}
+use Rattle.kernel_model.specs.Effect.{reply_with, refuse}
 use Rattle.std.proofs.lemmas.Bool.{or_left}
 use Rattle.pico_base.specs.declared.call.Call.{Call}
 use Rattle.pico_base.specs.declared.call.Call.TheVariants as calls
@@ -9,14 +9,14 @@ use Rattle.pico_base.specs.declared.reply.Errno.{Errno}
 use Rattle.pico_base.specs.declared.reply.Errno.TheVariants.{Enoent, Eexist}
 use Rattle.pico_base.specs.declared.reply.Reply.{Reply}
 use Rattle.pico_base.specs.declared.reply.Reply.TheVariants.{Num, Fail, Message}
-use Rattle.kernel_model.specs.Maps.{Numbered, get, put, without, is_used, used_with}
+use Rattle.number_maps.specs.Maps.{Numbered, get, put, without, is_used, used_with}
 use Rattle.kernel_model.specs.Queue.{Queue, Received, empty_queue, stat, send, receive, set_qbytes}
 use Rattle.kernel_model.specs.Row.{Alive}
 use Rattle.kernel_model.specs.Kernel.{Kernel}
-use Rattle.kernel_model.specs.QueueCalls.{new_queue, get_queue_at, changed_queue, received, unbound}
+use Rattle.kernel_model.specs.QueueCalls.{new_queue, get_queue_at, change_queue, receive_effect, unbind}
 use Rattle.kernel_model.specs.Transition.{effect, transition, is_spent, may_make}
 use Rattle.kernel_model.specs.Valid.{IsValid}
-use Rattle.kernel_model.specs.Footprint.{Part, MayDo, Whole, QueueAt, QueueKeys, Agree, SameSteps}
+use Rattle.kernel_model.specs.Footprint.{Part, MayDo, Whole, QueueAt, QueueKeys, AgreeOn, SameSteps}
 use Rattle.kernel_footprint.proofs.Maps.{eq-same}
 use Rattle.kernel_footprint.proofs.Keys.{unbound-same}
 use Rattle.kernel_footprint.proofs.Change.{Same, Changes, changes-none, changes-put, changes-without, has_queue, has_queue_keys, SameEffect, SameEffects}
@@ -35,11 +35,11 @@ module _ (parts : List Part) (n : ℕ) (j k : Kernel) (childless : Childless par
       (changes-none (has_queue_keys parts) j.queue_keys k.queue_keys)
       (inl refl) (inl refl)
 
-  changed-alike : (id : ℕ) (r : Result Queue Errno) → has_queue parts id ≡ true → SameEffect parts n j k (changed_queue j id r) (changed_queue k id r)
+  changed-alike : (id : ℕ) (r : Result Queue Errno) → has_queue parts id ≡ true → SameEffect parts n j k (change_queue j id r) (change_queue k id r)
   changed-alike id (Ok q) t = queue-put id q (Num 0) t
   changed-alike id (Err e) t = unchanged parts n j k childless (Fail e)
 
-  received-alike : (id : ℕ) (r : Result Received Errno) → has_queue parts id ≡ true → SameEffect parts n j k (received j id r) (received k id r)
+  received-alike : (id : ℕ) (r : Result Received Errno) → has_queue parts id ≡ true → SameEffect parts n j k (receive_effect j id r) (receive_effect k id r)
   received-alike id (Ok r) t = queue-put id r.queue (Message r.message.class r.message.text) t
   received-alike id (Err e) t = unchanged parts n j k childless (Fail e)
 
@@ -52,7 +52,7 @@ module _ (parts : List Part) (n : ℕ) (j k : Kernel) (childless : Childless par
       (changes-put (has_queue parts) j.queues k.queues j.queues k.queues n empty_queue t (changes-none (has_queue parts) j.queues k.queues))
       c (inr (refl, refl)) (inr (refl, refl)))
 
-  bound-alike : (id : ℕ) (b : Bool) → SameEffect parts n j k (if b then refused j Eexist else replied j id) (if b then refused k Eexist else replied k id)
+  bound-alike : (id : ℕ) (b : Bool) → SameEffect parts n j k (if b then refuse j Eexist else reply_with j id) (if b then refuse k Eexist else reply_with k id)
   bound-alike id true = unchanged parts n j k childless (Fail Eexist)
   bound-alike id false = unchanged parts n j k childless (Num id)
 
@@ -74,14 +74,14 @@ at_queue pid id = MayDo pid ∷ QueueAt id ∷ []
 queue-here : (pid id : ℕ) → has_queue (at_queue pid id) id ≡ true
 queue-here pid id = or_left _ false (eq-same id)
 
-queue-steps : (j k : Kernel) (pid : ℕ) (call : Call) (n id : ℕ) → IsValid j → IsValid k → Agree (at_queue pid id) j k
+queue-steps : (j k : Kernel) (pid : ℕ) (call : Call) (n id : ℕ) → IsValid j → IsValid k → AgreeOn (at_queue pid id) j k
     → ((a b : Alive) → a.allowance ≡ b.allowance → may_make a call ≡ may_make b call)
     → ((a b : Alive) → SameEffects (at_queue pid id) n j k (effect j pid a call n) (effect k pid b call n))
     → SameSteps (at_queue pid id) n j k (transition j pid call n) (transition k pid call n)
 queue-steps j k pid call n id vj vk h m s =
     away-steps (at_queue pid id) n j k pid call h refl (or_left _ _ (eq-same pid)) (λ p. refl) vj vk h.0 m s
 
-send-effects : (j k : Kernel) (pid n id : ℕ) (class : ℤ) (text : List ℕ) (nowait : Bool) → Agree (at_queue pid id) j k
+send-effects : (j k : Kernel) (pid n id : ℕ) (class : ℤ) (text : List ℕ) (nowait : Bool) → AgreeOn (at_queue pid id) j k
     → (a b : Alive) → SameEffects (at_queue pid id) n j k (effect j pid a (calls.MsgSnd id class text nowait) n) (effect k pid b (calls.MsgSnd id class text nowait) n)
 send-effects j k pid n id class text true h a b =
     named-alike (at_queue pid id) n j k (λ p. refl) (get j.queues id) (get k.queues id) _ _ h.1.0
@@ -92,7 +92,7 @@ pub send-law : (j k : Kernel) (pid n id : ℕ) (class : ℤ) (text : List ℕ) (
 send-law j k pid n id class text nowait vj vk h uj uk =
     queue-steps j k pid (calls.MsgSnd id class text nowait) n id vj vk h (λ a b e. ap (λ x. not (is_spent x)) e) (send-effects j k pid n id class text nowait h)
 
-receive-effects : (j k : Kernel) (pid n id : ℕ) (class : ℤ) (size : ℕ) (noerror nowait : Bool) → Agree (at_queue pid id) j k
+receive-effects : (j k : Kernel) (pid n id : ℕ) (class : ℤ) (size : ℕ) (noerror nowait : Bool) → AgreeOn (at_queue pid id) j k
     → (a b : Alive) → SameEffects (at_queue pid id) n j k (effect j pid a (calls.MsgRcv id class size noerror nowait) n) (effect k pid b (calls.MsgRcv id class size noerror nowait) n)
 receive-effects j k pid n id class size noerror true h a b =
     named-alike (at_queue pid id) n j k (λ p. refl) (get j.queues id) (get k.queues id) _ _ h.1.0
@@ -125,7 +125,7 @@ remove_queue-law j k pid n id vj vk h uj uk =
     let parts = queue_and_keys pid id
     in away-steps parts n j k pid (calls.MsgRmid id) h refl (or_left _ _ (eq-same pid)) (λ p. refl) vj vk h.0 (λ a b e. ap (λ x. not (is_spent x)) e)
     (λ a b. named-alike parts n j k (λ p. refl) (get j.queues id) (get k.queues id) _ _ h.1.0
-    (λ q. queues-changed parts n j k (λ p. refl) (without j.queues id) (without k.queues id) (unbound j.queue_keys id) (unbound k.queue_keys id)
+    (λ q. queues-changed parts n j k (λ p. refl) (without j.queues id) (without k.queues id) (unbind j.queue_keys id) (unbind k.queue_keys id)
     j.used_queues k.used_queues (Num 0)
     (changes-without (has_queue parts) j.queues k.queues j.queues k.queues id (or_left _ _ (eq-same id)) (changes-none (has_queue parts) j.queues k.queues))
     (λ key. Same refl (unbound-same j.queue_keys k.queue_keys id key vj.queue_keys.ordered vk.queue_keys.ordered (h.1.1.0 key)))

@@ -9,17 +9,17 @@ use Rattle.pico_base.specs.declared.call.SemStep.{SemStep}
 use Rattle.pico_base.specs.declared.reply.Errno.{Errno}
 use Rattle.pico_base.specs.declared.reply.Errno.TheVariants.{Einval, Enoent, Eexist}
 use Rattle.pico_base.specs.declared.reply.Reply.TheVariants.{Num, Fail, All}
-use Rattle.kernel_model.specs.Maps.{Numbered, get, put, without, is_used, used_with}
+use Rattle.number_maps.specs.Maps.{Numbered, get, put, without, is_used, used_with}
 use Rattle.kernel_model.specs.Waiting.{may_wait}
 use Rattle.kernel_model.specs.SemaphoreSet.{Semaphore, new_set, values_of, op, value_at, last_at, waiting_at, set_value, set_all}
 use Rattle.kernel_model.specs.Row.{Alive}
 use Rattle.kernel_model.specs.Kernel.{Kernel}
-use Rattle.kernel_model.specs.Effect.{replied, refused, looked_up, on_named}
-use Rattle.kernel_model.specs.QueueCalls.{unbound}
-use Rattle.kernel_model.specs.SetCalls.{new_set_of, size_of, found_set, get_set_at, changed_set}
+use Rattle.kernel_model.specs.Effect.{reply_with, refuse, look_up, on_named}
+use Rattle.kernel_model.specs.QueueCalls.{unbind}
+use Rattle.kernel_model.specs.SetCalls.{new_set_of, set_size, find_set, get_set_at, change_set}
 use Rattle.kernel_model.specs.Transition.{effect, transition, is_spent, may_make}
 use Rattle.kernel_model.specs.Valid.{IsValid}
-use Rattle.kernel_model.specs.Footprint.{Part, MayDo, Whole, SetAt, SetKeys, size_parts, Agree, SameSteps}
+use Rattle.kernel_model.specs.Footprint.{Part, MayDo, Whole, SetAt, SetKeys, size_parts, AgreeOn, SameSteps}
 use Rattle.kernel_footprint.proofs.Maps.{eq-same}
 use Rattle.kernel_footprint.proofs.Keys.{unbound-same}
 use Rattle.kernel_footprint.proofs.Change.{Same, Changes, changes-none, changes-put, changes-without, has_set, has_set_keys, SameEffect, SameEffects}
@@ -28,7 +28,7 @@ use Rattle.kernel_footprint.proofs.Steps.{whole-steps, away-steps}
 use Rattle.kernel_footprint.proofs.AtCall.{LawAt}
 
 module _ (parts : List Part) (n : ℕ) (j k : Kernel) (childless : Childless parts) where
-  changed-alike : (id : ℕ) (r : Result (List Semaphore) Errno) → has_set parts id ≡ true → SameEffect parts n j k (changed_set j id r) (changed_set k id r)
+  changed-alike : (id : ℕ) (r : Result (List Semaphore) Errno) → has_set parts id ≡ true → SameEffect parts n j k (change_set j id r) (change_set k id r)
   changed-alike id (Ok set) t =
       sets-changed parts n j k childless (put j.sets id set) (put k.sets id set) j.set_keys k.set_keys j.used_sets k.used_sets (Num 0)
       (changes-put (has_set parts) j.sets k.sets j.sets k.sets id set t (changes-none (has_set parts) j.sets k.sets))
@@ -46,14 +46,14 @@ module _ (parts : List Part) (n : ℕ) (j k : Kernel) (childless : Childless par
       (changes-put (has_set parts) j.sets k.sets j.sets k.sets n set t (changes-none (has_set parts) j.sets k.sets))
       c (inr (refl, refl)) (inr (refl, refl)))
 
-  found-if : (id : ℕ) (b c : Bool) → b ≡ c → SameEffect parts n j k (cond b (replied j id) (refused j Einval)) (cond c (replied k id) (refused k Einval))
+  found-if : (id : ℕ) (b c : Bool) → b ≡ c → SameEffect parts n j k (cond b (reply_with j id) (refuse j Einval)) (cond c (reply_with k id) (refuse k Einval))
   found-if id true true e = unchanged parts n j k childless (Num id)
   found-if id false false e = unchanged parts n j k childless (Fail Einval)
   found-if id true false e = cc
   found-if id false true e = cc
 
-  bound-if : (id count : ℕ) (b : Bool) → size_of j id ≡ size_of k id
-      → SameEffect parts n j k (if b then refused j Eexist else found_set j id count) (if b then refused k Eexist else found_set k id count)
+  bound-if : (id count : ℕ) (b : Bool) → set_size j id ≡ set_size k id
+      → SameEffect parts n j k (if b then refuse j Eexist else find_set j id count) (if b then refuse k Eexist else find_set k id count)
   bound-if id count true e = unchanged parts n j k childless (Fail Eexist)
   bound-if id count false e = found-if id _ _ (ap (λ m. nat_eq count 0 || nat_le count m) e)
 
@@ -74,7 +74,7 @@ at_set pid id = MayDo pid ∷ SetAt id ∷ []
 set-here : (pid id : ℕ) → has_set (at_set pid id) id ≡ true
 set-here pid id = or_left _ false (eq-same id)
 
-set-steps : (j k : Kernel) (pid : ℕ) (call : Call) (n id : ℕ) → IsValid j → IsValid k → Agree (at_set pid id) j k
+set-steps : (j k : Kernel) (pid : ℕ) (call : Call) (n id : ℕ) → IsValid j → IsValid k → AgreeOn (at_set pid id) j k
     → ((a b : Alive) → a.allowance ≡ b.allowance → may_make a call ≡ may_make b call)
     → ((a b : Alive) → SameEffects (at_set pid id) n j k (effect j pid a call n) (effect k pid b call n))
     → SameSteps (at_set pid id) n j k (transition j pid call n) (transition k pid call n)
@@ -82,22 +82,22 @@ set-steps j k pid call n id vj vk h m s =
     away-steps (at_set pid id) n j k pid call h refl (or_left _ _ (eq-same pid)) (λ p. refl) vj vk h.0 m s
 
 -- a look at the set, and another set
-look-alike : (j k : Kernel) (pid n id : ℕ) (look : List Semaphore → Result ℕ Errno) → Agree (at_set pid id) j k
-    → SameEffect (at_set pid id) n j k (on_named j (get j.sets id) (λ s. looked_up j (look s))) (on_named k (get k.sets id) (λ s. looked_up k (look s)))
+look-alike : (j k : Kernel) (pid n id : ℕ) (look : List Semaphore → Result ℕ Errno) → AgreeOn (at_set pid id) j k
+    → SameEffect (at_set pid id) n j k (on_named j (get j.sets id) (λ s. look_up j (look s))) (on_named k (get k.sets id) (λ s. look_up k (look s)))
 look-alike j k pid n id look h =
     named-alike (at_set pid id) n j k (λ p. refl) (get j.sets id) (get k.sets id) _ _ h.1.0
     (λ s. looked-alike (at_set pid id) n j k (λ p. refl) (look s))
 
-set-alike : (j k : Kernel) (pid n id : ℕ) (f : List Semaphore → Result (List Semaphore) Errno) → Agree (at_set pid id) j k
-    → SameEffect (at_set pid id) n j k (on_named j (get j.sets id) (λ s. changed_set j id (f s))) (on_named k (get k.sets id) (λ s. changed_set k id (f s)))
+set-alike : (j k : Kernel) (pid n id : ℕ) (f : List Semaphore → Result (List Semaphore) Errno) → AgreeOn (at_set pid id) j k
+    → SameEffect (at_set pid id) n j k (on_named j (get j.sets id) (λ s. change_set j id (f s))) (on_named k (get k.sets id) (λ s. change_set k id (f s)))
 set-alike j k pid n id f h =
     named-alike (at_set pid id) n j k (λ p. refl) (get j.sets id) (get k.sets id) _ _ h.1.0
     (λ s. changed-alike (at_set pid id) n j k (λ p. refl) id (f s) (set-here pid id))
 
-operated-if : (j k : Kernel) (pid n id : ℕ) (steps : List SemStep) (b : Bool) → Agree (at_set pid id) j k
+operated-if : (j k : Kernel) (pid n id : ℕ) (steps : List SemStep) (b : Bool) → AgreeOn (at_set pid id) j k
     → SameEffects (at_set pid id) n j k
-    (cond b None (Some (on_named j (get j.sets id) (λ set. changed_set j id (op set pid steps)))))
-    (cond b None (Some (on_named k (get k.sets id) (λ set. changed_set k id (op set pid steps)))))
+    (cond b None (Some (on_named j (get j.sets id) (λ set. change_set j id (op set pid steps)))))
+    (cond b None (Some (on_named k (get k.sets id) (λ set. change_set k id (op set pid steps)))))
 operated-if j k pid n id steps true h = tt
 operated-if j k pid n id steps false h = set-alike j k pid n id (λ set. op set pid steps) h
 
@@ -145,7 +145,7 @@ remove_set-law j k pid n id vj vk h uj uk =
     let parts = set_and_keys pid id
     in away-steps parts n j k pid (calls.SemRmid id) h refl (or_left _ _ (eq-same pid)) (λ p. refl) vj vk h.0 (λ a b e. ap (λ x. not (is_spent x)) e)
     (λ a b. named-alike parts n j k (λ p. refl) (get j.sets id) (get k.sets id) _ _ h.1.0
-    (λ q. sets-changed parts n j k (λ p. refl) (without j.sets id) (without k.sets id) (unbound j.set_keys id) (unbound k.set_keys id)
+    (λ q. sets-changed parts n j k (λ p. refl) (without j.sets id) (without k.sets id) (unbind j.set_keys id) (unbind k.set_keys id)
     j.used_sets k.used_sets (Num 0)
     (changes-without (has_set parts) j.sets k.sets j.sets k.sets id (or_left _ _ (eq-same id)) (changes-none (has_set parts) j.sets k.sets))
     (λ key. Same refl (unbound-same j.set_keys k.set_keys id key vj.set_keys.ordered vk.set_keys.ordered (h.1.1.0 key)))
@@ -158,7 +158,7 @@ abbrev keyed_parts : ℕ → ℕ → Option ℕ → List Part
 keyed_parts pid n bound = MayDo pid ∷ SetKeys ∷ SetAt n ∷ size_parts bound
 
 get_bound-law : (j k : Kernel) (pid n key count : ℕ) (create excl : Bool) (bound : Option ℕ) → IsValid j → IsValid k
-    → get j.set_keys key ≡ bound → Agree (keyed_parts pid n bound) j k
+    → get j.set_keys key ≡ bound → AgreeOn (keyed_parts pid n bound) j k
     → is_used j.used_sets n ≡ false → is_used k.used_sets n ≡ false
     → SameSteps (keyed_parts pid n bound) n j k (transition j pid (calls.SemGet (Some key) count create excl) n) (transition k pid (calls.SemGet (Some key) count create excl) n)
 get_bound-law j k pid n key count create excl None vj vk e h uj uk =

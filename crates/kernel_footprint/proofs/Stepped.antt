@@ -5,10 +5,10 @@ use Rattle.std.specs.Option.{option_map, option_and_then, option_map_or}
 use Rattle.std.proofs.lemmas.Bool.{false≢true, or_left, or_right}
 use Rattle.pico_base.specs.declared.reply.Reply.{Reply}
 use Rattle.pico_base.specs.declared.reply.Outcome.{Outcome}
-use Rattle.kernel_model.specs.Maps.{get}
+use Rattle.number_maps.specs.Maps.{get}
 use Rattle.kernel_model.specs.Row.{Allowance}
 use Rattle.kernel_model.specs.Kernel.{Kernel, Process, alive_in}
-use Rattle.kernel_model.specs.Footprint.{Part, MayDo, Whole, ParentOf, QueueAt, SetAt, SizeOf, QueueKeys, SetKeys, is_whole, is_allowance, bare, SameAt, Agree, GrowsBy, RestStays, SameStep, parent_number}
+use Rattle.kernel_model.specs.Footprint.{Part, MayDo, Whole, ParentOf, QueueAt, SetAt, SizeOf, QueueKeys, SetKeys, is_whole, is_allowance, bare, SameAt, AgreeOn, GrowsBy, RestStays, SameStep, parent_number}
 use Rattle.kernel_footprint.proofs.Maps.{eq-same}
 use Rattle.kernel_footprint.proofs.Change.{Change, Stays, Same, Changes, change-agree, change-first, change-second, is_parent, has_whole, has_queue, has_set, has_queue_keys, has_set_keys, has_parent, Grew}
 
@@ -72,14 +72,14 @@ module _ (parts : List Part) (n : ℕ) (reply : Reply) (j k to_j to_k : Kernel) 
   agree-at QueueKeys among h = λ key. change-agree _ _ _ _ _ (s.queue_keys key) (h key)
   agree-at SetKeys among h = λ key. change-agree _ _ _ _ _ (s.set_keys key) (h key)
 
-  agree-within : (some : List Part) → ((test : Part → Bool) → list_any test some ≡ true → list_any test parts ≡ true) → Agree some j k → Agree some to_j to_k
+  agree-within : (some : List Part) → ((test : Part → Bool) → list_any test some ≡ true → list_any test parts ≡ true) → AgreeOn some j k → AgreeOn some to_j to_k
   agree-within [] among h = tt
   agree-within (x ∷ xs) among h = (
     agree-at x (λ test t. among test (or_left (test x) (list_any test xs) t)) h.0,
     agree-within xs (λ test t. among test (or_right (test x) (list_any test xs) t)) h.1,
   )
 
-  pub agree-after : Agree parts j k → Agree parts to_j to_k
+  pub agree-after : AgreeOn parts j k → AgreeOn parts to_j to_k
   agree-after h = agree-within parts (λ test t. t) h
 
 -- The rest.
@@ -139,7 +139,7 @@ rest-second parts n reply j k to_j to_k s =
       used_sets = grows n reply _ _ s.used_sets.1;
     }
 
-pub step-from : (parts : List Part) (n : ℕ) (reply : Reply) (j k to_j to_k : Kernel) → Agree parts j k → Stepped parts n reply j k to_j to_k
+pub step-from : (parts : List Part) (n : ℕ) (reply : Reply) (j k to_j to_k : Kernel) → AgreeOn parts j k → Stepped parts n reply j k to_j to_k
     → SameStep parts n j k (to_j, outcome_by reply) (to_k, outcome_by reply)
 step-from parts n reply j k to_j to_k h s =
     record {

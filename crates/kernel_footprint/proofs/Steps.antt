@@ -2,26 +2,26 @@
 use Rattle.std.proofs.Common.{◌≡◌, ℕ, Bool, true, false, cond, List, Option, Some, None, refl, ap, sym, subst}
 use Rattle.std.specs.Option.{option_map, option_and_then}
 use Rattle.pico_base.specs.declared.call.Call.{Call}
-use Rattle.kernel_model.specs.Maps.{get}
+use Rattle.number_maps.specs.Maps.{get}
 use Rattle.kernel_model.specs.Row.{Alive}
 use Rattle.kernel_model.specs.Kernel.{Kernel, alive_in, living_at}
 use Rattle.kernel_model.specs.Effect.{Effect}
 use Rattle.kernel_model.specs.Transition.{effect, may_make, outcome_of, transition, transition_by}
 use Rattle.kernel_model.specs.Valid.{IsValid}
-use Rattle.kernel_model.specs.Footprint.{Part, Agree, SameStep, SameSteps, allowance_at}
+use Rattle.kernel_model.specs.Footprint.{Part, AgreeOn, SameStep, SameSteps, allowance_at}
 use Rattle.kernel_footprint.proofs.Change.{has_whole, has_parent, SameEffect, SameEffects}
 use Rattle.kernel_footprint.proofs.Stepped.{Stepped, step-from, has_allowance, outcome_by}
 use Rattle.kernel_footprint.proofs.Finish.{whole-stepped, away-stepped}
 
 -- the replies are the same
-step-by : (parts : List Part) (n : ℕ) (j k : Kernel) (e f : Effect) (to_j to_k : Kernel) → Agree parts j k → SameEffect parts n j k e f
+step-by : (parts : List Part) (n : ℕ) (j k : Kernel) (e f : Effect) (to_j to_k : Kernel) → AgreeOn parts j k → SameEffect parts n j k e f
     → Stepped parts n e.reply j k to_j to_k → SameStep parts n j k (to_j, outcome_by e.reply) (to_k, outcome_by f.reply)
 step-by parts n j k e f to_j to_k h s t =
     subst (λ r. SameStep parts n j k (to_j, outcome_by e.reply) (to_k, outcome_by r)) s.reply (step-from parts n e.reply j k to_j to_k h t)
 
 -- the whole caller is a part
 
-module _ (parts : List Part) (n : ℕ) (j k : Kernel) (pid : ℕ) (call : Call) (h : Agree parts j k) (whole : has_whole parts pid ≡ true)
+module _ (parts : List Part) (n : ℕ) (j k : Kernel) (pid : ℕ) (call : Call) (h : AgreeOn parts j k) (whole : has_whole parts pid ≡ true)
     (same : get j.processes pid ≡ get k.processes pid) where
   whole-outcomes : (x y : Option Effect) → SameEffects parts n j k x y → SameSteps parts n j k (outcome_of pid x) (outcome_of pid y)
   whole-outcomes None None s = tt
@@ -48,7 +48,7 @@ module _ (parts : List Part) (n : ℕ) (j k : Kernel) (pid : ℕ) (call : Call) 
 
 -- the caller's allowance alone is a part
 
-module _ (parts : List Part) (n : ℕ) (j k : Kernel) (pid : ℕ) (call : Call) (h : Agree parts j k) (away : has_whole parts pid ≡ false)
+module _ (parts : List Part) (n : ℕ) (j k : Kernel) (pid : ℕ) (call : Call) (h : AgreeOn parts j k) (away : has_whole parts pid ≡ false)
     (allowed : has_allowance parts pid ≡ true) (childless : (p : ℕ) → has_parent parts p ≡ false) (vj : IsValid j) (vk : IsValid k) where
   module _ (a b : Alive) (lives : living_at j pid ≡ Some a) (lives_too : living_at k pid ≡ Some b) (same : a.allowance ≡ b.allowance) where
     away-outcomes : (x y : Option Effect) → SameEffects parts n j k x y → SameSteps parts n j k (outcome_of pid x) (outcome_of pid y)

@@ -3,14 +3,14 @@ use Rattle.std.proofs.Common.{◌≡◌, ◌≢◌, ℕ, Bool, true, false, List
 use Rattle.std.specs.Prelude.{Contains, fold, if◌then◌else◌}
 use Rattle.std.proofs.lemmas.Bool.{cases_eq}
 use Rattle.pico_base.specs.declared.reply.Ending.{Ending}
-use Rattle.kernel_model.specs.Maps.{Numbered, get}
-use Rattle.kernel_model.specs.Row.{Alive, Family, lists, with_end}
+use Rattle.number_maps.specs.Maps.{Numbered, get}
+use Rattle.kernel_model.specs.Row.{Alive, Family, lists, family_after_end}
 use Rattle.kernel_model.specs.Kernel.{Process, Living, Ended, Gone, Parent, parent_in}
-use Rattle.kernel_model.specs.ProcessCalls.{bury, buried, kept_as}
+use Rattle.kernel_model.specs.ProcessCalls.{bury, bury_all, process_after_end}
 use Rattle.kernel_laws.proofs.Plain.{from_some, not_some, not_none, not_true}
 use Rattle.kernel_laws.proofs.MapLaws.{Rising, Above, get-first, get-later, get-above}
 use Rattle.kernel_laws.proofs.Members.{contains-none, contains-first, contains-later, contains-cases, lists-end, ended-end, ended-stays, ended-new}
-use Rattle.kernel_laws.proofs.Families.{Map, Lists, Keeps, Lives, Families, Over, living-ended, living-gone, ended-gone, same-alive, same-ending, at-once}
+use Rattle.kernel_laws.proofs.Families.{Map, Lists, KeepsEnded, IsLiving, Families, Over, living-ended, living-gone, ended-gone, same-alive, same-ending, at-once}
 use Rattle.kernel_laws.proofs.FamilyChanges.{Put, put-is, Two, AtFirst, AtLast, Elsewhere, from, different}
 
 -- 1. its own ended children are gone
@@ -72,7 +72,7 @@ pub record Cleared (f m : Map) (es : List (ℕ × Ending)) : Type 0 where
   pub ended_on : (q : ℕ) (d : Ending) → f q ≡ Some (Ended d) → (Among es q → ⊥) → m q ≡ Some (Ended d)
 
 pub cleared : (ps : Numbered Process) (pid : ℕ) (a : Alive) → Families (get ps) → get ps pid ≡ Some (Living a)
-    → Cleared (get ps) (get (buried ps a.row.family)) a.row.family.ended
+    → Cleared (get ps) (get (bury_all ps a.row.family)) a.row.family.ended
 cleared ps pid a fam l =
     let es = a.row.family.ended
     in let not_alive : (q : ℕ) (x : Alive) → get ps q ≡ Some (Living x) → Among es q → ⊥ =
@@ -80,13 +80,13 @@ cleared ps pid a fam l =
     in record {
       alive_back = λ q x h.
           elim (among-or-not es q) [
-            | inl w ↦ living-gone x (at-once (get (buried ps a.row.family) q) (Living x) Gone h (buried-in es ps q w))
+            | inl w ↦ living-gone x (at-once (get (bury_all ps a.row.family) q) (Living x) Gone h (buried-in es ps q w))
             | inr out ↦ sym (buried-out es ps q out) ∙ h
           ];
       alive_on = λ q x h. buried-out es ps q (not_alive q x h) ∙ h;
       ended_back = λ q d h.
           elim (among-or-not es q) [
-            | inl w ↦ ended-gone d (at-once (get (buried ps a.row.family) q) (Ended d) Gone h (buried-in es ps q w))
+            | inl w ↦ ended-gone d (at-once (get (bury_all ps a.row.family) q) (Ended d) Gone h (buried-in es ps q w))
             | inr out ↦ (sym (buried-out es ps q out) ∙ h, out)
           ];
       ended_on = λ q d h out. buried-out es ps q out ∙ h;
@@ -150,12 +150,12 @@ orphan child ((n, Gone) ∷ ps) h p x l =
 -- 3. with no parent it is gone itself
 
 keeps-cleared : (f m : Map) (pid : ℕ) (a : Alive) → Families f → f pid ≡ Some (Living a) → Cleared f m a.row.family.ended
-    → (p c : ℕ) (d : Ending) → Keeps f p c d → p ≢ pid → m c ≡ Some (Ended d)
+    → (p c : ℕ) (d : Ending) → KeepsEnded f p c d → p ≢ pid → m c ≡ Some (Ended d)
 keeps-cleared f m pid a fam l k p c d h ne =
     k.ended_on c d (fam.ended p c d h) (λ w. ne (fam.one_keeper p pid c d w.0 h (record { alive = a; there = l; kept = w.1 })))
 
 own-keeps : (f m : Map) (pid : ℕ) (a : Alive) → f pid ≡ Some (Living a) → Cleared f m a.row.family.ended
-    → (c : ℕ) (d : Ending) → m c ≡ Some (Ended d) → (f c ≡ Some (Ended d)) × (Keeps f pid c d → ⊥)
+    → (c : ℕ) (d : Ending) → m c ≡ Some (Ended d) → (f c ≡ Some (Ended d)) × (KeepsEnded f pid c d → ⊥)
 own-keeps f m pid a l k c d h =
     let b = k.ended_back c d h
     in (
@@ -199,21 +199,21 @@ over-alone f m g pid a fam l k t alone =
 pub record End (f m g : Map) (pid : ℕ) (a : Alive) (keeper : ℕ) (old new : Alive) (ending : Ending) (ignored : Bool) : Type 0 where
   pub lives : f pid ≡ Some (Living a)
   pub clear : Cleared f m a.row.family.ended
-  pub two : Two m g pid (kept_as ignored ending) keeper (Living new)
+  pub two : Two m g pid (process_after_end ignored ending) keeper (Living new)
   pub parent : f keeper ≡ Some (Living old)
   pub listed : lists old.row.family pid ≡ true
-  pub after : new.row.family ≡ with_end old.row.family pid ending ignored
+  pub after : new.row.family ≡ family_after_end old.row.family pid ending ignored
 
-kept-alive : {B : Type 0} (ignored : Bool) (ending : Ending) (x : Alive) → kept_as ignored ending ≡ Living x → B
+kept-alive : {B : Type 0} (ignored : Bool) (ending : Ending) (x : Alive) → process_after_end ignored ending ≡ Living x → B
 kept-alive true ending x h = living-gone x (sym h)
 kept-alive false ending x h = living-ended x ending (sym h)
 
-kept-ended : (ignored : Bool) (ending d : Ending) → kept_as ignored ending ≡ Ended d → (ignored ≡ false) × (ending ≡ d)
+kept-ended : (ignored : Bool) (ending d : Ending) → process_after_end ignored ending ≡ Ended d → (ignored ≡ false) × (ending ≡ d)
 kept-ended true ending d h = ended-gone d (sym h)
 kept-ended false ending d h = (refl, same-ending ending d h)
 
 end-family : (f m g : Map) (pid : ℕ) (a : Alive) (keeper : ℕ) (old new : Alive) (ending : Ending) (ignored : Bool) → End f m g pid a keeper old new ending ignored
-    → (x : Alive) → Living new ≡ Living x → x.row.family ≡ with_end old.row.family pid ending ignored
+    → (x : Alive) → Living new ≡ Living x → x.row.family ≡ family_after_end old.row.family pid ending ignored
 end-family f m g pid a keeper old new ending ignored e x is = ap (λ (z : Alive). z.row.family) (sym (same-alive new x is)) ∙ e.after
 
 end-apart : (f m g : Map) (pid : ℕ) (a : Alive) (keeper : ℕ) (old new : Alive) (ending : Ending) (ignored : Bool) → Families f
@@ -224,7 +224,7 @@ end-apart f m g pid a keeper old new ending ignored fam e same =
 end-lists : (f m g : Map) (pid : ℕ) (a : Alive) (keeper : ℕ) (old new : Alive) (ending : Ending) (ignored : Bool) → Families f
     → End f m g pid a keeper old new ending ignored → (p c : ℕ) → Lists g p c → Lists f p c × (c ≢ pid)
 end-lists f m g pid a keeper old new ending ignored fam e p c h =
-    elim (from m g pid (kept_as ignored ending) keeper (Living new) e.two p (Living h.alive) h.there) [
+    elim (from m g pid (process_after_end ignored ending) keeper (Living new) e.two p (Living h.alive) h.there) [
       | AtFirst same is ↦ kept-alive ignored ending h.alive is
       | AtLast same is ↦
           let w = lists-end old.row.family pid ending ignored c
@@ -239,13 +239,13 @@ end-lists f m g pid a keeper old new ending ignored fam e p c h =
 end-new : (f m g : Map) (pid : ℕ) (a : Alive) (keeper : ℕ) (old new : Alive) (ending : Ending) (ignored : Bool)
     → End f m g pid a keeper old new ending ignored → (c : ℕ) (d : Ending) → pid ≡ c → ending ≡ d → ignored ≡ false → g c ≡ Some (Ended d)
 end-new f m g pid a keeper old new ending ignored e c d at is off =
-    ap g (sym at) ∙ (e.two.first ∙ (ap (λ (b : Bool). Some (kept_as b ending)) off ∙ ap (λ (x : Ending). Some (Ended x)) is))
+    ap g (sym at) ∙ (e.two.first ∙ (ap (λ (b : Bool). Some (process_after_end b ending)) off ∙ ap (λ (x : Ending). Some (Ended x)) is))
 
 end-keeps : (f m g : Map) (pid : ℕ) (a : Alive) (keeper : ℕ) (old new : Alive) (ending : Ending) (ignored : Bool) → Families f
-    → End f m g pid a keeper old new ending ignored → (p c : ℕ) (d : Ending) → Keeps g p c d
-    → (Keeps f p c d × (p ≢ pid)) ⊎ ((p ≡ keeper) × (c ≡ pid) × (g c ≡ Some (Ended d)))
+    → End f m g pid a keeper old new ending ignored → (p c : ℕ) (d : Ending) → KeepsEnded g p c d
+    → (KeepsEnded f p c d × (p ≢ pid)) ⊎ ((p ≡ keeper) × (c ≡ pid) × (g c ≡ Some (Ended d)))
 end-keeps f m g pid a keeper old new ending ignored fam e p c d h =
-    elim (from m g pid (kept_as ignored ending) keeper (Living new) e.two p (Living h.alive) h.there) [
+    elim (from m g pid (process_after_end ignored ending) keeper (Living new) e.two p (Living h.alive) h.there) [
       | AtFirst same is ↦ kept-alive ignored ending h.alive is
       | AtLast same is ↦
           elim (ended-end old.row.family pid ending ignored c d
@@ -261,7 +261,7 @@ end-keeps f m g pid a keeper old new ending ignored fam e p c d h =
     ]
 
 end-keeps-on : (f m g : Map) (pid : ℕ) (a : Alive) (keeper : ℕ) (old new : Alive) (ending : Ending) (ignored : Bool)
-    → End f m g pid a keeper old new ending ignored → (p c : ℕ) (d : Ending) → Keeps f p c d → p ≢ pid → Keeps g p c d
+    → End f m g pid a keeper old new ending ignored → (p c : ℕ) (d : Ending) → KeepsEnded f p c d → p ≢ pid → KeepsEnded g p c d
 end-keeps-on f m g pid a keeper old new ending ignored e p c d h ne =
     elim (cases_eq p keeper) [
       | inl same ↦
@@ -276,7 +276,7 @@ end-keeps-on f m g pid a keeper old new ending ignored e p c d h ne =
     ]
 
 end-lives : (f m g : Map) (pid : ℕ) (a : Alive) (keeper : ℕ) (old new : Alive) (ending : Ending) (ignored : Bool)
-    → End f m g pid a keeper old new ending ignored → (c : ℕ) → Lives f c → c ≢ pid → Lives g c
+    → End f m g pid a keeper old new ending ignored → (c : ℕ) → IsLiving f c → c ≢ pid → IsLiving g c
 end-lives f m g pid a keeper old new ending ignored e c h ne =
     elim (cases_eq c keeper) [
       | inl same ↦ record { alive = new; there = ap g same ∙ e.two.last }
@@ -284,19 +284,19 @@ end-lives f m g pid a keeper old new ending ignored e c h ne =
     ]
 
 end-keeper : (f m g : Map) (pid : ℕ) (a : Alive) (keeper : ℕ) (old new : Alive) (ending : Ending) (ignored : Bool)
-    → End f m g pid a keeper old new ending ignored → (c : ℕ) (d : Ending) → c ≡ pid → ending ≡ d → ignored ≡ false → Keeps g keeper c d
+    → End f m g pid a keeper old new ending ignored → (c : ℕ) (d : Ending) → c ≡ pid → ending ≡ d → ignored ≡ false → KeepsEnded g keeper c d
 end-keeper f m g pid a keeper old new ending ignored e c d at is off =
-    let k : Contains (with_end old.row.family pid ending ignored).ended (pid, ending) =
-    subst (λ (b : Bool). Contains (with_end old.row.family pid ending b).ended (pid, ending)) (sym off) (ended-new old.row.family pid ending)
+    let k : Contains (family_after_end old.row.family pid ending ignored).ended (pid, ending) =
+    subst (λ (b : Bool). Contains (family_after_end old.row.family pid ending b).ended (pid, ending)) (sym off) (ended-new old.row.family pid ending)
     in let k2 : Contains new.row.family.ended (pid, ending) = subst (λ (z : Family). Contains z.ended (pid, ending)) (sym e.after) k
     in let k3 : Contains new.row.family.ended (c, ending) = subst (λ (x : ℕ). Contains new.row.family.ended (x, ending)) (sym at) k2
     in record { alive = new; there = e.two.last; kept = subst (λ (x : Ending). Contains new.row.family.ended (c, x)) is k3 }
 
 end-ended : (f m g : Map) (pid : ℕ) (a : Alive) (keeper : ℕ) (old new : Alive) (ending : Ending) (ignored : Bool)
     → End f m g pid a keeper old new ending ignored → (c : ℕ) (d : Ending) → g c ≡ Some (Ended d)
-    → Keeps g keeper c d ⊎ ((f c ≡ Some (Ended d)) × (Keeps f pid c d → ⊥))
+    → KeepsEnded g keeper c d ⊎ ((f c ≡ Some (Ended d)) × (KeepsEnded f pid c d → ⊥))
 end-ended f m g pid a keeper old new ending ignored e c d h =
-    elim (from m g pid (kept_as ignored ending) keeper (Living new) e.two c (Ended d) h) [
+    elim (from m g pid (process_after_end ignored ending) keeper (Living new) e.two c (Ended d) h) [
       | AtFirst same is ↦
           let w = kept-ended ignored ending d is in inl (end-keeper f m g pid a keeper old new ending ignored e c d same w.1 w.0)
       | AtLast same is ↦ living-ended new d is

@@ -2,7 +2,7 @@
 use Rattle.std.proofs.Common.{◌≡◌, ℕ, true, List, Option, Some, None, refl, sym, subst, ◌∙◌}
 use Rattle.std.specs.Prelude.{is_some}
 use Rattle.std.proofs.lemmas.Bool.{false_from_ne_true}
-use Rattle.kernel_model.specs.Maps.{Numbered, get}
+use Rattle.number_maps.specs.Maps.{Numbered, get}
 use Rattle.kernel_model.specs.Row.{Alive, lists}
 use Rattle.kernel_model.specs.Queue.{Queue}
 use Rattle.kernel_model.specs.SemaphoreSet.{Semaphore}
@@ -11,7 +11,7 @@ use Rattle.kernel_model.specs.Valid.{IsValid}
 use Rattle.kernel_laws.specs.Processes.{NoneListsItself, EntriesKeepValidity}
 use Rattle.kernel_laws.proofs.Plain.{not_true}
 use Rattle.kernel_laws.proofs.MapLaws.{rising}
-use Rattle.kernel_laws.proofs.Families.{Lives, Families}
+use Rattle.kernel_laws.proofs.Families.{IsLiving, Families}
 use Rattle.kernel_laws.proofs.Living.{Strong}
 use Rattle.kernel_laws.proofs.People.{from-living, to-living}
 use Rattle.kernel_laws.proofs.ProcessLaws.{Settled, Midway, people-kept}
@@ -56,7 +56,7 @@ sets-valid k v =
       each = λ n s l. tt;
     }
 
-lives-found : (ps : Numbered Process) (c : ℕ) (o : Option Alive) → living_in ps c ≡ o → is_some o ≡ true → Lives (get ps) c
+lives-found : (ps : Numbered Process) (c : ℕ) (o : Option Alive) → living_in ps c ≡ o → is_some o ≡ true → IsLiving (get ps) c
 lives-found ps c None e h = not_true h
 lives-found ps c (Some a) e h = record { alive = a; there = from-living ps c a e }
 

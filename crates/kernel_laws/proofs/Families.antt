@@ -15,21 +15,21 @@ pub record Lists (f : Map) (p child : ℕ) : Type 0 where
   pub there : f p ≡ Some (Living alive)
   pub listed : lists alive.row.family child ≡ true
 
-pub record Keeps (f : Map) (p child : ℕ) (ending : Ending) : Type 0 where
+pub record KeepsEnded (f : Map) (p child : ℕ) (ending : Ending) : Type 0 where
   pub alive : Alive
   pub there : f p ≡ Some (Living alive)
   pub kept : Contains alive.row.family.ended (child, ending)
 
-pub record Lives (f : Map) (p : ℕ) : Type 0 where
+pub record IsLiving (f : Map) (p : ℕ) : Type 0 where
   pub alive : Alive
   pub there : f p ≡ Some (Living alive)
 
 pub record Families (f : Map) : Type 0 where
-  pub living : (p c : ℕ) → Lists f p c → Lives f c
-  pub ended : (p c : ℕ) (e : Ending) → Keeps f p c e → f c ≡ Some (Ended e)
+  pub living : (p c : ℕ) → Lists f p c → IsLiving f c
+  pub ended : (p c : ℕ) (e : Ending) → KeepsEnded f p c e → f c ≡ Some (Ended e)
   pub one_parent : (p q c : ℕ) → Lists f p c → Lists f q c → p ≡ q
-  pub one_keeper : (p q c : ℕ) (d e : Ending) → Keeps f p c d → Keeps f q c e → p ≡ q
-  pub kept : (c : ℕ) (e : Ending) → f c ≡ Some (Ended e) → (p : ℕ) × Keeps f p c e
+  pub one_keeper : (p q c : ℕ) (d e : Ending) → KeepsEnded f p c d → KeepsEnded f q c e → p ≡ q
+  pub kept : (c : ℕ) (e : Ending) → f c ≡ Some (Ended e) → (p : ℕ) × KeepsEnded f p c e
   pub alone : (p : ℕ) → Lists f p p → ⊥
 
 -- a process is in one state
@@ -55,9 +55,9 @@ at-once o a b h g = from_some a b (sym h ∙ g)
 -- The families are as before, but for ended children of which N doesn't hold: no one keeps them any more.
 pub record Kept (f g : Map) (N : ℕ → Type 0) : Type 0 where
   pub lists_back : (p c : ℕ) → Lists g p c → Lists f p c
-  pub keeps_back : (p c : ℕ) (e : Ending) → Keeps g p c e → Keeps f p c e × N c
-  pub keeps_on : (p c : ℕ) (e : Ending) → Keeps f p c e → N c → Keeps g p c e
-  pub lives_on : (c : ℕ) → Lives f c → Lives g c
+  pub keeps_back : (p c : ℕ) (e : Ending) → KeepsEnded g p c e → KeepsEnded f p c e × N c
+  pub keeps_on : (p c : ℕ) (e : Ending) → KeepsEnded f p c e → N c → KeepsEnded g p c e
+  pub lives_on : (c : ℕ) → IsLiving f c → IsLiving g c
   pub ended_back : (c : ℕ) (e : Ending) → g c ≡ Some (Ended e) → (f c ≡ Some (Ended e)) × N c
   pub ended_on : (c : ℕ) (e : Ending) → f c ≡ Some (Ended e) → N c → g c ≡ Some (Ended e)
 
@@ -77,17 +77,17 @@ families-kept f g N h k =
 
 -- A process has a new child, at a number where there was nothing.
 pub record Born (f g : Map) (pid n : ℕ) : Type 0 where
-  pub parent : Lives f pid
+  pub parent : IsLiving f pid
   pub absent : f n ≡ None
   pub lists_back : (p c : ℕ) → Lists g p c → Lists f p c ⊎ ((p ≡ pid) × (c ≡ n))
-  pub keeps_back : (p c : ℕ) (e : Ending) → Keeps g p c e → Keeps f p c e
-  pub keeps_on : (p c : ℕ) (e : Ending) → Keeps f p c e → Keeps g p c e
-  pub lives_on : (c : ℕ) → Lives f c → Lives g c
-  pub lives_new : Lives g n
+  pub keeps_back : (p c : ℕ) (e : Ending) → KeepsEnded g p c e → KeepsEnded f p c e
+  pub keeps_on : (p c : ℕ) (e : Ending) → KeepsEnded f p c e → KeepsEnded g p c e
+  pub lives_on : (c : ℕ) → IsLiving f c → IsLiving g c
+  pub lives_new : IsLiving g n
   pub ended_back : (c : ℕ) (e : Ending) → g c ≡ Some (Ended e) → f c ≡ Some (Ended e)
   pub ended_on : (c : ℕ) (e : Ending) → f c ≡ Some (Ended e) → g c ≡ Some (Ended e)
 
-nobody : (f : Map) (n : ℕ) → f n ≡ None → Lives f n → ⊥
+nobody : (f : Map) (n : ℕ) → f n ≡ None → IsLiving f n → ⊥
 nobody f n h l = not_some {B = ⊥} (Living l.alive) (sym h ∙ l.there)
 
 born-one_parent : (f g : Map) (pid n : ℕ) → Families f → Born f g pid n → (p q c : ℕ) → Lists g p c → Lists g q c → p ≡ q
@@ -96,11 +96,11 @@ born-one_parent f g pid n h b p q c l m =
       | inl old ↦
           elim (b.lists_back q c m) [
             | inl older ↦ h.one_parent p q c old older
-            | inr new ↦ absurd (nobody f n b.absent (subst (λ (x : ℕ). Lives f x) new.1 (h.living p c old)))
+            | inr new ↦ absurd (nobody f n b.absent (subst (λ (x : ℕ). IsLiving f x) new.1 (h.living p c old)))
           ]
       | inr new ↦
           elim (b.lists_back q c m) [
-            | inl old ↦ absurd (nobody f n b.absent (subst (λ (x : ℕ). Lives f x) new.1 (h.living q c old)))
+            | inl old ↦ absurd (nobody f n b.absent (subst (λ (x : ℕ). IsLiving f x) new.1 (h.living q c old)))
             | inr newer ↦ new.0 ∙ sym newer.0
           ]
     ]
@@ -111,7 +111,7 @@ families-born f g pid n h b =
       living = λ p c l.
           elim (b.lists_back p c l) [
             | inl old ↦ b.lives_on c (h.living p c old)
-            | inr new ↦ subst (λ (x : ℕ). Lives g x) (sym new.1) b.lives_new
+            | inr new ↦ subst (λ (x : ℕ). IsLiving g x) (sym new.1) b.lives_new
           ];
       ended = λ p c e l. b.ended_on c e (h.ended p c e (b.keeps_back p c e l));
       one_parent = born-one_parent f g pid n h b;
@@ -120,46 +120,46 @@ families-born f g pid n h b =
       alone = λ p l.
           elim (b.lists_back p p l) [
             | inl old ↦ h.alone p old
-            | inr new ↦ nobody f n b.absent (subst (λ (x : ℕ). Lives f x) (sym new.0 ∙ new.1) b.parent)
+            | inr new ↦ nobody f n b.absent (subst (λ (x : ℕ). IsLiving f x) (sym new.0 ∙ new.1) b.parent)
           ];
     }
 
 -- A process has ended. It is no one's child and no one's parent any more; it may be kept, by one process.
 pub record Over (f g : Map) (pid keeper : ℕ) : Type 0 where
   pub lists_back : (p c : ℕ) → Lists g p c → Lists f p c × (c ≢ pid)
-  pub keeps_back : (p c : ℕ) (e : Ending) → Keeps g p c e → (Keeps f p c e × (p ≢ pid)) ⊎ ((p ≡ keeper) × (c ≡ pid) × (g c ≡ Some (Ended e)))
-  pub keeps_on : (p c : ℕ) (e : Ending) → Keeps f p c e → p ≢ pid → Keeps g p c e
-  pub lives_before : Lives f pid
-  pub lives_on : (c : ℕ) → Lives f c → c ≢ pid → Lives g c
-  pub ended_back : (c : ℕ) (e : Ending) → g c ≡ Some (Ended e) → Keeps g keeper c e ⊎ ((f c ≡ Some (Ended e)) × (Keeps f pid c e → ⊥))
-  pub ended_on : (p c : ℕ) (e : Ending) → Keeps f p c e → p ≢ pid → g c ≡ Some (Ended e)
+  pub keeps_back : (p c : ℕ) (e : Ending) → KeepsEnded g p c e → (KeepsEnded f p c e × (p ≢ pid)) ⊎ ((p ≡ keeper) × (c ≡ pid) × (g c ≡ Some (Ended e)))
+  pub keeps_on : (p c : ℕ) (e : Ending) → KeepsEnded f p c e → p ≢ pid → KeepsEnded g p c e
+  pub lives_before : IsLiving f pid
+  pub lives_on : (c : ℕ) → IsLiving f c → c ≢ pid → IsLiving g c
+  pub ended_back : (c : ℕ) (e : Ending) → g c ≡ Some (Ended e) → KeepsEnded g keeper c e ⊎ ((f c ≡ Some (Ended e)) × (KeepsEnded f pid c e → ⊥))
+  pub ended_on : (p c : ℕ) (e : Ending) → KeepsEnded f p c e → p ≢ pid → g c ≡ Some (Ended e)
 
 -- who lives has no ending that someone keeps
-not-kept : (f : Map) (pid : ℕ) → Families f → Lives f pid → (p : ℕ) (e : Ending) → Keeps f p pid e → ⊥
+not-kept : (f : Map) (pid : ℕ) → Families f → IsLiving f pid → (p : ℕ) (e : Ending) → KeepsEnded f p pid e → ⊥
 not-kept f pid h l p e k = living-ended {B = ⊥} l.alive e (at-once (f pid) (Living l.alive) (Ended e) l.there (h.ended p pid e k))
 
-over-one_keeper : (f g : Map) (pid keeper : ℕ) → Families f → Over f g pid keeper → (p q c : ℕ) (d e : Ending) → Keeps g p c d → Keeps g q c e → p ≡ q
+over-one_keeper : (f g : Map) (pid keeper : ℕ) → Families f → Over f g pid keeper → (p q c : ℕ) (d e : Ending) → KeepsEnded g p c d → KeepsEnded g q c e → p ≡ q
 over-one_keeper f g pid keeper h o p q c d e l m =
     elim (o.keeps_back p c d l) [
       | inl old ↦
           elim (o.keeps_back q c e m) [
             | inl older ↦ h.one_keeper p q c d e old.0 older.0
-            | inr new ↦ absurd (not-kept f pid h o.lives_before p d (subst (λ (x : ℕ). Keeps f p x d) new.1 old.0))
+            | inr new ↦ absurd (not-kept f pid h o.lives_before p d (subst (λ (x : ℕ). KeepsEnded f p x d) new.1 old.0))
           ]
       | inr new ↦
           elim (o.keeps_back q c e m) [
-            | inl old ↦ absurd (not-kept f pid h o.lives_before q e (subst (λ (x : ℕ). Keeps f q x e) new.1 old.0))
+            | inl old ↦ absurd (not-kept f pid h o.lives_before q e (subst (λ (x : ℕ). KeepsEnded f q x e) new.1 old.0))
             | inr newer ↦ new.0 ∙ sym newer.0
           ]
     ]
 
-over-kept : (f g : Map) (pid keeper : ℕ) → Families f → Over f g pid keeper → (c : ℕ) (e : Ending) → g c ≡ Some (Ended e) → (p : ℕ) × Keeps g p c e
+over-kept : (f g : Map) (pid keeper : ℕ) → Families f → Over f g pid keeper → (c : ℕ) (e : Ending) → g c ≡ Some (Ended e) → (p : ℕ) × KeepsEnded g p c e
 over-kept f g pid keeper h o c e l =
     elim (o.ended_back c e l) [
       | inl new ↦ (keeper, new)
       | inr old ↦
           let w = h.kept c e old.0
-          in (w.0, o.keeps_on w.0 c e w.1 (λ same. old.1 (subst (λ (x : ℕ). Keeps f x c e) same w.1)))
+          in (w.0, o.keeps_on w.0 c e w.1 (λ same. old.1 (subst (λ (x : ℕ). KeepsEnded f x c e) same w.1)))
     ]
 
 pub families-over : (f g : Map) (pid keeper : ℕ) → Families f → Over f g pid keeper → Families g

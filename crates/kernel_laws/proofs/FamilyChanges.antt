@@ -3,13 +3,13 @@ use Rattle.std.proofs.Common.{◌≡◌, ◌≢◌, ℕ, true, List, Some, None,
 use Rattle.std.specs.Prelude.{Contains}
 use Rattle.std.proofs.lemmas.Bool.{cases_eq}
 use Rattle.pico_base.specs.declared.reply.Ending.{Ending}
-use Rattle.kernel_model.specs.Maps.{Numbered, get, put}
+use Rattle.number_maps.specs.Maps.{Numbered, get, put}
 use Rattle.kernel_model.specs.Row.{Alive, Family, no_family, lists, with_child, without_ended}
 use Rattle.kernel_model.specs.Kernel.{Process, Living, Ended, Gone}
 use Rattle.kernel_laws.proofs.Plain.{not_some, not_true}
 use Rattle.kernel_laws.proofs.MapLaws.{get-put-same, get-put-other}
 use Rattle.kernel_laws.proofs.Members.{contains-none, lists-child, without-back, without-on}
-use Rattle.kernel_laws.proofs.Families.{Map, Lists, Keeps, Lives, Families, Kept, Born, living-ended, living-gone, ended-gone, same-alive, at-once}
+use Rattle.kernel_laws.proofs.Families.{Map, Lists, KeepsEnded, IsLiving, Families, Kept, Born, living-ended, living-gone, ended-gone, same-alive, at-once}
 
 -- another process at one number
 pub record Put (f g : Map) (k : ℕ) (v : Process) : Type 0 where
@@ -87,7 +87,7 @@ same-alive-on f g pid a b t l e p x h =
 lists-in : (f : Map) (p c : ℕ) (x y : Alive) → lists x.row.family c ≡ true → f p ≡ Some (Living y) → x.row.family ≡ y.row.family → Lists f p c
 lists-in f p c x y h l e = record { alive = y; there = l; listed = subst (λ (z : Family). lists z c ≡ true) e h }
 
-keeps-in : (f : Map) (p c : ℕ) (d : Ending) (x y : Alive) → Contains x.row.family.ended (c, d) → f p ≡ Some (Living y) → x.row.family ≡ y.row.family → Keeps f p c d
+keeps-in : (f : Map) (p c : ℕ) (d : Ending) (x y : Alive) → Contains x.row.family.ended (c, d) → f p ≡ Some (Living y) → x.row.family ≡ y.row.family → KeepsEnded f p c d
 keeps-in f p c d x y h l e = record { alive = y; there = l; kept = subst (λ (z : Family). Contains z.ended (c, d)) e h }
 
 same-lists : (f g : Map) (pid : ℕ) (a b : Alive) → Put f g pid (Living b) → f pid ≡ Some (Living a) → b.row.family ≡ a.row.family
@@ -96,17 +96,17 @@ same-lists f g pid a b t l e p c h =
     let w = same-alive-back f g pid a b t l e p h.alive h.there in lists-in f p c h.alive w.0 h.listed w.1 w.2
 
 same-keeps-back : (f g : Map) (pid : ℕ) (a b : Alive) → Put f g pid (Living b) → f pid ≡ Some (Living a) → b.row.family ≡ a.row.family
-    → (p c : ℕ) (d : Ending) → Keeps g p c d → Keeps f p c d
+    → (p c : ℕ) (d : Ending) → KeepsEnded g p c d → KeepsEnded f p c d
 same-keeps-back f g pid a b t l e p c d h =
     let w = same-alive-back f g pid a b t l e p h.alive h.there in keeps-in f p c d h.alive w.0 h.kept w.1 w.2
 
 same-keeps-on : (f g : Map) (pid : ℕ) (a b : Alive) → Put f g pid (Living b) → f pid ≡ Some (Living a) → b.row.family ≡ a.row.family
-    → (p c : ℕ) (d : Ending) → Keeps f p c d → Keeps g p c d
+    → (p c : ℕ) (d : Ending) → KeepsEnded f p c d → KeepsEnded g p c d
 same-keeps-on f g pid a b t l e p c d h =
     let w = same-alive-on f g pid a b t l e p h.alive h.there in keeps-in g p c d h.alive w.0 h.kept w.1 w.2
 
 same-lives : (f g : Map) (pid : ℕ) (a b : Alive) → Put f g pid (Living b) → f pid ≡ Some (Living a) → b.row.family ≡ a.row.family
-    → (c : ℕ) → Lives f c → Lives g c
+    → (c : ℕ) → IsLiving f c → IsLiving g c
 same-lives f g pid a b t l e c h =
     let w = same-alive-on f g pid a b t l e c h.alive h.there in record { alive = w.0; there = w.1 }
 
@@ -149,7 +149,7 @@ born-lists f g pid n a child parent t l none more p c h =
 
 born-keeps : (f g : Map) (pid n : ℕ) (a child parent : Alive) → Two f g n (Living child) pid (Living parent) → f pid ≡ Some (Living a)
     → child.row.family ≡ no_family → parent.row.family ≡ with_child a.row.family n
-    → (p c : ℕ) (d : Ending) → Keeps g p c d → Keeps f p c d
+    → (p c : ℕ) (d : Ending) → KeepsEnded g p c d → KeepsEnded f p c d
 born-keeps f g pid n a child parent t l none more p c d h =
     elim (from f g n (Living child) pid (Living parent) t p (Living h.alive) h.there) [
       | AtFirst same is ↦
@@ -162,7 +162,7 @@ born-keeps f g pid n a child parent t l none more p c d h =
     ]
 
 born-keeps-on : (f g : Map) (pid n : ℕ) (a child parent : Alive) → Two f g n (Living child) pid (Living parent) → f pid ≡ Some (Living a) → f n ≡ None
-    → parent.row.family ≡ with_child a.row.family n → (p c : ℕ) (d : Ending) → Keeps f p c d → Keeps g p c d
+    → parent.row.family ≡ with_child a.row.family n → (p c : ℕ) (d : Ending) → KeepsEnded f p c d → KeepsEnded g p c d
 born-keeps-on f g pid n a child parent t l absent more p c d h =
     elim (cases_eq p pid) [
       | inl same ↦
@@ -174,7 +174,7 @@ born-keeps-on f g pid n a child parent t l absent more p c d h =
           record { alive = h.alive; there = t.other p (absent-different f p n (Living h.alive) h.there absent) ne ∙ h.there; kept = h.kept }
     ]
 
-born-lives : (f g : Map) (pid n : ℕ) (child parent : Alive) → Two f g n (Living child) pid (Living parent) → f n ≡ None → (c : ℕ) → Lives f c → Lives g c
+born-lives : (f g : Map) (pid n : ℕ) (child parent : Alive) → Two f g n (Living child) pid (Living parent) → f n ≡ None → (c : ℕ) → IsLiving f c → IsLiving g c
 born-lives f g pid n child parent t absent c h =
     elim (cases_eq c pid) [
       | inl same ↦ record { alive = parent; there = ap g same ∙ t.last }
@@ -230,12 +230,12 @@ reap-lists f g pid child a b ending r p c h =
 
 -- no other process keeps the child
 reap-other : (f g : Map) (pid child : ℕ) (a b : Alive) (ending : Ending) → Families f → Reap f g pid child a b ending → Contains a.row.family.ended (child, ending)
-    → (p c : ℕ) (d : Ending) → Keeps f p c d → p ≢ pid → c ≢ child
+    → (p c : ℕ) (d : Ending) → KeepsEnded f p c d → p ≢ pid → c ≢ child
 reap-other f g pid child a b ending fam r k p c d h ne same =
-    ne (fam.one_keeper p pid child d ending (subst (λ (x : ℕ). Keeps f p x d) same h) (record { alive = a; there = r.lives; kept = k }))
+    ne (fam.one_keeper p pid child d ending (subst (λ (x : ℕ). KeepsEnded f p x d) same h) (record { alive = a; there = r.lives; kept = k }))
 
 reap-keeps : (f g : Map) (pid child : ℕ) (a b : Alive) (ending : Ending) → Families f → Reap f g pid child a b ending → Contains a.row.family.ended (child, ending)
-    → (p c : ℕ) (d : Ending) → Keeps g p c d → Keeps f p c d × Not child c
+    → (p c : ℕ) (d : Ending) → KeepsEnded g p c d → KeepsEnded f p c d × Not child c
 reap-keeps f g pid child a b ending fam r k p c d h =
     elim (from f g pid (Living b) child Gone r.two p (Living h.alive) h.there) [
       | AtFirst same is ↦
@@ -245,14 +245,14 @@ reap-keeps f g pid child a b ending fam r k p c d h =
           in (record { alive = a; there = ap f same ∙ r.lives; kept = w.0 }, w.1)
       | AtLast same is ↦ living-gone h.alive (sym is)
       | Elsewhere first last was ↦
-          let old : Keeps f p c d = record { alive = h.alive; there = was; kept = h.kept } in (old, reap-other f g pid child a b ending fam r k p c d old first)
+          let old : KeepsEnded f p c d = record { alive = h.alive; there = was; kept = h.kept } in (old, reap-other f g pid child a b ending fam r k p c d old first)
     ]
 
 reap-alive : (f g : Map) (pid child : ℕ) (a b : Alive) (ending : Ending) → Reap f g pid child a b ending → (p : ℕ) (x : Alive) → f p ≡ Some (Living x) → p ≢ child
 reap-alive f g pid child a b ending r p x h = different f p child (Living x) (Ended ending) h r.dead (living-ended x ending)
 
 reap-keeps-on : (f g : Map) (pid child : ℕ) (a b : Alive) (ending : Ending) → Reap f g pid child a b ending
-    → (p c : ℕ) (d : Ending) → Keeps f p c d → c ≢ child → Keeps g p c d
+    → (p c : ℕ) (d : Ending) → KeepsEnded f p c d → c ≢ child → KeepsEnded g p c d
 reap-keeps-on f g pid child a b ending r p c d h ne =
     elim (cases_eq p pid) [
       | inl same ↦
@@ -267,7 +267,7 @@ reap-keeps-on f g pid child a b ending r p c d h ne =
           record { alive = h.alive; there = r.two.other p other (reap-alive f g pid child a b ending r p h.alive h.there) ∙ h.there; kept = h.kept }
     ]
 
-reap-lives : (f g : Map) (pid child : ℕ) (a b : Alive) (ending : Ending) → Reap f g pid child a b ending → (c : ℕ) → Lives f c → Lives g c
+reap-lives : (f g : Map) (pid child : ℕ) (a b : Alive) (ending : Ending) → Reap f g pid child a b ending → (c : ℕ) → IsLiving f c → IsLiving g c
 reap-lives f g pid child a b ending r c h =
     elim (cases_eq c pid) [
       | inl same ↦ record { alive = b; there = ap g same ∙ r.two.first }

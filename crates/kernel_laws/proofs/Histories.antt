@@ -4,7 +4,7 @@ use Rattle.pico_base.specs.declared.call.Call.{Call}
 use Rattle.pico_base.specs.declared.reply.Entry.{Entry}
 use Rattle.pico_base.specs.declared.reply.Outcome.{Outcome}
 use Rattle.kernel_model.specs.Kernel.{Kernel, living_at}
-use Rattle.kernel_model.specs.Transition.{finished}
+use Rattle.kernel_model.specs.Transition.{finish_call}
 use Rattle.kernel_model.specs.History.{Replays, number_in}
 use Rattle.kernel_laws.proofs.Steps.{Step, step}
 use Rattle.kernel_laws.proofs.Moves.{Moves, Finishes, after-call, after-step}
@@ -24,7 +24,7 @@ kept-along P h (e ∷ es) k last r p =
 pub record KeptBy (P : Kernel → Type 0) (Q : ℕ → Kernel → Type 0) : Type 0 where
   pub moves : (k : Kernel) (pid : ℕ) (call : Call) (n : ℕ) (next : Kernel) (outcome : Outcome) (s : Step k pid call n next outcome) → P k
       → Moves (Q pid) k pid s.alive n
-  pub finishes : (pid : ℕ) (k : Kernel) → Q pid k → P (finished k pid (living_at k pid))
+  pub finishes : (pid : ℕ) (k : Kernel) → Q pid k → P (finish_call k pid (living_at k pid))
 
 pub kept-by-along : (P : Kernel → Type 0) (Q : ℕ → Kernel → Type 0) → KeptBy P Q → (entries : List Entry) (k last : Kernel) → Replays k entries last → P k → P last
 kept-by-along P Q h [] k last r p = subst P r p

@@ -3,11 +3,11 @@ use Rattle.std.proofs.Common.{◌≡◌, ◌≢◌, ℕ, Bool, true, false, List
 use Rattle.std.specs.Prelude.{if◌then◌else◌, fold, is_some}
 use Rattle.std.proofs.lemmas.Bool.{cases_eq}
 use Rattle.pico_base.specs.declared.reply.Ending.{Ending}
-use Rattle.kernel_model.specs.Maps.{Numbered, get, put, is_used}
+use Rattle.number_maps.specs.Maps.{Numbered, get, put, is_used}
 use Rattle.kernel_model.specs.Row.{Alive, Spent, with_ended_child, ignores_children}
 use Rattle.kernel_model.specs.Kernel.{Kernel, Process, Living, Ended, Gone, Parent, parent_in, living_at, with_alive}
-use Rattle.kernel_model.specs.ProcessCalls.{bury, buried, kept_as, ended_under, with_fork, with_reaped, new_child, forking, reaping}
-use Rattle.kernel_model.specs.Transition.{finished}
+use Rattle.kernel_model.specs.ProcessCalls.{bury, bury_all, process_after_end, end_under, processes_after_fork, processes_after_wait, new_child, parent_after_fork, parent_after_wait}
+use Rattle.kernel_model.specs.Transition.{finish_call}
 use Rattle.kernel_laws.specs.Lives.{MayBecome, LivesGoOneWay}
 use Rattle.kernel_laws.proofs.Plain.{not_some, not_true}
 use Rattle.kernel_laws.proofs.MapLaws.{get-put-same, get-put-other}
@@ -79,33 +79,33 @@ none-at None h = refl
 none-at (Some p) h = not_true h
 
 goes-forked : (pid : ℕ) (p : Process) (ps : Numbered Process) (used : List ℕ) → People IsStrong ps used → Goes pid p ps → (caller : ℕ) (a : Alive) (n : ℕ)
-    → get ps caller ≡ Some (Living a) → is_used used n ≡ false → Goes pid p (with_fork ps caller a n)
+    → get ps caller ≡ Some (Living a) → is_used used n ≡ false → Goes pid p (processes_after_fork ps caller a n)
 goes-forked pid p ps used h g caller a n l f =
     let absent : get ps n ≡ None = none-at (get ps n) (sym f ∙ h.body.used_is n)
     in let ne : caller ≢ n = λ same. not_some (Living a) (sym absent ∙ (ap (get ps) (sym same) ∙ l))
     in let v = Living (new_child a)
-    in goes-alive pid p (put ps n v) (goes-new pid p ps g n v absent) caller a (Living (forking a n)) (alive-put ps n caller v a l ne)
+    in goes-alive pid p (put ps n v) (goes-new pid p ps g n v absent) caller a (Living (parent_after_fork a n)) (alive-put ps n caller v a l ne)
 
 goes-ended : (pid : ℕ) (p : Process) (ps : Numbered Process) (used : List ℕ) → People IsStrong ps used → Goes pid p ps → (caller : ℕ) (a : Alive) (ending : Ending)
     → get ps caller ≡ Some (Living a) → (found : Option Parent) → parent_in caller ps ≡ found
-    → Goes pid p (ended_under (buried ps a.row.family) caller ending found)
-goes-ended pid p ps used h g caller a ending l None e = goes-gone pid p (buried ps a.row.family) (goes-buried pid p a.row.family.ended ps g) caller
+    → Goes pid p (end_under (bury_all ps a.row.family) caller ending found)
+goes-ended pid p ps used h g caller a ending l None e = goes-gone pid p (bury_all ps a.row.family) (goes-buried pid p a.row.family.ended ps g) caller
 goes-ended pid p ps used h g caller a ending l (Some parent) e =
-    let mid = buried ps a.row.family
+    let mid = bury_all ps a.row.family
     in let c = cleared ps caller a h.families l
     in let w = parent-is caller ps h.body.rise parent e
     in let ne : parent.pid ≢ caller =
     λ same. h.families.alone caller
     (subst (λ (x : ℕ). Lists (get ps) x caller) same (record { alive = parent.alive; there = w.0; listed = w.1 }))
-    in let v = kept_as (ignores_children parent.alive.row) ending
+    in let v = process_after_end (ignores_children parent.alive.row) ending
     in let first = goes-alive pid p mid (goes-buried pid p a.row.family.ended ps g) caller a v (c.alive_on caller a l)
     in goes-alive pid p (put mid caller v) first parent.pid parent.alive (Living (with_ended_child parent.alive caller ending))
     (alive-put mid caller parent.pid v parent.alive (c.alive_on parent.pid parent.alive w.0) ne)
 
 goes-reaped : (pid : ℕ) (p : Process) (ps : Numbered Process) → Goes pid p ps → (caller : ℕ) (a : Alive) (child : ℕ)
-    → get ps caller ≡ Some (Living a) → Goes pid p (with_reaped ps caller a child)
+    → get ps caller ≡ Some (Living a) → Goes pid p (processes_after_wait ps caller a child)
 goes-reaped pid p ps g caller a child l =
-    let v = Living (reaping a child) in goes-gone pid p (put ps caller v) (goes-alive pid p ps g caller a v l) child
+    let v = Living (parent_after_wait a child) in goes-gone pid p (put ps caller v) (goes-alive pid p ps g caller a v l) child
 
 abbrev GoesIn : ℕ → Process → Kernel → Type 0
 GoesIn pid p k = Goes pid p k.processes
@@ -142,7 +142,7 @@ goes-doom pid p k caller a g l true = goes-alive pid p k.processes g caller a _ 
 goes-doom pid p k caller a g l false = g
 
 goes-finished : (pid : ℕ) (p : Process) (k : Kernel) (caller : ℕ) → Goes pid p k.processes → (found : Option Alive) → living_at k caller ≡ found
-    → Goes pid p (finished k caller found).processes
+    → Goes pid p (finish_call k caller found).processes
 goes-finished pid p k caller g None e = g
 goes-finished pid p k caller g (Some a) e = goes-doom pid p k caller a g (from-living k.processes caller a e) (is_some a.row.signals.doom)
 

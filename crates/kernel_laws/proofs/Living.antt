@@ -4,20 +4,20 @@ use Rattle.std.specs.Prelude.{is_some}
 use Rattle.pico_base.specs.declared.reply.Ending.{Ending}
 use Rattle.pico_base.specs.declared.signal.Sig.{Sig}
 use Rattle.pico_base.specs.declared.signal.Sig.TheVariants.{Chld}
-use Rattle.kernel_model.specs.Signals.{Signals, IsSound, raise}
-use Rattle.kernel_model.specs.Row.{Alive, Family, Allowance, Free, One, Spent, with_child, with_end, without_ended, ignores_children, doomed_by_other, raised_at, with_ended_child}
-use Rattle.kernel_model.specs.ProcessCalls.{new_child, forking, reaping}
+use Rattle.kernel_model.specs.Signals.{Signals, AreSoundSignals, raise}
+use Rattle.kernel_model.specs.Row.{Alive, Family, Allowance, Free, One, Spent, with_child, family_after_end, without_ended, ignores_children, allowance_after_raise, raise_by_other, with_ended_child}
+use Rattle.kernel_model.specs.ProcessCalls.{new_child, parent_after_fork, parent_after_wait}
 use Rattle.kernel_laws.proofs.Plain.{by_test, not_true}
 use Rattle.kernel_laws.proofs.SignalLaws.{sound-raise, sound-inherited, Stays, raise-stays, no-doom}
 
 pub record Strong (a : Alive) : Type 0 where
-  pub sound : IsSound a.row.signals
+  pub sound : AreSoundSignals a.row.signals
   pub free : a.row.signals.doom ≡ None → a.allowance ≡ Free
   pub undoomed : a.allowance ≡ Free → a.row.signals.doom ≡ None
 
 -- in an entry of the caller the caller itself may be doomed and not yet have had its last turn
 pub record Weak (caller p : ℕ) (a : Alive) : Type 0 where
-  pub sound : IsSound a.row.signals
+  pub sound : AreSoundSignals a.row.signals
   pub free : a.row.signals.doom ≡ None → a.allowance ≡ Free
   pub undoomed : p ≢ caller → a.allowance ≡ Free → a.row.signals.doom ≡ None
 
@@ -25,7 +25,7 @@ pub weak : (caller p : ℕ) (a : Alive) → Strong a → Weak caller p a
 weak caller p a s = record { sound = s.sound; free = s.free; undoomed = λ ne. s.undoomed }
 
 -- the caller's own change of its signals
-pub weak-own : (caller : ℕ) (a : Alive) (s : Signals) → Strong a → IsSound s → Stays a.row.signals s
+pub weak-own : (caller : ℕ) (a : Alive) (s : Signals) → Strong a → AreSoundSignals s → Stays a.row.signals s
     → Weak caller caller (record a { row = record { signals = s; family = a.row.family } })
 weak-own caller a s h sound stays = record { sound = sound; free = λ d. h.free (stays d); undoomed = λ ne. absurd (ne refl) }
 
@@ -35,17 +35,17 @@ one-free h = cc
 spent-free : {B : Type 0} → Spent ≡ Free → B
 spent-free h = cc
 
-free-by_other : (before now : Bool) (allowance : Allowance) → before ≡ false → now ≡ false → doomed_by_other before now allowance ≡ allowance
+free-by_other : (before now : Bool) (allowance : Allowance) → before ≡ false → now ≡ false → allowance_after_raise before now allowance ≡ allowance
 free-by_other before now allowance b n = rw (b, n) refl
 
 undoomed-by_other : (before now : Option Sig) (allowance : Allowance) → (allowance ≡ Free → before ≡ None)
-    → doomed_by_other (is_some before) (is_some now) allowance ≡ Free → now ≡ None
+    → allowance_after_raise (is_some before) (is_some now) allowance ≡ Free → now ≡ None
 undoomed-by_other None None allowance h e = refl
 undoomed-by_other None (Some g) allowance h e = one-free e
 undoomed-by_other (Some g) now allowance h e = not_true (sym (ap is_some (h e)))
 
 -- a signal by another's entry
-pub strong-raised : (a : Alive) (g : Sig) → Strong a → Strong (raised_at a g)
+pub strong-raised : (a : Alive) (g : Sig) → Strong a → Strong (raise_by_other a g)
 strong-raised a g h =
     record {
       sound = sound-raise a.row.signals g h.sound;
@@ -61,25 +61,25 @@ strong-family a f h = record { sound = h.sound; free = h.free; undoomed = h.undo
 pub strong-child : (a : Alive) → Strong a → Strong (new_child a)
 strong-child a h = record { sound = sound-inherited a.row.signals h.sound; free = λ d. refl; undoomed = λ e. refl }
 
-pub strong-forking : (a : Alive) (n : ℕ) → Strong a → Strong (forking a n)
+pub strong-forking : (a : Alive) (n : ℕ) → Strong a → Strong (parent_after_fork a n)
 strong-forking a n h = strong-family a (with_child a.row.family n) h
 
-pub strong-reaping : (a : Alive) (n : ℕ) → Strong a → Strong (reaping a n)
+pub strong-reaping : (a : Alive) (n : ℕ) → Strong a → Strong (parent_after_wait a n)
 strong-reaping a n h = strong-family a (without_ended n a.row.family) h
 
 pub strong-ended_child : (a : Alive) (child : ℕ) (ending : Ending) → Strong a → Strong (with_ended_child a child ending)
 strong-ended_child a child ending h =
     let ignored = ignores_children a.row
-    in let f = with_end a.row.family child ending ignored
+    in let f = family_after_end a.row.family child ending ignored
     in let next : Alive = record a { row = record { signals = a.row.signals; family = f } }
     in let s = strong-family a f h
-    in by_test Strong ignored next (raised_at next Chld) (λ t. s) (λ t. strong-raised next Chld s)
+    in by_test Strong ignored next (raise_by_other next Chld) (λ t. s) (λ t. strong-raised next Chld s)
 
 pub family-ended_child : (a : Alive) (child : ℕ) (ending : Ending)
-    → (with_ended_child a child ending).row.family ≡ with_end a.row.family child ending (ignores_children a.row)
+    → (with_ended_child a child ending).row.family ≡ family_after_end a.row.family child ending (ignores_children a.row)
 family-ended_child a child ending =
-    let next : Alive = record a { row = record { signals = a.row.signals; family = with_end a.row.family child ending (ignores_children a.row) } }
-    in by_test (λ (x : Alive). x.row.family ≡ with_end a.row.family child ending (ignores_children a.row)) (ignores_children a.row) next (raised_at next Chld)
+    let next : Alive = record a { row = record { signals = a.row.signals; family = family_after_end a.row.family child ending (ignores_children a.row) } }
+    in by_test (λ (x : Alive). x.row.family ≡ family_after_end a.row.family child ending (ignores_children a.row)) (ignores_children a.row) next (raise_by_other next Chld)
     (λ t. refl) (λ t. refl)
 
 -- after the entry

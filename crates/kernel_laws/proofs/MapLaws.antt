@@ -6,8 +6,8 @@ use Rattle.std.specs.declared.cmp.Ordering.TheVariants.{Less, Equal, Greater}
 use Rattle.std.specs.Cmp.{nat_cmp_is}
 use Rattle.std.specs.Ordering.{is_eq}
 use Rattle.std.proofs.lemmas.Bool.{cases_order, cases_eq, cases_Bool, eq-eqb, ne_eqb, not_from_true, not_from_false}
-use Rattle.kernel_model.specs.Maps.{Numbered, get, put, without, is_used, used_with}
-use Rattle.kernel_model.specs.QueueCalls.{unbound}
+use Rattle.number_maps.specs.Maps.{Numbered, get, put, without, is_used, used_with}
+use Rattle.kernel_model.specs.QueueCalls.{unbind}
 use Rattle.kernel_model.specs.Valid.{IsOrdered}
 use Rattle.kernel_laws.proofs.Plain.{from_some, not_some}
 
@@ -234,7 +234,7 @@ get-above n [] a = refl
 get-above n (e ∷ m) a = let l : n < e.0 = a.0 in let ne : n ≢ e.0 = omega arith in get-later e m n ne ∙ get-above n m a.1
 
 -- a key that is still bound was bound before, and not to the thing that is gone
-pub get-unbound : (m : Numbered ℕ) (id key i : ℕ) → Rising m → get (unbound m id) key ≡ Some i → (get m key ≡ Some i) × (i ≢ id)
+pub get-unbound : (m : Numbered ℕ) (id key i : ℕ) → Rising m → get (unbind m id) key ≡ Some i → (get m key ≡ Some i) × (i ≢ id)
 get-unbound [] id key i r h = not_some i h
 get-unbound (e ∷ m) id key i r h =
     let p : ℕ × ℕ → Bool = λ d. not (nat_eq d.1 id)
@@ -245,14 +245,14 @@ get-unbound (e ∷ m) id key i r h =
           in let ne : key ≢ e.0 = λ same. not_some i (sym (ap (λ q. get m q) same ∙ get-above e.0 m r.0) ∙ below.0)
           in (get-later e m key ne ∙ below.0, below.1)
       | inr free ↦
-          let kept : get (e ∷ unbound m id) key ≡ Some i =
+          let kept : get (e ∷ unbind m id) key ≡ Some i =
           ap (λ s. get s key) (sym (filter-kept p e m (not_from_false (nat_eq e.1 id) (ne_eqb e.1 id free)))) ∙ h
           in elim (cases_eq key e.0) [
             | inl same ↦
-                let is : e.1 ≡ i = from_some e.1 i (sym (get-first e (unbound m id) key same) ∙ kept)
+                let is : e.1 ≡ i = from_some e.1 i (sym (get-first e (unbind m id) key same) ∙ kept)
                 in (get-first e m key same ∙ ap Some is, λ gone. free (is ∙ gone))
             | inr ne ↦
-                let below = get-unbound m id key i r.1 (sym (get-later e (unbound m id) key ne) ∙ kept)
+                let below = get-unbound m id key i r.1 (sym (get-later e (unbind m id) key ne) ∙ kept)
                 in (get-later e m key ne ∙ below.0, below.1)
           ]
     ]

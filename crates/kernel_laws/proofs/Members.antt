@@ -5,7 +5,7 @@ use Rattle.std.specs.List.{filter, list_any}
 use Rattle.std.proofs.lemmas.List.Elements.{Contains-append_left, Contains-push, Contains-push_cases, All-contains, All-filter, All-contains_itself, filter_passes}
 use Rattle.std.proofs.lemmas.Bool.{cases_Bool, or_cases, or_right, or_left, eqb-true, eq-eqb, not-true, not_from_false, ne_eqb}
 use Rattle.pico_base.specs.declared.reply.Ending.{Ending}
-use Rattle.kernel_model.specs.Row.{Family, lists, with_child, others, with_end, first_ended, matches, without_ended, wait, Found, waited_from}
+use Rattle.kernel_model.specs.Row.{Family, lists, with_child, others, family_after_end, first_ended_child, matches, without_ended, wait, Found, wait_result}
 use Rattle.kernel_laws.proofs.Plain.{from_some, not_some, not_true}
 
 pub contains-first : {X : Type 0} (x : X) (xs : List X) → Contains (x ∷ xs) x
@@ -86,10 +86,10 @@ any-others n (x ∷ ns) m h =
 pub lists-child : (f : Family) (n c : ℕ) → lists (with_child f n) c ≡ true → (lists f c ≡ true) ⊎ (c ≡ n)
 lists-child f n c h = any-push n f.living c h
 
-pub lists-end : (f : Family) (n : ℕ) (e : Ending) (ignored : Bool) (c : ℕ) → lists (with_end f n e ignored) c ≡ true → (lists f c ≡ true) × (c ≢ n)
+pub lists-end : (f : Family) (n : ℕ) (e : Ending) (ignored : Bool) (c : ℕ) → lists (family_after_end f n e ignored) c ≡ true → (lists f c ≡ true) × (c ≢ n)
 lists-end f n e ignored c h = any-others n f.living c h
 
-pub ended-end : (f : Family) (n : ℕ) (e : Ending) (ignored : Bool) (c : ℕ) (d : Ending) → Contains (with_end f n e ignored).ended (c, d)
+pub ended-end : (f : Family) (n : ℕ) (e : Ending) (ignored : Bool) (c : ℕ) (d : Ending) → Contains (family_after_end f n e ignored).ended (c, d)
     → Contains f.ended (c, d) ⊎ ((n ≡ c) × (e ≡ d) × (ignored ≡ false))
 ended-end f n e true c d h = inl h
 ended-end f n e false c d h =
@@ -98,11 +98,11 @@ ended-end f n e false c d h =
       | inr new ↦ inr (ap (λ (x : ℕ × Ending). x.0) new, ap (λ (x : ℕ × Ending). x.1) new, refl)
     ]
 
-pub ended-stays : (f : Family) (n : ℕ) (e : Ending) (ignored : Bool) (x : ℕ × Ending) → Contains f.ended x → Contains (with_end f n e ignored).ended x
+pub ended-stays : (f : Family) (n : ℕ) (e : Ending) (ignored : Bool) (x : ℕ × Ending) → Contains f.ended x → Contains (family_after_end f n e ignored).ended x
 ended-stays f n e true x h = h
 ended-stays f n e false x h = Contains-append_left f.ended ((n, e) ∷ []) x h
 
-pub ended-new : (f : Family) (n : ℕ) (e : Ending) → Contains (with_end f n e false).ended (n, e)
+pub ended-new : (f : Family) (n : ℕ) (e : Ending) → Contains (family_after_end f n e false).ended (n, e)
 ended-new f n e = Contains-push f.ended (n, e)
 
 -- ended children after waitpid
@@ -115,13 +115,13 @@ pub without-on : (f : Family) (n c : ℕ) (e : Ending) → Contains f.ended (c, 
 without-on f n c e h ne =
     contains-filter (λ (x : ℕ × Ending). not (nat_eq n x.0)) f.ended (c, e) h (not_from_false (nat_eq n c) (ne_eqb n c (λ same. ne (sym same))))
 
-first-is : (which : Option ℕ) (es : List (ℕ × Ending)) (e x : ℕ × Ending) → ((y : ℕ × Ending) → first_ended which es ≡ Some y → Contains es y)
-    → (b : Bool) → (if b then Some e else first_ended which es) ≡ Some x → Contains (e ∷ es) x
+first-is : (which : Option ℕ) (es : List (ℕ × Ending)) (e x : ℕ × Ending) → ((y : ℕ × Ending) → first_ended_child which es ≡ Some y → Contains es y)
+    → (b : Bool) → (if b then Some e else first_ended_child which es) ≡ Some x → Contains (e ∷ es) x
 first-is which es e x h true g =
     let same : e ≡ x = from_some e x g in let P : ℕ × Ending → Type 0 = λ y. Contains (e ∷ es) y in subst P same (contains-first e es)
 first-is which es e x h false g = contains-later e es x (h x g)
 
-first-contained : (which : Option ℕ) (es : List (ℕ × Ending)) (x : ℕ × Ending) → first_ended which es ≡ Some x → Contains es x
+first-contained : (which : Option ℕ) (es : List (ℕ × Ending)) (x : ℕ × Ending) → first_ended_child which es ≡ Some x → Contains es x
 first-contained which [] x h = not_some x h
 first-contained which (e ∷ es) x h = first-is which es e x (first-contained which es) (matches which e.0) h
 
@@ -131,7 +131,7 @@ pair-is e child ending a b =
     in let Q : Ending → Type 0 = λ d. let q : ℕ × Ending = (e.0, d) in e ≡ q
     in subst P a (subst Q b refl)
 
-found-is : (o : Option (ℕ × Ending)) (living : Bool) (child : ℕ) (ending : Ending) → waited_from o living ≡ Found child ending → o ≡ Some (child, ending)
+found-is : (o : Option (ℕ × Ending)) (living : Bool) (child : ℕ) (ending : Ending) → wait_result o living ≡ Found child ending → o ≡ Some (child, ending)
 found-is None true child ending h = cc
 found-is None false child ending h = cc
 found-is (Some e) living child ending h =
@@ -139,4 +139,4 @@ found-is (Some e) living child ending h =
 
 pub found-contained : (f : Family) (which : Option ℕ) (child : ℕ) (ending : Ending) → wait f which ≡ Found child ending → Contains f.ended (child, ending)
 found-contained f which child ending h =
-    first-contained which f.ended (child, ending) (found-is (first_ended which f.ended) (list_any (matches which) f.living) child ending h)
+    first-contained which f.ended (child, ending) (found-is (first_ended_child which f.ended) (list_any (matches which) f.living) child ending h)

@@ -2,13 +2,13 @@
 use Rattle.std.proofs.Common.{◌≡◌, ◌≢◌, ℕ, true, List, Option, Some, None, refl, ap, sym, subst, ◌∙◌, inl, inr}
 use Rattle.std.specs.Prelude.{is_some}
 use Rattle.std.proofs.lemmas.Bool.{cases_eq}
-use Rattle.kernel_model.specs.Maps.{Numbered, get, put, without, is_used, used_with}
+use Rattle.number_maps.specs.Maps.{Numbered, get, put, without, is_used, used_with}
 use Rattle.kernel_model.specs.Row.{Alive, Spent}
 use Rattle.kernel_model.specs.Queue.{Queue}
 use Rattle.kernel_model.specs.SemaphoreSet.{Semaphore}
-use Rattle.kernel_model.specs.QueueCalls.{removed_queue}
-use Rattle.kernel_model.specs.SetCalls.{removed_set}
-use Rattle.kernel_model.specs.Transition.{finished}
+use Rattle.kernel_model.specs.QueueCalls.{remove_queue}
+use Rattle.kernel_model.specs.SetCalls.{remove_set}
+use Rattle.kernel_model.specs.Transition.{finish_call}
 use Rattle.pico_base.specs.declared.call.Call.TheVariants.{MsgRmid, SemRmid}
 use Rattle.pico_base.specs.declared.reply.Reply.{Reply}
 use Rattle.pico_base.specs.declared.reply.Reply.TheVariants.{Num, Fail}
@@ -193,19 +193,19 @@ gone_named : {V : Type 0} (k : Kernel) (things : Numbered V) (used : List ℕ) (
 gone_named k things used id f P own None e says is h = fail_num Einval own says is
 gone_named k things used id f P own (Some v) e says is h = h v e
 
-removed_queue_gone : (k : Kernel) (id : ℕ) (q : Queue) → Queues k → get k.queues id ≡ Some q → GoneQueue id (removed_queue k id).kernel
+removed_queue_gone : (k : Kernel) (id : ℕ) (q : Queue) → Queues k → get k.queues id ≡ Some q → GoneQueue id (remove_queue k id).kernel
 removed_queue_gone k id q t l = (t.used_at id (ap is_some l), get-without-same k.queues id)
 
-removed_set_gone : (k : Kernel) (id : ℕ) (s : List Semaphore) → Sets k → get k.sets id ≡ Some s → GoneSet id (removed_set k id).kernel
+removed_set_gone : (k : Kernel) (id : ℕ) (s : List Semaphore) → Sets k → get k.sets id ≡ Some s → GoneSet id (remove_set k id).kernel
 removed_set_gone k id s t l = (t.used_at id (ap is_some l), get-without-same k.sets id)
 
 -- the end of an entry changes no queue and no set
-gone_queue-finished : (gone : ℕ) (k : Kernel) (pid : ℕ) (found : Option Alive) → GoneQueue gone k → GoneQueue gone (finished k pid found)
+gone_queue-finished : (gone : ℕ) (k : Kernel) (pid : ℕ) (found : Option Alive) → GoneQueue gone k → GoneQueue gone (finish_call k pid found)
 gone_queue-finished gone k pid None g = g
 gone_queue-finished gone k pid (Some a) g =
     by_test (GoneQueue gone) (is_some a.row.signals.doom) (with_alive k pid (record a { allowance = Spent })) k (λ t. g) (λ t. g)
 
-gone_set-finished : (gone : ℕ) (k : Kernel) (pid : ℕ) (found : Option Alive) → GoneSet gone k → GoneSet gone (finished k pid found)
+gone_set-finished : (gone : ℕ) (k : Kernel) (pid : ℕ) (found : Option Alive) → GoneSet gone k → GoneSet gone (finish_call k pid found)
 gone_set-finished gone k pid None g = g
 gone_set-finished gone k pid (Some a) g =
     by_test (GoneSet gone) (is_some a.row.signals.doom) (with_alive k pid (record a { allowance = Spent })) k (λ t. g) (λ t. g)
@@ -217,9 +217,9 @@ pub queue_removals_last_lemma : QueueRemovalsLast
 queue_removals_last_lemma k next last pid id n outcome entries r t is h =
     let s = step k pid (MsgRmid id) n next outcome t
     in let table = kept-along Queues queues-kept r.0 opening k r.1 queues-opening
-    in let e : on_named k (get k.queues id) (λ _. removed_queue k id) ≡ s.result = from_some (on_named k (get k.queues id) (λ _. removed_queue k id)) s.result s.gives
-    in let says = reply-is s.result (on_named k (get k.queues id) (λ _. removed_queue k id)) outcome.own (sym e) s.says
-    in let gone = gone_named k k.queues k.used_queues id (λ _. removed_queue k id) (GoneQueue id) outcome.own (get k.queues id) refl says is
+    in let e : on_named k (get k.queues id) (λ _. remove_queue k id) ≡ s.result = from_some (on_named k (get k.queues id) (λ _. remove_queue k id)) s.result s.gives
+    in let says = reply-is s.result (on_named k (get k.queues id) (λ _. remove_queue k id)) outcome.own (sym e) s.says
+    in let gone = gone_named k k.queues k.used_queues id (λ _. remove_queue k id) (GoneQueue id) outcome.own (get k.queues id) refl says is
     (λ q l. removed_queue_gone k id q table l)
     in let after : GoneQueue id s.result.kernel = subst (λ (x : Effect). GoneQueue id x.kernel) e gone
     in let there : GoneQueue id next = subst (GoneQueue id) s.leads (gone_queue-finished id s.result.kernel pid (living_at s.result.kernel pid) after)
@@ -229,9 +229,9 @@ pub set_removals_last_lemma : SetRemovalsLast
 set_removals_last_lemma k next last pid id n outcome entries r t is h =
     let s = step k pid (SemRmid id) n next outcome t
     in let table = kept-along Sets sets-kept r.0 opening k r.1 sets-opening
-    in let e : on_named k (get k.sets id) (λ _. removed_set k id) ≡ s.result = from_some (on_named k (get k.sets id) (λ _. removed_set k id)) s.result s.gives
-    in let says = reply-is s.result (on_named k (get k.sets id) (λ _. removed_set k id)) outcome.own (sym e) s.says
-    in let gone = gone_named k k.sets k.used_sets id (λ _. removed_set k id) (GoneSet id) outcome.own (get k.sets id) refl says is
+    in let e : on_named k (get k.sets id) (λ _. remove_set k id) ≡ s.result = from_some (on_named k (get k.sets id) (λ _. remove_set k id)) s.result s.gives
+    in let says = reply-is s.result (on_named k (get k.sets id) (λ _. remove_set k id)) outcome.own (sym e) s.says
+    in let gone = gone_named k k.sets k.used_sets id (λ _. remove_set k id) (GoneSet id) outcome.own (get k.sets id) refl says is
     (λ q l. removed_set_gone k id q table l)
     in let after : GoneSet id s.result.kernel = subst (λ (x : Effect). GoneSet id x.kernel) e gone
     in let there : GoneSet id next = subst (GoneSet id) s.leads (gone_set-finished id s.result.kernel pid (living_at s.result.kernel pid) after)

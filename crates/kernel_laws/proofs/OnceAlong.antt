@@ -3,11 +3,11 @@ use Rattle.std.proofs.Common.{◌≡◌, ℕ, Bool, true, false, List, [], ◌�
 use Rattle.std.specs.Prelude.{is_some, fold, if◌then◌else◌, Contains}
 use Rattle.std.proofs.lemmas.Bool.{false_from_ne_true}
 use Rattle.pico_base.specs.declared.reply.Ending.{Ending}
-use Rattle.kernel_model.specs.Maps.{Numbered, get, put, is_used}
+use Rattle.number_maps.specs.Maps.{Numbered, get, put, is_used}
 use Rattle.kernel_model.specs.Row.{Alive, Spent, lists, with_ended_child, ignores_children}
 use Rattle.kernel_model.specs.Kernel.{Kernel, Process, Living, Ended, Gone, Parent, parent_in, living_at, with_alive, opening}
-use Rattle.kernel_model.specs.ProcessCalls.{bury, buried, kept_as, ended_under, with_fork, new_child, forking, reaping}
-use Rattle.kernel_model.specs.Transition.{finished}
+use Rattle.kernel_model.specs.ProcessCalls.{bury, bury_all, process_after_end, end_under, processes_after_fork, new_child, parent_after_fork, parent_after_wait}
+use Rattle.kernel_model.specs.Transition.{finish_call}
 use Rattle.kernel_laws.specs.Once.{ListsOnce, ChildrenAreListedOnce}
 use Rattle.kernel_laws.proofs.Plain.{not_some, not_true}
 use Rattle.kernel_laws.proofs.Tables.{fresh-unused}
@@ -46,7 +46,7 @@ none-at None h = refl
 none-at (Some p) h = not_true h
 
 once-forked : (ps : Numbered Process) (used : List ℕ) → People IsStrong ps used → EachOnce ps → (pid : ℕ) (a : Alive) (n : ℕ) → get ps pid ≡ Some (Living a)
-    → is_used used n ≡ false → EachOnce (with_fork ps pid a n)
+    → is_used used n ≡ false → EachOnce (processes_after_fork ps pid a n)
 once-forked ps used h o pid a n l f =
     let absent : get ps n ≡ None = none-at (get ps n) (sym f ∙ h.body.used_is n)
     in let unlisted : lists a.row.family n ≡ false =
@@ -54,23 +54,23 @@ once-forked ps used h o pid a n l f =
     (λ t.
     let w = h.families.living pid n (record { alive = a; there = l; listed = t })
     in not_some {B = ⊥} (Living w.alive) (sym absent ∙ w.there))
-    in once-put (put ps n (Living (new_child a))) pid (forking a n) (once-put ps n (new_child a) o once-none)
+    in once-put (put ps n (Living (new_child a))) pid (parent_after_fork a n) (once-put ps n (new_child a) o once-none)
     (once-child a.row.family n (o pid a l) unlisted)
 
-kept-dead : (ignored : Bool) (ending : Ending) (x : Alive) → kept_as ignored ending ≡ Living x → ⊥
+kept-dead : (ignored : Bool) (ending : Ending) (x : Alive) → process_after_end ignored ending ≡ Living x → ⊥
 kept-dead true ending x h = living-gone {B = ⊥} x (sym h)
 kept-dead false ending x h = living-ended {B = ⊥} x ending (sym h)
 
 once-ended : (ps : Numbered Process) (used : List ℕ) → People IsStrong ps used → EachOnce ps → (pid : ℕ) (a : Alive) (ending : Ending)
-    → get ps pid ≡ Some (Living a) → (found : Option Parent) → parent_in pid ps ≡ found → EachOnce (ended_under (buried ps a.row.family) pid ending found)
+    → get ps pid ≡ Some (Living a) → (found : Option Parent) → parent_in pid ps ≡ found → EachOnce (end_under (bury_all ps a.row.family) pid ending found)
 once-ended ps used h o pid a ending l None e =
-    once-dead (buried ps a.row.family) pid Gone (once-buried a.row.family.ended ps o) (λ x s. living-gone {B = ⊥} x (sym s))
+    once-dead (bury_all ps a.row.family) pid Gone (once-buried a.row.family.ended ps o) (λ x s. living-gone {B = ⊥} x (sym s))
 once-ended ps used h o pid a ending l (Some p) e =
-    let mid = buried ps a.row.family
+    let mid = bury_all ps a.row.family
     in let old = p.alive
     in let w = parent-is pid ps h.body.rise p e
     in let ignored = ignores_children old.row
-    in let v = kept_as ignored ending
+    in let v = process_after_end ignored ending
     in let new : (d : Ending) → Contains old.row.family.ended (pid, d) → ⊥ =
     λ d c. living-ended {B = ⊥} a d (at-once (get ps pid) (Living a) (Ended d) l (h.families.ended p.pid pid d (record { alive = old; there = w.0; kept = c })))
     in once-put (put mid pid v) p.pid (with_ended_child old pid ending)
@@ -90,7 +90,7 @@ once-moves k pid a n h l o =
       raises_own = λ target g t. once-put ps pid _ o (o pid target t);
       raises_other = λ other target g t. once-put ps other _ o (o other target t);
       reaps = λ which child ending e.
-          once-dead (put ps pid (Living (reaping a child))) child Gone (once-put ps pid (reaping a child) o (once-without a.row.family child same))
+          once-dead (put ps pid (Living (parent_after_wait a child))) child Gone (once-put ps pid (parent_after_wait a child) o (once-without a.row.family child same))
           (λ x s. living-gone {B = ⊥} x (sym s));
       makes_queue = λ f. o;
       binds_queue = λ key f. o;
@@ -111,7 +111,7 @@ once-doom : (k : Kernel) (pid : ℕ) (a : Alive) → OnceIn k → get k.processe
 once-doom k pid a o l true = once-put k.processes pid (record a { allowance = Spent }) o (o pid a l)
 once-doom k pid a o l false = o
 
-once-finished : (k : Kernel) (pid : ℕ) → OnceIn k → (found : Option Alive) → living_at k pid ≡ found → OnceIn (finished k pid found)
+once-finished : (k : Kernel) (pid : ℕ) → OnceIn k → (found : Option Alive) → living_at k pid ≡ found → OnceIn (finish_call k pid found)
 once-finished k pid o None e = o
 once-finished k pid o (Some a) e = once-doom k pid a o (from-living k.processes pid a e) (is_some a.row.signals.doom)
 

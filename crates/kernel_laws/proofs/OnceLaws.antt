@@ -6,7 +6,7 @@ use Rattle.std.specs.Cmp.{nat_eq_equiv}
 use Rattle.std.proofs.lemmas.Bool.{cases_Bool, or_cases, eqb-true, false_from_ne_true}
 use Rattle.std.proofs.lemmas.Map.Keys.{IsDistinct-push, IsDistinct-head, IsDistinct-tail, IsDistinct-cons}
 use Rattle.pico_base.specs.declared.reply.Ending.{Ending}
-use Rattle.kernel_model.specs.Row.{Family, no_family, with_child, with_end, without_ended, lists}
+use Rattle.kernel_model.specs.Row.{Family, no_family, with_child, family_after_end, without_ended, lists}
 use Rattle.kernel_laws.specs.Once.{ListsOnce}
 use Rattle.kernel_laws.proofs.Plain.{not_true}
 use Rattle.kernel_laws.proofs.Members.{contains-first, contains-later}
@@ -79,13 +79,13 @@ pub once-child : (f : Family) (n : ℕ) → ListsOnce f → lists f n ≡ false 
 once-child f n h new = record { living = IsDistinct-push nat_eq_equiv f.living n h.living new; ended = h.ended }
 
 ended-once : (f : Family) (n : ℕ) (e : Ending) (ignored : Bool) → ListsOnce f → ((d : Ending) → Contains f.ended (n, d) → ⊥)
-    → IsDistinct nat_eq (map (λ x. x.0) (with_end f n e ignored).ended)
+    → IsDistinct nat_eq (map (λ x. x.0) (family_after_end f n e ignored).ended)
 ended-once f n e true h absent = h.ended
 ended-once f n e false h absent =
     let new = false_from_ne_true (list_any (nat_eq n) (map (λ x. x.0) f.ended)) (λ t. let w = among-numbers n f.ended t in absent w.0 w.1)
     in subst (λ (ys : List ℕ). IsDistinct nat_eq ys) (sym (numbers-push f.ended n e)) (IsDistinct-push nat_eq_equiv (map (λ x. x.0) f.ended) n h.ended new)
 
-pub once-end : (f : Family) (n : ℕ) (e : Ending) (ignored : Bool) → ListsOnce f → ((d : Ending) → Contains f.ended (n, d) → ⊥) → ListsOnce (with_end f n e ignored)
+pub once-end : (f : Family) (n : ℕ) (e : Ending) (ignored : Bool) → ListsOnce f → ((d : Ending) → Contains f.ended (n, d) → ⊥) → ListsOnce (family_after_end f n e ignored)
 once-end f n e ignored h absent =
     record { living = distinct-filtered (λ c. not (nat_eq n c)) f.living h.living; ended = ended-once f n e ignored h absent }
 

@@ -5,7 +5,7 @@ use Rattle.std.specs.Prelude.{is_some, fold, Contains}
 use Rattle.std.specs.Option.{option_and_then}
 use Rattle.std.proofs.lemmas.Bool.{cases_eq}
 use Rattle.pico_base.specs.declared.reply.Ending.{Ending}
-use Rattle.kernel_model.specs.Maps.{Numbered, get, put, is_used, used_with}
+use Rattle.number_maps.specs.Maps.{Numbered, get, put, is_used, used_with}
 use Rattle.kernel_model.specs.Row.{Alive}
 use Rattle.kernel_model.specs.Kernel.{Process, Living, Ended, Gone, living_in, alive_in}
 use Rattle.kernel_model.specs.ProcessCalls.{bury}

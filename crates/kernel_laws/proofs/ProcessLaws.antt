@@ -3,12 +3,12 @@ use Rattle.std.proofs.Common.{◌≡◌, ◌≢◌, ℕ, Bool, true, false, List
 use Rattle.std.specs.Prelude.{is_some, Contains, if◌then◌else◌}
 use Rattle.std.proofs.lemmas.Bool.{cases_eq}
 use Rattle.pico_base.specs.declared.reply.Ending.{Ending}
-use Rattle.kernel_model.specs.Maps.{Numbered, get, put, is_used, used_with}
-use Rattle.kernel_model.specs.Signals.{Signals, IsSound, raise, with_action, with_mask}
-use Rattle.kernel_model.specs.Row.{Alive, Spent, lists, raised_at, with_ended_child, ignores_children}
+use Rattle.number_maps.specs.Maps.{Numbered, get, put, is_used, used_with}
+use Rattle.kernel_model.specs.Signals.{Signals, AreSoundSignals, raise, with_action, with_mask}
+use Rattle.kernel_model.specs.Row.{Alive, Spent, lists, raise_by_other, with_ended_child, ignores_children}
 use Rattle.kernel_model.specs.Kernel.{Kernel, Process, Living, Ended, Gone, Parent, parent_in, living_at, with_alive}
-use Rattle.kernel_model.specs.ProcessCalls.{new_child, forking, with_fork, buried, kept_as, ended_under, reaping, with_reaped}
-use Rattle.kernel_model.specs.Transition.{finished}
+use Rattle.kernel_model.specs.ProcessCalls.{new_child, parent_after_fork, processes_after_fork, bury_all, process_after_end, end_under, parent_after_wait, processes_after_wait}
+use Rattle.kernel_model.specs.Transition.{finish_call}
 use Rattle.kernel_laws.proofs.Plain.{not_some, not_true}
 use Rattle.kernel_laws.proofs.Tables.{fresh-unused, there-put}
 use Rattle.kernel_laws.proofs.SignalLaws.{sound-raise, sound-action, sound-mask, raise-stays, mask-stays}
@@ -57,41 +57,41 @@ none-at (Some p) h = not_true h
 
 -- fork
 forked : (ps : Numbered Process) (used : List ℕ) (pid : ℕ) (a : Alive) (n : ℕ) → People IsStrong ps used → get ps pid ≡ Some (Living a) → is_used used n ≡ false
-    → People (Weak pid) (with_fork ps pid a n) (used_with used n)
+    → People (Weak pid) (processes_after_fork ps pid a n) (used_with used n)
 forked ps used pid a n h l f =
     let s = h.body.each pid a l
     in let mid = put ps n (Living (new_child a))
     in let absent : get ps n ≡ None = none-at (get ps n) (sym f ∙ h.body.used_is n)
     in let ne : n ≢ pid = λ same. not_some (Living a) (sym absent ∙ (ap (get ps) same ∙ l))
     in let child = weak pid n (new_child a) (strong-child a s)
-    in let parent = weak pid pid (forking a n) (strong-forking a n s)
+    in let parent = weak pid pid (parent_after_fork a n) (strong-forking a n s)
     in let b = body-new (Weak pid) ps used (weaken ps used pid h).body n (Living (new_child a)) (λ x e. subst (λ (y : Alive). Weak pid n y) (same-alive (new_child a) x e) child)
-    in let two = two-puts (get ps) (get mid) (get (with_fork ps pid a n)) n pid (Living (new_child a)) (Living (forking a n)) ne
-    (put-is ps n (Living (new_child a))) (put-is mid pid (Living (forking a n)))
+    in let two = two-puts (get ps) (get mid) (get (processes_after_fork ps pid a n)) n pid (Living (new_child a)) (Living (parent_after_fork a n)) ne
+    (put-is ps n (Living (new_child a))) (put-is mid pid (Living (parent_after_fork a n)))
     in record {
       body =
-          body-put (Weak pid) mid (used_with used n) b pid (Living (forking a n)) (there-put ps n (Living (new_child a)) pid (ap is_some l))
-          (λ x e. subst (λ (y : Alive). Weak pid pid y) (same-alive (forking a n) x e) parent);
+          body-put (Weak pid) mid (used_with used n) b pid (Living (parent_after_fork a n)) (there-put ps n (Living (new_child a)) pid (ap is_some l))
+          (λ x e. subst (λ (y : Alive). Weak pid pid y) (same-alive (parent_after_fork a n) x e) parent);
       families =
-          families-born (get ps) (get (with_fork ps pid a n)) pid n h.families
-          (born-is (get ps) (get (with_fork ps pid a n)) pid n a (new_child a) (forking a n) two l absent refl refl);
+          families-born (get ps) (get (processes_after_fork ps pid a n)) pid n h.families
+          (born-is (get ps) (get (processes_after_fork ps pid a n)) pid n a (new_child a) (parent_after_fork a n) two l absent refl refl);
     }
 
 -- exit
 buried-body : (ps : Numbered Process) (used : List ℕ) (pid : ℕ) (a : Alive) → People IsStrong ps used → get ps pid ≡ Some (Living a)
-    → Body (Weak pid) (buried ps a.row.family) used
+    → Body (Weak pid) (bury_all ps a.row.family) used
 buried-body ps used pid a h l =
     body-buried (Weak pid) a.row.family.ended ps used (weaken ps used pid h).body
     (λ q d c. ap is_some (h.families.ended pid q d (record { alive = a; there = l; kept = c })))
 
-kept-not-living : {B : Type 0} (ignored : Bool) (ending : Ending) (x : Alive) → kept_as ignored ending ≡ Living x → B
+kept-not-living : {B : Type 0} (ignored : Bool) (ending : Ending) (x : Alive) → process_after_end ignored ending ≡ Living x → B
 kept-not-living true ending x h = living-gone x (sym h)
 kept-not-living false ending x h = living-ended x ending (sym h)
 
 ended-alone : (ps : Numbered Process) (used : List ℕ) (pid : ℕ) (a : Alive) → People IsStrong ps used → get ps pid ≡ Some (Living a)
-    → parent_in pid ps ≡ None → People (Weak pid) (put (buried ps a.row.family) pid Gone) used
+    → parent_in pid ps ≡ None → People (Weak pid) (put (bury_all ps a.row.family) pid Gone) used
 ended-alone ps used pid a h l none =
-    let mid = buried ps a.row.family
+    let mid = bury_all ps a.row.family
     in record {
       body =
           body-put (Weak pid) mid used (buried-body ps used pid a h l) pid Gone (buried-there a.row.family.ended ps pid (ap is_some l))
@@ -103,13 +103,13 @@ ended-alone ps used pid a h l none =
 
 end-is : (ps : Numbered Process) (used : List ℕ) (pid : ℕ) (a : Alive) (ending : Ending) (keeper : ℕ) (old : Alive) → People IsStrong ps used
     → get ps pid ≡ Some (Living a) → get ps keeper ≡ Some (Living old) → lists old.row.family pid ≡ true → pid ≢ keeper
-    → (let mid = buried ps a.row.family
-    in let kept = put mid pid (kept_as (ignores_children old.row) ending)
+    → (let mid = bury_all ps a.row.family
+    in let kept = put mid pid (process_after_end (ignores_children old.row) ending)
     in let last = put kept keeper (Living (with_ended_child old pid ending))
     in End (get ps) (get mid) (get last) pid a keeper old (with_ended_child old pid ending) ending (ignores_children old.row))
 end-is ps used pid a ending keeper old h l parent listed ne =
-    let mid = buried ps a.row.family
-    in let v = kept_as (ignores_children old.row) ending
+    let mid = bury_all ps a.row.family
+    in let v = process_after_end (ignores_children old.row) ending
     in let kept = put mid pid v
     in let new = with_ended_child old pid ending
     in record {
@@ -123,10 +123,10 @@ end-is ps used pid a ending keeper old h l parent listed ne =
 
 ended-kept : (ps : Numbered Process) (used : List ℕ) (pid : ℕ) (a : Alive) (ending : Ending) (keeper : ℕ) (old : Alive) → People IsStrong ps used
     → get ps pid ≡ Some (Living a) → get ps keeper ≡ Some (Living old) → lists old.row.family pid ≡ true
-    → People (Weak pid) (put (put (buried ps a.row.family) pid (kept_as (ignores_children old.row) ending)) keeper (Living (with_ended_child old pid ending))) used
+    → People (Weak pid) (put (put (bury_all ps a.row.family) pid (process_after_end (ignores_children old.row) ending)) keeper (Living (with_ended_child old pid ending))) used
 ended-kept ps used pid a ending keeper old h l parent listed =
-    let mid = buried ps a.row.family
-    in let v = kept_as (ignores_children old.row) ending
+    let mid = bury_all ps a.row.family
+    in let v = process_after_end (ignores_children old.row) ending
     in let kept = put mid pid v
     in let new = with_ended_child old pid ending
     in let ne : pid ≢ keeper =
@@ -145,30 +145,30 @@ ended-kept ps used pid a ending keeper old h l parent listed =
     }
 
 ended-under : (ps : Numbered Process) (used : List ℕ) (pid : ℕ) (a : Alive) (ending : Ending) → People IsStrong ps used → get ps pid ≡ Some (Living a)
-    → (found : Option Parent) → parent_in pid ps ≡ found → People (Weak pid) (ended_under (buried ps a.row.family) pid ending found) used
+    → (found : Option Parent) → parent_in pid ps ≡ found → People (Weak pid) (end_under (bury_all ps a.row.family) pid ending found) used
 ended-under ps used pid a ending h l None e = ended-alone ps used pid a h l e
 ended-under ps used pid a ending h l (Some p) e =
     let w = parent-is pid ps h.body.rise p e in ended-kept ps used pid a ending p.pid p.alive h l w.0 w.1
 
 -- waitpid
 reaped : (ps : Numbered Process) (used : List ℕ) (pid : ℕ) (a : Alive) (child : ℕ) (ending : Ending) → People IsStrong ps used → get ps pid ≡ Some (Living a)
-    → Contains a.row.family.ended (child, ending) → People (Weak pid) (with_reaped ps pid a child) used
+    → Contains a.row.family.ended (child, ending) → People (Weak pid) (processes_after_wait ps pid a child) used
 reaped ps used pid a child ending h l c =
     let s = h.body.each pid a l
-    in let mid = put ps pid (Living (reaping a child))
+    in let mid = put ps pid (Living (parent_after_wait a child))
     in let dead : get ps child ≡ Some (Ended ending) = h.families.ended pid child ending (record { alive = a; there = l; kept = c })
     in let ne : pid ≢ child = different (get ps) pid child (Living a) (Ended ending) l dead (living-ended a ending)
-    in let w = weak pid pid (reaping a child) (strong-reaping a child s)
-    in let b = body-put (Weak pid) ps used (weaken ps used pid h).body pid (Living (reaping a child)) (ap is_some l)
-    (λ x e. subst (λ (y : Alive). Weak pid pid y) (same-alive (reaping a child) x e) w)
+    in let w = weak pid pid (parent_after_wait a child) (strong-reaping a child s)
+    in let b = body-put (Weak pid) ps used (weaken ps used pid h).body pid (Living (parent_after_wait a child)) (ap is_some l)
+    (λ x e. subst (λ (y : Alive). Weak pid pid y) (same-alive (parent_after_wait a child) x e) w)
     in record {
-      body = body-put (Weak pid) mid used b child Gone (there-put ps pid (Living (reaping a child)) child (ap is_some dead)) (λ x e. living-gone x (sym e));
+      body = body-put (Weak pid) mid used b child Gone (there-put ps pid (Living (parent_after_wait a child)) child (ap is_some dead)) (λ x e. living-gone x (sym e));
       families =
-          families-kept (get ps) (get (with_reaped ps pid a child)) (Not child) h.families
-          (kept-reap (get ps) (get (with_reaped ps pid a child)) pid child a (reaping a child) ending h.families
+          families-kept (get ps) (get (processes_after_wait ps pid a child)) (Not child) h.families
+          (kept-reap (get ps) (get (processes_after_wait ps pid a child)) pid child a (parent_after_wait a child) ending h.families
           (record {
-            two = two-puts (get ps) (get mid) (get (with_reaped ps pid a child)) pid child (Living (reaping a child)) Gone ne
-                (put-is ps pid (Living (reaping a child))) (put-is mid child Gone);
+            two = two-puts (get ps) (get mid) (get (processes_after_wait ps pid a child)) pid child (Living (parent_after_wait a child)) Gone ne
+                (put-is ps pid (Living (parent_after_wait a child))) (put-is mid child Gone);
             lives = l;
             dead = dead;
             less = refl;
@@ -177,7 +177,7 @@ reaped ps used pid a child ending h l c =
 
 -- a new set of signals for the caller
 own-signals : (ps : Numbered Process) (used : List ℕ) (pid : ℕ) (a : Alive) (s : Signals) → People IsStrong ps used → get ps pid ≡ Some (Living a)
-    → IsSound s → (s.doom ≡ None → a.row.signals.doom ≡ None)
+    → AreSoundSignals s → (s.doom ≡ None → a.row.signals.doom ≡ None)
     → People (Weak pid) (put ps pid (Living (record a { row = record { signals = s; family = a.row.family } }))) used
 own-signals ps used pid a s h l sound stays =
     change ps used pid h pid a (record a { row = record { signals = s; family = a.row.family } }) l refl (weak-own pid a s (h.body.each pid a l) sound stays)
@@ -198,7 +198,7 @@ people-moves k pid a n h l =
           own-signals ps used pid target (raise target.row.signals g) h t (sound-raise target.row.signals g (h.body.each pid target t).sound)
           (raise-stays target.row.signals g);
       raises_other = λ other target g t.
-          change ps used pid h other target (raised_at target g) t refl (weak pid other (raised_at target g) (strong-raised target g (h.body.each other target t)));
+          change ps used pid h other target (raise_by_other target g) t refl (weak pid other (raise_by_other target g) (strong-raised target g (h.body.each other target t)));
       reaps = λ which child ending e. reaped ps used pid a child ending h l (found-contained a.row.family which child ending e);
       makes_queue = λ f. w;
       binds_queue = λ key f. w;
@@ -254,7 +254,7 @@ finish-doom k pid a h l false d =
     let s = strong-undoomed pid pid a (h.body.each pid a l) d
     in subst Strong (same-alive a x (at-once (get k.processes pid) (Living a) (Living x) l e)) s)
 
-finish : (k : Kernel) (pid : ℕ) → Midway pid k → (found : Option Alive) → living_at k pid ≡ found → Settled (finished k pid found)
+finish : (k : Kernel) (pid : ℕ) → Midway pid k → (found : Option Alive) → living_at k pid ≡ found → Settled (finish_call k pid found)
 finish k pid h None e = strengthen k.processes k.used_processes pid h (λ x l. absurd (not-living k.processes pid x e l))
 finish k pid h (Some a) e = finish-doom k pid a h (from-living k.processes pid a e) (is_some a.row.signals.doom) refl
 

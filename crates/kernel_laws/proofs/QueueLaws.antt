@@ -8,11 +8,11 @@ use Rattle.std.proofs.lemmas.List.Edits.{length-remove}
 use Rattle.std.proofs.lemmas.Option.{slice_get_within}
 use lib.Signed.{le_z_yes}
 use lib.Dec.{T}
-use Rattle.kernel_model.specs.Maps.{get, put}
+use Rattle.number_maps.specs.Maps.{get, put}
 use Rattle.kernel_model.specs.Kernel.{Kernel, opening}
 use Rattle.kernel_model.specs.Row.{Alive}
-use Rattle.kernel_model.specs.Queue.{receive, Queue, Message, Received, bytes_in, bytes_of, empty_queue, has_room, is_sendable, send, select, taken, receive_from, receive_at, set_qbytes}
-use Rattle.kernel_laws.specs.Queues.{IsMessage, IsWithinLimits, QueuesAreWithinLimits}
+use Rattle.kernel_model.specs.Queue.{receive, Queue, Message, Received, bytes_in, bytes_of, empty_queue, has_room, is_sendable, send, select, take_message, receive_from, receive_at, set_qbytes}
+use Rattle.kernel_laws.specs.Queues.{IsMessage, IsQueueWithinLimits, QueuesAreWithinLimits}
 use Rattle.kernel_laws.proofs.Plain.{from_ok, not_ok}
 use Rattle.kernel_laws.proofs.Tables.{Table, table-empty, table-change, table-make, table-bind, table-remove, fresh-unused}
 use Rattle.kernel_laws.proofs.Moves.{Moves}
@@ -31,11 +31,11 @@ one-test : {A E : Type 0} (s : Bool) (x y : A) (e : E) → (if s then Ok x else 
 one-test true x y e h = (refl, from_ok x y h)
 one-test false x y e h = not_ok e y h
 
-within-empty : IsWithinLimits empty_queue
+within-empty : IsQueueWithinLimits empty_queue
 within-empty = record { limit = omega arith; bytes = omega arith; count = omega arith; messages = All-nil IsMessage }
 
-within-pushed : (q : Queue) (pid : ℕ) (m : Message) → IsWithinLimits q → IsMessage m → bytes_in q + length m.text ≤ 16384 → length q.messages < 1024
-    → IsWithinLimits (record q { messages = q.messages ++ m ∷ []; last_sender = pid })
+within-pushed : (q : Queue) (pid : ℕ) (m : Message) → IsQueueWithinLimits q → IsMessage m → bytes_in q + length m.text ≤ 16384 → length q.messages < 1024
+    → IsQueueWithinLimits (record q { messages = q.messages ++ m ∷ []; last_sender = pid })
 within-pushed q pid m w h bytes count =
     let e : bytes_of (q.messages ++ m ∷ []) ≡ bytes_of q.messages + length m.text = sum_by_push (λ (x : Message). length x.text) q.messages m
     in let l : length (q.messages ++ m ∷ []) ≡ length q.messages + length (m ∷ []) = length-append q.messages (m ∷ [])
@@ -46,7 +46,7 @@ within-pushed q pid m w h bytes count =
       messages = All-push IsMessage q.messages m w.messages h;
     }
 
-within-sent : (q : Queue) (pid : ℕ) (class : ℤ) (text : List ℕ) (next : Queue) → IsWithinLimits q → send q pid class text ≡ Ok next → IsWithinLimits next
+within-sent : (q : Queue) (pid : ℕ) (class : ℤ) (text : List ℕ) (next : Queue) → IsQueueWithinLimits q → send q pid class text ≡ Ok next → IsQueueWithinLimits next
 within-sent q pid class text next w h =
     let m : Message = record { class = class; text = text }
     in let t = both-tests (is_sendable class text) (has_room q text) (record q { messages = q.messages ++ m ∷ []; last_sender = pid }) next _ _ h
@@ -56,10 +56,10 @@ within-sent q pid class text next w h =
     in let few : length q.messages < 1024 = ltb-true (length q.messages) 1024 room.1
     in let below = w.limit
     in let good : IsMessage m = record { class = in_order (pos 1) class sendable.0; text = leb-true (length text) 4096 sendable.1 }
-    in subst IsWithinLimits t.2 (within-pushed q pid m w good (omega arith) few)
+    in subst IsQueueWithinLimits t.2 (within-pushed q pid m w good (omega arith) few)
 
-within-removed : (q : Queue) (pid place : ℕ) (m : Message) → IsWithinLimits q → slice_get q.messages place ≡ Some m
-    → IsWithinLimits (record q { messages = remove q.messages place; last_receiver = pid })
+within-removed : (q : Queue) (pid place : ℕ) (m : Message) → IsQueueWithinLimits q → slice_get q.messages place ≡ Some m
+    → IsQueueWithinLimits (record q { messages = remove q.messages place; last_receiver = pid })
 within-removed q pid place m w h =
     let l : place < length q.messages = slice_get_within q.messages place m h
     in let e = sum_by-remove (λ (x : Message). length x.text) q.messages place m l
@@ -74,22 +74,22 @@ within-removed q pid place m w h =
           All-append IsMessage (take place q.messages) (drop (suc place) q.messages) (All-take IsMessage place q.messages w.messages) (All-drop IsMessage (suc place) q.messages w.messages);
     }
 
-within-taken : (q : Queue) (pid size : ℕ) (noerror : Bool) (place : ℕ) (o : Option Message) (r : Received) → IsWithinLimits q → slice_get q.messages place ≡ o
-    → receive_at q pid size noerror place o ≡ Ok r → IsWithinLimits r.queue
+within-taken : (q : Queue) (pid size : ℕ) (noerror : Bool) (place : ℕ) (o : Option Message) (r : Received) → IsQueueWithinLimits q → slice_get q.messages place ≡ o
+    → receive_at q pid size noerror place o ≡ Ok r → IsQueueWithinLimits r.queue
 within-taken q pid size noerror place None r w l h = not_ok _ r h
 within-taken q pid size noerror place (Some m) r w l h =
-    let t = one-test (nat_le (length m.text) size || noerror) (taken q pid size place m) r _ h
-    in subst IsWithinLimits (ap (λ (x : Received). x.queue) t.1) (within-removed q pid place m w l)
+    let t = one-test (nat_le (length m.text) size || noerror) (take_message q pid size place m) r _ h
+    in subst IsQueueWithinLimits (ap (λ (x : Received). x.queue) t.1) (within-removed q pid place m w l)
 
-within-placed : (q : Queue) (pid size : ℕ) (noerror : Bool) (o : Option ℕ) (r : Received) → IsWithinLimits q
-    → receive_from q pid size noerror o ≡ Ok r → IsWithinLimits r.queue
+within-placed : (q : Queue) (pid size : ℕ) (noerror : Bool) (o : Option ℕ) (r : Received) → IsQueueWithinLimits q
+    → receive_from q pid size noerror o ≡ Ok r → IsQueueWithinLimits r.queue
 within-placed q pid size noerror None r w h = not_ok _ r h
 within-placed q pid size noerror (Some place) r w h = within-taken q pid size noerror place (slice_get q.messages place) r w refl h
 
-within-limited : (q : Queue) (qbytes : ℕ) (next : Queue) → IsWithinLimits q → set_qbytes q qbytes ≡ Ok next → IsWithinLimits next
+within-limited : (q : Queue) (qbytes : ℕ) (next : Queue) → IsQueueWithinLimits q → set_qbytes q qbytes ≡ Ok next → IsQueueWithinLimits next
 within-limited q qbytes next w h =
     let t = one-test (nat_le qbytes 16384) (record q { qbytes = qbytes }) next _ h
-    in subst IsWithinLimits t.1
+    in subst IsQueueWithinLimits t.1
     (record { limit = leb-true qbytes 16384 t.0; bytes = w.bytes; count = w.count; messages = w.messages })
 
 -- the table of queues, with what each call keeps of a queue
@@ -129,7 +129,7 @@ queues-moves P rule k pid a n t =
       removes_set = λ id. t;
     }
 
-within-rule : QueueRule IsWithinLimits
+within-rule : QueueRule IsQueueWithinLimits
 within-rule =
     record {
       new = within-empty;
@@ -139,14 +139,14 @@ within-rule =
     }
 
 abbrev pub Queues : Kernel → Type 0
-Queues k = QueueTable IsWithinLimits k
+Queues k = QueueTable IsQueueWithinLimits k
 
 pub queues-opening : Queues opening
-queues-opening = table-empty IsWithinLimits
+queues-opening = table-empty IsQueueWithinLimits
 
 pub queues-kept : Kept Queues
 queues-kept =
-    record { moves = λ k pid call n next outcome s t. queues-moves IsWithinLimits within-rule k pid s.alive n t; finishes = λ pid k a t l d. t }
+    record { moves = λ k pid call n next outcome s t. queues-moves IsQueueWithinLimits within-rule k pid s.alive n t; finishes = λ pid k a t l d. t }
 
 pub queues_are_within_limits_lemma : QueuesAreWithinLimits
 queues_are_within_limits_lemma k r id q l = (kept-along Queues queues-kept r.0 opening k r.1 queues-opening).each id q l

@@ -9,8 +9,8 @@ use Rattle.std.proofs.lemmas.Option.{slice_get_within, get_or_from_slice_get}
 use Rattle.pico_base.specs.declared.call.SemStep.{SemStep}
 use Rattle.pico_base.specs.declared.reply.Errno.{Errno}
 use Rattle.pico_base.specs.declared.reply.Errno.TheVariants.{Einval, Eagain, E2big, Efbig, Erange}
-use Rattle.kernel_model.specs.Maps.{get, put}
-use Rattle.kernel_model.specs.SemaphoreSet.{new_set, set_value, set_all, Semaphore, new_semaphore, is_bad_count, values_of, Moved, To, Waits, TooHigh, moved_by, moved_at, Tried, Done, StopsAt, OutOfRange, go_on, try_from, try_ops, with_values, with_last, marked_at, marked, tried_op, op, set_value_at}
+use Rattle.number_maps.specs.Maps.{get, put}
+use Rattle.kernel_model.specs.SemaphoreSet.{new_set, set_value, set_all, Semaphore, new_semaphore, is_bad_count, values_of, Moved, To, Waits, TooHigh, move_by, move_at, Tried, Done, StopsAt, OutOfRange, go_on, try_from, try_ops, with_values, with_last, mark_at, mark, op_after_trial, op, set_value_at}
 use Rattle.kernel_model.specs.Kernel.{Kernel, opening}
 use Rattle.kernel_model.specs.Row.{Alive}
 use Rattle.kernel_laws.specs.Sets.{IsSetWithinLimits, SetsAreWithinLimits}
@@ -107,19 +107,19 @@ moved-test : (low : Bool) (next value : ℕ) (otherwise : Moved) → (IsTo other
 moved-test true next value otherwise apart h e = let is : next ≡ value = cc in subst IsLow is (h refl)
 moved-test false next value otherwise apart h e = absurd (apart (subst IsTo (sym e) tt))
 
-moved-low : (add : ℤ) (old value : ℕ) → IsLow old → moved_by add old ≡ To value → IsLow value
+moved-low : (add : ℤ) (old value : ℕ) → IsLow old → move_by add old ≡ To value → IsLow value
 moved-low (pos zero) old value low h = moved-test (nat_eq old 0) 0 value Waits (λ x. x) (λ t. omega arith) h
 moved-low (pos (suc n)) old value low h =
     moved-test (nat_le (old + suc n) 32767) (old + suc n) value TooHigh (λ x. x) (λ t. leb-true (old + suc n) 32767 t) h
 moved-low (negsuc n) old value low h = moved-test (nat_le (suc n) old) (old - suc n) value Waits (λ x. x) (λ t. omega arith) h
 
-moved-at : (values : List ℕ) (add : ℤ) (num : ℕ) (o : Option ℕ) (value : ℕ) → All IsLow values → slice_get values num ≡ o → moved_at add o ≡ To value → IsLow value
+moved-at : (values : List ℕ) (add : ℤ) (num : ℕ) (o : Option ℕ) (value : ℕ) → All IsLow values → slice_get values num ≡ o → move_at add o ≡ To value → IsLow value
 moved-at values add num None value h e g = absurd (subst IsTo (sym g) tt)
 moved-at values add num (Some old) value h e g = moved-low add old value (all-at IsLow values num old h e) g
 
 tried-on : (index : ℕ) (values : List ℕ) (step : SemStep) (steps : List SemStep) (out : List ℕ) → All IsLow values
     → ((next : List ℕ) → All IsLow next → try_from (index + 1) next steps ≡ Done out → All IsLow out)
-    → (m : Moved) → moved_at step.add (slice_get values step.num) ≡ m
+    → (m : Moved) → move_at step.add (slice_get values step.num) ≡ m
     → go_on index values step.num m (λ next. try_from (index + 1) next steps) ≡ Done out → All IsLow out
 tried-on index values step steps out h rest (To value) e g =
     rest (slice_set values step.num value)
@@ -130,30 +130,30 @@ tried-on index values step steps out h rest TooHigh e g = cc
 tried-low : (index : ℕ) (values : List ℕ) (steps : List SemStep) (out : List ℕ) → All IsLow values → try_from index values steps ≡ Done out → All IsLow out
 tried-low index values [] out h g = let is : values ≡ out = cc in subst (λ (xs : List ℕ). All IsLow xs) is h
 tried-low index values (step ∷ steps) out h g =
-    tried-on index values step steps out h (λ next low e. tried-low (index + 1) next steps out low e) (moved_at step.add (slice_get values step.num)) refl g
+    tried-on index values step steps out h (λ next low e. tried-low (index + 1) next steps out low e) (move_at step.add (slice_get values step.num)) refl g
 
 -- the named semaphores' last processes
-marked-at-within : (set : List Semaphore) (pid num : ℕ) (o : Option Semaphore) → IsSetWithinLimits set → slice_get set num ≡ o → IsSetWithinLimits (marked_at set pid num o)
+marked-at-within : (set : List Semaphore) (pid num : ℕ) (o : Option Semaphore) → IsSetWithinLimits set → slice_get set num ≡ o → IsSetWithinLimits (mark_at set pid num o)
 marked-at-within set pid num None w e = w
 marked-at-within set pid num (Some s) w e = changed-within set num (with_last s pid) w (all-at IsLowAt set num s w.values e)
 
-marked-within : (pid : ℕ) (steps : List SemStep) (set : List Semaphore) → IsSetWithinLimits set → IsSetWithinLimits (fold (marked pid) set steps)
+marked-within : (pid : ℕ) (steps : List SemStep) (set : List Semaphore) → IsSetWithinLimits set → IsSetWithinLimits (fold (mark pid) set steps)
 marked-within pid [] set w = w
 marked-within pid (step ∷ steps) set w =
-    marked-within pid steps (marked pid set step) (marked-at-within set pid step.num (slice_get set step.num) w refl)
+    marked-within pid steps (mark pid set step) (marked-at-within set pid step.num (slice_get set step.num) w refl)
 
 operated-tried : (set : List Semaphore) (pid : ℕ) (steps : List SemStep) (t : Tried) (next : List Semaphore) → IsSetWithinLimits set
-    → try_ops (values_of set) steps ≡ t → tried_op set pid steps t ≡ Ok next → IsSetWithinLimits next
+    → try_ops (values_of set) steps ≡ t → op_after_trial set pid steps t ≡ Ok next → IsSetWithinLimits next
 operated-tried set pid steps (Done values) next w e h =
     let low = tried-low 0 (values_of set) steps values (All-map IsLow (λ (s : Semaphore). s.value) set w.values) e
-    in subst IsSetWithinLimits (from_ok (fold (marked pid) (with_values set values) steps) next h)
+    in subst IsSetWithinLimits (from_ok (fold (mark pid) (with_values set values) steps) next h)
     (marked-within pid steps (with_values set values) (values-within set values w low))
 operated-tried set pid steps (StopsAt index) next w e h = not_ok Eagain next h
 operated-tried set pid steps OutOfRange next w e h = not_ok Erange next h
 
 operated-test : (set : List Semaphore) (pid : ℕ) (steps : List SemStep) (next : List Semaphore) → IsSetWithinLimits set → (many outside : Bool)
     → (let r : Result (List Semaphore) Errno = Ok next
-    in (if many then Err E2big else if outside then Err Efbig else tried_op set pid steps (try_ops (values_of set) steps)) ≡ r) → IsSetWithinLimits next
+    in (if many then Err E2big else if outside then Err Efbig else op_after_trial set pid steps (try_ops (values_of set) steps)) ≡ r) → IsSetWithinLimits next
 operated-test set pid steps next w true outside h = not_ok E2big next h
 operated-test set pid steps next w false true h = not_ok Efbig next h
 operated-test set pid steps next w false false h = operated-tried set pid steps (try_ops (values_of set) steps) next w refl h

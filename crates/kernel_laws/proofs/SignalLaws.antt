@@ -8,12 +8,12 @@ use Rattle.pico_base.specs.declared.signal.Sig.TheVariants.{Hup, Int, Quit, Kill
 use Rattle.pico_base.specs.declared.signal.Act.{Act}
 use Rattle.pico_base.specs.declared.signal.Act.TheVariants.{Dfl, Ign, Catch}
 use Rattle.pico_base.specs.declared.signal.How.{How}
-use Rattle.pico_base.specs.Signal.{at, put, everywhere}
-use Rattle.kernel_model.specs.Signals.{Signals, IsSound, new_signals, inherited, all_signals, is_kill, discards, doomed_by, arrive_by, arrive, raise, with_action, new_mask, deliver, with_mask, number_of}
+use Rattle.pico_base.specs.Signal.{at, put_at, everywhere, all_signals, signal_number}
+use Rattle.kernel_model.specs.Signals.{Signals, AreSoundSignals, new_signals, inherit, is_kill, discards, doom_by, arrive_by, arrive, raise, with_action, new_mask, deliver, with_mask}
 use Rattle.kernel_laws.proofs.Plain.{by_test, not_true}
 
 -- the value of a signal after another is put: the new one there, and the old one elsewhere
-at-put-same : {A : Type 0} (m : PerSignal A) (g : Sig) (x : A) → at (put m g x) g ≡ x
+at-put-same : {A : Type 0} (m : PerSignal A) (g : Sig) (x : A) → at (put_at m g x) g ≡ x
 at-put-same m Hup x = refl
 at-put-same m Int x = refl
 at-put-same m Quit x = refl
@@ -27,9 +27,9 @@ at-put-same m Chld x = refl
 
 -- another signal: no value that is put here changes what stands there
 abbrev Apart : Sig → Sig → Type 0
-Apart g h = nat_eq (number_of g) (number_of h) ≡ false
+Apart g h = nat_eq (signal_number g) (signal_number h) ≡ false
 
-at-put-other : {A : Type 0} (m : PerSignal A) (g h : Sig) (x : A) → Apart g h → at (put m g x) h ≡ at m h
+at-put-other : {A : Type 0} (m : PerSignal A) (g h : Sig) (x : A) → Apart g h → at (put_at m g x) h ≡ at m h
 at-put-other m Hup Hup x d = not_true (sym d)
 at-put-other m Hup h x d = refl
 at-put-other m Int Int x d = not_true (sym d)
@@ -103,70 +103,70 @@ record Sound (actions : PerSignal Act) (mask pending : PerSignal Bool) : Type 0 
   unmasked : mask.kill ≡ false
   kill_default : actions.kill ≡ Dfl
 
-parts : (s : Signals) → IsSound s → Sound s.actions s.mask s.pending
+parts : (s : Signals) → AreSoundSignals s → Sound s.actions s.mask s.pending
 parts s h = record { kept = h.kept; unmasked = h.unmasked; kill_default = h.kill_default }
 
-whole : (s : Signals) → Sound s.actions s.mask s.pending → IsSound s
+whole : (s : Signals) → Sound s.actions s.mask s.pending → AreSoundSignals s
 whole s h = record { kept = h.kept; unmasked = h.unmasked; kill_default = h.kill_default }
 
-pub sound-new : IsSound new_signals
+pub sound-new : AreSoundSignals new_signals
 sound-new = record { kept = λ g h. not_true (sym (nothing g) ∙ h); unmasked = refl; kill_default = refl }
 
-pub sound-inherited : (s : Signals) → IsSound s → IsSound (inherited s)
+pub sound-inherited : (s : Signals) → AreSoundSignals s → AreSoundSignals (inherit s)
 sound-inherited s h = record { kept = λ g p. not_true (sym (nothing g) ∙ p); unmasked = h.unmasked; kill_default = h.kill_default }
 
-sound-doomed : (s : Signals) (g : Sig) → IsSound s → IsSound (doomed_by s g)
+sound-doomed : (s : Signals) (g : Sig) → AreSoundSignals s → AreSoundSignals (doom_by s g)
 sound-doomed s g h = record { kept = h.kept; unmasked = h.unmasked; kill_default = h.kill_default }
 
-sound-arrive_by : (act : Act) (s : Signals) (g : Sig) → IsSound s → IsSound (arrive_by act s g)
+sound-arrive_by : (act : Act) (s : Signals) (g : Sig) → AreSoundSignals s → AreSoundSignals (arrive_by act s g)
 sound-arrive_by Catch s g h = record { kept = h.kept; unmasked = h.unmasked; kill_default = h.kill_default }
 sound-arrive_by Dfl s g h = sound-doomed s g h
 sound-arrive_by Ign s g h = sound-doomed s g h
 
-sound-arrive : (s : Signals) (g : Sig) → IsSound s → IsSound (arrive s g)
+sound-arrive : (s : Signals) (g : Sig) → AreSoundSignals s → AreSoundSignals (arrive s g)
 sound-arrive s g h = sound-arrive_by (at s.actions g) s g h
 
 kept-pended : (actions : PerSignal Act) (pending : PerSignal Bool) (g : Sig) → discards (at actions g) g ≡ false
     → ((h : Sig) → at pending h ≡ true → discards (at actions h) h ≡ false)
-    → (h : Sig) → at (put pending g true) h ≡ true → discards (at actions h) h ≡ false
+    → (h : Sig) → at (put_at pending g true) h ≡ true → discards (at actions h) h ≡ false
 kept-pended actions pending g d k h p =
     elim (same-or-apart g h) [
       | inl same ↦ subst (λ (x : Sig). discards (at actions x) x ≡ false) same d
       | inr apart ↦ k h (sym (at-put-other pending g h true apart) ∙ p)
     ]
 
-sound-pended : (s : Signals) (g : Sig) → IsSound s → discards (at s.actions g) g ≡ false → IsSound (record s { pending = put s.pending g true })
+sound-pended : (s : Signals) (g : Sig) → AreSoundSignals s → discards (at s.actions g) g ≡ false → AreSoundSignals (record s { pending = put_at s.pending g true })
 sound-pended s g h d =
     record { kept = kept-pended s.actions s.pending g d h.kept; unmasked = h.unmasked; kill_default = h.kill_default }
 
-pub sound-raise : (s : Signals) (g : Sig) → IsSound s → IsSound (raise s g)
+pub sound-raise : (s : Signals) (g : Sig) → AreSoundSignals s → AreSoundSignals (raise s g)
 sound-raise s g h =
-    by_test IsSound (is_some s.doom) s
-    (if is_kill g then doomed_by s g else if discards (at s.actions g) g then s else if at s.mask g then record s { pending = put s.pending g true } else arrive s g)
+    by_test AreSoundSignals (is_some s.doom) s
+    (if is_kill g then doom_by s g else if discards (at s.actions g) g then s else if at s.mask g then record s { pending = put_at s.pending g true } else arrive s g)
     (λ _. h)
-    (λ _. by_test IsSound (is_kill g) (doomed_by s g)
-    (if discards (at s.actions g) g then s else if at s.mask g then record s { pending = put s.pending g true } else arrive s g)
+    (λ _. by_test AreSoundSignals (is_kill g) (doom_by s g)
+    (if discards (at s.actions g) g then s else if at s.mask g then record s { pending = put_at s.pending g true } else arrive s g)
     (λ _. sound-doomed s g h)
-    (λ _. by_test IsSound (discards (at s.actions g) g) s (if at s.mask g then record s { pending = put s.pending g true } else arrive s g) (λ _. h)
-    (λ d. by_test IsSound (at s.mask g) (record s { pending = put s.pending g true }) (arrive s g) (λ _. sound-pended s g h d) (λ _. sound-arrive s g h))))
+    (λ _. by_test AreSoundSignals (discards (at s.actions g) g) s (if at s.mask g then record s { pending = put_at s.pending g true } else arrive s g) (λ _. h)
+    (λ d. by_test AreSoundSignals (at s.mask g) (record s { pending = put_at s.pending g true }) (arrive s g) (λ _. sound-pended s g h d) (λ _. sound-arrive s g h))))
 
 kept-acted : (actions : PerSignal Act) (pending : PerSignal Bool) (g : Sig) (act : Act)
     → ((h : Sig) → at pending h ≡ true → discards (at actions h) h ≡ false)
-    → (h : Sig) → at (put pending g (at pending g && not (discards act g))) h ≡ true → discards (at (put actions g act) h) h ≡ false
+    → (h : Sig) → at (put_at pending g (at pending g && not (discards act g))) h ≡ true → discards (at (put_at actions g act) h) h ≡ false
 kept-acted actions pending g act k h p =
     elim (same-or-apart g h) [
       | inl same ↦
-          let P : Sig → Type 0 = λ x. at (put pending g (at pending g && not (discards act g))) x ≡ true
+          let P : Sig → Type 0 = λ x. at (put_at pending g (at pending g && not (discards act g))) x ≡ true
           in let own = subst P (sym same) p
           in let both = and_parts (at pending g) (not (discards act g)) (sym (at-put-same pending g (at pending g && not (discards act g))) ∙ own)
-          in let Q : Sig → Type 0 = λ x. discards (at (put actions g act) x) x ≡ false
+          in let Q : Sig → Type 0 = λ x. discards (at (put_at actions g act) x) x ≡ false
           in subst Q same (ap (λ (x : Act). discards x g) (at-put-same actions g act) ∙ not-true (discards act g) both.1)
       | inr apart ↦
           ap (λ (x : Act). discards x h) (at-put-other actions g h act apart)
           ∙ k h (sym (at-put-other pending g h (at pending g && not (discards act g)) apart) ∙ p)
     ]
 
-pub sound-action : (s : Signals) (g : Sig) (act : Act) → is_kill g ≡ false → IsSound s → IsSound (with_action s g act)
+pub sound-action : (s : Signals) (g : Sig) (act : Act) → is_kill g ≡ false → AreSoundSignals s → AreSoundSignals (with_action s g act)
 sound-action s g act n h =
     record {
       kept = kept-acted s.actions s.pending g act h.kept;
@@ -176,32 +176,32 @@ sound-action s g act n h =
 
 kept-taken : (actions : PerSignal Act) (pending : PerSignal Bool) (g : Sig)
     → ((h : Sig) → at pending h ≡ true → discards (at actions h) h ≡ false)
-    → (h : Sig) → at (put pending g false) h ≡ true → discards (at actions h) h ≡ false
+    → (h : Sig) → at (put_at pending g false) h ≡ true → discards (at actions h) h ≡ false
 kept-taken actions pending g k h p =
     elim (same-or-apart g h) [
       | inl same ↦
-          let P : Sig → Type 0 = λ x. at (put pending g false) x ≡ true
+          let P : Sig → Type 0 = λ x. at (put_at pending g false) x ≡ true
           in not_true (sym (at-put-same pending g false) ∙ subst P (sym same) p)
       | inr apart ↦ k h (sym (at-put-other pending g h false apart) ∙ p)
     ]
 
-sound-taken : (s : Signals) (g : Sig) → IsSound s → IsSound (record s { pending = put s.pending g false })
+sound-taken : (s : Signals) (g : Sig) → AreSoundSignals s → AreSoundSignals (record s { pending = put_at s.pending g false })
 sound-taken s g h = record { kept = kept-taken s.actions s.pending g h.kept; unmasked = h.unmasked; kill_default = h.kill_default }
 
-sound-deliver : (s : Signals) (g : Sig) → IsSound s → IsSound (deliver s g)
+sound-deliver : (s : Signals) (g : Sig) → AreSoundSignals s → AreSoundSignals (deliver s g)
 sound-deliver s g h =
-    by_test IsSound (not (is_some s.doom) && (at s.pending g && not (at s.mask g))) (arrive (record s { pending = put s.pending g false }) g) s
-    (λ _. sound-arrive (record s { pending = put s.pending g false }) g (sound-taken s g h))
+    by_test AreSoundSignals (not (is_some s.doom) && (at s.pending g && not (at s.mask g))) (arrive (record s { pending = put_at s.pending g false }) g) s
+    (λ _. sound-arrive (record s { pending = put_at s.pending g false }) g (sound-taken s g h))
     (λ _. h)
 
-sound-delivered : (gs : List Sig) (s : Signals) → IsSound s → IsSound (fold deliver s gs)
+sound-delivered : (gs : List Sig) (s : Signals) → AreSoundSignals s → AreSoundSignals (fold deliver s gs)
 sound-delivered [] s h = h
 sound-delivered (g ∷ gs) s h = sound-delivered gs (deliver s g) (sound-deliver s g h)
 
-sound-masked : (s : Signals) (how : How) (set : PerSignal Bool) → IsSound s → IsSound (record s { mask = new_mask how s.mask set })
+sound-masked : (s : Signals) (how : How) (set : PerSignal Bool) → AreSoundSignals s → AreSoundSignals (record s { mask = new_mask how s.mask set })
 sound-masked s how set h = record { kept = h.kept; unmasked = refl; kill_default = h.kill_default }
 
-pub sound-mask : (s : Signals) (how : How) (set : PerSignal Bool) → IsSound s → IsSound (with_mask s how set)
+pub sound-mask : (s : Signals) (how : How) (set : PerSignal Bool) → AreSoundSignals s → AreSoundSignals (with_mask s how set)
 sound-mask s how set h = sound-delivered all_signals (record s { mask = new_mask how s.mask set }) (sound-masked s how set h)
 
 -- a doom stays
@@ -218,12 +218,12 @@ doom-is o h = ap is_some h
 pub raise-stays : (s : Signals) (g : Sig) → Stays s (raise s g)
 raise-stays s g =
     by_test (Stays s) (is_some s.doom) s
-    (if is_kill g then doomed_by s g else if discards (at s.actions g) g then s else if at s.mask g then record s { pending = put s.pending g true } else arrive s g)
+    (if is_kill g then doom_by s g else if discards (at s.actions g) g then s else if at s.mask g then record s { pending = put_at s.pending g true } else arrive s g)
     (λ t h. h) (λ f h. no-doom s.doom f)
 
 deliver-stays : (s : Signals) (g : Sig) → Stays s (deliver s g)
 deliver-stays s g =
-    by_test (Stays s) (not (is_some s.doom) && (at s.pending g && not (at s.mask g))) (arrive (record s { pending = put s.pending g false }) g) s
+    by_test (Stays s) (not (is_some s.doom) && (at s.pending g && not (at s.mask g))) (arrive (record s { pending = put_at s.pending g false }) g) s
     (λ t h. no-doom s.doom (not-true (is_some s.doom) (and_parts (not (is_some s.doom)) (at s.pending g && not (at s.mask g)) t).0))
     (λ f h. h)
 

@@ -7,14 +7,14 @@ use Rattle.kernel_laws.proofs.Plain.{from_some, not_some}
 use Rattle.kernel_model.specs.Row.{Alive}
 use Rattle.kernel_model.specs.Kernel.{Kernel, living_at}
 use Rattle.kernel_model.specs.Effect.{Effect}
-use Rattle.kernel_model.specs.Transition.{effect, may_make, finished, outcome_of, transition_by, transition}
+use Rattle.kernel_model.specs.Transition.{effect, may_make, finish_call, outcome_of, transition_by, transition}
 
 pub record Step (k : Kernel) (pid : ℕ) (call : Call) (n : ℕ) (next : Kernel) (outcome : Outcome) : Type 0 where
   pub alive : Alive
   pub result : Effect
   pub lives : living_at k pid ≡ Some alive
   pub gives : effect k pid alive call n ≡ Some result
-  pub leads : finished result.kernel pid (living_at result.kernel pid) ≡ next
+  pub leads : finish_call result.kernel pid (living_at result.kernel pid) ≡ next
   pub says : Some result.reply ≡ outcome.own
 
 from_pair : {A B : Type 0} (p q : A × B) → Some p ≡ Some q → (p.0 ≡ q.0) × (p.1 ≡ q.1)
@@ -24,7 +24,7 @@ from_effect : (k : Kernel) (pid : ℕ) (call : Call) (n : ℕ) (next : Kernel) (
     → (e : Option Effect) → effect k pid a call n ≡ e → outcome_of pid e ≡ Some (next, outcome) → Step k pid call n next outcome
 from_effect k pid call n next outcome a l None g h = not_some (next, outcome) h
 from_effect k pid call n next outcome a l (Some e) g h =
-    let both = from_pair {A = Kernel} {B = Outcome} (finished e.kernel pid (living_at e.kernel pid), record { own = Some e.reply; woken = [] }) (next, outcome) h
+    let both = from_pair {A = Kernel} {B = Outcome} (finish_call e.kernel pid (living_at e.kernel pid), record { own = Some e.reply; woken = [] }) (next, outcome) h
     in record {
       alive = a;
       result = e;

@@ -2,9 +2,9 @@
 use Rattle.std.proofs.Common.{◌≡◌, ◌≢◌, ℕ, true, false, not, List, [], Some, ap, sym, subst, ◌∙◌, inl, inr}
 use Rattle.std.specs.Prelude.{is_some, nat_lt}
 use Rattle.std.proofs.lemmas.Bool.{cases_eq, and_parts, not-true}
-use Rattle.kernel_model.specs.Maps.{Numbered, get, put, without, is_used, used_with}
+use Rattle.number_maps.specs.Maps.{Numbered, get, put, without, is_used, used_with}
 use Rattle.kernel_model.specs.Effect.{is_fresh}
-use Rattle.kernel_model.specs.QueueCalls.{unbound}
+use Rattle.kernel_model.specs.QueueCalls.{unbind}
 use Rattle.kernel_model.specs.Valid.{AreKeys}
 use Rattle.kernel_laws.proofs.Plain.{from_some, not_some, not_true}
 use Rattle.kernel_laws.proofs.MapLaws.{get-put-same, get-put-other, get-without-same, get-without-other, used-with-same, used-stays, Rising, rising-put, rising-filter, get-unbound, ordered}
@@ -159,7 +159,7 @@ there-left m id n h =
 
 -- a thing is gone, with the keys that led to it
 pub table-remove : {V : Type 0} (P : V → Type 0) (things : Numbered V) (keys : Numbered ℕ) (used : List ℕ) → Table P things keys used → (id : ℕ)
-    → Table P (without things id) (unbound keys id) used
+    → Table P (without things id) (unbind keys id) used
 table-remove P things keys used t id =
     record {
       things_rise = rising-filter _ things t.things_rise;

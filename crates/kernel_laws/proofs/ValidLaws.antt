@@ -3,26 +3,26 @@ use Rattle.std.proofs.Common.{List, ◌≡◌, ℕ, true, [], ◌∷◌, Option,
 use Rattle.std.specs.Prelude.{is_some, Contains}
 use Rattle.std.proofs.lemmas.Bool.{cases_eq, false_from_ne_true}
 use Rattle.pico_base.specs.declared.reply.Ending.{Ending}
-use Rattle.kernel_model.specs.Maps.{Numbered, get, is_used}
+use Rattle.number_maps.specs.Maps.{Numbered, get, is_used}
 use Rattle.kernel_model.specs.Row.{Alive, Free, new_row, lists}
 use Rattle.kernel_model.specs.Kernel.{Kernel, Process, Living, Ended, Parent, parent_in, living_at, opening}
-use Rattle.kernel_model.specs.Valid.{IsAlive, IsValid}
+use Rattle.kernel_model.specs.Valid.{IsValidProcess, IsValid}
 use Rattle.kernel_model.specs.Queue.{Queue}
 use Rattle.kernel_model.specs.SemaphoreSet.{Semaphore}
-use Rattle.kernel_laws.specs.Reachable.{IsReachable}
+use Rattle.kernel_laws.specs.Reachable.{IsReachableKernel}
 use Rattle.kernel_laws.specs.Processes.{ReachableKernelsAreValid, SignalsAreSound, ChildrenHaveOneParent}
 use Rattle.kernel_laws.proofs.Plain.{from_some, not_some, not_true}
 use Rattle.kernel_laws.proofs.MapLaws.{get-first, get-later, used-first, used-later, ordered}
 use Rattle.kernel_laws.proofs.Members.{contains-none}
 use Rattle.kernel_laws.proofs.SignalLaws.{sound-new}
-use Rattle.kernel_laws.proofs.Families.{Lists, Keeps, Families, living-ended, same-alive, at-once}
+use Rattle.kernel_laws.proofs.Families.{Lists, KeepsEnded, Families, living-ended, same-alive, at-once}
 use Rattle.kernel_laws.proofs.EndChanges.{parent-is, orphan}
 use Rattle.kernel_laws.proofs.Living.{Strong}
 use Rattle.kernel_laws.proofs.People.{People, from-living, to-living}
 use Rattle.kernel_laws.proofs.ProcessLaws.{IsStrong, Settled, Midway, people-kept}
 use Rattle.kernel_laws.proofs.Histories.{kept-along, kept-by-along}
 use Rattle.kernel_laws.proofs.Tables.{table-keys}
-use Rattle.kernel_laws.specs.Queues.{IsWithinLimits}
+use Rattle.kernel_laws.specs.Queues.{IsQueueWithinLimits}
 use Rattle.kernel_laws.specs.Sets.{IsSetWithinLimits}
 use Rattle.kernel_laws.proofs.QueueLaws.{QueueTable, Queues, queues-kept, queues-opening}
 use Rattle.kernel_laws.proofs.SetLaws.{SetTable, Sets, sets-kept, sets-opening}
@@ -57,7 +57,7 @@ first-strong = record { sound = sound-new; free = λ d. refl; undoomed = λ e. r
 nobody-listed : (p c : ℕ) → Lists (get start) p c → ⊥
 nobody-listed p c h = not_true {B = ⊥} (subst (λ (x : Alive). lists x.row.family c ≡ true) (sym (first-living p h.alive h.there)) h.listed)
 
-nobody-kept : (p c : ℕ) (e : Ending) → Keeps (get start) p c e → ⊥
+nobody-kept : (p c : ℕ) (e : Ending) → KeepsEnded (get start) p c e → ⊥
 nobody-kept p c e h = contains-none (c, e) (subst (λ (x : Alive). Contains x.row.family.ended (c, e)) (sym (first-living p h.alive h.there)) h.kept)
 
 first-families : Families (get start)
@@ -82,10 +82,10 @@ pub settled-opening : Settled opening
 settled-opening = first-settled
 
 -- what a legal history leads to
-pub settled : (k : Kernel) → IsReachable k → Settled k
+pub settled : (k : Kernel) → IsReachableKernel k → Settled k
 settled k r = kept-by-along Settled Midway people-kept r.0 opening k r.1 settled-opening
 
-alive-valid : (k : Kernel) → Settled k → (pid : ℕ) (a : Alive) → living_at k pid ≡ Some a → IsAlive k pid a
+alive-valid : (k : Kernel) → Settled k → (pid : ℕ) (a : Alive) → living_at k pid ≡ Some a → IsValidProcess k pid a
 alive-valid k h pid a l =
     let there = from-living k.processes pid a l
     in let s = h.body.each pid a there
@@ -125,7 +125,7 @@ valid-from P R k h q s =
 
 pub reachable_kernels_are_valid_lemma : ReachableKernelsAreValid
 reachable_kernels_are_valid_lemma k r =
-    valid-from IsWithinLimits IsSetWithinLimits k (settled k r) (kept-along Queues queues-kept r.0 opening k r.1 queues-opening) (kept-along Sets sets-kept r.0 opening k r.1 sets-opening)
+    valid-from IsQueueWithinLimits IsSetWithinLimits k (settled k r) (kept-along Queues queues-kept r.0 opening k r.1 queues-opening) (kept-along Sets sets-kept r.0 opening k r.1 sets-opening)
 
 pub signals_are_sound_lemma : SignalsAreSound
 signals_are_sound_lemma k r pid a l = ((reachable_kernels_are_valid_lemma k r).alive pid a l).signals

@@ -4,11 +4,11 @@ use Rattle.pico_base.specs.declared.call.Call.TheVariants.{MsgRmid, SemRmid}
 use Rattle.pico_base.specs.declared.reply.Entry.{Entry}
 use Rattle.pico_base.specs.declared.reply.Outcome.{Outcome}
 use Rattle.pico_base.specs.declared.reply.Reply.TheVariants.{Num}
-use Rattle.kernel_model.specs.Maps.{get, is_used}
+use Rattle.number_maps.specs.Maps.{get, is_used}
 use Rattle.kernel_model.specs.Kernel.{Kernel, opening}
 use Rattle.kernel_model.specs.Transition.{transition}
 use Rattle.kernel_model.specs.History.{Replays}
-use Rattle.kernel_laws.specs.Reachable.{IsReachable}
+use Rattle.kernel_laws.specs.Reachable.{IsReachableKernel}
 
 -- the used numbers of each kind stay used
 pub record StaysUsed (k last : Kernel) (n : ℕ) : Type 0 where
@@ -43,12 +43,12 @@ RemovedSetsStayRemoved =
 -- a queue that an entry removes is nowhere in what follows
 abbrev pub QueueRemovalsLast : Type 0
 QueueRemovalsLast =
-    (k next last : Kernel) (pid id n : ℕ) (outcome : Outcome) (entries : List Entry) → IsReachable k
+    (k next last : Kernel) (pid id n : ℕ) (outcome : Outcome) (entries : List Entry) → IsReachableKernel k
     → transition k pid (MsgRmid id) n ≡ Some (next, outcome) → outcome.own ≡ Some (Num 0) → Replays next entries last
     → get last.queues id ≡ None
 
 abbrev pub SetRemovalsLast : Type 0
 SetRemovalsLast =
-    (k next last : Kernel) (pid id n : ℕ) (outcome : Outcome) (entries : List Entry) → IsReachable k
+    (k next last : Kernel) (pid id n : ℕ) (outcome : Outcome) (entries : List Entry) → IsReachableKernel k
     → transition k pid (SemRmid id) n ≡ Some (next, outcome) → outcome.own ≡ Some (Num 0) → Replays next entries last
     → get last.sets id ≡ None

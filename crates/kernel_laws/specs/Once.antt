@@ -3,7 +3,7 @@ use Rattle.std.specs.Prelude.{◌≡◌, ℕ, nat_eq, map, Some}
 use Rattle.std.specs.List.{IsDistinct}
 use Rattle.kernel_model.specs.Row.{Alive, Family}
 use Rattle.kernel_model.specs.Kernel.{Kernel, living_at}
-use Rattle.kernel_laws.specs.Reachable.{IsReachable}
+use Rattle.kernel_laws.specs.Reachable.{IsReachableKernel}
 
 -- no child stands twice among the living ones, nor among the ended ones
 pub record ListsOnce (f : Family) : Type 0 where
@@ -11,4 +11,4 @@ pub record ListsOnce (f : Family) : Type 0 where
   pub ended : IsDistinct nat_eq (map (λ e. e.0) f.ended)
 
 abbrev pub ChildrenAreListedOnce : Type 0
-ChildrenAreListedOnce = (k : Kernel) → IsReachable k → (pid : ℕ) (a : Alive) → living_at k pid ≡ Some a → ListsOnce a.row.family
+ChildrenAreListedOnce = (k : Kernel) → IsReachableKernel k → (pid : ℕ) (a : Alive) → living_at k pid ≡ Some a → ListsOnce a.row.family

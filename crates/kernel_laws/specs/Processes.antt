@@ -2,19 +2,19 @@
 use Rattle.std.specs.Prelude.{◌≡◌, ℕ, true, false, Some}
 use Rattle.pico_base.specs.declared.call.Call.{Call}
 use Rattle.pico_base.specs.declared.reply.Outcome.{Outcome}
-use Rattle.kernel_model.specs.Signals.{IsSound}
+use Rattle.kernel_model.specs.Signals.{AreSoundSignals}
 use Rattle.kernel_model.specs.Row.{Alive, lists}
 use Rattle.kernel_model.specs.Kernel.{Kernel, Parent, living_at, parent_in}
 use Rattle.kernel_model.specs.Transition.{transition}
 use Rattle.kernel_model.specs.Valid.{IsValid}
-use Rattle.kernel_laws.specs.Reachable.{IsReachable}
+use Rattle.kernel_laws.specs.Reachable.{IsReachableKernel}
 
 abbrev pub ReachableKernelsAreValid : Type 0
-ReachableKernelsAreValid = (k : Kernel) → IsReachable k → IsValid k
+ReachableKernelsAreValid = (k : Kernel) → IsReachableKernel k → IsValid k
 
 -- no pending signal has an action that discards it, KILL is in no mask, and its action is the default one
 abbrev pub SignalsAreSound : Type 0
-SignalsAreSound = (k : Kernel) → IsReachable k → (pid : ℕ) (a : Alive) → living_at k pid ≡ Some a → IsSound a.row.signals
+SignalsAreSound = (k : Kernel) → IsReachableKernel k → (pid : ℕ) (a : Alive) → living_at k pid ≡ Some a → AreSoundSignals a.row.signals
 
 -- a process's parent is a living process that lists it, and each one that lists it is its parent; none lists itself
 pub record HasOneParent (k : Kernel) (child : ℕ) : Type 0 where
@@ -24,7 +24,7 @@ pub record HasOneParent (k : Kernel) (child : ℕ) : Type 0 where
   pub not_itself : (a : Alive) → living_at k child ≡ Some a → lists a.row.family child ≡ false
 
 abbrev pub ChildrenHaveOneParent : Type 0
-ChildrenHaveOneParent = (k : Kernel) → IsReachable k → (child : ℕ) → HasOneParent k child
+ChildrenHaveOneParent = (k : Kernel) → IsReachableKernel k → (child : ℕ) → HasOneParent k child
 
 -- no living process lists itself as a child
 abbrev pub NoneListsItself : Kernel → Type 0

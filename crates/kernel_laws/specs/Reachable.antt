@@ -4,5 +4,5 @@ use Rattle.pico_base.specs.declared.reply.Entry.{Entry}
 use Rattle.kernel_model.specs.Kernel.{Kernel, opening}
 use Rattle.kernel_model.specs.History.{Replays}
 
-abbrev pub IsReachable : Kernel → Type 0
-IsReachable k = (history : List Entry) × Replays opening history k
+abbrev pub IsReachableKernel : Kernel → Type 0
+IsReachableKernel k = (history : List Entry) × Replays opening history k

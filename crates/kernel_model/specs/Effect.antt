@@ -4,7 +4,7 @@ use Rattle.pico_base.specs.declared.reply.Errno.{Errno}
 use Rattle.pico_base.specs.declared.reply.Errno.TheVariants.{Einval}
 use Rattle.pico_base.specs.declared.reply.Reply.{Reply}
 use Rattle.pico_base.specs.declared.reply.Reply.TheVariants as replies
-use Rattle.kernel_model.specs.Maps.{is_used}
+use Rattle.number_maps.specs.Maps.{is_used}
 use Rattle.kernel_model.specs.Kernel.{Kernel}
 
 -- the next kernel, and the caller's reply
@@ -12,21 +12,21 @@ pub record Effect : Type 0 where
   pub kernel : Kernel
   pub reply : Reply
 
-abbrev pub replied : Kernel → ℕ → Effect
-replied k n = record { kernel = k; reply = replies.Num n }
+abbrev pub reply_with : Kernel → ℕ → Effect
+reply_with k n = record { kernel = k; reply = replies.Num n }
 
 -- a refusal changes nothing
-abbrev pub refused : Kernel → Errno → Effect
-refused k e = record { kernel = k; reply = replies.Fail e }
+abbrev pub refuse : Kernel → Errno → Effect
+refuse k e = record { kernel = k; reply = replies.Fail e }
 
 -- a look that changes nothing
-abbrev pub looked_up : Kernel → Result ℕ Errno → Effect
-looked_up k (Ok n) = replied k n
-looked_up k (Err e) = refused k e
+abbrev pub look_up : Kernel → Result ℕ Errno → Effect
+look_up k (Ok n) = reply_with k n
+look_up k (Err e) = refuse k e
 
 -- a call on a queue or a set, which is refused where there is none of that number
 abbrev pub on_named : {V : Type 0} → Kernel → Option V → (V → Effect) → Effect
-on_named k None f = refused k Einval
+on_named k None f = refuse k Einval
 on_named k (Some v) f = f v
 
 -- a number that may be given out: not 0, and not used before

@@ -14,7 +14,7 @@ use Rattle.pico_base.specs.declared.signal.SigArg.TheVariants.{Zero, Is, Bad}
 use Rattle.pico_base.specs.declared.signal.Act.TheVariants.{Ign, Catch}
 use Rattle.pico_base.specs.declared.signal.How.TheVariants.{Block, Unblock, SetMask}
 use Rattle.pico_base.specs.declared.signal.PerSignal.{PerSignal}
-use Rattle.pico_base.specs.Signal.{put, everywhere}
+use Rattle.pico_base.specs.Signal.{put_at, everywhere}
 use Rattle.kernel_model.specs.Kernel.{Kernel, opening}
 use Rattle.kernel_model.specs.Transition.{transition}
 
@@ -52,7 +52,7 @@ abbrev pub no_signal : PerSignal Bool
 no_signal = everywhere false
 
 abbrev pub only_usr1 : PerSignal Bool
-only_usr1 = put no_signal Usr1 true
+only_usr1 = put_at no_signal Usr1 true
 
 -- a private queue
 abbrev pub queue : Made

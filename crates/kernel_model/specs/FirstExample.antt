@@ -8,7 +8,7 @@ use Rattle.pico_base.specs.declared.reply.Reply.{Reply}
 use Rattle.pico_base.specs.declared.reply.Reply.TheVariants.{Num, Message, Ended}
 use Rattle.pico_base.specs.declared.reply.Entry.{Entry}
 use Rattle.pico_base.specs.declared.script.Script.{Script}
-use Rattle.kernel_model.specs.Script.{IsSound}
+use Rattle.kernel_model.specs.Script.{IsSoundScript}
 use Rattle.kernel_model.specs.History.{IsLegal}
 use Rattle.kernel_model.specs.Fitting.{FitsWhole}
 use Rattle.kernel_model.specs.Trace.{trace_text, entries_total, processes_total, not_ready_total, refused_total}
@@ -50,7 +50,7 @@ pub hello_trace : trace_text hello hello_history ≡
 unfolding digits entries_total processes_total not_ready_total refused_total
 hello_trace = refl
 
-pub hello_is_sound : IsSound hello
+pub hello_is_sound : IsSoundScript hello
 hello_is_sound =
     record {
       size = refl;

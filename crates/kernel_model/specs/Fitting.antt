@@ -11,7 +11,7 @@ use Rattle.pico_base.specs.declared.reply.Entry.{Entry}
 use Rattle.pico_base.specs.declared.script.Line.{Line}
 use Rattle.pico_base.specs.declared.script.Block.{Block}
 use Rattle.pico_base.specs.declared.script.Script.{Script}
-use Rattle.kernel_model.specs.Maps.{Numbered, get, put}
+use Rattle.number_maps.specs.Maps.{Numbered, get, put}
 use Rattle.kernel_model.specs.Script.{Vars, call_of}
 pub use Rattle.kernel_model.specs.Script.{implied_exit, is_exit, with_exit}
 
@@ -30,11 +30,11 @@ abbrev pub due : Place → Option Call
 due place = call_due place place.left
 
 -- a reply after which a line that may try again does
-abbrev pub is_not_ready : Errno → Bool
-is_not_ready Enomsg = true
-is_not_ready Eagain = true
-is_not_ready Enoent = true
-is_not_ready _ = false
+abbrev pub is_tried_again : Errno → Bool
+is_tried_again Enomsg = true
+is_tried_again Eagain = true
+is_tried_again Enoent = true
+is_tried_again _ = false
 
 abbrev pub is_waitpid : Call → Bool
 is_waitpid (calls.WaitPid child nohang) = true
@@ -44,7 +44,7 @@ abbrev pub is_zero : ℕ → Bool
 is_zero n = nat_lt n 1
 
 abbrev pub asks_again : Call → Option Reply → Bool
-asks_again call (Some (replies.Fail e)) = is_not_ready e
+asks_again call (Some (replies.Fail e)) = is_tried_again e
 asks_again call (Some (replies.Num n)) = is_waitpid call && is_zero n
 asks_again call _ = false
 
@@ -54,9 +54,9 @@ value_in (Some (replies.Num n)) = n
 value_in (Some (replies.Child pid ending)) = pid
 value_in _ = 0
 
-abbrev pub setting : Vars → Option ℕ → ℕ → Vars
-setting vars None n = vars
-setting vars (Some v) n = put vars v n
+abbrev pub set_variable : Vars → Option ℕ → ℕ → Vars
+set_variable vars None n = vars
+set_variable vars (Some v) n = put vars v n
 
 -- the place after a reply: the same line once more, or the next one with the variable set
 abbrev pub after_line : Place → Call → Option Reply → List Line → Place
@@ -64,18 +64,18 @@ after_line place call reply [] = place
 after_line place call reply (line ∷ lines) =
     if asks_again call reply && nat_lt (place.tried + 1) line.tries
     then record place { tried = place.tried + 1 }
-    else record { left = lines; tried = 0; vars = setting place.vars line.set (value_in reply) }
+    else record { left = lines; tried = 0; vars = set_variable place.vars line.set (value_in reply) }
 
-abbrev pub after : Place → Call → Option Reply → Place
-after place call reply = after_line place call reply place.left
+abbrev pub place_after : Place → Call → Option Reply → Place
+place_after place call reply = after_line place call reply place.left
 
 -- a process that a signal ended has nothing more to do
 abbrev pub is_killed : Call → Bool
 is_killed (calls.Killed sig) = true
 is_killed _ = false
 
-abbrev pub moved : Place → Call → Option Reply → Place
-moved place call reply = if is_killed call then record place { left = [] } else after place call reply
+abbrev pub move_on : Place → Call → Option Reply → Place
+move_on place call reply = if is_killed call then record place { left = [] } else place_after place call reply
 
 -- the call due, or the end by a signal in its place
 abbrev pub IsDue : Place → Call → Type 0
@@ -100,30 +100,30 @@ opening_places script = (1, block_place (block_at script 1) []) ∷ []
 -- a forked process begins with the variables that its parent had before the line, the one that it sets at 0
 abbrev pub child_vars_at : Vars → List Line → Vars
 child_vars_at vars [] = vars
-child_vars_at vars (line ∷ lines) = setting vars line.set 0
+child_vars_at vars (line ∷ lines) = set_variable vars line.set 0
 
 abbrev pub child_vars : Place → Vars
 child_vars place = child_vars_at place.vars place.left
 
-abbrev pub forked_place : Script → Places → Place → Call → Option Reply → Places
-forked_place script places parent (calls.Fork block) (Some (replies.Num child)) =
+abbrev pub places_after_fork : Script → Places → Place → Call → Option Reply → Places
+places_after_fork script places parent (calls.Fork block) (Some (replies.Num child)) =
     put places child (block_place (block_at script block) (child_vars parent))
-forked_place script places parent call reply = places
+places_after_fork script places parent call reply = places
 
 -- the places after an entry of a process that was at this place
 abbrev pub places_after : Script → Places → Entry → Place → Places
 places_after script places e place =
-    forked_place script (put places e.pid (moved place e.call e.outcome.own)) place e.call e.outcome.own
+    places_after_fork script (put places e.pid (move_on place e.call e.outcome.own)) place e.call e.outcome.own
 
 -- each entry is of a process that was forked, or of process 1, and makes the call that is due
-abbrev pub Follows : Script → Places → List Entry → Places → Type 0
-Follows script places [] last = places ≡ last
-Follows script places (e ∷ es) last =
+abbrev pub FitsFrom : Script → Places → List Entry → Places → Type 0
+FitsFrom script places [] last = places ≡ last
+FitsFrom script places (e ∷ es) last =
     (place : Place) × (get places e.pid ≡ Some place) × IsDue place e.call
-    × Follows script (places_after script places e place) es last
+    × FitsFrom script (places_after script places e place) es last
 
 abbrev pub Fits : Script → List Entry → Type 0
-Fits script history = (last : Places) × Follows script (opening_places script) history last
+Fits script history = (last : Places) × FitsFrom script (opening_places script) history last
 
 -- nothing is due any more at a place
 abbrev pub IsOver : ℕ × Place → Type 0
@@ -131,4 +131,4 @@ IsOver p = p.1.left ≡ []
 
 -- the history fits to its end: each process that was forked, and process 1, has ended
 abbrev pub FitsWhole : Script → List Entry → Type 0
-FitsWhole script history = (last : Places) × Follows script (opening_places script) history last × AllByRecursion IsOver last
+FitsWhole script history = (last : Places) × FitsFrom script (opening_places script) history last × AllByRecursion IsOver last

@@ -11,10 +11,10 @@ use Rattle.pico_base.specs.declared.numbers.Name.TheVariants.{Proc, Msg, Sem}
 use Rattle.pico_base.specs.declared.reply.Outcome.{Outcome}
 use Rattle.pico_base.specs.declared.reply.Reply.TheVariants.{Num}
 use Rattle.pico_base.specs.Home.{home_of}
-use Rattle.kernel_model.specs.Maps.{get, is_used, used_with}
+use Rattle.number_maps.specs.Maps.{get, is_used, used_with}
 use Rattle.kernel_model.specs.Row.{Alive, Allowance, Free}
 use Rattle.kernel_model.specs.Kernel.{Kernel, Process, Living, Ended, Gone, living_at, parent_in}
-use Rattle.kernel_model.specs.SetCalls.{size_of}
+use Rattle.kernel_model.specs.SetCalls.{set_size}
 use Rattle.kernel_model.specs.Transition.{transition}
 use Rattle.kernel_model.specs.Valid.{IsValid}
 
@@ -34,19 +34,19 @@ pub data Part : Type 0 where
 
 -- Which parts a call has, by its home. The caller's allowance is always one.
 
-abbrev pub ended_of : Option Alive → List Part
-ended_of None = []
-ended_of (Some a) = map (λ e. Whole e.0) a.row.family.ended
+abbrev pub parts_of_ended : Option Alive → List Part
+parts_of_ended None = []
+parts_of_ended (Some a) = map (λ e. Whole e.0) a.row.family.ended
 
-abbrev pub ended_at : Kernel → ℕ → List Part
-ended_at k pid = ended_of (living_at k pid)
+abbrev pub ended_parts : Kernel → ℕ → List Part
+ended_parts k pid = parts_of_ended (living_at k pid)
 
 -- beside the caller: the new process, queue or set, and for waitpid the caller's ended children
 abbrev pub own_parts : Kernel → ℕ → Call → ℕ → List Part
 own_parts k pid (calls.Fork block) n = Whole n ∷ []
 own_parts k pid (calls.MsgGet key create excl) n = QueueAt n ∷ []
 own_parts k pid (calls.SemGet key count create excl) n = SetAt n ∷ []
-own_parts k pid (calls.WaitPid child nohang) n = ended_at k pid
+own_parts k pid (calls.WaitPid child nohang) n = ended_parts k pid
 own_parts k pid call n = []
 
 abbrev pub size_parts : Option ℕ → List Part
@@ -86,7 +86,7 @@ home_parts k pid call n homes.Keys = key_parts k call n
 home_parts k pid call n (homes.At name) = name_parts name
 home_parts k pid call n (homes.Removal name) = name_parts name ++ table_parts name
 home_parts k pid call n homes.Parent =
-    Whole pid ∷ ParentOf pid ∷ (ended_at k pid ++ parent_parts (parent_number k pid))
+    Whole pid ∷ ParentOf pid ∷ (ended_parts k pid ++ parent_parts (parent_number k pid))
 
 abbrev pub footprint : Kernel → ℕ → Call → ℕ → List Part
 footprint k pid call n = MayDo pid ∷ home_parts k pid call n (home_of pid call)
@@ -102,12 +102,12 @@ SameAt j k (Whole pid) = get j.processes pid ≡ get k.processes pid
 SameAt j k (ParentOf pid) = parent_number j pid ≡ parent_number k pid
 SameAt j k (QueueAt id) = get j.queues id ≡ get k.queues id
 SameAt j k (SetAt id) = get j.sets id ≡ get k.sets id
-SameAt j k (SizeOf id) = size_of j id ≡ size_of k id
+SameAt j k (SizeOf id) = set_size j id ≡ set_size k id
 SameAt j k QueueKeys = (key : ℕ) → get j.queue_keys key ≡ get k.queue_keys key
 SameAt j k SetKeys = (key : ℕ) → get j.set_keys key ≡ get k.set_keys key
 
-abbrev pub Agree : List Part → Kernel → Kernel → Type 0
-Agree parts j k = AllByRecursion (SameAt j k) parts
+abbrev pub AgreeOn : List Part → Kernel → Kernel → Type 0
+AgreeOn parts j k = AllByRecursion (SameAt j k) parts
 
 -- The rest stays.
 
@@ -164,7 +164,7 @@ pub record RestStays (parts : List Part) (n : ℕ) (outcome : Outcome) (before a
 
 pub record SameStep (parts : List Part) (n : ℕ) (j k : Kernel) (to_j to_k : Kernel × Outcome) : Type 0 where
   pub outcome : to_j.1 ≡ to_k.1
-  pub agree : Agree parts to_j.0 to_k.0
+  pub agree : AgreeOn parts to_j.0 to_k.0
   pub rest_of_first : RestStays parts n to_j.1 j to_j.0
   pub rest_of_second : RestStays parts n to_k.1 k to_k.0
 
@@ -183,6 +183,6 @@ used_for k call = []
 -- Two valid kernels that agree on a call's footprint, with its number unused in both, make the same step, or none.
 abbrev pub FootprintLaw : Type 0
 FootprintLaw = (j k : Kernel) (pid : ℕ) (call : Call) (n : ℕ) → IsValid j → IsValid k
-    → Agree (footprint j pid call n) j k
+    → AgreeOn (footprint j pid call n) j k
     → is_used (used_for j call) n ≡ false → is_used (used_for k call) n ≡ false
     → SameSteps (footprint j pid call n) n j k (transition j pid call n) (transition k pid call n)

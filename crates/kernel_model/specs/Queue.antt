@@ -83,8 +83,8 @@ pub record Received : Type 0 where
   pub queue : Queue
   pub message : Message
 
-abbrev pub taken : Queue → ℕ → ℕ → ℕ → Message → Received
-taken q pid size place m =
+abbrev pub take_message : Queue → ℕ → ℕ → ℕ → Message → Received
+take_message q pid size place m =
     record {
       queue = record q { messages = remove q.messages place; last_receiver = pid };
       message = record { class = m.class; text = take size m.text };
@@ -94,7 +94,7 @@ taken q pid size place m =
 abbrev pub receive_at : Queue → ℕ → ℕ → Bool → ℕ → Option Message → Result Received Errno
 receive_at q pid size noerror place None = Err Enomsg
 receive_at q pid size noerror place (Some m) =
-    if nat_le (length m.text) size || noerror then Ok (taken q pid size place m) else Err E2big
+    if nat_le (length m.text) size || noerror then Ok (take_message q pid size place m) else Err E2big
 
 abbrev pub receive_from : Queue → ℕ → ℕ → Bool → Option ℕ → Result Received Errno
 receive_from q pid size noerror None = Err Enomsg

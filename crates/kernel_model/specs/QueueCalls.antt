@@ -4,10 +4,10 @@ use Rattle.std.specs.List.{filter}
 use Rattle.pico_base.specs.declared.reply.Errno.{Errno}
 use Rattle.pico_base.specs.declared.reply.Errno.TheVariants.{Enoent, Eexist}
 use Rattle.pico_base.specs.declared.reply.Reply.TheVariants as replies
-use Rattle.kernel_model.specs.Maps.{Numbered, get, put, without, used_with}
+use Rattle.number_maps.specs.Maps.{Numbered, get, put, without, used_with}
 use Rattle.kernel_model.specs.Queue.{Queue, Received, empty_queue, stat}
 use Rattle.kernel_model.specs.Kernel.{Kernel}
-use Rattle.kernel_model.specs.Effect.{Effect, replied, refused, is_fresh}
+use Rattle.kernel_model.specs.Effect.{Effect, reply_with, refuse, is_fresh}
 
 abbrev pub with_queue : Kernel → ℕ → Queue → Kernel
 with_queue k id q = record k { queues = put k.queues id q }
@@ -16,32 +16,32 @@ with_queue k id q = record k { queues = put k.queues id q }
 abbrev pub new_queue : Kernel → Numbered ℕ → ℕ → Option Effect
 new_queue k keys n =
     if is_fresh k.used_queues n
-    then Some (replied (record k { queues = put k.queues n empty_queue; queue_keys = keys; used_queues = used_with k.used_queues n }) n)
+    then Some (reply_with (record k { queues = put k.queues n empty_queue; queue_keys = keys; used_queues = used_with k.used_queues n }) n)
     else None
 
 abbrev pub get_queue_at : Kernel → ℕ → Bool → Bool → ℕ → Option ℕ → Option Effect
-get_queue_at k key create excl n (Some id) = Some (if create && excl then refused k Eexist else replied k id)
-get_queue_at k key create excl n None = if create then new_queue k (put k.queue_keys key n) n else Some (refused k Enoent)
+get_queue_at k key create excl n (Some id) = Some (if create && excl then refuse k Eexist else reply_with k id)
+get_queue_at k key create excl n None = if create then new_queue k (put k.queue_keys key n) n else Some (refuse k Enoent)
 
 -- msgget: IPC_PRIVATE always makes a queue
 abbrev pub get_queue : Kernel → Option ℕ → Bool → Bool → ℕ → Option Effect
 get_queue k None create excl n = new_queue k k.queue_keys n
 get_queue k (Some key) create excl n = get_queue_at k key create excl n (get k.queue_keys key)
 
-abbrev pub changed_queue : Kernel → ℕ → Result Queue Errno → Effect
-changed_queue k id (Ok q) = replied (with_queue k id q) 0
-changed_queue k id (Err e) = refused k e
+abbrev pub change_queue : Kernel → ℕ → Result Queue Errno → Effect
+change_queue k id (Ok q) = reply_with (with_queue k id q) 0
+change_queue k id (Err e) = refuse k e
 
-abbrev pub received : Kernel → ℕ → Result Received Errno → Effect
-received k id (Ok r) = record { kernel = with_queue k id r.queue; reply = replies.Message r.message.class r.message.text }
-received k id (Err e) = refused k e
+abbrev pub receive_effect : Kernel → ℕ → Result Received Errno → Effect
+receive_effect k id (Ok r) = record { kernel = with_queue k id r.queue; reply = replies.Message r.message.class r.message.text }
+receive_effect k id (Err e) = refuse k e
 
-abbrev pub looked_at_queue : Kernel → Queue → Effect
-looked_at_queue k q = record { kernel = k; reply = stat q }
+abbrev pub stat_effect : Kernel → Queue → Effect
+stat_effect k q = record { kernel = k; reply = stat q }
 
 -- no key leads to the identifier any more
-abbrev pub unbound : Numbered ℕ → ℕ → Numbered ℕ
-unbound keys id = filter (λ e. not (nat_eq e.1 id)) keys
+abbrev pub unbind : Numbered ℕ → ℕ → Numbered ℕ
+unbind keys id = filter (λ e. not (nat_eq e.1 id)) keys
 
-abbrev pub removed_queue : Kernel → ℕ → Effect
-removed_queue k id = replied (record k { queues = without k.queues id; queue_keys = unbound k.queue_keys id }) 0
+abbrev pub remove_queue : Kernel → ℕ → Effect
+remove_queue k id = reply_with (record k { queues = without k.queues id; queue_keys = unbind k.queue_keys id }) 0

@@ -6,7 +6,7 @@ use Rattle.pico_base.specs.declared.signal.Sig.{Sig}
 use Rattle.pico_base.specs.declared.signal.Sig.TheVariants.{Chld}
 use Rattle.pico_base.specs.declared.signal.Act.{Act}
 use Rattle.pico_base.specs.declared.signal.Act.TheVariants.{Dfl, Ign, Catch}
-use Rattle.kernel_model.specs.Signals.{Signals, new_signals, inherited, raise}
+use Rattle.kernel_model.specs.Signals.{Signals, new_signals, inherit, raise}
 
 -- the living children in order of fork, and the ended ones with their endings in order of end
 pub record Family : Type 0 where
@@ -25,7 +25,7 @@ new_row = record { signals = new_signals; family = no_family }
 
 -- the row of a forked child
 abbrev pub child_row : Row → Row
-child_row row = record { signals = inherited row.signals; family = no_family }
+child_row row = record { signals = inherit row.signals; family = no_family }
 
 -- the family with a new child
 abbrev pub with_child : Family → ℕ → Family
@@ -38,8 +38,8 @@ abbrev pub others : ℕ → List ℕ → List ℕ
 others child children = filter (λ c. not (nat_eq child c)) children
 
 -- a child has ended: its ending is kept for waitpid, unless it is ignored
-abbrev pub with_end : Family → ℕ → Ending → Bool → Family
-with_end f child ending ignored =
+abbrev pub family_after_end : Family → ℕ → Ending → Bool → Family
+family_after_end f child ending ignored =
     record {
       living = others child f.living;
       ended = if ignored then f.ended else f.ended ++ (child, ending) ∷ [];
@@ -60,9 +60,9 @@ matches None child = true
 matches (Some which) child = nat_eq which child
 
 -- the first ended child that matches, with the family without it
-abbrev pub first_ended : Option ℕ → List (ℕ × Ending) → Option (ℕ × Ending)
-first_ended which [] = None
-first_ended which (e ∷ es) = if matches which e.0 then Some e else first_ended which es
+abbrev pub first_ended_child : Option ℕ → List (ℕ × Ending) → Option (ℕ × Ending)
+first_ended_child which [] = None
+first_ended_child which (e ∷ es) = if matches which e.0 then Some e else first_ended_child which es
 
 abbrev pub without_ended : ℕ → Family → Family
 without_ended child f = record f { ended = filter (λ e. not (nat_eq child e.0)) f.ended }
@@ -73,12 +73,12 @@ pub data Waited : Type 0 where
   NotYet : Waited
   NoChild : Waited
 
-abbrev pub waited_from : Option (ℕ × Ending) → Bool → Waited
-waited_from (Some e) living = Found e.0 e.1
-waited_from None living = if living then NotYet else NoChild
+abbrev pub wait_result : Option (ℕ × Ending) → Bool → Waited
+wait_result (Some e) living = Found e.0 e.1
+wait_result None living = if living then NotYet else NoChild
 
 abbrev pub wait : Family → Option ℕ → Waited
-wait f which = waited_from (first_ended which f.ended) (list_any (matches which) f.living)
+wait f which = wait_result (first_ended_child which f.ended) (list_any (matches which) f.living)
 
 -- What a process may still do (profile): anything, one more entry after the doom by another's entry, or
 -- nothing but its own ending.
@@ -93,21 +93,21 @@ pub record Alive : Type 0 where
   pub allowance : Allowance
 
 -- the allowance after a raise by another's entry
-abbrev pub doomed_by_other : Bool → Bool → Allowance → Allowance
-doomed_by_other before now allowance = if before then allowance else if now then One else allowance
+abbrev pub allowance_after_raise : Bool → Bool → Allowance → Allowance
+allowance_after_raise before now allowance = if before then allowance else if now then One else allowance
 
 -- a signal is raised by another's entry
-abbrev pub raised_at : Alive → Sig → Alive
-raised_at a g =
+abbrev pub raise_by_other : Alive → Sig → Alive
+raise_by_other a g =
     let signals = raise a.row.signals g
     in record {
       row = record { signals = signals; family = a.row.family };
-      allowance = doomed_by_other (is_some a.row.signals.doom) (is_some signals.doom) a.allowance;
+      allowance = allowance_after_raise (is_some a.row.signals.doom) (is_some signals.doom) a.allowance;
     }
 
 -- a child of this process has ended: it is listed as ended, or forgotten, and CHLD is raised where it isn't ignored
 abbrev pub with_ended_child : Alive → ℕ → Ending → Alive
 with_ended_child a child ending =
     let ignored = ignores_children a.row
-    in let next = record a { row = record { signals = a.row.signals; family = with_end a.row.family child ending ignored } }
-    in if ignored then next else raised_at next Chld
+    in let next = record a { row = record { signals = a.row.signals; family = family_after_end a.row.family child ending ignored } }
+    in if ignored then next else raise_by_other next Chld

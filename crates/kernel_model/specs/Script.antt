@@ -9,7 +9,7 @@ use Rattle.pico_base.specs.declared.call.SemStep.{SemStep}
 use Rattle.pico_base.specs.declared.script.Line.{Line}
 use Rattle.pico_base.specs.declared.script.Block.{Block as ScriptBlock}
 use Rattle.pico_base.specs.declared.script.Script.{Script}
-use Rattle.kernel_model.specs.Maps.{Numbered, get}
+use Rattle.number_maps.specs.Maps.{Numbered, get}
 use Rattle.kernel_model.specs.Waiting.{is_waiting}
 
 -- the values of variables, by rising variable
@@ -21,28 +21,28 @@ abbrev pub value_of : Vars → ℕ → ℕ
 value_of vars v = unwrap_or (get vars v) 0
 
 -- the call with this number for the process or the object that it names
-abbrev pub naming : Call → ℕ → Call
-naming (calls.Kill pid sig) n = calls.Kill n sig
-naming (calls.WaitPid child nohang) n = calls.WaitPid (Some n) nohang
-naming (calls.MsgSnd id class text nowait) n = calls.MsgSnd n class text nowait
-naming (calls.MsgRcv id class size noerror nowait) n = calls.MsgRcv n class size noerror nowait
-naming (calls.MsgStat id) n = calls.MsgStat n
-naming (calls.MsgSet id qbytes) n = calls.MsgSet n qbytes
-naming (calls.MsgRmid id) n = calls.MsgRmid n
-naming (calls.SemOp id steps) n = calls.SemOp n steps
-naming (calls.SemGetVal id num) n = calls.SemGetVal n num
-naming (calls.SemGetPid id num) n = calls.SemGetPid n num
-naming (calls.SemGetNcnt id num) n = calls.SemGetNcnt n num
-naming (calls.SemGetZcnt id num) n = calls.SemGetZcnt n num
-naming (calls.SemSetVal id num value) n = calls.SemSetVal n num value
-naming (calls.SemGetAll id) n = calls.SemGetAll n
-naming (calls.SemSetAll id values) n = calls.SemSetAll n values
-naming (calls.SemRmid id) n = calls.SemRmid n
-naming call n = call
+abbrev pub with_target : Call → ℕ → Call
+with_target (calls.Kill pid sig) n = calls.Kill n sig
+with_target (calls.WaitPid child nohang) n = calls.WaitPid (Some n) nohang
+with_target (calls.MsgSnd id class text nowait) n = calls.MsgSnd n class text nowait
+with_target (calls.MsgRcv id class size noerror nowait) n = calls.MsgRcv n class size noerror nowait
+with_target (calls.MsgStat id) n = calls.MsgStat n
+with_target (calls.MsgSet id qbytes) n = calls.MsgSet n qbytes
+with_target (calls.MsgRmid id) n = calls.MsgRmid n
+with_target (calls.SemOp id steps) n = calls.SemOp n steps
+with_target (calls.SemGetVal id num) n = calls.SemGetVal n num
+with_target (calls.SemGetPid id num) n = calls.SemGetPid n num
+with_target (calls.SemGetNcnt id num) n = calls.SemGetNcnt n num
+with_target (calls.SemGetZcnt id num) n = calls.SemGetZcnt n num
+with_target (calls.SemSetVal id num value) n = calls.SemSetVal n num value
+with_target (calls.SemGetAll id) n = calls.SemGetAll n
+with_target (calls.SemSetAll id values) n = calls.SemSetAll n values
+with_target (calls.SemRmid id) n = calls.SemRmid n
+with_target call n = call
 
 abbrev pub call_from : Call → Vars → Option ℕ → Call
 call_from call vars None = call
-call_from call vars (Some v) = naming call (value_of vars v)
+call_from call vars (Some v) = with_target call (value_of vars v)
 
 -- the call of a line: the variable's value stands in place of the number
 abbrev pub call_of : Line → Vars → Call
@@ -85,12 +85,12 @@ names_differ (b ∷ bs) = not (list_any (λ other. is_same b.name other.name) bs
 
 -- Forks: pairs of the block where the line stands and the block that it names, counted from 1.
 
-abbrev pub forked_by : Call → List ℕ
-forked_by (calls.Fork block) = block ∷ []
-forked_by _ = []
+abbrev pub fork_targets : Call → List ℕ
+fork_targets (calls.Fork block) = block ∷ []
+fork_targets _ = []
 
 abbrev pub forks_of : Script → List (ℕ × ℕ)
-forks_of s = flat_map (λ b. map (λ to. (b.0, to)) (flat_map (λ line. forked_by line.call) b.1.lines)) (enumerate_from 1 s.blocks)
+forks_of s = flat_map (λ b. map (λ to. (b.0, to)) (flat_map (λ line. fork_targets line.call) b.1.lines)) (enumerate_from 1 s.blocks)
 
 -- of a later block of the script
 abbrev pub goes_forward : Script → ℕ × ℕ → Bool
@@ -206,7 +206,7 @@ abbrev pub begun_in : List ℕ → List Line → List (ℕ × List ℕ)
 begun_in known [] = []
 begun_in known (line ∷ lines) =
     let next : List ℕ = known_with known line.set
-    in map (λ block. (block, next)) (forked_by line.call) ++ begun_in next lines
+    in map (λ block. (block, next)) (fork_targets line.call) ++ begun_in next lines
 
 abbrev pub known_at : List (ℕ × List ℕ) → ℕ → List ℕ
 known_at begun block = unwrap_or (lookup (nat_eq block) begun) []
@@ -219,7 +219,7 @@ uses_known_from begun k (block ∷ blocks) =
     in uses_known known block.lines && uses_known_from (begun ++ begun_in known block.lines) (k + 1) blocks
 
 -- What holds of each script that is read or generated.
-pub record IsSound (s : Script) : Type 0 where
+pub record IsSoundScript (s : Script) : Type 0 where
   -- 1 to 32 blocks, each with a name of its own
   pub size : IsTrue (is_between 1 32 (length s.blocks))
   pub names : IsTrue (list_all (λ b. is_name b.name) s.blocks)

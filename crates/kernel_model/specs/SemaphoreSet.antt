@@ -42,15 +42,15 @@ pub data Moved : Type 0 where
   TooHigh : Moved
 
 -- a negative one needs a value at least its size, zero needs the value 0, and a positive one adds
-abbrev pub moved_by : ℤ → ℕ → Moved
-moved_by (pos zero) value = if nat_eq value 0 then To 0 else Waits
-moved_by (pos (suc n)) value = if nat_le (value + suc n) max_value then To (value + suc n) else TooHigh
-moved_by (negsuc n) value = if nat_le (suc n) value then To (value - suc n) else Waits
+abbrev pub move_by : ℤ → ℕ → Moved
+move_by (pos zero) value = if nat_eq value 0 then To 0 else Waits
+move_by (pos (suc n)) value = if nat_le (value + suc n) max_value then To (value + suc n) else TooHigh
+move_by (negsuc n) value = if nat_le (suc n) value then To (value - suc n) else Waits
 
 -- a number that is no semaphore's is refused before the trial
-abbrev pub moved_at : ℤ → Option ℕ → Moved
-moved_at add None = Waits
-moved_at add (Some value) = moved_by add value
+abbrev pub move_at : ℤ → Option ℕ → Moved
+move_at add None = Waits
+move_at add (Some value) = move_by add value
 
 -- the trial: all new values, the first operation that would have to wait, or a value above the limit
 pub data Tried : Type 0 where
@@ -67,7 +67,7 @@ go_on index values num TooHigh rest = OutOfRange
 abbrev pub try_from : ℕ → List ℕ → List SemStep → Tried
 try_from index values [] = Done values
 try_from index values (step ∷ steps) =
-    go_on index values step.num (moved_at step.add (slice_get values step.num)) (λ next. try_from (index + 1) next steps)
+    go_on index values step.num (move_at step.add (slice_get values step.num)) (λ next. try_from (index + 1) next steps)
 
 abbrev pub try_ops : List ℕ → List SemStep → Tried
 try_ops values steps = try_from 0 values steps
@@ -83,38 +83,38 @@ with_values (s ∷ set) (value ∷ values) = record s { value = value } ∷ with
 abbrev pub with_last : Semaphore → ℕ → Semaphore
 with_last s pid = record s { last = pid }
 
-abbrev pub marked_at : List Semaphore → ℕ → ℕ → Option Semaphore → List Semaphore
-marked_at set pid num None = set
-marked_at set pid num (Some s) = slice_set set num (with_last s pid)
+abbrev pub mark_at : List Semaphore → ℕ → ℕ → Option Semaphore → List Semaphore
+mark_at set pid num None = set
+mark_at set pid num (Some s) = slice_set set num (with_last s pid)
 
-abbrev pub marked : ℕ → List Semaphore → SemStep → List Semaphore
-marked pid set step = marked_at set pid step.num (slice_get set step.num)
+abbrev pub mark : ℕ → List Semaphore → SemStep → List Semaphore
+mark pid set step = mark_at set pid step.num (slice_get set step.num)
 
-abbrev pub tried_op : List Semaphore → ℕ → List SemStep → Tried → Result (List Semaphore) Errno
-tried_op set pid steps (Done values) = Ok (fold (marked pid) (with_values set values) steps)
-tried_op set pid steps (StopsAt index) = Err Eagain
-tried_op set pid steps OutOfRange = Err Erange
+abbrev pub op_after_trial : List Semaphore → ℕ → List SemStep → Tried → Result (List Semaphore) Errno
+op_after_trial set pid steps (Done values) = Ok (fold (mark pid) (with_values set values) steps)
+op_after_trial set pid steps (StopsAt index) = Err Eagain
+op_after_trial set pid steps OutOfRange = Err Erange
 
 abbrev pub op : List Semaphore → ℕ → List SemStep → Result (List Semaphore) Errno
 op set pid steps =
     if nat_lt max_operations (length steps) then Err E2big
     else if list_any (λ step. nat_le (length set) step.num) steps then Err Efbig
-    else tried_op set pid steps (try_ops (values_of set) steps)
+    else op_after_trial set pid steps (try_ops (values_of set) steps)
 
 -- semctl with GETVAL and GETPID
-abbrev pub found : Option Semaphore → (Semaphore → ℕ) → Result ℕ Errno
-found None part = Err Einval
-found (Some s) part = Ok (part s)
+abbrev pub read_semaphore : Option Semaphore → (Semaphore → ℕ) → Result ℕ Errno
+read_semaphore None part = Err Einval
+read_semaphore (Some s) part = Ok (part s)
 
 abbrev pub value_at : List Semaphore → ℕ → Result ℕ Errno
-value_at set num = found (slice_get set num) (λ s. s.value)
+value_at set num = read_semaphore (slice_get set num) (λ s. s.value)
 
 abbrev pub last_at : List Semaphore → ℕ → Result ℕ Errno
-last_at set num = found (slice_get set num) (λ s. s.last)
+last_at set num = read_semaphore (slice_get set num) (λ s. s.last)
 
 -- semctl with GETNCNT and GETZCNT: nobody waits
 abbrev pub waiting_at : List Semaphore → ℕ → Result ℕ Errno
-waiting_at set num = found (slice_get set num) (λ _. 0)
+waiting_at set num = read_semaphore (slice_get set num) (λ _. 0)
 
 -- semctl with SETVAL and SETALL. Last processes stay (profile)
 abbrev pub set_value_at : List Semaphore → ℕ → ℕ → Option Semaphore → Result (List Semaphore) Errno

@@ -6,55 +6,55 @@ use Rattle.pico_base.specs.declared.call.SemStep.{SemStep}
 use Rattle.pico_base.specs.declared.reply.Errno.{Errno}
 use Rattle.pico_base.specs.declared.reply.Errno.TheVariants.{Einval, Enoent, Eexist}
 use Rattle.pico_base.specs.declared.reply.Reply.TheVariants as replies
-use Rattle.kernel_model.specs.Maps.{Numbered, get, put, without, used_with}
+use Rattle.number_maps.specs.Maps.{Numbered, get, put, without, used_with}
 use Rattle.kernel_model.specs.Waiting.{may_wait}
 use Rattle.kernel_model.specs.SemaphoreSet.{Semaphore, new_set, values_of, op}
 use Rattle.kernel_model.specs.Kernel.{Kernel}
-use Rattle.kernel_model.specs.Effect.{Effect, replied, refused, on_named, is_fresh}
-use Rattle.kernel_model.specs.QueueCalls.{unbound}
+use Rattle.kernel_model.specs.Effect.{Effect, reply_with, refuse, on_named, is_fresh}
+use Rattle.kernel_model.specs.QueueCalls.{unbind}
 
 abbrev pub with_set : Kernel → ℕ → List Semaphore → Kernel
 with_set k id set = record k { sets = put k.sets id set }
 
 -- a new set, with these keys. A bad number of semaphores is refused
 abbrev pub new_set_of : Kernel → Numbered ℕ → ℕ → Result (List Semaphore) Errno → Option Effect
-new_set_of k keys n (Err e) = Some (refused k e)
+new_set_of k keys n (Err e) = Some (refuse k e)
 new_set_of k keys n (Ok set) =
     if is_fresh k.used_sets n
-    then Some (replied (record k { sets = put k.sets n set; set_keys = keys; used_sets = used_with k.used_sets n }) n)
+    then Some (reply_with (record k { sets = put k.sets n set; set_keys = keys; used_sets = used_with k.used_sets n }) n)
     else None
 
 -- the size of the set of a number
-abbrev pub size_of : Kernel → ℕ → ℕ
-size_of k id = option_map_or length (get k.sets id) 0
+abbrev pub set_size : Kernel → ℕ → ℕ
+set_size k id = option_map_or length (get k.sets id) 0
 
 -- a bound key leads to its set, which is to have at least as many semaphores as are asked for
-abbrev pub found_set : Kernel → ℕ → ℕ → Effect
-found_set k id count = if nat_eq count 0 || nat_le count (size_of k id) then replied k id else refused k Einval
+abbrev pub find_set : Kernel → ℕ → ℕ → Effect
+find_set k id count = if nat_eq count 0 || nat_le count (set_size k id) then reply_with k id else refuse k Einval
 
 abbrev pub get_set_at : Kernel → ℕ → ℕ → Bool → Bool → ℕ → Option ℕ → Option Effect
-get_set_at k key count create excl n (Some id) = Some (if create && excl then refused k Eexist else found_set k id count)
+get_set_at k key count create excl n (Some id) = Some (if create && excl then refuse k Eexist else find_set k id count)
 get_set_at k key count create excl n None =
-    if create then new_set_of k (put k.set_keys key n) n (new_set count) else Some (refused k Enoent)
+    if create then new_set_of k (put k.set_keys key n) n (new_set count) else Some (refuse k Enoent)
 
 -- semget: IPC_PRIVATE always makes a set
 abbrev pub get_set : Kernel → Option ℕ → ℕ → Bool → Bool → ℕ → Option Effect
 get_set k None count create excl n = new_set_of k k.set_keys n (new_set count)
 get_set k (Some key) count create excl n = get_set_at k key count create excl n (get k.set_keys key)
 
-abbrev pub changed_set : Kernel → ℕ → Result (List Semaphore) Errno → Effect
-changed_set k id (Ok set) = replied (with_set k id set) 0
-changed_set k id (Err e) = refused k e
+abbrev pub change_set : Kernel → ℕ → Result (List Semaphore) Errno → Effect
+change_set k id (Ok set) = reply_with (with_set k id set) 0
+change_set k id (Err e) = refuse k e
 
 -- semop. A call that may have to wait has no effect here
-abbrev pub operated : Kernel → ℕ → ℕ → List SemStep → Option Effect
-operated k pid id steps =
+abbrev pub operate : Kernel → ℕ → ℕ → List SemStep → Option Effect
+operate k pid id steps =
     if list_any may_wait steps
     then None
-    else Some (on_named k (get k.sets id) (λ set. changed_set k id (op set pid steps)))
+    else Some (on_named k (get k.sets id) (λ set. change_set k id (op set pid steps)))
 
 abbrev pub all_values : Kernel → List Semaphore → Effect
 all_values k set = record { kernel = k; reply = replies.All (values_of set) }
 
-abbrev pub removed_set : Kernel → ℕ → Effect
-removed_set k id = replied (record k { sets = without k.sets id; set_keys = unbound k.set_keys id }) 0
+abbrev pub remove_set : Kernel → ℕ → Effect
+remove_set k id = reply_with (record k { sets = without k.sets id; set_keys = unbind k.set_keys id }) 0

@@ -11,7 +11,7 @@ use Rattle.pico_base.specs.declared.signal.SigArg.{SigArg}
 use Rattle.pico_base.specs.declared.signal.SigArg.TheVariants.{Zero, Is, Bad}
 use Rattle.pico_base.specs.declared.reply.Errno.{Errno}
 use Rattle.pico_base.specs.declared.reply.Errno.TheVariants.{Einval}
-use Rattle.pico_base.specs.Signal.{at, put, everywhere}
+use Rattle.pico_base.specs.Signal.{at, put_at, everywhere}
 
 -- An action and a count of catches for each signal, the mask, the pending signals, and the signal by which
 -- the process will end, if there is one.
@@ -33,8 +33,8 @@ new_signals =
     }
 
 -- fork: the child has its parent's actions and mask; nothing is pending, and no signal was caught (profile)
-abbrev pub inherited : Signals → Signals
-inherited s = record new_signals { actions = s.actions; mask = s.mask }
+abbrev pub inherit : Signals → Signals
+inherit s = record new_signals { actions = s.actions; mask = s.mask }
 
 -- the table of signals, in order
 abbrev pub all_signals : List Sig
@@ -54,18 +54,18 @@ discards Ign g = true
 discards Dfl g = is_chld g
 discards Catch g = false
 
-abbrev pub doomed_by : Signals → Sig → Signals
-doomed_by s g = record s { doom = Some g }
+abbrev pub doom_by : Signals → Sig → Signals
+doom_by s g = record s { doom = Some g }
 
 -- a count stays at its greatest value (profile)
-abbrev pub counted : ℕ → ℕ
-counted n = min (n + 1) 4294967295
+abbrev pub count_up : ℕ → ℕ
+count_up n = min (n + 1) 4294967295
 
 -- a signal that arrives is caught and counted, or ends the process
 abbrev pub arrive_by : Act → Signals → Sig → Signals
-arrive_by Catch s g = record s { handled = put s.handled g (counted (at s.handled g)) }
-arrive_by Dfl s g = doomed_by s g
-arrive_by Ign s g = doomed_by s g
+arrive_by Catch s g = record s { handled = put_at s.handled g (count_up (at s.handled g)) }
+arrive_by Dfl s g = doom_by s g
+arrive_by Ign s g = doom_by s g
 
 abbrev pub arrive : Signals → Sig → Signals
 arrive s g = arrive_by (at s.actions g) s g
@@ -75,17 +75,17 @@ arrive s g = arrive_by (at s.actions g) s g
 abbrev pub raise : Signals → Sig → Signals
 raise s g =
     if is_some s.doom then s
-    else if is_kill g then doomed_by s g
+    else if is_kill g then doom_by s g
     else if discards (at s.actions g) g then s
-    else if at s.mask g then record s { pending = put s.pending g true }
+    else if at s.mask g then record s { pending = put_at s.pending g true }
     else arrive s g
 
 -- sigaction: what is pending goes where the new action discards it
 abbrev pub with_action : Signals → Sig → Act → Signals
 with_action s g act =
     record s {
-      actions = put s.actions g act;
-      pending = put s.pending g (at s.pending g && not (discards act g));
+      actions = put_at s.actions g act;
+      pending = put_at s.pending g (at s.pending g && not (discards act g));
     }
 
 -- no action can be given to KILL, to 0 or to a number that is no signal's
@@ -116,13 +116,13 @@ mask_by Unblock old set = both (λ a b. a && not b) old set
 mask_by SetMask old set = set
 
 abbrev pub new_mask : How → PerSignal Bool → PerSignal Bool → PerSignal Bool
-new_mask how old set = put (mask_by how old set) Kill false
+new_mask how old set = put_at (mask_by how old set) Kill false
 
 -- a pending signal that isn't masked arrives, unless the process is doomed
 abbrev pub deliver : Signals → Sig → Signals
 deliver s g =
     if not (is_some s.doom) && (at s.pending g && not (at s.mask g))
-    then arrive (record s { pending = put s.pending g false }) g
+    then arrive (record s { pending = put_at s.pending g false }) g
     else s
 
 -- the mask changes, and then what is pending and unmasked arrives, in table order
@@ -131,20 +131,20 @@ with_mask s how set = fold deliver (record s { mask = new_mask how s.mask set })
 
 -- What holds of each reachable state: no pending signal has an action that discards it, and KILL is in no mask
 -- and has its default action.
-pub record IsSound (s : Signals) : Type 0 where
+pub record AreSoundSignals (s : Signals) : Type 0 where
   pub kept : (g : Sig) → at s.pending g ≡ true → discards (at s.actions g) g ≡ false
   pub unmasked : s.mask.kill ≡ false
   pub kill_default : s.actions.kill ≡ Dfl
 
 -- a signal's number, its place in the table from 1
-abbrev pub number_of : Sig → ℕ
-number_of Hup = 1
-number_of Int = 2
-number_of Quit = 3
-number_of Kill = 4
-number_of Usr1 = 5
-number_of Usr2 = 6
-number_of Pipe = 7
-number_of Alrm = 8
-number_of Term = 9
-number_of Chld = 10
+abbrev pub signal_number : Sig → ℕ
+signal_number Hup = 1
+signal_number Int = 2
+signal_number Quit = 3
+signal_number Kill = 4
+signal_number Usr1 = 5
+signal_number Usr2 = 6
+signal_number Pipe = 7
+signal_number Alrm = 8
+signal_number Term = 9
+signal_number Chld = 10

@@ -23,8 +23,7 @@ use Rattle.pico_base.specs.declared.signal.How.TheVariants.{Block, Unblock, SetM
 use Rattle.pico_base.specs.declared.signal.PerSignal.{PerSignal}
 use Rattle.pico_base.specs.declared.script.Script.{Script}
 use Rattle.pico_base.specs.declared.script.Block.{Block as ScriptBlock}
-use Rattle.pico_base.specs.Signal.{at}
-use Rattle.kernel_model.specs.Signals.{all_signals}
+use Rattle.pico_base.specs.Signal.{at, all_signals}
 use Rattle.kernel_model.specs.Fitting.{block_at}
 
 -- Names.
@@ -98,23 +97,23 @@ is_plain b = is_between 32 126 b && not (nat_eq b 34 || nat_eq b 92)
 abbrev pub hex_digit : ℕ → ℕ
 hex_digit d = if nat_lt d 10 then 48 + d else 87 + d
 
-abbrev pub escaped : ℕ → List ℕ
-escaped b = if is_plain b then b ∷ [] else codes "\\x" ++ hex_digit (b / 16) ∷ hex_digit (b % 16) ∷ []
+abbrev pub escape : ℕ → List ℕ
+escape b = if is_plain b then b ∷ [] else codes "\\x" ++ hex_digit (b / 16) ∷ hex_digit (b % 16) ∷ []
 
-abbrev pub quoted : List ℕ → List ℕ
-quoted text = 34 ∷ (flat_map escaped text ++ 34 ∷ [])
+abbrev pub quoted_text : List ℕ → List ℕ
+quoted_text text = 34 ∷ (flat_map escape text ++ 34 ∷ [])
 
 -- the same letter or digit, 17 or more times
 abbrev pub is_repeated : List ℕ → Bool
 is_repeated [] = false
 is_repeated (b ∷ bs) = is_letter_or_digit b && (nat_le 16 (length bs) && list_all (nat_eq b) bs)
 
-abbrev pub repeated : List ℕ → List ℕ
-repeated [] = []
-repeated (b ∷ bs) = codes "rep:" ++ decimal (length (b ∷ bs)) ++ 58 ∷ b ∷ []
+abbrev pub repeated_text : List ℕ → List ℕ
+repeated_text [] = []
+repeated_text (b ∷ bs) = codes "rep:" ++ decimal (length (b ∷ bs)) ++ 58 ∷ b ∷ []
 
 abbrev pub message_text : List ℕ → List ℕ
-message_text text = if is_repeated text then repeated text else quoted text
+message_text text = if is_repeated text then repeated_text text else quoted_text text
 
 -- Calls and replies.
 
@@ -236,17 +235,17 @@ is_fork (calls.Fork block) = true
 is_fork _ = false
 
 -- nothing was ready: ENOMSG and EAGAIN
-abbrev pub is_wait_error : Errno → Bool
-is_wait_error Enomsg = true
-is_wait_error Eagain = true
-is_wait_error _ = false
+abbrev pub is_not_ready : Errno → Bool
+is_not_ready Enomsg = true
+is_not_ready Eagain = true
+is_not_ready _ = false
 
 abbrev pub is_not_ready_reply : Option Reply → Bool
-is_not_ready_reply (Some (replies.Fail e)) = is_wait_error e
+is_not_ready_reply (Some (replies.Fail e)) = is_not_ready e
 is_not_ready_reply _ = false
 
 abbrev pub is_refused_reply : Option Reply → Bool
-is_refused_reply (Some (replies.Fail e)) = not (is_wait_error e)
+is_refused_reply (Some (replies.Fail e)) = not (is_not_ready e)
 is_refused_reply _ = false
 
 unfoldable pub entries_total : ℕ → List ℕ

@@ -7,54 +7,54 @@ use Rattle.pico_base.specs.declared.reply.Reply.TheVariants as replies
 use Rattle.pico_base.specs.declared.reply.Outcome.{Outcome}
 use Rattle.pico_base.specs.declared.reply.Ending.TheVariants as endings
 use Rattle.pico_base.specs.declared.signal.Sig.{Sig}
-use Rattle.pico_base.specs.Signal.{at}
-use Rattle.kernel_model.specs.Maps.{get}
-use Rattle.kernel_model.specs.Signals.{act_on, with_mask, number_of}
+use Rattle.pico_base.specs.Signal.{at, signal_number}
+use Rattle.number_maps.specs.Maps.{get}
+use Rattle.kernel_model.specs.Signals.{act_on, with_mask}
 use Rattle.kernel_model.specs.Row.{Alive, Allowance, Free, One, Spent, wait}
 use Rattle.kernel_model.specs.Queue.{send, receive, set_qbytes}
 use Rattle.kernel_model.specs.SemaphoreSet.{value_at, last_at, waiting_at, set_value, set_all}
 use Rattle.kernel_model.specs.Kernel.{Kernel, living_at, with_alive}
-use Rattle.kernel_model.specs.Effect.{Effect, replied, looked_up, on_named}
-use Rattle.kernel_model.specs.ProcessCalls.{forked, ended, reaped, with_signals, acted, kill}
-use Rattle.kernel_model.specs.QueueCalls.{get_queue, changed_queue, received, looked_at_queue, removed_queue}
-use Rattle.kernel_model.specs.SetCalls.{get_set, changed_set, operated, all_values, removed_set}
+use Rattle.kernel_model.specs.Effect.{Effect, reply_with, look_up, on_named}
+use Rattle.kernel_model.specs.ProcessCalls.{fork_effect, end_process, reap_child, with_signals, action_effect, kill}
+use Rattle.kernel_model.specs.QueueCalls.{get_queue, change_queue, receive_effect, stat_effect, remove_queue}
+use Rattle.kernel_model.specs.SetCalls.{get_set, change_set, operate, all_values, remove_set}
 
 -- The table of calls. A call that may have to wait has no effect here.
 abbrev pub effect : Kernel → ℕ → Alive → Call → ℕ → Option Effect
-effect k pid a (calls.Fork block) n = forked k pid a n
-effect k pid a (calls.Exit status) n = Some (ended k pid a (endings.Exited (status % 256)))
-effect k pid a (calls.Killed sig) n = Some (ended k pid a (endings.Killed sig))
-effect k pid a calls.GetPid n = Some (replied k pid)
+effect k pid a (calls.Fork block) n = fork_effect k pid a n
+effect k pid a (calls.Exit status) n = Some (end_process k pid a (endings.Exited (status % 256)))
+effect k pid a (calls.Killed sig) n = Some (end_process k pid a (endings.Killed sig))
+effect k pid a calls.GetPid n = Some (reply_with k pid)
 effect k pid a (calls.Kill target sig) n = Some (kill k pid target sig)
-effect k pid a (calls.SigAction sig act) n = Some (acted k pid a (act_on a.row.signals sig act))
+effect k pid a (calls.SigAction sig act) n = Some (action_effect k pid a (act_on a.row.signals sig act))
 effect k pid a (calls.SigProcMask how set) n =
     Some (record { kernel = with_signals k pid a (with_mask a.row.signals how set); reply = replies.Bits a.row.signals.mask })
 effect k pid a calls.SigPending n = Some (record { kernel = k; reply = replies.Bits a.row.signals.pending })
-effect k pid a (calls.Handled sig) n = Some (replied k (at a.row.signals.handled sig))
-effect k pid a (calls.WaitPid child true) n = Some (reaped k pid a (wait a.row.family child))
+effect k pid a (calls.Handled sig) n = Some (reply_with k (at a.row.signals.handled sig))
+effect k pid a (calls.WaitPid child true) n = Some (reap_child k pid a (wait a.row.family child))
 effect k pid a (calls.WaitPid child false) n = None
 effect k pid a (calls.MsgGet key create excl) n = get_queue k key create excl n
 effect k pid a (calls.MsgSnd id class text true) n =
-    Some (on_named k (get k.queues id) (λ q. changed_queue k id (send q pid class text)))
+    Some (on_named k (get k.queues id) (λ q. change_queue k id (send q pid class text)))
 effect k pid a (calls.MsgSnd id class text false) n = None
 effect k pid a (calls.MsgRcv id class size noerror true) n =
-    Some (on_named k (get k.queues id) (λ q. received k id (receive q pid class size noerror)))
+    Some (on_named k (get k.queues id) (λ q. receive_effect k id (receive q pid class size noerror)))
 effect k pid a (calls.MsgRcv id class size noerror false) n = None
-effect k pid a (calls.MsgStat id) n = Some (on_named k (get k.queues id) (looked_at_queue k))
+effect k pid a (calls.MsgStat id) n = Some (on_named k (get k.queues id) (stat_effect k))
 effect k pid a (calls.MsgSet id qbytes) n =
-    Some (on_named k (get k.queues id) (λ q. changed_queue k id (set_qbytes q qbytes)))
-effect k pid a (calls.MsgRmid id) n = Some (on_named k (get k.queues id) (λ _. removed_queue k id))
+    Some (on_named k (get k.queues id) (λ q. change_queue k id (set_qbytes q qbytes)))
+effect k pid a (calls.MsgRmid id) n = Some (on_named k (get k.queues id) (λ _. remove_queue k id))
 effect k pid a (calls.SemGet key count create excl) n = get_set k key count create excl n
-effect k pid a (calls.SemOp id steps) n = operated k pid id steps
-effect k pid a (calls.SemGetVal id num) n = Some (on_named k (get k.sets id) (λ s. looked_up k (value_at s num)))
-effect k pid a (calls.SemGetPid id num) n = Some (on_named k (get k.sets id) (λ s. looked_up k (last_at s num)))
-effect k pid a (calls.SemGetNcnt id num) n = Some (on_named k (get k.sets id) (λ s. looked_up k (waiting_at s num)))
-effect k pid a (calls.SemGetZcnt id num) n = Some (on_named k (get k.sets id) (λ s. looked_up k (waiting_at s num)))
+effect k pid a (calls.SemOp id steps) n = operate k pid id steps
+effect k pid a (calls.SemGetVal id num) n = Some (on_named k (get k.sets id) (λ s. look_up k (value_at s num)))
+effect k pid a (calls.SemGetPid id num) n = Some (on_named k (get k.sets id) (λ s. look_up k (last_at s num)))
+effect k pid a (calls.SemGetNcnt id num) n = Some (on_named k (get k.sets id) (λ s. look_up k (waiting_at s num)))
+effect k pid a (calls.SemGetZcnt id num) n = Some (on_named k (get k.sets id) (λ s. look_up k (waiting_at s num)))
 effect k pid a (calls.SemSetVal id num value) n =
-    Some (on_named k (get k.sets id) (λ s. changed_set k id (set_value s num value)))
+    Some (on_named k (get k.sets id) (λ s. change_set k id (set_value s num value)))
 effect k pid a (calls.SemGetAll id) n = Some (on_named k (get k.sets id) (all_values k))
-effect k pid a (calls.SemSetAll id values) n = Some (on_named k (get k.sets id) (λ s. changed_set k id (set_all s values)))
-effect k pid a (calls.SemRmid id) n = Some (on_named k (get k.sets id) (λ _. removed_set k id))
+effect k pid a (calls.SemSetAll id values) n = Some (on_named k (get k.sets id) (λ s. change_set k id (set_all s values)))
+effect k pid a (calls.SemRmid id) n = Some (on_named k (get k.sets id) (λ _. remove_set k id))
 
 -- Who may act (profile): a doomed process ends by its signal, and what it may do before is its allowance.
 
@@ -65,21 +65,21 @@ is_spent Free = false
 
 abbrev pub is_doomed_by : Option Sig → Sig → Bool
 is_doomed_by None g = false
-is_doomed_by (Some doom) g = nat_eq (number_of doom) (number_of g)
+is_doomed_by (Some doom) g = nat_eq (signal_number doom) (signal_number g)
 
 abbrev pub may_make : Alive → Call → Bool
 may_make a (calls.Killed sig) = is_doomed_by a.row.signals.doom sig
 may_make a call = not (is_spent a.allowance)
 
 -- a doomed process that lives on after an entry of its own has nothing left but its ending
-abbrev pub finished : Kernel → ℕ → Option Alive → Kernel
-finished k pid None = k
-finished k pid (Some a) = if is_some a.row.signals.doom then with_alive k pid (record a { allowance = Spent }) else k
+abbrev pub finish_call : Kernel → ℕ → Option Alive → Kernel
+finish_call k pid None = k
+finish_call k pid (Some a) = if is_some a.row.signals.doom then with_alive k pid (record a { allowance = Spent }) else k
 
 abbrev pub outcome_of : ℕ → Option Effect → Option (Kernel × Outcome)
 outcome_of pid None = None
 outcome_of pid (Some e) =
-    Some (finished e.kernel pid (living_at e.kernel pid), record { own = Some e.reply; woken = [] })
+    Some (finish_call e.kernel pid (living_at e.kernel pid), record { own = Some e.reply; woken = [] })
 
 abbrev pub transition_by : Kernel → ℕ → Call → ℕ → Option Alive → Option (Kernel × Outcome)
 transition_by k pid call n None = None

@@ -2,8 +2,8 @@
 use Rattle.std.specs.Prelude.{◌≡◌, ◌↔◌, ℕ, true, map, Some, None, is_some, IsTrue, Contains}
 use Rattle.std.specs.List.Sorted.{IsStrictlyIncreasing}
 use Rattle.pico_base.specs.declared.reply.Ending.{Ending}
-use Rattle.kernel_model.specs.Maps.{Numbered, get, is_used}
-use Rattle.kernel_model.specs.Signals.{IsSound}
+use Rattle.number_maps.specs.Maps.{Numbered, get, is_used}
+use Rattle.kernel_model.specs.Signals.{AreSoundSignals}
 use Rattle.kernel_model.specs.Row.{Alive, Free, lists}
 use Rattle.kernel_model.specs.Kernel.{Kernel, Ended, living_at}
 
@@ -19,8 +19,8 @@ pub record AreKeys {V : Type 0} (keys : Numbered ℕ) (things : Numbered V) : Ty
 
 -- a living process: its signals are sound, it is doomed exactly where its allowance isn't free, its living
 -- children live, and its ended ones have these endings
-pub record IsAlive (k : Kernel) (pid : ℕ) (a : Alive) : Type 0 where
-  pub signals : IsSound a.row.signals
+pub record IsValidProcess (k : Kernel) (pid : ℕ) (a : Alive) : Type 0 where
+  pub signals : AreSoundSignals a.row.signals
   pub allowed : (a.row.signals.doom ≡ None) ↔ (a.allowance ≡ Free)
   pub living : (child : ℕ) → lists a.row.family child ≡ true → IsTrue (is_some (living_at k child))
   pub ended : (child : ℕ) (ending : Ending) → Contains a.row.family.ended (child, ending) → get k.processes child ≡ Some (Ended ending)
@@ -39,7 +39,7 @@ pub record IsValid (k : Kernel) : Type 0 where
   pub used_sets : (n : ℕ) → IsTrue (is_some (get k.sets n)) → IsTrue (is_used k.used_sets n)
   pub queue_keys : AreKeys k.queue_keys k.queues
   pub set_keys : AreKeys k.set_keys k.sets
-  pub alive : (pid : ℕ) (a : Alive) → living_at k pid ≡ Some a → IsAlive k pid a
+  pub alive : (pid : ℕ) (a : Alive) → living_at k pid ≡ Some a → IsValidProcess k pid a
   -- no two processes list the same child
   pub one_parent : (p q : ℕ) (a b : Alive) (child : ℕ) → living_at k p ≡ Some a → living_at k q ≡ Some b
       → lists a.row.family child ≡ true → lists b.row.family child ≡ true → p ≡ q

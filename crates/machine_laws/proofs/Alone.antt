@@ -7,18 +7,18 @@ use Rattle.pico_base.specs.declared.script.Script.{Script}
 use Rattle.rpc_frame.specs.declared.frame.Frame.{Frame}
 use Rattle.kernel_model.specs.Kernel.{Kernel, opening}
 use Rattle.kernel_model.specs.History.{Replays}
-use Rattle.kernel_model.specs.Fitting.{Places, Follows, opening_places}
+use Rattle.kernel_model.specs.Fitting.{Places, FitsFrom, opening_places}
 use Rattle.machine_model.specs.Node.{Node}
-use Rattle.machine_model.specs.World.{World, node_at, size_of}
+use Rattle.machine_model.specs.World.{World, node_at, node_count}
 use Rattle.machine_laws.specs.Invariant.{IsUnderWay, IsChild, HasInvariant}
 use Rattle.machine_laws.proofs.Streams.{Changes}
 use Rattle.machine_laws.proofs.Nodes.{node-other}
 use Rattle.machine_laws.proofs.Moves.{goes-over}
 
 pub moves-alone : (script : Script) (w : World) (first : Node) (k : Kernel) (places : Places) (pids : ℕ → ℕ)
-    → IsUnderWay script w first k places pids → (p : ℕ) → 2 ≤ p → p ≤ size_of script
+    → IsUnderWay script w first k places pids → (p : ℕ) → 2 ≤ p → p ≤ node_count script
     → (w' : World) (m : Node) (a b : List Frame) → w'.script ≡ w.script → w'.nodes ≡ set w.nodes (p - 1) m
-    → Changes (size_of script) p w.streams w'.streams a b → w'.journal ≡ w.journal
+    → Changes (node_count script) p w.streams w'.streams a b → w'.journal ≡ w.journal
     → IsChild script w' first k places p (pids p) → HasInvariant script w'
 moves-alone script w first k places pids u p low high w' m a b of nodes changes journal child =
     let elsewhere : (q : ℕ) → 1 ≤ q → q ≢ p → node_at w' q ≡ node_at w q =
@@ -43,7 +43,7 @@ moves-alone script w first k places pids u p low high w' m a b of nodes changes 
           })
           (record {
             legal = subst (λ (h : List Entry). Replays opening h k) (sym journal) u.legal;
-            fits = subst (λ (h : List Entry). Follows script (opening_places script) h places) (sym journal) u.fits;
+            fits = subst (λ (h : List Entry). FitsFrom script (opening_places script) h places) (sym journal) u.fits;
             ordered = u.ordered;
             first_at = elsewhere 1 (omega arith) (λ e. omega arith) ∙ u.first_at;
             leader = u.leader;

@@ -7,7 +7,7 @@ use Rattle.pico_base.specs.declared.call.Call.TheVariants as calls
 use Rattle.pico_base.specs.declared.script.Line.{Line}
 use Rattle.pico_base.specs.declared.script.Block.{Block}
 use Rattle.pico_base.specs.declared.script.Script.{Script}
-use Rattle.kernel_model.specs.Script.{Vars, naming, call_of, call_from, implied_exit, is_exit, with_exit, calls_in}
+use Rattle.kernel_model.specs.Script.{Vars, with_target, call_of, call_from, implied_exit, is_exit, with_exit, calls_in}
 use Rattle.kernel_model.specs.Waiting.{is_waiting}
 use Rattle.kernel_model.specs.Fitting.{block_at}
 use Rattle.machine_model.specs.Built.{IsRunnable, is_built, is_built_line, is_built_block}
@@ -19,19 +19,19 @@ use Rattle.machine_laws.proofs.Lines.{some-is}
 
 -- the number in place of a call's process or object changes nothing of its kind
 
-naming-exit : (call : Call) (n : ℕ) → is_exit (naming call n) ≡ is_exit call
+naming-exit : (call : Call) (n : ℕ) → is_exit (with_target call n) ≡ is_exit call
 naming-exit (calls.Kill pid sig) n = refl
 naming-exit call n = refl
 
-naming-waiting : (call : Call) (n : ℕ) → is_waiting (naming call n) ≡ is_waiting call
+naming-waiting : (call : Call) (n : ℕ) → is_waiting (with_target call n) ≡ is_waiting call
 naming-waiting (calls.Kill pid sig) n = refl
 naming-waiting call n = refl
 
-naming-built : (block : ℕ) (call : Call) (n : ℕ) → is_built block (naming call n) ≡ is_built block call
+naming-built : (block : ℕ) (call : Call) (n : ℕ) → is_built block (with_target call n) ≡ is_built block call
 naming-built block (calls.Kill pid sig) n = refl
 naming-built block call n = refl
 
-naming-names : (block : ℕ) (call : Call) (n : ℕ) → names_block block (naming call n) ≡ names_block block call
+naming-names : (block : ℕ) (call : Call) (n : ℕ) → names_block block (with_target call n) ≡ names_block block call
 naming-names block (calls.Kill pid sig) n = refl
 naming-names block call n = refl
 
@@ -42,8 +42,8 @@ call-exit-cases call vars (Some v) = naming-exit call _
 pub call-exit : (line : Line) (vars : Vars) → is_exit (call_of line vars) ≡ is_exit line.call
 call-exit line vars = call-exit-cases line.call vars line.«from»
 
-named-exit : (call : Call) (n : ℕ) → call ≡ calls.Exit 0 → naming call n ≡ calls.Exit 0
-named-exit call n e = ap (λ c. naming c n) e
+named-exit : (call : Call) (n : ℕ) → call ≡ calls.Exit 0 → with_target call n ≡ calls.Exit 0
+named-exit call n e = ap (λ c. with_target c n) e
 
 exit-named : (call : Call) (vars : Vars) (v : Option ℕ) → call ≡ calls.Exit 0 → call_from call vars v ≡ calls.Exit 0
 exit-named call vars None e = e

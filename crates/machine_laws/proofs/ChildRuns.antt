@@ -12,24 +12,24 @@ use Rattle.pico_base.specs.declared.script.Script.{Script}
 use Rattle.pico_base.specs.declared.script.Event.TheVariants as events
 use Rattle.rpc_frame.specs.declared.frame.Frame.{Frame}
 use Rattle.rpc_frame.specs.declared.frame.Frame.TheVariants as frames
-use Rattle.kernel_model.specs.Maps.{get, put}
+use Rattle.number_maps.specs.Maps.{get, put}
 use Rattle.kernel_model.specs.Kernel.{Kernel, alive_in, living_at}
 use Rattle.kernel_model.specs.Script.{is_exit}
 use Rattle.kernel_model.specs.Fitting.{Places, due}
 use Rattle.kernel_model.specs.Waiting.{is_waiting}
 use Rattle.machine_model.specs.Built.{IsRunnable, is_shared, is_built}
 use Rattle.machine_model.specs.Node.{Node, is_living, new_process, place_of, lines_of}
-use Rattle.machine_model.specs.Calls.{Step, run, starts_call, shares, asks, leaves, carried_out}
-use Rattle.machine_model.specs.World.{World, node_at, stream, stream_in, with_stream, size_of, after as world_after, step}
+use Rattle.machine_model.specs.Calls.{Step, run, starts_call, shares, asks, leaves, step_here}
+use Rattle.machine_model.specs.World.{World, node_at, stream, stream_in, with_stream, node_count, world_after, step}
 use Rattle.deed_laws.specs.Carrying.{Makes}
 use Rattle.deed_laws.proofs.Steps.{own_calls}
-use Rattle.machine_laws.specs.Situations.{Free, Asking, Telling, IsFree, Lives}
+use Rattle.machine_laws.specs.Situations.{Free, Asking, Telling, IsFree, LivesHere}
 use Rattle.machine_laws.specs.Invariant.{IsUnderWay, IsChild, HasInvariant, sight}
 use Rattle.machine_laws.proofs.Streams.{changes-none, changes-from}
 use Rattle.machine_laws.proofs.Lines.{answered-place}
 use Rattle.machine_laws.proofs.Nodes.{node-same, node-other}
 use Rattle.machine_laws.proofs.Entries.{goes-on}
-use Rattle.machine_laws.proofs.Moves.{Keeps, News, goes-over, square-of}
+use Rattle.machine_laws.proofs.Moves.{KeepsOthers, News, goes-over, square-of}
 use Rattle.machine_laws.proofs.Steps.{Goes, due-is, run-is, step-run, ends-behind}
 use Rattle.machine_laws.proofs.Rests.{leader-places, known-after, born-again}
 use Rattle.machine_laws.proofs.Alone.{moves-alone}
@@ -38,8 +38,8 @@ and-is-false : (a b : Bool) → a ≡ false → (a && b) ≡ false
 and-is-false a b h = rw h refl
 
 module _ (script : Script) (r : IsRunnable script) (w : World) (first : Node) (k : Kernel) (places : Places) (pids : ℕ → ℕ)
-    (u : IsUnderWay script w first k places pids) (p : ℕ) (low : 2 ≤ p) (high : p ≤ size_of script) (n : Node) (at : node_at w p ≡ Some n)
-    (free : IsFree script p (pids p) (sight w first places p (pids p) n)) (lives : Lives k first.held (pids p)) where
+    (u : IsUnderWay script w first k places pids) (p : ℕ) (low : 2 ≤ p) (high : p ≤ node_count script) (n : Node) (at : node_at w p ≡ Some n)
+    (free : IsFree script p (pids p) (sight w first places p (pids p) n)) (lives : LivesHere k first.held (pids p)) where
   -- the node's number and its process's
   numbered : 1 ≤ n.number
   numbered = let e = free.born.number in omega (arith, e)
@@ -72,7 +72,7 @@ module _ (script : Script) (r : IsRunnable script) (w : World) (first : Node) (k
   gets-pid d =
       let reply : Reply = Num n.pid
       in let known = due-is script n calls.GetPid r numbered d
-      in let s : Step = carried_out script n calls.GetPid reply n.held
+      in let s : Step = step_here script n calls.GetPid reply n.held
       in let w' : World = world_after w p s
       in let makes : Makes k n.pid calls.GetPid reply k =
       own_calls k n.pid new_process u.leader.stands.plain
@@ -82,13 +82,13 @@ module _ (script : Script) (r : IsRunnable script) (w : World) (first : Node) (k
       (answered-place (lines_of script n.number) n.caller.line n.caller.vars calls.GetPid reply known.first.line known.first.rest
       known.first.left known.fine.once)
       in let places' : Places = put places n.pid (place_of script s.node)
-      in let keeps : Keeps script w w' first first k k places places' pids pids p =
+      in let keeps : KeepsOthers script w w' first first k k places places' pids pids p =
       record {
         script_stays = refl;
         count = length-set w.nodes (p - 1) s.node;
         frames_to = _;
         frames_from = _;
-        streams = changes-none (size_of script) p w.streams (square-of script w first k places pids u);
+        streams = changes-none (node_count script) p w.streams (square-of script w first k places pids u);
         nodes = λ q l o. node-other w.nodes p q s.node (omega arith) (omega arith) o;
         partings = λ q l o. refl;
         pids_stay = λ q l o. refl;
@@ -147,18 +147,18 @@ module _ (script : Script) (r : IsRunnable script) (w : World) (first : Node) (k
       → HasInvariant script (world_after w p (sends-one m f))
   tells m f child =
       moves-alone script w first k places pids u p low high (world_after w p (sends-one m f)) m _ _ refl refl
-      (changes-from (size_of script) p w.streams (stream w 1 p ++ f ∷ []) (square-of script w first k places pids u) low high)
+      (changes-from (node_count script) p w.streams (stream w 1 p ++ f ∷ []) (square-of script w first k places pids u) low high)
       (append-nil w.journal) child
 
   stream-from : (f : Frame) (ss : _) → ss ≡ w.streams → stream_in (with_stream ss 1 p (stream_in ss 1 p ++ f ∷ [])) 1 p ≡ f ∷ []
   stream-from f ss e =
       ap (λ x. stream_in (with_stream x 1 p (stream_in x 1 p ++ f ∷ [])) 1 p) e
-      ∙ (changes-from (size_of script) p w.streams (stream w 1 p ++ f ∷ []) (square-of script w first k places pids u) low high).from_it
+      ∙ (changes-from (node_count script) p w.streams (stream w 1 p ++ f ∷ []) (square-of script w first k places pids u) low high).from_it
       ∙ ap (λ x. x ++ f ∷ []) free.shows.from_it
 
   stream-to : (f : Frame) → stream_in (with_stream w.streams 1 p (stream w 1 p ++ f ∷ [])) p 1 ≡ []
   stream-to f =
-      (changes-from (size_of script) p w.streams (stream w 1 p ++ f ∷ []) (square-of script w first k places pids u) low high).to ∙ free.shows.to_it
+      (changes-from (node_count script) p w.streams (stream w 1 p ++ f ∷ []) (square-of script w first k places pids u) low high).to ∙ free.shows.to_it
 
   asks-leader : (call : Call) → due (place_of script n) ≡ Some call → is_shared call ≡ true → is_waiting call ≡ false → is_exit call ≡ false
       → starts_call script n call ≡ Some (asks n call) → Goes script w (events.Run p)

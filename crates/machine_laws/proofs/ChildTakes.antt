@@ -12,18 +12,18 @@ use Rattle.pico_base.specs.declared.script.Script.{Script}
 use Rattle.pico_base.specs.declared.script.Event.TheVariants as events
 use Rattle.rpc_frame.specs.declared.frame.Frame.{Frame}
 use Rattle.rpc_frame.specs.declared.frame.Frame.TheVariants as frames
-use Rattle.kernel_model.specs.Maps.{get}
+use Rattle.number_maps.specs.Maps.{get}
 use Rattle.kernel_model.specs.Kernel.{Kernel}
 use Rattle.kernel_model.specs.Script.{Vars, is_exit}
-use Rattle.kernel_model.specs.Fitting.{Places, after, block_at}
+use Rattle.kernel_model.specs.Fitting.{Places, place_after, block_at}
 use Rattle.machine_model.specs.Built.{IsRunnable, is_shared}
 use Rattle.machine_model.specs.Node.{Node, Leaving, Left, is_unborn, nothing, unborn_node, place_of, lines_in, lines_of}
 use Rattle.machine_model.specs.Deeds.{new_body, new_deed, is_new_deed, is_process}
-use Rattle.machine_model.specs.Calls.{Step, answered}
-use Rattle.machine_model.specs.Frames.{takes, is_awaited, is_forked_by, are_rising, born, parcel_of}
-use Rattle.machine_model.specs.World.{World, Streams, node_at, stream, stream_in, with_stream, size_of, after as world_after, step}
+use Rattle.machine_model.specs.Calls.{Step, take_reply}
+use Rattle.machine_model.specs.Frames.{takes, is_awaited, is_forked_by, are_rising, bear, parcel_of}
+use Rattle.machine_model.specs.World.{World, Streams, node_at, stream, stream_in, with_stream, node_count, world_after, step}
 use Rattle.machine_laws.specs.Lines.{EndsInExit}
-use Rattle.machine_laws.specs.Situations.{Free, HandedOver, IsForked, IsAnswered, IsRecalled, Lives}
+use Rattle.machine_laws.specs.Situations.{Free, HandedOver, IsForkedAs, IsAnswered, IsRecalled, LivesHere}
 use Rattle.machine_laws.specs.Invariant.{IsUnderWay, IsChild, HasInvariant, sight}
 use Rattle.machine_laws.proofs.Streams.{Changes, changes-to, changes-from, changes-both}
 use Rattle.machine_laws.proofs.Lines.{answered-place, ends-with_exit}
@@ -43,7 +43,7 @@ new-deed-same pid = rw (eq-eqb pid pid refl, new-body-same) refl
 lines-end-in : (b : Option Block) → (block : Block) → b ≡ Some block → EndsInExit (lines_in b)
 lines-end-in b block e = subst (λ x. EndsInExit (lines_in x)) (sym e) (ends-with_exit block.lines)
 
-pub lines-end : (script : Script) (p : ℕ) → 1 ≤ p → p ≤ size_of script → EndsInExit (lines_of script p)
+pub lines-end : (script : Script) (p : ℕ) → 1 ≤ p → p ≤ node_count script → EndsInExit (lines_of script p)
 lines-end script p low high =
     elim (slice_get_cases script.blocks (p - 1)).1 [
       | inl found ↦ lines-end-in (block_at script p) found.0 found.2
@@ -51,13 +51,13 @@ lines-end script p low high =
     ]
 
 module _ (script : Script) (r : IsRunnable script) (w : World) (first : Node) (k : Kernel) (places : Places) (pids : ℕ → ℕ)
-    (u : IsUnderWay script w first k places pids) (p : ℕ) (low : 2 ≤ p) (high : p ≤ size_of script) (n : Node) (at : node_at w p ≡ Some n)
-    (lives : Lives k first.held (pids p)) where
+    (u : IsUnderWay script w first k places pids) (p : ℕ) (low : 2 ≤ p) (high : p ≤ node_count script) (n : Node) (at : node_at w p ≡ Some n)
+    (lives : LivesHere k first.held (pids p)) where
   abbrev without-first : World
   without-first = record w { streams = with_stream w.streams p 1 [] }
 
-  taken : Changes (size_of script) p w.streams (with_stream w.streams p 1 []) [] (stream w 1 p)
-  taken = changes-to (size_of script) p w.streams [] (square-of script w first k places pids u) low high
+  taken : Changes (node_count script) p w.streams (with_stream w.streams p 1 []) [] (stream w 1 p)
+  taken = changes-to (node_count script) p w.streams [] (square-of script w first k places pids u) low high
 
   abbrev quietly : (m : Node) → Step
   quietly m = record { node = m; entries = []; sends = [] }
@@ -75,16 +75,16 @@ module _ (script : Script) (r : IsRunnable script) (w : World) (first : Node) (k
   -- ---- the Checkpoint: it is born
 
   checkpoint-rule : (vars : Vars) → n ≡ unborn_node p → 2 ≤ pids p → is_forked_by script 1 p ≡ true → are_rising vars ≡ true
-      → takes script n 1 (frames.Checkpoint (pids p) 1 (new_deed (pids p)) vars) ≡ Some (quietly (born n 1 (pids p) 1 vars))
+      → takes script n 1 (frames.Checkpoint (pids p) 1 (new_deed (pids p)) vars) ≡ Some (quietly (bear n 1 (pids p) 1 vars))
   checkpoint-rule vars e l f v =
       let unborn : is_unborn n.stage ≡ true = ap (λ (x : Node). is_unborn x.stage) e
       in let forked : is_forked_by script 1 n.number ≡ true = ap (λ (x : Node). is_forked_by script 1 x.number) e ∙ f
       in let some : nat_lt 0 (pids p) ≡ true = lt-ltb 0 (pids p) (omega arith)
       in rw (unborn, forked, some, new-deed-same (pids p), v) refl
 
-  pub is-born : (vars : Vars) → IsForked script p (pids p) (sight w first places p (pids p) n) vars → Goes script w (events.Take p 1)
+  pub is-born : (vars : Vars) → IsForkedAs script p (pids p) (sight w first places p (pids p) n) vars → Goes script w (events.Take p 1)
   is-born vars i =
-      let m : Node = born n 1 (pids p) 1 vars
+      let m : Node = bear n 1 (pids p) 1 vars
       in let numbered : n.number ≡ p = ap (λ (x : Node). x.number) i.unborn.node
       in record {
         next = world_after without-first p (quietly m);
@@ -111,7 +111,7 @@ module _ (script : Script) (r : IsRunnable script) (w : World) (first : Node) (k
 
   answer-rule : (call : Call) (reply : Reply) → n.caller.under_way ≡ Some call → is_shared call ≡ true
       → takes script n 1 (frames.Answer n.caller.ticket reply)
-      ≡ Some (quietly (record n { caller = answered script n.number n.caller reply }))
+      ≡ Some (quietly (record n { caller = take_reply script n.number n.caller reply }))
   answer-rule call reply h s =
       let awaited : is_awaited n.caller.under_way ≡ true = ap is_awaited h ∙ s
       in rw (awaited, eq-eqb n.caller.ticket n.caller.ticket refl) refl
@@ -123,10 +123,10 @@ module _ (script : Script) (r : IsRunnable script) (w : World) (first : Node) (k
   pub has-answer : (call : Call) (reply : Reply) → IsAnswered script p (pids p) (sight w first places p (pids p) n) call reply
       → Goes script w (events.Take p 1)
   has-answer call reply i =
-      let m : Node = record n { caller = answered script n.number n.caller reply }
+      let m : Node = record n { caller = take_reply script n.number n.caller reply }
       in let numbered : 1 ≤ n.number = let b = i.has.born.number in omega (arith, b)
       in let known = due-is script n call r numbered i.has.is_due
-      in let place-is : after (place_of script n) call (Some reply) ≡ place_of script m =
+      in let place-is : place_after (place_of script n) call (Some reply) ≡ place_of script m =
       answered-place (lines_of script n.number) n.caller.line n.caller.vars call reply known.first.line known.first.rest
       known.first.left known.fine.once
       in record {
@@ -169,8 +169,8 @@ module _ (script : Script) (r : IsRunnable script) (w : World) (first : Node) (k
       let m : Node = (handing status).node
       in let f : Frame = frames.Left (parcel_of n (calls.Exit status))
       in let mid : Streams = with_stream w.streams p 1 []
-      in let changes = changes-both (size_of script) p w.streams mid _ _ _ _ _ taken
-      (changes-from (size_of script) p mid (stream_in mid 1 p ++ f ∷ []) taken.square low high)
+      in let changes = changes-both (node_count script) p w.streams mid _ _ _ _ _ taken
+      (changes-from (node_count script) p mid (stream_in mid 1 p ++ f ∷ []) taken.square low high)
       in let w' : World = world_after without-first p (handing status)
       in record {
         next = w';

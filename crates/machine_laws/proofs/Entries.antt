@@ -7,12 +7,12 @@ use Rattle.pico_base.specs.declared.reply.Reply.{Reply}
 use Rattle.pico_base.specs.declared.reply.Reply.TheVariants as replies
 use Rattle.pico_base.specs.declared.reply.Entry.{Entry}
 use Rattle.pico_base.specs.declared.script.Script.{Script}
-use Rattle.kernel_model.specs.Maps.{Numbered, get, put}
+use Rattle.number_maps.specs.Maps.{Numbered, get, put}
 use Rattle.kernel_model.specs.Valid.{IsOrdered}
 use Rattle.kernel_model.specs.Kernel.{Kernel, opening}
 use Rattle.kernel_model.specs.Transition.{transition}
 use Rattle.kernel_model.specs.History.{Replays, number_in}
-use Rattle.kernel_model.specs.Fitting.{Place, Places, Follows, IsDue, opening_places, places_after, forked_place, block_place, block_at, child_vars, moved, after, due, is_killed}
+use Rattle.kernel_model.specs.Fitting.{Place, Places, FitsFrom, IsDue, opening_places, places_after, places_after_fork, block_place, block_at, child_vars, move_on, place_after, due, is_killed}
 use Rattle.machine_model.specs.Calls.{entry_by}
 use Rattle.deed_laws.specs.Carrying.{Makes}
 use Rattle.kernel_laws.proofs.MapLaws.{get-put-same, get-put-other, rising, rising-put, ordered}
@@ -23,8 +23,8 @@ replays-more k mid next [] e p t =
     (next, subst (λ (x : Kernel). transition x e.pid e.call (number_in e.outcome.own) ≡ Some (next, e.outcome)) (sym p) t, refl)
 replays-more k mid next (f ∷ h) e p t = (p.0, p.1, replays-more p.0 mid next h e p.2 t)
 
-pub follows-more : (s : Script) (ps mid : Places) (h : List Entry) (e : Entry) (place : Place) → Follows s ps h mid
-    → get mid e.pid ≡ Some place → IsDue place e.call → Follows s ps (h ++ e ∷ []) (places_after s mid e place)
+pub follows-more : (s : Script) (ps mid : Places) (h : List Entry) (e : Entry) (place : Place) → FitsFrom s ps h mid
+    → get mid e.pid ≡ Some place → IsDue place e.call → FitsFrom s ps (h ++ e ∷ []) (places_after s mid e place)
 follows-more s ps mid [] e place p g d =
     (place, subst (λ (x : Places). get x e.pid ≡ Some place) (sym p) g, d, ap (λ (x : Places). places_after s x e place) p)
 follows-more s ps mid (f ∷ h) e place p g d = (p.0, p.1, p.2, follows-more s (places_after s ps f p.0) mid h e place p.3 g d)
@@ -32,35 +32,35 @@ follows-more s ps mid (f ∷ h) e place p g d = (p.0, p.1, p.2, follows-more s (
 -- a call that neither kills nor forks
 pub record IsOrdinary (call : Call) : Type 0 where
   pub not_killed : is_killed call ≡ false
-  pub not_fork : (s : Script) (ps : Places) (place : Place) (reply : Option Reply) → forked_place s ps place call reply ≡ ps
+  pub not_fork : (s : Script) (ps : Places) (place : Place) (reply : Option Reply) → places_after_fork s ps place call reply ≡ ps
 
 -- the history goes on by such a call of this process, which moves on
 pub record GoesOn (s : Script) (h : List Entry) (k : Kernel) (places : Places) (node pid : ℕ) (call : Call) (reply : Reply) (place next : Place)
     (k' : Kernel) (places' : Places) : Type 0 where
   pub legal : Replays opening (h ++ entry_by node pid call reply ∷ []) k'
-  pub fits : Follows s (opening_places s) (h ++ entry_by node pid call reply ∷ []) places'
+  pub fits : FitsFrom s (opening_places s) (h ++ entry_by node pid call reply ∷ []) places'
   pub ordered_places : IsOrdered places'
   pub here : get places' pid ≡ Some next
   pub other : (p : ℕ) → p ≢ pid → get places' p ≡ get places p
 
-moved-is : (place : Place) (call : Call) (reply : Option Reply) → is_killed call ≡ false → moved place call reply ≡ after place call reply
+moved-is : (place : Place) (call : Call) (reply : Option Reply) → is_killed call ≡ false → move_on place call reply ≡ place_after place call reply
 moved-is place call reply h = rw h refl
 
 ordered-put : {V : Type 0} (m : Numbered V) (k : ℕ) (v : V) → IsOrdered m → IsOrdered (put m k v)
 ordered-put m k v h = ordered _ (rising-put m k v (rising m h))
 
 pub goes-on : (s : Script) (h : List Entry) (k next : Kernel) (places : Places) (node pid : ℕ) (call : Call) (reply : Reply) (place then : Place)
-    → Replays opening h k → Follows s (opening_places s) h places → IsOrdered places
+    → Replays opening h k → FitsFrom s (opening_places s) h places → IsOrdered places
     → get places pid ≡ Some place → due place ≡ Some call → IsOrdinary call → Makes k pid call reply next
-    → after place call (Some reply) ≡ then
+    → place_after place call (Some reply) ≡ then
     → GoesOn s h k places node pid call reply place then next (put places pid then)
 goes-on s h k next places node pid call reply place then legal fits ord at is_due plain makes goes =
     let leads : places_after s places (entry_by node pid call reply) place ≡ put places pid then =
-    plain.not_fork s (put places pid (moved place call (Some reply))) place (Some reply)
+    plain.not_fork s (put places pid (move_on place call (Some reply))) place (Some reply)
     ∙ ap (λ x. put places pid x) (moved-is place call (Some reply) plain.not_killed ∙ goes)
     in record {
       legal = replays-more opening k next h (entry_by node pid call reply) legal makes.step;
-      fits = subst (λ (x : Places). Follows s (opening_places s) (h ++ entry_by node pid call reply ∷ []) x) leads
+      fits = subst (λ (x : Places). FitsFrom s (opening_places s) (h ++ entry_by node pid call reply ∷ []) x) leads
           (follows-more s (opening_places s) places h (entry_by node pid call reply) place fits at (inl is_due));
       ordered_places = ordered-put places pid then ord;
       here = get-put-same places pid then;
@@ -69,9 +69,9 @@ goes-on s h k next places node pid call reply place then legal fits ord at is_du
 
 -- and by a fork, which gives the child its place
 pub forks-on : (s : Script) (h : List Entry) (k next : Kernel) (places : Places) (node pid block child : ℕ) (place then : Place)
-    → Replays opening h k → Follows s (opening_places s) h places → IsOrdered places
+    → Replays opening h k → FitsFrom s (opening_places s) h places → IsOrdered places
     → get places pid ≡ Some place → due place ≡ Some (calls.Fork block) → Makes k pid (calls.Fork block) (replies.Num child) next
-    → after place (calls.Fork block) (Some (replies.Num child)) ≡ then → child ≢ pid
+    → place_after place (calls.Fork block) (Some (replies.Num child)) ≡ then → child ≢ pid
     → (places' : Places) × GoesOn s h k (put places child (block_place (block_at s block) (child_vars place))) node pid (calls.Fork block)
     (replies.Num child) place then next places'
     × (get places' child ≡ Some (block_place (block_at s block) (child_vars place)))
@@ -85,7 +85,7 @@ forks-on s h k next places node pid block child place then legal fits ord at is_
       after_places,
       record {
         legal = replays-more opening k next h e legal makes.step;
-        fits = subst (λ (x : Places). Follows s (opening_places s) (h ++ e ∷ []) x) leads
+        fits = subst (λ (x : Places). FitsFrom s (opening_places s) (h ++ e ∷ []) x) leads
             (follows-more s (opening_places s) places h e place fits at (inl is_due));
         ordered_places = ordered-put _ child begins (ordered-put places pid then ord);
         here = get-put-other (put places pid then) child begins pid (λ x. apart (sym x)) ∙ get-put-same places pid then;

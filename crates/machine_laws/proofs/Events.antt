@@ -16,7 +16,7 @@ use Rattle.kernel_model.specs.Waiting.{is_waiting}
 use Rattle.kernel_model.specs.Fitting.{Places, due, call_due}
 use Rattle.machine_model.specs.Built.{IsRunnable, is_built}
 use Rattle.machine_model.specs.Node.{Node, Stage, is_living, can_run, place_of}
-use Rattle.machine_model.specs.World.{World, node_at, stream, size_of, is_enabled, is_run_enabled, is_take_enabled}
+use Rattle.machine_model.specs.World.{World, node_at, stream, node_count, is_enabled, is_run_enabled, is_take_enabled}
 use Rattle.machine_laws.specs.Lines.{EndsInExit}
 use Rattle.machine_laws.specs.Situations.{Situation, Awaited, Forked, Free, Asking, Answered, Telling, Recalled, HandedOver, Gone, IsIn, LivesIn}
 use Rattle.machine_laws.specs.Invariant.{IsUnderWay, FirstRuns, sight}
@@ -71,7 +71,7 @@ module _ (script : Script) (r : IsRunnable script) (w : World) (first : Node) (k
         | inr over ↦ not-living first.stage first.caller.under_way (ap is_living over.stage) h
       ]
 
-  runs-child : (p : ℕ) → 2 ≤ p → p ≤ size_of script → (n : Node) → node_at w p ≡ Some n → (s : Situation)
+  runs-child : (p : ℕ) → 2 ≤ p → p ≤ node_count script → (n : Node) → node_at w p ≡ Some n → (s : Situation)
       → IsIn s script p (pids p) (sight w first places p (pids p) n) → LivesIn s k first.held (pids p) → can_run n ≡ true
       → Goes script w (events.Run p)
   runs-child p low high n at Awaited i l h = not-living n.stage n.caller.under_way (ap (λ (x : Node). is_living x.stage) i.unborn.node) h
@@ -86,7 +86,7 @@ module _ (script : Script) (r : IsRunnable script) (w : World) (first : Node) (k
   runs-child p low high n at (HandedOver status) i l h = not-living n.stage n.caller.under_way (ap is_living i.has.has_stage) h
   runs-child p low high n at Gone i l h = not-living n.stage n.caller.under_way (ap is_living i.has.has_stage) h
 
-  within : (p : ℕ) (n : Node) → node_at w p ≡ Some n → 1 ≤ p → p ≤ size_of script
+  within : (p : ℕ) (n : Node) → node_at w p ≡ Some n → 1 ≤ p → p ≤ node_count script
   within p n at low = let l = slice_get_within w.nodes (p - 1) n at in let c = u.nodes in omega (arith, l, c, low)
 
   is-first : (n : Node) → node_at w 1 ≡ Some n → first ≡ n
@@ -108,7 +108,7 @@ module _ (script : Script) (r : IsRunnable script) (w : World) (first : Node) (k
 
   -- ---- takes
 
-  pub first-takes : (q : ℕ) → 2 ≤ q → q ≤ size_of script → (n : Node) → node_at w q ≡ Some n → (s : Situation)
+  pub first-takes : (q : ℕ) → 2 ≤ q → q ≤ node_count script → (n : Node) → node_at w q ≡ Some n → (s : Situation)
       → IsIn s script q (pids q) (sight w first places q (pids q) n) → LivesIn s k first.held (pids q)
       → (f : Frame) (fs : List Frame) → stream w 1 q ≡ f ∷ fs → Goes script w (events.Take 1 q)
   first-takes q low high n at Awaited i l f fs h = not-nil f fs (sym i.shows.from_it ∙ h)
@@ -121,7 +121,7 @@ module _ (script : Script) (r : IsRunnable script) (w : World) (first : Node) (k
   first-takes q low high n at (HandedOver status) i l f fs h = takes-left script r w first k places pids u q low high n at l i.born.low status i
   first-takes q low high n at Gone i l f fs h = not-nil f fs (sym i.shows.from_it ∙ h)
 
-  child-takes : (p : ℕ) → 2 ≤ p → p ≤ size_of script → (n : Node) → node_at w p ≡ Some n → (s : Situation)
+  child-takes : (p : ℕ) → 2 ≤ p → p ≤ node_count script → (n : Node) → node_at w p ≡ Some n → (s : Situation)
       → IsIn s script p (pids p) (sight w first places p (pids p) n) → LivesIn s k first.held (pids p)
       → (f : Frame) (fs : List Frame) → stream w p 1 ≡ f ∷ fs → Goes script w (events.Take p 1)
   child-takes p low high n at Awaited i l f fs h = not-nil f fs (sym i.shows.to_it ∙ h)
@@ -134,13 +134,13 @@ module _ (script : Script) (r : IsRunnable script) (w : World) (first : Node) (k
   child-takes p low high n at (HandedOver status) i l f fs h = not-nil f fs (sym i.shows.to_it ∙ h)
   child-takes p low high n at Gone i l f fs h = not-nil f fs (sym i.shows.to_it ∙ h)
 
-  size-some : 1 ≤ size_of script
+  size-some : 1 ≤ node_count script
   size-some = within 1 first u.first_at (omega arith)
 
   -- no frame comes from a node that isn't there
-  from-within : (q : ℕ) (f : Frame) (fs : List Frame) → 1 ≤ q → stream w 1 q ≡ f ∷ fs → q ≤ size_of script
+  from-within : (q : ℕ) (f : Frame) (fs : List Frame) → 1 ≤ q → stream w 1 q ≡ f ∷ fs → q ≤ node_count script
   from-within q f fs low h =
-      elim (cases_lt (size_of script) q) [
+      elim (cases_lt (node_count script) q) [
         | inl past ↦
             let row : length (get_or w.streams 0 []) ≤ q - 1 = let c = u.row 0 (let s = size-some in omega (arith, s)) in omega (arith, c, low, past)
             in not-nil f fs (sym (get_or_past (get_or w.streams 0 []) (q - 1) [] row) ∙ h)
@@ -158,7 +158,7 @@ module _ (script : Script) (r : IsRunnable script) (w : World) (first : Node) (k
             in first-takes q two high c.node c.at c.situation c.is_in c.lives f fs h
       ]
 
-  takes-child : (p q : ℕ) → 2 ≤ p → p ≤ size_of script → 1 ≤ q → (f : Frame) (fs : List Frame) → stream w p q ≡ f ∷ fs
+  takes-child : (p q : ℕ) → 2 ≤ p → p ≤ node_count script → 1 ≤ q → (f : Frame) (fs : List Frame) → stream w p q ≡ f ∷ fs
       → Goes script w (events.Take p q)
   takes-child p q low high low_q f fs h =
       elim (cases_eq q 1) [

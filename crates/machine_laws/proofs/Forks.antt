@@ -9,11 +9,11 @@ use Rattle.pico_base.specs.declared.call.Call.TheVariants as calls
 use Rattle.pico_base.specs.declared.script.Line.{Line}
 use Rattle.pico_base.specs.declared.script.Block.{Block}
 use Rattle.pico_base.specs.declared.script.Script.{Script}
-use Rattle.kernel_model.specs.Script.{forked_by, forks_of, goes_forward, is_forked_once, is_exit, with_exit}
+use Rattle.kernel_model.specs.Script.{fork_targets, forks_of, goes_forward, is_forked_once, is_exit, with_exit}
 use Rattle.machine_model.specs.Built.{IsRunnable}
 use Rattle.machine_model.specs.Node.{lines_in, lines_of}
 use Rattle.machine_model.specs.Frames.{names_block, forks_in, is_forked_by}
-use Rattle.machine_model.specs.World.{size_of}
+use Rattle.machine_model.specs.World.{node_count}
 use Rattle.machine_model.specs.Owners.{one_if}
 use Rattle.std.proofs.lemmas.Option.{slice_get_cases}
 use Rattle.std.proofs.lemmas.List.Folds.{list_all-append}
@@ -36,7 +36,7 @@ names block line = names_block block line.call
 
 -- the forks of lines, and those of block k with it
 abbrev tos_of : List Line → List ℕ
-tos_of lines = flat_map (λ line. forked_by line.call) lines
+tos_of lines = flat_map (λ line. fork_targets line.call) lines
 
 abbrev pairs : ℕ → List ℕ → List (ℕ × ℕ)
 pairs k tos = map (λ to. (k, to)) tos
@@ -53,7 +53,7 @@ map-append k [] ys = refl
 map-append k (x ∷ xs) ys = ap (λ zs. (k, x) ∷ zs) (map-append k xs ys)
 
 -- one line's part
-hits-line : (k block : ℕ) (call : Call) → hits (is_to block) (pairs k (forked_by call)) ≡ one_if (names_block block call)
+hits-line : (k block : ℕ) (call : Call) → hits (is_to block) (pairs k (fork_targets call)) ≡ one_if (names_block block call)
 hits-line k block (calls.Fork to) = omega arith
 hits-line k block call = refl
 
@@ -65,8 +65,8 @@ hits-lines : (k block : ℕ) (lines : List Line) → hits (is_to block) (pairs k
 hits-lines k block [] = refl
 hits-lines k block (line ∷ lines) =
     let rest = hits-lines k block lines
-    in ap (hits (is_to block)) (map-append k (forked_by line.call) (tos_of lines))
-    ∙ hits-append (is_to block) (pairs k (forked_by line.call)) (pairs k (tos_of lines))
+    in ap (hits (is_to block)) (map-append k (fork_targets line.call) (tos_of lines))
+    ∙ hits-append (is_to block) (pairs k (fork_targets line.call)) (pairs k (tos_of lines))
     ∙ (let here = hits-line k block line.call in omega (arith, here, rest))
 
 named-if : (block : ℕ) (line : Line) (lines rest : List Line) (b : Bool) → named block lines ≤ named block rest
@@ -112,7 +112,7 @@ forks-in s b bs e p =
     in let sum = ap (hits p) cut ∙ hits-append p (pairs 1 (tos_of b.lines)) rest
     in omega (arith, sum)
 
-is-forked-once : (s : Script) → IsRunnable s → (block : ℕ) → 2 ≤ block → block ≤ size_of s → count_by (is_to block) (forks_of s) ≡ 1
+is-forked-once : (s : Script) → IsRunnable s → (block : ℕ) → 2 ≤ block → block ≤ node_count s → count_by (is_to block) (forks_of s) ≡ 1
 is-forked-once s r block low high =
     elim (slice_get_cases s.blocks (block - 1)).1 [
       | inl found ↦
@@ -129,10 +129,10 @@ cases-blocks [] = inl refl
 cases-blocks (b ∷ bs) = inr (b, bs, refl)
 
 -- each later block is named once by the first block's lines, at most
-pub named-once : (s : Script) → IsRunnable s → (block : ℕ) → 2 ≤ block → block ≤ size_of s → named block (lines_of s 1) ≤ 1
+pub named-once : (s : Script) → IsRunnable s → (block : ℕ) → 2 ≤ block → block ≤ node_count s → named block (lines_of s 1) ≤ 1
 named-once s r block low high =
     elim (cases-blocks s.blocks) [
-      | inl none ↦ let z : size_of s ≡ 0 = ap length none in absurd (omega (arith, z, low, high))
+      | inl none ↦ let z : node_count s ≡ 0 = ap length none in absurd (omega (arith, z, low, high))
       | inr some ↦
           let b : Block = some.0
           in let here : lines_of s 1 ≡ with_exit b.lines = ap (λ bs. lines_in (slice_get bs 0)) some.2
@@ -154,7 +154,7 @@ named-any block (line ∷ lines) h =
           in ap (λ b. b || list_any (names block) lines) f ∙ named-any block lines (omega (arith, h, e))
     ]
 
-line-forward : (g : ℕ × ℕ → Bool) (k block : ℕ) (call : Call) → list_all g (pairs k (forked_by call)) ≡ true → names_block block call ≡ true
+line-forward : (g : ℕ × ℕ → Bool) (k block : ℕ) (call : Call) → list_all g (pairs k (fork_targets call)) ≡ true → names_block block call ≡ true
     → g (k, block) ≡ true
 line-forward g k block (calls.Fork to) h n = subst (λ b. g (k, b) ≡ true) (eqb-true to block n) (and-left _ _ h)
 line-forward g k block (calls.Exit status) h n = absurd (false≢true n)
@@ -164,8 +164,8 @@ all-forward : (g : ℕ × ℕ → Bool) (k block : ℕ) (lines : List Line) → 
     → g (k, block) ≡ true
 all-forward g k block [] h l = absurd (omega (arith, l))
 all-forward g k block (line ∷ lines) h l =
-    let both = sym (list_all-append g (pairs k (forked_by line.call)) (pairs k (tos_of lines)))
-    ∙ sym (ap (list_all g) (map-append k (forked_by line.call) (tos_of lines))) ∙ h
+    let both = sym (list_all-append g (pairs k (fork_targets line.call)) (pairs k (tos_of lines)))
+    ∙ sym (ap (list_all g) (map-append k (fork_targets line.call) (tos_of lines))) ∙ h
     in elim (cases_Bool (names_block block line.call)) [
       | inl t ↦ line-forward g k block line.call (and-left _ _ both) t
       | inr f ↦
@@ -176,7 +176,7 @@ all-forward g k block (line ∷ lines) h l =
 -- what a line of the first block forks
 pub record IsForkable (s : Script) (block : ℕ) : Type 0 where
   pub low : 2 ≤ block
-  pub high : block ≤ size_of s
+  pub high : block ≤ node_count s
   pub by_first : is_forked_by s 1 block ≡ true
 
 pub forkable : (s : Script) → IsRunnable s → (block : ℕ) → 1 ≤ named block (lines_of s 1) → IsForkable s block
@@ -198,7 +198,7 @@ forkable s r block h =
           in let l = ltb-true 1 block (and-left _ _ forward)
           in record {
             low = omega (arith, l);
-            high = leb-true block (size_of s) (and-right _ _ forward);
+            high = leb-true block (node_count s) (and-right _ _ forward);
             by_first = ap (λ bs. forks_in block (slice_get bs 0)) some.2 ∙ named-any block b.lines there;
           }
     ]

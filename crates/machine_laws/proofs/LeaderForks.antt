@@ -13,18 +13,19 @@ use Rattle.pico_base.specs.declared.script.Script.{Script}
 use Rattle.pico_base.specs.declared.script.Event.TheVariants as events
 use Rattle.rpc_frame.specs.declared.frame.Frame.{Frame}
 use Rattle.rpc_frame.specs.declared.frame.Frame.TheVariants as frames
-use Rattle.kernel_model.specs.Maps.{get, put, is_used}
+use Rattle.number_maps.specs.Maps.{get, put, is_used}
 use Rattle.kernel_model.specs.Row.{Alive, lists}
 use Rattle.kernel_model.specs.Kernel.{Kernel, Process, Living as LivingProcess}
-use Rattle.kernel_model.specs.ProcessCalls.{forking}
+use Rattle.kernel_model.specs.ProcessCalls.{parent_after_fork}
 use Rattle.kernel_model.specs.Script.{Vars}
 use Rattle.kernel_model.specs.Fitting.{Place, Places, due, block_place, block_at, child_vars, child_vars_at}
 use Rattle.machine_model.specs.Built.{IsRunnable}
 use Rattle.machine_model.specs.Node.{Node, Held, new_process, place_of, lines_in, lines_of}
 use Rattle.machine_model.specs.Deeds.{new_deed}
-use Rattle.machine_model.specs.Calls.{Step, carried_out, entry_by, with_leader, fork_held, forks_as, number_end}
+use Rattle.machine_model.specs.Calls.{Step, step_here, entry_by, with_leader, fork_held, forks_as}
+use Rattle.kernel_model.specs.Numbers.{number_end}
 use Rattle.machine_model.specs.Frames.{names_block, are_rising}
-use Rattle.machine_model.specs.World.{World, stream, size_of, after as world_after, step}
+use Rattle.machine_model.specs.World.{World, stream, node_count, world_after, step}
 use Rattle.deed_laws.specs.Carrying.{StandsFor}
 use Rattle.deed_laws.proofs.Forking.{forks}
 use Rattle.kernel_laws.proofs.ValidLaws.{reachable_kernels_are_valid_lemma}
@@ -62,12 +63,12 @@ block-place-is None vars = refl
 block-place-is (Some b) vars = refl
 
 -- process 1 lists its new child, and those that it listed
-lists-new : (a : Alive) (child : ℕ) → lists (forking a child).row.family child ≡ true
+lists-new : (a : Alive) (child : ℕ) → lists (parent_after_fork a child).row.family child ≡ true
 lists-new a child =
     list_any-append (nat_eq child) a.row.family.living (child ∷ [])
     ∙ rw (eq-eqb child child refl) (or-true (list_any (nat_eq child) a.row.family.living))
 
-lists-old : (a : Alive) (child q : ℕ) → lists a.row.family q ≡ true → lists (forking a child).row.family q ≡ true
+lists-old : (a : Alive) (child q : ℕ) → lists a.row.family q ≡ true → lists (parent_after_fork a child).row.family q ≡ true
 lists-old a child q h = list_any-append (nat_eq q) a.row.family.living (child ∷ []) ∙ rw h refl
 
 unused-none : {X : Type 0} (o : Option X) → is_some o ≡ false → o ≡ None
@@ -111,7 +112,7 @@ module _ (script : Script) (r : IsRunnable script) (w : World) (first : Node) (k
   forking-step =
       record {
         node = (with_leader (record first.leader { next_process = child + 1 })
-            (carried_out script first (calls.Fork block) (replies.Num child) (fork_held first.held first.pid runs.alive child))).node;
+            (step_here script first (calls.Fork block) (replies.Num child) (fork_held first.held first.pid runs.alive child))).node;
         entries = entry_by first.number first.pid (calls.Fork block) (replies.Num child) ∷ [];
         sends = (block, frame) ∷ [];
       }
@@ -178,15 +179,15 @@ module _ (script : Script) (r : IsRunnable script) (w : World) (first : Node) (k
       in held-none first.held k child (u.leader.stands.here.processes child) none _ refl
 
   -- the leader's process 1 afterwards
-  first-now : get (fork_held first.held first.pid runs.alive child).processes 1 ≡ Some (LivingProcess (forking runs.alive child))
+  first-now : get (fork_held first.held first.pid runs.alive child).processes 1 ≡ Some (LivingProcess (parent_after_fork runs.alive child))
   first-now =
-      ap (λ q. get (put first.held.processes q (LivingProcess (forking runs.alive child))) 1) u.leader.pid
-      ∙ get-put-same first.held.processes 1 (LivingProcess (forking runs.alive child))
+      ap (λ q. get (put first.held.processes q (LivingProcess (parent_after_fork runs.alive child))) 1) u.leader.pid
+      ∙ get-put-same first.held.processes 1 (LivingProcess (parent_after_fork runs.alive child))
 
   others-now : (q : ℕ) → q ≢ 1 → get (fork_held first.held first.pid runs.alive child).processes q ≡ get first.held.processes q
   others-now q o =
-      ap (λ p. get (put first.held.processes p (LivingProcess (forking runs.alive child))) q) u.leader.pid
-      ∙ get-put-other first.held.processes 1 (LivingProcess (forking runs.alive child)) q o
+      ap (λ p. get (put first.held.processes p (LivingProcess (parent_after_fork runs.alive child))) q) u.leader.pid
+      ∙ get-put-other first.held.processes 1 (LivingProcess (parent_after_fork runs.alive child)) q o
 
   -- numbers stay apart, and each place stays a known process's
   apart-still : (p q : ℕ) → pids' p ≢ 0 → pids' p ≡ pids' q → p ≡ q
@@ -213,7 +214,7 @@ module _ (script : Script) (r : IsRunnable script) (w : World) (first : Node) (k
         ]
       ]
 
-  known-still : (places' : Places) (begins : Place) → 2 ≤ block → block ≤ size_of script
+  known-still : (places' : Places) (begins : Place) → 2 ≤ block → block ≤ node_count script
       → ((p : ℕ) → p ≢ first.pid → get places' p ≡ get (put places child begins) p) → Known script places' pids'
   known-still places' begins low high other x place h =
       elim (cases_eq x first.pid) [
@@ -239,7 +240,7 @@ module _ (script : Script) (r : IsRunnable script) (w : World) (first : Node) (k
   forks-it : Line-facts → Goes script w (events.Run 1)
   forks-it facts =
       let low : 2 ≤ block = facts.forkable-block.low
-      in let high : block ≤ size_of script = facts.forkable-block.high
+      in let high : block ≤ node_count script = facts.forkable-block.high
       in let old = u.children block low high
       in let awaited = awaited-is old.situation script block (pids block) _ old.is_in facts.unforked
       in let law = forks first.held first.leader k runs.alive block (w.journal, u.legal) u.leader.stands runs.lives
@@ -258,8 +259,8 @@ module _ (script : Script) (r : IsRunnable script) (w : World) (first : Node) (k
       (runs_of.mine script r w first k places pids u runs law.carries.makes) refl not-mine
       in let places' : Places = on.0
       in let goes = on.1
-      in let changes = changes-to (size_of script) block w.streams (stream w block 1 ++ frame ∷ []) (square-of script w first k places pids u) low high
-      in let not-one : (q : ℕ) → 2 ≤ q → q ≤ size_of script → pids q ≢ 1 =
+      in let changes = changes-to (node_count script) block w.streams (stream w block 1 ++ frame ∷ []) (square-of script w first k places pids u) low high
+      in let not-one : (q : ℕ) → 2 ≤ q → q ≤ node_count script → pids q ≢ 1 =
       λ q l h. pid-not-one script w first k places q (pids q) (u.children q l h)
       in let not-child : (q : ℕ) → pids q ≢ child = λ q e. let b = u.below q in omega (arith, b, e)
       in record {
@@ -288,7 +289,7 @@ module _ (script : Script) (r : IsRunnable script) (w : World) (first : Node) (k
                       process = law.carries.stay (pids q) new_process one one x.process;
                       away = others-now (pids q) one ∙ x.away;
                       listed = λ a g.
-                          let same : forking runs.alive child ≡ a = living-is _ _ (some-is _ _ (sym first-now ∙ g))
+                          let same : parent_after_fork runs.alive child ≡ a = living-is _ _ (some-is _ _ (sym first-now ∙ g))
                           in subst (λ (b : Alive). lists b.row.family (pids q) ≡ true) same
                           (lists-old runs.alive child (pids q) (x.listed runs.alive runs.lives));
                     };
@@ -301,7 +302,7 @@ module _ (script : Script) (r : IsRunnable script) (w : World) (first : Node) (k
                 leader = runs_of.goes-on-to script r w first k places pids u runs (calls.Fork block) (replies.Num child) m next places' pids'
                     d refl refl refl refl refl
                     (subst (λ h. StandsFor h (record first.leader { next_process = child + 1 }) next) (sym same-held) law.carries.stands)
-                    (forking runs.alive child) first-now (omega arith) (omega arith) (omega arith)
+                    (parent_after_fork runs.alive child) first-now (omega arith) (omega arith) (omega arith)
                     (λ b h. elim (cases_eq b block) [
                       | inl same ↦ absurd (facts.none-behind (subst (λ c. list_any (names c) (drop (first.caller.line + 1) (lines_of script first.number)) ≡ true) same h))
                       | inr o ↦ with-other pids block child b o
@@ -331,7 +332,7 @@ module _ (script : Script) (r : IsRunnable script) (w : World) (first : Node) (k
                         process = law.child;
                         away = others-now child (λ e. let h = high-child in omega (arith, h, e)) ∙ no-process;
                         listed = λ a g.
-                            let same : forking runs.alive child ≡ a = living-is _ _ (some-is _ _ (sym first-now ∙ g))
+                            let same : parent_after_fork runs.alive child ≡ a = living-is _ _ (some-is _ _ (sym first-now ∙ g))
                             in subst (λ (b : Alive). lists b.row.family child ≡ true) same (lists-new runs.alive child);
                       };
                     });

@@ -15,7 +15,7 @@ use Rattle.pico_base.specs.declared.reply.Errno.{Errno}
 use Rattle.pico_base.specs.declared.script.Line.{Line}
 use Rattle.pico_base.specs.declared.script.Script.{Script}
 use Rattle.pico_base.specs.declared.script.Event.TheVariants as events
-use Rattle.kernel_model.specs.Maps.{get, put}
+use Rattle.number_maps.specs.Maps.{get, put}
 use Rattle.kernel_model.specs.Queue.{empty_queue}
 use Rattle.kernel_model.specs.SemaphoreSet.{Semaphore, new_set}
 use Rattle.kernel_model.specs.Row.{Alive}
@@ -24,13 +24,14 @@ use Rattle.kernel_model.specs.Effect.{Effect}
 use Rattle.kernel_model.specs.ProcessCalls.{bury}
 use Rattle.kernel_model.specs.Script.{is_exit}
 use Rattle.kernel_model.specs.Waiting.{is_waiting}
-use Rattle.kernel_model.specs.Fitting.{Place, Places, due, after}
+use Rattle.kernel_model.specs.Fitting.{Place, Places, due, place_after}
 use Rattle.machine_model.specs.Built.{IsRunnable, is_shared}
 use Rattle.machine_model.specs.Node.{Node, Held, Leader, Over, new_process, is_living, place_of, lines_of, is_leader}
-use Rattle.machine_model.specs.Deeds.{held_in, served, first_ended}
-use Rattle.machine_model.specs.Calls.{Step, run, shares, ends_first, starts_call, carried, carried_out, at_once, entry_by, with_leader, makes_set_of, number_end}
+use Rattle.machine_model.specs.Deeds.{held_in, serve, end_first}
+use Rattle.machine_model.specs.Calls.{Step, run, shares, ends_first, starts_call, carry_out, step_here, at_once, entry_by, with_leader, makes_set_of}
+use Rattle.kernel_model.specs.Numbers.{number_end}
 use Rattle.machine_model.specs.Frames.{names_block, are_rising}
-use Rattle.machine_model.specs.World.{World, size_of, after as world_after, step}
+use Rattle.machine_model.specs.World.{World, node_count, world_after, step}
 use Rattle.deed_laws.specs.Carrying.{Makes, StandsFor}
 use Rattle.deed_laws.proofs.Steps.{own_calls, bad_sets}
 use Rattle.deed_laws.proofs.News.{new_queues, new_sets}
@@ -40,7 +41,7 @@ use Rattle.kernel_laws.proofs.ValidLaws.{reachable_kernels_are_valid_lemma}
 use Rattle.kernel_laws.proofs.Families.{living-ended}
 use Rattle.kernel_laws.proofs.MapLaws.{get-put-same, get-put-other}
 use Rattle.machine_laws.specs.Lines.{EndsInExit}
-use Rattle.machine_laws.specs.Situations.{Situation, Awaited, Forked, Free, Asking, Answered, Telling, Recalled, HandedOver, Gone, Sight, IsIn, Lives}
+use Rattle.machine_laws.specs.Situations.{Situation, Awaited, Forked, Free, Asking, Answered, Telling, Recalled, HandedOver, Gone, Sight, IsIn, LivesHere}
 use Rattle.machine_laws.specs.Invariant.{IsUnderWay, IsLeader, FirstRuns, IsChild}
 use Rattle.machine_laws.proofs.Streams.{changes-none}
 use Rattle.machine_laws.proofs.Lines.{answered-place, next-line, some-is}
@@ -132,10 +133,10 @@ module _ (script : Script) (r : IsRunnable script) (w : World) (first : Node) (k
 
   -- past all nodes
   abbrev beyond : ℕ
-  beyond = size_of script + 2
+  beyond = node_count script + 2
 
   abbrev pub place-then : (call : Call) (reply : Reply) → Place
-  place-then call reply = after (place_of script first) call (Some reply)
+  place-then call reply = place_after (place_of script first) call (Some reply)
 
   abbrev entering : (m : Node) (call : Call) (reply : Reply) → Step
   entering m call reply = record { node = m; entries = entry_by first.number first.pid call reply ∷ []; sends = [] }
@@ -144,7 +145,7 @@ module _ (script : Script) (r : IsRunnable script) (w : World) (first : Node) (k
       → starts_call script first call ≡ Some (entering m call reply) → IsOrdinary call
       → Makes k first.pid call reply next → m.leader.partings ≡ first.leader.partings
       → first.leader.next_process ≤ m.leader.next_process
-      → ((q : ℕ) → q ≢ 1 → Lives k first.held q → Lives next m.held q)
+      → ((q : ℕ) → q ≢ 1 → LivesHere k first.held q → LivesHere next m.held q)
       → ((places' : Places) → get places' 1 ≡ Some (place-then call reply) → IsLeader script m next places' pids)
       → Goes script w (events.Run 1)
   enters call reply m next d rule plain makes partings more living leader-then =
@@ -153,7 +154,7 @@ module _ (script : Script) (r : IsRunnable script) (w : World) (first : Node) (k
       in let goes = goes-on script w.journal k next places first.number first.pid call reply (place_of script first) (place-then call reply)
       u.legal u.fits u.ordered place-there d plain makes refl
       in let places' : Places = put places first.pid (place-then call reply)
-      in let not-mine : (q : ℕ) → 2 ≤ q → q ≤ size_of script → pids q ≢ first.pid =
+      in let not-mine : (q : ℕ) → 2 ≤ q → q ≤ node_count script → pids q ≢ first.pid =
       λ q l h e. pid-not-one script w first k places q (pids q) (u.children q l h) (e ∙ u.leader.pid)
       in record {
         next = w';
@@ -169,7 +170,7 @@ module _ (script : Script) (r : IsRunnable script) (w : World) (first : Node) (k
                 count = length-set w.nodes 0 m;
                 frames_to = _;
                 frames_from = _;
-                streams = changes-none (size_of script) beyond w.streams (square-of script w first k places pids u);
+                streams = changes-none (node_count script) beyond w.streams (square-of script w first k places pids u);
                 nodes = λ q l o. elsewhere m q l;
                 partings = λ q l o. ap (λ x. get x q) partings;
                 pids_stay = λ q l o. refl;
@@ -254,7 +255,7 @@ module _ (script : Script) (r : IsRunnable script) (w : World) (first : Node) (k
   if-both : {X : Type 0} (a b : Bool) (x y : X) → a ≡ true → b ≡ true → (if a && b then x else y) ≡ x
   if-both a b x y h g = rw (h, g) refl
 
-  shared-here : (call : Call) → is_shared call ≡ true → is_waiting call ≡ false → shares script first call ≡ carried script first call (served first.held first.pid call)
+  shared-here : (call : Call) → is_shared call ≡ true → is_waiting call ≡ false → shares script first call ≡ carry_out script first call (serve first.held first.pid call)
   shared-here call s h = rw (s, h, leads) refl
 
   -- a process that lives isn't among the ended ones
@@ -273,7 +274,7 @@ module _ (script : Script) (r : IsRunnable script) (w : World) (first : Node) (k
   pub gets-pid : due (place_of script first) ≡ Some calls.GetPid → Goes script w (events.Run 1)
   gets-pid d =
       let reply : Reply = replies.Num first.pid
-      in let m : Node = (carried_out script first calls.GetPid reply first.held).node
+      in let m : Node = (step_here script first calls.GetPid reply first.held).node
       in enters calls.GetPid reply m k d refl (record { not_killed = refl; not_fork = λ s ps place reply. refl })
       (own_calls k first.pid runs.alive u.leader.stands.plain lives-now) refl (omega arith) (λ q o x. x)
       (λ places' h. goes-on-with calls.GetPid reply m k places' d refl refl refl refl refl u.leader.stands runs.alive runs.lives
@@ -293,7 +294,7 @@ module _ (script : Script) (r : IsRunnable script) (w : World) (first : Node) (k
       in let reply : Reply = replies.Num number
       in let held : Held = record first.held { queues = put first.held.queues number empty_queue }
       in let leader : Leader = record first.leader { next_queue = number + 1 }
-      in let m : Node = (with_leader leader (carried_out script first call reply held)).node
+      in let m : Node = (with_leader leader (step_here script first call reply held)).node
       in let law = new_queues first.held first.leader k runs.alive create excl u.leader.stands first-lives-now
       in let small : nat_lt number number_end ≡ true =
       lt-ltb number number_end (let f = runs.few_queues in let l = few-lines d in omega (arith, f, l))
@@ -311,7 +312,7 @@ module _ (script : Script) (r : IsRunnable script) (w : World) (first : Node) (k
       in let reply : Reply = replies.Num number
       in let held : Held = record first.held { sets = put first.held.sets number set }
       in let leader : Leader = record first.leader { next_set = number + 1 }
-      in let m : Node = (with_leader leader (carried_out script first call reply held)).node
+      in let m : Node = (with_leader leader (step_here script first call reply held)).node
       in let law = new_sets first.held first.leader k runs.alive count set create excl u.leader.stands first-lives-now made
       in let small : nat_lt number number_end ≡ true =
       lt-ltb number number_end (let f = runs.few_sets in let l = few-lines d in omega (arith, f, l))
@@ -329,7 +330,7 @@ module _ (script : Script) (r : IsRunnable script) (w : World) (first : Node) (k
   bad-set count create excl error made d =
       let call : Call = calls.SemGet None count create excl
       in let reply : Reply = replies.Fail error
-      in let m : Node = (carried_out script first call reply first.held).node
+      in let m : Node = (step_here script first call reply first.held).node
       in let small : nat_lt first.leader.next_set number_end ≡ true =
       lt-ltb first.leader.next_set number_end (let f = runs.few_sets in let l = few-lines d in omega (arith, f, l))
       in enters call reply m k d
@@ -347,14 +348,14 @@ module _ (script : Script) (r : IsRunnable script) (w : World) (first : Node) (k
 
   -- ---- a shared call
 
-  serves : (call : Call) (e : Effect) → is_shared call ≡ true → is_waiting call ≡ false → served first.held first.pid call ≡ Some e
+  serves : (call : Call) (e : Effect) → is_shared call ≡ true → is_waiting call ≡ false → serve first.held first.pid call ≡ Some e
       → due (place_of script first) ≡ Some call → Goes script w (events.Run 1)
   serves call e shared waits h d =
       let law = served_calls first.held first.leader k first.pid runs.alive call e u.leader.stands lives-now shared h
-      in let m : Node = (carried_out script first call e.reply (held_in e.kernel)).node
+      in let m : Node = (step_here script first call e.reply (held_in e.kernel)).node
       in let same-held : (q : ℕ) → get m.held.processes q ≡ get first.held.processes q = λ q. ap (λ ps. get ps q) law.held
       in enters call e.reply m law.next d
-      (shared-rule-at script first call shared ∙ shared-here call shared waits ∙ ap (carried script first call) h)
+      (shared-rule-at script first call shared ∙ shared-here call shared waits ∙ ap (carry_out script first call) h)
       (shared-is-ordinary call shared) law.carries.makes refl (omega arith)
       (λ q o x. record {
         process = ap (λ ps. get ps q) law.processes ∙ x.process;
@@ -364,7 +365,7 @@ module _ (script : Script) (r : IsRunnable script) (w : World) (first : Node) (k
       (λ places' g. goes-on-with call e.reply m law.next places' d (shared-goes-on call shared) refl refl refl refl law.carries.stands
       runs.alive (same-held 1 ∙ runs.lives) (omega arith) (omega arith) (omega arith) g)
 
-  served-by : (call : Call) (o : Option Effect) → is_shared call ≡ true → is_waiting call ≡ false → served first.held first.pid call ≡ o
+  served-by : (call : Call) (o : Option Effect) → is_shared call ≡ true → is_waiting call ≡ false → serve first.held first.pid call ≡ o
       → IsSome o → due (place_of script first) ≡ Some call → Goes script w (events.Run 1)
   served-by call None shared waits h s d = absurd (false≢true s)
   served-by call (Some e) shared waits h s d = serves call e shared waits h d
@@ -378,11 +379,11 @@ module _ (script : Script) (r : IsRunnable script) (w : World) (first : Node) (k
   pub ends : (status : ℕ) → due (place_of script first) ≡ Some (calls.Exit status) → Goes script w (events.Run 1)
   ends status d =
       let call : Call = calls.Exit status
-      in let held : Held = first_ended first.held first.pid runs.alive (Exited (status % 256))
-      in let m : Node = record (carried_out script first call replies.Ended held).node { stage = Over }
+      in let held : Held = end_first first.held first.pid runs.alive (Exited (status % 256))
+      in let m : Node = record (step_here script first call replies.Ended held).node { stage = Over }
       in let law = first_ends first.held first.leader k runs.alive status (w.journal, u.legal) u.leader.stands runs.lives
-      in let same : held ≡ first_ended first.held 1 runs.alive (Exited (status % 256)) =
-      ap (λ x. first_ended first.held x runs.alive (Exited (status % 256))) u.leader.pid
+      in let same : held ≡ end_first first.held 1 runs.alive (Exited (status % 256)) =
+      ap (λ x. end_first first.held x runs.alive (Exited (status % 256))) u.leader.pid
       in let buried-now : List _ = fold bury first.held.processes runs.alive.row.family.ended
       in let gone : get held.processes 1 ≡ Some GoneProcess =
       ap (λ (h : Held). get h.processes 1) same ∙ get-put-same buried-now 1 GoneProcess

@@ -15,25 +15,25 @@ use Rattle.pico_base.specs.declared.script.Script.{Script}
 use Rattle.pico_base.specs.declared.script.Event.TheVariants as events
 use Rattle.rpc_frame.specs.declared.frame.Frame.{Frame}
 use Rattle.rpc_frame.specs.declared.frame.Frame.TheVariants as frames
-use Rattle.kernel_model.specs.Maps.{Numbered, get, put}
-use Rattle.kernel_model.specs.Row.{Alive, Family, lists, others, with_end, with_ended_child, ignores_children}
+use Rattle.number_maps.specs.Maps.{Numbered, get, put}
+use Rattle.kernel_model.specs.Row.{Alive, Family, lists, others, family_after_end, with_ended_child, ignores_children}
 use Rattle.kernel_model.specs.Kernel.{Kernel, Process, Living as LivingProcess, Ended as EndedProcess, Gone as GoneProcess, alive_in, living_at, opening}
-use Rattle.kernel_model.specs.ProcessCalls.{kept_as}
+use Rattle.kernel_model.specs.ProcessCalls.{process_after_end}
 use Rattle.kernel_model.specs.Effect.{Effect}
 use Rattle.kernel_model.specs.History.{Replays}
-use Rattle.kernel_model.specs.Fitting.{Place, Places, Follows, opening_places, after}
+use Rattle.kernel_model.specs.Fitting.{Place, Places, FitsFrom, opening_places, place_after}
 use Rattle.machine_model.specs.Built.{IsRunnable, is_shared}
 use Rattle.machine_model.specs.Node.{Node, Held, Leader, Parting, IsLeaving, HasLeft, new_process, place_of, lines_of}
-use Rattle.machine_model.specs.Deeds.{held_in, served, child_ended, may_end}
+use Rattle.machine_model.specs.Deeds.{held_in, serve, end_child, may_end}
 use Rattle.machine_model.specs.Calls.{Step, entry_by}
-use Rattle.machine_model.specs.Frames.{takes, is_to_leader, parting, leaves_as, ended_at}
-use Rattle.machine_model.specs.World.{World, Streams, node_at, stream, stream_in, with_stream, size_of, after as world_after, step}
-use Rattle.kernel_laws.specs.Reachable.{IsReachable}
+use Rattle.machine_model.specs.Frames.{takes, is_to_leader, with_parting, leaves_as, end_at}
+use Rattle.machine_model.specs.World.{World, Streams, node_at, stream, stream_in, with_stream, node_count, world_after, step}
+use Rattle.kernel_laws.specs.Reachable.{IsReachableKernel}
 use Rattle.deed_laws.specs.Carrying.{IsFresh, StandsFor}
 use Rattle.deed_laws.proofs.Shared.{shared_calls, served_calls}
 use Rattle.deed_laws.proofs.Endings.{children_end}
 use Rattle.kernel_laws.proofs.MapLaws.{get-put-same, get-put-other}
-use Rattle.machine_laws.specs.Situations.{Answered, Recalled, Gone, IsAsking, TellsEnd, HasHandedOver, Lives, parcel_of}
+use Rattle.machine_laws.specs.Situations.{Answered, Recalled, Gone, IsAsking, TellsEnd, HasHandedOver, LivesHere, parcel_from}
 use Rattle.machine_laws.specs.Invariant.{IsUnderWay, sight}
 use Rattle.machine_laws.proofs.Streams.{Changes, changes-to, changes-from, changes-both}
 use Rattle.machine_laws.proofs.Lines.{answered-place, some-is}
@@ -82,7 +82,7 @@ any-others child q (x ∷ xs) h =
     ]
 
 ended-family : (a : Alive) (child : ℕ) (ending : Ending) (ignored : Bool) → ignores_children a.row ≡ ignored
-    → (with_ended_child a child ending).row.family ≡ with_end a.row.family child ending ignored
+    → (with_ended_child a child ending).row.family ≡ family_after_end a.row.family child ending ignored
 ended-family a child ending true h = rw h refl
 ended-family a child ending false h = rw h refl
 
@@ -94,13 +94,13 @@ living-is : (a b : Alive) → LivingProcess a ≡ LivingProcess b → a ≡ b
 living-is a b h = cc
 
 module _ (script : Script) (r : IsRunnable script) (w : World) (first : Node) (k : Kernel) (places : Places) (pids : ℕ → ℕ)
-    (u : IsUnderWay script w first k places pids) (p : ℕ) (low : 2 ≤ p) (high : p ≤ size_of script) (n : Node) (at : node_at w p ≡ Some n)
-    (lives : Lives k first.held (pids p)) (high_pid : 2 ≤ pids p) where
+    (u : IsUnderWay script w first k places pids) (p : ℕ) (low : 2 ≤ p) (high : p ≤ node_count script) (n : Node) (at : node_at w p ≡ Some n)
+    (lives : LivesHere k first.held (pids p)) (high_pid : 2 ≤ pids p) where
   abbrev without-first : World
   without-first = record w { streams = with_stream w.streams 1 p [] }
 
-  taken : Changes (size_of script) p w.streams (with_stream w.streams 1 p []) (stream w p 1) []
-  taken = changes-from (size_of script) p w.streams [] (square-of script w first k places pids u) low high
+  taken : Changes (node_count script) p w.streams (with_stream w.streams 1 p []) (stream w p 1) []
+  taken = changes-from (node_count script) p w.streams [] (square-of script w first k places pids u) low high
 
   takes-in : (f : Frame) (s : Step) → stream w 1 p ≡ f ∷ [] → takes script first p f ≡ Some s
       → step w (events.Take 1 p) ≡ Some (world_after without-first 1 s)
@@ -115,7 +115,7 @@ module _ (script : Script) (r : IsRunnable script) (w : World) (first : Node) (k
   lives-now : living_at k (pids p) ≡ Some new_process
   lives-now = ap (option_and_then alive_in) lives.process
 
-  reachable : IsReachable k
+  reachable : IsReachableKernel k
   reachable = (w.journal, u.legal)
 
   -- the leader holds process 1, so no process whose deed is away is process 1
@@ -156,12 +156,12 @@ module _ (script : Script) (r : IsRunnable script) (w : World) (first : Node) (k
         sends = (p, frames.Answer ticket e.reply) ∷ [];
       }
 
-  ask-rule : (ticket : ℕ) (call : Call) (e : Effect) → 0 < ticket → is_shared call ≡ true → served first.held (pids p) call ≡ Some e
+  ask-rule : (ticket : ℕ) (call : Call) (e : Effect) → 0 < ticket → is_shared call ≡ true → serve first.held (pids p) call ≡ Some e
       → takes script first p (frames.Ask ticket (pids p) call) ≡ Some (answering ticket call e)
   ask-rule ticket call e t s h = rw (from-other, lt-ltb 0 ticket t, s, h) refl
 
   answers : (call : Call) → IsAsking script p (pids p) (sight w first places p (pids p) n) call
-      → (e : Effect) → served first.held (pids p) call ≡ Some e → Goes script w (events.Take 1 p)
+      → (e : Effect) → serve first.held (pids p) call ≡ Some e → Goes script w (events.Take 1 p)
   answers call i e h =
       let law = served_calls first.held first.leader k (pids p) new_process call e u.leader.stands lives-now i.has.shared h
       in let next : Kernel = law.next
@@ -170,14 +170,14 @@ module _ (script : Script) (r : IsRunnable script) (w : World) (first : Node) (k
       in let f : Frame = frames.Answer n.caller.ticket e.reply
       in let w' : World = world_after without-first 1 s
       in let mid : Streams = with_stream w.streams 1 p []
-      in let changes = changes-both (size_of script) p w.streams mid _ _ _ _ _ taken
-      (changes-to (size_of script) p mid (stream_in mid p 1 ++ f ∷ []) taken.square low high)
-      in let then : Place = after (place_of script n) call (Some e.reply)
+      in let changes = changes-both (node_count script) p w.streams mid _ _ _ _ _ taken
+      (changes-to (node_count script) p mid (stream_in mid p 1 ++ f ∷ []) taken.square low high)
+      in let then : Place = place_after (place_of script n) call (Some e.reply)
       in let goes = goes-on script w.journal k next places first.number (pids p) call e.reply (place_of script n) then
       u.legal u.fits u.ordered i.place i.has.is_due (shared-is-ordinary call i.has.shared) law.carries.makes refl
       in let places' : Places = put places (pids p) then
       in let same-held : (q : ℕ) → get m.held.processes q ≡ get first.held.processes q = λ q. ap (λ ps. get ps q) law.held
-      in let living : (q : ℕ) → Lives k first.held q → Lives next m.held q =
+      in let living : (q : ℕ) → LivesHere k first.held q → LivesHere next m.held q =
       λ q l. record {
         process = ap (λ ps. get ps q) law.processes ∙ l.process;
         away = same-held q ∙ l.away;
@@ -237,7 +237,7 @@ module _ (script : Script) (r : IsRunnable script) (w : World) (first : Node) (k
       }
 
   asked : (call : Call) → IsAsking script p (pids p) (sight w first places p (pids p) n) call
-      → (o : Option Effect) → served first.held (pids p) call ≡ o → IsSome o → Goes script w (events.Take 1 p)
+      → (o : Option Effect) → serve first.held (pids p) call ≡ o → IsSome o → Goes script w (events.Take 1 p)
   asked call i None h s = absurd (false≢true s)
   asked call i (Some e) h s = answers call i e h
 
@@ -247,7 +247,7 @@ module _ (script : Script) (r : IsRunnable script) (w : World) (first : Node) (k
   -- ---- a Leaving: the leader asks for all
 
   abbrev recalling : Step
-  recalling = record { node = parting first p (IsLeaving (pids p)); entries = []; sends = (p, frames.RecallAll) ∷ [] }
+  recalling = record { node = with_parting first p (IsLeaving (pids p)); entries = []; sends = (p, frames.RecallAll) ∷ [] }
 
   leaving-rule : get first.leader.partings p ≡ None → takes script first p (frames.Leaving (pids p) 1 1) ≡ Some recalling
   leaving-rule h = rw (from-other, h, lt-ltb 0 (pids p) (omega arith), ne_eqb (pids p) 1 (λ e. omega arith)) refl
@@ -258,8 +258,8 @@ module _ (script : Script) (r : IsRunnable script) (w : World) (first : Node) (k
       in let f : Frame = frames.RecallAll
       in let w' : World = world_after without-first 1 recalling
       in let mid : Streams = with_stream w.streams 1 p []
-      in let changes = changes-both (size_of script) p w.streams mid _ _ _ _ _ taken
-      (changes-to (size_of script) p mid (stream_in mid p 1 ++ f ∷ []) taken.square low high)
+      in let changes = changes-both (node_count script) p w.streams mid _ _ _ _ _ taken
+      (changes-to (node_count script) p mid (stream_in mid p 1 ++ f ∷ []) taken.square low high)
       in let journal : w'.journal ≡ w.journal = append-nil w.journal
       in record {
         next = w';
@@ -284,7 +284,7 @@ module _ (script : Script) (r : IsRunnable script) (w : World) (first : Node) (k
               })
               (record {
                 legal = subst (λ (h : List Entry). Replays opening h k) (sym journal) u.legal;
-                fits = subst (λ (h : List Entry). Follows script (opening_places script) h places) (sym journal) u.fits;
+                fits = subst (λ (h : List Entry). FitsFrom script (opening_places script) h places) (sym journal) u.fits;
                 ordered = u.ordered;
                 first_at = node-same w.nodes 1 first m u.first_at;
                 leader = leader-idles script first m k k places places pids
@@ -318,7 +318,7 @@ module _ (script : Script) (r : IsRunnable script) (w : World) (first : Node) (k
   abbrev ending-step : (status : ℕ) (x : Process) → Step
   ending-step status x =
       record {
-        node = record (parting first p HasLeft) { held = child_ended first.held (pids p) 1 x (Exited (status % 256)) };
+        node = record (with_parting first p HasLeft) { held = end_child first.held (pids p) 1 x (Exited (status % 256)) };
         entries = entry_by first.number (pids p) (calls.Exit status) replies.Ended ∷ [];
         sends = [];
       }
@@ -327,33 +327,33 @@ module _ (script : Script) (r : IsRunnable script) (w : World) (first : Node) (k
   leaves-as-told h = ap (leaves_as (pids p)) h ∙ eq-eqb (pids p) (pids p) refl
 
   left-rule : (status : ℕ) (x : Process) → get first.leader.partings p ≡ Some (IsLeaving (pids p)) → get first.held.processes 1 ≡ Some x
-      → may_end (pids p) x ≡ true → takes script first p (frames.Left (parcel_of (pids p) status)) ≡ Some (ending-step status x)
+      → may_end (pids p) x ≡ true → takes script first p (frames.Left (parcel_from (pids p) status)) ≡ Some (ending-step status x)
   left-rule status x h g m =
-      rw (from-other, leaves-as-told h, lives.away, new-deed-same (pids p)) (ap (ended_at first p (parcel_of (pids p) status) status) g ∙ rw m refl)
+      rw (from-other, leaves-as-told h, lives.away, new-deed-same (pids p)) (ap (end_at first p (parcel_from (pids p) status) status) g ∙ rw m refl)
 
   -- what the leader has of processes afterwards
   away-still : (q : ℕ) (ending : Ending) (x : Process) → q ≢ 1 → q ≢ pids p
-      → get (child_ended first.held (pids p) 1 x ending).processes q ≡ get first.held.processes q
+      → get (end_child first.held (pids p) 1 x ending).processes q ≡ get first.held.processes q
   away-still q ending (LivingProcess a) one other =
-      get-put-other (put first.held.processes (pids p) (kept_as (ignores_children a.row) ending)) 1
+      get-put-other (put first.held.processes (pids p) (process_after_end (ignores_children a.row) ending)) 1
       (LivingProcess (with_ended_child a (pids p) ending)) q one
       ∙ get-put-other first.held.processes (pids p) _ q other
   away-still q ending (EndedProcess e) one other = get-put-other first.held.processes (pids p) _ q other
   away-still q ending GoneProcess one other = get-put-other first.held.processes (pids p) _ q other
 
   first-living : (a : Alive) (ending : Ending)
-      → get (child_ended first.held (pids p) 1 (LivingProcess a) ending).processes 1 ≡ Some (LivingProcess (with_ended_child a (pids p) ending))
+      → get (end_child first.held (pids p) 1 (LivingProcess a) ending).processes 1 ≡ Some (LivingProcess (with_ended_child a (pids p) ending))
   first-living a ending =
-      get-put-same (put first.held.processes (pids p) (kept_as (ignores_children a.row) ending)) 1
+      get-put-same (put first.held.processes (pids p) (process_after_end (ignores_children a.row) ending)) 1
       (LivingProcess (with_ended_child a (pids p) ending))
 
-  first-gone : (ending : Ending) → get (child_ended first.held (pids p) 1 GoneProcess ending).processes 1 ≡ get first.held.processes 1
+  first-gone : (ending : Ending) → get (end_child first.held (pids p) 1 GoneProcess ending).processes 1 ≡ get first.held.processes 1
   first-gone ending = get-put-other first.held.processes (pids p) _ 1 (λ e. omega arith)
 
   -- who is listed by process 1 afterwards was listed before
   listed-still : (x : Process) (ending : Ending) (q : ℕ) → get first.held.processes 1 ≡ Some x → q ≢ 1 → q ≢ pids p
       → ((a : Alive) → get first.held.processes 1 ≡ Some (LivingProcess a) → lists a.row.family q ≡ true)
-      → (b : Alive) → get (child_ended first.held (pids p) 1 x ending).processes 1 ≡ Some (LivingProcess b) → lists b.row.family q ≡ true
+      → (b : Alive) → get (end_child first.held (pids p) 1 x ending).processes 1 ≡ Some (LivingProcess b) → lists b.row.family q ≡ true
   listed-still (LivingProcess a) ending q h one other before b g =
       let same : LivingProcess (with_ended_child a (pids p) ending) ≡ LivingProcess b = some-is _ _ (sym (first-living a ending) ∙ g)
       in let alive : with_ended_child a (pids p) ending ≡ b = living-is _ _ same
@@ -365,13 +365,13 @@ module _ (script : Script) (r : IsRunnable script) (w : World) (first : Node) (k
   -- process 1 lives or is gone as before
   still-lives : (x : Process) (ending : Ending) (a : Alive) → get first.held.processes 1 ≡ Some x
       → get first.held.processes 1 ≡ Some (LivingProcess a)
-      → (b : Alive) × (get (child_ended first.held (pids p) 1 x ending).processes 1 ≡ Some (LivingProcess b))
+      → (b : Alive) × (get (end_child first.held (pids p) 1 x ending).processes 1 ≡ Some (LivingProcess b))
   still-lives (LivingProcess b) ending a h g = (with_ended_child b (pids p) ending, first-living b ending)
   still-lives (EndedProcess e) ending a h g = let both : Some (EndedProcess e) ≡ Some (LivingProcess a) = sym h ∙ g in cc
   still-lives GoneProcess ending a h g = let both : Some GoneProcess ≡ Some (LivingProcess a) = sym h ∙ g in cc
 
   still-gone : (x : Process) (ending : Ending) → get first.held.processes 1 ≡ Some x → get first.held.processes 1 ≡ Some GoneProcess
-      → get (child_ended first.held (pids p) 1 x ending).processes 1 ≡ Some GoneProcess
+      → get (end_child first.held (pids p) 1 x ending).processes 1 ≡ Some GoneProcess
   still-gone (LivingProcess b) ending h g = let both : Some (LivingProcess b) ≡ Some GoneProcess = sym h ∙ g in cc
   still-gone (EndedProcess e) ending h g = let both : Some (EndedProcess e) ≡ Some GoneProcess = sym h ∙ g in cc
   still-gone GoneProcess ending h g = first-gone ending ∙ g
@@ -387,7 +387,7 @@ module _ (script : Script) (r : IsRunnable script) (w : World) (first : Node) (k
       in let w' : World = world_after without-first 1 s
       in let numbered : 1 ≤ n.number = let b = i.born.number in omega (arith, b)
       in let known = due-is script n (calls.Exit status) r numbered i.at.is_due
-      in let then : Place = after (place_of script n) (calls.Exit status) (Some replies.Ended)
+      in let then : Place = place_after (place_of script n) (calls.Exit status) (Some replies.Ended)
       in let goes = goes-on script w.journal k next places first.number (pids p) (calls.Exit status) replies.Ended (place_of script n) then
       u.legal u.fits u.ordered i.at.place i.at.is_due (record { not_killed = refl; not_fork = λ s ps place reply. refl })
       law.carries.makes refl

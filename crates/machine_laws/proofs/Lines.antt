@@ -10,7 +10,7 @@ use Rattle.pico_base.specs.declared.call.Call.{Call}
 use Rattle.pico_base.specs.declared.reply.Reply.{Reply}
 use Rattle.pico_base.specs.declared.script.Line.{Line}
 use Rattle.kernel_model.specs.Script.{Vars, call_of, is_exit, with_exit}
-use Rattle.kernel_model.specs.Fitting.{Place, due, call_due, after, after_line, asks_again, setting, value_in}
+use Rattle.kernel_model.specs.Fitting.{Place, due, call_due, place_after, after_line, asks_again, set_variable, value_in}
 use Rattle.machine_model.specs.Calls.{set_by}
 use Rattle.machine_laws.specs.Lines.{EndsInExit}
 
@@ -64,8 +64,8 @@ and-false false = refl
 -- after a line that is tried once the next one is due
 pub answered-place : (lines : List Line) (i : ℕ) (vars : Vars) (call : Call) (reply : Reply) (line : Line) (rest : List Line)
     → drop i lines ≡ line ∷ rest → line.tries ≡ 1
-    → after (record { left = drop i lines; tried = 0; vars = vars }) call (Some reply)
-    ≡ record { left = drop (i + 1) lines; tried = 0; vars = setting vars (set_by (slice_get lines i)) (value_in (Some reply)) }
+    → place_after (record { left = drop i lines; tried = 0; vars = vars }) call (Some reply)
+    ≡ record { left = drop (i + 1) lines; tried = 0; vars = set_variable vars (set_by (slice_get lines i)) (value_in (Some reply)) }
 answered-place lines i vars call reply line rest cut once =
     let next = next-line lines i line rest cut
     in ap (λ l. after_line (record { left = drop i lines; tried = 0; vars = vars }) call (Some reply) l) cut

@@ -4,18 +4,18 @@ use Rattle.std.proofs.Common.{◌≡◌, ◌≢◌, ◌⊎◌, ℕ, ◌<◌, ◌
 use Rattle.std.proofs.lemmas.Bool.{cases_eq}
 use Rattle.pico_base.specs.declared.script.Script.{Script}
 use Rattle.rpc_frame.specs.declared.frame.Frame.{Frame}
-use Rattle.kernel_model.specs.Maps.{get}
+use Rattle.number_maps.specs.Maps.{get}
 use Rattle.kernel_model.specs.Kernel.{Kernel, opening}
 use Rattle.kernel_model.specs.History.{Replays}
 use Rattle.kernel_model.specs.Valid.{IsOrdered}
-use Rattle.kernel_model.specs.Fitting.{Place, Places, Follows, opening_places}
+use Rattle.kernel_model.specs.Fitting.{Place, Places, FitsFrom, opening_places}
 use Rattle.machine_model.specs.Node.{Node, Parting}
-use Rattle.machine_model.specs.World.{World, node_at, stream, size_of}
-use Rattle.machine_laws.specs.Situations.{Situation, Awaited, Forked, Free, Asking, Answered, Telling, Recalled, HandedOver, Gone, Sight, IsIn, Lives, LivesIn}
+use Rattle.machine_model.specs.World.{World, node_at, stream, node_count}
+use Rattle.machine_laws.specs.Situations.{Situation, Awaited, Forked, Free, Asking, Answered, Telling, Recalled, HandedOver, Gone, Sight, IsIn, LivesHere, LivesIn}
 use Rattle.machine_laws.specs.Invariant.{IsLeader, IsChild, IsUnderWay, sight}
 use Rattle.machine_laws.proofs.Streams.{Changes, Square}
 
-lives-stay : (s : Situation) (k k' : Kernel) (h h' : _) (pid : ℕ) → (Lives k h pid → Lives k' h' pid) → LivesIn s k h pid → LivesIn s k' h' pid
+lives-stay : (s : Situation) (k k' : Kernel) (h h' : _) (pid : ℕ) → (LivesHere k h pid → LivesHere k' h' pid) → LivesIn s k h pid → LivesIn s k' h' pid
 lives-stay Awaited k k' h h' pid f l = tt
 lives-stay Gone k k' h h' pid f l = tt
 lives-stay (Forked vars) k k' h h' pid f l = f l
@@ -33,21 +33,21 @@ sight-is : (n : Node) (a b : List Frame) (c : Option Parting) (d : Option Place)
 sight-is n a b c d a' b' c' d' p q r s = rw (p, q, r, s) refl
 
 -- what an event leaves as it was, but for the leader and child c
-pub record Keeps (script : Script) (w w' : World) (first first' : Node) (k k' : Kernel) (places places' : Places) (pids pids' : ℕ → ℕ) (c : ℕ) : Type 0 where
+pub record KeepsOthers (script : Script) (w w' : World) (first first' : Node) (k k' : Kernel) (places places' : Places) (pids pids' : ℕ → ℕ) (c : ℕ) : Type 0 where
   pub script_stays : w'.script ≡ w.script
   pub count : length w'.nodes ≡ length w.nodes
   pub frames_to : List Frame
   pub frames_from : List Frame
-  pub streams : Changes (size_of script) c w.streams w'.streams frames_to frames_from
+  pub streams : Changes (node_count script) c w.streams w'.streams frames_to frames_from
   pub nodes : (p : ℕ) → 2 ≤ p → p ≢ c → node_at w' p ≡ node_at w p
   pub partings : (p : ℕ) → 2 ≤ p → p ≢ c → get first'.leader.partings p ≡ get first.leader.partings p
   pub pids_stay : (p : ℕ) → 2 ≤ p → p ≢ c → pids' p ≡ pids p
-  pub places_stay : (p : ℕ) → 2 ≤ p → p ≤ size_of script → p ≢ c → get places' (pids p) ≡ get places (pids p)
-  pub lives : (p : ℕ) → 2 ≤ p → p ≤ size_of script → p ≢ c → Lives k first.held (pids p) → Lives k' first'.held (pids p)
+  pub places_stay : (p : ℕ) → 2 ≤ p → p ≤ node_count script → p ≢ c → get places' (pids p) ≡ get places (pids p)
+  pub lives : (p : ℕ) → 2 ≤ p → p ≤ node_count script → p ≢ c → LivesHere k first.held (pids p) → LivesHere k' first'.held (pids p)
 
 child-stays : (script : Script) (w w' : World) (first first' : Node) (k k' : Kernel) (places places' : Places) (pids pids' : ℕ → ℕ) (c : ℕ)
-    → 2 ≤ c → Keeps script w w' first first' k k' places places' pids pids' c
-    → (p : ℕ) → 2 ≤ p → p ≤ size_of script → p ≢ c → IsChild script w first k places p (pids p)
+    → 2 ≤ c → KeepsOthers script w w' first first' k k' places places' pids pids' c
+    → (p : ℕ) → 2 ≤ p → p ≤ node_count script → p ≢ c → IsChild script w first k places p (pids p)
     → IsChild script w' first' k' places' p (pids' p)
 child-stays script w w' first first' k k' places places' pids pids' c low_c keeps p low high other child =
     let to_it : stream w' p 1 ≡ stream w p 1 =
@@ -68,19 +68,19 @@ child-stays script w w' first first' k k' places places' pids pids' c low_c keep
 -- what is new after an event
 pub record News (script : Script) (w' : World) (first' : Node) (k' : Kernel) (places' : Places) (pids' : ℕ → ℕ) (c : ℕ) : Type 0 where
   pub legal : Replays opening w'.journal k'
-  pub fits : Follows script (opening_places script) w'.journal places'
+  pub fits : FitsFrom script (opening_places script) w'.journal places'
   pub ordered : IsOrdered places'
   pub first_at : node_at w' 1 ≡ Some first'
   pub leader : IsLeader script first' k' places' pids'
-  pub child : c ≤ size_of script → IsChild script w' first' k' places' c (pids' c)
+  pub child : c ≤ node_count script → IsChild script w' first' k' places' c (pids' c)
   pub apart : (p q : ℕ) → pids' p ≢ 0 → pids' p ≡ pids' q → p ≡ q
   pub below : (p : ℕ) → pids' p < first'.leader.next_process
   pub known : (pid : ℕ) (place : Place) → get places' pid ≡ Some place
-      → (pid ≡ 1) ⊎ ((p : ℕ) × (2 ≤ p) × (p ≤ size_of script) × (pids' p ≡ pid) × (pid ≢ 0))
+      → (pid ≡ 1) ⊎ ((p : ℕ) × (2 ≤ p) × (p ≤ node_count script) × (pids' p ≡ pid) × (pid ≢ 0))
 
 pub goes-over : (script : Script) (w w' : World) (first first' : Node) (k k' : Kernel) (places places' : Places) (pids pids' : ℕ → ℕ) (c : ℕ)
     → 2 ≤ c → IsUnderWay script w first k places pids
-    → Keeps script w w' first first' k k' places places' pids pids' c
+    → KeepsOthers script w w' first first' k k' places places' pids pids' c
     → News script w' first' k' places' pids' c
     → IsUnderWay script w' first' k' places' pids'
 goes-over script w w' first first' k k' places places' pids pids' c low u keeps news =
@@ -110,5 +110,5 @@ goes-over script w w' first first' k k' places places' pids pids' c low u keeps 
     }
 
 pub square-of : (script : Script) (w : World) (first : Node) (k : Kernel) (places : Places) (pids : ℕ → ℕ)
-    → IsUnderWay script w first k places pids → Square (size_of script) w.streams
+    → IsUnderWay script w first k places pids → Square (node_count script) w.streams
 square-of script w first k places pids u = record { rows = u.rows; row = u.row }

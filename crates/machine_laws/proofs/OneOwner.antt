@@ -9,13 +9,13 @@ use Rattle.pico_base.specs.declared.numbers.Name.{Name}
 use Rattle.pico_base.specs.declared.numbers.Name.TheVariants.{Proc, Msg, Sem}
 use Rattle.pico_base.specs.declared.script.Script.{Script}
 use Rattle.rpc_frame.specs.declared.frame.Frame.{Frame}
-use Rattle.kernel_model.specs.Maps.{get}
+use Rattle.number_maps.specs.Maps.{get}
 use Rattle.kernel_model.specs.Kernel.{Kernel, Process, Living as LivingProcess}
 use Rattle.kernel_model.specs.Fitting.{Places}
 use Rattle.kernel_laws.proofs.MapLaws.{get-later}
 use Rattle.machine_model.specs.Node.{Node, Held, nothing, only, new_process}
 use Rattle.machine_model.specs.Deeds.{new_deed}
-use Rattle.machine_model.specs.World.{World, Streams, node_at, stream, size_of}
+use Rattle.machine_model.specs.World.{World, Streams, node_at, stream, node_count}
 use Rattle.machine_model.specs.Owners.{one_if, holds, is_of, brings, holders, on_the_way, owners}
 use Rattle.machine_model.specs.Laws.{NoNameHasTwoOwners}
 use Rattle.machine_laws.specs.Situations.{Situation, Awaited, Forked, Free, Asking, Answered, Telling, Recalled, HandedOver, Gone, IsIn, LivesIn}
@@ -264,7 +264,7 @@ module _ (script : Script) (w : World) (first : Node) (k : Kernel) (places : Pla
   -- ---- the whole world
 
   -- a node that isn't the leader is a child's
-  child-at : (i : ℕ) (n : Node) → slice_get w.nodes i ≡ Some n → i ≢ 0 → (2 ≤ i + 1) × (i + 1 ≤ size_of script) × (node_at w (i + 1) ≡ Some n)
+  child-at : (i : ℕ) (n : Node) → slice_get w.nodes i ≡ Some n → i ≢ 0 → (2 ≤ i + 1) × (i + 1 ≤ node_count script) × (node_at w (i + 1) ≡ Some n)
   child-at i n h o =
       let l = slice_get_within w.nodes i n h
       in let c = u.nodes
@@ -273,7 +273,7 @@ module _ (script : Script) (w : World) (first : Node) (k : Kernel) (places : Pla
 
   -- all children but one count nowhere
   ZerosBut : ℕ → Type 0
-  ZerosBut c = (p : ℕ) (low : 2 ≤ p) (high : p ≤ size_of script) → p ≢ c → Zero (here (u.children p low high).node) (to-count p) (from-count p)
+  ZerosBut c = (p : ℕ) (low : 2 ≤ p) (high : p ≤ node_count script) → p ≢ c → Zero (here (u.children p low high).node) (to-count p) (from-count p)
 
   module _ (c : ℕ) (zeros : ZerosBut c) where
     node-zero : (i : ℕ) (n : Node) → slice_get w.nodes i ≡ Some n → i ≢ 0 → i + 1 ≢ c → here n ≡ 0
@@ -291,7 +291,7 @@ module _ (script : Script) (w : World) (first : Node) (k : Kernel) (places : Pla
         let e : i + 1 - 1 ≡ i = omega arith
         in let moved : to-count (i + 1) ≡ brings-count name (at-place (brings name) w.streams i 0) =
         ap (λ j. brings-count name (get_or (get_or w.streams j []) 0 [])) e
-        in elim (cases_lt (size_of script) (i + 1)) [
+        in elim (cases_lt (node_count script) (i + 1)) [
           | inl past ↦
               let r : length w.streams ≤ i = let x = u.rows in omega (arith, past, x)
               in ap (λ row. brings-count name (get_or row 0 [])) (get_or_past w.streams i [] r)
@@ -307,9 +307,9 @@ module _ (script : Script) (w : World) (first : Node) (k : Kernel) (places : Pla
         let e : j + 1 - 1 ≡ j = omega arith
         in let moved : from-count (j + 1) ≡ brings-count name (at-place (brings name) w.streams 0 j) =
         ap (λ i. brings-count name (get_or (get_or w.streams 0 []) i [])) e
-        in elim (cases_lt (size_of script) (j + 1)) [
+        in elim (cases_lt (node_count script) (j + 1)) [
           | inl past ↦
-              let some : 1 ≤ size_of script = let l = slice_get_within w.nodes 0 first u.first_at in let x = u.nodes in omega (arith, l, x)
+              let some : 1 ≤ node_count script = let l = slice_get_within w.nodes 0 first u.first_at in let x = u.nodes in omega (arith, l, x)
               in let r : length (get_or w.streams 0 []) ≤ j = let x = u.row 0 (omega (arith, some)) in omega (arith, past, x)
               in ap (brings-count name) (get_or_past (get_or w.streams 0 []) j [] r)
           | inr there ↦ elim (cases_eq (j + 1) c) [
@@ -412,7 +412,7 @@ found-upto pids x (suc count) =
 module _ (script : Script) (w : World) (first : Node) (k : Kernel) (places : Places) (pids : ℕ → ℕ)
     (u : IsUnderWay script w first k places pids) where
   -- the zeros of children whose process it isn't
-  apart-zero : (name : Name) (p : ℕ) (low : 2 ≤ p) (high : p ≤ size_of script) → name ≢ Proc (pids p)
+  apart-zero : (name : Name) (p : ℕ) (low : 2 ≤ p) (high : p ≤ node_count script) → name ≢ Proc (pids p)
       → Zero (holds-count name (u.children p low high).node) (brings-count name (stream w p 1)) (brings-count name (stream w 1 p))
   apart-zero name p low high o =
       let c = u.children p low high
@@ -434,7 +434,7 @@ module _ (script : Script) (w : World) (first : Node) (k : Kernel) (places : Pla
         | inr other ↦ apart-zero (Proc x) p low high (λ e. other (proc-is x (pids p) e))
       ])
 
-  at-child : (x p : ℕ) → 2 ≤ p → p ≤ size_of script → pids p ≡ x → x ≢ 0 → get first.held.processes x ≡ None → owners (Proc x) w ≤ 1
+  at-child : (x p : ℕ) → 2 ≤ p → p ≤ node_count script → pids p ≡ x → x ≢ 0 → get first.held.processes x ≡ None → owners (Proc x) w ≤ 1
   unfolding ZerosBut
   at-child x p low high e some h =
       let c = u.children p low high
@@ -444,7 +444,7 @@ module _ (script : Script) (w : World) (first : Node) (k : Kernel) (places : Pla
       (leader-none (Proc x) x first refl h) low c.node c.at
       (child-counts script w first k places pids u (Proc x) p c.node c.situation c.is_in)
 
-  nowhere : (x : ℕ) → ((p : ℕ) → 2 ≤ p → p ≤ size_of script → pids p ≢ x) → owners (Proc x) w ≤ 1
+  nowhere : (x : ℕ) → ((p : ℕ) → 2 ≤ p → p ≤ node_count script → pids p ≢ x) → owners (Proc x) w ≤ 1
   unfolding ZerosBut
   nowhere x none =
       by-leader script w first k places pids u (Proc x)
@@ -475,7 +475,7 @@ module _ (script : Script) (w : World) (first : Node) (k : Kernel) (places : Pla
   sought x None h =
       elim (cases_eq x 0) [
         | inl e ↦ subst (λ q. owners (Proc q) w ≤ 1) (sym e) unforked
-        | inr some ↦ elim (found-upto pids x (size_of script)) [
+        | inr some ↦ elim (found-upto pids x (node_count script)) [
           | inl f ↦ at-child x f.0 f.2 f.1 f.3 some h
           | inr none ↦ nowhere x none
         ]

@@ -6,16 +6,16 @@ use Rattle.std.proofs.lemmas.Option.{slice_get-map}
 use Rattle.std.proofs.lemmas.Bool.{ne_eqb, cases_eq, leb-true}
 use Rattle.pico_base.specs.declared.script.Script.{Script}
 use Rattle.rpc_frame.specs.declared.frame.Frame.{Frame}
-use Rattle.kernel_model.specs.Maps.{get}
+use Rattle.number_maps.specs.Maps.{get}
 use Rattle.kernel_model.specs.Row.{Alive}
 use Rattle.kernel_model.specs.Kernel.{Living as LivingProcess, alive_in, living_at, opening}
 use Rattle.kernel_model.specs.Fitting.{opening_places, block_at}
 use Rattle.machine_model.specs.Built.{IsRunnable}
 use Rattle.machine_model.specs.Node.{first_node, first_numbers, unborn_node, opening_node, new_process, only, place_of}
-use Rattle.machine_model.specs.World.{numbers, size_of, opening_world, node_at, stream}
+use Rattle.machine_model.specs.World.{numbers, node_count, opening_world, node_at, stream}
 use Rattle.kernel_laws.proofs.MapLaws.{get-first, get-later, ordered}
 use Rattle.kernel_laws.proofs.Plain.{from_some, not_some}
-use Rattle.deed_laws.specs.Carrying.{StandsFor, IsPlain}
+use Rattle.deed_laws.specs.Carrying.{StandsFor, IsPlainProcess}
 use Rattle.machine_laws.specs.Situations.{Awaited}
 use Rattle.machine_laws.specs.Invariant.{HasInvariant}
 use Rattle.machine_laws.proofs.Calls.{and-left, is-true}
@@ -55,14 +55,14 @@ abbrev no-frames : List Frame
 no-frames = []
 
 module _ (script : Script) (r : IsRunnable script) where
-  some-blocks : 1 ≤ size_of script
-  some-blocks = leb-true 1 (size_of script) (and-left _ _ (is-true _ r.sound.size))
+  some-blocks : 1 ≤ node_count script
+  some-blocks = leb-true 1 (node_count script) (and-left _ _ (is-true _ r.sound.size))
 
-  node-is : (p : ℕ) → 1 ≤ p → p ≤ size_of script → node_at (opening_world script) p ≡ Some (opening_node p)
+  node-is : (p : ℕ) → 1 ≤ p → p ≤ node_count script → node_at (opening_world script) p ≡ Some (opening_node p)
   node-is p low high =
       let e : 1 + (p - 1) ≡ p = omega arith
-      in slice_get-map opening_node (numbers 1 (size_of script)) (p - 1)
-      ∙ ap (option_map opening_node) (number-at 1 (size_of script) (p - 1) (omega arith))
+      in slice_get-map opening_node (numbers 1 (node_count script)) (p - 1)
+      ∙ ap (option_map opening_node) (number-at 1 (node_count script) (p - 1) (omega arith))
       ∙ ap (λ q. Some (opening_node q)) e
 
   later-node : (p : ℕ) → 2 ≤ p → opening_node p ≡ unborn_node p
@@ -76,7 +76,7 @@ module _ (script : Script) (r : IsRunnable script) where
   none-in m (suc i) j (suc count) = none-in m i j count
 
   nothing-on-its-way : (p q : ℕ) → stream (opening_world script) p q ≡ []
-  nothing-on-its-way p q = none-in (size_of script) (p - 1) (q - 1) (size_of script)
+  nothing-on-its-way p q = none-in (node_count script) (p - 1) (q - 1) (node_count script)
 
   only-first : (pid : ℕ) (a : Alive) → living_at opening pid ≡ Some a → (pid ≡ 1) × (a ≡ new_process)
   only-first pid a h =
@@ -100,7 +100,7 @@ module _ (script : Script) (r : IsRunnable script) where
         plain = record {
           first = λ a h.
               let e : new_process ≡ a = sym (only-first 1 a h).1
-              in subst IsPlain e (record { signals = refl; allowance = refl });
+              in subst IsPlainProcess e (record { signals = refl; allowance = refl });
           others = λ pid a o h. (only-first pid a h).1;
         };
       }
@@ -117,9 +117,9 @@ module _ (script : Script) (r : IsRunnable script) where
         pids = λ p. 0;
         under_way = record {
           of_script = refl;
-          nodes = length-map-numbers opening_node (numbers 1 (size_of script)) ∙ length-numbers 1 (size_of script);
-          rows = length-same (size_of script) _;
-          row = λ i h. ap length (same-at (size_of script) i (replicate (size_of script) []) [] h) ∙ length-same (size_of script) [];
+          nodes = length-map-numbers opening_node (numbers 1 (node_count script)) ∙ length-numbers 1 (node_count script);
+          rows = length-same (node_count script) _;
+          row = λ i h. ap length (same-at (node_count script) i (replicate (node_count script) []) [] h) ∙ length-same (node_count script) [];
           legal = refl;
           fits = refl;
           ordered = ordered (opening_places script) (tt, tt);

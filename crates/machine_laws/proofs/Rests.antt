@@ -3,13 +3,13 @@ use Rattle.std.proofs.Common.{◌≡◌, ◌≢◌, ◌⊎◌, ℕ, ◌≤◌, S
 use Rattle.std.specs.List.{list_any}
 use Rattle.std.proofs.lemmas.Bool.{cases_eq}
 use Rattle.pico_base.specs.declared.script.Script.{Script}
-use Rattle.kernel_model.specs.Maps.{get}
+use Rattle.number_maps.specs.Maps.{get}
 use Rattle.kernel_model.specs.Row.{Alive}
 use Rattle.kernel_model.specs.Kernel.{Kernel, Living, Gone}
 use Rattle.kernel_model.specs.Fitting.{Place, Places}
 use Rattle.machine_model.specs.Node.{Node, place_of}
 use Rattle.machine_model.specs.Frames.{names_block, are_rising}
-use Rattle.machine_model.specs.World.{size_of}
+use Rattle.machine_model.specs.World.{node_count}
 use Rattle.deed_laws.specs.Carrying.{StandsFor}
 use Rattle.machine_laws.specs.Lines.{EndsInExit}
 use Rattle.machine_laws.specs.Situations.{IsBorn}
@@ -93,7 +93,7 @@ leader-places script n k places places' pids same l =
 abbrev pub Known : Script → Places → (ℕ → ℕ) → Type 0
 Known script places pids =
     (pid : ℕ) (place : Place) → get places pid ≡ Some place
-    → (pid ≡ 1) ⊎ ((p : ℕ) × (2 ≤ p) × (p ≤ size_of script) × (pids p ≡ pid) × (pid ≢ 0))
+    → (pid ≡ 1) ⊎ ((p : ℕ) × (2 ≤ p) × (p ≤ node_count script) × (pids p ≡ pid) × (pid ≢ 0))
 
 -- a process that had a place has another, and the rest stays
 pub known-after : (script : Script) (places places' : Places) (pids : ℕ → ℕ) (pid : ℕ) (old : Place) → Known script places pids

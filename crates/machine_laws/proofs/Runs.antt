@@ -7,7 +7,7 @@ use Rattle.pico_base.specs.declared.script.Script.{Script}
 use Rattle.pico_base.specs.declared.script.Event.{Event}
 use Rattle.pico_base.specs.declared.script.Event.TheVariants as events
 use Rattle.rpc_frame.specs.declared.frame.Frame.{Frame}
-use Rattle.kernel_model.specs.Maps.{get}
+use Rattle.number_maps.specs.Maps.{get}
 use Rattle.kernel_model.specs.Kernel.{Kernel}
 use Rattle.kernel_model.specs.Fitting.{Place, Places, IsOver}
 use Rattle.kernel_laws.proofs.MapLaws.{Rising, rising, get-first, get-later, get-above}
@@ -15,7 +15,7 @@ use Rattle.kernel_laws.proofs.Plain.{not_some}
 use Rattle.machine_model.specs.Built.{IsRunnable}
 use Rattle.machine_model.specs.Node.{Node, Stage, is_living, is_unborn, can_run}
 use Rattle.machine_model.specs.World.{World, node_at, stream, opening_world, is_enabled, is_run_enabled, is_take_enabled, is_checkpoint}
-use Rattle.machine_model.specs.Run.{Runs, IsReachable, IsAtRest}
+use Rattle.machine_model.specs.Run.{Runs, IsReachableWorld, IsAtRest}
 use Rattle.machine_model.specs.Laws.{JournalsAreLegal, RestIsWhole, EnabledEventsHaveSteps}
 use Rattle.machine_laws.specs.Situations.{Situation, Awaited, Forked, Free, Asking, Answered, Telling, Recalled, HandedOver, Gone, IsIn}
 use Rattle.machine_laws.specs.Invariant.{IsUnderWay, HasInvariant, sight}
@@ -34,7 +34,7 @@ along script r w last (e ∷ es) i h =
     in let same : g.next ≡ h.1 = some-is _ _ (sym g.is_step ∙ h.2)
     in along script r h.1 last es (subst (λ (x : World). HasInvariant script x) same g.keeps) h.3
 
-pub reaches : (script : Script) → IsRunnable script → (w : World) → IsReachable script w → HasInvariant script w
+pub reaches : (script : Script) → IsRunnable script → (w : World) → IsReachableWorld script w → HasInvariant script w
 reaches script r w h = along script r (opening_world script) w h.0 (opening-holds script r) h.1
 
 pub journals_are_legal_lemma : JournalsAreLegal

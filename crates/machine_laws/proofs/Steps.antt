@@ -11,9 +11,10 @@ use Rattle.kernel_model.specs.Script.{is_exit}
 use Rattle.kernel_model.specs.Fitting.{due}
 use Rattle.machine_model.specs.Built.{IsRunnable}
 use Rattle.machine_model.specs.Node.{Node, Stage, is_living, can_run, place_of, lines_of}
-use Rattle.machine_model.specs.Calls.{Step, run, starts, starts_call, number_end}
+use Rattle.machine_model.specs.Calls.{Step, run, starts, starts_call}
+use Rattle.kernel_model.specs.Numbers.{number_end}
 use Rattle.machine_model.specs.Frames.{takes}
-use Rattle.machine_model.specs.World.{World, node_at, stream, with_stream, after, after_turn, runs_at, takes_at, step}
+use Rattle.machine_model.specs.World.{World, node_at, stream, with_stream, world_after, after_turn, runs_at, takes_at, step}
 use Rattle.machine_laws.specs.Lines.{EndsInExit}
 use Rattle.machine_laws.specs.Invariant.{HasInvariant}
 use Rattle.machine_laws.proofs.Lines.{IsFirst, due-first, next-line, all-at, ends-next, ends-last}
@@ -27,12 +28,12 @@ pub record Goes (script : Script) (w : World) (e : Event) : Type 0 where
   pub keeps : HasInvariant script next
 
 pub step-run : (w : World) (p : ℕ) (n : Node) (s : Step) → node_at w p ≡ Some n → run w.script n ≡ Some s
-    → step w (events.Run p) ≡ Some (after w p s)
+    → step w (events.Run p) ≡ Some (world_after w p s)
 step-run w p n s a r = ap (runs_at w p) a ∙ ap (after_turn w p) r
 
 pub step-take : (w : World) (p q : ℕ) (n : Node) (f : Frame) (fs : List Frame) (s : Step) → node_at w p ≡ Some n
     → stream w p q ≡ f ∷ fs → takes w.script n q f ≡ Some s
-    → step w (events.Take p q) ≡ Some (after (record w { streams = with_stream w.streams p q fs }) p s)
+    → step w (events.Take p q) ≡ Some (world_after (record w { streams = with_stream w.streams p q fs }) p s)
 step-take w p q n f fs s a h r =
     ap (λ x. takes_at w p q x (stream w p q)) a ∙ ap (takes_at w p q (Some n)) h
     ∙ ap (after_turn (record w { streams = with_stream w.streams p q fs }) p) r

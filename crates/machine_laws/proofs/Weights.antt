@@ -18,21 +18,22 @@ use Rattle.kernel_model.specs.SemaphoreSet.{Semaphore, new_set}
 use Rattle.kernel_model.specs.Kernel.{Process, living_in}
 use Rattle.kernel_model.specs.Row.{Alive}
 use Rattle.kernel_model.specs.Effect.{Effect}
-use Rattle.kernel_model.specs.Maps.{get, put}
+use Rattle.number_maps.specs.Maps.{get, put}
 use Rattle.kernel_model.specs.Script.{calls_in, call_of}
 use Rattle.kernel_model.specs.Queue.{empty_queue}
 use Rattle.kernel_model.specs.Fitting.{due, call_due, block_at}
 use Rattle.machine_model.specs.Built.{IsRunnable}
 use Rattle.machine_model.specs.Node.{Node, Caller, Stage, Unborn, Living, Leaving, Left, Over, is_living, is_unborn, can_run, place_of, lines_of, first_node, unborn_node, opening_node, is_leader, IsLeaving, HasLeft}
-use Rattle.machine_model.specs.Deeds.{served}
-use Rattle.machine_model.specs.Calls.{Step, run, starts, starts_call, carried, carried_out, answered, with_leader, makes_set_of, forks_as, shares, exits, ends_first, leaves, asks, entry_by, number_end}
+use Rattle.machine_model.specs.Deeds.{serve}
+use Rattle.machine_model.specs.Calls.{Step, run, starts, starts_call, carry_out, step_here, take_reply, with_leader, makes_set_of, forks_as, shares, exits, ends_first, leaves, asks, entry_by}
+use Rattle.kernel_model.specs.Numbers.{number_end}
 use Rattle.pico_base.specs.declared.reply.Reply.TheVariants.{Num, Ended}
 use Rattle.pico_base.specs.declared.reply.Ending.TheVariants.{Exited}
-use Rattle.machine_model.specs.Deeds.{child_ended, may_end}
+use Rattle.machine_model.specs.Deeds.{end_child, may_end}
 use Rattle.machine_model.specs.Built.{is_shared}
 use Rattle.kernel_model.specs.Waiting.{is_waiting}
-use Rattle.machine_model.specs.Frames.{takes, parting, is_to_leader, served_for, is_awaited, hands_over, ended_at, ended_by}
-use Rattle.machine_model.specs.World.{World, node_at, stream, after, after_turn, runs_at, takes_at, size_of, numbers, opening_world, with_stream}
+use Rattle.machine_model.specs.Frames.{takes, with_parting, is_to_leader, serve_for, is_awaited, hands_over, end_at, end_by}
+use Rattle.machine_model.specs.World.{World, node_at, stream, world_after, after_turn, runs_at, takes_at, node_count, numbers, opening_world, with_stream}
 use Rattle.machine_model.specs.Run.{Runs}
 use Rattle.machine_model.specs.Owners.{one_if, on_the_way}
 use Rattle.machine_model.specs.Weights.{frame_weight, left_to_start, to_start_in, to_start, weight, calls_of}
@@ -99,15 +100,15 @@ module _ (script : Script) (n : Node) (living : n.stage ≡ Living) (idle : n.ca
   leaving : (status : ℕ) → Lowers script (leaves n status) (32 * to_start script n)
   leaving status = let x = before in record { lower = omega (arith, x) }
 
-  lowers-carried : (call : Call) (o : Option Effect) (s : Step) → carried script n call o ≡ Some s → Lowers script s (32 * to_start script n)
+  lowers-carried : (call : Call) (o : Option Effect) (s : Step) → carry_out script n call o ≡ Some s → Lowers script s (32 * to_start script n)
   lowers-carried call None s h = of-some s h
   lowers-carried call (Some e) s h = subst (λ x. Lowers script x (32 * to_start script n)) (some-is _ _ h) (at-once _ refl refl refl refl (omega arith))
 
   lowers-shared : (call : Call) (s : Step) → shares script n call ≡ Some s → Lowers script s (32 * to_start script n)
   lowers-shared call s h =
-      elim (chosen (is_leader n) (carried script n call (served n.held n.pid call)) (Some (asks n call)) s
-      (passed (is_shared call && not (is_waiting call)) (if is_leader n then carried script n call (served n.held n.pid call) else Some (asks n call)) s h).1) [
-        | inl c ↦ lowers-carried call (served n.held n.pid call) s c
+      elim (chosen (is_leader n) (carry_out script n call (serve n.held n.pid call)) (Some (asks n call)) s
+      (passed (is_shared call && not (is_waiting call)) (if is_leader n then carry_out script n call (serve n.held n.pid call) else Some (asks n call)) s h).1) [
+        | inl c ↦ lowers-carried call (serve n.held n.pid call) s c
         | inr a ↦ subst (λ x. Lowers script x (32 * to_start script n)) (some-is _ _ a) (asking call)
       ]
 
@@ -145,7 +146,7 @@ module _ (script : Script) (n : Node) (living : n.stage ≡ Living) (idle : n.ca
       let number : ℕ = n.leader.next_queue
       in let m : Step =
       with_leader (record n.leader { next_queue = number + 1 })
-      (carried_out script n (calls.MsgGet None create excl) (Num number) (record n.held { queues = put n.held.queues number empty_queue }))
+      (step_here script n (calls.MsgGet None create excl) (Num number) (record n.held { queues = put n.held.queues number empty_queue }))
       in let low : Lowers script m (32 * to_start script n) = at-once m refl refl refl refl (omega arith)
       in subst (λ x. Lowers script x (32 * to_start script n)) (some-is m s (passed (is_leader n && nat_lt number number_end) (Some m) s h).1) low
   lowers-call (calls.SemGet None count create excl) s h =
@@ -186,7 +187,7 @@ abbrev with-frame : Script → Node → Frame → ℕ
 with-frame script n f = 32 * to_start script n + frame_weight f
 
 ask-lowers : (script : Script) (n : Node) (from ticket pid : ℕ) (call : Call) (o : Option Effect) (s : Step)
-    → served_for n from ticket pid call o ≡ Some s → Lowers script s (with-frame script n (frames.Ask ticket pid call))
+    → serve_for n from ticket pid call o ≡ Some s → Lowers script s (with-frame script n (frames.Ask ticket pid call))
 ask-lowers script n from ticket pid call None s h = of-some s h
 ask-lowers script n from ticket pid call (Some e) s h =
     subst (λ x. Lowers script x (with-frame script n (frames.Ask ticket pid call))) (some-is _ _ h) (record { lower = omega arith })
@@ -216,19 +217,19 @@ recall-lowers script n (Some call) s h =
     subst (λ x. Lowers script x (with-frame script n frames.RecallAll)) (some-is _ _ h) (record { lower = omega arith })
 
 left-lowers-at : (script : Script) (n : Node) (from : ℕ) (parcel : Parcel) (status : ℕ) (o : Option Process) (s : Step)
-    → ended_at n from parcel status o ≡ Some s → Lowers script s (with-frame script n (frames.Left parcel))
+    → end_at n from parcel status o ≡ Some s → Lowers script s (with-frame script n (frames.Left parcel))
 left-lowers-at script n from parcel status None s h = of-some s h
 left-lowers-at script n from parcel status (Some p) s h =
     let m : Step =
     record {
-      node = record (parting n from HasLeft) { held = child_ended n.held parcel.pid parcel.parent p (Exited (status % 256)) };
+      node = record (with_parting n from HasLeft) { held = end_child n.held parcel.pid parcel.parent p (Exited (status % 256)) };
       entries = entry_by n.number parcel.pid parcel.call Ended ∷ [];
       sends = [];
     }
     in let low : Lowers script m (with-frame script n (frames.Left parcel)) = record { lower = omega arith }
     in subst (λ x. Lowers script x (with-frame script n (frames.Left parcel))) (some-is m s (passed (may_end parcel.pid p) (Some m) s h).1) low
 
-left-lowers : (script : Script) (n : Node) (from : ℕ) (parcel : Parcel) (call : Call) (s : Step) → ended_by n from parcel call ≡ Some s
+left-lowers : (script : Script) (n : Node) (from : ℕ) (parcel : Parcel) (call : Call) (s : Step) → end_by n from parcel call ≡ Some s
     → Lowers script s (with-frame script n (frames.Left parcel))
 left-lowers script n from parcel (calls.Exit status) s h = left-lowers-at script n from parcel status _ s h
 left-lowers script n from parcel call s h = of-some s h
@@ -244,7 +245,7 @@ takes-lowers : (script : Script) (n : Node) (from : ℕ) (f : Frame) (s : Step) 
 takes-lowers script n from (frames.Ask ticket pid call) s h = ask-lowers script n from ticket pid call _ s (passed _ _ s h).1
 takes-lowers script n from (frames.Answer ticket reply) s h =
     let p = passed _ _ s h
-    in let below = answered-below script n (answered script n.number n.caller reply) n.stage refl refl (and-left _ _ p.0)
+    in let below = answered-below script n (take_reply script n.number n.caller reply) n.stage refl refl (and-left _ _ p.0)
     in subst (λ x. Lowers script x (with-frame script n (frames.Answer ticket reply))) (some-is _ _ p.1) (record { lower = omega (arith, below) })
 takes-lowers script n from (frames.Checkpoint pid parent deed vars) s h =
     let p = passed _ _ s h
@@ -253,7 +254,7 @@ takes-lowers script n from (frames.Checkpoint pid parent deed vars) s h =
     in subst (λ x. Lowers script x (with-frame script n (frames.Checkpoint pid parent deed vars))) (some-is _ _ p.1)
     (record { lower = omega (arith, was) })
 takes-lowers script n from (frames.Leaving pid parent parent_node) s h =
-    let m : Step = record { node = parting n from (IsLeaving pid); entries = []; sends = (from, frames.RecallAll) ∷ [] }
+    let m : Step = record { node = with_parting n from (IsLeaving pid); entries = []; sends = (from, frames.RecallAll) ∷ [] }
     in let low : Lowers script m (with-frame script n (frames.Leaving pid parent parent_node)) = record { lower = omega arith }
     in subst (λ x. Lowers script x (with-frame script n (frames.Leaving pid parent parent_node)))
     (some-is m s (passed ((is_to_leader n from && is_none (get n.leader.partings from)) && (nat_lt 0 pid && (nat_lt 0 parent && not (nat_eq pid parent)))) (Some m) s h).1) low
@@ -263,7 +264,7 @@ takes-lowers script n from (frames.Left parcel) s h = left-lowers script n from 
 -- ---- the world
 
 after-weight : (w : World) (p : ℕ) (n : Node) (s : Step) (below : ℕ) → node_at w p ≡ Some n → Lowers w.script s (32 * to_start w.script n + below)
-    → weight (after w p s) < weight w + below
+    → weight (world_after w p s) < weight w + below
 after-weight w p n s below at l =
     let nodes = sum-set (to_start w.script) w.nodes (p - 1) s.node n at
     in let sent = sent-all frame_weight p w.streams s.sends
@@ -365,7 +366,7 @@ no-streams (suc count) m =
 opening-weight : (script : Script) → IsRunnable script → weight (opening_world script) ≤ 32 * calls_of script
 opening-weight script r =
     let nodes = numbered-sum script script.blocks 1 (block-calls script r)
-    in let streams = no-streams (size_of script) (size_of script)
+    in let streams = no-streams (node_count script) (node_count script)
     in omega (arith, nodes, streams)
 
 pub runs_are_short_lemma : RunsAreShort

@@ -2,15 +2,15 @@
 use Rattle.std.specs.Prelude.{◌≡◌, ◌≢◌, ◌⊎◌, ◌≤◌, ◌<◌, ℕ, ◌+◌, true, [], length, get_or, Some, None}
 use Rattle.std.specs.List.{list_any}
 use Rattle.pico_base.specs.declared.script.Script.{Script}
-use Rattle.kernel_model.specs.Maps.{get}
+use Rattle.number_maps.specs.Maps.{get}
 use Rattle.kernel_model.specs.Row.{Alive}
 use Rattle.kernel_model.specs.Kernel.{Kernel, Living as LivingProcess, Gone, opening}
 use Rattle.kernel_model.specs.History.{Replays}
-use Rattle.kernel_model.specs.Fitting.{Place, Places, Follows, opening_places}
+use Rattle.kernel_model.specs.Fitting.{Place, Places, FitsFrom, opening_places}
 use Rattle.kernel_model.specs.Valid.{IsOrdered}
 use Rattle.machine_model.specs.Node.{Node, Living, Over, place_of}
 use Rattle.machine_model.specs.Frames.{names_block, are_rising}
-use Rattle.machine_model.specs.World.{World, node_at, stream, size_of}
+use Rattle.machine_model.specs.World.{World, node_at, stream, node_count}
 use Rattle.deed_laws.specs.Carrying.{StandsFor}
 use Rattle.machine_laws.specs.Lines.{EndsInExit}
 use Rattle.machine_laws.specs.Situations.{Situation, Sight, IsIn, LivesIn}
@@ -74,18 +74,18 @@ pub record IsChild (script : Script) (w : World) (first : Node) (k : Kernel) (pl
 pub record IsUnderWay (script : Script) (w : World) (first : Node) (k : Kernel) (places : Places) (pids : ℕ → ℕ) : Type 0 where
   pub of_script : w.script ≡ script
   -- a node for each block, and a stream for each pair of nodes
-  pub nodes : length w.nodes ≡ size_of script
-  pub rows : length w.streams ≡ size_of script
-  pub row : (p : ℕ) → p < size_of script → length (get_or w.streams p []) ≡ size_of script
+  pub nodes : length w.nodes ≡ node_count script
+  pub rows : length w.streams ≡ node_count script
+  pub row : (p : ℕ) → p < node_count script → length (get_or w.streams p []) ≡ node_count script
   -- the journal so far is legal and leads to the kernel, and it fits the script so far
   pub legal : Replays opening w.journal k
-  pub fits : Follows script (opening_places script) w.journal places
+  pub fits : FitsFrom script (opening_places script) w.journal places
   pub ordered : IsOrdered places
   -- the leader
   pub first_at : node_at w 1 ≡ Some first
   pub leader : IsLeader script first k places pids
   -- each other node is in one of the situations
-  pub children : (p : ℕ) → 2 ≤ p → p ≤ size_of script → IsChild script w first k places p (pids p)
+  pub children : (p : ℕ) → 2 ≤ p → p ≤ node_count script → IsChild script w first k places p (pids p)
   -- frames go to the leader and come from it, and it sends itself none
   pub quiet : (p q : ℕ) → 2 ≤ p → 2 ≤ q → stream w p q ≡ []
   pub quiet_leader : stream w 1 1 ≡ []
@@ -94,7 +94,7 @@ pub record IsUnderWay (script : Script) (w : World) (first : Node) (k : Kernel) 
   pub below : (p : ℕ) → pids p < first.leader.next_process
   -- and no other process has a place in the history
   pub known : (pid : ℕ) (place : Place) → get places pid ≡ Some place
-      → (pid ≡ 1) ⊎ ((p : ℕ) × (2 ≤ p) × (p ≤ size_of script) × (pids p ≡ pid) × (pid ≢ 0))
+      → (pid ≡ 1) ⊎ ((p : ℕ) × (2 ≤ p) × (p ≤ node_count script) × (pids p ≡ pid) × (pid ≢ 0))
 
 -- some kernel, places and numbers serve
 pub record HasInvariant (script : Script) (w : World) : Type 0 where

@@ -8,12 +8,12 @@ use Rattle.pico_base.specs.declared.script.Script.{Script}
 use Rattle.rpc_frame.specs.declared.deed.Parcel.{Parcel}
 use Rattle.rpc_frame.specs.declared.frame.Frame.{Frame}
 use Rattle.rpc_frame.specs.declared.frame.Frame.TheVariants as frames
-use Rattle.kernel_model.specs.Maps.{get}
+use Rattle.number_maps.specs.Maps.{get}
 use Rattle.kernel_model.specs.Row.{Alive, lists}
 use Rattle.kernel_model.specs.Kernel.{Kernel, Living as LivingProcess}
 use Rattle.kernel_model.specs.Waiting.{is_waiting}
 use Rattle.kernel_model.specs.Script.{Vars}
-use Rattle.kernel_model.specs.Fitting.{Place, due, after}
+use Rattle.kernel_model.specs.Fitting.{Place, due, place_after}
 use Rattle.machine_model.specs.Built.{is_shared}
 use Rattle.machine_model.specs.Node.{Node, Held, Stage, Living, Leaving, Left, Parting, IsLeaving, HasLeft, unborn_node, nothing, only, new_process, lines_of, place_of}
 use Rattle.machine_model.specs.Deeds.{new_deed}
@@ -80,7 +80,7 @@ pub record IsAwaited (p pid : ℕ) (x : Sight) : Type 0 where
   pub unborn : IsUnborn p x
   pub shows : Shows x [] [] None
 
-pub record IsForked (script : Script) (p pid : ℕ) (x : Sight) (vars : Vars) : Type 0 where
+pub record IsForkedAs (script : Script) (p pid : ℕ) (x : Sight) (vars : Vars) : Type 0 where
   pub low : 2 ≤ pid
   pub unborn : IsUnborn p x
   pub by_first : is_forked_by script 1 p ≡ true
@@ -113,7 +113,7 @@ pub record IsAsking (script : Script) (p pid : ℕ) (x : Sight) (call : Call) : 
 pub record IsAnswered (script : Script) (p pid : ℕ) (x : Sight) (call : Call) (reply : Reply) : Type 0 where
   pub has : HasCall script p pid x.node call
   pub shows : Shows x (frames.Answer x.node.caller.ticket reply ∷ []) [] None
-  pub place : x.place ≡ Some (after (place_of script x.node) call (Some reply))
+  pub place : x.place ≡ Some (place_after (place_of script x.node) call (Some reply))
 
 -- an exit is under way, that of the last line
 pub record HasExit (script : Script) (n : Node) (status : ℕ) (found : Option Place) : Type 0 where
@@ -133,13 +133,13 @@ pub record IsRecalled (script : Script) (p pid : ℕ) (x : Sight) (status : ℕ)
   pub shows : Shows x (frames.RecallAll ∷ []) [] (Some (IsLeaving pid))
   pub at : HasExit script x.node status x.place
 
-abbrev pub parcel_of : ℕ → ℕ → Parcel
-parcel_of pid status = record { pid = pid; parent = 1; call = Exit status; deeds = new_deed pid ∷ [] }
+abbrev pub parcel_from : ℕ → ℕ → Parcel
+parcel_from pid status = record { pid = pid; parent = 1; call = Exit status; deeds = new_deed pid ∷ [] }
 
 pub record HasHandedOver (script : Script) (p pid : ℕ) (x : Sight) (status : ℕ) : Type 0 where
   pub born : IsBorn p pid x.node
   pub has : Has x.node Left None nothing
-  pub shows : Shows x [] (frames.Left (parcel_of pid status) ∷ []) (Some (IsLeaving pid))
+  pub shows : Shows x [] (frames.Left (parcel_from pid status) ∷ []) (Some (IsLeaving pid))
   pub at : HasExit script x.node status x.place
 
 pub record IsGone (script : Script) (p pid : ℕ) (x : Sight) : Type 0 where
@@ -152,7 +152,7 @@ pub record IsGone (script : Script) (p pid : ℕ) (x : Sight) : Type 0 where
 
 abbrev pub IsIn : Situation → Script → ℕ → ℕ → Sight → Type 0
 IsIn Awaited script p pid x = IsAwaited p pid x
-IsIn (Forked vars) script p pid x = IsForked script p pid x vars
+IsIn (Forked vars) script p pid x = IsForkedAs script p pid x vars
 IsIn Free script p pid x = IsFree script p pid x
 IsIn (Asking call) script p pid x = IsAsking script p pid x call
 IsIn (Answered call reply) script p pid x = IsAnswered script p pid x call reply
@@ -163,7 +163,7 @@ IsIn Gone script p pid x = IsGone script p pid x
 
 -- In all but the first and the last situation its process lives: the kernel has it as it was forked, the leader
 -- doesn't hold its deed, and process 1, while it lives, lists it.
-pub record Lives (k : Kernel) (first : Held) (pid : ℕ) : Type 0 where
+pub record LivesHere (k : Kernel) (first : Held) (pid : ℕ) : Type 0 where
   pub process : get k.processes pid ≡ Some (LivingProcess new_process)
   pub away : get first.processes pid ≡ None
   pub listed : (a : Alive) → get first.processes 1 ≡ Some (LivingProcess a) → lists a.row.family pid ≡ true
@@ -171,4 +171,4 @@ pub record Lives (k : Kernel) (first : Held) (pid : ℕ) : Type 0 where
 abbrev pub LivesIn : Situation → Kernel → Held → ℕ → Type 0
 LivesIn Awaited k first pid = Unit {0}
 LivesIn Gone k first pid = Unit {0}
-LivesIn _ k first pid = Lives k first pid
+LivesIn _ k first pid = LivesHere k first pid

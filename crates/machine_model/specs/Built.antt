@@ -6,7 +6,7 @@ use Rattle.pico_base.specs.declared.call.Call.TheVariants as calls
 use Rattle.pico_base.specs.declared.script.Line.{Line}
 use Rattle.pico_base.specs.declared.script.Block.{Block}
 use Rattle.pico_base.specs.declared.script.Script.{Script}
-use Rattle.kernel_model.specs.Script.{IsSound}
+use Rattle.kernel_model.specs.Script.{IsSoundScript}
 
 -- a call on a queue or a semaphore set by its identifier, but for its removal
 abbrev pub is_shared : Call → Bool
@@ -45,5 +45,5 @@ is_built_block b = list_all (is_built_line b.0) b.1.lines
 
 -- what is asked of the scripts that nodes and worlds are handed
 pub record IsRunnable (s : Script) : Type 0 where
-  pub sound : IsSound s
+  pub sound : IsSoundScript s
   pub built : IsTrue (list_all is_built_block (enumerate_from 1 s.blocks))

@@ -11,18 +11,18 @@ use Rattle.pico_base.specs.declared.reply.Entry.{Entry}
 use Rattle.pico_base.specs.declared.reply.Ending.TheVariants.{Exited}
 use Rattle.rpc_frame.specs.declared.frame.Frame.{Frame}
 use Rattle.rpc_frame.specs.declared.frame.Frame.TheVariants as frames
-use Rattle.kernel_model.specs.Maps.{put}
+use Rattle.number_maps.specs.Maps.{put}
 use Rattle.kernel_model.specs.Queue.{empty_queue}
 use Rattle.kernel_model.specs.SemaphoreSet.{Semaphore, new_set}
 use Rattle.kernel_model.specs.Row.{Alive}
 use Rattle.kernel_model.specs.Kernel.{Living as LivingProcess, living_in}
 use Rattle.kernel_model.specs.Effect.{Effect}
-use Rattle.kernel_model.specs.ProcessCalls.{forking}
+use Rattle.kernel_model.specs.ProcessCalls.{parent_after_fork}
 use Rattle.kernel_model.specs.Waiting.{is_waiting}
-use Rattle.kernel_model.specs.Fitting.{due, child_vars, setting, value_in}
+use Rattle.kernel_model.specs.Fitting.{due, child_vars, set_variable, value_in}
 use Rattle.machine_model.specs.Node.{Node, Caller, Held, Leader, Over, Leaving, place_of, lines_of, is_leader, can_run}
 use Rattle.machine_model.specs.Built.{is_shared}
-use Rattle.machine_model.specs.Deeds.{held_in, served, first_ended, new_deed}
+use Rattle.machine_model.specs.Deeds.{held_in, serve, end_first, new_deed}
 
 -- the node after a turn, the entries that it made, and the frames that it sent, each with its receiver, in order
 pub record Step : Type 0 where
@@ -39,42 +39,42 @@ abbrev pub entry_by : ℕ → ℕ → Call → Reply → Entry
 entry_by node pid call reply = record { pid = pid; call = call; outcome = record { own = Some reply; woken = [] }; by = node }
 
 -- the caller once it has started a call, and once it has the reply: the line's variable is set, and the next line is due
-abbrev pub started : Caller → Call → Caller
-started c call = record c { ticket = c.ticket + 1; under_way = Some call }
+abbrev pub start_call : Caller → Call → Caller
+start_call c call = record c { ticket = c.ticket + 1; under_way = Some call }
 
 abbrev pub set_by : Option Line → Option ℕ
 set_by None = None
 set_by (Some line) = line.set
 
-abbrev pub answered : Script → ℕ → Caller → Reply → Caller
-answered script number c reply =
+abbrev pub take_reply : Script → ℕ → Caller → Reply → Caller
+take_reply script number c reply =
     record {
       line = c.line + 1;
-      vars = setting c.vars (set_by (slice_get (lines_of script number) c.line)) (value_in (Some reply));
+      vars = set_variable c.vars (set_by (slice_get (lines_of script number) c.line)) (value_in (Some reply));
       ticket = c.ticket;
       under_way = None;
     }
 
 -- the caller of a call that is carried out where it is made
 abbrev pub at_once : Script → Node → Call → Reply → Caller
-at_once script n call reply = answered script n.number (started n.caller call) reply
+at_once script n call reply = take_reply script n.number (start_call n.caller call) reply
 
 -- the call is carried out here, for this process: an entry, and the reply at once
-abbrev pub carried_out : Script → Node → Call → Reply → Held → Step
-carried_out script n call reply held =
+abbrev pub step_here : Script → Node → Call → Reply → Held → Step
+step_here script n call reply held =
     record {
       node = record n { caller = at_once script n call reply; held = held };
       entries = entry_by n.number n.pid call reply ∷ [];
       sends = [];
     }
 
-abbrev pub carried : Script → Node → Call → Option Effect → Option Step
-carried script n call None = None
-carried script n call (Some e) = Some (carried_out script n call e.reply (held_in e.kernel))
+abbrev pub carry_out : Script → Node → Call → Option Effect → Option Step
+carry_out script n call None = None
+carry_out script n call (Some e) = Some (step_here script n call e.reply (held_in e.kernel))
 
 -- the own-call rule: it looks at the caller's process alone, and changes nothing
 abbrev pub gets_pid : Script → Node → Option Step
-gets_pid script n = Some (carried_out script n calls.GetPid (replies.Num n.pid) n.held)
+gets_pid script n = Some (step_here script n calls.GetPid (replies.Num n.pid) n.held)
 
 -- the new-queue and new-set rules: the leader's next number names it, and the leader holds it
 abbrev pub with_leader : Leader → Step → Step
@@ -85,15 +85,15 @@ makes_queue script n call =
     let number : ℕ = n.leader.next_queue
     in if is_leader n && nat_lt number number_end
     then Some (with_leader (record n.leader { next_queue = number + 1 })
-    (carried_out script n call (replies.Num number) (record n.held { queues = put n.held.queues number empty_queue })))
+    (step_here script n call (replies.Num number) (record n.held { queues = put n.held.queues number empty_queue })))
     else None
 
 abbrev pub makes_set_of : Script → Node → Call → Result (List Semaphore) Errno → Step
-makes_set_of script n call (Err e) = carried_out script n call (replies.Fail e) n.held
+makes_set_of script n call (Err e) = step_here script n call (replies.Fail e) n.held
 makes_set_of script n call (Ok set) =
     let number : ℕ = n.leader.next_set
     in with_leader (record n.leader { next_set = number + 1 })
-    (carried_out script n call (replies.Num number) (record n.held { sets = put n.held.sets number set }))
+    (step_here script n call (replies.Num number) (record n.held { sets = put n.held.sets number set }))
 
 abbrev pub makes_set : Script → Node → Call → ℕ → Option Step
 makes_set script n call count =
@@ -101,12 +101,12 @@ makes_set script n call count =
 
 -- the fork rule: the child has the leader's next number, and its deed and its variables go to its node
 abbrev pub fork_held : Held → ℕ → Alive → ℕ → Held
-fork_held h pid a child = record h { processes = put h.processes pid (LivingProcess (forking a child)) }
+fork_held h pid a child = record h { processes = put h.processes pid (LivingProcess (parent_after_fork a child)) }
 
 abbrev pub forks_as : Script → Node → ℕ → ℕ → Option Alive → Option Step
 forks_as script n block child None = None
 forks_as script n block child (Some a) =
-    let step : Step = carried_out script n (calls.Fork block) (replies.Num child) (fork_held n.held n.pid a child)
+    let step : Step = step_here script n (calls.Fork block) (replies.Num child) (fork_held n.held n.pid a child)
     in Some (with_leader (record n.leader { next_process = child + 1 })
     (record step { sends = (block, frames.Checkpoint child n.pid (new_deed child) (child_vars (place_of script n))) ∷ [] }))
 
@@ -121,7 +121,7 @@ forks script n block =
 abbrev pub asks : Node → Call → Step
 asks n call =
     record {
-      node = record n { caller = started n.caller call };
+      node = record n { caller = start_call n.caller call };
       entries = [];
       sends = (1, frames.Ask (n.caller.ticket + 1) n.pid call) ∷ [];
     }
@@ -129,7 +129,7 @@ asks n call =
 abbrev pub shares : Script → Node → Call → Option Step
 shares script n call =
     if is_shared call && not (is_waiting call)
-    then if is_leader n then carried script n call (served n.held n.pid call) else Some (asks n call)
+    then if is_leader n then carry_out script n call (serve n.held n.pid call) else Some (asks n call)
     else None
 
 -- the exit rule: the leader ends its own process, and any other node tells the leader that it leaves
@@ -137,13 +137,13 @@ abbrev pub ends_first : Script → Node → ℕ → Option Alive → Option Step
 ends_first script n status None = None
 ends_first script n status (Some a) =
     let step : Step =
-    carried_out script n (calls.Exit status) replies.Ended (first_ended n.held n.pid a (Exited (status % 256)))
+    step_here script n (calls.Exit status) replies.Ended (end_first n.held n.pid a (Exited (status % 256)))
     in Some (record step { node = record step.node { stage = Over } })
 
 abbrev pub leaves : Node → ℕ → Step
 leaves n status =
     record {
-      node = record n { stage = Leaving; caller = started n.caller (calls.Exit status) };
+      node = record n { stage = Leaving; caller = start_call n.caller (calls.Exit status) };
       entries = [];
       sends = (1, frames.Leaving n.pid n.parent n.parent_node) ∷ [];
     }

@@ -8,7 +8,7 @@ use Rattle.rpc_frame.specs.declared.deed.PackedDeed.{PackedDeed}
 use Rattle.kernel_model.specs.Row.{Alive, lists}
 use Rattle.kernel_model.specs.Kernel.{Kernel, Process, Living, Ended, Gone, Parent}
 use Rattle.kernel_model.specs.Effect.{Effect}
-use Rattle.kernel_model.specs.ProcessCalls.{buried, ended_under}
+use Rattle.kernel_model.specs.ProcessCalls.{bury_all, end_under}
 use Rattle.kernel_model.specs.Transition.{effect}
 use Rattle.machine_model.specs.Node.{Held, new_process}
 
@@ -31,8 +31,8 @@ held_in k = record { processes = k.processes; queues = k.queues; sets = k.sets }
 
 -- To serve a call on a queue or a set is to do what the kernel does. Such a call looks at its caller's number alone, so
 -- any process stands for the caller.
-abbrev pub served : Held → ℕ → Call → Option Effect
-served h pid call = effect (kernel_of h) pid new_process call 0
+abbrev pub serve : Held → ℕ → Call → Option Effect
+serve h pid call = effect (kernel_of h) pid new_process call 0
 
 -- The process whose parent is held ends: the parent keeps its ending, or forgets it, and a parent that has ended itself
 -- knows nothing of it.
@@ -41,12 +41,12 @@ parent_of parent (Living alive) = Some (record { pid = parent; alive = alive })
 parent_of parent (Ended ending) = None
 parent_of parent Gone = None
 
-abbrev pub child_ended : Held → ℕ → ℕ → Process → Ending → Held
-child_ended h pid parent p ending = record h { processes = ended_under h.processes pid ending (parent_of parent p) }
+abbrev pub end_child : Held → ℕ → ℕ → Process → Ending → Held
+end_child h pid parent p ending = record h { processes = end_under h.processes pid ending (parent_of parent p) }
 
 -- the process that no process is the parent of ends, and with it what it keeps of its children
-abbrev pub first_ended : Held → ℕ → Alive → Ending → Held
-first_ended h pid alive ending = record h { processes = ended_under (buried h.processes alive.row.family) pid ending None }
+abbrev pub end_first : Held → ℕ → Alive → Ending → Held
+end_first h pid alive ending = record h { processes = end_under (bury_all h.processes alive.row.family) pid ending None }
 
 -- a living parent lists its child
 abbrev pub may_end : ℕ → Process → Bool

@@ -10,7 +10,7 @@ use Rattle.pico_base.specs.declared.script.Script.{Script}
 use Rattle.pico_base.specs.declared.script.Event.{Event}
 use Rattle.pico_base.specs.declared.script.Event.TheVariants.{Run, Take}
 use Rattle.machine_model.specs.Calls.{entry_by}
-use Rattle.machine_model.specs.World.{World, opening_world, size_of, step}
+use Rattle.machine_model.specs.World.{World, opening_world, node_count, step}
 use Rattle.machine_model.specs.Schedule.{Schedule, choice, schedule_of, schedule_after}
 
 abbrev pub line : Option ℕ → Option ℕ → Call → Line
@@ -18,8 +18,8 @@ line set from call = record { set = set; tries = 1; from = from; call = call }
 
 -- Both find nothing. The first block is `q = msgget private`, `msgrcv $q 0 8 nowait`, `fork child`, and the child's is
 -- `msgrcv $q 0 8 nowait`. The variable q has index 1776.
-abbrev pub receive : Call
-receive = MsgRcv 0 (pos 0) 8 false true
+abbrev pub receive_nothing : Call
+receive_nothing = MsgRcv 0 (pos 0) 8 false true
 
 abbrev pub both_find_nothing : Script
 both_find_nothing =
@@ -28,9 +28,9 @@ both_find_nothing =
           record {
             name = codes "main";
             lines =
-                line (Some 1776) None (MsgGet None false false) ∷ line None (Some 1776) receive ∷ line None None (Fork 2) ∷ [];
+                line (Some 1776) None (MsgGet None false false) ∷ line None (Some 1776) receive_nothing ∷ line None None (Fork 2) ∷ [];
           }
-          ∷ record { name = codes "child"; lines = line None (Some 1776) receive ∷ [] }
+          ∷ record { name = codes "child"; lines = line None (Some 1776) receive_nothing ∷ [] }
           ∷ [];
     }
 
@@ -59,16 +59,16 @@ unfolding Rattle.machine_model.specs.Deeds.new_body
 both_find_nothing_journal = refl
 
 -- The events that a schedule takes, so many at most.
-abbrev pub taken : ℕ → World → Schedule → List Event
-taken zero w schedule = []
-taken (suc count) w schedule =
+abbrev pub events_taken : ℕ → World → Schedule → List Event
+events_taken zero w schedule = []
+events_taken (suc count) w schedule =
     elim (choice w schedule) [
       | None ↦ []
-      | Some e ↦ e ∷ elim (step w e) [ None ↦ [] | Some next ↦ taken count next (schedule_after schedule e) ]
+      | Some e ↦ e ∷ elim (step w e) [ None ↦ [] | Some next ↦ events_taken count next (schedule_after schedule e) ]
     ]
 
 abbrev pub simulated : ℕ → Script → List Event
-simulated seed script = taken 100 (opening_world script) (schedule_of seed (size_of script))
+simulated seed script = events_taken 100 (opening_world script) (schedule_of seed (node_count script))
 
 -- in turn, those events are taken; and a child that asks for its number, by schedules 0 and 1
 pub both_find_nothing_in_turn : simulated 0 both_find_nothing ≡ some_events

@@ -12,24 +12,24 @@ use Rattle.rpc_frame.specs.declared.deed.PackedDeed.{PackedDeed}
 use Rattle.rpc_frame.specs.declared.deed.Parcel.{Parcel}
 use Rattle.rpc_frame.specs.declared.frame.Frame.{Frame}
 use Rattle.rpc_frame.specs.declared.frame.Frame.TheVariants as frames
-use Rattle.kernel_model.specs.Maps.{get, put}
+use Rattle.number_maps.specs.Maps.{get, put}
 use Rattle.kernel_model.specs.Kernel.{Process}
 use Rattle.kernel_model.specs.Effect.{Effect}
 use Rattle.kernel_model.specs.Script.{Vars}
 use Rattle.kernel_model.specs.Fitting.{block_at}
-use Rattle.machine_model.specs.Node.{Node, Living, Left, Parting, IsLeaving, HasLeft, only, nothing, beginning, is_leader, is_unborn, is_leaving}
+use Rattle.machine_model.specs.Node.{Node, Living, Left, Parting, IsLeaving, HasLeft, only, nothing, new_caller, is_leader, is_unborn, is_leaving}
 use Rattle.machine_model.specs.Built.{is_shared}
-use Rattle.machine_model.specs.Deeds.{held_in, served, child_ended, may_end, new_deed, is_new_deed, are_new_deeds}
-use Rattle.machine_model.specs.Calls.{Step, entry_by, answered}
+use Rattle.machine_model.specs.Deeds.{held_in, serve, end_child, may_end, new_deed, is_new_deed, are_new_deeds}
+use Rattle.machine_model.specs.Calls.{Step, entry_by, take_reply}
 
 -- at node 1, from another node
 abbrev pub is_to_leader : Node → ℕ → Bool
 is_to_leader n from = is_leader n && not (nat_eq from 1)
 
 -- the Ask rule: the leader serves the call, and answers
-abbrev pub served_for : Node → ℕ → ℕ → ℕ → Call → Option Effect → Option Step
-served_for n from ticket pid call None = None
-served_for n from ticket pid call (Some e) =
+abbrev pub serve_for : Node → ℕ → ℕ → ℕ → Call → Option Effect → Option Step
+serve_for n from ticket pid call None = None
+serve_for n from ticket pid call (Some e) =
     Some (record {
       node = record n { held = held_in e.kernel };
       entries = entry_by n.number pid call e.reply ∷ [];
@@ -39,7 +39,7 @@ served_for n from ticket pid call (Some e) =
 abbrev pub takes_ask : Node → ℕ → ℕ → ℕ → Call → Option Step
 takes_ask n from ticket pid call =
     if is_to_leader n from && (nat_lt 0 ticket && is_shared call)
-    then served_for n from ticket pid call (served n.held pid call)
+    then serve_for n from ticket pid call (serve n.held pid call)
     else None
 
 -- the Answer rule: the call under way with that ticket, which is a shared one, has its reply
@@ -50,7 +50,7 @@ is_awaited (Some call) = is_shared call
 abbrev pub takes_answer : Script → Node → ℕ → Reply → Option Step
 takes_answer script n ticket reply =
     if is_awaited n.caller.under_way && nat_eq ticket n.caller.ticket
-    then Some (record { node = record n { caller = answered script n.number n.caller reply }; entries = []; sends = [] })
+    then Some (record { node = record n { caller = take_reply script n.number n.caller reply }; entries = []; sends = [] })
     else None
 
 -- the Checkpoint rule: the node is born, as the process that its block is forked by
@@ -71,26 +71,26 @@ are_rising [] = true
 are_rising (v ∷ []) = true
 are_rising (v ∷ w ∷ vars) = nat_lt v.0 w.0 && are_rising (w ∷ vars)
 
-abbrev pub born : Node → ℕ → ℕ → ℕ → Vars → Node
-born n from pid parent vars =
-    record n { stage = Living; pid = pid; parent = parent; parent_node = from; caller = beginning vars; held = only pid }
+abbrev pub bear : Node → ℕ → ℕ → ℕ → Vars → Node
+bear n from pid parent vars =
+    record n { stage = Living; pid = pid; parent = parent; parent_node = from; caller = new_caller vars; held = only pid }
 
 abbrev pub takes_checkpoint : Script → Node → ℕ → ℕ → ℕ → PackedDeed → Vars → Option Step
 takes_checkpoint script n from pid parent deed vars =
     if (is_unborn n.stage && is_forked_by script from n.number)
     && (nat_lt 0 pid && (is_new_deed pid deed && are_rising vars))
-    then Some (record { node = born n from pid parent vars; entries = []; sends = [] })
+    then Some (record { node = bear n from pid parent vars; entries = []; sends = [] })
     else None
 
 -- the Leaving rule: the leader asks the node for all that it holds
-abbrev pub parting : Node → ℕ → Parting → Node
-parting n from p = record n { leader = record n.leader { partings = put n.leader.partings from p } }
+abbrev pub with_parting : Node → ℕ → Parting → Node
+with_parting n from p = record n { leader = record n.leader { partings = put n.leader.partings from p } }
 
 abbrev pub takes_leaving : Node → ℕ → ℕ → ℕ → Option Step
 takes_leaving n from pid parent =
     if (is_to_leader n from && is_none (get n.leader.partings from))
     && (nat_lt 0 pid && (nat_lt 0 parent && not (nat_eq pid parent)))
-    then Some (record { node = parting n from (IsLeaving pid); entries = []; sends = (from, frames.RecallAll) ∷ [] })
+    then Some (record { node = with_parting n from (IsLeaving pid); entries = []; sends = (from, frames.RecallAll) ∷ [] })
     else None
 
 -- the RecallAll rule: the node hands its deeds over with the call that ends its process
@@ -115,26 +115,26 @@ leaves_as pid None = false
 leaves_as pid (Some HasLeft) = false
 leaves_as pid (Some (IsLeaving p)) = nat_eq p pid
 
-abbrev pub ended_at : Node → ℕ → Parcel → ℕ → Option Process → Option Step
-ended_at n from parcel status None = None
-ended_at n from parcel status (Some p) =
+abbrev pub end_at : Node → ℕ → Parcel → ℕ → Option Process → Option Step
+end_at n from parcel status None = None
+end_at n from parcel status (Some p) =
     if may_end parcel.pid p
     then Some (record {
-      node = record (parting n from HasLeft) { held = child_ended n.held parcel.pid parcel.parent p (Exited (status % 256)) };
+      node = record (with_parting n from HasLeft) { held = end_child n.held parcel.pid parcel.parent p (Exited (status % 256)) };
       entries = entry_by n.number parcel.pid parcel.call replies.Ended ∷ [];
       sends = [];
     })
     else None
 
-abbrev pub ended_by : Node → ℕ → Parcel → Call → Option Step
-ended_by n from parcel (calls.Exit status) = ended_at n from parcel status (get n.held.processes parcel.parent)
-ended_by n from parcel call = None
+abbrev pub end_by : Node → ℕ → Parcel → Call → Option Step
+end_by n from parcel (calls.Exit status) = end_at n from parcel status (get n.held.processes parcel.parent)
+end_by n from parcel call = None
 
 abbrev pub takes_left : Node → ℕ → Parcel → Option Step
 takes_left n from parcel =
     if (is_to_leader n from && leaves_as parcel.pid (get n.leader.partings from))
     && (is_none (get n.held.processes parcel.pid) && are_new_deeds parcel.pid parcel.deeds)
-    then ended_by n from parcel parcel.call
+    then end_by n from parcel parcel.call
     else None
 
 -- the rule of the frame

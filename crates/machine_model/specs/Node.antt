@@ -4,7 +4,7 @@ use Rattle.pico_base.specs.declared.call.Call.{Call}
 use Rattle.pico_base.specs.declared.script.Line.{Line}
 use Rattle.pico_base.specs.declared.script.Block.{Block}
 use Rattle.pico_base.specs.declared.script.Script.{Script}
-use Rattle.kernel_model.specs.Maps.{Numbered}
+use Rattle.number_maps.specs.Maps.{Numbered}
 use Rattle.kernel_model.specs.Queue.{Queue}
 use Rattle.kernel_model.specs.SemaphoreSet.{Semaphore}
 use Rattle.kernel_model.specs.Row.{Alive, Free, new_row}
@@ -74,8 +74,8 @@ only pid = record nothing { processes = (pid, LivingProcess new_process) ∷ [] 
 abbrev pub first_numbers : Leader
 first_numbers = record { next_process = 2; next_queue = 1; next_set = 1; partings = [] }
 
-abbrev pub beginning : Vars → Caller
-beginning vars = record { line = 0; vars = vars; ticket = 0; under_way = None }
+abbrev pub new_caller : Vars → Caller
+new_caller vars = record { line = 0; vars = vars; ticket = 0; under_way = None }
 
 abbrev pub first_node : Node
 first_node =
@@ -85,7 +85,7 @@ first_node =
       pid = 1;
       parent = 0;
       parent_node = 1;
-      caller = beginning [];
+      caller = new_caller [];
       held = only 1;
       leader = first_numbers;
     }

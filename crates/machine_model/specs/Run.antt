@@ -13,8 +13,8 @@ abbrev pub IsRunOf : Script → List Event → World → Type 0
 IsRunOf script events w = Runs (opening_world script) events w
 
 -- some run leads to it
-abbrev pub IsReachable : Script → World → Type 0
-IsReachable script w = (events : List Event) × IsRunOf script events w
+abbrev pub IsReachableWorld : Script → World → Type 0
+IsReachableWorld script w = (events : List Event) × IsRunOf script events w
 
 abbrev pub IsAtRest : World → Type 0
 IsAtRest w = (e : Event) → is_enabled w e ≡ false

@@ -27,19 +27,19 @@ numbers first zero = []
 numbers first (suc count) = first ∷ numbers (first + 1) count
 
 -- how many nodes there are
-abbrev pub size_of : Script → ℕ
-size_of script = length script.blocks
+abbrev pub node_count : Script → ℕ
+node_count script = length script.blocks
 
 abbrev pub size : World → ℕ
-size w = size_of w.script
+size w = node_count w.script
 
 -- node 1 is born with process 1, nothing is on its way, and nothing was carried out
 abbrev pub opening_world : Script → World
 opening_world script =
     record {
       script = script;
-      nodes = map opening_node (numbers 1 (size_of script));
-      streams = replicate (size_of script) (replicate (size_of script) []);
+      nodes = map opening_node (numbers 1 (node_count script));
+      streams = replicate (node_count script) (replicate (node_count script) []);
       journal = [];
     }
 
@@ -65,8 +65,8 @@ abbrev pub with_all_sent : ℕ → Streams → List (ℕ × Frame) → Streams
 with_all_sent from streams sends = fold (with_sent from) streams sends
 
 -- the world after a node's step
-abbrev pub after : World → ℕ → Step → World
-after w p taken_step =
+abbrev pub world_after : World → ℕ → Step → World
+world_after w p taken_step =
     record w {
       nodes = set w.nodes (p - 1) taken_step.node;
       streams = with_all_sent p w.streams taken_step.sends;
@@ -75,7 +75,7 @@ after w p taken_step =
 
 abbrev pub after_turn : World → ℕ → Option Step → Option World
 after_turn w p None = None
-after_turn w p (Some taken_step) = Some (after w p taken_step)
+after_turn w p (Some taken_step) = Some (world_after w p taken_step)
 
 -- an event: a node starts its next call, or takes the first frame of a stream to it
 

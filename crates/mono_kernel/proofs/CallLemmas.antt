@@ -7,15 +7,15 @@ use Rattle.pico_base.specs.declared.reply.Reply.{Reply}
 use Rattle.pico_base.specs.declared.reply.Reply.TheVariants.{Bits}
 use Rattle.pico_base.specs.declared.signal.How.{How}
 use Rattle.pico_base.specs.declared.signal.PerSignal.{PerSignal}
-use Rattle.kernel_model.specs.Maps.{get}
+use Rattle.number_maps.specs.Maps.{get}
 use Rattle.kernel_model.specs.Signals.{with_mask}
 use Rattle.kernel_model.specs.Row.{Alive}
 use Rattle.kernel_model.specs.Queue.{receive}
 use Rattle.kernel_model.specs.Kernel.{Kernel, living_at}
 use Rattle.kernel_model.specs.Effect.{Effect, on_named}
 use Rattle.kernel_model.specs.ProcessCalls.{with_signals}
-use Rattle.kernel_model.specs.QueueCalls.{received}
-use Rattle.kernel_model.specs.SetCalls.{operated}
+use Rattle.kernel_model.specs.QueueCalls.{receive_effect}
+use Rattle.kernel_model.specs.SetCalls.{operate}
 use Rattle.kernel_model.specs.Transition.{effect}
 use Rattle.mono_kernel.specs.declared.fault.CallFault.{CallFault}
 use Rattle.mono_kernel.specs.Answers.{Answers}
@@ -29,14 +29,14 @@ Carried : Kernel → Kernel → ℕ → ℕ → Result Reply CallFault → Call 
 Carried k next pid n r call = IfSome (living_at k pid) (λ a. Answers (effect k pid a call n) r k next)
 
 pub semop-carried : (k next : Kernel) (pid n id : ℕ) (steps : List SemStep) (call : Call) (r : Result Reply CallFault)
-    → call ≡ calls.SemOp id steps → Answers (operated k pid id steps) r k next
+    → call ≡ calls.SemOp id steps → Answers (operate k pid id steps) r k next
     → IfSome (living_at k pid) (λ a. Answers (effect k pid a call n) r k next)
 unfolding Carried
 semop-carried k next pid n id steps call r is h = subst (Carried k next pid n r) (sym is) (anyway (living_at k pid) _ h)
 
 pub msgrcv-carried : (k next : Kernel) (pid n id : ℕ) (class : ℤ) (size : ℕ) (noerror nowait : Bool) (call : Call) (reply : Reply)
     → call ≡ calls.MsgRcv id class size noerror nowait → nowait ≡ true
-    → on_named k (get k.queues id) (λ q. received k id (receive q pid class size noerror)) ≡ record { kernel = next; reply = reply }
+    → on_named k (get k.queues id) (λ q. receive_effect k id (receive q pid class size noerror)) ≡ record { kernel = next; reply = reply }
     → IfSome (living_at k pid) (λ a. Answers (effect k pid a call n) (Ok reply) k next)
 unfolding Carried
 msgrcv-carried k next pid n id class size noerror nowait call reply is at_once h =

@@ -3,10 +3,10 @@ use Rattle.std.proofs.Common.{◌≡◌, ◌∙◌, ℕ, Bool, true, false, nat_
 use Rattle.std.specs.Option.{option_map, option_map_or}
 use Rattle.std.specs.Map.{keys_of}
 use Rattle.pico_base.specs.declared.reply.Ending.{Ending}
-use Rattle.kernel_model.specs.Maps.{Numbered, get, put, is_used}
+use Rattle.number_maps.specs.Maps.{Numbered, get, put, is_used}
 use Rattle.kernel_model.specs.Row.{Alive, lists, ignores_children, with_ended_child}
 use Rattle.kernel_model.specs.Kernel.{Process, Living, alive_in, living_in}
-use Rattle.kernel_model.specs.ProcessCalls.{kept_as, ended_under}
+use Rattle.kernel_model.specs.ProcessCalls.{process_after_end, end_under}
 use Rattle.mono_kernel.specs.Table.{IfLiving, lists_there, ignores_there, parent_at, as_parent}
 use Rattle.mono_kernel.proofs.MapLemmas.{is_used-keys}
 use Rattle.mono_kernel.proofs.TableLemmas.{living-put_other}
@@ -16,7 +16,7 @@ pub there-same : (ms ns : Numbered Process) (n : ℕ) → keys_of ns ≡ keys_of
 there-same ms ns n same there =
     sym (is_used-keys ns n) ∙ ap (λ (ks : List ℕ). is_used ks n) same ∙ is_used-keys ms n ∙ there
 
-pub kept-dead : (ignored : Bool) (ending : Ending) → alive_in (kept_as ignored ending) ≡ None
+pub kept-dead : (ignored : Bool) (ending : Ending) → alive_in (process_after_end ignored ending) ≡ None
 kept-dead true ending = refl
 kept-dead false ending = refl
 
@@ -38,16 +38,16 @@ module _ (ps : Numbered Process) (pid parent : ℕ) (v : Process) (apart : nat_e
 
 pub left-under : (ps ns : Numbered Process) (pid parent : ℕ) (ending : Ending) → nat_eq parent pid ≡ false
     → lists_there ps parent pid ≡ true
-    → IfLiving (put ps pid (kept_as (ignores_there ps parent) ending)) parent
-    (λ a. ns ≡ put (put ps pid (kept_as (ignores_there ps parent) ending)) parent (Living (with_ended_child a pid ending)))
-    → ns ≡ ended_under ps pid ending (parent_at ps (Some parent))
+    → IfLiving (put ps pid (process_after_end (ignores_there ps parent) ending)) parent
+    (λ a. ns ≡ put (put ps pid (process_after_end (ignores_there ps parent) ending)) parent (Living (with_ended_child a pid ending)))
+    → ns ≡ end_under ps pid ending (parent_at ps (Some parent))
 left-under ps ns pid parent ending apart h is =
-    at (living_in ps parent) refl h (rw (living-put_other ps pid parent (kept_as (ignores_there ps parent) ending) apart) at is)
+    at (living_in ps parent) refl h (rw (living-put_other ps pid parent (process_after_end (ignores_there ps parent) ending) apart) at is)
   where
     at : (o : Option Alive) → living_in ps parent ≡ o → option_map_or (λ a. lists a.row.family pid) o false ≡ true
-        → IfSome o (λ a. ns ≡ put (put ps pid (kept_as (ignores_there ps parent) ending)) parent (Living (with_ended_child a pid ending)))
-        → ns ≡ ended_under ps pid ending (option_map (as_parent parent) o)
+        → IfSome o (λ a. ns ≡ put (put ps pid (process_after_end (ignores_there ps parent) ending)) parent (Living (with_ended_child a pid ending)))
+        → ns ≡ end_under ps pid ending (option_map (as_parent parent) o)
     at None here g k = absurd (cc)
     at (Some a) here g k =
         let ignored : ignores_there ps parent ≡ ignores_children a.row = rw here refl
-        in k ∙ ap (λ (b : Bool). put (put ps pid (kept_as b ending)) parent (Living (with_ended_child a pid ending))) ignored
+        in k ∙ ap (λ (b : Bool). put (put ps pid (process_after_end b ending)) parent (Living (with_ended_child a pid ending))) ignored

@@ -3,10 +3,10 @@ use Rattle.std.proofs.Common.{◌≡◌, ◌<◌, ◌∙◌, ℕ, zero, suc, Boo
 use Rattle.std.specs.List.{All, list_any, fold}
 use Rattle.std.specs.Option.{option_map, option_map_or}
 use Rattle.pico_base.specs.declared.reply.Ending.{Ending}
-use Rattle.kernel_model.specs.Maps.{Numbered, get, put}
-use Rattle.kernel_model.specs.Row.{Alive, lists, matches, first_ended}
+use Rattle.number_maps.specs.Maps.{Numbered, get, put}
+use Rattle.kernel_model.specs.Row.{Alive, lists, matches, first_ended_child}
 use Rattle.kernel_model.specs.Kernel.{Process, Gone, living_in, parent_in}
-use Rattle.kernel_model.specs.ProcessCalls.{bury, ended_under, with_end}
+use Rattle.kernel_model.specs.ProcessCalls.{bury, end_under, processes_after_end}
 use Rattle.mono_kernel.specs.Table.{IsTable, IfLiving, lists_there, parent_at, as_parent}
 use Rattle.mono_kernel.proofs.TableLemmas.{living-put_same, living-put_other}
 use Rattle.mono_kernel.proofs.MapLemmas.{same-from-nat_eq}
@@ -19,9 +19,9 @@ either true = refl
 either false = refl
 
 -- the ended child that is found is among them
-found-kept : (which : Option ℕ) (es : List (ℕ × Ending)) → IfSome (first_ended which es) (λ e. list_any (λ x. nat_eq e.0 x.0) es ≡ true)
+found-kept : (which : Option ℕ) (es : List (ℕ × Ending)) → IfSome (first_ended_child which es) (λ e. list_any (λ x. nat_eq e.0 x.0) es ≡ true)
 found-kept which [] = tt
-found-kept which (e ∷ es) = at (matches which e.0) (first_ended which es) (found-kept which es)
+found-kept which (e ∷ es) = at (matches which e.0) (first_ended_child which es) (found-kept which es)
   where
     here : (any : Bool) → (nat_eq e.0 e.0 || any) ≡ true
     here any = rw (same-number e.0)
@@ -33,8 +33,8 @@ found-kept which (e ∷ es) = at (matches which e.0) (first_ended which es) (fou
     at false (Some x) rec = rw rec (either (nat_eq x.0 e.0))
 
 pub found-there : (ps : Numbered Process) (parents : Numbered ℕ) (pid : ℕ) (a : Alive) (which : Option ℕ) → IsTable ps parents
-    → living_in ps pid ≡ Some a → IfSome (first_ended which a.row.family.ended) (λ e. is_some (get ps e.0) ≡ true)
-found-there ps parents pid a which t lives = at (first_ended which a.row.family.ended) (found-kept which a.row.family.ended)
+    → living_in ps pid ≡ Some a → IfSome (first_ended_child which a.row.family.ended) (λ e. is_some (get ps e.0) ≡ true)
+found-there ps parents pid a which t lives = at (first_ended_child which a.row.family.ended) (found-kept which a.row.family.ended)
   where
     at : (o : Option (ℕ × Ending)) → IfSome o (λ e. list_any (λ x. nat_eq e.0 x.0) a.row.family.ended ≡ true)
         → IfSome o (λ e. is_some (get ps e.0) ≡ true)
@@ -104,10 +104,10 @@ listed-after ps es child (Some p) dead h =
 pub end-is : (ps ns : Numbered Process) (pid : ℕ) (ending : Ending) (es : List (ℕ × Ending)) (parent : Option ℕ)
     → IfLiving ps pid (λ a. es ≡ a.row.family.ended) → parent_in pid ps ≡ parent_at ps parent
     → parent_at (fold bury ps es) parent ≡ parent_at ps parent
-    → ns ≡ ended_under (fold bury ps es) pid ending (parent_at (fold bury ps es) parent)
-    → IfLiving ps pid (λ a. ns ≡ with_end ps pid a ending)
+    → ns ≡ end_under (fold bury ps es) pid ending (parent_at (fold bury ps es) parent)
+    → IfLiving ps pid (λ a. ns ≡ processes_after_end ps pid a ending)
 end-is ps ns pid ending es parent children found same left = at (living_in ps pid) children
   where
-    at : (o : Option Alive) → IfSome o (λ a. es ≡ a.row.family.ended) → IfSome o (λ a. ns ≡ with_end ps pid a ending)
+    at : (o : Option Alive) → IfSome o (λ a. es ≡ a.row.family.ended) → IfSome o (λ a. ns ≡ processes_after_end ps pid a ending)
     at None h = tt
     at (Some a) h = rw (← h, found, ← same) left

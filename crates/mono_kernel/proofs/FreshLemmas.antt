@@ -2,7 +2,7 @@
 use Rattle.std.proofs.Common.{◌≡◌, ◌<◌, ◌∙◌, ℕ, Bool, true, false, not, ◌&&◌, nat_lt, List, Option, Some, None, is_some, refl, sym, ap}
 use Rattle.std.specs.Map.{keys_of}
 use Rattle.std.proofs.lemmas.Bool.{lt-ltb}
-use Rattle.kernel_model.specs.Maps.{Numbered, get, is_used}
+use Rattle.number_maps.specs.Maps.{Numbered, get, is_used}
 use Rattle.kernel_model.specs.Effect.{is_fresh}
 use Rattle.mono_kernel.proofs.MapLemmas.{is_used-keys}
 

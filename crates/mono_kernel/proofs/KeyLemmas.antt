@@ -5,20 +5,20 @@ use Rattle.std.specs.Ordering.{nat_cmp}
 use Rattle.std.specs.Map.{remove_entry, keys_of}
 use Rattle.std.specs.BTreeMap.{is_at}
 use Rattle.std.proofs.lemmas.Map.Keys.{sorted_head, sorted_tail}
-use Rattle.kernel_model.specs.Maps.{Numbered, get}
-use Rattle.kernel_model.specs.QueueCalls.{unbound}
+use Rattle.number_maps.specs.Maps.{Numbered, get}
+use Rattle.kernel_model.specs.QueueCalls.{unbind}
 use Rattle.mono_kernel.specs.Names.{IsRising, LeadsNowhere, LeadsOnly}
 use Rattle.mono_kernel.proofs.MapLemmas.{cmp-same, equal-same, same-from-nat_eq, less-none, past-none, greater-differs, get-rest}
 
 get-first : (e : ℕ × ℕ) (es : Numbered ℕ) → get (e ∷ es) e.0 ≡ Some e.1
 get-first e es = rw (cmp-same e.0)
 
-kept : (id : ℕ) (e : ℕ × ℕ) (es : Numbered ℕ) (b : Bool) → nat_eq e.1 id ≡ b → (e.1 ≡ id → ⊥) → unbound es id ≡ es
-    → cond (not b) (e ∷ unbound es id) (unbound es id) ≡ e ∷ es
+kept : (id : ℕ) (e : ℕ × ℕ) (es : Numbered ℕ) (b : Bool) → nat_eq e.1 id ≡ b → (e.1 ≡ id → ⊥) → unbind es id ≡ es
+    → cond (not b) (e ∷ unbind es id) (unbind es id) ≡ e ∷ es
 kept id e es true h other rec = absurd (other (same-from-nat_eq e.1 id h))
 kept id e es false h other rec = ap (λ (xs : Numbered ℕ). e ∷ xs) rec
 
-pub unbound-none : (keys : Numbered ℕ) (id : ℕ) → IsRising keys → LeadsNowhere keys id → unbound keys id ≡ keys
+pub unbound-none : (keys : Numbered ℕ) (id : ℕ) → IsRising keys → LeadsNowhere keys id → unbind keys id ≡ keys
 unbound-none [] id rising none = refl
 unbound-none (e ∷ es) id rising none =
     kept id e es (nat_eq e.1 id) refl (λ same. none e.0 (get-first e es ∙ ap Some same))
@@ -27,8 +27,8 @@ unbound-none (e ∷ es) id rising none =
 apart : (id key : ℕ) (e : ℕ × ℕ) (es : Numbered ℕ) → get (e ∷ es) key ≡ Some id → nat_cmp key e.0 ≡ Equal → e.1 ≡ id
 apart id key e es there h = let here : Some e.1 ≡ Some id = rw h at there in cc
 
-freed : (id key : ℕ) (e : ℕ × ℕ) (es : Numbered ℕ) (o : Ordering) → nat_cmp key e.0 ≡ o → IsRising (e ∷ es) → LeadsOnly (e ∷ es) id key → (get es key ≡ Some id → unbound es id ≡ remove_entry (is_at (nat_cmp key)) es)
-    → unbound (e ∷ es) id ≡ remove_entry (is_at (nat_cmp key)) (e ∷ es)
+freed : (id key : ℕ) (e : ℕ × ℕ) (es : Numbered ℕ) (o : Ordering) → nat_cmp key e.0 ≡ o → IsRising (e ∷ es) → LeadsOnly (e ∷ es) id key → (get es key ≡ Some id → unbind es id ≡ remove_entry (is_at (nat_cmp key)) es)
+    → unbind (e ∷ es) id ≡ remove_entry (is_at (nat_cmp key)) (e ∷ es)
 freed id key e es Less h rising all rec = let none : get (e ∷ es) key ≡ None = less-none key e es rising h in let there : get (e ∷ es) key ≡ Some id = all.0 in absurd (cc)
 freed id key e es Equal h rising all rec =
     let first : nat_eq e.1 id ≡ true = rw (apart id key e es all.0 h) (grind arith)
@@ -51,7 +51,7 @@ freed id key e es Greater h rising all rec =
     at false is = is
 
 pub unbound-one : (keys : Numbered ℕ) (id key : ℕ) → IsRising keys → LeadsOnly keys id key
-    → unbound keys id ≡ remove_entry (is_at (nat_cmp key)) keys
+    → unbind keys id ≡ remove_entry (is_at (nat_cmp key)) keys
 unbound-one [] id key rising all = let there : None ≡ Some id = all.0 in absurd (cc)
 unbound-one (e ∷ es) id key rising all =
     freed id key e es (nat_cmp key e.0) refl rising all

@@ -4,10 +4,10 @@ use Rattle.std.specs.Ordering.{nat_cmp}
 use Rattle.std.specs.Map.{set_value}
 use Rattle.std.specs.BTreeMap.{is_at}
 use Rattle.std.proofs.lemmas.Map.Steps.{set_value_same}
-use Rattle.kernel_model.specs.Maps.{Numbered, get, put}
+use Rattle.number_maps.specs.Maps.{Numbered, get, put}
 use Rattle.kernel_model.specs.Row.{Alive}
 use Rattle.kernel_model.specs.Kernel.{Process, Living, Ended, Gone}
-use Rattle.kernel_model.specs.ProcessCalls.{forking}
+use Rattle.kernel_model.specs.ProcessCalls.{parent_after_fork}
 use Rattle.mono_kernel.specs.declared.process.Change.{Change}
 use Rattle.mono_kernel.specs.Names.{IsRising}
 use Rattle.mono_kernel.specs.Process.{changed, CanChange}
@@ -31,9 +31,9 @@ change-lands ps es pid change v w rising there is written =
 
 pub child-lands : (ps es : Numbered Process) (pid child : ℕ) (v w : Process) → IsRising ps → get ps pid ≡ Some v
     → w ≡ with_child_there child v → es ≡ set_value (is_at (nat_cmp pid)) ps w
-    → IfLiving ps pid (λ a. es ≡ put ps pid (Living (forking a child)))
+    → IfLiving ps pid (λ a. es ≡ put ps pid (Living (parent_after_fork a child)))
 child-lands ps es pid child v w rising there is written =
-    lands ps es pid (λ a. forking a child) v w rising there (λ a living. is ∙ ap (with_child_there child) living) written
+    lands ps es pid (λ a. parent_after_fork a child) v w rising there (λ a living. is ∙ ap (with_child_there child) living) written
 
 -- what was asked of the living process holds of its place
 pub can-there : (ps : Numbered Process) (pid : ℕ) (change : Change) (v : Process) → get ps pid ≡ Some v

@@ -11,7 +11,7 @@ use Rattle.std.proofs.lemmas.Map.{lookup-none}
 use Rattle.std.proofs.lemmas.Map.Entries.{none_below_head}
 use Rattle.std.proofs.lemmas.Map.Keys.{sorted_head, sorted_tail}
 use Rattle.mono_kernel.specs.Names.{IsRising}
-use Rattle.kernel_model.specs.Maps.{Numbered, get, put, without, is_used, used_with}
+use Rattle.number_maps.specs.Maps.{Numbered, get, put, without, is_used, used_with}
 
 -- the order of two numbers
 

@@ -1,6 +1,6 @@
 -- The way back stays.
 use Rattle.std.proofs.Common.{◌≡◌, ◌∙◌, ℕ, Bool, true, false, nat_eq, List, Option, Some, None, inl, inr, refl, sym, arith}
-use Rattle.kernel_model.specs.Maps.{Numbered, get, put, is_used, used_with}
+use Rattle.number_maps.specs.Maps.{Numbered, get, put, is_used, used_with}
 use Rattle.mono_kernel.specs.Names.{HasWayBack, IsRising, keys_with, ways_with}
 use Rattle.mono_kernel.proofs.MapLemmas.{get-put_same, get-put_other, same-from-nat_eq, used-with}
 

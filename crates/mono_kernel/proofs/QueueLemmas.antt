@@ -3,7 +3,7 @@ use Rattle.std.proofs.Common.{◌≡◌, ◌≢◌, ℕ, ◌<◌, ◌≤◌, ◌
 use Rattle.std.specs.Prelude.{int_lt}
 use Rattle.std.proofs.lemmas.Bool.{lt-ltb}
 use Rattle.pico_base.specs.declared.reply.Errno.TheVariants.{E2big}
-use Rattle.kernel_model.specs.Queue.{Queue, Message, select, first_of, receive, taken}
+use Rattle.kernel_model.specs.Queue.{Queue, Message, select, first_of, receive, take_message}
 
 pub select-zero : (ms : List Message) (class : ℤ) → class ≡ pos 0 → length ms ≢ 0 → Some 0 ≡ select ms class
 select-zero [] class is more = absurd (more refl)
@@ -29,7 +29,7 @@ receive-too_long q pid class size noerror place m chosen there long strict =
 
 pub receive-takes : (q : Queue) (pid : ℕ) (class : ℤ) (size : ℕ) (noerror : Bool) (place : ℕ) (m : Message)
     → select q.messages class ≡ Some place → slice_get q.messages place ≡ Some m → (nat_le (length m.text) size || noerror) ≡ true
-    → receive q pid class size noerror ≡ Ok (taken q pid size place m)
+    → receive q pid class size noerror ≡ Ok (take_message q pid size place m)
 receive-takes q pid class size noerror place m chosen there may = rw (chosen, there, may)
 
 pub is_cut_or_fits : (len size : ℕ) (noerror : Bool) → (len ≤ size) ⊎ (noerror ≡ true) → (nat_le len size || noerror) ≡ true

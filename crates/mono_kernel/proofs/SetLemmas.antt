@@ -5,7 +5,7 @@ use Rattle.std.proofs.lemmas.List.{take_all, drop_all, append-nil}
 use Rattle.std.proofs.lemmas.List.Sums.{fold_more}
 use Rattle.std.proofs.lemmas.Option.{slice_get_read}
 use Rattle.pico_base.specs.declared.call.SemStep.{SemStep}
-use Rattle.kernel_model.specs.SemaphoreSet.{Semaphore, with_values, marked}
+use Rattle.kernel_model.specs.SemaphoreSet.{Semaphore, with_values, mark}
 
 pub length-with_values : (set : List Semaphore) (values : List ℕ) → length (with_values set values) ≡ length set
 length-with_values [] values = refl
@@ -33,10 +33,10 @@ write-step S V ys i s t some alike is same read =
     in rw (add-one, same, is) (write-next S V i s inside some (rw (← is) read))
 
 pub mark-step : (S : List Semaphore) (pid : ℕ) (steps : List SemStep) (i n : ℕ) (d : SemStep) (ys : List Semaphore) (s t : Semaphore)
-    → i < length steps → n ≡ (get_or steps i d).num → n < length ys → ys ≡ fold (marked pid) S (take i steps) → t ≡ s → s ≡ get_or ys n s
-    → set ys n (record t { last = pid }) ≡ fold (marked pid) S (take (i + 1) steps)
+    → i < length steps → n ≡ (get_or steps i d).num → n < length ys → ys ≡ fold (mark pid) S (take i steps) → t ≡ s → s ≡ get_or ys n s
+    → set ys n (record t { last = pid }) ≡ fold (mark pid) S (take (i + 1) steps)
 mark-step S pid steps i n d ys s t inside is_num within is same read =
-    rw (same, fold_more (marked pid) S steps i d inside, ← is, ← is_num, slice_get_read ys (length ys) n s refl within read)
+    rw (same, fold_more (mark pid) S steps i d inside, ← is, ← is_num, slice_get_read ys (length ys) n s refl within read)
 
 -- where no step names a number from this size on, each is below
 pub below-size : (size : ℕ) (steps : List SemStep) → list_any (λ step. nat_le size step.num) steps ≡ false

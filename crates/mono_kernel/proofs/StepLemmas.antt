@@ -7,10 +7,10 @@ use Rattle.std.proofs.lemmas.Map.Steps.{set_value_same}
 use Rattle.pico_base.specs.declared.reply.Errno.{Errno}
 use Rattle.pico_base.specs.declared.reply.Reply.{Reply}
 use Rattle.pico_base.specs.declared.reply.Reply.TheVariants.{Fail, Message}
-use Rattle.kernel_model.specs.Maps.{Numbered, get}
+use Rattle.number_maps.specs.Maps.{Numbered, get}
 use Rattle.kernel_model.specs.Queue.{Queue, Received, Message as QueueMessage}
 use Rattle.mono_kernel.specs.Names.{IsRising}
-use Rattle.mono_kernel.specs.Answers.{Changes, Receives, answered}
+use Rattle.mono_kernel.specs.Answers.{Changes, Receives, done_reply}
 use Rattle.mono_kernel.proofs.MapLemmas.{set_value-put}
 
 module _ {V : Type 0} where
@@ -21,7 +21,7 @@ module _ {V : Type 0} where
 
   pub step-lands : {U : Type 0} (step : V → Result V Errno) (m es : Numbered V) (id : ℕ) (v w : V) (r : Result U Errno) (reply : Reply) → IsRising m
       → get m id ≡ Some v → MatchResult r (λ _. step v ≡ Ok w) (λ e. (step v ≡ Err e) × (w ≡ v))
-      → es ≡ set_value (is_at (nat_cmp id)) m w → reply ≡ answered r → Changes step m id es reply
+      → es ≡ set_value (is_at (nat_cmp id)) m w → reply ≡ done_reply r → Changes step m id es reply
   step-lands step m es id v w (Ok u) reply rising there ok written is =
       rw (there, ok) (written ∙ set_value-put m id w v rising there, is)
   step-lands step m es id v w (Err e) reply rising there bad written is =

@@ -3,10 +3,10 @@ use Rattle.std.proofs.Common.{◌≡◌, ◌⊎◌, inl, inr, ◌∙◌, ℕ, Bo
 use Rattle.std.specs.List.{list_any, filter}
 use Rattle.std.specs.Option.{option_and_then}
 use Rattle.pico_base.specs.declared.reply.Ending.{Ending}
-use Rattle.kernel_model.specs.Maps.{Numbered, get, put}
+use Rattle.number_maps.specs.Maps.{Numbered, get, put}
 use Rattle.kernel_model.specs.Row.{Alive, lists, others, ignores_children, with_ended_child}
 use Rattle.kernel_model.specs.Kernel.{Process, Living, alive_in, living_in}
-use Rattle.kernel_model.specs.ProcessCalls.{forking, new_child}
+use Rattle.kernel_model.specs.ProcessCalls.{parent_after_fork, new_child}
 use Rattle.mono_kernel.specs.declared.process.Change.{Change}
 use Rattle.mono_kernel.specs.declared.process.Change.TheVariants.{Signals, Raise, EndChild, Reap, Spend}
 use Rattle.mono_kernel.specs.Process.{changed, IsPlain}
@@ -244,7 +244,7 @@ IsTable-stale ps parents n pid t fresh =
 module _ (ps : Numbered Process) (parents : Numbered ℕ) (n pid : ℕ) (a : Alive) (t : IsTable ps parents)
     (here : living_in ps pid ≡ Some a) (fresh : get ps n ≡ None) where
   forked_table : Numbered Process
-  forked_table = put (put ps n (Living (new_child a))) pid (Living (forking a n))
+  forked_table = put (put ps n (Living (new_child a))) pid (Living (parent_after_fork a n))
 
   absent : (q : ℕ) → is_some (get ps q) ≡ true → nat_eq q n ≡ false
   absent q there = at (nat_eq q n) refl
@@ -263,23 +263,23 @@ module _ (ps : Numbered Process) (parents : Numbered ℕ) (n pid : ℕ) (a : Ali
 
   there-forked : (q : ℕ) → is_some (get ps q) ≡ true → is_some (get forked_table q) ≡ true
   unfolding forked_table
-  there-forked q there = there-put (put ps n (Living (new_child a))) pid q (Living (forking a n)) (there-put ps n q (Living (new_child a)) there)
+  there-forked q there = there-put (put ps n (Living (new_child a))) pid q (Living (parent_after_fork a n)) (there-put ps n q (Living (new_child a)) there)
 
   new-there : is_some (get forked_table n) ≡ true
   unfolding forked_table
-  new-there = there-put (put ps n (Living (new_child a))) pid n (Living (forking a n)) (ap is_some (get-put_same ps n (Living (new_child a))))
+  new-there = there-put (put ps n (Living (new_child a))) pid n (Living (parent_after_fork a n)) (ap is_some (get-put_same ps n (Living (new_child a))))
 
   others-live : (q : ℕ) → nat_eq q pid ≡ false → nat_eq q n ≡ false → living_in forked_table q ≡ living_in ps q
   unfolding forked_table
-  others-live q p r = living-put_other (put ps n (Living (new_child a))) pid q (Living (forking a n)) p ∙ living-put_other ps n q (Living (new_child a)) r
+  others-live q p r = living-put_other (put ps n (Living (new_child a))) pid q (Living (parent_after_fork a n)) p ∙ living-put_other ps n q (Living (new_child a)) r
 
-  caller-lives : living_in forked_table pid ≡ Some (forking a n)
+  caller-lives : living_in forked_table pid ≡ Some (parent_after_fork a n)
   unfolding forked_table
-  caller-lives = living-put_same (put ps n (Living (new_child a))) pid (Living (forking a n))
+  caller-lives = living-put_same (put ps n (Living (new_child a))) pid (Living (parent_after_fork a n))
 
   child-lives : living_in forked_table n ≡ Some (new_child a)
   unfolding forked_table
-  child-lives = living-put_other (put ps n (Living (new_child a))) pid n (Living (forking a n)) caller_apart ∙ living-put_same ps n (Living (new_child a))
+  child-lives = living-put_other (put ps n (Living (new_child a))) pid n (Living (parent_after_fork a n)) caller_apart ∙ living-put_same ps n (Living (new_child a))
 
   still-dead : (q : ℕ) → (is_some (get ps q) ≡ true) × (living_in ps q ≡ None)
       → (is_some (get forked_table q) ≡ true) × (living_in forked_table q ≡ None)
@@ -316,7 +316,7 @@ module _ (ps : Numbered Process) (parents : Numbered ℕ) (n pid : ℕ) (a : Ali
     (λ it. still-dead child (t.kept p child c lives it)),
   )
 
-  fits-caller : (child : ℕ) → Fits pid child (forking a n)
+  fits-caller : (child : ℕ) → Fits pid child (parent_after_fork a n)
   unfolding Fits
   fits-caller child = (
     (λ it. parent (pushed child a.row.family.living it)),
@@ -350,13 +350,13 @@ module _ (ps : Numbered Process) (parents : Numbered ℕ) (n pid : ℕ) (a : Ali
       at : (b : Bool) → nat_eq p pid ≡ b → Fits p child c
       at true is =
           let same : p ≡ pid = same-from-nat_eq p pid is
-          in let new : Some (forking a n) ≡ Some c = sym caller-lives ∙ (rw same at lives)
-          in let it_is : c ≡ forking a n = cc
+          in let new : Some (parent_after_fork a n) ≡ Some c = sym caller-lives ∙ (rw same at lives)
+          in let it_is : c ≡ parent_after_fork a n = cc
           in rw (same, it_is) (fits-caller child)
       at false is = second (nat_eq p n) is refl
 
   pub IsTable-forked : (ns : Numbered Process) → IsRising ns
-      → IfLiving ps pid (λ b. ns ≡ put (put ps n (Living (new_child a))) pid (Living (forking b n))) → IsTable ns (put parents n pid)
+      → IfLiving ps pid (λ b. ns ≡ put (put ps n (Living (new_child a))) pid (Living (parent_after_fork b n))) → IsTable ns (put parents n pid)
   unfolding forked_table Fits
   IsTable-forked ns rising is =
       let whole : ns ≡ forked_table = rw here at is

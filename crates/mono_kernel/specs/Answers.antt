@@ -5,11 +5,11 @@ use Rattle.pico_base.specs.declared.reply.Reply.{Reply}
 use Rattle.pico_base.specs.declared.reply.Reply.TheVariants.{Num, Fail, Message}
 use Rattle.pico_base.specs.declared.reply.Errno.{Errno}
 use Rattle.pico_base.specs.declared.reply.Errno.TheVariants.{Einval}
-use Rattle.kernel_model.specs.Maps.{Numbered, get, put}
+use Rattle.number_maps.specs.Maps.{Numbered, get, put}
 use Rattle.kernel_model.specs.Queue.{Queue, Received}
 use Rattle.pico_base.specs.declared.signal.Sig.{Sig}
 use Rattle.kernel_model.specs.Signals.{raise}
-use Rattle.kernel_model.specs.Row.{Alive, raised_at}
+use Rattle.kernel_model.specs.Row.{Alive, raise_by_other}
 use Rattle.kernel_model.specs.Kernel.{Kernel, with_alive}
 use Rattle.kernel_model.specs.ProcessCalls.{with_signals}
 use Rattle.kernel_model.specs.Effect.{Effect}
@@ -42,16 +42,16 @@ abbrev pub Receives : (Queue → Result Received Errno) → Numbered Queue → �
 Receives step old id new reply = ReceivedBy (option_map step (get old id)) old id new reply
 
 -- the reply to a change
-abbrev pub answered : {U : Type 0} → Result U Errno → Reply
-answered (Ok u) = Num 0
-answered (Err e) = Fail e
+abbrev pub done_reply : {U : Type 0} → Result U Errno → Reply
+done_reply (Ok u) = Num 0
+done_reply (Err e) = Fail e
 
 -- the kernel after a signal to a living process: its own, or another's
 abbrev pub signalled_kernel : Kernel → ℕ → ℕ → Alive → Sig → Kernel
 signalled_kernel k caller pid target g =
     if nat_eq caller pid
     then with_signals k pid target (raise target.row.signals g)
-    else with_alive k pid (raised_at target g)
+    else with_alive k pid (raise_by_other target g)
 
 -- the reply of a look
 abbrev pub reply_to : Result ℕ Errno → Reply

@@ -1,6 +1,6 @@
 -- A change at a number, if a process lives there.
 use Rattle.std.specs.Prelude.{ℕ}
-use Rattle.kernel_model.specs.ProcessCalls.{forking}
+use Rattle.kernel_model.specs.ProcessCalls.{parent_after_fork}
 use Rattle.kernel_model.specs.Kernel.{Process, Living, Ended, Gone}
 use Rattle.mono_kernel.specs.declared.process.Change.{Change}
 use Rattle.mono_kernel.specs.Process.{changed, CanChange}
@@ -17,6 +17,6 @@ CanChangeThere change Gone = Unit {0}
 
 -- a new child, if a process lives there
 abbrev pub with_child_there : ℕ → Process → Process
-with_child_there child (Living a) = Living (forking a child)
+with_child_there child (Living a) = Living (parent_after_fork a child)
 with_child_there child (Ended ending) = Ended ending
 with_child_there child Gone = Gone

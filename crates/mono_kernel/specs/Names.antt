@@ -3,7 +3,7 @@ use Rattle.std.specs.Prelude.{◌≡◌, ℕ, true, List, Option, Some, None}
 use Rattle.std.specs.List.Sorted.{IsStrictlySortedBy}
 use Rattle.std.specs.Ordering.{nat_cmp}
 use Rattle.std.specs.Map.{keys_of}
-use Rattle.kernel_model.specs.Maps.{Numbered, get, put, is_used, used_with}
+use Rattle.number_maps.specs.Maps.{Numbered, get, put, is_used, used_with}
 
 pub record NameTable : Type 0 where
   pub keys : Numbered ℕ

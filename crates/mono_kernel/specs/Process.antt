@@ -1,9 +1,9 @@
 -- A process of the program as one of the definitions, and the changes of a living one.
 use Rattle.std.specs.Prelude.{◌≡◌, true}
 use Rattle.kernel_model.specs.Signals.{Signals}
-use Rattle.kernel_model.specs.Row.{Alive, lists, raised_at, with_ended_child}
+use Rattle.kernel_model.specs.Row.{Alive, lists, raise_by_other, with_ended_child}
 use Rattle.kernel_model.specs.Row as rows
-use Rattle.kernel_model.specs.ProcessCalls.{reaping}
+use Rattle.kernel_model.specs.ProcessCalls.{parent_after_wait}
 use Rattle.mono_kernel.specs.declared.process.Allowance.{Allowance}
 use Rattle.mono_kernel.specs.declared.process.Allowance.TheVariants.{Free, One, Spent}
 use Rattle.mono_kernel.specs.declared.process.Change.{Change}
@@ -20,9 +20,9 @@ signalling a s = record a { row = record { signals = s; family = a.row.family } 
 
 abbrev pub changed : Change → Alive → Alive
 changed (SetSignals s) a = signalling a s
-changed (Raise sig) a = raised_at a sig
+changed (Raise sig) a = raise_by_other a sig
 changed (EndChild child ending) a = with_ended_child a child ending
-changed (Reap child) a = reaping a child
+changed (Reap child) a = parent_after_wait a child
 changed Spend a = record a { allowance = rows.Spent }
 
 -- only a child that is there can end

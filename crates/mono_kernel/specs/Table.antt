@@ -5,10 +5,10 @@ use Rattle.std.specs.Option.{option_map, option_map_or}
 use Rattle.pico_base.specs.declared.reply.Ending.{Ending}
 use Rattle.pico_base.specs.declared.reply.Errno.{Errno}
 use Rattle.pico_base.specs.declared.reply.Errno.TheVariants.{Echild}
-use Rattle.kernel_model.specs.Maps.{Numbered, get}
+use Rattle.number_maps.specs.Maps.{Numbered, get}
 use Rattle.kernel_model.specs.Row.{Alive, Family, Waited, Found, NotYet, NoChild, lists, ignores_children}
 use Rattle.kernel_model.specs.Kernel.{Process, Parent, living_in, parent_in}
-use Rattle.kernel_model.specs.ProcessCalls.{with_reaped}
+use Rattle.kernel_model.specs.ProcessCalls.{processes_after_wait}
 use Rattle.mono_kernel.specs.Names.{IsRising}
 
 -- of the process that lives at a number
@@ -56,6 +56,6 @@ waited_as NotYet = Ok None
 waited_as NoChild = Err Echild
 
 abbrev pub table_after : Numbered Process → ℕ → Alive → Waited → Numbered Process
-table_after ps pid a (Found child ending) = with_reaped ps pid a child
+table_after ps pid a (Found child ending) = processes_after_wait ps pid a child
 table_after ps pid a NotYet = ps
 table_after ps pid a NoChild = ps

@@ -11,7 +11,7 @@ answer_of Waits = Err Eagain
 answer_of TooHigh = Err Erange
 
 -- why a trial stopped
-abbrev pub stopped : Tried → Option Errno
-stopped (Done values) = None
-stopped (StopsAt index) = Some Eagain
-stopped OutOfRange = Some Erange
+abbrev pub refusal_of : Tried → Option Errno
+refusal_of (Done values) = None
+refusal_of (StopsAt index) = Some Eagain
+refusal_of OutOfRange = Some Erange

@@ -1,6 +1,6 @@
 ghost use Rattle.std.specs.Prelude.{◌≡◌, ◌∷◌, ◌++◌, true, OnOk, OnErr, IfOk, nat_eq, ◌+◌, ◌≤◌, vec_len, vec_capacity};
 ghost use Rattle.std.specs.List.{list_any};
-ghost use Rattle.kernel_model.specs.Row.{no_family, with_child, lists, with_end, first_ended, without_ended, matches, others};
+ghost use Rattle.kernel_model.specs.Row.{no_family, with_child, lists, family_after_end, first_ended_child, without_ended, matches, others};
 ghost use Rattle.mono_kernel.specs.Ends.{other_ends};
 
 use pico_base::{Ending, Memory};
@@ -87,7 +87,7 @@ impl ChildList {
     /// A child has ended: it is kept, unless it is ignored.
     pub(crate) fn end(&mut self, child: u32, ending: Ending, ignored: bool)
         requires { lists self.old child ≡ true }
-        ensures { self.new ≡ with_end self.old child ending ignored }
+        ensures { self.new ≡ family_after_end self.old child ending ignored }
     {
         drop_living(&mut self.living, child);
         if !ignored {
@@ -100,7 +100,7 @@ impl ChildList {
 
     /// The first ended child that is waited for, with its ending.
     pub(crate) fn first_ended(&self, which: Option<u32>) -> Option<(u32, Ending)>
-        ensures { result ≡ first_ended which self.now.ended }
+        ensures { result ≡ first_ended_child which self.now.ended }
     {
         for (child, ending) in &self.ended {
             if is_waited_for(which, *child) {

@@ -1,6 +1,6 @@
 ghost use Rattle.std.specs.Prelude.{◌≡◌, ◌↔◌, false, IfOk, OnErr, IsErrOf, IsSome, IfSome, Some, None};
 ghost use Rattle.std.specs.Option.{option_map_or};
-ghost use Rattle.kernel_model.specs.Maps.{get};
+ghost use Rattle.number_maps.specs.Maps.{get};
 ghost use Rattle.kernel_model.specs.Kernel.{opening, living_at};
 ghost use Rattle.kernel_model.specs.Transition.{effect, transition, may_make};
 ghost use Rattle.mono_kernel.specs.Answers.{Answers};

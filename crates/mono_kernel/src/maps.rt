@@ -1,9 +1,9 @@
 ghost use Rattle.std.specs.Prelude.{◌≡◌, IfOk, OnErr, is_some};
 ghost use Rattle.std.specs.Bool.{OnFalse};
-ghost use Rattle.kernel_model.specs.Maps.{get, without};
+ghost use Rattle.number_maps.specs.Maps.{get, without};
 ghost use Rattle.kernel_model.specs.Queue.{send, receive, set_qbytes};
 ghost use Rattle.kernel_model.specs.SemaphoreSet.{op, set_value, set_all};
-ghost use Rattle.mono_kernel.specs.Answers.{Changes, Receives, answered};
+ghost use Rattle.mono_kernel.specs.Answers.{Changes, Receives, done_reply};
 
 use crate::queue::MessageQueue;
 use crate::semaphores::SemaphoreSet;
@@ -19,7 +19,7 @@ pub(crate) type Sets = BTreeMap<u32, SemaphoreSet>;
 
 /// The reply to a change.
 fn answer(outcome: Result<(), Errno>) -> Reply
-    ensures { result ≡ answered outcome }
+    ensures { result ≡ done_reply outcome }
 {
     match outcome {
         Ok(()) => Reply::Num(0),

@@ -1,6 +1,6 @@
 ghost use Rattle.std.specs.Prelude.{◌≡◌, ℕ, false, None, [], OnOk, OnErr, MatchResult, MatchOption, IsTrue, ◌↔◌};
-ghost use Rattle.kernel_model.specs.Maps.{Numbered, get, put, is_used, used_with};
-ghost use Rattle.kernel_model.specs.QueueCalls.{unbound};
+ghost use Rattle.number_maps.specs.Maps.{Numbered, get, put, is_used, used_with};
+ghost use Rattle.kernel_model.specs.QueueCalls.{unbind};
 ghost use Rattle.mono_kernel.specs.Names.{IsRising, with_name, keys_with, ways_with, bound_to, HasWays, LeadsNowhere, LeadsOnly};
 
 use pico_base::Memory;
@@ -160,7 +160,7 @@ impl Names {
 
     /// No key leads to the number any more.
     pub(crate) fn unbind(&mut self, number: u32)
-        ensures { self.new ≡ record self.old { keys = unbound self.old.keys number } }
+        ensures { self.new ≡ record self.old { keys = unbind self.old.keys number } }
     {
         if let Some(key) = key_of_number(&self.keys, &self.key_of, number) {
             self.keys.remove(&key);

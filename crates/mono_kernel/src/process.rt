@@ -1,8 +1,8 @@
 ghost use Rattle.std.specs.Prelude.{◌≡◌, ◌↔◌, true, OnOk, OnErr, IfOk, IsTrue};
 ghost use Rattle.std.specs.Option.{option_copied};
 ghost use Rattle.std.specs.List.{list_any};
-ghost use Rattle.kernel_model.specs.Row.{Free, new_row, lists, matches, first_ended, ignores_children, raised_at, with_ended_child};
-ghost use Rattle.kernel_model.specs.ProcessCalls.{forking, new_child, reaping};
+ghost use Rattle.kernel_model.specs.Row.{Free, new_row, lists, matches, first_ended_child, ignores_children, raise_by_other, with_ended_child};
+ghost use Rattle.kernel_model.specs.ProcessCalls.{parent_after_fork, new_child, parent_after_wait};
 ghost use Rattle.kernel_model.specs.Kernel.{Living, Ended, Gone, alive_in};
 ghost use Rattle.kernel_model.specs.Transition.{may_make, is_spent, is_doomed_by};
 ghost use Rattle.mono_kernel.specs.Process.{changed, CanChange};
@@ -127,7 +127,7 @@ impl LiveProcess {
 
     /// The first ended child that is waited for, with its ending.
     pub(crate) fn first_ended(&self, which: Option<u32>) -> Option<(u32, Ending)>
-        ensures { result ≡ first_ended which self.now.row.family.ended }
+        ensures { result ≡ first_ended_child which self.now.row.family.ended }
     {
         self.family.first_ended(which)
     }
@@ -148,7 +148,7 @@ impl LiveProcess {
 
     /// A new child. A refusal changes nothing.
     pub(crate) fn add_child(&mut self, child: u32) -> Result<(), Memory>
-        ensures ok { OnOk result (self.new ≡ forking self.old child) }
+        ensures ok { OnOk result (self.new ≡ parent_after_fork self.old child) }
         ensures err { OnErr result (self.new ≡ self.old) }
     {
         self.family.add(child)?;
@@ -157,7 +157,7 @@ impl LiveProcess {
 
     /// A signal is raised by another's entry.
     fn raise(&mut self, sig: Sig)
-        ensures { self.new ≡ raised_at self.old sig }
+        ensures { self.new ≡ raise_by_other self.old sig }
     {
         let was_doomed = self.signals.doom().is_some();
         self.signals.raise(sig);

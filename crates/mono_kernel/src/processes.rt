@@ -2,10 +2,10 @@ ghost use Rattle.std.specs.Prelude.{◌≡◌, ◌∷◌, ◌↔◌, ℕ, [], tr
 ghost use Rattle.std.specs.Option.{option_copied, option_map};
 ghost use Rattle.std.specs.List.{All, list_any};
 ghost use Rattle.std.specs.Map.{keys_of};
-ghost use Rattle.kernel_model.specs.Maps.{get, put, used_with};
-ghost use Rattle.kernel_model.specs.Row.{Free, new_row, wait, lists, matches, first_ended, with_ended_child};
+ghost use Rattle.number_maps.specs.Maps.{get, put, used_with};
+ghost use Rattle.kernel_model.specs.Row.{Free, new_row, wait, lists, matches, first_ended_child, with_ended_child};
 ghost use Rattle.kernel_model.specs.Kernel.{Living, Ended, Gone, alive_in, living_in, parent_in};
-ghost use Rattle.kernel_model.specs.ProcessCalls.{bury, kept_as, ended_under, forking, with_fork, with_end, with_reaped};
+ghost use Rattle.kernel_model.specs.ProcessCalls.{bury, process_after_end, end_under, parent_after_fork, processes_after_fork, processes_after_end, processes_after_wait};
 ghost use Rattle.mono_kernel.specs.Process.{changed, CanChange, IsPlain};
 ghost use Rattle.mono_kernel.specs.Names.{IsRising};
 ghost use Rattle.mono_kernel.specs.Table.{IfLiving, lists_there, ignores_there, parent_number, parent_at, waited_as, table_after};
@@ -65,7 +65,7 @@ fn settle_at(cells: &mut BTreeMap<u32, ProcessCell>, pid: u32, cell: ProcessCell
 /// A new child of the process that lives at a number. A refusal changes nothing.
 fn add_child_at(cells: &mut BTreeMap<u32, ProcessCell>, pid: u32, child: u32) -> Result<(), Memory>
     requires { IsSome (living_in cells.old.entries pid) }
-    ensures ok { OnOk result (IfLiving cells.old.entries pid (λ a. cells.new.entries ≡ put cells.old.entries pid (Living (forking a child)))) }
+    ensures ok { OnOk result (IfLiving cells.old.entries pid (λ a. cells.new.entries ≡ put cells.old.entries pid (Living (parent_after_fork a child)))) }
     ensures err { OnErr result (cells.new.entries ≡ cells.old.entries) }
     ensures same_numbers { keys_of cells.new.entries ≡ keys_of cells.old.entries }
     ensures rising { IsRising cells.new.entries }
@@ -85,7 +85,7 @@ fn fork_at(
 ) -> Result<(), Memory>
     requires lives { IsSome (living_in cells.old.entries pid) }
     requires fresh { get cells.old.entries child ≡ None }
-    ensures ok { OnOk result (IfLiving cells.old.entries pid (λ a. cells.new.entries ≡ put (put cells.old.entries child cell) pid (Living (forking a child)))) }
+    ensures ok { OnOk result (IfLiving cells.old.entries pid (λ a. cells.new.entries ≡ put (put cells.old.entries child cell) pid (Living (parent_after_fork a child)))) }
     ensures numbers { OnOk result (keys_of cells.new.entries ≡ used_with (keys_of cells.old.entries) child) }
     ensures err { OnErr result (cells.new.entries ≡ cells.old.entries) }
     ensures rising { IsRising cells.new.entries }
@@ -100,7 +100,7 @@ fn fork_at(
 
 /// A process that has ended under a living parent.
 fn kept(ignored: bool, ending: Ending) -> ProcessCell
-    ensures { result ≡ kept_as ignored ending }
+    ensures { result ≡ process_after_end ignored ending }
 {
     if ignored {
         ProcessCell::gone()
@@ -218,7 +218,7 @@ impl Processes {
     fn leave(&mut self, pid: u32, ending: Ending, parent: Option<u32>)
         requires there { IsSome (get self.old pid) }
         requires listed { IfSome parent (λ p. (lists_there self.old p pid ≡ true) × (nat_eq p pid ≡ false)) }
-        ensures left { self.new ≡ ended_under self.old pid ending (parent_at self.old parent) }
+        ensures left { self.new ≡ end_under self.old pid ending (parent_at self.old parent) }
         ensures same_numbers { keys_of self.new ≡ keys_of self.old }
     {
         let Some(parent) = parent else {
@@ -256,7 +256,7 @@ impl Processes {
     /// The end of a process (exit).
     pub(crate) fn end(&mut self, alloc: Global, pid: u32, ending: Ending) -> Result<(), Memory>
         requires { IsSome (living_in self.old pid) }
-        ensures ended { OnOk result (IfLiving self.old pid (λ a. self.new ≡ with_end self.old pid a ending)) }
+        ensures ended { OnOk result (IfLiving self.old pid (λ a. self.new ≡ processes_after_end self.old pid a ending)) }
         ensures err { OnErr result (self.new ≡ self.old) }
         ensures same_numbers { keys_of self.new ≡ keys_of self.old }
     {
@@ -270,7 +270,7 @@ impl Processes {
     /// The first ended child that is waited for, with its ending.
     fn ended_child(&self, pid: u32, which: Option<u32>) -> Option<(u32, Ending)>
         requires { IsSome (living_in self.now pid) }
-        ensures child { IfLiving self.now pid (λ a. result ≡ first_ended which a.row.family.ended) }
+        ensures child { IfLiving self.now pid (λ a. result ≡ first_ended_child which a.row.family.ended) }
         ensures there { IfSome result (λ e. is_some (get self.now e.0) ≡ true) }
     {
         let _ = &self.cells;
@@ -295,7 +295,7 @@ impl Processes {
     fn reap(&mut self, pid: u32, child: u32)
         requires lives { IsSome (living_in self.old pid) }
         requires there { IsSome (get self.old child) }
-        ensures reaped { IfLiving self.old pid (λ a. self.new ≡ with_reaped self.old pid a child) }
+        ensures reaped { IfLiving self.old pid (λ a. self.new ≡ processes_after_wait self.old pid a child) }
         ensures same_numbers { keys_of self.new ≡ keys_of self.old }
     {
         self.change(pid, Change::Reap { child });
@@ -328,7 +328,7 @@ impl Processes {
     pub(crate) fn fork(&mut self, alloc: Global, pid: u32, child: u32) -> Result<(), Memory>
         requires lives { IsSome (living_in self.old pid) }
         requires fresh { get self.old child ≡ None }
-        ensures forked { OnOk result (IfLiving self.old pid (λ a. self.new ≡ with_fork self.old pid a child)) }
+        ensures forked { OnOk result (IfLiving self.old pid (λ a. self.new ≡ processes_after_fork self.old pid a child)) }
         ensures numbers { OnOk result (keys_of self.new ≡ used_with (keys_of self.old) child) }
         ensures err { OnErr result (self.new ≡ self.old) }
     {

@@ -1,7 +1,7 @@
 ghost use Rattle.std.specs.Prelude.{◌≡◌, ◌<◌, length, map, replicate, fold, MatchResult, Ok, Err, Some, IfOk, OnErr, nat_le, nat_lt, vec_len};
 ghost use Rattle.std.specs.List.{All, list_any};
-ghost use Rattle.kernel_model.specs.SemaphoreSet.{max_value, is_bad_count, new_semaphore, values_of, moved_by, try_ops, Done, with_values, marked, op, value_at, last_at, waiting_at, set_value, set_all};
-ghost use Rattle.mono_kernel.specs.Trial.{answer_of, stopped};
+ghost use Rattle.kernel_model.specs.SemaphoreSet.{max_value, is_bad_count, new_semaphore, values_of, move_by, try_ops, Done, with_values, mark, op, value_at, last_at, waiting_at, set_value, set_all};
+ghost use Rattle.mono_kernel.specs.Trial.{answer_of, refusal_of};
 
 use pico_base::{Errno, Memory, SemStep, Values};
 use std::alloc::Global;
@@ -65,7 +65,7 @@ pub(crate) fn is_bad_size(count: u32) -> bool
 /// The value after an operation: EAGAIN where it would have to wait, ERANGE for a value above the
 /// limit.
 fn moved(step: &SemStep, value: u32) -> Result<u32, Errno>
-    ensures { result ≡ answer_of (moved_by step.now.add value) }
+    ensures { result ≡ answer_of (move_by step.now.add value) }
 {
     let add = step.add;
     if add == 0 {
@@ -95,7 +95,7 @@ fn try_in_order(values: &mut Vec<u32>, steps: &[SemStep]) -> Result<(), Errno>
     ensures as_many { vec_len values.new ≡ vec_len values.old }
     ensures tried { MatchResult result
         (λ _. try_ops values.old.items steps.now ≡ Done values.new.items)
-        (λ e. stopped (try_ops values.old.items steps.now) ≡ Some e) }
+        (λ e. refusal_of (try_ops values.old.items steps.now) ≡ Some e) }
 {
     for step in steps {
         let num = usize::from(step.num);
@@ -139,7 +139,7 @@ fn write_values(semaphores: &mut Vec<OneSemaphore>, values: &[u32])
 /// Notes the process at each semaphore that an operation names.
 fn mark(semaphores: &mut Vec<OneSemaphore>, pid: u32, steps: &[SemStep])
     requires { All (λ step. step.num < vec_len semaphores.old) steps.now }
-    ensures { semaphores.new.items ≡ fold (marked pid) semaphores.old.items steps.now }
+    ensures { semaphores.new.items ≡ fold (mark pid) semaphores.old.items steps.now }
 {
     for step in steps {
         let num = usize::from(step.num);

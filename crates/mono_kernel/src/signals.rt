@@ -1,6 +1,6 @@
 ghost use Rattle.std.specs.Prelude.{◌≡◌, false, fold, MatchResult, Ok, Err};
-ghost use Rattle.pico_base.specs.Signal.{at, put, everywhere};
-ghost use Rattle.kernel_model.specs.Signals.{new_signals, inherited, raise, arrive, deliver, discards, with_action, act_on, with_mask, new_mask};
+ghost use Rattle.pico_base.specs.Signal.{at, put_at, everywhere};
+ghost use Rattle.kernel_model.specs.Signals.{new_signals, inherit, raise, arrive, deliver, discards, with_action, act_on, with_mask, new_mask};
 ghost use Rattle.mono_kernel.specs.Masks.{masked_by, masked_with};
 
 use pico_base::{Act, Errno, How, PerSignal, Sig, SigArg, SigSet};
@@ -65,7 +65,7 @@ fn stays_masked(how: How, masked: bool, in_set: bool) -> bool
 
 /// The set with the signal in it, or without it.
 fn placed(set: SigSet, sig: Sig, is_in: bool) -> SigSet
-    ensures { result ≡ put set sig is_in }
+    ensures { result ≡ put_at set sig is_in }
 {
     if is_in {
         set.with(sig)
@@ -108,7 +108,7 @@ impl SignalState {
 
     /// What a forked child begins with.
     pub(crate) fn inherit(&self) -> SignalState
-        ensures { result ≡ inherited self.now }
+        ensures { result ≡ inherit self.now }
     {
         SignalState {
             actions: self.actions,

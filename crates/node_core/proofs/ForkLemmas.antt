@@ -11,10 +11,11 @@ use Rattle.rpc_frame.specs.declared.frame.Frame.TheVariants.{Checkpoint}
 use Rattle.kernel_model.specs.Script.{Vars}
 use Rattle.kernel_model.specs.Row.{Alive}
 use Rattle.kernel_model.specs.Kernel.{living_in}
-use Rattle.kernel_model.specs.Fitting.{setting}
+use Rattle.kernel_model.specs.Fitting.{set_variable}
 use Rattle.machine_model.specs.Node.{Node, Caller, Held, Leader, lines_of, is_leader}
 use Rattle.machine_model.specs.Deeds.{new_deed}
-use Rattle.machine_model.specs.Calls.{Step, number_end, set_by, answered, started, carried_out, forks, forks_as, fork_held}
+use Rattle.machine_model.specs.Calls.{Step, set_by, take_reply, start_call, step_here, forks, forks_as, fork_held}
+use Rattle.kernel_model.specs.Numbers.{number_end}
 use Rattle.node_core.specs.Caller.{child_variables}
 use Rattle.node_core.specs.Leader.{numbered}
 use Rattle.node_core.proofs.MapLemmas.{put-put}
@@ -29,16 +30,16 @@ numbered-is next number h = at (nat_lt next number_end) h
     at false e = absurd (cc)
 
 -- what a variable was set to doesn't matter once it is set again
-set_twice : (vars : Vars) (variable : Option ℕ) (x y : ℕ) → setting (setting vars variable x) variable y ≡ setting vars variable y
+set_twice : (vars : Vars) (variable : Option ℕ) (x y : ℕ) → set_variable (set_variable vars variable x) variable y ≡ set_variable vars variable y
 set_twice vars None x y = refl
 set_twice vars (Some v) x y = put-put vars v x y
 
 -- the parent's variables after the fork
 set_child : (script : Script) (node : ℕ) (c : Caller) (child : ℕ)
-    → setting (child_variables script node c) (set_by (slice_get (lines_of script node) c.line)) child
-    ≡ setting c.vars (set_by (slice_get (lines_of script node) c.line)) child
+    → set_variable (child_variables script node c) (set_by (slice_get (lines_of script node) c.line)) child
+    ≡ set_variable c.vars (set_by (slice_get (lines_of script node) c.line)) child
 set_child script node c child =
-    ap (λ (x : Vars). setting x (set_by (slice_get (lines_of script node) c.line)) child) (child-vars-are c.vars (lines_of script node) c.line)
+    ap (λ (x : Vars). set_variable x (set_by (slice_get (lines_of script node) c.line)) child) (child-vars-are c.vars (lines_of script node) c.line)
     ∙ set_twice c.vars (set_by (slice_get (lines_of script node) c.line)) 0 child
 
 with_vars : Caller → Vars → Caller
@@ -46,11 +47,11 @@ with_vars c vars = record { line = c.line + 1; vars = vars; ticket = c.ticket + 
 
 caller_after : (script : Script) (node block : ℕ) (c caller : Caller) (vars : Vars) (child : ℕ) → vars ≡ child_variables script node c
     → caller ≡ record c { vars = vars }
-    → answered script node (started caller (Fork block)) (Num child) ≡ answered script node (started c (Fork block)) (Num child)
+    → take_reply script node (start_call caller (Fork block)) (Num child) ≡ take_reply script node (start_call c (Fork block)) (Num child)
 unfolding with_vars
 caller_after script node block c caller vars child is at =
-    ap (λ (x : Caller). answered script node (started x (Fork block)) (Num child)) at
-    ∙ ap (with_vars c) (ap (λ (x : Vars). setting x (set_by (slice_get (lines_of script node) c.line)) child) is ∙ set_child script node c child)
+    ap (λ (x : Caller). take_reply script node (start_call x (Fork block)) (Num child)) at
+    ∙ ap (with_vars c) (ap (λ (x : Vars). set_variable x (set_by (slice_get (lines_of script node) c.line)) child) is ∙ set_child script node c child)
 
 abbrev pub step : Node → List Entry → List (ℕ × Frame) → Option Step
 step n entries sends = Some (record { node = n; entries = entries; sends = sends })
@@ -76,7 +77,7 @@ pub forks-are : (script : Script) (n m : Node) (block child : ℕ) (caller : Cal
     → is_some (living_in n.held.processes n.pid) ≡ true → vars ≡ child_variables script n.number n.caller → caller ≡ record n.caller { vars = vars }
     → IfSome (living_in n.held.processes n.pid) (λ a. held ≡ fork_held n.held n.pid a child)
     → leader ≡ record n.leader { next_process = n.leader.next_process + 1 }
-    → record { node = m; entries = entries; sends = none } ≡ carried_out script (record n { caller = caller; held = held; leader = leader }) (Fork block) (Num child) held
+    → record { node = m; entries = entries; sends = none } ≡ step_here script (record n { caller = caller; held = held; leader = leader }) (Fork block) (Num child) held
     → deed ≡ new_deed child → sends ≡ (block, Checkpoint child m.pid deed vars) ∷ []
     → forks script n block ≡ Some (record { node = m; entries = entries; sends = sends })
 unfolding parts
@@ -89,12 +90,12 @@ forks-are script n m block child caller held leader vars deed entries none sends
     next = numbered-is n.leader.next_process child number
 
     node_is : (a : Alive) → held ≡ fork_held n.held n.pid a child
-        → parts n (answered script n.number (started n.caller (Fork block)) (Num child)) (fork_held n.held n.pid a child) (record n.leader { next_process = child + 1 }) ≡ m
+        → parts n (take_reply script n.number (start_call n.caller (Fork block)) (Num child)) (fork_held n.held n.pid a child) (record n.leader { next_process = child + 1 }) ≡ m
     node_is a h =
         sym (ap (λ (s : Step). s.node) carried
         ∙ ap (λ (x : Caller). parts n x held leader) (caller_after script n.number block n.caller caller vars child is at)
-        ∙ ap (λ (x : Held). parts n (answered script n.number (started n.caller (Fork block)) (Num child)) x leader) h
-        ∙ ap (parts n (answered script n.number (started n.caller (Fork block)) (Num child)) (fork_held n.held n.pid a child))
+        ∙ ap (λ (x : Held). parts n (take_reply script n.number (start_call n.caller (Fork block)) (Num child)) x leader) h
+        ∙ ap (parts n (take_reply script n.number (start_call n.caller (Fork block)) (Num child)) (fork_held n.held n.pid a child))
         (leader_is ∙ ap (λ (k : ℕ). record n.leader { next_process = k + 1 }) next.1))
 
     sent : (block, Checkpoint child n.pid (new_deed child) (child_variables script n.number n.caller)) ∷ [] ≡ sends

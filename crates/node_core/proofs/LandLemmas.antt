@@ -6,16 +6,16 @@ use Rattle.std.specs.Map.{set_value}
 use Rattle.std.specs.BTreeMap.{is_at}
 use Rattle.std.proofs.lemmas.Map.Steps.{set_value_same}
 use Rattle.pico_base.specs.declared.reply.Ending.{Ending}
-use Rattle.kernel_model.specs.Maps.{Numbered, get, put}
+use Rattle.number_maps.specs.Maps.{Numbered, get, put}
 use Rattle.kernel_model.specs.Kernel.{Process, Living, Ended, Gone, living_in}
-use Rattle.kernel_model.specs.ProcessCalls.{forking, ended_under}
+use Rattle.kernel_model.specs.ProcessCalls.{parent_after_fork, end_under}
 use Rattle.machine_model.specs.Deeds.{parent_of}
 use Rattle.node_core.specs.Rising.{IsRising}
 use Rattle.node_core.specs.Deed.{with_child_there, with_end_there, kept_by}
 use Rattle.node_core.proofs.MapLemmas.{set_value-put, get-put_other, same-from-nat_eq}
 
 Forks : Numbered Process → Numbered Process → ℕ → ℕ → Type 0
-Forks ps es child pid = IfSome (living_in ps pid) (λ a. es ≡ put ps pid (Living (forking a child)))
+Forks ps es child pid = IfSome (living_in ps pid) (λ a. es ≡ put ps pid (Living (parent_after_fork a child)))
 
 forks_at : (ps es : Numbered Process) (pid child : ℕ) (v w : Process) → IsRising ps → get ps pid ≡ Some v
     → w ≡ with_child_there child v → es ≡ set_value (is_at (nat_cmp pid)) ps w → Forks ps es child pid
@@ -27,7 +27,7 @@ forks_at ps es pid child Gone w rising there is written = rw there tt
 
 pub child-lands : (ps es : Numbered Process) (n pid child : ℕ) (v w : Process) → n ≡ pid → IsRising ps → get ps n ≡ Some v
     → w ≡ with_child_there child v → es ≡ set_value (is_at (nat_cmp n)) ps w
-    → IfSome (living_in ps pid) (λ a. es ≡ put ps pid (Living (forking a child)))
+    → IfSome (living_in ps pid) (λ a. es ≡ put ps pid (Living (parent_after_fork a child)))
 unfolding Forks
 child-lands ps es n pid child v w at rising there is written = subst (Forks ps es child) at (forks_at ps es n child v w rising there is written)
 
@@ -61,7 +61,7 @@ apart ps pid parent p there elsewhere = at (nat_eq parent pid) refl
 
 ended_at : (ps mid es : Numbered Process) (pid parent : ℕ) (ending : Ending) (p : Process) → mid ≡ put ps pid (kept_by ending p)
     → IsRising mid → get mid parent ≡ Some p → es ≡ put mid parent (with_end_there pid ending p)
-    → es ≡ ended_under ps pid ending (parent_of parent p)
+    → es ≡ end_under ps pid ending (parent_of parent p)
 ended_at ps mid es pid parent ending (Living a) is rising there ended =
     ended ∙ ap (λ (x : Numbered Process). put x parent (with_end_there pid ending (Living a))) is
 ended_at ps mid es pid parent ending (Ended e) is rising there ended = ended ∙ put-same mid parent (Ended e) rising there ∙ is
@@ -69,7 +69,7 @@ ended_at ps mid es pid parent ending Gone is rising there ended = ended ∙ put-
 
 end_found : (ps mid es : Numbered Process) (pid parent : ℕ) (ending : Ending) (child : Process) (o : Option Process) → get ps parent ≡ o
     → get ps pid ≡ None → child ≡ option_map_or (kept_by ending) o Gone → mid ≡ put ps pid child → IsRising mid → Ends mid es pid ending parent
-    → IfSome o (λ p. es ≡ ended_under ps pid ending (parent_of parent p))
+    → IfSome o (λ p. es ≡ end_under ps pid ending (parent_of parent p))
 unfolding Ends
 end_found ps mid es pid parent ending child None at elsewhere kept is rising ends = tt
 end_found ps mid es pid parent ending child (Some p) at elsewhere kept is rising ends =
@@ -80,7 +80,7 @@ end_found ps mid es pid parent ending child (Some p) at elsewhere kept is rising
 pub ended-lands : (ps mid es : Numbered Process) (n pid parent : ℕ) (ending : Ending) (child : Process) → n ≡ pid → get ps pid ≡ None
     → child ≡ option_map_or (kept_by ending) (get ps parent) Gone → mid ≡ put ps n child → IsRising mid
     → IfSome (get mid parent) (λ p. es ≡ put mid parent (with_end_there pid ending p))
-    → IfSome (get ps parent) (λ p. es ≡ ended_under ps pid ending (parent_of parent p))
+    → IfSome (get ps parent) (λ p. es ≡ end_under ps pid ending (parent_of parent p))
 unfolding Ends
 ended-lands ps mid es n pid parent ending child at elsewhere kept is rising ends =
     end_found ps mid es pid parent ending child (get ps parent) refl elsewhere kept (is ∙ ap (λ (k : ℕ). put ps k child) at) rising ends

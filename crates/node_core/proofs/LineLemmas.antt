@@ -8,7 +8,7 @@ use Rattle.pico_base.specs.declared.script.Line.{Line}
 use Rattle.pico_base.specs.declared.script.Block.{Block}
 use Rattle.pico_base.specs.declared.script.Script.{Script}
 use Rattle.kernel_model.specs.Script.{Vars, call_of, is_exit, with_exit, implied_exit}
-use Rattle.kernel_model.specs.Fitting.{Place, call_due, block_at, child_vars_at, setting}
+use Rattle.kernel_model.specs.Fitting.{Place, call_due, block_at, child_vars_at, set_variable}
 use Rattle.machine_model.specs.Node.{lines_of, lines_in}
 use Rattle.machine_model.specs.Built.{IsRunnable, is_built, is_built_line, is_built_block}
 use Rattle.machine_model.specs.Calls.{set_by}
@@ -78,7 +78,7 @@ set_line (l ∷ lines) zero = refl
 set_line (l ∷ lines) (suc i) = set_line lines i
 
 -- the variables of a child, by the line that is due
-pub child-vars-are : (vars : Vars) (lines : List Line) (i : ℕ) → child_vars_at vars (drop i lines) ≡ setting vars (set_by (slice_get lines i)) 0
+pub child-vars-are : (vars : Vars) (lines : List Line) (i : ℕ) → child_vars_at vars (drop i lines) ≡ set_variable vars (set_by (slice_get lines i)) 0
 child-vars-are vars [] zero = refl
 child-vars-are vars [] (suc i) = refl
 child-vars-are vars (l ∷ lines) zero = refl

@@ -10,7 +10,7 @@ use Rattle.std.proofs.lemmas.Map.{lookup-none}
 use Rattle.std.proofs.lemmas.Map.Entries.{none_below_head}
 use Rattle.std.proofs.lemmas.Map.Keys.{sorted_head, sorted_tail}
 use Rattle.node_core.specs.Rising.{IsRising}
-use Rattle.kernel_model.specs.Maps.{Numbered, get, put}
+use Rattle.number_maps.specs.Maps.{Numbered, get, put}
 
 -- the order of two numbers
 

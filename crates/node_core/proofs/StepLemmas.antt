@@ -10,10 +10,10 @@ use Rattle.pico_base.specs.declared.reply.Reply.TheVariants.{Num, Fail, Message}
 use Rattle.sysv_msg.specs.declared.queue.SendFault.{SendFault}
 use Rattle.sysv_msg.specs.declared.queue.SendFault.TheVariants.{No}
 use Rattle.sysv_msg.specs.Refusals.{RefusesSend}
-use Rattle.kernel_model.specs.Maps.{Numbered, get}
+use Rattle.number_maps.specs.Maps.{Numbered, get}
 use Rattle.kernel_model.specs.Queue.{Queue, Received, Message as QueueMessage, send}
 use Rattle.node_core.specs.Rising.{IsRising}
-use Rattle.node_core.specs.Answers.{Changes, Receives, answered}
+use Rattle.node_core.specs.Answers.{Changes, Receives, done_reply}
 use Rattle.node_core.proofs.MapLemmas.{set_value-put}
 
 module _ {V : Type 0} where
@@ -24,7 +24,7 @@ module _ {V : Type 0} where
 
   pub step-lands : {U : Type 0} (step : V → Result V Errno) (m es : Numbered V) (id : ℕ) (v w : V) (r : Result U Errno) (reply : Reply) → IsRising m
       → get m id ≡ Some v → IfOk r (λ _. step v ≡ Ok w) → IfErr r (λ e. step v ≡ Err e) → OnErr r (w ≡ v)
-      → es ≡ set_value (is_at (nat_cmp id)) m w → reply ≡ answered r → Changes step m id es reply
+      → es ≡ set_value (is_at (nat_cmp id)) m w → reply ≡ done_reply r → Changes step m id es reply
   step-lands step m es id v w (Ok u) reply rising there ok bad same written is =
       rw (there, ok) (written ∙ set_value-put m id w v rising there, is)
   step-lands step m es id v w (Err e) reply rising there ok bad same written is =

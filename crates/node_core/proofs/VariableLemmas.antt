@@ -3,7 +3,7 @@ use Rattle.std.proofs.Common.{◌≡◌, ◌∙◌, ℕ, ◌+◌, ◌<◌, ◌�
 use Rattle.std.specs.declared.cmp.Ordering.TheVariants.{Less, Equal, Greater}
 use Rattle.std.specs.List.{AllByRecursion}
 use Rattle.std.specs.Ordering.{nat_cmp, match_ordering}
-use Rattle.kernel_model.specs.Maps.{put}
+use Rattle.number_maps.specs.Maps.{put}
 use Rattle.kernel_model.specs.Script.{Vars}
 use Rattle.machine_model.specs.Frames.{are_rising}
 use Rattle.node_core.specs.Rising.{IsVariable, rising_from}

@@ -5,7 +5,7 @@ use Rattle.pico_base.specs.declared.reply.Reply.{Reply}
 use Rattle.pico_base.specs.declared.reply.Reply.TheVariants.{Num, Fail, Message}
 use Rattle.pico_base.specs.declared.reply.Errno.{Errno}
 use Rattle.pico_base.specs.declared.reply.Errno.TheVariants.{Einval}
-use Rattle.kernel_model.specs.Maps.{Numbered, get, put}
+use Rattle.number_maps.specs.Maps.{Numbered, get, put}
 use Rattle.kernel_model.specs.Queue.{Queue, Received}
 
 -- A change of what a map has at a number, and the reply. Where it has nothing there, or the change is refused, it
@@ -28,9 +28,9 @@ abbrev pub Receives : (Queue → Result Received Errno) → Numbered Queue → �
 Receives step old id new reply = ReceivedBy (option_map step (get old id)) old id new reply
 
 -- the reply to a change
-abbrev pub answered : {U : Type 0} → Result U Errno → Reply
-answered (Ok u) = Num 0
-answered (Err e) = Fail e
+abbrev pub done_reply : {U : Type 0} → Result U Errno → Reply
+done_reply (Ok u) = Num 0
+done_reply (Err e) = Fail e
 
 -- the reply of a look
 abbrev pub reply_to : Result ℕ Errno → Reply

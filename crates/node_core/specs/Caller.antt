@@ -6,7 +6,8 @@ use Rattle.pico_base.specs.declared.script.Script.{Script}
 use Rattle.kernel_model.specs.Script.{Vars}
 use Rattle.kernel_model.specs.Fitting.{child_vars_at}
 use Rattle.machine_model.specs.Node.{Caller, lines_of}
-use Rattle.machine_model.specs.Calls.{number_end, answered}
+use Rattle.machine_model.specs.Calls.{take_reply}
+use Rattle.kernel_model.specs.Numbers.{number_end}
 
 -- it can start a call: none is under way, and a further ticket is a number of four bytes
 pub record MayStart (c : Caller) : Type 0 where
@@ -20,7 +21,7 @@ calls_in (Some call) = 1
 
 -- it has started a call, and has its reply
 abbrev pub passed : Script → ℕ → Caller → Reply → Caller
-passed script number c reply = answered script number (record c { ticket = c.ticket + 1 }) reply
+passed script number c reply = take_reply script number (record c { ticket = c.ticket + 1 }) reply
 
 -- the variables that its child begins with
 abbrev pub child_variables : Script → ℕ → Caller → Vars

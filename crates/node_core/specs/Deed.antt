@@ -3,11 +3,11 @@ use Rattle.std.specs.Prelude.{ℕ, List, []}
 use Rattle.pico_base.specs.declared.reply.Ending.{Ending}
 use Rattle.kernel_model.specs.Row.{with_ended_child, ignores_children}
 use Rattle.kernel_model.specs.Kernel.{Process, Living, Ended, Gone}
-use Rattle.kernel_model.specs.ProcessCalls.{forking, kept_as}
+use Rattle.kernel_model.specs.ProcessCalls.{parent_after_fork, process_after_end}
 
 -- a new child, if it lives
 abbrev pub with_child_there : ℕ → Process → Process
-with_child_there child (Living a) = Living (forking a child)
+with_child_there child (Living a) = Living (parent_after_fork a child)
 with_child_there child (Ended ending) = Ended ending
 with_child_there child Gone = Gone
 
@@ -25,6 +25,6 @@ ended_there Gone = []
 
 -- what becomes of its child that ends
 abbrev pub kept_by : Ending → Process → Process
-kept_by ending (Living a) = kept_as (ignores_children a.row) ending
+kept_by ending (Living a) = process_after_end (ignores_children a.row) ending
 kept_by ending (Ended e) = Gone
 kept_by ending Gone = Gone

@@ -1,7 +1,7 @@
 -- What the leader notes.
 use Rattle.std.specs.Prelude.{ℕ, nat_lt, if◌then◌else◌, Option, Some, None}
 use Rattle.machine_model.specs.Node.{Parting, IsLeaving, HasLeft}
-use Rattle.machine_model.specs.Calls.{number_end}
+use Rattle.kernel_model.specs.Numbers.{number_end}
 
 -- the process that ends, or none where the node has handed over
 abbrev pub parting_of : Option ℕ → Parting

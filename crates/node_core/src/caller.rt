@@ -1,9 +1,10 @@
 //! Where a process is in its block.
 ghost use Rattle.std.specs.Prelude.{◌≡◌, ◌+◌, ◌&&◌, None, Some, IfOk, OnOk, IsSome, is_some, nat_eq, nat_lt};
 ghost use Rattle.kernel_model.specs.Fitting.{value_in};
-ghost use Rattle.machine_model.specs.Node.{beginning};
+ghost use Rattle.machine_model.specs.Node.{new_caller};
 ghost use Rattle.machine_model.specs.Built.{IsRunnable};
-ghost use Rattle.machine_model.specs.Calls.{number_end, started, answered};
+ghost use Rattle.machine_model.specs.Calls.{start_call, take_reply};
+ghost use Rattle.kernel_model.specs.Numbers.{number_end};
 ghost use Rattle.machine_model.specs.Frames.{is_awaited};
 ghost use Rattle.node_core.specs.Due.{due_at};
 ghost use Rattle.node_core.specs.Caller.{MayStart, passed, child_variables};
@@ -52,7 +53,7 @@ fn value_of(reply: &Reply) -> u32
 impl Caller {
     /// At the first line, with these variables.
     pub(crate) fn new(variables: Variables) -> Caller
-        ensures { result ≡ beginning variables }
+        ensures { result ≡ new_caller variables }
     {
         Caller {
             line: 0,
@@ -109,7 +110,7 @@ impl Caller {
     /// Starts a call.
     pub(crate) fn start(&mut self, call: Call)
         requires { MayStart self.old }
-        ensures { self.new ≡ started self.old call }
+        ensures { self.new ≡ start_call self.old call }
     {
         self.ticket += 1;
         self.under_way = Some(call);
@@ -132,7 +133,7 @@ impl Caller {
     pub(crate) fn have(&mut self, script: &Script, node: Node, reply: &Reply) -> Result<(), Memory>
         requires runnable { IsRunnable script.now }
         requires waits { IsSome self.old.under_way }
-        ensures { OnOk result (self.new ≡ answered script.now node self.old reply.now) }
+        ensures { OnOk result (self.new ≡ take_reply script.now node self.old reply.now) }
     {
         let variable = set_at(script, node, self.line);
         self.variables.set(variable, value_of(reply))?;

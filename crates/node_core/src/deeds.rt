@@ -1,12 +1,12 @@
 //! The deeds that a node holds.
 ghost use Rattle.std.specs.Prelude.{◌≡◌, [], false, None, IfOk, IfSome, OnOk, IsSome, IsTrue, is_some, fold};
 ghost use Rattle.std.specs.Option.{option_map_or};
-ghost use Rattle.kernel_model.specs.Maps.{get, put};
+ghost use Rattle.number_maps.specs.Maps.{get, put};
 ghost use Rattle.kernel_model.specs.Queue.{empty_queue};
 ghost use Rattle.kernel_model.specs.Kernel.{Living, Gone, living_in};
-ghost use Rattle.kernel_model.specs.ProcessCalls.{bury, forking, ended_under};
+ghost use Rattle.kernel_model.specs.ProcessCalls.{bury, parent_after_fork, end_under};
 ghost use Rattle.machine_model.specs.Node.{nothing, only};
-ghost use Rattle.machine_model.specs.Deeds.{first_ended, child_ended, may_end, parent_of};
+ghost use Rattle.machine_model.specs.Deeds.{end_first, end_child, may_end, parent_of};
 ghost use Rattle.machine_model.specs.Calls.{fork_held};
 ghost use Rattle.node_core.specs.Deed.{ended_there, kept_by, with_end_there};
 
@@ -66,7 +66,7 @@ fn ended_children(
 fn add_child_at(processes: &mut Processes, pid: Pid, child: Pid) -> Result<(), Memory>
     requires { IsSome (living_in processes.old.entries pid) }
     ensures { OnOk result (IfSome (living_in processes.old.entries pid)
-        (λ a. processes.new.entries ≡ put processes.old.entries pid (Living (forking a child)))) }
+        (λ a. processes.new.entries ≡ put processes.old.entries pid (Living (parent_after_fork a child)))) }
 {
     match processes.get_mut(&pid.0) {
         Some(process) => process.add_child(child),
@@ -110,7 +110,7 @@ fn end_child_at(
     requires there { IsSome (get processes.old.entries parent) }
     requires elsewhere { get processes.old.entries pid ≡ None }
     ensures { OnOk result (IfSome (get processes.old.entries parent)
-        (λ p. processes.new.entries ≡ ended_under processes.old.entries pid ending (parent_of parent p))) }
+        (λ p. processes.new.entries ≡ end_under processes.old.entries pid ending (parent_of parent p))) }
 {
     let child = kept(processes, parent, ending);
     processes.insert(pid.0, child)?;
@@ -185,7 +185,7 @@ impl Deeds {
         ending: Ending,
     ) -> Result<(), Memory>
         requires { IsSome (living_in self.old.processes pid) }
-        ensures { OnOk result (IfSome (living_in self.old.processes pid) (λ a. self.new ≡ first_ended self.old pid a ending)) }
+        ensures { OnOk result (IfSome (living_in self.old.processes pid) (λ a. self.new ≡ end_first self.old pid a ending)) }
     {
         let children = ended_children(&self.processes, alloc, pid)?;
         bury(&mut self.processes, children.as_slice())?;
@@ -197,7 +197,7 @@ impl Deeds {
     pub(crate) fn end_child(&mut self, pid: Pid, parent: Pid, ending: Ending) -> Result<(), Memory>
         requires there { IsSome (get self.old.processes parent) }
         requires elsewhere { get self.old.processes pid ≡ None }
-        ensures { OnOk result (IfSome (get self.old.processes parent) (λ p. self.new ≡ child_ended self.old pid parent p ending)) }
+        ensures { OnOk result (IfSome (get self.old.processes parent) (λ p. self.new ≡ end_child self.old pid parent p ending)) }
     {
         end_child_at(&mut self.processes, pid, parent, ending)
     }

@@ -1,6 +1,6 @@
 //! The children of a process.
 ghost use Rattle.std.specs.Prelude.{◌≡◌, false, IfOk, OnOk};
-ghost use Rattle.kernel_model.specs.Row.{no_family, with_child, with_end, lists, others};
+ghost use Rattle.kernel_model.specs.Row.{no_family, with_child, family_after_end, lists, others};
 
 use pico_base::{Ending, Memory, Pid};
 use std::alloc::Global;
@@ -56,7 +56,7 @@ impl Family {
 
     /// A child has ended, and is kept.
     pub(crate) fn end(&mut self, child: Pid, ending: Ending) -> Result<(), Memory>
-        ensures { OnOk result (self.new ≡ with_end self.old child ending false) }
+        ensures { OnOk result (self.new ≡ family_after_end self.old child ending false) }
     {
         drop_living(&mut self.living, child);
         self.ended.push((child, ending))?;

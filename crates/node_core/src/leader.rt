@@ -1,8 +1,8 @@
 //! What the leader knows besides.
 ghost use Rattle.std.specs.Prelude.{◌≡◌, ◌+◌, OnOk, IsTrue, is_none, nat_lt};
-ghost use Rattle.kernel_model.specs.Maps.{get, put};
+ghost use Rattle.number_maps.specs.Maps.{get, put};
 ghost use Rattle.machine_model.specs.Node.{IsLeaving, HasLeft, first_numbers};
-ghost use Rattle.machine_model.specs.Calls.{number_end};
+ghost use Rattle.kernel_model.specs.Numbers.{number_end};
 ghost use Rattle.machine_model.specs.Frames.{leaves_as};
 ghost use Rattle.node_core.specs.Leader.{numbered};
 

@@ -2,7 +2,7 @@
 ghost use Rattle.std.specs.Prelude.{◌≡◌, IfOk};
 ghost use Rattle.kernel_model.specs.Queue.{send, receive, set_qbytes};
 ghost use Rattle.kernel_model.specs.SemaphoreSet.{op, set_value, set_all};
-ghost use Rattle.node_core.specs.Answers.{Changes, Receives, answered, reply_to, waiting_reply};
+ghost use Rattle.node_core.specs.Answers.{Changes, Receives, done_reply, reply_to, waiting_reply};
 
 use pico_base::{Bytes, Errno, Memory, Pid, Reply, SemStep};
 use std::collections::BTreeMap;
@@ -17,7 +17,7 @@ pub(crate) type Sets = BTreeMap<u32, SemSet>;
 
 /// The reply to a change.
 fn answer(outcome: Result<(), Errno>) -> Reply
-    ensures { result ≡ answered outcome }
+    ensures { result ≡ done_reply outcome }
 {
     match outcome {
         Ok(()) => Reply::Num(0),

@@ -1,7 +1,7 @@
 //! A node starts its process's next call, rule by rule.
 ghost use Rattle.std.specs.Prelude.{◌≡◌, IfOk, IsTrue};
 ghost use Rattle.machine_model.specs.Built.{IsRunnable};
-ghost use Rattle.machine_model.specs.Calls.{run, starts_call, carried_out, gets_pid, makes_queue, makes_set, forks, asks, shares, leaves, exits};
+ghost use Rattle.machine_model.specs.Calls.{run, starts_call, step_here, gets_pid, makes_queue, makes_set, forks, asks, shares, leaves, exits};
 ghost use Rattle.node_core.specs.Caller.{MayStart};
 ghost use Rattle.node_core.specs.State.{node_of};
 ghost use Rattle.node_core.specs.Step.{Steps, step_as};
@@ -26,7 +26,7 @@ impl State {
     ) -> Result<Turn, Memory>
         requires runnable { IsRunnable script.now }
         requires may { MayStart self.old.caller }
-        ensures { IfOk result (λ turn. step_as (node_of self.new) turn ≡ carried_out script.now (node_of self.old) call reply self.old.deeds) }
+        ensures { IfOk result (λ turn. step_as (node_of self.new) turn ≡ step_here script.now (node_of self.old) call reply self.old.deeds) }
     {
         self.caller.pass(script, self.number, &reply)?;
         Ok(Turn {

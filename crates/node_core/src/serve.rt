@@ -1,12 +1,12 @@
 //! The calls on queues and sets, where they are held.
 ghost use Rattle.std.specs.Prelude.{◌≡◌, IfOk};
 ghost use Rattle.std.specs.List.{list_any};
-ghost use Rattle.kernel_model.specs.Maps.{get};
+ghost use Rattle.number_maps.specs.Maps.{get};
 ghost use Rattle.kernel_model.specs.Queue.{send, receive, set_qbytes};
 ghost use Rattle.kernel_model.specs.SemaphoreSet.{op, value_at, last_at, waiting_at, set_value, set_all};
-ghost use Rattle.kernel_model.specs.Effect.{on_named, looked_up};
-ghost use Rattle.kernel_model.specs.QueueCalls.{changed_queue, received, looked_at_queue};
-ghost use Rattle.kernel_model.specs.SetCalls.{changed_set, all_values};
+ghost use Rattle.kernel_model.specs.Effect.{on_named, look_up};
+ghost use Rattle.kernel_model.specs.QueueCalls.{change_queue, receive_effect, stat_effect};
+ghost use Rattle.kernel_model.specs.SetCalls.{change_set, all_values};
 ghost use Rattle.machine_model.specs.Built.{is_shared};
 ghost use Rattle.kernel_model.specs.Waiting.{may_wait, is_waiting};
 ghost use Rattle.machine_model.specs.Deeds.{kernel_of};
@@ -66,7 +66,7 @@ impl Deeds {
     /// msgsnd: EINVAL or EAGAIN.
     fn send(&mut self, pid: Pid, id: Id, class: i32, text: Bytes) -> Result<Reply, Memory>
         ensures { IfOk result (λ reply. on_named (kernel_of self.old) (get self.old.queues id)
-            (λ q. changed_queue (kernel_of self.old) id (send q pid class text)) ≡ record { kernel = kernel_of self.new; reply = reply }) }
+            (λ q. change_queue (kernel_of self.old) id (send q pid class text)) ≡ record { kernel = kernel_of self.new; reply = reply }) }
     {
         send_at(&mut self.queues, id.0, pid, class, text)
     }
@@ -74,14 +74,14 @@ impl Deeds {
     /// msgrcv: EINVAL, ENOMSG or E2BIG.
     fn receive(&mut self, pid: Pid, id: Id, class: i32, size: u32, noerror: bool) -> Reply
         ensures { on_named (kernel_of self.old) (get self.old.queues id)
-            (λ q. received (kernel_of self.old) id (receive q pid class size noerror)) ≡ record { kernel = kernel_of self.new; reply = result } }
+            (λ q. receive_effect (kernel_of self.old) id (receive q pid class size noerror)) ≡ record { kernel = kernel_of self.new; reply = result } }
     {
         receive_at(&mut self.queues, id.0, pid, class, size, noerror)
     }
 
     /// msgctl with IPC_STAT: EINVAL.
     fn stat(&self, id: Id) -> Reply
-        ensures { on_named (kernel_of self.now) (get self.now.queues id) (looked_at_queue (kernel_of self.now))
+        ensures { on_named (kernel_of self.now) (get self.now.queues id) (stat_effect (kernel_of self.now))
             ≡ record { kernel = kernel_of self.now; reply = result } }
     {
         match self.queues.get(&id.0) {
@@ -93,7 +93,7 @@ impl Deeds {
     /// msgctl with IPC_SET: EINVAL.
     fn set_qbytes(&mut self, id: Id, qbytes: u32) -> Reply
         ensures { on_named (kernel_of self.old) (get self.old.queues id)
-            (λ q. changed_queue (kernel_of self.old) id (set_qbytes q qbytes)) ≡ record { kernel = kernel_of self.new; reply = result } }
+            (λ q. change_queue (kernel_of self.old) id (set_qbytes q qbytes)) ≡ record { kernel = kernel_of self.new; reply = result } }
     {
         set_qbytes_at(&mut self.queues, id.0, qbytes)
     }
@@ -101,14 +101,14 @@ impl Deeds {
     /// semop: EINVAL, E2BIG, EFBIG, EAGAIN or ERANGE.
     fn operate(&mut self, pid: Pid, id: Id, steps: &Steps) -> Reply
         ensures { on_named (kernel_of self.old) (get self.old.sets id)
-            (λ s. changed_set (kernel_of self.old) id (op s pid steps.now)) ≡ record { kernel = kernel_of self.new; reply = result } }
+            (λ s. change_set (kernel_of self.old) id (op s pid steps.now)) ≡ record { kernel = kernel_of self.new; reply = result } }
     {
         op_at(&mut self.sets, id.0, pid, steps.as_slice())
     }
 
     /// semctl with GETVAL: EINVAL.
     fn value(&self, id: Id, num: u16) -> Reply
-        ensures { on_named (kernel_of self.now) (get self.now.sets id) (λ s. looked_up (kernel_of self.now) (value_at s num))
+        ensures { on_named (kernel_of self.now) (get self.now.sets id) (λ s. look_up (kernel_of self.now) (value_at s num))
             ≡ record { kernel = kernel_of self.now; reply = result } }
     {
         match self.sets.get(&id.0) {
@@ -119,7 +119,7 @@ impl Deeds {
 
     /// semctl with GETPID: EINVAL.
     fn last(&self, id: Id, num: u16) -> Reply
-        ensures { on_named (kernel_of self.now) (get self.now.sets id) (λ s. looked_up (kernel_of self.now) (last_at s num))
+        ensures { on_named (kernel_of self.now) (get self.now.sets id) (λ s. look_up (kernel_of self.now) (last_at s num))
             ≡ record { kernel = kernel_of self.now; reply = result } }
     {
         match self.sets.get(&id.0) {
@@ -130,7 +130,7 @@ impl Deeds {
 
     /// semctl with GETNCNT and GETZCNT: EINVAL, and else 0.
     fn waiting(&self, id: Id, num: u16) -> Reply
-        ensures { on_named (kernel_of self.now) (get self.now.sets id) (λ s. looked_up (kernel_of self.now) (waiting_at s num))
+        ensures { on_named (kernel_of self.now) (get self.now.sets id) (λ s. look_up (kernel_of self.now) (waiting_at s num))
             ≡ record { kernel = kernel_of self.now; reply = result } }
     {
         match self.sets.get(&id.0) {
@@ -142,7 +142,7 @@ impl Deeds {
     /// semctl with SETVAL: EINVAL or ERANGE.
     fn set_value(&mut self, id: Id, num: u16, value: u32) -> Reply
         ensures { on_named (kernel_of self.old) (get self.old.sets id)
-            (λ s. changed_set (kernel_of self.old) id (set_value s num value)) ≡ record { kernel = kernel_of self.new; reply = result } }
+            (λ s. change_set (kernel_of self.old) id (set_value s num value)) ≡ record { kernel = kernel_of self.new; reply = result } }
     {
         set_value_at(&mut self.sets, id.0, num, value)
     }
@@ -161,7 +161,7 @@ impl Deeds {
     /// semctl with SETALL: EINVAL or ERANGE.
     fn set_all(&mut self, id: Id, values: &Values) -> Reply
         ensures { on_named (kernel_of self.old) (get self.old.sets id)
-            (λ s. changed_set (kernel_of self.old) id (set_all s values.now)) ≡ record { kernel = kernel_of self.new; reply = result } }
+            (λ s. change_set (kernel_of self.old) id (set_all s values.now)) ≡ record { kernel = kernel_of self.new; reply = result } }
     {
         set_all_at(&mut self.sets, id.0, values.as_slice())
     }

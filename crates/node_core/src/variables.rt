@@ -2,7 +2,7 @@
 ghost use Rattle.std.specs.Prelude.{◌≡◌, ◌≤◌, ℕ, Bool, List, [], ◌∷◌, Some, IfOk, OnOk, IsTrue};
 ghost use Rattle.std.specs.List.{AllByRecursion};
 ghost use Rattle.kernel_model.specs.Script.{call_of, value_of};
-ghost use Rattle.kernel_model.specs.Fitting.{setting};
+ghost use Rattle.kernel_model.specs.Fitting.{set_variable};
 ghost use Rattle.machine_model.specs.Frames.{are_rising};
 ghost use Rattle.node_core.specs.Rising.{IsVariable, rising_from};
 
@@ -111,7 +111,7 @@ impl Variables {
 
     /// Sets the variable, if there is one.
     pub(crate) fn set(&mut self, variable: Option<Var>, value: u32) -> Result<(), Memory>
-        ensures { OnOk result (self.new ≡ setting self.old variable value) }
+        ensures { OnOk result (self.new ≡ set_variable self.old variable value) }
     {
         if let Some(variable) = variable {
             self.values.insert(variable.0, value)?;

@@ -34,14 +34,14 @@ at m Term = m.term
 at m Chld = m.chld
 
 -- another value for a signal, and the same for the others
-abbrev pub put : {A : Type 0} → PerSignal A → Sig → A → PerSignal A
-put m Hup x = record m { hup = x }
-put m Int x = record m { int = x }
-put m Quit x = record m { quit = x }
-put m Kill x = record m { kill = x }
-put m Usr1 x = record m { usr1 = x }
-put m Usr2 x = record m { usr2 = x }
-put m Pipe x = record m { pipe = x }
-put m Alrm x = record m { alrm = x }
-put m Term x = record m { term = x }
-put m Chld x = record m { chld = x }
+abbrev pub put_at : {A : Type 0} → PerSignal A → Sig → A → PerSignal A
+put_at m Hup x = record m { hup = x }
+put_at m Int x = record m { int = x }
+put_at m Quit x = record m { quit = x }
+put_at m Kill x = record m { kill = x }
+put_at m Usr1 x = record m { usr1 = x }
+put_at m Usr2 x = record m { usr2 = x }
+put_at m Pipe x = record m { pipe = x }
+put_at m Alrm x = record m { alrm = x }
+put_at m Term x = record m { term = x }
+put_at m Chld x = record m { chld = x }

@@ -1,5 +1,5 @@
 ghost use Rattle.std.specs.Prelude.{◌≡◌, true, false};
-ghost use Rattle.pico_base.specs.Signal.{at, put, everywhere};
+ghost use Rattle.pico_base.specs.Signal.{at, put_at, everywhere};
 
 use std::marker::Model;
 
@@ -73,7 +73,7 @@ impl<T: Copy> PerSignal<T> {
 
     /// Sets the value for this signal; the others stay.
     pub fn set(&mut self, sig: Sig, value: T)
-        ensures { self.new ≡ put self.old sig value }
+        ensures { self.new ≡ put_at self.old sig value }
     {
         match sig {
             Sig::Hup => self.hup = value,
@@ -126,7 +126,7 @@ impl SigSet {
 
     /// The set with this signal in it.
     pub fn with(self, sig: Sig) -> SigSet
-        ensures { result ≡ put self sig true }
+        ensures { result ≡ put_at self sig true }
     {
         let mut members = self.members;
         members.set(sig, true);
@@ -135,7 +135,7 @@ impl SigSet {
 
     /// The set without this signal.
     pub fn without(self, sig: Sig) -> SigSet
-        ensures { result ≡ put self sig false }
+        ensures { result ≡ put_at self sig false }
     {
         let mut members = self.members;
         members.set(sig, false);

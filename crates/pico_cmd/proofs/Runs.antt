@@ -8,7 +8,7 @@ use Rattle.rpc_frame.specs.declared.frame.Frame.{Frame}
 use Rattle.machine_model.specs.Node.{Node}
 use Rattle.machine_model.specs.Calls.{Step, run}
 use Rattle.machine_model.specs.Frames.{takes}
-use Rattle.machine_model.specs.World.{World, opening_world, size, size_of, step, is_enabled, node_at, stream, with_stream, after, after_turn, runs_at, takes_at}
+use Rattle.machine_model.specs.World.{World, opening_world, size, node_count, step, is_enabled, node_at, stream, with_stream, world_after, after_turn, runs_at, takes_at}
 use Rattle.machine_model.specs.Schedule.{Schedule, InTurn, Drawn, Follows, choice, schedule_of, schedule_after, node_of}
 use Rattle.machine_model.specs.Weights.{weight}
 use Rattle.machine_model.specs.Built.{IsRunnable}
@@ -23,7 +23,7 @@ use Rattle.pico_cmd.proofs.Chosen.{IsNext, choice_next}
 
 after_turn_script : (w : World) (p : ℕ) (o : Option Step) (next : World) → after_turn w p o ≡ Some next → next.script ≡ w.script
 after_turn_script w p None next e = absurd (let f : ⊥ = cc in f)
-after_turn_script w p (Some s) next e = let is : after w p s ≡ next = cc in sym (ap (λ (x : World). x.script) is)
+after_turn_script w p (Some s) next e = let is : world_after w p s ≡ next = cc in sym (ap (λ (x : World). x.script) is)
 
 runs_script : (w : World) (p : ℕ) (o : Option Node) (next : World) → runs_at w p o ≡ Some next → next.script ≡ w.script
 runs_script w p None next e = absurd (let f : ⊥ = cc in f)
@@ -65,7 +65,7 @@ pub record IsUnderWay (script : Script) (seed : ℕ) (taken : List Event) (world
   pub is_now : world ≡ Some now
   pub same : now.script ≡ script
   pub of_world : IsWithin (size now) at
-  pub takes : Takes (opening_world script) (schedule_of seed (size_of script)) taken now at
+  pub takes : Takes (opening_world script) (schedule_of seed (node_count script)) taken now at
 
 -- what is still to happen, where the world isn't spent
 abbrev pub weight_of : Option World → ℕ
@@ -77,22 +77,22 @@ of_first w true count seed le = le
 of_first w false count seed le = tt
 
 of_after : (w next : World) (at : Schedule) (e : Event) → next.script ≡ w.script → node_of e ≤ size w → IsWithin (size next) (schedule_after at e)
-of_after w next (InTurn last) e same le = subst (λ (s : Script). node_of e ≤ size_of s) (sym same) le
+of_after w next (InTurn last) e same le = subst (λ (s : Script). node_of e ≤ node_count s) (sym same) le
 of_after w next (Drawn x) e same le = tt
 
 -- a run begins
 pub IsUnderWay-start : (script : Script) (seed : ℕ) (taken : List Event) (world : Option World) (at : Schedule)
-    → taken ≡ [] → world ≡ Some (opening_world script) → at ≡ schedule_of seed (size_of script)
+    → taken ≡ [] → world ≡ Some (opening_world script) → at ≡ schedule_of seed (node_count script)
     → IsUnderWay script seed taken world at
 IsUnderWay-start script seed taken world at none opening first =
     record {
       now = opening_world script;
       is_now = opening;
       same = refl;
-      of_world = subst (λ (s : Schedule). IsWithin (size_of script) s) (sym first)
-          (of_first (opening_world script) (nat_eq seed 0) (size_of script) seed (omega arith));
-      takes = subst (λ (s : Schedule). Takes (opening_world script) (schedule_of seed (size_of script)) taken (opening_world script) s) (sym first)
-          (subst (λ (es : List Event). Takes (opening_world script) (schedule_of seed (size_of script)) es (opening_world script) (schedule_of seed (size_of script))) (sym none) (refl, refl));
+      of_world = subst (λ (s : Schedule). IsWithin (node_count script) s) (sym first)
+          (of_first (opening_world script) (nat_eq seed 0) (node_count script) seed (omega arith));
+      takes = subst (λ (s : Schedule). Takes (opening_world script) (schedule_of seed (node_count script)) taken (opening_world script) s) (sym first)
+          (subst (λ (es : List Event). Takes (opening_world script) (schedule_of seed (node_count script)) es (opening_world script) (schedule_of seed (node_count script))) (sym none) (refl, refl));
     }
 
 -- the event that the schedule chooses
@@ -130,7 +130,7 @@ IsUnderWay-more script seed taken more world new at next_at r e u chosen is s af
     let stepped : step u.now e ≡ Some s.1 = subst (λ (x : World). step x e ≡ Some s.1) (same_world world s.0 u.now s.2 u.is_now) s.4
     in let same : s.1.script ≡ u.now.script = step_script u.now e s.1 stepped
     in let first : World = opening_world script
-    in let begins : Schedule = schedule_of seed (size_of script)
+    in let begins : Schedule = schedule_of seed (node_count script)
     in record {
       now = s.1;
       is_now = s.3;
@@ -153,8 +153,8 @@ pub IsUnderWay-end : (script : Script) (seed : ℕ) (taken : List Event) (world 
     → IsUnderWay script seed taken world at → IfSome world (λ w. r ≡ choice w at) → r ≡ None → IsRunTo script seed taken world
 IsUnderWay-end script seed taken world at r legal whole owned short runs rests runnable u chosen none =
     let nothing : choice u.now at ≡ None = chosen_now script seed taken world at r u chosen ∙ none
-    in let follows = Takes-end (opening_world script) (schedule_of seed (size_of script)) taken u.now at u.takes nothing
-    in let run : IsRunOf script taken u.now = runs (opening_world script) u.now (schedule_of seed (size_of script)) taken follows
+    in let follows = Takes-end (opening_world script) (schedule_of seed (node_count script)) taken u.now at u.takes nothing
+    in let run : IsRunOf script taken u.now = runs (opening_world script) u.now (schedule_of seed (node_count script)) taken follows
     in let rest : IsAtRest u.now = rests script u.now at (taken, run) u.of_world nothing
     in let ended : IsScheduledRun script seed taken u.now = record {
       schedule = follows;

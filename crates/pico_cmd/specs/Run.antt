@@ -6,7 +6,7 @@ use Rattle.pico_base.specs.declared.script.Event.{Event}
 use Rattle.kernel_model.specs.History.{IsLegal}
 use Rattle.kernel_model.specs.Fitting.{FitsWhole}
 use Rattle.kernel_model.specs.Trace.{trace_text}
-use Rattle.machine_model.specs.World.{World, opening_world, size_of}
+use Rattle.machine_model.specs.World.{World, opening_world, node_count}
 use Rattle.machine_model.specs.Run.{IsRunOf, IsAtRest}
 use Rattle.machine_model.specs.Schedule.{Follows, schedule_of}
 use Rattle.machine_model.specs.Owners.{owners}
@@ -17,7 +17,7 @@ use Rattle.pico_cmd.specs.declared.words.Options.{Options}
 -- The run of a script's picoprocesses that the schedule of this number takes, and the world that it ends in.
 pub record IsScheduledRun (script : Script) (seed : ℕ) (events : List Event) (last : World) : Type 0 where
   -- what the schedule takes from the opening world is a run of the machine, to rest
-  pub schedule : Follows (opening_world script) (schedule_of seed (size_of script)) events last
+  pub schedule : Follows (opening_world script) (schedule_of seed (node_count script)) events last
   pub run : IsRunOf script events last
   pub rest : IsAtRest last
   -- the journal is one history of a single POSIX kernel, and each process's calls stand in it once and in order, to

@@ -1,8 +1,8 @@
 //! The run of a script's picoprocesses by a schedule.
 ghost use Rattle.std.specs.Prelude.{◌≡◌, IfOk};
-ghost use Rattle.kernel_model.specs.Script.{IsSound};
+ghost use Rattle.kernel_model.specs.Script.{IsSoundScript};
 ghost use Rattle.machine_model.specs.Built.{IsRunnable};
-ghost use Rattle.machine_model.specs.World.{size_of};
+ghost use Rattle.machine_model.specs.World.{node_count};
 ghost use Rattle.pico_cmd.specs.Run.{IsRunTo};
 
 use crate::laws::laws;
@@ -20,8 +20,8 @@ pub struct Run {
 
 // How many nodes a script has.
 fn nodes_of(script: &Script) -> Node
-    requires { IsSound script.now }
-    ensures { result ≡ size_of script.now }
+    requires { IsSoundScript script.now }
+    ensures { result ≡ node_count script.now }
 {
     Node(script.blocks.len() as u8)
 }

@@ -8,7 +8,7 @@ use Rattle.rpc_frame.specs.declared.frame.Frame.{Frame}
 use Rattle.kernel_model.specs.Kernel.{Kernel}
 use Rattle.kernel_model.specs.Fitting.{Places}
 use Rattle.machine_model.specs.Node.{Node, Stage, is_unborn}
-use Rattle.machine_model.specs.World.{World, node_at, stream, size_of, is_enabled, is_take_enabled, is_checkpoint}
+use Rattle.machine_model.specs.World.{World, node_at, stream, node_count, is_enabled, is_take_enabled, is_checkpoint}
 use Rattle.machine_model.specs.Run.{IsAtRest}
 use Rattle.machine_laws.specs.Situations.{Situation, Awaited, Forked, Free, Asking, Answered, Telling, Recalled, HandedOver, Gone, IsIn}
 use Rattle.machine_laws.specs.Invariant.{IsUnderWay, sight}
@@ -65,13 +65,13 @@ module _ (script : Script) (w : World) (first : Node) (k : Kernel) (places : Pla
   child-takes p n (HandedOver status) i f left h = not-nil f left (sym i.shows.to_it ∙ h)
   child-takes p n Gone i f left h = not-nil f left (sym i.shows.to_it ∙ h)
 
-  to-child : (p : ℕ) → 2 ≤ p → p ≤ size_of script → stream w p 1 ≡ []
+  to-child : (p : ℕ) → 2 ≤ p → p ≤ node_count script → stream w p 1 ≡ []
   to-child p low high =
       let c = u.children p low high
       in empty-at-rest w rest p 1 c.node (omega arith) (omega arith) c.at (stream w p 1) refl
       (child-takes p c.node c.situation c.is_in)
 
-  pub all-empty : (p q : ℕ) → 1 ≤ p → p ≤ size_of script → 1 ≤ q → stream w p q ≡ []
+  pub all-empty : (p q : ℕ) → 1 ≤ p → p ≤ node_count script → 1 ≤ q → stream w p q ≡ []
   all-empty p q low high low_q =
       elim (cases_eq p 1) [
         | inl e ↦ ap (λ x. stream w x q) e ∙ to-first q low_q

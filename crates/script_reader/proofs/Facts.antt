@@ -116,7 +116,7 @@ pub record IsFine (number : ℕ) (line : Line) : Type 0 where
   pub no_exit : model.is_exit line.call ≡ false
   pub once : line.tries ≡ 1
   pub built : is_built_line number line ≡ true
-  pub kept : list_all (λ k. ltb 0 k && leb k 32) (model.forked_by line.call) ≡ true → kept_line line ≡ line
+  pub kept : list_all (λ k. ltb 0 k && leb k 32) (model.fork_targets line.call) ≡ true → kept_line line ≡ line
 
 abbrev line_at : Option ℕ → Option ℕ → Call → Line
 line_at set from c = record { set = set; tries = 1; from = from; call = c }
@@ -338,7 +338,7 @@ good_fork names name lines set place low within free h = (
   subst (AreForks names) (sym (forks_in-push lines (fork_line set (place + 1)))) (forks_more names (forks_in lines) place low within free h.1),
 )
 
-same_forks : (lines : List Line) (line : Line) → model.forked_by line.call ≡ [] → forks_in (lines ++ line ∷ []) ≡ forks_in lines
+same_forks : (lines : List Line) (line : Line) → model.fork_targets line.call ≡ [] → forks_in (lines ++ line ∷ []) ≡ forks_in lines
 same_forks lines line none = forks_in-push lines line ∙ ap (λ (r : List ℕ). forks_in lines ++ r) none ∙ append-nil (forks_in lines)
 
 good_call : (names : List (List ℕ)) (blocks : List Block) (name : List ℕ) (lines : List Line) (line : Line) (bytes : List ℕ) → IsCallLine (length blocks + 1) (known_after (known_behind blocks) lines) line bytes → AreGood names blocks (Some (block_of name lines)) → AreGood names blocks (Some (block_of name (lines ++ line ∷ [])))

@@ -10,7 +10,7 @@ use Rattle.std.proofs.lemmas.List.Folds.{list_any-append}
 use Rattle.std.proofs.lemmas.Grind.{flat_map-append}
 use Rattle.std.proofs.lemmas.Option.{none-some}
 use Rattle.pico_base.specs.declared.script.Line.{Line}
-use Rattle.kernel_model.specs.Script.{forked_by, known_with, begun_in}
+use Rattle.kernel_model.specs.Script.{fork_targets, known_with, begun_in}
 use Rattle.script_reader.specs.declared.state.Begun.{Begun}
 use Rattle.script_reader.specs.Form.{fork_line, forks_in, known_after}
 use Rattle.script_reader.specs.Reading.{no_flags, set_after, begun_at, with_begun}
@@ -64,16 +64,16 @@ known_after-push known lines line = fold-append (λ so_far line. known_with so_f
 
 -- ---- forks
 
-pub forks_in-push : (lines : List Line) (line : Line) → forks_in (lines ++ line ∷ []) ≡ forks_in lines ++ forked_by line.call
+pub forks_in-push : (lines : List Line) (line : Line) → forks_in (lines ++ line ∷ []) ≡ forks_in lines ++ fork_targets line.call
 forks_in-push lines line =
-    flat_map-append (λ (l : Line). forked_by l.call) lines (line ∷ []) ∙ ap (λ (r : List ℕ). forks_in lines ++ r) (append-nil (forked_by line.call))
+    flat_map-append (λ (l : Line). fork_targets l.call) lines (line ∷ []) ∙ ap (λ (r : List ℕ). forks_in lines ++ r) (append-nil (fork_targets line.call))
 
-pub begun_in-push : (known : List ℕ) (lines : List Line) (line : Line) → begun_in known (lines ++ line ∷ []) ≡ begun_in known lines ++ map (λ block. (block, known_after known (lines ++ line ∷ []))) (forked_by line.call)
-begun_in-push known [] line = append-nil (map (λ block. (block, known_with known line.set)) (forked_by line.call))
+pub begun_in-push : (known : List ℕ) (lines : List Line) (line : Line) → begun_in known (lines ++ line ∷ []) ≡ begun_in known lines ++ map (λ block. (block, known_after known (lines ++ line ∷ []))) (fork_targets line.call)
+begun_in-push known [] line = append-nil (map (λ block. (block, known_with known line.set)) (fork_targets line.call))
 begun_in-push known (first ∷ lines) line =
     let next : List ℕ = known_with known first.set in
-    ap (λ r. map (λ block. (block, next)) (forked_by first.call) ++ r) (begun_in-push next lines line)
-    ∙ sym (append_assoc (map (λ block. (block, next)) (forked_by first.call)) (begun_in next lines) (map (λ block. (block, known_after next (lines ++ line ∷ []))) (forked_by line.call)))
+    ap (λ r. map (λ block. (block, next)) (fork_targets first.call) ++ r) (begun_in-push next lines line)
+    ∙ sym (append_assoc (map (λ block. (block, next)) (fork_targets first.call)) (begun_in next lines) (map (λ block. (block, known_after next (lines ++ line ∷ []))) (fork_targets line.call)))
 
 -- what is found among two lists one behind the other
 left_of : {A : Type 0} (b : Bool) (x : A) (o more : Option A) (v : A) → (o ≡ Some v → more ≡ Some v) → cond b (Some x) o ≡ Some v → cond b (Some x) more ≡ Some v
@@ -165,7 +165,7 @@ Tables-none names =
     }
 
 -- a line that forks nothing
-pub Tables-same : (names : List (List ℕ)) (forked : List Bool) (begun : List Begun) (first : List Line) (line : Line) → forked_by line.call ≡ [] → Tables names forked begun first → Tables names forked begun (first ++ line ∷ [])
+pub Tables-same : (names : List (List ℕ)) (forked : List Bool) (begun : List Begun) (first : List Line) (line : Line) → fork_targets line.call ≡ [] → Tables names forked begun first → Tables names forked begun (first ++ line ∷ [])
 Tables-same names forked begun first line none h =
     let forks : forks_in (first ++ line ∷ []) ≡ forks_in first = forks_in-push first line ∙ ap (λ (r : List ℕ). forks_in first ++ r) none ∙ append-nil (forks_in first) in
     let begins : begun_in [] (first ++ line ∷ []) ≡ begun_in [] first = begun_in-push [] first line ∙ ap (λ (r : List ℕ). begun_in [] first ++ map (λ block. (block, known_after [] (first ++ line ∷ []))) r) none ∙ append-nil (begun_in [] first) in
@@ -217,6 +217,6 @@ pub forked_begins : (p : ℕ → Bool) (known : List ℕ) (lines : List Line) �
 forked_begins p known [] = refl
 forked_begins p known (line ∷ lines) =
     let next : List ℕ = known_with known line.set in
-    found_among p next (forked_by line.call) (begun_in next lines)
-    ∙ ap (λ (b : Bool). list_any p (forked_by line.call) || b) (forked_begins p next lines)
-    ∙ sym (list_any-append p (forked_by line.call) (forks_in lines))
+    found_among p next (fork_targets line.call) (begun_in next lines)
+    ∙ ap (λ (b : Bool). list_any p (fork_targets line.call) || b) (forked_begins p next lines)
+    ∙ sym (list_any-append p (fork_targets line.call) (forks_in lines))

@@ -6,7 +6,7 @@ use Rattle.std.proofs.lemmas.List.{length-map}
 use Rattle.std.proofs.lemmas.Option.{same_Some, none-some}
 use Rattle.pico_base.specs.declared.script.Block.{Block}
 use Rattle.pico_base.specs.declared.script.Script.{Script}
-use Rattle.kernel_model.specs.Script.{IsSound}
+use Rattle.kernel_model.specs.Script.{IsSoundScript}
 use Rattle.machine_model.specs.Built.{IsRunnable}
 use Rattle.script_reader.specs.declared.fault.ScriptFault.{ScriptFault}
 use Rattle.script_reader.specs.declared.fault.ScriptFault.TheVariants.{ScriptTooLong, NotBuilt}
@@ -189,7 +189,7 @@ pub given_runnable : (bytes : List ℕ) (r : Result Script ScriptStop) → Gives
 given_runnable bytes (Ok script) h = IsRunnable-whole (lines_of bytes) script (outcome_ok bytes script h).whole
 given_runnable bytes (Err stop) h = tt
 
-pub given_sound : (bytes : List ℕ) (r : Result Script ScriptStop) → GivesScript r (outcome bytes) → IfOk r IsSound
+pub given_sound : (bytes : List ℕ) (r : Result Script ScriptStop) → GivesScript r (outcome bytes) → IfOk r IsSoundScript
 given_sound bytes (Ok script) h = (IsRunnable-whole (lines_of bytes) script (outcome_ok bytes script h).whole).sound
 given_sound bytes (Err stop) h = tt
 

@@ -44,8 +44,8 @@ counted n from (line ∷ lines) h =
 all_kept : (n : ℕ) (lines : List Line) → AllByRecursion (IsFine n) lines → list_all (λ k. ltb 0 k && leb k 32) (forks_in lines) ≡ true → map kept_line lines ≡ lines
 all_kept n [] h e = refl
 all_kept n (line ∷ lines) h e =
-    let split = list_all-append (λ k. ltb 0 k && leb k 32) (model.forked_by line.call) (forks_in lines) in
-    let p = and_parts (list_all (λ k. ltb 0 k && leb k 32) (model.forked_by line.call)) (list_all (λ k. ltb 0 k && leb k 32) (forks_in lines)) (sym split ∙ e) in
+    let split = list_all-append (λ k. ltb 0 k && leb k 32) (model.fork_targets line.call) (forks_in lines) in
+    let p = and_parts (list_all (λ k. ltb 0 k && leb k 32) (model.fork_targets line.call)) (list_all (λ k. ltb 0 k && leb k 32) (forks_in lines)) (sym split ∙ e) in
     rw (h.0.kept p.0, all_kept n lines h.1 p.1) refl
 
 -- ---- blocks, one after another
@@ -139,7 +139,7 @@ none_first (x ∷ xs) ys e = absurd cc
 begins_none : (known : List ℕ) (lines : List Line) → forks_in lines ≡ [] → model.begun_in known lines ≡ []
 begins_none known [] e = refl
 begins_none known (line ∷ lines) e =
-    let n = none_first (model.forked_by line.call) (forks_in lines) e in
+    let n = none_first (model.fork_targets line.call) (forks_in lines) e in
     rw (n.0, begins_none (model.known_with known line.set) lines n.1) refl
 
 later_uses : (first : Block) (k : ℕ) (blocks : List Block) → AreLater first k blocks → model.uses_known_from (model.begun_in [] first.lines) k blocks ≡ true
@@ -171,7 +171,7 @@ ready names texts (first ∷ others) some is h =
     let first_fine : IsFineBlock first = (1, g.0.name, g.0.lines, all_kept 1 first.lines g.0.lines (few_forks (forks_in first.lines) (length names) (omega (arith, count, few)) g.1.within)) in
     let fine : AllByRecursion IsFineBlock blocks = (first_fine, later_fine first 2 others g.2) in
     let total : sum_by model.calls_in blocks ≡ calls_of blocks = blocks_count blocks fine in
-    let sound : model.IsSound (script_of blocks) =
+    let sound : model.IsSoundScript (script_of blocks) =
     record {
       size = and_from (leb 1 (length blocks)) (leb (length blocks) 32) (le-leb 1 (length blocks) some) (le-leb (length blocks) 32 few);
       names = each (λ (b : Block). model.is_name b.name) blocks (λ b f. f.1) fine;

@@ -14,7 +14,7 @@ use Rattle.pico_base.specs.declared.call.Call.{Call}
 use Rattle.pico_base.specs.declared.call.Call.TheVariants as calls
 use Rattle.pico_base.specs.declared.script.Line.{Line}
 use Rattle.pico_base.specs.declared.script.Block.{Block}
-use Rattle.kernel_model.specs.Script.{forked_by, is_known, begun_in}
+use Rattle.kernel_model.specs.Script.{fork_targets, is_known, begun_in}
 use Rattle.script_reader.specs.declared.state.Read.{Read}
 use Rattle.script_reader.specs.declared.state.Part.{Part}
 use Rattle.script_reader.specs.declared.state.State.{State}
@@ -45,7 +45,7 @@ kept_line line = record { set = line.set; tries = line.tries; from = line.from; 
 abbrev pub kept_block : Block → Block
 kept_block block = block_of block.name (map kept_line block.lines)
 
-tail_kept : (id : ℕ) (verb : Verb) (call : Call) (bytes : List ℕ) → IsTail id verb call bytes → (kept_call call ≡ call) × (forked_by call ≡ [])
+tail_kept : (id : ℕ) (verb : Verb) (call : Call) (bytes : List ℕ) → IsTail id verb call bytes → (kept_call call ≡ call) × (fork_targets call ≡ [])
 tail_kept id _ _ _ (send class text bytes within is) = (refl, refl)
 tail_kept id _ _ _ (receive class size noerror within small) = (refl, refl)
 tail_kept id _ _ _ queue_state = (refl, refl)
@@ -65,7 +65,7 @@ call_is_kept block _ _ _ (new_queue one) = refl
 call_is_kept block _ _ _ (new_set count one small) = refl
 call_is_kept block _ _ _ (shared from id verb c tail object is) = (tail_kept id verb c tail is).0
 
-pub forks_nothing : (block : ℕ) (from : Option ℕ) (call : Call) (bytes : List ℕ) → IsCall block from call bytes → forked_by call ≡ []
+pub forks_nothing : (block : ℕ) (from : Option ℕ) (call : Call) (bytes : List ℕ) → IsCall block from call bytes → fork_targets call ≡ []
 forks_nothing block _ _ _ own = refl
 forks_nothing block _ _ _ (new_queue one) = refl
 forks_nothing block _ _ _ (new_set count one small) = refl
@@ -215,11 +215,11 @@ knows_push : (flags : List Bool) (known : List ℕ) (lines : List Line) (line : 
 knows_push flags known lines line small h =
     subst (Knows (set_after flags line.set)) (sym (known_after-push known lines line)) (Knows-more flags (known_after known lines) line.set (variable_small line.set small) h)
 
-tables_push : (names : List (List ℕ)) (forked : List Bool) (begun : List Rattle.script_reader.specs.declared.state.Begun.Begun) (blocks : List Block) (lines : List Line) (line : Line) → forked_by line.call ≡ [] → Tables names forked begun (first_of blocks lines) → Tables names forked begun (first_of blocks (lines ++ line ∷ []))
+tables_push : (names : List (List ℕ)) (forked : List Bool) (begun : List Rattle.script_reader.specs.declared.state.Begun.Begun) (blocks : List Block) (lines : List Line) (line : Line) → fork_targets line.call ≡ [] → Tables names forked begun (first_of blocks lines) → Tables names forked begun (first_of blocks (lines ++ line ∷ []))
 tables_push names forked begun [] lines line none h = Tables-same names forked begun lines line none h
 tables_push names forked begun (block ∷ blocks) lines line none h = h
 
-went_on : (names : List (List ℕ)) (read : Read) (p : Part) (blocks : List Block) (part : Option Block) (line : Line) (h : StandsIn names read p blocks part) → kept_line line ≡ line → forked_by line.call ≡ [] → IsVariable line.set → StandsIn names (one_call_more read) (with_line p line) blocks (Some (block_of p.name (h.lines ++ line ∷ [])))
+went_on : (names : List (List ℕ)) (read : Read) (p : Part) (blocks : List Block) (part : Option Block) (line : Line) (h : StandsIn names read p blocks part) → kept_line line ≡ line → fork_targets line.call ≡ [] → IsVariable line.set → StandsIn names (one_call_more read) (with_line p line) blocks (Some (block_of p.name (h.lines ++ line ∷ [])))
 went_on names read p blocks part line h kept none small =
     record {
       lines = h.lines ++ line ∷ [];

@@ -7,7 +7,7 @@ use Rattle.pico_base.specs.declared.call.Call.TheVariants.{Fork, GetPid, MsgGet,
 use Rattle.pico_base.specs.declared.call.SemStep.{SemStep}
 use Rattle.pico_base.specs.declared.script.Line.{Line}
 use Rattle.pico_base.specs.declared.script.Block.{Block}
-use Rattle.kernel_model.specs.Script.{forked_by, known_with, is_known, begun_in, known_at}
+use Rattle.kernel_model.specs.Script.{fork_targets, known_with, is_known, begun_in, known_at}
 use Rattle.kernel_model.specs.Waiting.{may_wait}
 use Rattle.script_reader.specs.declared.verb.Verb.{Verb}
 use Rattle.script_reader.specs.declared.verb.Verb.TheVariants.{Send, Receive, QueueControl, Operate, SetControl}
@@ -147,7 +147,7 @@ fork_line set block = record { set = set; tries = 1; from = None; call = Fork bl
 
 -- the blocks that lines fork
 abbrev pub forks_in : List Line → List ℕ
-forks_in lines = flat_map (λ line. forked_by line.call) lines
+forks_in lines = flat_map (λ line. fork_targets line.call) lines
 
 -- the variables that are known behind lines, where these were before them
 abbrev pub known_after : List ℕ → List Line → List ℕ

@@ -1,7 +1,7 @@
 //! The call that a line makes.
 
 ghost use Rattle.std.specs.Prelude.{◌≡◌, IfOk};
-ghost use Rattle.kernel_model.specs.Script.{value_of, naming as named, call_of};
+ghost use Rattle.kernel_model.specs.Script.{value_of, with_target as named, call_of};
 
 use pico_base::{Call, Id, Line, Memory, Pid, Var, Vars};
 use std::alloc::Global;

@@ -3,7 +3,7 @@
 ghost use Rattle.std.specs.Prelude.{◌≡◌, ◌⊎◌, ◌+◌, ◌<◌, ◌≤◌, ◌==◌, ℕ, IfOk, IfErr, IfSome, MatchOption, [], ◌∷◌, length, take, position, count_by, Ok, Err};
 ghost use Rattle.pico_base.specs.declared.script.Script.{Script as ScriptValue};
 ghost use Rattle.script_reader.specs.declared.fault.ScriptFault.{ScriptFault as FaultValue};
-ghost use Rattle.kernel_model.specs.Script.{IsSound};
+ghost use Rattle.kernel_model.specs.Script.{IsSoundScript};
 ghost use Rattle.machine_model.specs.Built.{IsRunnable};
 ghost use Rattle.script_reader.specs.Fault.{lines_of, names_of, Reads, IsFirstFault, HasFault};
 ghost use Rattle.script_reader.specs.Reading.{start, ending as ending_of, blocks_from, blocks_of, script_from, outcome, Gives, GivesScript};
@@ -158,7 +158,7 @@ fn read(alloc: Global, bytes: &[u8]) -> Result<Script, ScriptStop>
 pub fn read_script(alloc: Global, bytes: &[u8]) -> Result<Script, ScriptStop>
     // What is read is spelled so.
     ensures ok { IfOk result (Reads bytes.now) }
-    ensures sound { IfOk result IsSound }
+    ensures sound { IfOk result IsSoundScript }
     ensures runnable { IfOk result IsRunnable }
     // A fault is the first one.
     ensures fault { IfErr result (HasFault bytes.now) }

@@ -5,12 +5,12 @@ use Rattle.pico_base.specs.declared.signal.Act.{Act}
 use Rattle.pico_base.specs.declared.signal.PerSignal.{PerSignal}
 use Rattle.pico_base.specs.declared.signal.Sig.{Sig}
 use Rattle.pico_base.specs.declared.signal.Sig.TheVariants.{Hup, Int, Quit, Kill, Usr1, Usr2, Pipe, Alrm, Term, Chld}
-use Rattle.pico_base.specs.Signal.{at, put}
+use Rattle.pico_base.specs.Signal.{at, put_at}
 use Rattle.kernel_model.specs.Signals.{Signals, discards, is_kill, with_action}
 use Rattle.signal_state.specs.Held.{IsHeld}
 
 -- what holds of two maps at each signal holds where both have a new value at one, if it holds of the two
-put-both : {A B : Type 0} (Q : Sig → A → B → Type 0) (m : PerSignal A) (n : PerSignal B) (g : Sig) (x : A) (y : B) → Q g x y → ((h : Sig) → Q h (at m h) (at n h)) → (h : Sig) → Q h (at (put m g x) h) (at (put n g y) h)
+put-both : {A B : Type 0} (Q : Sig → A → B → Type 0) (m : PerSignal A) (n : PerSignal B) (g : Sig) (x : A) (y : B) → Q g x y → ((h : Sig) → Q h (at m h) (at n h)) → (h : Sig) → Q h (at (put_at m g x) h) (at (put_at n g y) h)
 put-both Q m n Hup x y here there Hup = here
 put-both Q m n Hup x y here there h = there h
 put-both Q m n Int x y here there Int = here
@@ -33,7 +33,7 @@ put-both Q m n Chld x y here there Chld = here
 put-both Q m n Chld x y here there h = there h
 
 -- KILL keeps its value where another signal has a new one
-put-kill : {A : Type 0} (m : PerSignal A) (g : Sig) (x : A) → is_kill g ≡ false → (put m g x).kill ≡ m.kill
+put-kill : {A : Type 0} (m : PerSignal A) (g : Sig) (x : A) → is_kill g ≡ false → (put_at m g x).kill ≡ m.kill
 put-kill m Kill x other = absurd (false≢true (sym other))
 put-kill m g x other = refl
 

@@ -10,8 +10,8 @@ use Rattle.pico_base.specs.declared.signal.Act.TheVariants.{Dfl, Ign, Catch}
 use Rattle.pico_base.specs.declared.signal.PerSignal.{PerSignal}
 use Rattle.pico_base.specs.declared.signal.Sig.{Sig}
 use Rattle.pico_base.specs.declared.signal.Sig.TheVariants.{Hup, Int, Quit, Kill, Usr1, Usr2, Pipe, Alrm, Term, Chld}
-use Rattle.pico_base.specs.Signal.{at, everywhere, put}
-use Rattle.kernel_model.specs.Signals.{Signals, all_signals, discards}
+use Rattle.pico_base.specs.Signal.{at, everywhere, put_at, all_signals}
+use Rattle.kernel_model.specs.Signals.{Signals, discards}
 use Rattle.signal_state.specs.Held.{AreHeld, IsHeld}
 use Rattle.signal_state.specs.Reading.{act_from, actions_from, counts_from, doom_from, set_at, set_from}
 use Rattle.signal_state.specs.Spelling.{HasBytes, act_byte, doom_byte, number_of_bits, set_number, signal_bytes}
@@ -48,11 +48,11 @@ bits_small (true ∷ bits) = rw pow-suc (omega (arith, bits_small bits))
 bits_small (false ∷ bits) = rw pow-suc (omega (arith, bits_small bits))
 
 -- the bits of a set are its signals
-set-again : (m acc : PerSignal Bool) (gs : List Sig) → set_from (number_of_bits (map (at m) gs)) gs acc ≡ fold (λ s g. put s g (at m g)) acc gs
+set-again : (m acc : PerSignal Bool) (gs : List Sig) → set_from (number_of_bits (map (at m) gs)) gs acc ≡ fold (λ s g. put_at s g (at m g)) acc gs
 set-again m acc [] = refl
 set-again m acc (g ∷ gs) =
     rw (low_bit (at m g) (number_of_bits (map (at m) gs)), high_bits (at m g) (number_of_bits (map (at m) gs)))
-    (set-again m (put acc g (at m g)) gs)
+    (set-again m (put_at acc g (at m g)) gs)
 
 set_small : (m : PerSignal Bool) → set_number m < 2 ^ 16
 set_small m = omega (arith, bits_small (map (at m) all_signals))

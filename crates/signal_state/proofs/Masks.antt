@@ -2,7 +2,8 @@
 use Rattle.std.proofs.Common.{◌≡◌, ℕ, ◌+◌, ◌<◌, Bool, List, length, get_or, drop, drop-cons, add-one, fold, refl, sym, ap, ◌∙◌}
 use Rattle.pico_base.specs.declared.signal.How.{How}
 use Rattle.pico_base.specs.declared.signal.PerSignal.{PerSignal}
-use Rattle.kernel_model.specs.Signals.{Signals, all_signals, deliver, new_mask, with_mask}
+use Rattle.kernel_model.specs.Signals.{Signals, deliver, new_mask, with_mask}
+use Rattle.pico_base.specs.Signal.{all_signals}
 
 pub mask-then-deliver : (s after : Signals) (how : How) (set mask : PerSignal Bool) → mask ≡ new_mask how s.mask set → after ≡ fold deliver (record s { mask = mask }) all_signals → after ≡ with_mask s how set
 mask-then-deliver s after how set mask e h = h ∙ ap (λ (m : PerSignal Bool). fold deliver (record s { mask = m }) all_signals) e

@@ -5,11 +5,11 @@ use Rattle.pico_base.specs.declared.signal.Act.TheVariants.{Dfl}
 use Rattle.pico_base.specs.declared.signal.PerSignal.{PerSignal}
 use Rattle.pico_base.specs.declared.signal.Sig.{Sig}
 use Rattle.pico_base.specs.Signal.{at}
-use Rattle.kernel_model.specs.Signals.{IsSound, Signals as State, discards}
+use Rattle.kernel_model.specs.Signals.{AreSoundSignals, Signals as State, discards}
 
 -- the kernel's laws, and KILL is never pending, since it ends the process at once
 pub record IsHeld (s : State) : Type 0 where
-  pub sound : IsSound s
+  pub sound : AreSoundSignals s
   pub no_kill : s.pending.kill ≡ false
 
 -- the signal isn't pending, or its action doesn't discard it

@@ -5,20 +5,19 @@ use Rattle.pico_base.specs.declared.signal.Act.{Act}
 use Rattle.pico_base.specs.declared.signal.Act.TheVariants.{Dfl, Ign, Catch}
 use Rattle.pico_base.specs.declared.signal.PerSignal.{PerSignal}
 use Rattle.pico_base.specs.declared.signal.Sig.{Sig}
-use Rattle.pico_base.specs.Signal.{everywhere, put}
-use Rattle.kernel_model.specs.Signals.{all_signals, number_of}
+use Rattle.pico_base.specs.Signal.{everywhere, put_at, all_signals, signal_number}
 
 abbrev pub act_from : ℕ → Act
 act_from byte = if byte == 1 then Ign else if byte == 2 then Catch else Dfl
 
 -- the signal with that number
 abbrev pub doom_from : ℕ → Option Sig
-doom_from byte = find (λ g. number_of g == byte) all_signals
+doom_from byte = find (λ g. signal_number g == byte) all_signals
 
 -- these signals take the low bits of the number, in order
 abbrev pub set_from : ℕ → List Sig → PerSignal Bool → PerSignal Bool
 set_from number [] m = m
-set_from number (g ∷ gs) m = set_from (number / 2) gs (put m g (number % 2 == 1))
+set_from number (g ∷ gs) m = set_from (number / 2) gs (put_at m g (number % 2 == 1))
 
 abbrev pub set_at : List ℕ → ℕ → PerSignal Bool
 set_at bytes place = set_from (from_be_bytes w16 (slice_index bytes place ∷ slice_index bytes (place + 1) ∷ [])) all_signals (everywhere false)

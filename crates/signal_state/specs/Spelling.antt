@@ -7,8 +7,8 @@ use Rattle.pico_base.specs.declared.signal.Act.TheVariants.{Dfl, Ign, Catch}
 use Rattle.pico_base.specs.declared.signal.PerSignal.{PerSignal}
 use Rattle.pico_base.specs.declared.signal.Sig.{Sig}
 use Rattle.pico_base.specs.declared.signal.Sig.TheVariants.{Hup, Chld}
-use Rattle.pico_base.specs.Signal.{at, everywhere, put}
-use Rattle.kernel_model.specs.Signals.{Signals, all_signals, number_of}
+use Rattle.pico_base.specs.Signal.{at, everywhere, put_at, all_signals, signal_number}
+use Rattle.kernel_model.specs.Signals.{Signals}
 use Rattle.signal_state.specs.Held.{IsHeld}
 
 abbrev pub act_byte : Act → ℕ
@@ -19,7 +19,7 @@ act_byte Catch = 2
 -- a signal's number, or 0
 abbrev pub doom_byte : Option Sig → ℕ
 doom_byte None = 0
-doom_byte (Some g) = number_of g
+doom_byte (Some g) = signal_number g
 
 -- the number whose bits these are, the lowest first
 abbrev pub number_of_bits : List Bool → ℕ
@@ -46,8 +46,8 @@ pub record HasBytes (s : Signals) : Type 0 where
   pub counts : (g : Sig) → at s.handled g < 2 ^ 32
 
 -- HUP and CHLD are the lowest and the highest of ten bits
-lowest : set_number (put (everywhere false) Hup true) ≡ 1
+lowest : set_number (put_at (everywhere false) Hup true) ≡ 1
 lowest = refl
 
-highest : set_number (put (everywhere false) Chld true) ≡ 512
+highest : set_number (put_at (everywhere false) Chld true) ≡ 512
 highest = refl

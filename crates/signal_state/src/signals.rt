@@ -1,8 +1,8 @@
 ghost use Rattle.std.specs.List.{list_all};
 ghost use Rattle.std.specs.Prelude.{◌≡◌, ◌↔◌, Some, Ok, Err, IfSome, IfErr, IsTrue, OnOk, fold, not, ◌&&◌, ◌||◌};
 ghost use Rattle.kernel_model.specs.Row.{is_ign};
-ghost use Rattle.kernel_model.specs.Signals.{Signals as State, act_on, arrive, deliver, discards, inherited, is_kill, new_mask, new_signals, raise, with_mask};
-ghost use Rattle.pico_base.specs.Signal.{at, put};
+ghost use Rattle.kernel_model.specs.Signals.{Signals as State, act_on, arrive, deliver, discards, inherit, is_kill, new_mask, new_signals, raise, with_mask};
+ghost use Rattle.pico_base.specs.Signal.{at, put_at};
 ghost use Rattle.signal_state.specs.Held.{AreHeld, is_kept};
 ghost use Rattle.signal_state.specs.Spelling.{HasBytes, signal_bytes};
 
@@ -51,7 +51,7 @@ impl Signals {
     /// The state of a forked child (`fork`): its parent's actions and mask, with nothing pending. That no
     /// signal counts as caught is the profile's own.
     pub fn inherit(&self) -> Signals
-        ensures { result ≡ inherited self.now }
+        ensures { result ≡ inherit self.now }
     {
         let mut child = Signals::new();
         child.actions = self.actions;
@@ -277,7 +277,7 @@ fn changed(old: SigSet, how: How, set: SigSet) -> SigSet
 
 /// The set with this signal in it or not.
 fn with(set: SigSet, sig: Sig, there: bool) -> SigSet
-    ensures { result ≡ put set sig there }
+    ensures { result ≡ put_at set sig there }
 {
     if there {
         set.with(sig)
@@ -288,7 +288,7 @@ fn with(set: SigSet, sig: Sig, there: bool) -> SigSet
 
 /// The signals of either set, of these signals, and of the first set alone elsewhere.
 fn union(a: SigSet, b: SigSet, sigs: &[Sig]) -> SigSet
-    ensures { result ≡ fold (λ s g. put s g (at a g || at b g)) a sigs.now }
+    ensures { result ≡ fold (λ s g. put_at s g (at a g || at b g)) a sigs.now }
 {
     let mut set = a;
     for sig in sigs {
@@ -299,7 +299,7 @@ fn union(a: SigSet, b: SigSet, sigs: &[Sig]) -> SigSet
 
 /// The first set without these signals, where they are in the second.
 fn difference(a: SigSet, b: SigSet, sigs: &[Sig]) -> SigSet
-    ensures { result ≡ fold (λ s g. put s g (at a g && not (at b g))) a sigs.now }
+    ensures { result ≡ fold (λ s g. put_at s g (at a g && not (at b g))) a sigs.now }
 {
     let mut set = a;
     for sig in sigs {

@@ -6,7 +6,7 @@ use Rattle.std.proofs.lemmas.Option.{slice_get-get_or}
 use Rattle.pico_base.specs.declared.call.SemStep.{SemStep}
 use Rattle.pico_base.specs.declared.reply.Errno.{Errno}
 use Rattle.pico_base.specs.declared.reply.Errno.TheVariants.{Eagain, Erange}
-use Rattle.kernel_model.specs.SemaphoreSet.{Moved, To, Waits, TooHigh, moved_by, go_on, try_from, Tried}
+use Rattle.kernel_model.specs.SemaphoreSet.{Moved, To, Waits, TooHigh, move_by, go_on, try_from, Tried}
 use Rattle.sysv_sem.specs.Answers.{answer_of, trial_of}
 
 abbrev to : ℕ → Result ℕ Errno
@@ -35,16 +35,16 @@ read_at : (values : List ℕ) (num : ℕ) → num < length values → slice_get 
 read_at values num inside = slice_get-get_or values num 0 inside
 
 pub tried_more : (values : List ℕ) (steps : List SemStep) (i : ℕ) (d : SemStep) (next : ℕ) → i < length steps → (get_or steps i d).num < length values
-    → Ok next ≡ answer_of (moved_by (get_or steps i d).add (get_or values (get_or steps i d).num 0)) → try_from (i + 1) (set values (get_or steps i d).num next) (drop (i + 1) steps) ≡ try_from i values (drop i steps)
+    → Ok next ≡ answer_of (move_by (get_or steps i d).add (get_or values (get_or steps i d).num 0)) → try_from (i + 1) (set values (get_or steps i d).num next) (drop (i + 1) steps) ≡ try_from i values (drop i steps)
 tried_more values steps i d next within inside moved =
     let step = get_or steps i d in
     let split : drop i steps ≡ step ∷ drop (i + 1) steps = drop_more steps i d within in
-    let to = moves_to (moved_by step.add (get_or values step.num 0)) next (sym moved) in
+    let to = moves_to (move_by step.add (get_or values step.num 0)) next (sym moved) in
     rw (split, read_at values step.num inside, to) refl
 
 pub tried_stops : (values : List ℕ) (steps : List SemStep) (i : ℕ) (d : SemStep) (e : Errno) → i < length steps → (get_or steps i d).num < length values
-    → Err e ≡ answer_of (moved_by (get_or steps i d).add (get_or values (get_or steps i d).num 0)) → trial_of (try_from i values (drop i steps)) ≡ Err e
+    → Err e ≡ answer_of (move_by (get_or steps i d).add (get_or values (get_or steps i d).num 0)) → trial_of (try_from i values (drop i steps)) ≡ Err e
 tried_stops values steps i d e within inside moved =
     let step = get_or steps i d in
     let split : drop i steps ≡ step ∷ drop (i + 1) steps = drop_more steps i d within in
-    rw (split, read_at values step.num inside) (stops i values step.num (moved_by step.add (get_or values step.num 0)) (λ next. try_from (i + 1) next (drop (i + 1) steps)) e (sym moved))
+    rw (split, read_at values step.num inside) (stops i values step.num (move_by step.add (get_or values step.num 0)) (λ next. try_from (i + 1) next (drop (i + 1) steps)) e (sym moved))

@@ -7,7 +7,7 @@ use Rattle.std.proofs.lemmas.List.{length-set, length-map, take_at}
 use Rattle.pico_base.specs.declared.call.SemStep.{SemStep}
 use Rattle.pico_base.specs.declared.reply.Errno.{Errno}
 use Rattle.pico_base.specs.declared.reply.Errno.TheVariants.{Einval, E2big, Efbig, Erange}
-use Rattle.kernel_model.specs.SemaphoreSet.{Semaphore, Moved, To, Waits, TooHigh, Tried, Done, StopsAt, OutOfRange, max_value, values_of, moved_by, moved_at, go_on, try_from, try_ops, with_values, with_last, marked_at, marked, tried_op, op, set_all}
+use Rattle.kernel_model.specs.SemaphoreSet.{Semaphore, Moved, To, Waits, TooHigh, Tried, Done, StopsAt, OutOfRange, max_value, values_of, move_by, move_at, go_on, try_from, try_ops, with_values, with_last, mark_at, mark, op_after_trial, op, set_all}
 use Rattle.sysv_sem.specs.Limits.{IsWithinLimits}
 
 -- ---- an element of a list
@@ -52,12 +52,12 @@ either : (b : Bool) (m n : Moved) → Chosen b m n → (b ≡ true → MovesWith
 either b m n (Left e is) then_fine else_fine = subst MovesWithin (sym is) (then_fine e)
 either b m n (Right is) then_fine else_fine = subst MovesWithin (sym is) else_fine
 
-moved_within : (add : ℤ) (value : ℕ) → IsValue value → MovesWithin (moved_by add value)
+moved_within : (add : ℤ) (value : ℕ) → IsValue value → MovesWithin (move_by add value)
 moved_within (pos zero) value h = either (eqb value 0) (To 0) Waits (chosen _ _ _) (λ e. omega arith) tt
 moved_within (pos (suc n)) value h = either (leb (value + suc n) max_value) (To (value + suc n)) TooHigh (chosen _ _ _) (λ e. leb-true _ _ e) tt
 moved_within (negsuc n) value h = either (leb (suc n) value) (To (value - suc n)) Waits (chosen _ _ _) (λ e. omega arith) tt
 
-at_within : (add : ℤ) (o : Option ℕ) → IfSome o IsValue → MovesWithin (moved_at add o)
+at_within : (add : ℤ) (o : Option ℕ) → IfSome o IsValue → MovesWithin (move_at add o)
 at_within add None h = tt
 at_within add (Some value) h = moved_within add value h
 
@@ -82,7 +82,7 @@ went_on count i values num TooHigh rest out row m further e = absurd cc
 tried_within : (count i : ℕ) (values : List ℕ) (steps : List SemStep) (out : List ℕ) → IsRowFor count values → try_from i values steps ≡ Done out → IsRowFor count out
 tried_within count i values [] out row e = subst (λ (x : List ℕ). IsRowFor count x) (same_done values out e) row
 tried_within count i values (step ∷ steps) out row e =
-    went_on count i values step.num (moved_at step.add (slice_get values step.num)) (λ next. try_from (i + 1) next steps) out row
+    went_on count i values step.num (move_at step.add (slice_get values step.num)) (λ next. try_from (i + 1) next steps) out row
     (at_within step.add (slice_get values step.num) (each_get IsValue values step.num row.each))
     (λ next fine. tried_within count (i + 1) next steps out fine) e
 
@@ -96,15 +96,15 @@ with_values_within (s ∷ row) (value ∷ values) h =
     let rest = with_values_within row values (record { count = omega arith; each = h.each.1 }) in
     ((h.each.0, rest.0), ap suc rest.1)
 
-marked_one : (pid num : ℕ) (row : List Semaphore) (o : Option Semaphore) → IfSome o IsFine → AllByRecursion IsFine row → AllByRecursion IsFine (marked_at row pid num o) × (length (marked_at row pid num o) ≡ length row)
+marked_one : (pid num : ℕ) (row : List Semaphore) (o : Option Semaphore) → IfSome o IsFine → AllByRecursion IsFine row → AllByRecursion IsFine (mark_at row pid num o) × (length (mark_at row pid num o) ≡ length row)
 marked_one pid num row None p h = (h, refl)
 marked_one pid num row (Some s) p h = (each_set IsFine row num (with_last s pid) h p, length-set row num (with_last s pid))
 
-marked_within : (pid : ℕ) (row : List Semaphore) (steps : List SemStep) → AllByRecursion IsFine row → AllByRecursion IsFine (fold (marked pid) row steps) × (length (fold (marked pid) row steps) ≡ length row)
+marked_within : (pid : ℕ) (row : List Semaphore) (steps : List SemStep) → AllByRecursion IsFine row → AllByRecursion IsFine (fold (mark pid) row steps) × (length (fold (mark pid) row steps) ≡ length row)
 marked_within pid row [] h = (h, refl)
 marked_within pid row (step ∷ steps) h =
     let one = marked_one pid step.num row (slice_get row step.num) (each_get IsFine row step.num h) h in
-    let rest = marked_within pid (marked pid row step) steps one.0 in
+    let rest = marked_within pid (mark pid row step) steps one.0 in
     (rest.0, rest.1 ∙ one.1)
 
 abbrev made : List Semaphore → Result (List Semaphore) Errno
@@ -121,17 +121,17 @@ passed false x r y e = e
 same_size : (old new : List Semaphore) → length new ≡ length old → AllByRecursion IsFine new → IsWithinLimits old → IsWithinLimits new
 same_size old new len each h = record { some = let a = h.some in omega arith; count = let a = h.count in omega arith; each = each }
 
-tried_op_within : (old new : List Semaphore) (pid : ℕ) (steps : List SemStep) (t : Tried) → ((values : List ℕ) → t ≡ Done values → IsRowFor (length old) values) → tried_op old pid steps t ≡ Ok new → IsWithinLimits old → IsWithinLimits new
+tried_op_within : (old new : List Semaphore) (pid : ℕ) (steps : List SemStep) (t : Tried) → ((values : List ℕ) → t ≡ Done values → IsRowFor (length old) values) → op_after_trial old pid steps t ≡ Ok new → IsWithinLimits old → IsWithinLimits new
 tried_op_within old new pid steps (Done values) fine e h =
     let a = with_values_within old values (fine values refl) in
     let b = marked_within pid (with_values old values) steps a.0 in
-    subst IsWithinLimits (same_made (fold (marked pid) (with_values old values) steps) new e) (same_size old (fold (marked pid) (with_values old values) steps) (b.1 ∙ a.1) b.0 h)
+    subst IsWithinLimits (same_made (fold (mark pid) (with_values old values) steps) new e) (same_size old (fold (mark pid) (with_values old values) steps) (b.1 ∙ a.1) b.0 h)
 tried_op_within old new pid steps (StopsAt index) fine e h = absurd cc
 tried_op_within old new pid steps OutOfRange fine e h = absurd cc
 
 op_within : (old new : List Semaphore) (pid : ℕ) (steps : List SemStep) → op old pid steps ≡ Ok new → IsWithinLimits old → IsWithinLimits new
 op_within old new pid steps e h =
-    let tried : tried_op old pid steps (try_ops (values_of old) steps) ≡ Ok new = passed _ Efbig _ new (passed _ E2big _ new e) in
+    let tried : op_after_trial old pid steps (try_ops (values_of old) steps) ≡ Ok new = passed _ Efbig _ new (passed _ E2big _ new e) in
     tried_op_within old new pid steps (try_ops (values_of old) steps) (λ values. tried_within (length old) 0 (values_of old) steps values (record { count = length-map old (λ (s : Semaphore). s.value); each = values_fine old h.each })) tried h
 
 neither : (a b : Bool) → (a || b) ≡ false → (a ≡ false) × (b ≡ false)

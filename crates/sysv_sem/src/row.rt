@@ -45,7 +45,7 @@ fn write_values(set: &mut [Semaphore], values: &[u32])
 /// Makes the process the last one of each semaphore that an operation names.
 fn mark(set: &mut [Semaphore], pid: Pid, steps: &[SemStep])
     requires { All (λ step. step.num < length set.old) steps.now }
-    ensures { set.new ≡ fold (definition.marked pid) set.old steps.now }
+    ensures { set.new ≡ fold (definition.mark pid) set.old steps.now }
 {
     for step in steps {
         let semaphore = &mut set[step.num as usize];

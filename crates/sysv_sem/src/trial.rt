@@ -9,7 +9,7 @@ use pico_base::{Errno, SemStep};
 /// The value that one operation makes of a value. EAGAIN: it would have to wait. ERANGE: the value would be above
 /// 32,767.
 fn moved(add: i32, value: u32) -> Result<u32, Errno>
-    ensures { result ≡ answer_of (definition.moved_by add value) }
+    ensures { result ≡ answer_of (definition.move_by add value) }
 {
     if add < 0 {
         value.checked_sub(add.unsigned_abs()).ok_or(Errno::Eagain)

@@ -13,8 +13,7 @@ use Rattle.pico_base.specs.declared.signal.How.TheVariants.{Block, Unblock, SetM
 use Rattle.pico_base.specs.declared.signal.PerSignal.{PerSignal}
 use Rattle.pico_base.specs.declared.reply.Errno.{Errno}
 use Rattle.pico_base.specs.declared.reply.Errno.TheVariants.{Esrch, Einval, Echild, Enoent, Eexist, Enomsg, Eagain, E2big, Efbig, Erange, Eidrm, Eintr}
-use Rattle.pico_base.specs.Signal.{at, put, everywhere}
-use Rattle.kernel_model.specs.Signals.{all_signals}
+use Rattle.pico_base.specs.Signal.{at, put_at, everywhere, all_signals}
 use Rattle.kernel_model.specs.Trace.{signal_name, signal_argument, action_name, how_name, error_name, signals_text, set_text}
 use Rattle.text_fields.specs.Fields.{strip, named_at, signal_at, argument_at, action_at, how_at, error_at, all_at, behind_comma, joined_at, with_signals, set_from, set_at}
 use Rattle.text_fields.proofs.Many.{many-again, parts-room}
@@ -123,7 +122,7 @@ not_none Chld rest = refl
 -- ---- a set from its signals, one after another
 
 abbrev added : PerSignal Bool → Sig → PerSignal Bool
-added set g = put set g true
+added set g = put_at set g true
 
 abbrev set_with : PerSignal Bool → List Sig → PerSignal Bool
 set_with set gs = fold added set gs

@@ -6,7 +6,8 @@ use Rattle.std.specs.List.{AllByRecursion, flat_map, list_all}
 use Rattle.std.proofs.lemmas.Bool.{and_parts, and_from, leb-true, le-leb, lt-ltb, le-ltb, eqb-true, ne_eqb, cases_lt}
 use Rattle.std.proofs.lemmas.List.{length-append}
 use Rattle.pico_base.specs.declared.call.SemStep.{SemStep}
-use Rattle.kernel_model.specs.Trace.{hex_digit, is_plain, escaped, quoted, is_repeated, repeated, message_text, is_letter_or_digit, step_text, commas, values_text}
+use Rattle.kernel_model.specs.Trace.{step_text, commas, values_text}
+use Rattle.kernel_model.specs.Texts.{hex_digit, is_plain, escape, quoted_text, is_repeated, repeated_text, message_text, is_letter_or_digit}
 use Rattle.text_fields.specs.Fields.{strip, is_digit, is_text_byte, digit_at, number_at, signed_at, hex_at, escape_at, text_byte_at, closed_of, quoted_at, repeated_at, repetition_at, text_at, flag_at, step_at, all_at, many, in_front, behind_comma, joined_at, values_at}
 use Rattle.text_fields.proofs.Chains.{between_true, between_from}
 use Rattle.text_fields.proofs.Strips.{strip_again}
@@ -47,10 +48,10 @@ plain_again : (b : ℕ) (rest : List ℕ) → is_plain b ≡ true → text_byte_
 unfolding text_byte_at
 plain_again b rest plain = grind arith
 
-byte_again : (b : ℕ) (rest : List ℕ) → b ≤ 255 → text_byte_at (escaped b ++ rest) ≡ Some (b, rest)
+byte_again : (b : ℕ) (rest : List ℕ) → b ≤ 255 → text_byte_at (escape b ++ rest) ≡ Some (b, rest)
 byte_again b rest small = of (is_plain b) refl
   where
-    of : (c : Bool) → is_plain b ≡ c → text_byte_at (escaped b ++ rest) ≡ Some (b, rest)
+    of : (c : Bool) → is_plain b ≡ c → text_byte_at (escape b ++ rest) ≡ Some (b, rest)
     of true e = rw e (plain_again b rest e)
     of false e = rw e (escape_again b rest small)
 
@@ -64,20 +65,20 @@ IsByte b = b ≤ 255
 abbrev Anything : List ℕ → Type 0
 Anything rest = Unit {0}
 
-escaped_some : (b : ℕ) → 1 ≤ length (escaped b)
+escaped_some : (b : ℕ) → 1 ≤ length (escape b)
 escaped_some b = of (is_plain b) refl
   where
-    of : (c : Bool) → is_plain b ≡ c → 1 ≤ length (escaped b)
+    of : (c : Bool) → is_plain b ≡ c → 1 ≤ length (escape b)
     of true e = rw e (omega arith)
     of false e = rw e (omega arith)
 
-pub quoted_again : (text rest : List ℕ) → AllByRecursion IsByte text → quoted_at (flat_map escaped text ++ 34 ∷ rest) ≡ Some (text, rest)
+pub quoted_again : (text rest : List ℕ) → AllByRecursion IsByte text → quoted_at (flat_map escape text ++ 34 ∷ rest) ≡ Some (text, rest)
 unfolding quoted_at
 quoted_again text rest h =
-    let bytes : List ℕ = flat_map escaped text ++ 34 ∷ rest in
-    let room : length text ≤ length bytes = parts-room text_byte_at escaped IsByte Anything text (34 ∷ rest) (λ b _. escaped_some b) h in
+    let bytes : List ℕ = flat_map escape text ++ 34 ∷ rest in
+    let room : length text ≤ length bytes = parts-room text_byte_at escape IsByte Anything text (34 ∷ rest) (λ b _. escaped_some b) h in
     let all : all_at text_byte_at bytes ≡ (text, 34 ∷ rest) =
-    many-again text_byte_at escaped IsByte Anything (length bytes) text (34 ∷ rest) (λ b more small _. byte_again b more small) (λ _. tt) (quote_ends rest) h room in
+    many-again text_byte_at escape IsByte Anything (length bytes) text (34 ∷ rest) (λ b more small _. byte_again b more small) (λ _. tt) (quote_ends rest) h room in
     rw (all, strip_again (codes "\"") rest) refl
 
 -- ---- texts
@@ -98,13 +99,13 @@ repetition_again count b rest small =
     rw (front_number_again 8192 count (58 ∷ b ∷ rest) small (omega arith) (colon_no_digit (b ∷ rest)), strip_again (codes ":") (b ∷ rest)) refl
 
 -- the byte that a text repeats, and the rest of it
-repeats : (b : ℕ) (bs rest : List ℕ) → is_repeated (b ∷ bs) ≡ true → length (b ∷ bs) ≤ 8192 → text_at (repeated (b ∷ bs) ++ rest) ≡ Some (b ∷ bs, rest)
+repeats : (b : ℕ) (bs rest : List ℕ) → is_repeated (b ∷ bs) ≡ true → length (b ∷ bs) ≤ 8192 → text_at (repeated_text (b ∷ bs) ++ rest) ≡ Some (b ∷ bs, rest)
 unfolding text_at
 repeats b bs rest h small =
     let p = and_parts (is_letter_or_digit b) (leb 16 (length bs) && list_all (eqb b) bs) h in
     let q = and_parts (leb 16 (length bs)) (list_all (eqb b) bs) p.1 in
     let same : bs ≡ replicate (length bs) b = same_bytes b bs q.1 in
-    let front : repeated (b ∷ bs) ++ rest ≡ codes "rep:" ++ (decimal (length (b ∷ bs)) ++ 58 ∷ b ∷ rest) =
+    let front : repeated_text (b ∷ bs) ++ rest ≡ codes "rep:" ++ (decimal (length (b ∷ bs)) ++ 58 ∷ b ∷ rest) =
     ap (λ (xs : List ℕ). codes "rep:" ++ xs) (append_assoc (decimal (length (b ∷ bs))) (58 ∷ b ∷ []) rest) in
     let count : length (b ∷ bs) ≡ suc (length bs) = omega arith in
     let all : replicate (length (b ∷ bs)) b ≡ b ∷ bs = ap (λ (n : ℕ). replicate n b) count ∙ ap (λ (xs : List ℕ). b ∷ xs) (sym same) in
@@ -114,12 +115,12 @@ no_repetition : (rest : List ℕ) → strip (codes "rep:") (34 ∷ rest) ≡ Non
 unfolding strip
 no_repetition rest = refl
 
-quotes : (text rest : List ℕ) → AllByRecursion IsByte text → text_at (quoted text ++ rest) ≡ Some (text, rest)
+quotes : (text rest : List ℕ) → AllByRecursion IsByte text → text_at (quoted_text text ++ rest) ≡ Some (text, rest)
 unfolding text_at
 quotes text rest h =
-    let front : quoted text ++ rest ≡ 34 ∷ (flat_map escaped text ++ 34 ∷ rest) =
-    ap (λ (xs : List ℕ). 34 ∷ xs) (append_assoc (flat_map escaped text) (34 ∷ []) rest) in
-    rw (front, no_repetition (flat_map escaped text ++ 34 ∷ rest), strip_again (codes "\"") (flat_map escaped text ++ 34 ∷ rest)) (quoted_again text rest h)
+    let front : quoted_text text ++ rest ≡ 34 ∷ (flat_map escape text ++ 34 ∷ rest) =
+    ap (λ (xs : List ℕ). 34 ∷ xs) (append_assoc (flat_map escape text) (34 ∷ []) rest) in
+    rw (front, no_repetition (flat_map escape text ++ 34 ∷ rest), strip_again (codes "\"") (flat_map escape text ++ 34 ∷ rest)) (quoted_again text rest h)
 
 -- a text that repeats a byte does so at most 8,192 times
 pub text_again : (text rest : List ℕ) → AllByRecursion IsByte text → (is_repeated text ≡ true → length text ≤ 8192) → text_at (message_text text ++ rest) ≡ Some (text, rest)

@@ -13,7 +13,7 @@ use Rattle.pico_base.specs.declared.signal.Act.TheVariants.{Dfl, Ign, Catch}
 use Rattle.pico_base.specs.declared.signal.How.{How}
 use Rattle.pico_base.specs.declared.signal.How.TheVariants.{Block, Unblock, SetMask}
 use Rattle.pico_base.specs.declared.signal.PerSignal.{PerSignal}
-use Rattle.pico_base.specs.Signal.{put, everywhere}
+use Rattle.pico_base.specs.Signal.{put_at, everywhere}
 
 infixl 10 ◌>>=◌
 abbrev pub ◌>>=◌ : {A B : Type 0} → Option A → (A → Option B) → Option B
@@ -216,7 +216,7 @@ values_at limit bytes = joined_at (number_at limit) bytes
 
 -- the set with these signals
 abbrev pub with_signals : PerSignal Bool → List Sig × List ℕ → PerSignal Bool × List ℕ
-with_signals set gs = (fold (λ so_far g. put so_far g true) set gs.0, gs.1)
+with_signals set gs = (fold (λ so_far g. put_at so_far g true) set gs.0, gs.1)
 
 abbrev pub set_from : List Sig × List ℕ → PerSignal Bool × List ℕ
 set_from gs = with_signals (everywhere false) gs

@@ -1,6 +1,6 @@
 //! Operations, values and sets of signals at the front of a text.
 ghost use Rattle.std.specs.Prelude.{◌≡◌, ◌≤◌, IfOk, IfSome, option_map};
-ghost use Rattle.pico_base.specs.Signal.{put};
+ghost use Rattle.pico_base.specs.Signal.{put_at};
 ghost use Rattle.text_fields.specs.Fields.{step_at, steps_at, number_at, signal_at, behind_comma, joined_at, all_at, in_front, values_at, set_from, set_at};
 
 use crate::names::{flag_front, signal_front, strip_front};

@@ -1,8 +1,7 @@
 //! The text of a history: a line for each entry, and the totals.
 ghost use Rattle.std.specs.Prelude.{◌≡◌, ◌+◌, ◌<◌, ◌≤◌, ◌^◌, [], ◌∷◌, ◌++◌, codes, length, count_by, IfOk, OnOk};
 ghost use Rattle.std.specs.List.{flat_map, filter};
-ghost use Rattle.pico_base.specs.Signal.{at};
-ghost use Rattle.kernel_model.specs.Signals.{all_signals};
+ghost use Rattle.pico_base.specs.Signal.{at, all_signals};
 ghost use Rattle.std.specs.Fmt.{decimal, signed_decimal};
 ghost use Rattle.kernel_model.specs.Fitting.{block_at};
 ghost use Rattle.kernel_model.specs.Trace as trace;
@@ -580,7 +579,7 @@ fn is_fork(entry: &Entry) -> bool
 
 // ENOMSG or EAGAIN: nothing was ready.
 fn is_wait_error(errno: Errno) -> bool
-    ensures { result ≡ trace.is_wait_error errno }
+    ensures { result ≡ trace.is_not_ready errno }
 {
     matches!(errno, Errno::Enomsg | Errno::Eagain)
 }

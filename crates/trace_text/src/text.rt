@@ -2,7 +2,7 @@
 ghost use Rattle.std.specs.Prelude.{◌≡◌, ◌+◌, ◌/◌, ◌%◌, ◌^◌, ◌<◌, [], ◌∷◌, ◌++◌, codes, length, IfSome, IfNone, OnOk, true, false, nat_lt, if◌then◌else◌, nat_eq, ◌&&◌, nat_le};
 ghost use Rattle.std.specs.List.{flat_map, list_all};
 ghost use Rattle.std.specs.Fmt.{decimal, signed_decimal};
-ghost use Rattle.kernel_model.specs.Trace.{escaped, hex_digit, is_plain, is_letter_or_digit, is_repeated, message_text, quoted, repeated};
+ghost use Rattle.kernel_model.specs.Texts.{escape, hex_digit, is_plain, is_letter_or_digit, is_repeated, message_text, quoted_text, repeated_text};
 
 use itoa::Buffer;
 use pico_base::Memory;
@@ -59,7 +59,7 @@ fn hex(digit: u8) -> u8
 }
 
 fn push_escaped(out: &mut Vec<u8>, byte: u8) -> Result<(), Memory>
-    ensures { OnOk result (out.new.items ≡ out.old.items ++ escaped byte) }
+    ensures { OnOk result (out.new.items ≡ out.old.items ++ escape byte) }
 {
     if plain(byte) {
         push_byte(out, byte)
@@ -69,7 +69,7 @@ fn push_escaped(out: &mut Vec<u8>, byte: u8) -> Result<(), Memory>
 }
 
 fn push_quoted(out: &mut Vec<u8>, text: &[u8]) -> Result<(), Memory>
-    ensures { OnOk result (out.new.items ≡ out.old.items ++ quoted text.now) }
+    ensures { OnOk result (out.new.items ≡ out.old.items ++ quoted_text text.now) }
 {
     push_byte(out, b'"')?;
     for byte in text {

@@ -4,10 +4,10 @@ use Rattle.pico_base.specs.declared.script.Script.{Script}
 use Rattle.pico_base.specs.declared.script.Event.{Event}
 use Rattle.machine_model.specs.Built.{IsRunnable}
 use Rattle.machine_model.specs.World.{World, is_enabled}
-use Rattle.machine_model.specs.Run.{IsReachable}
+use Rattle.machine_model.specs.Run.{IsReachableWorld}
 use Rattle.world_core.specs.declared.state.State.{State}
 use Rattle.world_core.specs.State.{IsAlive, IsStep, world_of}
-use Rattle.world_core.specs.World.{world_in, IsSound}
+use Rattle.world_core.specs.World.{world_in, IsSoundWorld}
 use Rattle.world_core.proofs.Worlds.{kept-step, reachable-more}
 
 pub IsAlive-step : (s next : State) (e : Event) → IsAlive s → is_enabled (world_of s) e ≡ true → IsStep s e next → IsAlive next
@@ -17,15 +17,15 @@ IsAlive-step s next e alive enabled stepped =
       nodes = stepped.nodes;
       runnable = subst IsRunnable (sym same) alive.runnable;
       reachable =
-          subst (λ (script : Script). IsReachable script (world_of next)) (sym same)
+          subst (λ (script : Script). IsReachableWorld script (world_of next)) (sym same)
           (reachable-more s.script (world_of s) (world_of next) e alive.reachable enabled stepped.taken);
     }
 
 pub IsAlive-next : (found : Option State) (old : Option World) (s next : State) (e : Event)
-    → found ≡ Some s → IsSound found → world_in found ≡ old → IfSome old (λ w. is_enabled w e ≡ true)
+    → found ≡ Some s → IsSoundWorld found → world_in found ≡ old → IfSome old (λ w. is_enabled w e ≡ true)
     → IsStep s e next → IsAlive next
 IsAlive-next found old s next e is sound view enabled stepped =
-    let alive : IsAlive s = subst IsSound is sound
+    let alive : IsAlive s = subst IsSoundWorld is sound
     in let there : Some (world_of s) ≡ old = sym (ap world_in is) ∙ view
     in let P : Option World → Type 0 = λ o. IfSome o (λ w. is_enabled w e ≡ true)
     in IsAlive-step s next e alive (subst P (sym there) enabled) stepped

@@ -16,8 +16,8 @@ use Rattle.world_core.specs.Inbox.{filled_in, is_filled, may_take, from_node, se
 use Rattle.world_core.specs.Seat.{IsSeat}
 use Rattle.world_core.proofs.Lists.{slice_get-left, slice_get-right, filter-map, filter_same, count_numbers}
 use Rattle.std.proofs.lemmas.List.{get_or_read}
-use Rattle.kernel_model.specs.Script.{is_between}
-use Rattle.machine_model.specs.World.{size_of}
+use Rattle.kernel_model.specs.Numbers.{is_between}
+use Rattle.machine_model.specs.World.{node_count}
 use Rattle.world_core.specs.declared.state.State.{State}
 use Rattle.world_core.specs.State.{IsAlive, world_of}
 use Rattle.world_core.proofs.Worlds.{IsShaped, reachable-shaped}
@@ -209,7 +209,7 @@ few_of : (n : ℕ) → IsTrue (is_between 1 32 n) → n ≤ 32
 few_of n e = grind arith
 
 -- what stands at a node's place
-pub seat_is : (s : State) (p k : ℕ) (found : Option Node) (row : List (List Frame)) → IsAlive s → p ≤ size_of s.script
+pub seat_is : (s : State) (p k : ℕ) (found : Option Node) (row : List (List Frame)) → IsAlive s → p ≤ node_count s.script
     → k + 1 ≡ p → found ≡ get_or s.nodes.items k found → row ≡ get_or s.inboxes.items k row → IsSeat (world_of s) p found row
 seat_is s p k found row alive le next is_found is_row =
     let w = world_of s in

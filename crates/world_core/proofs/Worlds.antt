@@ -9,8 +9,8 @@ use Rattle.rpc_frame.specs.declared.frame.Frame.{Frame}
 use Rattle.machine_model.specs.Node.{Node, opening_node}
 use Rattle.machine_model.specs.Calls.{Step, run}
 use Rattle.machine_model.specs.Frames.{takes}
-use Rattle.machine_model.specs.World.{World, Streams, numbers, size, size_of, opening_world, node_at, stream, stream_in, with_stream, with_sent, with_all_sent, after, after_turn, runs_at, takes_at, step, is_enabled}
-use Rattle.machine_model.specs.Run.{Runs, IsReachable}
+use Rattle.machine_model.specs.World.{World, Streams, numbers, size, node_count, opening_world, node_at, stream, stream_in, with_stream, with_sent, with_all_sent, world_after, after_turn, runs_at, takes_at, step, is_enabled}
+use Rattle.machine_model.specs.Run.{Runs, IsReachableWorld}
 use Rattle.world_core.specs.State.{IsSquare}
 
 pub length-numbers : (count first : ℕ) → length (numbers first count) ≡ count
@@ -31,9 +31,9 @@ IsSquare-replicate n k h =
 
 pub IsShaped-opening : (script : Script) → IsShaped (opening_world script)
 IsShaped-opening script = record {
-  nodes = length-map (numbers 1 (size_of script)) opening_node ∙ length-numbers (size_of script) 1;
-  streams = length-replicate (size_of script) (replicate (size_of script) []);
-  square = IsSquare-replicate (size_of script);
+  nodes = length-map (numbers 1 (node_count script)) opening_node ∙ length-numbers (node_count script) 1;
+  streams = length-replicate (node_count script) (replicate (node_count script) []);
+  square = IsSquare-replicate (node_count script);
 }
 
 -- one stream of a square is another
@@ -77,7 +77,7 @@ IsSquare-with_all_sent from (sent ∷ sends) streams square =
     IsSquare-with_all_sent from sends (with_sent from streams sent)
     (IsSquare-with_stream streams sent.0 from (stream_in streams sent.0 from ++ sent.1 ∷ []) square)
 
-IsShaped-after : (w : World) (p : ℕ) (s : Step) → IsShaped w → IsShaped (after w p s)
+IsShaped-after : (w : World) (p : ℕ) (s : Step) → IsShaped w → IsShaped (world_after w p s)
 IsShaped-after w p s shaped = record {
   nodes = length-set w.nodes (p - 1) s.node ∙ shaped.nodes;
   streams = length-with_all_sent p s.sends w.streams ∙ shaped.streams;
@@ -92,7 +92,7 @@ pub record IsKept (w next : World) : Type 0 where
 kept-turn : (w next : World) (p : ℕ) (s : Option Step) → after_turn w p s ≡ Some next → IsKept w next
 kept-turn w next p None e = absurd (let f : ⊥ = cc in f)
 kept-turn w next p (Some s) e =
-    let same : after w p s ≡ next = cc
+    let same : world_after w p s ≡ next = cc
     in subst (λ (n : World). IsKept w n) same (record { script = refl; shaped = IsShaped-after w p s })
 
 kept-run : (w next : World) (p : ℕ) (n : Option Node) → runs_at w p n ≡ Some next → IsKept w next
@@ -125,10 +125,10 @@ kept-runs w last (e ∷ es) runs =
     in let rest = kept-runs runs.1 last es runs.3
     in record { script = rest.script ∙ first.script; shaped = λ s. rest.shaped (first.shaped s) }
 
-pub reachable-script : (script : Script) (w : World) → IsReachable script w → w.script ≡ script
+pub reachable-script : (script : Script) (w : World) → IsReachableWorld script w → w.script ≡ script
 reachable-script script w reached = (kept-runs (opening_world script) w reached.0 reached.1).script
 
-pub reachable-shaped : (script : Script) (w : World) → IsReachable script w → IsShaped w
+pub reachable-shaped : (script : Script) (w : World) → IsReachableWorld script w → IsShaped w
 reachable-shaped script w reached =
     (kept-runs (opening_world script) w reached.0 reached.1).shaped (IsShaped-opening script)
 
@@ -141,6 +141,6 @@ Runs-more (first ∷ es) w mid next e runs enabled taken =
     (runs.0, runs.1, runs.2, Runs-more es runs.1 mid next e runs.3 enabled taken)
 
 pub reachable-more : (script : Script) (w next : World) (e : Event)
-    → IsReachable script w → is_enabled w e ≡ true → step w e ≡ Some next → IsReachable script next
+    → IsReachableWorld script w → is_enabled w e ≡ true → step w e ≡ Some next → IsReachableWorld script next
 reachable-more script w next e reached enabled taken =
     (reached.0 ++ e ∷ [], Runs-more reached.0 (opening_world script) w next e reached.1 enabled taken)

@@ -2,7 +2,7 @@
 use Rattle.std.specs.Prelude.{◌≡◌, ℕ, ◌≤◌, None}
 use Rattle.pico_base.specs.declared.script.Script.{Script}
 use Rattle.machine_model.specs.World.{World, size}
-use Rattle.machine_model.specs.Run.{IsReachable, IsAtRest}
+use Rattle.machine_model.specs.Run.{IsReachableWorld, IsAtRest}
 use Rattle.machine_model.specs.Schedule.{Schedule, InTurn, Drawn, choice}
 
 -- the last event was of one of so many nodes
@@ -13,5 +13,5 @@ IsWithin count (Drawn x) = Unit {0}
 -- A schedule finds no event only where the world is at rest.
 abbrev pub RestIsWhereNothingIsChosen : Type 0
 RestIsWhereNothingIsChosen =
-    (script : Script) (w : World) (schedule : Schedule) → IsReachable script w → IsWithin (size w) schedule
+    (script : Script) (w : World) (schedule : Schedule) → IsReachableWorld script w → IsWithin (size w) schedule
     → choice w schedule ≡ None → IsAtRest w

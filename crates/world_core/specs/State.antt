@@ -4,7 +4,7 @@ use Rattle.pico_base.specs.declared.script.Event.{Event}
 use Rattle.machine_model.specs.Node.{Node}
 use Rattle.machine_model.specs.Built.{IsRunnable}
 use Rattle.machine_model.specs.World.{World, Streams, node_at, after_turn, step}
-use Rattle.machine_model.specs.Run.{IsReachable}
+use Rattle.machine_model.specs.Run.{IsReachableWorld}
 use Rattle.node_core.specs.declared.turn.Input.{Input}
 use Rattle.node_core.specs.Step.{step_of}
 use Rattle.world_core.specs.declared.state.State.{State}
@@ -29,7 +29,7 @@ IsSquare streams = (k : ℕ) → k < length streams → length (get_or streams k
 pub record IsAlive (s : State) : Type 0 where
   pub nodes : AreWhole s.nodes.items
   pub runnable : IsRunnable s.script
-  pub reachable : IsReachable s.script (world_of s)
+  pub reachable : IsReachableWorld s.script (world_of s)
 
 -- a node had its turn
 pub record IsAfterTurn (s : State) (p : ℕ) (input : Input) (next : State) : Type 0 where

@@ -8,5 +8,5 @@ use Rattle.world_core.specs.State.{IsAlive, world_of}
 abbrev pub world_in : Option State → Option World
 world_in s = option_map world_of s
 
-abbrev pub IsSound : Option State → Type 0
-IsSound s = IfSome s IsAlive
+abbrev pub IsSoundWorld : Option State → Type 0
+IsSoundWorld s = IfSome s IsAlive

@@ -2,7 +2,7 @@ ghost use Rattle.std.specs.Prelude.{◌≡◌, ◌↔◌, ◌≤◌, ◌-◌, []
 ghost use Rattle.std.specs.List.{flat_map};
 ghost use Rattle.machine_model.specs.Built.{IsRunnable};
 ghost use Rattle.machine_model.specs.Node.{opening_node};
-ghost use Rattle.machine_model.specs.World.{numbers, size_of, opening_world, node_at, is_run_enabled, is_take_enabled, is_enabled, stream, with_all_sent};
+ghost use Rattle.machine_model.specs.World.{numbers, node_count, opening_world, node_at, is_run_enabled, is_take_enabled, is_enabled, stream, with_all_sent};
 ghost use Rattle.machine_model.specs.Run.{IsAtRest};
 ghost use Rattle.machine_model.specs.Schedule.{enabled_at, enabled_events, in_turn};
 ghost use Rattle.world_core.specs.Seat.{IsSeat};
@@ -151,7 +151,7 @@ impl State {
     /// The node and what is on its way to it.
     fn seat(&self, node: Node) -> (&PicoNode, &Inbox)
         requires alive { IsAlive self.now }
-        requires there { node ≤ size_of self.now.script }
+        requires there { node ≤ node_count self.now.script }
         ensures { IsSeat (world_of self.now) node result.0.now result.1.now }
     {
         let at = place(node);
@@ -161,7 +161,7 @@ impl State {
     /// How many events of the node may come next.
     fn count_at(&self, node: Node) -> u32
         requires alive { IsAlive self.now }
-        requires there { node ≤ size_of self.now.script }
+        requires there { node ≤ node_count self.now.script }
         ensures count { result ≡ length (enabled_at (world_of self.now) node) }
         ensures few { result ≤ 33 }
     {
@@ -173,7 +173,7 @@ impl State {
     /// The event at this place of those of the node that may come next, from 0.
     fn nth_at(&self, node: Node, index: u32) -> Option<Event>
         requires alive { IsAlive self.now }
-        requires there { node ≤ size_of self.now.script }
+        requires there { node ≤ node_count self.now.script }
         ensures { result ≡ slice_get (enabled_at (world_of self.now) node) index }
     {
         let (pico, inbox) = self.seat(node);
@@ -223,7 +223,7 @@ impl State {
     /// The first event that may come next, of the nodes after the one number up to the other.
     fn first_of(&self, after: u8, last: u8) -> Option<Event>
         requires alive { IsAlive self.now }
-        requires there { last ≤ size_of self.now.script }
+        requires there { last ≤ node_count self.now.script }
         ensures { result ≡ slice_get (flat_map (enabled_at (world_of self.now)) (numbers (after + 1) (last - after))) 0 }
     {
         for number in after..last {
@@ -238,7 +238,7 @@ impl State {
     /// The first event that may come next, round the nodes: of those behind this one, and then of those up to it.
     pub(crate) fn in_turn(&self, after: Node) -> Option<Event>
         requires alive { IsAlive self.now }
-        requires there { after ≤ size_of self.now.script }
+        requires there { after ≤ node_count self.now.script }
         ensures { result ≡ in_turn (world_of self.now) after }
     {
         match self.first_of(after.0, size(&self.script)) {

@@ -27,11 +27,11 @@ impl Model for World {
 
     ghost Value = { Option MachineWorld };
 
-    ghost use Rattle.world_core.specs.World.{world_in, IsSound};
+    ghost use Rattle.world_core.specs.World.{world_in, IsSoundWorld};
 
     ghost view = { λ w. world_in w.state };
 
-    ghost invariant = { λ w. IsSound w.state };
+    ghost invariant = { λ w. IsSoundWorld w.state };
 }
 
 impl World {

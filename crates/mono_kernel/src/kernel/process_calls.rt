@@ -3,9 +3,9 @@ ghost use Rattle.pico_base.specs.Signal.{at};
 ghost use Rattle.kernel_model.specs.Signals.{act_on, with_mask};
 ghost use Rattle.kernel_model.specs.Row.{wait};
 ghost use Rattle.kernel_model.specs.Kernel.{living_at, with_alive};
-ghost use Rattle.kernel_model.specs.ProcessCalls.{forked, ended, reaped, acted, kill, with_signals};
+ghost use Rattle.kernel_model.specs.ProcessCalls.{fork_effect, end_process, reap_child, action_effect, kill, with_signals};
 ghost use Rattle.kernel_model.specs.Effect.{is_fresh};
-ghost use Rattle.kernel_model.specs.Transition.{finished};
+ghost use Rattle.kernel_model.specs.Transition.{finish_call};
 ghost use Rattle.mono_kernel.specs.Process.{changed, IsPlain};
 ghost use Rattle.mono_kernel.specs.Answers.{Answers, signalled_kernel};
 
@@ -36,7 +36,7 @@ impl Kernel {
     /// fork: NotAllowed where the number is 0 or used.
     pub(super) fn fork(&mut self, pid: u32, chosen: u32) -> Result<Reply, CallFault>
         requires { IsSome (living_at self.old pid) }
-        ensures { IfSome (living_at self.old pid) (λ a. Answers (forked self.old pid a chosen) result self.old self.new) }
+        ensures { IfSome (living_at self.old pid) (λ a. Answers (fork_effect self.old pid a chosen) result self.old self.new) }
     {
         if !self.is_new_process(chosen) {
             return Err(CallFault::NotAllowed);
@@ -48,7 +48,7 @@ impl Kernel {
     /// exit, and the end by a signal.
     pub(super) fn end(&mut self, pid: u32, ending: Ending) -> Result<Reply, CallFault>
         requires { IsSome (living_at self.old pid) }
-        ensures { IfSome (living_at self.old pid) (λ a. Answers (Some (ended self.old pid a ending)) result self.old self.new) }
+        ensures { IfSome (living_at self.old pid) (λ a. Answers (Some (end_process self.old pid a ending)) result self.old self.new) }
     {
         self.processes.end(self.alloc, pid, ending)?;
         Ok(Reply::Ended)
@@ -57,7 +57,7 @@ impl Kernel {
     /// waitpid: ECHILD where there is no such child.
     pub(super) fn wait(&mut self, pid: u32, which: Option<u32>) -> Reply
         requires { IsSome (living_at self.old pid) }
-        ensures { IfSome (living_at self.old pid) (λ a. reaped self.old pid a (wait a.row.family which) ≡ record { kernel = self.new; reply = result }) }
+        ensures { IfSome (living_at self.old pid) (λ a. reap_child self.old pid a (wait a.row.family which) ≡ record { kernel = self.new; reply = result }) }
     {
         match self.processes.wait(pid, which) {
             Ok(Some((child, ending))) => Reply::Child {
@@ -72,7 +72,7 @@ impl Kernel {
     /// sigaction: EINVAL for KILL, 0 and a number that is no signal's.
     pub(super) fn act(&mut self, pid: u32, sig: SigArg, act: Act) -> Reply
         requires { IsSome (living_at self.old pid) }
-        ensures { IfSome (living_at self.old pid) (λ a. acted self.old pid a (act_on a.row.signals sig act) ≡ record { kernel = self.new; reply = result }) }
+        ensures { IfSome (living_at self.old pid) (λ a. action_effect self.old pid a (act_on a.row.signals sig act) ≡ record { kernel = self.new; reply = result }) }
     {
         let Some(alive) = self.processes.alive(pid) else {
             return Reply::Num(0);
@@ -161,7 +161,7 @@ impl Kernel {
 
     /// A doomed process that lives on after an entry of its own has nothing left but its ending.
     pub(super) fn finish(&mut self, pid: u32)
-        ensures { self.new ≡ finished self.old pid (living_at self.old pid) }
+        ensures { self.new ≡ finish_call self.old pid (living_at self.old pid) }
     {
         let doomed = match self.processes.alive(pid) {
             Some(alive) => alive.doom().is_some(),

@@ -1,8 +1,8 @@
 ghost use Rattle.std.specs.Prelude.{◌≡◌, None, IfOk, OnErr};
-ghost use Rattle.kernel_model.specs.Maps.{get};
+ghost use Rattle.number_maps.specs.Maps.{get};
 ghost use Rattle.kernel_model.specs.Queue.{send, receive, set_qbytes};
 ghost use Rattle.kernel_model.specs.Effect.{is_fresh, on_named};
-ghost use Rattle.kernel_model.specs.QueueCalls.{new_queue, get_queue, changed_queue, received, looked_at_queue, removed_queue};
+ghost use Rattle.kernel_model.specs.QueueCalls.{new_queue, get_queue, change_queue, receive_effect, stat_effect, remove_queue};
 ghost use Rattle.mono_kernel.specs.Names.{keys_with, bound_to};
 ghost use Rattle.mono_kernel.specs.Answers.{Answers};
 
@@ -69,7 +69,7 @@ impl Kernel {
         class: i32,
         text: &Bytes,
     ) -> Result<Reply, Memory>
-        ensures ok { IfOk result (λ reply. on_named self.old (get self.old.queues id) (λ q. changed_queue self.old id (send q pid class text.now))
+        ensures ok { IfOk result (λ reply. on_named self.old (get self.old.queues id) (λ q. change_queue self.old id (send q pid class text.now))
             ≡ record { kernel = self.new; reply = reply }) }
         ensures err { OnErr result (self.new ≡ self.old) }
     {
@@ -85,7 +85,7 @@ impl Kernel {
         size: u32,
         noerror: bool,
     ) -> Reply
-        ensures { on_named self.old (get self.old.queues id) (λ q. received self.old id (receive q pid class size noerror))
+        ensures { on_named self.old (get self.old.queues id) (λ q. receive_effect self.old id (receive q pid class size noerror))
             ≡ record { kernel = self.new; reply = result } }
     {
         receive_at(&mut self.queues, id, pid, class, size, noerror)
@@ -93,7 +93,7 @@ impl Kernel {
 
     /// msgctl with IPC_STAT: EINVAL.
     pub(super) fn stat(&self, id: u32) -> Reply
-        ensures { on_named self.now (get self.now.queues id) (looked_at_queue self.now) ≡ record { kernel = self.now; reply = result } }
+        ensures { on_named self.now (get self.now.queues id) (stat_effect self.now) ≡ record { kernel = self.now; reply = result } }
     {
         match self.queues.get(&id) {
             Some(queue) => queue.stat(),
@@ -103,7 +103,7 @@ impl Kernel {
 
     /// msgctl with IPC_SET: EINVAL.
     pub(super) fn set_qbytes(&mut self, id: u32, qbytes: u32) -> Reply
-        ensures { on_named self.old (get self.old.queues id) (λ q. changed_queue self.old id (set_qbytes q qbytes))
+        ensures { on_named self.old (get self.old.queues id) (λ q. change_queue self.old id (set_qbytes q qbytes))
             ≡ record { kernel = self.new; reply = result } }
     {
         set_qbytes_at(&mut self.queues, id, qbytes)
@@ -111,7 +111,7 @@ impl Kernel {
 
     /// msgctl with IPC_RMID: EINVAL.
     pub(super) fn remove_queue(&mut self, id: u32) -> Reply
-        ensures { on_named self.old (get self.old.queues id) (λ _. removed_queue self.old id)
+        ensures { on_named self.old (get self.old.queues id) (λ _. remove_queue self.old id)
             ≡ record { kernel = self.new; reply = result } }
     {
         if !remove_at(&mut self.queues, id) {

@@ -1,9 +1,9 @@
 ghost use Rattle.std.specs.Prelude.{◌≡◌, None, IfOk};
 ghost use Rattle.std.specs.List.{list_any};
-ghost use Rattle.kernel_model.specs.Maps.{get};
+ghost use Rattle.number_maps.specs.Maps.{get};
 ghost use Rattle.kernel_model.specs.SemaphoreSet.{new_set, value_at, last_at, waiting_at, set_value, set_all};
-ghost use Rattle.kernel_model.specs.Effect.{is_fresh, on_named, looked_up};
-ghost use Rattle.kernel_model.specs.SetCalls.{new_set_of, found_set, get_set, changed_set, size_of, operated, all_values, removed_set};
+ghost use Rattle.kernel_model.specs.Effect.{is_fresh, on_named, look_up};
+ghost use Rattle.kernel_model.specs.SetCalls.{new_set_of, find_set, get_set, change_set, set_size, operate, all_values, remove_set};
 ghost use Rattle.kernel_model.specs.Waiting.{may_wait};
 ghost use Rattle.mono_kernel.specs.Names.{keys_with, bound_to};
 ghost use Rattle.mono_kernel.specs.Answers.{Answers, reply_to};
@@ -59,7 +59,7 @@ impl Kernel {
 
     /// The size of the set of a number, 0 where there is none.
     fn size_of(&self, id: u32) -> usize
-        ensures { result ≡ size_of self.now id }
+        ensures { result ≡ set_size self.now id }
     {
         match self.sets.get(&id) {
             Some(set) => set.size(),
@@ -69,7 +69,7 @@ impl Kernel {
 
     /// What a bound key gives: EINVAL where more semaphores are asked for than the set has.
     fn found_set(&self, id: u32, count: u32) -> Reply
-        ensures { found_set self.now id count ≡ record { kernel = self.now; reply = result } }
+        ensures { find_set self.now id count ≡ record { kernel = self.now; reply = result } }
     {
         if count == 0 || count as usize <= self.size_of(id) {
             Reply::Num(id)
@@ -108,7 +108,7 @@ impl Kernel {
 
     /// semop: EINVAL, E2BIG, EFBIG, EAGAIN or ERANGE. NotAllowed where an operation may have to wait.
     pub(super) fn operate(&mut self, pid: u32, id: u32, steps: &Steps) -> Result<Reply, CallFault>
-        ensures { Answers (operated self.old pid id steps.now) result self.old self.new }
+        ensures { Answers (operate self.old pid id steps.now) result self.old self.new }
     {
         let steps = steps.as_slice();
         if waits(steps) {
@@ -120,7 +120,7 @@ impl Kernel {
 
     /// semctl with GETVAL: EINVAL.
     pub(super) fn value(&self, id: u32, num: u16) -> Reply
-        ensures { on_named self.now (get self.now.sets id) (λ s. looked_up self.now (value_at s num)) ≡ record { kernel = self.now; reply = result } }
+        ensures { on_named self.now (get self.now.sets id) (λ s. look_up self.now (value_at s num)) ≡ record { kernel = self.now; reply = result } }
     {
         match self.sets.get(&id) {
             Some(set) => looked(set.value(num)),
@@ -130,7 +130,7 @@ impl Kernel {
 
     /// semctl with GETPID: EINVAL.
     pub(super) fn last(&self, id: u32, num: u16) -> Reply
-        ensures { on_named self.now (get self.now.sets id) (λ s. looked_up self.now (last_at s num)) ≡ record { kernel = self.now; reply = result } }
+        ensures { on_named self.now (get self.now.sets id) (λ s. look_up self.now (last_at s num)) ≡ record { kernel = self.now; reply = result } }
     {
         match self.sets.get(&id) {
             Some(set) => looked(set.last(num)),
@@ -140,7 +140,7 @@ impl Kernel {
 
     /// semctl with GETNCNT and GETZCNT: EINVAL, and else 0.
     pub(super) fn waiting(&self, id: u32, num: u16) -> Reply
-        ensures { on_named self.now (get self.now.sets id) (λ s. looked_up self.now (waiting_at s num)) ≡ record { kernel = self.now; reply = result } }
+        ensures { on_named self.now (get self.now.sets id) (λ s. look_up self.now (waiting_at s num)) ≡ record { kernel = self.now; reply = result } }
     {
         match self.sets.get(&id) {
             Some(set) => looked(set.waiting(num)),
@@ -150,7 +150,7 @@ impl Kernel {
 
     /// semctl with SETVAL: EINVAL or ERANGE.
     pub(super) fn set_value(&mut self, id: u32, num: u16, value: u32) -> Reply
-        ensures { on_named self.old (get self.old.sets id) (λ s. changed_set self.old id (set_value s num value))
+        ensures { on_named self.old (get self.old.sets id) (λ s. change_set self.old id (set_value s num value))
             ≡ record { kernel = self.new; reply = result } }
     {
         set_value_at(&mut self.sets, id, num, value)
@@ -168,7 +168,7 @@ impl Kernel {
 
     /// semctl with SETALL: EINVAL or ERANGE.
     pub(super) fn set_all(&mut self, id: u32, values: &Values) -> Reply
-        ensures { on_named self.old (get self.old.sets id) (λ s. changed_set self.old id (set_all s values.now))
+        ensures { on_named self.old (get self.old.sets id) (λ s. change_set self.old id (set_all s values.now))
             ≡ record { kernel = self.new; reply = result } }
     {
         set_all_at(&mut self.sets, id, values.as_slice())
@@ -176,7 +176,7 @@ impl Kernel {
 
     /// semctl with IPC_RMID: EINVAL.
     pub(super) fn remove_set(&mut self, id: u32) -> Reply
-        ensures { on_named self.old (get self.old.sets id) (λ _. removed_set self.old id)
+        ensures { on_named self.old (get self.old.sets id) (λ _. remove_set self.old id)
             ≡ record { kernel = self.new; reply = result } }
     {
         if !remove_at(&mut self.sets, id) {

@@ -1,5 +1,5 @@
 use Rattle.std.proofs.Common.{◌≡◌, false}
-use Rattle.kernel_model.specs.Maps.{is_used}
+use Rattle.number_maps.specs.Maps.{is_used}
 use Rattle.mono_kernel.proofs.NameLemmas.{HasWayBack-noted, HasWayBack-added}
 use Rattle.mono_kernel.proofs.names.Names.add.Goals as goal
 

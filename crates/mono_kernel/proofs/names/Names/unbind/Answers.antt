@@ -1,5 +1,5 @@
 use Rattle.std.proofs.Common.{◌∙◌, ℕ, List, sym, ap}
-use Rattle.kernel_model.specs.Maps.{Numbered}
+use Rattle.number_maps.specs.Maps.{Numbered}
 use Rattle.mono_kernel.specs.Names.{NameTable}
 use Rattle.mono_kernel.proofs.KeyLemmas.{unbound-none, unbound-one}
 use Rattle.mono_kernel.proofs.names.Names.unbind.Goals as goal

@@ -2,7 +2,8 @@ use Rattle.std.proofs.Common.{◌≡◌, Bool, ap, subst, ◌∙◌}
 use Rattle.std.specs.List.{fold}
 use Rattle.pico_base.specs.declared.signal.How.{How}
 use Rattle.pico_base.specs.declared.signal.PerSignal.{PerSignal}
-use Rattle.kernel_model.specs.Signals.{Signals, deliver, all_signals, with_mask, new_mask}
+use Rattle.kernel_model.specs.Signals.{Signals, deliver, with_mask, new_mask}
+use Rattle.pico_base.specs.Signal.{all_signals}
 use Rattle.mono_kernel.proofs.signals.SignalState.change_mask.Goals as goal
 
 after_mask : (s t : Signals) (how : How) (set m : PerSignal Bool) → s ≡ t → m ≡ new_mask how s.mask set

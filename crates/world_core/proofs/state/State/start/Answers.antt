@@ -1,13 +1,13 @@
 use Rattle.std.proofs.Common.{List, map, replicate, [], sym, ap, subst, ◌∙◌}
 use Rattle.machine_model.specs.Node.{Node, opening_node}
-use Rattle.machine_model.specs.World.{numbers, size_of}
+use Rattle.machine_model.specs.World.{numbers, node_count}
 use Rattle.world_core.specs.State.{whole, AreWhole}
 use Rattle.world_core.proofs.Wholes.{whole-map, AreWhole-map}
 use Rattle.world_core.proofs.state.State.start.Goals as goal
 
 pub returns : goal.returns
 returns c =
-    let size = size_of c.args.script
+    let size = node_count c.args.script
     in let nodes : List Node = map opening_node (numbers 1 size)
     in (
       subst AreWhole (sym c.in_ok-nodes.ensures) (AreWhole-map nodes),
