@@ -3,7 +3,6 @@ pub mod Fitting
 pub mod Footprint
 pub mod History
 pub mod Kernel
-pub mod Maps
 pub mod ProcessCalls
 pub mod Queue
 pub mod QueueCalls
