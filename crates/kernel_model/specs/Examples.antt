@@ -7,16 +7,16 @@ use Rattle.pico_base.specs.declared.reply.Errno.{Errno}
 use Rattle.pico_base.specs.declared.reply.Errno.TheVariants.{Esrch, Einval, Echild, Enoent, Eexist, Enomsg, Eagain, E2big, Efbig, Erange}
 use Rattle.pico_base.specs.declared.reply.Reply.{Reply}
 use Rattle.pico_base.specs.declared.reply.Reply.TheVariants.{Num, Child, Message, Bits, Stat, All, Ended, Fail}
-use Rattle.pico_base.specs.declared.reply.Outcome.{Outcome}
 use Rattle.pico_base.specs.declared.reply.Ending.TheVariants.{Exited, Killed}
-use Rattle.pico_base.specs.declared.signal.Sig.TheVariants.{Kill, Usr1, Term, Chld}
+use Rattle.pico_base.specs.declared.signal.Sig.TheVariants.{Int, Quit, Kill, Usr1, Term, Chld}
 use Rattle.pico_base.specs.declared.signal.SigArg.TheVariants.{Zero, Is, Bad}
 use Rattle.pico_base.specs.declared.signal.Act.TheVariants.{Ign, Catch}
 use Rattle.pico_base.specs.declared.signal.How.TheVariants.{Block, Unblock, SetMask}
 use Rattle.pico_base.specs.declared.signal.PerSignal.{PerSignal}
 use Rattle.pico_base.specs.Signal.{put_at, everywhere}
+use Rattle.kernel_model.specs.Signals.{Signals, new_signals, with_mask}
 use Rattle.kernel_model.specs.Kernel.{Kernel, opening}
-use Rattle.kernel_model.specs.Transition.{transition}
+use Rattle.kernel_model.specs.Transition.{Successor, transition}
 
 -- a call that a process makes, and the number for what it may create
 pub record Made : Type 0 where
@@ -31,18 +31,18 @@ abbrev pub creating : ℕ → Call → ℕ → Made
 creating pid call number = record { pid = pid; call = call; number = number }
 
 -- the replies to these calls, in order; none where there is no transition, and the kernel stays
-abbrev pub reply_in : Option (Kernel × Outcome) → Option Reply
+abbrev pub reply_in : Option Successor → Option Reply
 reply_in None = None
-reply_in (Some step) = step.1.own
+reply_in (Some step) = step.outcome.own
 
-abbrev pub kernel_in : Kernel → Option (Kernel × Outcome) → Kernel
+abbrev pub kernel_in : Kernel → Option Successor → Kernel
 kernel_in k None = k
-kernel_in k (Some step) = step.0
+kernel_in k (Some step) = step.kernel
 
 abbrev pub replies_from : Kernel → List Made → List (Option Reply)
 replies_from k [] = []
 replies_from k (m ∷ ms) =
-    let step : Option (Kernel × Outcome) = transition k m.pid m.call m.number
+    let step : Option Successor = transition k m.pid m.call m.number
     in reply_in step ∷ replies_from (kernel_in k step) ms
 
 abbrev pub replies : List Made → List (Option Reply)
@@ -84,6 +84,14 @@ pub fills_a_queue : replies (
     ∷ sends (pos 1) [] ∷ sends (pos 1) (codes "b") ∷ by 1 (calls.MsgStat 1) ∷ [])
     ≡ number 1 ∷ number 0 ∷ fails Einval ∷ number 0 ∷ number 0 ∷ fails Eagain ∷ Some (Stat 2 4096 1 0) ∷ []
 fills_a_queue = refl
+
+-- msg_qbytes may go below what is there: the messages stay, and no other has room until enough of them are taken
+pub lowers_the_limit : replies (
+    queue ∷ sends (pos 1) (codes "abcd") ∷ by 1 (calls.MsgSet 1 2) ∷ sends (pos 1) [] ∷ by 1 (calls.MsgStat 1)
+    ∷ receives (pos 0) 16 ∷ sends (pos 1) (codes "ab") ∷ by 1 (calls.MsgSet 1 16385) ∷ [])
+    ≡ number 1 ∷ number 0 ∷ number 0 ∷ fails Eagain ∷ Some (Stat 1 2 1 0) ∷ Some (Message (pos 1) (codes "abcd")) ∷ number 0
+    ∷ fails Einval ∷ []
+lowers_the_limit = refl
 
 -- a text above the size asked stays, or is cut
 pub cuts_a_text : replies (
@@ -132,6 +140,34 @@ pub catches_a_held_signal : replies (
     ≡ number 0 ∷ Some (Bits no_signal) ∷ number 0 ∷ number 0 ∷ Some (Bits only_usr1) ∷ Some (Bits no_signal) ∷ number 1 ∷ []
 catches_a_held_signal = refl
 
+-- KILL is in no mask, and ends at once
+pub masks_no_kill : replies (
+    by 1 (calls.SigProcMask Block (put_at only_usr1 Kill true)) ∷ by 1 (calls.SigProcMask Block no_signal)
+    ∷ by 1 (calls.Kill 1 (Is Kill)) ∷ by 1 calls.SigPending ∷ by 1 (calls.Killed Kill) ∷ [])
+    ≡ Some (Bits no_signal) ∷ Some (Bits only_usr1) ∷ number 0 ∷ None ∷ Some Ended ∷ []
+masks_no_kill = refl
+
+-- INT, QUIT and USR1 are pending, and all but QUIT are caught
+abbrev pub three_pending : Signals
+three_pending =
+    let caught = put_at (put_at new_signals.actions Int Catch) Usr1 Catch
+    in let three = put_at (put_at (put_at no_signal Int true) Quit true) Usr1 true
+    in record new_signals { actions = caught; mask = three; pending = three }
+
+-- unmasked together, they arrive in table order: INT is caught, QUIT dooms the process, and USR1 stays pending
+pub unmasks_several : with_mask three_pending SetMask no_signal
+    ≡ record three_pending { mask = no_signal; pending = only_usr1; handled = put_at (everywhere 0) Int 1; doom = Some Quit }
+unmasks_several = refl
+
+-- the same as calls: the doomed process has the reply, and nothing but its ending after it
+pub unmasks_a_doom : replies (
+    by 1 (calls.SigProcMask SetMask (put_at only_usr1 Quit true)) ∷ by 1 (calls.Kill 1 (Is Usr1)) ∷ by 1 (calls.Kill 1 (Is Quit))
+    ∷ by 1 calls.GetPid ∷ by 1 (calls.SigProcMask SetMask no_signal) ∷ by 1 calls.GetPid ∷ by 1 (calls.Killed Usr1)
+    ∷ by 1 (calls.Killed Quit) ∷ [])
+    ≡ Some (Bits no_signal) ∷ number 0 ∷ number 0 ∷ number 1 ∷ Some (Bits (put_at only_usr1 Quit true)) ∷ None ∷ None
+    ∷ Some Ended ∷ []
+unmasks_a_doom = refl
+
 -- a child has its parent's mask, and nothing pending
 pub inherits_the_mask : replies (
     by 1 (calls.SigProcMask Block only_usr1) ∷ by 1 (calls.Kill 1 (Is Usr1)) ∷ creating 1 (calls.Fork 2) 2
@@ -153,6 +189,13 @@ pub ends_by_anothers_signal : replies (
     ≡ number 2 ∷ None ∷ number 0 ∷ number 2 ∷ None ∷ Some Ended ∷ Some (Child 2 (Killed Term)) ∷ []
 ends_by_anothers_signal = refl
 
+-- the one more call may be exit, which then is how the process ended
+pub exits_after_anothers_signal : replies (
+    creating 1 (calls.Fork 2) 2 ∷ by 1 (calls.Kill 2 (Is Term)) ∷ by 2 (calls.Exit 3) ∷ by 2 (calls.Killed Term)
+    ∷ by 1 (calls.WaitPid None true) ∷ [])
+    ≡ number 2 ∷ number 0 ∷ Some Ended ∷ None ∷ Some (Child 2 (Exited 3)) ∷ []
+exits_after_anothers_signal = refl
+
 -- the child of a process that has ended is gone where it ends
 pub has_no_parent_left : replies (
     creating 1 (calls.Fork 2) 2 ∷ creating 2 (calls.Fork 3) 9 ∷ creating 2 (calls.Fork 4) 10 ∷ by 10 (calls.Exit 0)
@@ -162,10 +205,10 @@ pub has_no_parent_left : replies (
     ∷ Some (Child 2 (Exited 0)) ∷ []
 has_no_parent_left = refl
 
--- a number is given out once, and 0 never
+-- a number is given out once, and neither 0 nor one that has no four bytes
 pub gives_each_number_once : replies (
-    creating 1 (calls.Fork 2) 1 ∷ creating 1 (calls.Fork 2) 0 ∷ queue ∷ by 1 (calls.MsgRmid 1) ∷ queue ∷ by 1 (calls.MsgRmid 1) ∷ [])
-    ≡ None ∷ None ∷ number 1 ∷ number 0 ∷ None ∷ fails Einval ∷ []
+    creating 1 (calls.Fork 2) 1 ∷ creating 1 (calls.Fork 2) 0 ∷ creating 1 (calls.Fork 2) 4294967296 ∷ queue ∷ by 1 (calls.MsgRmid 1) ∷ queue ∷ by 1 (calls.MsgRmid 1) ∷ [])
+    ≡ None ∷ None ∷ None ∷ number 1 ∷ number 0 ∷ None ∷ fails Einval ∷ []
 gives_each_number_once = refl
 
 abbrev pub step : ℕ → ℤ → Bool → SemStep
@@ -201,3 +244,19 @@ pub binds_keys : replies (
     ≡ fails Enoent ∷ number 1 ∷ fails Eexist ∷ number 1 ∷ fails Einval ∷ number 1 ∷ fails Einval ∷ number 1 ∷ number 0 ∷ fails Enoent
     ∷ number 2 ∷ []
 binds_keys = refl
+
+-- a value that is set leaves the process of the last semop
+pub sets_a_value : replies (
+    creating 1 (calls.SemGet None 2 false false) 1 ∷ by 1 (calls.SemOp 1 (step 0 (pos 2) false ∷ [])) ∷ by 1 (calls.SemSetVal 1 0 5)
+    ∷ by 1 (calls.SemGetPid 1 0) ∷ by 1 (calls.SemSetAll 1 (1 ∷ 1 ∷ [])) ∷ by 1 (calls.SemGetPid 1 0) ∷ by 1 (calls.SemGetPid 1 1) ∷ [])
+    ≡ number 1 ∷ number 0 ∷ number 0 ∷ number 1 ∷ number 0 ∷ number 1 ∷ number 0 ∷ []
+sets_a_value = refl
+
+-- a key of sets leads nowhere, or to a set that is wanted new; excl alone means nothing
+pub refuses_keys : replies (
+    by 1 (calls.SemGet (Some 5) 1 false false) ∷ by 1 (calls.SemGet (Some 5) 1 false true)
+    ∷ creating 1 (calls.SemGet (Some 5) 1 true false) 1 ∷ by 1 (calls.SemGet (Some 5) 1 true true)
+    ∷ by 1 (calls.SemGet (Some 5) 1 false true) ∷ by 1 (calls.MsgGet (Some 5) false true)
+    ∷ creating 1 (calls.MsgGet (Some 5) true true) 1 ∷ by 1 (calls.MsgGet (Some 5) false true) ∷ [])
+    ≡ fails Enoent ∷ fails Enoent ∷ number 1 ∷ fails Eexist ∷ number 1 ∷ fails Enoent ∷ number 1 ∷ number 1 ∷ []
+refuses_keys = refl

@@ -9,6 +9,7 @@ use Rattle.pico_base.specs.declared.reply.Reply.TheVariants.{Num, Message, Ended
 use Rattle.pico_base.specs.declared.reply.Entry.{Entry}
 use Rattle.pico_base.specs.declared.script.Script.{Script}
 use Rattle.kernel_model.specs.Script.{IsSoundScript}
+use Rattle.kernel_model.specs.Effect.{reply_alone}
 use Rattle.kernel_model.specs.History.{IsLegal}
 use Rattle.kernel_model.specs.Fitting.{FitsWhole}
 use Rattle.kernel_model.specs.Trace.{trace_text, entries_total, processes_total, not_ready_total, refused_total}
@@ -28,7 +29,7 @@ hello =
     }
 
 abbrev pub entry : Call → Reply → Entry
-entry call reply = record { pid = 1; call = call; outcome = record { own = Some reply; woken = [] }; by = 1 }
+entry call reply = record { pid = 1; call = call; outcome = reply_alone reply; by = 1 }
 
 abbrev pub hello_history : List Entry
 hello_history =
@@ -39,10 +40,59 @@ hello_history =
     ∷ []
 
 pub hello_is_legal : IsLegal hello_history
-hello_is_legal = (_, (_, refl, (_, refl, (_, refl, (_, refl, refl)))))
+hello_is_legal =
+    record {
+      last = _;
+      replays = record {
+        next = _;
+        step = refl;
+        rest = record {
+          next = _;
+          step = refl;
+          rest = record {
+            next = _;
+            step = refl;
+            rest = record {
+              next = _;
+              step = refl;
+              rest = refl;
+            };
+          };
+        };
+      };
+    }
 
 pub hello_fits : FitsWhole hello hello_history
-hello_fits = (_, (_, refl, inl refl, (_, refl, inl refl, (_, refl, inl refl, (_, refl, inl refl, refl)))), (refl, tt))
+hello_fits =
+    record {
+      last = _;
+      fits = record {
+        place = _;
+        there = refl;
+        due = inl refl;
+        replied = record { reply = _; alone = refl };
+        rest = record {
+          place = _;
+          there = refl;
+          due = inl refl;
+          replied = record { reply = _; alone = refl };
+          rest = record {
+            place = _;
+            there = refl;
+            due = inl refl;
+            replied = record { reply = _; alone = refl };
+            rest = record {
+              place = _;
+              there = refl;
+              due = inl refl;
+              replied = record { reply = _; alone = refl };
+              rest = refl;
+            };
+          };
+        };
+      };
+      over = (refl, tt);
+    }
 
 -- the five lines that the program writes
 pub hello_trace : trace_text hello hello_history ≡

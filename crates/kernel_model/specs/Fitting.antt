@@ -8,10 +8,12 @@ use Rattle.pico_base.specs.declared.reply.Reply.TheVariants as replies
 use Rattle.pico_base.specs.declared.reply.Errno.{Errno}
 use Rattle.pico_base.specs.declared.reply.Errno.TheVariants.{Enoent, Enomsg, Eagain}
 use Rattle.pico_base.specs.declared.reply.Entry.{Entry}
+use Rattle.pico_base.specs.declared.reply.Outcome.{Outcome}
 use Rattle.pico_base.specs.declared.script.Line.{Line}
 use Rattle.pico_base.specs.declared.script.Block.{Block}
 use Rattle.pico_base.specs.declared.script.Script.{Script}
 use Rattle.number_maps.specs.Maps.{Numbered, get, put}
+use Rattle.kernel_model.specs.Effect.{reply_alone}
 use Rattle.kernel_model.specs.Script.{Vars, call_of}
 pub use Rattle.kernel_model.specs.Script.{implied_exit, is_exit, with_exit}
 
@@ -29,7 +31,7 @@ call_due place (line ∷ lines) = Some (call_of line place.vars)
 abbrev pub due : Place → Option Call
 due place = call_due place place.left
 
--- a reply after which a line that may try again does
+-- errors after which a line that may try again does
 abbrev pub is_tried_again : Errno → Bool
 is_tried_again Enomsg = true
 is_tried_again Eagain = true
@@ -59,12 +61,17 @@ set_variable vars None n = vars
 set_variable vars (Some v) n = put vars v n
 
 -- the place after a reply: the same line once more, or the next one with the variable set
-abbrev pub after_line : Place → Call → Option Reply → List Line → Place
-after_line place call reply [] = place
-after_line place call reply (line ∷ lines) =
-    if asks_again call reply && nat_lt (place.tried + 1) line.tries
+abbrev pub after_reply : Place → Call → Reply → List Line → Place
+after_reply place call reply [] = place
+after_reply place call reply (line ∷ lines) =
+    if asks_again call (Some reply) && nat_lt (place.tried + 1) line.tries
     then record place { tried = place.tried + 1 }
-    else record { left = lines; tried = 0; vars = set_variable place.vars line.set (value_in reply) }
+    else record { left = lines; tried = 0; vars = set_variable place.vars line.set (value_in (Some reply)) }
+
+-- a call without a reply is still under way at its line
+abbrev pub after_line : Place → Call → Option Reply → List Line → Place
+after_line place call None lines = place
+after_line place call (Some reply) lines = after_reply place call reply lines
 
 abbrev pub place_after : Place → Call → Option Reply → Place
 place_after place call reply = after_line place call reply place.left
@@ -110,25 +117,39 @@ places_after_fork script places parent (calls.Fork block) (Some (replies.Num chi
     put places child (block_place (block_at script block) (child_vars parent))
 places_after_fork script places parent call reply = places
 
--- the places after an entry of a process that was at this place
+-- the places after an entry, which wakes nobody, of a process that was at this place
 abbrev pub places_after : Script → Places → Entry → Place → Places
 places_after script places e place =
     places_after_fork script (put places e.pid (move_on place e.call e.outcome.own)) place e.call e.outcome.own
 
--- each entry is of a process that was forked, or of process 1, and makes the call that is due
+-- it has its reply, and wakes nobody. No other entry fits a script: what a process does while it waits isn't said here
+pub record HasReplyAlone (outcome : Outcome) : Type 0 where
+  pub reply : Reply
+  pub alone : outcome ≡ reply_alone reply
+
+-- an entry is of a process that was forked, or of process 1, and makes the call that is due; the rest goes on from there
+pub record FitsEntry (script : Script) (places : Places) (e : Entry) (Rest : Places → Type 0) : Type 0 where
+  pub place : Place
+  pub there : get places e.pid ≡ Some place
+  pub due : IsDue place e.call
+  pub replied : HasReplyAlone e.outcome
+  pub rest : Rest (places_after script places e place)
+
+-- entry by entry, from these places to the last ones
 abbrev pub FitsFrom : Script → Places → List Entry → Places → Type 0
 FitsFrom script places [] last = places ≡ last
-FitsFrom script places (e ∷ es) last =
-    (place : Place) × (get places e.pid ≡ Some place) × IsDue place e.call
-    × FitsFrom script (places_after script places e place) es last
+FitsFrom script places (e ∷ es) last = FitsEntry script places e (λ next. FitsFrom script next es last)
 
-abbrev pub Fits : Script → List Entry → Type 0
-Fits script history = (last : Places) × FitsFrom script (opening_places script) history last
+pub record Fits (script : Script) (history : List Entry) : Type 0 where
+  pub last : Places
+  pub fits : FitsFrom script (opening_places script) history last
 
 -- nothing is due any more at a place
 abbrev pub IsOver : ℕ × Place → Type 0
 IsOver p = p.1.left ≡ []
 
 -- the history fits to its end: each process that was forked, and process 1, has ended
-abbrev pub FitsWhole : Script → List Entry → Type 0
-FitsWhole script history = (last : Places) × FitsFrom script (opening_places script) history last × AllByRecursion IsOver last
+pub record FitsWhole (script : Script) (history : List Entry) : Type 0 where
+  pub last : Places
+  pub fits : FitsFrom script (opening_places script) history last
+  pub over : AllByRecursion IsOver last

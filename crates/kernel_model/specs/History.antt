@@ -4,19 +4,25 @@ use Rattle.pico_base.specs.declared.reply.Reply.{Reply}
 use Rattle.pico_base.specs.declared.reply.Reply.TheVariants.{Num}
 use Rattle.pico_base.specs.declared.reply.Entry.{Entry}
 use Rattle.kernel_model.specs.Kernel.{Kernel, opening}
-use Rattle.kernel_model.specs.Transition.{transition}
+use Rattle.kernel_model.specs.Transition.{successor, transition}
 
 -- the number that an entry may have created: the one in its reply, and else 0
 abbrev pub number_in : Option Reply → ℕ
 number_in (Some (Num n)) = n
 number_in _ = 0
 
--- the kernel's transition gives just this entry's outcome, and leads on to the next kernel
+-- the kernel's transition gives just this entry's outcome, and the rest goes on from the next kernel
+pub record ReplaysEntry (k : Kernel) (e : Entry) (Rest : Kernel → Type 0) : Type 0 where
+  pub next : Kernel
+  pub step : transition k e.pid e.call (number_in e.outcome.own) ≡ Some (successor next e.outcome)
+  pub rest : Rest next
+
+-- entry by entry, from a kernel to the last one
 abbrev pub Replays : Kernel → List Entry → Kernel → Type 0
 Replays k [] last = k ≡ last
-Replays k (e ∷ es) last =
-    (next : Kernel) × (transition k e.pid e.call (number_in e.outcome.own) ≡ Some (next, e.outcome)) × Replays next es last
+Replays k (e ∷ es) last = ReplaysEntry k e (λ next. Replays next es last)
 
 -- from the opening kernel on, entry by entry
-abbrev pub IsLegal : List Entry → Type 0
-IsLegal history = (last : Kernel) × Replays opening history last
+pub record IsLegal (history : List Entry) : Type 0 where
+  pub last : Kernel
+  pub replays : Replays opening history last

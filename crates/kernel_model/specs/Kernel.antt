@@ -5,7 +5,7 @@ use Rattle.pico_base.specs.declared.reply.Ending.{Ending}
 use Rattle.number_maps.specs.Maps.{Numbered, get, put}
 use Rattle.kernel_model.specs.Queue.{Queue}
 use Rattle.kernel_model.specs.Row.{Alive, Free, new_row, lists}
-use Rattle.kernel_model.specs.SemaphoreSet.{Semaphore}
+use Rattle.kernel_model.specs.SemaphoreSet.{SemaphoreSet}
 
 -- A process lives, has ended and is kept for its parent, or is gone.
 pub data Process : Type 0 where
@@ -14,18 +14,18 @@ pub data Process : Type 0 where
   Gone : Process
 
 -- Processes, queues and sets by number, two tables of keys, and the numbers used so far of each kind. A removed
--- queue or set has its number used and no place in its map.
+-- queue or set has its number used and no place in its map. Keys of queues and of sets are apart (System Interfaces 2.7).
 pub record Kernel : Type 0 where
   pub processes : Numbered Process
   pub queue_keys : Numbered ℕ
   pub set_keys : Numbered ℕ
   pub queues : Numbered Queue
-  pub sets : Numbered (List Semaphore)
+  pub sets : Numbered SemaphoreSet
   pub used_processes : List ℕ
   pub used_queues : List ℕ
   pub used_sets : List ℕ
 
--- process 1 lives, with new signals, no children, and free to act
+-- process 1 lives, with new signals, no children, and free to act (profile: the system begins with one process)
 abbrev pub opening : Kernel
 opening =
     record {
@@ -51,7 +51,8 @@ living_in ps pid = option_and_then alive_in (get ps pid)
 abbrev pub living_at : Kernel → ℕ → Option Alive
 living_at k pid = living_in k.processes pid
 
--- a living process's parent: the living process that lists it
+-- a living process's parent: the living process that lists it. Where there is none, the process has no parent (profile:
+-- `_Exit` makes an implementation-defined system process the parent, which here waits for each child at once)
 pub record Parent : Type 0 where
   pub pid : ℕ
   pub alive : Alive

@@ -1,4 +1,4 @@
--- A message queue (POSIX.1-2017: msgget, msgsnd, msgrcv, msgctl).
+-- A message queue (POSIX.1-2017: msgget, msgsnd, msgrcv, msgctl; System Interfaces 2.7 for what these share).
 use Rattle.std.specs.Prelude.{ℕ, ◌+◌, ℤ, pos, negsuc, suc, zero, Bool, true, ◌||◌, ◌&&◌, List, [], ◌∷◌, ◌++◌, length, take, nat_lt, nat_le, int_lt, int_le, if◌then◌else◌, Option, Some, None, Result, Ok, Err, slice_get, sum_by, position, remove}
 use Rattle.std.specs.Ordering.{int_eq}
 use Rattle.pico_base.specs.declared.reply.Errno.{Errno}
@@ -18,7 +18,7 @@ pub record Queue : Type 0 where
   pub last_sender : ℕ
   pub last_receiver : ℕ
 
--- the profile's limits: a text's bytes, a queue's bytes, and a queue's messages
+-- the limits (profile): a text's bytes, a queue's bytes, and a queue's messages
 abbrev pub max_text : ℕ
 max_text = 4096
 
@@ -38,7 +38,8 @@ bytes_of ms = sum_by (λ m. length m.text) ms
 abbrev pub bytes_in : Queue → ℕ
 bytes_in q = bytes_of q.messages
 
--- msgsnd. A type below 1 and a text above the limit are refused; so is a message for which there is no room
+-- msgsnd: EINVAL for a type below 1 and for a text above the limit, EAGAIN where there is no room. There is room as long
+-- as the bytes don't pass msg_qbytes; the count of messages has a limit of its own (profile)
 abbrev pub has_room : Queue → List ℕ → Bool
 has_room q text = nat_le (bytes_in q + length text) q.qbytes && nat_lt (length q.messages) max_messages
 
@@ -90,7 +91,7 @@ take_message q pid size place m =
       message = record { class = m.class; text = take size m.text };
     }
 
--- a text above the size asked stays, unless MSG_NOERROR is set
+-- E2BIG: a text above the size asked stays, unless MSG_NOERROR is set (msgrcv)
 abbrev pub receive_at : Queue → ℕ → ℕ → Bool → ℕ → Option Message → Result Received Errno
 receive_at q pid size noerror place None = Err Enomsg
 receive_at q pid size noerror place (Some m) =
@@ -103,7 +104,8 @@ receive_from q pid size noerror (Some place) = receive_at q pid size noerror pla
 abbrev pub receive : Queue → ℕ → ℤ → ℕ → Bool → Result Received Errno
 receive q pid class size noerror = receive_from q pid size noerror (select q.messages class)
 
--- msgctl with IPC_STAT and IPC_SET; a msg_qbytes above the limit is refused (profile)
+-- msgctl with IPC_STAT and IPC_SET: EINVAL for a msg_qbytes above the limit (profile). What is there stays, also where it
+-- is more than msg_qbytes now
 abbrev pub stat : Queue → Reply
 stat q = replies.Stat (length q.messages) q.qbytes q.last_sender q.last_receiver
 

@@ -1,4 +1,4 @@
--- A living process: its signals, its family, and what it may still do (POSIX.1-2017: fork, exit, wait).
+-- A living process: its signals, its family, and what it may still do (POSIX.1-2017: fork, _Exit, wait).
 use Rattle.std.specs.Prelude.{ℕ, Bool, true, false, not, List, [], ◌∷◌, ◌++◌, if◌then◌else◌, Option, Some, None, is_some, nat_eq}
 use Rattle.std.specs.List.{filter, list_any}
 use Rattle.pico_base.specs.declared.reply.Ending.{Ending}
@@ -8,10 +8,18 @@ use Rattle.pico_base.specs.declared.signal.Act.{Act}
 use Rattle.pico_base.specs.declared.signal.Act.TheVariants.{Dfl, Ign, Catch}
 use Rattle.kernel_model.specs.Signals.{Signals, new_signals, inherit, raise}
 
--- the living children in order of fork, and the ended ones with their endings in order of end
+-- a child that has ended, and how
+pub record EndedChild : Type 0 where
+  pub pid : ℕ
+  pub ending : Ending
+
+abbrev pub ended_child : ℕ → Ending → EndedChild
+ended_child pid ending = record { pid = pid; ending = ending }
+
+-- the living children in order of fork, and the ended ones in order of end
 pub record Family : Type 0 where
   pub living : List ℕ
-  pub ended : List (ℕ × Ending)
+  pub ended : List EndedChild
 
 abbrev pub no_family : Family
 no_family = record { living = []; ended = [] }
@@ -23,7 +31,7 @@ pub record Row : Type 0 where
 abbrev pub new_row : Row
 new_row = record { signals = new_signals; family = no_family }
 
--- the row of a forked child
+-- the row of a forked child, which has no children (fork)
 abbrev pub child_row : Row → Row
 child_row row = record { signals = inherit row.signals; family = no_family }
 
@@ -37,15 +45,16 @@ lists f child = list_any (nat_eq child) f.living
 abbrev pub others : ℕ → List ℕ → List ℕ
 others child children = filter (λ c. not (nat_eq child c)) children
 
--- a child has ended: its ending is kept for waitpid, unless it is ignored
+-- a child has ended: its ending is kept for waitpid, unless the parent ignores CHLD (_Exit: consequences of the end of a
+-- process)
 abbrev pub family_after_end : Family → ℕ → Ending → Bool → Family
 family_after_end f child ending ignored =
     record {
       living = others child f.living;
-      ended = if ignored then f.ended else f.ended ++ (child, ending) ∷ [];
+      ended = if ignored then f.ended else f.ended ++ ended_child child ending ∷ [];
     }
 
--- the action for CHLD is to ignore it: ended children aren't kept
+-- the action for CHLD is to ignore it: ended children aren't kept (_Exit)
 abbrev pub is_ign : Act → Bool
 is_ign Ign = true
 is_ign Dfl = false
@@ -59,13 +68,13 @@ abbrev pub matches : Option ℕ → ℕ → Bool
 matches None child = true
 matches (Some which) child = nat_eq which child
 
--- the first ended child that matches, with the family without it
-abbrev pub first_ended_child : Option ℕ → List (ℕ × Ending) → Option (ℕ × Ending)
+-- the matching child that ended first (profile: waitpid leaves the order open)
+abbrev pub first_ended_child : Option ℕ → List EndedChild → Option EndedChild
 first_ended_child which [] = None
-first_ended_child which (e ∷ es) = if matches which e.0 then Some e else first_ended_child which es
+first_ended_child which (e ∷ es) = if matches which e.pid then Some e else first_ended_child which es
 
 abbrev pub without_ended : ℕ → Family → Family
-without_ended child f = record f { ended = filter (λ e. not (nat_eq child e.0)) f.ended }
+without_ended child f = record f { ended = filter (λ e. not (nat_eq child e.pid)) f.ended }
 
 -- what waitpid finds: an ended child, only living ones, or none that matches
 pub data Waited : Type 0 where
@@ -73,8 +82,8 @@ pub data Waited : Type 0 where
   NotYet : Waited
   NoChild : Waited
 
-abbrev pub wait_result : Option (ℕ × Ending) → Bool → Waited
-wait_result (Some e) living = Found e.0 e.1
+abbrev pub wait_result : Option EndedChild → Bool → Waited
+wait_result (Some e) living = Found e.pid e.ending
 wait_result None living = if living then NotYet else NoChild
 
 abbrev pub wait : Family → Option ℕ → Waited
@@ -96,7 +105,7 @@ pub record Alive : Type 0 where
 abbrev pub allowance_after_raise : Bool → Bool → Allowance → Allowance
 allowance_after_raise before now allowance = if before then allowance else if now then One else allowance
 
--- a signal is raised by another's entry
+-- a signal is raised by another's entry (kill; System Interfaces 2.4)
 abbrev pub raise_by_other : Alive → Sig → Alive
 raise_by_other a g =
     let signals = raise a.row.signals g
@@ -105,7 +114,7 @@ raise_by_other a g =
       allowance = allowance_after_raise (is_some a.row.signals.doom) (is_some signals.doom) a.allowance;
     }
 
--- a child of this process has ended: it is listed as ended, or forgotten, and CHLD is raised where it isn't ignored
+-- a child of this process has ended: it is listed as ended, or forgotten, and CHLD is raised where it isn't ignored (_Exit)
 abbrev pub with_ended_child : Alive → ℕ → Ending → Alive
 with_ended_child a child ending =
     let ignored = ignores_children a.row

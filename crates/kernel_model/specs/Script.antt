@@ -10,6 +10,8 @@ use Rattle.pico_base.specs.declared.script.Line.{Line}
 use Rattle.pico_base.specs.declared.script.Block.{Block as ScriptBlock}
 use Rattle.pico_base.specs.declared.script.Script.{Script}
 use Rattle.number_maps.specs.Maps.{Numbered, get}
+use Rattle.kernel_model.specs.Numbers.{is_between, is_positive_u32, is_u16, is_u32}
+use Rattle.kernel_model.specs.Texts.{has_spelling}
 use Rattle.kernel_model.specs.Waiting.{is_waiting}
 
 -- the values of variables, by rising variable
@@ -38,7 +40,16 @@ with_target (calls.SemSetVal id num value) n = calls.SemSetVal n num value
 with_target (calls.SemGetAll id) n = calls.SemGetAll n
 with_target (calls.SemSetAll id values) n = calls.SemSetAll n values
 with_target (calls.SemRmid id) n = calls.SemRmid n
-with_target call n = call
+with_target (calls.Fork block) n = calls.Fork block
+with_target (calls.Exit status) n = calls.Exit status
+with_target (calls.Killed sig) n = calls.Killed sig
+with_target calls.GetPid n = calls.GetPid
+with_target (calls.SigAction sig act) n = calls.SigAction sig act
+with_target (calls.SigProcMask how set) n = calls.SigProcMask how set
+with_target calls.SigPending n = calls.SigPending
+with_target (calls.Handled sig) n = calls.Handled sig
+with_target (calls.MsgGet key create excl) n = calls.MsgGet key create excl
+with_target (calls.SemGet key count create excl) n = calls.SemGet key count create excl
 
 abbrev pub call_from : Call → Vars → Option ℕ → Call
 call_from call vars None = call
@@ -83,49 +94,79 @@ abbrev pub names_differ : List ScriptBlock → Bool
 names_differ [] = true
 names_differ (b ∷ bs) = not (list_any (λ other. is_same b.name other.name) bs) && names_differ bs
 
--- Forks: pairs of the block where the line stands and the block that it names, counted from 1.
+-- Forks: the block where the line stands, and the block that it names, counted from 1.
+
+pub record Fork : Type 0 where
+  pub from : ℕ
+  pub to : ℕ
+
+abbrev pub fork_from : ℕ → ℕ → Fork
+fork_from from to = record { from = from; to = to }
 
 abbrev pub fork_targets : Call → List ℕ
 fork_targets (calls.Fork block) = block ∷ []
 fork_targets _ = []
 
-abbrev pub forks_of : Script → List (ℕ × ℕ)
-forks_of s = flat_map (λ b. map (λ to. (b.0, to)) (flat_map (λ line. fork_targets line.call) b.1.lines)) (enumerate_from 1 s.blocks)
+abbrev pub forks_of : Script → List Fork
+forks_of s =
+    flat_map (λ b. map (fork_from b.0) (flat_map (λ line. fork_targets line.call) b.1.lines)) (enumerate_from 1 s.blocks)
 
 -- of a later block of the script
-abbrev pub goes_forward : Script → ℕ × ℕ → Bool
-goes_forward s fork = nat_lt fork.0 fork.1 && nat_le fork.1 (length s.blocks)
+abbrev pub goes_forward : Script → Fork → Bool
+goes_forward s fork = nat_lt fork.from fork.to && nat_le fork.to (length s.blocks)
 
 abbrev pub is_forked_once : Script → ℕ → Bool
-is_forked_once s block = nat_eq (count_by (λ fork. nat_eq fork.1 block) (forks_of s)) 1
+is_forked_once s block = nat_eq (count_by (λ fork. nat_eq fork.to block) (forks_of s)) 1
 
--- Ranges of arguments, beside those of their types.
+-- Ranges of arguments: those of their types, and those of a script's words.
 
 abbrev pub is_step_in_range : SemStep → Bool
-is_step_in_range step = int_le (negsuc 65534) step.add && int_le step.add (pos 65535)
+is_step_in_range step = is_u16 step.num && (int_le (negsuc 65534) step.add && int_le step.add (pos 65535))
 
+-- a private get has no options, and a key isn't 0
 abbrev pub is_key : Option ℕ → Bool → Bool → Bool
 is_key None create excl = not create && not excl
-is_key (Some key) create excl = nat_lt 0 key
+is_key (Some key) create excl = is_positive_u32 key
 
 -- a message's type, as the script may write it
 abbrev pub is_type : ℤ → Bool
-is_type class = int_le (negsuc 2147483646) class
+is_type class = int_le (negsuc 2147483646) class && int_le class (pos 2147483647)
 
-abbrev pub is_between : ℕ → ℕ → ℕ → Bool
-is_between low high n = nat_le low n && nat_le n high
+abbrev pub is_child : Option ℕ → Bool
+is_child None = true
+is_child (Some child) = is_u32 child
+
+-- a semaphore of a set
+abbrev pub is_place : ℕ → ℕ → Bool
+is_place id num = is_u32 id && is_u16 num
 
 abbrev pub is_in_range : Call → Bool
+is_in_range (calls.Fork block) = true
+is_in_range (calls.Exit status) = is_u16 status
 is_in_range (calls.Killed sig) = false
+is_in_range calls.GetPid = true
+is_in_range (calls.Kill pid sig) = is_u32 pid
+is_in_range (calls.SigAction sig act) = true
+is_in_range (calls.SigProcMask how set) = true
+is_in_range calls.SigPending = true
+is_in_range (calls.Handled sig) = true
+is_in_range (calls.WaitPid child nohang) = is_child child
 is_in_range (calls.MsgGet key create excl) = is_key key create excl
-is_in_range (calls.MsgSnd id class text nowait) = is_type class && nat_le (length text) 8192
-is_in_range (calls.MsgRcv id class size noerror nowait) = is_type class && nat_le size 65535
-is_in_range (calls.MsgSet id qbytes) = nat_le qbytes 65535
-is_in_range (calls.SemGet key count create excl) = is_key key create excl && nat_le count 65535
-is_in_range (calls.SemOp id steps) = is_between 1 1024 (length steps) && list_all is_step_in_range steps
-is_in_range (calls.SemSetVal id num value) = nat_le value 65535
-is_in_range (calls.SemSetAll id values) = is_between 1 2048 (length values) && list_all (λ v. nat_le v 65535) values
-is_in_range _ = true
+is_in_range (calls.MsgSnd id class text nowait) = is_u32 id && (is_type class && has_spelling text)
+is_in_range (calls.MsgRcv id class size noerror nowait) = is_u32 id && (is_type class && is_u16 size)
+is_in_range (calls.MsgStat id) = is_u32 id
+is_in_range (calls.MsgSet id qbytes) = is_u32 id && is_u16 qbytes
+is_in_range (calls.MsgRmid id) = is_u32 id
+is_in_range (calls.SemGet key count create excl) = is_key key create excl && is_u16 count
+is_in_range (calls.SemOp id steps) = is_u32 id && (is_between 1 1024 (length steps) && list_all is_step_in_range steps)
+is_in_range (calls.SemGetVal id num) = is_place id num
+is_in_range (calls.SemGetPid id num) = is_place id num
+is_in_range (calls.SemGetNcnt id num) = is_place id num
+is_in_range (calls.SemGetZcnt id num) = is_place id num
+is_in_range (calls.SemSetVal id num value) = is_place id num && is_u16 value
+is_in_range (calls.SemGetAll id) = is_u32 id
+is_in_range (calls.SemSetAll id values) = is_u32 id && (is_between 1 2048 (length values) && list_all is_u16 values)
+is_in_range (calls.SemRmid id) = is_u32 id
 
 -- a call whose process or object a variable can name
 abbrev pub can_name : Call → Bool
@@ -145,13 +186,47 @@ can_name (calls.SemSetVal id num value) = true
 can_name (calls.SemGetAll id) = true
 can_name (calls.SemSetAll id values) = true
 can_name (calls.SemRmid id) = true
-can_name _ = false
+can_name (calls.Fork block) = false
+can_name (calls.Exit status) = false
+can_name (calls.Killed sig) = false
+can_name calls.GetPid = false
+can_name (calls.SigAction sig act) = false
+can_name (calls.SigProcMask how set) = false
+can_name calls.SigPending = false
+can_name (calls.Handled sig) = false
+can_name (calls.MsgGet key create excl) = false
+can_name (calls.SemGet key count create excl) = false
+can_name (calls.WaitPid None nohang) = false
 
 -- a process number that the script writes isn't 0
 abbrev pub is_process_in_range : Call → Bool
 is_process_in_range (calls.Kill pid sig) = nat_lt 0 pid
 is_process_in_range (calls.WaitPid (Some child) nohang) = nat_lt 0 child
-is_process_in_range _ = true
+is_process_in_range (calls.WaitPid None nohang) = true
+is_process_in_range (calls.Fork block) = true
+is_process_in_range (calls.Exit status) = true
+is_process_in_range (calls.Killed sig) = true
+is_process_in_range calls.GetPid = true
+is_process_in_range (calls.SigAction sig act) = true
+is_process_in_range (calls.SigProcMask how set) = true
+is_process_in_range calls.SigPending = true
+is_process_in_range (calls.Handled sig) = true
+is_process_in_range (calls.MsgGet key create excl) = true
+is_process_in_range (calls.MsgSnd id class text nowait) = true
+is_process_in_range (calls.MsgRcv id class size noerror nowait) = true
+is_process_in_range (calls.MsgStat id) = true
+is_process_in_range (calls.MsgSet id qbytes) = true
+is_process_in_range (calls.MsgRmid id) = true
+is_process_in_range (calls.SemGet key count create excl) = true
+is_process_in_range (calls.SemOp id steps) = true
+is_process_in_range (calls.SemGetVal id num) = true
+is_process_in_range (calls.SemGetPid id num) = true
+is_process_in_range (calls.SemGetNcnt id num) = true
+is_process_in_range (calls.SemGetZcnt id num) = true
+is_process_in_range (calls.SemSetVal id num value) = true
+is_process_in_range (calls.SemGetAll id) = true
+is_process_in_range (calls.SemSetAll id values) = true
+is_process_in_range (calls.SemRmid id) = true
 
 -- Lines.
 
@@ -169,10 +244,16 @@ is_tried_once line = nat_eq line.tries 1 || not (is_fork line.call || is_exit li
 abbrev pub sets_rightly : Line → Bool
 sets_rightly line = not (is_some line.set && is_exit line.call)
 
+-- variables are a letter with no digit, one or two, which have the numbers 0 to 2885
+abbrev pub is_variable : Option ℕ → Bool
+is_variable None = true
+is_variable (Some v) = nat_le v 2885
+
 abbrev pub is_line : Line → Bool
 is_line line =
     is_between 1 max_calls line.tries && (is_tried_once line && (sets_rightly line && (is_in_range line.call
-    && (if is_some line.from then can_name line.call else is_process_in_range line.call))))
+    && ((if is_some line.from then can_name line.call else is_process_in_range line.call)
+    && (is_variable line.set && is_variable line.from)))))
 
 abbrev pub each_line : (Line → Bool) → Script → Bool
 each_line test s = list_all (λ b. list_all test b.lines) s.blocks

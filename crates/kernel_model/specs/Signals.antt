@@ -1,8 +1,9 @@
--- What a process knows of signals (POSIX.1-2017: sigaction, sigprocmask, sigpending, kill).
-use Rattle.std.specs.Prelude.{◌≡◌, ℕ, ◌+◌, min, Bool, true, false, not, ◌||◌, ◌&&◌, List, [], ◌∷◌, if◌then◌else◌, Option, Some, None, is_some, fold, Result, Ok, Err}
+-- What a process knows of signals (POSIX.1-2017: System Interfaces 2.4; sigaction, sigprocmask, sigpending, kill). The ten
+-- signals, their numbers and their order are the profile's.
+use Rattle.std.specs.Prelude.{◌≡◌, ℕ, ◌+◌, min, Bool, true, false, not, ◌||◌, ◌&&◌, if◌then◌else◌, Option, Some, None, is_some, fold, Result, Ok, Err}
 use Rattle.pico_base.specs.declared.signal.PerSignal.{PerSignal}
 use Rattle.pico_base.specs.declared.signal.Sig.{Sig}
-use Rattle.pico_base.specs.declared.signal.Sig.TheVariants.{Hup, Int, Quit, Kill, Usr1, Usr2, Pipe, Alrm, Term, Chld}
+use Rattle.pico_base.specs.declared.signal.Sig.TheVariants.{Kill, Chld}
 use Rattle.pico_base.specs.declared.signal.Act.{Act}
 use Rattle.pico_base.specs.declared.signal.Act.TheVariants.{Dfl, Ign, Catch}
 use Rattle.pico_base.specs.declared.signal.How.{How}
@@ -11,7 +12,7 @@ use Rattle.pico_base.specs.declared.signal.SigArg.{SigArg}
 use Rattle.pico_base.specs.declared.signal.SigArg.TheVariants.{Zero, Is, Bad}
 use Rattle.pico_base.specs.declared.reply.Errno.{Errno}
 use Rattle.pico_base.specs.declared.reply.Errno.TheVariants.{Einval}
-use Rattle.pico_base.specs.Signal.{at, put_at, everywhere}
+use Rattle.pico_base.specs.Signal.{all_signals, at, put_at, everywhere}
 
 -- An action and a count of catches for each signal, the mask, the pending signals, and the signal by which
 -- the process will end, if there is one.
@@ -32,13 +33,9 @@ new_signals =
       doom = None;
     }
 
--- fork: the child has its parent's actions and mask; nothing is pending, and no signal was caught (profile)
+-- fork: the child has its parent's actions and mask, and nothing is pending; no signal was caught (profile)
 abbrev pub inherit : Signals → Signals
 inherit s = record new_signals { actions = s.actions; mask = s.mask }
-
--- the table of signals, in order
-abbrev pub all_signals : List Sig
-all_signals = Hup ∷ Int ∷ Quit ∷ Kill ∷ Usr1 ∷ Usr2 ∷ Pipe ∷ Alrm ∷ Term ∷ Chld ∷ []
 
 abbrev pub is_kill : Sig → Bool
 is_kill Kill = true
@@ -48,7 +45,8 @@ abbrev pub is_chld : Sig → Bool
 is_chld Chld = true
 is_chld _ = false
 
--- an action that discards the signal: to ignore it, or CHLD's default (masked or not: profile)
+-- an action that discards the signal: to ignore it, or CHLD's default, masked or not (profile: System Interfaces 2.4 leaves
+-- it open for a masked one)
 abbrev pub discards : Act → Sig → Bool
 discards Ign g = true
 discards Dfl g = is_chld g
@@ -61,7 +59,7 @@ doom_by s g = record s { doom = Some g }
 abbrev pub count_up : ℕ → ℕ
 count_up n = min (n + 1) 4294967295
 
--- a signal that arrives is caught and counted, or ends the process
+-- a signal that arrives is caught and counted, or ends the process (System Interfaces 2.4.3)
 abbrev pub arrive_by : Act → Signals → Sig → Signals
 arrive_by Catch s g = record s { handled = put_at s.handled g (count_up (at s.handled g)) }
 arrive_by Dfl s g = doom_by s g
@@ -70,8 +68,8 @@ arrive_by Ign s g = doom_by s g
 abbrev pub arrive : Signals → Sig → Signals
 arrive s g = arrive_by (at s.actions g) s g
 
--- A signal is raised at a process. A doomed process takes no notice (profile), KILL can't be held off, a
--- discarded signal is gone, and a masked one is pending once.
+-- A signal is raised at a process (System Interfaces 2.4.1). A doomed process takes no notice (profile), KILL can't be held
+-- off, a discarded signal is gone, and a masked one is pending once (profile: 2.4.1 leaves a second one open).
 abbrev pub raise : Signals → Sig → Signals
 raise s g =
     if is_some s.doom then s
@@ -80,7 +78,7 @@ raise s g =
     else if at s.mask g then record s { pending = put_at s.pending g true }
     else arrive s g
 
--- sigaction: what is pending goes where the new action discards it
+-- sigaction: what is pending goes where the new action discards it (System Interfaces 2.4.3)
 abbrev pub with_action : Signals → Sig → Act → Signals
 with_action s g act =
     record s {
@@ -88,7 +86,7 @@ with_action s g act =
       pending = put_at s.pending g (at s.pending g && not (discards act g));
     }
 
--- no action can be given to KILL, to 0 or to a number that is no signal's
+-- EINVAL: no action can be given to KILL, to 0 or to a number that is no signal's (sigaction)
 abbrev pub act_on : Signals → SigArg → Act → Result Signals Errno
 act_on s Zero act = Err Einval
 act_on s Bad act = Err Einval
@@ -109,7 +107,7 @@ both f a b =
       chld = f a.chld b.chld;
     }
 
--- sigprocmask: the set is added, taken away, or the mask; KILL is never in it
+-- sigprocmask: the set is added, taken away, or becomes the mask; KILL is never in it
 abbrev pub mask_by : How → PerSignal Bool → PerSignal Bool → PerSignal Bool
 mask_by Block old set = both (λ a b. a || b) old set
 mask_by Unblock old set = both (λ a b. a && not b) old set
@@ -125,7 +123,8 @@ deliver s g =
     then arrive (record s { pending = put_at s.pending g false }) g
     else s
 
--- the mask changes, and then what is pending and unmasked arrives, in table order
+-- the mask changes, and then what is pending and unmasked arrives, in table order (profile: sigprocmask promises one of
+-- them before it returns, and no order)
 abbrev pub with_mask : Signals → How → PerSignal Bool → Signals
 with_mask s how set = fold deliver (record s { mask = new_mask how s.mask set }) all_signals
 
@@ -135,16 +134,3 @@ pub record AreSoundSignals (s : Signals) : Type 0 where
   pub kept : (g : Sig) → at s.pending g ≡ true → discards (at s.actions g) g ≡ false
   pub unmasked : s.mask.kill ≡ false
   pub kill_default : s.actions.kill ≡ Dfl
-
--- a signal's number, its place in the table from 1
-abbrev pub signal_number : Sig → ℕ
-signal_number Hup = 1
-signal_number Int = 2
-signal_number Quit = 3
-signal_number Kill = 4
-signal_number Usr1 = 5
-signal_number Usr2 = 6
-signal_number Pipe = 7
-signal_number Alrm = 8
-signal_number Term = 9
-signal_number Chld = 10

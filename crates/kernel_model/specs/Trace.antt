@@ -1,6 +1,6 @@
 -- The text of a history: a line for each entry, and the totals.
-use Rattle.std.specs.Prelude.{ℕ, ℤ, ◌+◌, ◌/◌, ◌%◌, Bool, true, false, not, ◌&&◌, ◌||◌, nat_eq, nat_le, nat_lt, List, [], ◌∷◌, ◌++◌, length, if◌then◌else◌, Option, Some, None, codes, count_by}
-use Rattle.std.specs.List.{flat_map, list_all, filter}
+use Rattle.std.specs.Prelude.{ℕ, ℤ, ◌+◌, Bool, true, false, not, List, [], ◌∷◌, ◌++◌, length, if◌then◌else◌, Option, Some, None, codes, count_by, sum_by}
+use Rattle.std.specs.List.{flat_map, filter}
 use Rattle.std.specs.Fmt.{decimal, signed_decimal}
 use Rattle.pico_base.specs.declared.call.Call.{Call}
 use Rattle.pico_base.specs.declared.call.Call.TheVariants as calls
@@ -12,6 +12,7 @@ use Rattle.pico_base.specs.declared.reply.Errno.TheVariants.{Esrch, Einval, Echi
 use Rattle.pico_base.specs.declared.reply.Ending.{Ending}
 use Rattle.pico_base.specs.declared.reply.Ending.TheVariants.{Exited, Killed}
 use Rattle.pico_base.specs.declared.reply.Entry.{Entry}
+use Rattle.pico_base.specs.declared.reply.Outcome.{Outcome}
 use Rattle.pico_base.specs.declared.signal.Sig.{Sig}
 use Rattle.pico_base.specs.declared.signal.Sig.TheVariants.{Hup, Int, Quit, Kill, Usr1, Usr2, Pipe, Alrm, Term, Chld}
 use Rattle.pico_base.specs.declared.signal.SigArg.{SigArg}
@@ -25,6 +26,9 @@ use Rattle.pico_base.specs.declared.script.Script.{Script}
 use Rattle.pico_base.specs.declared.script.Block.{Block as ScriptBlock}
 use Rattle.pico_base.specs.Signal.{at, all_signals}
 use Rattle.kernel_model.specs.Fitting.{block_at}
+use Rattle.kernel_model.specs.Texts.{message_text}
+pub use Rattle.kernel_model.specs.Script.{is_fork}
+pub use Rattle.kernel_model.specs.Texts.{is_letter_or_digit, is_plain, hex_digit, escape, quoted_text, is_repeated, repeated_text}
 
 -- Names.
 
@@ -81,39 +85,6 @@ error_name Efbig = codes "EFBIG"
 error_name Erange = codes "ERANGE"
 error_name Eidrm = codes "EIDRM"
 error_name Eintr = codes "EINTR"
-
--- Texts of messages.
-
-abbrev pub is_between : ℕ → ℕ → ℕ → Bool
-is_between low high b = nat_le low b && nat_le b high
-
-abbrev pub is_letter_or_digit : ℕ → Bool
-is_letter_or_digit b = is_between 48 57 b || (is_between 65 90 b || is_between 97 122 b)
-
--- a byte that stands for itself between quotes
-abbrev pub is_plain : ℕ → Bool
-is_plain b = is_between 32 126 b && not (nat_eq b 34 || nat_eq b 92)
-
-abbrev pub hex_digit : ℕ → ℕ
-hex_digit d = if nat_lt d 10 then 48 + d else 87 + d
-
-abbrev pub escape : ℕ → List ℕ
-escape b = if is_plain b then b ∷ [] else codes "\\x" ++ hex_digit (b / 16) ∷ hex_digit (b % 16) ∷ []
-
-abbrev pub quoted_text : List ℕ → List ℕ
-quoted_text text = 34 ∷ (flat_map escape text ++ 34 ∷ [])
-
--- the same letter or digit, 17 or more times
-abbrev pub is_repeated : List ℕ → Bool
-is_repeated [] = false
-is_repeated (b ∷ bs) = is_letter_or_digit b && (nat_le 16 (length bs) && list_all (nat_eq b) bs)
-
-abbrev pub repeated_text : List ℕ → List ℕ
-repeated_text [] = []
-repeated_text (b ∷ bs) = codes "rep:" ++ decimal (length (b ∷ bs)) ++ 58 ∷ b ∷ []
-
-abbrev pub message_text : List ℕ → List ℕ
-message_text text = if is_repeated text then repeated_text text else quoted_text text
 
 -- Calls and replies.
 
@@ -220,19 +191,21 @@ own_text (Some reply) = reply_text reply
 
 -- Lines, each ended by a line feed.
 
--- who made the call, and who carried it out
+-- who made the call
 abbrev pub made_text : Script → ℕ → Call → List ℕ
 made_text script pid call = decimal pid ++ 32 ∷ call_text script call
 
-abbrev pub by_text : ℕ → List ℕ
-by_text node = codes " by " ++ decimal node ++ 10 ∷ []
+-- each caller that is woken, with its reply
+abbrev pub wake_text : ℕ × Reply → List ℕ
+wake_text wake = codes " wakes " ++ decimal wake.0 ++ 32 ∷ reply_text wake.1
+
+-- who carried the call out, and whom that woke
+abbrev pub by_text : ℕ → List (ℕ × Reply) → List ℕ
+by_text node woken = codes " by " ++ decimal node ++ (flat_map wake_text woken ++ 10 ∷ [])
 
 abbrev pub entry_line : Script → Entry → List ℕ
-entry_line script e = made_text script e.pid e.call ++ codes " = " ++ own_text e.outcome.own ++ by_text e.by
-
-abbrev pub is_fork : Call → Bool
-is_fork (calls.Fork block) = true
-is_fork _ = false
+entry_line script e =
+    made_text script e.pid e.call ++ codes " = " ++ own_text e.outcome.own ++ by_text e.by e.outcome.woken
 
 -- nothing was ready: ENOMSG and EAGAIN
 abbrev pub is_not_ready : Errno → Bool
@@ -244,9 +217,14 @@ abbrev pub is_not_ready_reply : Option Reply → Bool
 is_not_ready_reply (Some (replies.Fail e)) = is_not_ready e
 is_not_ready_reply _ = false
 
+-- every other error
 abbrev pub is_refused_reply : Option Reply → Bool
 is_refused_reply (Some (replies.Fail e)) = not (is_not_ready e)
 is_refused_reply _ = false
+
+-- how many replies of an outcome are so: the caller's own, and those of the callers that it wakes
+abbrev pub replies_where : (Option Reply → Bool) → Outcome → ℕ
+replies_where test outcome = count_by (λ w. test (Some w.1)) outcome.woken + (if test outcome.own then 1 else 0)
 
 unfoldable pub entries_total : ℕ → List ℕ
 entries_total n = codes "totals entries " ++ decimal n
@@ -260,13 +238,13 @@ not_ready_total n = codes " notready " ++ decimal n
 unfoldable pub refused_total : ℕ → List ℕ
 refused_total n = codes " refused " ++ decimal n
 
--- the entries, the processes (one more than the forks), the entries where nothing was ready, the other refusals
+-- the entries, the processes (one more than the forks), the replies that nothing was ready, the other refusals
 abbrev pub totals_line : List Entry → List ℕ
 totals_line h =
     entries_total (length h)
     ++ processes_total (1 + count_by (λ e. is_fork e.call) h)
-    ++ not_ready_total (count_by (λ e. is_not_ready_reply e.outcome.own) h)
-    ++ refused_total (count_by (λ e. is_refused_reply e.outcome.own) h)
+    ++ not_ready_total (sum_by (λ e. replies_where is_not_ready_reply e.outcome) h)
+    ++ refused_total (sum_by (λ e. replies_where is_refused_reply e.outcome) h)
     ++ 10 ∷ []
 
 abbrev pub trace_text : Script → List Entry → List ℕ

@@ -1,6 +1,6 @@
 -- What a call does: from a kernel, a process, a call and a number for what the call may create, the next kernel
 -- and the outcome. Where there is no result the call can't stand at that point of a history.
-use Rattle.std.specs.Prelude.{ℕ, ◌%◌, Bool, true, false, not, nat_eq, [], if◌then◌else◌, Option, Some, None, is_some}
+use Rattle.std.specs.Prelude.{ℕ, ◌%◌, Bool, true, false, not, nat_eq, if◌then◌else◌, Option, Some, None, is_some}
 use Rattle.pico_base.specs.declared.call.Call.{Call}
 use Rattle.pico_base.specs.declared.call.Call.TheVariants as calls
 use Rattle.pico_base.specs.declared.reply.Reply.TheVariants as replies
@@ -14,12 +14,21 @@ use Rattle.kernel_model.specs.Row.{Alive, Allowance, Free, One, Spent, wait}
 use Rattle.kernel_model.specs.Queue.{send, receive, set_qbytes}
 use Rattle.kernel_model.specs.SemaphoreSet.{value_at, last_at, waiting_at, set_value, set_all}
 use Rattle.kernel_model.specs.Kernel.{Kernel, living_at, with_alive}
-use Rattle.kernel_model.specs.Effect.{Effect, reply_with, look_up, on_named}
+use Rattle.kernel_model.specs.Effect.{Effect, reply_with, look_up, on_named, reply_alone}
 use Rattle.kernel_model.specs.ProcessCalls.{fork_effect, end_process, reap_child, with_signals, action_effect, kill}
 use Rattle.kernel_model.specs.QueueCalls.{get_queue, change_queue, receive_effect, stat_effect, remove_queue}
 use Rattle.kernel_model.specs.SetCalls.{get_set, change_set, operate, all_values, remove_set}
 
--- The table of calls. A call that may have to wait has no effect here.
+-- what a call leads to
+pub record Successor : Type 0 where
+  pub kernel : Kernel
+  pub outcome : Outcome
+
+abbrev pub successor : Kernel → Outcome → Successor
+successor kernel outcome = record { kernel = kernel; outcome = outcome }
+
+-- The table of calls. A call that may have to wait has no effect here (profile). `exit` keeps the low byte of its status
+-- (_Exit), `getpid` replies the caller's own number (getpid), and `handled` how often a signal was caught (profile).
 abbrev pub effect : Kernel → ℕ → Alive → Call → ℕ → Option Effect
 effect k pid a (calls.Fork block) n = fork_effect k pid a n
 effect k pid a (calls.Exit status) n = Some (end_process k pid a (endings.Exited (status % 256)))
@@ -56,7 +65,8 @@ effect k pid a (calls.SemGetAll id) n = Some (on_named k (get k.sets id) (all_va
 effect k pid a (calls.SemSetAll id values) n = Some (on_named k (get k.sets id) (λ s. change_set k id (set_all s values)))
 effect k pid a (calls.SemRmid id) n = Some (on_named k (get k.sets id) (λ _. remove_set k id))
 
--- Who may act (profile): a doomed process ends by its signal, and what it may do before is its allowance.
+-- Who may act (profile: in POSIX a process that a signal ends does nothing more): a doomed process ends by its signal, in
+-- an entry of its own, and what it may do before is its allowance.
 
 abbrev pub is_spent : Allowance → Bool
 is_spent Spent = true
@@ -69,21 +79,45 @@ is_doomed_by (Some doom) g = nat_eq (signal_number doom) (signal_number g)
 
 abbrev pub may_make : Alive → Call → Bool
 may_make a (calls.Killed sig) = is_doomed_by a.row.signals.doom sig
-may_make a call = not (is_spent a.allowance)
+may_make a (calls.Fork block) = not (is_spent a.allowance)
+may_make a (calls.Exit status) = not (is_spent a.allowance)
+may_make a calls.GetPid = not (is_spent a.allowance)
+may_make a (calls.Kill pid sig) = not (is_spent a.allowance)
+may_make a (calls.SigAction sig act) = not (is_spent a.allowance)
+may_make a (calls.SigProcMask how set) = not (is_spent a.allowance)
+may_make a calls.SigPending = not (is_spent a.allowance)
+may_make a (calls.Handled sig) = not (is_spent a.allowance)
+may_make a (calls.WaitPid child nohang) = not (is_spent a.allowance)
+may_make a (calls.MsgGet key create excl) = not (is_spent a.allowance)
+may_make a (calls.MsgSnd id class text nowait) = not (is_spent a.allowance)
+may_make a (calls.MsgRcv id class size noerror nowait) = not (is_spent a.allowance)
+may_make a (calls.MsgStat id) = not (is_spent a.allowance)
+may_make a (calls.MsgSet id qbytes) = not (is_spent a.allowance)
+may_make a (calls.MsgRmid id) = not (is_spent a.allowance)
+may_make a (calls.SemGet key count create excl) = not (is_spent a.allowance)
+may_make a (calls.SemOp id steps) = not (is_spent a.allowance)
+may_make a (calls.SemGetVal id num) = not (is_spent a.allowance)
+may_make a (calls.SemGetPid id num) = not (is_spent a.allowance)
+may_make a (calls.SemGetNcnt id num) = not (is_spent a.allowance)
+may_make a (calls.SemGetZcnt id num) = not (is_spent a.allowance)
+may_make a (calls.SemSetVal id num value) = not (is_spent a.allowance)
+may_make a (calls.SemGetAll id) = not (is_spent a.allowance)
+may_make a (calls.SemSetAll id values) = not (is_spent a.allowance)
+may_make a (calls.SemRmid id) = not (is_spent a.allowance)
 
 -- a doomed process that lives on after an entry of its own has nothing left but its ending
 abbrev pub finish_call : Kernel → ℕ → Option Alive → Kernel
 finish_call k pid None = k
 finish_call k pid (Some a) = if is_some a.row.signals.doom then with_alive k pid (record a { allowance = Spent }) else k
 
-abbrev pub outcome_of : ℕ → Option Effect → Option (Kernel × Outcome)
+abbrev pub outcome_of : ℕ → Option Effect → Option Successor
 outcome_of pid None = None
 outcome_of pid (Some e) =
-    Some (finish_call e.kernel pid (living_at e.kernel pid), record { own = Some e.reply; woken = [] })
+    Some (successor (finish_call e.kernel pid (living_at e.kernel pid)) (reply_alone e.reply))
 
-abbrev pub transition_by : Kernel → ℕ → Call → ℕ → Option Alive → Option (Kernel × Outcome)
+abbrev pub transition_by : Kernel → ℕ → Call → ℕ → Option Alive → Option Successor
 transition_by k pid call n None = None
 transition_by k pid call n (Some a) = if may_make a call then outcome_of pid (effect k pid a call n) else None
 
-abbrev pub transition : Kernel → ℕ → Call → ℕ → Option (Kernel × Outcome)
+abbrev pub transition : Kernel → ℕ → Call → ℕ → Option Successor
 transition k pid call n = transition_by k pid call n (living_at k pid)

@@ -4,7 +4,7 @@ use Rattle.std.specs.List.Sorted.{IsStrictlyIncreasing}
 use Rattle.pico_base.specs.declared.reply.Ending.{Ending}
 use Rattle.number_maps.specs.Maps.{Numbered, get, is_used}
 use Rattle.kernel_model.specs.Signals.{AreSoundSignals}
-use Rattle.kernel_model.specs.Row.{Alive, Free, lists}
+use Rattle.kernel_model.specs.Row.{Alive, Free, ended_child, lists}
 use Rattle.kernel_model.specs.Kernel.{Kernel, Ended, living_at}
 
 -- a map is by rising number
@@ -23,11 +23,19 @@ pub record IsValidProcess (k : Kernel) (pid : ℕ) (a : Alive) : Type 0 where
   pub signals : AreSoundSignals a.row.signals
   pub allowed : (a.row.signals.doom ≡ None) ↔ (a.allowance ≡ Free)
   pub living : (child : ℕ) → lists a.row.family child ≡ true → IsTrue (is_some (living_at k child))
-  pub ended : (child : ℕ) (ending : Ending) → Contains a.row.family.ended (child, ending) → get k.processes child ≡ Some (Ended ending)
+  pub ended : (child : ℕ) (ending : Ending) → Contains a.row.family.ended (ended_child child ending)
+      → get k.processes child ≡ Some (Ended ending)
 
 -- it lists the child as ended
 abbrev pub ListsEnded : Alive → ℕ → Type 0
-ListsEnded a child = (ending : Ending) × Contains a.row.family.ended (child, ending)
+ListsEnded a child = (ending : Ending) × Contains a.row.family.ended (ended_child child ending)
+
+-- a living process keeps the ended child, with its ending
+pub record HasKeeper (k : Kernel) (child : ℕ) (ending : Ending) : Type 0 where
+  pub keeper : ℕ
+  pub alive : Alive
+  pub lives : living_at k keeper ≡ Some alive
+  pub kept : Contains alive.row.family.ended (ended_child child ending)
 
 pub record IsValid (k : Kernel) : Type 0 where
   pub processes : IsOrdered k.processes
@@ -47,4 +55,4 @@ pub record IsValid (k : Kernel) : Type 0 where
       → ListsEnded a child → ListsEnded b child → p ≡ q
   -- an ended process is kept for a living one
   pub kept : (pid : ℕ) (ending : Ending) → get k.processes pid ≡ Some (Ended ending)
-      → (p : ℕ) × (a : Alive) × (living_at k p ≡ Some a) × Contains a.row.family.ended (pid, ending)
+      → HasKeeper k pid ending

@@ -9,10 +9,31 @@ use Rattle.pico_base.specs.declared.call.SemStep.{SemStep}
 abbrev pub may_wait : SemStep → Bool
 may_wait step = int_le step.add (pos 0) && not step.nowait
 
--- without IPC_NOWAIT, or WNOHANG
+-- without IPC_NOWAIT (msgsnd, msgrcv, semop), or without WNOHANG (waitpid)
 abbrev pub is_waiting : Call → Bool
 is_waiting (calls.MsgSnd id class text nowait) = not nowait
 is_waiting (calls.MsgRcv id class size noerror nowait) = not nowait
 is_waiting (calls.WaitPid child nohang) = not nohang
 is_waiting (calls.SemOp id steps) = list_any may_wait steps
-is_waiting _ = false
+is_waiting (calls.Fork block) = false
+is_waiting (calls.Exit status) = false
+is_waiting (calls.Killed sig) = false
+is_waiting calls.GetPid = false
+is_waiting (calls.Kill pid sig) = false
+is_waiting (calls.SigAction sig act) = false
+is_waiting (calls.SigProcMask how set) = false
+is_waiting calls.SigPending = false
+is_waiting (calls.Handled sig) = false
+is_waiting (calls.MsgGet key create excl) = false
+is_waiting (calls.MsgStat id) = false
+is_waiting (calls.MsgSet id qbytes) = false
+is_waiting (calls.MsgRmid id) = false
+is_waiting (calls.SemGet key count create excl) = false
+is_waiting (calls.SemGetVal id num) = false
+is_waiting (calls.SemGetPid id num) = false
+is_waiting (calls.SemGetNcnt id num) = false
+is_waiting (calls.SemGetZcnt id num) = false
+is_waiting (calls.SemSetVal id num value) = false
+is_waiting (calls.SemGetAll id) = false
+is_waiting (calls.SemSetAll id values) = false
+is_waiting (calls.SemRmid id) = false

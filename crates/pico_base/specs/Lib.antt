@@ -1,2 +1,3 @@
+pub mod ErrorNumber
 pub mod Home
 pub mod Signal

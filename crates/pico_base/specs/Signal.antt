@@ -1,5 +1,5 @@
 -- A value for each of the ten signals.
-use Rattle.std.specs.Prelude.{ℕ}
+use Rattle.std.specs.Prelude.{ℕ, List, [], ◌∷◌}
 use Rattle.pico_base.specs.declared.signal.Sig.{Sig}
 use Rattle.pico_base.specs.declared.signal.Sig.TheVariants.{Hup, Int, Quit, Kill, Usr1, Usr2, Pipe, Alrm, Term, Chld}
 use Rattle.pico_base.specs.declared.signal.PerSignal.{PerSignal}
@@ -45,3 +45,20 @@ put_at m Pipe x = record m { pipe = x }
 put_at m Alrm x = record m { alrm = x }
 put_at m Term x = record m { term = x }
 put_at m Chld x = record m { chld = x }
+
+-- the table of signals, in order (profile)
+abbrev pub all_signals : List Sig
+all_signals = Hup ∷ Int ∷ Quit ∷ Kill ∷ Usr1 ∷ Usr2 ∷ Pipe ∷ Alrm ∷ Term ∷ Chld ∷ []
+
+-- a signal's number, its place in the table from 1
+abbrev pub signal_number : Sig → ℕ
+signal_number Hup = 1
+signal_number Int = 2
+signal_number Quit = 3
+signal_number Kill = 4
+signal_number Usr1 = 5
+signal_number Usr2 = 6
+signal_number Pipe = 7
+signal_number Alrm = 8
+signal_number Term = 9
+signal_number Chld = 10
