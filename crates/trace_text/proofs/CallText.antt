@@ -297,7 +297,8 @@ call-again script (calls.SemGetAll id) more sound h =
     ap (call_at script) front ∙ at-semctl script _ ∙ getall-again more id (u32-bound id h)
 call-again script (calls.SemSetAll id []) more sound h = let p = and_parts (is_u32 id) false h in absurd (cc)
 call-again script (calls.SemSetAll id (v ∷ vs)) more sound h =
-    let front : call_text script (calls.SemSetAll id (v ∷ vs)) ++ tail more ≡ codes "semctl " ++ (decimal id ++ (codes " setall " ++ (values_text (v ∷ vs) ++ tail more))) = simp append_assoc in
+    let front : call_text script (calls.SemSetAll id (v ∷ vs)) ++ tail more ≡ codes "semctl " ++ (decimal id ++ (codes " setall " ++ (values_text (v ∷ vs) ++ tail more))) =
+    ap (λ (w : List ℕ). codes "semctl " ++ w) (append_assoc (decimal id ++ codes " setall ") (values_text (v ∷ vs)) (tail more) ∙ append_assoc (decimal id) (codes " setall ") (values_text (v ∷ vs) ++ tail more)) in
     let p = and_parts (is_u32 id) (leb 1 (length (v ∷ vs)) && list_all is_u16 (v ∷ vs)) h in
     let q = and_parts (leb 1 (length (v ∷ vs))) (list_all is_u16 (v ∷ vs)) p.1 in
     ap (call_at script) front ∙ at-semctl script _ ∙ set-all-again more id (u32-bound id p.0) v vs (all-from is_u16 (λ n. n ≤ 65535) u16-bound (v ∷ vs) q.1)

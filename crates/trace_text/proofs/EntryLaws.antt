@@ -100,7 +100,10 @@ module _ (script : Script) where
           own (Some reply) at [] woken =
               let p = and_parts (is_own o.own) (eqb (length o.woken) 0) out in
               let r : is_reply reply ≡ true = sym (ap is_own at) ∙ p.0 in
-              let out_is : reply_alone reply ≡ e.outcome = sym (same ∙ cc) in
+              let with_own : Option Reply → Outcome = λ x. record { own = x; woken = o.woken } in
+              let with_woken : List (ℕ × Reply) → Outcome = λ ws. record { own = Some reply; woken = ws } in
+              let o_is : o ≡ reply_alone reply = ap with_own at ∙ ap with_woken woken in
+              let out_is : reply_alone reply ≡ e.outcome = sym (same ∙ o_is) in
               record { reply = reply; is = ap (λ (x : Outcome). record { pid = e.pid; call = e.call; outcome = x; by = e.by }) out_is; pid = pid; call = call; replies = r; low = low; high = high }
 
 line-tested : (printed line : List ℕ) → is_line printed line ≡ true → printed ≡ line ++ 10 ∷ []

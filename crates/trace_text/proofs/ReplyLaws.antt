@@ -16,7 +16,7 @@ use Rattle.pico_base.specs.declared.signal.Sig.TheVariants.{Hup, Int, Quit, Kill
 use Rattle.pico_base.specs.Signal.{at, all_signals}
 use Rattle.kernel_model.specs.Numbers.{is_u32, is_byte}
 use Rattle.kernel_model.specs.Script.{is_type}
-use Rattle.kernel_model.specs.Texts.{message_text, is_repeated, repeated_text}
+use Rattle.kernel_model.specs.Texts.{message_text, is_repeated, repeated_text, escape}
 use Rattle.kernel_model.specs.Trace.{reply_text, ending_text, signal_name, signals_text, set_text, error_name, values_text}
 use Rattle.text_fields.specs.Fields.{strip, digit_at, number_at, named_at, error_at, set_at, text_at}
 use Rattle.text_fields.proofs.Strips.{strip_again}
@@ -83,7 +83,7 @@ module _ (more : List ℕ) where
 
       of : (c : Bool) → is_repeated text ≡ c → IsTextHead text
       of true e = let r = repeats text e in record { first = 114; rest = r.0; are = rw e r.1; other = inr refl }
-      of false e = record { first = 34; rest = _; are = rw e refl; other = inl refl }
+      of false e = record { first = 34; rest = flat_map escape text ++ 34 ∷ []; are = rw e refl; other = inl refl }
 
   not-ending : (first : ℕ) (rest : List ℕ) → (first ≡ 34) ⊎ (first ≡ 114) → (strip (codes " exited ") (32 ∷ first ∷ rest) ≡ None) × (strip (codes " killed ") (32 ∷ first ∷ rest) ≡ None)
   unfolding strip
@@ -231,8 +231,13 @@ module _ (more : List ℕ) where
       let p = and_parts (is_u32 a) (is_u32 b && (is_u32 c && is_u32 d)) h in
       let q = and_parts (is_u32 b) (is_u32 c && is_u32 d) p.1 in
       let r = and_parts (is_u32 c) (is_u32 d) q.1 in
-      let front : reply_text (replies.Stat a b c d) ++ by_tail more ≡ codes "qnum " ++ (decimal a ++ (codes " qbytes " ++ (decimal b ++ (codes " lspid " ++ (decimal c ++ (codes " lrpid " ++ (decimal d ++ by_tail more))))))) = simp append_assoc in
-      rw front (at-stat _ ∙ stat-again a b c d (u32-bound a p.0) (u32-bound b q.0) (u32-bound c r.0) (u32-bound d r.1))
+      let second : List ℕ = codes " qbytes " ++ decimal b in
+      let third : List ℕ = codes " lspid " ++ decimal c in
+      let last : List ℕ = codes " lrpid " ++ decimal d in
+      let front : reply_text (replies.Stat a b c d) ++ by_tail more ≡ codes "qnum " ++ (decimal a ++ (codes " qbytes " ++ (decimal b ++ (codes " lspid " ++ (decimal c ++ (codes " lrpid " ++ (decimal d ++ by_tail more))))))) =
+      ap (λ (w : List ℕ). codes "qnum " ++ w)
+      (append_assoc ((decimal a ++ second) ++ third) last (by_tail more) ∙ append_assoc (decimal a ++ second) third (last ++ by_tail more) ∙ append_assoc (decimal a) second (third ++ (last ++ by_tail more))) in
+      ap reply_at front ∙ (at-stat _ ∙ stat-again a b c d (u32-bound a p.0) (u32-bound b q.0) (u32-bound c r.0) (u32-bound d r.1))
   reply-again (replies.All []) h = absurd (cc)
   reply-again (replies.All (v ∷ vs)) h =
       let p = and_parts (leb 1 (length (v ∷ vs))) (list_all is_u32 (v ∷ vs)) h in
