@@ -1,5 +1,5 @@
 -- Two kernels with the same queues and sets change alike.
-use Rattle.std.proofs.Common.{◌≡◌, ℕ, List, Option, Some, None, Result, Ok, Err, refl, sym, subst, ◌∙◌, inl, inr}
+use Rattle.std.proofs.Common.{◌≡◌, ℕ, Option, Some, None, Result, Ok, Err, refl, sym, subst, ◌∙◌, inl, inr}
 use Rattle.std.proofs.lemmas.Bool.{cases_eq}
 use Rattle.pico_base.specs.declared.reply.Errno.{Errno}
 use Rattle.pico_base.specs.declared.reply.Errno.TheVariants.{Einval}
@@ -7,7 +7,7 @@ use Rattle.pico_base.specs.declared.reply.Reply.{Reply}
 use Rattle.pico_base.specs.declared.reply.Reply.TheVariants.{Num, Fail, Message}
 use Rattle.number_maps.specs.Maps.{Numbered, get, put}
 use Rattle.kernel_model.specs.Queue.{Queue, Received}
-use Rattle.kernel_model.specs.SemaphoreSet.{Semaphore}
+use Rattle.kernel_model.specs.SemaphoreSet.{SemaphoreSet}
 use Rattle.kernel_model.specs.Kernel.{Kernel}
 use Rattle.kernel_model.specs.Effect.{Effect, look_up, on_named}
 use Rattle.kernel_model.specs.QueueCalls.{change_queue, receive_effect}
@@ -47,7 +47,7 @@ replying k r = record { kernel = k; reply = r }
 leaves-queues : (k : Kernel) (queues : Numbered Queue) (r : Reply) → Leaves k (replying (record k { queues = queues }) r)
 leaves-queues k queues r = record { processes = refl; used_processes = refl; used_queues = refl; used_sets = refl }
 
-leaves-sets : (k : Kernel) (sets : Numbered (List Semaphore)) (r : Reply) → Leaves k (replying (record k { sets = sets }) r)
+leaves-sets : (k : Kernel) (sets : Numbered SemaphoreSet) (r : Reply) → Leaves k (replying (record k { sets = sets }) r)
 leaves-sets k sets r = record { processes = refl; used_processes = refl; used_queues = refl; used_sets = refl }
 
 leaves-all : (k : Kernel) (r : Reply) → Leaves k (replying k r)
@@ -68,7 +68,7 @@ module _ (j k : Kernel) (queues : SameAt j.queues k.queues) (sets : SameAt j.set
         second = leaves-queues k (put k.queues id q) r;
       }
 
-  set-put : (id : ℕ) (s : List Semaphore) (r : Reply)
+  set-put : (id : ℕ) (s : SemaphoreSet) (r : Reply)
       → AreAlike j k (replying (record j { sets = put j.sets id s }) r) (replying (record k { sets = put k.sets id s }) r)
   set-put id s r =
       record {
@@ -87,7 +87,7 @@ module _ (j k : Kernel) (queues : SameAt j.queues k.queues) (sets : SameAt j.set
   message-received id (Ok r) = queue-put id r.queue (Message r.message.class r.message.text)
   message-received id (Err e) = unchanged (Fail e)
 
-  pub set-changed : (id : ℕ) (r : Result (List Semaphore) Errno) → AreAlike j k (change_set j id r) (change_set k id r)
+  pub set-changed : (id : ℕ) (r : Result SemaphoreSet Errno) → AreAlike j k (change_set j id r) (change_set k id r)
   set-changed id (Ok s) = set-put id s (Num 0)
   set-changed id (Err e) = unchanged (Fail e)
 

@@ -9,7 +9,7 @@ use Rattle.pico_base.specs.declared.reply.Ending.{Ending}
 use Rattle.pico_base.specs.declared.reply.Ending.TheVariants.{Exited}
 use Rattle.number_maps.specs.Maps.{Numbered, get, put}
 use Rattle.kernel_model.specs.Signals.{Signals}
-use Rattle.kernel_model.specs.Row.{Alive, lists, ignores_children, with_ended_child}
+use Rattle.kernel_model.specs.Row.{Alive, lists, ignores_children, with_ended_child, EndedChild, ended_child}
 use Rattle.kernel_model.specs.Kernel.{Kernel, Process, Living, Ended, Gone, Parent, alive_in, living_at, living_in, parent_in}
 use Rattle.kernel_model.specs.Effect.{Effect}
 use Rattle.kernel_model.specs.ProcessCalls.{bury, process_after_end, end_under}
@@ -37,9 +37,9 @@ effect_by k ps pid ending parent =
 
 -- The burial of ended children.
 
-within-buried : (es : List (ℕ × Ending)) (m n : Numbered Process) → IsWithin m n → IsWithin (fold bury m es) (fold bury n es)
+within-buried : (es : List EndedChild) (m n : Numbered Process) → IsWithin m n → IsWithin (fold bury m es) (fold bury n es)
 within-buried [] m n h = h
-within-buried (e ∷ es) m n h = within-buried es (put m e.0 Gone) (put n e.0 Gone) (within-put m n e.0 Gone h)
+within-buried (e ∷ es) m n h = within-buried es (put m e.pid Gone) (put n e.pid Gone) (within-put m n e.pid Gone h)
 
 -- who lives afterwards lived before
 gone-living : (ps : Numbered Process) (n p : ℕ) (a : Alive) → living_in (put ps n Gone) p ≡ Some a → living_in ps p ≡ Some a
@@ -51,21 +51,21 @@ gone-living ps n p a h =
       | inr ne ↦ sym (living-put-other ps n Gone p ne) ∙ h
     ]
 
-buried-living : (es : List (ℕ × Ending)) (ps : Numbered Process) (p : ℕ) (a : Alive) → living_in (fold bury ps es) p ≡ Some a → living_in ps p ≡ Some a
+buried-living : (es : List EndedChild) (ps : Numbered Process) (p : ℕ) (a : Alive) → living_in (fold bury ps es) p ≡ Some a → living_in ps p ≡ Some a
 buried-living [] ps p a h = h
-buried-living (e ∷ es) ps p a h = gone-living ps e.0 p a (buried-living es (put ps e.0 Gone) p a h)
+buried-living (e ∷ es) ps p a h = gone-living ps e.pid p a (buried-living es (put ps e.pid Gone) p a h)
 
 -- who isn't an ended child stays
-pub buried-apart : (es : List (ℕ × Ending)) (ps : Numbered Process) (q : ℕ) → ((ending : Ending) → Contains es (q, ending) → ⊥)
+pub buried-apart : (es : List EndedChild) (ps : Numbered Process) (q : ℕ) → ((ending : Ending) → Contains es (ended_child q ending) → ⊥)
     → get (fold bury ps es) q ≡ get ps q
 buried-apart [] ps q h = refl
 buried-apart (e ∷ es) ps q h =
-    let ne : q ≢ e.0 = λ same. h e.1 (subst (λ (r : ℕ). Contains (e ∷ es) (r, e.1)) (sym same) (contains-first e es))
-    in buried-apart es (put ps e.0 Gone) q (λ ending c. h ending (contains-later e es (q, ending) c)) ∙ get-put-other ps e.0 Gone q ne
+    let ne : q ≢ e.pid = λ same. h e.ending (subst (λ (r : ℕ). Contains (e ∷ es) (ended_child r e.ending)) (sym same) (contains-first e es))
+    in buried-apart es (put ps e.pid Gone) q (λ ending c. h ending (contains-later e es (ended_child q ending) c)) ∙ get-put-other ps e.pid Gone q ne
 
 -- The end of process 1.
 
-first-plain : (k next : Kernel) (es : List (ℕ × Ending)) → next.processes ≡ put (fold bury k.processes es) 1 Gone → HasPlain k → HasPlain next
+first-plain : (k next : Kernel) (es : List EndedChild) → next.processes ≡ put (fold bury k.processes es) 1 Gone → HasPlain k → HasPlain next
 first-plain k next es is plain =
     let before : Numbered Process = fold bury k.processes es
     in record {
@@ -101,7 +101,7 @@ first_ends h l k a status reachable stands held =
           plain = plain;
         };
         stay = λ other b one caller living.
-            let apart : (e : Ending) → Contains es (other, e) → ⊥ = λ e c.
+            let apart : (e : Ending) → Contains es (ended_child other e) → ⊥ = λ e c.
             living-ended b e (from_some (Living b) (Ended e) (sym living ∙ (valid.alive 1 a lives).ended other e c))
             in get-put-other before 1 Gone other one ∙ (buried-apart es k.processes other apart ∙ living);
       };

@@ -51,7 +51,7 @@ forked-plain k a n plain mine =
     }
 
 pub forks : ForksAreTheKernels
-forks h l k a block reachable stands held =
+forks h l k a block reachable stands held fits =
     let n : ℕ = l.next_process
     in let valid : IsValid k = reachable_kernels_are_valid_lemma k reachable
     in let there : get k.processes 1 ≡ Some (Living a) = stands.here.processes 1 (Living a) held
@@ -61,7 +61,7 @@ forks h l k a block reachable stands held =
     in let plain : HasPlain next = forked-plain k a n stands.plain mine
     in let unused : is_used k.used_processes n ≡ false = stands.fresh.processes n (omega arith)
     in let low : 2 ≤ l.next_process = stands.fresh.process_low
-    in let fresh : is_fresh k.used_processes n ≡ true = fresh-number k.used_processes n (omega arith) unused
+    in let fresh : is_fresh k.used_processes n ≡ true = fresh-number k.used_processes n (omega arith) fits unused
     in let absent : get k.processes n ≡ None = none-at (get k.processes n) (sym (valid.used_processes n) ∙ unused)
     in let ps : Numbered Process = put k.processes n (Living (new_child a))
     in let apart : n ≢ 1 = omega arith

@@ -15,12 +15,12 @@ use Rattle.deed_laws.proofs.Steps.{makes}
 use Rattle.deed_laws.proofs.Within.{effect_if, fresh-number, fresh-later}
 
 pub new_queues : NewQueuesAreTheKernels
-new_queues h l k a create excl stands lives =
+new_queues h l k a create excl stands lives fits =
     let n : ℕ = l.next_queue
     in let next : Kernel = record k { queues = put k.queues n empty_queue; used_queues = used_with k.used_queues n }
     in let plain : HasPlain next = plain-same k next refl stands.plain
     in let unused : is_used k.used_queues n ≡ false = stands.fresh.queues n (omega arith)
-    in let fresh : is_fresh k.used_queues n ≡ true = fresh-number k.used_queues n stands.fresh.queue_low unused
+    in let fresh : is_fresh k.used_queues n ≡ true = fresh-number k.used_queues n stands.fresh.queue_low fits unused
     in record {
       next = next;
       carries = record {
@@ -47,12 +47,12 @@ new_queues h l k a create excl stands lives =
     }
 
 pub new_sets : NewSetsAreTheKernels
-new_sets h l k a count set create excl stands lives sized =
+new_sets h l k a count set create excl stands lives sized fits =
     let n : ℕ = l.next_set
     in let next : Kernel = record k { sets = put k.sets n set; used_sets = used_with k.used_sets n }
     in let plain : HasPlain next = plain-same k next refl stands.plain
     in let unused : is_used k.used_sets n ≡ false = stands.fresh.sets n (omega arith)
-    in let fresh : is_fresh k.used_sets n ≡ true = fresh-number k.used_sets n stands.fresh.set_low unused
+    in let fresh : is_fresh k.used_sets n ≡ true = fresh-number k.used_sets n stands.fresh.set_low fits unused
     in let gives = ap (new_set_of k k.set_keys n) sized ∙ ap (effect_if next n) fresh
     in record {
       next = next;

@@ -135,7 +135,7 @@ module _ (j k : Kernel) (pid : ℕ) (a b : Alive) (queues : SameAt j.queues k.qu
       (named j k queues sets (get j.sets id) (get k.sets id) _ _ (sets id) (λ set. set-changed j k queues sets id (set_value set num value))) h
   shared-second (calls.SemGetAll id) e s h =
       second j k pid a _ _ e _ refl (λ n. refl)
-      (named j k queues sets (get j.sets id) (get k.sets id) _ _ (sets id) (λ set. unchanged j k queues sets (All (values_of set)))) h
+      (named j k queues sets (get j.sets id) (get k.sets id) _ _ (sets id) (λ set. unchanged j k queues sets (All (values_of set.semaphores)))) h
   shared-second (calls.SemSetAll id values) e s h =
       second j k pid a _ _ e _ refl (λ n. refl)
       (named j k queues sets (get j.sets id) (get k.sets id) _ _ (sets id) (λ set. set-changed j k queues sets id (set_all set values))) h

@@ -1,18 +1,17 @@
 -- A call of a plain process is the kernel's step, where its effect is known.
-use Rattle.std.proofs.Common.{◌≡◌, ℕ, Bool, true, false, not, [], Option, Some, None, refl, ap, sym, subst, ◌∙◌, inl, inr}
+use Rattle.std.proofs.Common.{◌≡◌, ℕ, Bool, true, false, not, Option, Some, None, refl, ap, sym, subst, ◌∙◌, inl, inr}
 use Rattle.std.specs.Prelude.{is_some, if◌then◌else◌}
 use Rattle.std.proofs.lemmas.Bool.{cases_eq}
 use Rattle.pico_base.specs.declared.call.Call.{Call}
 use Rattle.pico_base.specs.declared.call.Call.TheVariants as calls
-use Rattle.pico_base.specs.declared.reply.Outcome.{Outcome}
 use Rattle.pico_base.specs.declared.reply.Reply.{Reply}
 use Rattle.pico_base.specs.declared.reply.Reply.TheVariants.{Num, Fail}
 use Rattle.kernel_model.specs.Row.{Alive, Spent}
 use Rattle.kernel_model.specs.Kernel.{Kernel, living_at, with_alive}
-use Rattle.kernel_model.specs.Effect.{Effect}
+use Rattle.kernel_model.specs.Effect.{Effect, reply_alone}
 use Rattle.kernel_model.specs.SetCalls.{new_set_of}
 use Rattle.kernel_model.specs.History.{number_in}
-use Rattle.kernel_model.specs.Transition.{effect, finish_call, is_spent, may_make, outcome_of, transition, transition_by}
+use Rattle.kernel_model.specs.Transition.{successor, effect, finish_call, is_spent, may_make, outcome_of, transition, transition_by}
 use Rattle.deed_laws.specs.Carrying.{Makes, IsPlainProcess, HasPlain}
 use Rattle.deed_laws.specs.Laws.{OwnCallsAreTheKernels, BadSetsAreRefused}
 
@@ -31,9 +30,6 @@ finished-plain k pid (Some b) h =
     let calm : is_some b.row.signals.doom ≡ false = ap (λ s. is_some s.doom) (h b refl).signals
     in ap (λ (t : Bool). if t then with_alive k pid (record b { allowance = Spent }) else k) calm
 
-abbrev outcome : Reply → Outcome
-outcome reply = record { own = Some reply; woken = [] }
-
 abbrev result : Kernel → Reply → Effect
 result next reply = record { kernel = next; reply = reply }
 
@@ -48,7 +44,8 @@ makes k next pid a call reply plain after lives may gives =
     in let goes : transition_by k pid call n (Some a) ≡ outcome_of pid effects = ap (λ (t : Bool). if t then outcome_of pid effects else None) free
     in let ends : outcome_of pid effects ≡ outcome_of pid (Some (result next reply)) = ap (outcome_of pid) gives
     in let stays : finish_call next pid (living_at next pid) ≡ next = finished-plain next pid (living_at next pid) (λ b l. plain-at next pid b after l)
-    in let leads : outcome_of pid (Some (result next reply)) ≡ Some (next, outcome reply) = ap (λ (x : Kernel). Some (x, outcome reply)) stays
+    in let leads : outcome_of pid (Some (result next reply)) ≡ Some (successor next (reply_alone reply)) =
+    ap (λ (x : Kernel). Some (successor x (reply_alone reply))) stays
     in record { step = begins ∙ (goes ∙ (ends ∙ leads)) }
 
 pub own_calls : OwnCallsAreTheKernels

@@ -5,6 +5,7 @@ use Rattle.std.specs.Option.{option_and_then}
 use Rattle.std.proofs.lemmas.Bool.{cases_eq, lt-ltb}
 use Rattle.number_maps.specs.Maps.{Numbered, get, put, is_used, used_with}
 use Rattle.kernel_model.specs.Kernel.{Kernel, Process, alive_in, living_in}
+use Rattle.kernel_model.specs.Numbers.{is_positive_u32, is_u32}
 use Rattle.kernel_model.specs.Effect.{Effect, is_fresh, reply_with}
 use Rattle.kernel_laws.proofs.MapLaws.{get-put-same, get-put-other, used-with-other}
 use Rattle.kernel_laws.proofs.Plain.{not_some, not_false}
@@ -44,9 +45,10 @@ abbrev pub effect_if : Kernel → ℕ → Bool → Option Effect
 effect_if next n fresh = if fresh then Some (reply_with next n) else None
 
 -- a number that may be given out, and the numbers behind it
-pub fresh-number : (used : List ℕ) (n : ℕ) → 1 ≤ n → is_used used n ≡ false → is_fresh used n ≡ true
-fresh-number used n low unused =
-    ap (λ (b : Bool). b && not (is_used used n)) (lt-ltb 0 n (omega arith)) ∙ ap (λ (b : Bool). not b) unused
+pub fresh-number : (used : List ℕ) (n : ℕ) → 1 ≤ n → is_u32 n ≡ true → is_used used n ≡ false → is_fresh used n ≡ true
+fresh-number used n low fits unused =
+    let some : is_positive_u32 n ≡ true = ap (λ (b : Bool). b && is_u32 n) (lt-ltb 0 n (omega arith)) ∙ fits
+    in ap (λ (b : Bool). b && not (is_used used n)) some ∙ ap (λ (b : Bool). not b) unused
 
 pub fresh-later : (used : List ℕ) (next n : ℕ) → ((m : ℕ) → next ≤ m → is_used used m ≡ false) → next + 1 ≤ n
     → is_used (used_with used next) n ≡ false

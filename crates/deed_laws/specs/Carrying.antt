@@ -1,18 +1,19 @@
 -- What it comes to for the kernel when a node carries out a call on the deeds that it holds.
-use Rattle.std.specs.Prelude.{◌≡◌, ◌≢◌, ◌≤◌, ℕ, false, [], Some}
+use Rattle.std.specs.Prelude.{◌≡◌, ◌≢◌, ◌≤◌, ℕ, false, Some}
 use Rattle.pico_base.specs.declared.call.Call.{Call}
 use Rattle.pico_base.specs.declared.reply.Reply.{Reply}
 use Rattle.number_maps.specs.Maps.{get, is_used}
 use Rattle.kernel_model.specs.Signals.{new_signals}
 use Rattle.kernel_model.specs.Row.{Alive, Free}
 use Rattle.kernel_model.specs.Kernel.{Kernel, Process, Living, living_at}
+use Rattle.kernel_model.specs.Effect.{reply_alone}
 use Rattle.kernel_model.specs.History.{number_in}
-use Rattle.kernel_model.specs.Transition.{transition}
+use Rattle.kernel_model.specs.Transition.{successor, transition}
 use Rattle.machine_model.specs.Node.{Held, Leader, new_process}
 
 -- the kernel's transition for this process's call has this reply, and leads to the next kernel
 pub record Makes (k : Kernel) (pid : ℕ) (call : Call) (reply : Reply) (next : Kernel) : Type 0 where
-  pub step : transition k pid call (number_in (Some reply)) ≡ Some (next, record { own = Some reply; woken = [] })
+  pub step : transition k pid call (number_in (Some reply)) ≡ Some (successor next (reply_alone reply))
 
 -- each deed that is held has the state that the kernel has for its name
 pub record AreOf (h : Held) (k : Kernel) : Type 0 where

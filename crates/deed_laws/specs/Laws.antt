@@ -1,13 +1,14 @@
 -- Each rule that makes an entry does what the kernel does.
-use Rattle.std.specs.Prelude.{◌≡◌, ◌≢◌, ◌+◌, ◌%◌, ℕ, Bool, true, false, List, Some, None, IsSome, Ok, Err}
+use Rattle.std.specs.Prelude.{◌≡◌, ◌≢◌, ◌+◌, ◌%◌, ℕ, Bool, true, false, Some, None, IsSome, Ok, Err}
 use Rattle.pico_base.specs.declared.call.Call.{Call}
 use Rattle.pico_base.specs.declared.call.Call.TheVariants.{Fork, Exit, GetPid, MsgGet, SemGet}
 use Rattle.pico_base.specs.declared.reply.Errno.{Errno}
 use Rattle.pico_base.specs.declared.reply.Reply.TheVariants.{Num, Ended, Fail}
 use Rattle.pico_base.specs.declared.reply.Ending.TheVariants.{Exited}
 use Rattle.number_maps.specs.Maps.{get, put}
+use Rattle.kernel_model.specs.Numbers.{is_u32}
 use Rattle.kernel_model.specs.Queue.{empty_queue}
-use Rattle.kernel_model.specs.SemaphoreSet.{Semaphore, new_set}
+use Rattle.kernel_model.specs.SemaphoreSet.{SemaphoreSet, new_set}
 use Rattle.kernel_model.specs.Row.{Alive}
 use Rattle.kernel_model.specs.Kernel.{Kernel, Process, Living, living_at}
 use Rattle.kernel_model.specs.Effect.{Effect}
@@ -39,7 +40,7 @@ ServedCallsAreTheKernels =
     (h : Held) (l : Leader) (k : Kernel) (pid : ℕ) (a : Alive) (call : Call) (e : Effect)
     → StandsFor h l k → living_at k pid ≡ Some a → is_shared call ≡ true → serve h pid call ≡ Some e → Serves h l k pid call e
 
--- a new queue, a new set, and a set of a bad size
+-- a new queue, a new set, and a set of a bad size. The leader's next number has to be one of four bytes
 pub record Creates (k : Kernel) (pid : ℕ) (call : Call) (number : ℕ) (h : Held) (l : Leader) : Type 0 where
   pub next : Kernel
   pub carries : Carries k pid call (Num number) h l next
@@ -48,13 +49,14 @@ pub record Creates (k : Kernel) (pid : ℕ) (call : Call) (number : ℕ) (h : He
 abbrev pub NewQueuesAreTheKernels : Type 0
 NewQueuesAreTheKernels =
     (h : Held) (l : Leader) (k : Kernel) (a : Alive) (create excl : Bool) → StandsFor h l k → living_at k 1 ≡ Some a
+    → is_u32 l.next_queue ≡ true
     → Creates k 1 (MsgGet None create excl) l.next_queue (record h { queues = put h.queues l.next_queue empty_queue })
     (record l { next_queue = l.next_queue + 1 })
 
 abbrev pub NewSetsAreTheKernels : Type 0
 NewSetsAreTheKernels =
-    (h : Held) (l : Leader) (k : Kernel) (a : Alive) (count : ℕ) (set : List Semaphore) (create excl : Bool) → StandsFor h l k
-    → living_at k 1 ≡ Some a → new_set count ≡ Ok set
+    (h : Held) (l : Leader) (k : Kernel) (a : Alive) (count : ℕ) (set : SemaphoreSet) (create excl : Bool) → StandsFor h l k
+    → living_at k 1 ≡ Some a → new_set count ≡ Ok set → is_u32 l.next_set ≡ true
     → Creates k 1 (SemGet None count create excl) l.next_set (record h { sets = put h.sets l.next_set set })
     (record l { next_set = l.next_set + 1 })
 
@@ -73,7 +75,7 @@ pub record Forks (h : Held) (l : Leader) (k : Kernel) (a : Alive) (block : ℕ) 
 abbrev pub ForksAreTheKernels : Type 0
 ForksAreTheKernels =
     (h : Held) (l : Leader) (k : Kernel) (a : Alive) (block : ℕ) → IsReachableKernel k → StandsFor h l k
-    → get h.processes 1 ≡ Some (Living a) → Forks h l k a block
+    → get h.processes 1 ≡ Some (Living a) → is_u32 l.next_process ≡ true → Forks h l k a block
 
 -- the end of process 1, and of a child whose parent is process 1
 pub record Ends (k : Kernel) (pid status : ℕ) (h : Held) (l : Leader) : Type 0 where

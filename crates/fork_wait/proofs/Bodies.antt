@@ -11,7 +11,7 @@ use Rattle.pico_base.specs.declared.reply.Ending.{Ending}
 use Rattle.pico_base.specs.declared.reply.Ending.TheVariants.{Exited, Killed}
 use Rattle.pico_base.specs.declared.signal.Sig.{Sig}
 use Rattle.pico_base.specs.declared.signal.Sig.TheVariants.{Hup, Int, Quit, Kill, Usr1, Usr2, Pipe, Alrm, Term, Chld}
-use Rattle.kernel_model.specs.Row.{Family}
+use Rattle.kernel_model.specs.Row.{Family, EndedChild, ended_child}
 use Rattle.pico_base.specs.Signal.{all_signals, signal_number}
 use Rattle.fork_wait.proofs.Loops.{Repeats, ended_repeat, numbers_repeat}
 use Rattle.fork_wait.specs.Children.{children}
@@ -135,7 +135,7 @@ ending_takes kind value ending e =
       ] refl other
     ] refl e
 
-ended_takes : (bytes : List ℕ) (child : ℕ × Ending) (rest : List ℕ) → IsBytes bytes → ended_at bytes ≡ Some (child, rest) → Takes bytes (ended_bytes child) rest × (child.0 < 2 ^ 32)
+ended_takes : (bytes : List ℕ) (child : EndedChild) (rest : List ℕ) → IsBytes bytes → ended_at bytes ≡ Some (child, rest) → Takes bytes (ended_bytes child) rest × (child.pid < 2 ^ 32)
 unfolding ended_at
 ended_takes bytes child rest fits e =
     let pid = bind_some (number_at bytes) _ (child, rest) e in
@@ -147,36 +147,36 @@ ended_takes bytes child rest fits e =
     let second = byte_takes kind.0.1 value.0.0 value.0.1 first.rest_fits value.1 in
     let two = Takes-then pid.0.1 (kind.0.0 ∷ []) kind.0.1 (value.0.0 ∷ []) value.0.1 first second in
     let whole = Takes-then bytes (to_be_bytes w32 pid.0.0) pid.0.1 (kind.0.0 ∷ value.0.0 ∷ []) value.0.1 number.0 two in
-    let spelled : Takes bytes (ended_bytes (pid.0.0, ending.0)) value.0.1 = subst (λ (t : List ℕ). Takes bytes (to_be_bytes w32 pid.0.0 ++ t) value.0.1) (ending_takes kind.0.0 value.0.0 ending.0 ending.1) whole in
-    subst (λ (p : (ℕ × Ending) × List ℕ). Takes bytes (ended_bytes p.0) p.1 × (p.0.0 < 2 ^ 32)) (some_is ((pid.0.0, ending.0), value.0.1) (child, rest) ending.2) (spelled, number.1)
+    let spelled : Takes bytes (ended_bytes (ended_child pid.0.0 ending.0)) value.0.1 = subst (λ (t : List ℕ). Takes bytes (to_be_bytes w32 pid.0.0 ++ t) value.0.1) (ending_takes kind.0.0 value.0.0 ending.0 ending.1) whole in
+    subst (λ (p : EndedChild × List ℕ). Takes bytes (ended_bytes p.0) p.1 × (p.0.pid < 2 ^ 32)) (some_is (ended_child pid.0.0 ending.0, value.0.1) (child, rest) ending.2) (spelled, number.1)
 
-ending_again : (number : ℕ) (ending : Ending) (rest : List ℕ) → number < 2 ^ 32 → ended_at (ended_bytes (number, ending) ++ rest) ≡ Some ((number, ending), rest)
+ending_again : (number : ℕ) (ending : Ending) (rest : List ℕ) → number < 2 ^ 32 → ended_at (ended_bytes (ended_child number ending) ++ rest) ≡ Some (ended_child number ending, rest)
 unfolding ended_at
-ending_again number (Exited status) rest small = ap (λ (r : Option (ℕ × List ℕ)). r >>= λ pid. byte_at pid.1 >>= λ kind. byte_at kind.1 >>= λ value. ending_from kind.0 value.0 >>= λ ending. Some ((pid.0, ending), value.1)) (number_again number (0 ∷ status ∷ rest) small)
-ending_again number (Killed Hup) rest small = ap (λ (r : Option (ℕ × List ℕ)). r >>= λ pid. byte_at pid.1 >>= λ kind. byte_at kind.1 >>= λ value. ending_from kind.0 value.0 >>= λ ending. Some ((pid.0, ending), value.1)) (number_again number (1 ∷ 1 ∷ rest) small)
-ending_again number (Killed Int) rest small = ap (λ (r : Option (ℕ × List ℕ)). r >>= λ pid. byte_at pid.1 >>= λ kind. byte_at kind.1 >>= λ value. ending_from kind.0 value.0 >>= λ ending. Some ((pid.0, ending), value.1)) (number_again number (1 ∷ 2 ∷ rest) small)
-ending_again number (Killed Quit) rest small = ap (λ (r : Option (ℕ × List ℕ)). r >>= λ pid. byte_at pid.1 >>= λ kind. byte_at kind.1 >>= λ value. ending_from kind.0 value.0 >>= λ ending. Some ((pid.0, ending), value.1)) (number_again number (1 ∷ 3 ∷ rest) small)
-ending_again number (Killed Kill) rest small = ap (λ (r : Option (ℕ × List ℕ)). r >>= λ pid. byte_at pid.1 >>= λ kind. byte_at kind.1 >>= λ value. ending_from kind.0 value.0 >>= λ ending. Some ((pid.0, ending), value.1)) (number_again number (1 ∷ 4 ∷ rest) small)
-ending_again number (Killed Usr1) rest small = ap (λ (r : Option (ℕ × List ℕ)). r >>= λ pid. byte_at pid.1 >>= λ kind. byte_at kind.1 >>= λ value. ending_from kind.0 value.0 >>= λ ending. Some ((pid.0, ending), value.1)) (number_again number (1 ∷ 5 ∷ rest) small)
-ending_again number (Killed Usr2) rest small = ap (λ (r : Option (ℕ × List ℕ)). r >>= λ pid. byte_at pid.1 >>= λ kind. byte_at kind.1 >>= λ value. ending_from kind.0 value.0 >>= λ ending. Some ((pid.0, ending), value.1)) (number_again number (1 ∷ 6 ∷ rest) small)
-ending_again number (Killed Pipe) rest small = ap (λ (r : Option (ℕ × List ℕ)). r >>= λ pid. byte_at pid.1 >>= λ kind. byte_at kind.1 >>= λ value. ending_from kind.0 value.0 >>= λ ending. Some ((pid.0, ending), value.1)) (number_again number (1 ∷ 7 ∷ rest) small)
-ending_again number (Killed Alrm) rest small = ap (λ (r : Option (ℕ × List ℕ)). r >>= λ pid. byte_at pid.1 >>= λ kind. byte_at kind.1 >>= λ value. ending_from kind.0 value.0 >>= λ ending. Some ((pid.0, ending), value.1)) (number_again number (1 ∷ 8 ∷ rest) small)
-ending_again number (Killed Term) rest small = ap (λ (r : Option (ℕ × List ℕ)). r >>= λ pid. byte_at pid.1 >>= λ kind. byte_at kind.1 >>= λ value. ending_from kind.0 value.0 >>= λ ending. Some ((pid.0, ending), value.1)) (number_again number (1 ∷ 9 ∷ rest) small)
-ending_again number (Killed Chld) rest small = ap (λ (r : Option (ℕ × List ℕ)). r >>= λ pid. byte_at pid.1 >>= λ kind. byte_at kind.1 >>= λ value. ending_from kind.0 value.0 >>= λ ending. Some ((pid.0, ending), value.1)) (number_again number (1 ∷ 10 ∷ rest) small)
+ending_again number (Exited status) rest small = ap (λ (r : Option (ℕ × List ℕ)). r >>= λ pid. byte_at pid.1 >>= λ kind. byte_at kind.1 >>= λ value. ending_from kind.0 value.0 >>= λ ending. Some (ended_child pid.0 ending, value.1)) (number_again number (0 ∷ status ∷ rest) small)
+ending_again number (Killed Hup) rest small = ap (λ (r : Option (ℕ × List ℕ)). r >>= λ pid. byte_at pid.1 >>= λ kind. byte_at kind.1 >>= λ value. ending_from kind.0 value.0 >>= λ ending. Some (ended_child pid.0 ending, value.1)) (number_again number (1 ∷ 1 ∷ rest) small)
+ending_again number (Killed Int) rest small = ap (λ (r : Option (ℕ × List ℕ)). r >>= λ pid. byte_at pid.1 >>= λ kind. byte_at kind.1 >>= λ value. ending_from kind.0 value.0 >>= λ ending. Some (ended_child pid.0 ending, value.1)) (number_again number (1 ∷ 2 ∷ rest) small)
+ending_again number (Killed Quit) rest small = ap (λ (r : Option (ℕ × List ℕ)). r >>= λ pid. byte_at pid.1 >>= λ kind. byte_at kind.1 >>= λ value. ending_from kind.0 value.0 >>= λ ending. Some (ended_child pid.0 ending, value.1)) (number_again number (1 ∷ 3 ∷ rest) small)
+ending_again number (Killed Kill) rest small = ap (λ (r : Option (ℕ × List ℕ)). r >>= λ pid. byte_at pid.1 >>= λ kind. byte_at kind.1 >>= λ value. ending_from kind.0 value.0 >>= λ ending. Some (ended_child pid.0 ending, value.1)) (number_again number (1 ∷ 4 ∷ rest) small)
+ending_again number (Killed Usr1) rest small = ap (λ (r : Option (ℕ × List ℕ)). r >>= λ pid. byte_at pid.1 >>= λ kind. byte_at kind.1 >>= λ value. ending_from kind.0 value.0 >>= λ ending. Some (ended_child pid.0 ending, value.1)) (number_again number (1 ∷ 5 ∷ rest) small)
+ending_again number (Killed Usr2) rest small = ap (λ (r : Option (ℕ × List ℕ)). r >>= λ pid. byte_at pid.1 >>= λ kind. byte_at kind.1 >>= λ value. ending_from kind.0 value.0 >>= λ ending. Some (ended_child pid.0 ending, value.1)) (number_again number (1 ∷ 6 ∷ rest) small)
+ending_again number (Killed Pipe) rest small = ap (λ (r : Option (ℕ × List ℕ)). r >>= λ pid. byte_at pid.1 >>= λ kind. byte_at kind.1 >>= λ value. ending_from kind.0 value.0 >>= λ ending. Some (ended_child pid.0 ending, value.1)) (number_again number (1 ∷ 7 ∷ rest) small)
+ending_again number (Killed Alrm) rest small = ap (λ (r : Option (ℕ × List ℕ)). r >>= λ pid. byte_at pid.1 >>= λ kind. byte_at kind.1 >>= λ value. ending_from kind.0 value.0 >>= λ ending. Some (ended_child pid.0 ending, value.1)) (number_again number (1 ∷ 8 ∷ rest) small)
+ending_again number (Killed Term) rest small = ap (λ (r : Option (ℕ × List ℕ)). r >>= λ pid. byte_at pid.1 >>= λ kind. byte_at kind.1 >>= λ value. ending_from kind.0 value.0 >>= λ ending. Some (ended_child pid.0 ending, value.1)) (number_again number (1 ∷ 9 ∷ rest) small)
+ending_again number (Killed Chld) rest small = ap (λ (r : Option (ℕ × List ℕ)). r >>= λ pid. byte_at pid.1 >>= λ kind. byte_at kind.1 >>= λ value. ending_from kind.0 value.0 >>= λ ending. Some (ended_child pid.0 ending, value.1)) (number_again number (1 ∷ 10 ∷ rest) small)
 
 -- ---- the whole family
 
 abbrev pub Small : ℕ → Type 0
 Small n = n < 2 ^ 32
 
-pub Small-split : (xs : List ℕ) (es : List (ℕ × Ending)) → AllByRecursion Small (xs ++ map (λ e. e.0) es) → AllByRecursion Small xs × AllByRecursion (λ (e : ℕ × Ending). Small e.0) es
+pub Small-split : (xs : List ℕ) (es : List EndedChild) → AllByRecursion Small (xs ++ map (λ e. e.pid) es) → AllByRecursion Small xs × AllByRecursion (λ (e : EndedChild). Small e.pid) es
 Small-split [] [] h = (tt, tt)
 Small-split [] (e ∷ es) h = (tt, (h.0, (Small-split [] es h.1).1))
 Small-split (x ∷ xs) es h =
     let more = Small-split xs es h.1 in
     ((h.0, more.0), more.1)
 
-pub Small-join : (xs : List ℕ) (es : List (ℕ × Ending)) → AllByRecursion Small xs → AllByRecursion (λ (e : ℕ × Ending). Small e.0) es → AllByRecursion Small (xs ++ map (λ e. e.0) es)
+pub Small-join : (xs : List ℕ) (es : List EndedChild) → AllByRecursion Small xs → AllByRecursion (λ (e : EndedChild). Small e.pid) es → AllByRecursion Small (xs ++ map (λ e. e.pid) es)
 Small-join [] [] p q = tt
 Small-join [] (e ∷ es) p q = (q.0, Small-join [] es tt q.1)
 Small-join (x ∷ xs) es p q = (p.0, Small-join xs es p.1 q)
@@ -206,14 +206,14 @@ family_takes bytes f fits e =
     let t1 = byte_takes bytes count.0.0 count.0.1 fits count.1 in
     let t2 = many_takes numbers_repeat (to_be_bytes w32) Small number_takes count.0.0 count.0.1 numbers.0.0 numbers.0.1 t1.rest_fits numbers.1 in
     let t3 = byte_takes numbers.0.1 more.0.0 more.0.1 t2.0.rest_fits more.1 in
-    let t4 = many_takes ended_repeat ended_bytes (λ (c : ℕ × Ending). Small c.0) ended_takes more.0.0 more.0.1 endings.0.0 endings.0.1 t3.rest_fits endings.1 in
+    let t4 = many_takes ended_repeat ended_bytes (λ (c : EndedChild). Small c.pid) ended_takes more.0.0 more.0.1 endings.0.0 endings.0.1 t3.rest_fits endings.1 in
     subst (λ (f : Family). (bytes ≡ family_bytes f) × AllByRecursion Small (children f)) {x = record { living = numbers.0.0; ended = endings.0.0 }} g.1 (
       family_parts bytes count.0.1 numbers.0.1 more.0.1 endings.0.1 (record { living = numbers.0.0; ended = endings.0.0 }) count.0.0 more.0.0 t1 t2.0 t3 t4.0 t2.1 t4.1 (nothing_left endings.0.1 g.0),
       Small-join numbers.0.0 endings.0.0 t2.2 t4.2,
     )
 
-child_again : (child : ℕ × Ending) (rest : List ℕ) → Small child.0 → ended_at (ended_bytes child ++ rest) ≡ Some (child, rest)
-child_again child rest small = ending_again child.0 child.1 rest small
+child_again : (child : EndedChild) (rest : List ℕ) → Small child.pid → ended_at (ended_bytes child ++ rest) ≡ Some (child, rest)
+child_again child rest small = ending_again child.pid child.ending rest small
 
 pub family_again : (f : Family) → AllByRecursion Small (children f) → family_at (family_bytes f) ≡ Some f
 unfolding family_at family_bytes
@@ -221,6 +221,6 @@ family_again f small =
     let parts = Small-split f.living f.ended small in
     let numbers = many_again numbers_repeat (to_be_bytes w32) Small number_again f.living (length f.ended ∷ flat_map ended_bytes f.ended) parts.0 in
     let endings : all_ended_at (length f.ended) (flat_map ended_bytes f.ended) ≡ Some (f.ended, []) =
-    ap (all_ended_at (length f.ended)) (sym (append-nil (flat_map ended_bytes f.ended))) ∙ many_again ended_repeat ended_bytes (λ (c : ℕ × Ending). Small c.0) child_again f.ended [] parts.1
+    ap (all_ended_at (length f.ended)) (sym (append-nil (flat_map ended_bytes f.ended))) ∙ many_again ended_repeat ended_bytes (λ (c : EndedChild). Small c.pid) child_again f.ended [] parts.1
     in
     rw (numbers, endings) refl

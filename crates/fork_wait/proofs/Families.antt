@@ -5,7 +5,7 @@ use Rattle.std.proofs.lemmas.Bool.{false≢true}
 use Rattle.std.proofs.lemmas.Bool.Decides.{nat_tests}
 use Rattle.std.specs.List.{list_any}
 use Rattle.pico_base.specs.declared.reply.Ending.{Ending}
-use Rattle.kernel_model.specs.Row.{others}
+use Rattle.kernel_model.specs.Row.{others, EndedChild, ended_child}
 use Rattle.fork_wait.specs.Children.{AreChildren, are_different}
 
 neither : (a b : Bool) → (a || b) ≡ false → (a ≡ false) × (b ≡ false)
@@ -165,22 +165,22 @@ length-others c (x ∷ xs) there =
 
 -- ---- families
 
-abbrev pid_of : ℕ × Ending → ℕ
-pid_of e = e.0
+abbrev pid_of : EndedChild → ℕ
+pid_of e = e.pid
 
-map-filter_pids : (c : ℕ) (es : List (ℕ × Ending)) → map pid_of (filter (λ e. not (nat_eq c e.0)) es) ≡ others c (map pid_of es)
+map-filter_pids : (c : ℕ) (es : List EndedChild) → map pid_of (filter (λ e. not (nat_eq c e.pid)) es) ≡ others c (map pid_of es)
 map-filter_pids c [] = refl
 map-filter_pids c (e ∷ es) =
-    elim (nat_eq c e.0) as (λ (t : Bool). map pid_of (cond (not t) (e ∷ filter (λ e. not (nat_eq c e.0)) es) (filter (λ e. not (nat_eq c e.0)) es)) ≡ cond (not t) (e.0 ∷ others c (map pid_of es)) (others c (map pid_of es))) [
+    elim (nat_eq c e.pid) as (λ (t : Bool). map pid_of (cond (not t) (e ∷ filter (λ e. not (nat_eq c e.pid)) es) (filter (λ e. not (nat_eq c e.pid)) es)) ≡ cond (not t) (e.pid ∷ others c (map pid_of es)) (others c (map pid_of es))) [
       | true ↦ map-filter_pids c es
-      | false ↦ ap (λ (ns : List ℕ). e.0 ∷ ns) (map-filter_pids c es)
+      | false ↦ ap (λ (ns : List ℕ). e.pid ∷ ns) (map-filter_pids c es)
     ]
 
 not_zero : (c : ℕ) → 1 ≤ c → nat_eq 0 c ≡ false
 not_zero c h = grind (arith, nat_tests)
 
-module _ (living : List ℕ) (ended : List (ℕ × Ending)) (c : ℕ) (sound : AreChildren (living ++ map (λ e. e.0) ended)) where
-  pub children-added : 1 ≤ c → length (living ++ map (λ e. e.0) ended) < 31 → list_any (nat_eq c) (living ++ map (λ e. e.0) ended) ≡ false → AreChildren ((living ++ c ∷ []) ++ map (λ e. e.0) ended)
+module _ (living : List ℕ) (ended : List EndedChild) (c : ℕ) (sound : AreChildren (living ++ map (λ e. e.pid) ended)) where
+  pub children-added : 1 ≤ c → length (living ++ map (λ e. e.pid) ended) < 31 → list_any (nat_eq c) (living ++ map (λ e. e.pid) ended) ≡ false → AreChildren ((living ++ c ∷ []) ++ map (λ e. e.pid) ended)
   children-added positive room absent =
       record {
         few = omega (arith, length-append (living ++ c ∷ []) (map pid_of ended), length-append living (c ∷ []), length-append living (map pid_of ended));
@@ -188,7 +188,7 @@ module _ (living : List ℕ) (ended : List (ℕ × Ending)) (c : ℕ) (sound : A
         different = different-insert c living (map pid_of ended) sound.different absent;
       }
 
-  pub children-left : AreChildren (others c living ++ map (λ e. e.0) ended)
+  pub children-left : AreChildren (others c living ++ map (λ e. e.pid) ended)
   children-left =
       record {
         few = omega (arith, sound.few, length-append (others c living) (map pid_of ended), length-append living (map pid_of ended), length-filter_le (λ n. not (nat_eq c n)) living);
@@ -196,19 +196,19 @@ module _ (living : List ℕ) (ended : List (ℕ × Ending)) (c : ℕ) (sound : A
         different = different-filter (λ n. not (nat_eq c n)) living (map pid_of ended) sound.different;
       }
 
-  pub children-kept : (ending : Ending) → list_any (nat_eq c) living ≡ true → AreChildren (others c living ++ map (λ e. e.0) (ended ++ (c, ending) ∷ []))
+  pub children-kept : (ending : Ending) → list_any (nat_eq c) living ≡ true → AreChildren (others c living ++ map (λ e. e.pid) (ended ++ ended_child c ending ∷ []))
   children-kept ending there =
       let left = children-left in
       let before : List ℕ = others c living ++ map pid_of ended in
       let gone : list_any (nat_eq c) before ≡ false = absent-append c (others c living) (map pid_of ended) (absent-others c living) (different-apart c living (map pid_of ended) sound.different there) in
-      let shape : before ++ c ∷ [] ≡ others c living ++ map (λ e. e.0) (ended ++ (c, ending) ∷ []) = append_assoc (others c living) (map pid_of ended) (c ∷ []) ∙ ap (λ (ns : List ℕ). others c living ++ ns) (sym (map_push pid_of ended (c, ending))) in
+      let shape : before ++ c ∷ [] ≡ others c living ++ map (λ e. e.pid) (ended ++ ended_child c ending ∷ []) = append_assoc (others c living) (map pid_of ended) (c ∷ []) ∙ ap (λ (ns : List ℕ). others c living ++ ns) (sym (map_push pid_of ended (ended_child c ending))) in
       rw (← shape) record {
         few = omega (arith, sound.few, length-append before (c ∷ []), length-append (others c living) (map pid_of ended), length-append living (map pid_of ended), length-others c living there);
         positive = absent-push 0 c before (absent-other 0 c living (map pid_of ended) sound.positive there) left.positive;
         different = different-push c before left.different gone;
       }
 
-  pub children-waited : AreChildren (living ++ map (λ e. e.0) (filter (λ e. not (nat_eq c e.0)) ended))
+  pub children-waited : AreChildren (living ++ map (λ e. e.pid) (filter (λ e. not (nat_eq c e.pid)) ended))
   children-waited =
       rw (map-filter_pids c ended) record {
         few = omega (arith, sound.few, length-append living (others c (map pid_of ended)), length-append living (map pid_of ended), length-filter_le (λ n. not (nat_eq c n)) (map pid_of ended));
@@ -218,26 +218,26 @@ module _ (living : List ℕ) (ended : List (ℕ × Ending)) (c : ℕ) (sound : A
 
 -- ---- numbers that were read
 
-list_any-pids : (c : ℕ) (es : List (ℕ × Ending)) → list_any (nat_eq c) (map pid_of es) ≡ list_any (λ e. nat_eq c e.0) es
+list_any-pids : (c : ℕ) (es : List EndedChild) → list_any (nat_eq c) (map pid_of es) ≡ list_any (λ e. nat_eq c e.pid) es
 list_any-pids c [] = refl
-list_any-pids c (e ∷ es) = ap (λ (t : Bool). nat_eq c e.0 || t) (list_any-pids c es)
+list_any-pids c (e ∷ es) = ap (λ (t : Bool). nat_eq c e.pid || t) (list_any-pids c es)
 
 or_after : (a b d : Bool) → ((a || b) || d) ≡ (a || (b || d))
 or_after true b d = refl
 or_after false b d = refl
 
 -- one list or the other
-pub list_any-children : (c : ℕ) (xs : List ℕ) (es : List (ℕ × Ending)) → (list_any (nat_eq c) xs || list_any (λ e. nat_eq c e.0) es) ≡ list_any (nat_eq c) (xs ++ map (λ e. e.0) es)
+pub list_any-children : (c : ℕ) (xs : List ℕ) (es : List EndedChild) → (list_any (nat_eq c) xs || list_any (λ e. nat_eq c e.pid) es) ≡ list_any (nat_eq c) (xs ++ map (λ e. e.pid) es)
 list_any-children c [] es = sym (list_any-pids c es)
 list_any-children c (x ∷ xs) es = or_after (nat_eq c x) _ _ ∙ ap (λ (t : Bool). nat_eq c x || t) (list_any-children c xs es)
 
-pub differ-ended : (first : ℕ × Ending) (es rest : List (ℕ × Ending)) (there r : Bool) → es ≡ first ∷ rest → there ≡ list_any (λ e. nat_eq first.0 e.0) rest → r ≡ are_different (map (λ e. e.0) rest)
-    → (not there && r) ≡ are_different (map (λ e. e.0) es)
+pub differ-ended : (first : EndedChild) (es rest : List EndedChild) (there r : Bool) → es ≡ first ∷ rest → there ≡ list_any (λ e. nat_eq first.pid e.pid) rest → r ≡ are_different (map (λ e. e.pid) rest)
+    → (not there && r) ≡ are_different (map (λ e. e.pid) es)
 differ-ended first es rest there r parts is_there is_r =
-    rw (parts, is_there, is_r) (ap (λ (t : Bool). not t && are_different (map pid_of rest)) (sym (list_any-pids first.0 rest)))
+    rw (parts, is_there, is_r) (ap (λ (t : Bool). not t && are_different (map pid_of rest)) (sym (list_any-pids first.pid rest)))
 
-pub differ-living : (first : ℕ) (xs rest : List ℕ) (es : List (ℕ × Ending)) (there r : Bool) → xs ≡ first ∷ rest → there ≡ list_any (nat_eq first) (rest ++ map (λ e. e.0) es) → r ≡ are_different (rest ++ map (λ e. e.0) es)
-    → (not there && r) ≡ are_different (xs ++ map (λ e. e.0) es)
+pub differ-living : (first : ℕ) (xs rest : List ℕ) (es : List EndedChild) (there r : Bool) → xs ≡ first ∷ rest → there ≡ list_any (nat_eq first) (rest ++ map (λ e. e.pid) es) → r ≡ are_different (rest ++ map (λ e. e.pid) es)
+    → (not there && r) ≡ are_different (xs ++ map (λ e. e.pid) es)
 differ-living first xs rest es there r parts is_there is_r = rw (parts, is_there, is_r) refl
 
 take-all : {A : Type 0} (xs : List A) → take (length xs) xs ≡ xs

@@ -5,7 +5,7 @@ use Rattle.kernel_model.specs.Row.{Family}
 
 -- their numbers
 abbrev pub children : Family → List ℕ
-children f = f.living ++ map (λ e. e.0) f.ended
+children f = f.living ++ map (λ e. e.pid) f.ended
 
 abbrev pub is_child : Family → ℕ → Bool
 is_child f child = list_any (nat_eq child) (children f)

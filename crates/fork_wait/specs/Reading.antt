@@ -7,7 +7,7 @@ use Rattle.pico_base.specs.declared.fault.UnpackFault.TheVariants as faults
 use Rattle.pico_base.specs.declared.reply.Ending.{Ending}
 use Rattle.pico_base.specs.declared.reply.Ending.TheVariants.{Exited, Killed}
 use Rattle.pico_base.specs.declared.signal.Sig.{Sig}
-use Rattle.kernel_model.specs.Row.{Family}
+use Rattle.kernel_model.specs.Row.{EndedChild, Family, ended_child}
 use Rattle.pico_base.specs.Signal.{all_signals, signal_number}
 
 infixl 10 ◌>>=◌
@@ -39,13 +39,13 @@ signal_from number = find (λ g. signal_number g == number) all_signals
 abbrev pub ending_from : ℕ → ℕ → Option Ending
 ending_from kind value = if kind == 0 then Some (Exited value) else if kind == 1 then option_map Killed (signal_from value) else None
 
-unfoldable pub ended_at : List ℕ → Option ((ℕ × Ending) × List ℕ)
+unfoldable pub ended_at : List ℕ → Option (EndedChild × List ℕ)
 ended_at bytes = do
   pid ← number_at bytes
   kind ← byte_at pid.1
   value ← byte_at kind.1
   ending ← ending_from kind.0 value.0
-  Some ((pid.0, ending), value.1)
+  Some (ended_child pid.0 ending, value.1)
 
 unfoldable pub numbers_at : ℕ → List ℕ → Option (List ℕ × List ℕ)
 numbers_at zero bytes = Some ([], bytes)
@@ -54,7 +54,7 @@ numbers_at (suc n) bytes = do
   others ← numbers_at n first.1
   Some (first.0 ∷ others.0, others.1)
 
-unfoldable pub all_ended_at : ℕ → List ℕ → Option (List (ℕ × Ending) × List ℕ)
+unfoldable pub all_ended_at : ℕ → List ℕ → Option (List EndedChild × List ℕ)
 all_ended_at zero bytes = Some ([], bytes)
 all_ended_at (suc n) bytes = do
   first ← ended_at bytes

@@ -5,7 +5,7 @@ use Rattle.std.specs.List.{flat_map}
 use Rattle.pico_base.specs.declared.reply.Ending.{Ending}
 use Rattle.pico_base.specs.declared.reply.Ending.TheVariants.{Exited, Killed}
 use Rattle.pico_base.specs.declared.signal.Sig.TheVariants.{Term}
-use Rattle.kernel_model.specs.Row.{Family}
+use Rattle.kernel_model.specs.Row.{EndedChild, Family, ended_child}
 use Rattle.pico_base.specs.Signal.{signal_number}
 use Rattle.fork_wait.specs.Children.{AreChildren, children}
 
@@ -15,8 +15,8 @@ ending_bytes (Exited status) = 0 ∷ status ∷ []
 ending_bytes (Killed g) = 1 ∷ signal_number g ∷ []
 
 -- a number in four bytes, high bytes first, and an ending
-abbrev pub ended_bytes : ℕ × Ending → List ℕ
-ended_bytes e = to_be_bytes w32 e.0 ++ ending_bytes e.1
+abbrev pub ended_bytes : EndedChild → List ℕ
+ended_bytes e = to_be_bytes w32 e.pid ++ ending_bytes e.ending
 
 -- the count of the living children and their numbers, then the count of the ended ones and each of these
 unfoldable pub family_bytes : Family → List ℕ
@@ -27,6 +27,6 @@ pub record HasBytes (f : Family) : Type 0 where
   pub sound : AreChildren (children f)
   pub numbers : All (λ n. n < 2 ^ 32) (children f)
 
-example : family_bytes (record { living = 2 ∷ []; ended = (258, Killed Term) ∷ [] }) ≡ 1 ∷ 0 ∷ 0 ∷ 0 ∷ 2 ∷ 1 ∷ 0 ∷ 0 ∷ 1 ∷ 2 ∷ 1 ∷ 9 ∷ []
+example : family_bytes (record { living = 2 ∷ []; ended = ended_child 258 (Killed Term) ∷ [] }) ≡ 1 ∷ 0 ∷ 0 ∷ 0 ∷ 2 ∷ 1 ∷ 0 ∷ 0 ∷ 1 ∷ 2 ∷ 1 ∷ 9 ∷ []
 unfolding family_bytes
 example = refl

@@ -4,7 +4,7 @@ ghost use Rattle.std.specs.List.{list_any};
 ghost use Rattle.fork_wait.specs.Children.{AreChildren, are_different};
 
 use crate::family::MOST;
-use pico_base::{Ending, Pid};
+use pico_base::{EndedChild, Pid};
 
 /// Whether the number is one of the living children's.
 fn has_living(living: &[Pid], child: Pid) -> bool
@@ -14,32 +14,32 @@ fn has_living(living: &[Pid], child: Pid) -> bool
 }
 
 /// Whether the number is one of the ended children's.
-fn has_ended(ended: &[(Pid, Ending)], child: Pid) -> bool
-    ensures { result ≡ list_any (λ e. nat_eq child e.0) ended.now }
+fn has_ended(ended: &[EndedChild], child: Pid) -> bool
+    ensures { result ≡ list_any (λ e. nat_eq child e.pid) ended.now }
 {
-    ended.iter().any(|(pid, _)| child == *pid)
+    ended.iter().any(|ended| child == ended.pid)
 }
 
 /// Whether the number is one of the children's.
-fn has(living: &[Pid], ended: &[(Pid, Ending)], child: Pid) -> bool
-    ensures { result ≡ list_any (nat_eq child) (living.now ++ map (λ e. e.0) ended.now) }
+fn has(living: &[Pid], ended: &[EndedChild], child: Pid) -> bool
+    ensures { result ≡ list_any (nat_eq child) (living.now ++ map (λ e. e.pid) ended.now) }
 {
     has_living(living, child) | has_ended(ended, child)
 }
 
 /// Whether no ended child's number is there twice.
-fn ended_differ(ended: &[(Pid, Ending)]) -> bool
-    ensures { result ≡ are_different (map (λ e. e.0) ended.now) }
+fn ended_differ(ended: &[EndedChild]) -> bool
+    ensures { result ≡ are_different (map (λ e. e.pid) ended.now) }
 {
     match ended {
         [] => true,
-        [(first, _), rest @ ..] => !has_ended(rest, *first) && ended_differ(rest),
+        [first, rest @ ..] => !has_ended(rest, first.pid) && ended_differ(rest),
     }
 }
 
 /// Whether no child's number is there twice.
-fn all_differ(living: &[Pid], ended: &[(Pid, Ending)]) -> bool
-    ensures { result ≡ are_different (living.now ++ map (λ e. e.0) ended.now) }
+fn all_differ(living: &[Pid], ended: &[EndedChild]) -> bool
+    ensures { result ≡ are_different (living.now ++ map (λ e. e.pid) ended.now) }
 {
     match living {
         [] => ended_differ(ended),
@@ -48,8 +48,8 @@ fn all_differ(living: &[Pid], ended: &[(Pid, Ending)]) -> bool
 }
 
 /// Whether these can be the children of a process: at most 31 numbers, all different and none 0.
-pub(crate) fn are_children(living: &[Pid], ended: &[(Pid, Ending)]) -> bool
-    ensures { IsTrue result ↔ AreChildren (living.now ++ map (λ e. e.0) ended.now) }
+pub(crate) fn are_children(living: &[Pid], ended: &[EndedChild]) -> bool
+    ensures { IsTrue result ↔ AreChildren (living.now ++ map (λ e. e.pid) ended.now) }
 {
     if living.len() > MOST || ended.len() > MOST - living.len() {
         return false;

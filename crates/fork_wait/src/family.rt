@@ -10,7 +10,7 @@ ghost use Rattle.fork_wait.specs.Waiting.{answer_of, family_after};
 use crate::checking::are_children;
 use crate::reading::lists_of;
 use crate::writing::{write_ended, write_numbers};
-use pico_base::{Bytes, Ending, Errno, Memory, Pid, UnpackFault};
+use pico_base::{Bytes, EndedChild, Ending, Errno, Memory, Pid, UnpackFault};
 use std::alloc::Global;
 use std::marker::Model;
 
@@ -31,7 +31,7 @@ pub enum Waited {
 #[derive(Debug, Drop)]
 pub struct Family {
     living: Vec<Pid>,
-    ended: Vec<(Pid, Ending)>,
+    ended: Vec<EndedChild>,
 }
 
 impl Model for Family {
@@ -78,7 +78,7 @@ impl Family {
     {
         take_out(&mut self.living, child);
         if !ignored {
-            self.ended.push((child, ending)).unwrap();
+            self.ended.push(EndedChild { pid: child, ending }).unwrap();
         }
         !ignored
     }
@@ -99,7 +99,7 @@ impl Family {
         ensures left { self.new ≡ family_after (wait self.old which) self.old }
     {
         match first_ended(&which, &self.ended) {
-            Some((pid, ending)) => {
+            Some(EndedChild { pid, ending }) => {
                 forget(&mut self.ended, pid);
                 Ok(Waited::Child { pid, ending })
             }
@@ -158,12 +158,12 @@ fn any_matches(which: &Option<Pid>, living: &[Pid]) -> bool
 }
 
 /// The first ended child that is waited for.
-fn first_ended(which: &Option<Pid>, ended: &[(Pid, Ending)]) -> Option<(Pid, Ending)>
+fn first_ended(which: &Option<Pid>, ended: &[EndedChild]) -> Option<EndedChild>
     ensures { result ≡ first_ended_child which.now ended.now }
 {
-    for (pid, ending) in ended {
-        if matches(which, *pid) {
-            return Some((*pid, *ending));
+    for child in ended {
+        if matches(which, child.pid) {
+            return Some(*child);
         }
     }
     None
@@ -178,9 +178,9 @@ fn take_out(living: &mut Vec<Pid>, child: Pid)
 }
 
 /// Takes a child out of the ended ones.
-fn forget(ended: &mut Vec<(Pid, Ending)>, child: Pid)
-    ensures out { ended.new.items ≡ filter (λ e. not (nat_eq child e.0)) ended.old.items }
+fn forget(ended: &mut Vec<EndedChild>, child: Pid)
+    ensures out { ended.new.items ≡ filter (λ e. not (nat_eq child e.pid)) ended.old.items }
     ensures room { vec_capacity ended.new ≡ vec_capacity ended.old }
 {
-    ended.retain(|(pid, _)| child != *pid);
+    ended.retain(|ended| child != ended.pid);
 }

@@ -1,10 +1,11 @@
 //! Reading a packed family.
 ghost use Rattle.std.specs.Prelude.{◌≡◌, ◌≤◌, [], IfOk};
 ghost use Rattle.std.specs.Vec.{vec_capacity};
+ghost use Rattle.kernel_model.specs.Row.{ended_child};
 ghost use Rattle.fork_wait.specs.Reading.{Gives, all_ended_at, byte_at, ended_at, ending_from, family_at, number_at, numbers_at, signal_from};
 
 use crate::family::MOST;
-use pico_base::{Ending, Pid, Sig, UnpackFault};
+use pico_base::{EndedChild, Ending, Pid, Sig, UnpackFault};
 use std::alloc::Global;
 
 /// The byte at the front.
@@ -65,7 +66,7 @@ fn ending_of(kind: u8, value: u8) -> Option<Ending>
 /// The number and the ending at the front.
 #[tactic(auto, unfolding(crate::specs::Reading::ended_at))]
 fn ended_of(bytes: &[u8]) -> Result<(u32, Ending, &[u8]), UnpackFault>
-    ensures { Gives (λ x. ((x.0, x.1), x.2.now)) result (ended_at bytes.now) }
+    ensures { Gives (λ x. (ended_child x.0 x.1, x.2.now)) result (ended_at bytes.now) }
 {
     let (number, rest) = number_of(bytes)?;
     let (kind, rest) = byte_of(rest)?;
@@ -97,7 +98,7 @@ fn read_numbers<'a>(
 
 /// Reads so many ended children into an empty list, and gives the bytes after them.
 fn read_ended<'a>(
-    into: &mut Vec<(Pid, Ending)>,
+    into: &mut Vec<EndedChild>,
     count: u8,
     bytes: &'a [u8],
 ) -> Result<&'a [u8], UnpackFault>
@@ -108,7 +109,10 @@ fn read_ended<'a>(
     let mut rest = bytes;
     for _ in 0..count {
         let (number, ending, after) = ended_of(rest)?;
-        into.push((Pid(number), ending))?;
+        into.push(EndedChild {
+            pid: Pid(number),
+            ending,
+        })?;
         rest = after;
     }
     Ok(rest)
@@ -119,7 +123,7 @@ fn read_ended<'a>(
 pub(crate) fn lists_of(
     alloc: Global,
     bytes: &[u8],
-) -> Result<(Vec<Pid>, Vec<(Pid, Ending)>), UnpackFault>
+) -> Result<(Vec<Pid>, Vec<EndedChild>), UnpackFault>
     ensures read { Gives (λ x. record { living = x.0.items; ended = x.1.items }) result (family_at bytes.now) }
     ensures living { IfOk result (λ x. 31 ≤ vec_capacity x.0) }
     ensures ended { IfOk result (λ x. 31 ≤ vec_capacity x.1) }

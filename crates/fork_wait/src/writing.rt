@@ -4,7 +4,7 @@ ghost use Rattle.std.specs.Int.{w32, to_be_bytes};
 ghost use Rattle.std.specs.List.{flat_map};
 ghost use Rattle.fork_wait.specs.Spelling.{ended_bytes, ending_bytes};
 
-use pico_base::{Ending, Memory, Pid};
+use pico_base::{EndedChild, Ending, Memory, Pid};
 
 /// Writes a process number.
 fn write_number(bytes: &mut Vec<u8>, pid: Pid) -> Result<(), Memory>
@@ -39,13 +39,13 @@ pub(crate) fn write_numbers(bytes: &mut Vec<u8>, numbers: &[Pid]) -> Result<(), 
 }
 
 /// Writes these ended children.
-pub(crate) fn write_ended(bytes: &mut Vec<u8>, ended: &[(Pid, Ending)]) -> Result<(), Memory>
+pub(crate) fn write_ended(bytes: &mut Vec<u8>, ended: &[EndedChild]) -> Result<(), Memory>
     ensures written { OnOk result (bytes.new.items ≡ bytes.old.items ++ flat_map ended_bytes ended.now) }
-    ensures numbers { OnOk result (All (λ e. e.0 < 2 ^ 32) ended.now) }
+    ensures numbers { OnOk result (All (λ e. e.pid < 2 ^ 32) ended.now) }
 {
-    for (pid, ending) in ended {
-        write_number(bytes, *pid)?;
-        write_ending(bytes, *ending)?;
+    for child in ended {
+        write_number(bytes, child.pid)?;
+        write_ending(bytes, child.ending)?;
     }
     Ok(())
 }

@@ -5,11 +5,12 @@ use Rattle.number_maps.specs.Maps.{is_used}
 use Rattle.kernel_model.specs.Kernel.{Kernel}
 use Rattle.kernel_model.specs.Transition.{transition}
 use Rattle.kernel_model.specs.Valid.{IsValid}
-use Rattle.kernel_model.specs.Footprint.{footprint, AgreeOn, used_for, SameSteps}
+use Rattle.kernel_footprint.proofs.Stepped.{AlikeSteps}
+use Rattle.kernel_model.specs.Footprint.{footprint, AgreeOn, used_for}
 
 abbrev pub LawAt : Kernel → Kernel → ℕ → Call → ℕ → Type 0
 LawAt j k pid call n =
     IsValid j → IsValid k
     → AgreeOn (footprint j pid call n) j k
     → is_used (used_for j call) n ≡ false → is_used (used_for k call) n ≡ false
-    → SameSteps (footprint j pid call n) n j k (transition j pid call n) (transition k pid call n)
+    → AlikeSteps (footprint j pid call n) j k (transition j pid call n) (transition k pid call n)

@@ -1,10 +1,8 @@
 -- What one effect on two kernels leaves at each number: the value stays in both, or it is the same in both.
-use Rattle.std.proofs.Common.{◌≡◌, ℕ, Bool, true, false, List, Option, Some, None, refl, sym, subst, ◌∙◌, ◌⊎◌, inl, inr}
+use Rattle.std.proofs.Common.{◌≡◌, ℕ, Bool, true, false, List, Option, Some, None, refl, sym, subst, ◌∙◌, inl, inr}
 use Rattle.std.specs.List.{list_any}
 use Rattle.std.proofs.lemmas.Bool.{cases_eq, false≢true}
-use Rattle.pico_base.specs.declared.reply.Reply.{Reply}
-use Rattle.pico_base.specs.declared.reply.Reply.TheVariants.{Num}
-use Rattle.number_maps.specs.Maps.{Numbered, get, put, without, used_with}
+use Rattle.number_maps.specs.Maps.{Numbered, get, put, without}
 use Rattle.kernel_model.specs.Kernel.{Kernel, parent_in}
 use Rattle.kernel_model.specs.Effect.{Effect}
 use Rattle.kernel_model.specs.Footprint.{Part, ParentOf, is_whole, is_queue, is_set, is_queue_keys, is_set_keys}
@@ -78,16 +76,12 @@ has_set_keys parts p = list_any is_set_keys parts
 abbrev pub has_parent : List Part → ℕ → Bool
 has_parent parts p = list_any (is_parent p) parts
 
--- the numbers stay, or the one that the reply gives is used, too
-abbrev pub Grew : ℕ → Reply → List ℕ → List ℕ → Type 0
-Grew n reply before after = (after ≡ before) ⊎ ((after ≡ used_with before n) × (reply ≡ Num n))
-
 -- nobody is the parent of the process
 abbrev pub IsOrphan : Kernel → ℕ → Type 0
 IsOrphan k p = parent_in p k.processes ≡ None
 
 -- The same effect on two kernels.
-pub record SameEffect (parts : List Part) (n : ℕ) (j k : Kernel) (e f : Effect) : Type 0 where
+pub record SameEffect (parts : List Part) (j k : Kernel) (e f : Effect) : Type 0 where
   pub reply : e.reply ≡ f.reply
   pub processes : Changes (has_whole parts) j.processes k.processes e.kernel.processes f.kernel.processes
   pub queues : Changes (has_queue parts) j.queues k.queues e.kernel.queues f.kernel.queues
@@ -95,11 +89,8 @@ pub record SameEffect (parts : List Part) (n : ℕ) (j k : Kernel) (e f : Effect
   pub queue_keys : Changes (has_queue_keys parts) j.queue_keys k.queue_keys e.kernel.queue_keys f.kernel.queue_keys
   pub set_keys : Changes (has_set_keys parts) j.set_keys k.set_keys e.kernel.set_keys f.kernel.set_keys
   pub parents : (p : ℕ) → has_parent parts p ≡ true → IsOrphan e.kernel p × IsOrphan f.kernel p
-  pub used_processes : Grew n e.reply j.used_processes e.kernel.used_processes × Grew n f.reply k.used_processes f.kernel.used_processes
-  pub used_queues : Grew n e.reply j.used_queues e.kernel.used_queues × Grew n f.reply k.used_queues f.kernel.used_queues
-  pub used_sets : Grew n e.reply j.used_sets e.kernel.used_sets × Grew n f.reply k.used_sets f.kernel.used_sets
 
-abbrev pub SameEffects : List Part → ℕ → Kernel → Kernel → Option Effect → Option Effect → Type 0
-SameEffects parts n j k None None = Unit {0}
-SameEffects parts n j k (Some e) (Some f) = SameEffect parts n j k e f
-SameEffects parts n j k _ _ = ⊥
+abbrev pub SameEffects : List Part → Kernel → Kernel → Option Effect → Option Effect → Type 0
+SameEffects parts j k None None = Unit {0}
+SameEffects parts j k (Some e) (Some f) = SameEffect parts j k e f
+SameEffects parts j k _ _ = ⊥

@@ -1,17 +1,18 @@
 -- The same effect where one table of the kernel changes, or none.
-use Rattle.std.proofs.Common.{◌≡◌, ℕ, Bool, true, false, not, ◌&&◌, cond, List, Option, Some, None, Result, Ok, Err, refl, ap, sym, subst, ◌∙◌, inl, nat_lt}
+use Rattle.std.proofs.Common.{◌≡◌, ℕ, Bool, true, false, not, ◌&&◌, cond, List, Option, Some, None, Result, Ok, Err, refl, ap, sym, subst, ◌∙◌}
 use Rattle.std.proofs.lemmas.Bool.{false≢true}
 use Rattle.pico_base.specs.declared.reply.Reply.{Reply}
 use Rattle.pico_base.specs.declared.reply.Reply.TheVariants.{Num, Fail}
 use Rattle.pico_base.specs.declared.reply.Errno.{Errno}
 use Rattle.pico_base.specs.declared.reply.Errno.TheVariants.{Einval}
 use Rattle.number_maps.specs.Maps.{Numbered, is_used}
+use Rattle.kernel_model.specs.Numbers.{is_positive_u32}
 use Rattle.kernel_model.specs.Queue.{Queue}
-use Rattle.kernel_model.specs.SemaphoreSet.{Semaphore}
+use Rattle.kernel_model.specs.SemaphoreSet.{SemaphoreSet}
 use Rattle.kernel_model.specs.Kernel.{Kernel, Process}
 use Rattle.kernel_model.specs.Effect.{Effect, look_up, on_named, is_fresh}
 use Rattle.kernel_model.specs.Footprint.{Part}
-use Rattle.kernel_footprint.proofs.Change.{Changes, changes-none, has_whole, has_queue, has_set, has_queue_keys, has_set_keys, has_parent, Grew, IsOrphan, SameEffect, SameEffects}
+use Rattle.kernel_footprint.proofs.Change.{Changes, changes-none, has_whole, has_queue, has_set, has_queue_keys, has_set_keys, has_parent, IsOrphan, SameEffect, SameEffects}
 
 -- no process's parent is a part
 abbrev pub Childless : List Part → Type 0
@@ -19,10 +20,10 @@ Childless parts = (p : ℕ) → has_parent parts p ≡ false
 
 -- numbers that a new thing may get are the same
 pub fresh-alike : (a b : List ℕ) (n : ℕ) → is_used a n ≡ false → is_used b n ≡ false → is_fresh a n ≡ is_fresh b n
-fresh-alike a b n x y = ap (λ u. nat_lt 0 n && not u) (x ∙ sym y)
+fresh-alike a b n x y = ap (λ u. is_positive_u32 n && not u) (x ∙ sym y)
 
-module _ (parts : List Part) (n : ℕ) (j k : Kernel) where
-  pub made-if : (b c : Bool) (e f : Effect) → b ≡ c → SameEffect parts n j k e f → SameEffects parts n j k (cond b (Some e) None) (cond c (Some f) None)
+module _ (parts : List Part) (j k : Kernel) where
+  pub made-if : (b c : Bool) (e f : Effect) → b ≡ c → SameEffect parts j k e f → SameEffects parts j k (cond b (Some e) None) (cond c (Some f) None)
   made-if true true e f h s = s
   made-if false false e f h s = tt
   made-if true false e f h s = cc
@@ -32,7 +33,7 @@ module _ (parts : List Part) (n : ℕ) (j k : Kernel) where
     orphans : (e f : Effect) (p : ℕ) → has_parent parts p ≡ true → IsOrphan e.kernel p × IsOrphan f.kernel p
     orphans e f p t = absurd (false≢true (sym (childless p) ∙ t))
 
-    pub unchanged : (r : Reply) → SameEffect parts n j k (record { kernel = j; reply = r }) (record { kernel = k; reply = r })
+    pub unchanged : (r : Reply) → SameEffect parts j k (record { kernel = j; reply = r }) (record { kernel = k; reply = r })
     unchanged r =
         record {
           reply = refl;
@@ -42,29 +43,25 @@ module _ (parts : List Part) (n : ℕ) (j k : Kernel) where
           queue_keys = changes-none (has_queue_keys parts) j.queue_keys k.queue_keys;
           set_keys = changes-none (has_set_keys parts) j.set_keys k.set_keys;
           parents = orphans (record { kernel = j; reply = r }) (record { kernel = k; reply = r });
-          used_processes = (inl refl, inl refl);
-          used_queues = (inl refl, inl refl);
-          used_sets = (inl refl, inl refl);
         }
 
-    pub looked-alike : (r : Result ℕ Errno) → SameEffect parts n j k (look_up j r) (look_up k r)
+    pub looked-alike : (r : Result ℕ Errno) → SameEffect parts j k (look_up j r) (look_up k r)
     looked-alike (Ok m) = unchanged (Num m)
     looked-alike (Err e) = unchanged (Fail e)
 
-    named-by : {V : Type 0} (o : Option V) (f g : V → Effect) → ((v : V) → o ≡ Some v → SameEffect parts n j k (f v) (g v)) → SameEffect parts n j k (on_named j o f) (on_named k o g)
+    named-by : {V : Type 0} (o : Option V) (f g : V → Effect) → ((v : V) → o ≡ Some v → SameEffect parts j k (f v) (g v)) → SameEffect parts j k (on_named j o f) (on_named k o g)
     named-by None f g s = unchanged (Fail Einval)
     named-by (Some v) f g s = s v refl
 
-    pub named-alike : {V : Type 0} (o p : Option V) (f g : V → Effect) → o ≡ p → ((v : V) → SameEffect parts n j k (f v) (g v)) → SameEffect parts n j k (on_named j o f) (on_named k p g)
-    named-alike o p f g h s = subst (λ q. SameEffect parts n j k (on_named j o f) (on_named k q g)) h (named-by o f g (λ v e. s v))
+    pub named-alike : {V : Type 0} (o p : Option V) (f g : V → Effect) → o ≡ p → ((v : V) → SameEffect parts j k (f v) (g v)) → SameEffect parts j k (on_named j o f) (on_named k p g)
+    named-alike o p f g h s = subst (λ q. SameEffect parts j k (on_named j o f) (on_named k q g)) h (named-by o f g (λ v e. s v))
 
     pub queues-changed : (a b : Numbered Queue) (keys_a keys_b : Numbered ℕ) (used_a used_b : List ℕ) (r : Reply)
         → Changes (has_queue parts) j.queues k.queues a b → Changes (has_queue_keys parts) j.queue_keys k.queue_keys keys_a keys_b
-        → Grew n r j.used_queues used_a → Grew n r k.used_queues used_b
-        → SameEffect parts n j k
+        → SameEffect parts j k
         (record { kernel = record j { queues = a; queue_keys = keys_a; used_queues = used_a }; reply = r })
         (record { kernel = record k { queues = b; queue_keys = keys_b; used_queues = used_b }; reply = r })
-    queues-changed a b keys_a keys_b used_a used_b r s t u v =
+    queues-changed a b keys_a keys_b used_a used_b r s t =
         let same = unchanged r
         in record {
           reply = refl;
@@ -74,18 +71,14 @@ module _ (parts : List Part) (n : ℕ) (j k : Kernel) where
           queue_keys = t;
           set_keys = same.set_keys;
           parents = λ p t. absurd (false≢true (sym (childless p) ∙ t));
-          used_processes = same.used_processes;
-          used_queues = (u, v);
-          used_sets = same.used_sets;
         }
 
-    pub sets-changed : (a b : Numbered (List Semaphore)) (keys_a keys_b : Numbered ℕ) (used_a used_b : List ℕ) (r : Reply)
+    pub sets-changed : (a b : Numbered SemaphoreSet) (keys_a keys_b : Numbered ℕ) (used_a used_b : List ℕ) (r : Reply)
         → Changes (has_set parts) j.sets k.sets a b → Changes (has_set_keys parts) j.set_keys k.set_keys keys_a keys_b
-        → Grew n r j.used_sets used_a → Grew n r k.used_sets used_b
-        → SameEffect parts n j k
+        → SameEffect parts j k
         (record { kernel = record j { sets = a; set_keys = keys_a; used_sets = used_a }; reply = r })
         (record { kernel = record k { sets = b; set_keys = keys_b; used_sets = used_b }; reply = r })
-    sets-changed a b keys_a keys_b used_a used_b r s t u v =
+    sets-changed a b keys_a keys_b used_a used_b r s t =
         let same = unchanged r
         in record {
           reply = refl;
@@ -95,18 +88,14 @@ module _ (parts : List Part) (n : ℕ) (j k : Kernel) where
           queue_keys = same.queue_keys;
           set_keys = t;
           parents = λ p t. absurd (false≢true (sym (childless p) ∙ t));
-          used_processes = same.used_processes;
-          used_queues = same.used_queues;
-          used_sets = (u, v);
         }
 
     pub processes-changed : (a b : Numbered Process) (used_a used_b : List ℕ) (r : Reply)
         → Changes (has_whole parts) j.processes k.processes a b
-        → Grew n r j.used_processes used_a → Grew n r k.used_processes used_b
-        → SameEffect parts n j k
+        → SameEffect parts j k
         (record { kernel = record j { processes = a; used_processes = used_a }; reply = r })
         (record { kernel = record k { processes = b; used_processes = used_b }; reply = r })
-    processes-changed a b used_a used_b r s u v =
+    processes-changed a b used_a used_b r s =
         let same = unchanged r
         in record {
           reply = refl;
@@ -116,7 +105,4 @@ module _ (parts : List Part) (n : ℕ) (j k : Kernel) where
           queue_keys = same.queue_keys;
           set_keys = same.set_keys;
           parents = λ p t. absurd (false≢true (sym (childless p) ∙ t));
-          used_processes = (u, v);
-          used_queues = same.used_queues;
-          used_sets = same.used_sets;
         }

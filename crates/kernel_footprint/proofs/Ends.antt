@@ -11,16 +11,17 @@ use Rattle.pico_base.specs.declared.reply.Ending.TheVariants as endings
 use Rattle.pico_base.specs.declared.signal.Sig.{Sig}
 use Rattle.pico_base.specs.declared.signal.Sig.TheVariants.{Chld}
 use Rattle.number_maps.specs.Maps.{Numbered, put}
-use Rattle.kernel_model.specs.Row.{Alive, lists, others, ignores_children, raise_by_other, with_ended_child}
+use Rattle.kernel_model.specs.Row.{Alive, EndedChild, lists, others, ignores_children, raise_by_other, with_ended_child}
 use Rattle.kernel_model.specs.Kernel.{Kernel, Process, Living, Gone, Parent, alive_in, living_in, living_at, parent_in}
 use Rattle.kernel_model.specs.ProcessCalls.{bury, bury_all, process_after_end, end_under, processes_after_end, end_process}
 use Rattle.kernel_model.specs.Transition.{effect, transition}
 use Rattle.kernel_model.specs.Valid.{IsValid}
-use Rattle.kernel_model.specs.Footprint.{Part, MayDo, Whole, ParentOf, is_whole, parts_of_ended, parent_parts, parent_number, AgreeOn, SameSteps}
+use Rattle.kernel_model.specs.Footprint.{Part, MayDo, Whole, ParentOf, is_whole, parts_of_ended, parent_parts, parent_number, AgreeOn}
 use Rattle.kernel_footprint.proofs.Maps.{Rises, rises-put, rises-from_order, get-put-same, get-put-other, eq-same}
 use Rattle.kernel_footprint.proofs.Parents.{orphan-put, orphan-from_unlisted, parent-is}
 use Rattle.kernel_footprint.proofs.Change.{Changes, changes-none, changes-put, has_whole, has_queue, has_set, has_queue_keys, has_set_keys, has_parent, is_parent, SameEffect, SameEffects}
 use Rattle.kernel_footprint.proofs.Processes.{ended-childless}
+use Rattle.kernel_footprint.proofs.Stepped.{AlikeSteps}
 use Rattle.kernel_footprint.proofs.Steps.{whole-steps}
 use Rattle.kernel_footprint.proofs.AtCall.{LawAt}
 
@@ -45,13 +46,13 @@ ended-unlisted a child ending =
 
 -- The burial of the caller's ended children.
 
-buried-orphan : (child : ℕ) (es : List (ℕ × Ending)) (ps : Numbered Process) → parent_in child ps ≡ None → parent_in child (fold bury ps es) ≡ None
+buried-orphan : (child : ℕ) (es : List EndedChild) (ps : Numbered Process) → parent_in child ps ≡ None → parent_in child (fold bury ps es) ≡ None
 buried-orphan child [] ps h = h
-buried-orphan child (e ∷ es) ps h = buried-orphan child es (put ps e.0 Gone) (orphan-put child ps e.0 Gone refl h)
+buried-orphan child (e ∷ es) ps h = buried-orphan child es (put ps e.pid Gone) (orphan-put child ps e.pid Gone refl h)
 
-buried-rises : (es : List (ℕ × Ending)) (ps : Numbered Process) → Rises ps → Rises (fold bury ps es)
+buried-rises : (es : List EndedChild) (ps : Numbered Process) → Rises ps → Rises (fold bury ps es)
 buried-rises [] ps h = h
-buried-rises (e ∷ es) ps h = buried-rises es (put ps e.0 Gone) (rises-put ps e.0 Gone h)
+buried-rises (e ∷ es) ps h = buried-rises es (put ps e.pid Gone) (rises-put ps e.pid Gone h)
 
 -- a process that lives afterwards lived before
 gone-living : (ps : Numbered Process) (n p : ℕ) (a : Alive) → living_in (put ps n Gone) p ≡ Some a → living_in ps p ≡ Some a
@@ -63,9 +64,9 @@ gone-living ps n p a h =
       | inr ne ↦ sym (ap (option_and_then alive_in) (get-put-other ps n Gone p ne)) ∙ h
     ]
 
-buried-living : (es : List (ℕ × Ending)) (ps : Numbered Process) (p : ℕ) (a : Alive) → living_in (fold bury ps es) p ≡ Some a → living_in ps p ≡ Some a
+buried-living : (es : List EndedChild) (ps : Numbered Process) (p : ℕ) (a : Alive) → living_in (fold bury ps es) p ≡ Some a → living_in ps p ≡ Some a
 buried-living [] ps p a h = h
-buried-living (e ∷ es) ps p a h = gone-living ps e.0 p a (buried-living es (put ps e.0 Gone) p a h)
+buried-living (e ∷ es) ps p a h = gone-living ps e.pid p a (buried-living es (put ps e.pid Gone) p a h)
 
 kept-dead : (b : Bool) (ending : Ending) → alive_in (process_after_end b ending) ≡ None
 kept-dead true ending = refl
@@ -76,7 +77,7 @@ kept-dead false ending = refl
 module _ (ps : Numbered Process) (rises : Rises ps)
     (one_parent : (p q : ℕ) (a b : Alive) (child : ℕ) → living_in ps p ≡ Some a → living_in ps q ≡ Some b
     → lists a.row.family child ≡ true → lists b.row.family child ≡ true → p ≡ q)
-    (es : List (ℕ × Ending)) (pid : ℕ) (ending : Ending) where
+    (es : List EndedChild) (pid : ℕ) (ending : Ending) where
   -- the row of the parent aside
   others-unlisted : (r : Parent) (v : Process) → alive_in v ≡ None → parent_in pid ps ≡ Some r → (p : ℕ) (b : Alive) → p ≢ r.pid
       → living_in (put (fold bury ps es) pid v) p ≡ Some b → lists b.row.family pid ≡ false
@@ -113,15 +114,15 @@ module _ (ps : Numbered Process) (rises : Rises ps)
             (sym (ap (option_and_then alive_in) (get-put-other middle r.pid row p ne)) ∙ l)
       ])
 
-orphaned : (k : Kernel) → IsValid k → (es : List (ℕ × Ending)) (pid : ℕ) (ending : Ending) → parent_in pid (end_under (fold bury k.processes es) pid ending (parent_in pid k.processes)) ≡ None
+orphaned : (k : Kernel) → IsValid k → (es : List EndedChild) (pid : ℕ) (ending : Ending) → parent_in pid (end_under (fold bury k.processes es) pid ending (parent_in pid k.processes)) ≡ None
 orphaned k v es pid ending = orphan-under k.processes (rises-from_order k.processes v.processes) v.one_parent es pid ending (parent_in pid k.processes) refl
 
 -- The same changes.
 
 module _ (touched : ℕ → Bool) (j k : Numbered Process) where
-  buried-changes : (es : List (ℕ × Ending)) (a b : Numbered Process) → AllByRecursion (λ e. touched e.0 ≡ true) es → Changes touched j k a b → Changes touched j k (fold bury a es) (fold bury b es)
+  buried-changes : (es : List EndedChild) (a b : Numbered Process) → AllByRecursion (λ e. touched e.pid ≡ true) es → Changes touched j k a b → Changes touched j k (fold bury a es) (fold bury b es)
   buried-changes [] a b t c = c
-  buried-changes (e ∷ es) a b t c = buried-changes es (put a e.0 Gone) (put b e.0 Gone) t.1 (changes-put touched j k a b e.0 Gone t.0 c)
+  buried-changes (e ∷ es) a b t c = buried-changes es (put a e.pid Gone) (put b e.pid Gone) t.1 (changes-put touched j k a b e.pid Gone t.0 c)
 
   ended-changes : (o : Option Parent) (a b : Numbered Process) (pid : ℕ) (ending : Ending) → touched pid ≡ true → ((r : Parent) → o ≡ Some r → touched r.pid ≡ true)
       → Changes touched j k a b → Changes touched j k (end_under a pid ending o) (end_under b pid ending o)
@@ -172,10 +173,10 @@ has_parent-is pid p o parent h =
     ]
 
 -- each ended child is a part
-all-whole : (t : ℕ → Bool) (es : List (ℕ × Ending)) → ((p : ℕ) → list_any (is_whole p) (map (λ y. Whole y.0) es) ≡ true → t p ≡ true)
-    → AllByRecursion (λ e. t e.0 ≡ true) es
+all-whole : (t : ℕ → Bool) (es : List EndedChild) → ((p : ℕ) → list_any (is_whole p) (map (λ y. Whole y.pid) es) ≡ true → t p ≡ true)
+    → AllByRecursion (λ e. t e.pid ≡ true) es
 all-whole t [] h = tt
-all-whole t (e ∷ es) h = (h e.0 (or_left _ _ (eq-same e.0)), all-whole t es (λ p u. h p (or_right _ _ u)))
+all-whole t (e ∷ es) h = (h e.pid (or_left _ _ (eq-same e.pid)), all-whole t es (λ p u. h p (or_right _ _ u)))
 
 -- The parent is the same in both.
 
@@ -212,7 +213,7 @@ parts_at j pid = exit_parts pid (living_at j pid) (parent_number j pid)
 whole-of_parent : (pid : ℕ) (o : Option Alive) (r : Parent) → has_whole (exit_parts pid o (Some r.pid)) r.pid ≡ true
 whole-of_parent pid o r = or_right _ _ (any-right (is_whole r.pid) (parts_of_ended o) (parent_parts (Some r.pid)) (or_left _ _ (eq-same r.pid)))
 
-whole-of_ended : (pid p : ℕ) (a : Alive) (parent : Option ℕ) → list_any (is_whole p) (map (λ y. Whole y.0) a.row.family.ended) ≡ true
+whole-of_ended : (pid p : ℕ) (a : Alive) (parent : Option ℕ) → list_any (is_whole p) (map (λ y. Whole y.pid) a.row.family.ended) ≡ true
     → has_whole (exit_parts pid (Some a) parent) p ≡ true
 whole-of_ended pid p a parent h = or_right _ _ (any-left (is_whole p) (parts_of_ended (Some a)) (parent_parts parent) h)
 
@@ -230,7 +231,7 @@ end-changes j k pid a ending lives same =
     (changes-none touched j.processes k.processes)))
 
 end-alike : (j k : Kernel) (pid n : ℕ) (a : Alive) (ending : Ending) → IsValid j → IsValid k → living_at j pid ≡ Some a → parent_in pid j.processes ≡ parent_in pid k.processes
-    → SameEffect (parts_at j pid) n j k (end_process j pid a ending) (end_process k pid a ending)
+    → SameEffect (parts_at j pid) j k (end_process j pid a ending) (end_process k pid a ending)
 end-alike j k pid n a ending vj vk lives same =
     let parts = parts_at j pid
     in record {
@@ -241,9 +242,6 @@ end-alike j k pid n a ending vj vk lives same =
       queue_keys = changes-none (has_queue_keys parts) j.queue_keys k.queue_keys;
       set_keys = changes-none (has_set_keys parts) j.set_keys k.set_keys;
       parents = λ p t. (orphan-of j vj p t, orphan-of k vk p t);
-      used_processes = (inl refl, inl refl);
-      used_queues = (inl refl, inl refl);
-      used_sets = (inl refl, inl refl);
     }
   where
     orphan-of : (i : Kernel) → IsValid i → (p : ℕ) → has_parent (parts_at j pid) p ≡ true → parent_in p (processes_after_end i.processes pid a ending) ≡ None
@@ -253,13 +251,13 @@ end-alike j k pid n a ending vj vk lives same =
 
 end-law : (j k : Kernel) (pid n : ℕ) (call : Call) (ending : Ending) → IsValid j → IsValid k → AgreeOn (parts_at j pid) j k
     → ((i : Kernel) (a : Alive) → effect i pid a call n ≡ Some (end_process i pid a ending))
-    → SameSteps (parts_at j pid) n j k (transition j pid call n) (transition k pid call n)
+    → AlikeSteps (parts_at j pid) j k (transition j pid call n) (transition k pid call n)
 end-law j k pid n call ending vj vk h is =
     let parts = parts_at j pid
     in let same = same-parent j k vj vk pid h.1.1.0 (agree-right (parts_of_ended (living_at j pid)) (parent_parts (parent_number j pid)) j k h.1.1.1)
     in whole-steps parts n j k pid call h (or_left _ _ (eq-same pid)) h.1.0
-    (λ a x y. subst (λ e. SameEffects parts n j k e (effect k pid a call n)) (sym (is j a))
-    (subst (λ e. SameEffects parts n j k (Some (end_process j pid a ending)) e) (sym (is k a)) (end-alike j k pid n a ending vj vk x same)))
+    (λ a x y. subst (λ e. SameEffects parts j k e (effect k pid a call n)) (sym (is j a))
+    (subst (λ e. SameEffects parts j k (Some (end_process j pid a ending)) e) (sym (is k a)) (end-alike j k pid n a ending vj vk x same)))
 
 pub exit-law : (j k : Kernel) (pid n status : ℕ) → LawAt j k pid (calls.Exit status) n
 exit-law j k pid n status vj vk h uj uk = end-law j k pid n (calls.Exit status) (endings.Exited (status % 256)) vj vk h (λ i a. refl)

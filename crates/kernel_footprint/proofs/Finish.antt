@@ -12,7 +12,7 @@ use Rattle.kernel_model.specs.Valid.{IsValidProcess}
 use Rattle.kernel_model.specs.Footprint.{Part, bare, parent_number}
 use Rattle.kernel_footprint.proofs.Maps.{get-put-same, get-put-other}
 use Rattle.kernel_footprint.proofs.Parents.{orphan-put, orphan-unlisted}
-use Rattle.kernel_footprint.proofs.Change.{changes-put, change-agree, change-first, change-second, change-move, has_whole, has_parent, Grew, SameEffect, IsOrphan}
+use Rattle.kernel_footprint.proofs.Change.{changes-put, change-agree, change-first, change-second, change-move, has_whole, has_parent, SameEffect, IsOrphan}
 use Rattle.kernel_footprint.proofs.Stepped.{Stepped, Moved, Doomed, moved-from_change, has_allowance, allowance_in}
 
 -- a process that has nothing left but its ending
@@ -30,8 +30,8 @@ orphans-number : (p : ℕ) (j k : Kernel) → IsOrphan j p → IsOrphan k p → 
 orphans-number p j k a b = ap (option_map (λ r. r.pid)) (a ∙ sym b)
 
 -- the effect alone
-plain : (parts : List Part) (n : ℕ) (j k : Kernel) (e f : Effect) → SameEffect parts n j k e f → Stepped parts n e.reply j k e.kernel f.kernel
-plain parts n j k e f s =
+plain : (parts : List Part) (j k : Kernel) (e f : Effect) → SameEffect parts j k e f → Stepped parts j k e.kernel f.kernel
+plain parts j k e f s =
     record {
       processes = λ p. moved-from_change _ _ _ _ _ _ (s.processes p);
       queues = s.queues;
@@ -39,21 +39,15 @@ plain parts n j k e f s =
       queue_keys = s.queue_keys;
       set_keys = s.set_keys;
       parents = λ p t. orphans-number p e.kernel f.kernel (s.parents p t).0 (s.parents p t).1;
-      used_processes = (s.used_processes.0, grown s.reply s.used_processes.1);
-      used_queues = (s.used_queues.0, grown s.reply s.used_queues.1);
-      used_sets = (s.used_sets.0, grown s.reply s.used_sets.1);
     }
-  where
-    grown : {before after : List ℕ} → e.reply ≡ f.reply → Grew n f.reply before after → Grew n e.reply before after
-    grown {before} {after} h g = subst (λ r. Grew n r before after) (sym h) g
 
 -- Where the whole caller is a part.
 
-module _ (parts : List Part) (n : ℕ) (j k : Kernel) (e f : Effect) (pid : ℕ) (s : SameEffect parts n j k e f) (whole : has_whole parts pid ≡ true) where
+module _ (parts : List Part) (j k : Kernel) (e f : Effect) (pid : ℕ) (s : SameEffect parts j k e f) (whole : has_whole parts pid ≡ true) where
   with-spent : (a : Alive) → living_at e.kernel pid ≡ Some a → living_at f.kernel pid ≡ Some a
-      → Stepped parts n e.reply j k (with_alive e.kernel pid (spent a)) (with_alive f.kernel pid (spent a))
+      → Stepped parts j k (with_alive e.kernel pid (spent a)) (with_alive f.kernel pid (spent a))
   with-spent a le lf =
-      let p = plain parts n j k e f s
+      let p = plain parts j k e f s
       in record {
         processes = λ q. moved-from_change _ _ _ _ _ _ (changes-put (has_whole parts) j.processes k.processes e.kernel.processes f.kernel.processes pid (Living (spent a)) whole s.processes q);
         queues = p.queues;
@@ -63,25 +57,22 @@ module _ (parts : List Part) (n : ℕ) (j k : Kernel) (e f : Effect) (pid : ℕ)
         parents = λ q t. orphans-number q (with_alive e.kernel pid (spent a)) (with_alive f.kernel pid (spent a))
             (orphan-put q e.kernel.processes pid (Living (spent a)) (orphan-unlisted q e.kernel.processes pid a (s.parents q t).0 le) (s.parents q t).0)
             (orphan-put q f.kernel.processes pid (Living (spent a)) (orphan-unlisted q f.kernel.processes pid a (s.parents q t).1 lf) (s.parents q t).1);
-        used_processes = p.used_processes;
-        used_queues = p.used_queues;
-        used_sets = p.used_sets;
       }
 
   spent-if : (a : Alive) (b : Bool) → living_at e.kernel pid ≡ Some a → living_at f.kernel pid ≡ Some a
-      → Stepped parts n e.reply j k (cond b (with_alive e.kernel pid (spent a)) e.kernel) (cond b (with_alive f.kernel pid (spent a)) f.kernel)
+      → Stepped parts j k (cond b (with_alive e.kernel pid (spent a)) e.kernel) (cond b (with_alive f.kernel pid (spent a)) f.kernel)
   spent-if a true le lf = with-spent a le lf
-  spent-if a false le lf = plain parts n j k e f s
+  spent-if a false le lf = plain parts j k e f s
 
-  finished-by : (o : Option Alive) → living_at e.kernel pid ≡ o → living_at f.kernel pid ≡ o → Stepped parts n e.reply j k (finish_call e.kernel pid o) (finish_call f.kernel pid o)
-  finished-by None le lf = plain parts n j k e f s
+  finished-by : (o : Option Alive) → living_at e.kernel pid ≡ o → living_at f.kernel pid ≡ o → Stepped parts j k (finish_call e.kernel pid o) (finish_call f.kernel pid o)
+  finished-by None le lf = plain parts j k e f s
   finished-by (Some a) le lf = spent-if a (is_some a.row.signals.doom) le lf
 
   pub whole-stepped : get j.processes pid ≡ get k.processes pid
-      → Stepped parts n e.reply j k (finish_call e.kernel pid (living_at e.kernel pid)) (finish_call f.kernel pid (living_at f.kernel pid))
+      → Stepped parts j k (finish_call e.kernel pid (living_at e.kernel pid)) (finish_call f.kernel pid (living_at f.kernel pid))
   whole-stepped h =
       let same : living_at e.kernel pid ≡ living_at f.kernel pid = ap (option_and_then alive_in) (change-agree _ _ _ _ _ (s.processes pid) h)
-      in subst (λ o. Stepped parts n e.reply j k (finish_call e.kernel pid (living_at e.kernel pid)) (finish_call f.kernel pid o)) same
+      in subst (λ o. Stepped parts j k (finish_call e.kernel pid (living_at e.kernel pid)) (finish_call f.kernel pid o)) same
       (finished-by (living_at e.kernel pid) refl (sym same))
 
 -- Where the caller's allowance alone is a part.
@@ -96,7 +87,7 @@ doomed-alike (Some s) None a b x y h = let c = x.1 (h ∙ y.0 refl) in cc
 bare-spent : (o : Option Process) (a : Alive) → o ≡ Some (Living a) → option_map bare (Some (Living (spent a))) ≡ option_map bare o
 bare-spent o a h = sym (ap (option_map bare) h)
 
-module _ (parts : List Part) (n : ℕ) (j k : Kernel) (e f : Effect) (pid : ℕ) (s : SameEffect parts n j k e f)
+module _ (parts : List Part) (j k : Kernel) (e f : Effect) (pid : ℕ) (s : SameEffect parts j k e f)
     (away : has_whole parts pid ≡ false) (allowed : has_allowance parts pid ≡ true) (childless : (p : ℕ) → has_parent parts p ≡ false)
     (a b : Alive) (lives : living_at j pid ≡ Some a) (lives_too : living_at k pid ≡ Some b) where
   doomed-at : (q : ℕ) → Moved (has_whole parts q) (has_allowance parts q) (get j.processes q) (get k.processes q)
@@ -115,9 +106,9 @@ module _ (parts : List Part) (n : ℕ) (j k : Kernel) (e f : Effect) (pid : ℕ)
             (get-put-other e.kernel.processes pid (Living (spent a)) q h) (get-put-other f.kernel.processes pid (Living (spent b)) q h))
       ]
 
-  both-spent : Stepped parts n e.reply j k (with_alive e.kernel pid (spent a)) (with_alive f.kernel pid (spent b))
+  both-spent : Stepped parts j k (with_alive e.kernel pid (spent a)) (with_alive f.kernel pid (spent b))
   both-spent =
-      let p = plain parts n j k e f s
+      let p = plain parts j k e f s
       in record {
         processes = doomed-at;
         queues = p.queues;
@@ -125,24 +116,21 @@ module _ (parts : List Part) (n : ℕ) (j k : Kernel) (e f : Effect) (pid : ℕ)
         queue_keys = p.queue_keys;
         set_keys = p.set_keys;
         parents = λ q t. absurd (false≢true (sym (childless q) ∙ t));
-        used_processes = p.used_processes;
-        used_queues = p.used_queues;
-        used_sets = p.used_sets;
       }
 
   both-by : (x y : Bool) → x ≡ y
-      → Stepped parts n e.reply j k (cond x (with_alive e.kernel pid (spent a)) e.kernel) (cond y (with_alive f.kernel pid (spent b)) f.kernel)
+      → Stepped parts j k (cond x (with_alive e.kernel pid (spent a)) e.kernel) (cond y (with_alive f.kernel pid (spent b)) f.kernel)
   both-by true true h = both-spent
-  both-by false false h = plain parts n j k e f s
+  both-by false false h = plain parts j k e f s
   both-by true false h = cc
   both-by false true h = cc
 
   pub away-stepped : IsValidProcess j pid a → IsValidProcess k pid b → a.allowance ≡ b.allowance
-      → Stepped parts n e.reply j k (finish_call e.kernel pid (living_at e.kernel pid)) (finish_call f.kernel pid (living_at f.kernel pid))
+      → Stepped parts j k (finish_call e.kernel pid (living_at e.kernel pid)) (finish_call f.kernel pid (living_at f.kernel pid))
   away-stepped va vb h =
       let le : living_at e.kernel pid ≡ Some a = ap (option_and_then alive_in) (change-first _ _ _ _ _ (s.processes pid) away) ∙ lives
       in let lf : living_at f.kernel pid ≡ Some b = ap (option_and_then alive_in) (change-second _ _ _ _ _ (s.processes pid) away) ∙ lives_too
       in let alike = doomed-alike a.row.signals.doom b.row.signals.doom a.allowance b.allowance va.allowed vb.allowed h
-      in subst (λ o. Stepped parts n e.reply j k (finish_call e.kernel pid o) (finish_call f.kernel pid (living_at f.kernel pid))) (sym le)
-      (subst (λ o. Stepped parts n e.reply j k (finish_call e.kernel pid (Some a)) (finish_call f.kernel pid o)) (sym lf)
+      in subst (λ o. Stepped parts j k (finish_call e.kernel pid o) (finish_call f.kernel pid (living_at f.kernel pid))) (sym le)
+      (subst (λ o. Stepped parts j k (finish_call e.kernel pid (Some a)) (finish_call f.kernel pid o)) (sym lf)
       (both-by (is_some a.row.signals.doom) (is_some b.row.signals.doom) alike))

@@ -1,9 +1,13 @@
 -- The law at each call.
-use Rattle.std.proofs.Common.{ℕ}
+use Rattle.std.proofs.Common.{◌≡◌, ℕ, List, Option, Some, None, refl}
 use Rattle.pico_base.specs.declared.call.Call.{Call}
 use Rattle.pico_base.specs.declared.call.Call.TheVariants as calls
 use Rattle.kernel_model.specs.Kernel.{Kernel}
-use Rattle.kernel_model.specs.Footprint.{FootprintLaw}
+use Rattle.pico_base.specs.declared.numbers.Kind.{Kind}
+use Rattle.kernel_model.specs.Transition.{Successor, transition}
+use Rattle.kernel_model.specs.Footprint.{Part, footprint, GrowsBy, SameSteps, FootprintLaw}
+use Rattle.kernel_footprint.proofs.Stepped.{AlikeSteps}
+use Rattle.kernel_footprint.proofs.Growth.{growth}
 use Rattle.kernel_footprint.proofs.AtCall.{LawAt}
 use Rattle.kernel_footprint.proofs.Processes.{fork-law, getpid-law, kill-law, action-law, mask-law, pending-law, handled-law, wait-law}
 use Rattle.kernel_footprint.proofs.Queues.{get_queue-law, send-law, receive-law, stat-law, set_bytes-law, remove_queue-law}
@@ -38,5 +42,25 @@ law-at j k pid n (calls.SemGetAll id) = get_all-law j k pid n id
 law-at j k pid n (calls.SemSetAll id values) = set_all-law j k pid n id values
 law-at j k pid n (calls.SemRmid id) = remove_set-law j k pid n id
 
+-- the same step but for the numbers used, and these
+with-growth : (parts : List Part) (call : Call) (n : ℕ) (j k : Kernel) (x y : Option Successor) → AlikeSteps parts j k x y
+    → ((s : Successor) → x ≡ Some s → (kind : Kind) → GrowsBy call n s.outcome j s.kernel kind)
+    → ((s : Successor) → y ≡ Some s → (kind : Kind) → GrowsBy call n s.outcome k s.kernel kind)
+    → SameSteps parts call n j k x y
+with-growth parts call n j k None None s f g = tt
+with-growth parts call n j k None (Some y) s f g = absurd s
+with-growth parts call n j k (Some x) None s f g = absurd s
+with-growth parts call n j k (Some x) (Some y) s f g =
+    record {
+      outcome = s.outcome;
+      agree = s.agree;
+      rest_of_first = s.rest_of_first;
+      rest_of_second = s.rest_of_second;
+      used_of_first = f x refl;
+      used_of_second = g y refl;
+    }
+
 pub the_law : FootprintLaw
-the_law j k pid call n vj vk h uj uk = law-at j k pid n call vj vk h uj uk
+the_law j k pid call n vj vk h uj uk =
+    with-growth (footprint j pid call n) call n j k (transition j pid call n) (transition k pid call n)
+    (law-at j k pid n call vj vk h uj uk) (growth j pid call n vj uj) (growth k pid call n vk uk)

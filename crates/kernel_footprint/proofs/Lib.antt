@@ -11,4 +11,5 @@ pub mod Queues
 pub mod Sets
 pub mod Processes
 pub mod Ends
+pub mod Growth
 pub mod Law

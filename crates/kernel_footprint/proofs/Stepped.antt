@@ -1,16 +1,18 @@
 -- From what a step leaves at each number of two kernels to the same step.
-use Rattle.std.proofs.Common.{◌≡◌, ℕ, Bool, true, false, List, [], ◌∷◌, length, Option, Some, refl, ap, sym, ◌∙◌, inl, inr}
+use Rattle.std.proofs.Common.{◌≡◌, ℕ, Bool, true, false, List, [], ◌∷◌, length, Option, Some, None, refl, ap, sym, ◌∙◌}
 use Rattle.std.specs.List.{list_any}
 use Rattle.std.specs.Option.{option_map, option_and_then, option_map_or}
 use Rattle.std.proofs.lemmas.Bool.{false≢true, or_left, or_right}
 use Rattle.pico_base.specs.declared.reply.Reply.{Reply}
-use Rattle.pico_base.specs.declared.reply.Outcome.{Outcome}
 use Rattle.number_maps.specs.Maps.{get}
 use Rattle.kernel_model.specs.Row.{Allowance}
+use Rattle.kernel_model.specs.SemaphoreSet.{SemaphoreSet}
 use Rattle.kernel_model.specs.Kernel.{Kernel, Process, alive_in}
-use Rattle.kernel_model.specs.Footprint.{Part, MayDo, Whole, ParentOf, QueueAt, SetAt, SizeOf, QueueKeys, SetKeys, is_whole, is_allowance, bare, SameAt, AgreeOn, GrowsBy, RestStays, SameStep, parent_number}
+use Rattle.kernel_model.specs.Effect.{reply_alone}
+use Rattle.kernel_model.specs.Transition.{Successor, successor}
+use Rattle.kernel_model.specs.Footprint.{Part, MayDo, Whole, ParentOf, QueueAt, SetAt, SizeOf, QueueKeys, SetKeys, is_whole, is_allowance, bare, SameAt, AgreeOn, RestStays, parent_number}
 use Rattle.kernel_footprint.proofs.Maps.{eq-same}
-use Rattle.kernel_footprint.proofs.Change.{Change, Stays, Same, Changes, change-agree, change-first, change-second, is_parent, has_whole, has_queue, has_set, has_queue_keys, has_set_keys, has_parent, Grew}
+use Rattle.kernel_footprint.proofs.Change.{Change, Stays, Same, Changes, change-agree, change-first, change-second, is_parent, has_whole, has_queue, has_set, has_queue_keys, has_set_keys, has_parent}
 
 abbrev pub has_allowance : List Part → ℕ → Bool
 has_allowance parts p = list_any (is_allowance p) parts
@@ -29,16 +31,13 @@ pub moved-from_change : (whole allowed : Bool) (j k to_j to_k : Option Process) 
 moved-from_change whole allowed j k to_j to_k (Stays x y) = Kept x y
 moved-from_change whole allowed j k to_j to_k (Same h x) = Equal h x
 
-pub record Stepped (parts : List Part) (n : ℕ) (reply : Reply) (j k to_j to_k : Kernel) : Type 0 where
+pub record Stepped (parts : List Part) (j k to_j to_k : Kernel) : Type 0 where
   pub processes : (p : ℕ) → Moved (has_whole parts p) (has_allowance parts p) (get j.processes p) (get k.processes p) (get to_j.processes p) (get to_k.processes p)
   pub queues : Changes (has_queue parts) j.queues k.queues to_j.queues to_k.queues
   pub sets : Changes (has_set parts) j.sets k.sets to_j.sets to_k.sets
   pub queue_keys : Changes (has_queue_keys parts) j.queue_keys k.queue_keys to_j.queue_keys to_k.queue_keys
   pub set_keys : Changes (has_set_keys parts) j.set_keys k.set_keys to_j.set_keys to_k.set_keys
   pub parents : (p : ℕ) → has_parent parts p ≡ true → parent_number to_j p ≡ parent_number to_k p
-  pub used_processes : Grew n reply j.used_processes to_j.used_processes × Grew n reply k.used_processes to_k.used_processes
-  pub used_queues : Grew n reply j.used_queues to_j.used_queues × Grew n reply k.used_queues to_k.used_queues
-  pub used_sets : Grew n reply j.used_sets to_j.used_sets × Grew n reply k.used_sets to_k.used_sets
 
 -- Agreement afterwards, part by part.
 
@@ -52,16 +51,18 @@ moved-whole w a j k to_j to_k (Kept x y) t h = x ∙ h ∙ sym y
 moved-whole w a j k to_j to_k (Equal s x) t h = x
 moved-whole w a j k to_j to_k (Doomed f s x y z) t h = absurd (false≢true (sym f ∙ t))
 
-change-size : {X : Type 0} (t : Bool) (j k to_j to_k : Option (List X)) → Change t j k to_j to_k
-    → option_map_or length j 0 ≡ option_map_or length k 0 → option_map_or length to_j 0 ≡ option_map_or length to_k 0
-change-size t j k to_j to_k (Stays x y) h = ap (λ o. option_map_or length o 0) x ∙ h ∙ ap (λ o. option_map_or length o 0) (sym y)
-change-size t j k to_j to_k (Same s x) h = ap (λ o. option_map_or length o 0) x
+abbrev size_in : Option SemaphoreSet → ℕ
+size_in o = option_map_or (λ set. length set.semaphores) o 0
+
+change-size : (t : Bool) (j k to_j to_k : Option SemaphoreSet) → Change t j k to_j to_k → size_in j ≡ size_in k → size_in to_j ≡ size_in to_k
+change-size t j k to_j to_k (Stays x y) h = ap size_in x ∙ h ∙ ap size_in (sym y)
+change-size t j k to_j to_k (Same s x) h = ap size_in x
 
 -- each test that the part passes is passed by one of the parts
 abbrev IsAmong : List Part → Part → Type 0
 IsAmong parts x = (test : Part → Bool) → test x ≡ true → list_any test parts ≡ true
 
-module _ (parts : List Part) (n : ℕ) (reply : Reply) (j k to_j to_k : Kernel) (s : Stepped parts n reply j k to_j to_k) where
+module _ (parts : List Part) (j k to_j to_k : Kernel) (s : Stepped parts j k to_j to_k) where
   agree-at : (x : Part) → IsAmong parts x → SameAt j k x → SameAt to_j to_k x
   agree-at (MayDo p) among h = moved-allowance _ _ _ _ _ _ (s.processes p) h
   agree-at (Whole p) among h = moved-whole _ _ _ _ _ _ (s.processes p) (among (is_whole p) (eq-same p)) h
@@ -104,15 +105,8 @@ moved-row_second w a j k to_j to_k (Kept x y) f = ap (option_map bare) y
 moved-row_second w a j k to_j to_k (Equal t x) f = absurd (false≢true (sym f ∙ t))
 moved-row_second w a j k to_j to_k (Doomed v t x y z) f = z
 
-abbrev pub outcome_by : Reply → Outcome
-outcome_by reply = record { own = Some reply; woken = [] }
-
-grows : (n : ℕ) (reply : Reply) (before after : List ℕ) → Grew n reply before after → GrowsBy n (outcome_by reply) before after
-grows n reply before after h =
-    elim h [ inl x ↦ inl x | inr w ↦ inr (w.0, ap Some w.1) ]
-
-pub rest-first : (parts : List Part) (n : ℕ) (reply : Reply) (j k to_j to_k : Kernel) → Stepped parts n reply j k to_j to_k → RestStays parts n (outcome_by reply) j to_j
-rest-first parts n reply j k to_j to_k s =
+pub rest-first : (parts : List Part) (j k to_j to_k : Kernel) → Stepped parts j k to_j to_k → RestStays parts j to_j
+rest-first parts j k to_j to_k s =
     record {
       processes = λ p w a. moved-first _ _ _ _ _ _ (s.processes p) w a;
       rows = λ p w. moved-row_first _ _ _ _ _ _ (s.processes p) w;
@@ -120,13 +114,10 @@ rest-first parts n reply j k to_j to_k s =
       sets = λ p f. change-first _ _ _ _ _ (s.sets p) f;
       queue_keys = λ f key. change-first _ _ _ _ _ (s.queue_keys key) f;
       set_keys = λ f key. change-first _ _ _ _ _ (s.set_keys key) f;
-      used_processes = grows n reply _ _ s.used_processes.0;
-      used_queues = grows n reply _ _ s.used_queues.0;
-      used_sets = grows n reply _ _ s.used_sets.0;
     }
 
-pub rest-second : (parts : List Part) (n : ℕ) (reply : Reply) (j k to_j to_k : Kernel) → Stepped parts n reply j k to_j to_k → RestStays parts n (outcome_by reply) k to_k
-rest-second parts n reply j k to_j to_k s =
+pub rest-second : (parts : List Part) (j k to_j to_k : Kernel) → Stepped parts j k to_j to_k → RestStays parts k to_k
+rest-second parts j k to_j to_k s =
     record {
       processes = λ p w a. moved-second _ _ _ _ _ _ (s.processes p) w a;
       rows = λ p w. moved-row_second _ _ _ _ _ _ (s.processes p) w;
@@ -134,17 +125,26 @@ rest-second parts n reply j k to_j to_k s =
       sets = λ p f. change-second _ _ _ _ _ (s.sets p) f;
       queue_keys = λ f key. change-second _ _ _ _ _ (s.queue_keys key) f;
       set_keys = λ f key. change-second _ _ _ _ _ (s.set_keys key) f;
-      used_processes = grows n reply _ _ s.used_processes.1;
-      used_queues = grows n reply _ _ s.used_queues.1;
-      used_sets = grows n reply _ _ s.used_sets.1;
     }
 
-pub step-from : (parts : List Part) (n : ℕ) (reply : Reply) (j k to_j to_k : Kernel) → AgreeOn parts j k → Stepped parts n reply j k to_j to_k
-    → SameStep parts n j k (to_j, outcome_by reply) (to_k, outcome_by reply)
-step-from parts n reply j k to_j to_k h s =
+-- The same step, but for the numbers used.
+pub record AlikeStep (parts : List Part) (j k : Kernel) (to_j to_k : Successor) : Type 0 where
+  pub outcome : to_j.outcome ≡ to_k.outcome
+  pub agree : AgreeOn parts to_j.kernel to_k.kernel
+  pub rest_of_first : RestStays parts j to_j.kernel
+  pub rest_of_second : RestStays parts k to_k.kernel
+
+abbrev pub AlikeSteps : List Part → Kernel → Kernel → Option Successor → Option Successor → Type 0
+AlikeSteps parts j k None None = Unit {0}
+AlikeSteps parts j k (Some to_j) (Some to_k) = AlikeStep parts j k to_j to_k
+AlikeSteps parts j k _ _ = ⊥
+
+pub step-from : (parts : List Part) (reply : Reply) (j k to_j to_k : Kernel) → AgreeOn parts j k → Stepped parts j k to_j to_k
+    → AlikeStep parts j k (successor to_j (reply_alone reply)) (successor to_k (reply_alone reply))
+step-from parts reply j k to_j to_k h s =
     record {
       outcome = refl;
-      agree = agree-after parts n reply j k to_j to_k s h;
-      rest_of_first = rest-first parts n reply j k to_j to_k s;
-      rest_of_second = rest-second parts n reply j k to_j to_k s;
+      agree = agree-after parts j k to_j to_k s h;
+      rest_of_first = rest-first parts j k to_j to_k s;
+      rest_of_second = rest-second parts j k to_j to_k s;
     }

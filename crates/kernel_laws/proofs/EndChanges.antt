@@ -4,7 +4,7 @@ use Rattle.std.specs.Prelude.{Contains, fold, if◌then◌else◌}
 use Rattle.std.proofs.lemmas.Bool.{cases_eq}
 use Rattle.pico_base.specs.declared.reply.Ending.{Ending}
 use Rattle.number_maps.specs.Maps.{Numbered, get}
-use Rattle.kernel_model.specs.Row.{Alive, Family, lists, family_after_end}
+use Rattle.kernel_model.specs.Row.{Alive, Family, lists, family_after_end, EndedChild, ended_child}
 use Rattle.kernel_model.specs.Kernel.{Process, Living, Ended, Gone, Parent, parent_in}
 use Rattle.kernel_model.specs.ProcessCalls.{bury, bury_all, process_after_end}
 use Rattle.kernel_laws.proofs.Plain.{from_some, not_some, not_none, not_true}
@@ -15,57 +15,57 @@ use Rattle.kernel_laws.proofs.FamilyChanges.{Put, put-is, Two, AtFirst, AtLast, 
 
 -- 1. its own ended children are gone
 
-abbrev Among : List (ℕ × Ending) → ℕ → Type 0
-Among es q = (e : Ending) × Contains es (q, e)
+abbrev Among : List EndedChild → ℕ → Type 0
+Among es q = (e : Ending) × Contains es (ended_child q e)
 
-among-cons : (e : ℕ × Ending) (es : List (ℕ × Ending)) (q : ℕ) → Among (e ∷ es) q → (q ≡ e.0) ⊎ Among es q
+among-cons : (e : EndedChild) (es : List EndedChild) (q : ℕ) → Among (e ∷ es) q → (q ≡ e.pid) ⊎ Among es q
 among-cons e es q h =
-    elim (contains-cases e es (q, h.0) h.1) [
-      | inl same ↦ inl (sym (ap (λ (x : ℕ × Ending). x.0) same))
+    elim (contains-cases e es (ended_child q h.0) h.1) [
+      | inl same ↦ inl (sym (ap (λ (x : EndedChild). x.pid) same))
       | inr later ↦ inr (h.0, later)
     ]
 
-among-here : (e : ℕ × Ending) (es : List (ℕ × Ending)) (q : ℕ) → q ≡ e.0 → Among (e ∷ es) q
-among-here e es q same = subst (λ (n : ℕ). Among (e ∷ es) n) (sym same) (e.1, contains-first e es)
+among-here : (e : EndedChild) (es : List EndedChild) (q : ℕ) → q ≡ e.pid → Among (e ∷ es) q
+among-here e es q same = subst (λ (n : ℕ). Among (e ∷ es) n) (sym same) (e.ending, contains-first e es)
 
-among-or-not : (es : List (ℕ × Ending)) (q : ℕ) → Among es q ⊎ (Among es q → ⊥)
-among-or-not [] q = inr (λ h. contains-none (q, h.0) h.1)
+among-or-not : (es : List EndedChild) (q : ℕ) → Among es q ⊎ (Among es q → ⊥)
+among-or-not [] q = inr (λ h. contains-none (ended_child q h.0) h.1)
 among-or-not (e ∷ es) q =
-    elim (cases_eq q e.0) [
+    elim (cases_eq q e.pid) [
       | inl same ↦ inl (among-here e es q same)
       | inr ne ↦
           elim (among-or-not es q) [
-            | inl later ↦ inl (later.0, contains-later e es (q, later.0) later.1)
+            | inl later ↦ inl (later.0, contains-later e es (ended_child q later.0) later.1)
             | inr not ↦ inr (λ h. elim (among-cons e es q h) [ inl same ↦ ne same | inr later ↦ not later ])
           ]
     ]
 
 -- gone stays gone
-buried-gone : (es : List (ℕ × Ending)) (ps : Numbered Process) (q : ℕ) → get ps q ≡ Some Gone → get (fold bury ps es) q ≡ Some Gone
+buried-gone : (es : List EndedChild) (ps : Numbered Process) (q : ℕ) → get ps q ≡ Some Gone → get (fold bury ps es) q ≡ Some Gone
 buried-gone [] ps q h = h
 buried-gone (e ∷ es) ps q h =
-    let p = put-is ps e.0 Gone
-    in elim (cases_eq q e.0) [
+    let p = put-is ps e.pid Gone
+    in elim (cases_eq q e.pid) [
       | inl same ↦ buried-gone es (bury ps e) q (ap (get (bury ps e)) same ∙ p.here)
       | inr ne ↦ buried-gone es (bury ps e) q (p.other q ne ∙ h)
     ]
 
-buried-in : (es : List (ℕ × Ending)) (ps : Numbered Process) (q : ℕ) → Among es q → get (fold bury ps es) q ≡ Some Gone
-buried-in [] ps q h = absurd (contains-none (q, h.0) h.1)
+buried-in : (es : List EndedChild) (ps : Numbered Process) (q : ℕ) → Among es q → get (fold bury ps es) q ≡ Some Gone
+buried-in [] ps q h = absurd (contains-none (ended_child q h.0) h.1)
 buried-in (e ∷ es) ps q h =
     elim (among-cons e es q h) [
-      | inl same ↦ buried-gone es (bury ps e) q (ap (get (bury ps e)) same ∙ (put-is ps e.0 Gone).here)
+      | inl same ↦ buried-gone es (bury ps e) q (ap (get (bury ps e)) same ∙ (put-is ps e.pid Gone).here)
       | inr later ↦ buried-in es (bury ps e) q later
     ]
 
-buried-out : (es : List (ℕ × Ending)) (ps : Numbered Process) (q : ℕ) → (Among es q → ⊥) → get (fold bury ps es) q ≡ get ps q
+buried-out : (es : List EndedChild) (ps : Numbered Process) (q : ℕ) → (Among es q → ⊥) → get (fold bury ps es) q ≡ get ps q
 buried-out [] ps q h = refl
 buried-out (e ∷ es) ps q h =
-    buried-out es (bury ps e) q (λ later. h (later.0, contains-later e es (q, later.0) later.1))
-    ∙ (put-is ps e.0 Gone).other q (λ same. h (among-here e es q same))
+    buried-out es (bury ps e) q (λ later. h (later.0, contains-later e es (ended_child q later.0) later.1))
+    ∙ (put-is ps e.pid Gone).other q (λ same. h (among-here e es q same))
 
 -- the map without the ended children of a process
-pub record Cleared (f m : Map) (es : List (ℕ × Ending)) : Type 0 where
+pub record Cleared (f m : Map) (es : List EndedChild) : Type 0 where
   pub alive_back : (q : ℕ) (x : Alive) → m q ≡ Some (Living x) → f q ≡ Some (Living x)
   pub alive_on : (q : ℕ) (x : Alive) → f q ≡ Some (Living x) → m q ≡ Some (Living x)
   pub ended_back : (q : ℕ) (d : Ending) → m q ≡ Some (Ended d) → (f q ≡ Some (Ended d)) × (Among es q → ⊥)
@@ -162,7 +162,7 @@ own-keeps f m pid a l k c d h =
       b.0,
       λ w.
           let is : w.alive ≡ a = same-alive w.alive a (at-once (f pid) (Living w.alive) (Living a) w.there l)
-          in b.1 (d, subst (λ (z : Alive). Contains z.row.family.ended (c, d)) is w.kept),
+          in b.1 (d, subst (λ (z : Alive). Contains z.row.family.ended (ended_child c d)) is w.kept),
     )
 
 put-alive : (m g : Map) (pid : ℕ) → Put m g pid Gone → (p : ℕ) (x : Alive) → g p ≡ Some (Living x) → (p ≢ pid) × (m p ≡ Some (Living x))
@@ -249,7 +249,7 @@ end-keeps f m g pid a keeper old new ending ignored fam e p c d h =
       | AtFirst same is ↦ kept-alive ignored ending h.alive is
       | AtLast same is ↦
           elim (ended-end old.row.family pid ending ignored c d
-          (subst (λ (z : Family). Contains z.ended (c, d)) (end-family f m g pid a keeper old new ending ignored e h.alive is) h.kept)) [
+          (subst (λ (z : Family). Contains z.ended (ended_child c d)) (end-family f m g pid a keeper old new ending ignored e h.alive is) h.kept)) [
             | inl before ↦
                 inl (
                   record { alive = old; there = ap f same ∙ e.parent; kept = before },
@@ -266,11 +266,11 @@ end-keeps-on f m g pid a keeper old new ending ignored e p c d h ne =
     elim (cases_eq p keeper) [
       | inl same ↦
           let is : h.alive ≡ old = same-alive h.alive old (at-once (f p) (Living h.alive) (Living old) h.there (ap f same ∙ e.parent))
-          in let k : Contains old.row.family.ended (c, d) = subst (λ (z : Alive). Contains z.row.family.ended (c, d)) is h.kept
+          in let k : Contains old.row.family.ended (ended_child c d) = subst (λ (z : Alive). Contains z.row.family.ended (ended_child c d)) is h.kept
           in record {
             alive = new;
             there = ap g same ∙ e.two.last;
-            kept = subst (λ (z : Family). Contains z.ended (c, d)) (sym e.after) (ended-stays old.row.family pid ending ignored (c, d) k);
+            kept = subst (λ (z : Family). Contains z.ended (ended_child c d)) (sym e.after) (ended-stays old.row.family pid ending ignored (ended_child c d) k);
           }
       | inr other ↦ record { alive = h.alive; there = e.two.other p ne other ∙ e.clear.alive_on p h.alive h.there; kept = h.kept }
     ]
@@ -286,11 +286,11 @@ end-lives f m g pid a keeper old new ending ignored e c h ne =
 end-keeper : (f m g : Map) (pid : ℕ) (a : Alive) (keeper : ℕ) (old new : Alive) (ending : Ending) (ignored : Bool)
     → End f m g pid a keeper old new ending ignored → (c : ℕ) (d : Ending) → c ≡ pid → ending ≡ d → ignored ≡ false → KeepsEnded g keeper c d
 end-keeper f m g pid a keeper old new ending ignored e c d at is off =
-    let k : Contains (family_after_end old.row.family pid ending ignored).ended (pid, ending) =
-    subst (λ (b : Bool). Contains (family_after_end old.row.family pid ending b).ended (pid, ending)) (sym off) (ended-new old.row.family pid ending)
-    in let k2 : Contains new.row.family.ended (pid, ending) = subst (λ (z : Family). Contains z.ended (pid, ending)) (sym e.after) k
-    in let k3 : Contains new.row.family.ended (c, ending) = subst (λ (x : ℕ). Contains new.row.family.ended (x, ending)) (sym at) k2
-    in record { alive = new; there = e.two.last; kept = subst (λ (x : Ending). Contains new.row.family.ended (c, x)) is k3 }
+    let k : Contains (family_after_end old.row.family pid ending ignored).ended (ended_child pid ending) =
+    subst (λ (b : Bool). Contains (family_after_end old.row.family pid ending b).ended (ended_child pid ending)) (sym off) (ended-new old.row.family pid ending)
+    in let k2 : Contains new.row.family.ended (ended_child pid ending) = subst (λ (z : Family). Contains z.ended (ended_child pid ending)) (sym e.after) k
+    in let k3 : Contains new.row.family.ended (ended_child c ending) = subst (λ (x : ℕ). Contains new.row.family.ended (ended_child x ending)) (sym at) k2
+    in record { alive = new; there = e.two.last; kept = subst (λ (x : Ending). Contains new.row.family.ended (ended_child c x)) is k3 }
 
 end-ended : (f m g : Map) (pid : ℕ) (a : Alive) (keeper : ℕ) (old new : Alive) (ending : Ending) (ignored : Bool)
     → End f m g pid a keeper old new ending ignored → (c : ℕ) (d : Ending) → g c ≡ Some (Ended d)

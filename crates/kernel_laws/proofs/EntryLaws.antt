@@ -1,11 +1,11 @@
 -- Each entry keeps a kernel valid in which no process lists itself.
-use Rattle.std.proofs.Common.{◌≡◌, ℕ, true, List, Option, Some, None, refl, sym, subst, ◌∙◌}
+use Rattle.std.proofs.Common.{◌≡◌, ℕ, true, Option, Some, None, refl, sym, subst, ◌∙◌}
 use Rattle.std.specs.Prelude.{is_some}
 use Rattle.std.proofs.lemmas.Bool.{false_from_ne_true}
 use Rattle.number_maps.specs.Maps.{Numbered, get}
 use Rattle.kernel_model.specs.Row.{Alive, lists}
 use Rattle.kernel_model.specs.Queue.{Queue}
-use Rattle.kernel_model.specs.SemaphoreSet.{Semaphore}
+use Rattle.kernel_model.specs.SemaphoreSet.{SemaphoreSet}
 use Rattle.kernel_model.specs.Kernel.{Kernel, Process, Living, living_in}
 use Rattle.kernel_model.specs.Valid.{IsValid}
 use Rattle.kernel_laws.specs.Processes.{NoneListsItself, EntriesKeepValidity}
@@ -25,7 +25,7 @@ use Rattle.kernel_laws.proofs.Moves.{after-call, after-step}
 abbrev AnyQueue : Queue → Type 0
 AnyQueue q = Unit {0}
 
-abbrev AnySet : List Semaphore → Type 0
+abbrev AnySet : SemaphoreSet → Type 0
 AnySet s = Unit {0}
 
 any-queue : QueueRule AnyQueue
@@ -70,7 +70,7 @@ families-valid k v alone =
           v.one_parent p q l.alive m.alive c (to-living ps p l.alive l.there) (to-living ps q m.alive m.there) l.listed m.listed;
       one_keeper = λ p q c d e l m.
           v.one_keeper p q l.alive m.alive c (to-living ps p l.alive l.there) (to-living ps q m.alive m.there) (d, l.kept) (e, m.kept);
-      kept = λ c e l. let w = v.kept c e l in (w.0, record { alive = w.1; there = from-living ps w.0 w.1 w.2; kept = w.3 });
+      kept = λ c e l. let w = v.kept c e l in (w.keeper, record { alive = w.alive; there = from-living ps w.keeper w.alive w.lives; kept = w.kept });
       alone = λ p l. not_true {B = ⊥} (sym (alone p l.alive (to-living ps p l.alive l.there)) ∙ l.listed);
     }
 

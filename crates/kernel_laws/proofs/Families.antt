@@ -3,7 +3,7 @@
 use Rattle.std.proofs.Common.{◌≡◌, ◌≢◌, ℕ, true, Option, Some, None, sym, subst, ◌∙◌, inl, inr, ◌⊎◌}
 use Rattle.std.specs.Prelude.{Contains}
 use Rattle.pico_base.specs.declared.reply.Ending.{Ending}
-use Rattle.kernel_model.specs.Row.{Alive, lists}
+use Rattle.kernel_model.specs.Row.{Alive, lists, ended_child}
 use Rattle.kernel_model.specs.Kernel.{Process, Living, Ended, Gone}
 use Rattle.kernel_laws.proofs.Plain.{from_some, not_some}
 
@@ -18,7 +18,7 @@ pub record Lists (f : Map) (p child : ℕ) : Type 0 where
 pub record KeepsEnded (f : Map) (p child : ℕ) (ending : Ending) : Type 0 where
   pub alive : Alive
   pub there : f p ≡ Some (Living alive)
-  pub kept : Contains alive.row.family.ended (child, ending)
+  pub kept : Contains alive.row.family.ended (ended_child child ending)
 
 pub record IsLiving (f : Map) (p : ℕ) : Type 0 where
   pub alive : Alive

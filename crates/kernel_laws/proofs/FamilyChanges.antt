@@ -4,7 +4,7 @@ use Rattle.std.specs.Prelude.{Contains}
 use Rattle.std.proofs.lemmas.Bool.{cases_eq}
 use Rattle.pico_base.specs.declared.reply.Ending.{Ending}
 use Rattle.number_maps.specs.Maps.{Numbered, get, put}
-use Rattle.kernel_model.specs.Row.{Alive, Family, no_family, lists, with_child, without_ended}
+use Rattle.kernel_model.specs.Row.{Alive, Family, no_family, lists, with_child, without_ended, EndedChild, ended_child}
 use Rattle.kernel_model.specs.Kernel.{Process, Living, Ended, Gone}
 use Rattle.kernel_laws.proofs.Plain.{not_some, not_true}
 use Rattle.kernel_laws.proofs.MapLaws.{get-put-same, get-put-other}
@@ -87,8 +87,8 @@ same-alive-on f g pid a b t l e p x h =
 lists-in : (f : Map) (p c : ℕ) (x y : Alive) → lists x.row.family c ≡ true → f p ≡ Some (Living y) → x.row.family ≡ y.row.family → Lists f p c
 lists-in f p c x y h l e = record { alive = y; there = l; listed = subst (λ (z : Family). lists z c ≡ true) e h }
 
-keeps-in : (f : Map) (p c : ℕ) (d : Ending) (x y : Alive) → Contains x.row.family.ended (c, d) → f p ≡ Some (Living y) → x.row.family ≡ y.row.family → KeepsEnded f p c d
-keeps-in f p c d x y h l e = record { alive = y; there = l; kept = subst (λ (z : Family). Contains z.ended (c, d)) e h }
+keeps-in : (f : Map) (p c : ℕ) (d : Ending) (x y : Alive) → Contains x.row.family.ended (ended_child c d) → f p ≡ Some (Living y) → x.row.family ≡ y.row.family → KeepsEnded f p c d
+keeps-in f p c d x y h l e = record { alive = y; there = l; kept = subst (λ (z : Family). Contains z.ended (ended_child c d)) e h }
 
 same-lists : (f g : Map) (pid : ℕ) (a b : Alive) → Put f g pid (Living b) → f pid ≡ Some (Living a) → b.row.family ≡ a.row.family
     → (p c : ℕ) → Lists g p c → Lists f p c
@@ -154,10 +154,10 @@ born-keeps f g pid n a child parent t l none more p c d h =
     elim (from f g n (Living child) pid (Living parent) t p (Living h.alive) h.there) [
       | AtFirst same is ↦
           let e : no_family ≡ h.alive.row.family = sym none ∙ ap (λ (z : Alive). z.row.family) (same-alive child h.alive is)
-          in absurd (contains-none (c, d) (subst (λ (z : Family). Contains z.ended (c, d)) (sym e) h.kept))
+          in absurd (contains-none (ended_child c d) (subst (λ (z : Family). Contains z.ended (ended_child c d)) (sym e) h.kept))
       | AtLast same is ↦
           let e : with_child a.row.family n ≡ h.alive.row.family = sym more ∙ ap (λ (z : Alive). z.row.family) (same-alive parent h.alive is)
-          in record { alive = a; there = ap f same ∙ l; kept = subst (λ (z : Family). Contains z.ended (c, d)) (sym e) h.kept }
+          in record { alive = a; there = ap f same ∙ l; kept = subst (λ (z : Family). Contains z.ended (ended_child c d)) (sym e) h.kept }
       | Elsewhere first last was ↦ record { alive = h.alive; there = was; kept = h.kept }
     ]
 
@@ -169,7 +169,7 @@ born-keeps-on f g pid n a child parent t l absent more p c d h =
           let is : h.alive ≡ a = same-alive h.alive a (at-once (f p) (Living h.alive) (Living a) h.there (ap f same ∙ l))
           in let e : h.alive.row.family.ended ≡ parent.row.family.ended =
           ap (λ (z : Alive). z.row.family.ended) is ∙ ap (λ (z : Family). z.ended) (sym more)
-          in record { alive = parent; there = ap g same ∙ t.last; kept = subst (λ (z : List (ℕ × Ending)). Contains z (c, d)) e h.kept }
+          in record { alive = parent; there = ap g same ∙ t.last; kept = subst (λ (z : List EndedChild). Contains z (ended_child c d)) e h.kept }
       | inr ne ↦
           record { alive = h.alive; there = t.other p (absent-different f p n (Living h.alive) h.there absent) ne ∙ h.there; kept = h.kept }
     ]
@@ -229,19 +229,19 @@ reap-lists f g pid child a b ending r p c h =
     ]
 
 -- no other process keeps the child
-reap-other : (f g : Map) (pid child : ℕ) (a b : Alive) (ending : Ending) → Families f → Reap f g pid child a b ending → Contains a.row.family.ended (child, ending)
+reap-other : (f g : Map) (pid child : ℕ) (a b : Alive) (ending : Ending) → Families f → Reap f g pid child a b ending → Contains a.row.family.ended (ended_child child ending)
     → (p c : ℕ) (d : Ending) → KeepsEnded f p c d → p ≢ pid → c ≢ child
 reap-other f g pid child a b ending fam r k p c d h ne same =
     ne (fam.one_keeper p pid child d ending (subst (λ (x : ℕ). KeepsEnded f p x d) same h) (record { alive = a; there = r.lives; kept = k }))
 
-reap-keeps : (f g : Map) (pid child : ℕ) (a b : Alive) (ending : Ending) → Families f → Reap f g pid child a b ending → Contains a.row.family.ended (child, ending)
+reap-keeps : (f g : Map) (pid child : ℕ) (a b : Alive) (ending : Ending) → Families f → Reap f g pid child a b ending → Contains a.row.family.ended (ended_child child ending)
     → (p c : ℕ) (d : Ending) → KeepsEnded g p c d → KeepsEnded f p c d × Not child c
 reap-keeps f g pid child a b ending fam r k p c d h =
     elim (from f g pid (Living b) child Gone r.two p (Living h.alive) h.there) [
       | AtFirst same is ↦
           let e : h.alive.row.family ≡ without_ended child a.row.family =
           ap (λ (z : Alive). z.row.family) (sym (same-alive b h.alive is)) ∙ r.less
-          in let w = without-back a.row.family child c d (subst (λ (z : Family). Contains z.ended (c, d)) e h.kept)
+          in let w = without-back a.row.family child c d (subst (λ (z : Family). Contains z.ended (ended_child c d)) e h.kept)
           in (record { alive = a; there = ap f same ∙ r.lives; kept = w.0 }, w.1)
       | AtLast same is ↦ living-gone h.alive (sym is)
       | Elsewhere first last was ↦
@@ -257,11 +257,11 @@ reap-keeps-on f g pid child a b ending r p c d h ne =
     elim (cases_eq p pid) [
       | inl same ↦
           let is : h.alive ≡ a = same-alive h.alive a (at-once (f p) (Living h.alive) (Living a) h.there (ap f same ∙ r.lives))
-          in let k : Contains a.row.family.ended (c, d) = subst (λ (z : Alive). Contains z.row.family.ended (c, d)) is h.kept
+          in let k : Contains a.row.family.ended (ended_child c d) = subst (λ (z : Alive). Contains z.row.family.ended (ended_child c d)) is h.kept
           in record {
             alive = b;
             there = ap g same ∙ r.two.first;
-            kept = subst (λ (z : Family). Contains z.ended (c, d)) (sym r.less) (without-on a.row.family child c d k ne);
+            kept = subst (λ (z : Family). Contains z.ended (ended_child c d)) (sym r.less) (without-on a.row.family child c d k ne);
           }
       | inr other ↦
           record { alive = h.alive; there = r.two.other p other (reap-alive f g pid child a b ending r p h.alive h.there) ∙ h.there; kept = h.kept }
@@ -283,7 +283,7 @@ reap-ended f g pid child a b ending r c d h =
       | Elsewhere first last was ↦ (was, last)
     ]
 
-pub kept-reap : (f g : Map) (pid child : ℕ) (a b : Alive) (ending : Ending) → Families f → Reap f g pid child a b ending → Contains a.row.family.ended (child, ending)
+pub kept-reap : (f g : Map) (pid child : ℕ) (a b : Alive) (ending : Ending) → Families f → Reap f g pid child a b ending → Contains a.row.family.ended (ended_child child ending)
     → Kept f g (Not child)
 kept-reap f g pid child a b ending fam r k =
     record {

@@ -17,8 +17,8 @@ pub kept-along : (P : Kernel → Type 0) → Kept P → (entries : List Entry) (
 kept-along P h [] k last r p = subst P r p
 kept-along P h (e ∷ es) k last r p =
     let n = number_in e.outcome.own
-    in let s = step k e.pid e.call n r.0 e.outcome r.1
-    in kept-along P h es r.0 last r.2 (after-step P k e.pid e.call n r.0 e.outcome s (h.moves k e.pid e.call n r.0 e.outcome s p) (h.finishes e.pid))
+    in let s = step k e.pid e.call n r.next e.outcome r.step
+    in kept-along P h es r.next last r.rest (after-step P k e.pid e.call n r.next e.outcome s (h.moves k e.pid e.call n r.next e.outcome s p) (h.finishes e.pid))
 
 -- the same where a fact is less in the course of an entry
 pub record KeptBy (P : Kernel → Type 0) (Q : ℕ → Kernel → Type 0) : Type 0 where
@@ -30,6 +30,6 @@ pub kept-by-along : (P : Kernel → Type 0) (Q : ℕ → Kernel → Type 0) → 
 kept-by-along P Q h [] k last r p = subst P r p
 kept-by-along P Q h (e ∷ es) k last r p =
     let n = number_in e.outcome.own
-    in let s = step k e.pid e.call n r.0 e.outcome r.1
-    in let m : Q e.pid s.result.kernel = after-call (Q e.pid) k e.pid e.call n r.0 e.outcome s (h.moves k e.pid e.call n r.0 e.outcome s p)
-    in kept-by-along P Q h es r.0 last r.2 (subst P s.leads (h.finishes e.pid s.result.kernel m))
+    in let s = step k e.pid e.call n r.next e.outcome r.step
+    in let m : Q e.pid s.result.kernel = after-call (Q e.pid) k e.pid e.call n r.next e.outcome s (h.moves k e.pid e.call n r.next e.outcome s p)
+    in kept-by-along P Q h es r.next last r.rest (subst P s.leads (h.finishes e.pid s.result.kernel m))

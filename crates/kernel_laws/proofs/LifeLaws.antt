@@ -4,7 +4,7 @@ use Rattle.std.specs.Prelude.{if◌then◌else◌, fold, is_some}
 use Rattle.std.proofs.lemmas.Bool.{cases_eq}
 use Rattle.pico_base.specs.declared.reply.Ending.{Ending}
 use Rattle.number_maps.specs.Maps.{Numbered, get, put, is_used}
-use Rattle.kernel_model.specs.Row.{Alive, Spent, with_ended_child, ignores_children}
+use Rattle.kernel_model.specs.Row.{Alive, Spent, with_ended_child, ignores_children, EndedChild}
 use Rattle.kernel_model.specs.Kernel.{Kernel, Process, Living, Ended, Gone, Parent, parent_in, living_at, with_alive}
 use Rattle.kernel_model.specs.ProcessCalls.{bury, bury_all, process_after_end, end_under, processes_after_fork, processes_after_wait, new_child, parent_after_fork, parent_after_wait}
 use Rattle.kernel_model.specs.Transition.{finish_call}
@@ -66,9 +66,9 @@ goes-new pid p ps g k v none = goes-put pid p ps g k v (λ w e m. not_some w (sy
 goes-gone : (pid : ℕ) (p : Process) (ps : Numbered Process) → Goes pid p ps → (k : ℕ) → Goes pid p (put ps k Gone)
 goes-gone pid p ps g k = goes-put pid p ps g k Gone (λ w e m. to-gone p w m)
 
-goes-buried : (pid : ℕ) (p : Process) (es : List (ℕ × Ending)) (ps : Numbered Process) → Goes pid p ps → Goes pid p (fold bury ps es)
+goes-buried : (pid : ℕ) (p : Process) (es : List EndedChild) (ps : Numbered Process) → Goes pid p ps → Goes pid p (fold bury ps es)
 goes-buried pid p [] ps g = g
-goes-buried pid p (e ∷ es) ps g = goes-buried pid p es (bury ps e) (goes-gone pid p ps g e.0)
+goes-buried pid p (e ∷ es) ps g = goes-buried pid p es (bury ps e) (goes-gone pid p ps g e.pid)
 
 -- a living process is there after the ended children of another are gone, and after that one's end
 alive-put : (ps : Numbered Process) (k n : ℕ) (v : Process) (a : Alive) → get ps n ≡ Some (Living a) → n ≢ k → get (put ps k v) n ≡ Some (Living a)

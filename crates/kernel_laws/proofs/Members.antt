@@ -5,7 +5,7 @@ use Rattle.std.specs.List.{filter, list_any}
 use Rattle.std.proofs.lemmas.List.Elements.{Contains-append_left, Contains-push, Contains-push_cases, All-contains, All-filter, All-contains_itself, filter_passes}
 use Rattle.std.proofs.lemmas.Bool.{cases_Bool, or_cases, or_right, or_left, eqb-true, eq-eqb, not-true, not_from_false, ne_eqb}
 use Rattle.pico_base.specs.declared.reply.Ending.{Ending}
-use Rattle.kernel_model.specs.Row.{Family, lists, with_child, others, family_after_end, first_ended_child, matches, without_ended, wait, Found, wait_result}
+use Rattle.kernel_model.specs.Row.{Family, lists, with_child, others, family_after_end, first_ended_child, matches, without_ended, wait, Found, wait_result, EndedChild, ended_child}
 use Rattle.kernel_laws.proofs.Plain.{from_some, not_some, not_true}
 
 pub contains-first : {X : Type 0} (x : X) (xs : List X) → Contains (x ∷ xs) x
@@ -89,54 +89,54 @@ lists-child f n c h = any-push n f.living c h
 pub lists-end : (f : Family) (n : ℕ) (e : Ending) (ignored : Bool) (c : ℕ) → lists (family_after_end f n e ignored) c ≡ true → (lists f c ≡ true) × (c ≢ n)
 lists-end f n e ignored c h = any-others n f.living c h
 
-pub ended-end : (f : Family) (n : ℕ) (e : Ending) (ignored : Bool) (c : ℕ) (d : Ending) → Contains (family_after_end f n e ignored).ended (c, d)
-    → Contains f.ended (c, d) ⊎ ((n ≡ c) × (e ≡ d) × (ignored ≡ false))
+pub ended-end : (f : Family) (n : ℕ) (e : Ending) (ignored : Bool) (c : ℕ) (d : Ending) → Contains (family_after_end f n e ignored).ended (ended_child c d)
+    → Contains f.ended (ended_child c d) ⊎ ((n ≡ c) × (e ≡ d) × (ignored ≡ false))
 ended-end f n e true c d h = inl h
 ended-end f n e false c d h =
-    elim (Contains-push_cases f.ended (n, e) (c, d) h) [
+    elim (Contains-push_cases f.ended (ended_child n e) (ended_child c d) h) [
       | inl old ↦ inl old
-      | inr new ↦ inr (ap (λ (x : ℕ × Ending). x.0) new, ap (λ (x : ℕ × Ending). x.1) new, refl)
+      | inr new ↦ inr (ap (λ (x : EndedChild). x.pid) new, ap (λ (x : EndedChild). x.ending) new, refl)
     ]
 
-pub ended-stays : (f : Family) (n : ℕ) (e : Ending) (ignored : Bool) (x : ℕ × Ending) → Contains f.ended x → Contains (family_after_end f n e ignored).ended x
+pub ended-stays : (f : Family) (n : ℕ) (e : Ending) (ignored : Bool) (x : EndedChild) → Contains f.ended x → Contains (family_after_end f n e ignored).ended x
 ended-stays f n e true x h = h
-ended-stays f n e false x h = Contains-append_left f.ended ((n, e) ∷ []) x h
+ended-stays f n e false x h = Contains-append_left f.ended (ended_child n e ∷ []) x h
 
-pub ended-new : (f : Family) (n : ℕ) (e : Ending) → Contains (family_after_end f n e false).ended (n, e)
-ended-new f n e = Contains-push f.ended (n, e)
+pub ended-new : (f : Family) (n : ℕ) (e : Ending) → Contains (family_after_end f n e false).ended (ended_child n e)
+ended-new f n e = Contains-push f.ended (ended_child n e)
 
 -- ended children after waitpid
-pub without-back : (f : Family) (n c : ℕ) (e : Ending) → Contains (without_ended n f).ended (c, e) → Contains f.ended (c, e) × (c ≢ n)
+pub without-back : (f : Family) (n c : ℕ) (e : Ending) → Contains (without_ended n f).ended (ended_child c e) → Contains f.ended (ended_child c e) × (c ≢ n)
 without-back f n c e h =
-    let b = contains-filtered (λ (x : ℕ × Ending). not (nat_eq n x.0)) f.ended (c, e) h
+    let b = contains-filtered (λ (x : EndedChild). not (nat_eq n x.pid)) f.ended (ended_child c e) h
     in (b.0, λ same. not_true {B = ⊥} (sym (not-true (nat_eq n c) b.1) ∙ eq-eqb n c (sym same)))
 
-pub without-on : (f : Family) (n c : ℕ) (e : Ending) → Contains f.ended (c, e) → c ≢ n → Contains (without_ended n f).ended (c, e)
+pub without-on : (f : Family) (n c : ℕ) (e : Ending) → Contains f.ended (ended_child c e) → c ≢ n → Contains (without_ended n f).ended (ended_child c e)
 without-on f n c e h ne =
-    contains-filter (λ (x : ℕ × Ending). not (nat_eq n x.0)) f.ended (c, e) h (not_from_false (nat_eq n c) (ne_eqb n c (λ same. ne (sym same))))
+    contains-filter (λ (x : EndedChild). not (nat_eq n x.pid)) f.ended (ended_child c e) h (not_from_false (nat_eq n c) (ne_eqb n c (λ same. ne (sym same))))
 
-first-is : (which : Option ℕ) (es : List (ℕ × Ending)) (e x : ℕ × Ending) → ((y : ℕ × Ending) → first_ended_child which es ≡ Some y → Contains es y)
+first-is : (which : Option ℕ) (es : List EndedChild) (e x : EndedChild) → ((y : EndedChild) → first_ended_child which es ≡ Some y → Contains es y)
     → (b : Bool) → (if b then Some e else first_ended_child which es) ≡ Some x → Contains (e ∷ es) x
 first-is which es e x h true g =
-    let same : e ≡ x = from_some e x g in let P : ℕ × Ending → Type 0 = λ y. Contains (e ∷ es) y in subst P same (contains-first e es)
+    let same : e ≡ x = from_some e x g in let P : EndedChild → Type 0 = λ y. Contains (e ∷ es) y in subst P same (contains-first e es)
 first-is which es e x h false g = contains-later e es x (h x g)
 
-first-contained : (which : Option ℕ) (es : List (ℕ × Ending)) (x : ℕ × Ending) → first_ended_child which es ≡ Some x → Contains es x
+first-contained : (which : Option ℕ) (es : List EndedChild) (x : EndedChild) → first_ended_child which es ≡ Some x → Contains es x
 first-contained which [] x h = not_some x h
-first-contained which (e ∷ es) x h = first-is which es e x (first-contained which es) (matches which e.0) h
+first-contained which (e ∷ es) x h = first-is which es e x (first-contained which es) (matches which e.pid) h
 
-pair-is : (e : ℕ × Ending) (child : ℕ) (ending : Ending) → e.0 ≡ child → e.1 ≡ ending → (let q : ℕ × Ending = (child, ending) in e ≡ q)
+pair-is : (e : EndedChild) (child : ℕ) (ending : Ending) → e.pid ≡ child → e.ending ≡ ending → (let q : EndedChild = ended_child child ending in e ≡ q)
 pair-is e child ending a b =
-    let P : ℕ → Type 0 = λ c. let q : ℕ × Ending = (c, ending) in e ≡ q
-    in let Q : Ending → Type 0 = λ d. let q : ℕ × Ending = (e.0, d) in e ≡ q
+    let P : ℕ → Type 0 = λ c. let q : EndedChild = ended_child c ending in e ≡ q
+    in let Q : Ending → Type 0 = λ d. let q : EndedChild = ended_child e.pid d in e ≡ q
     in subst P a (subst Q b refl)
 
-found-is : (o : Option (ℕ × Ending)) (living : Bool) (child : ℕ) (ending : Ending) → wait_result o living ≡ Found child ending → o ≡ Some (child, ending)
+found-is : (o : Option EndedChild) (living : Bool) (child : ℕ) (ending : Ending) → wait_result o living ≡ Found child ending → o ≡ Some (ended_child child ending)
 found-is None true child ending h = cc
 found-is None false child ending h = cc
 found-is (Some e) living child ending h =
-    let a : e.0 ≡ child = cc in let b : e.1 ≡ ending = cc in ap Some (pair-is e child ending a b)
+    let a : e.pid ≡ child = cc in let b : e.ending ≡ ending = cc in ap Some (pair-is e child ending a b)
 
-pub found-contained : (f : Family) (which : Option ℕ) (child : ℕ) (ending : Ending) → wait f which ≡ Found child ending → Contains f.ended (child, ending)
+pub found-contained : (f : Family) (which : Option ℕ) (child : ℕ) (ending : Ending) → wait f which ≡ Found child ending → Contains f.ended (ended_child child ending)
 found-contained f which child ending h =
-    first-contained which f.ended (child, ending) (found-is (first_ended_child which f.ended) (list_any (matches which) f.living) child ending h)
+    first-contained which f.ended (ended_child child ending) (found-is (first_ended_child which f.ended) (list_any (matches which) f.living) child ending h)

@@ -21,7 +21,7 @@ use Rattle.number_maps.specs.Maps.{Numbered, get, put, used_with}
 use Rattle.kernel_model.specs.Signals.{act_on, raise, is_kill, with_action, with_mask}
 use Rattle.kernel_model.specs.Row.{Alive, Waited, Found, NotYet, NoChild, Spent, wait, raise_by_other}
 use Rattle.kernel_model.specs.Queue.{Queue, Received, send, receive, set_qbytes, empty_queue}
-use Rattle.kernel_model.specs.SemaphoreSet.{Semaphore, new_set, op, set_value, set_all, value_at, last_at, waiting_at}
+use Rattle.kernel_model.specs.SemaphoreSet.{SemaphoreSet, new_set, op, set_value, set_all, value_at, last_at, waiting_at}
 use Rattle.kernel_model.specs.Kernel.{Kernel, Process, Living, Ended, Gone, living_at, with_alive}
 use Rattle.kernel_model.specs.Effect.{Effect, refuse, reply_with, look_up, on_named, is_fresh}
 use Rattle.kernel_model.specs.ProcessCalls.{processes_after_fork, processes_after_end, reap_child, processes_after_wait, action_effect, kill, kill_at, signal_living, with_signals}
@@ -55,13 +55,13 @@ pub record Moves (P : Kernel → Type 0) (k : Kernel) (pid : ℕ) (a : Alive) (n
       → receive q pid class size noerror ≡ Ok r → P (with_queue k id r.queue)
   pub limits : (id qbytes : ℕ) (q next : Queue) → get k.queues id ≡ Some q → set_qbytes q qbytes ≡ Ok next → P (with_queue k id next)
   pub removes_queue : (id : ℕ) → P (remove_queue k id).kernel
-  pub makes_set : (count : ℕ) (set : List Semaphore) → new_set count ≡ Ok set → is_fresh k.used_sets n ≡ true
+  pub makes_set : (count : ℕ) (set : SemaphoreSet) → new_set count ≡ Ok set → is_fresh k.used_sets n ≡ true
       → P (record k { sets = put k.sets n set; used_sets = used_with k.used_sets n })
-  pub binds_set : (key count : ℕ) (set : List Semaphore) → new_set count ≡ Ok set → is_fresh k.used_sets n ≡ true
+  pub binds_set : (key count : ℕ) (set : SemaphoreSet) → new_set count ≡ Ok set → is_fresh k.used_sets n ≡ true
       → P (record k { sets = put k.sets n set; set_keys = put k.set_keys key n; used_sets = used_with k.used_sets n })
-  pub operates : (id : ℕ) (steps : List SemStep) (set next : List Semaphore) → get k.sets id ≡ Some set → op set pid steps ≡ Ok next → P (with_set k id next)
-  pub sets_one : (id num value : ℕ) (set next : List Semaphore) → get k.sets id ≡ Some set → set_value set num value ≡ Ok next → P (with_set k id next)
-  pub fills : (id : ℕ) (values : List ℕ) (set next : List Semaphore) → get k.sets id ≡ Some set → set_all set values ≡ Ok next → P (with_set k id next)
+  pub operates : (id : ℕ) (steps : List SemStep) (set next : SemaphoreSet) → get k.sets id ≡ Some set → op set pid steps ≡ Ok next → P (with_set k id next)
+  pub sets_one : (id num value : ℕ) (set next : SemaphoreSet) → get k.sets id ≡ Some set → set_value set num value ≡ Ok next → P (with_set k id next)
+  pub fills : (id : ℕ) (values : List ℕ) (set next : SemaphoreSet) → get k.sets id ≡ Some set → set_all set values ≡ Ok next → P (with_set k id next)
   pub removes_set : (id : ℕ) → P (remove_set k id).kernel
 
 -- P holds of the kernel after an effect
@@ -157,7 +157,7 @@ after-received : (P : Kernel → Type 0) (k : Kernel) (id : ℕ) (r : Result Rec
 after-received P k id (Ok x) h g = g x refl
 after-received P k id (Err e) h g = h
 
-after-new_set : (P : Kernel → Type 0) (k : Kernel) (keys : Numbered ℕ) (n : ℕ) (set : List Semaphore)
+after-new_set : (P : Kernel → Type 0) (k : Kernel) (keys : Numbered ℕ) (n : ℕ) (set : SemaphoreSet)
     → (is_fresh k.used_sets n ≡ true → P (record k { sets = put k.sets n set; set_keys = keys; used_sets = used_with k.used_sets n }))
     → (fresh : Bool) → is_fresh k.used_sets n ≡ fresh
     → Of (After P)
@@ -165,8 +165,8 @@ after-new_set : (P : Kernel → Type 0) (k : Kernel) (keys : Numbered ℕ) (n : 
 after-new_set P k keys n set h true e = h e
 after-new_set P k keys n set h false e = tt
 
-after-new_set_of : (P : Kernel → Type 0) (k : Kernel) (keys : Numbered ℕ) (n : ℕ) (r : Result (List Semaphore) Errno) → P k
-    → ((set : List Semaphore) → r ≡ Ok set → is_fresh k.used_sets n ≡ true → P (record k { sets = put k.sets n set; set_keys = keys; used_sets = used_with k.used_sets n }))
+after-new_set_of : (P : Kernel → Type 0) (k : Kernel) (keys : Numbered ℕ) (n : ℕ) (r : Result SemaphoreSet Errno) → P k
+    → ((set : SemaphoreSet) → r ≡ Ok set → is_fresh k.used_sets n ≡ true → P (record k { sets = put k.sets n set; set_keys = keys; used_sets = used_with k.used_sets n }))
     → Of (After P) (new_set_of k keys n r)
 after-new_set_of P k keys n (Err e) h g = h
 after-new_set_of P k keys n (Ok set) h g = after-new_set P k keys n set (g set refl) (is_fresh k.used_sets n) refl
@@ -188,8 +188,8 @@ after-get_set : (P : Kernel → Type 0) (k : Kernel) (pid : ℕ) (a : Alive) (n 
 after-get_set P k pid a n m None count create excl = after-new_set_of P k k.set_keys n (new_set count) m.same (m.makes_set count)
 after-get_set P k pid a n m (Some key) count create excl = after-get_set_at P k pid a n m key count create excl (get k.set_keys key)
 
-after-changed_set : (P : Kernel → Type 0) (k : Kernel) (id : ℕ) (r : Result (List Semaphore) Errno) → P k
-    → ((set : List Semaphore) → r ≡ Ok set → P (with_set k id set)) → After P (change_set k id r)
+after-changed_set : (P : Kernel → Type 0) (k : Kernel) (id : ℕ) (r : Result SemaphoreSet Errno) → P k
+    → ((set : SemaphoreSet) → r ≡ Ok set → P (with_set k id set)) → After P (change_set k id r)
 after-changed_set P k id (Ok set) h g = g set refl
 after-changed_set P k id (Err e) h g = h
 

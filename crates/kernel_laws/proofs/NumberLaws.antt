@@ -5,7 +5,7 @@ use Rattle.std.proofs.lemmas.Bool.{cases_eq}
 use Rattle.number_maps.specs.Maps.{Numbered, get, put, without, is_used, used_with}
 use Rattle.kernel_model.specs.Row.{Alive, Spent}
 use Rattle.kernel_model.specs.Queue.{Queue}
-use Rattle.kernel_model.specs.SemaphoreSet.{Semaphore}
+use Rattle.kernel_model.specs.SemaphoreSet.{SemaphoreSet}
 use Rattle.kernel_model.specs.QueueCalls.{remove_queue}
 use Rattle.kernel_model.specs.SetCalls.{remove_set}
 use Rattle.kernel_model.specs.Transition.{finish_call}
@@ -196,7 +196,7 @@ gone_named k things used id f P own (Some v) e says is h = h v e
 removed_queue_gone : (k : Kernel) (id : ℕ) (q : Queue) → Queues k → get k.queues id ≡ Some q → GoneQueue id (remove_queue k id).kernel
 removed_queue_gone k id q t l = (t.used_at id (ap is_some l), get-without-same k.queues id)
 
-removed_set_gone : (k : Kernel) (id : ℕ) (s : List Semaphore) → Sets k → get k.sets id ≡ Some s → GoneSet id (remove_set k id).kernel
+removed_set_gone : (k : Kernel) (id : ℕ) (s : SemaphoreSet) → Sets k → get k.sets id ≡ Some s → GoneSet id (remove_set k id).kernel
 removed_set_gone k id s t l = (t.used_at id (ap is_some l), get-without-same k.sets id)
 
 -- the end of an entry changes no queue and no set

@@ -4,7 +4,7 @@ use Rattle.std.specs.Prelude.{is_some, fold, if◌then◌else◌, Contains}
 use Rattle.std.proofs.lemmas.Bool.{false_from_ne_true}
 use Rattle.pico_base.specs.declared.reply.Ending.{Ending}
 use Rattle.number_maps.specs.Maps.{Numbered, get, put, is_used}
-use Rattle.kernel_model.specs.Row.{Alive, Spent, lists, with_ended_child, ignores_children}
+use Rattle.kernel_model.specs.Row.{Alive, Spent, lists, with_ended_child, ignores_children, EndedChild, ended_child}
 use Rattle.kernel_model.specs.Kernel.{Kernel, Process, Living, Ended, Gone, Parent, parent_in, living_at, with_alive, opening}
 use Rattle.kernel_model.specs.ProcessCalls.{bury, bury_all, process_after_end, end_under, processes_after_fork, new_child, parent_after_fork, parent_after_wait}
 use Rattle.kernel_model.specs.Transition.{finish_call}
@@ -37,9 +37,9 @@ once-put ps k b h o = each-put IsOnce ps k (Living b) h (λ x e. subst (λ (y : 
 once-dead : (ps : Numbered Process) (k : ℕ) (v : Process) → EachOnce ps → ((x : Alive) → v ≡ Living x → ⊥) → EachOnce (put ps k v)
 once-dead ps k v h dead = each-put IsOnce ps k v h (λ x e. absurd (dead x e))
 
-once-buried : (es : List (ℕ × Ending)) (ps : Numbered Process) → EachOnce ps → EachOnce (fold bury ps es)
+once-buried : (es : List EndedChild) (ps : Numbered Process) → EachOnce ps → EachOnce (fold bury ps es)
 once-buried [] ps h = h
-once-buried (e ∷ es) ps h = once-buried es (bury ps e) (once-dead ps e.0 Gone h (λ x s. living-gone {B = ⊥} x (sym s)))
+once-buried (e ∷ es) ps h = once-buried es (bury ps e) (once-dead ps e.pid Gone h (λ x s. living-gone {B = ⊥} x (sym s)))
 
 none-at : (o : Option Process) → false ≡ is_some o → o ≡ None
 none-at None h = refl
@@ -71,7 +71,7 @@ once-ended ps used h o pid a ending l (Some p) e =
     in let w = parent-is pid ps h.body.rise p e
     in let ignored = ignores_children old.row
     in let v = process_after_end ignored ending
-    in let new : (d : Ending) → Contains old.row.family.ended (pid, d) → ⊥ =
+    in let new : (d : Ending) → Contains old.row.family.ended (ended_child pid d) → ⊥ =
     λ d c. living-ended {B = ⊥} a d (at-once (get ps pid) (Living a) (Ended d) l (h.families.ended p.pid pid d (record { alive = old; there = w.0; kept = c })))
     in once-put (put mid pid v) p.pid (with_ended_child old pid ending)
     (once-dead mid pid v (once-buried a.row.family.ended ps o) (kept-dead ignored ending))

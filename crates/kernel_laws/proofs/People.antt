@@ -6,7 +6,7 @@ use Rattle.std.specs.Option.{option_and_then}
 use Rattle.std.proofs.lemmas.Bool.{cases_eq}
 use Rattle.pico_base.specs.declared.reply.Ending.{Ending}
 use Rattle.number_maps.specs.Maps.{Numbered, get, put, is_used, used_with}
-use Rattle.kernel_model.specs.Row.{Alive}
+use Rattle.kernel_model.specs.Row.{Alive, EndedChild, ended_child}
 use Rattle.kernel_model.specs.Kernel.{Process, Living, Ended, Gone, living_in, alive_in}
 use Rattle.kernel_model.specs.ProcessCalls.{bury}
 use Rattle.kernel_laws.proofs.Plain.{from_some, not_some}
@@ -65,16 +65,16 @@ body-new A ps used b k v own =
     record { rise = rising-put ps k v b.rise; used_is = used-new ps k v used b.used_is; each = each-put A ps k v b.each own }
 
 -- ended processes that are gone
-pub body-buried : (A : ℕ → Alive → Type 0) (es : List (ℕ × Ending)) (ps : Numbered Process) (used : List ℕ) → Body A ps used
-    → ((q : ℕ) (d : Ending) → Contains es (q, d) → is_some (get ps q) ≡ true) → Body A (fold bury ps es) used
+pub body-buried : (A : ℕ → Alive → Type 0) (es : List EndedChild) (ps : Numbered Process) (used : List ℕ) → Body A ps used
+    → ((q : ℕ) (d : Ending) → Contains es (ended_child q d) → is_some (get ps q) ≡ true) → Body A (fold bury ps es) used
 body-buried A [] ps used b h = b
 body-buried A (e ∷ es) ps used b h =
-    body-buried A es (bury ps e) used (body-put A ps used b e.0 Gone (h e.0 e.1 (contains-first e es)) (λ x g. living-gone x (sym g)))
-    (λ q d c. there-put ps e.0 Gone q (h q d (contains-later e es (q, d) c)))
+    body-buried A es (bury ps e) used (body-put A ps used b e.pid Gone (h e.pid e.ending (contains-first e es)) (λ x g. living-gone x (sym g)))
+    (λ q d c. there-put ps e.pid Gone q (h q d (contains-later e es (ended_child q d) c)))
 
-pub buried-there : (es : List (ℕ × Ending)) (ps : Numbered Process) (k : ℕ) → is_some (get ps k) ≡ true → is_some (get (fold bury ps es) k) ≡ true
+pub buried-there : (es : List EndedChild) (ps : Numbered Process) (k : ℕ) → is_some (get ps k) ≡ true → is_some (get (fold bury ps es) k) ≡ true
 buried-there [] ps k h = h
-buried-there (e ∷ es) ps k h = buried-there es (bury ps e) k (there-put ps e.0 Gone k h)
+buried-there (e ∷ es) ps k h = buried-there es (bury ps e) k (there-put ps e.pid Gone k h)
 
 -- a living process by its number
 abbrev living_of : Option Process → Option Alive

@@ -5,7 +5,7 @@ use Rattle.std.proofs.lemmas.Bool.{cases_eq}
 use Rattle.pico_base.specs.declared.reply.Ending.{Ending}
 use Rattle.number_maps.specs.Maps.{Numbered, get, put, is_used, used_with}
 use Rattle.kernel_model.specs.Signals.{Signals, AreSoundSignals, raise, with_action, with_mask}
-use Rattle.kernel_model.specs.Row.{Alive, Spent, lists, raise_by_other, with_ended_child, ignores_children}
+use Rattle.kernel_model.specs.Row.{Alive, Spent, lists, raise_by_other, with_ended_child, ignores_children, ended_child}
 use Rattle.kernel_model.specs.Kernel.{Kernel, Process, Living, Ended, Gone, Parent, parent_in, living_at, with_alive}
 use Rattle.kernel_model.specs.ProcessCalls.{new_child, parent_after_fork, processes_after_fork, bury_all, process_after_end, end_under, parent_after_wait, processes_after_wait}
 use Rattle.kernel_model.specs.Transition.{finish_call}
@@ -152,7 +152,7 @@ ended-under ps used pid a ending h l (Some p) e =
 
 -- waitpid
 reaped : (ps : Numbered Process) (used : List ℕ) (pid : ℕ) (a : Alive) (child : ℕ) (ending : Ending) → People IsStrong ps used → get ps pid ≡ Some (Living a)
-    → Contains a.row.family.ended (child, ending) → People (Weak pid) (processes_after_wait ps pid a child) used
+    → Contains a.row.family.ended (ended_child child ending) → People (Weak pid) (processes_after_wait ps pid a child) used
 reaped ps used pid a child ending h l c =
     let s = h.body.each pid a l
     in let mid = put ps pid (Living (parent_after_wait a child))

@@ -15,7 +15,7 @@ use Rattle.number_maps.specs.Maps.{Numbered, get, put, used_with}
 use Rattle.kernel_model.specs.Signals.{Signals, act_on}
 use Rattle.kernel_model.specs.Row.{Alive, Waited, Found, NotYet, NoChild, wait}
 use Rattle.kernel_model.specs.Queue.{Queue, Received, send, receive, set_qbytes, empty_queue}
-use Rattle.kernel_model.specs.SemaphoreSet.{Semaphore, new_set, op, set_value, set_all, value_at, last_at, waiting_at}
+use Rattle.kernel_model.specs.SemaphoreSet.{SemaphoreSet, new_set, op, set_value, set_all, value_at, last_at, waiting_at}
 use Rattle.kernel_model.specs.Kernel.{Kernel, Process, Living, Ended, Gone, living_at}
 use Rattle.kernel_model.specs.Effect.{Effect, refuse, reply_with, look_up, on_named, is_fresh}
 use Rattle.kernel_model.specs.ProcessCalls.{fork_effect, processes_after_fork, reap_child, action_effect, kill, kill_at, signal_living}
@@ -95,7 +95,7 @@ keeps-received : (k : Kernel) (id : ℕ) (r : Result Received Errno) → LeavesA
 keeps-received k id (Ok q) = not_true
 keeps-received k id (Err e) = λ h. refl
 
-keeps-new_set : (k : Kernel) (keys : Numbered ℕ) (n : ℕ) (r : Result (List Semaphore) Errno) → Of (LeavesAll k) (new_set_of k keys n r)
+keeps-new_set : (k : Kernel) (keys : Numbered ℕ) (n : ℕ) (r : Result SemaphoreSet Errno) → Of (LeavesAll k) (new_set_of k keys n r)
 keeps-new_set k keys n (Err e) = λ h. refl
 keeps-new_set k keys n (Ok set) =
     of_choice (LeavesAll k) (is_fresh k.used_sets n)
@@ -115,7 +115,7 @@ keeps-get_set : (k : Kernel) (key : Option ℕ) (count : ℕ) (create excl : Boo
 keeps-get_set k None count create excl n = keeps-new_set k k.set_keys n (new_set count)
 keeps-get_set k (Some key) count create excl n = keeps-get_set_at k key count create excl n (get k.set_keys key)
 
-keeps-changed_set : (k : Kernel) (id : ℕ) (r : Result (List Semaphore) Errno) → LeavesAll k (change_set k id r)
+keeps-changed_set : (k : Kernel) (id : ℕ) (r : Result SemaphoreSet Errno) → LeavesAll k (change_set k id r)
 keeps-changed_set k id (Ok q) = not_true
 keeps-changed_set k id (Err e) = λ h. refl
 

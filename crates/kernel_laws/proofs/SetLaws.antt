@@ -10,7 +10,7 @@ use Rattle.pico_base.specs.declared.call.SemStep.{SemStep}
 use Rattle.pico_base.specs.declared.reply.Errno.{Errno}
 use Rattle.pico_base.specs.declared.reply.Errno.TheVariants.{Einval, Eagain, E2big, Efbig, Erange}
 use Rattle.number_maps.specs.Maps.{get, put}
-use Rattle.kernel_model.specs.SemaphoreSet.{new_set, set_value, set_all, Semaphore, new_semaphore, is_bad_count, values_of, Moved, To, Waits, TooHigh, move_by, move_at, Tried, Done, StopsAt, OutOfRange, go_on, try_from, try_ops, with_values, with_last, mark_at, mark, op_after_trial, op, set_value_at}
+use Rattle.kernel_model.specs.SemaphoreSet.{new_set, set_value, set_all, Semaphore, SemaphoreSet, set_of, new_semaphore, is_bad_count, values_of, Moved, To, Waits, TooHigh, move_by, move_at, Tried, Done, StopsAt, OutOfRange, go_on, try_from, try_ops, with_values, with_last, mark_at, mark, op_after_trial, op, set_value_at}
 use Rattle.kernel_model.specs.Kernel.{Kernel, opening}
 use Rattle.kernel_model.specs.Row.{Alive}
 use Rattle.kernel_laws.specs.Sets.{IsSetWithinLimits, SetsAreWithinLimits}
@@ -30,33 +30,34 @@ all-at : {X : Type 0} (P : X → Type 0) (xs : List X) (i : ℕ) (x : X) → All
 all-at {X} P xs i x h g = subst P (get_or_from_slice_get xs i x x g) (All-get_or P xs i x (slice_get_within xs i x g) h)
 
 -- semget
-made-within : (count : ℕ) (set : List Semaphore) → (bad : Bool) → is_bad_count count ≡ bad
-    → (let r : Result (List Semaphore) Errno = Ok set in (if bad then Err Einval else Ok (replicate count new_semaphore)) ≡ r) → IsSetWithinLimits set
+made-within : (count : ℕ) (set : SemaphoreSet) → (bad : Bool) → is_bad_count count ≡ bad
+    → (let r : Result SemaphoreSet Errno = Ok set in (if bad then Err Einval else Ok (set_of (replicate count new_semaphore))) ≡ r) → IsSetWithinLimits set
 made-within count set true e h = not_ok Einval set h
 made-within count set false e h =
     let t = or_parts (nat_eq count 0) (nat_lt 64 count) e
     in let some : count ≢ 0 = eqb-false count 0 t.0
     in let few : count ≤ 64 = ltb-false 64 count t.1
     in let l : length (replicate count new_semaphore) ≡ count = length-replicate count new_semaphore
-    in subst IsSetWithinLimits (from_ok (replicate count new_semaphore) set h)
+    in subst IsSetWithinLimits (from_ok (set_of (replicate count new_semaphore)) set h)
     (record { least = omega arith; most = omega arith; values = All-replicate IsLowAt count new_semaphore (omega arith) })
 
 -- semctl with SETVAL
-changed-within : (set : List Semaphore) (num : ℕ) (s : Semaphore) → IsSetWithinLimits set → IsLowAt s → IsSetWithinLimits (slice_set set num s)
+changed-within : (set : SemaphoreSet) (num : ℕ) (s : Semaphore) → IsSetWithinLimits set → IsLowAt s
+    → IsSetWithinLimits (record set { semaphores = slice_set set.semaphores num s })
 changed-within set num s w low =
-    let l : length (slice_set set num s) ≡ length set = length-set set num s
+    let l : length (slice_set set.semaphores num s) ≡ length set.semaphores = length-set set.semaphores num s
     in let least = w.least
     in let most = w.most
-    in record { least = omega (arith, l, least); most = omega (arith, l, most); values = All-set IsLowAt set num s low w.values }
+    in record { least = omega (arith, l, least); most = omega (arith, l, most); values = All-set IsLowAt set.semaphores num s low w.values }
 
-valued-test : (set : List Semaphore) (num value : ℕ) (s : Semaphore) (next : List Semaphore) → IsSetWithinLimits set → (high : Bool) → nat_lt 32767 value ≡ high
-    → (let r : Result (List Semaphore) Errno = Ok next in (if high then Err Erange else Ok (slice_set set num (record s { value = value }))) ≡ r) → IsSetWithinLimits next
+valued-test : (set : SemaphoreSet) (num value : ℕ) (s : Semaphore) (next : SemaphoreSet) → IsSetWithinLimits set → (high : Bool) → nat_lt 32767 value ≡ high
+    → (let r : Result SemaphoreSet Errno = Ok next in (if high then Err Erange else Ok (record set { semaphores = slice_set set.semaphores num (record s { value = value }) })) ≡ r) → IsSetWithinLimits next
 valued-test set num value s next w true e h = not_ok Erange next h
 valued-test set num value s next w false e h =
-    subst IsSetWithinLimits (from_ok (slice_set set num (record s { value = value })) next h)
+    subst IsSetWithinLimits (from_ok (record set { semaphores = slice_set set.semaphores num (record s { value = value }) }) next h)
     (changed-within set num (record s { value = value }) w (ltb-false 32767 value e))
 
-valued-at : (set : List Semaphore) (num value : ℕ) (o : Option Semaphore) (next : List Semaphore) → IsSetWithinLimits set → set_value_at set num value o ≡ Ok next
+valued-at : (set : SemaphoreSet) (num value : ℕ) (o : Option Semaphore) (next : SemaphoreSet) → IsSetWithinLimits set → set_value_at set num value o ≡ Ok next
     → IsSetWithinLimits next
 valued-at set num value None next w h = not_ok Einval next h
 valued-at set num value (Some s) next w h = valued-test set num value s next w (nat_lt 32767 value) refl h
@@ -74,12 +75,13 @@ all-values (s ∷ set) (value ∷ values) h g =
     All-cons IsLowAt (record s { value = value }) (with_values set values) (All-head IsLow value values g)
     (all-values set values (All-tail IsLowAt s set h) (All-tail IsLow value values g))
 
-values-within : (set : List Semaphore) (values : List ℕ) → IsSetWithinLimits set → All IsLow values → IsSetWithinLimits (with_values set values)
+values-within : (set : SemaphoreSet) (values : List ℕ) → IsSetWithinLimits set → All IsLow values
+    → IsSetWithinLimits (record set { semaphores = with_values set.semaphores values })
 values-within set values w g =
-    let l = length-values set values
+    let l = length-values set.semaphores values
     in let least = w.least
     in let most = w.most
-    in record { least = omega (arith, l, least); most = omega (arith, l, most); values = all-values set values w.values g }
+    in record { least = omega (arith, l, least); most = omega (arith, l, most); values = all-values set.semaphores values w.values g }
 
 -- semctl with SETALL
 all-low : (values : List ℕ) → list_any (nat_lt 32767) values ≡ false → All IsLow values
@@ -88,13 +90,13 @@ all-low (value ∷ values) h =
     let t = or_parts (nat_lt 32767 value) (list_any (nat_lt 32767) values) h
     in All-cons IsLow value values (ltb-false 32767 value t.0) (all-low values t.1)
 
-filled-test : (set : List Semaphore) (values : List ℕ) (next : List Semaphore) → IsSetWithinLimits set → (equal high : Bool)
+filled-test : (set : SemaphoreSet) (values : List ℕ) (next : SemaphoreSet) → IsSetWithinLimits set → (equal high : Bool)
     → list_any (nat_lt 32767) values ≡ high
-    → (let r : Result (List Semaphore) Errno = Ok next in (if equal then if high then Err Erange else Ok (with_values set values) else Err Einval) ≡ r)
+    → (let r : Result SemaphoreSet Errno = Ok next in (if equal then if high then Err Erange else Ok (record set { semaphores = with_values set.semaphores values }) else Err Einval) ≡ r)
     → IsSetWithinLimits next
 filled-test set values next w true true e h = not_ok Erange next h
 filled-test set values next w true false e h =
-    subst IsSetWithinLimits (from_ok (with_values set values) next h) (values-within set values w (all-low values e))
+    subst IsSetWithinLimits (from_ok (record set { semaphores = with_values set.semaphores values }) next h) (values-within set values w (all-low values e))
 filled-test set values next w false high e h = not_ok Einval next h
 
 -- semop's trial
@@ -133,48 +135,50 @@ tried-low index values (step ∷ steps) out h g =
     tried-on index values step steps out h (λ next low e. tried-low (index + 1) next steps out low e) (move_at step.add (slice_get values step.num)) refl g
 
 -- the named semaphores' last processes
-marked-at-within : (set : List Semaphore) (pid num : ℕ) (o : Option Semaphore) → IsSetWithinLimits set → slice_get set num ≡ o → IsSetWithinLimits (mark_at set pid num o)
+marked-at-within : (set : SemaphoreSet) (pid num : ℕ) (o : Option Semaphore) → IsSetWithinLimits set → slice_get set.semaphores num ≡ o
+    → IsSetWithinLimits (record set { semaphores = mark_at set.semaphores pid num o })
 marked-at-within set pid num None w e = w
-marked-at-within set pid num (Some s) w e = changed-within set num (with_last s pid) w (all-at IsLowAt set num s w.values e)
+marked-at-within set pid num (Some s) w e = changed-within set num (with_last s pid) w (all-at IsLowAt set.semaphores num s w.values e)
 
-marked-within : (pid : ℕ) (steps : List SemStep) (set : List Semaphore) → IsSetWithinLimits set → IsSetWithinLimits (fold (mark pid) set steps)
+marked-within : (pid : ℕ) (steps : List SemStep) (set : SemaphoreSet) → IsSetWithinLimits set → IsSetWithinLimits (record set { semaphores = fold (mark pid) set.semaphores steps })
 marked-within pid [] set w = w
 marked-within pid (step ∷ steps) set w =
-    marked-within pid steps (mark pid set step) (marked-at-within set pid step.num (slice_get set step.num) w refl)
+    marked-within pid steps (record set { semaphores = mark pid set.semaphores step })
+    (marked-at-within set pid step.num (slice_get set.semaphores step.num) w refl)
 
-operated-tried : (set : List Semaphore) (pid : ℕ) (steps : List SemStep) (t : Tried) (next : List Semaphore) → IsSetWithinLimits set
-    → try_ops (values_of set) steps ≡ t → op_after_trial set pid steps t ≡ Ok next → IsSetWithinLimits next
+operated-tried : (set : SemaphoreSet) (pid : ℕ) (steps : List SemStep) (t : Tried) (next : SemaphoreSet) → IsSetWithinLimits set
+    → try_ops (values_of set.semaphores) steps ≡ t → op_after_trial set pid steps t ≡ Ok next → IsSetWithinLimits next
 operated-tried set pid steps (Done values) next w e h =
-    let low = tried-low 0 (values_of set) steps values (All-map IsLow (λ (s : Semaphore). s.value) set w.values) e
-    in subst IsSetWithinLimits (from_ok (fold (mark pid) (with_values set values) steps) next h)
-    (marked-within pid steps (with_values set values) (values-within set values w low))
+    let low = tried-low 0 (values_of set.semaphores) steps values (All-map IsLow (λ (s : Semaphore). s.value) set.semaphores w.values) e
+    in subst IsSetWithinLimits (from_ok (record set { semaphores = fold (mark pid) (with_values set.semaphores values) steps }) next h)
+    (marked-within pid steps (record set { semaphores = with_values set.semaphores values }) (values-within set values w low))
 operated-tried set pid steps (StopsAt index) next w e h = not_ok Eagain next h
 operated-tried set pid steps OutOfRange next w e h = not_ok Erange next h
 
-operated-test : (set : List Semaphore) (pid : ℕ) (steps : List SemStep) (next : List Semaphore) → IsSetWithinLimits set → (many outside : Bool)
-    → (let r : Result (List Semaphore) Errno = Ok next
-    in (if many then Err E2big else if outside then Err Efbig else op_after_trial set pid steps (try_ops (values_of set) steps)) ≡ r) → IsSetWithinLimits next
+operated-test : (set : SemaphoreSet) (pid : ℕ) (steps : List SemStep) (next : SemaphoreSet) → IsSetWithinLimits set → (many outside : Bool)
+    → (let r : Result SemaphoreSet Errno = Ok next
+    in (if many then Err E2big else if outside then Err Efbig else op_after_trial set pid steps (try_ops (values_of set.semaphores) steps)) ≡ r) → IsSetWithinLimits next
 operated-test set pid steps next w true outside h = not_ok E2big next h
 operated-test set pid steps next w false true h = not_ok Efbig next h
-operated-test set pid steps next w false false h = operated-tried set pid steps (try_ops (values_of set) steps) next w refl h
+operated-test set pid steps next w false false h = operated-tried set pid steps (try_ops (values_of set.semaphores) steps) next w refl h
 
-operated-within : (set : List Semaphore) (pid : ℕ) (steps : List SemStep) (next : List Semaphore) → IsSetWithinLimits set → op set pid steps ≡ Ok next → IsSetWithinLimits next
+operated-within : (set : SemaphoreSet) (pid : ℕ) (steps : List SemStep) (next : SemaphoreSet) → IsSetWithinLimits set → op set pid steps ≡ Ok next → IsSetWithinLimits next
 operated-within set pid steps next w h =
-    operated-test set pid steps next w (nat_lt 32 (length steps)) (list_any (λ step. nat_le (length set) step.num) steps) h
+    operated-test set pid steps next w (nat_lt 32 (length steps)) (list_any (λ step. nat_le (length set.semaphores) step.num) steps) h
 
 -- the table of sets, with what each call keeps of a set
-abbrev pub SetTable : (List Semaphore → Type 0) → Kernel → Type 0
+abbrev pub SetTable : (SemaphoreSet → Type 0) → Kernel → Type 0
 SetTable P k = Table P k.sets k.set_keys k.used_sets
 
-pub record SetRule (P : List Semaphore → Type 0) : Type 0 where
-  pub new : (count : ℕ) (set : List Semaphore) → new_set count ≡ Ok set → P set
-  pub operated : (set : List Semaphore) (pid : ℕ) (steps : List SemStep) (next : List Semaphore) → P set → op set pid steps ≡ Ok next → P next
-  pub one_set : (set : List Semaphore) (num value : ℕ) (next : List Semaphore) → P set → set_value set num value ≡ Ok next → P next
-  pub filled : (set : List Semaphore) (values : List ℕ) (next : List Semaphore) → P set → set_all set values ≡ Ok next → P next
+pub record SetRule (P : SemaphoreSet → Type 0) : Type 0 where
+  pub new : (count : ℕ) (set : SemaphoreSet) → new_set count ≡ Ok set → P set
+  pub operated : (set : SemaphoreSet) (pid : ℕ) (steps : List SemStep) (next : SemaphoreSet) → P set → op set pid steps ≡ Ok next → P next
+  pub one_set : (set : SemaphoreSet) (num value : ℕ) (next : SemaphoreSet) → P set → set_value set num value ≡ Ok next → P next
+  pub filled : (set : SemaphoreSet) (values : List ℕ) (next : SemaphoreSet) → P set → set_all set values ≡ Ok next → P next
 
-pub sets-moves : (P : List Semaphore → Type 0) → SetRule P → (k : Kernel) (pid : ℕ) (a : Alive) (n : ℕ) → SetTable P k → Moves (SetTable P) k pid a n
+pub sets-moves : (P : SemaphoreSet → Type 0) → SetRule P → (k : Kernel) (pid : ℕ) (a : Alive) (n : ℕ) → SetTable P k → Moves (SetTable P) k pid a n
 sets-moves P rule k pid a n t =
-    let change : (id : ℕ) (set next : List Semaphore) → get k.sets id ≡ Some set → P next → SetTable P (record k { sets = put k.sets id next }) =
+    let change : (id : ℕ) (set next : SemaphoreSet) → get k.sets id ≡ Some set → P next → SetTable P (record k { sets = put k.sets id next }) =
     λ id set next l w. table-change P k.sets k.set_keys k.used_sets t id next (ap is_some l) w
     in record {
       same = t;
@@ -204,9 +208,9 @@ within-rule =
     record {
       new = λ count set h. made-within count set (is_bad_count count) refl h;
       operated = operated-within;
-      one_set = λ set num value next w h. valued-at set num value (slice_get set num) next w h;
+      one_set = λ set num value next w h. valued-at set num value (slice_get set.semaphores num) next w h;
       filled = λ set values next w h.
-          filled-test set values next w (nat_eq (length values) (length set)) (list_any (nat_lt 32767) values) refl h;
+          filled-test set values next w (nat_eq (length values) (length set.semaphores)) (list_any (nat_lt 32767) values) refl h;
     }
 
 abbrev pub Sets : Kernel → Type 0

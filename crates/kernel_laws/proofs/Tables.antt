@@ -1,9 +1,10 @@
 -- A table of queues or sets: the things by number, the keys that lead to them, and the numbers used so far.
 use Rattle.std.proofs.Common.{◌≡◌, ◌≢◌, ℕ, true, false, not, List, [], Some, ap, sym, subst, ◌∙◌, inl, inr}
-use Rattle.std.specs.Prelude.{is_some, nat_lt}
+use Rattle.std.specs.Prelude.{is_some}
 use Rattle.std.proofs.lemmas.Bool.{cases_eq, and_parts, not-true}
 use Rattle.number_maps.specs.Maps.{Numbered, get, put, without, is_used, used_with}
 use Rattle.kernel_model.specs.Effect.{is_fresh}
+use Rattle.kernel_model.specs.Numbers.{is_positive_u32}
 use Rattle.kernel_model.specs.QueueCalls.{unbind}
 use Rattle.kernel_model.specs.Valid.{AreKeys}
 use Rattle.kernel_laws.proofs.Plain.{from_some, not_some, not_true}
@@ -67,7 +68,7 @@ table-change P things keys used t id v there p =
     }
 
 pub fresh-unused : (used : List ℕ) (n : ℕ) → is_fresh used n ≡ true → is_used used n ≡ false
-fresh-unused used n h = not-true (is_used used n) (and_parts (nat_lt 0 n) (not (is_used used n)) h).1
+fresh-unused used n h = not-true (is_used used n) (and_parts (is_positive_u32 n) (not (is_used used n)) h).1
 
 used-put : {V : Type 0} (things : Numbered V) (used : List ℕ) (n : ℕ) (v : V) → ((q : ℕ) → is_some (get things q) ≡ true → is_used used q ≡ true)
     → (q : ℕ) → is_some (get (put things n v) q) ≡ true → is_used (used_with used n) q ≡ true

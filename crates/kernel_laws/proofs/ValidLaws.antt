@@ -1,14 +1,14 @@
 -- Each reachable kernel is valid.
-use Rattle.std.proofs.Common.{List, ◌≡◌, ℕ, true, [], ◌∷◌, Option, Some, None, refl, ap, sym, subst, ◌∙◌, inl, inr}
+use Rattle.std.proofs.Common.{◌≡◌, ℕ, true, [], ◌∷◌, Option, Some, None, refl, ap, sym, subst, ◌∙◌, inl, inr}
 use Rattle.std.specs.Prelude.{is_some, Contains}
 use Rattle.std.proofs.lemmas.Bool.{cases_eq, false_from_ne_true}
 use Rattle.pico_base.specs.declared.reply.Ending.{Ending}
 use Rattle.number_maps.specs.Maps.{Numbered, get, is_used}
-use Rattle.kernel_model.specs.Row.{Alive, Free, new_row, lists}
+use Rattle.kernel_model.specs.Row.{Alive, Free, new_row, lists, ended_child}
 use Rattle.kernel_model.specs.Kernel.{Kernel, Process, Living, Ended, Parent, parent_in, living_at, opening}
 use Rattle.kernel_model.specs.Valid.{IsValidProcess, IsValid}
 use Rattle.kernel_model.specs.Queue.{Queue}
-use Rattle.kernel_model.specs.SemaphoreSet.{Semaphore}
+use Rattle.kernel_model.specs.SemaphoreSet.{SemaphoreSet}
 use Rattle.kernel_laws.specs.Reachable.{IsReachableKernel}
 use Rattle.kernel_laws.specs.Processes.{ReachableKernelsAreValid, SignalsAreSound, ChildrenHaveOneParent}
 use Rattle.kernel_laws.proofs.Plain.{from_some, not_some, not_true}
@@ -58,7 +58,7 @@ nobody-listed : (p c : ℕ) → Lists (get start) p c → ⊥
 nobody-listed p c h = not_true {B = ⊥} (subst (λ (x : Alive). lists x.row.family c ≡ true) (sym (first-living p h.alive h.there)) h.listed)
 
 nobody-kept : (p c : ℕ) (e : Ending) → KeepsEnded (get start) p c e → ⊥
-nobody-kept p c e h = contains-none (c, e) (subst (λ (x : Alive). Contains x.row.family.ended (c, e)) (sym (first-living p h.alive h.there)) h.kept)
+nobody-kept p c e h = contains-none (ended_child c e) (subst (λ (x : Alive). Contains x.row.family.ended (ended_child c e)) (sym (first-living p h.alive h.there)) h.kept)
 
 first-families : Families (get start)
 first-families =
@@ -98,7 +98,7 @@ alive-valid k h pid a l =
       ended = λ child ending c. h.families.ended pid child ending (record { alive = a; there = there; kept = c });
     }
 
-pub valid-from : (P : Queue → Type 0) (R : List Semaphore → Type 0) (k : Kernel) → Settled k → QueueTable P k → SetTable R k → IsValid k
+pub valid-from : (P : Queue → Type 0) (R : SemaphoreSet → Type 0) (k : Kernel) → Settled k → QueueTable P k → SetTable R k → IsValid k
 valid-from P R k h q s =
     record {
       processes = ordered k.processes h.body.rise;
@@ -120,7 +120,7 @@ valid-from P R k h q s =
           (record { alive = b; there = from-living k.processes q b m; kept = y.1 });
       kept = λ pid ending e.
           let w = h.families.kept pid ending e
-          in (w.0, w.1.alive, to-living k.processes w.0 w.1.alive w.1.there, w.1.kept);
+          in record { keeper = w.0; alive = w.1.alive; lives = to-living k.processes w.0 w.1.alive w.1.there; kept = w.1.kept };
     }
 
 pub reachable_kernels_are_valid_lemma : ReachableKernelsAreValid

@@ -6,7 +6,7 @@ use Rattle.pico_base.specs.declared.reply.Outcome.{Outcome}
 use Rattle.pico_base.specs.declared.reply.Reply.TheVariants.{Num}
 use Rattle.number_maps.specs.Maps.{get, is_used}
 use Rattle.kernel_model.specs.Kernel.{Kernel, opening}
-use Rattle.kernel_model.specs.Transition.{transition}
+use Rattle.kernel_model.specs.Transition.{successor, transition}
 use Rattle.kernel_model.specs.History.{Replays}
 use Rattle.kernel_laws.specs.Reachable.{IsReachableKernel}
 
@@ -44,11 +44,11 @@ RemovedSetsStayRemoved =
 abbrev pub QueueRemovalsLast : Type 0
 QueueRemovalsLast =
     (k next last : Kernel) (pid id n : ℕ) (outcome : Outcome) (entries : List Entry) → IsReachableKernel k
-    → transition k pid (MsgRmid id) n ≡ Some (next, outcome) → outcome.own ≡ Some (Num 0) → Replays next entries last
+    → transition k pid (MsgRmid id) n ≡ Some (successor next outcome) → outcome.own ≡ Some (Num 0) → Replays next entries last
     → get last.queues id ≡ None
 
 abbrev pub SetRemovalsLast : Type 0
 SetRemovalsLast =
     (k next last : Kernel) (pid id n : ℕ) (outcome : Outcome) (entries : List Entry) → IsReachableKernel k
-    → transition k pid (SemRmid id) n ≡ Some (next, outcome) → outcome.own ≡ Some (Num 0) → Replays next entries last
+    → transition k pid (SemRmid id) n ≡ Some (successor next outcome) → outcome.own ≡ Some (Num 0) → Replays next entries last
     → get last.sets id ≡ None

@@ -8,7 +8,7 @@ use Rattle.kernel_laws.specs.Reachable.{IsReachableKernel}
 -- no child stands twice among the living ones, nor among the ended ones
 pub record ListsOnce (f : Family) : Type 0 where
   pub living : IsDistinct nat_eq f.living
-  pub ended : IsDistinct nat_eq (map (λ e. e.0) f.ended)
+  pub ended : IsDistinct nat_eq (map (λ e. e.pid) f.ended)
 
 abbrev pub ChildrenAreListedOnce : Type 0
 ChildrenAreListedOnce = (k : Kernel) → IsReachableKernel k → (pid : ℕ) (a : Alive) → living_at k pid ≡ Some a → ListsOnce a.row.family

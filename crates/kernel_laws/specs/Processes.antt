@@ -5,7 +5,7 @@ use Rattle.pico_base.specs.declared.reply.Outcome.{Outcome}
 use Rattle.kernel_model.specs.Signals.{AreSoundSignals}
 use Rattle.kernel_model.specs.Row.{Alive, lists}
 use Rattle.kernel_model.specs.Kernel.{Kernel, Parent, living_at, parent_in}
-use Rattle.kernel_model.specs.Transition.{transition}
+use Rattle.kernel_model.specs.Transition.{successor, transition}
 use Rattle.kernel_model.specs.Valid.{IsValid}
 use Rattle.kernel_laws.specs.Reachable.{IsReachableKernel}
 
@@ -34,4 +34,4 @@ NoneListsItself k = (pid : ℕ) (a : Alive) → living_at k pid ≡ Some a → l
 abbrev pub EntriesKeepValidity : Type 0
 EntriesKeepValidity =
     (k next : Kernel) (pid : ℕ) (call : Call) (n : ℕ) (outcome : Outcome) → IsValid k → NoneListsItself k
-    → transition k pid call n ≡ Some (next, outcome) → IsValid next × NoneListsItself next
+    → transition k pid call n ≡ Some (successor next outcome) → IsValid next × NoneListsItself next

@@ -6,7 +6,7 @@ use Rattle.pico_base.specs.declared.reply.Outcome.{Outcome}
 use Rattle.pico_base.specs.declared.reply.Reply.TheVariants.{Fail}
 use Rattle.kernel_model.specs.Row.{Alive, Spent}
 use Rattle.kernel_model.specs.Kernel.{Kernel, living_at, with_alive}
-use Rattle.kernel_model.specs.Transition.{transition}
+use Rattle.kernel_model.specs.Transition.{successor, transition}
 
 -- what a call that changes nothing leaves: the kernel as it was, but that a doomed caller has nothing left
 abbrev pub left_by : Kernel → ℕ → Alive → Kernel
@@ -16,5 +16,5 @@ left_by k pid caller = if is_some caller.row.signals.doom then with_alive k pid 
 abbrev pub RefusalsChangeNothing : Type 0
 RefusalsChangeNothing =
     (k : Kernel) (pid : ℕ) (call : Call) (n : ℕ) (next : Kernel) (outcome : Outcome) (error : Errno)
-    → transition k pid call n ≡ Some (next, outcome) → outcome.own ≡ Some (Fail error)
+    → transition k pid call n ≡ Some (successor next outcome) → outcome.own ≡ Some (Fail error)
     → (caller : Alive) × (living_at k pid ≡ Some caller) × (next ≡ left_by k pid caller)

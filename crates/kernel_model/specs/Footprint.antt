@@ -190,6 +190,17 @@ bare Gone = Gone
 abbrev pub bare_at : Kernel → ℕ → Option Process
 bare_at k pid = option_map bare (get k.processes pid)
 
+pub record RestStays (parts : List Part) (before after : Kernel) : Type 0 where
+  pub processes : (pid : ℕ) → list_any (is_whole pid) parts ≡ false → list_any (is_allowance pid) parts ≡ false
+      → get after.processes pid ≡ get before.processes pid
+  pub rows : (pid : ℕ) → list_any (is_whole pid) parts ≡ false → bare_at after pid ≡ bare_at before pid
+  pub queues : (id : ℕ) → list_any (is_queue id) parts ≡ false → get after.queues id ≡ get before.queues id
+  pub sets : (id : ℕ) → list_any (is_set id) parts ≡ false → get after.sets id ≡ get before.sets id
+  pub queue_keys : list_any is_queue_keys parts ≡ false → (key : ℕ) → get after.queue_keys key ≡ get before.queue_keys key
+  pub set_keys : list_any is_set_keys parts ≡ false → (key : ℕ) → get after.set_keys key ≡ get before.set_keys key
+
+-- The numbers used.
+
 -- the kind of what a call may create
 abbrev pub created_kind : Call → Option Kind
 created_kind (calls.Fork block) = Some kinds.Proc
@@ -260,23 +271,16 @@ pub record GrowsBy (call : Call) (n : ℕ) (outcome : Outcome) (before after : K
   pub used : used_of after kind ≡ grown_by (has_created (created_kind call) after kind n) (used_of before kind) n
   pub reply : has_created (created_kind call) after kind n ≡ true → outcome.own ≡ Some (Num n)
 
-pub record RestStays (parts : List Part) (call : Call) (n : ℕ) (outcome : Outcome) (before after : Kernel) : Type 0 where
-  pub processes : (pid : ℕ) → list_any (is_whole pid) parts ≡ false → list_any (is_allowance pid) parts ≡ false
-      → get after.processes pid ≡ get before.processes pid
-  pub rows : (pid : ℕ) → list_any (is_whole pid) parts ≡ false → bare_at after pid ≡ bare_at before pid
-  pub queues : (id : ℕ) → list_any (is_queue id) parts ≡ false → get after.queues id ≡ get before.queues id
-  pub sets : (id : ℕ) → list_any (is_set id) parts ≡ false → get after.sets id ≡ get before.sets id
-  pub queue_keys : list_any is_queue_keys parts ≡ false → (key : ℕ) → get after.queue_keys key ≡ get before.queue_keys key
-  pub set_keys : list_any is_set_keys parts ≡ false → (key : ℕ) → get after.set_keys key ≡ get before.set_keys key
-  pub used : (kind : Kind) → GrowsBy call n outcome before after kind
-
--- The same step from two kernels: the same outcome, agreement on the parts afterwards, and the rest of each stays.
+-- The same step from two kernels: the same outcome, agreement on the parts afterwards, and the rest of each stays, but that
+-- the number of something new is used.
 
 pub record SameStep (parts : List Part) (call : Call) (n : ℕ) (j k : Kernel) (to_j to_k : Successor) : Type 0 where
   pub outcome : to_j.outcome ≡ to_k.outcome
   pub agree : AgreeOn parts to_j.kernel to_k.kernel
-  pub rest_of_first : RestStays parts call n to_j.outcome j to_j.kernel
-  pub rest_of_second : RestStays parts call n to_k.outcome k to_k.kernel
+  pub rest_of_first : RestStays parts j to_j.kernel
+  pub rest_of_second : RestStays parts k to_k.kernel
+  pub used_of_first : (kind : Kind) → GrowsBy call n to_j.outcome j to_j.kernel kind
+  pub used_of_second : (kind : Kind) → GrowsBy call n to_k.outcome k to_k.kernel kind
 
 abbrev pub SameSteps : List Part → Call → ℕ → Kernel → Kernel → Option Successor → Option Successor → Type 0
 SameSteps parts call n j k None None = Unit {0}

@@ -1,17 +1,13 @@
 -- A living process: its signals, its family, and what it may still do (POSIX.1-2017: fork, _Exit, wait).
 use Rattle.std.specs.Prelude.{ℕ, Bool, true, false, not, List, [], ◌∷◌, ◌++◌, if◌then◌else◌, Option, Some, None, is_some, nat_eq}
 use Rattle.std.specs.List.{filter, list_any}
+pub use Rattle.pico_base.specs.declared.reply.EndedChild.{EndedChild}
 use Rattle.pico_base.specs.declared.reply.Ending.{Ending}
 use Rattle.pico_base.specs.declared.signal.Sig.{Sig}
 use Rattle.pico_base.specs.declared.signal.Sig.TheVariants.{Chld}
 use Rattle.pico_base.specs.declared.signal.Act.{Act}
 use Rattle.pico_base.specs.declared.signal.Act.TheVariants.{Dfl, Ign, Catch}
 use Rattle.kernel_model.specs.Signals.{Signals, new_signals, inherit, raise}
-
--- a child that has ended, and how
-pub record EndedChild : Type 0 where
-  pub pid : ℕ
-  pub ending : Ending
 
 abbrev pub ended_child : ℕ → Ending → EndedChild
 ended_child pid ending = record { pid = pid; ending = ending }

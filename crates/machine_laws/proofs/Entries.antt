@@ -10,24 +10,41 @@ use Rattle.pico_base.specs.declared.script.Script.{Script}
 use Rattle.number_maps.specs.Maps.{Numbered, get, put}
 use Rattle.kernel_model.specs.Valid.{IsOrdered}
 use Rattle.kernel_model.specs.Kernel.{Kernel, opening}
-use Rattle.kernel_model.specs.Transition.{transition}
+use Rattle.kernel_model.specs.Transition.{successor, transition}
 use Rattle.kernel_model.specs.History.{Replays, number_in}
-use Rattle.kernel_model.specs.Fitting.{Place, Places, FitsFrom, IsDue, opening_places, places_after, places_after_fork, block_place, block_at, child_vars, move_on, place_after, due, is_killed}
+use Rattle.kernel_model.specs.Fitting.{Place, Places, FitsFrom, HasReplyAlone, IsDue, opening_places, places_after, places_after_fork, block_place, block_at, child_vars, move_on, place_after, due, is_killed}
 use Rattle.machine_model.specs.Calls.{entry_by}
 use Rattle.deed_laws.specs.Carrying.{Makes}
 use Rattle.kernel_laws.proofs.MapLaws.{get-put-same, get-put-other, rising, rising-put, ordered}
 
 pub replays-more : (k mid next : Kernel) (h : List Entry) (e : Entry) → Replays k h mid
-    → transition mid e.pid e.call (number_in e.outcome.own) ≡ Some (next, e.outcome) → Replays k (h ++ e ∷ []) next
+    → transition mid e.pid e.call (number_in e.outcome.own) ≡ Some (successor next e.outcome) → Replays k (h ++ e ∷ []) next
 replays-more k mid next [] e p t =
-    (next, subst (λ (x : Kernel). transition x e.pid e.call (number_in e.outcome.own) ≡ Some (next, e.outcome)) (sym p) t, refl)
-replays-more k mid next (f ∷ h) e p t = (p.0, p.1, replays-more p.0 mid next h e p.2 t)
+    record {
+      next = next;
+      step = subst (λ (x : Kernel). transition x e.pid e.call (number_in e.outcome.own) ≡ Some (successor next e.outcome)) (sym p) t;
+      rest = refl;
+    }
+replays-more k mid next (f ∷ h) e p t = record { next = p.next; step = p.step; rest = replays-more p.next mid next h e p.rest t }
 
 pub follows-more : (s : Script) (ps mid : Places) (h : List Entry) (e : Entry) (place : Place) → FitsFrom s ps h mid
-    → get mid e.pid ≡ Some place → IsDue place e.call → FitsFrom s ps (h ++ e ∷ []) (places_after s mid e place)
-follows-more s ps mid [] e place p g d =
-    (place, subst (λ (x : Places). get x e.pid ≡ Some place) (sym p) g, d, ap (λ (x : Places). places_after s x e place) p)
-follows-more s ps mid (f ∷ h) e place p g d = (p.0, p.1, p.2, follows-more s (places_after s ps f p.0) mid h e place p.3 g d)
+    → get mid e.pid ≡ Some place → IsDue place e.call → HasReplyAlone e.outcome → FitsFrom s ps (h ++ e ∷ []) (places_after s mid e place)
+follows-more s ps mid [] e place p g d r =
+    record {
+      place = place;
+      there = subst (λ (x : Places). get x e.pid ≡ Some place) (sym p) g;
+      due = d;
+      replied = r;
+      rest = ap (λ (x : Places). places_after s x e place) p;
+    }
+follows-more s ps mid (f ∷ h) e place p g d r =
+    record {
+      place = p.place;
+      there = p.there;
+      due = p.due;
+      replied = p.replied;
+      rest = follows-more s (places_after s ps f p.place) mid h e place p.rest g d r;
+    }
 
 -- a call that neither kills nor forks
 pub record IsOrdinary (call : Call) : Type 0 where
@@ -61,7 +78,7 @@ goes-on s h k next places node pid call reply place then legal fits ord at is_du
     in record {
       legal = replays-more opening k next h (entry_by node pid call reply) legal makes.step;
       fits = subst (λ (x : Places). FitsFrom s (opening_places s) (h ++ entry_by node pid call reply ∷ []) x) leads
-          (follows-more s (opening_places s) places h (entry_by node pid call reply) place fits at (inl is_due));
+          (follows-more s (opening_places s) places h (entry_by node pid call reply) place fits at (inl is_due) (record { reply = _; alone = refl }));
       ordered_places = ordered-put places pid then ord;
       here = get-put-same places pid then;
       other = λ p o. get-put-other places pid then p o;
@@ -86,7 +103,7 @@ forks-on s h k next places node pid block child place then legal fits ord at is_
       record {
         legal = replays-more opening k next h e legal makes.step;
         fits = subst (λ (x : Places). FitsFrom s (opening_places s) (h ++ e ∷ []) x) leads
-            (follows-more s (opening_places s) places h e place fits at (inl is_due));
+            (follows-more s (opening_places s) places h e place fits at (inl is_due) (record { reply = _; alone = refl }));
         ordered_places = ordered-put _ child begins (ordered-put places pid then ord);
         here = get-put-other (put places pid then) child begins pid (λ x. apart (sym x)) ∙ get-put-same places pid then;
         other = λ p o. elim (cases_eq p child) [

@@ -9,7 +9,7 @@ use Rattle.pico_base.specs.declared.call.Call.TheVariants as calls
 use Rattle.pico_base.specs.declared.script.Line.{Line}
 use Rattle.pico_base.specs.declared.script.Block.{Block}
 use Rattle.pico_base.specs.declared.script.Script.{Script}
-use Rattle.kernel_model.specs.Script.{fork_targets, forks_of, goes_forward, is_forked_once, is_exit, with_exit}
+use Rattle.kernel_model.specs.Script.{Fork, fork_from, fork_targets, forks_of, goes_forward, is_forked_once, is_exit, with_exit}
 use Rattle.machine_model.specs.Built.{IsRunnable}
 use Rattle.machine_model.specs.Node.{lines_in, lines_of}
 use Rattle.machine_model.specs.Frames.{names_block, forks_in, is_forked_by}
@@ -38,11 +38,11 @@ names block line = names_block block line.call
 abbrev tos_of : List Line → List ℕ
 tos_of lines = flat_map (λ line. fork_targets line.call) lines
 
-abbrev pairs : ℕ → List ℕ → List (ℕ × ℕ)
-pairs k tos = map (λ to. (k, to)) tos
+abbrev pairs : ℕ → List ℕ → List Fork
+pairs k tos = map (fork_from k) tos
 
-abbrev is_to : ℕ → ℕ × ℕ → Bool
-is_to block fork = nat_eq fork.1 block
+abbrev is_to : ℕ → Fork → Bool
+is_to block fork = nat_eq fork.to block
 
 hits-append : {X : Type 0} (p : X → Bool) (xs ys : List X) → hits p (xs ++ ys) ≡ hits p xs + hits p ys
 hits-append p [] ys = omega arith
@@ -50,7 +50,7 @@ hits-append p (x ∷ xs) ys = let rest = hits-append p xs ys in omega (arith, re
 
 map-append : (k : ℕ) (xs ys : List ℕ) → pairs k (xs ++ ys) ≡ pairs k xs ++ pairs k ys
 map-append k [] ys = refl
-map-append k (x ∷ xs) ys = ap (λ zs. (k, x) ∷ zs) (map-append k xs ys)
+map-append k (x ∷ xs) ys = ap (λ zs. fork_from k x ∷ zs) (map-append k xs ys)
 
 -- one line's part
 hits-line : (k block : ℕ) (call : Call) → hits (is_to block) (pairs k (fork_targets call)) ≡ one_if (names_block block call)
@@ -103,10 +103,10 @@ any-cons block line lines = refl
 -- ---- the first block of a runnable script
 
 -- its forks are among the script's
-forks-in : (s : Script) (b : Block) (bs : List Block) → s.blocks ≡ b ∷ bs → (p : ℕ × ℕ → Bool)
+forks-in : (s : Script) (b : Block) (bs : List Block) → s.blocks ≡ b ∷ bs → (p : Fork → Bool)
     → (hits p (pairs 1 (tos_of b.lines)) ≤ hits p (forks_of s))
 forks-in s b bs e p =
-    let rest : List (ℕ × ℕ) = flat_map (λ c. pairs c.0 (tos_of c.1.lines)) (enumerate_from 2 bs)
+    let rest : List Fork = flat_map (λ c. pairs c.0 (tos_of c.1.lines)) (enumerate_from 2 bs)
     in let cut : forks_of s ≡ pairs 1 (tos_of b.lines) ++ rest =
     ap (λ blocks. flat_map (λ c. pairs c.0 (tos_of c.1.lines)) (enumerate_from 1 blocks)) e
     in let sum = ap (hits p) cut ∙ hits-append p (pairs 1 (tos_of b.lines)) rest
@@ -154,14 +154,14 @@ named-any block (line ∷ lines) h =
           in ap (λ b. b || list_any (names block) lines) f ∙ named-any block lines (omega (arith, h, e))
     ]
 
-line-forward : (g : ℕ × ℕ → Bool) (k block : ℕ) (call : Call) → list_all g (pairs k (fork_targets call)) ≡ true → names_block block call ≡ true
-    → g (k, block) ≡ true
-line-forward g k block (calls.Fork to) h n = subst (λ b. g (k, b) ≡ true) (eqb-true to block n) (and-left _ _ h)
+line-forward : (g : Fork → Bool) (k block : ℕ) (call : Call) → list_all g (pairs k (fork_targets call)) ≡ true → names_block block call ≡ true
+    → g (fork_from k block) ≡ true
+line-forward g k block (calls.Fork to) h n = subst (λ b. g (fork_from k b) ≡ true) (eqb-true to block n) (and-left _ _ h)
 line-forward g k block (calls.Exit status) h n = absurd (false≢true n)
 line-forward g k block call h n = absurd (false≢true n)
 
-all-forward : (g : ℕ × ℕ → Bool) (k block : ℕ) (lines : List Line) → list_all g (pairs k (tos_of lines)) ≡ true → 1 ≤ named block lines
-    → g (k, block) ≡ true
+all-forward : (g : Fork → Bool) (k block : ℕ) (lines : List Line) → list_all g (pairs k (tos_of lines)) ≡ true → 1 ≤ named block lines
+    → g (fork_from k block) ≡ true
 all-forward g k block [] h l = absurd (omega (arith, l))
 all-forward g k block (line ∷ lines) h l =
     let both = sym (list_all-append g (pairs k (fork_targets line.call)) (pairs k (tos_of lines)))
@@ -189,7 +189,7 @@ forkable s r block h =
           in let cut = named-with_exit block b.lines
           in let counted : named block (lines_of s 1) ≡ named block (with_exit b.lines) = ap (named block) here
           in let there : 1 ≤ named block b.lines = omega (arith, h, cut, counted)
-          in let rest : List (ℕ × ℕ) = flat_map (λ c. pairs c.0 (tos_of c.1.lines)) (enumerate_from 2 some.1)
+          in let rest : List Fork = flat_map (λ c. pairs c.0 (tos_of c.1.lines)) (enumerate_from 2 some.1)
           in let parts : forks_of s ≡ pairs 1 (tos_of b.lines) ++ rest =
           ap (λ blocks. flat_map (λ c. pairs c.0 (tos_of c.1.lines)) (enumerate_from 1 blocks)) some.2
           in let all = sym (list_all-append (goes_forward s) (pairs 1 (tos_of b.lines)) rest)

@@ -243,7 +243,7 @@ module _ (script : Script) (r : IsRunnable script) (w : World) (first : Node) (k
       in let high : block ≤ node_count script = facts.forkable-block.high
       in let old = u.children block low high
       in let awaited = awaited-is old.situation script block (pids block) _ old.is_in facts.unforked
-      in let law = forks first.held first.leader k runs.alive block (w.journal, u.legal) u.leader.stands runs.lives
+      in let law = forks first.held first.leader k runs.alive block (w.journal, u.legal) u.leader.stands runs.lives small
       in let next : Kernel = law.next
       in let s : Step = forking-step
       in let m : Node = s.node

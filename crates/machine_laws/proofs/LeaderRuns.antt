@@ -17,8 +17,8 @@ use Rattle.pico_base.specs.declared.script.Script.{Script}
 use Rattle.pico_base.specs.declared.script.Event.TheVariants as events
 use Rattle.number_maps.specs.Maps.{get, put}
 use Rattle.kernel_model.specs.Queue.{empty_queue}
-use Rattle.kernel_model.specs.SemaphoreSet.{Semaphore, new_set}
-use Rattle.kernel_model.specs.Row.{Alive}
+use Rattle.kernel_model.specs.SemaphoreSet.{SemaphoreSet, new_set}
+use Rattle.kernel_model.specs.Row.{Alive, ended_child}
 use Rattle.kernel_model.specs.Kernel.{Kernel, Living as LivingProcess, Gone as GoneProcess, alive_in, living_at, living_in}
 use Rattle.kernel_model.specs.Effect.{Effect}
 use Rattle.kernel_model.specs.ProcessCalls.{bury}
@@ -260,7 +260,7 @@ module _ (script : Script) (r : IsRunnable script) (w : World) (first : Node) (k
 
   -- a process that lives isn't among the ended ones
   not-ended : (q : ℕ) → get k.processes q ≡ Some (LivingProcess new_process) → (ending : Ending)
-      → Contains runs.alive.row.family.ended (q, ending) → ⊥
+      → Contains runs.alive.row.family.ended (ended_child q ending) → ⊥
   not-ended q lives ending there =
       let valid = reachable_kernels_are_valid_lemma k (w.journal, u.legal)
       in let ended = (valid.alive 1 runs.alive first-lives-now).ended q ending there
@@ -295,16 +295,16 @@ module _ (script : Script) (r : IsRunnable script) (w : World) (first : Node) (k
       in let held : Held = record first.held { queues = put first.held.queues number empty_queue }
       in let leader : Leader = record first.leader { next_queue = number + 1 }
       in let m : Node = (with_leader leader (step_here script first call reply held)).node
-      in let law = new_queues first.held first.leader k runs.alive create excl u.leader.stands first-lives-now
       in let small : nat_lt number number_end ≡ true =
       lt-ltb number number_end (let f = runs.few_queues in let l = few-lines d in omega (arith, f, l))
+      in let law = new_queues first.held first.leader k runs.alive create excl u.leader.stands first-lives-now small
       in enters call reply m law.next d (rw (leads, small) refl) (record { not_killed = refl; not_fork = λ s ps place reply. refl })
       (mine law.carries.makes) refl (omega arith)
       (λ q o x. record { process = ap (λ ps. get ps q) law.processes ∙ x.process; away = x.away; listed = x.listed })
       (λ places' h. goes-on-with call reply m law.next places' d refl refl refl refl refl law.carries.stands runs.alive runs.lives
       (omega arith) (omega arith) (omega arith) h)
 
-  new-set : (count : ℕ) (create excl : Bool) (set : List Semaphore) → new_set count ≡ Ok set
+  new-set : (count : ℕ) (create excl : Bool) (set : SemaphoreSet) → new_set count ≡ Ok set
       → due (place_of script first) ≡ Some (calls.SemGet None count create excl) → Goes script w (events.Run 1)
   new-set count create excl set made d =
       let call : Call = calls.SemGet None count create excl
@@ -313,9 +313,9 @@ module _ (script : Script) (r : IsRunnable script) (w : World) (first : Node) (k
       in let held : Held = record first.held { sets = put first.held.sets number set }
       in let leader : Leader = record first.leader { next_set = number + 1 }
       in let m : Node = (with_leader leader (step_here script first call reply held)).node
-      in let law = new_sets first.held first.leader k runs.alive count set create excl u.leader.stands first-lives-now made
       in let small : nat_lt number number_end ≡ true =
       lt-ltb number number_end (let f = runs.few_sets in let l = few-lines d in omega (arith, f, l))
+      in let law = new_sets first.held first.leader k runs.alive count set create excl u.leader.stands first-lives-now made small
       in enters call reply m law.next d
       (if-both _ _ (Some (makes_set_of script first call (new_set count))) None leads small
       ∙ ap (λ x. Some (makes_set_of script first call x)) made)
@@ -341,7 +341,7 @@ module _ (script : Script) (r : IsRunnable script) (w : World) (first : Node) (k
       (λ places' h. goes-on-with call reply m k places' d refl refl refl refl refl u.leader.stands runs.alive runs.lives
       (omega arith) (omega arith) (omega arith) h)
 
-  pub set-by : (count : ℕ) (create excl : Bool) (o : Result (List Semaphore) Errno) → new_set count ≡ o
+  pub set-by : (count : ℕ) (create excl : Bool) (o : Result SemaphoreSet Errno) → new_set count ≡ o
       → due (place_of script first) ≡ Some (calls.SemGet None count create excl) → Goes script w (events.Run 1)
   set-by count create excl (Ok set) made d = new-set count create excl set made d
   set-by count create excl (Err error) made d = bad-set count create excl error made d

@@ -40,7 +40,7 @@ reaches script r w h = along script r (opening_world script) w h.0 (opening-hold
 pub journals_are_legal_lemma : JournalsAreLegal
 journals_are_legal_lemma script w r h =
     let i = reaches script r w h
-    in ((i.kernel, i.under_way.legal), (i.places, i.under_way.fits))
+    in (record { last = i.kernel; replays = i.under_way.legal }, record { last = i.places; fits = i.under_way.fits })
 
 pub enabled_events_have_steps_lemma : EnabledEventsHaveSteps
 enabled_events_have_steps_lemma script w e r h enabled =
@@ -127,9 +127,9 @@ module _ (script : Script) (w : World) (first : Node) (k : Kernel) (places : Pla
 pub rest_is_whole_lemma : RestIsWhole
 rest_is_whole_lemma script w r h rest =
     let i = reaches script r w h
-    in (
-      i.places,
-      i.under_way.fits,
-      over-each i.places (rising i.places i.under_way.ordered)
-          (place-over script w i.first i.kernel i.places i.pids i.under_way rest),
-    )
+    in record {
+      last = i.places;
+      fits = i.under_way.fits;
+      over = over-each i.places (rising i.places i.under_way.ordered)
+          (place-over script w i.first i.kernel i.places i.pids i.under_way rest);
+    }

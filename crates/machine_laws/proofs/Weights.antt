@@ -14,7 +14,7 @@ use Rattle.pico_base.specs.declared.script.Event.TheVariants as events
 use Rattle.rpc_frame.specs.declared.deed.Parcel.{Parcel}
 use Rattle.rpc_frame.specs.declared.frame.Frame.{Frame}
 use Rattle.rpc_frame.specs.declared.frame.Frame.TheVariants as frames
-use Rattle.kernel_model.specs.SemaphoreSet.{Semaphore, new_set}
+use Rattle.kernel_model.specs.SemaphoreSet.{SemaphoreSet, new_set}
 use Rattle.kernel_model.specs.Kernel.{Process, living_in}
 use Rattle.kernel_model.specs.Row.{Alive}
 use Rattle.kernel_model.specs.Effect.{Effect}
@@ -112,7 +112,7 @@ module _ (script : Script) (n : Node) (living : n.stage ≡ Living) (idle : n.ca
         | inr a ↦ subst (λ x. Lowers script x (32 * to_start script n)) (some-is _ _ a) (asking call)
       ]
 
-  lowers-set : (call : Call) (o : Result (List Semaphore) _) → Lowers script (makes_set_of script n call o) (32 * to_start script n)
+  lowers-set : (call : Call) (o : Result SemaphoreSet _) → Lowers script (makes_set_of script n call o) (32 * to_start script n)
   lowers-set call (Ok set) = at-once _ refl refl refl refl (omega arith)
   lowers-set call (Err e) = at-once _ refl refl refl refl (omega arith)
 

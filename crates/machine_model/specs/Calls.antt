@@ -1,5 +1,5 @@
 -- A node starts its process's next call, rule by rule. A rule gives a step, or there is none.
-use Rattle.std.specs.Prelude.{ℕ, ◌+◌, ◌%◌, ◌^◌, not, ◌&&◌, nat_lt, List, [], ◌∷◌, if◌then◌else◌, Option, Some, None, Result, Ok, Err, slice_get}
+use Rattle.std.specs.Prelude.{ℕ, ◌+◌, ◌%◌, not, ◌&&◌, nat_lt, List, [], ◌∷◌, if◌then◌else◌, Option, Some, None, Result, Ok, Err, slice_get}
 use Rattle.pico_base.specs.declared.call.Call.{Call}
 use Rattle.pico_base.specs.declared.call.Call.TheVariants as calls
 use Rattle.pico_base.specs.declared.script.Line.{Line}
@@ -13,10 +13,11 @@ use Rattle.rpc_frame.specs.declared.frame.Frame.{Frame}
 use Rattle.rpc_frame.specs.declared.frame.Frame.TheVariants as frames
 use Rattle.number_maps.specs.Maps.{put}
 use Rattle.kernel_model.specs.Queue.{empty_queue}
-use Rattle.kernel_model.specs.SemaphoreSet.{Semaphore, new_set}
+use Rattle.kernel_model.specs.SemaphoreSet.{SemaphoreSet, new_set}
 use Rattle.kernel_model.specs.Row.{Alive}
 use Rattle.kernel_model.specs.Kernel.{Living as LivingProcess, living_in}
-use Rattle.kernel_model.specs.Effect.{Effect}
+use Rattle.kernel_model.specs.Numbers.{number_end}
+use Rattle.kernel_model.specs.Effect.{Effect, reply_alone}
 use Rattle.kernel_model.specs.ProcessCalls.{parent_after_fork}
 use Rattle.kernel_model.specs.Waiting.{is_waiting}
 use Rattle.kernel_model.specs.Fitting.{due, child_vars, set_variable, value_in}
@@ -30,13 +31,9 @@ pub record Step : Type 0 where
   pub entries : List Entry
   pub sends : List (ℕ × Frame)
 
--- one past the greatest number of four bytes
-abbrev pub number_end : ℕ
-number_end = 2 ^ 32
-
 -- the entry of a carried-out call
 abbrev pub entry_by : ℕ → ℕ → Call → Reply → Entry
-entry_by node pid call reply = record { pid = pid; call = call; outcome = record { own = Some reply; woken = [] }; by = node }
+entry_by node pid call reply = record { pid = pid; call = call; outcome = reply_alone reply; by = node }
 
 -- the caller once it has started a call, and once it has the reply: the line's variable is set, and the next line is due
 abbrev pub start_call : Caller → Call → Caller
@@ -88,7 +85,7 @@ makes_queue script n call =
     (step_here script n call (replies.Num number) (record n.held { queues = put n.held.queues number empty_queue })))
     else None
 
-abbrev pub makes_set_of : Script → Node → Call → Result (List Semaphore) Errno → Step
+abbrev pub makes_set_of : Script → Node → Call → Result SemaphoreSet Errno → Step
 makes_set_of script n call (Err e) = step_here script n call (replies.Fail e) n.held
 makes_set_of script n call (Ok set) =
     let number : ℕ = n.leader.next_set

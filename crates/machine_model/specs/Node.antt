@@ -6,7 +6,7 @@ use Rattle.pico_base.specs.declared.script.Block.{Block}
 use Rattle.pico_base.specs.declared.script.Script.{Script}
 use Rattle.number_maps.specs.Maps.{Numbered}
 use Rattle.kernel_model.specs.Queue.{Queue}
-use Rattle.kernel_model.specs.SemaphoreSet.{Semaphore}
+use Rattle.kernel_model.specs.SemaphoreSet.{SemaphoreSet}
 use Rattle.kernel_model.specs.Row.{Alive, Free, new_row}
 use Rattle.kernel_model.specs.Kernel.{Process, Living as LivingProcess}
 use Rattle.kernel_model.specs.Script.{Vars}
@@ -34,7 +34,7 @@ pub record Caller : Type 0 where
 pub record Held : Type 0 where
   pub processes : Numbered Process
   pub queues : Numbered Queue
-  pub sets : Numbered (List Semaphore)
+  pub sets : Numbered SemaphoreSet
 
 -- Another node has told that its process ends, or it has handed over.
 pub data Parting : Type 0 where

@@ -4,7 +4,7 @@ use Rattle.std.specs.List.{All, list_any, fold}
 use Rattle.std.specs.Option.{option_map, option_map_or}
 use Rattle.pico_base.specs.declared.reply.Ending.{Ending}
 use Rattle.number_maps.specs.Maps.{Numbered, get, put}
-use Rattle.kernel_model.specs.Row.{Alive, lists, matches, first_ended_child}
+use Rattle.kernel_model.specs.Row.{Alive, lists, matches, first_ended_child, EndedChild}
 use Rattle.kernel_model.specs.Kernel.{Process, Gone, living_in, parent_in}
 use Rattle.kernel_model.specs.ProcessCalls.{bury, end_under, processes_after_end}
 use Rattle.mono_kernel.specs.Table.{IsTable, IfLiving, lists_there, parent_at, as_parent}
@@ -19,37 +19,37 @@ either true = refl
 either false = refl
 
 -- the ended child that is found is among them
-found-kept : (which : Option ℕ) (es : List (ℕ × Ending)) → IfSome (first_ended_child which es) (λ e. list_any (λ x. nat_eq e.0 x.0) es ≡ true)
+found-kept : (which : Option ℕ) (es : List EndedChild) → IfSome (first_ended_child which es) (λ e. list_any (λ x. nat_eq e.pid x.pid) es ≡ true)
 found-kept which [] = tt
-found-kept which (e ∷ es) = at (matches which e.0) (first_ended_child which es) (found-kept which es)
+found-kept which (e ∷ es) = at (matches which e.pid) (first_ended_child which es) (found-kept which es)
   where
-    here : (any : Bool) → (nat_eq e.0 e.0 || any) ≡ true
-    here any = rw (same-number e.0)
+    here : (any : Bool) → (nat_eq e.pid e.pid || any) ≡ true
+    here any = rw (same-number e.pid)
 
-    at : (b : Bool) (o : Option (ℕ × Ending)) → IfSome o (λ x. list_any (λ y. nat_eq x.0 y.0) es ≡ true)
-        → IfSome (if b then Some e else o) (λ x. list_any (λ y. nat_eq x.0 y.0) (e ∷ es) ≡ true)
-    at true o rec = here (list_any (λ y. nat_eq e.0 y.0) es)
+    at : (b : Bool) (o : Option EndedChild) → IfSome o (λ x. list_any (λ y. nat_eq x.pid y.pid) es ≡ true)
+        → IfSome (if b then Some e else o) (λ x. list_any (λ y. nat_eq x.pid y.pid) (e ∷ es) ≡ true)
+    at true o rec = here (list_any (λ y. nat_eq e.pid y.pid) es)
     at false None rec = tt
-    at false (Some x) rec = rw rec (either (nat_eq x.0 e.0))
+    at false (Some x) rec = rw rec (either (nat_eq x.pid e.pid))
 
 pub found-there : (ps : Numbered Process) (parents : Numbered ℕ) (pid : ℕ) (a : Alive) (which : Option ℕ) → IsTable ps parents
-    → living_in ps pid ≡ Some a → IfSome (first_ended_child which a.row.family.ended) (λ e. is_some (get ps e.0) ≡ true)
+    → living_in ps pid ≡ Some a → IfSome (first_ended_child which a.row.family.ended) (λ e. is_some (get ps e.pid) ≡ true)
 found-there ps parents pid a which t lives = at (first_ended_child which a.row.family.ended) (found-kept which a.row.family.ended)
   where
-    at : (o : Option (ℕ × Ending)) → IfSome o (λ e. list_any (λ x. nat_eq e.0 x.0) a.row.family.ended ≡ true)
-        → IfSome o (λ e. is_some (get ps e.0) ≡ true)
+    at : (o : Option EndedChild) → IfSome o (λ e. list_any (λ x. nat_eq e.pid x.pid) a.row.family.ended ≡ true)
+        → IfSome o (λ e. is_some (get ps e.pid) ≡ true)
     at None h = tt
-    at (Some e) h = (t.kept pid e.0 a lives h).0
+    at (Some e) h = (t.kept pid e.pid a lives h).0
 
 -- each of the ended children is among them
-kept-at : (es : List (ℕ × Ending)) (k : ℕ) (d : ℕ × Ending) → k < length es → list_any (λ x. nat_eq (get_or es k d).0 x.0) es ≡ true
+kept-at : (es : List EndedChild) (k : ℕ) (d : EndedChild) → k < length es → list_any (λ x. nat_eq (get_or es k d).pid x.pid) es ≡ true
 kept-at [] k d inside = absurd (omega arith)
-kept-at (e ∷ es) zero d inside = rw (same-number e.0)
-kept-at (e ∷ es) (suc k) d inside = rw (kept-at es k d (omega arith)) (either (nat_eq (get_or es k d).0 e.0))
+kept-at (e ∷ es) zero d inside = rw (same-number e.pid)
+kept-at (e ∷ es) (suc k) d inside = rw (kept-at es k d (omega arith)) (either (nat_eq (get_or es k d).pid e.pid))
 
 pub all-kept : (ps : Numbered Process) (parents : Numbered ℕ) (pid : ℕ) (a : Alive) → IsTable ps parents → living_in ps pid ≡ Some a
-    → All (λ e. (is_some (get ps e.0) ≡ true) × (living_in ps e.0 ≡ None)) a.row.family.ended
-all-kept ps parents pid a t lives = λ k d inside. t.kept pid (get_or a.row.family.ended k d).0 a lives (kept-at a.row.family.ended k d inside)
+    → All (λ e. (is_some (get ps e.pid) ≡ true) × (living_in ps e.pid ≡ None)) a.row.family.ended
+all-kept ps parents pid a t lives = λ k d inside. t.kept pid (get_or a.row.family.ended k d).pid a lives (kept-at a.row.family.ended k d inside)
 
 -- a living process lives on while others are buried
 dead-put : (ps : Numbered Process) (k q : ℕ) → living_in ps q ≡ None → living_in (put ps k Gone) q ≡ None
@@ -59,20 +59,20 @@ dead-put ps k q none = at (nat_eq q k) refl
     at true is = rw (same-from-nat_eq q k is) (living-put_same ps k Gone)
     at false is = living-put_other ps k q Gone is ∙ none
 
-pub buried-lives : (es : List (ℕ × Ending)) (ps : Numbered Process) (p : ℕ) (a : Alive) → All (λ e. living_in ps e.0 ≡ None) es
+pub buried-lives : (es : List EndedChild) (ps : Numbered Process) (p : ℕ) (a : Alive) → All (λ e. living_in ps e.pid ≡ None) es
     → living_in ps p ≡ Some a → living_in (fold bury ps es) p ≡ Some a
 buried-lives [] ps p a dead lives = lives
 buried-lives (e ∷ es) ps p a dead lives =
     buried-lives es (bury ps e) p a
-    (λ k d inside. dead-put ps e.0 (get_or es k d).0 (dead (suc k) d (omega arith)))
-    (at (nat_eq p e.0) refl)
+    (λ k d inside. dead-put ps e.pid (get_or es k d).pid (dead (suc k) d (omega arith)))
+    (at (nat_eq p e.pid) refl)
   where
-    at : (b : Bool) → nat_eq p e.0 ≡ b → living_in (bury ps e) p ≡ Some a
+    at : (b : Bool) → nat_eq p e.pid ≡ b → living_in (bury ps e) p ≡ Some a
     at true is =
-        let none : living_in ps e.0 ≡ None = dead zero e (omega arith)
-        in let some : living_in ps e.0 ≡ Some a = rw (← same-from-nat_eq p e.0 is) lives
+        let none : living_in ps e.pid ≡ None = dead zero e (omega arith)
+        in let some : living_in ps e.pid ≡ Some a = rw (← same-from-nat_eq p e.pid is) lives
         in cc
-    at false is = living-put_other ps e.0 p Gone is ∙ lives
+    at false is = living-put_other ps e.pid p Gone is ∙ lives
 
 parent-there : (ps : Numbered Process) (p child : ℕ) → lists_there ps p child ≡ true → (a : Alive) × (living_in ps p ≡ Some a)
 parent-there ps p child h = at (living_in ps p) refl h
@@ -83,7 +83,7 @@ parent-there ps p child h = at (living_in ps p) refl h
     at (Some a) is g = (a, is)
 
 -- the parent is the same after the burials, and lists the child still
-pub parent-after : (ps : Numbered Process) (es : List (ℕ × Ending)) (child : ℕ) (parent : Option ℕ) → All (λ e. living_in ps e.0 ≡ None) es
+pub parent-after : (ps : Numbered Process) (es : List EndedChild) (child : ℕ) (parent : Option ℕ) → All (λ e. living_in ps e.pid ≡ None) es
     → IfSome parent (λ p. (lists_there ps p child ≡ true) × (nat_eq p child ≡ false))
     → parent_at (fold bury ps es) parent ≡ parent_at ps parent
 parent-after ps es child None dead h = refl
@@ -91,7 +91,7 @@ parent-after ps es child (Some p) dead h =
     let l = parent-there ps p child h.0
     in ap (option_map (as_parent p)) (buried-lives es ps p l.0 dead l.1 ∙ sym l.1)
 
-pub listed-after : (ps : Numbered Process) (es : List (ℕ × Ending)) (child : ℕ) (parent : Option ℕ) → All (λ e. living_in ps e.0 ≡ None) es
+pub listed-after : (ps : Numbered Process) (es : List EndedChild) (child : ℕ) (parent : Option ℕ) → All (λ e. living_in ps e.pid ≡ None) es
     → IfSome parent (λ p. (lists_there ps p child ≡ true) × (nat_eq p child ≡ false))
     → IfSome parent (λ p. (lists_there (fold bury ps es) p child ≡ true) × (nat_eq p child ≡ false))
 listed-after ps es child None dead h = tt
@@ -101,7 +101,7 @@ listed-after ps es child (Some p) dead h =
     in (ap (λ (o : Option Alive). option_map_or (λ a. lists a.row.family child) o false) still ∙ h.0, h.1)
 
 -- the whole end
-pub end-is : (ps ns : Numbered Process) (pid : ℕ) (ending : Ending) (es : List (ℕ × Ending)) (parent : Option ℕ)
+pub end-is : (ps ns : Numbered Process) (pid : ℕ) (ending : Ending) (es : List EndedChild) (parent : Option ℕ)
     → IfLiving ps pid (λ a. es ≡ a.row.family.ended) → parent_in pid ps ≡ parent_at ps parent
     → parent_at (fold bury ps es) parent ≡ parent_at ps parent
     → ns ≡ end_under (fold bury ps es) pid ending (parent_at (fold bury ps es) parent)

@@ -4,7 +4,7 @@ use Rattle.std.specs.List.{list_any, filter}
 use Rattle.std.specs.Option.{option_and_then}
 use Rattle.pico_base.specs.declared.reply.Ending.{Ending}
 use Rattle.number_maps.specs.Maps.{Numbered, get, put}
-use Rattle.kernel_model.specs.Row.{Alive, lists, others, ignores_children, with_ended_child}
+use Rattle.kernel_model.specs.Row.{Alive, lists, others, ignores_children, with_ended_child, EndedChild, ended_child}
 use Rattle.kernel_model.specs.Kernel.{Process, Living, alive_in, living_in}
 use Rattle.kernel_model.specs.ProcessCalls.{parent_after_fork, new_child}
 use Rattle.mono_kernel.specs.declared.process.Change.{Change}
@@ -151,7 +151,7 @@ plain-keeps : (change : Change) (a : Alive) → IsPlain change → (child : ℕ)
 plain-keeps (Signals s) a plain child h = h
 plain-keeps (Raise sig) a plain child h = h
 plain-keeps (EndChild c ending) a plain child h = absurd plain
-plain-keeps (Reap c) a plain child h = kept-filter (λ e. nat_eq child e.0) (λ e. not (nat_eq c e.0)) a.row.family.ended h
+plain-keeps (Reap c) a plain child h = kept-filter (λ e. nat_eq child e.pid) (λ e. not (nat_eq c e.pid)) a.row.family.ended h
 plain-keeps Spend a plain child h = h
 
 pub IsTable-plain : (ps ns : Numbered Process) (parents : Numbered ℕ) (pid : ℕ) (change : Change) → IsTable ps parents
@@ -183,17 +183,17 @@ ended-keeps : (a : Alive) (c : ℕ) (ending : Ending) (child : ℕ) → keeps (w
     → (keeps a.row.family child ≡ true) ⊎ (child ≡ c)
 ended-keeps a c ending child h = at (ignores_children a.row) refl
   where
-    last : (es : List (ℕ × Ending)) → list_any (λ e. nat_eq child e.0) (es ++ (c, ending) ∷ []) ≡ true
-        → (list_any (λ e. nat_eq child e.0) es ≡ true) ⊎ (child ≡ c)
+    last : (es : List EndedChild) → list_any (λ e. nat_eq child e.pid) (es ++ ended_child c ending ∷ []) ≡ true
+        → (list_any (λ e. nat_eq child e.pid) es ≡ true) ⊎ (child ≡ c)
     last [] g = inr (same-from-nat_eq child c (only (nat_eq child c) g))
       where
         only : (x : Bool) → (x || false) ≡ true → x ≡ true
         only true k = refl
         only false k = k
-    last (e ∷ es) g = first (nat_eq child e.0) (list_any (λ x. nat_eq child x.0) es) (last es) g
+    last (e ∷ es) g = first (nat_eq child e.pid) (list_any (λ x. nat_eq child x.pid) es) (last es) g
       where
-        first : (x any : Bool) → (list_any (λ y. nat_eq child y.0) (es ++ (c, ending) ∷ []) ≡ true → (any ≡ true) ⊎ (child ≡ c))
-            → (x || list_any (λ y. nat_eq child y.0) (es ++ (c, ending) ∷ [])) ≡ true → ((x || any) ≡ true) ⊎ (child ≡ c)
+        first : (x any : Bool) → (list_any (λ y. nat_eq child y.pid) (es ++ ended_child c ending ∷ []) ≡ true → (any ≡ true) ⊎ (child ≡ c))
+            → (x || list_any (λ y. nat_eq child y.pid) (es ++ ended_child c ending ∷ [])) ≡ true → ((x || any) ≡ true) ⊎ (child ≡ c)
         first true any rec k = inl refl
         first false any rec k = rec k
 

@@ -2,11 +2,10 @@
 use Rattle.std.specs.Prelude.{◌≡◌, ℕ, Bool, true, false, nat_eq, Option, Some, None, is_some, Result, Ok, Err, IfSome}
 use Rattle.std.specs.List.{list_any}
 use Rattle.std.specs.Option.{option_map, option_map_or}
-use Rattle.pico_base.specs.declared.reply.Ending.{Ending}
 use Rattle.pico_base.specs.declared.reply.Errno.{Errno}
 use Rattle.pico_base.specs.declared.reply.Errno.TheVariants.{Echild}
 use Rattle.number_maps.specs.Maps.{Numbered, get}
-use Rattle.kernel_model.specs.Row.{Alive, Family, Waited, Found, NotYet, NoChild, lists, ignores_children}
+use Rattle.kernel_model.specs.Row.{Alive, EndedChild, Family, ended_child, Waited, Found, NotYet, NoChild, lists, ignores_children}
 use Rattle.kernel_model.specs.Kernel.{Process, Parent, living_in, parent_in}
 use Rattle.kernel_model.specs.ProcessCalls.{processes_after_wait}
 use Rattle.mono_kernel.specs.Names.{IsRising}
@@ -17,7 +16,7 @@ IfLiving ps pid P = IfSome (living_in ps pid) P
 
 -- the child is among the ended ones
 abbrev pub keeps : Family → ℕ → Bool
-keeps f child = list_any (λ e. nat_eq child e.0) f.ended
+keeps f child = list_any (λ e. nat_eq child e.pid) f.ended
 
 -- the process lives and lists the child
 abbrev pub lists_there : Numbered Process → ℕ → ℕ → Bool
@@ -50,8 +49,8 @@ parent_at ps None = None
 parent_at ps (Some pid) = option_map (as_parent pid) (living_in ps pid)
 
 -- waitpid: what is found, and the table afterwards
-abbrev pub waited_as : Waited → Result (Option (ℕ × Ending)) Errno
-waited_as (Found child ending) = Ok (Some (child, ending))
+abbrev pub waited_as : Waited → Result (Option EndedChild) Errno
+waited_as (Found child ending) = Ok (Some (ended_child child ending))
 waited_as NotYet = Ok None
 waited_as NoChild = Err Echild
 

@@ -3,7 +3,7 @@ ghost use Rattle.std.specs.List.{list_any};
 ghost use Rattle.kernel_model.specs.Row.{no_family, with_child, lists, family_after_end, first_ended_child, without_ended, matches, others};
 ghost use Rattle.mono_kernel.specs.Ends.{other_ends};
 
-use pico_base::{Ending, Memory};
+use pico_base::{EndedChild, Ending, Memory, Pid};
 use std::alloc::Global;
 use std::marker::Model;
 
@@ -13,7 +13,7 @@ use std::marker::Model;
 #[derive(Drop)]
 pub(crate) struct ChildList {
     living: Vec<u32>,
-    ended: Vec<(u32, Ending)>,
+    ended: Vec<EndedChild>,
 }
 
 impl Model for ChildList {
@@ -47,12 +47,12 @@ fn drop_living(living: &mut Vec<u32>, child: u32)
 }
 
 /// Takes a child out of the ended ones.
-fn drop_ended(ended: &mut Vec<(u32, Ending)>, child: u32)
+fn drop_ended(ended: &mut Vec<EndedChild>, child: u32)
     ensures others { ended.new.items ≡ other_ends child ended.old.items }
     ensures fewer { vec_len ended.new ≤ vec_len ended.old }
     ensures capacity { vec_capacity ended.new ≡ vec_capacity ended.old }
 {
-    ended.retain(|e| child != e.0);
+    ended.retain(|ended| child != ended.pid.0);
 }
 
 impl ChildList {
@@ -91,7 +91,11 @@ impl ChildList {
     {
         drop_living(&mut self.living, child);
         if !ignored {
-            match self.ended.push((child, ending)) {
+            let child = EndedChild {
+                pid: Pid(child),
+                ending,
+            };
+            match self.ended.push(child) {
                 Ok(()) => (),
                 Err(_) => unreachable!(),
             }
@@ -99,12 +103,12 @@ impl ChildList {
     }
 
     /// The first ended child that is waited for, with its ending.
-    pub(crate) fn first_ended(&self, which: Option<u32>) -> Option<(u32, Ending)>
+    pub(crate) fn first_ended(&self, which: Option<u32>) -> Option<EndedChild>
         ensures { result ≡ first_ended_child which self.now.ended }
     {
-        for (child, ending) in &self.ended {
-            if is_waited_for(which, *child) {
-                return Some((*child, *ending));
+        for child in &self.ended {
+            if is_waited_for(which, child.pid.0) {
+                return Some(*child);
             }
         }
         None
@@ -125,7 +129,7 @@ impl ChildList {
     }
 
     /// The ended children with their endings.
-    pub(crate) fn all_ended(&self, alloc: Global) -> Result<Vec<(u32, Ending)>, Memory>
+    pub(crate) fn all_ended(&self, alloc: Global) -> Result<Vec<EndedChild>, Memory>
         ensures { IfOk result (λ ended. ended.items ≡ self.now.ended) }
     {
         Ok(Vec::from_slice(alloc, self.ended.as_slice())?)

@@ -2,7 +2,7 @@ ghost use Rattle.std.specs.Prelude.{◌≡◌, ◌↔◌, false, IfOk, OnErr, Is
 ghost use Rattle.std.specs.Option.{option_map_or};
 ghost use Rattle.number_maps.specs.Maps.{get};
 ghost use Rattle.kernel_model.specs.Kernel.{opening, living_at};
-ghost use Rattle.kernel_model.specs.Transition.{effect, transition, may_make};
+ghost use Rattle.kernel_model.specs.Transition.{effect, successor, transition, may_make};
 ghost use Rattle.mono_kernel.specs.Answers.{Answers};
 ghost use Rattle.mono_kernel.specs.Standing.{standing_of};
 
@@ -71,7 +71,7 @@ impl Kernel {
     /// may still do. After `Memory` and `NotAllowed` the kernel is unchanged. `NotAllowed` comes
     /// exactly where the kernel has no transition.
     pub fn call(&mut self, pid: Pid, call: &Call, chosen: u32) -> Result<Outcome, CallFault>
-        ensures ok { IfOk result (λ outcome. transition self.old pid call.now chosen ≡ Some (self.new, outcome)) }
+        ensures ok { IfOk result (λ outcome. transition self.old pid call.now chosen ≡ Some (successor self.new outcome)) }
         ensures not_allowed { IsErrOf result CallFault.NotAllowed ↔ (transition self.old pid call.now chosen ≡ None) }
         ensures err { OnErr result (self.new ≡ self.old) }
     {

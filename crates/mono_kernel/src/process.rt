@@ -10,7 +10,7 @@ ghost use Rattle.mono_kernel.specs.Change.{on_living, with_child_there, CanChang
 
 use crate::family::ChildList;
 use crate::signals::SignalState;
-use pico_base::{Act, Call, Ending, Memory, Sig};
+use pico_base::{Act, Call, EndedChild, Ending, Memory, Sig};
 use std::alloc::Global;
 use std::marker::Model;
 
@@ -126,7 +126,7 @@ impl LiveProcess {
     }
 
     /// The first ended child that is waited for, with its ending.
-    pub(crate) fn first_ended(&self, which: Option<u32>) -> Option<(u32, Ending)>
+    pub(crate) fn first_ended(&self, which: Option<u32>) -> Option<EndedChild>
         ensures { result ≡ first_ended_child which self.now.row.family.ended }
     {
         self.family.first_ended(which)
@@ -140,7 +140,7 @@ impl LiveProcess {
     }
 
     /// The ended children with their endings.
-    pub(crate) fn all_ended(&self, alloc: Global) -> Result<Vec<(u32, Ending)>, Memory>
+    pub(crate) fn all_ended(&self, alloc: Global) -> Result<Vec<EndedChild>, Memory>
         ensures { IfOk result (λ ended. ended.items ≡ self.now.row.family.ended) }
     {
         self.family.all_ended(alloc)

@@ -11,7 +11,7 @@ ghost use Rattle.mono_kernel.specs.Names.{IsRising};
 ghost use Rattle.mono_kernel.specs.Table.{IfLiving, lists_there, ignores_there, parent_number, parent_at, waited_as, table_after};
 
 use crate::process::{Change, LiveProcess, ProcessCell};
-use pico_base::{Ending, Errno, Memory};
+use pico_base::{EndedChild, Ending, Errno, Memory};
 use std::alloc::Global;
 use std::collections::BTreeMap;
 use std::marker::Model;
@@ -204,13 +204,13 @@ impl Processes {
     }
 
     /// Children that have ended are gone.
-    fn bury(&mut self, children: &[(u32, Ending)])
-        requires { All (λ e. is_some (get self.old e.0) ≡ true) children.now }
+    fn bury(&mut self, children: &[EndedChild])
+        requires { All (λ e. is_some (get self.old e.pid) ≡ true) children.now }
         ensures buried { self.new ≡ fold bury self.old children.now }
         ensures same_numbers { keys_of self.new ≡ keys_of self.old }
     {
-        for (child, _) in children {
-            self.settle(*child, ProcessCell::gone());
+        for child in children {
+            self.settle(child.pid.0, ProcessCell::gone());
         }
     }
 
@@ -241,10 +241,10 @@ impl Processes {
     }
 
     /// The ended children of the process that lives at a number.
-    fn ended_children(&self, alloc: Global, pid: u32) -> Result<Vec<(u32, Ending)>, Memory>
+    fn ended_children(&self, alloc: Global, pid: u32) -> Result<Vec<EndedChild>, Memory>
         requires { IsSome (living_in self.now pid) }
         ensures children { IfOk result (λ children. IfLiving self.now pid (λ a. children.items ≡ a.row.family.ended)) }
-        ensures ended { IfOk result (λ children. All (λ e. (is_some (get self.now e.0) ≡ true) × (living_in self.now e.0 ≡ None)) children.items) }
+        ensures ended { IfOk result (λ children. All (λ e. (is_some (get self.now e.pid) ≡ true) × (living_in self.now e.pid ≡ None)) children.items) }
     {
         let _ = &self.cells;
         match self.alive(pid) {
@@ -268,10 +268,10 @@ impl Processes {
     }
 
     /// The first ended child that is waited for, with its ending.
-    fn ended_child(&self, pid: u32, which: Option<u32>) -> Option<(u32, Ending)>
+    fn ended_child(&self, pid: u32, which: Option<u32>) -> Option<EndedChild>
         requires { IsSome (living_in self.now pid) }
         ensures child { IfLiving self.now pid (λ a. result ≡ first_ended_child which a.row.family.ended) }
-        ensures there { IfSome result (λ e. is_some (get self.now e.0) ≡ true) }
+        ensures there { IfSome result (λ e. is_some (get self.now e.pid) ≡ true) }
     {
         let _ = &self.cells;
         match self.alive(pid) {
@@ -307,15 +307,15 @@ impl Processes {
         &mut self,
         pid: u32,
         which: Option<u32>,
-    ) -> Result<Option<(u32, Ending)>, Errno>
+    ) -> Result<Option<EndedChild>, Errno>
         requires { IsSome (living_in self.old pid) }
         ensures answer { IfLiving self.old pid (λ a. result ≡ waited_as (wait a.row.family which)) }
         ensures table { IfLiving self.old pid (λ a. self.new ≡ table_after self.old pid a (wait a.row.family which)) }
         ensures same_numbers { keys_of self.new ≡ keys_of self.old }
     {
-        if let Some((child, ending)) = self.ended_child(pid, which) {
-            self.reap(pid, child);
-            return Ok(Some((child, ending)));
+        if let Some(child) = self.ended_child(pid, which) {
+            self.reap(pid, child.pid.0);
+            return Ok(Some(child));
         }
         if self.awaits(pid, which) {
             Ok(None)

@@ -1,6 +1,6 @@
 ghost use Rattle.std.specs.Prelude.{◌≡◌, ◌<◌, length, map, replicate, fold, MatchResult, Ok, Err, Some, IfOk, OnErr, nat_le, nat_lt, vec_len};
 ghost use Rattle.std.specs.List.{All, list_any};
-ghost use Rattle.kernel_model.specs.SemaphoreSet.{max_value, is_bad_count, new_semaphore, values_of, move_by, try_ops, Done, with_values, mark, op, value_at, last_at, waiting_at, set_value, set_all};
+ghost use Rattle.kernel_model.specs.SemaphoreSet.{max_value, is_bad_count, new_semaphore, values_of, move_by, try_ops, Done, with_values, mark, op, value_at, last_at, waiting_at, set_of, set_value, set_all};
 ghost use Rattle.mono_kernel.specs.Trial.{answer_of, refusal_of};
 
 use pico_base::{Errno, Memory, SemStep, Values};
@@ -47,12 +47,11 @@ pub(crate) struct SemaphoreSet {
 }
 
 impl Model for SemaphoreSet {
-    ghost use Rattle.std.specs.Prelude.{List};
-    ghost use Rattle.kernel_model.specs.SemaphoreSet.{Semaphore};
+    ghost use Rattle.kernel_model.specs.SemaphoreSet.{SemaphoreSet as PlainSet};
 
-    ghost Value = { List Semaphore };
+    ghost Value = { PlainSet };
 
-    ghost view = { λ s. s.semaphores.items };
+    ghost view = { λ s. record { semaphores = s.semaphores.items } };
 }
 
 /// Whether no set has this many semaphores.
@@ -151,7 +150,7 @@ fn mark(semaphores: &mut Vec<OneSemaphore>, pid: u32, steps: &[SemStep])
 impl SemaphoreSet {
     /// A set of this many semaphores, each with the value 0.
     pub(crate) fn new(alloc: Global, count: u32) -> Result<SemaphoreSet, Memory>
-        ensures { IfOk result (λ set. set ≡ replicate count new_semaphore) }
+        ensures { IfOk result (λ set. set ≡ set_of (replicate count new_semaphore)) }
     {
         let semaphores = vec![in alloc; OneSemaphore { value: 0, last: 0 }; count as usize]?;
         Ok(SemaphoreSet { semaphores })
@@ -159,7 +158,7 @@ impl SemaphoreSet {
 
     /// How many semaphores there are.
     pub(crate) fn size(&self) -> usize
-        ensures { result ≡ length self.now }
+        ensures { result ≡ length self.now.semaphores }
     {
         self.semaphores.len()
     }
@@ -213,14 +212,14 @@ impl SemaphoreSet {
 
     /// The values, in order.
     fn values(&self, alloc: Global) -> Result<Vec<u32>, Memory>
-        ensures { IfOk result (λ values. values.items ≡ values_of self.now) }
+        ensures { IfOk result (λ values. values.items ≡ values_of self.now.semaphores) }
     {
         Ok(self.semaphores.iter().map(|s| s.value()).collect(alloc)?)
     }
 
     /// semctl with GETALL.
     pub(crate) fn all(&self, alloc: Global) -> Result<Values, Memory>
-        ensures { IfOk result (λ values. values ≡ values_of self.now) }
+        ensures { IfOk result (λ values. values ≡ values_of self.now.semaphores) }
     {
         Ok(Values::from_vec(self.values(alloc)?))
     }

@@ -14,7 +14,7 @@ pub use call::{Call, Home, SemStep, Steps};
 pub use fault::{Memory, UnpackFault};
 pub use homes::home;
 pub use numbers::{Id, Key, Kind, Name, Node, Pid};
-pub use reply::{Ending, Entries, Entry, Errno, Outcome, Reply, Woken};
+pub use reply::{EndedChild, Ending, Entries, Entry, Errno, Outcome, Reply, Woken};
 pub use script::{Block, Blocks, Event, Line, Lines, Script, Var, Vars};
 pub use sequence::{Bytes, Sequence, Values};
 pub use signal::{Act, How, PerSignal, Sig, SigArg, SigSet};

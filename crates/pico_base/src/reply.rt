@@ -27,6 +27,13 @@ pub enum Ending {
     Killed(Sig),
 }
 
+/// A child that has ended and is kept for its parent, and how it ended.
+#[derive(Clone, Copy, Debug, PartialEq, Eq)]
+pub struct EndedChild {
+    pub pid: Pid,
+    pub ending: Ending,
+}
+
 /// What a call gives its caller.
 #[derive(Debug, PartialEq, Eq, Drop)]
 pub enum Reply {

@@ -9,7 +9,7 @@ use Rattle.std.proofs.lemmas.List.{append-nil, nil_from_length}
 use Rattle.std.proofs.lemmas.List.Concat.{flat_map-cons}
 use Rattle.pico_base.specs.declared.fault.UnpackFault.{UnpackFault}
 use Rattle.pico_base.specs.declared.fault.UnpackFault.TheVariants.{Memory, NotABody}
-use Rattle.kernel_model.specs.SemaphoreSet.{Semaphore, max_value, max_semaphores, is_bad_count}
+use Rattle.kernel_model.specs.SemaphoreSet.{Semaphore, SemaphoreSet, set_of, max_value, max_semaphores, is_bad_count}
 use Rattle.sysv_sem.specs.Limits.{IsWithinLimits}
 use Rattle.sysv_sem.specs.Body.{set_code, semaphore_field, HasProcess, IsBodyOf, Unpacks}
 use Rattle.body_fields.specs.Fields.{◌>>=◌, Gives, number_at, number_upto}
@@ -76,29 +76,29 @@ fine_count (suc n) some few =
     let other : eqb (suc n) 0 ≡ false = grind (arith, nat_tests) in
     rw other (le-ltb _ _ few)
 
-counted_takes : (count : ℕ) (bytes : List ℕ) (set : List Semaphore) → IsBytes bytes → counted_at count bytes ≡ Some set → IsBodyOf set (set_code ∷ count ∷ bytes)
+counted_takes : (count : ℕ) (bytes : List ℕ) (set : SemaphoreSet) → IsBytes bytes → counted_at count bytes ≡ Some set → IsBodyOf set (set_code ∷ count ∷ bytes)
 unfolding counted_at fields_at
 counted_takes count bytes set fits e =
-    let g = let_through (is_bad_count count) (semaphores_at count bytes >>= λ x. cond (eqb (length x.1) 0) (Some x.0) None) set e in
+    let g = let_through (is_bad_count count) (semaphores_at count bytes >>= λ x. cond (eqb (length x.1) 0) (Some (set_of x.0)) None) set e in
     let bad = neither (eqb count 0) (ltb max_semaphores count) g.0 in
-    let a = bind_some (semaphores_at count bytes) (λ x. cond (eqb (length x.1) 0) (Some x.0) None) set g.1 in
-    let h = guard_ended (eqb (length a.0.1) 0) a.0.0 set a.2 in
+    let a = bind_some (semaphores_at count bytes) (λ x. cond (eqb (length x.1) 0) (Some (set_of x.0)) None) set g.1 in
+    let h = guard_ended (eqb (length a.0.1) 0) (set_of a.0.0) set a.2 in
     let t = semaphores_take count bytes a.0 fits a.1 in
     let nothing : a.0.1 ≡ [] = nil_from_length a.0.1 (eqb-true _ _ h.0) in
     let whole : bytes ≡ flat_map semaphore_field a.0.0 = t.0.parts ∙ ap (λ (r : List ℕ). flat_map semaphore_field a.0.0 ++ r) nothing ∙ append-nil (flat_map semaphore_field a.0.0) in
-    subst (λ (x : List Semaphore). IsBodyOf x (set_code ∷ count ∷ bytes)) h.1 (record {
+    subst (λ (x : SemaphoreSet). IsBodyOf x (set_code ∷ count ∷ bytes)) h.1 (record {
       limits = record { some = omega (arith, t.1, some_count count bad.0); count = omega (arith, t.1, ltb-false _ _ bad.1); each = t.2 };
       processes = t.3;
       spelled = ap (λ (r : List ℕ). set_code ∷ count ∷ r) whole ∙ ap (λ (n : ℕ). set_code ∷ n ∷ flat_map semaphore_field a.0.0) (sym t.1);
     })
 
-counted_again : (set : List Semaphore) → IsWithinLimits set → AllByRecursion HasProcess set → counted_at (length set) (flat_map semaphore_field set) ≡ Some set
+counted_again : (set : List Semaphore) → IsWithinLimits set → AllByRecursion HasProcess set → counted_at (length set) (flat_map semaphore_field set) ≡ Some (set_of set)
 unfolding counted_at fields_at
 counted_again set limits processes =
     let rest : semaphores_at (length set) (flat_map semaphore_field set) ≡ Some (set, []) = ap (semaphores_at (length set)) (sym (append-nil (flat_map semaphore_field set))) ∙ semaphores_again set [] limits.each processes in
     rw (fine_count (length set) limits.some limits.count, rest) refl
 
-set_takes : (bytes : List ℕ) (set : List Semaphore) → IsBytes bytes → set_at bytes ≡ Some set → IsBodyOf set bytes
+set_takes : (bytes : List ℕ) (set : SemaphoreSet) → IsBytes bytes → set_at bytes ≡ Some set → IsBodyOf set bytes
 unfolding set_at
 set_takes [] set fits e = absurd cc
 set_takes (code ∷ []) set fits e = absurd cc
@@ -107,15 +107,15 @@ set_takes (code ∷ count ∷ bytes) set fits e =
     let is : code ≡ set_code = eqb-true _ _ g.0 in
     rw is (counted_takes count bytes set (IsBytes-rest count bytes (IsBytes-rest code (count ∷ bytes) fits)) g.1)
 
-set_again : (set : List Semaphore) (bytes : List ℕ) → IsBodyOf set bytes → set_at bytes ≡ Some set
+set_again : (set : SemaphoreSet) (bytes : List ℕ) → IsBodyOf set bytes → set_at bytes ≡ Some set
 unfolding set_at
-set_again set bytes is = ap set_at is.spelled ∙ counted_again set is.limits is.processes
+set_again set bytes is = ap set_at is.spelled ∙ counted_again set.semaphores is.limits is.processes
 
-pub is_found : (bytes : List ℕ) (r : Result (List Semaphore) UnpackFault) → IsBytes bytes → Gives (λ set. set) r (set_at bytes) → IfOk r (λ set. IsBodyOf set bytes)
+pub is_found : (bytes : List ℕ) (r : Result SemaphoreSet UnpackFault) → IsBytes bytes → Gives (λ set. set) r (set_at bytes) → IfOk r (λ set. IsBodyOf set bytes)
 is_found bytes (Ok set) fits given = set_takes bytes set fits given
 is_found bytes (Err e) fits given = tt
 
-pub is_only : (bytes : List ℕ) (r : Result (List Semaphore) UnpackFault) → Gives (λ set. set) r (set_at bytes) → (set : List Semaphore) → IsBodyOf set bytes → Unpacks r set
+pub is_only : (bytes : List ℕ) (r : Result SemaphoreSet UnpackFault) → Gives (λ set. set) r (set_at bytes) → (set : SemaphoreSet) → IsBodyOf set bytes → Unpacks r set
 is_only bytes (Ok got) given set is = some_is got set (sym given ∙ set_again set bytes is)
 is_only bytes (Err Memory) given set is = tt
 is_only bytes (Err NotABody) given set is = let again = set_again set bytes is in absurd cc

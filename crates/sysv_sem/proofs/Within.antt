@@ -7,7 +7,7 @@ use Rattle.std.proofs.lemmas.List.{length-set, length-map, take_at}
 use Rattle.pico_base.specs.declared.call.SemStep.{SemStep}
 use Rattle.pico_base.specs.declared.reply.Errno.{Errno}
 use Rattle.pico_base.specs.declared.reply.Errno.TheVariants.{Einval, E2big, Efbig, Erange}
-use Rattle.kernel_model.specs.SemaphoreSet.{Semaphore, Moved, To, Waits, TooHigh, Tried, Done, StopsAt, OutOfRange, max_value, values_of, move_by, move_at, go_on, try_from, try_ops, with_values, with_last, mark_at, mark, op_after_trial, op, set_all}
+use Rattle.kernel_model.specs.SemaphoreSet.{Semaphore, SemaphoreSet, set_of, Moved, To, Waits, TooHigh, Tried, Done, StopsAt, OutOfRange, max_value, values_of, move_by, move_at, go_on, try_from, try_ops, with_values, with_last, mark_at, mark, op_after_trial, op, set_all}
 use Rattle.sysv_sem.specs.Limits.{IsWithinLimits}
 
 -- ---- an element of a list
@@ -107,11 +107,12 @@ marked_within pid row (step ∷ steps) h =
     let rest = marked_within pid (mark pid row step) steps one.0 in
     (rest.0, rest.1 ∙ one.1)
 
-abbrev made : List Semaphore → Result (List Semaphore) Errno
-made row = Ok row
+abbrev made : List Semaphore → Result SemaphoreSet Errno
+made row = Ok (set_of row)
 
 same_made : (a b : List Semaphore) → made a ≡ made b → a ≡ b
-same_made a b e = cc
+same_made a b e =
+    let is : set_of a ≡ set_of b = cc in ap (λ (set : SemaphoreSet). set.semaphores) is
 
 -- a test that did not fail
 passed : {A : Type 0} (b : Bool) (x : Errno) (r : Result A Errno) (y : A) → cond b (Err x) r ≡ Ok y → r ≡ Ok y
@@ -121,7 +122,7 @@ passed false x r y e = e
 same_size : (old new : List Semaphore) → length new ≡ length old → AllByRecursion IsFine new → IsWithinLimits old → IsWithinLimits new
 same_size old new len each h = record { some = let a = h.some in omega arith; count = let a = h.count in omega arith; each = each }
 
-tried_op_within : (old new : List Semaphore) (pid : ℕ) (steps : List SemStep) (t : Tried) → ((values : List ℕ) → t ≡ Done values → IsRowFor (length old) values) → op_after_trial old pid steps t ≡ Ok new → IsWithinLimits old → IsWithinLimits new
+tried_op_within : (old new : List Semaphore) (pid : ℕ) (steps : List SemStep) (t : Tried) → ((values : List ℕ) → t ≡ Done values → IsRowFor (length old) values) → op_after_trial (set_of old) pid steps t ≡ Ok (set_of new) → IsWithinLimits old → IsWithinLimits new
 tried_op_within old new pid steps (Done values) fine e h =
     let a = with_values_within old values (fine values refl) in
     let b = marked_within pid (with_values old values) steps a.0 in
@@ -129,9 +130,10 @@ tried_op_within old new pid steps (Done values) fine e h =
 tried_op_within old new pid steps (StopsAt index) fine e h = absurd cc
 tried_op_within old new pid steps OutOfRange fine e h = absurd cc
 
-op_within : (old new : List Semaphore) (pid : ℕ) (steps : List SemStep) → op old pid steps ≡ Ok new → IsWithinLimits old → IsWithinLimits new
+op_within : (old new : List Semaphore) (pid : ℕ) (steps : List SemStep) → op (set_of old) pid steps ≡ Ok (set_of new) → IsWithinLimits old → IsWithinLimits new
 op_within old new pid steps e h =
-    let tried : op_after_trial old pid steps (try_ops (values_of old) steps) ≡ Ok new = passed _ Efbig _ new (passed _ E2big _ new e) in
+    let tried : op_after_trial (set_of old) pid steps (try_ops (values_of old) steps) ≡ Ok (set_of new) =
+    passed _ Efbig _ (set_of new) (passed _ E2big _ (set_of new) e) in
     tried_op_within old new pid steps (try_ops (values_of old) steps) (λ values. tried_within (length old) 0 (values_of old) steps values (record { count = length-map old (λ (s : Semaphore). s.value); each = values_fine old h.each })) tried h
 
 neither : (a b : Bool) → (a || b) ≡ false → (a ≡ false) × (b ≡ false)
@@ -154,18 +156,18 @@ upto (value ∷ values) e =
     let both = neither (ltb max_value value) (list_any (ltb max_value) values) e in
     (ltb-false _ _ both.0, upto values both.1)
 
-set_all_within : (old new : List Semaphore) (values : List ℕ) → set_all old values ≡ Ok new → IsWithinLimits old → IsWithinLimits new
+set_all_within : (old new : List Semaphore) (values : List ℕ) → set_all (set_of old) values ≡ Ok (set_of new) → IsWithinLimits old → IsWithinLimits new
 set_all_within old new values e h =
-    let a = passed_to (eqb (length values) (length old)) Einval _ new e in
-    let b = failed (list_any (ltb max_value) values) Erange (Ok (with_values old values)) new a.1 in
+    let a = passed_to (eqb (length values) (length old)) Einval _ (set_of new) e in
+    let b = failed (list_any (ltb max_value) values) Erange (made (with_values old values)) (set_of new) a.1 in
     let fine = with_values_within old values (record { count = eqb-true _ _ a.0; each = upto values b.0 }) in
     subst IsWithinLimits (same_made (with_values old values) new b.1) (same_size old (with_values old values) fine.1 fine.0 h)
 
-kept_by_op : {E : Type 0} (r : Result E Errno) (old new : List Semaphore) (pid : ℕ) (steps : List SemStep) → IfOk r (λ _. op old pid steps ≡ Ok new) → OnErr r (new ≡ old) → IsWithinLimits old → IsWithinLimits new
+kept_by_op : {E : Type 0} (r : Result E Errno) (old new : List Semaphore) (pid : ℕ) (steps : List SemStep) → IfOk r (λ _. op (set_of old) pid steps ≡ Ok (set_of new)) → OnErr r (new ≡ old) → IsWithinLimits old → IsWithinLimits new
 kept_by_op (Ok x) old new pid steps done same h = op_within old new pid steps done h
 kept_by_op (Err e) old new pid steps done same h = subst IsWithinLimits (sym same) h
 
-kept_by_set_all : {E : Type 0} (r : Result E Errno) (old new : List Semaphore) (values : List ℕ) → IfOk r (λ _. set_all old values ≡ Ok new) → OnErr r (new ≡ old) → IsWithinLimits old → IsWithinLimits new
+kept_by_set_all : {E : Type 0} (r : Result E Errno) (old new : List Semaphore) (values : List ℕ) → IfOk r (λ _. set_all (set_of old) values ≡ Ok (set_of new)) → OnErr r (new ≡ old) → IsWithinLimits old → IsWithinLimits new
 kept_by_set_all (Ok x) old new values done same h = set_all_within old new values done h
 kept_by_set_all (Err e) old new values done same h = subst IsWithinLimits (sym same) h
 
@@ -177,13 +179,13 @@ abbrev whole : {X : Type 0} → ℕ → List X → List X → List X
 whole size xs ys = take size (xs ++ drop (length xs) ys)
 
 pub set_after_op : {E : Type 0} (r : Result E Errno) (old new : List Semaphore) (pid : ℕ) (steps : List SemStep) (scratch trial : List ℕ) (size room : ℕ)
-    → IfOk r (λ _. op old pid steps ≡ Ok new) → OnErr r (new ≡ old) → length old ≡ size → length scratch ≡ room → length new ≡ length old → length trial ≡ length scratch
+    → IfOk r (λ _. op (set_of old) pid steps ≡ Ok (set_of new)) → OnErr r (new ≡ old) → length old ≡ size → length scratch ≡ room → length new ≡ length old → length trial ≡ length scratch
     → (length scratch ≡ length old) × IsWithinLimits old → (length (whole room trial scratch) ≡ length (whole size new old)) × IsWithinLimits (whole size new old)
 set_after_op r old new pid steps scratch trial size room done same size_is room_is len trial_len h =
     rw (rejoined size new old (omega arith), rejoined room trial scratch (omega arith)) (omega arith, kept_by_op r old new pid steps done same h.1)
 
 pub set_after_set_all : {E : Type 0} (r : Result E Errno) (old new : List Semaphore) (values scratch : List ℕ) (size : ℕ)
-    → IfOk r (λ _. set_all old values ≡ Ok new) → OnErr r (new ≡ old) → length old ≡ size → length new ≡ length old
+    → IfOk r (λ _. set_all (set_of old) values ≡ Ok (set_of new)) → OnErr r (new ≡ old) → length old ≡ size → length new ≡ length old
     → (length scratch ≡ length old) × IsWithinLimits old → (length scratch ≡ length (whole size new old)) × IsWithinLimits (whole size new old)
 set_after_set_all r old new values scratch size done same size_is len h =
     rw (rejoined size new old (omega arith)) (omega arith, kept_by_set_all r old new values done same h.1)

@@ -5,7 +5,7 @@ use Rattle.std.specs.List.{flat_map, AllByRecursion}
 use Rattle.std.specs.Int.{w16, w32, to_be_bytes}
 use Rattle.pico_base.specs.declared.fault.UnpackFault.{UnpackFault}
 use Rattle.pico_base.specs.declared.fault.UnpackFault.TheVariants.{Memory, NotABody}
-use Rattle.kernel_model.specs.SemaphoreSet.{Semaphore}
+use Rattle.kernel_model.specs.SemaphoreSet.{Semaphore, SemaphoreSet}
 use Rattle.sysv_sem.specs.Limits.{IsWithinLimits}
 
 abbrev pub set_code : ℕ
@@ -14,21 +14,21 @@ set_code = 5
 abbrev pub semaphore_field : Semaphore → List ℕ
 semaphore_field s = to_be_bytes w16 s.value ++ to_be_bytes w32 s.last
 
-abbrev pub body : List Semaphore → List ℕ
-body set = set_code ∷ length set ∷ flat_map semaphore_field set
+abbrev pub body : SemaphoreSet → List ℕ
+body set = set_code ∷ length set.semaphores ∷ flat_map semaphore_field set.semaphores
 
 -- its process number has 32 bits
 abbrev pub HasProcess : Semaphore → Type 0
 HasProcess s = s.last < 2 ^ 32
 
 -- The bytes are the body of the set, which is within the limits.
-pub record IsBodyOf (set : List Semaphore) (bytes : List ℕ) : Type 0 where
-  pub limits : IsWithinLimits set
-  pub processes : AllByRecursion HasProcess set
+pub record IsBodyOf (set : SemaphoreSet) (bytes : List ℕ) : Type 0 where
+  pub limits : IsWithinLimits set.semaphores
+  pub processes : AllByRecursion HasProcess set.semaphores
   pub spelled : bytes ≡ body set
 
 -- what unpack answers gives this set, unless memory ran out
-abbrev pub Unpacks : Result (List Semaphore) UnpackFault → List Semaphore → Type 0
+abbrev pub Unpacks : Result SemaphoreSet UnpackFault → SemaphoreSet → Type 0
 Unpacks (Ok got) set = got ≡ set
 Unpacks (Err Memory) set = Unit {0}
 Unpacks (Err NotABody) set = ⊥

@@ -2,7 +2,7 @@
 use Rattle.std.specs.Prelude.{ℕ, zero, suc, List, [], ◌∷◌, length, Option, Some, None, ◌==◌, if◌then◌else◌}
 use Rattle.std.specs.Int.{w16, w32}
 use Rattle.body_fields.specs.Fields.{◌>>=◌, number_at, number_upto}
-use Rattle.kernel_model.specs.SemaphoreSet.{Semaphore, max_value, is_bad_count}
+use Rattle.kernel_model.specs.SemaphoreSet.{Semaphore, SemaphoreSet, set_of, max_value, is_bad_count}
 use Rattle.sysv_sem.specs.Body.{set_code}
 
 unfoldable pub semaphore_at : List ℕ → Option (Semaphore × List ℕ)
@@ -19,16 +19,16 @@ semaphores_at (suc n) bytes = do
   Some (first.0 ∷ others.0, others.1)
 
 -- the semaphores behind the count, and nothing behind them
-unfoldable pub fields_at : ℕ → List ℕ → Option (List Semaphore)
+unfoldable pub fields_at : ℕ → List ℕ → Option SemaphoreSet
 fields_at count bytes = do
   set ← semaphores_at count bytes
-  if length set.1 == 0 then Some set.0 else None
+  if length set.1 == 0 then Some (set_of set.0) else None
 
 -- with a count that a set may have
-unfoldable pub counted_at : ℕ → List ℕ → Option (List Semaphore)
+unfoldable pub counted_at : ℕ → List ℕ → Option SemaphoreSet
 counted_at count bytes = if is_bad_count count then None else fields_at count bytes
 
-unfoldable pub set_at : List ℕ → Option (List Semaphore)
+unfoldable pub set_at : List ℕ → Option SemaphoreSet
 set_at [] = None
 set_at (code ∷ []) = None
 set_at (code ∷ count ∷ bytes) = if code == set_code then counted_at count bytes else None

@@ -16,7 +16,7 @@ pub(crate) const MAX_VALUE: u32 = 32767;
 
 pub(crate) const MAX_OPERATIONS: usize = 32;
 
-/// A semaphore set, which contracts see as its semaphores, in order. It has 1 to 64, with values up to 32,767.
+/// A semaphore set, which contracts see as the kernel's: its semaphores, in order. It has 1 to 64, with values up to 32,767.
 #[derive(Debug, Drop)]
 pub struct SemSet {
     pub(crate) semaphores: Vec<Semaphore>,
@@ -25,13 +25,13 @@ pub struct SemSet {
 }
 
 impl Model for SemSet {
-    ghost use Rattle.std.specs.Prelude.{◌≡◌, List, length};
-    ghost use Rattle.kernel_model.specs.SemaphoreSet.{Semaphore as Item};
+    ghost use Rattle.std.specs.Prelude.{◌≡◌, length};
+    ghost use Rattle.kernel_model.specs.SemaphoreSet.{SemaphoreSet};
     ghost use Rattle.sysv_sem.specs.Limits.{IsWithinLimits};
 
-    ghost Value = { List Item };
+    ghost Value = { SemaphoreSet };
 
-    ghost view = { λ s. s.semaphores.items };
+    ghost view = { λ s. record { semaphores = s.semaphores.items } };
 
     ghost invariant = { λ s. (length s.scratch.items ≡ length s.semaphores.items) × IsWithinLimits s.semaphores.items };
 }
@@ -114,7 +114,7 @@ impl SemSet {
 
     /// `semctl` with GETALL: the values, in order.
     pub fn all(&self) -> Result<Values, Memory>
-        ensures { IfOk result (λ values. values ≡ definition.values_of self.now) }
+        ensures { IfOk result (λ values. values ≡ definition.values_of self.now.semaphores) }
     {
         let alloc = *self.semaphores.allocator();
         let mut values = vec![in alloc; 0; self.semaphores.len()]?;
@@ -124,7 +124,7 @@ impl SemSet {
 
     /// How many semaphores there are.
     pub fn size(&self) -> u32
-        ensures { result ≡ length self.now }
+        ensures { result ≡ length self.now.semaphores }
     {
         self.semaphores.len() as u32
     }

@@ -1,5 +1,5 @@
 //! A set read from bytes.
-ghost use Rattle.std.specs.Prelude.{◌≡◌, ◌≤◌, List, length, IfOk};
+ghost use Rattle.std.specs.Prelude.{◌≡◌, ◌≤◌, length, IfOk};
 ghost use Rattle.std.specs.Int.{w16, w32};
 ghost use Rattle.std.specs.List.{AllByRecursion};
 ghost use Rattle.kernel_model.specs.SemaphoreSet as definition;
@@ -92,7 +92,7 @@ impl SemSet {
         // What is unpacked is packed so.
         ensures found { IfOk result (λ set. IsBodyOf set bytes.now) }
         // What is packed so is unpacked, unless memory runs out.
-        ensures only { (set : List definition.Semaphore) → IsBodyOf set bytes.now → Unpacks result set }
+        ensures only { (set : definition.SemaphoreSet) → IsBodyOf set bytes.now → Unpacks result set }
     {
         set_of(alloc, bytes)
     }

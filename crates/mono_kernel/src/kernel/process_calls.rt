@@ -60,9 +60,9 @@ impl Kernel {
         ensures { IfSome (living_at self.old pid) (λ a. reap_child self.old pid a (wait a.row.family which) ≡ record { kernel = self.new; reply = result }) }
     {
         match self.processes.wait(pid, which) {
-            Ok(Some((child, ending))) => Reply::Child {
-                pid: Pid(child),
-                ending,
+            Ok(Some(child)) => Reply::Child {
+                pid: child.pid,
+                ending: child.ending,
             },
             Ok(None) => Reply::Num(0),
             Err(errno) => Reply::Fail(errno),

@@ -2,5 +2,5 @@ use Rattle.std.proofs.Common.{◌≡◌, drop}
 use Rattle.kernel_model.specs.Row.{first_ended_child}
 use Rattle.fork_wait.proofs.family.first_ended.Given as goal
 
-abbrev pub invariant-loop-pid : goal.invariant-loop-pid
-invariant-loop-pid l = first_ended_child l.which (drop l.pid-index l.ended) ≡ first_ended_child l.which l.ended
+abbrev pub invariant-loop-child : goal.invariant-loop-child
+invariant-loop-child l = first_ended_child l.which (drop l.child-index l.ended) ≡ first_ended_child l.which l.ended

@@ -1,5 +1,6 @@
 use Rattle.std.proofs.Common.{◌≡◌, ◌++◌, ◌∷◌, [], arith}
 use Rattle.std.proofs.lemmas.Result.{err_from_is_err_and}
+use Rattle.kernel_model.specs.Row.{ended_child}
 use Rattle.fork_wait.specs.Reading.{all_ended_at}
 use Rattle.fork_wait.proofs.Loops.{ends, goes_on, is_done, ended_repeat}
 use Rattle.fork_wait.proofs.reading.read_ended.Goals as goal
@@ -11,9 +12,9 @@ returns-in_err-number-clause-read c =
 
 pub loop-preserved : goal.loop-preserved
 loop-preserved c =
-    let pushed : c.push.new.self.items ≡ c.loop.into.items ++ (c.in_ok-number.number, c.in_ok-number.ending) ∷ [] = c.in_ok-push.ensures.items in
+    let pushed : c.push.new.self.items ≡ c.loop.into.items ++ (ended_child c.in_ok-number.number c.in_ok-number.ending) ∷ [] = c.in_ok-push.ensures.items in
     record {
-      read = rw pushed (goes_on ended_repeat c.loop.into.items c.args.count c.loop.counter c.loop.rest.now (c.in_ok-number.number, c.in_ok-number.ending) c.in_ok-number.after.now (all_ended_at c.args.count c.args.bytes.now) c.loop-test.true c.in_ok-number.ensures c.loop.invariant.read);
+      read = rw pushed (goes_on ended_repeat c.loop.into.items c.args.count c.loop.counter c.loop.rest.now (ended_child c.in_ok-number.number c.in_ok-number.ending) c.in_ok-number.after.now (all_ended_at c.args.count c.args.bytes.now) c.loop-test.true c.in_ok-number.ensures c.loop.invariant.read);
       room = omega (arith, c.loop.invariant.room, c.in_ok-push.ensures.capacity);
     }
 

@@ -3,21 +3,21 @@ use Rattle.std.proofs.lemmas.List.{flat_map_more, take_more}
 use Rattle.std.proofs.lemmas.List.Elements.{All-more}
 use Rattle.std.specs.Int.{w32, to_be_bytes}
 use Rattle.std.specs.List.{flat_map}
-use Rattle.pico_base.specs.declared.reply.Ending.{Ending}
+use Rattle.kernel_model.specs.Row.{EndedChild}
 use Rattle.fork_wait.specs.Spelling.{ended_bytes, ending_bytes}
 use Rattle.fork_wait.proofs.writing.write_ended.Goals as goal
 
-pub loop-pid-preserved : goal.loop-pid-preserved
-loop-pid-preserved c =
-    let child : ℕ × Ending = c.loop-pid-item.result in
-    let so_far : List (ℕ × Ending) = take c.loop-pid.pid-index c.args.ended.now in
-    let read : get_or c.args.ended.now c.loop-pid.pid-index child ≡ child = sym c.loop-pid-item.is in
+pub loop-child-preserved : goal.loop-child-preserved
+loop-child-preserved c =
+    let child : EndedChild = c.child-item.result in
+    let so_far : List EndedChild = take c.loop-child.child-index c.args.ended.now in
+    let read : get_or c.args.ended.now c.loop-child.child-index child ≡ child = sym c.child-item.is in
     record {
       written =
-          c.in_ok-write_ending.ensures ∙ ap (λ (bytes : List ℕ). bytes ++ ending_bytes child.1) (c.in_ok-write_number.ensures.written ∙ ap (λ (bytes : List ℕ). bytes ++ to_be_bytes w32 child.0) c.loop-pid.invariant.written)
-          ∙ append_assoc _ (to_be_bytes w32 child.0) (ending_bytes child.1)
+          c.in_ok-write_ending.ensures ∙ ap (λ (bytes : List ℕ). bytes ++ ending_bytes child.ending) (c.in_ok-write_number.ensures.written ∙ ap (λ (bytes : List ℕ). bytes ++ to_be_bytes w32 child.pid) c.loop-child.invariant.written)
+          ∙ append_assoc _ (to_be_bytes w32 child.pid) (ending_bytes child.ending)
           ∙ flat_map_more ended_bytes c.args.bytes.now.items so_far child
-          ∙ ap (λ (e : ℕ × Ending). c.args.bytes.now.items ++ flat_map ended_bytes (so_far ++ e ∷ [])) c.loop-pid-item.is
-          ∙ ap (λ (es : List (ℕ × Ending)). c.args.bytes.now.items ++ flat_map ended_bytes es) (sym (take_more c.args.ended.now c.loop-pid.pid-index c.loop-pid-item.result c.loop-pid-test.true));
-      numbers = All-more (λ (e : ℕ × Ending). e.0 < 2 ^ 32) c.args.ended.now c.loop-pid.pid-index c.loop-pid-item.result c.loop-pid-test.true c.loop-pid.invariant.numbers (rw read c.write_number.ensures.number);
+          ∙ ap (λ (e : EndedChild). c.args.bytes.now.items ++ flat_map ended_bytes (so_far ++ e ∷ [])) c.child-item.is
+          ∙ ap (λ (es : List EndedChild). c.args.bytes.now.items ++ flat_map ended_bytes es) (sym (take_more c.args.ended.now c.loop-child.child-index c.child-item.result c.loop-child-test.true));
+      numbers = All-more (λ (e : EndedChild). e.pid < 2 ^ 32) c.args.ended.now c.loop-child.child-index c.child-item.result c.loop-child-test.true c.loop-child.invariant.numbers (rw read c.write_number.ensures.number);
     }
