@@ -106,7 +106,7 @@ module _ (script : Script) where
               let out_is : reply_alone reply ≡ e.outcome = sym (same ∙ o_is) in
               record { reply = reply; is = ap (λ (x : Outcome). record { pid = e.pid; call = e.call; outcome = x; by = e.by }) out_is; pid = pid; call = call; replies = r; low = low; high = high }
 
-line-tested : (printed line : List ℕ) → is_line printed line ≡ true → printed ≡ line ++ 10 ∷ []
+pub line-tested : (printed line : List ℕ) → is_line printed line ≡ true → printed ≡ line ++ 10 ∷ []
 line-tested printed line h = of (strip line printed) refl h
   where
     of : (o : Option (List ℕ)) → strip line printed ≡ o → option_map_or (λ rest. bytes_eq rest (10 ∷ [])) o false ≡ true → printed ≡ line ++ 10 ∷ []

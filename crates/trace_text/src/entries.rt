@@ -95,7 +95,7 @@ fn entry(alloc: Global, script: &Script, bytes: &[u8]) -> Result<Option<Entry>, 
 }
 
 /// Whether the printed line is this one and a line feed.
-fn is_line(printed: &[u8], line: &[u8]) -> bool
+pub(crate) fn is_line(printed: &[u8], line: &[u8]) -> bool
     ensures { result ≡ reading.is_line printed.now line.now }
 {
     match strip_front(printed, line) {

@@ -727,7 +727,7 @@ fn push_refused_total(out: &mut Vec<u8>, count: u64) -> Result<(), Memory>
     push_labelled(out, b" refused ", count)
 }
 
-fn push_totals(out: &mut Vec<u8>, journal: &[Entry]) -> Result<(), Memory>
+pub(crate) fn push_totals(out: &mut Vec<u8>, journal: &[Entry]) -> Result<(), Memory>
     ensures { OnOk result (out.new.items ≡ out.old.items ++ trace.totals_line journal.now) }
 {
     let tally = tally_of(journal)?;

@@ -1,0 +1,5 @@
+use Rattle.trace_text.proofs.Whole.{read-ok}
+use Rattle.trace_text.proofs.read.read_trace.Goals as goal
+
+pub returns-clause-ok : goal.returns-clause-ok
+returns-clause-ok c = read-ok c.args.script.now c.args.bytes.now c.args.first_line c.read.result c.read.ensures
