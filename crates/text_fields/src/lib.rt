@@ -14,3 +14,6 @@ pub use names::{
 };
 pub use numbers::{number_front, signed_front};
 pub use texts::text_front;
+
+#[cfg(test)]
+mod tests;

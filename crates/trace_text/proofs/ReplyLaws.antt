@@ -148,7 +148,7 @@ module _ (more : List ℕ) where
         strip_again (codes " lspid ") third,
         front_number_again 4294967295 c (codes " lrpid " ++ last) hc (omega arith) (blank-ends _),
         strip_again (codes " lrpid ") last,
-        front_number_again 4294967295 d (by_tail more) hd (omega arith) (blank-ends _)
+        front_number_again 4294967295 d (by_tail more) hd (omega arith) (blank-ends _),
       ) refl
 
   at-stat : (rest : List ℕ) → reply_at (codes "qnum " ++ rest) ≡ stat_at rest

@@ -61,11 +61,7 @@ fn entry_of(alloc: Global, made: (Pid, Call), reply: Reply, by: Node) -> Entry
 }
 
 /// The reply to a call and the node, behind the call.
-fn with_reply(
-    alloc: Global,
-    made: (Pid, Call),
-    bytes: &[u8],
-) -> Result<Option<Entry>, Memory>
+fn with_reply(alloc: Global, made: (Pid, Call), bytes: &[u8]) -> Result<Option<Entry>, Memory>
     ensures { IfOk result (λ entry. entry ≡ reading.replied_at made bytes.now) }
 {
     let Some(rest) = strip_front(bytes, b" = ") else {

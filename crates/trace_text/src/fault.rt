@@ -14,7 +14,9 @@ pub enum CheckFault {
     Memory,
     /// The line isn't in the grammar of a trace, its totals are wrong or none, a line follows them, or a limit is passed.
     #[error("line {line}: not a trace")]
-    NotATrace { line: u32 },
+    NotATrace {
+        line: u32,
+    },
     /// The kernel has no transition here, or another reply.
     #[error("line {line}: another reply than the kernel's")]
     Illegal {

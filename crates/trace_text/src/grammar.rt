@@ -7,9 +7,7 @@ ghost use Rattle.kernel_model.specs.Script.{is_type, is_key, is_child, is_place,
 ghost use Rattle.trace_text.specs.Grammar as grammar;
 
 use crate::text::is_repeat;
-use pico_base::{
-    Call, Ending, Entry, Id, Key, Node, Outcome, Pid, Reply, Script, SemStep,
-};
+use pico_base::{Call, Ending, Entry, Id, Key, Node, Outcome, Pid, Reply, Script, SemStep};
 
 /// The most bytes that `rep:N:C` stands for.
 const MAX_REPEATED: usize = 8192;
@@ -157,10 +155,16 @@ fn is_call(script: &Script, call: &Call) -> bool
         Call::WaitPid { child, .. } => is_child_number(*child),
         Call::MsgGet { key, create, excl } => is_key_with(*key, *create, *excl),
         Call::MsgSnd {
-            id, class, text, ..
+            id,
+            class,
+            text,
+            ..
         } => is_id(*id) && is_class(*class) && is_text(text.as_slice()),
         Call::MsgRcv {
-            id, class, size, ..
+            id,
+            class,
+            size,
+            ..
         } => is_id(*id) && is_class(*class) && is_short(*size),
         Call::MsgStat { id } | Call::MsgRmid { id } => is_id(*id),
         Call::MsgSet { id, qbytes } => is_id(*id) && is_short(*qbytes),

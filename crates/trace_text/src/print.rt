@@ -10,8 +10,8 @@ ghost use Rattle.pico_base.specs.declared.reply.Reply.TheVariants.{Stat};
 
 use crate::text::{push, push_byte, push_message, push_number, push_signed};
 use pico_base::{
-    Act, Block, Bytes, Call, Ending, Entries, Entry, Errno, How, Id, Key, Memory, Node, Outcome, Pid, Reply,
-    Script, SemStep, Sig, SigArg, SigSet,
+    Act, Block, Bytes, Call, Ending, Entries, Entry, Errno, How, Id, Key, Memory, Node, Outcome,
+    Pid, Reply, Script, SemStep, Sig, SigArg, SigSet,
 };
 use std::alloc::Global;
 

@@ -62,7 +62,7 @@ fn is_totals(done: &[Entry], line: &[u8], scratch: &mut Vec<u8>) -> Result<bool,
 }
 
 /// The entries of a trace, from its first line on.
-fn read(
+pub(crate) fn read(
     alloc: Global,
     script: &Script,
     bytes: &[u8],
