@@ -149,3 +149,7 @@ signed_again limit (negsuc m) rest bound within stop =
     let back : suc m - 1 ≡ m = omega arith in
     let some : eqb (suc m) 0 ≡ false = ne_eqb (suc m) 0 (λ e. omega (arith, e)) in
     rw (strip_again (codes "-") (decimal (suc m) ++ rest), front_number_again limit (suc m) rest small bound stop, some, back) refl
+
+-- a number's spelling is of digits
+pub decimal-digits : (n : ℕ) → n ≤ 4294967295 → AreDigits (decimal n)
+decimal-digits n small = own.from (decimal n) (decimal_is_IsNumeral n (omega arith)).0.1

@@ -41,7 +41,7 @@ blank-place (b ∷ name) rest h =
     let later : position_or_len is_blank (name ++ 32 ∷ rest) ≡ length name = blank-place name rest p.1 in
     rw (name-byte b p.0) (omega (arith, later))
 
-position-is : {A : Type 0} (test : A → Bool) (xs : List A) (i : ℕ) → position_or_len test xs ≡ i → i < length xs → position test xs ≡ Some i
+pub position-is : {A : Type 0} (test : A → Bool) (xs : List A) (i : ℕ) → position_or_len test xs ≡ i → i < length xs → position test xs ≡ Some i
 position-is test xs i e low = rw (e, lt-ltb i (length xs) low) refl
 
 blank-behind : (name rest : List ℕ) → list_all is_name_byte name ≡ true → position is_blank (name ++ 32 ∷ rest) ≡ Some (length name)
@@ -129,7 +129,7 @@ module _ (script : Script) (rest : List ℕ) where
 -- ---- the block of a name
 
 -- a name is of bytes of a name
-name-bytes : (name : List ℕ) → is_name name ≡ true → list_all is_name_byte name ≡ true
+pub name-bytes : (name : List ℕ) → is_name name ≡ true → list_all is_name_byte name ≡ true
 name-bytes [] h = absurd (cc)
 name-bytes (b ∷ name) h =
     let p = and_parts (is_lower b) (list_all is_name_byte name && leb (length name) 31) h in
@@ -189,7 +189,7 @@ first-named : (bs : List Block) (i : ℕ) (block : Block) → names_differ bs �
 first-named bs i block apart there =
     position-is (λ b. bytes_eq b.name block.name) bs i (first-place bs i block apart there) (within bs i block there)
 
-name-at : (bs : List Block) (i : ℕ) (block : Block) → list_all (λ b. is_name b.name) bs ≡ true → slice_get bs i ≡ Some block → is_name block.name ≡ true
+pub name-at : (bs : List Block) (i : ℕ) (block : Block) → list_all (λ b. is_name b.name) bs ≡ true → slice_get bs i ≡ Some block → is_name block.name ≡ true
 name-at [] i block h there = absurd (cc)
 name-at (b ∷ bs) zero block h there =
     let same : b ≡ block = cc in

@@ -27,7 +27,7 @@ use Rattle.trace_text.proofs.CallText.{call-again}
 use Rattle.trace_text.proofs.ReplyLaws.{reply-again}
 
 -- a line without its line feed
-abbrev line_of : Script → ℕ → Call → Reply → ℕ → List ℕ
+abbrev pub line_of : Script → ℕ → Call → Reply → ℕ → List ℕ
 line_of script pid call reply node =
     decimal pid ++ 32 ∷ (call_text script call ++ (codes " = " ++ (reply_text reply ++ (codes " by " ++ decimal node))))
 
@@ -66,7 +66,7 @@ entry-again script pid call reply node sound small c r low high =
     rw (made-again script pid call (32 ∷ (reply_text reply ++ (codes " by " ++ decimal node))) sound small c) (replied-again pid call reply node r low high)
 
 -- the text of an entry whose caller has its reply, and that wakes nobody
-line-is : (script : Script) (pid : ℕ) (call : Call) (reply : Reply) (node : ℕ) → entry_line script (entry_of (pid, call) reply node) ≡ line_of script pid call reply node ++ 10 ∷ []
+pub line-is : (script : Script) (pid : ℕ) (call : Call) (reply : Reply) (node : ℕ) → entry_line script (entry_of (pid, call) reply node) ≡ line_of script pid call reply node ++ 10 ∷ []
 line-is script pid call reply node = simp append_assoc
 
 module _ (script : Script) where
@@ -80,7 +80,7 @@ module _ (script : Script) where
     pub low : 1 ≤ e.by
     pub high : e.by ≤ 32
 
-  is-alone : (e : Entry) → is_entry script e ≡ true → IsAlone e
+  pub is-alone : (e : Entry) → is_entry script e ≡ true → IsAlone e
   is-alone e h =
       let p = and_parts (is_u32 e.pid) (is_call script e.call && (is_outcome e.outcome && is_between 1 32 e.by)) h in
       let q = and_parts (is_call script e.call) (is_outcome e.outcome && is_between 1 32 e.by) p.1 in
@@ -113,7 +113,7 @@ line-tested printed line h = of (strip line printed) refl h
     of None e t = absurd (cc)
     of (Some rest) e t = strip_takes line printed rest e ∙ ap (λ (x : List ℕ). line ++ x) ((bytes_eq-Decides rest (10 ∷ [])).0 t)
 
-line-again : (line : List ℕ) → is_line (line ++ 10 ∷ []) line ≡ true
+pub line-again : (line : List ℕ) → is_line (line ++ 10 ∷ []) line ≡ true
 line-again line = rw (strip_again line (10 ∷ [])) refl
 
 -- what is read is in the grammar, and its text is the line

@@ -1,7 +1,9 @@
+pub mod Again
 pub mod Appends
 pub mod CallLaws
 pub mod CallText
 pub mod EntryLaws
+pub mod Feeds
 pub mod ReadLaws
 pub mod Ranges
 pub mod Whole

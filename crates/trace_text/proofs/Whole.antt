@@ -17,7 +17,7 @@ use Rattle.trace_text.specs.declared.fault.CheckFault.{CheckFault}
 use Rattle.trace_text.specs.Read.{has_line, BeginsWith, IsTraceOf, next_line, fits, read_line, read_from, read_of, Gives}
 use Rattle.trace_text.proofs.EntryLaws.{line-tested, entry-takes}
 
-abbrev is_feed : ℕ → Bool
+abbrev pub is_feed : ℕ → Bool
 is_feed b = eqb b 10
 
 -- a line that was split off ends at a line feed

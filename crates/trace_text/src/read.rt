@@ -1,5 +1,6 @@
 //! A trace read back as the entries of its history.
-ghost use Rattle.std.specs.Prelude.{◌≡◌, ◌≤◌, ◌<◌, ◌^◌, ◌==◌, length, position, option_map, IfOk};
+ghost use Rattle.std.specs.Prelude.{◌≡◌, ◌⊎◌, ◌≤◌, ◌<◌, ◌^◌, ◌==◌, List, length, position, option_map, IfOk, Ok, Err};
+ghost use Rattle.pico_base.specs.declared.reply.Entry.{Entry as EntryValue};
 ghost use Rattle.kernel_model.specs.Script.{IsSoundScript};
 ghost use Rattle.kernel_model.specs.Trace.{totals_line};
 ghost use Rattle.trace_text.specs.Reading.{is_line as is_line_of};
@@ -115,8 +116,9 @@ pub fn read_trace(
     requires some { 1 ≤ first_line }
     requires first { first_line < 2 ^ 31 }
     ensures gives { spec.Gives result (spec.read_of script.now bytes.now first_line) }
-    // What is read is the history whose text the bytes are.
+    // What is read is the history whose text the bytes are, and each such history is read.
     ensures ok { IfOk result (spec.IsTraceOf script.now bytes.now) }
+    ensures only { (history : List EntryValue) → spec.IsTraceOf script.now bytes.now history → (result ≡ Ok history) ⊎ (result ≡ Err CheckFault.Memory) }
 {
     read(alloc, script, bytes, first_line)
 }
