@@ -1,7 +1,14 @@
 -- Why there is no answer to write, and which bytes are read.
 use Rattle.std.specs.Prelude.{◌≡◌, ◌⊎◌, ◌≤◌, ◌<◌, ℕ, List, length, take, drop, Option, Some, None}
+use Rattle.host_iface.specs.Faults.{HasRisen}
 use Rattle.pico_cmd.specs.declared.program.Stop.{Stop}
 use Rattle.pico_cmd.specs.declared.program.Stop.TheVariants.{Memory, ReadFault}
+
+-- An allocation was refused, and the count of faults stands as before; or a read failed, and it rose. A failed read is
+-- never called want of memory.
+abbrev pub IsStop : ℕ → ℕ → Stop → Type 0
+IsStop before now Memory = now ≡ before
+IsStop before now ReadFault = HasRisen before now
 
 -- a read failed, for the cause that is told, or an allocation was refused
 abbrev pub IsReadFault : Type 0 → Stop → Type 0

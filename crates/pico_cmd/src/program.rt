@@ -8,7 +8,7 @@ ghost use Rattle.host_iface.specs.Told.{followed_by};
 ghost use Rattle.pico_cmd.specs.Promise.{Allows, AnswersTold, Wrote, WroteFront, IsOrFails, IsOrStops, IsWritten, usage_text};
 ghost use Rattle.pico_cmd.specs.Words.{IsInOrder};
 ghost use Rattle.pico_cmd.specs.declared.program.Stop.TheVariants.{Memory as OutOfMemory};
-ghost use Rattle.pico_cmd.specs.Stop.{IsReadFault, AreScriptBytes, left_behind};
+ghost use Rattle.pico_cmd.specs.Stop.{IsReadFault, IsStop, AreScriptBytes, left_behind};
 
 use crate::answer::{Answer, answer_to};
 use crate::status::Status;
@@ -57,7 +57,8 @@ fn usage(alloc: Global) -> Result<Answer, Memory>
 fn script_bytes<S: Source>(alloc: Global, source: &mut S) -> Result<Bytes, Stop>
     ensures bytes { IfOk result (λ bytes. IfSome (S.left source.old) (AreScriptBytes bytes)) }
     ensures rest { OnOk result (S.left source.new ≡ left_behind (S.left source.old)) }
-    ensures fault { IfErr result (IsReadFault (HasRisen (S.faults source.old) (S.faults source.new))) }
+    ensures calm { OnOk result (S.faults source.new ≡ S.faults source.old) }
+    ensures stop { IfErr result (IsStop (S.faults source.old) (S.faults source.new)) }
 {
     match read_all(alloc, source, MAX_SCRIPT) {
         Ok(bytes) => Ok(bytes),
@@ -74,7 +75,8 @@ fn simulate<S: Source>(alloc: Global, options: Options, source: &mut S) -> Resul
     ensures done { IfSome (S.left source.old) (λ bytes. (script : ScriptValue) → Reads bytes script → IfOk result (λ answer. answer.status ≡ Status.Done)) }
     ensures fault { IfSome (S.left source.old) (λ bytes. (line : ℕ) (fault : FaultValue) → IsFirstFault bytes line fault → IfOk result (λ answer. answer.status ≡ Status.BadScript)) }
     ensures rest { OnOk result (S.left source.new ≡ left_behind (S.left source.old)) }
-    ensures stop { IfErr result (IsReadFault (HasRisen (S.faults source.old) (S.faults source.new))) }
+    ensures calm { OnOk result (S.faults source.new ≡ S.faults source.old) }
+    ensures stop { IfErr result (IsStop (S.faults source.old) (S.faults source.new)) }
 {
     let bytes = script_bytes(alloc, source)?;
     Ok(answer_to(alloc, bytes.as_slice(), options)?)
@@ -90,7 +92,9 @@ fn answer<S: Source>(alloc: Global, words: &[String], source: &mut S) -> Result<
         (line : ℕ) (fault : FaultValue) → IsFirstFault bytes line fault → IfOk result (λ answer. answer.status ≡ Status.BadScript)) }
     ensures rest { IsInOrder (map string_bytes words.now)
         → OnOk result (S.left source.new ≡ left_behind (S.left source.old)) }
-    ensures stop { IfErr result (IsReadFault (IsInOrder (map string_bytes words.now) × HasRisen (S.faults source.old) (S.faults source.new))) }
+    ensures stop { IfErr result (IsStop (S.faults source.old) (S.faults source.new)) }
+    ensures read { IfErr result (IsReadFault (IsInOrder (map string_bytes words.now))) }
+    ensures words_first { (IsInOrder (map string_bytes words.now) → ⊥) → source.new ≡ source.old }
 {
     match options_of(words) {
         Some(options) => simulate(alloc, options, source),
@@ -130,8 +134,12 @@ pub fn pico<R, S: Source, K: Sink, G: Gate>(
         Wrote (map string_bytes words.now) (S.left source.old) Status.BadScript (K.taken sink.old) (K.taken sink.new) }
     ensures usage { result.status ≡ Status.Usage →
         Wrote (map string_bytes words.now) (S.left source.old) Status.Usage (K.taken sink.old) (K.taken sink.new) }
-    ensures memory { result.status ≡ Status.Memory → K.taken sink.new ≡ K.taken sink.old }
-    ensures read_fault { result.status ≡ Status.ReadFault → K.taken sink.new ≡ K.taken sink.old }
+    ensures memory { result.status ≡ Status.Memory → sink.new ≡ sink.old }
+    ensures read_fault { result.status ≡ Status.ReadFault → sink.new ≡ sink.old }
+
+    // Want of memory isn't told for a read that failed. The words are looked at before the source.
+    ensures memory_calm { result.status ≡ Status.Memory → S.faults source.new ≡ S.faults source.old }
+    ensures words_first { (IsInOrder (map string_bytes words.now) → ⊥) → source.new ≡ source.old }
 
     // The causes of the faults of reading and writing. A write that fails leaves a front of what was to be written.
     ensures read_cause { result.status ≡ Status.ReadFault →

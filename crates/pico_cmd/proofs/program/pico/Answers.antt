@@ -20,3 +20,6 @@ returns-in-Ok-clause-fault_exactly g c ordered =
 pub returns-in-Ok-clause-complete : goal.returns-in-Ok-clause-complete
 returns-in-Ok-clause-complete g c ordered no_read_fault no_write_fault =
     told_done_written (g.S.Source.left c.args.source.now) _ _ _ _ _ _ (c.in-Ok.ensures.done ordered) c.write_answer-status.ensures no_write_fault
+
+pub returns-in-Ok-clause-rest : goal.returns-in-Ok-clause-rest
+returns-in-Ok-clause-rest g c ordered not_read not_memory = c.in-Ok.ensures.rest ordered
