@@ -86,7 +86,8 @@ named_at (row ∷ rows) bytes =
 abbrev pub signals : List (List ℕ × Sig)
 signals =
     (codes "HUP", Hup) ∷ (codes "INT", Int) ∷ (codes "QUIT", Quit) ∷ (codes "KILL", Kill) ∷ (codes "USR1", Usr1)
-    ∷ (codes "USR2", Usr2) ∷ (codes "PIPE", Pipe) ∷ (codes "ALRM", Alrm) ∷ (codes "TERM", Term) ∷ (codes "CHLD", Chld) ∷ []
+    ∷ (codes "USR2", Usr2) ∷ (codes "PIPE", Pipe) ∷ (codes "ALRM", Alrm) ∷ (codes "TERM", Term) ∷ (codes "CHLD", Chld)
+    ∷ []
 
 abbrev pub errors : List (List ℕ × Errno)
 errors =

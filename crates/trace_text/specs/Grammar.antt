@@ -1,4 +1,5 @@
--- The grammar of a trace: which entries have a line. A line is in the grammar exactly where it is the text of one of these.
+-- The grammar of a trace: which entries have a line. A line is in the grammar exactly where it is the text of one of
+-- these.
 use Rattle.std.specs.Prelude.{ℕ, ◌+◌, ℤ, negsuc, pos, Bool, true, false, not, ◌&&◌, ◌||◌, nat_eq, nat_le, nat_lt, int_le, List, [], ◌∷◌, length, Option, Some, None, is_some, IsTrue}
 use Rattle.std.specs.List.{list_all}
 use Rattle.pico_base.specs.declared.call.Call.{Call}

@@ -46,7 +46,8 @@ abbrev pub begins_like_totals : List ℕ → Bool
 begins_like_totals [] = false
 begins_like_totals (b ∷ line) = b == 116
 
-abbrev pub read_line : Script → ℕ → ℕ → List Entry → List ℕ → List ℕ → (Entry → Result (List Entry) ℕ) → Result (List Entry) ℕ
+abbrev pub read_line : Script → ℕ → ℕ → List Entry → List ℕ → List ℕ → (Entry → Result (List Entry) ℕ)
+    → Result (List Entry) ℕ
 read_line script line left done text after next =
     if not (fits left text) then Err line else
     if is_line (totals_line done) text then (if has_ended after then Ok done else Err (line + 1)) else

@@ -125,7 +125,8 @@ msgget_key_at bytes = do
 
 unfoldable pub msgget_at : List ℕ → Part Call
 msgget_at bytes =
-    option_map_or (λ rest. Some (calls.MsgGet None false false, rest)) (strip (codes "private") bytes) (msgget_key_at bytes)
+    option_map_or (λ rest. Some (calls.MsgGet None false false, rest)) (strip (codes "private") bytes)
+    (msgget_key_at bytes)
 
 -- a number and a message's type, and the blank behind them
 unfoldable pub object_at : List ℕ → Part (ℕ × ℤ)

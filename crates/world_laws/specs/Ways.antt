@@ -120,7 +120,8 @@ pub record IsParcelOf (script : Script) (b : Beside) (c : ℕ) (call : Call) (pa
 pub data IsParcelIn (w : World) (hand : List Held) (parcel : Parcel) : Type 0 where
   left : (c : ℕ) → Rattle.std.specs.Prelude.Contains (stream w 1 c) (frames.Left parcel) → IsParcelIn w hand parcel
   sent : (x : ℕ) → Rattle.std.specs.Prelude.Contains (stream w x 1) (frames.ExitTo parcel) → IsParcelIn w hand parcel
-  kept : Rattle.std.specs.Prelude.Contains (items_in (Directory.places (directory_of w)).processes) (Ending parcel) → IsParcelIn w hand parcel
+  kept : Rattle.std.specs.Prelude.Contains (items_in (Directory.places (directory_of w)).processes) (Ending parcel)
+      → IsParcelIn w hand parcel
   at_hand : Rattle.std.specs.Prelude.Contains hand (Ending parcel) → IsParcelIn w hand parcel
 
 pub record HasSender (script : Script) (w : World) (b : Beside) (parcel : Parcel) : Type 0 where
