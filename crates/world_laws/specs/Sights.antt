@@ -32,10 +32,6 @@ is_born_stage _ = true
 abbrev pub is_born_in : World → ℕ → Bool
 is_born_in w p = is_born_stage (stage_of w p)
 
--- all that the leader holds, name after name
-abbrev pub items_in : Numbered Place → List Held
-items_in places = flat_map (λ e. items_of (Some e.1)) places
-
 -- something has, or had, the name's number
 abbrev pub is_used_name : Kernel → Name → Bool
 is_used_name k name = is_used (used_of k (kind_of name)) (number_of name)
