@@ -26,7 +26,8 @@ byte_at (b ∷ rest) = Some (b, rest)
 
 -- a number, its high bytes first
 abbrev pub number_at : Width → List ℕ → Option (ℕ × List ℕ)
-number_at w bytes = if nat_lt (length bytes) (byte_len w) then None else Some (from_be_bytes w (take (byte_len w) bytes), drop (byte_len w) bytes)
+number_at w bytes = if nat_lt (length bytes) (byte_len w) then None else Some
+    (from_be_bytes w (take (byte_len w) bytes), drop (byte_len w) bytes)
 
 -- a byte or a number up to a limit
 unfoldable pub byte_upto : ℕ → List ℕ → Option (ℕ × List ℕ)

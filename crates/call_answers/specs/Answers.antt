@@ -21,7 +21,8 @@ Changes step old id new reply = ChangedBy (option_map step (get old id)) old id 
 -- the same for a message that is received
 abbrev pub ReceivedBy : Option (Result Received Errno) → Numbered Queue → ℕ → Numbered Queue → Reply → Type 0
 ReceivedBy None old id new reply = (new ≡ old) × (reply ≡ Fail Einval)
-ReceivedBy (Some (Ok r)) old id new reply = (new ≡ put old id r.queue) × (reply ≡ Message r.message.class r.message.text)
+ReceivedBy (Some (Ok r)) old id new reply =
+    (new ≡ put old id r.queue) × (reply ≡ Message r.message.class r.message.text)
 ReceivedBy (Some (Err e)) old id new reply = (new ≡ old) × (reply ≡ Fail e)
 
 abbrev pub Receives : (Queue → Result Received Errno) → Numbered Queue → ℕ → Numbered Queue → Reply → Type 0

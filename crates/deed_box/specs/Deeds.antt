@@ -3,8 +3,8 @@ use Rattle.std.specs.Prelude.{◌≡◌, ℕ, true, List, [], ◌∷◌, ◌++�
 use Rattle.std.specs.Coded.{Coded, code_by, coded×, coded_list, coded_ℕ}
 use Rattle.pico_base.specs.declared.numbers.Name.{Name}
 use Rattle.pico_base.specs.declared.numbers.Name.TheVariants.{Proc, Msg, Sem}
-use Rattle.kernel_model.specs.Maps.{Numbered}
-use Rattle.node_model.specs.Kinds.{Named, get_named, put_named}
+use Rattle.number_maps.specs.Maps.{Numbered}
+use Rattle.node_model.specs.Kinds.{Named, get_named}
 
 -- the bodies of the names that are held
 pub record Holdings (B : Type 0) : Type 0 where
@@ -21,11 +21,6 @@ holdings_code {B} b =
     (λ h. (h.bodies.processes, (h.bodies.queues, (h.bodies.sets, h.spare))))
     (λ p. record { bodies = record { processes = p.0; queues = p.1.0; sets = p.1.1.0 }; spare = p.1.1.1 }) (λ _. refl)
 
--- with these deeds besides
-abbrev pub with_deeds : {B : Type 0} → Named B → List (Name × B) → Named B
-with_deeds bodies [] = bodies
-with_deeds bodies (deed ∷ deeds) = with_deeds (put_named bodies deed.0 deed.1) deeds
-
 -- The deeds one after another, in the order in which a node hands them over: queues, then sets, then processes, each by
 -- rising number.
 abbrev pub deeds_of : {B : Type 0} → (ℕ → Name) → Numbered B → List (Name × B)
@@ -39,5 +34,7 @@ abbrev pub AreAbsent : {B : Type 0} → Named B → List Name → Type 0
 AreAbsent bodies [] = Unit {0}
 AreAbsent bodies (name ∷ names) = (get_named bodies name ≡ None) × AreAbsent bodies names
 
-in_order : all_deeds (record { processes = (2, true) ∷ []; queues = (3, true) ∷ (9, true) ∷ []; sets = (1, true) ∷ [] }) ≡ (Msg 3, true) ∷ (Msg 9, true) ∷ (Sem 1, true) ∷ (Proc 2, true) ∷ []
+in_order : all_deeds
+    (record { processes = (2, true) ∷ []; queues = (3, true) ∷ (9, true) ∷ []; sets = (1, true) ∷ [] })
+    ≡ (Msg 3, true) ∷ (Msg 9, true) ∷ (Sem 1, true) ∷ (Proc 2, true) ∷ []
 in_order = refl

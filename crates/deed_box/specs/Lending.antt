@@ -2,7 +2,7 @@
 use Rattle.std.specs.Prelude.{ℕ, Option}
 use Rattle.std.specs.Borrow.{Fml, Lends, LendsIf, MutBor, RattleType}
 use Rattle.pico_base.specs.declared.numbers.Name.{Name}
-use Rattle.kernel_model.specs.Maps.{put}
+use Rattle.number_maps.specs.Maps.{put}
 use Rattle.node_model.specs.Kinds.{put_named}
 use Rattle.deed_box.specs.Deeds.{Holdings}
 use Rattle.deed_box.specs.Placing.{Shelf}

@@ -5,7 +5,7 @@ use Rattle.std.specs.Coded.{Coded, code_by, coded×, coded_list, coded_ℕ}
 use Rattle.std.specs.List.{AllByRecursion}
 use Rattle.std.specs.Ordering.{nat_cmp}
 use Rattle.std.specs.declared.cmp.Ordering.TheVariants.{Less, Greater}
-use Rattle.kernel_model.specs.Maps.{Numbered}
+use Rattle.number_maps.specs.Maps.{Numbered}
 
 -- the entries, and how many there can be before memory is asked for
 pub record Shelf (B : Type 0) : Type 0 where

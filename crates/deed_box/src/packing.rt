@@ -3,8 +3,8 @@ ghost use Rattle.std.specs.Prelude.{◌≡◌, ◌≤◌, ◌<◌, ◌+◌, ◌+
 ghost use Rattle.std.specs.List.{IsDistinct};
 ghost use Rattle.pico_base.specs.declared.fault.UnpackFault.TheVariants.{NotABody};
 ghost use Rattle.pico_base.specs.declared.numbers.Name.{Name as Named};
-ghost use Rattle.node_model.specs.Kinds.{is_same_name, named, none_named};
-ghost use Rattle.deed_box.specs.Deeds.{AreAbsent, all_deeds, deeds_of, with_deeds};
+ghost use Rattle.node_model.specs.Kinds.{is_same_name, name_of, none_named, put_all};
+ghost use Rattle.deed_box.specs.Deeds.{AreAbsent, all_deeds, deeds_of};
 ghost use Rattle.deed_box.specs.Packing.{AllFit, ArePackedDeeds, SomeIsNoDeed, names_of};
 
 use crate::{Deed, Deeds, Shared};
@@ -13,8 +13,8 @@ use rpc_frame::{PackedDeed, PackedDeeds};
 use std::alloc::Global;
 
 /// The name of a kind and a number.
-fn named(kind: Kind, number: u32) -> Name
-    ensures { result ≡ named kind number }
+fn name_of(kind: Kind, number: u32) -> Name
+    ensures { result ≡ name_of kind number }
 {
     match kind {
         Kind::Proc => Name::Proc(Pid(number)),
@@ -29,12 +29,13 @@ fn pack_kind<B: Shared>(
     kind: Kind,
     entries: &[(u32, B)],
 ) -> Result<Vec<PackedDeed>, Memory>
-    requires { AllFit B.fits (deeds_of (named kind) entries.now) }
-    ensures { IfOk result (λ packed. ArePackedDeeds B.fits B.IsSpelled (deeds_of (named kind) entries.now) packed.items) }
+    requires { AllFit B.fits (deeds_of (name_of kind) entries.now) }
+    ensures { IfOk result
+        (λ packed. ArePackedDeeds B.fits B.IsSpelled (deeds_of (name_of kind) entries.now) packed.items) }
 {
     let mut packed = Vec::with_capacity(alloc, entries.len())?;
     for entry in entries {
-        let deed = Deed::create_packed(alloc, named(kind, entry.0), &entry.1)?;
+        let deed = Deed::create_packed(alloc, name_of(kind, entry.0), &entry.1)?;
         packed.push(deed)?;
     }
     Ok(packed)
@@ -59,12 +60,14 @@ fn unpack_all<B: Shared + Drop>(
 }
 
 impl<B: Shared + Drop> Deeds<B> {
-    /// Unpacks and puts deeds of different names that aren't there, all or none of them. NotABody comes exactly where the
-    /// bytes of one of them spell no body that goes with its name. A refusal changes nothing and hands them back.
+    /// Unpacks and puts deeds of different names that aren't there, all or none of them. NotABody comes exactly where
+    /// the bytes of one of them spell no body that goes with its name. A refusal changes nothing and hands them back.
     pub fn put_packed(&mut self, packed: PackedDeeds) -> Result<(), (UnpackFault, PackedDeeds)>
         requires distinct { IsDistinct is_same_name (names_of packed) }
         requires absent { AreAbsent self.old.bodies (names_of packed) }
-        ensures ok { OnOk result ((deeds : List (Named × B)) × ArePackedDeeds B.fits B.IsSpelled deeds packed × (self.new.bodies ≡ with_deeds self.old.bodies deeds)) }
+        ensures ok { OnOk result
+            ((deeds : List (Named × B)) × ArePackedDeeds B.fits B.IsSpelled deeds packed
+            × (self.new.bodies ≡ put_all self.old.bodies deeds)) }
         ensures not_a_body { IfErr result (λ back. back.0 ≡ NotABody → SomeIsNoDeed B.fits B.IsSpelled packed) }
         ensures err { OnErr result (self.new.bodies ≡ self.old.bodies) }
         ensures back { IfErr result (λ back. back.1 ≡ packed) }
@@ -76,7 +79,9 @@ impl<B: Shared + Drop> Deeds<B> {
     }
 
     fn unpack_and_put(&mut self, packed: &[PackedDeed]) -> Result<(), UnpackFault>
-        ensures ok { OnOk result ((deeds : List (Named × B)) × ArePackedDeeds B.fits B.IsSpelled deeds packed.now × (self.new.bodies ≡ with_deeds self.old.bodies deeds)) }
+        ensures ok { OnOk result
+            ((deeds : List (Named × B)) × ArePackedDeeds B.fits B.IsSpelled deeds packed.now
+            × (self.new.bodies ≡ put_all self.old.bodies deeds)) }
         ensures not_a_body { result ≡ Err NotABody → SomeIsNoDeed B.fits B.IsSpelled packed.now }
         ensures err { OnErr result (self.new.bodies ≡ self.old.bodies) }
     {
@@ -89,7 +94,7 @@ impl<B: Shared + Drop> Deeds<B> {
     /// Puts deeds for which there is room.
     fn set_all(&mut self, deeds: Vec<(Name, B)>)
         requires { length deeds.items ≤ self.old.spare }
-        ensures { self.new.bodies ≡ with_deeds self.old.bodies deeds.items }
+        ensures { self.new.bodies ≡ put_all self.old.bodies deeds.items }
     {
         for (name, body) in deeds {
             self.set(name, body);

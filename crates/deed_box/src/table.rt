@@ -4,7 +4,7 @@ ghost use Rattle.std.specs.Borrow.{sem};
 ghost use Rattle.std.specs.FinMap.{is_sorted};
 ghost use Rattle.std.specs.Option.{option_copied};
 ghost use Rattle.std.specs.Ordering.{nat_cmp};
-ghost use Rattle.kernel_model.specs.Maps.{get, put, without};
+ghost use Rattle.number_maps.specs.Maps.{get, put, without};
 ghost use Rattle.deed_box.specs.Placing.{BelongsAt, StandsAt};
 
 use pico_base::Memory;
@@ -41,7 +41,6 @@ fn place_of<B>(entries: &[(u32, B)], number: u32) -> Result<usize, usize>
 
 impl<B> Table<B> {
     ghost use Rattle.deed_box.specs.Lending.{lends_entry};
-
 
     pub(crate) fn new(alloc: Global) -> Table<B>
         ensures { result.entries ≡ [] }

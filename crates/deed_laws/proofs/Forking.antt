@@ -36,10 +36,13 @@ forked-plain k a n plain mine =
     let ps : Numbered Process = put k.processes n (Living (new_child a))
     in record {
       first = λ b lives.
-          let same : parent_after_fork a n ≡ b = from_some (parent_after_fork a n) b (sym (living-put-same ps 1 (Living (parent_after_fork a n))) ∙ lives)
-          in subst (λ (x : Alive). IsPlainProcess x) same (record { signals = mine.signals; allowance = mine.allowance });
+          let same : parent_after_fork a n ≡ b =
+          from_some (parent_after_fork a n) b (sym (living-put-same ps 1 (Living (parent_after_fork a n))) ∙ lives)
+          in subst (λ (x : Alive). IsPlainProcess x) same
+          (record { signals = mine.signals; allowance = mine.allowance });
       others = λ pid b ne lives.
-          let before : living_in ps pid ≡ Some b = sym (living-put-other ps 1 (Living (parent_after_fork a n)) pid ne) ∙ lives
+          let before : living_in ps pid ≡ Some b =
+          sym (living-put-other ps 1 (Living (parent_after_fork a n)) pid ne) ∙ lives
           in elim (cases_eq pid n) [
             | inl same ↦
                 let born : living_in ps n ≡ Some b = subst (λ (q : ℕ). living_in ps q ≡ Some b) same before
@@ -94,5 +97,6 @@ forks h l k a block reachable stands held fits =
       };
       child =
           get-put-other ps 1 (Living (parent_after_fork a n)) n apart
-          ∙ (get-put-same k.processes n (Living (new_child a)) ∙ ap (λ (x : Alive). Some (Living x)) (new-child a mine));
+          ∙ (get-put-same k.processes n (Living (new_child a))
+          ∙ ap (λ (x : Alive). Some (Living x)) (new-child a mine));
     }

@@ -14,7 +14,8 @@ abbrev pub signal_from : ℕ → Option Sig
 signal_from number = find (λ g. signal_number g == number) all_signals
 
 abbrev pub ending_from : ℕ → ℕ → Option Ending
-ending_from kind value = if kind == 0 then Some (Exited value) else if kind == 1 then option_map Killed (signal_from value) else None
+ending_from kind value =
+    if kind == 0 then Some (Exited value) else if kind == 1 then option_map Killed (signal_from value) else None
 
 unfoldable pub ended_at : List ℕ → Option (EndedChild × List ℕ)
 ended_at bytes = do

@@ -27,6 +27,7 @@ pub record HasBytes (f : Family) : Type 0 where
   pub sound : AreChildren (children f)
   pub numbers : All (λ n. n < 2 ^ 32) (children f)
 
-example : family_bytes (record { living = 2 ∷ []; ended = ended_child 258 (Killed Term) ∷ [] }) ≡ 1 ∷ 0 ∷ 0 ∷ 0 ∷ 2 ∷ 1 ∷ 0 ∷ 0 ∷ 1 ∷ 2 ∷ 1 ∷ 9 ∷ []
+example : family_bytes (record { living = 2 ∷ []; ended = ended_child 258 (Killed Term) ∷ [] }) ≡ 1 ∷ 0 ∷ 0 ∷ 0 ∷ 2 ∷ 1
+    ∷ 0 ∷ 0 ∷ 1 ∷ 2 ∷ 1 ∷ 9 ∷ []
 unfolding family_bytes
 example = refl

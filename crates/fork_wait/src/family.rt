@@ -47,7 +47,9 @@ impl Model for Family {
 
     ghost view = { λ f. record { living = f.living.items; ended = f.ended.items } };
 
-    ghost invariant = { λ f. HasRoom (record { living = f.living.items; ended = f.ended.items }) (vec_capacity f.living) (vec_capacity f.ended) };
+    ghost invariant = { λ f.
+        HasRoom (record { living = f.living.items; ended = f.ended.items }) (vec_capacity f.living)
+        (vec_capacity f.ended) };
 }
 
 impl Family {

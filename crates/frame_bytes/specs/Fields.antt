@@ -1,6 +1,6 @@
 -- The fields of frames: how each is spelled and read, and which values have a spelling. Numbers have their high bytes
 -- first, and signed ones are in two's complement.
-use Rattle.std.specs.Prelude.{◌≡◌, ℕ, ◌+◌, ◌<◌, ◌≤◌, ◌^◌, Bool, true, false, ◌&&◌, ℤ, FitsSigned, List, [], ◌∷◌, ◌++◌, length, map, take, drop, Option, Some, None, nat_lt, nat_le, if◌then◌else◌}
+use Rattle.std.specs.Prelude.{◌≡◌, ℕ, ◌+◌, ◌<◌, ◌^◌, Bool, true, false, ◌&&◌, ℤ, List, [], ◌∷◌, ◌++◌, length, map, take, drop, Some, None, nat_lt, nat_le, if◌then◌else◌}
 use Rattle.std.specs.Int.{w16, w32, to_be_bytes, cast_signed, cast_unsigned}
 use Rattle.body_fields.specs.Fields.{◌>>=◌, number_at}
 use Rattle.pico_base.specs.declared.numbers.Kind.{Kind}
@@ -8,11 +8,11 @@ use Rattle.pico_base.specs.declared.numbers.Kind.TheVariants as kinds
 use Rattle.pico_base.specs.declared.numbers.Name.{Name}
 use Rattle.pico_base.specs.declared.numbers.Name.TheVariants as names
 use Rattle.pico_base.specs.declared.reply.Errno.{Errno}
-use Rattle.pico_base.specs.declared.reply.Errno.TheVariants.{Esrch, Einval, Echild, Enoent, Eexist, Enomsg, Eagain, E2big, Efbig, Erange, Eidrm, Eintr}
 use Rattle.pico_base.specs.declared.signal.Sig.{Sig}
 use Rattle.pico_base.specs.declared.signal.SigArg.{SigArg}
 use Rattle.pico_base.specs.declared.signal.SigArg.TheVariants.{Zero, Is, Bad}
-use Rattle.kernel_model.specs.Signals.{all_signals, number_of}
+use Rattle.pico_base.specs.ErrorNumber.{all_errors, error_number}
+use Rattle.pico_base.specs.Signal.{all_signals, signal_number}
 use Rattle.frame_bytes.specs.Readers.{Reader, byte_at, passing, one_of, two}
 
 -- a number of 4 bytes, and one of 2
@@ -89,11 +89,11 @@ flag_at bytes = one_of flag_byte all_flags bytes
 -- a signal, in one byte: its number; and what a call takes as a signal, which may also be 0
 
 unfoldable pub sig_at : Reader Sig
-sig_at bytes = one_of number_of all_signals bytes
+sig_at bytes = one_of signal_number all_signals bytes
 
 abbrev pub sigarg_byte : SigArg → ℕ
 sigarg_byte Zero = 0
-sigarg_byte (Is sig) = number_of sig
+sigarg_byte (Is sig) = signal_number sig
 sigarg_byte Bad = 0
 
 abbrev pub IsSigArg : SigArg → Type 0
@@ -107,28 +107,10 @@ all_sigargs = Zero ∷ map Is all_signals
 unfoldable pub sigarg_at : Reader SigArg
 sigarg_at bytes = one_of sigarg_byte all_sigargs bytes
 
--- an error, in one byte
-
-abbrev pub errno_byte : Errno → ℕ
-errno_byte Esrch = 1
-errno_byte Einval = 2
-errno_byte Echild = 3
-errno_byte Enoent = 4
-errno_byte Eexist = 5
-errno_byte Enomsg = 6
-errno_byte Eagain = 7
-errno_byte E2big = 8
-errno_byte Efbig = 9
-errno_byte Erange = 10
-errno_byte Eidrm = 11
-errno_byte Eintr = 12
-
-abbrev pub all_errors : List Errno
-all_errors =
-    Esrch ∷ Einval ∷ Echild ∷ Enoent ∷ Eexist ∷ Enomsg ∷ Eagain ∷ E2big ∷ Efbig ∷ Erange ∷ Eidrm ∷ Eintr ∷ []
+-- an error, in one byte: its number
 
 unfoldable pub errno_at : Reader Errno
-errno_at bytes = one_of errno_byte all_errors bytes
+errno_at bytes = one_of error_number all_errors bytes
 
 -- a kind, in one byte; and a name, which is a kind and a number
 

@@ -6,3 +6,4 @@ pub mod Frames
 pub mod Streams
 pub mod Limits
 pub mod Splitting
+pub mod Examples

@@ -1,14 +1,22 @@
 -- A reader takes a value from the front of the bytes, and gives it with the bytes behind it; or it finds none there.
 -- Readers are put together here as frames are made of fields.
-use Rattle.std.specs.Prelude.{ℕ, zero, suc, Bool, ◌==◌, if◌then◌else◌, List, [], ◌∷◌, Option, Some, None, find}
+use Rattle.std.specs.Prelude.{◌≡◌, ℕ, zero, suc, Bool, ◌==◌, if◌then◌else◌, List, [], ◌∷◌, Option, Some, None, Result, Ok, Err, find}
+use Rattle.pico_base.specs.declared.fault.UnpackFault.{UnpackFault}
+use Rattle.pico_base.specs.declared.fault.UnpackFault.TheVariants.{Memory, NotABody}
 use Rattle.body_fields.specs.Fields.{◌>>=◌}
+pub use Rattle.body_fields.specs.Fields.{byte_at}
 
 abbrev pub Reader : Type 0 → Type 0
 Reader A = List ℕ → Option (A × List ℕ)
 
-abbrev pub byte_at : Reader ℕ
-byte_at [] = None
-byte_at (byte ∷ bytes) = Some (byte, bytes)
+-- What a function returned, seen by view, is what a reader gives, unless memory ran out.
+abbrev pub Fails : {Y : Type 0} → UnpackFault → Option Y → Type 0
+Fails Memory read = Unit {0}
+Fails NotABody read = read ≡ None
+
+abbrev pub Gives : {X Y : Type 0} → (X → Y) → Result X UnpackFault → Option Y → Type 0
+Gives view (Ok x) read = read ≡ Some (view x)
+Gives view (Err e) read = Fails e read
 
 -- a value that passes a test
 abbrev pub passing : {A : Type 0} → (A → Bool) → Reader A → Reader A
@@ -59,7 +67,8 @@ four read_a read_b read_c read_d make bytes = do
   a ← read_a bytes
   three read_b read_c read_d (make a.0) a.1
 
-abbrev pub five : {A B C D E Z : Type 0} → Reader A → Reader B → Reader C → Reader D → Reader E → (A → B → C → D → E → Z) → Reader Z
+abbrev pub five : {A B C D E Z : Type 0} → Reader A → Reader B → Reader C → Reader D → Reader E
+    → (A → B → C → D → E → Z) → Reader Z
 five read_a read_b read_c read_d read_e make bytes = do
   a ← read_a bytes
   four read_b read_c read_d read_e (make a.0) a.1

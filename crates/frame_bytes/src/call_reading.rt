@@ -1,15 +1,13 @@
 //! Calls as they are read.
 ghost use Rattle.std.specs.Prelude.{ℕ, List, Option};
-ghost use Rattle.body_fields.specs.Fields.{Gives};
 ghost use Rattle.pico_base.specs.declared.call.Call.TheVariants as calls;
-ghost use Rattle.frame_bytes.specs.Readers.{pick, two, three, four, five};
+ghost use Rattle.frame_bytes.specs.Readers.{Gives, pick, two, three, four, five};
 ghost use Rattle.frame_bytes.specs.Fields.{flag_at, half_at, positive_at, sigarg_at, signed_at, text_at, word_at};
 ghost use Rattle.frame_bytes.specs.Calls.{asked_call_at, asked_rows, last_call_at, set_at, step_at, steps_at};
 
-use crate::fields::{Read, byte, count, flag, positive, sig, sigarg, signed, text};
+use crate::fields::{Read, byte, count, flag, half, positive, sig, sigarg, signed, text, word};
 use crate::many::{Item, many};
 use crate::writing::{put_flag, put_signed, put_word};
-use body_fields::{u16_at, u32_at};
 use pico_base::{Call, Id, Key, Memory, Pid, SemStep, Steps, UnpackFault, Values};
 use std::alloc::Global;
 
@@ -26,7 +24,7 @@ impl Item for SemStep {
 
     #[tactic(auto, unfolding(crate::specs::Calls::step_at))]
     fn read(_alloc: Global, bytes: &[u8]) -> Read<'_, SemStep> {
-        let (num, rest) = u16_at(bytes)?;
+        let (num, rest) = half(bytes)?;
         let (add, rest) = signed(rest)?;
         let (nowait, rest) = flag(rest)?;
         Ok((SemStep { num, add, nowait }, rest))
@@ -52,7 +50,7 @@ impl Item for u32 {
     ghost within = { λ _. Unit {0} };
 
     fn read(_alloc: Global, bytes: &[u8]) -> Read<'_, u32> {
-        u32_at(bytes)
+        word(bytes)
     }
 
     fn put(&self, out: &mut Vec<u8>) -> Result<(), Memory> {
@@ -81,7 +79,7 @@ fn set(alloc: Global, bytes: &[u8]) -> Read<'_, Values>
 fn kill(bytes: &[u8]) -> Read<'_, Call>
     ensures { Gives (λ x. (x.0, x.1.now)) result (two word_at sigarg_at calls.Kill bytes.now) }
 {
-    let (pid, rest) = u32_at(bytes)?;
+    let (pid, rest) = word(bytes)?;
     let (sig, rest) = sigarg(rest)?;
     let call = Call::Kill { pid: Pid(pid), sig };
     Ok((call, rest))
@@ -105,7 +103,7 @@ fn msg_get(bytes: &[u8]) -> Read<'_, Call>
 fn msg_snd(alloc: Global, bytes: &[u8]) -> Read<'_, Call>
     ensures { Gives (λ x. (x.0, x.1.now)) result (four word_at signed_at text_at flag_at calls.MsgSnd bytes.now) }
 {
-    let (id, rest) = u32_at(bytes)?;
+    let (id, rest) = word(bytes)?;
     let (class, rest) = signed(rest)?;
     let (text, rest) = text(alloc, rest)?;
     let (nowait, rest) = flag(rest)?;
@@ -119,11 +117,12 @@ fn msg_snd(alloc: Global, bytes: &[u8]) -> Read<'_, Call>
 }
 
 fn msg_rcv(bytes: &[u8]) -> Read<'_, Call>
-    ensures { Gives (λ x. (x.0, x.1.now)) result (five word_at signed_at word_at flag_at flag_at calls.MsgRcv bytes.now) }
+    ensures { Gives (λ x. (x.0, x.1.now)) result
+        (five word_at signed_at word_at flag_at flag_at calls.MsgRcv bytes.now) }
 {
-    let (id, rest) = u32_at(bytes)?;
+    let (id, rest) = word(bytes)?;
     let (class, rest) = signed(rest)?;
-    let (size, rest) = u32_at(rest)?;
+    let (size, rest) = word(rest)?;
     let (noerror, rest) = flag(rest)?;
     let (nowait, rest) = flag(rest)?;
     let call = Call::MsgRcv {
@@ -139,8 +138,8 @@ fn msg_rcv(bytes: &[u8]) -> Read<'_, Call>
 fn msg_set(bytes: &[u8]) -> Read<'_, Call>
     ensures { Gives (λ x. (x.0, x.1.now)) result (two word_at word_at calls.MsgSet bytes.now) }
 {
-    let (id, rest) = u32_at(bytes)?;
-    let (qbytes, rest) = u32_at(rest)?;
+    let (id, rest) = word(bytes)?;
+    let (qbytes, rest) = word(rest)?;
     let call = Call::MsgSet { id: Id(id), qbytes };
     Ok((call, rest))
 }
@@ -150,7 +149,7 @@ fn sem_get(bytes: &[u8]) -> Read<'_, Call>
         (four positive_at word_at flag_at flag_at (λ key. calls.SemGet (Some key)) bytes.now) }
 {
     let (key, rest) = positive(bytes)?;
-    let (count, rest) = u32_at(rest)?;
+    let (count, rest) = word(rest)?;
     let (create, rest) = flag(rest)?;
     let (excl, rest) = flag(rest)?;
     let call = Call::SemGet {
@@ -165,7 +164,7 @@ fn sem_get(bytes: &[u8]) -> Read<'_, Call>
 fn sem_op(alloc: Global, bytes: &[u8]) -> Read<'_, Call>
     ensures { Gives (λ x. (x.0, x.1.now)) result (two word_at steps_at calls.SemOp bytes.now) }
 {
-    let (id, rest) = u32_at(bytes)?;
+    let (id, rest) = word(bytes)?;
     let (steps, rest) = steps(alloc, rest)?;
     let call = Call::SemOp { id: Id(id), steps };
     Ok((call, rest))
@@ -174,9 +173,9 @@ fn sem_op(alloc: Global, bytes: &[u8]) -> Read<'_, Call>
 fn sem_set_val(bytes: &[u8]) -> Read<'_, Call>
     ensures { Gives (λ x. (x.0, x.1.now)) result (three word_at half_at word_at calls.SemSetVal bytes.now) }
 {
-    let (id, rest) = u32_at(bytes)?;
-    let (num, rest) = u16_at(rest)?;
-    let (value, rest) = u32_at(rest)?;
+    let (id, rest) = word(bytes)?;
+    let (num, rest) = half(rest)?;
+    let (value, rest) = word(rest)?;
     let call = Call::SemSetVal {
         id: Id(id),
         num,
@@ -188,7 +187,7 @@ fn sem_set_val(bytes: &[u8]) -> Read<'_, Call>
 fn sem_set_all(alloc: Global, bytes: &[u8]) -> Read<'_, Call>
     ensures { Gives (λ x. (x.0, x.1.now)) result (two word_at set_at calls.SemSetAll bytes.now) }
 {
-    let (id, rest) = u32_at(bytes)?;
+    let (id, rest) = word(bytes)?;
     let (values, rest) = set(alloc, rest)?;
     let call = Call::SemSetAll { id: Id(id), values };
     Ok((call, rest))
@@ -209,7 +208,7 @@ fn asked_fields(alloc: Global, code: u8, bytes: &[u8]) -> Read<'_, Call>
         11 => sem_set_val(bytes),
         13 => sem_set_all(alloc, bytes),
         5 | 7 | 12 | 17 => {
-            let (id, rest) = u32_at(bytes)?;
+            let (id, rest) = word(bytes)?;
             let id = Id(id);
             let call = match code {
                 5 => Call::MsgStat { id },
@@ -220,9 +219,9 @@ fn asked_fields(alloc: Global, code: u8, bytes: &[u8]) -> Read<'_, Call>
             Ok((call, rest))
         }
         10 | 14 | 15 | 16 => {
-            let (id, rest) = u32_at(bytes)?;
+            let (id, rest) = word(bytes)?;
             let id = Id(id);
-            let (num, rest) = u16_at(rest)?;
+            let (num, rest) = half(rest)?;
             let call = match code {
                 10 => Call::SemGetVal { id, num },
                 14 => Call::SemGetPid { id, num },
@@ -252,7 +251,7 @@ pub(crate) fn last_call(bytes: &[u8]) -> Read<'_, Call>
     let (code, rest) = byte(bytes)?;
     match code {
         18 => {
-            let (status, rest) = u16_at(rest)?;
+            let (status, rest) = half(rest)?;
             Ok((Call::Exit { status }, rest))
         }
         19 => {

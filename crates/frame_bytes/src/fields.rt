@@ -1,10 +1,10 @@
 //! Fields as they are read: a value from the front of the bytes, with the bytes behind it. NotABody: no value of the
 //! field stands there.
 ghost use Rattle.std.specs.Prelude.{◌≡◌, ◌≤◌, ◌==◌, IfOk, find};
-ghost use Rattle.body_fields.specs.Fields.{Gives};
-ghost use Rattle.kernel_model.specs.Signals.{all_signals, number_of};
-ghost use Rattle.frame_bytes.specs.Readers.{byte_at};
-ghost use Rattle.frame_bytes.specs.Fields.{all_errors, count_at, errno_at, errno_byte, flag_at, kind_at, name_at, name_of, node_at, positive_at, sig_at, sigarg_at, signed_at, text_at};
+ghost use Rattle.pico_base.specs.ErrorNumber.{all_errors, error_number};
+ghost use Rattle.pico_base.specs.Signal.{all_signals, signal_number};
+ghost use Rattle.frame_bytes.specs.Readers.{Gives, byte_at};
+ghost use Rattle.frame_bytes.specs.Fields.{count_at, errno_at, flag_at, half_at, kind_at, name_at, name_of, node_at, positive_at, sig_at, sigarg_at, signed_at, text_at, word_at};
 
 use body_fields::{u16_at, u32_at};
 use pico_base::{Bytes, Errno, Id, Kind, Name, Pid, Sig, SigArg, UnpackFault};
@@ -22,12 +22,32 @@ pub(crate) fn byte(bytes: &[u8]) -> Read<'_, u8>
     }
 }
 
+/// A number of 4 bytes.
+pub(crate) fn word(bytes: &[u8]) -> Read<'_, u32>
+    ensures { Gives (λ x. (x.0, x.1.now)) result (word_at bytes.now) }
+{
+    match u32_at(bytes) {
+        Some((number, rest)) => Ok((number, rest)),
+        None => Err(UnpackFault::NotABody),
+    }
+}
+
+/// A number of 2 bytes.
+pub(crate) fn half(bytes: &[u8]) -> Read<'_, u16>
+    ensures { Gives (λ x. (x.0, x.1.now)) result (half_at bytes.now) }
+{
+    match u16_at(bytes) {
+        Some((number, rest)) => Ok((number, rest)),
+        None => Err(UnpackFault::NotABody),
+    }
+}
+
 /// A number of 4 bytes that is at least 1.
 #[tactic(auto, unfolding(crate::specs::Fields::positive_at))]
 pub(crate) fn positive(bytes: &[u8]) -> Read<'_, u32>
     ensures { Gives (λ x. (x.0, x.1.now)) result (positive_at bytes.now) }
 {
-    let (number, rest) = u32_at(bytes)?;
+    let (number, rest) = word(bytes)?;
     if number == 0 {
         return Err(UnpackFault::NotABody);
     }
@@ -39,11 +59,11 @@ pub(crate) fn positive(bytes: &[u8]) -> Read<'_, u32>
 pub(crate) fn count(bytes: &[u8]) -> Read<'_, u16>
     ensures { Gives (λ x. (x.0, x.1.now)) result (count_at bytes.now) }
 {
-    let (number, rest) = u16_at(bytes)?;
-    if number == 0 {
+    let (count, rest) = half(bytes)?;
+    if count == 0 {
         return Err(UnpackFault::NotABody);
     }
-    Ok((number, rest))
+    Ok((count, rest))
 }
 
 /// A signed number of 4 bytes, in two's complement.
@@ -51,7 +71,7 @@ pub(crate) fn count(bytes: &[u8]) -> Read<'_, u16>
 pub(crate) fn signed(bytes: &[u8]) -> Read<'_, i32>
     ensures { Gives (λ x. (x.0, x.1.now)) result (signed_at bytes.now) }
 {
-    let (number, rest) = u32_at(bytes)?;
+    let (number, rest) = word(bytes)?;
     Ok((number.cast_signed(), rest))
 }
 
@@ -83,7 +103,7 @@ pub(crate) fn flag(bytes: &[u8]) -> Read<'_, bool>
 
 /// The signal with this number.
 fn sig_of(byte: u8) -> Option<Sig>
-    ensures { result ≡ find (λ g. number_of g == byte) all_signals }
+    ensures { result ≡ find (λ g. signal_number g == byte) all_signals }
 {
     match byte {
         1 => Some(Sig::Hup),
@@ -117,11 +137,11 @@ pub(crate) fn sig(bytes: &[u8]) -> Read<'_, Sig>
 pub(crate) fn sigarg(bytes: &[u8]) -> Read<'_, SigArg>
     ensures { Gives (λ x. (x.0, x.1.now)) result (sigarg_at bytes.now) }
 {
-    let (number, rest) = byte(bytes)?;
-    if number == 0 {
+    let (code, rest) = byte(bytes)?;
+    if code == 0 {
         return Ok((SigArg::Zero, rest));
     }
-    match sig_of(number) {
+    match sig_of(code) {
         Some(sig) => Ok((SigArg::Is(sig), rest)),
         None => Err(UnpackFault::NotABody),
     }
@@ -129,7 +149,7 @@ pub(crate) fn sigarg(bytes: &[u8]) -> Read<'_, SigArg>
 
 /// The error with this number.
 fn errno_of(byte: u8) -> Option<Errno>
-    ensures { result ≡ find (λ e. errno_byte e == byte) all_errors }
+    ensures { result ≡ find (λ e. error_number e == byte) all_errors }
 {
     match byte {
         1 => Some(Errno::Esrch),
@@ -199,7 +219,7 @@ pub(crate) fn name_of(kind: Kind, number: u32) -> Name
 pub(crate) fn text(alloc: Global, bytes: &[u8]) -> Read<'_, Bytes>
     ensures { Gives (λ x. (x.0, x.1.now)) result (text_at bytes.now) }
 {
-    let (len, rest) = u32_at(bytes)?;
+    let (len, rest) = word(bytes)?;
     let len = len as usize;
     if rest.len() < len {
         return Err(UnpackFault::NotABody);

@@ -1,19 +1,17 @@
 //! Frames as they are read.
 ghost use Rattle.std.specs.Prelude.{◌≡◌, ℕ, List, Some, map};
-ghost use Rattle.body_fields.specs.Fields.{Gives};
 ghost use Rattle.rpc_frame.specs.declared.frame.Frame.TheVariants as frames;
-ghost use Rattle.frame_bytes.specs.Readers.{pick, two, three, four};
+ghost use Rattle.frame_bytes.specs.Readers.{Gives, pick, two, three, four};
 ghost use Rattle.frame_bytes.specs.Fields.{kind_at, name_at, node_at, positive_at, rise_from, word_at};
 ghost use Rattle.frame_bytes.specs.Calls.{asked_call_at};
 ghost use Rattle.frame_bytes.specs.Replies.{reply_at};
 ghost use Rattle.frame_bytes.specs.Frames.{process_of, are_processes, asked_at, deed_at, deeds_at, frame_at, frame_rows, have_order, parcel_at, vars_at, whole_at};
 
 use crate::call_reading::{asked_call, last_call};
-use crate::fields::{Read, byte, kind, name_of, named, node, positive, text};
+use crate::fields::{Read, byte, half, kind, name_of, named, node, positive, text, word};
 use crate::many::{Item, many};
 use crate::reply_reading::reply;
 use crate::writing::{put_deed, put_word};
-use body_fields::{u16_at, u32_at};
 use pico_base::{Memory, Name, Node, Pid, UnpackFault, Var, Vars};
 use rpc_frame::{Asked, Frame, PackedDeed, PackedDeeds, Parcel};
 use std::alloc::Global;
@@ -99,11 +97,11 @@ impl Item for (Var, u32) {
 
     #[tactic(auto, unfolding(crate::specs::Frames::value_at, crate::specs::Frames::index_at))]
     fn read(_alloc: Global, bytes: &[u8]) -> Read<'_, (Var, u32)> {
-        let (index, rest) = u16_at(bytes)?;
+        let (index, rest) = half(bytes)?;
         if index > 2885 {
             return Err(UnpackFault::NotABody);
         }
-        let (value, rest) = u32_at(rest)?;
+        let (value, rest) = word(rest)?;
         Ok(((Var(index), value), rest))
     }
 
@@ -131,7 +129,7 @@ pub(crate) fn have_order(vars: &[(Var, u32)]) -> bool
 fn vars(alloc: Global, bytes: &[u8]) -> Read<'_, Vars>
     ensures { Gives (λ x. (x.0, x.1.now)) result (vars_at bytes.now) }
 {
-    let (count, rest) = u16_at(bytes)?;
+    let (count, rest) = half(bytes)?;
     let (vars, rest) = many(alloc, count as usize, rest)?;
     if !have_order(vars.as_slice()) {
         return Err(UnpackFault::NotABody);
@@ -143,8 +141,8 @@ fn vars(alloc: Global, bytes: &[u8]) -> Read<'_, Vars>
 fn parcel(alloc: Global, bytes: &[u8]) -> Read<'_, Parcel>
     ensures { Gives (λ x. (x.0, x.1.now)) result (parcel_at bytes.now) }
 {
-    let (pid, rest) = u32_at(bytes)?;
-    let (parent, rest) = u32_at(rest)?;
+    let (pid, rest) = word(bytes)?;
+    let (parent, rest) = word(rest)?;
     let (call, rest) = last_call(rest)?;
     let (deeds, rest) = deeds(alloc, rest)?;
     let parcel = Parcel {
@@ -162,7 +160,7 @@ fn asked(alloc: Global, bytes: &[u8]) -> Read<'_, Asked>
 {
     let (caller, rest) = node(bytes)?;
     let (ticket, rest) = positive(rest)?;
-    let (pid, rest) = u32_at(rest)?;
+    let (pid, rest) = word(rest)?;
     let (call, rest) = asked_call(alloc, rest)?;
     let asked = Asked {
         caller: Node(caller),
@@ -177,7 +175,7 @@ fn ask(alloc: Global, bytes: &[u8]) -> Read<'_, Frame>
     ensures { Gives (λ x. (x.0, x.1.now)) result (three positive_at word_at asked_call_at frames.Ask bytes.now) }
 {
     let (ticket, rest) = positive(bytes)?;
-    let (pid, rest) = u32_at(rest)?;
+    let (pid, rest) = word(rest)?;
     let (call, rest) = asked_call(alloc, rest)?;
     let pid = Pid(pid);
     Ok((Frame::Ask { ticket, pid, call }, rest))
@@ -187,7 +185,7 @@ fn request(alloc: Global, bytes: &[u8]) -> Read<'_, Frame>
     ensures { Gives (λ x. (x.0, x.1.now)) result (three positive_at word_at asked_call_at frames.Request bytes.now) }
 {
     let (ticket, rest) = positive(bytes)?;
-    let (pid, rest) = u32_at(rest)?;
+    let (pid, rest) = word(rest)?;
     let (call, rest) = asked_call(alloc, rest)?;
     let pid = Pid(pid);
     Ok((Frame::Request { ticket, pid, call }, rest))
@@ -205,7 +203,7 @@ fn lease(bytes: &[u8]) -> Read<'_, Frame>
     ensures { Gives (λ x. (x.0, x.1.now)) result (two kind_at word_at frames.Lease bytes.now) }
 {
     let (kind, rest) = kind(bytes)?;
-    let (first, rest) = u32_at(rest)?;
+    let (first, rest) = word(rest)?;
     Ok((Frame::Lease { kind, first }, rest))
 }
 
@@ -222,8 +220,8 @@ fn placed(bytes: &[u8]) -> Read<'_, Frame>
 fn checkpoint(alloc: Global, bytes: &[u8]) -> Read<'_, Frame>
     ensures { Gives (λ x. (x.0, x.1.now)) result (four word_at word_at deed_at vars_at frames.Checkpoint bytes.now) }
 {
-    let (pid, rest) = u32_at(bytes)?;
-    let (parent, rest) = u32_at(rest)?;
+    let (pid, rest) = word(bytes)?;
+    let (parent, rest) = word(rest)?;
     let (deed, rest) = deed(alloc, rest)?;
     let (vars, rest) = vars(alloc, rest)?;
     let frame = Frame::Checkpoint {
@@ -248,8 +246,8 @@ fn suggest(bytes: &[u8]) -> Read<'_, Frame>
 fn leaving(bytes: &[u8]) -> Read<'_, Frame>
     ensures { Gives (λ x. (x.0, x.1.now)) result (three word_at word_at node_at frames.Leaving bytes.now) }
 {
-    let (pid, rest) = u32_at(bytes)?;
-    let (parent, rest) = u32_at(rest)?;
+    let (pid, rest) = word(bytes)?;
+    let (parent, rest) = word(rest)?;
     let (node, rest) = node(rest)?;
     let frame = Frame::Leaving {
         pid: Pid(pid),

@@ -17,3 +17,6 @@ pub use encoding::encode;
 pub use fault::FrameFault;
 pub use joiner::Joiner;
 pub use laws::{a_stream_has_one_reading, no_spelling_begins_another, pieces_do_not_matter};
+
+#[cfg(test)]
+mod tests;

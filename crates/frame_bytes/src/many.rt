@@ -1,8 +1,7 @@
 //! Several items one behind the other, as they are read and written.
 ghost use Rattle.std.specs.Prelude.{◌≡◌, ◌++◌, ℕ, List, Option, OnOk};
 ghost use Rattle.std.specs.List.{flat_map, AllByRecursion};
-ghost use Rattle.body_fields.specs.Fields.{Gives};
-ghost use Rattle.frame_bytes.specs.Readers.{many};
+ghost use Rattle.frame_bytes.specs.Readers.{Gives, many};
 
 use crate::fields::Read;
 use pico_base::Memory;

@@ -1,13 +1,11 @@
 //! Replies as they are read.
-ghost use Rattle.body_fields.specs.Fields.{Gives};
 ghost use Rattle.pico_base.specs.declared.reply.Reply.TheVariants as replies;
-ghost use Rattle.frame_bytes.specs.Readers.{two, four};
+ghost use Rattle.frame_bytes.specs.Readers.{Gives, two, four};
 ghost use Rattle.frame_bytes.specs.Fields.{signed_at, text_at, word_at};
 ghost use Rattle.frame_bytes.specs.Replies.{reply_at, values_at};
 
-use crate::fields::{Read, byte, errno, signed, text};
+use crate::fields::{Read, byte, errno, half, signed, text, word};
 use crate::many::many;
-use body_fields::{u16_at, u32_at};
 use pico_base::{Pid, Reply, UnpackFault, Values};
 use std::alloc::Global;
 
@@ -15,7 +13,7 @@ use std::alloc::Global;
 fn values(alloc: Global, bytes: &[u8]) -> Read<'_, Values>
     ensures { Gives (λ x. (x.0, x.1.now)) result (values_at bytes.now) }
 {
-    let (count, rest) = u16_at(bytes)?;
+    let (count, rest) = half(bytes)?;
     let (values, rest) = many(alloc, count as usize, rest)?;
     Ok((Values::from_vec(values), rest))
 }
@@ -31,10 +29,10 @@ fn message(alloc: Global, bytes: &[u8]) -> Read<'_, Reply>
 fn stat(bytes: &[u8]) -> Read<'_, Reply>
     ensures { Gives (λ x. (x.0, x.1.now)) result (four word_at word_at word_at word_at replies.Stat bytes.now) }
 {
-    let (qnum, rest) = u32_at(bytes)?;
-    let (qbytes, rest) = u32_at(rest)?;
-    let (sender, rest) = u32_at(rest)?;
-    let (receiver, rest) = u32_at(rest)?;
+    let (qnum, rest) = word(bytes)?;
+    let (qbytes, rest) = word(rest)?;
+    let (sender, rest) = word(rest)?;
+    let (receiver, rest) = word(rest)?;
     let reply = Reply::Stat {
         qnum,
         qbytes,
@@ -52,7 +50,7 @@ pub(crate) fn reply(alloc: Global, bytes: &[u8]) -> Read<'_, Reply>
     let (code, rest) = byte(bytes)?;
     match code {
         1 => {
-            let (number, rest) = u32_at(rest)?;
+            let (number, rest) = word(rest)?;
             Ok((Reply::Num(number), rest))
         }
         2 => message(alloc, rest),

@@ -6,6 +6,7 @@ ghost use Rattle.frame_bytes.specs.Splitting.{EndIs, AheadIs, Front};
 
 use crate::FrameFault;
 use crate::frame_reading::whole;
+use byteorder::{BigEndian, ByteOrder};
 use pico_base::{Memory, UnpackFault};
 use rpc_frame::Frame;
 use std::alloc::Global;
@@ -40,8 +41,7 @@ fn length_field(bytes: &[u8]) -> Option<(u32, &[u8])>
         return None;
     }
     let (front, rest) = bytes.split_at(4);
-    let len = u32::from_be_bytes([front[0], front[1], front[2], front[3]]);
-    Some((len, rest))
+    Some((BigEndian::read_u32(front), rest))
 }
 
 /// What stands at the front of the bytes.

@@ -12,6 +12,13 @@ OnReadFault (Err reads.Memory) P = ⊤
 OnReadFault (Err reads.Fault) P = P
 OnReadFault (Err (reads.TooLong read)) P = ⊤
 
+-- P where no read failed
+abbrev pub UnlessReadFault : {T : Type 0} → Result T ReadStop → Type 0 → Type 0
+UnlessReadFault (Ok value) P = P
+UnlessReadFault (Err reads.Memory) P = P
+UnlessReadFault (Err reads.Fault) P = ⊤
+UnlessReadFault (Err (reads.TooLong read)) P = P
+
 -- P of the bytes that were read, where there were more than the limit
 abbrev pub IfTooLong : {T : Type 0} → Result T ReadStop → (List ℕ → Type 0) → Type 0
 IfTooLong (Ok value) P = ⊤

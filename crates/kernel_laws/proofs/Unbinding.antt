@@ -8,7 +8,8 @@ use Rattle.kernel_model.specs.QueueCalls.{unbind}
 use Rattle.kernel_laws.proofs.Plain.{from_some, not_some}
 
 -- a key that is still bound was bound before, and not to the thing that is gone
-pub get-unbound : (m : Numbered ℕ) (id key i : ℕ) → Rising m → get (unbind m id) key ≡ Some i → (get m key ≡ Some i) × (i ≢ id)
+pub get-unbound : (m : Numbered ℕ) (id key i : ℕ) → Rising m → get (unbind m id) key ≡ Some i → (get m key ≡ Some i)
+    × (i ≢ id)
 get-unbound [] id key i r h = not_some i h
 get-unbound (e ∷ m) id key i r h =
     let p : ℕ × ℕ → Bool = λ d. not (nat_eq d.1 id)

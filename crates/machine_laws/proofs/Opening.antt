@@ -82,8 +82,13 @@ module _ (script : Script) (r : IsRunnable script) where
   only-first : (pid : ℕ) (a : Alive) → living_at opening pid ≡ Some a → (pid ≡ 1) × (a ≡ new_process)
   only-first pid a h =
       elim (cases_eq pid 1) [
-        | inl e ↦ (e, sym (from_some new_process a (sym (ap (option_and_then alive_in) (get-first (1, LivingProcess new_process) [] pid e)) ∙ h)))
-        | inr o ↦ not_some a (sym (ap (option_and_then alive_in) (get-later (1, LivingProcess new_process) [] pid o)) ∙ h)
+        | inl e ↦ (
+          e,
+          sym (from_some new_process a
+              (sym (ap (option_and_then alive_in) (get-first (1, LivingProcess new_process) [] pid e)) ∙ h)),
+        )
+        | inr o ↦ not_some a (sym (ap (option_and_then alive_in) (get-later (1, LivingProcess new_process) [] pid o))
+            ∙ h)
       ]
 
   opening-stands : StandsFor (only 1) first_numbers opening
@@ -118,9 +123,11 @@ module _ (script : Script) (r : IsRunnable script) where
         pids = λ p. 0;
         under_way = record {
           of_script = refl;
-          nodes = length-map-numbers opening_node (numbers 1 (node_count script)) ∙ length-numbers 1 (node_count script);
+          nodes = length-map-numbers opening_node (numbers 1 (node_count script))
+              ∙ length-numbers 1 (node_count script);
           rows = length-same (node_count script) _;
-          row = λ i h. ap length (same-at (node_count script) i (replicate (node_count script) []) [] h) ∙ length-same (node_count script) [];
+          row = λ i h. ap length (same-at (node_count script) i (replicate (node_count script) []) [] h)
+              ∙ length-same (node_count script) [];
           legal = refl;
           fits = refl;
           ordered = ordered (opening_places script) (tt, tt);

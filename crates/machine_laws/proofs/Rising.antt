@@ -25,6 +25,7 @@ from-rising [] r = refl
 from-rising (v ∷ []) r = refl
 from-rising (v ∷ w ∷ vars) r = rw (lt-ltb v.0 w.0 r.0.0) (from-rising (w ∷ vars) r.1)
 
-pub rising-set : (vars : Vars) (v : Option ℕ) (n : ℕ) → are_rising vars ≡ true → are_rising (set_variable vars v n) ≡ true
+pub rising-set : (vars : Vars) (v : Option ℕ) (n : ℕ) → are_rising vars ≡ true
+    → are_rising (set_variable vars v n) ≡ true
 rising-set vars None n h = h
 rising-set vars (Some v) n h = from-rising (put vars v n) (rising-put vars v n (to-rising vars h))

@@ -23,7 +23,8 @@ lands ps es pid f (Living a) w rising there is written =
 lands ps es pid f (Ended ending) w rising there is written = rw there tt
 lands ps es pid f Gone w rising there is written = rw there tt
 
-pub change-lands : (ps es : Numbered Process) (pid : ℕ) (change : Change) (v w : Process) → IsRising ps → get ps pid ≡ Some v
+pub change-lands : (ps es : Numbered Process) (pid : ℕ) (change : Change) (v w : Process) → IsRising ps
+    → get ps pid ≡ Some v
     → w ≡ on_living change v → es ≡ set_value (is_at (nat_cmp pid)) ps w
     → IfLiving ps pid (λ a. es ≡ put ps pid (Living (changed change a)))
 change-lands ps es pid change v w rising there is written =
@@ -33,7 +34,8 @@ pub child-lands : (ps es : Numbered Process) (pid child : ℕ) (v w : Process) �
     → w ≡ with_child_there child v → es ≡ set_value (is_at (nat_cmp pid)) ps w
     → IfLiving ps pid (λ a. es ≡ put ps pid (Living (parent_after_fork a child)))
 child-lands ps es pid child v w rising there is written =
-    lands ps es pid (λ a. parent_after_fork a child) v w rising there (λ a living. is ∙ ap (with_child_there child) living) written
+    lands ps es pid (λ a. parent_after_fork a child) v w rising there
+    (λ a living. is ∙ ap (with_child_there child) living) written
 
 -- what was asked of the living process holds of its place
 pub can-there : (ps : Numbered Process) (pid : ℕ) (change : Change) (v : Process) → get ps pid ≡ Some v

@@ -8,7 +8,8 @@ use Rattle.number_maps.proofs.Order.{same-from-nat_eq}
 use Rattle.number_maps.proofs.Sets.{used-with}
 
 -- a number that isn't given out may have any way back
-pub HasWayBack-stale : (keys key_of : Numbered ℕ) (used : List ℕ) (n key : ℕ) → HasWayBack keys key_of used → is_used used n ≡ false
+pub HasWayBack-stale : (keys key_of : Numbered ℕ) (used : List ℕ) (n key : ℕ) → HasWayBack keys key_of used
+    → is_used used n ≡ false
     → HasWayBack keys (put key_of n key) used
 HasWayBack-stale keys key_of used n key h new =
     record {
@@ -22,7 +23,8 @@ HasWayBack-stale keys key_of used n key h new =
         let yes : is_used used n ≡ true = rw (← same-from-nat_eq id n is) (h.given_out q id there) in absurd (cc)
     at q id there false is = get-put-apart key_of n id key is ∙ h.back q id there
 
-pub HasWayBack-used : (keys key_of : Numbered ℕ) (used : List ℕ) (n : ℕ) → HasWayBack keys key_of used → HasWayBack keys key_of (used_with used n)
+pub HasWayBack-used : (keys key_of : Numbered ℕ) (used : List ℕ) (n : ℕ) → HasWayBack keys key_of used
+    → HasWayBack keys key_of (used_with used n)
 HasWayBack-used keys key_of used n h =
     record {
       rising = h.rising;
@@ -30,7 +32,8 @@ HasWayBack-used keys key_of used n h =
       given_out = λ q id there. used-with used n id (inr (h.given_out q id there));
     }
 
-pub HasWayBack-bound : (keys key_of : Numbered ℕ) (used : List ℕ) (n key : ℕ) → HasWayBack keys key_of used → is_used used n ≡ false
+pub HasWayBack-bound : (keys key_of : Numbered ℕ) (used : List ℕ) (n key : ℕ) → HasWayBack keys key_of used
+    → is_used used n ≡ false
     → IsRising (put keys key n) → HasWayBack (put keys key n) (put key_of n key) (used_with used n)
 HasWayBack-bound keys key_of used n key h new rising =
     record {
@@ -51,7 +54,10 @@ HasWayBack-bound keys key_of used n key h new rising =
         nat_eq-same a = grind arith
     at q id there false is =
         let old : get keys q ≡ Some id = sym (get-put-apart keys key q n is) ∙ there
-        in ((HasWayBack-stale keys key_of used n key h new).back q id old, used-with used n id (inr (h.given_out q id old)))
+        in (
+          (HasWayBack-stale keys key_of used n key h new).back q id old,
+          used-with used n id (inr (h.given_out q id old)),
+        )
 
 pub HasWayBack-noted : (keys key_of : Numbered ℕ) (used : List ℕ) (n : ℕ) (key : Option ℕ) → HasWayBack keys key_of used
     → is_used used n ≡ false → HasWayBack keys (ways_with key_of key n) used
@@ -59,6 +65,7 @@ HasWayBack-noted keys key_of used n None h new = h
 HasWayBack-noted keys key_of used n (Some key) h new = HasWayBack-stale keys key_of used n key h new
 
 pub HasWayBack-added : (keys key_of : Numbered ℕ) (used : List ℕ) (n : ℕ) (key : Option ℕ) → HasWayBack keys key_of used
-    → is_used used n ≡ false → IsRising (keys_with keys key n) → HasWayBack (keys_with keys key n) (ways_with key_of key n) (used_with used n)
+    → is_used used n ≡ false → IsRising (keys_with keys key n)
+    → HasWayBack (keys_with keys key n) (ways_with key_of key n) (used_with used n)
 HasWayBack-added keys key_of used n None h new rising = HasWayBack-used keys key_of used n h
 HasWayBack-added keys key_of used n (Some key) h new rising = HasWayBack-bound keys key_of used n key h new rising

@@ -30,7 +30,8 @@ ignores_there ps pid = option_map_or (λ a. ignores_children a.row) (living_in p
 -- isn't its own parent, and an ended one that is kept is in the table and doesn't live.
 pub record IsTable (ps : Numbered Process) (parents : Numbered ℕ) : Type 0 where
   pub rising : IsRising ps
-  pub parent : (p child : ℕ) (a : Alive) → living_in ps p ≡ Some a → lists a.row.family child ≡ true → get parents child ≡ Some p
+  pub parent : (p child : ℕ) (a : Alive) → living_in ps p ≡ Some a → lists a.row.family child ≡ true
+      → get parents child ≡ Some p
   pub listed : (p child : ℕ) (a : Alive) → living_in ps p ≡ Some a → lists a.row.family child ≡ true
       → (is_some (get ps child) ≡ true) × (nat_eq child p ≡ false)
   pub kept : (p child : ℕ) (a : Alive) → living_in ps p ≡ Some a → keeps a.row.family child ≡ true

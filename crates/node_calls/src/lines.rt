@@ -3,8 +3,8 @@ ghost use Rattle.std.specs.Prelude.{◌≡◌, ◌+◌, ◌<◌, IfSome, IsTrue,
 ghost use Rattle.std.specs.List.{list_any};
 ghost use Rattle.std.specs.Option.{option_copied};
 ghost use Rattle.kernel_model.specs.Fitting.{block_at};
-ghost use Rattle.kernel_model.specs.Script.{IsSound, is_exit};
-ghost use Rattle.node_calls.specs.Model.{lines_of};
+ghost use Rattle.kernel_model.specs.Script.{IsSoundScript, is_exit};
+ghost use Rattle.node_model.specs.Caller.{lines_of};
 ghost use Rattle.node_calls.specs.Lines.{written_lines, written_count};
 
 use pico_base::{Block, Call, Line, Node, Script, Var};
@@ -51,7 +51,8 @@ pub(crate) fn written_line(script: &Script, node: Node, line: usize) -> Option<&
 /// The terms of the line at this place, which may be the exit that the block's end stands for.
 pub(crate) fn terms_at(script: &Script, node: Node, line: usize) -> Terms
     requires { line < length (lines_of script.now node) }
-    ensures terms { IfSome (slice_get (lines_of script.now node) line) (λ l. (result.set ≡ l.set) × (result.tries ≡ l.tries)) }
+    ensures terms { IfSome (slice_get (lines_of script.now node) line) (λ l. (result.set ≡ l.set)
+        × (result.tries ≡ l.tries)) }
     ensures next { result.next ≡ line + 1 }
 {
     let lines = written_lines(script, node);
@@ -81,7 +82,7 @@ fn count_with_exit(lines: &[Line]) -> usize
 
 /// How many lines a block has, with the exit that its end stands for.
 pub(crate) fn count(script: &Script, node: Node) -> usize
-    requires { IsSound script.now }
+    requires { IsSoundScript script.now }
     ensures { result ≡ length (lines_of script.now node) }
 {
     match block_of(script, node) {

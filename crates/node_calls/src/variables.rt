@@ -1,8 +1,8 @@
 //! The variables of a process.
 ghost use Rattle.std.specs.Prelude.{◌≡◌, IfOk, IfErr, OnOk, OnErr, IsTrue};
-ghost use Rattle.kernel_model.specs.Maps.{put};
+ghost use Rattle.number_maps.specs.Maps.{put};
 ghost use Rattle.kernel_model.specs.Script.{call_of, value_of};
-ghost use Rattle.kernel_model.specs.Fitting.{setting};
+ghost use Rattle.kernel_model.specs.Fitting.{set_variable};
 ghost use Rattle.node_calls.specs.Caller.{are_rising};
 ghost use Rattle.node_calls.specs.Place.{IsAt, IsGapFor};
 
@@ -83,7 +83,7 @@ impl Variables {
 
     /// Sets the variable, if there is one. A refusal changes nothing.
     pub(crate) fn set(&mut self, variable: Option<Var>, value: u32) -> Result<(), Memory>
-        ensures ok { OnOk result (self.new ≡ setting self.old variable value) }
+        ensures ok { OnOk result (self.new ≡ set_variable self.old variable value) }
         ensures err { OnErr result (self.new ≡ self.old) }
     {
         match variable {
@@ -129,7 +129,7 @@ impl Variables {
 
     /// All values, with 0 for this variable, if there is one.
     pub(crate) fn with_zero(&self, alloc: Global, variable: Option<Var>) -> Result<Vars, Memory>
-        ensures { IfOk result (λ vars. vars ≡ setting self.now variable 0) }
+        ensures { IfOk result (λ vars. vars ≡ set_variable self.now variable 0) }
     {
         let mut copy = self.try_copy(alloc)?;
         copy.set(variable, 0)?;

@@ -13,7 +13,8 @@ use Rattle.kernel_model.specs.Queue.{Queue, send}
 use Rattle.call_answers.specs.Answers.{Changes}
 use Rattle.call_answers.proofs.Landing.{unsent-lands}
 
-pub refused-send-lands : (m es : Numbered Queue) (id : ℕ) (v w : Queue) (e : Errno) (fault : SendFault) (pid : ℕ) (class : ℤ) (text : List ℕ)
+pub refused-send-lands : (m es : Numbered Queue) (id : ℕ) (v w : Queue) (e : Errno) (fault : SendFault) (pid : ℕ)
+    (class : ℤ) (text : List ℕ)
     → get m id ≡ Some v → fault ≡ No e → RefusesSend text (send v pid class text) fault → w ≡ v
     → es ≡ set_value (is_at (nat_cmp id)) m w → Changes (λ q. send q pid class text) m id es (Fail e)
 refused-send-lands m es id v w e fault pid class text there is refused same written =

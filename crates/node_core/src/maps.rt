@@ -73,7 +73,8 @@ pub(crate) fn send_at(
     class: i32,
     text: Bytes,
 ) -> Result<Reply, Memory>
-    ensures { IfOk result (λ reply. Changes (λ q. send q pid class text) queues.old.entries id queues.new.entries reply) }
+    ensures { IfOk result
+        (λ reply. Changes (λ q. send q pid class text) queues.old.entries id queues.new.entries reply) }
 {
     let Some(queue) = queues.get_mut(&id) else {
         return Ok(Reply::Fail(Errno::Einval));

@@ -27,7 +27,8 @@ module _ {V : Type 0} where
   remove-put [] k v none = rw (cmp-same k)
   remove-put (e ∷ es) k v none = undone k v e es (put es k v) (nat_cmp k e.0) refl none (remove-put es k v)
 
-  rewritten : (k : ℕ) (v w : V) (e : ℕ × V) (es rest : Numbered V) (o : Ordering) → nat_cmp k e.0 ≡ o → put rest k w ≡ put es k w
+  rewritten : (k : ℕ) (v w : V) (e : ℕ × V) (es rest : Numbered V) (o : Ordering) → nat_cmp k e.0 ≡ o
+      → put rest k w ≡ put es k w
       → put (match_ordering o ((k, v) ∷ e ∷ es) ((e.0, v) ∷ es) (e ∷ rest)) k w ≡ put (e ∷ es) k w
   rewritten k v w e es rest Less h rec = rw (cmp-same k, h)
   rewritten k v w e es rest Equal h rec = rw h
@@ -39,7 +40,8 @@ module _ {V : Type 0} where
 
   -- maps in order
 
-  pub less-none : (k : ℕ) (e : ℕ × V) (es : Numbered V) → IsRising (e ∷ es) → nat_cmp k e.0 ≡ Less → get (e ∷ es) k ≡ None
+  pub less-none : (k : ℕ) (e : ℕ × V) (es : Numbered V) → IsRising (e ∷ es) → nat_cmp k e.0 ≡ Less
+      → get (e ∷ es) k ≡ None
   less-none k e es rising h = lookup-none _ (e ∷ es) (none_below_head nat_cmp_total k e es rising h)
 
   pub past-none : (k : ℕ) (es : Numbered V) → AllByRecursion (λ y. nat_cmp k y ≡ Less) (keys_of es) → get es k ≡ None
@@ -49,12 +51,14 @@ module _ {V : Type 0} where
       in rw no (past-none k es above.1)
 
   -- what the rest has at a number, the whole has
-  pub get-rest : (e : ℕ × V) (es : Numbered V) (q : ℕ) (x : V) → IsRising (e ∷ es) → get es q ≡ Some x → get (e ∷ es) q ≡ Some x
+  pub get-rest : (e : ℕ × V) (es : Numbered V) (q : ℕ) (x : V) → IsRising (e ∷ es) → get es q ≡ Some x
+      → get (e ∷ es) q ≡ Some x
   get-rest e es q x rising there = at (nat_eq q e.0) refl
     where
       at : (b : Bool) → nat_eq q e.0 ≡ b → get (e ∷ es) q ≡ Some x
       at true is =
-          let none : get es q ≡ None = rw (same-from-nat_eq q e.0 is) (past-none e.0 es (sorted_head nat_cmp e.0 (keys_of es) rising))
+          let none : get es q ≡ None =
+          rw (same-from-nat_eq q e.0 is) (past-none e.0 es (sorted_head nat_cmp e.0 (keys_of es) rising))
           in absurd (cc)
       at false is = let no : is_at (nat_cmp q) e.0 ≡ false = is_at-nat_eq q e.0 ∙ is in rw no there
 
@@ -64,19 +68,23 @@ module _ {V : Type 0} where
   written k v w e es rest Less h rising there rec =
       let none : get (e ∷ es) k ≡ None = less-none k e es rising h in absurd (cc)
   written k v w e es rest Equal h rising there rec = rw h
-  written k v w e es rest Greater h rising there rec = let later : get es k ≡ Some w = rw h at there in rw (h, rec later)
+  written k v w e es rest Greater h rising there rec = let later : get es k ≡ Some w =
+      rw h at there in rw (h, rec later)
 
   -- a value written where one is
-  pub set_value-put : (m : Numbered V) (k : ℕ) (v w : V) → IsRising m → get m k ≡ Some w → set_value (is_at (nat_cmp k)) m v ≡ put m k v
+  pub set_value-put : (m : Numbered V) (k : ℕ) (v w : V) → IsRising m → get m k ≡ Some w
+      → set_value (is_at (nat_cmp k)) m v ≡ put m k v
   set_value-put [] k v w rising there = absurd (cc)
   set_value-put (e ∷ es) k v w rising there =
-      written k v w e es (put es k v) (nat_cmp k e.0) refl rising there (set_value-put es k v w (sorted_tail nat_cmp e.0 (keys_of es) rising))
+      written k v w e es (put es k v) (nat_cmp k e.0) refl rising there
+      (set_value-put es k v w (sorted_tail nat_cmp e.0 (keys_of es) rising))
 
   keep-all : (k : ℕ) (es : Numbered V) → AllByRecursion (λ y. nat_cmp k y ≡ Less) (keys_of es) → without es k ≡ es
   keep-all k [] above = refl
   keep-all k (e ∷ es) above = rw (less-apart k e.0 above.0, keep-all k es above.1)
 
-  left_out : (k : ℕ) (e : ℕ × V) (es rest : Numbered V) (b : Bool) → nat_eq k e.0 ≡ b → IsRising (e ∷ es) → without es k ≡ rest
+  left_out : (k : ℕ) (e : ℕ × V) (es rest : Numbered V) (b : Bool) → nat_eq k e.0 ≡ b → IsRising (e ∷ es)
+      → without es k ≡ rest
       → cond (not b) (e ∷ without es k) (without es k) ≡ cond b es (e ∷ rest)
   left_out k e es rest true h rising rec =
       rw (same-from-nat_eq k e.0 h) (keep-all e.0 es (sorted_head nat_cmp e.0 (keys_of es) rising))
@@ -86,11 +94,13 @@ module _ {V : Type 0} where
   without-remove [] k rising = refl
   without-remove (e ∷ es) k rising =
       rw (is_at-nat_eq k e.0)
-      (left_out k e es (remove_entry (is_at (nat_cmp k)) es) (nat_eq k e.0) refl rising (without-remove es k (sorted_tail nat_cmp e.0 (keys_of es) rising)))
+      (left_out k e es (remove_entry (is_at (nat_cmp k)) es) (nat_eq k e.0) refl rising
+      (without-remove es k (sorted_tail nat_cmp e.0 (keys_of es) rising)))
 
   -- the numbers of a map
 
-  known : (n : ℕ) (e : ℕ × V) (es : Numbered V) (b : Bool) → nat_eq n e.0 ≡ b → list_any (nat_eq n) (keys_of es) ≡ is_some (get es n)
+  known : (n : ℕ) (e : ℕ × V) (es : Numbered V) (b : Bool) → nat_eq n e.0 ≡ b
+      → list_any (nat_eq n) (keys_of es) ≡ is_some (get es n)
       → (b || list_any (nat_eq n) (keys_of es)) ≡ is_some (cond b (Some e.1) (get es n))
   known n e es true h rec = refl
   known n e es false h rec = rec

@@ -70,7 +70,8 @@ get-without-same [] k = refl
 get-without-same {V} (e ∷ m) k =
     let p : ℕ × V → Bool = λ d. not (nat_eq k d.0)
     in elim (cases_eq k e.0) [
-      | inl same ↦ ap (λ r. get r k) (filter-dropped p e m (not_from_true (nat_eq k e.0) (eq-eqb k e.0 same))) ∙ get-without-same m k
+      | inl same ↦ ap (λ r. get r k) (filter-dropped p e m (not_from_true (nat_eq k e.0) (eq-eqb k e.0 same)))
+          ∙ get-without-same m k
       | inr ne ↦
           ap (λ r. get r k) (filter-kept p e m (not_from_false (nat_eq k e.0) (ne_eqb k e.0 ne)))
           ∙ (get-later e (without m k) k ne ∙ get-without-same m k)

@@ -68,10 +68,12 @@ rising-filter {V} p (e ∷ m) r =
 -- nothing stands at a number that is below all
 pub get-above : {V : Type 0} (n : ℕ) (m : Numbered V) → Above n m → get m n ≡ None
 get-above n [] a = refl
-get-above n (e ∷ m) a = let l : n < e.0 = a.0 in let ne : n ≢ e.0 = omega arith in get-later e m n ne ∙ get-above n m a.1
+get-above n (e ∷ m) a = let l : n < e.0 = a.0 in let ne : n ≢ e.0 =
+    omega arith in get-later e m n ne ∙ get-above n m a.1
 
 -- the same by std's word for lists: the numbers are strictly increasing
-first-below : {V : Type 0} (n : ℕ) (m : Numbered V) → Above n m → 0 < length (map (λ e. e.0) m) → n < slice_index (map (λ e. e.0) m) 0
+first-below : {V : Type 0} (n : ℕ) (m : Numbered V) → Above n m → 0 < length (map (λ e. e.0) m)
+    → n < slice_index (map (λ e. e.0) m) 0
 first-below n [] a h = absurd (omega arith)
 first-below n (e ∷ m) a h = a.0
 
@@ -81,16 +83,20 @@ ordered (e ∷ m) r zero h = first-below e.0 m r.0 (omega arith)
 ordered (e ∷ m) r (suc k) h =
     let i = ordered m r.1 k (omega arith)
     in let s : suc k + 1 ≡ suc (k + 1) = omega arith
-    in subst (λ (j : ℕ). slice_index (map (λ e. e.0) (e ∷ m)) (suc k) < slice_index (map (λ e. e.0) (e ∷ m)) j) (sym s) i
+    in subst (λ (j : ℕ). slice_index (map (λ e. e.0) (e ∷ m)) (suc k) < slice_index (map (λ e. e.0) (e ∷ m)) j)
+    (sym s) i
 
-above-first : {V : Type 0} (n : ℕ) (m : Numbered V) → Rising m → (0 < length (map (λ e. e.0) m) → n < slice_index (map (λ e. e.0) m) 0) → Above n m
+above-first : {V : Type 0} (n : ℕ) (m : Numbered V) → Rising m
+    → (0 < length (map (λ e. e.0) m) → n < slice_index (map (λ e. e.0) m) 0) → Above n m
 above-first n [] r h = tt
 above-first n (d ∷ m) r h = let l : n < d.0 = h (omega arith) in (l, above-lower n d.0 m l r.0)
 
-ordered-later : {V : Type 0} (e : ℕ × V) (m : Numbered V) → IsStrictlyIncreasing (map (λ e. e.0) (e ∷ m)) → IsStrictlyIncreasing (map (λ e. e.0) m)
+ordered-later : {V : Type 0} (e : ℕ × V) (m : Numbered V) → IsStrictlyIncreasing (map (λ e. e.0) (e ∷ m))
+    → IsStrictlyIncreasing (map (λ e. e.0) m)
 ordered-later e m h k l =
     let s : suc k + 1 ≡ suc (k + 1) = omega arith
-    in subst (λ (j : ℕ). slice_index (map (λ d. d.0) (e ∷ m)) (suc k) < slice_index (map (λ d. d.0) (e ∷ m)) j) s (h (suc k) (omega arith))
+    in subst (λ (j : ℕ). slice_index (map (λ d. d.0) (e ∷ m)) (suc k) < slice_index (map (λ d. d.0) (e ∷ m)) j) s
+    (h (suc k) (omega arith))
 
 pub rising : {V : Type 0} (m : Numbered V) → IsStrictlyIncreasing (map (λ e. e.0) m) → Rising m
 rising [] h = tt

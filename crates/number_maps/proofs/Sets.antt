@@ -35,7 +35,8 @@ used-with-same (x ∷ u) n =
             | inl l ↦ ap (λ r. is_used r n) (with-less x u n l) ∙ used-first n (x ∷ u) n refl
             | inr g ↦
                 let ne : n ≢ x = omega arith
-                in ap (λ r. is_used r n) (with-greater x u n g) ∙ (used-later x (used_with u n) n ne ∙ used-with-same u n)
+                in ap (λ r. is_used r n) (with-greater x u n g)
+                ∙ (used-later x (used_with u n) n ne ∙ used-with-same u n)
           ]
     ]
 
@@ -54,7 +55,8 @@ used-with-other (x ∷ u) n q ne =
       | inr c ↦
           elim c [
             | inl l ↦ ap (λ r. is_used r q) (with-less x u n l) ∙ used-later n (x ∷ u) q ne
-            | inr g ↦ ap (λ r. is_used r q) (with-greater x u n g) ∙ used-ap x (used_with u n) u q (used-with-other u n q ne)
+            | inr g ↦ ap (λ r. is_used r q) (with-greater x u n g)
+                ∙ used-ap x (used_with u n) u q (used-with-other u n q ne)
           ]
     ]
 
@@ -66,8 +68,10 @@ used-stays u n q h =
       | inr ne ↦ used-with-other u n q ne ∙ h
     ]
 
-pub used-with : (used : List ℕ) (n q : ℕ) → (nat_eq q n ≡ true) ⊎ (is_used used q ≡ true) → is_used (used_with used n) q ≡ true
-used-with used n q (inl same) = subst (λ (r : ℕ). is_used (used_with used n) r ≡ true) (sym (same-from-nat_eq q n same)) (used-with-same used n)
+pub used-with : (used : List ℕ) (n q : ℕ) → (nat_eq q n ≡ true) ⊎ (is_used used q ≡ true)
+    → is_used (used_with used n) q ≡ true
+used-with used n q (inl same) =
+    subst (λ (r : ℕ). is_used (used_with used n) r ≡ true) (sym (same-from-nat_eq q n same)) (used-with-same used n)
 used-with used n q (inr there) = used-stays used n q there
 
 -- as the code's ordered set has it
@@ -80,10 +84,12 @@ taken_back : (n x : ℕ) (xs rest : List ℕ) (o : Ordering) → nat_cmp n x ≡
     → remove_key (is_at (nat_cmp n)) (match_ordering o (n ∷ x ∷ xs) (x ∷ xs) (x ∷ rest)) ≡ x ∷ xs
 taken_back n x xs rest Less h new rec = rw (cmp-same n)
 taken_back n x xs rest Equal h new rec =
-    let yes : nat_eq n x ≡ true = sym (is_at-nat_eq n x) ∙ ap is_eq h in let no : true ≡ false = rw yes at new in absurd (cc)
+    let yes : nat_eq n x ≡ true = sym (is_at-nat_eq n x) ∙ ap is_eq h in let no : true ≡ false =
+    rw yes at new in absurd (cc)
 taken_back n x xs rest Greater h new rec =
     let later : is_used xs n ≡ false = rw (greater-apart n x h) at new in rw (h, rec later)
 
-pub remove-used : (used : List ℕ) (n : ℕ) → is_used used n ≡ false → remove_key (is_at (nat_cmp n)) (used_with used n) ≡ used
+pub remove-used : (used : List ℕ) (n : ℕ) → is_used used n ≡ false
+    → remove_key (is_at (nat_cmp n)) (used_with used n) ≡ used
 remove-used [] n new = rw (cmp-same n)
 remove-used (x ∷ xs) n new = taken_back n x xs (used_with xs n) (nat_cmp n x) refl new (remove-used xs n)

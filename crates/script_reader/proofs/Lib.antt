@@ -7,3 +7,11 @@ pub mod Quotes
 pub mod Steps
 pub mod Given
 pub mod Ranges
+pub mod Widths
+pub mod CallRanges
+pub mod Saying
+pub mod Opened
+pub mod Tidy
+pub mod Forked
+pub mod Known
+pub mod Sound

@@ -1,6 +1,6 @@
 -- The parts of a line: words that are numbers, variables, names, signals and texts.
 use Rattle.std.specs.Prelude.{ℕ, zero, suc, ◌+◌, ◌-◌, ◌*◌, ℤ, pos, negsuc, Bool, true, false, ◌&&◌, ◌||◌, not, ◌==◌, nat_le, List, [], ◌∷◌, length, take, drop, replicate, codes, bytes_eq, if◌then◌else◌, Option, Some, None, option_map, option_and_then, position}
-use Rattle.std.specs.List.{list_all, find}
+use Rattle.std.specs.List.{find}
 use Rattle.std.specs.Option.{option_map_or}
 use Rattle.pico_base.specs.declared.call.SemStep.{SemStep}
 use Rattle.pico_base.specs.declared.signal.Sig.{Sig}
@@ -30,9 +30,6 @@ is_digit b = nat_le 48 b && nat_le b 57
 -- a letter or a digit
 abbrev pub is_alphanumeric : ℕ → Bool
 is_alphanumeric b = is_lowercase b || (is_digit b || (nat_le 65 b && nat_le b 90))
-
-abbrev pub is_name_byte : ℕ → Bool
-is_name_byte b = is_lowercase b || (is_digit b || b == 95)
 
 -- a printable byte that stands for itself between quotes: neither `"` nor `\`
 abbrev pub is_text_byte : ℕ → Bool
@@ -94,11 +91,6 @@ variable (l ∷ d ∷ e ∷ []) =
     then Some (letter_index l + (11 + (10 * (d - 48) + (e - 48))))
     else None
 variable _ = None
-
--- a block's name: a lower-case letter, and up to 31 lower-case letters, digits or `_`
-unfoldable pub is_name : List ℕ → Bool
-is_name [] = false
-is_name (first ∷ others) = is_lowercase first && (nat_le (length others) 31 && list_all is_name_byte others)
 
 -- ---- signals
 

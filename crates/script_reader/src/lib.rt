@@ -16,3 +16,6 @@ mod words;
 
 pub use fault::{ScriptFault, ScriptStop};
 pub use script::{read_runnable, read_script};
+
+#[cfg(test)]
+mod tests;

@@ -3,9 +3,10 @@
 ghost use Rattle.std.specs.Prelude.{◌≡◌, ◌≤◌, ◌==◌, false, IfOk, IfSome, option_map, option_copied, position, length, ◌<◌};
 ghost use Rattle.std.specs.List.{list_all, find};
 ghost use Rattle.pico_base.specs.Signal.{everywhere};
+ghost use Rattle.kernel_model.specs.Script.{is_name, is_name_byte};
 ghost use Rattle.kernel_model.specs.Trace.{signal_name, action_name, how_name};
 ghost use Rattle.script_reader.specs.Words.{texts};
-ghost use Rattle.script_reader.specs.Parts.{strip, cut as cut_of, is_name_byte, is_text_byte, letter_index as index_of_letter, variable as variable_of, is_name, signal as signal_of, signal_argument as signal_argument_of, action as action_of, how as how_of, signals_with, signal_set as signal_set_of};
+ghost use Rattle.script_reader.specs.Parts.{strip, cut as cut_of, is_text_byte, letter_index as index_of_letter, variable as variable_of, signal as signal_of, signal_argument as signal_argument_of, action as action_of, how as how_of, signals_with, signal_set as signal_set_of};
 
 use crate::words::pieces;
 use pico_base::{Act, How, Memory, Sig, SigArg, SigSet, Var};
@@ -74,14 +75,13 @@ fn are_name_parts(bytes: &[u8]) -> bool
 }
 
 /// Whether the word can be a block's name.
-#[tactic(auto, unfolding(crate::specs::Parts::is_name))]
 pub(crate) fn is_block_name(word: &[u8]) -> bool
     ensures { result ≡ is_name word.now }
 {
     match word {
         [] => false,
         [first, others @ ..] => {
-            first.is_ascii_lowercase() && others.len() <= 31 && are_name_parts(others)
+            first.is_ascii_lowercase() && are_name_parts(others) && others.len() <= 31
         }
     }
 }

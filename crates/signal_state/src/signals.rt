@@ -30,9 +30,16 @@ impl Model for Signals {
 
     ghost Value = { State };
 
-    ghost view = { λ s. record { actions = s.actions; mask = s.mask; pending = s.pending; handled = s.handled; doom = s.doom } };
+    ghost view = { λ s. record {
+      actions = s.actions;
+      mask = s.mask;
+      pending = s.pending;
+      handled = s.handled;
+      doom = s.doom;
+    } };
 
-    ghost invariant = { λ s. IsHeld (record { actions = s.actions; mask = s.mask; pending = s.pending; handled = s.handled; doom = s.doom }) };
+    ghost invariant = { λ s. IsHeld
+        (record { actions = s.actions; mask = s.mask; pending = s.pending; handled = s.handled; doom = s.doom }) };
 }
 
 impl Signals {

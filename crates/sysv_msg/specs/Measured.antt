@@ -13,9 +13,16 @@ pub record Measures (read : Option (List Message × List ℕ)) (room : ℕ) (res
 -- a queue was read, with these numbers, and with the messages of these bytes
 pub record HasFields (qbytes sender receiver count room : ℕ) (bytes : List ℕ) (read : Option Queue) : Type 0 where
   pub measured : Measures (messages_at count max_queue_bytes bytes) room []
-  pub is_read : read ≡ Some (record { messages = measured.messages; qbytes = qbytes; last_sender = sender; last_receiver = receiver })
+  pub is_read : read ≡ Some
+      (record { messages = measured.messages; qbytes = qbytes; last_sender = sender; last_receiver = receiver })
 
 -- the bytes are the body of the queue with these numbers and these messages
 pub record HasBody (qbytes sender receiver count room : ℕ) (bytes whole : List ℕ) : Type 0 where
   pub measured : Measures (messages_at count max_queue_bytes bytes) room []
-  pub body : IsBodyOf (record { messages = measured.messages; qbytes = qbytes; last_sender = sender; last_receiver = receiver }) whole
+  pub body : IsBodyOf (record {
+    messages = measured.messages;
+    qbytes = qbytes;
+    last_sender = sender;
+    last_receiver =
+        receiver;
+  }) whole

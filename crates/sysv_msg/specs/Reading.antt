@@ -44,7 +44,14 @@ fields_at bytes = do
   receiver ← number_at w32 sender.1
   count ← number_upto w16 max_messages receiver.1
   messages ← messages_at count.0 max_queue_bytes count.1
-  if length messages.1 == 0 then Some (record { messages = messages.0; qbytes = qbytes.0; last_sender = sender.0; last_receiver = receiver.0 }) else None
+  if length messages.1 == 0 then Some
+      (record {
+        messages = messages.0;
+        qbytes = qbytes.0;
+        last_sender = sender.0;
+        last_receiver =
+            receiver.0;
+      }) else None
 
 unfoldable pub queue_at : List ℕ → Option Queue
 queue_at [] = None

@@ -38,9 +38,22 @@ impl Model for Queue {
 
     ghost Value = { Value_ };
 
-    ghost view = { λ q. record { messages = q.messages.items; qbytes = q.qbytes; last_sender = q.last_sender; last_receiver = q.last_receiver } };
+    ghost view = { λ q. record {
+      messages = q.messages.items;
+      qbytes = q.qbytes;
+      last_sender =
+          q.last_sender;
+      last_receiver = q.last_receiver;
+    } };
 
-    ghost invariant = { λ q. (q.bytes ≡ bytes_of q.messages.items) × IsWithinLimits (record { messages = q.messages.items; qbytes = q.qbytes; last_sender = q.last_sender; last_receiver = q.last_receiver }) };
+    ghost invariant = { λ q. (q.bytes ≡ bytes_of q.messages.items)
+        × IsWithinLimits (record {
+          messages = q.messages.items;
+          qbytes = q.qbytes;
+          last_sender =
+              q.last_sender;
+          last_receiver = q.last_receiver;
+        }) };
 }
 
 /// Why a message wasn't sent.

@@ -126,7 +126,8 @@ fn unpacked(bytes: &[u8]) -> Option<Fields<'_>>
 /// Copies the messages of bytes that were read.
 fn copied(alloc: Global, count: u16, bytes: &[u8]) -> Result<VecDeque<Message>, Memory>
     requires { IsSome (messages_at count max_queue_bytes bytes.now) }
-    ensures { IfOk result (λ messages. messages_in (messages_at count max_queue_bytes bytes.now) ≡ Some messages.items) }
+    ensures { IfOk result
+        (λ messages. messages_in (messages_at count max_queue_bytes bytes.now) ≡ Some messages.items) }
 {
     let mut messages = VecDeque::new(alloc);
     let mut room = MAX_BYTES;

@@ -18,27 +18,38 @@ use Rattle.sysv_sem.proofs.Loop.{semaphores_repeat}
 abbrev IsFine : Semaphore → Type 0
 IsFine s = s.value ≤ max_value
 
-semaphore_takes : (bytes : List ℕ) (x : Semaphore × List ℕ) → IsBytes bytes → semaphore_at bytes ≡ Some x → Takes bytes (semaphore_field x.0) x.1 × IsFine x.0 × HasProcess x.0
+semaphore_takes : (bytes : List ℕ) (x : Semaphore × List ℕ) → IsBytes bytes → semaphore_at bytes ≡ Some x
+    → Takes bytes (semaphore_field x.0) x.1 × IsFine x.0 × HasProcess x.0
 unfolding semaphore_at
 semaphore_takes bytes x fits e =
-    let a = bind_some (number_upto w16 max_value bytes) (λ value. number_at w32 value.1 >>= λ last. Some (record { value = value.0; last = last.0 }, last.1)) x e in
+    let a = bind_some (number_upto w16 max_value bytes)
+    (λ value. number_at w32 value.1 >>= λ last. Some (record { value = value.0; last = last.0 }, last.1)) x e in
     let b = bind_some (number_at w32 a.0.1) (λ last. Some (record { value = a.0.0; last = last.0 }, last.1)) x a.2 in
     let t0 = number_upto_takes w16 (2 ^ 16) wide16 max_value bytes a.0 fits a.1 in
     let t1 = number_takes w32 (2 ^ 32) wide32 a.0.1 b.0 t0.0.rest_fits b.1 in
     let both = Takes-then bytes (to_be_bytes w16 a.0.0) a.0.1 (to_be_bytes w32 b.0.0) b.0.1 t0.0 t1.0 in
     let made : Semaphore × List ℕ = (record { value = a.0.0; last = b.0.0 }, b.0.1) in
-    subst (λ (y : Semaphore × List ℕ). Takes bytes (semaphore_field y.0) y.1 × IsFine y.0 × HasProcess y.0) (some_is made x b.2) (both, t0.1, t1.1)
+    subst (λ (y : Semaphore × List ℕ). Takes bytes (semaphore_field y.0) y.1 × IsFine y.0 × HasProcess y.0)
+    (some_is made x b.2) (both, t0.1, t1.1)
 
-semaphore_again : (s : Semaphore) (rest : List ℕ) → IsFine s → HasProcess s → semaphore_at (semaphore_field s ++ rest) ≡ Some (s, rest)
+semaphore_again : (s : Semaphore) (rest : List ℕ) → IsFine s → HasProcess s
+    → semaphore_at (semaphore_field s ++ rest) ≡ Some (s, rest)
 unfolding semaphore_at
 semaphore_again s rest fine process =
-    let regrouped : semaphore_field s ++ rest ≡ to_be_bytes w16 s.value ++ (to_be_bytes w32 s.last ++ rest) = append_assoc (to_be_bytes w16 s.value) (to_be_bytes w32 s.last) rest in
-    ap semaphore_at regrouped ∙ rw (number_upto_again w16 (2 ^ 16) wide16 max_value s.value (to_be_bytes w32 s.last ++ rest) (omega arith) fine, number_again w32 (2 ^ 32) wide32 s.last rest process) refl
+    let regrouped : semaphore_field s ++ rest ≡ to_be_bytes w16 s.value ++ (to_be_bytes w32 s.last ++ rest) =
+    append_assoc (to_be_bytes w16 s.value) (to_be_bytes w32 s.last) rest in
+    ap semaphore_at regrouped
+    ∙ rw (
+      number_upto_again w16 (2 ^ 16) wide16 max_value s.value (to_be_bytes w32 s.last ++ rest)
+          (omega arith) fine,
+      number_again w32 (2 ^ 32) wide32 s.last rest process,
+    ) refl
 
 abbrev IsField : Semaphore → Type 0
 IsField s = IsFine s × HasProcess s
 
-one_takes : (bytes : List ℕ) (x : Semaphore × List ℕ) → IsBytes bytes → semaphore_at bytes ≡ Some x → Takes bytes (semaphore_field x.0) x.1 × IsField x.0
+one_takes : (bytes : List ℕ) (x : Semaphore × List ℕ) → IsBytes bytes → semaphore_at bytes ≡ Some x
+    → Takes bytes (semaphore_field x.0) x.1 × IsField x.0
 one_takes bytes x fits e =
     let t = semaphore_takes bytes x fits e in
     (t.0, (t.1, t.2))
@@ -46,25 +57,31 @@ one_takes bytes x fits e =
 one_again : (s : Semaphore) (rest : List ℕ) → IsField s → semaphore_at (semaphore_field s ++ rest) ≡ Some (s, rest)
 one_again s rest h = semaphore_again s rest h.0 h.1
 
-all_fields : (set : List Semaphore) → AllByRecursion IsFine set → AllByRecursion HasProcess set → AllByRecursion IsField set
+all_fields : (set : List Semaphore) → AllByRecursion IsFine set → AllByRecursion HasProcess set
+    → AllByRecursion IsField set
 all_fields [] fine process = tt
 all_fields (s ∷ set) fine process = ((fine.0, process.0), all_fields set fine.1 process.1)
 
-each_field : (set : List Semaphore) → AllByRecursion IsField set → AllByRecursion IsFine set × AllByRecursion HasProcess set
+each_field : (set : List Semaphore) → AllByRecursion IsField set → AllByRecursion IsFine set
+    × AllByRecursion HasProcess set
 each_field [] all = (tt, tt)
 each_field (s ∷ set) all =
     let rest = each_field set all.1 in
     ((all.0.0, rest.0), (all.0.1, rest.1))
 
-pub semaphores_take : (n : ℕ) (bytes : List ℕ) (x : List Semaphore × List ℕ) → IsBytes bytes → semaphores_at n bytes ≡ Some x
-    → Takes bytes (flat_map semaphore_field x.0) x.1 × (length x.0 ≡ n) × AllByRecursion IsFine x.0 × AllByRecursion HasProcess x.0
+pub semaphores_take : (n : ℕ) (bytes : List ℕ) (x : List Semaphore × List ℕ) → IsBytes bytes
+    → semaphores_at n bytes ≡ Some x
+    → Takes bytes (flat_map semaphore_field x.0) x.1 × (length x.0 ≡ n) × AllByRecursion IsFine x.0
+    × AllByRecursion HasProcess x.0
 semaphores_take n bytes x fits e =
     let t = many_takes semaphores_repeat semaphore_field IsField one_takes n bytes x fits e in
     let all = each_field x.0 t.2 in
     (t.0, t.1, all.0, all.1)
 
-semaphores_again : (set : List Semaphore) (rest : List ℕ) → AllByRecursion IsFine set → AllByRecursion HasProcess set → semaphores_at (length set) (flat_map semaphore_field set ++ rest) ≡ Some (set, rest)
-semaphores_again set rest fine process = many_again semaphores_repeat semaphore_field IsField one_again set rest (all_fields set fine process)
+semaphores_again : (set : List Semaphore) (rest : List ℕ) → AllByRecursion IsFine set → AllByRecursion HasProcess set
+    → semaphores_at (length set) (flat_map semaphore_field set ++ rest) ≡ Some (set, rest)
+semaphores_again set rest fine process =
+    many_again semaphores_repeat semaphore_field IsField one_again set rest (all_fields set fine process)
 
 -- a refusing test that did not refuse
 let_through : {A : Type 0} (b : Bool) (o : Option A) (y : A) → cond b None o ≡ Some y → (b ≡ false) × (o ≡ Some y)
@@ -81,26 +98,39 @@ fine_count (suc n) some few =
     let other : eqb (suc n) 0 ≡ false = grind (arith, nat_tests) in
     rw other (le-ltb _ _ few)
 
-counted_takes : (count : ℕ) (bytes : List ℕ) (set : SemaphoreSet) → IsBytes bytes → counted_at count bytes ≡ Some set → IsBodyOf set (set_code ∷ count ∷ bytes)
+counted_takes : (count : ℕ) (bytes : List ℕ) (set : SemaphoreSet) → IsBytes bytes → counted_at count bytes ≡ Some set
+    → IsBodyOf set (set_code ∷ count ∷ bytes)
 unfolding counted_at fields_at
 counted_takes count bytes set fits e =
-    let g = let_through (is_bad_count count) (semaphores_at count bytes >>= λ x. cond (eqb (length x.1) 0) (Some (set_of x.0)) None) set e in
+    let g = let_through (is_bad_count count)
+    (semaphores_at count bytes >>= λ x. cond (eqb (length x.1) 0) (Some (set_of x.0)) None) set e in
     let bad = or_parts (eqb count 0) (ltb max_semaphores count) g.0 in
     let a = bind_some (semaphores_at count bytes) (λ x. cond (eqb (length x.1) 0) (Some (set_of x.0)) None) set g.1 in
     let h = guard_ended (eqb (length a.0.1) 0) (set_of a.0.0) set a.2 in
     let t = semaphores_take count bytes a.0 fits a.1 in
     let nothing : a.0.1 ≡ [] = nil_from_length a.0.1 (eqb-true _ _ h.0) in
-    let whole : bytes ≡ flat_map semaphore_field a.0.0 = t.0.parts ∙ ap (λ (r : List ℕ). flat_map semaphore_field a.0.0 ++ r) nothing ∙ append-nil (flat_map semaphore_field a.0.0) in
+    let whole : bytes ≡ flat_map semaphore_field a.0.0 =
+    t.0.parts ∙ ap (λ (r : List ℕ). flat_map semaphore_field a.0.0 ++ r) nothing
+    ∙ append-nil (flat_map semaphore_field a.0.0) in
     subst (λ (x : SemaphoreSet). IsBodyOf x (set_code ∷ count ∷ bytes)) h.1 (record {
-      limits = record { some = omega (arith, t.1, some_count count bad.0); count = omega (arith, t.1, ltb-false _ _ bad.1); each = t.2 };
+      limits = record {
+        some = omega (arith, t.1, some_count count bad.0);
+        count =
+            omega (arith, t.1, ltb-false _ _ bad.1);
+        each = t.2;
+      };
       processes = t.3;
-      spelled = ap (λ (r : List ℕ). set_code ∷ count ∷ r) whole ∙ ap (λ (n : ℕ). set_code ∷ n ∷ flat_map semaphore_field a.0.0) (sym t.1);
+      spelled = ap (λ (r : List ℕ). set_code ∷ count ∷ r) whole
+          ∙ ap (λ (n : ℕ). set_code ∷ n ∷ flat_map semaphore_field a.0.0) (sym t.1);
     })
 
-counted_again : (set : List Semaphore) → IsWithinLimits (set_of set) → AllByRecursion HasProcess set → counted_at (length set) (flat_map semaphore_field set) ≡ Some (set_of set)
+counted_again : (set : List Semaphore) → IsWithinLimits (set_of set) → AllByRecursion HasProcess set
+    → counted_at (length set) (flat_map semaphore_field set) ≡ Some (set_of set)
 unfolding counted_at fields_at
 counted_again set limits processes =
-    let rest : semaphores_at (length set) (flat_map semaphore_field set) ≡ Some (set, []) = ap (semaphores_at (length set)) (sym (append-nil (flat_map semaphore_field set))) ∙ semaphores_again set [] limits.each processes in
+    let rest : semaphores_at (length set) (flat_map semaphore_field set) ≡ Some (set, []) =
+    ap (semaphores_at (length set)) (sym (append-nil (flat_map semaphore_field set)))
+    ∙ semaphores_again set [] limits.each processes in
     rw (fine_count (length set) limits.some limits.count, rest) refl
 
 -- bytes that are read as a set are its body, and a set's body is read as that set
@@ -125,7 +155,8 @@ pub one_set : (bytes : List ℕ) (a b : SemaphoreSet) → IsBodyOf a bytes → I
 one_set bytes a b is is' = some_is a b (sym (set_again a bytes is) ∙ set_again b bytes is')
 
 -- what reading gives is the set whose body the bytes are, if they are one's
-pub is_read : {X : Type 0} (view : X → SemaphoreSet) (bytes : List ℕ) (r : Option X) → IsBytes bytes → Reads view r (set_at bytes)
+pub is_read : {X : Type 0} (view : X → SemaphoreSet) (bytes : List ℕ) (r : Option X) → IsBytes bytes
+    → Reads view r (set_at bytes)
     → MatchOption r ((set : SemaphoreSet) → IsBodyOf set bytes → ⊥) (λ x. IsBodyOf (view x) bytes)
 is_read view bytes None fits read = no_set bytes read
 is_read view bytes (Some x) fits read = set_takes bytes (view x) fits read

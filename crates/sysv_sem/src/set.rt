@@ -34,7 +34,8 @@ impl Model for SemSet {
 
     ghost view = { λ s. record { semaphores = s.semaphores.items } };
 
-    ghost invariant = { λ s. (length s.scratch.items ≡ length s.semaphores.items) × IsWithinLimits (record { semaphores = s.semaphores.items }) };
+    ghost invariant = { λ s. (length s.scratch.items ≡ length s.semaphores.items)
+        × IsWithinLimits (record { semaphores = s.semaphores.items }) };
 }
 
 impl SemSet {

@@ -14,7 +14,7 @@ use crate::fault::CallFault;
 use crate::kernel::Kernel;
 use crate::maps::{op_at, remove_at, set_all_at, set_value_at};
 use crate::semaphores::{SemaphoreSet, is_bad_size};
-use pico_base::{Errno, Key, Memory, Reply, SemStep, Steps, Values};
+use pico_base::{Errno, Key, Memory, Pid, Reply, SemStep, Steps, Values};
 
 /// The reply of a look at a set.
 fn looked(found: Result<u32, Errno>) -> Reply
@@ -46,7 +46,8 @@ impl Kernel {
     /// the number is 0 or used.
     fn new_set(&mut self, key: Option<u32>, count: u32, chosen: u32) -> Result<Reply, CallFault>
         requires { bound_to self.old.set_keys key ≡ None }
-        ensures { Answers (new_set_of self.old (keys_with self.old.set_keys key chosen) chosen (new_set count)) result self.old self.new }
+        ensures { Answers (new_set_of self.old (keys_with self.old.set_keys key chosen) chosen (new_set count)) result
+            self.old self.new }
     {
         if is_bad_size(count) {
             return Ok(Reply::Fail(Errno::Einval));
@@ -109,7 +110,7 @@ impl Kernel {
     }
 
     /// semop: EINVAL, E2BIG, EFBIG, EAGAIN or ERANGE. NotAllowed where an operation may have to wait.
-    pub(super) fn operate(&mut self, pid: u32, id: u32, steps: &Steps) -> Result<Reply, CallFault>
+    pub(super) fn operate(&mut self, pid: Pid, id: u32, steps: &Steps) -> Result<Reply, CallFault>
         ensures { Answers (operate self.old pid id steps.now) result self.old self.new }
     {
         let steps = steps.as_slice();
@@ -122,7 +123,8 @@ impl Kernel {
 
     /// semctl with GETVAL: EINVAL.
     pub(super) fn value(&self, id: u32, num: u16) -> Reply
-        ensures { on_named self.now (get self.now.sets id) (λ s. look_up self.now (value_at s num)) ≡ record { kernel = self.now; reply = result } }
+        ensures { on_named self.now (get self.now.sets id) (λ s. look_up self.now (value_at s num))
+            ≡ record { kernel = self.now; reply = result } }
     {
         match self.sets.get(&id) {
             Some(set) => looked(set.value(num)),
@@ -132,17 +134,22 @@ impl Kernel {
 
     /// semctl with GETPID: EINVAL.
     pub(super) fn last(&self, id: u32, num: u16) -> Reply
-        ensures { on_named self.now (get self.now.sets id) (λ s. look_up self.now (last_at s num)) ≡ record { kernel = self.now; reply = result } }
+        ensures { on_named self.now (get self.now.sets id) (λ s. look_up self.now (last_at s num))
+            ≡ record { kernel = self.now; reply = result } }
     {
         match self.sets.get(&id) {
-            Some(set) => looked(set.last(num)),
+            Some(set) => match set.last(num) {
+                Ok(pid) => Reply::Num(pid.0),
+                Err(errno) => Reply::Fail(errno),
+            },
             None => Reply::Fail(Errno::Einval),
         }
     }
 
     /// semctl with GETNCNT and GETZCNT: EINVAL, and else 0.
     pub(super) fn waiting(&self, id: u32, num: u16) -> Reply
-        ensures { on_named self.now (get self.now.sets id) (λ s. look_up self.now (waiting_at s num)) ≡ record { kernel = self.now; reply = result } }
+        ensures { on_named self.now (get self.now.sets id) (λ s. look_up self.now (waiting_at s num))
+            ≡ record { kernel = self.now; reply = result } }
     {
         match self.sets.get(&id) {
             Some(set) => looked(set.waiting(num)),
@@ -160,7 +167,9 @@ impl Kernel {
 
     /// semctl with GETALL: EINVAL.
     pub(super) fn all_values(&self, id: u32) -> Result<Reply, Memory>
-        ensures { IfOk result (λ reply. on_named self.now (get self.now.sets id) (all_values self.now) ≡ record { kernel = self.now; reply = reply }) }
+        ensures { IfOk result
+            (λ reply. on_named self.now (get self.now.sets id) (all_values self.now)
+            ≡ record { kernel = self.now; reply = reply }) }
     {
         match self.sets.get(&id) {
             Some(set) => Ok(Reply::All(set.all(self.alloc)?)),

@@ -10,9 +10,14 @@ returns-in_err-living c = rw c.from_residual.ensures (unread c.args.bytes.now c.
 pub returns-then-not-are_children : goal.returns-then-not-are_children
 returns-then-not-are_children c =
     unsound c.args.bytes.now (members_of c.in_ok-living.living.items c.in_ok-living.ended.items) c.in_ok-living.ensures
-    (λ sound. false≢true (sym c.if-not-are_children.true ∙ c.are_children.ensures.1 (rw (c.as_slice.ensures.value, c.as_slice-2.ensures.value) sound)))
+    (λ sound. false≢true (sym c.if-not-are_children.true
+    ∙ c.are_children.ensures.1 (rw (c.as_slice.ensures.value, c.as_slice-2.ensures.value) sound)))
 
 pub returns : goal.returns
 returns c =
-    are-found c.args.bytes.now (members_of c.in_ok-living.living.items c.in_ok-living.ended.items) (λ i. omega (arith, c.type_inv.bytes i)) c.in_ok-living.ensures
-    (rw (c.as_slice.ensures.value, c.as_slice-2.ensures.value) at (c.are_children.ensures.0 c.if-not-are_children.false))
+    are-found c.args.bytes.now (members_of c.in_ok-living.living.items c.in_ok-living.ended.items)
+    (λ i. omega (arith, c.type_inv.bytes i)) c.in_ok-living.ensures
+    (rw (
+      c.as_slice.ensures.value,
+      c.as_slice-2.ensures.value,
+    ) at (c.are_children.ensures.0 c.if-not-are_children.false))

@@ -6,15 +6,20 @@ use Rattle.fork_wait.proofs.reading.read_numbers.Goals as goal
 
 pub returns-in_err-number : goal.returns-in_err-number
 returns-in_err-number c =
-    rw c.from_residual.ensures (ends numbers_repeat c.loop.into.items c.args.count c.loop.counter c.loop.rest.now (numbers_at c.args.count c.args.bytes.now) c.loop-test.true c.in_err-number.ensures c.loop.invariant.read)
+    rw c.from_residual.ensures
+    (ends numbers_repeat c.loop.into.items c.args.count c.loop.counter c.loop.rest.now
+    (numbers_at c.args.count c.args.bytes.now) c.loop-test.true c.in_err-number.ensures c.loop.invariant.read)
 
 pub loop-preserved : goal.loop-preserved
 loop-preserved c =
     let pushed : c.push.new.self.items ≡ c.loop.into.items ++ c.in_ok-number.number ∷ [] = c.push.ensures.items in
     record {
-      read = rw pushed (goes_on numbers_repeat c.loop.into.items c.args.count c.loop.counter c.loop.rest.now c.in_ok-number.number c.in_ok-number.after.now (numbers_at c.args.count c.args.bytes.now) c.loop-test.true c.in_ok-number.ensures c.loop.invariant.read);
+      read = rw pushed (goes_on numbers_repeat c.loop.into.items c.args.count c.loop.counter c.loop.rest.now
+          c.in_ok-number.number c.in_ok-number.after.now
+          (numbers_at c.args.count c.args.bytes.now) c.loop-test.true c.in_ok-number.ensures c.loop.invariant.read);
       so_far = omega (arith, c.loop.invariant.so_far, c.push.ensures.len);
     }
 
 pub returns : goal.returns
-returns c = is_done numbers_repeat c.loop.into.items c.args.count c.loop.counter c.loop.rest.now (numbers_at c.args.count c.args.bytes.now) c.loop-test.false c.loop.invariant.read
+returns c = is_done numbers_repeat c.loop.into.items c.args.count c.loop.counter c.loop.rest.now
+    (numbers_at c.args.count c.args.bytes.now) c.loop-test.false c.loop.invariant.read

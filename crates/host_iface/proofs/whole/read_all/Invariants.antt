@@ -8,7 +8,7 @@ invariant-loop-buffer g l =
     record {
       within : length l.bytes.items ≤ l.limit + 1;
       bytes : g.S.Source.left l.fn.source ≡ led_by l.bytes.items (g.S.Source.left l.source);
-      faults : g.S.Source.faults l.fn.source ≤ g.S.Source.faults l.source;
+      faults : g.S.Source.faults l.source ≡ g.S.Source.faults l.fn.source;
     }
 
 abbrev pub decreases-loop-buffer : goal.decreases-loop-buffer

@@ -8,7 +8,7 @@ invariant-loop-taken g l =
     record {
       within : l.taken ≤ length l.bytes;
       bytes : g.K.Sink.taken l.sink ≡ followed_by (g.K.Sink.taken l.fn.sink) (take l.taken l.bytes);
-      faults : g.K.Sink.faults l.fn.sink ≤ g.K.Sink.faults l.sink;
+      faults : g.K.Sink.faults l.sink ≡ g.K.Sink.faults l.fn.sink;
     }
 
 abbrev pub decreases-loop-taken : goal.decreases-loop-taken

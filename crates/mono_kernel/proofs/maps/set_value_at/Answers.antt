@@ -4,5 +4,7 @@ use Rattle.mono_kernel.proofs.maps.set_value_at.Goals as goal
 
 pub returns-in-Some : goal.returns-in-Some
 returns-in-Some c =
-    step-lands _ c.args.sets.now.entries _ c.args.id c.in-Some.set.now c.set_value.new.self c.set_value.result c.answer.result
-    c.get_mut.ensures.ordered (sym c.in-Some.ensures.value) c.set_value.ensures (c.get_mut.follows.holds c.set_value.new.self).0 c.answer.ensures
+    step-lands _ c.args.sets.now.entries _ c.args.id c.in-Some.set.now c.set_value.new.self c.set_value.result
+    c.answer.result
+    c.get_mut.ensures.ordered (sym c.in-Some.ensures.value) c.set_value.ensures
+    (c.get_mut.follows.holds c.set_value.new.self).0 c.answer.ensures

@@ -7,7 +7,8 @@ pub returns-in-Ok : goal.returns-in-Ok
 returns-in-Ok c =
     let fits : SFits w32 c.args.class = search rules
     in let taken = simp to_z-of_z at c.in-Ok.ensures.taken
-    in received-lands _ c.args.queues.now.entries _ c.args.id c.in-Some.queue.now c.receive.new.self c.in-Ok.message c.received.result
+    in received-lands _ c.args.queues.now.entries _ c.args.id c.in-Some.queue.now c.receive.new.self c.in-Ok.message
+    c.received.result
     c.get_mut.ensures.ordered (sym c.in-Some.ensures.value) taken (c.get_mut.follows.holds c.receive.new.self).0
     c.received.ensures
 

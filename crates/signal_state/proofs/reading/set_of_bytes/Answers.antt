@@ -7,4 +7,5 @@ use Rattle.signal_state.proofs.reading.set_of_bytes.Goals as goal
 pub returns : goal.returns
 returns c =
     let read = rw (c.unwrap-number.ensures, rest-of c.args.bytes.now c.args.place) at c.u16_at.ensures in
-    c.set_of.ensures ∙ ap (λ (n : ℕ). set_from n all_signals (everywhere false)) (two-read c.args.bytes.now c.args.place _ c.requires read)
+    c.set_of.ensures ∙ ap (λ (n : ℕ). set_from n all_signals (everywhere false))
+    (two-read c.args.bytes.now c.args.place _ c.requires read)

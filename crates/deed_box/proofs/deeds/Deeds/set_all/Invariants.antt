@@ -1,8 +1,8 @@
 use Rattle.std.proofs.Common.{◌≡◌, ◌≤◌, length}
-use Rattle.deed_box.specs.Deeds.{with_deeds}
+use Rattle.node_model.specs.Kinds.{put_all}
 use Rattle.deed_box.proofs.deeds.Deeds.set_all.Given as goal
 
 abbrev pub invariant-loop-name : goal.invariant-loop-name
 invariant-loop-name g l =
-    (with_deeds l.self.bodies l.name-iterator.rest.items ≡ with_deeds l.fn.self.bodies l.fn.deeds.items)
+    (put_all l.self.bodies l.name-iterator.rest.items ≡ put_all l.fn.self.bodies l.fn.deeds.items)
     × (length l.name-iterator.rest.items ≤ l.self.spare)

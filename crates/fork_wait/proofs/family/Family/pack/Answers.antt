@@ -13,6 +13,10 @@ returns-clause-state c =
       numbers =
           All-from_recursion Small _
           (Small-join f.living.items f.ended.items
-          (recursion_from_All Small f.living.items (All-same Small f.living.items c.deref.result.now (sym c.deref.ensures.value) c.in_ok-write_numbers.ensures.numbers))
-          (recursion_from_All (λ (e : EndedChild). Small e.pid) f.ended.items (All-same (λ (e : EndedChild). Small e.pid) f.ended.items c.deref-2.result.now (sym c.deref-2.ensures.value) c.in_ok-write_ended.ensures.numbers)));
+          (recursion_from_All Small f.living.items
+          (All-same Small f.living.items c.deref.result.now
+          (sym c.deref.ensures.value) c.in_ok-write_numbers.ensures.numbers))
+          (recursion_from_All (λ (e : EndedChild). Small e.pid) f.ended.items
+          (All-same (λ (e : EndedChild). Small e.pid) f.ended.items c.deref-2.result.now
+          (sym c.deref-2.ensures.value) c.in_ok-write_ended.ensures.numbers)));
     }

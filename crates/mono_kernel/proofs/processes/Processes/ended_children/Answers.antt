@@ -9,5 +9,6 @@ returns-in-Some-clause-ended c =
     in rw (← c.self.view_is)
     (IfOk-weaker c.all_ended.result _ _
     (λ children is. rw is
-    (all-kept c.self.inside.cells.entries c.self.inside.parents.entries c.args.pid c.in-Some.alive.now c.self.invariant lives))
+    (all-kept c.self.inside.cells.entries c.self.inside.parents.entries c.args.pid c.in-Some.alive.now c.self.invariant
+    lives))
     c.all_ended.ensures)
