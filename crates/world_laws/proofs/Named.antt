@@ -1,13 +1,10 @@
 -- What a map from names has at a name, after a change.
-use Rattle.std.proofs.Common.{◌≡◌, ◌≢◌, ◌⊎◌, ℕ, Bool, true, false, not, List, [], ◌∷◌, Option, Some, None, refl, ap, sym, subst, ◌∙◌, inl, inr, nat_eq, fold}
+use Rattle.std.proofs.Common.{◌≡◌, ◌≢◌, ◌⊎◌, Bool, true, false, Some, None, refl, ap, sym, subst, ◌∙◌, inl, inr}
 use Rattle.std.proofs.lemmas.Bool.{cases_eq, eq-eqb, eqb-true, false≢true}
-use Rattle.pico_base.specs.declared.numbers.Kind.{Kind}
-use Rattle.pico_base.specs.declared.numbers.Kind.TheVariants as kinds
 use Rattle.pico_base.specs.declared.numbers.Name.{Name}
 use Rattle.pico_base.specs.declared.numbers.Name.TheVariants.{Proc, Msg, Sem}
-use Rattle.number_maps.specs.Maps.{Numbered, get, put, without}
 use Rattle.number_maps.proofs.LookUps.{get-put-same, get-put-other, get-without-same, get-without-other}
-use Rattle.node_model.specs.Kinds.{PerKind, Named, kind_of, number_of, is_same_kind, is_same_name, for_kind, with_kind, get_named, put_named, without_named}
+use Rattle.node_model.specs.Kinds.{Named, kind_of, number_of, is_same_kind, is_same_name, get_named, put_named, without_named}
 
 -- ---- names
 
@@ -65,7 +62,8 @@ get-put-same-name m (Proc n) v = get-put-same m.processes n v
 get-put-same-name m (Msg n) v = get-put-same m.queues n v
 get-put-same-name m (Sem n) v = get-put-same m.sets n v
 
-pub get-put-other-name : {V : Type 0} (m : Named V) (a : Name) (v : V) (b : Name) → b ≢ a → get_named (put_named m a v) b ≡ get_named m b
+pub get-put-other-name : {V : Type 0} (m : Named V) (a : Name) (v : V) (b : Name) → b ≢ a
+    → get_named (put_named m a v) b ≡ get_named m b
 get-put-other-name m (Proc n) v (Proc q) d = get-put-other m.processes n v q (λ e. d (ap Proc e))
 get-put-other-name m (Msg n) v (Msg q) d = get-put-other m.queues n v q (λ e. d (ap Msg e))
 get-put-other-name m (Sem n) v (Sem q) d = get-put-other m.sets n v q (λ e. d (ap Sem e))
@@ -82,7 +80,8 @@ get-without-same-name m (Proc n) = get-without-same m.processes n
 get-without-same-name m (Msg n) = get-without-same m.queues n
 get-without-same-name m (Sem n) = get-without-same m.sets n
 
-pub get-without-other-name : {V : Type 0} (m : Named V) (a b : Name) → b ≢ a → get_named (without_named m a) b ≡ get_named m b
+pub get-without-other-name : {V : Type 0} (m : Named V) (a b : Name) → b ≢ a
+    → get_named (without_named m a) b ≡ get_named m b
 get-without-other-name m (Proc n) (Proc q) d = get-without-other m.processes n q (λ e. d (ap Proc e))
 get-without-other-name m (Msg n) (Msg q) d = get-without-other m.queues n q (λ e. d (ap Msg e))
 get-without-other-name m (Sem n) (Sem q) d = get-without-other m.sets n q (λ e. d (ap Sem e))

@@ -1,6 +1,7 @@
--- What the streams are after a node has sent frames: those to a receiver are at the end of its stream, in order, and all
+-- What the streams are after a node has sent frames: those to a receiver are at the end of its stream, in order, and
+-- all
 -- other streams stay.
-use Rattle.std.proofs.Common.{◌≡◌, ◌≢◌, ℕ, ◌-◌, ◌<◌, ◌≤◌, Bool, true, false, List, [], ◌∷◌, ◌++◌, length, get_or, refl, ap, sym, subst, ◌∙◌, inl, inr, arith, nat_eq, append_assoc, append-nil}
+use Rattle.std.proofs.Common.{◌≡◌, ◌≢◌, ℕ, ◌≤◌, Bool, true, false, List, [], ◌∷◌, ◌++◌, refl, ap, sym, subst, ◌∙◌, inl, inr, arith, nat_eq, append_assoc, append-nil}
 use Rattle.std.specs.List.{flat_map, AllByRecursion}
 use Rattle.std.proofs.lemmas.Bool.{cases_eq, eq-eqb, ne_eqb}
 use Rattle.rpc_frame.specs.declared.frame.Frame.{Frame}
@@ -45,7 +46,8 @@ one-sent n p ss send to s is low high low_to =
       | inl e ↦
           let there : stream_in (with_stream ss send.0 p sent) send.0 p ≡ sent =
           stream-same n ss send.0 p sent s is.low is.high low high
-          in subst (λ t. stream_in (with_stream ss send.0 p sent) t p ≡ stream_in ss t p ++ frame_if (nat_eq send.0 t) send.1) e
+          in subst (λ t. stream_in (with_stream ss send.0 p sent) t p ≡ stream_in ss t p
+          ++ frame_if (nat_eq send.0 t) send.1) e
           (there ∙ sym (ap (λ fs. stream_in ss send.0 p ++ fs) (to-same send.0 send.0 send.1 refl)))
       | inr d ↦
           stream-row n ss send.0 p to p sent (λ g. d (omega arith))
@@ -53,7 +55,8 @@ one-sent n p ss send to s is low high low_to =
     ]
 
 -- from the sender
-pub all-sent : (n p : ℕ) (ss : Streams) (sends : List (ℕ × Frame)) (to : ℕ) → Square n ss → AreToNodes n sends → 1 ≤ p → p ≤ n
+pub all-sent : (n p : ℕ) (ss : Streams) (sends : List (ℕ × Frame)) (to : ℕ) → Square n ss → AreToNodes n sends → 1 ≤ p
+    → p ≤ n
     → 1 ≤ to → stream_in (with_all_sent p ss sends) to p ≡ stream_in ss to p ++ sent_to to sends
 all-sent n p ss [] to s all low high low_to = sym (append-nil (stream_in ss to p))
 all-sent n p ss (send ∷ sends) to s all low high low_to =
@@ -64,11 +67,13 @@ all-sent n p ss (send ∷ sends) to s all low high low_to =
     ∙ append_assoc (stream_in ss to p) (frame_if (nat_eq send.0 to) send.1) (sent_to to sends)
 
 -- from any other node
-pub none-sent : (n p : ℕ) (ss : Streams) (sends : List (ℕ × Frame)) (to q : ℕ) → Square n ss → AreToNodes n sends → 1 ≤ p
+pub none-sent : (n p : ℕ) (ss : Streams) (sends : List (ℕ × Frame)) (to q : ℕ) → Square n ss → AreToNodes n sends
+    → 1 ≤ p
     → 1 ≤ to → 1 ≤ q → q ≢ p → stream_in (with_all_sent p ss sends) to q ≡ stream_in ss to q
 none-sent n p ss [] to q s all low low_to low_q other = refl
 none-sent n p ss (send ∷ sends) to q s all low low_to low_q other =
     let first : IsToNode n send = all.0
     in let square : Square n (with_sent p ss send) = square-sent n p ss (send ∷ []) s (first, tt)
     in none-sent n p (with_sent p ss send) sends to q square all.1 low low_to low_q other
-    ∙ stream-other n ss send.0 p to q (stream_in ss send.0 p ++ send.1 ∷ []) s first.low first.high low low_to low_q (λ e. other)
+    ∙ stream-other n ss send.0 p to q (stream_in ss send.0 p ++ send.1 ∷ []) s first.low first.high low low_to low_q
+    (λ e. other)

@@ -1,8 +1,7 @@
 -- What doesn't concern a name, a call or a way leaves what is seen of it.
-use Rattle.std.proofs.Common.{◌≡◌, ℕ, Bool, List, Option, refl, subst}
+use Rattle.std.proofs.Common.{◌≡◌, ℕ, subst}
 use Rattle.pico_base.specs.declared.numbers.Name.{Name}
 use Rattle.pico_base.specs.declared.script.Script.{Script}
-use Rattle.rpc_frame.specs.declared.frame.Frame.{Frame}
 use Rattle.world_laws.specs.Names.{NameSight, NameHolds}
 
 -- the same is seen of a name
@@ -26,24 +25,25 @@ pub record SameName (x y : NameSight) : Type 0 where
 
 pub same-sight : (x y : NameSight) → SameName x y → x ≡ y
 same-sight x y s = λ i. record {
-    place = s.place i;
-    maker = s.maker i;
-    stays = λ n. s.stays n i;
-    born = λ n. s.born n i;
-    used = s.used i;
-    body = s.body i;
-    deed = s.deed i;
-    held = λ h. s.held h i;
-    brought = λ to sender. s.brought to sender i;
-    kept = λ pid. s.kept pid i;
-    hand = s.hand i;
-    begins = λ h. s.begins h i;
-    steps = λ h. s.steps h i;
-    ranges = λ h. s.ranges h i;
-    placed = λ q. s.placed q i;
-    news = λ q. s.news q i;
-  }
+  place = s.place i;
+  maker = s.maker i;
+  stays = λ n. s.stays n i;
+  born = λ n. s.born n i;
+  used = s.used i;
+  body = s.body i;
+  deed = s.deed i;
+  held = λ h. s.held h i;
+  brought = λ to sender. s.brought to sender i;
+  kept = λ pid. s.kept pid i;
+  hand = s.hand i;
+  begins = λ h. s.begins h i;
+  steps = λ h. s.steps h i;
+  ranges = λ h. s.ranges h i;
+  placed = λ q. s.placed q i;
+  news = λ q. s.news q i;
+}
 
-pub name-stays : (script : Script) (pids : ℕ → ℕ) (name : Name) (x y : NameSight) → SameName x y → NameHolds script pids name x
+pub name-stays : (script : Script) (pids : ℕ → ℕ) (name : Name) (x y : NameSight) → SameName x y
+    → NameHolds script pids name x
     → NameHolds script pids name y
 name-stays script pids name x y s h = subst (λ (z : NameSight). NameHolds script pids name z) (same-sight x y s) h

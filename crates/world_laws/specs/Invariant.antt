@@ -1,4 +1,5 @@
--- What holds in every world that a run leads to, and in the middle of an event, while the leader has calls and parcels in
+-- What holds in every world that a run leads to, and in the middle of an event, while the leader has calls and parcels
+-- in
 -- hand.
 use Rattle.std.specs.Prelude.{◌≡◌, ◌≢◌, ◌≤◌, ◌<◌, ℕ, List, [], length, get_or, Contains}
 use Rattle.pico_base.specs.declared.numbers.Kind.{Kind}

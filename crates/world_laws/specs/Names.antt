@@ -266,7 +266,8 @@ pub record NameHolds (script : Script) (pids : ℕ → ℕ) (name : Name) (x : N
   pub streams : (to sender : ℕ) → 1 ≤ to → 1 ≤ sender
       → OneIf (is_stream_of (forker script) x.deed to sender) (IsBringer pids name x.body x.deed) (x.brought to sender)
   pub kept : (pid : ℕ)
-      → OneIf (is_kept_for (forker script) pids x.deed pid) (IsItemWith name x.body (pids (node_in x.deed))) (x.kept pid)
+      → OneIf (is_kept_for (forker script) pids x.deed pid) (IsItemWith name x.body (pids (node_in x.deed)))
+      (x.kept pid)
   pub in_hand : OneIf (is_hand_place x.deed) (IsItemWith name x.body (pids (node_in x.deed))) x.hand
   -- what the leader believes is what there will be
   pub known : is_some x.place ≡ true → x.used ≡ true
