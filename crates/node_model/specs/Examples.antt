@@ -13,7 +13,6 @@ use Rattle.rpc_frame.specs.declared.deed.Parcel.{Parcel}
 use Rattle.kernel_model.specs.Queue.{empty_queue}
 use Rattle.kernel_model.specs.Signals.{raise}
 use Rattle.kernel_model.specs.Row.{Row, new_row, ended_child}
-use Rattle.body_fields.specs.Fields.{byte_upto}
 use Rattle.node_model.specs.declared.held.Held.{Held}
 use Rattle.node_model.specs.declared.held.Held.TheVariants.{Request}
 use Rattle.node_model.specs.declared.route.Route.TheVariants as routes
@@ -131,7 +130,7 @@ unfolding read_body Rattle.node_model.specs.Spelling.read_process
 no_removed_process = refl
 
 new_process_body : read_deed (pack (Proc 2) (Living new_row)) ≡ Some (Living new_row)
-unfolding byte_upto read_deed read_body body_bytes Rattle.node_model.specs.Spelling.row_bytes Rattle.node_model.specs.Spelling.read_process Rattle.node_model.specs.Spelling.read_row Rattle.node_model.specs.Spelling.read_signals Rattle.node_model.specs.Spelling.read_family Rattle.signal_state.specs.Spelling.signal_bytes Rattle.fork_wait.specs.Spelling.family_bytes Rattle.fork_wait.specs.Reading.family_at Rattle.fork_wait.specs.Reading.numbers_at Rattle.fork_wait.specs.Reading.all_ended_at
+unfolding read_deed read_body body_bytes Rattle.node_model.specs.Spelling.row_bytes Rattle.node_model.specs.Spelling.read_process Rattle.node_model.specs.Spelling.read_row Rattle.node_model.specs.Spelling.read_signals Rattle.node_model.specs.Spelling.read_family Rattle.signal_state.specs.Spelling.signal_bytes Rattle.fork_wait.specs.Spelling.family_bytes Rattle.fork_wait.specs.Reading.family_at Rattle.fork_wait.specs.Reading.numbers_at Rattle.fork_wait.specs.Reading.all_ended_at Rattle.body_fields.specs.Fields.byte_upto
 new_process_body = refl
 
 -- ---- serving
