@@ -1,10 +1,10 @@
 -- Bodies and their bytes.
-use Rattle.std.proofs.Common.{◌≡◌, ◌∙◌, ℕ, ◌+◌, ◌<◌, ◌≤◌, ◌^◌, zero, suc, Bool, true, false, List, [], ◌∷◌, ◌++◌, length, take, drop, Option, Some, None, Result, Ok, Err, refl, sym, ap, subst, arith, length-append}
+use Rattle.std.proofs.Common.{◌≡◌, ◌∙◌, ℕ, ◌<◌, List, length, take, drop, Some, None, Result, Err, ap, arith, length-append}
 use Rattle.signal_state.specs.Spelling.{signal_bytes, HasBytes as HasSignalBytes}
 use Rattle.signal_state.proofs.Bodies.{signal_bytes-length}
 use Rattle.pico_base.specs.declared.fault.UnpackFault.{UnpackFault}
 use Rattle.pico_base.specs.declared.fault.UnpackFault.TheVariants.{Memory, NotABody}
-use Rattle.fork_wait.specs.Reading.{Gives}
+use Rattle.body_fields.specs.Fields.{Refuses}
 use Rattle.fork_wait.specs.Spelling.{family_bytes, HasBytes as HasFamilyBytes}
 use Rattle.kernel_model.specs.Signals.{Signals}
 use Rattle.kernel_model.specs.Row.{Family}
@@ -30,11 +30,8 @@ no-signals row bytes front cut only is = differ (only row.signals is.signals (cu
 
 -- the family's reading refused, though some family has the bytes
 pub no-family : (row : Row) (bytes rest : List ℕ) (fault : UnpackFault)
-    → ◌≡◌ {A = Result Row UnpackFault} (Err fault) (Err NotABody) → rest ≡ drop 55 bytes
-    → ((f : Family) → HasFamilyBytes f → rest ≡ family_bytes f → Gives (λ (x : Family). x) (Err fault) (Some f))
+    → ◌≡◌ {A = Result Row UnpackFault} (Err fault) (Err NotABody)
+    → rest ≡ drop 55 bytes → Refuses (λ (f : Family). (rest ≡ family_bytes f) × HasFamilyBytes f) fault
     → IsRow row bytes → ⊥
-no-family row bytes rest Memory refused cut only is = cc
-no-family row bytes rest NotABody refused cut only is = differ (only row.family is.family (cut ∙ row-rest row bytes is))
-  where
-    differ : {f : Family} → Some f ≡ None → ⊥
-    differ e = cc
+no-family row bytes rest Memory refused cut cause is = cc
+no-family row bytes rest NotABody refused cut cause is = cause row.family (cut ∙ row-rest row bytes is, is.family)

@@ -57,13 +57,12 @@ fn bury(deeds: &mut Deeds<Body>, child: Pid)
     requires { 0 < deeds.old.spare }
     ensures { deeds.new.bodies ≡ put_named deeds.old.bodies (Name.Proc child) Body.Gone }
 {
-    let name = Name::Proc(child);
-    if deeds.has(name) {
-        if let Some(body) = deeds.get_mut(name) {
+    if deeds.has(Name::Proc(child)) {
+        if let Some(body) = deeds.get_mut(Name::Proc(child)) {
             *body = Body::Gone;
         }
     } else {
-        match deeds.put(Deed::create(name, Body::Gone)) {
+        match deeds.put(Deed::create(Name::Proc(child), Body::Gone)) {
             Ok(()) => {}
             Err(_) => unreachable!(),
         }

@@ -11,4 +11,4 @@ returns-in-None-clause-refused c = λ _ row is.
 pub returns-in-Err-clause-refused : goal.returns-in-Err-clause-refused
 returns-in-Err-clause-refused c = λ refused row is.
     no-family row c.args.bytes.now c.split_at.result.1.now c.in-Err.fault refused c.split_at.ensures.back
-    c.in-Err.ensures.only is
+    c.in-Err.ensures.refused is
