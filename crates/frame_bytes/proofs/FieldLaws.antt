@@ -1,6 +1,6 @@
 -- Each field reads what it spells.
-use Rattle.std.proofs.Common.{◌≡◌, ℕ, ◌^◌, ◌<◌, ◌≤◌, Bool, true, false, ◌&&◌, cond, eqb, ltb, ℤ, List, [], ◌∷◌, ◌++◌, length, take, drop, Option, Some, None, SFits, refl, sym, ap, subst, ◌∙◌, append_assoc, arith}
-use Rattle.std.specs.Prelude.{nat_lt, nat_le, FitsSigned, find}
+use Rattle.std.proofs.Common.{◌≡◌, ℕ, ◌^◌, ◌<◌, ◌≤◌, Bool, true, false, cond, eqb, ltb, ℤ, List, [], ◌∷◌, ◌++◌, length, take, drop, Some, None, refl, sym, subst, arith}
+use Rattle.std.specs.Prelude.{nat_lt, FitsSigned, find}
 use Rattle.std.specs.Int.{w16, w32, cast_signed, cast_unsigned}
 use Rattle.std.proofs.Math.Facts.{sfits_to_z, Fits-of_z}
 use Rattle.std.proofs.lemmas.Bool.{ltb-false, le-ltb}
@@ -19,11 +19,10 @@ use Rattle.pico_base.specs.declared.signal.SigArg.{SigArg}
 use Rattle.pico_base.specs.declared.signal.SigArg.TheVariants.{Zero, Is, Bad}
 use Rattle.pico_base.specs.ErrorNumber.{all_errors, error_number}
 use Rattle.pico_base.specs.Signal.{all_signals, signal_number}
-use Rattle.body_fields.specs.Fields.{◌>>=◌}
 use Rattle.body_fields.proofs.Fields.{IsBytes, IsBytes-drop, bind_some, guard_some, some_is, Takes, Takes-then, wide16, wide32, number_takes, number_again}
-use Rattle.frame_bytes.specs.Readers.{Reader, byte_at, one_of}
-use Rattle.frame_bytes.specs.Fields.{IsWord, IsHalf, IsPositive, IsCount, IsNode, IsSigArg, IsName, IsText, is_node, word, half, signed, text, flag_byte, all_flags, sigarg_byte, all_sigargs, kind_byte, all_kinds, kind_of, name_number, name_of, name_field, word_at, half_at, positive_at, count_at, signed_at, node_at, flag_at, sig_at, sigarg_at, errno_at, kind_at, name_at, text_at}
-use Rattle.frame_bytes.proofs.Inverse.{Inverse, Field, Passes, Behind, byte-inverse, passing-inverse, renamed, one_of-inverse, Reads, two-takes, two-again}
+use Rattle.frame_bytes.specs.Readers.{Reader, byte_at}
+use Rattle.frame_bytes.specs.Fields.{IsWord, IsHalf, IsPositive, IsCount, IsNode, IsSigArg, IsName, IsText, is_node, word, half, signed, text, flag_byte, all_flags, sigarg_byte, all_sigargs, kind_byte, all_kinds, name_of, name_field, word_at, half_at, positive_at, count_at, signed_at, node_at, flag_at, sig_at, sigarg_at, errno_at, kind_at, name_at, text_at}
+use Rattle.frame_bytes.proofs.Inverse.{Inverse, Field, Passes, byte-inverse, passing-inverse, renamed, one_of-inverse, Reads, two-takes, two-again}
 
 -- ---- numbers
 
@@ -67,14 +66,17 @@ node-inverse =
 pub signed-inverse : Inverse ℤ (λ z. FitsSigned w32 z) signed signed_at
 unfolding signed_at
 signed-inverse = record { takes = take; again = give } where
-  take : (bytes : List ℕ) (x : ℤ × List ℕ) → IsBytes bytes → signed_at bytes ≡ Some x → Takes bytes (signed x.0) x.1 × FitsSigned w32 x.0
+  take : (bytes : List ℕ) (x : ℤ × List ℕ) → IsBytes bytes → signed_at bytes ≡ Some x → Takes bytes (signed x.0) x.1
+      × FitsSigned w32 x.0
   take bytes x fits e =
       let b = bind_some (word_at bytes) (λ n. Some (cast_signed w32 n.0, n.1)) x e
       in let n = b.0
       in let t = word-inverse.takes bytes n fits b.1
       in let back : cast_unsigned w32 (cast_signed w32 n.0) ≡ n.0 = of_z-to_z w32 n.0 t.1
-      in let whole : Takes bytes (word (cast_unsigned w32 (cast_signed w32 n.0))) n.1 = subst (λ (k : ℕ). Takes bytes (word k) n.1) (sym back) t.0
-      in subst (λ (p : ℤ × List ℕ). Takes bytes (signed p.0) p.1 × FitsSigned w32 p.0) (some_is (cast_signed w32 n.0, n.1) x b.2)
+      in let whole : Takes bytes (word (cast_unsigned w32 (cast_signed w32 n.0))) n.1 =
+      subst (λ (k : ℕ). Takes bytes (word k) n.1) (sym back) t.0
+      in subst (λ (p : ℤ × List ℕ). Takes bytes (signed p.0) p.1 × FitsSigned w32 p.0)
+      (some_is (cast_signed w32 n.0, n.1) x b.2)
       (whole, sfits_to_z (record { fits = t.1 }))
 
   give : (z : ℤ) (rest : List ℕ) → FitsSigned w32 z → signed_at (signed z ++ rest) ≡ Some (z, rest)
@@ -168,7 +170,8 @@ kind-inverse = one_of-inverse Kind (λ k. Unit {0}) kind_byte all_kinds (tt, (tt
 pub text-inverse : Inverse (List ℕ) IsText text text_at
 unfolding text_at
 text-inverse = record { takes = take-text; again = give } where
-  take-text : (bytes : List ℕ) (x : List ℕ × List ℕ) → IsBytes bytes → text_at bytes ≡ Some x → Takes bytes (text x.0) x.1 × IsText x.0
+  take-text : (bytes : List ℕ) (x : List ℕ × List ℕ) → IsBytes bytes → text_at bytes ≡ Some x
+      → Takes bytes (text x.0) x.1 × IsText x.0
   take-text bytes x fits e =
       let b = bind_some (word_at bytes) (λ n. cond (ltb (length n.1) n.0) None (Some (take n.0 n.1, drop n.0 n.1))) x e
       in let n = b.0
@@ -185,8 +188,14 @@ text-inverse = record { takes = take-text; again = give } where
 
   give : (bytes rest : List ℕ) → IsText bytes → text_at (text bytes ++ rest) ≡ Some (bytes, rest)
   give bytes rest lt =
-      let long : ltb (length (bytes ++ rest)) (length bytes) ≡ false = le-ltb _ _ (omega (arith, length-append bytes rest))
-      in rw (word-inverse.again (length bytes) (bytes ++ rest) lt, long, take_at bytes rest (length bytes) refl, drop_at bytes rest (length bytes) refl) refl
+      let long : ltb (length (bytes ++ rest)) (length bytes) ≡ false =
+      le-ltb _ _ (omega (arith, length-append bytes rest))
+      in rw (
+        word-inverse.again (length bytes) (bytes ++ rest) lt,
+        long,
+        take_at bytes rest (length bytes) refl,
+        drop_at bytes rest (length bytes) refl,
+      ) refl
 
 -- ---- the fields as values, and those that are made of others
 
@@ -215,7 +224,13 @@ abbrev pub sigarg-field : Field SigArg
 sigarg-field = record { Fits = IsSigArg; spell = λ a. sigarg_byte a ∷ []; read = sigarg_at; inverse = sigarg-inverse }
 
 abbrev pub errno-field : Field Errno
-errno-field = record { Fits = λ e. Unit {0}; spell = λ e. error_number e ∷ []; read = errno_at; inverse = errno-inverse }
+errno-field = record {
+  Fits = λ e. Unit {0};
+  spell = λ e. error_number e ∷ [];
+  read = errno_at;
+  inverse =
+      errno-inverse;
+}
 
 abbrev pub kind-field : Field Kind
 kind-field = record { Fits = λ k. Unit {0}; spell = λ k. kind_byte k ∷ []; read = kind_at; inverse = kind-inverse }

@@ -1,5 +1,5 @@
 -- Calls as bytes: a code, and the call's arguments.
-use Rattle.std.specs.Prelude.{ℕ, ℤ, FitsSigned, List, [], ◌∷◌, ◌++◌, length, Option, Some, None}
+use Rattle.std.specs.Prelude.{ℕ, ℤ, FitsSigned, List, [], ◌∷◌, ◌++◌, length, Some}
 use Rattle.std.specs.List.{flat_map, AllByRecursion}
 use Rattle.std.specs.Int.{w32}
 use Rattle.pico_base.specs.declared.call.Call.{Call}
@@ -19,7 +19,8 @@ abbrev pub step_field : SemStep → List ℕ
 step_field s = half s.num ++ (signed s.add ++ flag_byte s.nowait ∷ [])
 
 unfoldable pub step_at : Reader SemStep
-step_at bytes = three half_at signed_at flag_at (λ num add nowait. record { num = num; add = add; nowait = nowait }) bytes
+step_at bytes = three half_at signed_at flag_at
+    (λ num add nowait. record { num = num; add = add; nowait = nowait }) bytes
 
 -- operations, of which there is one at least
 
@@ -92,13 +93,15 @@ IsLastCall _ = ⊥
 abbrev pub call_bytes : Call → List ℕ
 call_bytes (calls.Kill pid sig) = 1 ∷ (word pid ++ sigarg_byte sig ∷ [])
 call_bytes (calls.MsgGet (Some key) create excl) = 2 ∷ (word key ++ flag_byte create ∷ flag_byte excl ∷ [])
-call_bytes (calls.MsgSnd id class bytes nowait) = 3 ∷ (word id ++ (signed class ++ (text bytes ++ flag_byte nowait ∷ [])))
+call_bytes (calls.MsgSnd id class bytes nowait) =
+    3 ∷ (word id ++ (signed class ++ (text bytes ++ flag_byte nowait ∷ [])))
 call_bytes (calls.MsgRcv id class size noerror nowait) =
     4 ∷ (word id ++ (signed class ++ (word size ++ flag_byte noerror ∷ flag_byte nowait ∷ [])))
 call_bytes (calls.MsgStat id) = 5 ∷ word id
 call_bytes (calls.MsgSet id qbytes) = 6 ∷ (word id ++ word qbytes)
 call_bytes (calls.MsgRmid id) = 7 ∷ word id
-call_bytes (calls.SemGet (Some key) count create excl) = 8 ∷ (word key ++ (word count ++ flag_byte create ∷ flag_byte excl ∷ []))
+call_bytes (calls.SemGet (Some key) count create excl) =
+    8 ∷ (word key ++ (word count ++ flag_byte create ∷ flag_byte excl ∷ []))
 call_bytes (calls.SemOp id steps) = 9 ∷ (word id ++ steps_field steps)
 call_bytes (calls.SemGetVal id num) = 10 ∷ (word id ++ half num)
 call_bytes (calls.SemSetVal id num value) = 11 ∷ (word id ++ (half num ++ word value))

@@ -1,5 +1,5 @@
 -- The bytes of some frames, worked out by the checker.
-use Rattle.std.specs.Prelude.{◌≡◌, ℤ, pos, Bool, true, false, List, [], ◌∷◌, refl}
+use Rattle.std.specs.Prelude.{◌≡◌, pos, true, false, [], ◌∷◌, refl}
 use Rattle.pico_base.specs.declared.call.Call.TheVariants as calls
 use Rattle.pico_base.specs.declared.numbers.Kind.TheVariants as kinds
 use Rattle.pico_base.specs.declared.numbers.Name.TheVariants as names
@@ -22,7 +22,8 @@ lease = refl
 
 -- a receive from queue 1 of type 0 and at most 8 bytes, with nowait
 ask : frame_bytes (frames.Ask 3 2 (calls.MsgRcv 1 (pos 0) 8 false true))
-    ≡ 0 ∷ 0 ∷ 0 ∷ 0x18 ∷ 1 ∷ 0 ∷ 0 ∷ 0 ∷ 3 ∷ 0 ∷ 0 ∷ 0 ∷ 2 ∷ 4 ∷ 0 ∷ 0 ∷ 0 ∷ 1 ∷ 0 ∷ 0 ∷ 0 ∷ 0 ∷ 0 ∷ 0 ∷ 0 ∷ 8 ∷ 0 ∷ 1 ∷ []
+    ≡ 0 ∷ 0 ∷ 0 ∷ 0x18 ∷ 1 ∷ 0 ∷ 0 ∷ 0 ∷ 3 ∷ 0 ∷ 0 ∷ 0 ∷ 2 ∷ 4 ∷ 0 ∷ 0 ∷ 0 ∷ 1 ∷ 0 ∷ 0 ∷ 0 ∷ 0 ∷ 0 ∷ 0 ∷ 0 ∷ 8 ∷ 0 ∷ 1
+    ∷ []
 ask = refl
 
 answer : frame_bytes (frames.Answer 3 (replies.Fail Enomsg)) ≡ 0 ∷ 0 ∷ 0 ∷ 7 ∷ 5 ∷ 0 ∷ 0 ∷ 0 ∷ 3 ∷ 5 ∷ 6 ∷ []

@@ -1,6 +1,6 @@
 -- The fields of frames: how each is spelled and read, and which values have a spelling. Numbers have their high bytes
 -- first, and signed ones are in two's complement.
-use Rattle.std.specs.Prelude.{◌≡◌, ℕ, ◌+◌, ◌<◌, ◌≤◌, ◌^◌, Bool, true, false, ◌&&◌, ℤ, FitsSigned, List, [], ◌∷◌, ◌++◌, length, map, take, drop, Option, Some, None, nat_lt, nat_le, if◌then◌else◌}
+use Rattle.std.specs.Prelude.{◌≡◌, ℕ, ◌+◌, ◌<◌, ◌^◌, Bool, true, false, ◌&&◌, ℤ, List, [], ◌∷◌, ◌++◌, length, map, take, drop, Some, None, nat_lt, nat_le, if◌then◌else◌}
 use Rattle.std.specs.Int.{w16, w32, to_be_bytes, cast_signed, cast_unsigned}
 use Rattle.body_fields.specs.Fields.{◌>>=◌, number_at}
 use Rattle.pico_base.specs.declared.numbers.Kind.{Kind}

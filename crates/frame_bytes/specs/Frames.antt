@@ -1,11 +1,10 @@
 -- Frames as bytes: a length in 4 bytes, and so many bytes: the kind's code, and the kind's fields.
-use Rattle.std.specs.Prelude.{◌≡◌, ℕ, ◌+◌, ◌<◌, ◌≤◌, Bool, true, false, ◌&&◌, nat_lt, nat_le, ◌==◌, if◌then◌else◌, List, [], ◌∷◌, ◌++◌, length, map, Option, Some, None}
+use Rattle.std.specs.Prelude.{◌≡◌, ℕ, ◌<◌, ◌≤◌, Bool, true, nat_le, ◌==◌, if◌then◌else◌, List, [], ◌∷◌, ◌++◌, length, map, Option, Some, None}
 use Rattle.std.specs.List.{flat_map, AllByRecursion}
 use Rattle.body_fields.specs.Fields.{◌>>=◌}
 use Rattle.pico_base.specs.declared.call.Call.{Call}
 use Rattle.pico_base.specs.declared.numbers.Name.{Name}
 use Rattle.pico_base.specs.declared.numbers.Name.TheVariants as names
-use Rattle.pico_base.specs.declared.reply.Reply.{Reply}
 use Rattle.rpc_frame.specs.declared.asked.Asked.{Asked}
 use Rattle.rpc_frame.specs.declared.deed.PackedDeed.{PackedDeed}
 use Rattle.rpc_frame.specs.declared.deed.Parcel.{Parcel}
@@ -165,7 +164,8 @@ frame_body (frames.NotOwner ticket) = 6 ∷ word ticket
 frame_body (frames.LeaseAsk kind) = 7 ∷ kind_byte kind ∷ []
 frame_body (frames.Lease kind first) = 8 ∷ kind_byte kind ∷ word first
 frame_body (frames.Placed name node) = 9 ∷ (name_field name ++ node ∷ [])
-frame_body (frames.Checkpoint pid parent deed vars) = 10 ∷ (word pid ++ (word parent ++ (deed_field deed ++ vars_field vars)))
+frame_body (frames.Checkpoint pid parent deed vars) =
+    10 ∷ (word pid ++ (word parent ++ (deed_field deed ++ vars_field vars)))
 frame_body (frames.Suggest name node) = 11 ∷ (name_field name ++ node ∷ [])
 frame_body (frames.Recall name) = 12 ∷ name_field name
 frame_body (frames.GiveBack deed) = 13 ∷ deed_field deed

@@ -67,7 +67,8 @@ four read_a read_b read_c read_d make bytes = do
   a ← read_a bytes
   three read_b read_c read_d (make a.0) a.1
 
-abbrev pub five : {A B C D E Z : Type 0} → Reader A → Reader B → Reader C → Reader D → Reader E → (A → B → C → D → E → Z) → Reader Z
+abbrev pub five : {A B C D E Z : Type 0} → Reader A → Reader B → Reader C → Reader D → Reader E
+    → (A → B → C → D → E → Z) → Reader Z
 five read_a read_b read_c read_d read_e make bytes = do
   a ← read_a bytes
   four read_b read_c read_d read_e (make a.0) a.1

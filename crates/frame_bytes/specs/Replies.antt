@@ -1,12 +1,12 @@
 -- Replies as bytes: a code, and the reply's values.
-use Rattle.std.specs.Prelude.{ℕ, ℤ, FitsSigned, List, [], ◌∷◌, ◌++◌, length, Option, Some, None}
-use Rattle.std.specs.List.{flat_map, AllByRecursion}
+use Rattle.std.specs.Prelude.{ℕ, FitsSigned, List, [], ◌∷◌, ◌++◌, length}
+use Rattle.std.specs.List.{AllByRecursion}
 use Rattle.std.specs.Int.{w32}
 use Rattle.pico_base.specs.declared.reply.Reply.{Reply}
 use Rattle.pico_base.specs.declared.reply.Reply.TheVariants as replies
 use Rattle.pico_base.specs.ErrorNumber.{error_number}
 use Rattle.frame_bytes.specs.Readers.{Reader, one, two, four, counted, tabled}
-use Rattle.frame_bytes.specs.Fields.{IsWord, IsHalf, IsText, word, half, signed, text, word_at, half_at, signed_at, errno_at, text_at}
+use Rattle.frame_bytes.specs.Fields.{IsWord, IsHalf, IsText, word, signed, text, word_at, half_at, signed_at, errno_at, text_at}
 use Rattle.frame_bytes.specs.Calls.{values_field}
 
 -- the values of a set
@@ -37,7 +37,8 @@ IsAnswer _ = ⊥
 abbrev pub reply_bytes : Reply → List ℕ
 reply_bytes (replies.Num n) = 1 ∷ word n
 reply_bytes (replies.Message class bytes) = 2 ∷ (signed class ++ text bytes)
-reply_bytes (replies.Stat qnum qbytes sender receiver) = 3 ∷ (word qnum ++ (word qbytes ++ (word sender ++ word receiver)))
+reply_bytes (replies.Stat qnum qbytes sender receiver) =
+    3 ∷ (word qnum ++ (word qbytes ++ (word sender ++ word receiver)))
 reply_bytes (replies.All values) = 4 ∷ values_field values
 reply_bytes (replies.Fail errno) = 5 ∷ error_number errno ∷ []
 reply_bytes _ = []

@@ -117,7 +117,8 @@ fn msg_snd(alloc: Global, bytes: &[u8]) -> Read<'_, Call>
 }
 
 fn msg_rcv(bytes: &[u8]) -> Read<'_, Call>
-    ensures { Gives (λ x. (x.0, x.1.now)) result (five word_at signed_at word_at flag_at flag_at calls.MsgRcv bytes.now) }
+    ensures { Gives (λ x. (x.0, x.1.now)) result
+        (five word_at signed_at word_at flag_at flag_at calls.MsgRcv bytes.now) }
 {
     let (id, rest) = word(bytes)?;
     let (class, rest) = signed(rest)?;

@@ -7,7 +7,8 @@ ghost use Rattle.frame_bytes.specs.Streams.{AllFed, Left, Rest, Splits};
 
 /// A frame has one spelling, bytes spell at most one frame, and no frame's spelling begins another's.
 pub fn no_spelling_begins_another()
-    ensures { (f g : Frame) (x y : List ℕ) → IsFrame f → IsFrame g → frame_bytes f ++ x ≡ frame_bytes g ++ y → (f ≡ g) × (x ≡ y) }
+    ensures { (f g : Frame) (x y : List ℕ) → IsFrame f → IsFrame g
+        → frame_bytes f ++ x ≡ frame_bytes g ++ y → (f ≡ g) × (x ≡ y) }
 {}
 
 /// A stream begins with these frames and no others, and ends in one way.

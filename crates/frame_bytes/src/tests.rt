@@ -7,6 +7,16 @@ use std::alloc::Global;
 use std::process::Abort;
 use std::test::Fail;
 
+/// The frame of a receive from queue 1 under ticket 3.
+const RECEIVE: [u8; 28] = [
+    0, 0, 0, 24, 1, 0, 0, 0, 3, 0, 0, 0, 2, 4, 0, 0, 0, 1, 0, 0, 0, 0, 0, 0, 0, 8, 0, 1,
+];
+
+/// The frame that asks to send `hi` to queue 1 under ticket 2.
+const SEND: [u8; 29] = [
+    0, 0, 0, 25, 1, 0, 0, 0, 2, 0, 0, 0, 2, 3, 0, 0, 0, 1, 0, 0, 0, 1, 0, 0, 0, 2, 104, 105, 1,
+];
+
 /// A frame is spelled so. Cut at any byte its spelling gives no frame and no fault, and the frame once the rest is fed;
 /// and one byte too many behind its last field is a fault that lasts.
 fn spells(rt: &impl Abort, alloc: Global, frame: &Frame, bytes: &[u8]) -> Result<(), Fail>
@@ -72,45 +82,46 @@ fn frames_without_calls(rt: HostRuntime) -> Result<(), Fail> {
 }
 
 #[test]
-fn frames_with_calls(rt: HostRuntime) -> Result<(), Fail> {
-    let alloc = rt.alloc();
-    let receive = Frame::Ask {
+fn a_receive_that_is_asked_for(rt: HostRuntime) -> Result<(), Fail> {
+    let call = Call::MsgRcv {
+        id: Id(1),
+        class: 0,
+        size: 8,
+        noerror: false,
+        nowait: true,
+    };
+    let frame = Frame::Ask {
         ticket: 3,
         pid: Pid(2),
-        call: Call::MsgRcv {
-            id: Id(1),
-            class: 0,
-            size: 8,
-            noerror: false,
-            nowait: true,
-        },
+        call,
     };
-    let bytes =
-        b"\x00\x00\x00\x18\x01\x00\x00\x00\x03\x00\x00\x00\x02\x04\x00\x00\x00\x01\x00\x00\x00\x00\x00\x00\x00\x08\x00\x01";
-    spells(&rt, alloc, &receive, bytes)?;
-    let send = Frame::Ask {
+    spells(&rt, rt.alloc(), &frame, &RECEIVE)
+}
+
+#[test]
+fn a_send_that_is_asked_for(rt: HostRuntime) -> Result<(), Fail> {
+    let call = Call::MsgSnd {
+        id: Id(1),
+        class: 1,
+        text: Bytes::from_slice(rt.alloc(), b"hi")?,
+        nowait: true,
+    };
+    let frame = Frame::Ask {
         ticket: 2,
         pid: Pid(2),
-        call: Call::MsgSnd {
-            id: Id(1),
-            class: 1,
-            text: Bytes::from_slice(alloc, b"hi")?,
-            nowait: true,
-        },
+        call,
     };
-    let bytes =
-        b"\x00\x00\x00\x19\x01\x00\x00\x00\x02\x00\x00\x00\x02\x03\x00\x00\x00\x01\x00\x00\x00\x01\x00\x00\x00\x02hi\x01";
-    spells(&rt, alloc, &send, bytes)?;
-    let answer = Frame::Answer {
+    spells(&rt, rt.alloc(), &frame, &SEND)
+}
+
+#[test]
+fn an_answer(rt: HostRuntime) -> Result<(), Fail> {
+    let frame = Frame::Answer {
         ticket: 3,
         reply: Reply::Fail(Errno::Enomsg),
     };
-    spells(
-        &rt,
-        alloc,
-        &answer,
-        b"\x00\x00\x00\x07\x05\x00\x00\x00\x03\x05\x06",
-    )
+    let bytes = b"\x00\x00\x00\x07\x05\x00\x00\x00\x03\x05\x06";
+    spells(&rt, rt.alloc(), &frame, bytes)
 }
 
 #[test]
@@ -120,7 +131,7 @@ fn faults_last(rt: HostRuntime) {
     for bytes in too_long {
         refuses(&rt, alloc, bytes, FrameFault::TooLong);
     }
-    let not_frames: [&[u8]; 12] = [
+    let not_frames: [&[u8]; 10] = [
         // a length 0, a kind 0 and a kind 19
         b"\x00\x00\x00\x00",
         b"\x00\x00\x00\x01\x00",
@@ -134,12 +145,15 @@ fn faults_last(rt: HostRuntime) {
         b"\x00\x00\x00\x07\x0b\x02\x00\x00\x00\x01\x00",
         b"\x00\x00\x00\x07\x0b\x02\x00\x00\x00\x01\x21",
         b"\x00\x00\x00\x07\x0b\x02\x00\x00\x00\x00\x02",
-        // each flag of a receive as 2
-        b"\x00\x00\x00\x18\x01\x00\x00\x00\x03\x00\x00\x00\x02\x04\x00\x00\x00\x01\x00\x00\x00\x00\x00\x00\x00\x08\x02\x01",
-        b"\x00\x00\x00\x18\x01\x00\x00\x00\x03\x00\x00\x00\x02\x04\x00\x00\x00\x01\x00\x00\x00\x00\x00\x00\x00\x08\x00\x02",
     ];
     for bytes in not_frames {
         refuses(&rt, alloc, bytes, FrameFault::NotAFrame);
+    }
+    // each flag of a receive as 2
+    for place in [26, 27] {
+        let mut bytes = RECEIVE;
+        bytes[place] = 2;
+        refuses(&rt, alloc, &bytes, FrameFault::NotAFrame);
     }
 }
 

@@ -133,7 +133,8 @@ fn put_flags(out: &mut Vec<u8>, first: bool, second: bool) -> Result<(), Memory>
 }
 
 fn put_get(out: &mut Vec<u8>, key: u32, create: bool, excl: bool) -> Result<(), Memory>
-    ensures bytes { OnOk result (out.new.items ≡ out.old.items ++ 2 ∷ (word key ++ flag_byte create ∷ flag_byte excl ∷ [])) }
+    ensures bytes { OnOk result (out.new.items
+        ≡ out.old.items ++ 2 ∷ (word key ++ flag_byte create ∷ flag_byte excl ∷ [])) }
     ensures fits { OnOk result (IsWord key) }
 {
     put_one(out, 2, key)?;
@@ -191,7 +192,8 @@ fn put_receive(
     nowait: bool,
 ) -> Result<(), Memory>
     ensures bytes { OnOk result (out.new.items
-        ≡ out.old.items ++ 4 ∷ (word id ++ (signed class ++ (word size ++ flag_byte noerror ∷ flag_byte nowait ∷ [])))) }
+        ≡ out.old.items ++ 4
+        ∷ (word id ++ (signed class ++ (word size ++ flag_byte noerror ∷ flag_byte nowait ∷ [])))) }
     ensures fits { OnOk result (IsReceive id class size) }
 {
     put_typed(out, 4, id, class)?;

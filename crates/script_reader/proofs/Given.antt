@@ -22,18 +22,22 @@ given_script : (stop : ScriptStop) (read : Read) (script : Script) → Stops sto
 given_script Memory read script h e = refl
 given_script (At line fault) read script h e = cc
 
-pub given_only : (r read : Read) → Gives r read → (script : Script) → read ≡ Ok script → (r ≡ Ok script) ⊎ (r ≡ Err Memory)
+pub given_only : (r read : Read) → Gives r read → (script : Script) → read ≡ Ok script → (r ≡ Ok script)
+    ⊎ (r ≡ Err Memory)
 given_only (Ok other) read h script e = inl (sym h ∙ e)
 given_only (Err stop) read h script e = inr (ap Err (given_script stop read script h e))
 
-given_stop : (stop : ScriptStop) (read : Read) (line : ℕ) (fault : ScriptFault) → Stops stop read → read ≡ Err (At line fault) → (stop ≡ At line fault) ⊎ (stop ≡ Memory)
+given_stop : (stop : ScriptStop) (read : Read) (line : ℕ) (fault : ScriptFault) → Stops stop read
+    → read ≡ Err (At line fault) → (stop ≡ At line fault) ⊎ (stop ≡ Memory)
 given_stop Memory read line fault h e = inr refl
 given_stop (At other kind) read line fault h e = inl cc
 
-as_answer : (stop : ScriptStop) (line : ℕ) (fault : ScriptFault) → (stop ≡ At line fault) ⊎ (stop ≡ Memory) → let r : Read = Err stop in (r ≡ Err (At line fault)) ⊎ (r ≡ Err Memory)
+as_answer : (stop : ScriptStop) (line : ℕ) (fault : ScriptFault) → (stop ≡ At line fault) ⊎ (stop ≡ Memory)
+    → let r : Read = Err stop in (r ≡ Err (At line fault)) ⊎ (r ≡ Err Memory)
 as_answer stop line fault (inl e) = inl (ap Err e)
 as_answer stop line fault (inr e) = inr (ap Err e)
 
-pub given_only_fault : (r read : Read) → Gives r read → (line : ℕ) (fault : ScriptFault) → read ≡ Err (At line fault) → (r ≡ Err (At line fault)) ⊎ (r ≡ Err Memory)
+pub given_only_fault : (r read : Read) → Gives r read → (line : ℕ) (fault : ScriptFault) → read ≡ Err (At line fault)
+    → (r ≡ Err (At line fault)) ⊎ (r ≡ Err Memory)
 given_only_fault (Ok script) read h line fault e = inl cc
 given_only_fault (Err stop) read h line fault e = as_answer stop line fault (given_stop stop read line fault h e)

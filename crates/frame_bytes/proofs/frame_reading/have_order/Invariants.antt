@@ -1,4 +1,4 @@
-use Rattle.std.proofs.Common.{◌≡◌, ◌+◌, drop, map}
+use Rattle.std.proofs.Common.{◌≡◌, drop, map}
 use Rattle.frame_bytes.specs.Fields.{rise_from}
 use Rattle.frame_bytes.specs.Frames.{have_order}
 use Rattle.frame_bytes.proofs.frame_reading.have_order.Given as goal

@@ -4,4 +4,5 @@ use Rattle.frame_bytes.proofs.Loop.{with_front}
 use Rattle.frame_bytes.proofs.many.many.Given as goal
 
 abbrev pub invariant-loop : goal.invariant-loop
-invariant-loop g l = with_front l.items.items (many g.T.Item.reader (l.count - l.counter) l.rest) ≡ many g.T.Item.reader l.count l.bytes
+invariant-loop g l = with_front l.items.items (many g.T.Item.reader (l.count - l.counter) l.rest)
+    ≡ many g.T.Item.reader l.count l.bytes

@@ -12,6 +12,7 @@ returns-clause-bytes c =
     let fits : FitsSigned w32 c.args.class = search rules in
     let typed = simp to_z-of_z at c.in_ok-put_typed.ensures.bytes in
     on_ok_weaker c.put_flags.result
-    (λ e. three-pieces c.args.out.now.items _ _ _ (4 ∷ (word c.args.id ++ signed c.args.class)) (word c.args.size) (flag_byte c.args.noerror ∷ flag_byte c.args.nowait ∷ [])
+    (λ e. three-pieces c.args.out.now.items _ _ _ (4 ∷ (word c.args.id ++ signed c.args.class)) (word c.args.size)
+    (flag_byte c.args.noerror ∷ flag_byte c.args.nowait ∷ [])
     typed c.in_ok-put_word.ensures.bytes e)
     c.put_flags.ensures

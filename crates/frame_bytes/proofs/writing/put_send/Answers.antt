@@ -12,6 +12,7 @@ returns-clause-bytes c =
     let fits : FitsSigned w32 c.args.class = search rules in
     let typed = simp to_z-of_z at c.in_ok-put_typed.ensures.bytes in
     on_ok_weaker c.put_flag.result
-    (λ e. three-pieces c.args.out.now.items _ _ _ (3 ∷ (word c.args.id ++ signed c.args.class)) (text c.args.bytes.now) (flag_byte c.args.nowait ∷ [])
+    (λ e. three-pieces c.args.out.now.items _ _ _ (3 ∷ (word c.args.id ++ signed c.args.class)) (text c.args.bytes.now)
+    (flag_byte c.args.nowait ∷ [])
     typed c.in_ok-put_text.ensures e)
     c.put_flag.ensures
