@@ -1,3 +1,4 @@
+//! Texts with and without a fault.
 use super::*;
 use pico_base::{Block, Bytes, Call, Id, Line, Memory, Script, Sequence, Var};
 use std::alloc::Global;
