@@ -1,4 +1,4 @@
-//! Texts with and without a fault.
+//! Scripts and their first faults.
 use super::*;
 use pico_base::{Block, Bytes, Call, Id, Line, Memory, Script, Sequence, Var};
 use std::alloc::Global;
