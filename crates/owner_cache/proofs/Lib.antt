@@ -1,2 +1,2 @@
+mod NameTests
 mod Owners
-mod Tests

@@ -1,7 +1,7 @@
 use Rattle.std.proofs.Common.{ap, ◌∙◌}
 use Rattle.node_model.specs.Cache.{forget}
 use Rattle.owner_cache.proofs.Owners.{forget_within, remove_is}
-use Rattle.owner_cache.proofs.Tests.{tests_same}
+use Rattle.owner_cache.proofs.NameTests.{tests_same}
 use Rattle.owner_cache.proofs.Cache.forget.Goals as goal
 
 pub invariant_of-self : goal.invariant_of-self

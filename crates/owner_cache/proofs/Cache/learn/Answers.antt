@@ -2,7 +2,7 @@ use Rattle.std.proofs.Common.{◌≡◌, ap, sym, subst, ◌∙◌}
 use Rattle.node_model.specs.Cache.{learn}
 use Rattle.owner_cache.specs.Distinct.{IsWithin}
 use Rattle.owner_cache.proofs.Owners.{learn_within, put_cap}
-use Rattle.owner_cache.proofs.Tests.{tests_same}
+use Rattle.owner_cache.proofs.NameTests.{tests_same}
 use Rattle.owner_cache.proofs.Cache.learn.Goals as goal
 
 learned : (c : goal.In_ok-put) → c.put.new.self.entries ≡ learn c.self.inside.owners.entries c.args.name c.args.node
