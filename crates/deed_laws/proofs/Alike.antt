@@ -12,7 +12,7 @@ use Rattle.kernel_model.specs.Kernel.{Kernel}
 use Rattle.kernel_model.specs.Effect.{Effect, look_up, on_named}
 use Rattle.kernel_model.specs.QueueCalls.{change_queue, receive_effect}
 use Rattle.kernel_model.specs.SetCalls.{change_set}
-use Rattle.kernel_laws.proofs.MapLaws.{get-put-same, get-put-other}
+use Rattle.number_maps.proofs.LookUps.{get-put-same, get-put-other}
 
 -- the same at each number
 abbrev pub SameAt : {V : Type 0} → Numbered V → Numbered V → Type 0
@@ -22,7 +22,8 @@ pub same-put : {V : Type 0} (m n : Numbered V) (k : ℕ) (v : V) → SameAt m n 
 same-put {V} m n k v h q =
     elim (cases_eq q k) [
       | inl same ↦
-          subst (λ (r : ℕ). get (put m k v) r ≡ get (put n k v) r) (sym same) (get-put-same m k v ∙ sym (get-put-same n k v))
+          subst (λ (r : ℕ). get (put m k v) r ≡ get (put n k v) r) (sym same)
+          (get-put-same m k v ∙ sym (get-put-same n k v))
       | inr ne ↦ get-put-other m k v q ne ∙ (h q ∙ sym (get-put-other n k v q ne))
     ]
 
@@ -44,7 +45,8 @@ pub record AreAlike (j k : Kernel) (e f : Effect) : Type 0 where
 abbrev replying : Kernel → Reply → Effect
 replying k r = record { kernel = k; reply = r }
 
-leaves-queues : (k : Kernel) (queues : Numbered Queue) (r : Reply) → Leaves k (replying (record k { queues = queues }) r)
+leaves-queues : (k : Kernel) (queues : Numbered Queue) (r : Reply)
+    → Leaves k (replying (record k { queues = queues }) r)
 leaves-queues k queues r = record { processes = refl; used_processes = refl; used_queues = refl; used_sets = refl }
 
 leaves-sets : (k : Kernel) (sets : Numbered SemaphoreSet) (r : Reply) → Leaves k (replying (record k { sets = sets }) r)
@@ -58,7 +60,8 @@ module _ (j k : Kernel) (queues : SameAt j.queues k.queues) (sets : SameAt j.set
   unchanged r = record { reply = refl; queues = queues; sets = sets; first = leaves-all j r; second = leaves-all k r }
 
   queue-put : (id : ℕ) (q : Queue) (r : Reply)
-      → AreAlike j k (replying (record j { queues = put j.queues id q }) r) (replying (record k { queues = put k.queues id q }) r)
+      → AreAlike j k (replying (record j { queues = put j.queues id q }) r)
+      (replying (record k { queues = put k.queues id q }) r)
   queue-put id q r =
       record {
         reply = refl;
@@ -69,7 +72,8 @@ module _ (j k : Kernel) (queues : SameAt j.queues k.queues) (sets : SameAt j.set
       }
 
   set-put : (id : ℕ) (s : SemaphoreSet) (r : Reply)
-      → AreAlike j k (replying (record j { sets = put j.sets id s }) r) (replying (record k { sets = put k.sets id s }) r)
+      → AreAlike j k (replying (record j { sets = put j.sets id s }) r)
+      (replying (record k { sets = put k.sets id s }) r)
   set-put id s r =
       record {
         reply = refl;
@@ -83,7 +87,8 @@ module _ (j k : Kernel) (queues : SameAt j.queues k.queues) (sets : SameAt j.set
   queue-changed id (Ok q) = queue-put id q (Num 0)
   queue-changed id (Err e) = unchanged (Fail e)
 
-  pub message-received : (id : ℕ) (r : Result Received Errno) → AreAlike j k (receive_effect j id r) (receive_effect k id r)
+  pub message-received : (id : ℕ) (r : Result Received Errno)
+      → AreAlike j k (receive_effect j id r) (receive_effect k id r)
   message-received id (Ok r) = queue-put id r.queue (Message r.message.class r.message.text)
   message-received id (Err e) = unchanged (Fail e)
 
@@ -95,7 +100,8 @@ module _ (j k : Kernel) (queues : SameAt j.queues k.queues) (sets : SameAt j.set
   number-looked_up (Ok n) = unchanged (Num n)
   number-looked_up (Err e) = unchanged (Fail e)
 
-  named-same : {V : Type 0} (o : Option V) (f g : V → Effect) → ((v : V) → AreAlike j k (f v) (g v)) → AreAlike j k (on_named j o f) (on_named k o g)
+  named-same : {V : Type 0} (o : Option V) (f g : V → Effect) → ((v : V) → AreAlike j k (f v) (g v))
+      → AreAlike j k (on_named j o f) (on_named k o g)
   named-same None f g h = unchanged (Fail Einval)
   named-same (Some v) f g h = h v
 

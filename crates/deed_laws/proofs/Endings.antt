@@ -16,7 +16,7 @@ use Rattle.kernel_model.specs.ProcessCalls.{bury, process_after_end, end_under}
 use Rattle.kernel_model.specs.Valid.{IsValid}
 use Rattle.kernel_laws.specs.Reachable.{IsReachableKernel}
 use Rattle.kernel_laws.proofs.Families.{living-ended}
-use Rattle.kernel_laws.proofs.MapLaws.{get-put-other}
+use Rattle.number_maps.proofs.LookUps.{get-put-other}
 use Rattle.kernel_laws.proofs.Members.{contains-first, contains-later}
 use Rattle.kernel_laws.proofs.People.{to-living}
 use Rattle.kernel_laws.proofs.Plain.{from_some, not_some}
@@ -37,42 +37,52 @@ effect_by k ps pid ending parent =
 
 -- The burial of ended children.
 
-within-buried : (es : List EndedChild) (m n : Numbered Process) → IsWithin m n → IsWithin (fold bury m es) (fold bury n es)
+within-buried : (es : List EndedChild) (m n : Numbered Process) → IsWithin m n
+    → IsWithin (fold bury m es) (fold bury n es)
 within-buried [] m n h = h
 within-buried (e ∷ es) m n h = within-buried es (put m e.pid Gone) (put n e.pid Gone) (within-put m n e.pid Gone h)
 
 -- who lives afterwards lived before
-gone-living : (ps : Numbered Process) (n p : ℕ) (a : Alive) → living_in (put ps n Gone) p ≡ Some a → living_in ps p ≡ Some a
+gone-living : (ps : Numbered Process) (n p : ℕ) (a : Alive) → living_in (put ps n Gone) p ≡ Some a
+    → living_in ps p ≡ Some a
 gone-living ps n p a h =
     elim (cases_eq p n) [
       | inl same ↦
-          let here : living_in (put ps n Gone) n ≡ Some a = subst (λ (q : ℕ). living_in (put ps n Gone) q ≡ Some a) same h
+          let here : living_in (put ps n Gone) n ≡ Some a =
+          subst (λ (q : ℕ). living_in (put ps n Gone) q ≡ Some a) same h
           in not_some a (sym (living-put-same ps n Gone) ∙ here)
       | inr ne ↦ sym (living-put-other ps n Gone p ne) ∙ h
     ]
 
-buried-living : (es : List EndedChild) (ps : Numbered Process) (p : ℕ) (a : Alive) → living_in (fold bury ps es) p ≡ Some a → living_in ps p ≡ Some a
+buried-living : (es : List EndedChild) (ps : Numbered Process) (p : ℕ) (a : Alive)
+    → living_in (fold bury ps es) p ≡ Some a → living_in ps p ≡ Some a
 buried-living [] ps p a h = h
 buried-living (e ∷ es) ps p a h = gone-living ps e.pid p a (buried-living es (put ps e.pid Gone) p a h)
 
 -- who isn't an ended child stays
-pub buried-apart : (es : List EndedChild) (ps : Numbered Process) (q : ℕ) → ((ending : Ending) → Contains es (ended_child q ending) → ⊥)
+pub buried-apart : (es : List EndedChild) (ps : Numbered Process) (q : ℕ)
+    → ((ending : Ending) → Contains es (ended_child q ending) → ⊥)
     → get (fold bury ps es) q ≡ get ps q
 buried-apart [] ps q h = refl
 buried-apart (e ∷ es) ps q h =
-    let ne : q ≢ e.pid = λ same. h e.ending (subst (λ (r : ℕ). Contains (e ∷ es) (ended_child r e.ending)) (sym same) (contains-first e es))
-    in buried-apart es (put ps e.pid Gone) q (λ ending c. h ending (contains-later e es (ended_child q ending) c)) ∙ get-put-other ps e.pid Gone q ne
+    let ne : q ≢ e.pid = λ same.
+    h e.ending (subst (λ (r : ℕ). Contains (e ∷ es) (ended_child r e.ending)) (sym same) (contains-first e es))
+    in buried-apart es (put ps e.pid Gone) q (λ ending c. h ending (contains-later e es (ended_child q ending) c))
+    ∙ get-put-other ps e.pid Gone q ne
 
 -- The end of process 1.
 
-first-plain : (k next : Kernel) (es : List EndedChild) → next.processes ≡ put (fold bury k.processes es) 1 Gone → HasPlain k → HasPlain next
+first-plain : (k next : Kernel) (es : List EndedChild) → next.processes ≡ put (fold bury k.processes es) 1 Gone
+    → HasPlain k → HasPlain next
 first-plain k next es is plain =
     let before : Numbered Process = fold bury k.processes es
     in record {
-      first = λ b lives. not_some b (sym (living-put-same before 1 Gone) ∙ (sym (ap (λ ps. living_in ps 1) is) ∙ lives));
+      first = λ b lives. not_some b
+          (sym (living-put-same before 1 Gone) ∙ (sym (ap (λ ps. living_in ps 1) is) ∙ lives));
       others = λ pid b ne lives.
           plain.others pid b ne
-          (buried-living es k.processes pid b (gone-living before 1 pid b (sym (ap (λ ps. living_in ps pid) is) ∙ lives)));
+          (buried-living es k.processes pid b
+          (gone-living before 1 pid b (sym (ap (λ ps. living_in ps pid) is) ∙ lives)));
     }
 
 pub first_ends : FirstEndsAsInTheKernel
@@ -93,7 +103,8 @@ first_ends h l k a status reachable stands held =
         stands = record {
           here = record {
             processes =
-                within-put (fold bury h.processes es) before 1 Gone (within-buried es h.processes k.processes stands.here.processes);
+                within-put (fold bury h.processes es) before 1 Gone
+                (within-buried es h.processes k.processes stands.here.processes);
             queues = stands.here.queues;
             sets = stands.here.sets;
           };
@@ -115,24 +126,28 @@ kept-dead true ending = refl
 kept-dead false ending = refl
 
 -- CHLD is discarded at new signals
-plain-keeper : (a : Alive) (child : ℕ) (ending : Ending) → IsPlainProcess a → IsPlainProcess (with_ended_child a child ending)
+plain-keeper : (a : Alive) (child : ℕ) (ending : Ending) → IsPlainProcess a
+    → IsPlainProcess (with_ended_child a child ending)
 plain-keeper a child ending plain =
     let with_signals : Signals → Alive = λ s.
-    with_ended_child (record { row = record { signals = s; family = a.row.family }; allowance = a.allowance }) child ending
+    with_ended_child (record { row = record { signals = s; family = a.row.family }; allowance = a.allowance }) child
+    ending
     in record {
       signals = ap (λ s. (with_signals s).row.signals) plain.signals;
       allowance = ap (λ s. (with_signals s).allowance) plain.signals ∙ plain.allowance;
     }
 
 -- the child alone is no longer living
-dead-plain : (k next : Kernel) (child : ℕ) (v : Process) → next.processes ≡ put k.processes child v → alive_in v ≡ None → child ≢ 1 → HasPlain k
+dead-plain : (k next : Kernel) (child : ℕ) (v : Process) → next.processes ≡ put k.processes child v → alive_in v ≡ None
+    → child ≢ 1 → HasPlain k
     → HasPlain next
 dead-plain k next child v is dead ne plain =
     let lived : (pid : ℕ) (b : Alive) → living_at next pid ≡ Some b → living_at k pid ≡ Some b = λ pid b lives.
     let there : living_in (put k.processes child v) pid ≡ Some b = sym (ap (λ ps. living_in ps pid) is) ∙ lives
     in elim (cases_eq pid child) [
       | inl same ↦
-          let here : living_in (put k.processes child v) child ≡ Some b = subst (λ (q : ℕ). living_in (put k.processes child v) q ≡ Some b) same there
+          let here : living_in (put k.processes child v) child ≡ Some b =
+          subst (λ (q : ℕ). living_in (put k.processes child v) q ≡ Some b) same there
           in not_some b (sym (living-put-same k.processes child v ∙ dead) ∙ here)
       | inr apart ↦ sym (living-put-other k.processes child v pid apart) ∙ there
     ]
@@ -142,19 +157,23 @@ dead-plain k next child v is dead ne plain =
     }
 
 -- and then process 1 is another one
-keeper-plain : (ps : Numbered Process) (k next : Kernel) (a : Alive) → k.processes ≡ ps → next.processes ≡ put ps 1 (Living a) → IsPlainProcess a → HasPlain k
+keeper-plain : (ps : Numbered Process) (k next : Kernel) (a : Alive) → k.processes ≡ ps
+    → next.processes ≡ put ps 1 (Living a) → IsPlainProcess a → HasPlain k
     → HasPlain next
 keeper-plain ps k next a was is mine plain =
     record {
       first = λ b lives.
-          let same : a ≡ b = from_some a b (sym (living-put-same ps 1 (Living a)) ∙ (sym (ap (λ qs. living_in qs 1) is) ∙ lives))
+          let same : a ≡ b = from_some a b
+          (sym (living-put-same ps 1 (Living a)) ∙ (sym (ap (λ qs. living_in qs 1) is) ∙ lives))
           in subst (λ (x : Alive). IsPlainProcess x) same mine;
       others = λ pid b one lives.
-          let there : living_in ps pid ≡ Some b = sym (living-put-other ps 1 (Living a) pid one) ∙ (sym (ap (λ qs. living_in qs pid) is) ∙ lives)
+          let there : living_in ps pid ≡ Some b =
+          sym (living-put-other ps 1 (Living a) pid one) ∙ (sym (ap (λ qs. living_in qs pid) is) ∙ lives)
           in plain.others pid b one (ap (λ qs. living_in qs pid) was ∙ there);
     }
 
-module _ (h : Held) (l : Leader) (k : Kernel) (child status : ℕ) (reachable : IsReachableKernel k) (stands : StandsFor h l k) (ne : child ≢ 1)
+module _ (h : Held) (l : Leader) (k : Kernel) (child status : ℕ) (reachable : IsReachableKernel k)
+    (stands : StandsFor h l k) (ne : child ≢ 1)
     (there : get k.processes child ≡ Some (Living new_process)) where
   abbrev ending : Ending
   ending = Exited (status % 256)
@@ -174,7 +193,8 @@ module _ (h : Held) (l : Leader) (k : Kernel) (child status : ℕ) (reachable : 
       in let plain : HasPlain next =
       keeper-plain ps middle next keeper refl refl (plain-keeper a child ending (plain-at k 1 a stands.plain first))
       (dead-plain k middle child v refl dead ne stands.plain)
-      in let gives = ap (effect_by k k.processes child ending) ((children_have_one_parent_lemma k reachable child).is_parent 1 a first listed)
+      in let gives = ap (effect_by k k.processes child ending)
+      ((children_have_one_parent_lemma k reachable child).is_parent 1 a first listed)
       in record {
         next = next;
         carries = record {
@@ -182,7 +202,8 @@ module _ (h : Held) (l : Leader) (k : Kernel) (child status : ℕ) (reachable : 
           stands = record {
             here = record {
               processes =
-                  within-put (put h.processes child v) ps 1 (Living keeper) (within-put h.processes k.processes child v stands.here.processes);
+                  within-put (put h.processes child v) ps 1 (Living keeper)
+                  (within-put h.processes k.processes child v stands.here.processes);
               queues = stands.here.queues;
               sets = stands.here.sets;
             };

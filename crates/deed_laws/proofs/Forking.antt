@@ -11,7 +11,7 @@ use Rattle.kernel_model.specs.Effect.{is_fresh}
 use Rattle.kernel_model.specs.ProcessCalls.{parent_after_fork, new_child, processes_after_fork}
 use Rattle.kernel_model.specs.Valid.{IsValid}
 use Rattle.machine_model.specs.Node.{new_process}
-use Rattle.kernel_laws.proofs.MapLaws.{get-put-same, get-put-other}
+use Rattle.number_maps.proofs.LookUps.{get-put-same, get-put-other}
 use Rattle.kernel_laws.proofs.People.{to-living}
 use Rattle.kernel_laws.proofs.Plain.{from_some, not_some}
 use Rattle.kernel_laws.proofs.ValidLaws.{reachable_kernels_are_valid_lemma}
@@ -36,10 +36,13 @@ forked-plain k a n plain mine =
     let ps : Numbered Process = put k.processes n (Living (new_child a))
     in record {
       first = λ b lives.
-          let same : parent_after_fork a n ≡ b = from_some (parent_after_fork a n) b (sym (living-put-same ps 1 (Living (parent_after_fork a n))) ∙ lives)
-          in subst (λ (x : Alive). IsPlainProcess x) same (record { signals = mine.signals; allowance = mine.allowance });
+          let same : parent_after_fork a n ≡ b =
+          from_some (parent_after_fork a n) b (sym (living-put-same ps 1 (Living (parent_after_fork a n))) ∙ lives)
+          in subst (λ (x : Alive). IsPlainProcess x) same
+          (record { signals = mine.signals; allowance = mine.allowance });
       others = λ pid b ne lives.
-          let before : living_in ps pid ≡ Some b = sym (living-put-other ps 1 (Living (parent_after_fork a n)) pid ne) ∙ lives
+          let before : living_in ps pid ≡ Some b =
+          sym (living-put-other ps 1 (Living (parent_after_fork a n)) pid ne) ∙ lives
           in elim (cases_eq pid n) [
             | inl same ↦
                 let born : living_in ps n ≡ Some b = subst (λ (q : ℕ). living_in ps q ≡ Some b) same before
@@ -94,5 +97,6 @@ forks h l k a block reachable stands held fits =
       };
       child =
           get-put-other ps 1 (Living (parent_after_fork a n)) n apart
-          ∙ (get-put-same k.processes n (Living (new_child a)) ∙ ap (λ (x : Alive). Some (Living x)) (new-child a mine));
+          ∙ (get-put-same k.processes n (Living (new_child a))
+          ∙ ap (λ (x : Alive). Some (Living x)) (new-child a mine));
     }

@@ -24,7 +24,8 @@ new_queues h l k a create excl stands lives fits =
     in record {
       next = next;
       carries = record {
-        makes = makes k next 1 a (calls.MsgGet None create excl) (Num n) stands.plain plain lives refl (ap (effect_if next n) fresh);
+        makes = makes k next 1 a (calls.MsgGet None create excl) (Num n) stands.plain plain lives refl
+            (ap (effect_if next n) fresh);
         stands = record {
           here = record {
             processes = stands.here.processes;

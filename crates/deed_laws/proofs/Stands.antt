@@ -14,7 +14,8 @@ plain-same k next same h =
     }
 
 -- the same used numbers
-pub fresh-same : (l : Leader) (k next : Kernel) → next.used_processes ≡ k.used_processes → next.used_queues ≡ k.used_queues
+pub fresh-same : (l : Leader) (k next : Kernel) → next.used_processes ≡ k.used_processes
+    → next.used_queues ≡ k.used_queues
     → next.used_sets ≡ k.used_sets → IsFresh l k → IsFresh l next
 fresh-same l k next processes queues sets h =
     record {

@@ -7,7 +7,8 @@ use Rattle.number_maps.specs.Maps.{Numbered, get, put, is_used, used_with}
 use Rattle.kernel_model.specs.Kernel.{Kernel, Process, alive_in, living_in}
 use Rattle.kernel_model.specs.Numbers.{is_positive_u32, is_u32}
 use Rattle.kernel_model.specs.Effect.{Effect, is_fresh, reply_with}
-use Rattle.kernel_laws.proofs.MapLaws.{get-put-same, get-put-other, used-with-other}
+use Rattle.number_maps.proofs.LookUps.{get-put-same, get-put-other}
+use Rattle.number_maps.proofs.Sets.{used-with-other}
 use Rattle.kernel_laws.proofs.Plain.{not_some, not_false}
 
 abbrev pub IsWithin : {V : Type 0} → Numbered V → Numbered V → Type 0
@@ -18,12 +19,14 @@ within-put {V} m n k v h q w there =
     elim (cases_eq q k) [
       | inl same ↦
           let mine : get (put m k v) k ≡ Some w = subst (λ (r : ℕ). get (put m k v) r ≡ Some w) same there
-          in subst (λ (r : ℕ). get (put n k v) r ≡ Some w) (sym same) (get-put-same n k v ∙ (sym (get-put-same m k v) ∙ mine))
+          in subst (λ (r : ℕ). get (put n k v) r ≡ Some w) (sym same)
+          (get-put-same n k v ∙ (sym (get-put-same m k v) ∙ mine))
       | inr ne ↦ get-put-other n k v q ne ∙ h q w (sym (get-put-other m k v q ne) ∙ there)
     ]
 
 -- where the other one alone has a new number
-pub within-new : {V : Type 0} (m n : Numbered V) (k : ℕ) (v : V) → get n k ≡ None → IsWithin m n → IsWithin m (put n k v)
+pub within-new : {V : Type 0} (m n : Numbered V) (k : ℕ) (v : V) → get n k ≡ None → IsWithin m n
+    → IsWithin m (put n k v)
 within-new {V} m n k v absent h q w there =
     let found : get n q ≡ Some w = h q w there
     in let ne : q ≢ k = λ same. not_some w (sym absent ∙ (ap (get n) (sym same) ∙ found))
@@ -32,7 +35,8 @@ within-new {V} m n k v absent h q w there =
 pub living-put-same : (ps : Numbered Process) (k : ℕ) (v : Process) → living_in (put ps k v) k ≡ alive_in v
 living-put-same ps k v = ap (option_and_then alive_in) (get-put-same ps k v)
 
-pub living-put-other : (ps : Numbered Process) (k : ℕ) (v : Process) (q : ℕ) → q ≢ k → living_in (put ps k v) q ≡ living_in ps q
+pub living-put-other : (ps : Numbered Process) (k : ℕ) (v : Process) (q : ℕ) → q ≢ k
+    → living_in (put ps k v) q ≡ living_in ps q
 living-put-other ps k v q ne = ap (option_and_then alive_in) (get-put-other ps k v q ne)
 
 -- nothing is there

@@ -48,7 +48,8 @@ pub record StandsFor (h : Held) (l : Leader) (k : Kernel) : Type 0 where
 
 -- A call of this process was carried out at the leader: the kernel makes it, and the leader stands for what it leads
 -- to. Processes that live, but for process 1 and the caller, stay as they are.
-pub record Carries (k : Kernel) (pid : ℕ) (call : Call) (reply : Reply) (h : Held) (l : Leader) (next : Kernel) : Type 0 where
+pub record Carries (k : Kernel) (pid : ℕ) (call : Call) (reply : Reply) (h : Held) (l : Leader)
+    (next : Kernel) : Type 0 where
   pub makes : Makes k pid call reply next
   pub stands : StandsFor h l next
   pub stay : (other : ℕ) (a : Alive) → other ≢ 1 → other ≢ pid → get k.processes other ≡ Some (Living a)

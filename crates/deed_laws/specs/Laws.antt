@@ -27,7 +27,8 @@ OwnCallsAreTheKernels =
 
 -- a shared call that doesn't wait is served, and as the kernel would; no process changes
 abbrev pub SharedCallsAreServed : Type 0
-SharedCallsAreServed = (h : Held) (pid : ℕ) (call : Call) → is_shared call ≡ true → is_waiting call ≡ false → IsSome (serve h pid call)
+SharedCallsAreServed =
+    (h : Held) (pid : ℕ) (call : Call) → is_shared call ≡ true → is_waiting call ≡ false → IsSome (serve h pid call)
 
 pub record Serves (h : Held) (l : Leader) (k : Kernel) (pid : ℕ) (call : Call) (e : Effect) : Type 0 where
   pub next : Kernel
@@ -38,7 +39,8 @@ pub record Serves (h : Held) (l : Leader) (k : Kernel) (pid : ℕ) (call : Call)
 abbrev pub ServedCallsAreTheKernels : Type 0
 ServedCallsAreTheKernels =
     (h : Held) (l : Leader) (k : Kernel) (pid : ℕ) (a : Alive) (call : Call) (e : Effect)
-    → StandsFor h l k → living_at k pid ≡ Some a → is_shared call ≡ true → serve h pid call ≡ Some e → Serves h l k pid call e
+    → StandsFor h l k → living_at k pid ≡ Some a → is_shared call ≡ true → serve h pid call ≡ Some e
+    → Serves h l k pid call e
 
 -- a new queue, a new set, and a set of a bad size. The leader's next number has to be one of four bytes
 pub record Creates (k : Kernel) (pid : ℕ) (call : Call) (number : ℕ) (h : Held) (l : Leader) : Type 0 where
@@ -55,14 +57,16 @@ NewQueuesAreTheKernels =
 
 abbrev pub NewSetsAreTheKernels : Type 0
 NewSetsAreTheKernels =
-    (h : Held) (l : Leader) (k : Kernel) (a : Alive) (count : ℕ) (set : SemaphoreSet) (create excl : Bool) → StandsFor h l k
+    (h : Held) (l : Leader) (k : Kernel) (a : Alive) (count : ℕ) (set : SemaphoreSet) (create excl : Bool)
+    → StandsFor h l k
     → living_at k 1 ≡ Some a → new_set count ≡ Ok set → is_u32 l.next_set ≡ true
     → Creates k 1 (SemGet None count create excl) l.next_set (record h { sets = put h.sets l.next_set set })
     (record l { next_set = l.next_set + 1 })
 
 abbrev pub BadSetsAreRefused : Type 0
 BadSetsAreRefused =
-    (k : Kernel) (pid : ℕ) (a : Alive) (count : ℕ) (error : Errno) (create excl : Bool) → HasPlain k → living_at k pid ≡ Some a
+    (k : Kernel) (pid : ℕ) (a : Alive) (count : ℕ) (error : Errno) (create excl : Bool) → HasPlain k
+    → living_at k pid ≡ Some a
     → new_set count ≡ Err error → Makes k pid (SemGet None count create excl) (Fail error) k
 
 -- a fork: the child has the leader's next number, and is a new process
@@ -90,7 +94,8 @@ FirstEndsAsInTheKernel =
 
 abbrev pub ChildrenEndAsInTheKernel : Type 0
 ChildrenEndAsInTheKernel =
-    (h : Held) (l : Leader) (k : Kernel) (p : Process) (child status : ℕ) → IsReachableKernel k → StandsFor h l k → child ≢ 1
+    (h : Held) (l : Leader) (k : Kernel) (p : Process) (child status : ℕ) → IsReachableKernel k → StandsFor h l k
+    → child ≢ 1
     → get k.processes child ≡ Some (Living new_process) → get h.processes child ≡ None
     → get h.processes 1 ≡ Some p → may_end child p ≡ true
     → Ends k child status (end_child h child 1 p (Exited (status % 256))) l

@@ -1,7 +1,10 @@
 -- The children of a process, living and ended.
 use Rattle.std.specs.Prelude.{◌≡◌, ℕ, ◌≤◌, Bool, true, false, not, ◌&&◌, nat_eq, List, [], ◌∷◌, ◌++◌, length, map}
 use Rattle.std.specs.List.{list_any}
-use Rattle.kernel_model.specs.Row.{Family}
+use Rattle.kernel_model.specs.Row.{Family, EndedChild}
+
+abbrev pub members_of : List ℕ → List (EndedChild) → Family
+members_of living ended = record { living = living; ended = ended }
 
 -- their numbers
 abbrev pub children : Family → List ℕ

@@ -5,7 +5,7 @@ use Rattle.std.specs.List.{flat_map}
 use Rattle.pico_base.specs.declared.reply.Ending.{Ending}
 use Rattle.pico_base.specs.declared.reply.Ending.TheVariants.{Exited, Killed}
 use Rattle.pico_base.specs.declared.signal.Sig.TheVariants.{Term}
-use Rattle.kernel_model.specs.Row.{EndedChild, Family, ended_child}
+use Rattle.kernel_model.specs.Row.{Family, EndedChild, ended_child}
 use Rattle.pico_base.specs.Signal.{signal_number}
 use Rattle.fork_wait.specs.Children.{AreChildren, children}
 
@@ -27,6 +27,7 @@ pub record HasBytes (f : Family) : Type 0 where
   pub sound : AreChildren (children f)
   pub numbers : All (λ n. n < 2 ^ 32) (children f)
 
-example : family_bytes (record { living = 2 ∷ []; ended = ended_child 258 (Killed Term) ∷ [] }) ≡ 1 ∷ 0 ∷ 0 ∷ 0 ∷ 2 ∷ 1 ∷ 0 ∷ 0 ∷ 1 ∷ 2 ∷ 1 ∷ 9 ∷ []
+example : family_bytes (record { living = 2 ∷ []; ended = ended_child 258 (Killed Term) ∷ [] }) ≡ 1 ∷ 0 ∷ 0 ∷ 0 ∷ 2 ∷ 1
+    ∷ 0 ∷ 0 ∷ 1 ∷ 2 ∷ 1 ∷ 9 ∷ []
 unfolding family_bytes
 example = refl

@@ -4,7 +4,7 @@ use Rattle.pico_base.specs.declared.reply.Ending.TheVariants.{Exited}
 use Rattle.pico_base.specs.declared.reply.Errno.{Errno}
 use Rattle.pico_base.specs.declared.reply.Errno.TheVariants.{Echild}
 use Rattle.kernel_model.specs.Row as row
-use Rattle.kernel_model.specs.Row.{Family, ended_child, wait, without_ended}
+use Rattle.kernel_model.specs.Row.{Family, wait, without_ended, ended_child}
 use Rattle.fork_wait.specs.declared.family.Waited.{Waited}
 use Rattle.fork_wait.specs.declared.family.Waited.TheVariants.{Child, NotYet}
 
@@ -26,7 +26,8 @@ one_of_each = record { living = 2 ∷ []; ended = ended_child 9 (Exited 7) ∷ e
 first_ended : answer_of (wait one_of_each None) ≡ Ok (Child 9 (Exited 7))
 first_ended = refl
 
-then_the_next : family_after (wait one_of_each (Some 9)) one_of_each ≡ record { living = 2 ∷ []; ended = ended_child 10 (Exited 8) ∷ [] }
+then_the_next : family_after (wait one_of_each (Some 9)) one_of_each
+    ≡ record { living = 2 ∷ []; ended = ended_child 10 (Exited 8) ∷ [] }
 then_the_next = refl
 
 still_living : answer_of (wait one_of_each (Some 2)) ≡ Ok NotYet

@@ -3,8 +3,9 @@ ghost use Rattle.std.specs.Prelude.{◌≡◌, ◌↔◌, ◌++◌, IsTrue, map,
 ghost use Rattle.std.specs.List.{list_any};
 ghost use Rattle.fork_wait.specs.Children.{AreChildren, are_different};
 
+use crate::ended::Ended;
 use crate::family::MOST;
-use pico_base::{EndedChild, Pid};
+use pico_base::Pid;
 
 /// Whether the number is one of the living children's.
 fn has_living(living: &[Pid], child: Pid) -> bool
@@ -14,21 +15,21 @@ fn has_living(living: &[Pid], child: Pid) -> bool
 }
 
 /// Whether the number is one of the ended children's.
-fn has_ended(ended: &[EndedChild], child: Pid) -> bool
+fn has_ended(ended: &[Ended], child: Pid) -> bool
     ensures { result ≡ list_any (λ e. nat_eq child e.pid) ended.now }
 {
-    ended.iter().any(|ended| child == ended.pid)
+    ended.iter().any(|e| child == e.pid)
 }
 
 /// Whether the number is one of the children's.
-fn has(living: &[Pid], ended: &[EndedChild], child: Pid) -> bool
+fn has(living: &[Pid], ended: &[Ended], child: Pid) -> bool
     ensures { result ≡ list_any (nat_eq child) (living.now ++ map (λ e. e.pid) ended.now) }
 {
     has_living(living, child) | has_ended(ended, child)
 }
 
 /// Whether no ended child's number is there twice.
-fn ended_differ(ended: &[EndedChild]) -> bool
+fn ended_differ(ended: &[Ended]) -> bool
     ensures { result ≡ are_different (map (λ e. e.pid) ended.now) }
 {
     match ended {
@@ -38,7 +39,7 @@ fn ended_differ(ended: &[EndedChild]) -> bool
 }
 
 /// Whether no child's number is there twice.
-fn all_differ(living: &[Pid], ended: &[EndedChild]) -> bool
+fn all_differ(living: &[Pid], ended: &[Ended]) -> bool
     ensures { result ≡ are_different (living.now ++ map (λ e. e.pid) ended.now) }
 {
     match living {
@@ -48,7 +49,7 @@ fn all_differ(living: &[Pid], ended: &[EndedChild]) -> bool
 }
 
 /// Whether these can be the children of a process: at most 31 numbers, all different and none 0.
-pub(crate) fn are_children(living: &[Pid], ended: &[EndedChild]) -> bool
+pub(crate) fn are_children(living: &[Pid], ended: &[Ended]) -> bool
     ensures { IsTrue result ↔ AreChildren (living.now ++ map (λ e. e.pid) ended.now) }
 {
     if living.len() > MOST || ended.len() > MOST - living.len() {

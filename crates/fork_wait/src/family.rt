@@ -1,17 +1,19 @@
-ghost use Rattle.std.specs.Prelude.{◌≡◌, ◌<◌, ◌≤◌, IfOk, IsTrue, OnOk, Some, false, length, nat_eq, not};
+//! The two lists of a family, and the bytes that they travel as.
+ghost use Rattle.std.specs.Prelude.{◌≡◌, ◌<◌, ◌≤◌, IfErr, IfOk, IsTrue, MatchOption, OnOk, false, length, nat_eq, not};
 ghost use Rattle.std.specs.List.{filter, list_any};
 ghost use Rattle.std.specs.Vec.{vec_capacity};
-ghost use Rattle.fork_wait.specs.Reading.{Gives};
+ghost use Rattle.body_fields.specs.Fields.{Refuses};
 ghost use Rattle.fork_wait.specs.Spelling.{HasBytes, family_bytes};
 ghost use Rattle.kernel_model.specs.Row.{Family as Members, first_ended_child, lists, matches, no_family, others, wait, with_child, family_after_end};
-ghost use Rattle.fork_wait.specs.Children.{children, is_child};
+ghost use Rattle.fork_wait.specs.Children.{children, is_child, members_of};
 ghost use Rattle.fork_wait.specs.Waiting.{answer_of, family_after};
 
 use crate::checking::are_children;
-use crate::reading::lists_of;
+use crate::ended::Ended;
+use crate::reading::{EndedList, LivingList, lists_of};
 use crate::writing::{write_ended, write_numbers};
-use pico_base::{Bytes, EndedChild, Ending, Errno, Memory, Pid, UnpackFault};
-use std::alloc::Global;
+use pico_base::{Bytes, Ending, Errno, Memory, Pid, UnpackFault};
+use std::alloc::{AllocError, Global};
 use std::marker::Model;
 
 /// How many children a process can have: each other picoprocess is forked once.
@@ -31,7 +33,7 @@ pub enum Waited {
 #[derive(Debug, Drop)]
 pub struct Family {
     living: Vec<Pid>,
-    ended: Vec<EndedChild>,
+    ended: Vec<Ended>,
 }
 
 impl Model for Family {
@@ -45,7 +47,9 @@ impl Model for Family {
 
     ghost view = { λ f. record { living = f.living.items; ended = f.ended.items } };
 
-    ghost invariant = { λ f. HasRoom (record { living = f.living.items; ended = f.ended.items }) (vec_capacity f.living) (vec_capacity f.ended) };
+    ghost invariant = { λ f.
+        HasRoom (record { living = f.living.items; ended = f.ended.items }) (vec_capacity f.living)
+        (vec_capacity f.ended) };
 }
 
 impl Family {
@@ -78,7 +82,7 @@ impl Family {
     {
         take_out(&mut self.living, child);
         if !ignored {
-            self.ended.push(EndedChild { pid: child, ending }).unwrap();
+            self.ended.push(Ended { pid: child, ending }).unwrap();
         }
         !ignored
     }
@@ -99,7 +103,7 @@ impl Family {
         ensures left { self.new ≡ family_after (wait self.old which) self.old }
     {
         match first_ended(&which, &self.ended) {
-            Some(EndedChild { pid, ending }) => {
+            Some(Ended { pid, ending }) => {
                 forget(&mut self.ended, pid);
                 Ok(Waited::Child { pid, ending })
             }
@@ -126,18 +130,41 @@ impl Family {
 
     /// The family of these bytes, with room for 31 living and 31 ended children.
     ///
-    /// NotABody where no family has them: they end too soon or go on, an ending isn't one, a number is 0
-    /// or there twice, or there are more than 31.
+    /// NotABody exactly where no family has them: they end too soon or go on, an ending isn't one, a number is
+    /// 0 or there twice, or there are more than 31. So Memory comes only where a family has them.
     pub fn unpack(alloc: Global, bytes: &[u8]) -> Result<Family, UnpackFault>
         ensures found { IfOk result (λ family. (bytes.now ≡ family_bytes family) × HasBytes family) }
-        ensures only { (f : Members) → HasBytes f → bytes.now ≡ family_bytes f → Gives (λ family. family) result (Some f) }
+        ensures only { (f : Members) → bytes.now ≡ family_bytes f → HasBytes f → IfOk result (λ family. family ≡ f) }
+        ensures refused { IfErr result (Refuses (λ f. (bytes.now ≡ family_bytes f) × HasBytes f)) }
     {
-        let (living, ended) = lists_of(alloc, bytes)?;
-        if !are_children(&living, &ended) {
-            return Err(UnpackFault::NotABody);
-        }
-        Ok(Family { living, ended })
+        let (living, ended) = family_lists(bytes).ok_or(UnpackFault::NotABody)?;
+        Ok(Family {
+            living: with_room(alloc, living.as_slice())?,
+            ended: with_room(alloc, ended.as_slice())?,
+        })
     }
+}
+
+/// The lists in these bytes, if they are those of a process.
+fn family_lists(bytes: &[u8]) -> Option<(LivingList, EndedList)>
+    ensures { MatchOption result ((f : Members) → bytes.now ≡ family_bytes f → HasBytes f → ⊥)
+        (λ x. let f = members_of x.0.items x.1.items in (bytes.now ≡ family_bytes f) × HasBytes f) }
+{
+    let (living, ended) = lists_of(bytes)?;
+    if !are_children(living.as_slice(), ended.as_slice()) {
+        return None;
+    }
+    Some((living, ended))
+}
+
+/// A list of these items with room for 31.
+fn with_room<T: Copy>(alloc: Global, items: &[T]) -> Result<Vec<T>, AllocError>
+    ensures items { IfOk result (λ list. list.items ≡ items.now) }
+    ensures room { IfOk result (λ list. 31 ≤ vec_capacity list) }
+{
+    let mut list = Vec::with_capacity(alloc, MOST)?;
+    list.extend_from_slice(items)?;
+    Ok(list)
 }
 
 /// Whether the child is the one that is waited for.
@@ -158,7 +185,7 @@ fn any_matches(which: &Option<Pid>, living: &[Pid]) -> bool
 }
 
 /// The first ended child that is waited for.
-fn first_ended(which: &Option<Pid>, ended: &[EndedChild]) -> Option<EndedChild>
+fn first_ended(which: &Option<Pid>, ended: &[Ended]) -> Option<Ended>
     ensures { result ≡ first_ended_child which.now ended.now }
 {
     for child in ended {
@@ -178,9 +205,9 @@ fn take_out(living: &mut Vec<Pid>, child: Pid)
 }
 
 /// Takes a child out of the ended ones.
-fn forget(ended: &mut Vec<EndedChild>, child: Pid)
+fn forget(ended: &mut Vec<Ended>, child: Pid)
     ensures out { ended.new.items ≡ filter (λ e. not (nat_eq child e.pid)) ended.old.items }
     ensures room { vec_capacity ended.new ≡ vec_capacity ended.old }
 {
-    ended.retain(|ended| child != ended.pid);
+    ended.retain(|e| child != e.pid);
 }

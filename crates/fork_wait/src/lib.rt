@@ -2,6 +2,7 @@
 #![tactic(auto)]
 
 mod checking;
+mod ended;
 mod family;
 mod reading;
 mod writing;

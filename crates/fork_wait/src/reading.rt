@@ -1,34 +1,21 @@
-//! Reading a packed family.
-ghost use Rattle.std.specs.Prelude.{◌≡◌, ◌≤◌, [], IfOk};
-ghost use Rattle.std.specs.Vec.{vec_capacity};
+//! Reading a packed family, which takes no memory: the lists have fixed room.
+ghost use Rattle.std.specs.Prelude.{◌≡◌, ◌≤◌, [], IfSome, length};
+ghost use Rattle.std.specs.Int.{w32};
+ghost use Rattle.body_fields.specs.Fields.{Reads};
 ghost use Rattle.kernel_model.specs.Row.{ended_child};
-ghost use Rattle.fork_wait.specs.Reading.{Gives, all_ended_at, byte_at, ended_at, ending_from, family_at, number_at, numbers_at, signal_from};
+ghost use Rattle.fork_wait.specs.Reading.{all_ended_at, ended_at, ending_from, family_at, numbers_at, signal_from};
 
+use crate::ended::Ended;
 use crate::family::MOST;
-use pico_base::{EndedChild, Ending, Pid, Sig, UnpackFault};
-use std::alloc::Global;
+use arrayvec::ArrayVec;
+use body_fields::{u8_at, u8_upto, u32_at};
+use pico_base::{Ending, Pid, Sig};
 
-/// The byte at the front.
-fn byte_of(bytes: &[u8]) -> Result<(u8, &[u8]), UnpackFault>
-    ensures { Gives (λ x. (x.0, x.1.now)) result (byte_at bytes.now) }
-{
-    match bytes {
-        [byte, rest @ ..] => Ok((*byte, rest)),
-        [] => Err(UnpackFault::NotABody),
-    }
-}
+/// Living children that were read.
+pub(crate) type LivingList = ArrayVec<Pid, MOST>;
 
-/// The process number at the front.
-fn number_of(bytes: &[u8]) -> Result<(u32, &[u8]), UnpackFault>
-    ensures { Gives (λ x. (x.0, x.1.now)) result (number_at bytes.now) }
-{
-    if bytes.len() < 4 {
-        return Err(UnpackFault::NotABody);
-    }
-    let (front, rest) = bytes.split_at(4);
-    let number = u32::from_be_bytes([front[0], front[1], front[2], front[3]]);
-    Ok((number, rest))
-}
+/// Ended children that were read, with their endings.
+pub(crate) type EndedList = ArrayVec<Ended, MOST>;
 
 /// The signal with this number.
 fn signal_of(number: u8) -> Option<Sig>
@@ -65,77 +52,60 @@ fn ending_of(kind: u8, value: u8) -> Option<Ending>
 
 /// The number and the ending at the front.
 #[tactic(auto, unfolding(crate::specs::Reading::ended_at))]
-fn ended_of(bytes: &[u8]) -> Result<(u32, Ending, &[u8]), UnpackFault>
-    ensures { Gives (λ x. (ended_child x.0 x.1, x.2.now)) result (ended_at bytes.now) }
+fn ended_of(bytes: &[u8]) -> Option<(u32, Ending, &[u8])>
+    ensures { Reads (λ x. (ended_child x.0 x.1, x.2.now)) result (ended_at bytes.now) }
 {
-    let (number, rest) = number_of(bytes)?;
-    let (kind, rest) = byte_of(rest)?;
-    let (value, rest) = byte_of(rest)?;
-    match ending_of(kind, value) {
-        Some(ending) => Ok((number, ending, rest)),
-        None => Err(UnpackFault::NotABody),
-    }
+    let (number, rest) = u32_at(bytes)?;
+    let (kind, rest) = u8_at(rest)?;
+    let (value, rest) = u8_at(rest)?;
+    let ending = ending_of(kind, value)?;
+    Some((number, ending, rest))
 }
 
 /// Reads so many process numbers into an empty list, and gives the bytes after them.
-fn read_numbers<'a>(
-    into: &mut Vec<Pid>,
-    count: u8,
-    bytes: &'a [u8],
-) -> Result<&'a [u8], UnpackFault>
-    requires { into.old.items ≡ [] }
-    ensures read { Gives (λ rest. (into.new.items, rest.now)) result (numbers_at count bytes.now) }
-    ensures room { vec_capacity into.old ≤ vec_capacity into.new }
+fn read_numbers<'a>(into: &mut LivingList, count: u8, bytes: &'a [u8]) -> Option<&'a [u8]>
+    requires empty { into.old.items ≡ [] }
+    requires room { count ≤ 31 }
+    ensures { Reads (λ rest. (into.new.items, rest.now)) result (numbers_at count bytes.now) }
 {
     let mut rest = bytes;
     for _ in 0..count {
-        let (number, after) = number_of(rest)?;
-        into.push(Pid(number))?;
+        let (number, after) = u32_at(rest)?;
+        into.push(Pid(number));
         rest = after;
     }
-    Ok(rest)
+    Some(rest)
 }
 
 /// Reads so many ended children into an empty list, and gives the bytes after them.
-fn read_ended<'a>(
-    into: &mut Vec<EndedChild>,
-    count: u8,
-    bytes: &'a [u8],
-) -> Result<&'a [u8], UnpackFault>
-    requires { into.old.items ≡ [] }
-    ensures read { Gives (λ rest. (into.new.items, rest.now)) result (all_ended_at count bytes.now) }
-    ensures room { vec_capacity into.old ≤ vec_capacity into.new }
+fn read_ended<'a>(into: &mut EndedList, count: u8, bytes: &'a [u8]) -> Option<&'a [u8]>
+    requires empty { into.old.items ≡ [] }
+    requires room { count ≤ 31 }
+    ensures { Reads (λ rest. (into.new.items, rest.now)) result (all_ended_at count bytes.now) }
 {
     let mut rest = bytes;
     for _ in 0..count {
         let (number, ending, after) = ended_of(rest)?;
-        into.push(EndedChild {
-            pid: Pid(number),
-            ending,
-        })?;
+        let pid = Pid(number);
+        into.push(Ended { pid, ending });
         rest = after;
     }
-    Ok(rest)
+    Some(rest)
 }
 
 /// The two lists of a family, from all of the bytes.
 #[tactic(auto, unfolding(crate::specs::Reading::family_at))]
-pub(crate) fn lists_of(
-    alloc: Global,
-    bytes: &[u8],
-) -> Result<(Vec<Pid>, Vec<EndedChild>), UnpackFault>
-    ensures read { Gives (λ x. record { living = x.0.items; ended = x.1.items }) result (family_at bytes.now) }
-    ensures living { IfOk result (λ x. 31 ≤ vec_capacity x.0) }
-    ensures ended { IfOk result (λ x. 31 ≤ vec_capacity x.1) }
+pub(crate) fn lists_of(bytes: &[u8]) -> Option<(LivingList, EndedList)>
+    ensures { Reads (λ x. record { living = x.0.items; ended = x.1.items }) result (family_at bytes.now) }
 {
-    let mut living = Vec::with_capacity(alloc, MOST)?;
-    let mut ended = Vec::with_capacity(alloc, MOST)?;
-    let (count, rest) = byte_of(bytes)?;
+    let mut living = LivingList::new();
+    let mut ended = EndedList::new();
+    let (count, rest) = u8_upto(MOST as u8, bytes)?;
     let rest = read_numbers(&mut living, count, rest)?;
-    let (count, rest) = byte_of(rest)?;
+    let (count, rest) = u8_upto(MOST as u8, rest)?;
     let rest = read_ended(&mut ended, count, rest)?;
     if !rest.is_empty() {
-        return Err(UnpackFault::NotABody);
+        return None;
     }
-    Ok((living, ended))
+    Some((living, ended))
 }

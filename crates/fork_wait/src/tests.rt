@@ -1,3 +1,4 @@
+//! Who is waited for first, and the bytes of a family.
 use crate::{Family, Waited};
 use pico_base::{Ending, Errno, Pid, Sig, UnpackFault};
 use std::test::Fail;

@@ -4,7 +4,8 @@ ghost use Rattle.std.specs.Int.{w32, to_be_bytes};
 ghost use Rattle.std.specs.List.{flat_map};
 ghost use Rattle.fork_wait.specs.Spelling.{ended_bytes, ending_bytes};
 
-use pico_base::{EndedChild, Ending, Memory, Pid};
+use crate::ended::Ended;
+use pico_base::{Ending, Memory, Pid};
 
 /// Writes a process number.
 fn write_number(bytes: &mut Vec<u8>, pid: Pid) -> Result<(), Memory>
@@ -39,7 +40,7 @@ pub(crate) fn write_numbers(bytes: &mut Vec<u8>, numbers: &[Pid]) -> Result<(), 
 }
 
 /// Writes these ended children.
-pub(crate) fn write_ended(bytes: &mut Vec<u8>, ended: &[EndedChild]) -> Result<(), Memory>
+pub(crate) fn write_ended(bytes: &mut Vec<u8>, ended: &[Ended]) -> Result<(), Memory>
     ensures written { OnOk result (bytes.new.items ≡ bytes.old.items ++ flat_map ended_bytes ended.now) }
     ensures numbers { OnOk result (All (λ e. e.pid < 2 ^ 32) ended.now) }
 {

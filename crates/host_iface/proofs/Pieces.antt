@@ -8,8 +8,11 @@ rest_slice : (bytes : List ℕ) (n : ℕ) → take (length bytes - n) (drop n by
 rest_slice bytes n = ap (λ k. take k (drop n bytes)) (sym (length-drop n bytes)) ∙ take-length (drop n bytes)
 
 -- the first n bytes, and then the first ones of the rest
-pub followed_by_more : (told : Option (List ℕ)) (bytes : List ℕ) (n more : ℕ) → followed_by (followed_by told (take n bytes)) (take more (take (length bytes - n) (drop n bytes))) ≡ followed_by told (take (n + more) bytes)
+pub followed_by_more : (told : Option (List ℕ)) (bytes : List ℕ) (n more : ℕ)
+    → followed_by (followed_by told (take n bytes)) (take more (take (length bytes - n) (drop n bytes)))
+    ≡ followed_by told (take (n + more) bytes)
 followed_by_more None bytes n more = refl
 followed_by_more (Some told) bytes n more =
     ap Some (append_assoc told (take n bytes) (take more (take (length bytes - n) (drop n bytes)))
-    ∙ ap (λ xs. told ++ xs) (ap (λ rest. take n bytes ++ take more rest) (rest_slice bytes n) ∙ sym (take-add n more bytes)))
+    ∙ ap (λ xs. told ++ xs)
+    (ap (λ rest. take n bytes ++ take more rest) (rest_slice bytes n) ∙ sym (take-add n more bytes)))

@@ -1,3 +1,4 @@
+//! The gate that the turns of nodes pass.
 use pico_base::Node;
 
 /// What a node's thread passes before each of its turns. A test's gate may hold a node there; a gate

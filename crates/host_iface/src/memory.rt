@@ -1,3 +1,4 @@
+//! A source and a sink in memory, which fail at the calls that they are told.
 ghost use Rattle.std.specs.Prelude.{◌≡◌, ◌-◌, ◌⊎◌, ◌<◌, ◌≤◌, ◌↔◌, [], ◌++◌, length, Some, take, drop, min, max, Contains, IsErr, IfOk, OnOk, OnErr};
 ghost use Rattle.host_iface.specs.Faults.{next_count, HasRisen};
 
@@ -25,7 +26,13 @@ impl Model for MemSource {
 
     ghost Value = { Reading };
 
-    ghost view = { λ s. record { left = drop s.start s.bytes; fail_at = s.fail_at; calls = s.calls; faults = s.faults } };
+    ghost view = { λ s. record {
+      left = drop s.start s.bytes;
+      fail_at = s.fail_at;
+      calls = s.calls;
+      faults =
+          s.faults;
+    } };
 
     ghost invariant = { λ s. s.start ≤ length s.bytes };
 }
@@ -54,8 +61,12 @@ impl Source for MemSource {
         ensures fails { IsErr result ↔ Contains self.old.fail_at (next_count self.old.calls) }
         ensures count { IfOk result (λ count. count ≡ min (length into.new) (length self.old.left)) }
         ensures bytes { IfOk result (λ count. take count into.new ≡ take count self.old.left) }
-        ensures ok { IfOk result (λ count. self.new ≡ record self.old { left = drop count self.old.left; calls = next_count self.old.calls }) }
-        ensures err { OnErr result (self.new ≡ record self.old { calls = next_count self.old.calls; faults = next_count self.old.faults }) }
+        ensures ok { IfOk result
+            (λ count. self.new
+            ≡ record self.old { left = drop count self.old.left; calls = next_count self.old.calls }) }
+        ensures err { OnErr result
+            (self.new ≡ record self.old { calls = next_count self.old.calls; faults = next_count self.old.faults }) }
+        ensures same { OnOk result (self.new.faults ≡ self.old.faults) }
         ensures failed { OnErr result (HasRisen self.old.faults self.new.faults) }
         ensures faults { self.old.faults ≤ self.new.faults }
     {
@@ -89,7 +100,14 @@ impl Model for MemSink {
 
     ghost Value = { Writing };
 
-    ghost view = { λ s. record { taken = s.kept.items; room = s.room; fail_at = s.fail_at; calls = s.calls; faults = s.faults } };
+    ghost view = { λ s. record {
+      taken = s.kept.items;
+      room = s.room;
+      fail_at = s.fail_at;
+      calls = s.calls;
+      faults =
+          s.faults;
+    } };
 
     ghost invariant = { λ s. vec_len s.kept + s.room ≤ vec_capacity s.kept };
 }
@@ -132,11 +150,20 @@ impl Sink for MemSink {
     ghost faults = { λ s. s.faults };
 
     fn write(&mut self, piece: &[u8]) -> Result<usize, Failed>
-        ensures fails { IsErr result ↔ (Contains self.old.fail_at (next_count self.old.calls) ⊎ ((self.old.room ≡ 0) × (0 < length piece.now))) }
+        ensures fails { IsErr result ↔ (Contains self.old.fail_at (next_count self.old.calls)
+            ⊎ ((self.old.room ≡ 0) × (0 < length piece.now))) }
         ensures count { IfOk result (λ count. count ≡ min self.old.room (length piece.now)) }
-        ensures ok { IfOk result (λ count. self.new ≡ record self.old { taken = self.old.taken ++ take count piece.now; room = self.old.room - count; calls = next_count self.old.calls }) }
-        ensures err { OnErr result (self.new ≡ record self.old { calls = next_count self.old.calls; faults = next_count self.old.faults }) }
+        ensures ok { IfOk result
+            (λ count. self.new ≡ record self.old {
+              taken = self.old.taken ++ take count piece.now;
+              room =
+                  self.old.room - count;
+              calls = next_count self.old.calls;
+            }) }
+        ensures err { OnErr result
+            (self.new ≡ record self.old { calls = next_count self.old.calls; faults = next_count self.old.faults }) }
         ensures some { IfOk result (λ count. 0 < length piece.now → 0 < count) }
+        ensures same { OnOk result (self.new.faults ≡ self.old.faults) }
         ensures failed { OnErr result (HasRisen self.old.faults self.new.faults) }
         ensures faults { self.old.faults ≤ self.new.faults }
     {

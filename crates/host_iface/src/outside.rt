@@ -1,3 +1,4 @@
+//! Where bytes come from and where they go: what a program asks of the outside.
 ghost use Rattle.std.specs.Prelude.{◌≡◌, ℕ, ◌<◌, ◌≤◌, List, [], Option, length, take, is_some, IfOk, OnOk, OnErr, IfSome};
 ghost use Rattle.host_iface.specs.Faults.{HasRisen};
 ghost use Rattle.host_iface.specs.Told.{led_by, followed_by};
@@ -22,12 +23,14 @@ pub trait Source {
     fn read(&mut self, into: &mut [u8]) -> Result<usize, Failed>
         ensures within { IfOk result (λ count. count ≤ length into.new) }
         ensures bytes { IfOk result (λ count. left self.old ≡ led_by (take count into.new) (left self.new)) }
-        ensures end { IfOk result (λ count. count ≡ 0 → 0 < length into.new → IfSome (left self.new) (λ bytes. bytes ≡ [])) }
+        ensures end { IfOk result (λ count. count ≡ 0 → 0 < length into.new
+            → IfSome (left self.new) (λ bytes. bytes ≡ [])) }
+
+        // A count rises with a failure alone.
+        ensures same { OnOk result (faults self.new ≡ faults self.old) }
 
         // Which bytes are left after a failure isn't said, but they are told as before.
         ensures told { OnErr result (is_some (left self.new) ≡ is_some (left self.old)) }
-        // A count rises only with a failure.
-        ensures calm { OnOk result (faults self.new ≡ faults self.old) }
         ensures failed { OnErr result (HasRisen (faults self.old) (faults self.new)) }
         ensures faults { faults self.old ≤ faults self.new };
 }
@@ -46,9 +49,8 @@ pub trait Sink {
         ensures within { IfOk result (λ count. count ≤ length piece.now) }
         ensures some { IfOk result (λ count. 0 < length piece.now → 0 < count) }
         ensures bytes { IfOk result (λ count. taken self.new ≡ followed_by (taken self.old) (take count piece.now)) }
+        ensures same { OnOk result (faults self.new ≡ faults self.old) }
         ensures unchanged { OnErr result (taken self.new ≡ taken self.old) }
-        // A count rises only with a failure.
-        ensures calm { OnOk result (faults self.new ≡ faults self.old) }
         ensures failed { OnErr result (HasRisen (faults self.old) (faults self.new)) }
         ensures faults { faults self.old ≤ faults self.new };
 }

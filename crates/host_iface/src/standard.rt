@@ -1,3 +1,4 @@
+//! A source over a reader of std, and a sink over a writer.
 ghost use Rattle.std.specs.Prelude.{◌≡◌, ◌<◌, ◌≤◌, None, length, IfOk, OnOk, OnErr};
 ghost use Rattle.std.specs.Io.KnownBytes.{ReadConsumes, WriteAppends};
 ghost use Rattle.host_iface.specs.Faults.{next_count, HasRisen};
@@ -36,9 +37,10 @@ impl<R: Read> Source for StdSource<R> {
         ensures within { IfOk result (λ count. count ≤ length into.new) }
 
         // The bytes are those of the reader, where that is one whose bytes are known.
-        ensures bytes { ReadConsumes (R.remaining (reader_of self.old)) (R.remaining (reader_of self.new)) result into.new }
+        ensures bytes { ReadConsumes (R.remaining (reader_of self.old))
+            (R.remaining (reader_of self.new)) result into.new }
 
-        ensures calm { OnOk result (failed_reads self.new ≡ failed_reads self.old) }
+        ensures same { OnOk result (failed_reads self.new ≡ failed_reads self.old) }
         ensures one_more { OnErr result (failed_reads self.new ≡ next_count (failed_reads self.old)) }
         ensures failed { OnErr result (HasRisen (failed_reads self.old) (failed_reads self.new)) }
         ensures faults { failed_reads self.old ≤ failed_reads self.new }
@@ -85,9 +87,10 @@ impl<W: Write> Sink for StdSink<W> {
         ensures some { IfOk result (λ count. 0 < length piece.now → 0 < count) }
 
         // The bytes go to the writer, where that is one whose bytes are known.
-        ensures bytes { WriteAppends (W.contents (writer_of self.old)) (W.contents (writer_of self.new)) result piece.now }
+        ensures bytes { WriteAppends (W.contents (writer_of self.old))
+            (W.contents (writer_of self.new)) result piece.now }
 
-        ensures calm { OnOk result (failed_writes self.new ≡ failed_writes self.old) }
+        ensures same { OnOk result (failed_writes self.new ≡ failed_writes self.old) }
         ensures one_more { OnErr result (failed_writes self.new ≡ next_count (failed_writes self.old)) }
         ensures failed { OnErr result (HasRisen (failed_writes self.old) (failed_writes self.new)) }
         ensures faults { failed_writes self.old ≤ failed_writes self.new }

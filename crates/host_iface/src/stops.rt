@@ -1,3 +1,4 @@
+//! Why not all was read or written.
 ghost use Rattle.std.specs.Prelude.{◌≡◌};
 ghost use Rattle.host_iface.specs.declared.stops.ReadStop.TheVariants.{Memory as OutOfMemory, Fault};
 

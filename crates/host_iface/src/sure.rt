@@ -1,3 +1,4 @@
+//! A source and a sink that never fail.
 ghost use Rattle.std.specs.Prelude.{◌≡◌, ◌↔◌, ℕ, List, None, Some, Ok, length, take, drop, min, IfOk};
 
 use crate::{Failed, Sink, Source};

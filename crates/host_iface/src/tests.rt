@@ -1,9 +1,14 @@
+//! Sources and sinks of every kind of answer.
+ghost use Rattle.std.specs.Prelude.{◌≤◌, IfOk};
+
 use crate::{
     CallList, Gate, MemSink, MemSource, OpenGate, ReadStop, StdSink, StdSource, SureSink,
     SureSource, WriteStop, read_all, write_all,
 };
 use pico_base::{Bytes, Node};
 use std::alloc::Global;
+use std::io;
+use std::io::{ErrorKind, Read, Write};
 use std::process::Abort;
 use std::test::Fail;
 
@@ -87,23 +92,93 @@ fn a_sink_takes_what_has_room(rt: HostRuntime) -> Result<(), Fail> {
     Ok(())
 }
 
+/// How a reader or a writer answers.
+#[derive(Clone, Copy, Debug, PartialEq, Eq)]
+enum Dose {
+    Whole,
+    One,
+    Nothing,
+    Fails,
+    FailsLate,
+}
+
+/// A reader and writer of the text that answers in one way.
+#[derive(Debug, Drop)]
+struct Fake {
+    dose: Dose,
+    left: &'static [u8],
+}
+
+impl Fake {
+    fn new(dose: Dose) -> Self {
+        Fake { dose, left: TEXT }
+    }
+
+    /// How many bytes come next, where there is room for so many.
+    fn next(&self, room: usize) -> io::Result<usize>
+        ensures { IfOk result (λ count. count ≤ room) }
+    {
+        let is_late = self.left.len() < TEXT.len();
+        match self.dose {
+            Dose::Whole => Ok(room),
+            Dose::One => Ok(room.min(1)),
+            Dose::FailsLate if !is_late => Ok(room.min(1)),
+            Dose::Nothing => Ok(0),
+            Dose::Fails | Dose::FailsLate => Err(ErrorKind::BrokenPipe.into()),
+        }
+    }
+}
+
+impl Read for Fake {
+    fn read(&mut self, buf: &mut [u8]) -> io::Result<usize> {
+        let count = self.next(buf.len().min(self.left.len()))?;
+        let (front, rest) = self.left.split_at(count);
+        buf[..count].copy_from_slice(front);
+        self.left = rest;
+        Ok(count)
+    }
+}
+
+impl Write for Fake {
+    fn write(&mut self, buf: &[u8]) -> io::Result<usize> {
+        let count = self.next(buf.len().min(self.left.len()))?;
+        self.left = &self.left[count..];
+        Ok(count)
+    }
+
+    fn flush(&mut self) -> io::Result<()> {
+        Ok(())
+    }
+}
+
 #[test]
-fn the_standard_ones_read_and_write(rt: HostRuntime) -> Result<(), Fail> {
+fn the_standard_ones_hand_on_each_kind_of_answer(rt: HostRuntime) -> Result<(), Fail> {
     let alloc = rt.alloc();
-    let mut source = StdSource::new(TEXT);
-    let text = Bytes::from_slice(alloc, TEXT)?;
-    assert_eq!(rt; read_all(alloc, &mut source, 6), Ok(text));
-
-    let mut written = Vec::new(alloc);
-    assert_eq!(rt; write_all(&mut StdSink::new(&mut written), TEXT), Ok(()));
-    assert_eq!(rt; written.as_slice(), TEXT);
-
-    let mut small = [0u8; 4];
-    let stop = Err(WriteStop::Fault { taken: 4 });
-    assert_eq!(rt;
-        write_all(&mut StdSink::new(small.as_mut_slice()), TEXT),
-        stop
-    );
+    let table = [
+        (Dose::Whole, Some(TEXT), Ok(())),
+        (Dose::One, Some(TEXT), Ok(())),
+        (
+            Dose::Nothing,
+            Some(b"".as_slice()),
+            Err(WriteStop::Fault { taken: 0 }),
+        ),
+        (Dose::Fails, None, Err(WriteStop::Fault { taken: 0 })),
+        (Dose::FailsLate, None, Err(WriteStop::Fault { taken: 1 })),
+    ];
+    for (dose, text, written) in table {
+        let read = match text {
+            Some(text) => Ok(Bytes::from_slice(alloc, text)?),
+            None => Err(ReadStop::Fault),
+        };
+        assert_eq!(rt;
+            read_all(alloc, &mut StdSource::new(Fake::new(dose)), 6),
+            read
+        );
+        assert_eq!(rt;
+            write_all(&mut StdSink::new(Fake::new(dose)), TEXT),
+            written
+        );
+    }
     Ok(())
 }
 

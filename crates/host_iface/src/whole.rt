@@ -1,3 +1,4 @@
+//! A source read to its end, and all bytes written.
 ghost use Rattle.std.specs.Prelude.{◌≡◌, ◌+◌, ◌<◌, ◌≤◌, [], length, take, is_some, IfOk, OnOk, OnErr, IfSome};
 ghost use Rattle.host_iface.specs.Faults.{HasRisen};
 ghost use Rattle.host_iface.specs.Told.{led_by, followed_by};
@@ -12,8 +13,8 @@ const CHUNK: usize = 4096;
 
 /// Reads a source to its end, or one byte past the limit. No read asks for more than that.
 ///
-/// `Memory` comes where an allocation is refused; the source may then have been read in part or
-/// whole. `Fault` comes only where the source's count of faults rose in this call. `TooLong` comes
+/// `Memory` comes where an allocation is refused, and only where no read failed; the source may then have been read
+/// in part or whole. `Fault` comes only where the source's count of faults rose in this call. `TooLong` comes
 /// exactly where one byte more than the limit was read, and gives these bytes.
 pub fn read_all<S: Source>(alloc: Global, source: &mut S, limit: usize) -> Result<Bytes, ReadStop>
     requires { limit < usize.MAX }
@@ -23,12 +24,13 @@ pub fn read_all<S: Source>(alloc: Global, source: &mut S, limit: usize) -> Resul
     ensures within { IfOk result (λ bytes. length bytes ≤ limit) }
 
     ensures one_more { IfTooLong result (λ read. length read ≡ limit + 1) }
-    ensures front { IfTooLong result (λ read. IfSome (S.left source.old) (λ left. (limit < length left) × (read ≡ take (limit + 1) left))) }
+    ensures front { IfTooLong result
+        (λ read. IfSome (S.left source.old) (λ left. (limit < length left) × (read ≡ take (limit + 1) left))) }
     ensures rest { IfTooLong result (λ read. S.left source.old ≡ led_by read (S.left source.new)) }
 
-    // A failed read is never called want of memory, nor anything else.
     ensures fault { OnReadFault result (HasRisen (S.faults source.old) (S.faults source.new)) }
-    ensures calm { UnlessReadFault result (S.faults source.new ≡ S.faults source.old) }
+    // A failed read is never called want of memory.
+    ensures same { UnlessReadFault result (S.faults source.new ≡ S.faults source.old) }
     ensures faults { S.faults source.old ≤ S.faults source.new }
     ensures told { is_some (S.left source.new) ≡ is_some (S.left source.old) }
 {
@@ -56,10 +58,11 @@ pub fn read_all<S: Source>(alloc: Global, source: &mut S, limit: usize) -> Resul
 pub fn write_all<K: Sink>(sink: &mut K, bytes: &[u8]) -> Result<(), WriteStop>
     ensures all { OnOk result (K.taken sink.new ≡ followed_by (K.taken sink.old) bytes.now) }
 
-    ensures part { IfWriteFault result (λ taken. K.taken sink.new ≡ followed_by (K.taken sink.old) (take taken bytes.now)) }
+    ensures part { IfWriteFault result
+        (λ taken. K.taken sink.new ≡ followed_by (K.taken sink.old) (take taken bytes.now)) }
     ensures not_all { IfWriteFault result (λ taken. taken < length bytes.now) }
-    ensures calm { OnOk result (K.faults sink.new ≡ K.faults sink.old) }
     ensures fault { OnErr result (HasRisen (K.faults sink.old) (K.faults sink.new)) }
+    ensures same { OnOk result (K.faults sink.new ≡ K.faults sink.old) }
     ensures faults { K.faults sink.old ≤ K.faults sink.new }
 {
     let mut taken = 0;

@@ -6,7 +6,7 @@ use Rattle.number_maps.specs.Maps.{Numbered, get, put, without}
 use Rattle.kernel_model.specs.Kernel.{Kernel, parent_in}
 use Rattle.kernel_model.specs.Effect.{Effect}
 use Rattle.kernel_model.specs.Footprint.{Part, ParentOf, is_whole, is_queue, is_set, is_queue_keys, is_set_keys}
-use Rattle.kernel_footprint.proofs.Maps.{get-put-same, get-put-other, get-without-same, get-without-other}
+use Rattle.number_maps.proofs.LookUps.{get-put-same, get-put-other, get-without-same, get-without-other}
 use Rattle.std.specs.Prelude.{nat_eq}
 
 pub data Change {X : Type 0} (touched : Bool) (j k to_j to_k : X) : Type 0 where
@@ -36,22 +36,26 @@ change-second t j k a b (Same s x) h = absurd (false≢true (sym h ∙ s))
 pub changes-none : {V : Type 0} (touched : ℕ → Bool) (j k : Numbered V) → Changes touched j k j k
 changes-none touched j k = λ p. Stays refl refl
 
-pub changes-put : {V : Type 0} (touched : ℕ → Bool) (j k a b : Numbered V) (n : ℕ) (v : V) → touched n ≡ true → Changes touched j k a b → Changes touched j k (put a n v) (put b n v)
+pub changes-put : {V : Type 0} (touched : ℕ → Bool) (j k a b : Numbered V) (n : ℕ) (v : V) → touched n ≡ true
+    → Changes touched j k a b → Changes touched j k (put a n v) (put b n v)
 changes-put touched j k a b n v t c = λ p.
     elim (cases_eq p n) [
       | inl h ↦
           let P : ℕ → Type 0 = λ q. Change (touched q) (get j q) (get k q) (get (put a n v) q) (get (put b n v) q)
           in subst P (sym h) (Same t (get-put-same a n v ∙ sym (get-put-same b n v)))
-      | inr h ↦ change-move (touched p) (get j p) (get k p) (get a p) (get b p) _ _ (c p) (get-put-other a n v p h) (get-put-other b n v p h)
+      | inr h ↦ change-move (touched p) (get j p) (get k p) (get a p) (get b p) _ _ (c p) (get-put-other a n v p h)
+          (get-put-other b n v p h)
     ]
 
-pub changes-without : {V : Type 0} (touched : ℕ → Bool) (j k a b : Numbered V) (n : ℕ) → touched n ≡ true → Changes touched j k a b → Changes touched j k (without a n) (without b n)
+pub changes-without : {V : Type 0} (touched : ℕ → Bool) (j k a b : Numbered V) (n : ℕ) → touched n ≡ true
+    → Changes touched j k a b → Changes touched j k (without a n) (without b n)
 changes-without touched j k a b n t c = λ p.
     elim (cases_eq p n) [
       | inl h ↦
           let P : ℕ → Type 0 = λ q. Change (touched q) (get j q) (get k q) (get (without a n) q) (get (without b n) q)
           in subst P (sym h) (Same t (get-without-same a n ∙ sym (get-without-same b n)))
-      | inr h ↦ change-move (touched p) (get j p) (get k p) (get a p) (get b p) _ _ (c p) (get-without-other a n p h) (get-without-other b n p h)
+      | inr h ↦ change-move (touched p) (get j p) (get k p) (get a p) (get b p) _ _ (c p) (get-without-other a n p h)
+          (get-without-other b n p h)
     ]
 
 abbrev pub is_parent : ℕ → Part → Bool

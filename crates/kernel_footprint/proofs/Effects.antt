@@ -23,7 +23,8 @@ pub fresh-alike : (a b : List ℕ) (n : ℕ) → is_used a n ≡ false → is_us
 fresh-alike a b n x y = ap (λ u. is_positive_u32 n && not u) (x ∙ sym y)
 
 module _ (parts : List Part) (j k : Kernel) where
-  pub made-if : (b c : Bool) (e f : Effect) → b ≡ c → SameEffect parts j k e f → SameEffects parts j k (cond b (Some e) None) (cond c (Some f) None)
+  pub made-if : (b c : Bool) (e f : Effect) → b ≡ c → SameEffect parts j k e f
+      → SameEffects parts j k (cond b (Some e) None) (cond c (Some f) None)
   made-if true true e f h s = s
   made-if false false e f h s = tt
   made-if true false e f h s = cc
@@ -33,7 +34,8 @@ module _ (parts : List Part) (j k : Kernel) where
     orphans : (e f : Effect) (p : ℕ) → has_parent parts p ≡ true → IsOrphan e.kernel p × IsOrphan f.kernel p
     orphans e f p t = absurd (false≢true (sym (childless p) ∙ t))
 
-    pub unchanged : (r : Reply) → SameEffect parts j k (record { kernel = j; reply = r }) (record { kernel = k; reply = r })
+    pub unchanged : (r : Reply)
+        → SameEffect parts j k (record { kernel = j; reply = r }) (record { kernel = k; reply = r })
     unchanged r =
         record {
           reply = refl;
@@ -49,15 +51,20 @@ module _ (parts : List Part) (j k : Kernel) where
     looked-alike (Ok m) = unchanged (Num m)
     looked-alike (Err e) = unchanged (Fail e)
 
-    named-by : {V : Type 0} (o : Option V) (f g : V → Effect) → ((v : V) → o ≡ Some v → SameEffect parts j k (f v) (g v)) → SameEffect parts j k (on_named j o f) (on_named k o g)
+    named-by : {V : Type 0} (o : Option V) (f g : V → Effect)
+        → ((v : V) → o ≡ Some v → SameEffect parts j k (f v) (g v))
+        → SameEffect parts j k (on_named j o f) (on_named k o g)
     named-by None f g s = unchanged (Fail Einval)
     named-by (Some v) f g s = s v refl
 
-    pub named-alike : {V : Type 0} (o p : Option V) (f g : V → Effect) → o ≡ p → ((v : V) → SameEffect parts j k (f v) (g v)) → SameEffect parts j k (on_named j o f) (on_named k p g)
-    named-alike o p f g h s = subst (λ q. SameEffect parts j k (on_named j o f) (on_named k q g)) h (named-by o f g (λ v e. s v))
+    pub named-alike : {V : Type 0} (o p : Option V) (f g : V → Effect) → o ≡ p
+        → ((v : V) → SameEffect parts j k (f v) (g v)) → SameEffect parts j k (on_named j o f) (on_named k p g)
+    named-alike o p f g h s =
+        subst (λ q. SameEffect parts j k (on_named j o f) (on_named k q g)) h (named-by o f g (λ v e. s v))
 
     pub queues-changed : (a b : Numbered Queue) (keys_a keys_b : Numbered ℕ) (used_a used_b : List ℕ) (r : Reply)
-        → Changes (has_queue parts) j.queues k.queues a b → Changes (has_queue_keys parts) j.queue_keys k.queue_keys keys_a keys_b
+        → Changes (has_queue parts) j.queues k.queues a b
+        → Changes (has_queue_keys parts) j.queue_keys k.queue_keys keys_a keys_b
         → SameEffect parts j k
         (record { kernel = record j { queues = a; queue_keys = keys_a; used_queues = used_a }; reply = r })
         (record { kernel = record k { queues = b; queue_keys = keys_b; used_queues = used_b }; reply = r })

@@ -28,7 +28,7 @@ use Rattle.kernel_model.specs.Waiting.{may_wait}
 use Rattle.kernel_model.specs.Transition.{Successor, successor, effect, may_make, finish_call, outcome_of, transition_by, transition}
 use Rattle.kernel_model.specs.Valid.{IsValid}
 use Rattle.kernel_model.specs.Footprint.{GrowsBy, created_kind, grown_by, has_created, is_same_kind, is_there, used_for, used_of}
-use Rattle.kernel_footprint.proofs.Maps.{get-put-same, get-put-other}
+use Rattle.number_maps.proofs.LookUps.{get-put-same, get-put-other}
 
 -- the numbers used after an effect
 pub record Grew (own : Option Kind) (n : ℕ) (k : Kernel) (e : Effect) (kind : Kind) : Type 0 where
@@ -77,7 +77,8 @@ module _ (k : Kernel) where
   keeps-wait pid a NotYet = λ kind. refl
   keeps-wait pid a NoChild = λ kind. refl
 
-  keeps-raise : (pid : ℕ) (b : Bool) (one other : Alive) → Keeps k (reply_with (if b then with_alive k pid one else with_alive k pid other) 0)
+  keeps-raise : (pid : ℕ) (b : Bool) (one other : Alive)
+      → Keeps k (reply_with (if b then with_alive k pid one else with_alive k pid other) 0)
   keeps-raise pid true one other = λ kind. refl
   keeps-raise pid false one other = λ kind. refl
 
@@ -106,9 +107,14 @@ module _ (k : Kernel) where
 abbrev IsQuiet : Option Kind → ℕ → Kernel → Type 0
 IsQuiet own n k = (kind : Kind) → has_created own k kind n ≡ false
 
-unchanged-grew : (own : Option Kind) (n : ℕ) (k : Kernel) (r : Reply) → IsQuiet own n k → (kind : Kind) → Grew own n k (record { kernel = k; reply = r }) kind
+unchanged-grew : (own : Option Kind) (n : ℕ) (k : Kernel) (r : Reply) → IsQuiet own n k → (kind : Kind)
+    → Grew own n k (record { kernel = k; reply = r }) kind
 unchanged-grew own n k r quiet kind =
-    record { used = ap (λ b. grown_by b (used_of k kind) n) (sym (quiet kind)); says = λ t. absurd (false≢true (sym (quiet kind) ∙ t)) }
+    record {
+      used = ap (λ b. grown_by b (used_of k kind) n) (sym (quiet kind));
+      says =
+          λ t. absurd (false≢true (sym (quiet kind) ∙ t));
+    }
 
 unused-absent : (b used : Bool) → (IsTrue b → IsTrue used) → used ≡ false → b ≡ false
 unused-absent false used h u = refl
@@ -129,7 +135,8 @@ quiet-sets k n v u kinds.Sem = unused-absent _ _ (v.used_sets n) u
 put-there : {V : Type 0} (m : Numbered V) (n : ℕ) (v : V) → is_some (get (put m n v) n) ≡ true
 put-there m n v = ap is_some (get-put-same m n v)
 
-still-there : {V : Type 0} (m : Numbered V) (p : ℕ) (v : V) (n : ℕ) → is_some (get m n) ≡ true → is_some (get (put m p v) n) ≡ true
+still-there : {V : Type 0} (m : Numbered V) (p : ℕ) (v : V) (n : ℕ) → is_some (get m n) ≡ true
+    → is_some (get (put m p v) n) ≡ true
 still-there m p v n h =
     elim (cases_eq n p) [
       | inl e ↦ subst (λ (q : ℕ). is_some (get (put m p v) q) ≡ true) (sym e) (put-there m p v)
@@ -141,30 +148,55 @@ grown-there b used n h = ap (λ c. grown_by c used n) (sym h)
 
 module _ (k : Kernel) (n : ℕ) where
   grew-process : (ps : Numbered Process) → is_some (get ps n) ≡ true
-      → (kind : Kind) → Grew (Some kinds.Proc) n k (reply_with (record k { processes = ps; used_processes = used_with k.used_processes n }) n) kind
-  grew-process ps h kinds.Proc = record { used = grown-there (is_some (get ps n)) k.used_processes n h; says = λ t. refl }
+      → (kind : Kind) → Grew (Some kinds.Proc) n k
+      (reply_with (record k { processes = ps; used_processes = used_with k.used_processes n }) n) kind
+  grew-process ps h kinds.Proc =
+      record { used = grown-there (is_some (get ps n)) k.used_processes n h; says = λ t. refl }
   grew-process ps h kinds.Msg = record { used = refl; says = λ t. refl }
   grew-process ps h kinds.Sem = record { used = refl; says = λ t. refl }
 
   grew-queue : (keys : Numbered ℕ) (kind : Kind)
-      → Grew (Some kinds.Msg) n k (reply_with (record k { queues = put k.queues n empty_queue; queue_keys = keys; used_queues = used_with k.used_queues n }) n) kind
+      → Grew (Some kinds.Msg) n k
+      (reply_with (record k {
+        queues = put k.queues n empty_queue;
+        queue_keys = keys;
+        used_queues =
+            used_with k.used_queues n;
+      }) n) kind
   grew-queue keys kinds.Proc = record { used = refl; says = λ t. refl }
-  grew-queue keys kinds.Msg = record { used = grown-there (is_some (get (put k.queues n empty_queue) n)) k.used_queues n (put-there k.queues n empty_queue); says = λ t. refl }
+  grew-queue keys kinds.Msg =
+      record {
+        used = grown-there (is_some (get (put k.queues n empty_queue) n)) k.used_queues n
+            (put-there k.queues n empty_queue);
+        says = λ t. refl;
+      }
   grew-queue keys kinds.Sem = record { used = refl; says = λ t. refl }
 
   grew-set : (keys : Numbered ℕ) (s : SemaphoreSet) (kind : Kind)
-      → Grew (Some kinds.Sem) n k (reply_with (record k { sets = put k.sets n s; set_keys = keys; used_sets = used_with k.used_sets n }) n) kind
+      → Grew (Some kinds.Sem) n k
+      (reply_with (record k { sets = put k.sets n s; set_keys = keys; used_sets = used_with k.used_sets n }) n) kind
   grew-set keys s kinds.Proc = record { used = refl; says = λ t. refl }
   grew-set keys s kinds.Msg = record { used = refl; says = λ t. refl }
-  grew-set keys s kinds.Sem = record { used = grown-there (is_some (get (put k.sets n s) n)) k.used_sets n (put-there k.sets n s); says = λ t. refl }
+  grew-set keys s kinds.Sem =
+      record {
+        used = grown-there (is_some (get (put k.sets n s) n)) k.used_sets n (put-there k.sets n s);
+        says =
+            λ t. refl;
+      }
 
-  grew-if : (own : Option Kind) (b : Bool) (e : Effect) → ((kind : Kind) → Grew own n k e kind) → AllGrew own n k (if b then Some e else None)
+  grew-if : (own : Option Kind) (b : Bool) (e : Effect) → ((kind : Kind) → Grew own n k e kind)
+      → AllGrew own n k (if b then Some e else None)
   grew-if own true e h = h
   grew-if own false e h = tt
 
   grew-fork : (pid : ℕ) (a : Alive) → AllGrew (Some kinds.Proc) n k
       (if is_fresh k.used_processes n
-      then Some (reply_with (record k { processes = processes_after_fork k.processes pid a n; used_processes = used_with k.used_processes n }) n)
+      then Some (reply_with
+      (record k {
+        processes = processes_after_fork k.processes pid a n;
+        used_processes =
+            used_with k.used_processes n;
+      }) n)
       else None)
   grew-fork pid a =
       grew-if (Some kinds.Proc) (is_fresh k.used_processes n) _
@@ -175,12 +207,14 @@ module _ (k : Kernel) (n : ℕ) where
   grew-new_queue : (keys : Numbered ℕ) → AllGrew (Some kinds.Msg) n k (new_queue k keys n)
   grew-new_queue keys = grew-if (Some kinds.Msg) (is_fresh k.used_queues n) _ (grew-queue keys)
 
-  grew-new_set : (keys : Numbered ℕ) (r : Result SemaphoreSet Errno) → IsQuiet (Some kinds.Sem) n k → AllGrew (Some kinds.Sem) n k (new_set_of k keys n r)
+  grew-new_set : (keys : Numbered ℕ) (r : Result SemaphoreSet Errno) → IsQuiet (Some kinds.Sem) n k
+      → AllGrew (Some kinds.Sem) n k (new_set_of k keys n r)
   grew-new_set keys (Err e) quiet = unchanged-grew (Some kinds.Sem) n k _ quiet
   grew-new_set keys (Ok s) quiet = grew-if (Some kinds.Sem) (is_fresh k.used_sets n) _ (grew-set keys s)
 
   unchanged-if : (own : Option Kind) (b : Bool) (r s : Reply) → IsQuiet own n k
-      → (kind : Kind) → Grew own n k (if b then record { kernel = k; reply = r } else record { kernel = k; reply = s }) kind
+      → (kind : Kind) → Grew own n k
+      (if b then record { kernel = k; reply = r } else record { kernel = k; reply = s }) kind
   unchanged-if own true r s quiet = unchanged-grew own n k r quiet
   unchanged-if own false r s quiet = unchanged-grew own n k s quiet
 
@@ -204,7 +238,8 @@ module _ (k : Kernel) (n : ℕ) where
 -- Each call's effect.
 
 module _ (k : Kernel) (pid : ℕ) (a : Alive) (n : ℕ) (v : IsValid k) where
-  grew-effect : (call : Call) → is_used (used_for k call) n ≡ false → AllGrew (created_kind call) n k (effect k pid a call n)
+  grew-effect : (call : Call) → is_used (used_for k call) n ≡ false
+      → AllGrew (created_kind call) n k (effect k pid a call n)
   grew-effect (calls.Fork block) u = grew-fork k n pid a
   grew-effect (calls.Exit status) u = from-keeps n k _ (λ kind. refl)
   grew-effect (calls.Killed sig) u = from-keeps n k _ (λ kind. refl)
@@ -226,20 +261,28 @@ module _ (k : Kernel) (pid : ℕ) (a : Alive) (n : ℕ) (v : IsValid k) where
       from-keeps n k _ (keeps-named k (get k.queues id) _ (λ q. keeps-received k id (receive q pid class size noerror)))
   grew-effect (calls.MsgRcv id class size noerror false) u = tt
   grew-effect (calls.MsgStat id) u = from-keeps n k _ (keeps-named k (get k.queues id) _ (λ q kind. refl))
-  grew-effect (calls.MsgSet id qbytes) u = from-keeps n k _ (keeps-named k (get k.queues id) _ (λ q. keeps-queue k id (set_qbytes q qbytes)))
+  grew-effect (calls.MsgSet id qbytes) u =
+      from-keeps n k _ (keeps-named k (get k.queues id) _ (λ q. keeps-queue k id (set_qbytes q qbytes)))
   grew-effect (calls.MsgRmid id) u = from-keeps n k _ (keeps-named k (get k.queues id) _ (λ q kind. refl))
   grew-effect (calls.SemGet None count create excl) u = grew-new_set k n k.set_keys (new_set count) (quiet-sets k n v u)
   grew-effect (calls.SemGet (Some key) count create excl) u =
       grew-get_set_at k n key count create excl (get k.set_keys key) (quiet-sets k n v u)
   grew-effect (calls.SemOp id steps) u =
-      grew-operated k n (list_any may_wait steps) _ (keeps-named k (get k.sets id) _ (λ s. keeps-set k id (op s pid steps)))
-  grew-effect (calls.SemGetVal id num) u = from-keeps n k _ (keeps-named k (get k.sets id) _ (λ s. keeps-look k (value_at s num)))
-  grew-effect (calls.SemGetPid id num) u = from-keeps n k _ (keeps-named k (get k.sets id) _ (λ s. keeps-look k (last_at s num)))
-  grew-effect (calls.SemGetNcnt id num) u = from-keeps n k _ (keeps-named k (get k.sets id) _ (λ s. keeps-look k (waiting_at s num)))
-  grew-effect (calls.SemGetZcnt id num) u = from-keeps n k _ (keeps-named k (get k.sets id) _ (λ s. keeps-look k (waiting_at s num)))
-  grew-effect (calls.SemSetVal id num value) u = from-keeps n k _ (keeps-named k (get k.sets id) _ (λ s. keeps-set k id (set_value s num value)))
+      grew-operated k n (list_any may_wait steps) _
+      (keeps-named k (get k.sets id) _ (λ s. keeps-set k id (op s pid steps)))
+  grew-effect (calls.SemGetVal id num) u =
+      from-keeps n k _ (keeps-named k (get k.sets id) _ (λ s. keeps-look k (value_at s num)))
+  grew-effect (calls.SemGetPid id num) u =
+      from-keeps n k _ (keeps-named k (get k.sets id) _ (λ s. keeps-look k (last_at s num)))
+  grew-effect (calls.SemGetNcnt id num) u =
+      from-keeps n k _ (keeps-named k (get k.sets id) _ (λ s. keeps-look k (waiting_at s num)))
+  grew-effect (calls.SemGetZcnt id num) u =
+      from-keeps n k _ (keeps-named k (get k.sets id) _ (λ s. keeps-look k (waiting_at s num)))
+  grew-effect (calls.SemSetVal id num value) u =
+      from-keeps n k _ (keeps-named k (get k.sets id) _ (λ s. keeps-set k id (set_value s num value)))
   grew-effect (calls.SemGetAll id) u = from-keeps n k _ (keeps-named k (get k.sets id) _ (λ s kind. refl))
-  grew-effect (calls.SemSetAll id values) u = from-keeps n k _ (keeps-named k (get k.sets id) _ (λ s. keeps-set k id (set_all s values)))
+  grew-effect (calls.SemSetAll id values) u =
+      from-keeps n k _ (keeps-named k (get k.sets id) _ (λ s. keeps-set k id (set_all s values)))
   grew-effect (calls.SemRmid id) u = from-keeps n k _ (keeps-named k (get k.sets id) _ (λ s kind. refl))
 
 -- What follows an effect leaves the used numbers, and what is there.
@@ -255,15 +298,18 @@ living-there : (o : Option Process) (a : Alive) → option_and_then alive_in o �
 living-there None a h = cc
 living-there (Some p) a h = refl
 
-put-same : (m : Numbered Process) (p : ℕ) (v : Process) (n : ℕ) → is_some (get m p) ≡ true → is_some (get (put m p v) n) ≡ is_some (get m n)
+put-same : (m : Numbered Process) (p : ℕ) (v : Process) (n : ℕ) → is_some (get m p) ≡ true
+    → is_some (get (put m p v) n) ≡ is_some (get m n)
 put-same m p v n h =
     elim (cases_eq n p) [
       | inl e ↦ subst (λ (q : ℕ). is_some (get (put m p v) q) ≡ is_some (get m q)) (sym e) (put-there m p v ∙ sym h)
       | inr ne ↦ ap is_some (get-put-other m p v n ne)
     ]
 
-spent-numbers : (n : ℕ) (k : Kernel) (pid : ℕ) (a b : Alive) → living_at k pid ≡ Some a → (kind : Kind) → SameNumbers n k (with_alive k pid b) kind
-spent-numbers n k pid a b l kinds.Proc = record { used = refl; there = put-same k.processes pid (Living b) n (living-there (get k.processes pid) a l) }
+spent-numbers : (n : ℕ) (k : Kernel) (pid : ℕ) (a b : Alive) → living_at k pid ≡ Some a → (kind : Kind)
+    → SameNumbers n k (with_alive k pid b) kind
+spent-numbers n k pid a b l kinds.Proc =
+    record { used = refl; there = put-same k.processes pid (Living b) n (living-there (get k.processes pid) a l) }
 spent-numbers n k pid a b l kinds.Msg = record { used = refl; there = refl }
 spent-numbers n k pid a b l kinds.Sem = record { used = refl; there = refl }
 
@@ -272,11 +318,13 @@ doomed-numbers : (n : ℕ) (k : Kernel) (pid : ℕ) (a : Alive) (b : Bool) → l
 doomed-numbers n k pid a true l = spent-numbers n k pid a (record a { allowance = Spent }) l
 doomed-numbers n k pid a false l = λ kind. record { used = refl; there = refl }
 
-finish-numbers : (n : ℕ) (k : Kernel) (pid : ℕ) (o : Option Alive) → living_at k pid ≡ o → (kind : Kind) → SameNumbers n k (finish_call k pid o) kind
+finish-numbers : (n : ℕ) (k : Kernel) (pid : ℕ) (o : Option Alive) → living_at k pid ≡ o → (kind : Kind)
+    → SameNumbers n k (finish_call k pid o) kind
 finish-numbers n k pid None l = λ kind. record { used = refl; there = refl }
 finish-numbers n k pid (Some a) l = doomed-numbers n k pid a (is_some a.row.signals.doom) l
 
-created-same : (own : Option Kind) (n : ℕ) (before after : Kernel) (kind : Kind) → is_there after kind n ≡ is_there before kind n
+created-same : (own : Option Kind) (n : ℕ) (before after : Kernel) (kind : Kind)
+    → is_there after kind n ≡ is_there before kind n
     → has_created own after kind n ≡ has_created own before kind n
 created-same None n before after kind h = refl
 created-same (Some own) n before after kind h = ap (λ t. is_same_kind own kind && t) h
@@ -291,23 +339,27 @@ module _ (k : Kernel) (pid : ℕ) (call : Call) (n : ℕ) where
       → Growth (successor (finish_call e.kernel pid (living_at e.kernel pid)) (reply_alone e.reply))
   grows-after e g kind =
       let same = finish-numbers n e.kernel pid (living_at e.kernel pid) refl kind
-      in let created = created-same (created_kind call) n e.kernel (finish_call e.kernel pid (living_at e.kernel pid)) kind same.there
+      in let created = created-same (created_kind call) n e.kernel
+      (finish_call e.kernel pid (living_at e.kernel pid)) kind same.there
       in record {
         used = same.used ∙ (g kind).used ∙ ap (λ b. grown_by b (used_of k kind) n) (sym created);
         reply = λ t. ap Some ((g kind).says (sym created ∙ t));
       }
 
-  grows-outcome : (o : Option Effect) → AllGrew (created_kind call) n k o → (s : Successor) → outcome_of pid o ≡ Some s → Growth s
+  grows-outcome : (o : Option Effect) → AllGrew (created_kind call) n k o → (s : Successor) → outcome_of pid o ≡ Some s
+      → Growth s
   grows-outcome None g s h = cc
   grows-outcome (Some e) g s h =
       let same : successor (finish_call e.kernel pid (living_at e.kernel pid)) (reply_alone e.reply) ≡ s = cc
       in subst (λ (t : Successor). Growth t) same (grows-after e g)
 
-  grows-if : (b : Bool) (o : Option Effect) → AllGrew (created_kind call) n k o → (s : Successor) → (if b then outcome_of pid o else None) ≡ Some s → Growth s
+  grows-if : (b : Bool) (o : Option Effect) → AllGrew (created_kind call) n k o → (s : Successor)
+      → (if b then outcome_of pid o else None) ≡ Some s → Growth s
   grows-if true o g s h = grows-outcome o g s h
   grows-if false o g s h = cc
 
-  grows-by : IsValid k → is_used (used_for k call) n ≡ false → (o : Option Alive) → (s : Successor) → transition_by k pid call n o ≡ Some s → Growth s
+  grows-by : IsValid k → is_used (used_for k call) n ≡ false → (o : Option Alive) → (s : Successor)
+      → transition_by k pid call n o ≡ Some s → Growth s
   grows-by v u None s h = cc
   grows-by v u (Some a) s h = grows-if (may_make a call) (effect k pid a call n) (grew-effect k pid a n v call u) s h
 

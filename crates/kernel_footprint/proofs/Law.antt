@@ -43,7 +43,8 @@ law-at j k pid n (calls.SemSetAll id values) = set_all-law j k pid n id values
 law-at j k pid n (calls.SemRmid id) = remove_set-law j k pid n id
 
 -- the same step but for the numbers used, and these
-with-growth : (parts : List Part) (call : Call) (n : ℕ) (j k : Kernel) (x y : Option Successor) → AlikeSteps parts j k x y
+with-growth : (parts : List Part) (call : Call) (n : ℕ) (j k : Kernel) (x y : Option Successor)
+    → AlikeSteps parts j k x y
     → ((s : Successor) → x ≡ Some s → (kind : Kind) → GrowsBy call n s.outcome j s.kernel kind)
     → ((s : Successor) → y ≡ Some s → (kind : Kind) → GrowsBy call n s.outcome k s.kernel kind)
     → SameSteps parts call n j k x y

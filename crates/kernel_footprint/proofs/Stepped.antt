@@ -11,7 +11,7 @@ use Rattle.kernel_model.specs.Kernel.{Kernel, Process, alive_in}
 use Rattle.kernel_model.specs.Effect.{reply_alone}
 use Rattle.kernel_model.specs.Transition.{Successor, successor}
 use Rattle.kernel_model.specs.Footprint.{Part, MayDo, Whole, ParentOf, QueueAt, SetAt, SizeOf, QueueKeys, SetKeys, is_whole, is_allowance, bare, SameAt, AgreeOn, RestStays, parent_number}
-use Rattle.kernel_footprint.proofs.Maps.{eq-same}
+use Rattle.number_maps.proofs.Order.{eq-same}
 use Rattle.kernel_footprint.proofs.Change.{Change, Stays, Same, Changes, change-agree, change-first, change-second, is_parent, has_whole, has_queue, has_set, has_queue_keys, has_set_keys, has_parent}
 
 abbrev pub has_allowance : List Part → ℕ → Bool
@@ -20,19 +20,24 @@ has_allowance parts p = list_any (is_allowance p) parts
 abbrev pub allowance_in : Option Process → Option Allowance
 allowance_in o = option_map (λ a. a.allowance) (option_and_then alive_in o)
 
--- what a step leaves of a process: beside an effect's changes the allowance alone may be another one, and the same in both
+-- what a step leaves of a process: beside an effect's changes the allowance alone may be another one, and the same in
+-- both
 pub data Moved (whole allowed : Bool) (j k to_j to_k : Option Process) : Type 0 where
   Kept : to_j ≡ j → to_k ≡ k → Moved whole allowed j k to_j to_k
   Equal : whole ≡ true → to_j ≡ to_k → Moved whole allowed j k to_j to_k
-  Doomed : whole ≡ false → allowed ≡ true → allowance_in to_j ≡ allowance_in to_k → option_map bare to_j ≡ option_map bare j
+  Doomed : whole ≡ false → allowed ≡ true → allowance_in to_j ≡ allowance_in to_k
+      → option_map bare to_j ≡ option_map bare j
       → option_map bare to_k ≡ option_map bare k → Moved whole allowed j k to_j to_k
 
-pub moved-from_change : (whole allowed : Bool) (j k to_j to_k : Option Process) → Change whole j k to_j to_k → Moved whole allowed j k to_j to_k
+pub moved-from_change : (whole allowed : Bool) (j k to_j to_k : Option Process) → Change whole j k to_j to_k
+    → Moved whole allowed j k to_j to_k
 moved-from_change whole allowed j k to_j to_k (Stays x y) = Kept x y
 moved-from_change whole allowed j k to_j to_k (Same h x) = Equal h x
 
 pub record Stepped (parts : List Part) (j k to_j to_k : Kernel) : Type 0 where
-  pub processes : (p : ℕ) → Moved (has_whole parts p) (has_allowance parts p) (get j.processes p) (get k.processes p) (get to_j.processes p) (get to_k.processes p)
+  pub processes : (p : ℕ)
+      → Moved (has_whole parts p) (has_allowance parts p) (get j.processes p) (get k.processes p) (get to_j.processes p)
+      (get to_k.processes p)
   pub queues : Changes (has_queue parts) j.queues k.queues to_j.queues to_k.queues
   pub sets : Changes (has_set parts) j.sets k.sets to_j.sets to_k.sets
   pub queue_keys : Changes (has_queue_keys parts) j.queue_keys k.queue_keys to_j.queue_keys to_k.queue_keys
@@ -41,7 +46,8 @@ pub record Stepped (parts : List Part) (j k to_j to_k : Kernel) : Type 0 where
 
 -- Agreement afterwards, part by part.
 
-moved-allowance : (w a : Bool) (j k to_j to_k : Option Process) → Moved w a j k to_j to_k → allowance_in j ≡ allowance_in k → allowance_in to_j ≡ allowance_in to_k
+moved-allowance : (w a : Bool) (j k to_j to_k : Option Process) → Moved w a j k to_j to_k
+    → allowance_in j ≡ allowance_in k → allowance_in to_j ≡ allowance_in to_k
 moved-allowance w a j k to_j to_k (Kept x y) h = ap allowance_in x ∙ h ∙ ap allowance_in (sym y)
 moved-allowance w a j k to_j to_k (Equal t x) h = ap allowance_in x
 moved-allowance w a j k to_j to_k (Doomed f t x y z) h = x
@@ -54,7 +60,8 @@ moved-whole w a j k to_j to_k (Doomed f s x y z) t h = absurd (false≢true (sym
 abbrev size_in : Option SemaphoreSet → ℕ
 size_in o = option_map_or (λ set. length set.semaphores) o 0
 
-change-size : (t : Bool) (j k to_j to_k : Option SemaphoreSet) → Change t j k to_j to_k → size_in j ≡ size_in k → size_in to_j ≡ size_in to_k
+change-size : (t : Bool) (j k to_j to_k : Option SemaphoreSet) → Change t j k to_j to_k → size_in j ≡ size_in k
+    → size_in to_j ≡ size_in to_k
 change-size t j k to_j to_k (Stays x y) h = ap size_in x ∙ h ∙ ap size_in (sym y)
 change-size t j k to_j to_k (Same s x) h = ap size_in x
 
@@ -73,7 +80,8 @@ module _ (parts : List Part) (j k to_j to_k : Kernel) (s : Stepped parts j k to_
   agree-at QueueKeys among h = λ key. change-agree _ _ _ _ _ (s.queue_keys key) (h key)
   agree-at SetKeys among h = λ key. change-agree _ _ _ _ _ (s.set_keys key) (h key)
 
-  agree-within : (some : List Part) → ((test : Part → Bool) → list_any test some ≡ true → list_any test parts ≡ true) → AgreeOn some j k → AgreeOn some to_j to_k
+  agree-within : (some : List Part) → ((test : Part → Bool) → list_any test some ≡ true → list_any test parts ≡ true)
+      → AgreeOn some j k → AgreeOn some to_j to_k
   agree-within [] among h = tt
   agree-within (x ∷ xs) among h = (
     agree-at x (λ test t. among test (or_left (test x) (list_any test xs) t)) h.0,
@@ -90,17 +98,20 @@ moved-first w a j k to_j to_k (Kept x y) f g = x
 moved-first w a j k to_j to_k (Equal t x) f g = absurd (false≢true (sym f ∙ t))
 moved-first w a j k to_j to_k (Doomed v t x y z) f g = absurd (false≢true (sym g ∙ t))
 
-moved-second : (w a : Bool) (j k to_j to_k : Option Process) → Moved w a j k to_j to_k → w ≡ false → a ≡ false → to_k ≡ k
+moved-second : (w a : Bool) (j k to_j to_k : Option Process) → Moved w a j k to_j to_k → w ≡ false → a ≡ false
+    → to_k ≡ k
 moved-second w a j k to_j to_k (Kept x y) f g = y
 moved-second w a j k to_j to_k (Equal t x) f g = absurd (false≢true (sym f ∙ t))
 moved-second w a j k to_j to_k (Doomed v t x y z) f g = absurd (false≢true (sym g ∙ t))
 
-moved-row_first : (w a : Bool) (j k to_j to_k : Option Process) → Moved w a j k to_j to_k → w ≡ false → option_map bare to_j ≡ option_map bare j
+moved-row_first : (w a : Bool) (j k to_j to_k : Option Process) → Moved w a j k to_j to_k → w ≡ false
+    → option_map bare to_j ≡ option_map bare j
 moved-row_first w a j k to_j to_k (Kept x y) f = ap (option_map bare) x
 moved-row_first w a j k to_j to_k (Equal t x) f = absurd (false≢true (sym f ∙ t))
 moved-row_first w a j k to_j to_k (Doomed v t x y z) f = y
 
-moved-row_second : (w a : Bool) (j k to_j to_k : Option Process) → Moved w a j k to_j to_k → w ≡ false → option_map bare to_k ≡ option_map bare k
+moved-row_second : (w a : Bool) (j k to_j to_k : Option Process) → Moved w a j k to_j to_k → w ≡ false
+    → option_map bare to_k ≡ option_map bare k
 moved-row_second w a j k to_j to_k (Kept x y) f = ap (option_map bare) y
 moved-row_second w a j k to_j to_k (Equal t x) f = absurd (false≢true (sym f ∙ t))
 moved-row_second w a j k to_j to_k (Doomed v t x y z) f = z
@@ -139,7 +150,8 @@ AlikeSteps parts j k None None = Unit {0}
 AlikeSteps parts j k (Some to_j) (Some to_k) = AlikeStep parts j k to_j to_k
 AlikeSteps parts j k _ _ = ⊥
 
-pub step-from : (parts : List Part) (reply : Reply) (j k to_j to_k : Kernel) → AgreeOn parts j k → Stepped parts j k to_j to_k
+pub step-from : (parts : List Part) (reply : Reply) (j k to_j to_k : Kernel) → AgreeOn parts j k
+    → Stepped parts j k to_j to_k
     → AlikeStep parts j k (successor to_j (reply_alone reply)) (successor to_k (reply_alone reply))
 step-from parts reply j k to_j to_k h s =
     record {

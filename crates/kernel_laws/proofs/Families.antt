@@ -90,7 +90,8 @@ pub record Born (f g : Map) (pid n : ℕ) : Type 0 where
 nobody : (f : Map) (n : ℕ) → f n ≡ None → IsLiving f n → ⊥
 nobody f n h l = not_some {B = ⊥} (Living l.alive) (sym h ∙ l.there)
 
-born-one_parent : (f g : Map) (pid n : ℕ) → Families f → Born f g pid n → (p q c : ℕ) → Lists g p c → Lists g q c → p ≡ q
+born-one_parent : (f g : Map) (pid n : ℕ) → Families f → Born f g pid n → (p q c : ℕ) → Lists g p c → Lists g q c
+    → p ≡ q
 born-one_parent f g pid n h b p q c l m =
     elim (b.lists_back p c l) [
       | inl old ↦
@@ -127,18 +128,22 @@ families-born f g pid n h b =
 -- A process has ended. It is no one's child and no one's parent any more; it may be kept, by one process.
 pub record Over (f g : Map) (pid keeper : ℕ) : Type 0 where
   pub lists_back : (p c : ℕ) → Lists g p c → Lists f p c × (c ≢ pid)
-  pub keeps_back : (p c : ℕ) (e : Ending) → KeepsEnded g p c e → (KeepsEnded f p c e × (p ≢ pid)) ⊎ ((p ≡ keeper) × (c ≡ pid) × (g c ≡ Some (Ended e)))
+  pub keeps_back : (p c : ℕ) (e : Ending) → KeepsEnded g p c e → (KeepsEnded f p c e × (p ≢ pid))
+      ⊎ ((p ≡ keeper) × (c ≡ pid) × (g c ≡ Some (Ended e)))
   pub keeps_on : (p c : ℕ) (e : Ending) → KeepsEnded f p c e → p ≢ pid → KeepsEnded g p c e
   pub lives_before : IsLiving f pid
   pub lives_on : (c : ℕ) → IsLiving f c → c ≢ pid → IsLiving g c
-  pub ended_back : (c : ℕ) (e : Ending) → g c ≡ Some (Ended e) → KeepsEnded g keeper c e ⊎ ((f c ≡ Some (Ended e)) × (KeepsEnded f pid c e → ⊥))
+  pub ended_back : (c : ℕ) (e : Ending) → g c ≡ Some (Ended e) → KeepsEnded g keeper c e
+      ⊎ ((f c ≡ Some (Ended e)) × (KeepsEnded f pid c e → ⊥))
   pub ended_on : (p c : ℕ) (e : Ending) → KeepsEnded f p c e → p ≢ pid → g c ≡ Some (Ended e)
 
 -- who lives has no ending that someone keeps
 not-kept : (f : Map) (pid : ℕ) → Families f → IsLiving f pid → (p : ℕ) (e : Ending) → KeepsEnded f p pid e → ⊥
-not-kept f pid h l p e k = living-ended {B = ⊥} l.alive e (at-once (f pid) (Living l.alive) (Ended e) l.there (h.ended p pid e k))
+not-kept f pid h l p e k =
+    living-ended {B = ⊥} l.alive e (at-once (f pid) (Living l.alive) (Ended e) l.there (h.ended p pid e k))
 
-over-one_keeper : (f g : Map) (pid keeper : ℕ) → Families f → Over f g pid keeper → (p q c : ℕ) (d e : Ending) → KeepsEnded g p c d → KeepsEnded g q c e → p ≡ q
+over-one_keeper : (f g : Map) (pid keeper : ℕ) → Families f → Over f g pid keeper → (p q c : ℕ) (d e : Ending)
+    → KeepsEnded g p c d → KeepsEnded g q c e → p ≡ q
 over-one_keeper f g pid keeper h o p q c d e l m =
     elim (o.keeps_back p c d l) [
       | inl old ↦
@@ -153,7 +158,8 @@ over-one_keeper f g pid keeper h o p q c d e l m =
           ]
     ]
 
-over-kept : (f g : Map) (pid keeper : ℕ) → Families f → Over f g pid keeper → (c : ℕ) (e : Ending) → g c ≡ Some (Ended e) → (p : ℕ) × KeepsEnded g p c e
+over-kept : (f g : Map) (pid keeper : ℕ) → Families f → Over f g pid keeper → (c : ℕ) (e : Ending)
+    → g c ≡ Some (Ended e) → (p : ℕ) × KeepsEnded g p c e
 over-kept f g pid keeper h o c e l =
     elim (o.ended_back c e l) [
       | inl new ↦ (keeper, new)

@@ -7,7 +7,7 @@ use Rattle.number_maps.specs.Maps.{Numbered, get, put}
 use Rattle.kernel_model.specs.Row.{Alive, Family, no_family, lists, with_child, without_ended, EndedChild, ended_child}
 use Rattle.kernel_model.specs.Kernel.{Process, Living, Ended, Gone}
 use Rattle.kernel_laws.proofs.Plain.{not_some, not_true}
-use Rattle.kernel_laws.proofs.MapLaws.{get-put-same, get-put-other}
+use Rattle.number_maps.proofs.LookUps.{get-put-same, get-put-other}
 use Rattle.kernel_laws.proofs.Members.{contains-none, lists-child, without-back, without-on}
 use Rattle.kernel_laws.proofs.Families.{Map, Lists, KeepsEnded, IsLiving, Families, Kept, Born, living-ended, living-gone, ended-gone, same-alive, at-once}
 
@@ -22,10 +22,12 @@ put-is ps k v = record { here = get-put-same ps k v; other = get-put-other ps k 
 put-here : (f g : Map) (k : ℕ) (v : Process) → Put f g k v → (q : ℕ) (w : Process) → g q ≡ Some w → q ≡ k → v ≡ w
 put-here f g k v p q w h same = at-once (g k) v w p.here (ap g (sym same) ∙ h)
 
-put-there : (f g : Map) (k : ℕ) (v : Process) → Put f g k v → (q : ℕ) (w : Process) → g q ≡ Some w → q ≢ k → f q ≡ Some w
+put-there : (f g : Map) (k : ℕ) (v : Process) → Put f g k v → (q : ℕ) (w : Process) → g q ≡ Some w → q ≢ k
+    → f q ≡ Some w
 put-there f g k v p q w h ne = sym (p.other q ne) ∙ h
 
-put-stays : (f g : Map) (k : ℕ) (v : Process) → Put f g k v → (q : ℕ) (w : Process) → f q ≡ Some w → q ≢ k → g q ≡ Some w
+put-stays : (f g : Map) (k : ℕ) (v : Process) → Put f g k v → (q : ℕ) (w : Process) → f q ≡ Some w → q ≢ k
+    → g q ≡ Some w
 put-stays f g k v p q w h ne = p.other q ne ∙ h
 
 -- other processes at two numbers, one after the other
@@ -44,7 +46,8 @@ pub data From (f : Map) (k : ℕ) (u : Process) (l : ℕ) (v : Process) (q : ℕ
   AtLast : (same : q ≡ l) (is : v ≡ w) → From f k u l v q w
   Elsewhere : (first : q ≢ k) (last : q ≢ l) (was : f q ≡ Some w) → From f k u l v q w
 
-pub from : (f g : Map) (k : ℕ) (u : Process) (l : ℕ) (v : Process) → Two f g k u l v → (q : ℕ) (w : Process) → g q ≡ Some w → From f k u l v q w
+pub from : (f g : Map) (k : ℕ) (u : Process) (l : ℕ) (v : Process) → Two f g k u l v → (q : ℕ) (w : Process)
+    → g q ≡ Some w → From f k u l v q w
 from f g k u l v t q w h =
     elim (cases_eq q k) [
       | inl a ↦ AtFirst a (at-once (g k) u w t.first (ap g (sym a) ∙ h))
@@ -64,8 +67,10 @@ different f q k w v h g absent same = absent (at-once (f q) w v h (ap f same ∙
 abbrev pub Each : ℕ → Type 0
 Each c = Unit {0}
 
-same-alive-back : (f g : Map) (pid : ℕ) (a b : Alive) → Put f g pid (Living b) → f pid ≡ Some (Living a) → b.row.family ≡ a.row.family
-    → (p : ℕ) (x : Alive) → g p ≡ Some (Living x) → (y : Alive) × (f p ≡ Some (Living y)) × (x.row.family ≡ y.row.family)
+same-alive-back : (f g : Map) (pid : ℕ) (a b : Alive) → Put f g pid (Living b) → f pid ≡ Some (Living a)
+    → b.row.family ≡ a.row.family
+    → (p : ℕ) (x : Alive) → g p ≡ Some (Living x) → (y : Alive) × (f p ≡ Some (Living y))
+    × (x.row.family ≡ y.row.family)
 same-alive-back f g pid a b t l e p x h =
     elim (cases_eq p pid) [
       | inl same ↦
@@ -74,8 +79,10 @@ same-alive-back f g pid a b t l e p x h =
       | inr ne ↦ (x, put-there f g pid (Living b) t p (Living x) h ne, refl)
     ]
 
-same-alive-on : (f g : Map) (pid : ℕ) (a b : Alive) → Put f g pid (Living b) → f pid ≡ Some (Living a) → b.row.family ≡ a.row.family
-    → (p : ℕ) (x : Alive) → f p ≡ Some (Living x) → (y : Alive) × (g p ≡ Some (Living y)) × (x.row.family ≡ y.row.family)
+same-alive-on : (f g : Map) (pid : ℕ) (a b : Alive) → Put f g pid (Living b) → f pid ≡ Some (Living a)
+    → b.row.family ≡ a.row.family
+    → (p : ℕ) (x : Alive) → f p ≡ Some (Living x) → (y : Alive) × (g p ≡ Some (Living y))
+    × (x.row.family ≡ y.row.family)
 same-alive-on f g pid a b t l e p x h =
     elim (cases_eq p pid) [
       | inl same ↦
@@ -84,33 +91,41 @@ same-alive-on f g pid a b t l e p x h =
       | inr ne ↦ (x, put-stays f g pid (Living b) t p (Living x) h ne, refl)
     ]
 
-lists-in : (f : Map) (p c : ℕ) (x y : Alive) → lists x.row.family c ≡ true → f p ≡ Some (Living y) → x.row.family ≡ y.row.family → Lists f p c
+lists-in : (f : Map) (p c : ℕ) (x y : Alive) → lists x.row.family c ≡ true → f p ≡ Some (Living y)
+    → x.row.family ≡ y.row.family → Lists f p c
 lists-in f p c x y h l e = record { alive = y; there = l; listed = subst (λ (z : Family). lists z c ≡ true) e h }
 
-keeps-in : (f : Map) (p c : ℕ) (d : Ending) (x y : Alive) → Contains x.row.family.ended (ended_child c d) → f p ≡ Some (Living y) → x.row.family ≡ y.row.family → KeepsEnded f p c d
-keeps-in f p c d x y h l e = record { alive = y; there = l; kept = subst (λ (z : Family). Contains z.ended (ended_child c d)) e h }
+keeps-in : (f : Map) (p c : ℕ) (d : Ending) (x y : Alive) → Contains x.row.family.ended (ended_child c d)
+    → f p ≡ Some (Living y) → x.row.family ≡ y.row.family → KeepsEnded f p c d
+keeps-in f p c d x y h l e =
+    record { alive = y; there = l; kept = subst (λ (z : Family). Contains z.ended (ended_child c d)) e h }
 
-same-lists : (f g : Map) (pid : ℕ) (a b : Alive) → Put f g pid (Living b) → f pid ≡ Some (Living a) → b.row.family ≡ a.row.family
+same-lists : (f g : Map) (pid : ℕ) (a b : Alive) → Put f g pid (Living b) → f pid ≡ Some (Living a)
+    → b.row.family ≡ a.row.family
     → (p c : ℕ) → Lists g p c → Lists f p c
 same-lists f g pid a b t l e p c h =
     let w = same-alive-back f g pid a b t l e p h.alive h.there in lists-in f p c h.alive w.0 h.listed w.1 w.2
 
-same-keeps-back : (f g : Map) (pid : ℕ) (a b : Alive) → Put f g pid (Living b) → f pid ≡ Some (Living a) → b.row.family ≡ a.row.family
+same-keeps-back : (f g : Map) (pid : ℕ) (a b : Alive) → Put f g pid (Living b) → f pid ≡ Some (Living a)
+    → b.row.family ≡ a.row.family
     → (p c : ℕ) (d : Ending) → KeepsEnded g p c d → KeepsEnded f p c d
 same-keeps-back f g pid a b t l e p c d h =
     let w = same-alive-back f g pid a b t l e p h.alive h.there in keeps-in f p c d h.alive w.0 h.kept w.1 w.2
 
-same-keeps-on : (f g : Map) (pid : ℕ) (a b : Alive) → Put f g pid (Living b) → f pid ≡ Some (Living a) → b.row.family ≡ a.row.family
+same-keeps-on : (f g : Map) (pid : ℕ) (a b : Alive) → Put f g pid (Living b) → f pid ≡ Some (Living a)
+    → b.row.family ≡ a.row.family
     → (p c : ℕ) (d : Ending) → KeepsEnded f p c d → KeepsEnded g p c d
 same-keeps-on f g pid a b t l e p c d h =
     let w = same-alive-on f g pid a b t l e p h.alive h.there in keeps-in g p c d h.alive w.0 h.kept w.1 w.2
 
-same-lives : (f g : Map) (pid : ℕ) (a b : Alive) → Put f g pid (Living b) → f pid ≡ Some (Living a) → b.row.family ≡ a.row.family
+same-lives : (f g : Map) (pid : ℕ) (a b : Alive) → Put f g pid (Living b) → f pid ≡ Some (Living a)
+    → b.row.family ≡ a.row.family
     → (c : ℕ) → IsLiving f c → IsLiving g c
 same-lives f g pid a b t l e c h =
     let w = same-alive-on f g pid a b t l e c h.alive h.there in record { alive = w.0; there = w.1 }
 
-pub kept-same : (f g : Map) (pid : ℕ) (a b : Alive) → Put f g pid (Living b) → f pid ≡ Some (Living a) → b.row.family ≡ a.row.family → Kept f g Each
+pub kept-same : (f g : Map) (pid : ℕ) (a b : Alive) → Put f g pid (Living b) → f pid ≡ Some (Living a)
+    → b.row.family ≡ a.row.family → Kept f g Each
 kept-same f g pid a b t l e =
     record {
       lists_back = same-lists f g pid a b t l e;
@@ -130,16 +145,19 @@ kept-same f g pid a b t l e =
 absent-different : (f : Map) (q n : ℕ) (w : Process) → f q ≡ Some w → f n ≡ None → q ≢ n
 absent-different f q n w h g same = not_some w (sym g ∙ (ap f (sym same) ∙ h))
 
-born-lists : (f g : Map) (pid n : ℕ) (a child parent : Alive) → Two f g n (Living child) pid (Living parent) → f pid ≡ Some (Living a)
+born-lists : (f g : Map) (pid n : ℕ) (a child parent : Alive) → Two f g n (Living child) pid (Living parent)
+    → f pid ≡ Some (Living a)
     → child.row.family ≡ no_family → parent.row.family ≡ with_child a.row.family n
     → (p c : ℕ) → Lists g p c → Lists f p c ⊎ ((p ≡ pid) × (c ≡ n))
 born-lists f g pid n a child parent t l none more p c h =
     elim (from f g n (Living child) pid (Living parent) t p (Living h.alive) h.there) [
       | AtFirst same is ↦
-          let e : no_family ≡ h.alive.row.family = sym none ∙ ap (λ (z : Alive). z.row.family) (same-alive child h.alive is)
+          let e : no_family ≡ h.alive.row.family =
+          sym none ∙ ap (λ (z : Alive). z.row.family) (same-alive child h.alive is)
           in absurd (not_true {B = ⊥} (subst (λ (z : Family). lists z c ≡ true) (sym e) h.listed))
       | AtLast same is ↦
-          let e : with_child a.row.family n ≡ h.alive.row.family = sym more ∙ ap (λ (z : Alive). z.row.family) (same-alive parent h.alive is)
+          let e : with_child a.row.family n ≡ h.alive.row.family =
+          sym more ∙ ap (λ (z : Alive). z.row.family) (same-alive parent h.alive is)
           in elim (lists-child a.row.family n c (subst (λ (z : Family). lists z c ≡ true) (sym e) h.listed)) [
             | inl old ↦ inl (record { alive = a; there = ap f same ∙ l; listed = old })
             | inr new ↦ inr (same, new)
@@ -147,41 +165,68 @@ born-lists f g pid n a child parent t l none more p c h =
       | Elsewhere first last was ↦ inl (record { alive = h.alive; there = was; listed = h.listed })
     ]
 
-born-keeps : (f g : Map) (pid n : ℕ) (a child parent : Alive) → Two f g n (Living child) pid (Living parent) → f pid ≡ Some (Living a)
+born-keeps : (f g : Map) (pid n : ℕ) (a child parent : Alive) → Two f g n (Living child) pid (Living parent)
+    → f pid ≡ Some (Living a)
     → child.row.family ≡ no_family → parent.row.family ≡ with_child a.row.family n
     → (p c : ℕ) (d : Ending) → KeepsEnded g p c d → KeepsEnded f p c d
 born-keeps f g pid n a child parent t l none more p c d h =
     elim (from f g n (Living child) pid (Living parent) t p (Living h.alive) h.there) [
       | AtFirst same is ↦
-          let e : no_family ≡ h.alive.row.family = sym none ∙ ap (λ (z : Alive). z.row.family) (same-alive child h.alive is)
-          in absurd (contains-none (ended_child c d) (subst (λ (z : Family). Contains z.ended (ended_child c d)) (sym e) h.kept))
+          let e : no_family ≡ h.alive.row.family =
+          sym none ∙ ap (λ (z : Alive). z.row.family) (same-alive child h.alive is)
+          in absurd (contains-none (ended_child c d)
+          (subst (λ (z : Family). Contains z.ended (ended_child c d)) (sym e) h.kept))
       | AtLast same is ↦
-          let e : with_child a.row.family n ≡ h.alive.row.family = sym more ∙ ap (λ (z : Alive). z.row.family) (same-alive parent h.alive is)
-          in record { alive = a; there = ap f same ∙ l; kept = subst (λ (z : Family). Contains z.ended (ended_child c d)) (sym e) h.kept }
+          let e : with_child a.row.family n ≡ h.alive.row.family =
+          sym more ∙ ap (λ (z : Alive). z.row.family) (same-alive parent h.alive is)
+          in record {
+            alive = a;
+            there = ap f same ∙ l;
+            kept =
+                subst (λ (z : Family). Contains z.ended (ended_child c d)) (sym e) h.kept;
+          }
       | Elsewhere first last was ↦ record { alive = h.alive; there = was; kept = h.kept }
     ]
 
-born-keeps-on : (f g : Map) (pid n : ℕ) (a child parent : Alive) → Two f g n (Living child) pid (Living parent) → f pid ≡ Some (Living a) → f n ≡ None
+born-keeps-on : (f g : Map) (pid n : ℕ) (a child parent : Alive) → Two f g n (Living child) pid (Living parent)
+    → f pid ≡ Some (Living a) → f n ≡ None
     → parent.row.family ≡ with_child a.row.family n → (p c : ℕ) (d : Ending) → KeepsEnded f p c d → KeepsEnded g p c d
 born-keeps-on f g pid n a child parent t l absent more p c d h =
     elim (cases_eq p pid) [
       | inl same ↦
-          let is : h.alive ≡ a = same-alive h.alive a (at-once (f p) (Living h.alive) (Living a) h.there (ap f same ∙ l))
+          let is : h.alive ≡ a =
+          same-alive h.alive a (at-once (f p) (Living h.alive) (Living a) h.there (ap f same ∙ l))
           in let e : h.alive.row.family.ended ≡ parent.row.family.ended =
           ap (λ (z : Alive). z.row.family.ended) is ∙ ap (λ (z : Family). z.ended) (sym more)
-          in record { alive = parent; there = ap g same ∙ t.last; kept = subst (λ (z : List EndedChild). Contains z (ended_child c d)) e h.kept }
+          in record {
+            alive = parent;
+            there = ap g same ∙ t.last;
+            kept =
+                subst (λ (z : List EndedChild). Contains z (ended_child c d)) e h.kept;
+          }
       | inr ne ↦
-          record { alive = h.alive; there = t.other p (absent-different f p n (Living h.alive) h.there absent) ne ∙ h.there; kept = h.kept }
+          record {
+            alive = h.alive;
+            there =
+                t.other p (absent-different f p n (Living h.alive) h.there absent) ne ∙ h.there;
+            kept = h.kept;
+          }
     ]
 
-born-lives : (f g : Map) (pid n : ℕ) (child parent : Alive) → Two f g n (Living child) pid (Living parent) → f n ≡ None → (c : ℕ) → IsLiving f c → IsLiving g c
+born-lives : (f g : Map) (pid n : ℕ) (child parent : Alive) → Two f g n (Living child) pid (Living parent) → f n ≡ None
+    → (c : ℕ) → IsLiving f c → IsLiving g c
 born-lives f g pid n child parent t absent c h =
     elim (cases_eq c pid) [
       | inl same ↦ record { alive = parent; there = ap g same ∙ t.last }
-      | inr ne ↦ record { alive = h.alive; there = t.other c (absent-different f c n (Living h.alive) h.there absent) ne ∙ h.there }
+      | inr ne ↦ record {
+        alive = h.alive;
+        there =
+            t.other c (absent-different f c n (Living h.alive) h.there absent) ne ∙ h.there;
+      }
     ]
 
-born-ended : (f g : Map) (pid n : ℕ) (child parent : Alive) → Two f g n (Living child) pid (Living parent) → (c : ℕ) (d : Ending) → g c ≡ Some (Ended d) → f c ≡ Some (Ended d)
+born-ended : (f g : Map) (pid n : ℕ) (child parent : Alive) → Two f g n (Living child) pid (Living parent)
+    → (c : ℕ) (d : Ending) → g c ≡ Some (Ended d) → f c ≡ Some (Ended d)
 born-ended f g pid n child parent t c d h =
     elim (from f g n (Living child) pid (Living parent) t c (Ended d) h) [
       | AtFirst same is ↦ living-ended child d is
@@ -189,7 +234,8 @@ born-ended f g pid n child parent t c d h =
       | Elsewhere first last was ↦ was
     ]
 
-pub born-is : (f g : Map) (pid n : ℕ) (a child parent : Alive) → Two f g n (Living child) pid (Living parent) → f pid ≡ Some (Living a) → f n ≡ None
+pub born-is : (f g : Map) (pid n : ℕ) (a child parent : Alive) → Two f g n (Living child) pid (Living parent)
+    → f pid ≡ Some (Living a) → f n ≡ None
     → child.row.family ≡ no_family → parent.row.family ≡ with_child a.row.family n → Born f g pid n
 born-is f g pid n a child parent t l absent none more =
     record {
@@ -202,7 +248,8 @@ born-is f g pid n a child parent t l absent none more =
       lives_new = record { alive = child; there = t.first };
       ended_back = born-ended f g pid n child parent t;
       ended_on = λ c d h.
-          t.other c (absent-different f c n (Ended d) h absent) (different f c pid (Ended d) (Living a) h l (λ s. living-ended a d (sym s))) ∙ h;
+          t.other c (absent-different f c n (Ended d) h absent)
+          (different f c pid (Ended d) (Living a) h l (λ s. living-ended a d (sym s))) ∙ h;
     }
 
 -- 3. a child is reaped
@@ -217,61 +264,92 @@ pub record Reap (f g : Map) (pid child : ℕ) (a b : Alive) (ending : Ending) : 
   pub dead : f child ≡ Some (Ended ending)
   pub less : b.row.family ≡ without_ended child a.row.family
 
-reap-lists : (f g : Map) (pid child : ℕ) (a b : Alive) (ending : Ending) → Reap f g pid child a b ending → (p c : ℕ) → Lists g p c → Lists f p c
+reap-lists : (f g : Map) (pid child : ℕ) (a b : Alive) (ending : Ending) → Reap f g pid child a b ending → (p c : ℕ)
+    → Lists g p c → Lists f p c
 reap-lists f g pid child a b ending r p c h =
     elim (from f g pid (Living b) child Gone r.two p (Living h.alive) h.there) [
       | AtFirst same is ↦
           let e : h.alive.row.family ≡ without_ended child a.row.family =
           ap (λ (z : Alive). z.row.family) (sym (same-alive b h.alive is)) ∙ r.less
-          in record { alive = a; there = ap f same ∙ r.lives; listed = subst (λ (z : Family). lists z c ≡ true) e h.listed }
+          in record {
+            alive = a;
+            there = ap f same ∙ r.lives;
+            listed =
+                subst (λ (z : Family). lists z c ≡ true) e h.listed;
+          }
       | AtLast same is ↦ living-gone h.alive (sym is)
       | Elsewhere first last was ↦ record { alive = h.alive; there = was; listed = h.listed }
     ]
 
 -- no other process keeps the child
-reap-other : (f g : Map) (pid child : ℕ) (a b : Alive) (ending : Ending) → Families f → Reap f g pid child a b ending → Contains a.row.family.ended (ended_child child ending)
+reap-other : (f g : Map) (pid child : ℕ) (a b : Alive) (ending : Ending) → Families f → Reap f g pid child a b ending
+    → Contains a.row.family.ended (ended_child child ending)
     → (p c : ℕ) (d : Ending) → KeepsEnded f p c d → p ≢ pid → c ≢ child
 reap-other f g pid child a b ending fam r k p c d h ne same =
-    ne (fam.one_keeper p pid child d ending (subst (λ (x : ℕ). KeepsEnded f p x d) same h) (record { alive = a; there = r.lives; kept = k }))
+    ne (fam.one_keeper p pid child d ending (subst (λ (x : ℕ). KeepsEnded f p x d) same h)
+    (record { alive = a; there = r.lives; kept = k }))
 
-reap-keeps : (f g : Map) (pid child : ℕ) (a b : Alive) (ending : Ending) → Families f → Reap f g pid child a b ending → Contains a.row.family.ended (ended_child child ending)
+reap-keeps : (f g : Map) (pid child : ℕ) (a b : Alive) (ending : Ending) → Families f → Reap f g pid child a b ending
+    → Contains a.row.family.ended (ended_child child ending)
     → (p c : ℕ) (d : Ending) → KeepsEnded g p c d → KeepsEnded f p c d × Not child c
 reap-keeps f g pid child a b ending fam r k p c d h =
     elim (from f g pid (Living b) child Gone r.two p (Living h.alive) h.there) [
       | AtFirst same is ↦
           let e : h.alive.row.family ≡ without_ended child a.row.family =
           ap (λ (z : Alive). z.row.family) (sym (same-alive b h.alive is)) ∙ r.less
-          in let w = without-back a.row.family child c d (subst (λ (z : Family). Contains z.ended (ended_child c d)) e h.kept)
+          in let w = without-back a.row.family child c d
+          (subst (λ (z : Family). Contains z.ended (ended_child c d)) e h.kept)
           in (record { alive = a; there = ap f same ∙ r.lives; kept = w.0 }, w.1)
       | AtLast same is ↦ living-gone h.alive (sym is)
       | Elsewhere first last was ↦
-          let old : KeepsEnded f p c d = record { alive = h.alive; there = was; kept = h.kept } in (old, reap-other f g pid child a b ending fam r k p c d old first)
+          let old : KeepsEnded f p c d =
+          record {
+            alive = h.alive;
+            there = was;
+            kept =
+                h.kept;
+          } in (old, reap-other f g pid child a b ending fam r k p c d old first)
     ]
 
-reap-alive : (f g : Map) (pid child : ℕ) (a b : Alive) (ending : Ending) → Reap f g pid child a b ending → (p : ℕ) (x : Alive) → f p ≡ Some (Living x) → p ≢ child
-reap-alive f g pid child a b ending r p x h = different f p child (Living x) (Ended ending) h r.dead (living-ended x ending)
+reap-alive : (f g : Map) (pid child : ℕ) (a b : Alive) (ending : Ending) → Reap f g pid child a b ending
+    → (p : ℕ) (x : Alive) → f p ≡ Some (Living x) → p ≢ child
+reap-alive f g pid child a b ending r p x h =
+    different f p child (Living x) (Ended ending) h r.dead (living-ended x ending)
 
 reap-keeps-on : (f g : Map) (pid child : ℕ) (a b : Alive) (ending : Ending) → Reap f g pid child a b ending
     → (p c : ℕ) (d : Ending) → KeepsEnded f p c d → c ≢ child → KeepsEnded g p c d
 reap-keeps-on f g pid child a b ending r p c d h ne =
     elim (cases_eq p pid) [
       | inl same ↦
-          let is : h.alive ≡ a = same-alive h.alive a (at-once (f p) (Living h.alive) (Living a) h.there (ap f same ∙ r.lives))
-          in let k : Contains a.row.family.ended (ended_child c d) = subst (λ (z : Alive). Contains z.row.family.ended (ended_child c d)) is h.kept
+          let is : h.alive ≡ a =
+          same-alive h.alive a (at-once (f p) (Living h.alive) (Living a) h.there (ap f same ∙ r.lives))
+          in let k : Contains a.row.family.ended (ended_child c d) =
+          subst (λ (z : Alive). Contains z.row.family.ended (ended_child c d)) is h.kept
           in record {
             alive = b;
             there = ap g same ∙ r.two.first;
-            kept = subst (λ (z : Family). Contains z.ended (ended_child c d)) (sym r.less) (without-on a.row.family child c d k ne);
+            kept = subst (λ (z : Family). Contains z.ended (ended_child c d)) (sym r.less)
+                (without-on a.row.family child c d k ne);
           }
       | inr other ↦
-          record { alive = h.alive; there = r.two.other p other (reap-alive f g pid child a b ending r p h.alive h.there) ∙ h.there; kept = h.kept }
+          record {
+            alive = h.alive;
+            there =
+                r.two.other p other (reap-alive f g pid child a b ending r p h.alive h.there) ∙ h.there;
+            kept = h.kept;
+          }
     ]
 
-reap-lives : (f g : Map) (pid child : ℕ) (a b : Alive) (ending : Ending) → Reap f g pid child a b ending → (c : ℕ) → IsLiving f c → IsLiving g c
+reap-lives : (f g : Map) (pid child : ℕ) (a b : Alive) (ending : Ending) → Reap f g pid child a b ending → (c : ℕ)
+    → IsLiving f c → IsLiving g c
 reap-lives f g pid child a b ending r c h =
     elim (cases_eq c pid) [
       | inl same ↦ record { alive = b; there = ap g same ∙ r.two.first }
-      | inr other ↦ record { alive = h.alive; there = r.two.other c other (reap-alive f g pid child a b ending r c h.alive h.there) ∙ h.there }
+      | inr other ↦ record {
+        alive = h.alive;
+        there =
+            r.two.other c other (reap-alive f g pid child a b ending r c h.alive h.there) ∙ h.there;
+      }
     ]
 
 reap-ended : (f g : Map) (pid child : ℕ) (a b : Alive) (ending : Ending) → Reap f g pid child a b ending
@@ -283,7 +361,8 @@ reap-ended f g pid child a b ending r c d h =
       | Elsewhere first last was ↦ (was, last)
     ]
 
-pub kept-reap : (f g : Map) (pid child : ℕ) (a b : Alive) (ending : Ending) → Families f → Reap f g pid child a b ending → Contains a.row.family.ended (ended_child child ending)
+pub kept-reap : (f g : Map) (pid child : ℕ) (a b : Alive) (ending : Ending) → Families f → Reap f g pid child a b ending
+    → Contains a.row.family.ended (ended_child child ending)
     → Kept f g (Not child)
 kept-reap f g pid child a b ending fam r k =
     record {

@@ -1,5 +1,5 @@
 pub mod Plain
-pub mod MapLaws
+pub mod Unbinding
 pub mod Steps
 pub mod Moves
 pub mod Tables

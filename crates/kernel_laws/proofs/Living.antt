@@ -27,7 +27,8 @@ weak caller p a s = record { sound = s.sound; free = s.free; undoomed = λ ne. s
 -- the caller's own change of its signals
 pub weak-own : (caller : ℕ) (a : Alive) (s : Signals) → Strong a → AreSoundSignals s → Stays a.row.signals s
     → Weak caller caller (record a { row = record { signals = s; family = a.row.family } })
-weak-own caller a s h sound stays = record { sound = sound; free = λ d. h.free (stays d); undoomed = λ ne. absurd (ne refl) }
+weak-own caller a s h sound stays =
+    record { sound = sound; free = λ d. h.free (stays d); undoomed = λ ne. absurd (ne refl) }
 
 one-free : {B : Type 0} → One ≡ Free → B
 one-free h = cc
@@ -35,7 +36,8 @@ one-free h = cc
 spent-free : {B : Type 0} → Spent ≡ Free → B
 spent-free h = cc
 
-free-by_other : (before now : Bool) (allowance : Allowance) → before ≡ false → now ≡ false → allowance_after_raise before now allowance ≡ allowance
+free-by_other : (before now : Bool) (allowance : Allowance) → before ≡ false → now ≡ false
+    → allowance_after_raise before now allowance ≡ allowance
 free-by_other before now allowance b n = rw (b, n) refl
 
 undoomed-by_other : (before now : Option Sig) (allowance : Allowance) → (allowance ≡ Free → before ≡ None)
@@ -51,11 +53,13 @@ strong-raised a g h =
       sound = sound-raise a.row.signals g h.sound;
       free = λ d.
           let b = raise-stays a.row.signals g d
-          in free-by_other (is_some a.row.signals.doom) (is_some (raise a.row.signals g).doom) a.allowance (ap is_some b) (ap is_some d) ∙ h.free b;
+          in free-by_other (is_some a.row.signals.doom) (is_some (raise a.row.signals g).doom) a.allowance
+          (ap is_some b) (ap is_some d) ∙ h.free b;
       undoomed = undoomed-by_other a.row.signals.doom (raise a.row.signals g).doom a.allowance h.undoomed;
     }
 
-strong-family : (a : Alive) (f : Family) → Strong a → Strong (record a { row = record { signals = a.row.signals; family = f } })
+strong-family : (a : Alive) (f : Family) → Strong a
+    → Strong (record a { row = record { signals = a.row.signals; family = f } })
 strong-family a f h = record { sound = h.sound; free = h.free; undoomed = h.undoomed }
 
 pub strong-child : (a : Alive) → Strong a → Strong (new_child a)
@@ -78,13 +82,23 @@ strong-ended_child a child ending h =
 pub family-ended_child : (a : Alive) (child : ℕ) (ending : Ending)
     → (with_ended_child a child ending).row.family ≡ family_after_end a.row.family child ending (ignores_children a.row)
 family-ended_child a child ending =
-    let next : Alive = record a { row = record { signals = a.row.signals; family = family_after_end a.row.family child ending (ignores_children a.row) } }
-    in by_test (λ (x : Alive). x.row.family ≡ family_after_end a.row.family child ending (ignores_children a.row)) (ignores_children a.row) next (raise_by_other next Chld)
+    let next : Alive = record a {
+      row =
+          record {
+            signals = a.row.signals;
+            family =
+                family_after_end a.row.family child ending (ignores_children a.row);
+          };
+    }
+    in by_test (λ (x : Alive). x.row.family ≡ family_after_end a.row.family child ending (ignores_children a.row))
+    (ignores_children a.row) next (raise_by_other next Chld)
     (λ t. refl) (λ t. refl)
 
 -- after the entry
-pub strong-spent : (caller p : ℕ) (a : Alive) → Weak caller p a → is_some a.row.signals.doom ≡ true → Strong (record a { allowance = Spent })
-strong-spent caller p a h d = record { sound = h.sound; free = λ e. not_true (sym (ap is_some e) ∙ d); undoomed = λ e. spent-free e }
+pub strong-spent : (caller p : ℕ) (a : Alive) → Weak caller p a → is_some a.row.signals.doom ≡ true
+    → Strong (record a { allowance = Spent })
+strong-spent caller p a h d =
+    record { sound = h.sound; free = λ e. not_true (sym (ap is_some e) ∙ d); undoomed = λ e. spent-free e }
 
 pub strong-undoomed : (caller p : ℕ) (a : Alive) → Weak caller p a → is_some a.row.signals.doom ≡ false → Strong a
 strong-undoomed caller p a h d = record { sound = h.sound; free = h.free; undoomed = λ e. no-doom a.row.signals.doom d }

@@ -31,21 +31,26 @@ EachOnce ps = (p : ℕ) (a : Alive) → get ps p ≡ Some (Living a) → ListsOn
 abbrev OnceIn : Kernel → Type 0
 OnceIn k = EachOnce k.processes
 
-once-put : (ps : Numbered Process) (k : ℕ) (b : Alive) → EachOnce ps → ListsOnce b.row.family → EachOnce (put ps k (Living b))
-once-put ps k b h o = each-put IsOnce ps k (Living b) h (λ x e. subst (λ (y : Alive). ListsOnce y.row.family) (same-alive b x e) o)
+once-put : (ps : Numbered Process) (k : ℕ) (b : Alive) → EachOnce ps → ListsOnce b.row.family
+    → EachOnce (put ps k (Living b))
+once-put ps k b h o =
+    each-put IsOnce ps k (Living b) h (λ x e. subst (λ (y : Alive). ListsOnce y.row.family) (same-alive b x e) o)
 
-once-dead : (ps : Numbered Process) (k : ℕ) (v : Process) → EachOnce ps → ((x : Alive) → v ≡ Living x → ⊥) → EachOnce (put ps k v)
+once-dead : (ps : Numbered Process) (k : ℕ) (v : Process) → EachOnce ps → ((x : Alive) → v ≡ Living x → ⊥)
+    → EachOnce (put ps k v)
 once-dead ps k v h dead = each-put IsOnce ps k v h (λ x e. absurd (dead x e))
 
 once-buried : (es : List EndedChild) (ps : Numbered Process) → EachOnce ps → EachOnce (fold bury ps es)
 once-buried [] ps h = h
-once-buried (e ∷ es) ps h = once-buried es (bury ps e) (once-dead ps e.pid Gone h (λ x s. living-gone {B = ⊥} x (sym s)))
+once-buried (e ∷ es) ps h =
+    once-buried es (bury ps e) (once-dead ps e.pid Gone h (λ x s. living-gone {B = ⊥} x (sym s)))
 
 none-at : (o : Option Process) → false ≡ is_some o → o ≡ None
 none-at None h = refl
 none-at (Some p) h = not_true h
 
-once-forked : (ps : Numbered Process) (used : List ℕ) → People IsStrong ps used → EachOnce ps → (pid : ℕ) (a : Alive) (n : ℕ) → get ps pid ≡ Some (Living a)
+once-forked : (ps : Numbered Process) (used : List ℕ) → People IsStrong ps used → EachOnce ps
+    → (pid : ℕ) (a : Alive) (n : ℕ) → get ps pid ≡ Some (Living a)
     → is_used used n ≡ false → EachOnce (processes_after_fork ps pid a n)
 once-forked ps used h o pid a n l f =
     let absent : get ps n ≡ None = none-at (get ps n) (sym f ∙ h.body.used_is n)
@@ -61,10 +66,13 @@ kept-dead : (ignored : Bool) (ending : Ending) (x : Alive) → process_after_end
 kept-dead true ending x h = living-gone {B = ⊥} x (sym h)
 kept-dead false ending x h = living-ended {B = ⊥} x ending (sym h)
 
-once-ended : (ps : Numbered Process) (used : List ℕ) → People IsStrong ps used → EachOnce ps → (pid : ℕ) (a : Alive) (ending : Ending)
-    → get ps pid ≡ Some (Living a) → (found : Option Parent) → parent_in pid ps ≡ found → EachOnce (end_under (bury_all ps a.row.family) pid ending found)
+once-ended : (ps : Numbered Process) (used : List ℕ) → People IsStrong ps used → EachOnce ps
+    → (pid : ℕ) (a : Alive) (ending : Ending)
+    → get ps pid ≡ Some (Living a) → (found : Option Parent) → parent_in pid ps ≡ found
+    → EachOnce (end_under (bury_all ps a.row.family) pid ending found)
 once-ended ps used h o pid a ending l None e =
-    once-dead (bury_all ps a.row.family) pid Gone (once-buried a.row.family.ended ps o) (λ x s. living-gone {B = ⊥} x (sym s))
+    once-dead (bury_all ps a.row.family) pid Gone (once-buried a.row.family.ended ps o)
+    (λ x s. living-gone {B = ⊥} x (sym s))
 once-ended ps used h o pid a ending l (Some p) e =
     let mid = bury_all ps a.row.family
     in let old = p.alive
@@ -72,12 +80,16 @@ once-ended ps used h o pid a ending l (Some p) e =
     in let ignored = ignores_children old.row
     in let v = process_after_end ignored ending
     in let new : (d : Ending) → Contains old.row.family.ended (ended_child pid d) → ⊥ =
-    λ d c. living-ended {B = ⊥} a d (at-once (get ps pid) (Living a) (Ended d) l (h.families.ended p.pid pid d (record { alive = old; there = w.0; kept = c })))
+    λ d c. living-ended {B =
+    ⊥} a d (at-once (get ps pid) (Living a) (Ended d) l
+    (h.families.ended p.pid pid d (record { alive = old; there = w.0; kept = c })))
     in once-put (put mid pid v) p.pid (with_ended_child old pid ending)
     (once-dead mid pid v (once-buried a.row.family.ended ps o) (kept-dead ignored ending))
-    (subst ListsOnce (sym (family-ended_child old pid ending)) (once-end old.row.family pid ending ignored (o p.pid old w.0) new))
+    (subst ListsOnce (sym (family-ended_child old pid ending))
+    (once-end old.row.family pid ending ignored (o p.pid old w.0) new))
 
-once-moves : (k : Kernel) (pid : ℕ) (a : Alive) (n : ℕ) → Settled k → get k.processes pid ≡ Some (Living a) → OnceIn k → Moves OnceIn k pid a n
+once-moves : (k : Kernel) (pid : ℕ) (a : Alive) (n : ℕ) → Settled k → get k.processes pid ≡ Some (Living a) → OnceIn k
+    → Moves OnceIn k pid a n
 once-moves k pid a n h l o =
     let ps = k.processes
     in let same = o pid a l
@@ -90,7 +102,8 @@ once-moves k pid a n h l o =
       raises_own = λ target g t. once-put ps pid _ o (o pid target t);
       raises_other = λ other target g t. once-put ps other _ o (o other target t);
       reaps = λ which child ending e.
-          once-dead (put ps pid (Living (parent_after_wait a child))) child Gone (once-put ps pid (parent_after_wait a child) o (once-without a.row.family child same))
+          once-dead (put ps pid (Living (parent_after_wait a child))) child Gone
+          (once-put ps pid (parent_after_wait a child) o (once-without a.row.family child same))
           (λ x s. living-gone {B = ⊥} x (sym s));
       makes_queue = λ f. o;
       binds_queue = λ key f. o;
@@ -111,7 +124,8 @@ once-doom : (k : Kernel) (pid : ℕ) (a : Alive) → OnceIn k → get k.processe
 once-doom k pid a o l true = once-put k.processes pid (record a { allowance = Spent }) o (o pid a l)
 once-doom k pid a o l false = o
 
-once-finished : (k : Kernel) (pid : ℕ) → OnceIn k → (found : Option Alive) → living_at k pid ≡ found → OnceIn (finish_call k pid found)
+once-finished : (k : Kernel) (pid : ℕ) → OnceIn k → (found : Option Alive) → living_at k pid ≡ found
+    → OnceIn (finish_call k pid found)
 once-finished k pid o None e = o
 once-finished k pid o (Some a) e = once-doom k pid a o (from-living k.processes pid a e) (is_some a.row.signals.doom)
 
@@ -119,10 +133,15 @@ once-kept : KeptBy (Both Settled OnceIn) (λ caller. Both (Midway caller) OnceIn
 once-kept =
     record {
       moves = λ k caller call n next outcome s b.
-          both-moves (Midway caller) OnceIn k caller s.alive n (people-kept.moves k caller call n next outcome s b.order)
+          both-moves (Midway caller) OnceIn k caller s.alive n
+          (people-kept.moves k caller call n next outcome s b.order)
           (once-moves k caller s.alive n b.order (from-living k.processes caller s.alive s.lives) b.other);
       finishes = λ caller k b.
-          record { order = people-kept.finishes caller k b.order; other = once-finished k caller b.other (living_at k caller) refl };
+          record {
+            order = people-kept.finishes caller k b.order;
+            other =
+                once-finished k caller b.other (living_at k caller) refl;
+          };
     }
 
 once-opening : OnceIn opening
@@ -131,5 +150,6 @@ once-opening p a l = subst (λ (x : Alive). ListsOnce x.row.family) (first-livin
 pub children_are_listed_once_lemma : ChildrenAreListedOnce
 children_are_listed_once_lemma k r pid a l =
     let start : Both Settled OnceIn opening = record { order = settled-opening; other = once-opening }
-    in let end = kept-by-along (Both Settled OnceIn) (λ caller. Both (Midway caller) OnceIn) once-kept r.0 opening k r.1 start
+    in let end = kept-by-along (Both Settled OnceIn)
+    (λ caller. Both (Midway caller) OnceIn) once-kept r.0 opening k r.1 start
     in end.other pid a (from-living k.processes pid a l)

@@ -33,6 +33,7 @@ of_choice P true x y h g = h
 of_choice P false x y h g = g
 
 -- the same for a value itself, with what the test says
-pub by_test : {A : Type 0} (P : A → Type 0) (b : Bool) (x y : A) → (b ≡ true → P x) → (b ≡ false → P y) → P (if b then x else y)
+pub by_test : {A : Type 0} (P : A → Type 0) (b : Bool) (x y : A) → (b ≡ true → P x) → (b ≡ false → P y)
+    → P (if b then x else y)
 by_test P true x y h g = h refl
 by_test P false x y h g = g refl

@@ -39,13 +39,19 @@ keeps-looked_up : (k : Kernel) (r : Result ℕ Errno) → LeavesAll k (look_up k
 keeps-looked_up k (Ok n) = not_true
 keeps-looked_up k (Err e) = λ h. refl
 
-keeps-named : {V : Type 0} (k : Kernel) (o : Option V) (f : V → Effect) → ((v : V) → LeavesAll k (f v)) → LeavesAll k (on_named k o f)
+keeps-named : {V : Type 0} (k : Kernel) (o : Option V) (f : V → Effect) → ((v : V) → LeavesAll k (f v))
+    → LeavesAll k (on_named k o f)
 keeps-named k None f h = λ g. refl
 keeps-named k (Some v) f h = h v
 
 keeps-fork : (k : Kernel) (pid : ℕ) (a : Alive) (n : ℕ) → Of (LeavesAll k) (fork_effect k pid a n)
 keeps-fork k pid a n =
-    of_choice (LeavesAll k) (is_fresh k.used_processes n) (Some (reply_with (record k { processes = processes_after_fork k.processes pid a n; used_processes = used_with k.used_processes n }) n)) None not_true tt
+    of_choice (LeavesAll k) (is_fresh k.used_processes n)
+    (Some (reply_with (record k {
+      processes = processes_after_fork k.processes pid a n;
+      used_processes =
+          used_with k.used_processes n;
+    }) n)) None not_true tt
 
 keeps-reaped : (k : Kernel) (pid : ℕ) (a : Alive) (w : Waited) → LeavesAll k (reap_child k pid a w)
 keeps-reaped k pid a (Found child ending) = not_true
@@ -56,12 +62,14 @@ keeps-acted : (k : Kernel) (pid : ℕ) (a : Alive) (r : Result Signals Errno) �
 keeps-acted k pid a (Ok s) = not_true
 keeps-acted k pid a (Err e) = λ h. refl
 
-keeps-signalled : (k : Kernel) (caller pid : ℕ) (target : Alive) (sig : SigArg) → LeavesAll k (signal_living k caller pid target sig)
+keeps-signalled : (k : Kernel) (caller pid : ℕ) (target : Alive) (sig : SigArg)
+    → LeavesAll k (signal_living k caller pid target sig)
 keeps-signalled k caller pid target Zero = not_true
 keeps-signalled k caller pid target Bad = λ h. refl
 keeps-signalled k caller pid target (Is g) = not_true
 
-keeps-killed : (k : Kernel) (caller pid : ℕ) (sig : SigArg) (p : Option Process) → LeavesAll k (kill_at k caller pid sig p)
+keeps-killed : (k : Kernel) (caller pid : ℕ) (sig : SigArg) (p : Option Process)
+    → LeavesAll k (kill_at k caller pid sig p)
 keeps-killed k caller pid sig None = λ h. refl
 keeps-killed k caller pid sig (Some Gone) = λ h. refl
 keeps-killed k caller pid sig (Some (Ended ending)) = not_true
@@ -75,15 +83,23 @@ keeps-kill k caller pid (Is g) = keeps-killed k caller pid (Is g) (get k.process
 keeps-new_queue : (k : Kernel) (keys : Numbered ℕ) (n : ℕ) → Of (LeavesAll k) (new_queue k keys n)
 keeps-new_queue k keys n =
     of_choice (LeavesAll k) (is_fresh k.used_queues n)
-    (Some (reply_with (record k { queues = put k.queues n empty_queue; queue_keys = keys; used_queues = used_with k.used_queues n }) n)) None not_true tt
+    (Some (reply_with (record k {
+      queues = put k.queues n empty_queue;
+      queue_keys = keys;
+      used_queues =
+          used_with k.used_queues n;
+    }) n)) None not_true tt
 
-keeps-get_queue_at : (k : Kernel) (key : ℕ) (create excl : Bool) (n : ℕ) (found : Option ℕ) → Of (LeavesAll k) (get_queue_at k key create excl n found)
+keeps-get_queue_at : (k : Kernel) (key : ℕ) (create excl : Bool) (n : ℕ) (found : Option ℕ)
+    → Of (LeavesAll k) (get_queue_at k key create excl n found)
 keeps-get_queue_at k key create excl n (Some id) =
     by_test (LeavesAll k) (create && excl) (refuse k Eexist) (reply_with k id) (λ t h. refl) (λ t. not_true)
 keeps-get_queue_at k key create excl n None =
-    of_choice (LeavesAll k) create (new_queue k (put k.queue_keys key n) n) (Some (refuse k Enoent)) (keeps-new_queue k (put k.queue_keys key n) n) (λ h. refl)
+    of_choice (LeavesAll k) create (new_queue k (put k.queue_keys key n) n) (Some (refuse k Enoent))
+    (keeps-new_queue k (put k.queue_keys key n) n) (λ h. refl)
 
-keeps-get_queue : (k : Kernel) (key : Option ℕ) (create excl : Bool) (n : ℕ) → Of (LeavesAll k) (get_queue k key create excl n)
+keeps-get_queue : (k : Kernel) (key : Option ℕ) (create excl : Bool) (n : ℕ)
+    → Of (LeavesAll k) (get_queue k key create excl n)
 keeps-get_queue k None create excl n = keeps-new_queue k k.queue_keys n
 keeps-get_queue k (Some key) create excl n = keeps-get_queue_at k key create excl n (get k.queue_keys key)
 
@@ -95,23 +111,30 @@ keeps-received : (k : Kernel) (id : ℕ) (r : Result Received Errno) → LeavesA
 keeps-received k id (Ok q) = not_true
 keeps-received k id (Err e) = λ h. refl
 
-keeps-new_set : (k : Kernel) (keys : Numbered ℕ) (n : ℕ) (r : Result SemaphoreSet Errno) → Of (LeavesAll k) (new_set_of k keys n r)
+keeps-new_set : (k : Kernel) (keys : Numbered ℕ) (n : ℕ) (r : Result SemaphoreSet Errno)
+    → Of (LeavesAll k) (new_set_of k keys n r)
 keeps-new_set k keys n (Err e) = λ h. refl
 keeps-new_set k keys n (Ok set) =
     of_choice (LeavesAll k) (is_fresh k.used_sets n)
-    (Some (reply_with (record k { sets = put k.sets n set; set_keys = keys; used_sets = used_with k.used_sets n }) n)) None not_true tt
+    (Some (reply_with (record k { sets = put k.sets n set; set_keys = keys; used_sets = used_with k.used_sets n }) n))
+    None not_true tt
 
 keeps-found_set : (k : Kernel) (id count : ℕ) → LeavesAll k (find_set k id count)
 keeps-found_set k id count =
-    by_test (LeavesAll k) (nat_eq count 0 || nat_le count (set_size k id)) (reply_with k id) (refuse k Einval) (λ t. not_true) (λ t h. refl)
+    by_test (LeavesAll k) (nat_eq count 0 || nat_le count (set_size k id)) (reply_with k id) (refuse k Einval)
+    (λ t. not_true) (λ t h. refl)
 
-keeps-get_set_at : (k : Kernel) (key count : ℕ) (create excl : Bool) (n : ℕ) (found : Option ℕ) → Of (LeavesAll k) (get_set_at k key count create excl n found)
+keeps-get_set_at : (k : Kernel) (key count : ℕ) (create excl : Bool) (n : ℕ) (found : Option ℕ)
+    → Of (LeavesAll k) (get_set_at k key count create excl n found)
 keeps-get_set_at k key count create excl n (Some id) =
-    by_test (LeavesAll k) (create && excl) (refuse k Eexist) (find_set k id count) (λ t h. refl) (λ t. keeps-found_set k id count)
+    by_test (LeavesAll k) (create && excl) (refuse k Eexist) (find_set k id count) (λ t h. refl)
+    (λ t. keeps-found_set k id count)
 keeps-get_set_at k key count create excl n None =
-    of_choice (LeavesAll k) create (new_set_of k (put k.set_keys key n) n (new_set count)) (Some (refuse k Enoent)) (keeps-new_set k (put k.set_keys key n) n (new_set count)) (λ h. refl)
+    of_choice (LeavesAll k) create (new_set_of k (put k.set_keys key n) n (new_set count)) (Some (refuse k Enoent))
+    (keeps-new_set k (put k.set_keys key n) n (new_set count)) (λ h. refl)
 
-keeps-get_set : (k : Kernel) (key : Option ℕ) (count : ℕ) (create excl : Bool) (n : ℕ) → Of (LeavesAll k) (get_set k key count create excl n)
+keeps-get_set : (k : Kernel) (key : Option ℕ) (count : ℕ) (create excl : Bool) (n : ℕ)
+    → Of (LeavesAll k) (get_set k key count create excl n)
 keeps-get_set k None count create excl n = keeps-new_set k k.set_keys n (new_set count)
 keeps-get_set k (Some key) count create excl n = keeps-get_set_at k key count create excl n (get k.set_keys key)
 
@@ -121,8 +144,10 @@ keeps-changed_set k id (Err e) = λ h. refl
 
 keeps-operated : (k : Kernel) (pid id : ℕ) (steps : List SemStep) → Of (LeavesAll k) (operate k pid id steps)
 keeps-operated k pid id steps =
-    of_choice (LeavesAll k) (list_any may_wait steps) None (Some (on_named k (get k.sets id) (λ set. change_set k id (op set pid steps)))) tt
-    (keeps-named k (get k.sets id) (λ set. change_set k id (op set pid steps)) (λ set. keeps-changed_set k id (op set pid steps)))
+    of_choice (LeavesAll k) (list_any may_wait steps) None
+    (Some (on_named k (get k.sets id) (λ set. change_set k id (op set pid steps)))) tt
+    (keeps-named k (get k.sets id) (λ set. change_set k id (op set pid steps))
+    (λ set. keeps-changed_set k id (op set pid steps)))
 
 keeps-effect : (k : Kernel) (pid : ℕ) (a : Alive) (call : Call) (n : ℕ) → Of (LeavesAll k) (effect k pid a call n)
 keeps-effect k pid a (calls.Fork block) n = keeps-fork k pid a n
@@ -138,14 +163,17 @@ keeps-effect k pid a (calls.WaitPid child true) n = keeps-reaped k pid a (wait a
 keeps-effect k pid a (calls.WaitPid child false) n = tt
 keeps-effect k pid a (calls.MsgGet key create excl) n = keeps-get_queue k key create excl n
 keeps-effect k pid a (calls.MsgSnd id class text true) n =
-    keeps-named k (get k.queues id) (λ q. change_queue k id (send q pid class text)) (λ q. keeps-changed_queue k id (send q pid class text))
+    keeps-named k (get k.queues id) (λ q. change_queue k id (send q pid class text))
+    (λ q. keeps-changed_queue k id (send q pid class text))
 keeps-effect k pid a (calls.MsgSnd id class text false) n = tt
 keeps-effect k pid a (calls.MsgRcv id class size noerror true) n =
-    keeps-named k (get k.queues id) (λ q. receive_effect k id (receive q pid class size noerror)) (λ q. keeps-received k id (receive q pid class size noerror))
+    keeps-named k (get k.queues id) (λ q. receive_effect k id (receive q pid class size noerror))
+    (λ q. keeps-received k id (receive q pid class size noerror))
 keeps-effect k pid a (calls.MsgRcv id class size noerror false) n = tt
 keeps-effect k pid a (calls.MsgStat id) n = keeps-named k (get k.queues id) (stat_effect k) (λ q. not_true)
 keeps-effect k pid a (calls.MsgSet id qbytes) n =
-    keeps-named k (get k.queues id) (λ q. change_queue k id (set_qbytes q qbytes)) (λ q. keeps-changed_queue k id (set_qbytes q qbytes))
+    keeps-named k (get k.queues id) (λ q. change_queue k id (set_qbytes q qbytes))
+    (λ q. keeps-changed_queue k id (set_qbytes q qbytes))
 keeps-effect k pid a (calls.MsgRmid id) n = keeps-named k (get k.queues id) (λ _. remove_queue k id) (λ q. not_true)
 keeps-effect k pid a (calls.SemGet key count create excl) n = keeps-get_set k key count create excl n
 keeps-effect k pid a (calls.SemOp id steps) n = keeps-operated k pid id steps
@@ -158,17 +186,20 @@ keeps-effect k pid a (calls.SemGetNcnt id num) n =
 keeps-effect k pid a (calls.SemGetZcnt id num) n =
     keeps-named k (get k.sets id) (λ s. look_up k (waiting_at s num)) (λ s. keeps-looked_up k (waiting_at s num))
 keeps-effect k pid a (calls.SemSetVal id num value) n =
-    keeps-named k (get k.sets id) (λ s. change_set k id (set_value s num value)) (λ s. keeps-changed_set k id (set_value s num value))
+    keeps-named k (get k.sets id) (λ s. change_set k id (set_value s num value))
+    (λ s. keeps-changed_set k id (set_value s num value))
 keeps-effect k pid a (calls.SemGetAll id) n = keeps-named k (get k.sets id) (all_values k) (λ s. not_true)
 keeps-effect k pid a (calls.SemSetAll id values) n =
-    keeps-named k (get k.sets id) (λ s. change_set k id (set_all s values)) (λ s. keeps-changed_set k id (set_all s values))
+    keeps-named k (get k.sets id) (λ s. change_set k id (set_all s values))
+    (λ s. keeps-changed_set k id (set_all s values))
 keeps-effect k pid a (calls.SemRmid id) n = keeps-named k (get k.sets id) (λ _. remove_set k id) (λ s. not_true)
 
 -- after the entry a doomed caller has nothing left
 to_next : (k : Kernel) (pid : ℕ) (a : Alive) (result : Kernel) (next : Kernel) → result ≡ k → living_at k pid ≡ Some a
     → finish_call result pid (living_at result pid) ≡ next → next ≡ left_by k pid a
 to_next k pid a result next same lives leads =
-    let e : finish_call k pid (living_at k pid) ≡ next = subst (λ (r : Kernel). finish_call r pid (living_at r pid) ≡ next) same leads
+    let e : finish_call k pid (living_at k pid) ≡ next =
+    subst (λ (r : Kernel). finish_call r pid (living_at r pid) ≡ next) same leads
     in sym e ∙ ap (finish_call k pid) lives
 
 fail_is : (r : Reply) (o : Option Reply) (e : Errno) → Some r ≡ o → o ≡ Some (replies.Fail e) → is_fail r ≡ true
@@ -179,4 +210,9 @@ refusals_change_nothing_lemma k pid call n next outcome error h fails =
     let s = step k pid call n next outcome h
     in let P : Option Effect → Type 0 = λ o. Of (LeavesAll k) o
     in let kept : LeavesAll k s.result = subst P s.gives (keeps-effect k pid s.alive call n)
-    in (s.alive, s.lives, to_next k pid s.alive s.result.kernel next (kept (fail_is s.result.reply outcome.own error s.says fails)) s.lives s.leads)
+    in (
+      s.alive,
+      s.lives,
+      to_next k pid s.alive s.result.kernel next
+          (kept (fail_is s.result.reply outcome.own error s.says fails)) s.lives s.leads,
+    )

@@ -113,7 +113,8 @@ pub sound-new : AreSoundSignals new_signals
 sound-new = record { kept = λ g h. not_true (sym (nothing g) ∙ h); unmasked = refl; kill_default = refl }
 
 pub sound-inherited : (s : Signals) → AreSoundSignals s → AreSoundSignals (inherit s)
-sound-inherited s h = record { kept = λ g p. not_true (sym (nothing g) ∙ p); unmasked = h.unmasked; kill_default = h.kill_default }
+sound-inherited s h =
+    record { kept = λ g p. not_true (sym (nothing g) ∙ p); unmasked = h.unmasked; kill_default = h.kill_default }
 
 sound-doomed : (s : Signals) (g : Sig) → AreSoundSignals s → AreSoundSignals (doom_by s g)
 sound-doomed s g h = record { kept = h.kept; unmasked = h.unmasked; kill_default = h.kill_default }
@@ -135,38 +136,52 @@ kept-pended actions pending g d k h p =
       | inr apart ↦ k h (sym (at-put-other pending g h true apart) ∙ p)
     ]
 
-sound-pended : (s : Signals) (g : Sig) → AreSoundSignals s → discards (at s.actions g) g ≡ false → AreSoundSignals (record s { pending = put_at s.pending g true })
+sound-pended : (s : Signals) (g : Sig) → AreSoundSignals s → discards (at s.actions g) g ≡ false
+    → AreSoundSignals (record s { pending = put_at s.pending g true })
 sound-pended s g h d =
     record { kept = kept-pended s.actions s.pending g d h.kept; unmasked = h.unmasked; kill_default = h.kill_default }
 
 pub sound-raise : (s : Signals) (g : Sig) → AreSoundSignals s → AreSoundSignals (raise s g)
 sound-raise s g h =
     by_test AreSoundSignals (is_some s.doom) s
-    (if is_kill g then doom_by s g else if discards (at s.actions g) g then s else if at s.mask g then record s { pending = put_at s.pending g true } else arrive s g)
+    (if is_kill g then doom_by s g else if discards
+    (at s.actions g) g then s else if at s.mask g then record s {
+      pending =
+          put_at s.pending g true;
+    } else arrive s g)
     (λ _. h)
     (λ _. by_test AreSoundSignals (is_kill g) (doom_by s g)
-    (if discards (at s.actions g) g then s else if at s.mask g then record s { pending = put_at s.pending g true } else arrive s g)
+    (if discards (at s.actions g) g then s else if at s.mask g then record s {
+      pending =
+          put_at s.pending g true;
+    } else arrive s g)
     (λ _. sound-doomed s g h)
-    (λ _. by_test AreSoundSignals (discards (at s.actions g) g) s (if at s.mask g then record s { pending = put_at s.pending g true } else arrive s g) (λ _. h)
-    (λ d. by_test AreSoundSignals (at s.mask g) (record s { pending = put_at s.pending g true }) (arrive s g) (λ _. sound-pended s g h d) (λ _. sound-arrive s g h))))
+    (λ _. by_test AreSoundSignals (discards (at s.actions g) g) s
+    (if at s.mask g then record s { pending = put_at s.pending g true } else arrive s g) (λ _. h)
+    (λ d. by_test AreSoundSignals (at s.mask g) (record s { pending = put_at s.pending g true }) (arrive s g)
+    (λ _. sound-pended s g h d) (λ _. sound-arrive s g h))))
 
 kept-acted : (actions : PerSignal Act) (pending : PerSignal Bool) (g : Sig) (act : Act)
     → ((h : Sig) → at pending h ≡ true → discards (at actions h) h ≡ false)
-    → (h : Sig) → at (put_at pending g (at pending g && not (discards act g))) h ≡ true → discards (at (put_at actions g act) h) h ≡ false
+    → (h : Sig) → at (put_at pending g (at pending g && not (discards act g))) h ≡ true
+    → discards (at (put_at actions g act) h) h ≡ false
 kept-acted actions pending g act k h p =
     elim (same-or-apart g h) [
       | inl same ↦
           let P : Sig → Type 0 = λ x. at (put_at pending g (at pending g && not (discards act g))) x ≡ true
           in let own = subst P (sym same) p
-          in let both = and_parts (at pending g) (not (discards act g)) (sym (at-put-same pending g (at pending g && not (discards act g))) ∙ own)
+          in let both = and_parts (at pending g) (not (discards act g))
+          (sym (at-put-same pending g (at pending g && not (discards act g))) ∙ own)
           in let Q : Sig → Type 0 = λ x. discards (at (put_at actions g act) x) x ≡ false
-          in subst Q same (ap (λ (x : Act). discards x g) (at-put-same actions g act) ∙ not-true (discards act g) both.1)
+          in subst Q same (ap (λ (x : Act). discards x g) (at-put-same actions g act)
+          ∙ not-true (discards act g) both.1)
       | inr apart ↦
           ap (λ (x : Act). discards x h) (at-put-other actions g h act apart)
           ∙ k h (sym (at-put-other pending g h (at pending g && not (discards act g)) apart) ∙ p)
     ]
 
-pub sound-action : (s : Signals) (g : Sig) (act : Act) → is_kill g ≡ false → AreSoundSignals s → AreSoundSignals (with_action s g act)
+pub sound-action : (s : Signals) (g : Sig) (act : Act) → is_kill g ≡ false → AreSoundSignals s
+    → AreSoundSignals (with_action s g act)
 sound-action s g act n h =
     record {
       kept = kept-acted s.actions s.pending g act h.kept;
@@ -185,12 +200,19 @@ kept-taken actions pending g k h p =
       | inr apart ↦ k h (sym (at-put-other pending g h false apart) ∙ p)
     ]
 
-sound-taken : (s : Signals) (g : Sig) → AreSoundSignals s → AreSoundSignals (record s { pending = put_at s.pending g false })
-sound-taken s g h = record { kept = kept-taken s.actions s.pending g h.kept; unmasked = h.unmasked; kill_default = h.kill_default }
+sound-taken : (s : Signals) (g : Sig) → AreSoundSignals s
+    → AreSoundSignals (record s { pending = put_at s.pending g false })
+sound-taken s g h = record {
+  kept = kept-taken s.actions s.pending g h.kept;
+  unmasked = h.unmasked;
+  kill_default =
+      h.kill_default;
+}
 
 sound-deliver : (s : Signals) (g : Sig) → AreSoundSignals s → AreSoundSignals (deliver s g)
 sound-deliver s g h =
-    by_test AreSoundSignals (not (is_some s.doom) && (at s.pending g && not (at s.mask g))) (arrive (record s { pending = put_at s.pending g false }) g) s
+    by_test AreSoundSignals (not (is_some s.doom) && (at s.pending g && not (at s.mask g)))
+    (arrive (record s { pending = put_at s.pending g false }) g) s
     (λ _. sound-arrive (record s { pending = put_at s.pending g false }) g (sound-taken s g h))
     (λ _. h)
 
@@ -198,11 +220,14 @@ sound-delivered : (gs : List Sig) (s : Signals) → AreSoundSignals s → AreSou
 sound-delivered [] s h = h
 sound-delivered (g ∷ gs) s h = sound-delivered gs (deliver s g) (sound-deliver s g h)
 
-sound-masked : (s : Signals) (how : How) (set : PerSignal Bool) → AreSoundSignals s → AreSoundSignals (record s { mask = new_mask how s.mask set })
+sound-masked : (s : Signals) (how : How) (set : PerSignal Bool) → AreSoundSignals s
+    → AreSoundSignals (record s { mask = new_mask how s.mask set })
 sound-masked s how set h = record { kept = h.kept; unmasked = refl; kill_default = h.kill_default }
 
-pub sound-mask : (s : Signals) (how : How) (set : PerSignal Bool) → AreSoundSignals s → AreSoundSignals (with_mask s how set)
-sound-mask s how set h = sound-delivered all_signals (record s { mask = new_mask how s.mask set }) (sound-masked s how set h)
+pub sound-mask : (s : Signals) (how : How) (set : PerSignal Bool) → AreSoundSignals s
+    → AreSoundSignals (with_mask s how set)
+sound-mask s how set h =
+    sound-delivered all_signals (record s { mask = new_mask how s.mask set }) (sound-masked s how set h)
 
 -- a doom stays
 abbrev pub Stays : Signals → Signals → Type 0
@@ -218,13 +243,19 @@ doom-is o h = ap is_some h
 pub raise-stays : (s : Signals) (g : Sig) → Stays s (raise s g)
 raise-stays s g =
     by_test (Stays s) (is_some s.doom) s
-    (if is_kill g then doom_by s g else if discards (at s.actions g) g then s else if at s.mask g then record s { pending = put_at s.pending g true } else arrive s g)
+    (if is_kill g then doom_by s g else if discards
+    (at s.actions g) g then s else if at s.mask g then record s {
+      pending =
+          put_at s.pending g true;
+    } else arrive s g)
     (λ t h. h) (λ f h. no-doom s.doom f)
 
 deliver-stays : (s : Signals) (g : Sig) → Stays s (deliver s g)
 deliver-stays s g =
-    by_test (Stays s) (not (is_some s.doom) && (at s.pending g && not (at s.mask g))) (arrive (record s { pending = put_at s.pending g false }) g) s
-    (λ t h. no-doom s.doom (not-true (is_some s.doom) (and_parts (not (is_some s.doom)) (at s.pending g && not (at s.mask g)) t).0))
+    by_test (Stays s) (not (is_some s.doom) && (at s.pending g && not (at s.mask g)))
+    (arrive (record s { pending = put_at s.pending g false }) g) s
+    (λ t h. no-doom s.doom
+    (not-true (is_some s.doom) (and_parts (not (is_some s.doom)) (at s.pending g && not (at s.mask g)) t).0))
     (λ f h. h)
 
 delivered-stays : (gs : List Sig) (s : Signals) → Stays s (fold deliver s gs)

@@ -17,11 +17,14 @@ pub record Step (k : Kernel) (pid : ℕ) (call : Call) (n : ℕ) (next : Kernel)
   pub leads : finish_call result.kernel pid (living_at result.kernel pid) ≡ next
   pub says : Some result.reply ≡ outcome.own
 
-from_effect : (k : Kernel) (pid : ℕ) (call : Call) (n : ℕ) (next : Kernel) (outcome : Outcome) (a : Alive) → living_at k pid ≡ Some a
-    → (e : Option Effect) → effect k pid a call n ≡ e → outcome_of pid e ≡ Some (successor next outcome) → Step k pid call n next outcome
+from_effect : (k : Kernel) (pid : ℕ) (call : Call) (n : ℕ) (next : Kernel) (outcome : Outcome) (a : Alive)
+    → living_at k pid ≡ Some a
+    → (e : Option Effect) → effect k pid a call n ≡ e → outcome_of pid e ≡ Some (successor next outcome)
+    → Step k pid call n next outcome
 from_effect k pid call n next outcome a l None g h = not_some (successor next outcome) h
 from_effect k pid call n next outcome a l (Some e) g h =
-    let same = from_some (successor (finish_call e.kernel pid (living_at e.kernel pid)) (reply_alone e.reply)) (successor next outcome) h
+    let same = from_some (successor (finish_call e.kernel pid (living_at e.kernel pid)) (reply_alone e.reply))
+    (successor next outcome) h
     in record {
       alive = a;
       result = e;
@@ -31,16 +34,20 @@ from_effect k pid call n next outcome a l (Some e) g h =
       says = ap (λ (r : Successor). r.outcome.own) same;
     }
 
-from_may : (k : Kernel) (pid : ℕ) (call : Call) (n : ℕ) (next : Kernel) (outcome : Outcome) (a : Alive) → living_at k pid ≡ Some a
-    → (may : Bool) → (if may then outcome_of pid (effect k pid a call n) else None) ≡ Some (successor next outcome) → Step k pid call n next outcome
+from_may : (k : Kernel) (pid : ℕ) (call : Call) (n : ℕ) (next : Kernel) (outcome : Outcome) (a : Alive)
+    → living_at k pid ≡ Some a
+    → (may : Bool) → (if may then outcome_of pid (effect k pid a call n) else None) ≡ Some (successor next outcome)
+    → Step k pid call n next outcome
 from_may k pid call n next outcome a l false h = not_some (successor next outcome) h
 from_may k pid call n next outcome a l true h = from_effect k pid call n next outcome a l (effect k pid a call n) refl h
 
-from_living : (k : Kernel) (pid : ℕ) (call : Call) (n : ℕ) (next : Kernel) (outcome : Outcome) (found : Option Alive) → living_at k pid ≡ found
+from_living : (k : Kernel) (pid : ℕ) (call : Call) (n : ℕ) (next : Kernel) (outcome : Outcome) (found : Option Alive)
+    → living_at k pid ≡ found
     → transition_by k pid call n found ≡ Some (successor next outcome) → Step k pid call n next outcome
 from_living k pid call n next outcome None l h = not_some (successor next outcome) h
 from_living k pid call n next outcome (Some a) l h = from_may k pid call n next outcome a l (may_make a call) h
 
-pub step : (k : Kernel) (pid : ℕ) (call : Call) (n : ℕ) (next : Kernel) (outcome : Outcome) → transition k pid call n ≡ Some (successor next outcome)
+pub step : (k : Kernel) (pid : ℕ) (call : Call) (n : ℕ) (next : Kernel) (outcome : Outcome)
+    → transition k pid call n ≡ Some (successor next outcome)
     → Step k pid call n next outcome
 step k pid call n next outcome h = from_living k pid call n next outcome (living_at k pid) refl h

@@ -8,7 +8,10 @@ use Rattle.kernel_model.specs.Numbers.{is_positive_u32}
 use Rattle.kernel_model.specs.QueueCalls.{unbind}
 use Rattle.kernel_model.specs.Valid.{AreKeys}
 use Rattle.kernel_laws.proofs.Plain.{from_some, not_some, not_true}
-use Rattle.kernel_laws.proofs.MapLaws.{get-put-same, get-put-other, get-without-same, get-without-other, used-with-same, used-stays, Rising, rising-put, rising-filter, get-unbound, ordered}
+use Rattle.number_maps.proofs.LookUps.{get-put-same, get-put-other, get-without-same, get-without-other}
+use Rattle.number_maps.proofs.Sets.{used-with-same, used-stays}
+use Rattle.number_maps.proofs.Rising.{Rising, rising-put, rising-filter, ordered}
+use Rattle.kernel_laws.proofs.Unbinding.{get-unbound}
 
 -- with what holds of each thing
 pub record Table {V : Type 0} (P : V → Type 0) (things : Numbered V) (keys : Numbered ℕ) (used : List ℕ) : Type 0 where
@@ -30,28 +33,33 @@ table-empty P =
       each = λ n v h. not_some v h;
     }
 
-pub table-keys : {V : Type 0} (P : V → Type 0) (things : Numbered V) (keys : Numbered ℕ) (used : List ℕ) → Table P things keys used → AreKeys keys things
+pub table-keys : {V : Type 0} (P : V → Type 0) (things : Numbered V) (keys : Numbered ℕ) (used : List ℕ)
+    → Table P things keys used → AreKeys keys things
 table-keys P things keys used t = record { ordered = ordered keys t.keys_rise; lead = t.lead; apart = t.apart }
 
 -- something is there after a put, where it was before or where it is put
-pub there-put : {V : Type 0} (m : Numbered V) (k : ℕ) (v : V) (q : ℕ) → is_some (get m q) ≡ true → is_some (get (put m k v) q) ≡ true
+pub there-put : {V : Type 0} (m : Numbered V) (k : ℕ) (v : V) (q : ℕ) → is_some (get m q) ≡ true
+    → is_some (get (put m k v) q) ≡ true
 there-put m k v q h =
     elim (cases_eq q k) [
       | inl same ↦ ap is_some (ap (λ r. get (put m k v) r) same ∙ get-put-same m k v)
       | inr ne ↦ ap is_some (get-put-other m k v q ne) ∙ h
     ]
 
-each-put : {V : Type 0} (P : V → Type 0) (m : Numbered V) (k : ℕ) (v : V) → P v → ((n : ℕ) (w : V) → get m n ≡ Some w → P w)
+each-put : {V : Type 0} (P : V → Type 0) (m : Numbered V) (k : ℕ) (v : V) → P v
+    → ((n : ℕ) (w : V) → get m n ≡ Some w → P w)
     → (n : ℕ) (w : V) → get (put m k v) n ≡ Some w → P w
 each-put P m k v p h n w g =
     elim (cases_eq n k) [
       | inl same ↦
-          let e : v ≡ w = from_some v w (sym (get-put-same m k v) ∙ (ap (λ r. get (put m k v) r) (sym same) ∙ g)) in subst P e p
+          let e : v ≡ w = from_some v w (sym (get-put-same m k v) ∙ (ap (λ r. get (put m k v) r) (sym same) ∙ g)) in
+          subst P e p
       | inr ne ↦ h n w (sym (get-put-other m k v n ne) ∙ g)
     ]
 
 -- another value for what is there
-pub table-change : {V : Type 0} (P : V → Type 0) (things : Numbered V) (keys : Numbered ℕ) (used : List ℕ) → Table P things keys used → (id : ℕ) (v : V)
+pub table-change : {V : Type 0} (P : V → Type 0) (things : Numbered V) (keys : Numbered ℕ) (used : List ℕ)
+    → Table P things keys used → (id : ℕ) (v : V)
     → is_some (get things id) ≡ true → P v → Table P (put things id v) keys used
 table-change P things keys used t id v there p =
     record {
@@ -70,7 +78,8 @@ table-change P things keys used t id v there p =
 pub fresh-unused : (used : List ℕ) (n : ℕ) → is_fresh used n ≡ true → is_used used n ≡ false
 fresh-unused used n h = not-true (is_used used n) (and_parts (is_positive_u32 n) (not (is_used used n)) h).1
 
-used-put : {V : Type 0} (things : Numbered V) (used : List ℕ) (n : ℕ) (v : V) → ((q : ℕ) → is_some (get things q) ≡ true → is_used used q ≡ true)
+used-put : {V : Type 0} (things : Numbered V) (used : List ℕ) (n : ℕ) (v : V)
+    → ((q : ℕ) → is_some (get things q) ≡ true → is_used used q ≡ true)
     → (q : ℕ) → is_some (get (put things n v) q) ≡ true → is_used (used_with used n) q ≡ true
 used-put things used n v h q g =
     elim (cases_eq q n) [
@@ -79,7 +88,8 @@ used-put things used n v h q g =
     ]
 
 -- a new thing without a key
-pub table-make : {V : Type 0} (P : V → Type 0) (things : Numbered V) (keys : Numbered ℕ) (used : List ℕ) → Table P things keys used → (n : ℕ) (v : V)
+pub table-make : {V : Type 0} (P : V → Type 0) (things : Numbered V) (keys : Numbered ℕ) (used : List ℕ)
+    → Table P things keys used → (n : ℕ) (v : V)
     → P v → Table P (put things n v) keys (used_with used n)
 table-make P things keys used t n v p =
     record {
@@ -92,46 +102,56 @@ table-make P things keys used t n v p =
     }
 
 -- a new thing with a key: no key leads to its number yet
-unbound-new : {V : Type 0} (P : V → Type 0) (things : Numbered V) (keys : Numbered ℕ) (used : List ℕ) → Table P things keys used → (n : ℕ)
+unbound-new : {V : Type 0} (P : V → Type 0) (things : Numbered V) (keys : Numbered ℕ) (used : List ℕ)
+    → Table P things keys used → (n : ℕ)
     → is_used used n ≡ false → (key : ℕ) → get keys key ≡ Some n → ⊥
 unbound-new P things keys used t n f key h = not_true (sym f ∙ t.used_at n (t.lead key n h))
 
-lead-bind : {V : Type 0} (things : Numbered V) (keys : Numbered ℕ) (n key : ℕ) (v : V) → ((other id : ℕ) → get keys other ≡ Some id → is_some (get things id) ≡ true)
+lead-bind : {V : Type 0} (things : Numbered V) (keys : Numbered ℕ) (n key : ℕ) (v : V)
+    → ((other id : ℕ) → get keys other ≡ Some id → is_some (get things id) ≡ true)
     → (other id : ℕ) → get (put keys key n) other ≡ Some id → is_some (get (put things n v) id) ≡ true
 lead-bind things keys n key v h other id g =
     elim (cases_eq other key) [
       | inl same ↦
-          let e : n ≡ id = from_some n id (sym (get-put-same keys key n) ∙ (ap (λ r. get (put keys key n) r) (sym same) ∙ g))
+          let e : n ≡ id = from_some n id
+          (sym (get-put-same keys key n) ∙ (ap (λ r. get (put keys key n) r) (sym same) ∙ g))
           in ap is_some (ap (λ r. get (put things n v) r) (sym e) ∙ get-put-same things n v)
       | inr ne ↦ there-put things n v id (h other id (sym (get-put-other keys key n other ne) ∙ g))
     ]
 
 -- the number that a key leads to after the binding
 bound-same : (keys : Numbered ℕ) (n key other id : ℕ) → get (put keys key n) other ≡ Some id → other ≡ key → n ≡ id
-bound-same keys n key other id g same = from_some n id (sym (get-put-same keys key n) ∙ (ap (λ r. get (put keys key n) r) (sym same) ∙ g))
+bound-same keys n key other id g same =
+    from_some n id (sym (get-put-same keys key n) ∙ (ap (λ r. get (put keys key n) r) (sym same) ∙ g))
 
-bound-other : (keys : Numbered ℕ) (n key other id : ℕ) → get (put keys key n) other ≡ Some id → other ≢ key → get keys other ≡ Some id
+bound-other : (keys : Numbered ℕ) (n key other id : ℕ) → get (put keys key n) other ≡ Some id → other ≢ key
+    → get keys other ≡ Some id
 bound-other keys n key other id g ne = sym (get-put-other keys key n other ne) ∙ g
 
-apart-bind : {V : Type 0} (P : V → Type 0) (things : Numbered V) (keys : Numbered ℕ) (used : List ℕ) → Table P things keys used → (n key : ℕ)
-    → is_used used n ≡ false → (one other id : ℕ) → get (put keys key n) one ≡ Some id → get (put keys key n) other ≡ Some id → one ≡ other
+apart-bind : {V : Type 0} (P : V → Type 0) (things : Numbered V) (keys : Numbered ℕ) (used : List ℕ)
+    → Table P things keys used → (n key : ℕ)
+    → is_used used n ≡ false → (one other id : ℕ) → get (put keys key n) one ≡ Some id
+    → get (put keys key n) other ≡ Some id → one ≡ other
 apart-bind P things keys used t n key f one other id g h =
     elim (cases_eq one key) [
       | inl a ↦
           elim (cases_eq other key) [
             | inl b ↦ a ∙ sym b
             | inr b ↦
-                absurd (unbound-new P things keys used t n f other (bound-other keys n key other id h b ∙ ap Some (sym (bound-same keys n key one id g a))))
+                absurd (unbound-new P things keys used t n f other
+                (bound-other keys n key other id h b ∙ ap Some (sym (bound-same keys n key one id g a))))
           ]
       | inr a ↦
           elim (cases_eq other key) [
             | inl b ↦
-                absurd (unbound-new P things keys used t n f one (bound-other keys n key one id g a ∙ ap Some (sym (bound-same keys n key other id h b))))
+                absurd (unbound-new P things keys used t n f one
+                (bound-other keys n key one id g a ∙ ap Some (sym (bound-same keys n key other id h b))))
             | inr b ↦ t.apart one other id (bound-other keys n key one id g a) (bound-other keys n key other id h b)
           ]
     ]
 
-pub table-bind : {V : Type 0} (P : V → Type 0) (things : Numbered V) (keys : Numbered ℕ) (used : List ℕ) → Table P things keys used → (n key : ℕ) (v : V)
+pub table-bind : {V : Type 0} (P : V → Type 0) (things : Numbered V) (keys : Numbered ℕ) (used : List ℕ)
+    → Table P things keys used → (n key : ℕ) (v : V)
     → is_used used n ≡ false → P v → Table P (put things n v) (put keys key n) (used_with used n)
 table-bind P things keys used t n key v f p =
     record {
@@ -154,12 +174,14 @@ get-left m id n v h =
 there-left : {V : Type 0} (m : Numbered V) (id n : ℕ) → is_some (get (without m id) n) ≡ true → is_some (get m n) ≡ true
 there-left m id n h =
     elim (cases_eq n id) [
-      | inl same ↦ not_true (sym (ap is_some (get-without-same m id)) ∙ (ap (λ r. is_some (get (without m id) r)) (sym same) ∙ h))
+      | inl same ↦ not_true
+          (sym (ap is_some (get-without-same m id)) ∙ (ap (λ r. is_some (get (without m id) r)) (sym same) ∙ h))
       | inr ne ↦ sym (ap is_some (get-without-other m id n ne)) ∙ h
     ]
 
 -- a thing is gone, with the keys that led to it
-pub table-remove : {V : Type 0} (P : V → Type 0) (things : Numbered V) (keys : Numbered ℕ) (used : List ℕ) → Table P things keys used → (id : ℕ)
+pub table-remove : {V : Type 0} (P : V → Type 0) (things : Numbered V) (keys : Numbered ℕ) (used : List ℕ)
+    → Table P things keys used → (id : ℕ)
     → Table P (without things id) (unbind keys id) used
 table-remove P things keys used t id =
     record {
@@ -169,6 +191,7 @@ table-remove P things keys used t id =
       lead = λ key i h.
           let was = get-unbound keys id key i t.keys_rise h
           in ap is_some (get-without-other things id i was.1) ∙ t.lead key i was.0;
-      apart = λ key other i g h. t.apart key other i (get-unbound keys id key i t.keys_rise g).0 (get-unbound keys id other i t.keys_rise h).0;
+      apart = λ key other i g h.
+          t.apart key other i (get-unbound keys id key i t.keys_rise g).0 (get-unbound keys id other i t.keys_rise h).0;
       each = λ n v h. t.each n v (get-left things id n v h);
     }

@@ -12,7 +12,9 @@ use Rattle.kernel_model.specs.SemaphoreSet.{SemaphoreSet}
 use Rattle.kernel_laws.specs.Reachable.{IsReachableKernel}
 use Rattle.kernel_laws.specs.Processes.{ReachableKernelsAreValid, SignalsAreSound, ChildrenHaveOneParent}
 use Rattle.kernel_laws.proofs.Plain.{from_some, not_some, not_true}
-use Rattle.kernel_laws.proofs.MapLaws.{get-first, get-later, used-first, used-later, ordered}
+use Rattle.number_maps.proofs.LookUps.{get-first, get-later}
+use Rattle.number_maps.proofs.Sets.{used-first, used-later}
+use Rattle.number_maps.proofs.Rising.{ordered}
 use Rattle.kernel_laws.proofs.Members.{contains-none}
 use Rattle.kernel_laws.proofs.SignalLaws.{sound-new}
 use Rattle.kernel_laws.proofs.Families.{Lists, KeepsEnded, Families, living-ended, same-alive, at-once}
@@ -55,10 +57,14 @@ first-strong : Strong first
 first-strong = record { sound = sound-new; free = λ d. refl; undoomed = λ e. refl }
 
 nobody-listed : (p c : ℕ) → Lists (get start) p c → ⊥
-nobody-listed p c h = not_true {B = ⊥} (subst (λ (x : Alive). lists x.row.family c ≡ true) (sym (first-living p h.alive h.there)) h.listed)
+nobody-listed p c h =
+    not_true {B = ⊥} (subst (λ (x : Alive). lists x.row.family c ≡ true)
+    (sym (first-living p h.alive h.there)) h.listed)
 
 nobody-kept : (p c : ℕ) (e : Ending) → KeepsEnded (get start) p c e → ⊥
-nobody-kept p c e h = contains-none (ended_child c e) (subst (λ (x : Alive). Contains x.row.family.ended (ended_child c e)) (sym (first-living p h.alive h.there)) h.kept)
+nobody-kept p c e h =
+    contains-none (ended_child c e)
+    (subst (λ (x : Alive). Contains x.row.family.ended (ended_child c e)) (sym (first-living p h.alive h.there)) h.kept)
 
 first-families : Families (get start)
 first-families =
@@ -74,7 +80,12 @@ first-families =
 first-settled : People IsStrong start (1 ∷ [])
 first-settled =
     record {
-      body = record { rise = (tt, tt); used_is = first-used; each = λ p x l. subst Strong (first-living p x l) first-strong };
+      body = record {
+        rise = (tt, tt);
+        used_is = first-used;
+        each =
+            λ p x l. subst Strong (first-living p x l) first-strong;
+      };
       families = first-families;
     }
 
@@ -98,7 +109,8 @@ alive-valid k h pid a l =
       ended = λ child ending c. h.families.ended pid child ending (record { alive = a; there = there; kept = c });
     }
 
-pub valid-from : (P : Queue → Type 0) (R : SemaphoreSet → Type 0) (k : Kernel) → Settled k → QueueTable P k → SetTable R k → IsValid k
+pub valid-from : (P : Queue → Type 0) (R : SemaphoreSet → Type 0) (k : Kernel) → Settled k → QueueTable P k
+    → SetTable R k → IsValid k
 valid-from P R k h q s =
     record {
       processes = ordered k.processes h.body.rise;
@@ -120,39 +132,53 @@ valid-from P R k h q s =
           (record { alive = b; there = from-living k.processes q b m; kept = y.1 });
       kept = λ pid ending e.
           let w = h.families.kept pid ending e
-          in record { keeper = w.0; alive = w.1.alive; lives = to-living k.processes w.0 w.1.alive w.1.there; kept = w.1.kept };
+          in record {
+            keeper = w.0;
+            alive = w.1.alive;
+            lives = to-living k.processes w.0 w.1.alive w.1.there;
+            kept =
+                w.1.kept;
+          };
     }
 
 pub reachable_kernels_are_valid_lemma : ReachableKernelsAreValid
 reachable_kernels_are_valid_lemma k r =
-    valid-from IsQueueWithinLimits IsSetWithinLimits k (settled k r) (kept-along Queues queues-kept r.0 opening k r.1 queues-opening) (kept-along Sets sets-kept r.0 opening k r.1 sets-opening)
+    valid-from IsQueueWithinLimits IsSetWithinLimits k (settled k r)
+    (kept-along Queues queues-kept r.0 opening k r.1 queues-opening)
+    (kept-along Sets sets-kept r.0 opening k r.1 sets-opening)
 
 pub signals_are_sound_lemma : SignalsAreSound
 signals_are_sound_lemma k r pid a l = ((reachable_kernels_are_valid_lemma k r).alive pid a l).signals
 
 -- parents
-parent-same : (ps : Numbered Process) (child pid : ℕ) (a : Alive) (p : Parent) → pid ≡ p.pid → get ps pid ≡ Some (Living a) → get ps p.pid ≡ Some (Living p.alive)
+parent-same : (ps : Numbered Process) (child pid : ℕ) (a : Alive) (p : Parent) → pid ≡ p.pid
+    → get ps pid ≡ Some (Living a) → get ps p.pid ≡ Some (Living p.alive)
     → p ≡ record { pid = pid; alive = a }
 parent-same ps child pid a p same l m =
-    let is : p.alive ≡ a = same-alive p.alive a (at-once (get ps pid) (Living p.alive) (Living a) (ap (get ps) same ∙ m) l)
+    let is : p.alive ≡ a =
+    same-alive p.alive a (at-once (get ps pid) (Living p.alive) (Living a) (ap (get ps) same ∙ m) l)
     in let P : ℕ → Type 0 = λ n. p ≡ record { pid = n; alive = a }
     in let Q : Alive → Type 0 = λ x. p ≡ record { pid = p.pid; alive = x }
     in subst P (sym same) (subst Q is refl)
 
-parent-of : (k : Kernel) → Settled k → (child pid : ℕ) (a : Alive) → get k.processes pid ≡ Some (Living a) → lists a.row.family child ≡ true
+parent-of : (k : Kernel) → Settled k → (child pid : ℕ) (a : Alive) → get k.processes pid ≡ Some (Living a)
+    → lists a.row.family child ≡ true
     → (found : Option Parent) → parent_in child k.processes ≡ found → found ≡ Some (record { pid = pid; alive = a })
 parent-of k h child pid a l listed None e = not_true (sym (orphan child k.processes e pid a l) ∙ listed)
 parent-of k h child pid a l listed (Some p) e =
     let w = parent-is child k.processes h.body.rise p e
-    in let same = h.families.one_parent pid p.pid child (record { alive = a; there = l; listed = listed }) (record { alive = p.alive; there = w.0; listed = w.1 })
+    in let same = h.families.one_parent pid p.pid child (record { alive = a; there = l; listed = listed })
+    (record { alive = p.alive; there = w.0; listed = w.1 })
     in ap Some (parent-same k.processes child pid a p same l w.0)
 
 pub children_have_one_parent_lemma : ChildrenHaveOneParent
 children_have_one_parent_lemma k r child =
     let h = settled k r
     in record {
-      lists_it = λ p e. let w = parent-is child k.processes h.body.rise p e in (to-living k.processes p.pid p.alive w.0, w.1);
-      is_parent = λ pid a l listed. parent-of k h child pid a (from-living k.processes pid a l) listed (parent_in child k.processes) refl;
+      lists_it = λ p e. let w =
+          parent-is child k.processes h.body.rise p e in (to-living k.processes p.pid p.alive w.0, w.1);
+      is_parent = λ pid a l listed.
+          parent-of k h child pid a (from-living k.processes pid a l) listed (parent_in child k.processes) refl;
       not_itself = λ a l.
           false_from_ne_true (lists a.row.family child)
           (λ t. h.families.alone child (record { alive = a; there = from-living k.processes child a l; listed = t }));

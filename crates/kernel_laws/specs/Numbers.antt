@@ -44,11 +44,13 @@ RemovedSetsStayRemoved =
 abbrev pub QueueRemovalsLast : Type 0
 QueueRemovalsLast =
     (k next last : Kernel) (pid id n : ℕ) (outcome : Outcome) (entries : List Entry) → IsReachableKernel k
-    → transition k pid (MsgRmid id) n ≡ Some (successor next outcome) → outcome.own ≡ Some (Num 0) → Replays next entries last
+    → transition k pid (MsgRmid id) n ≡ Some (successor next outcome) → outcome.own ≡ Some (Num 0)
+    → Replays next entries last
     → get last.queues id ≡ None
 
 abbrev pub SetRemovalsLast : Type 0
 SetRemovalsLast =
     (k next last : Kernel) (pid id n : ℕ) (outcome : Outcome) (entries : List Entry) → IsReachableKernel k
-    → transition k pid (SemRmid id) n ≡ Some (successor next outcome) → outcome.own ≡ Some (Num 0) → Replays next entries last
+    → transition k pid (SemRmid id) n ≡ Some (successor next outcome) → outcome.own ≡ Some (Num 0)
+    → Replays next entries last
     → get last.sets id ≡ None

@@ -11,4 +11,5 @@ pub record ListsOnce (f : Family) : Type 0 where
   pub ended : IsDistinct nat_eq (map (λ e. e.pid) f.ended)
 
 abbrev pub ChildrenAreListedOnce : Type 0
-ChildrenAreListedOnce = (k : Kernel) → IsReachableKernel k → (pid : ℕ) (a : Alive) → living_at k pid ≡ Some a → ListsOnce a.row.family
+ChildrenAreListedOnce =
+    (k : Kernel) → IsReachableKernel k → (pid : ℕ) (a : Alive) → living_at k pid ≡ Some a → ListsOnce a.row.family

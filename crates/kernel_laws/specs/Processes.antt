@@ -14,11 +14,13 @@ ReachableKernelsAreValid = (k : Kernel) → IsReachableKernel k → IsValid k
 
 -- no pending signal has an action that discards it, KILL is in no mask, and its action is the default one
 abbrev pub SignalsAreSound : Type 0
-SignalsAreSound = (k : Kernel) → IsReachableKernel k → (pid : ℕ) (a : Alive) → living_at k pid ≡ Some a → AreSoundSignals a.row.signals
+SignalsAreSound = (k : Kernel) → IsReachableKernel k → (pid : ℕ) (a : Alive) → living_at k pid ≡ Some a
+    → AreSoundSignals a.row.signals
 
 -- a process's parent is a living process that lists it, and each one that lists it is its parent; none lists itself
 pub record HasOneParent (k : Kernel) (child : ℕ) : Type 0 where
-  pub lists_it : (p : Parent) → parent_in child k.processes ≡ Some p → (living_at k p.pid ≡ Some p.alive) × (lists p.alive.row.family child ≡ true)
+  pub lists_it : (p : Parent) → parent_in child k.processes ≡ Some p → (living_at k p.pid ≡ Some p.alive)
+      × (lists p.alive.row.family child ≡ true)
   pub is_parent : (pid : ℕ) (a : Alive) → living_at k pid ≡ Some a → lists a.row.family child ≡ true
       → parent_in child k.processes ≡ Some (record { pid = pid; alive = a })
   pub not_itself : (a : Alive) → living_at k child ≡ Some a → lists a.row.family child ≡ false

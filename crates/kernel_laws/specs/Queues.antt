@@ -19,4 +19,5 @@ pub record IsQueueWithinLimits (q : Queue) : Type 0 where
   pub messages : All IsMessage q.messages
 
 abbrev pub QueuesAreWithinLimits : Type 0
-QueuesAreWithinLimits = (k : Kernel) → IsReachableKernel k → (id : ℕ) (q : Queue) → get k.queues id ≡ Some q → IsQueueWithinLimits q
+QueuesAreWithinLimits =
+    (k : Kernel) → IsReachableKernel k → (id : ℕ) (q : Queue) → get k.queues id ≡ Some q → IsQueueWithinLimits q

@@ -10,7 +10,8 @@ use Rattle.kernel_model.specs.Transition.{successor, transition}
 
 -- what a call that changes nothing leaves: the kernel as it was, but that a doomed caller has nothing left
 abbrev pub left_by : Kernel → ℕ → Alive → Kernel
-left_by k pid caller = if is_some caller.row.signals.doom then with_alive k pid (record caller { allowance = Spent }) else k
+left_by k pid caller =
+    if is_some caller.row.signals.doom then with_alive k pid (record caller { allowance = Spent }) else k
 
 -- a call that fails leaves just that
 abbrev pub RefusalsChangeNothing : Type 0

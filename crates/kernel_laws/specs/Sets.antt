@@ -13,4 +13,6 @@ pub record IsSetWithinLimits (set : SemaphoreSet) : Type 0 where
   pub values : All (λ s. s.value ≤ 32767) set.semaphores
 
 abbrev pub SetsAreWithinLimits : Type 0
-SetsAreWithinLimits = (k : Kernel) → IsReachableKernel k → (id : ℕ) (set : SemaphoreSet) → get k.sets id ≡ Some set → IsSetWithinLimits set
+SetsAreWithinLimits =
+    (k : Kernel) → IsReachableKernel k → (id : ℕ) (set : SemaphoreSet) → get k.sets id ≡ Some set
+    → IsSetWithinLimits set

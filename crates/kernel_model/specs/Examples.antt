@@ -72,7 +72,8 @@ fails e = Some (Fail e)
 
 -- a negative type takes the oldest message of the lowest type that fits, and 0 the oldest of all
 pub takes_the_lowest_type : replies (
-    queue ∷ sends (pos 5) (codes "e") ∷ sends (pos 4) (codes "d") ∷ sends (pos 3) (codes "a") ∷ sends (pos 3) (codes "b")
+    queue ∷ sends (pos 5) (codes "e") ∷ sends (pos 4) (codes "d") ∷ sends (pos 3) (codes "a")
+    ∷ sends (pos 3) (codes "b")
     ∷ receives (negsuc 3) 16 ∷ receives (pos 0) 16 ∷ [])
     ≡ number 1 ∷ number 0 ∷ number 0 ∷ number 0 ∷ number 0
     ∷ Some (Message (pos 3) (codes "a")) ∷ Some (Message (pos 5) (codes "e")) ∷ []
@@ -89,36 +90,43 @@ fills_a_queue = refl
 pub lowers_the_limit : replies (
     queue ∷ sends (pos 1) (codes "abcd") ∷ by 1 (calls.MsgSet 1 2) ∷ sends (pos 1) [] ∷ by 1 (calls.MsgStat 1)
     ∷ receives (pos 0) 16 ∷ sends (pos 1) (codes "ab") ∷ by 1 (calls.MsgSet 1 16385) ∷ [])
-    ≡ number 1 ∷ number 0 ∷ number 0 ∷ fails Eagain ∷ Some (Stat 1 2 1 0) ∷ Some (Message (pos 1) (codes "abcd")) ∷ number 0
+    ≡ number 1 ∷ number 0 ∷ number 0 ∷ fails Eagain ∷ Some (Stat 1 2 1 0) ∷ Some (Message (pos 1) (codes "abcd"))
+    ∷ number 0
     ∷ fails Einval ∷ []
 lowers_the_limit = refl
 
 -- a text above the size asked stays, or is cut
 pub cuts_a_text : replies (
-    queue ∷ sends (pos 1) (codes "abc") ∷ receives (pos 0) 2 ∷ by 1 (calls.MsgRcv 1 (pos 0) 2 true true) ∷ receives (pos 0) 2
+    queue ∷ sends (pos 1) (codes "abc") ∷ receives (pos 0) 2 ∷ by 1 (calls.MsgRcv 1 (pos 0) 2 true true)
+    ∷ receives (pos 0) 2
     ∷ [])
     ≡ number 1 ∷ number 0 ∷ fails E2big ∷ Some (Message (pos 1) (codes "ab")) ∷ fails Enomsg ∷ []
 cuts_a_text = refl
 
 -- a child is there until it is waited for, and 300 is cut to a byte
 pub waits_for_a_child : replies (
-    by 1 (calls.WaitPid None true) ∷ creating 1 (calls.Fork 2) 2 ∷ by 1 (calls.WaitPid (Some 2) true) ∷ by 2 (calls.Exit 300)
-    ∷ by 1 (calls.Kill 2 Zero) ∷ by 1 (calls.WaitPid (Some 2) true) ∷ by 1 (calls.Kill 2 Zero) ∷ by 1 (calls.Kill 8 Zero)
+    by 1 (calls.WaitPid None true) ∷ creating 1 (calls.Fork 2) 2 ∷ by 1 (calls.WaitPid (Some 2) true)
+    ∷ by 2 (calls.Exit 300)
+    ∷ by 1 (calls.Kill 2 Zero) ∷ by 1 (calls.WaitPid (Some 2) true) ∷ by 1 (calls.Kill 2 Zero)
+    ∷ by 1 (calls.Kill 8 Zero)
     ∷ by 1 (calls.Kill 2 Bad) ∷ by 1 (calls.WaitPid None true) ∷ [])
-    ≡ fails Echild ∷ number 2 ∷ number 0 ∷ Some Ended ∷ number 0 ∷ Some (Child 2 (Exited 44)) ∷ fails Esrch ∷ fails Esrch
+    ≡ fails Echild ∷ number 2 ∷ number 0 ∷ Some Ended ∷ number 0 ∷ Some (Child 2 (Exited 44)) ∷ fails Esrch
+    ∷ fails Esrch
     ∷ fails Einval ∷ fails Echild ∷ []
 waits_for_a_child = refl
 
 -- a parent that ignores CHLD keeps no ended child
 pub ignores_its_children : replies (
-    by 1 (calls.SigAction (Is Chld) Ign) ∷ creating 1 (calls.Fork 2) 2 ∷ by 1 (calls.WaitPid None true) ∷ by 2 (calls.Exit 0)
+    by 1 (calls.SigAction (Is Chld) Ign) ∷ creating 1 (calls.Fork 2) 2 ∷ by 1 (calls.WaitPid None true)
+    ∷ by 2 (calls.Exit 0)
     ∷ by 1 (calls.WaitPid None true) ∷ by 1 (calls.Kill 2 Zero) ∷ [])
     ≡ number 0 ∷ number 2 ∷ number 0 ∷ Some Ended ∷ fails Echild ∷ fails Esrch ∷ []
 ignores_its_children = refl
 
 -- an ended child counts as caught CHLD at a parent that catches it
 pub catches_chld : replies (
-    by 1 (calls.SigAction (Is Chld) Catch) ∷ creating 1 (calls.Fork 2) 2 ∷ by 2 (calls.Exit 0) ∷ by 1 (calls.Handled Chld) ∷ [])
+    by 1 (calls.SigAction (Is Chld) Catch) ∷ creating 1 (calls.Fork 2) 2 ∷ by 2 (calls.Exit 0)
+    ∷ by 1 (calls.Handled Chld) ∷ [])
     ≡ number 0 ∷ number 2 ∷ Some Ended ∷ number 1 ∷ []
 catches_chld = refl
 
@@ -137,7 +145,8 @@ pub catches_a_held_signal : replies (
     by 1 (calls.SigAction (Is Usr1) Catch) ∷ by 1 (calls.SigProcMask SetMask only_usr1) ∷ by 1 (calls.Kill 1 (Is Usr1))
     ∷ by 1 (calls.Kill 1 (Is Usr1)) ∷ by 1 (calls.SigProcMask SetMask no_signal) ∷ by 1 calls.SigPending
     ∷ by 1 (calls.Handled Usr1) ∷ [])
-    ≡ number 0 ∷ Some (Bits no_signal) ∷ number 0 ∷ number 0 ∷ Some (Bits only_usr1) ∷ Some (Bits no_signal) ∷ number 1 ∷ []
+    ≡ number 0 ∷ Some (Bits no_signal) ∷ number 0 ∷ number 0 ∷ Some (Bits only_usr1) ∷ Some (Bits no_signal) ∷ number 1
+    ∷ []
 catches_a_held_signal = refl
 
 -- KILL is in no mask, and ends at once
@@ -156,12 +165,19 @@ three_pending =
 
 -- unmasked together, they arrive in table order: INT is caught, QUIT dooms the process, and USR1 stays pending
 pub unmasks_several : with_mask three_pending SetMask no_signal
-    ≡ record three_pending { mask = no_signal; pending = only_usr1; handled = put_at (everywhere 0) Int 1; doom = Some Quit }
+    ≡ record three_pending {
+      mask = no_signal;
+      pending = only_usr1;
+      handled = put_at (everywhere 0) Int 1;
+      doom =
+          Some Quit;
+    }
 unmasks_several = refl
 
 -- the same as calls: the doomed process has the reply, and nothing but its ending after it
 pub unmasks_a_doom : replies (
-    by 1 (calls.SigProcMask SetMask (put_at only_usr1 Quit true)) ∷ by 1 (calls.Kill 1 (Is Usr1)) ∷ by 1 (calls.Kill 1 (Is Quit))
+    by 1 (calls.SigProcMask SetMask (put_at only_usr1 Quit true)) ∷ by 1 (calls.Kill 1 (Is Usr1))
+    ∷ by 1 (calls.Kill 1 (Is Quit))
     ∷ by 1 calls.GetPid ∷ by 1 (calls.SigProcMask SetMask no_signal) ∷ by 1 calls.GetPid ∷ by 1 (calls.Killed Usr1)
     ∷ by 1 (calls.Killed Quit) ∷ [])
     ≡ Some (Bits no_signal) ∷ number 0 ∷ number 0 ∷ number 1 ∷ Some (Bits (put_at only_usr1 Quit true)) ∷ None ∷ None
@@ -172,19 +188,22 @@ unmasks_a_doom = refl
 pub inherits_the_mask : replies (
     by 1 (calls.SigProcMask Block only_usr1) ∷ by 1 (calls.Kill 1 (Is Usr1)) ∷ creating 1 (calls.Fork 2) 2
     ∷ by 2 calls.SigPending ∷ by 2 (calls.SigProcMask Block no_signal) ∷ by 1 calls.SigPending ∷ [])
-    ≡ Some (Bits no_signal) ∷ number 0 ∷ number 2 ∷ Some (Bits no_signal) ∷ Some (Bits only_usr1) ∷ Some (Bits only_usr1) ∷ []
+    ≡ Some (Bits no_signal) ∷ number 0 ∷ number 2 ∷ Some (Bits no_signal) ∷ Some (Bits only_usr1)
+    ∷ Some (Bits only_usr1) ∷ []
 inherits_the_mask = refl
 
 -- a process that dooms itself has its reply, and then nothing but its ending by that signal
 pub ends_by_its_own_signal : replies (
-    by 1 (calls.Kill 1 (Is Term)) ∷ by 1 calls.GetPid ∷ by 1 (calls.Killed Kill) ∷ by 1 (calls.Killed Term) ∷ by 1 calls.GetPid
+    by 1 (calls.Kill 1 (Is Term)) ∷ by 1 calls.GetPid ∷ by 1 (calls.Killed Kill) ∷ by 1 (calls.Killed Term)
+    ∷ by 1 calls.GetPid
     ∷ [])
     ≡ number 0 ∷ None ∷ None ∷ Some Ended ∷ None ∷ []
 ends_by_its_own_signal = refl
 
 -- a process that another dooms has one more call, and the parent learns of its end
 pub ends_by_anothers_signal : replies (
-    creating 1 (calls.Fork 2) 2 ∷ by 2 (calls.Killed Term) ∷ by 1 (calls.Kill 2 (Is Term)) ∷ by 2 calls.GetPid ∷ by 2 calls.GetPid
+    creating 1 (calls.Fork 2) 2 ∷ by 2 (calls.Killed Term) ∷ by 1 (calls.Kill 2 (Is Term)) ∷ by 2 calls.GetPid
+    ∷ by 2 calls.GetPid
     ∷ by 2 (calls.Killed Term) ∷ by 1 (calls.WaitPid None true) ∷ [])
     ≡ number 2 ∷ None ∷ number 0 ∷ number 2 ∷ None ∷ Some Ended ∷ Some (Child 2 (Killed Term)) ∷ []
 ends_by_anothers_signal = refl
@@ -199,7 +218,8 @@ exits_after_anothers_signal = refl
 -- the child of a process that has ended is gone where it ends
 pub has_no_parent_left : replies (
     creating 1 (calls.Fork 2) 2 ∷ creating 2 (calls.Fork 3) 9 ∷ creating 2 (calls.Fork 4) 10 ∷ by 10 (calls.Exit 0)
-    ∷ by 1 (calls.Kill 10 Zero) ∷ by 2 (calls.Exit 0) ∷ by 1 (calls.Kill 10 Zero) ∷ by 9 (calls.Exit 0) ∷ by 1 (calls.Kill 9 Zero)
+    ∷ by 1 (calls.Kill 10 Zero) ∷ by 2 (calls.Exit 0) ∷ by 1 (calls.Kill 10 Zero) ∷ by 9 (calls.Exit 0)
+    ∷ by 1 (calls.Kill 9 Zero)
     ∷ by 1 (calls.WaitPid None true) ∷ [])
     ≡ number 2 ∷ number 9 ∷ number 10 ∷ Some Ended ∷ number 0 ∷ Some Ended ∷ fails Esrch ∷ Some Ended ∷ fails Esrch
     ∷ Some (Child 2 (Exited 0)) ∷ []
@@ -207,7 +227,8 @@ has_no_parent_left = refl
 
 -- a number is given out once, and neither 0 nor one that has no four bytes
 pub gives_each_number_once : replies (
-    creating 1 (calls.Fork 2) 1 ∷ creating 1 (calls.Fork 2) 0 ∷ creating 1 (calls.Fork 2) 4294967296 ∷ queue ∷ by 1 (calls.MsgRmid 1) ∷ queue ∷ by 1 (calls.MsgRmid 1) ∷ [])
+    creating 1 (calls.Fork 2) 1 ∷ creating 1 (calls.Fork 2) 0 ∷ creating 1 (calls.Fork 2) 4294967296 ∷ queue
+    ∷ by 1 (calls.MsgRmid 1) ∷ queue ∷ by 1 (calls.MsgRmid 1) ∷ [])
     ≡ None ∷ None ∷ None ∷ number 1 ∷ number 0 ∷ None ∷ fails Einval ∷ []
 gives_each_number_once = refl
 
@@ -221,34 +242,42 @@ pub stops_a_semop : replies (
     ∷ by 1 (calls.SemGetPid 1 0) ∷ by 1 (calls.SemSetVal 1 0 32767) ∷ by 1 (calls.SemOp 1 (step 0 (pos 1) false ∷ []))
     ∷ by 1 (calls.SemOp 1 (step 2 (pos 1) false ∷ [])) ∷ by 1 (calls.SemOp 1 (replicate 33 (step 2 (pos 1) false)))
     ∷ by 1 (calls.SemGetAll 1) ∷ by 1 (calls.SemSetVal 1 0 32768) ∷ by 1 (calls.SemGetVal 1 2) ∷ [])
-    ≡ number 1 ∷ number 0 ∷ fails Eagain ∷ Some (All (1 ∷ 0 ∷ [])) ∷ number 0 ∷ number 0 ∷ fails Erange ∷ fails Efbig ∷ fails E2big
+    ≡ number 1 ∷ number 0 ∷ fails Eagain ∷ Some (All (1 ∷ 0 ∷ [])) ∷ number 0 ∷ number 0 ∷ fails Erange ∷ fails Efbig
+    ∷ fails E2big
     ∷ Some (All (32767 ∷ 0 ∷ [])) ∷ fails Erange ∷ fails Einval ∷ []
 stops_a_semop = refl
 
 -- a semop that succeeds is its caller's at each semaphore that it names, a zero operation's too
 pub marks_each_semaphore : replies (
     creating 1 (calls.SemGet None 3 false false) 1 ∷ by 1 (calls.SemSetAll 1 (4 ∷ 0 ∷ 9 ∷ []))
-    ∷ by 1 (calls.SemOp 1 (step 0 (negsuc 3) true ∷ step 0 (pos 0) true ∷ step 1 (pos 0) true ∷ [])) ∷ by 1 (calls.SemGetAll 1)
-    ∷ by 1 (calls.SemGetPid 1 1) ∷ by 1 (calls.SemGetPid 1 2) ∷ by 1 (calls.SemGetNcnt 1 0) ∷ by 1 (calls.SemSetAll 1 (1 ∷ []))
+    ∷ by 1 (calls.SemOp 1 (step 0 (negsuc 3) true ∷ step 0 (pos 0) true ∷ step 1 (pos 0) true ∷ []))
+    ∷ by 1 (calls.SemGetAll 1)
+    ∷ by 1 (calls.SemGetPid 1 1) ∷ by 1 (calls.SemGetPid 1 2) ∷ by 1 (calls.SemGetNcnt 1 0)
+    ∷ by 1 (calls.SemSetAll 1 (1 ∷ []))
     ∷ by 1 (calls.SemOp 1 (step 0 (negsuc 0) false ∷ [])) ∷ [])
-    ≡ number 1 ∷ number 0 ∷ number 0 ∷ Some (All (0 ∷ 0 ∷ 9 ∷ [])) ∷ number 1 ∷ number 0 ∷ number 0 ∷ fails Einval ∷ None ∷ []
+    ≡ number 1 ∷ number 0 ∷ number 0 ∷ Some (All (0 ∷ 0 ∷ 9 ∷ [])) ∷ number 1 ∷ number 0 ∷ number 0 ∷ fails Einval
+    ∷ None ∷ []
 marks_each_semaphore = refl
 
 -- keys of queues and of sets are apart; a removal frees its key
 pub binds_keys : replies (
     by 1 (calls.MsgGet (Some 5) false false) ∷ creating 1 (calls.MsgGet (Some 5) true false) 1
-    ∷ by 1 (calls.MsgGet (Some 5) true true) ∷ by 1 (calls.MsgGet (Some 5) false false) ∷ by 1 (calls.SemGet (Some 5) 0 true false)
+    ∷ by 1 (calls.MsgGet (Some 5) true true) ∷ by 1 (calls.MsgGet (Some 5) false false)
+    ∷ by 1 (calls.SemGet (Some 5) 0 true false)
     ∷ creating 1 (calls.SemGet (Some 5) 3 true false) 1 ∷ by 1 (calls.SemGet (Some 5) 4 false false)
     ∷ by 1 (calls.SemGet (Some 5) 0 false false) ∷ by 1 (calls.MsgRmid 1) ∷ by 1 (calls.MsgGet (Some 5) false false)
     ∷ creating 1 (calls.MsgGet (Some 5) true false) 2 ∷ [])
-    ≡ fails Enoent ∷ number 1 ∷ fails Eexist ∷ number 1 ∷ fails Einval ∷ number 1 ∷ fails Einval ∷ number 1 ∷ number 0 ∷ fails Enoent
+    ≡ fails Enoent ∷ number 1 ∷ fails Eexist ∷ number 1 ∷ fails Einval ∷ number 1 ∷ fails Einval ∷ number 1 ∷ number 0
+    ∷ fails Enoent
     ∷ number 2 ∷ []
 binds_keys = refl
 
 -- a value that is set leaves the process of the last semop
 pub sets_a_value : replies (
-    creating 1 (calls.SemGet None 2 false false) 1 ∷ by 1 (calls.SemOp 1 (step 0 (pos 2) false ∷ [])) ∷ by 1 (calls.SemSetVal 1 0 5)
-    ∷ by 1 (calls.SemGetPid 1 0) ∷ by 1 (calls.SemSetAll 1 (1 ∷ 1 ∷ [])) ∷ by 1 (calls.SemGetPid 1 0) ∷ by 1 (calls.SemGetPid 1 1) ∷ [])
+    creating 1 (calls.SemGet None 2 false false) 1 ∷ by 1 (calls.SemOp 1 (step 0 (pos 2) false ∷ []))
+    ∷ by 1 (calls.SemSetVal 1 0 5)
+    ∷ by 1 (calls.SemGetPid 1 0) ∷ by 1 (calls.SemSetAll 1 (1 ∷ 1 ∷ [])) ∷ by 1 (calls.SemGetPid 1 0)
+    ∷ by 1 (calls.SemGetPid 1 1) ∷ [])
     ≡ number 1 ∷ number 0 ∷ number 0 ∷ number 1 ∷ number 0 ∷ number 1 ∷ number 0 ∷ []
 sets_a_value = refl
 

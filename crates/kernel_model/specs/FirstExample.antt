@@ -1,5 +1,5 @@
 -- The first example: one process makes a queue, sends `hi`, receives it and ends.
-use Rattle.std.specs.Prelude.{◌≡◌, pos, true, false, List, [], ◌∷◌, Some, None, refl, codes}
+use Rattle.std.specs.Prelude.{◌≡◌, pos, true, false, List, [], ◌∷◌, ◌++◌, Some, None, refl, codes}
 use Rattle.std.specs.Fmt.{digits}
 use Rattle.std.proofs.Common.{inl}
 use Rattle.pico_base.specs.declared.call.Call.{Call}
@@ -96,7 +96,8 @@ hello_fits =
 
 -- the five lines that the program writes
 pub hello_trace : trace_text hello hello_history ≡
-    codes "1 msgget private = 1 by 1\n1 msgsnd 1 1 \"hi\" nowait = 0 by 1\n1 msgrcv 1 0 16 nowait = 1 \"hi\" by 1\n1 exit 0 = ended by 1\ntotals entries 4 processes 1 notready 0 refused 0\n"
+    codes "1 msgget private = 1 by 1\n1 msgsnd 1 1 \"hi\" nowait = 0 by 1\n1 msgrcv 1 0 16 nowait = 1 \"hi\" by 1\n"
+    ++ codes "1 exit 0 = ended by 1\ntotals entries 4 processes 1 notready 0 refused 0\n"
 unfolding digits entries_total processes_total not_ready_total refused_total
 hello_trace = refl
 

@@ -127,7 +127,8 @@ pub record HasReplyAlone (outcome : Outcome) : Type 0 where
   pub reply : Reply
   pub alone : outcome ≡ reply_alone reply
 
--- an entry is of a process that was forked, or of process 1, and makes the call that is due; the rest goes on from there
+-- an entry is of a process that was forked, or of process 1, and makes the call that is due; the rest goes on from
+-- there
 pub record FitsEntry (script : Script) (places : Places) (e : Entry) (Rest : Places → Type 0) : Type 0 where
   pub place : Place
   pub there : get places e.pid ≡ Some place

@@ -196,7 +196,8 @@ pub record RestStays (parts : List Part) (before after : Kernel) : Type 0 where
   pub rows : (pid : ℕ) → list_any (is_whole pid) parts ≡ false → bare_at after pid ≡ bare_at before pid
   pub queues : (id : ℕ) → list_any (is_queue id) parts ≡ false → get after.queues id ≡ get before.queues id
   pub sets : (id : ℕ) → list_any (is_set id) parts ≡ false → get after.sets id ≡ get before.sets id
-  pub queue_keys : list_any is_queue_keys parts ≡ false → (key : ℕ) → get after.queue_keys key ≡ get before.queue_keys key
+  pub queue_keys : list_any is_queue_keys parts ≡ false → (key : ℕ)
+      → get after.queue_keys key ≡ get before.queue_keys key
   pub set_keys : list_any is_set_keys parts ≡ false → (key : ℕ) → get after.set_keys key ≡ get before.set_keys key
 
 -- The numbers used.
@@ -271,7 +272,8 @@ pub record GrowsBy (call : Call) (n : ℕ) (outcome : Outcome) (before after : K
   pub used : used_of after kind ≡ grown_by (has_created (created_kind call) after kind n) (used_of before kind) n
   pub reply : has_created (created_kind call) after kind n ≡ true → outcome.own ≡ Some (Num n)
 
--- The same step from two kernels: the same outcome, agreement on the parts afterwards, and the rest of each stays, but that
+-- The same step from two kernels: the same outcome, agreement on the parts afterwards, and the rest of each stays, but
+-- that
 -- the number of something new is used.
 
 pub record SameStep (parts : List Part) (call : Call) (n : ℕ) (j k : Kernel) (to_j to_k : Successor) : Type 0 where

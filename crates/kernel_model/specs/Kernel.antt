@@ -14,7 +14,8 @@ pub data Process : Type 0 where
   Gone : Process
 
 -- Processes, queues and sets by number, two tables of keys, and the numbers used so far of each kind. A removed
--- queue or set has its number used and no place in its map. Keys of queues and of sets are apart (System Interfaces 2.7).
+-- queue or set has its number used and no place in its map. Keys of queues and of sets are apart (System Interfaces
+-- 2.7).
 pub record Kernel : Type 0 where
   pub processes : Numbered Process
   pub queue_keys : Numbered ℕ
@@ -58,7 +59,8 @@ pub record Parent : Type 0 where
   pub alive : Alive
 
 abbrev pub parent_if : ℕ → ℕ → Process → Option Parent → Option Parent
-parent_if child pid (Living alive) rest = if lists alive.row.family child then Some (record { pid = pid; alive = alive }) else rest
+parent_if child pid (Living alive) rest =
+    if lists alive.row.family child then Some (record { pid = pid; alive = alive }) else rest
 parent_if child pid (Ended ending) rest = rest
 parent_if child pid Gone rest = rest
 

@@ -26,7 +26,12 @@ processes_after_fork ps pid a n = put (put ps n (Living (new_child a))) pid (Liv
 abbrev pub fork_effect : Kernel → ℕ → Alive → ℕ → Option Effect
 fork_effect k pid a n =
     if is_fresh k.used_processes n
-    then Some (reply_with (record k { processes = processes_after_fork k.processes pid a n; used_processes = used_with k.used_processes n }) n)
+    then Some (reply_with
+    (record k {
+      processes = processes_after_fork k.processes pid a n;
+      used_processes =
+          used_with k.used_processes n;
+    }) n)
     else None
 
 -- The end of a process (_Exit: consequences of the end of a process). Its own ended children are gone, and its living
@@ -44,25 +49,32 @@ process_after_end ignored ending = if ignored then Gone else Ended ending
 abbrev pub end_under : Numbered Process → ℕ → Ending → Option Parent → Numbered Process
 end_under ps pid ending None = put ps pid Gone
 end_under ps pid ending (Some p) =
-    put (put ps pid (process_after_end (ignores_children p.alive.row) ending)) p.pid (Living (with_ended_child p.alive pid ending))
+    put (put ps pid (process_after_end (ignores_children p.alive.row) ending)) p.pid
+    (Living (with_ended_child p.alive pid ending))
 
 abbrev pub processes_after_end : Numbered Process → ℕ → Alive → Ending → Numbered Process
 processes_after_end ps pid a ending = end_under (bury_all ps a.row.family) pid ending (parent_in pid ps)
 
 abbrev pub end_process : Kernel → ℕ → Alive → Ending → Effect
-end_process k pid a ending = record { kernel = record k { processes = processes_after_end k.processes pid a ending }; reply = replies.Ended }
+end_process k pid a ending =
+    record { kernel = record k { processes = processes_after_end k.processes pid a ending }; reply = replies.Ended }
 
 -- waitpid: the ended child is gone. A pending CHLD stays pending (profile: waitpid would clear it where no other child
 -- has ended). ECHILD where no child matches
 abbrev pub parent_after_wait : Alive → ℕ → Alive
-parent_after_wait a child = record a { row = record { signals = a.row.signals; family = without_ended child a.row.family } }
+parent_after_wait a child =
+    record a { row = record { signals = a.row.signals; family = without_ended child a.row.family } }
 
 abbrev pub processes_after_wait : Numbered Process → ℕ → Alive → ℕ → Numbered Process
 processes_after_wait ps pid a child = put (put ps pid (Living (parent_after_wait a child))) child Gone
 
 abbrev pub reap_child : Kernel → ℕ → Alive → Waited → Effect
 reap_child k pid a (Found child ending) =
-    record { kernel = record k { processes = processes_after_wait k.processes pid a child }; reply = replies.Child child ending }
+    record {
+      kernel = record k { processes = processes_after_wait k.processes pid a child };
+      reply =
+          replies.Child child ending;
+    }
 reap_child k pid a NotYet = reply_with k 0
 reap_child k pid a NoChild = refuse k Echild
 

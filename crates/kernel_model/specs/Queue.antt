@@ -38,7 +38,8 @@ bytes_of ms = sum_by (λ m. length m.text) ms
 abbrev pub bytes_in : Queue → ℕ
 bytes_in q = bytes_of q.messages
 
--- msgsnd: EINVAL for a type below 1 and for a text above the limit, EAGAIN where there is no room. There is room as long
+-- msgsnd: EINVAL for a type below 1 and for a text above the limit, EAGAIN where there is no room. There is room as
+-- long
 -- as the bytes don't pass msg_qbytes; the count of messages has a limit of its own (profile)
 abbrev pub has_room : Queue → List ℕ → Bool
 has_room q text = nat_le (bytes_in q + length text) q.qbytes && nat_lt (length q.messages) max_messages
@@ -104,7 +105,8 @@ receive_from q pid size noerror (Some place) = receive_at q pid size noerror pla
 abbrev pub receive : Queue → ℕ → ℤ → ℕ → Bool → Result Received Errno
 receive q pid class size noerror = receive_from q pid size noerror (select q.messages class)
 
--- msgctl with IPC_STAT and IPC_SET: EINVAL for a msg_qbytes above the limit (profile). What is there stays, also where it
+-- msgctl with IPC_STAT and IPC_SET: EINVAL for a msg_qbytes above the limit (profile). What is there stays, also where
+-- it
 -- is more than msg_qbytes now
 abbrev pub stat : Queue → Reply
 stat q = replies.Stat (length q.messages) q.qbytes q.last_sender q.last_receiver

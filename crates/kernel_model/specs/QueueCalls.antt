@@ -17,14 +17,18 @@ with_queue k id q = record k { queues = put k.queues id q }
 abbrev pub new_queue : Kernel → Numbered ℕ → ℕ → Option Effect
 new_queue k keys n =
     if is_fresh k.used_queues n
-    then Some (reply_with (record k { queues = put k.queues n empty_queue; queue_keys = keys; used_queues = used_with k.used_queues n }) n)
+    then Some (reply_with
+    (record k { queues = put k.queues n empty_queue; queue_keys = keys; used_queues = used_with k.used_queues n })
+    n)
     else None
 
 abbrev pub get_queue_at : Kernel → ℕ → Bool → Bool → ℕ → Option ℕ → Option Effect
 get_queue_at k key create excl n (Some id) = Some (if create && excl then refuse k Eexist else reply_with k id)
-get_queue_at k key create excl n None = if create then new_queue k (put k.queue_keys key n) n else Some (refuse k Enoent)
+get_queue_at k key create excl n None =
+    if create then new_queue k (put k.queue_keys key n) n else Some (refuse k Enoent)
 
--- msgget: IPC_PRIVATE always makes a queue. ENOENT for a key that leads nowhere without IPC_CREAT, EEXIST for one that leads
+-- msgget: IPC_PRIVATE always makes a queue. ENOENT for a key that leads nowhere without IPC_CREAT, EEXIST for one that
+-- leads
 -- to a queue with IPC_CREAT and IPC_EXCL; IPC_EXCL alone means nothing
 abbrev pub get_queue : Kernel → Option ℕ → Bool → Bool → ℕ → Option Effect
 get_queue k None create excl n = new_queue k k.queue_keys n
@@ -37,7 +41,8 @@ change_queue k id (Err e) = refuse k e
 
 -- msgrcv
 abbrev pub receive_effect : Kernel → ℕ → Result Received Errno → Effect
-receive_effect k id (Ok r) = record { kernel = with_queue k id r.queue; reply = replies.Message r.message.class r.message.text }
+receive_effect k id (Ok r) =
+    record { kernel = with_queue k id r.queue; reply = replies.Message r.message.class r.message.text }
 receive_effect k id (Err e) = refuse k e
 
 -- msgctl with IPC_STAT

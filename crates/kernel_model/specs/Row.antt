@@ -41,7 +41,8 @@ lists f child = list_any (nat_eq child) f.living
 abbrev pub others : ℕ → List ℕ → List ℕ
 others child children = filter (λ c. not (nat_eq child c)) children
 
--- a child has ended: its ending is kept for waitpid, unless the parent ignores CHLD (_Exit: consequences of the end of a
+-- a child has ended: its ending is kept for waitpid, unless the parent ignores CHLD (_Exit: consequences of the end of
+-- a
 -- process)
 abbrev pub family_after_end : Family → ℕ → Ending → Bool → Family
 family_after_end f child ending ignored =
@@ -110,9 +111,13 @@ raise_by_other a g =
       allowance = allowance_after_raise (is_some a.row.signals.doom) (is_some signals.doom) a.allowance;
     }
 
--- a child of this process has ended: it is listed as ended, or forgotten, and CHLD is raised where it isn't ignored (_Exit)
+-- a child of this process has ended: it is listed as ended, or forgotten, and CHLD is raised where it isn't ignored
+-- (_Exit)
 abbrev pub with_ended_child : Alive → ℕ → Ending → Alive
 with_ended_child a child ending =
     let ignored = ignores_children a.row
-    in let next = record a { row = record { signals = a.row.signals; family = family_after_end a.row.family child ending ignored } }
+    in let next = record a {
+      row =
+          record { signals = a.row.signals; family = family_after_end a.row.family child ending ignored };
+    }
     in if ignored then next else raise_by_other next Chld

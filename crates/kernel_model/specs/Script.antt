@@ -109,7 +109,8 @@ fork_targets _ = []
 
 abbrev pub forks_of : Script → List Fork
 forks_of s =
-    flat_map (λ b. map (fork_from b.0) (flat_map (λ line. fork_targets line.call) b.1.lines)) (enumerate_from 1 s.blocks)
+    flat_map (λ b. map (fork_from b.0) (flat_map (λ line. fork_targets line.call) b.1.lines))
+    (enumerate_from 1 s.blocks)
 
 -- of a later block of the script
 abbrev pub goes_forward : Script → Fork → Bool

@@ -129,7 +129,8 @@ last_at set num = read_semaphore (slice_get set.semaphores num) (λ s. s.last)
 abbrev pub waiting_at : SemaphoreSet → ℕ → Result ℕ Errno
 waiting_at set num = read_semaphore (slice_get set.semaphores num) (λ _. 0)
 
--- semctl with SETVAL and SETALL: ERANGE for a value above the limit. Last processes stay (profile: semctl says nothing of
+-- semctl with SETVAL and SETALL: ERANGE for a value above the limit. Last processes stay (profile: semctl says nothing
+-- of
 -- sempid)
 abbrev pub set_value_at : SemaphoreSet → ℕ → ℕ → Option Semaphore → Result SemaphoreSet Errno
 set_value_at set num value None = Err Einval

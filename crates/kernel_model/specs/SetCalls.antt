@@ -1,4 +1,5 @@
--- The calls on semaphore sets (POSIX.1-2017: semget, semop, semctl). The order of each call's refusals is the profile's.
+-- The calls on semaphore sets (POSIX.1-2017: semget, semop, semctl). The order of each call's refusals is the
+-- profile's.
 use Rattle.std.specs.Prelude.{ℕ, Bool, ◌&&◌, ◌||◌, nat_eq, nat_le, List, length, if◌then◌else◌, Option, Some, None, Result, Ok, Err}
 use Rattle.std.specs.List.{list_any}
 use Rattle.std.specs.Option.{option_map_or}
@@ -21,7 +22,8 @@ abbrev pub new_set_of : Kernel → Numbered ℕ → ℕ → Result SemaphoreSet 
 new_set_of k keys n (Err e) = Some (refuse k e)
 new_set_of k keys n (Ok set) =
     if is_fresh k.used_sets n
-    then Some (reply_with (record k { sets = put k.sets n set; set_keys = keys; used_sets = used_with k.used_sets n }) n)
+    then Some (reply_with
+    (record k { sets = put k.sets n set; set_keys = keys; used_sets = used_with k.used_sets n }) n)
     else None
 
 -- the size of the set of a number
@@ -37,7 +39,8 @@ get_set_at k key count create excl n (Some id) = Some (if create && excl then re
 get_set_at k key count create excl n None =
     if create then new_set_of k (put k.set_keys key n) n (new_set count) else Some (refuse k Enoent)
 
--- semget: IPC_PRIVATE always makes a set. ENOENT for a key that leads nowhere without IPC_CREAT, EEXIST for one that leads
+-- semget: IPC_PRIVATE always makes a set. ENOENT for a key that leads nowhere without IPC_CREAT, EEXIST for one that
+-- leads
 -- to a set with IPC_CREAT and IPC_EXCL; IPC_EXCL alone means nothing
 abbrev pub get_set : Kernel → Option ℕ → ℕ → Bool → Bool → ℕ → Option Effect
 get_set k None count create excl n = new_set_of k k.set_keys n (new_set count)

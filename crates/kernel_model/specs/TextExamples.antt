@@ -25,7 +25,8 @@ pub escapes_bytes : message_text (0 ∷ 34 ∷ 92 ∷ 255 ∷ 126 ∷ 32 ∷ [])
 escapes_bytes = refl
 
 pub names_errors : map error_name all_errors
-    ≡ codes "ESRCH" ∷ codes "EINVAL" ∷ codes "ECHILD" ∷ codes "ENOENT" ∷ codes "EEXIST" ∷ codes "ENOMSG" ∷ codes "EAGAIN"
+    ≡ codes "ESRCH" ∷ codes "EINVAL" ∷ codes "ECHILD" ∷ codes "ENOENT" ∷ codes "EEXIST" ∷ codes "ENOMSG"
+    ∷ codes "EAGAIN"
     ∷ codes "E2BIG" ∷ codes "EFBIG" ∷ codes "ERANGE" ∷ codes "EIDRM" ∷ codes "EINTR" ∷ []
 names_errors = refl
 
@@ -73,14 +74,24 @@ abbrev pub no_blocks : Script
 no_blocks = record { blocks = [] }
 
 abbrev pub parked_receive : Entry
-parked_receive = record { pid = 1; call = calls.MsgRcv 1 (pos 0) 8 false false; outcome = record { own = None; woken = [] }; by = 1 }
+parked_receive = record {
+  pid = 1;
+  call = calls.MsgRcv 1 (pos 0) 8 false false;
+  outcome =
+      record { own = None; woken = [] };
+  by = 1;
+}
 
 abbrev pub waking_send : Entry
 waking_send =
     record {
       pid = 2;
       call = calls.MsgSnd 1 (pos 1) (codes "hi") false;
-      outcome = record { own = Some (replies.Num 0); woken = (1, replies.Message (pos 1) (codes "hi")) ∷ (3, replies.Fail Eagain) ∷ [] };
+      outcome = record {
+        own = Some (replies.Num 0);
+        woken =
+            (1, replies.Message (pos 1) (codes "hi")) ∷ (3, replies.Fail Eagain) ∷ [];
+      };
       by = 1;
     }
 
@@ -88,10 +99,12 @@ pub parks_a_call : entry_line no_blocks parked_receive ≡ codes "1 msgrcv 1 0 8
 unfolding digits
 parks_a_call = refl
 
-pub wakes_callers : entry_line no_blocks waking_send ≡ codes "2 msgsnd 1 1 \"hi\" = 0 by 1 wakes 1 1 \"hi\" wakes 3 EAGAIN\n"
+pub wakes_callers : entry_line no_blocks waking_send
+    ≡ codes "2 msgsnd 1 1 \"hi\" = 0 by 1 wakes 1 1 \"hi\" wakes 3 EAGAIN\n"
 unfolding digits
 wakes_callers = refl
 
-pub counts_woken_replies : totals_line (parked_receive ∷ waking_send ∷ []) ≡ codes "totals entries 2 processes 1 notready 1 refused 0\n"
+pub counts_woken_replies : totals_line (parked_receive ∷ waking_send ∷ [])
+    ≡ codes "totals entries 2 processes 1 notready 1 refused 0\n"
 unfolding digits entries_total processes_total not_ready_total refused_total
 counts_woken_replies = refl

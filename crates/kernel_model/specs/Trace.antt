@@ -120,18 +120,21 @@ msgget_text (Some key) create excl = labelled (codes "msgget ") key ++ create_wo
 
 abbrev pub semget_text : Option ℕ → ℕ → Bool → Bool → List ℕ
 semget_text None count create excl = labelled (codes "semget private ") count
-semget_text (Some key) count create excl = labelled (codes "semget ") key ++ labelled (codes " ") count ++ create_words create excl
+semget_text (Some key) count create excl =
+    labelled (codes "semget ") key ++ labelled (codes " ") count ++ create_words create excl
 
 -- a call's name, the queue and the type of message
 abbrev pub queue_words : List ℕ → ℕ → ℤ → List ℕ
 queue_words name id class = name ++ decimal id ++ 32 ∷ (signed_decimal class ++ 32 ∷ [])
 
 abbrev pub msgsnd_text : ℕ → ℤ → List ℕ → Bool → List ℕ
-msgsnd_text id class text nowait = queue_words (codes "msgsnd ") id class ++ message_text text ++ word nowait (codes "nowait")
+msgsnd_text id class text nowait =
+    queue_words (codes "msgsnd ") id class ++ message_text text ++ word nowait (codes "nowait")
 
 abbrev pub msgrcv_text : ℕ → ℤ → ℕ → Bool → Bool → List ℕ
 msgrcv_text id class size noerror nowait =
-    queue_words (codes "msgrcv ") id class ++ decimal size ++ word noerror (codes "noerror") ++ word nowait (codes "nowait")
+    queue_words (codes "msgrcv ") id class ++ decimal size ++ word noerror (codes "noerror")
+    ++ word nowait (codes "nowait")
 
 abbrev pub how_words : How → List ℕ
 how_words how = codes "sigprocmask " ++ how_name how ++ 32 ∷ []

@@ -27,7 +27,8 @@ pub record Successor : Type 0 where
 abbrev pub successor : Kernel → Outcome → Successor
 successor kernel outcome = record { kernel = kernel; outcome = outcome }
 
--- The table of calls. A call that may have to wait has no effect here (profile). `exit` keeps the low byte of its status
+-- The table of calls. A call that may have to wait has no effect here (profile). `exit` keeps the low byte of its
+-- status
 -- (_Exit), `getpid` replies the caller's own number (getpid), and `handled` how often a signal was caught (profile).
 abbrev pub effect : Kernel → ℕ → Alive → Call → ℕ → Option Effect
 effect k pid a (calls.Fork block) n = fork_effect k pid a n
@@ -37,7 +38,11 @@ effect k pid a calls.GetPid n = Some (reply_with k pid)
 effect k pid a (calls.Kill target sig) n = Some (kill k pid target sig)
 effect k pid a (calls.SigAction sig act) n = Some (action_effect k pid a (act_on a.row.signals sig act))
 effect k pid a (calls.SigProcMask how set) n =
-    Some (record { kernel = with_signals k pid a (with_mask a.row.signals how set); reply = replies.Bits a.row.signals.mask })
+    Some (record {
+      kernel = with_signals k pid a (with_mask a.row.signals how set);
+      reply =
+          replies.Bits a.row.signals.mask;
+    })
 effect k pid a calls.SigPending n = Some (record { kernel = k; reply = replies.Bits a.row.signals.pending })
 effect k pid a (calls.Handled sig) n = Some (reply_with k (at a.row.signals.handled sig))
 effect k pid a (calls.WaitPid child true) n = Some (reap_child k pid a (wait a.row.family child))
@@ -62,10 +67,12 @@ effect k pid a (calls.SemGetZcnt id num) n = Some (on_named k (get k.sets id) (�
 effect k pid a (calls.SemSetVal id num value) n =
     Some (on_named k (get k.sets id) (λ s. change_set k id (set_value s num value)))
 effect k pid a (calls.SemGetAll id) n = Some (on_named k (get k.sets id) (all_values k))
-effect k pid a (calls.SemSetAll id values) n = Some (on_named k (get k.sets id) (λ s. change_set k id (set_all s values)))
+effect k pid a (calls.SemSetAll id values) n =
+    Some (on_named k (get k.sets id) (λ s. change_set k id (set_all s values)))
 effect k pid a (calls.SemRmid id) n = Some (on_named k (get k.sets id) (λ _. remove_set k id))
 
--- Who may act (profile: in POSIX a process that a signal ends does nothing more): a doomed process ends by its signal, in
+-- Who may act (profile: in POSIX a process that a signal ends does nothing more): a doomed process ends by its signal,
+-- in
 -- an entry of its own, and what it may do before is its allowance.
 
 abbrev pub is_spent : Allowance → Bool

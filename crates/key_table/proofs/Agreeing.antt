@@ -17,7 +17,8 @@ not_true false h = refl
 module _ (bound bound' : ℕ → Option Bound) (key_of key_of' : ℕ → Option ℕ) (agree : Agree bound key_of) where
   -- a key that wasn't bound is bound to an identifier that had none
   pub agree-bound : (k : ℕ) (b : Bound) → bound k ≡ None → ((q : ℕ) → IsTrue (is_bound_to b.id (bound q)) → ⊥)
-      → ((q : ℕ) → bound' q ≡ cond (nat_eq k q) (Some b) (bound q)) → ((i : ℕ) → key_of' i ≡ cond (nat_eq b.id i) (Some k) (key_of i)) → Agree bound' key_of'
+      → ((q : ℕ) → bound' q ≡ cond (nat_eq k q) (Some b) (bound q))
+      → ((i : ℕ) → key_of' i ≡ cond (nat_eq b.id i) (Some k) (key_of i)) → Agree bound' key_of'
   agree-bound k b unbound absent keys ids id q =
       ⊎_elim
       (λ key. ⊎_elim
@@ -61,7 +62,8 @@ module _ (bound bound' : ℕ → Option Bound) (key_of key_of' : ℕ → Option 
       (λ other.
       let at_id : key_of' i ≡ key_of i = ids i ∙ rw other.0 refl in (
         λ h. absurd (false≢true (ap (is_bound_to i) (sym at_key) ∙ h)),
-        λ h. absurd (other.1 (one_id (bound k) id i ((agree id k).1 was) ((agree i k).1 (sym at_id ∙ h ∙ ap Some (sym key.1))))),
+        λ h. absurd (other.1 (one_id (bound k) id i ((agree id k).1 was)
+            ((agree i k).1 (sym at_id ∙ h ∙ ap Some (sym key.1))))),
       ))
       (eqb_tells id i))
       (λ other_key.

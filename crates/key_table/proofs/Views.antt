@@ -28,7 +28,9 @@ pub get-seen : (es : List (ℕ × Bound)) (m : KeyMap) → from_entries es ≡ m
 get-seen es m seen q = ap (λ (n : KeyMap). get n q) (sym seen) ∙ get-view es q
 
 -- entries that look alike but at one key make maps that differ there
-pub view-bound : (es fs : List (ℕ × Bound)) (k : ℕ) (b : Bound) → ((q : ℕ) → lookup (nat_eq q) fs ≡ cond (nat_eq k q) (Some b) (lookup (nat_eq q) es)) → from_entries {R = nat_cmp} fs ≡ insert (from_entries es) k b
+pub view-bound : (es fs : List (ℕ × Bound)) (k : ℕ) (b : Bound)
+    → ((q : ℕ) → lookup (nat_eq q) fs ≡ cond (nat_eq k q) (Some b) (lookup (nat_eq q) es))
+    → from_entries {R = nat_cmp} fs ≡ insert (from_entries es) k b
 view-bound es fs k b alike =
     same_map nat_cmp_total nat_cmp-IsAntisymmetric _ _ (λ q.
     get-view fs q ∙ alike q ∙ ap (cond (nat_eq k q) (Some b)) (sym (get-view es q))
@@ -40,20 +42,25 @@ chosen true x = refl
 chosen false x = refl
 
 -- entries that look alike but at what is bound to an identifier
-pub view-without : (es fs : List (ℕ × Bound)) (id : ℕ) → ((q : ℕ) → lookup (nat_eq q) fs ≡ cond (is_bound_to id (lookup (nat_eq q) es)) None (lookup (nat_eq q) es)) → from_entries {R = nat_cmp} fs ≡ without_id (from_entries es) id
+pub view-without : (es fs : List (ℕ × Bound)) (id : ℕ)
+    → ((q : ℕ) → lookup (nat_eq q) fs ≡ cond (is_bound_to id (lookup (nat_eq q) es)) None (lookup (nat_eq q) es))
+    → from_entries {R = nat_cmp} fs ≡ without_id (from_entries es) id
 view-without es fs id alike =
     let m = from_entries {R = nat_cmp} es in
     same_map nat_cmp_total nat_cmp-IsAntisymmetric _ _ (λ q.
     get-view fs q ∙ alike q ∙ ap (λ (x : Option Bound). cond (is_bound_to id x) None x) (sym (get-view es q))
     ∙ chosen (is_bound_to id (get m q)) (get m q)
-    ∙ sym (get-retain_keys m (λ k. not (is_bound_to id (get m k))) q (λ k same. ap (λ (n : ℕ). not (is_bound_to id (get m n))) (sym (nat_cmp-IsAntisymmetric q k same)))))
+    ∙ sym (get-retain_keys m (λ k. not (is_bound_to id (get m k))) q
+    (λ k same. ap (λ (n : ℕ). not (is_bound_to id (get m n))) (sym (nat_cmp-IsAntisymmetric q k same)))))
 
-taken_out : (t : Bool) (x : Option Bound) (id : ℕ) → is_bound_to id x ≡ t → is_bound_to id (cond (not t) x None) ≡ true → ⊥
+taken_out : (t : Bool) (x : Option Bound) (id : ℕ) → is_bound_to id x ≡ t → is_bound_to id (cond (not t) x None) ≡ true
+    → ⊥
 taken_out true x id e there = false≢true there
 taken_out false x id e there = false≢true (sym e ∙ there)
 
 -- no key is left that is bound to the identifier
 pub Binds-without_id : (m : KeyMap) (id : ℕ) → Binds (without_id m id) id → ⊥
 Binds-without_id m id held =
-    let left = get-retain_keys m (λ k. not (is_bound_to id (get m k))) held.0 (λ k same. ap (λ (n : ℕ). not (is_bound_to id (get m n))) (sym (nat_cmp-IsAntisymmetric held.0 k same))) in
+    let left = get-retain_keys m (λ k. not (is_bound_to id (get m k))) held.0
+    (λ k same. ap (λ (n : ℕ). not (is_bound_to id (get m n))) (sym (nat_cmp-IsAntisymmetric held.0 k same))) in
     taken_out (is_bound_to id (get m held.0)) (get m held.0) id refl (ap (is_bound_to id) (sym left) ∙ held.1)

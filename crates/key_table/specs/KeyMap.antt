@@ -13,7 +13,8 @@ abbrev pub KeyMap : Type 0
 KeyMap = map.FinMap nat_cmp Bound
 
 abbrev pub coded_bound : Coded Bound
-coded_bound = code_by (ℕ × ℕ) (coded× coded_ℕ coded_ℕ) (λ b. (b.id, b.count)) (λ p. record { id = p.0; count = p.1 }) (λ _. refl)
+coded_bound = code_by (ℕ × ℕ) (coded× coded_ℕ coded_ℕ) (λ b. (b.id, b.count)) (λ p. record { id = p.0; count = p.1 })
+    (λ _. refl)
 
 -- A get by a key. An unbound key is an error unless a new thing may be created (IPC_CREAT), and a bound one
 -- where it has to be created (IPC_CREAT and IPC_EXCL).

@@ -56,18 +56,21 @@ call-waiting-cases call vars (Some v) = naming-waiting call _
 pub call-waiting : (line : Line) (vars : Vars) → is_waiting (call_of line vars) ≡ is_waiting line.call
 call-waiting line vars = call-waiting-cases line.call vars line.«from»
 
-call-built-cases : (block : ℕ) (call : Call) (vars : Vars) (v : Option ℕ) → is_built block (call_from call vars v) ≡ is_built block call
+call-built-cases : (block : ℕ) (call : Call) (vars : Vars) (v : Option ℕ)
+    → is_built block (call_from call vars v) ≡ is_built block call
 call-built-cases block call vars None = refl
 call-built-cases block call vars (Some v) = naming-built block call _
 
 pub call-built : (block : ℕ) (line : Line) (vars : Vars) → is_built block (call_of line vars) ≡ is_built block line.call
 call-built block line vars = call-built-cases block line.call vars line.«from»
 
-call-names-cases : (block : ℕ) (call : Call) (vars : Vars) (v : Option ℕ) → names_block block (call_from call vars v) ≡ names_block block call
+call-names-cases : (block : ℕ) (call : Call) (vars : Vars) (v : Option ℕ)
+    → names_block block (call_from call vars v) ≡ names_block block call
 call-names-cases block call vars None = refl
 call-names-cases block call vars (Some v) = naming-names block call _
 
-pub call-names : (block : ℕ) (line : Line) (vars : Vars) → names_block block (call_of line vars) ≡ names_block block line.call
+pub call-names : (block : ℕ) (line : Line) (vars : Vars)
+    → names_block block (call_of line vars) ≡ names_block block line.call
 call-names block line vars = call-names-cases block line.call vars line.«from»
 
 -- ---- the lines of a runnable script
@@ -93,7 +96,8 @@ not-true false h = refl
 pub is-true : (b : Bool) → IsTrue b → b ≡ true
 is-true b h = h
 
-fine-line : (block : ℕ) (line : Line) → is_built_line block line ≡ true → not (is_waiting line.call) ≡ true → IsFine block line
+fine-line : (block : ℕ) (line : Line) → is_built_line block line ≡ true → not (is_waiting line.call) ≡ true
+    → IsFine block line
 fine-line block line b w =
     record {
       once = eqb-true line.tries 1 (and-left _ _ b);
@@ -104,7 +108,8 @@ fine-line block line b w =
 fine-exit : (block : ℕ) → IsFine block implied_exit
 fine-exit block = record { once = refl; kind = inr refl; at_once = refl }
 
-fine-if : (block : ℕ) (line : Line) (lines : List Line) (b : Bool) → IsFine block line → AllByRecursion (IsFine block) lines
+fine-if : (block : ℕ) (line : Line) (lines : List Line) (b : Bool) → IsFine block line
+    → AllByRecursion (IsFine block) lines
     → AllByRecursion (IsFine block) (if b then line ∷ [] else line ∷ lines)
 fine-if block line lines true f fs = (f, tt)
 fine-if block line lines false f fs = (f, fs)
@@ -116,7 +121,8 @@ fine-lines block (line ∷ lines) b w =
     fine-if block line (with_exit lines) (is_exit line.call) (fine-line block line (and-left _ _ b) (and-left _ _ w))
     (fine-lines block lines (and-right _ _ b) (and-right _ _ w))
 
-pub all-from : {X : Type 0} (f : ℕ × X → Bool) (n : ℕ) (xs : List X) (i : ℕ) (x : X) → list_all f (enumerate_from n xs) ≡ true
+pub all-from : {X : Type 0} (f : ℕ × X → Bool) (n : ℕ) (xs : List X) (i : ℕ) (x : X)
+    → list_all f (enumerate_from n xs) ≡ true
     → slice_get xs i ≡ Some x → f (n + i, x) ≡ true
 all-from f n [] i x a h = cc
 all-from f n (y ∷ xs) zero x a h =
@@ -128,7 +134,8 @@ all-from f n (y ∷ xs) (suc i) x a h =
     let same : n + suc i ≡ n + 1 + i = omega arith
     in subst (λ m. f (m, x) ≡ true) (sym same) (all-from f (n + 1) xs i x (and-right _ _ a) h)
 
-pub all-get : {X : Type 0} (f : X → Bool) (xs : List X) (i : ℕ) (x : X) → list_all f xs ≡ true → slice_get xs i ≡ Some x → f x ≡ true
+pub all-get : {X : Type 0} (f : X → Bool) (xs : List X) (i : ℕ) (x : X) → list_all f xs ≡ true → slice_get xs i ≡ Some x
+    → f x ≡ true
 all-get f [] i x a h = cc
 all-get f (y ∷ xs) zero x a h = subst (λ z. f z ≡ true) (some-is _ _ h) (and-left _ _ a)
 all-get f (y ∷ xs) (suc i) x a h = all-get f xs i x (and-right _ _ a) h
@@ -139,7 +146,8 @@ fine-block script r p low None h = tt
 fine-block script r p low (Some b) h =
     let same : 1 + (p - 1) ≡ p = omega arith
     in let built : is_built_block (p, b) ≡ true =
-    subst (λ q. is_built_block (q, b) ≡ true) same (all-from is_built_block 1 script.blocks (p - 1) b (is-true _ r.built) h)
+    subst (λ q. is_built_block (q, b) ≡ true) same
+    (all-from is_built_block 1 script.blocks (p - 1) b (is-true _ r.built) h)
     in fine-lines p b.lines built (all-get _ script.blocks (p - 1) b (is-true _ r.sound.at_once) h)
 
 pub lines-fine : (script : Script) → IsRunnable script → (p : ℕ) → 1 ≤ p → AllByRecursion (IsFine p) (lines_of script p)
@@ -174,7 +182,8 @@ sum-at f (y ∷ xs) (suc i) x h =
     in let cut = sum_by-cons f y xs
     in omega (arith, below, cut)
 
-tries-enough : (block : ℕ) (lines : List Line) → AllByRecursion (IsFine block) lines → length lines ≤ sum_by (λ line. line.tries) lines
+tries-enough : (block : ℕ) (lines : List Line) → AllByRecursion (IsFine block) lines
+    → length lines ≤ sum_by (λ line. line.tries) lines
 tries-enough block [] f = omega arith
 tries-enough block (line ∷ lines) f =
     let rest = tries-enough block lines f.1
@@ -182,13 +191,15 @@ tries-enough block (line ∷ lines) f =
     in let cut = sum_by-cons (λ line. line.tries) line lines
     in omega (arith, rest, once, cut)
 
-few-in : (script : Script) → IsRunnable script → (p : ℕ) → 1 ≤ p → (b : Option Block) → block_at script p ≡ b → length (lines_in b) ≤ 20000
+few-in : (script : Script) → IsRunnable script → (p : ℕ) → 1 ≤ p → (b : Option Block) → block_at script p ≡ b
+    → length (lines_in b) ≤ 20000
 few-in script r p low None h = omega arith
 few-in script r p low (Some b) h =
     let all : sum_by calls_in script.blocks ≤ 20000 = leb-true _ _ (is-true _ r.sound.calls)
     in let one : calls_in b ≤ sum_by calls_in script.blocks = sum-at calls_in script.blocks (p - 1) b h
     in let enough : length (with_exit b.lines) ≤ calls_in b =
-    tries-enough p (with_exit b.lines) (subst (λ o. AllByRecursion (IsFine p) (lines_in o)) h (lines-fine script r p low))
+    tries-enough p (with_exit b.lines)
+    (subst (λ o. AllByRecursion (IsFine p) (lines_in o)) h (lines-fine script r p low))
     in omega (arith, all, one, enough)
 
 pub lines-few : (script : Script) → IsRunnable script → (p : ℕ) → 1 ≤ p → length (lines_of script p) ≤ 20000
@@ -199,6 +210,7 @@ pub calls-enough : (script : Script) → IsRunnable script → (p : ℕ) → 1 �
     → length (lines_of script p) ≤ calls_in b
 calls-enough script r p low b h =
     let enough : length (with_exit b.lines) ≤ calls_in b =
-    tries-enough p (with_exit b.lines) (subst (λ o. AllByRecursion (IsFine p) (lines_in o)) h (lines-fine script r p low))
+    tries-enough p (with_exit b.lines)
+    (subst (λ o. AllByRecursion (IsFine p) (lines_in o)) h (lines-fine script r p low))
     in let same : lines_of script p ≡ with_exit b.lines = ap lines_in h
     in subst (λ ls. length ls ≤ calls_in b) (sym same) enough

@@ -37,9 +37,12 @@ use Rattle.machine_laws.proofs.Alone.{moves-alone}
 and-is-false : (a b : Bool) → a ≡ false → (a && b) ≡ false
 and-is-false a b h = rw h refl
 
-module _ (script : Script) (r : IsRunnable script) (w : World) (first : Node) (k : Kernel) (places : Places) (pids : ℕ → ℕ)
-    (u : IsUnderWay script w first k places pids) (p : ℕ) (low : 2 ≤ p) (high : p ≤ node_count script) (n : Node) (at : node_at w p ≡ Some n)
-    (free : IsFree script p (pids p) (sight w first places p (pids p) n)) (lives : LivesHere k first.held (pids p)) where
+module _ (script : Script) (r : IsRunnable script) (w : World) (first : Node) (k : Kernel) (places : Places) (pids : ℕ
+    → ℕ)
+    (u : IsUnderWay script w first k places pids) (p : ℕ) (low : 2 ≤ p) (high : p ≤ node_count script) (n : Node)
+    (at : node_at w p ≡ Some n)
+    (free : IsFree script p (pids p) (sight w first places p (pids p) n))
+    (lives : LivesHere k first.held (pids p)) where
   -- the node's number and its process's
   numbered : 1 ≤ n.number
   numbered = let e = free.born.number in omega (arith, e)
@@ -77,9 +80,11 @@ module _ (script : Script) (r : IsRunnable script) (w : World) (first : Node) (k
       in let makes : Makes k n.pid calls.GetPid reply k =
       own_calls k n.pid new_process u.leader.stands.plain
       (ap (λ x. living_at k x) free.born.process ∙ ap (option_and_then alive_in) lives.process)
-      in let goes = goes-on script w.journal k k places n.number n.pid calls.GetPid reply (place_of script n) (place_of script s.node)
+      in let goes = goes-on script w.journal k k places n.number n.pid calls.GetPid reply (place_of script n)
+      (place_of script s.node)
       u.legal u.fits u.ordered place-there d (record { not_killed = refl; not_fork = λ s ps place reply. refl }) makes
-      (answered-place (lines_of script n.number) n.caller.line n.caller.vars calls.GetPid reply known.first.line known.first.rest
+      (answered-place (lines_of script n.number) n.caller.line n.caller.vars calls.GetPid reply known.first.line
+      known.first.rest
       known.first.left known.fine.once)
       in let places' : Places = put places n.pid (place_of script s.node)
       in let keeps : KeepsOthers script w w' first first k k places places' pids pids p =
@@ -147,20 +152,25 @@ module _ (script : Script) (r : IsRunnable script) (w : World) (first : Node) (k
       → HasInvariant script (world_after w p (sends-one m f))
   tells m f child =
       moves-alone script w first k places pids u p low high (world_after w p (sends-one m f)) m _ _ refl refl
-      (changes-from (node_count script) p w.streams (stream w 1 p ++ f ∷ []) (square-of script w first k places pids u) low high)
+      (changes-from (node_count script) p w.streams (stream w 1 p ++ f ∷ [])
+      (square-of script w first k places pids u) low high)
       (append-nil w.journal) child
 
-  stream-from : (f : Frame) (ss : _) → ss ≡ w.streams → stream_in (with_stream ss 1 p (stream_in ss 1 p ++ f ∷ [])) 1 p ≡ f ∷ []
+  stream-from : (f : Frame) (ss : _) → ss ≡ w.streams
+      → stream_in (with_stream ss 1 p (stream_in ss 1 p ++ f ∷ [])) 1 p ≡ f ∷ []
   stream-from f ss e =
       ap (λ x. stream_in (with_stream x 1 p (stream_in x 1 p ++ f ∷ [])) 1 p) e
-      ∙ (changes-from (node_count script) p w.streams (stream w 1 p ++ f ∷ []) (square-of script w first k places pids u) low high).from_it
+      ∙ (changes-from (node_count script) p w.streams (stream w 1 p ++ f ∷ [])
+      (square-of script w first k places pids u) low high).from_it
       ∙ ap (λ x. x ++ f ∷ []) free.shows.from_it
 
   stream-to : (f : Frame) → stream_in (with_stream w.streams 1 p (stream w 1 p ++ f ∷ [])) p 1 ≡ []
   stream-to f =
-      (changes-from (node_count script) p w.streams (stream w 1 p ++ f ∷ []) (square-of script w first k places pids u) low high).to ∙ free.shows.to_it
+      (changes-from (node_count script) p w.streams (stream w 1 p ++ f ∷ [])
+      (square-of script w first k places pids u) low high).to ∙ free.shows.to_it
 
-  asks-leader : (call : Call) → due (place_of script n) ≡ Some call → is_shared call ≡ true → is_waiting call ≡ false → is_exit call ≡ false
+  asks-leader : (call : Call) → due (place_of script n) ≡ Some call → is_shared call ≡ true → is_waiting call ≡ false
+      → is_exit call ≡ false
       → starts_call script n call ≡ Some (asks n call) → Goes script w (events.Run p)
   asks-leader call d shared waits goes_on rule =
       let m : Node = (asks n call).node
@@ -184,7 +194,8 @@ module _ (script : Script) (r : IsRunnable script) (w : World) (first : Node) (k
             };
             shows = record {
               to_it = stream-to f;
-              from_it = stream-from f w.streams refl ∙ ap (λ x. frames.Ask m.caller.ticket x call ∷ []) free.born.process;
+              from_it = stream-from f w.streams refl
+                  ∙ ap (λ x. frames.Ask m.caller.ticket x call ∷ []) free.born.process;
               parting = free.shows.parting;
             };
             place = free.at.place;
@@ -193,7 +204,8 @@ module _ (script : Script) (r : IsRunnable script) (w : World) (first : Node) (k
         });
       }
 
-  tells-end : (status : ℕ) → due (place_of script n) ≡ Some (calls.Exit status) → starts_call script n (calls.Exit status) ≡ Some (leaves n status)
+  tells-end : (status : ℕ) → due (place_of script n) ≡ Some (calls.Exit status)
+      → starts_call script n (calls.Exit status) ≡ Some (leaves n status)
       → Goes script w (events.Run p)
   tells-end status d rule =
       let m : Node = (leaves n status).node
@@ -228,7 +240,8 @@ module _ (script : Script) (r : IsRunnable script) (w : World) (first : Node) (k
   exits-by : (status : ℕ) → starts_call script n (calls.Exit status) ≡ Some (leaves n status)
   exits-by status = rw not-leader refl
 
-  shares-by : (call : Call) → is_shared call ≡ true → is_waiting call ≡ false → shares script n call ≡ Some (asks n call)
+  shares-by : (call : Call) → is_shared call ≡ true → is_waiting call ≡ false
+      → shares script n call ≡ Some (asks n call)
   shares-by call s h = rw (s, h, not-leader) refl
 
   shared-call : (call : Call) → is_shared call ≡ true → starts_call script n call ≡ shares script n call
@@ -244,17 +257,20 @@ module _ (script : Script) (r : IsRunnable script) (w : World) (first : Node) (k
   shared-goes-on (calls.Exit status) h = absurd (false≢true h)
   shared-goes-on call h = refl
 
-  shared-runs : (call : Call) → due (place_of script n) ≡ Some call → is_shared call ≡ true → is_waiting call ≡ false → Goes script w (events.Run p)
+  shared-runs : (call : Call) → due (place_of script n) ≡ Some call → is_shared call ≡ true → is_waiting call ≡ false
+      → Goes script w (events.Run p)
   shared-runs call d s h = asks-leader call d s h (shared-goes-on call s) (shared-call call s ∙ shares-by call s h)
 
   -- a child's block has calls on itself, shared ones, and its exit
-  built-runs : (call : Call) → due (place_of script n) ≡ Some call → is_built n.number call ≡ true → is_waiting call ≡ false → Goes script w (events.Run p)
+  built-runs : (call : Call) → due (place_of script n) ≡ Some call → is_built n.number call ≡ true
+      → is_waiting call ≡ false → Goes script w (events.Run p)
   built-runs calls.GetPid d b h = gets-pid d
   built-runs (calls.Fork block) d b h = absurd (false≢true (sym not-leader ∙ b))
   built-runs (calls.MsgGet None create excl) d b h = absurd (false≢true (sym (and-is-false _ _ not-leader) ∙ b))
   built-runs (calls.MsgGet (Some key) create excl) d b h = absurd (false≢true (sym (and-is-false _ _ not-leader) ∙ b))
   built-runs (calls.SemGet None count create excl) d b h = absurd (false≢true (sym (and-is-false _ _ not-leader) ∙ b))
-  built-runs (calls.SemGet (Some key) count create excl) d b h = absurd (false≢true (sym (and-is-false _ _ not-leader) ∙ b))
+  built-runs (calls.SemGet (Some key) count create excl) d b h =
+      absurd (false≢true (sym (and-is-false _ _ not-leader) ∙ b))
   built-runs call d b h = shared-runs call d b h
 
   pub child-runs : (call : Call) → due (place_of script n) ≡ Some call → Goes script w (events.Run p)

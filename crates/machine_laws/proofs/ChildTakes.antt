@@ -50,8 +50,10 @@ lines-end script p low high =
       | inr past ↦ let l = past.0 in absurd (omega (arith, l, low, high))
     ]
 
-module _ (script : Script) (r : IsRunnable script) (w : World) (first : Node) (k : Kernel) (places : Places) (pids : ℕ → ℕ)
-    (u : IsUnderWay script w first k places pids) (p : ℕ) (low : 2 ≤ p) (high : p ≤ node_count script) (n : Node) (at : node_at w p ≡ Some n)
+module _ (script : Script) (r : IsRunnable script) (w : World) (first : Node) (k : Kernel) (places : Places) (pids : ℕ
+    → ℕ)
+    (u : IsUnderWay script w first k places pids) (p : ℕ) (low : 2 ≤ p) (high : p ≤ node_count script) (n : Node)
+    (at : node_at w p ≡ Some n)
     (lives : LivesHere k first.held (pids p)) where
   abbrev without-first : World
   without-first = record w { streams = with_stream w.streams p 1 [] }
@@ -69,20 +71,24 @@ module _ (script : Script) (r : IsRunnable script) (w : World) (first : Node) (k
   becomes : (m : Node) → IsChild script (world_after without-first p (quietly m)) first k places p (pids p)
       → HasInvariant script (world_after without-first p (quietly m))
   becomes m child =
-      moves-alone script w first k places pids u p low high (world_after without-first p (quietly m)) m _ _ refl refl taken
+      moves-alone script w first k places pids u p low high
+      (world_after without-first p (quietly m)) m _ _ refl refl taken
       (append-nil w.journal) child
 
   -- ---- the Checkpoint: it is born
 
-  checkpoint-rule : (vars : Vars) → n ≡ unborn_node p → 2 ≤ pids p → is_forked_by script 1 p ≡ true → are_rising vars ≡ true
-      → takes script n 1 (frames.Checkpoint (pids p) 1 (new_deed (pids p)) vars) ≡ Some (quietly (bear n 1 (pids p) 1 vars))
+  checkpoint-rule : (vars : Vars) → n ≡ unborn_node p → 2 ≤ pids p → is_forked_by script 1 p ≡ true
+      → are_rising vars ≡ true
+      → takes script n 1 (frames.Checkpoint (pids p) 1 (new_deed (pids p)) vars)
+      ≡ Some (quietly (bear n 1 (pids p) 1 vars))
   checkpoint-rule vars e l f v =
       let unborn : is_unborn n.stage ≡ true = ap (λ (x : Node). is_unborn x.stage) e
       in let forked : is_forked_by script 1 n.number ≡ true = ap (λ (x : Node). is_forked_by script 1 x.number) e ∙ f
       in let some : nat_lt 0 (pids p) ≡ true = lt-ltb 0 (pids p) (omega arith)
       in rw (unborn, forked, some, new-deed-same (pids p), v) refl
 
-  pub is-born : (vars : Vars) → IsForkedAs script p (pids p) (sight w first places p (pids p) n) vars → Goes script w (events.Take p 1)
+  pub is-born : (vars : Vars) → IsForkedAs script p (pids p) (sight w first places p (pids p) n) vars
+      → Goes script w (events.Take p 1)
   is-born vars i =
       let m : Node = bear n 1 (pids p) 1 vars
       in let numbered : n.number ≡ p = ap (λ (x : Node). x.number) i.unborn.node
@@ -99,7 +105,8 @@ module _ (script : Script) (r : IsRunnable script) (w : World) (first : Node) (k
             ticket = refl;
             shows = record { to_it = taken.to; from_it = taken.from_it ∙ i.shows.from_it; parting = i.shows.parting };
             at = record {
-              place = subst (λ q. get places (pids p) ≡ Some (record { left = lines_of script q; tried = 0; vars = vars })) (sym numbered) i.place;
+              place = subst (λ q. get places (pids p)
+                  ≡ Some (record { left = lines_of script q; tried = 0; vars = vars })) (sym numbered) i.place;
               ends = lines-end script n.number (omega (arith, numbered)) (omega (arith, numbered));
             };
           };
@@ -120,7 +127,8 @@ module _ (script : Script) (r : IsRunnable script) (w : World) (first : Node) (k
   shared-goes-on (calls.Exit status) h = absurd (false≢true h)
   shared-goes-on call h = refl
 
-  pub has-answer : (call : Call) (reply : Reply) → IsAnswered script p (pids p) (sight w first places p (pids p) n) call reply
+  pub has-answer : (call : Call) (reply : Reply)
+      → IsAnswered script p (pids p) (sight w first places p (pids p) n) call reply
       → Goes script w (events.Take p 1)
   has-answer call reply i =
       let m : Node = record n { caller = take_reply script n.number n.caller reply }
@@ -164,7 +172,8 @@ module _ (script : Script) (r : IsRunnable script) (w : World) (first : Node) (k
       → takes script n 1 frames.RecallAll ≡ Some (handing status)
   recall-rule status s h = rw (s, h) refl
 
-  pub hands-all : (status : ℕ) → IsRecalled script p (pids p) (sight w first places p (pids p) n) status → Goes script w (events.Take p 1)
+  pub hands-all : (status : ℕ) → IsRecalled script p (pids p) (sight w first places p (pids p) n) status
+      → Goes script w (events.Take p 1)
   hands-all status i =
       let m : Node = (handing status).node
       in let f : Frame = frames.Left (parcel_of n (calls.Exit status))

@@ -15,20 +15,25 @@ use Rattle.kernel_model.specs.History.{Replays, number_in}
 use Rattle.kernel_model.specs.Fitting.{Place, Places, FitsFrom, HasReplyAlone, IsDue, opening_places, places_after, places_after_fork, block_place, block_at, child_vars, move_on, place_after, due, is_killed}
 use Rattle.machine_model.specs.Calls.{entry_by}
 use Rattle.deed_laws.specs.Carrying.{Makes}
-use Rattle.kernel_laws.proofs.MapLaws.{get-put-same, get-put-other, rising, rising-put, ordered}
+use Rattle.number_maps.proofs.LookUps.{get-put-same, get-put-other}
+use Rattle.number_maps.proofs.Rising.{rising, rising-put, ordered}
 
 pub replays-more : (k mid next : Kernel) (h : List Entry) (e : Entry) → Replays k h mid
-    → transition mid e.pid e.call (number_in e.outcome.own) ≡ Some (successor next e.outcome) → Replays k (h ++ e ∷ []) next
+    → transition mid e.pid e.call (number_in e.outcome.own) ≡ Some (successor next e.outcome)
+    → Replays k (h ++ e ∷ []) next
 replays-more k mid next [] e p t =
     record {
       next = next;
-      step = subst (λ (x : Kernel). transition x e.pid e.call (number_in e.outcome.own) ≡ Some (successor next e.outcome)) (sym p) t;
+      step = subst (λ (x : Kernel). transition x e.pid e.call (number_in e.outcome.own)
+          ≡ Some (successor next e.outcome)) (sym p) t;
       rest = refl;
     }
-replays-more k mid next (f ∷ h) e p t = record { next = p.next; step = p.step; rest = replays-more p.next mid next h e p.rest t }
+replays-more k mid next (f ∷ h) e p t =
+    record { next = p.next; step = p.step; rest = replays-more p.next mid next h e p.rest t }
 
 pub follows-more : (s : Script) (ps mid : Places) (h : List Entry) (e : Entry) (place : Place) → FitsFrom s ps h mid
-    → get mid e.pid ≡ Some place → IsDue place e.call → HasReplyAlone e.outcome → FitsFrom s ps (h ++ e ∷ []) (places_after s mid e place)
+    → get mid e.pid ≡ Some place → IsDue place e.call → HasReplyAlone e.outcome
+    → FitsFrom s ps (h ++ e ∷ []) (places_after s mid e place)
 follows-more s ps mid [] e place p g d r =
     record {
       place = place;
@@ -49,10 +54,12 @@ follows-more s ps mid (f ∷ h) e place p g d r =
 -- a call that neither kills nor forks
 pub record IsOrdinary (call : Call) : Type 0 where
   pub not_killed : is_killed call ≡ false
-  pub not_fork : (s : Script) (ps : Places) (place : Place) (reply : Option Reply) → places_after_fork s ps place call reply ≡ ps
+  pub not_fork : (s : Script) (ps : Places) (place : Place) (reply : Option Reply)
+      → places_after_fork s ps place call reply ≡ ps
 
 -- the history goes on by such a call of this process, which moves on
-pub record GoesOn (s : Script) (h : List Entry) (k : Kernel) (places : Places) (node pid : ℕ) (call : Call) (reply : Reply) (place next : Place)
+pub record GoesOn (s : Script) (h : List Entry) (k : Kernel) (places : Places) (node pid : ℕ) (call : Call)
+    (reply : Reply) (place next : Place)
     (k' : Kernel) (places' : Places) : Type 0 where
   pub legal : Replays opening (h ++ entry_by node pid call reply ∷ []) k'
   pub fits : FitsFrom s (opening_places s) (h ++ entry_by node pid call reply ∷ []) places'
@@ -60,13 +67,15 @@ pub record GoesOn (s : Script) (h : List Entry) (k : Kernel) (places : Places) (
   pub here : get places' pid ≡ Some next
   pub other : (p : ℕ) → p ≢ pid → get places' p ≡ get places p
 
-moved-is : (place : Place) (call : Call) (reply : Option Reply) → is_killed call ≡ false → move_on place call reply ≡ place_after place call reply
+moved-is : (place : Place) (call : Call) (reply : Option Reply) → is_killed call ≡ false
+    → move_on place call reply ≡ place_after place call reply
 moved-is place call reply h = rw h refl
 
 ordered-put : {V : Type 0} (m : Numbered V) (k : ℕ) (v : V) → IsOrdered m → IsOrdered (put m k v)
 ordered-put m k v h = ordered _ (rising-put m k v (rising m h))
 
-pub goes-on : (s : Script) (h : List Entry) (k next : Kernel) (places : Places) (node pid : ℕ) (call : Call) (reply : Reply) (place then : Place)
+pub goes-on : (s : Script) (h : List Entry) (k next : Kernel) (places : Places) (node pid : ℕ) (call : Call)
+    (reply : Reply) (place then : Place)
     → Replays opening h k → FitsFrom s (opening_places s) h places → IsOrdered places
     → get places pid ≡ Some place → due place ≡ Some call → IsOrdinary call → Makes k pid call reply next
     → place_after place call (Some reply) ≡ then
@@ -78,18 +87,22 @@ goes-on s h k next places node pid call reply place then legal fits ord at is_du
     in record {
       legal = replays-more opening k next h (entry_by node pid call reply) legal makes.step;
       fits = subst (λ (x : Places). FitsFrom s (opening_places s) (h ++ entry_by node pid call reply ∷ []) x) leads
-          (follows-more s (opening_places s) places h (entry_by node pid call reply) place fits at (inl is_due) (record { reply = _; alone = refl }));
+          (follows-more s (opening_places s) places h (entry_by node pid call reply) place fits at (inl is_due)
+          (record { reply = _; alone = refl }));
       ordered_places = ordered-put places pid then ord;
       here = get-put-same places pid then;
       other = λ p o. get-put-other places pid then p o;
     }
 
 -- and by a fork, which gives the child its place
-pub forks-on : (s : Script) (h : List Entry) (k next : Kernel) (places : Places) (node pid block child : ℕ) (place then : Place)
+pub forks-on : (s : Script) (h : List Entry) (k next : Kernel) (places : Places) (node pid block child : ℕ)
+    (place then : Place)
     → Replays opening h k → FitsFrom s (opening_places s) h places → IsOrdered places
-    → get places pid ≡ Some place → due place ≡ Some (calls.Fork block) → Makes k pid (calls.Fork block) (replies.Num child) next
+    → get places pid ≡ Some place → due place ≡ Some (calls.Fork block)
+    → Makes k pid (calls.Fork block) (replies.Num child) next
     → place_after place (calls.Fork block) (Some (replies.Num child)) ≡ then → child ≢ pid
-    → (places' : Places) × GoesOn s h k (put places child (block_place (block_at s block) (child_vars place))) node pid (calls.Fork block)
+    → (places' : Places) × GoesOn s h k (put places child (block_place (block_at s block) (child_vars place))) node pid
+    (calls.Fork block)
     (replies.Num child) place then next places'
     × (get places' child ≡ Some (block_place (block_at s block) (child_vars place)))
 forks-on s h k next places node pid block child place then legal fits ord at is_due makes goes apart =
@@ -103,7 +116,8 @@ forks-on s h k next places node pid block child place then legal fits ord at is_
       record {
         legal = replays-more opening k next h e legal makes.step;
         fits = subst (λ (x : Places). FitsFrom s (opening_places s) (h ++ e ∷ []) x) leads
-            (follows-more s (opening_places s) places h e place fits at (inl is_due) (record { reply = _; alone = refl }));
+            (follows-more s (opening_places s) places h e place fits at (inl is_due)
+            (record { reply = _; alone = refl }));
         ordered_places = ordered-put _ child begins (ordered-put places pid then ord);
         here = get-put-other (put places pid then) child begins pid (λ x. apart (sym x)) ∙ get-put-same places pid then;
         other = λ p o. elim (cases_eq p child) [

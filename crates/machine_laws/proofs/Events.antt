@@ -30,28 +30,34 @@ use Rattle.machine_laws.proofs.LeaderRuns.{gets-pid, new-queue, set-by, shared-c
 use Rattle.machine_laws.proofs.LeaderForks.{first-forks}
 
 -- a call is due where an exit is still to come
-some-due : (script : Script) (n : Node) → EndsInExit (place_of script n).left → (call : Call) × (due (place_of script n) ≡ Some call)
+some-due : (script : Script) (n : Node) → EndsInExit (place_of script n).left → (call : Call)
+    × (due (place_of script n) ≡ Some call)
 some-due script n e =
     let found = ends-some (place_of script n).left e
     in (call_of found.0 n.caller.vars, ap (call_due (place_of script n)) found.2)
 
-not-living : {B : Type 0} (stage : Stage) (call : Option Call) → is_living stage ≡ false → (is_living stage && not (is_some call)) ≡ true → B
+not-living : {B : Type 0} (stage : Stage) (call : Option Call) → is_living stage ≡ false
+    → (is_living stage && not (is_some call)) ≡ true → B
 not-living stage call l h = absurd (false≢true (sym l ∙ and-left _ _ h))
 
-under-way : {B : Type 0} (stage : Stage) (call : Option Call) → is_some call ≡ true → (is_living stage && not (is_some call)) ≡ true → B
+under-way : {B : Type 0} (stage : Stage) (call : Option Call) → is_some call ≡ true
+    → (is_living stage && not (is_some call)) ≡ true → B
 under-way stage call s h = absurd (false≢true (sym (ap not s) ∙ and-right _ _ h))
 
-module _ (script : Script) (r : IsRunnable script) (w : World) (first : Node) (k : Kernel) (places : Places) (pids : ℕ → ℕ)
+module _ (script : Script) (r : IsRunnable script) (w : World) (first : Node) (k : Kernel) (places : Places) (pids : ℕ
+    → ℕ)
     (u : IsUnderWay script w first k places pids) where
   -- ---- runs
 
-  first-call : FirstRuns script first places pids → (call : Call) → due (place_of script first) ≡ Some call → is_built first.number call ≡ true
+  first-call : FirstRuns script first places pids → (call : Call) → due (place_of script first) ≡ Some call
+      → is_built first.number call ≡ true
       → is_waiting call ≡ false → Goes script w (events.Run 1)
   first-call runs calls.GetPid d b h = gets-pid script r w first k places pids u runs d
   first-call runs (calls.Fork block) d b h = first-forks script r w first k places pids u runs block d
   first-call runs (calls.MsgGet None create excl) d b h = new-queue script r w first k places pids u runs create excl d
   first-call runs (calls.MsgGet (Some key) create excl) d b h = absurd (false≢true (and-right _ _ b))
-  first-call runs (calls.SemGet None count create excl) d b h = set-by script r w first k places pids u runs count create excl _ refl d
+  first-call runs (calls.SemGet None count create excl) d b h =
+      set-by script r w first k places pids u runs count create excl _ refl d
   first-call runs (calls.SemGet (Some key) count create excl) d b h = absurd (false≢true (and-right _ _ b))
   first-call runs call d b h = shared-call script r w first k places pids u runs call b h d
 
@@ -72,18 +78,25 @@ module _ (script : Script) (r : IsRunnable script) (w : World) (first : Node) (k
       ]
 
   runs-child : (p : ℕ) → 2 ≤ p → p ≤ node_count script → (n : Node) → node_at w p ≡ Some n → (s : Situation)
-      → IsIn s script p (pids p) (sight w first places p (pids p) n) → LivesIn s k first.held (pids p) → can_run n ≡ true
+      → IsIn s script p (pids p) (sight w first places p (pids p) n) → LivesIn s k first.held (pids p)
+      → can_run n ≡ true
       → Goes script w (events.Run p)
-  runs-child p low high n at Awaited i l h = not-living n.stage n.caller.under_way (ap (λ (x : Node). is_living x.stage) i.unborn.node) h
-  runs-child p low high n at (Forked vars) i l h = not-living n.stage n.caller.under_way (ap (λ (x : Node). is_living x.stage) i.unborn.node) h
+  runs-child p low high n at Awaited i l h =
+      not-living n.stage n.caller.under_way (ap (λ (x : Node). is_living x.stage) i.unborn.node) h
+  runs-child p low high n at (Forked vars) i l h =
+      not-living n.stage n.caller.under_way (ap (λ (x : Node). is_living x.stage) i.unborn.node) h
   runs-child p low high n at Free i l h =
       let some = some-due script n i.at.ends
       in child-runs script r w first k places pids u p low high n at i l some.0 some.1
-  runs-child p low high n at (Asking call) i l h = under-way n.stage n.caller.under_way (ap is_some i.has.has.has_call) h
-  runs-child p low high n at (Answered call reply) i l h = under-way n.stage n.caller.under_way (ap is_some i.has.has.has_call) h
+  runs-child p low high n at (Asking call) i l h =
+      under-way n.stage n.caller.under_way (ap is_some i.has.has.has_call) h
+  runs-child p low high n at (Answered call reply) i l h =
+      under-way n.stage n.caller.under_way (ap is_some i.has.has.has_call) h
   runs-child p low high n at (Telling status) i l h = under-way n.stage n.caller.under_way (ap is_some i.has.has_call) h
-  runs-child p low high n at (Recalled status) i l h = under-way n.stage n.caller.under_way (ap is_some i.has.has_call) h
-  runs-child p low high n at (HandedOver status) i l h = not-living n.stage n.caller.under_way (ap is_living i.has.has_stage) h
+  runs-child p low high n at (Recalled status) i l h =
+      under-way n.stage n.caller.under_way (ap is_some i.has.has_call) h
+  runs-child p low high n at (HandedOver status) i l h =
+      not-living n.stage n.caller.under_way (ap is_living i.has.has_stage) h
   runs-child p low high n at Gone i l h = not-living n.stage n.caller.under_way (ap is_living i.has.has_stage) h
 
   within : (p : ℕ) (n : Node) → node_at w p ≡ Some n → 1 ≤ p → p ≤ node_count script
@@ -92,7 +105,8 @@ module _ (script : Script) (r : IsRunnable script) (w : World) (first : Node) (k
   is-first : (n : Node) → node_at w 1 ≡ Some n → first ≡ n
   is-first n at = some-is _ _ (sym u.first_at ∙ at)
 
-  runs-node : (p : ℕ) → 1 ≤ p → (o : Option Node) → node_at w p ≡ o → is_run_enabled o ≡ true → Goes script w (events.Run p)
+  runs-node : (p : ℕ) → 1 ≤ p → (o : Option Node) → node_at w p ≡ o → is_run_enabled o ≡ true
+      → Goes script w (events.Run p)
   runs-node p low None at h = absurd (false≢true h)
   runs-node p low (Some n) at h =
       elim (cases_eq p 1) [
@@ -114,23 +128,29 @@ module _ (script : Script) (r : IsRunnable script) (w : World) (first : Node) (k
   first-takes q low high n at Awaited i l f fs h = not-nil f fs (sym i.shows.from_it ∙ h)
   first-takes q low high n at (Forked vars) i l f fs h = not-nil f fs (sym i.shows.from_it ∙ h)
   first-takes q low high n at Free i l f fs h = not-nil f fs (sym i.shows.from_it ∙ h)
-  first-takes q low high n at (Asking call) i l f fs h = takes-ask script r w first k places pids u q low high n at l i.has.born.low call i
+  first-takes q low high n at (Asking call) i l f fs h =
+      takes-ask script r w first k places pids u q low high n at l i.has.born.low call i
   first-takes q low high n at (Answered call reply) i l f fs h = not-nil f fs (sym i.shows.from_it ∙ h)
-  first-takes q low high n at (Telling status) i l f fs h = takes-leaving script r w first k places pids u q low high n at l i.born.low status i
+  first-takes q low high n at (Telling status) i l f fs h =
+      takes-leaving script r w first k places pids u q low high n at l i.born.low status i
   first-takes q low high n at (Recalled status) i l f fs h = not-nil f fs (sym i.shows.from_it ∙ h)
-  first-takes q low high n at (HandedOver status) i l f fs h = takes-left script r w first k places pids u q low high n at l i.born.low status i
+  first-takes q low high n at (HandedOver status) i l f fs h =
+      takes-left script r w first k places pids u q low high n at l i.born.low status i
   first-takes q low high n at Gone i l f fs h = not-nil f fs (sym i.shows.from_it ∙ h)
 
   child-takes : (p : ℕ) → 2 ≤ p → p ≤ node_count script → (n : Node) → node_at w p ≡ Some n → (s : Situation)
       → IsIn s script p (pids p) (sight w first places p (pids p) n) → LivesIn s k first.held (pids p)
       → (f : Frame) (fs : List Frame) → stream w p 1 ≡ f ∷ fs → Goes script w (events.Take p 1)
   child-takes p low high n at Awaited i l f fs h = not-nil f fs (sym i.shows.to_it ∙ h)
-  child-takes p low high n at (Forked vars) i l f fs h = is-born script r w first k places pids u p low high n at l vars i
+  child-takes p low high n at (Forked vars) i l f fs h =
+      is-born script r w first k places pids u p low high n at l vars i
   child-takes p low high n at Free i l f fs h = not-nil f fs (sym i.shows.to_it ∙ h)
   child-takes p low high n at (Asking call) i l f fs h = not-nil f fs (sym i.shows.to_it ∙ h)
-  child-takes p low high n at (Answered call reply) i l f fs h = has-answer script r w first k places pids u p low high n at l call reply i
+  child-takes p low high n at (Answered call reply) i l f fs h =
+      has-answer script r w first k places pids u p low high n at l call reply i
   child-takes p low high n at (Telling status) i l f fs h = not-nil f fs (sym i.shows.to_it ∙ h)
-  child-takes p low high n at (Recalled status) i l f fs h = hands-all script r w first k places pids u p low high n at l status i
+  child-takes p low high n at (Recalled status) i l f fs h =
+      hands-all script r w first k places pids u p low high n at l status i
   child-takes p low high n at (HandedOver status) i l f fs h = not-nil f fs (sym i.shows.to_it ∙ h)
   child-takes p low high n at Gone i l f fs h = not-nil f fs (sym i.shows.to_it ∙ h)
 
@@ -142,12 +162,14 @@ module _ (script : Script) (r : IsRunnable script) (w : World) (first : Node) (k
   from-within q f fs low h =
       elim (cases_lt (node_count script) q) [
         | inl past ↦
-            let row : length (get_or w.streams 0 []) ≤ q - 1 = let c = u.row 0 (let s = size-some in omega (arith, s)) in omega (arith, c, low, past)
+            let row : length (get_or w.streams 0 []) ≤ q - 1 = let c =
+            u.row 0 (let s = size-some in omega (arith, s)) in omega (arith, c, low, past)
             in not-nil f fs (sym (get_or_past (get_or w.streams 0 []) (q - 1) [] row) ∙ h)
         | inr there ↦ there
       ]
 
-  takes-first : (q : ℕ) → 1 ≤ q → (f : Frame) (fs : List Frame) → stream w 1 q ≡ f ∷ fs → Goes script w (events.Take 1 q)
+  takes-first : (q : ℕ) → 1 ≤ q → (f : Frame) (fs : List Frame) → stream w 1 q ≡ f ∷ fs
+      → Goes script w (events.Take 1 q)
   takes-first q low f fs h =
       elim (cases_eq q 1) [
         | inl e ↦ not-nil f fs (sym u.quiet_leader ∙ ap (λ x. stream w 1 x) (sym e) ∙ h)
@@ -158,7 +180,8 @@ module _ (script : Script) (r : IsRunnable script) (w : World) (first : Node) (k
             in first-takes q two high c.node c.at c.situation c.is_in c.lives f fs h
       ]
 
-  takes-child : (p q : ℕ) → 2 ≤ p → p ≤ node_count script → 1 ≤ q → (f : Frame) (fs : List Frame) → stream w p q ≡ f ∷ fs
+  takes-child : (p q : ℕ) → 2 ≤ p → p ≤ node_count script → 1 ≤ q → (f : Frame) (fs : List Frame)
+      → stream w p q ≡ f ∷ fs
       → Goes script w (events.Take p q)
   takes-child p q low high low_q f fs h =
       elim (cases_eq q 1) [
@@ -183,4 +206,5 @@ module _ (script : Script) (r : IsRunnable script) (w : World) (first : Node) (k
   pub goes : (e : Event) → is_enabled w e ≡ true → Goes script w e
   goes (events.Run p) h = runs-node p (ltb-true 0 p (and-left _ _ h)) _ refl (and-right _ _ h)
   goes (events.Take p q) h =
-      takes-node p q (ltb-true 0 p (and-left _ _ (and-left _ _ h))) (ltb-true 0 q (and-right _ _ (and-left _ _ h))) _ refl _ refl (and-right _ _ h)
+      takes-node p q (ltb-true 0 p (and-left _ _ (and-left _ _ h)))
+      (ltb-true 0 q (and-right _ _ (and-left _ _ h))) _ refl _ refl (and-right _ _ h)

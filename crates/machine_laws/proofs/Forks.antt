@@ -53,7 +53,8 @@ map-append k [] ys = refl
 map-append k (x ∷ xs) ys = ap (λ zs. fork_from k x ∷ zs) (map-append k xs ys)
 
 -- one line's part
-hits-line : (k block : ℕ) (call : Call) → hits (is_to block) (pairs k (fork_targets call)) ≡ one_if (names_block block call)
+hits-line : (k block : ℕ) (call : Call)
+    → hits (is_to block) (pairs k (fork_targets call)) ≡ one_if (names_block block call)
 hits-line k block (calls.Fork to) = omega arith
 hits-line k block call = refl
 
@@ -76,14 +77,16 @@ named-if block line lines rest false h = omega (arith, h)
 
 named-with_exit : (block : ℕ) (lines : List Line) → named block (with_exit lines) ≤ named block lines
 named-with_exit block [] = omega arith
-named-with_exit block (line ∷ lines) = named-if block line (with_exit lines) lines (is_exit line.call) (named-with_exit block lines)
+named-with_exit block (line ∷ lines) =
+    named-if block line (with_exit lines) lines (is_exit line.call) (named-with_exit block lines)
 
 pub named-drop : (block i : ℕ) (lines : List Line) → named block (drop i lines) ≤ named block lines
 named-drop block zero lines = omega arith
 named-drop block (suc i) [] = omega arith
 named-drop block (suc i) (line ∷ lines) = let rest = named-drop block i lines in omega (arith, rest)
 
-pub named-cons : (block : ℕ) (line : Line) (lines : List Line) → named block (line ∷ lines) ≡ one_if (names block line) + named block lines
+pub named-cons : (block : ℕ) (line : Line) (lines : List Line)
+    → named block (line ∷ lines) ≡ one_if (names block line) + named block lines
 named-cons block line lines = refl
 
 -- a line that names the block counts
@@ -97,7 +100,8 @@ any-named block (line ∷ lines) h =
           in omega (arith, rest)
     ]
 
-pub any-cons : (block : ℕ) (line : Line) (lines : List Line) → list_any (names block) (line ∷ lines) ≡ (names block line || list_any (names block) lines)
+pub any-cons : (block : ℕ) (line : Line) (lines : List Line)
+    → list_any (names block) (line ∷ lines) ≡ (names block line || list_any (names block) lines)
 any-cons block line lines = refl
 
 -- ---- the first block of a runnable script
@@ -112,15 +116,19 @@ forks-in s b bs e p =
     in let sum = ap (hits p) cut ∙ hits-append p (pairs 1 (tos_of b.lines)) rest
     in omega (arith, sum)
 
-is-forked-once : (s : Script) → IsRunnable s → (block : ℕ) → 2 ≤ block → block ≤ node_count s → count_by (is_to block) (forks_of s) ≡ 1
+is-forked-once : (s : Script) → IsRunnable s → (block : ℕ) → 2 ≤ block → block ≤ node_count s
+    → count_by (is_to block) (forks_of s) ≡ 1
 is-forked-once s r block low high =
     elim (slice_get_cases s.blocks (block - 1)).1 [
       | inl found ↦
-          let once = all-from (λ b. nat_eq b.0 1 || is_forked_once s b.0) 1 s.blocks (block - 1) found.0 (is-true _ r.sound.forked_once) found.2
+          let once = all-from (λ b. nat_eq b.0 1 || is_forked_once s b.0) 1 s.blocks (block - 1) found.0
+          (is-true _ r.sound.forked_once) found.2
           in let same : 1 + (block - 1) ≡ block = omega arith
-          in let once' : (nat_eq block 1 || is_forked_once s block) ≡ true = subst (λ q. (nat_eq q 1 || is_forked_once s q) ≡ true) same once
+          in let once' : (nat_eq block 1 || is_forked_once s block) ≡ true =
+          subst (λ q. (nat_eq q 1 || is_forked_once s q) ≡ true) same once
           in let other : nat_eq block 1 ≡ false = ne_eqb block 1 (λ x. omega arith)
-          in eqb-true (count_by (is_to block) (forks_of s)) 1 (sym (ap (λ b. b || is_forked_once s block) other) ∙ once')
+          in eqb-true (count_by (is_to block) (forks_of s)) 1
+          (sym (ap (λ b. b || is_forked_once s block) other) ∙ once')
       | inr past ↦ let l = past.0 in absurd (omega (arith, l, low, high))
     ]
 
@@ -129,7 +137,8 @@ cases-blocks [] = inl refl
 cases-blocks (b ∷ bs) = inr (b, bs, refl)
 
 -- each later block is named once by the first block's lines, at most
-pub named-once : (s : Script) → IsRunnable s → (block : ℕ) → 2 ≤ block → block ≤ node_count s → named block (lines_of s 1) ≤ 1
+pub named-once : (s : Script) → IsRunnable s → (block : ℕ) → 2 ≤ block → block ≤ node_count s
+    → named block (lines_of s 1) ≤ 1
 named-once s r block low high =
     elim (cases-blocks s.blocks) [
       | inl none ↦ let z : node_count s ≡ 0 = ap length none in absurd (omega (arith, z, low, high))
@@ -154,13 +163,16 @@ named-any block (line ∷ lines) h =
           in ap (λ b. b || list_any (names block) lines) f ∙ named-any block lines (omega (arith, h, e))
     ]
 
-line-forward : (g : Fork → Bool) (k block : ℕ) (call : Call) → list_all g (pairs k (fork_targets call)) ≡ true → names_block block call ≡ true
+line-forward : (g : Fork → Bool) (k block : ℕ) (call : Call) → list_all g (pairs k (fork_targets call)) ≡ true
+    → names_block block call ≡ true
     → g (fork_from k block) ≡ true
-line-forward g k block (calls.Fork to) h n = subst (λ b. g (fork_from k b) ≡ true) (eqb-true to block n) (and-left _ _ h)
+line-forward g k block (calls.Fork to) h n =
+    subst (λ b. g (fork_from k b) ≡ true) (eqb-true to block n) (and-left _ _ h)
 line-forward g k block (calls.Exit status) h n = absurd (false≢true n)
 line-forward g k block call h n = absurd (false≢true n)
 
-all-forward : (g : Fork → Bool) (k block : ℕ) (lines : List Line) → list_all g (pairs k (tos_of lines)) ≡ true → 1 ≤ named block lines
+all-forward : (g : Fork → Bool) (k block : ℕ) (lines : List Line) → list_all g (pairs k (tos_of lines)) ≡ true
+    → 1 ≤ named block lines
     → g (fork_from k block) ≡ true
 all-forward g k block [] h l = absurd (omega (arith, l))
 all-forward g k block (line ∷ lines) h l =
@@ -182,7 +194,8 @@ pub record IsForkable (s : Script) (block : ℕ) : Type 0 where
 pub forkable : (s : Script) → IsRunnable s → (block : ℕ) → 1 ≤ named block (lines_of s 1) → IsForkable s block
 forkable s r block h =
     elim (cases-blocks s.blocks) [
-      | inl none ↦ absurd (let z : named block (lines_of s 1) ≡ 0 = ap (λ bs. named block (lines_in (slice_get bs 0))) none in omega (arith, z, h))
+      | inl none ↦ absurd (let z : named block (lines_of s 1) ≡ 0 =
+          ap (λ bs. named block (lines_in (slice_get bs 0))) none in omega (arith, z, h))
       | inr some ↦
           let b : Block = some.0
           in let here : lines_of s 1 ≡ with_exit b.lines = ap (λ bs. lines_in (slice_get bs 0)) some.2

@@ -29,7 +29,7 @@ use Rattle.machine_model.specs.World.{World, stream, node_count, world_after, st
 use Rattle.deed_laws.specs.Carrying.{StandsFor}
 use Rattle.deed_laws.proofs.Forking.{forks}
 use Rattle.kernel_laws.proofs.ValidLaws.{reachable_kernels_are_valid_lemma}
-use Rattle.kernel_laws.proofs.MapLaws.{get-put-same, get-put-other}
+use Rattle.number_maps.proofs.LookUps.{get-put-same, get-put-other}
 use Rattle.machine_laws.specs.Situations.{Situation, Awaited, Forked, Free, Asking, Answered, Telling, Recalled, HandedOver, Gone, Sight, IsIn, IsAwaited}
 use Rattle.machine_laws.specs.Invariant.{IsUnderWay, FirstRuns, IsChild}
 use Rattle.machine_laws.proofs.Streams.{changes-to}
@@ -47,7 +47,8 @@ use Rattle.machine_laws.proofs.LeaderRuns.{pid-not-one, or-true}
 use Rattle.machine_model.specs.Owners.{one_if}
 
 -- a child without a number isn't forked yet
-pub awaited-is : (s : Situation) (script : Script) (p pid : ℕ) (x : Sight) → IsIn s script p pid x → pid ≡ 0 → IsAwaited p pid x
+pub awaited-is : (s : Situation) (script : Script) (p pid : ℕ) (x : Sight) → IsIn s script p pid x → pid ≡ 0
+    → IsAwaited p pid x
 awaited-is Awaited script p pid x i e = i
 awaited-is (Forked vars) script p pid x i e = let l = i.low in absurd (omega (arith, l, e))
 awaited-is Free script p pid x i e = let l = i.born.low in absurd (omega (arith, l, e))
@@ -58,7 +59,8 @@ awaited-is (Recalled status) script p pid x i e = let l = i.born.low in absurd (
 awaited-is (HandedOver status) script p pid x i e = let l = i.born.low in absurd (omega (arith, l, e))
 awaited-is Gone script p pid x i e = let l = i.born.low in absurd (omega (arith, l, e))
 
-pub block-place-is : (b : Option Block) (vars : Vars) → block_place b vars ≡ record { left = lines_in b; tried = 0; vars = vars }
+pub block-place-is : (b : Option Block) (vars : Vars)
+    → block_place b vars ≡ record { left = lines_in b; tried = 0; vars = vars }
 block-place-is None vars = refl
 block-place-is (Some b) vars = refl
 
@@ -68,7 +70,8 @@ lists-new a child =
     list_any-append (nat_eq child) a.row.family.living (child ∷ [])
     ∙ rw (eq-eqb child child refl) (or-true (list_any (nat_eq child) a.row.family.living))
 
-lists-old : (a : Alive) (child q : ℕ) → lists a.row.family q ≡ true → lists (parent_after_fork a child).row.family q ≡ true
+lists-old : (a : Alive) (child q : ℕ) → lists a.row.family q ≡ true
+    → lists (parent_after_fork a child).row.family q ≡ true
 lists-old a child q h = list_any-append (nat_eq q) a.row.family.living (child ∷ []) ∙ rw h refl
 
 unused-none : {X : Type 0} (o : Option X) → is_some o ≡ false → o ≡ None
@@ -93,7 +96,8 @@ with-same pids block child = rw (eq-eqb block block refl) refl
 with-other : (pids : ℕ → ℕ) (block child p : ℕ) → p ≢ block → with-pid pids block child p ≡ pids p
 with-other pids block child p o = rw (ne_eqb p block o) refl
 
-module _ (script : Script) (r : IsRunnable script) (w : World) (first : Node) (k : Kernel) (places : Places) (pids : ℕ → ℕ)
+module _ (script : Script) (r : IsRunnable script) (w : World) (first : Node) (k : Kernel) (places : Places) (pids : ℕ
+    → ℕ)
     (u : IsUnderWay script w first k places pids) (runs : FirstRuns script first places pids) (block : ℕ)
     (d : due (place_of script first) ≡ Some (calls.Fork block)) where
   abbrev child : ℕ
@@ -112,7 +116,8 @@ module _ (script : Script) (r : IsRunnable script) (w : World) (first : Node) (k
   forking-step =
       record {
         node = (with_leader (record first.leader { next_process = child + 1 })
-            (step_here script first (calls.Fork block) (replies.Num child) (fork_held first.held first.pid runs.alive child))).node;
+            (step_here script first (calls.Fork block) (replies.Num child)
+            (fork_held first.held first.pid runs.alive child))).node;
         entries = entry_by first.number first.pid (calls.Fork block) (replies.Num child) ∷ [];
         sends = (block, frame) ∷ [];
       }
@@ -150,12 +155,15 @@ module _ (script : Script) (r : IsRunnable script) (w : World) (first : Node) (k
       in let lines : List Line = lines_of script first.number
       in let next = next-line lines first.caller.line line rest known.first.left
       in let here : names block line ≡ true =
-      sym (call-names block line first.caller.vars) ∙ sym (ap (names_block block) known.first.is_call) ∙ eq-eqb block block refl
-      in let cut : named block (drop first.caller.line lines) ≡ named block (line ∷ rest) = ap (named block) known.first.left
+      sym (call-names block line first.caller.vars) ∙ sym (ap (names_block block) known.first.is_call)
+      ∙ eq-eqb block block refl
+      in let cut : named block (drop first.caller.line lines) ≡ named block (line ∷ rest) =
+      ap (named block) known.first.left
       in let counted = named-cons block line rest
       in let one : one_if (names block line) ≡ 1 = ap one_if here
       in let dropped = named-drop block first.caller.line lines
-      in let same : named block lines ≡ named block (lines_of script 1) = ap (λ q. named block (lines_of script q)) u.leader.number
+      in let same : named block lines ≡ named block (lines_of script 1) =
+      ap (λ q. named block (lines_of script q)) u.leader.number
       in let f = forkable script r block (omega (arith, cut, counted, one, dropped, same))
       in let once = named-once script r block f.low f.high
       in record {
@@ -179,12 +187,14 @@ module _ (script : Script) (r : IsRunnable script) (w : World) (first : Node) (k
       in held-none first.held k child (u.leader.stands.here.processes child) none _ refl
 
   -- the leader's process 1 afterwards
-  first-now : get (fork_held first.held first.pid runs.alive child).processes 1 ≡ Some (LivingProcess (parent_after_fork runs.alive child))
+  first-now : get (fork_held first.held first.pid runs.alive child).processes 1
+      ≡ Some (LivingProcess (parent_after_fork runs.alive child))
   first-now =
       ap (λ q. get (put first.held.processes q (LivingProcess (parent_after_fork runs.alive child))) 1) u.leader.pid
       ∙ get-put-same first.held.processes 1 (LivingProcess (parent_after_fork runs.alive child))
 
-  others-now : (q : ℕ) → q ≢ 1 → get (fork_held first.held first.pid runs.alive child).processes q ≡ get first.held.processes q
+  others-now : (q : ℕ) → q ≢ 1
+      → get (fork_held first.held first.pid runs.alive child).processes q ≡ get first.held.processes q
   others-now q o =
       ap (λ p. get (put first.held.processes p (LivingProcess (parent_after_fork runs.alive child))) q) u.leader.pid
       ∙ get-put-other first.held.processes 1 (LivingProcess (parent_after_fork runs.alive child)) q o
@@ -220,7 +230,14 @@ module _ (script : Script) (r : IsRunnable script) (w : World) (first : Node) (k
       elim (cases_eq x first.pid) [
         | inl e ↦ inl (e ∙ u.leader.pid)
         | inr o ↦ elim (cases_eq x child) [
-          | inl e ↦ inr (block, low, high, with-same pids block child ∙ sym e, λ z. let c = high-child in omega (arith, c, e, z))
+          | inl e ↦ inr (
+            block,
+            low,
+            high,
+            with-same pids block child ∙ sym e,
+            λ z. let c =
+                high-child in omega (arith, c, e, z),
+          )
           | inr c ↦ elim (u.known x place (sym (get-put-other places child begins x c) ∙ (sym (other x o) ∙ h))) [
             | inl one ↦ inl one
             | inr some ↦ inr (
@@ -243,7 +260,8 @@ module _ (script : Script) (r : IsRunnable script) (w : World) (first : Node) (k
       in let high : block ≤ node_count script = facts.forkable-block.high
       in let old = u.children block low high
       in let awaited = awaited-is old.situation script block (pids block) _ old.is_in facts.unforked
-      in let law = forks first.held first.leader k runs.alive block (w.journal, u.legal) u.leader.stands runs.lives small
+      in let law = forks first.held first.leader k runs.alive block
+      (w.journal, u.legal) u.leader.stands runs.lives small
       in let next : Kernel = law.next
       in let s : Step = forking-step
       in let m : Node = s.node
@@ -251,15 +269,18 @@ module _ (script : Script) (r : IsRunnable script) (w : World) (first : Node) (k
       in let same-held : fork_held first.held first.pid runs.alive child ≡ fork_held first.held 1 runs.alive child =
       ap (λ q. fork_held first.held q runs.alive child) u.leader.pid
       in let place : Place = place_of script first
-      in let then : Place = runs_of.place-then script r w first k places pids u runs (calls.Fork block) (replies.Num child)
+      in let then : Place =
+      runs_of.place-then script r w first k places pids u runs (calls.Fork block) (replies.Num child)
       in let begins : Place = block_place (block_at script block) vars
       in let not-mine : child ≢ first.pid = λ e. let h = high-child in let p = u.leader.pid in omega (arith, h, p, e)
-      in let on = forks-on script w.journal k next places first.number first.pid block child place then u.legal u.fits u.ordered
+      in let on = forks-on script w.journal k next places first.number first.pid block child place then u.legal u.fits
+      u.ordered
       (runs_of.place-there script r w first k places pids u runs) d
       (runs_of.mine script r w first k places pids u runs law.carries.makes) refl not-mine
       in let places' : Places = on.0
       in let goes = on.1
-      in let changes = changes-to (node_count script) block w.streams (stream w block 1 ++ frame ∷ []) (square-of script w first k places pids u) low high
+      in let changes = changes-to (node_count script) block w.streams (stream w block 1 ++ frame ∷ [])
+      (square-of script w first k places pids u) low high
       in let not-one : (q : ℕ) → 2 ≤ q → q ≤ node_count script → pids q ≢ 1 =
       λ q l h. pid-not-one script w first k places q (pids q) (u.children q l h)
       in let not-child : (q : ℕ) → pids q ≢ child = λ q e. let b = u.below q in omega (arith, b, e)
@@ -282,14 +303,16 @@ module _ (script : Script) (r : IsRunnable script) (w : World) (first : Node) (k
                 partings = λ q l o. refl;
                 pids_stay = λ q l o. with-other pids block child q o;
                 places_stay = λ q l h o.
-                    goes.other (pids q) (λ e. not-one q l h (e ∙ u.leader.pid)) ∙ get-put-other places child begins (pids q) (not-child q);
+                    goes.other (pids q) (λ e. not-one q l h (e ∙ u.leader.pid))
+                    ∙ get-put-other places child begins (pids q) (not-child q);
                 lives = λ q l h o x.
                     let one : pids q ≢ 1 = not-one q l h
                     in record {
                       process = law.carries.stay (pids q) new_process one one x.process;
                       away = others-now (pids q) one ∙ x.away;
                       listed = λ a g.
-                          let same : parent_after_fork runs.alive child ≡ a = living-is _ _ (some-is _ _ (sym first-now ∙ g))
+                          let same : parent_after_fork runs.alive child ≡ a =
+                          living-is _ _ (some-is _ _ (sym first-now ∙ g))
                           in subst (λ (b : Alive). lists b.row.family (pids q) ≡ true) same
                           (lists-old runs.alive child (pids q) (x.listed runs.alive runs.lives));
                     };
@@ -299,12 +322,16 @@ module _ (script : Script) (r : IsRunnable script) (w : World) (first : Node) (k
                 fits = goes.fits;
                 ordered = goes.ordered_places;
                 first_at = node-same w.nodes 1 first m u.first_at;
-                leader = runs_of.goes-on-to script r w first k places pids u runs (calls.Fork block) (replies.Num child) m next places' pids'
+                leader = runs_of.goes-on-to script r w first k places pids u runs (calls.Fork block)
+                    (replies.Num child) m next places' pids'
                     d refl refl refl refl refl
-                    (subst (λ h. StandsFor h (record first.leader { next_process = child + 1 }) next) (sym same-held) law.carries.stands)
+                    (subst (λ h. StandsFor h (record first.leader { next_process = child + 1 }) next)
+                    (sym same-held) law.carries.stands)
                     (parent_after_fork runs.alive child) first-now (omega arith) (omega arith) (omega arith)
                     (λ b h. elim (cases_eq b block) [
-                      | inl same ↦ absurd (facts.none-behind (subst (λ c. list_any (names c) (drop (first.caller.line + 1) (lines_of script first.number)) ≡ true) same h))
+                      | inl same ↦ absurd (facts.none-behind
+                          (subst (λ c. list_any (names c) (drop (first.caller.line + 1) (lines_of script first.number))
+                          ≡ true) same h))
                       | inr o ↦ with-other pids block child b o
                           ∙ runs.ahead b (runs_of.ahead-still script r w first k places pids u runs
                           (due-is script first (calls.Fork block) r numbered d) b h)
@@ -332,7 +359,8 @@ module _ (script : Script) (r : IsRunnable script) (w : World) (first : Node) (k
                         process = law.child;
                         away = others-now child (λ e. let h = high-child in omega (arith, h, e)) ∙ no-process;
                         listed = λ a g.
-                            let same : parent_after_fork runs.alive child ≡ a = living-is _ _ (some-is _ _ (sym first-now ∙ g))
+                            let same : parent_after_fork runs.alive child ≡ a =
+                            living-is _ _ (some-is _ _ (sym first-now ∙ g))
                             in subst (λ (b : Alive). lists b.row.family child ≡ true) same (lists-new runs.alive child);
                       };
                     });

@@ -39,7 +39,7 @@ use Rattle.deed_laws.proofs.Shared.{shared_calls, served_calls}
 use Rattle.deed_laws.proofs.Endings.{first_ends, buried-apart}
 use Rattle.kernel_laws.proofs.ValidLaws.{reachable_kernels_are_valid_lemma}
 use Rattle.kernel_laws.proofs.Families.{living-ended}
-use Rattle.kernel_laws.proofs.MapLaws.{get-put-same, get-put-other}
+use Rattle.number_maps.proofs.LookUps.{get-put-same, get-put-other}
 use Rattle.machine_laws.specs.Lines.{EndsInExit}
 use Rattle.machine_laws.specs.Situations.{Situation, Awaited, Forked, Free, Asking, Answered, Telling, Recalled, HandedOver, Gone, Sight, IsIn, LivesHere}
 use Rattle.machine_laws.specs.Invariant.{IsUnderWay, IsLeader, FirstRuns, IsChild}
@@ -56,7 +56,8 @@ use Rattle.machine_laws.proofs.LeaderTakes.{shared-is-ordinary}
 gone-not-living : {B : Type 0} (a : Alive) → Some GoneProcess ≡ Some (LivingProcess a) → B
 gone-not-living a h = cc
 
-shared-rule-at : (script : Script) (n : Node) (call : Call) → is_shared call ≡ true → starts_call script n call ≡ shares script n call
+shared-rule-at : (script : Script) (n : Node) (call : Call) → is_shared call ≡ true
+    → starts_call script n call ≡ shares script n call
 shared-rule-at script n (calls.MsgSnd id class text nowait) h = refl
 shared-rule-at script n (calls.MsgGet key create excl) h = absurd (false≢true h)
 shared-rule-at script n (calls.SemGet key count create excl) h = absurd (false≢true h)
@@ -94,7 +95,8 @@ ahead-behind : (block : ℕ) (line : Line) (rest : List Line) → list_any (λ l
     → list_any (λ l. names_block block l.call) (line ∷ rest) ≡ true
 ahead-behind block line rest h = rw h (or-true (names_block block line.call))
 
-module _ (script : Script) (r : IsRunnable script) (w : World) (first : Node) (k : Kernel) (places : Places) (pids : ℕ → ℕ)
+module _ (script : Script) (r : IsRunnable script) (w : World) (first : Node) (k : Kernel) (places : Places) (pids : ℕ
+    → ℕ)
     (u : IsUnderWay script w first k places pids) (runs : FirstRuns script first places pids) where
   pub numbered : 1 ≤ first.number
   numbered = let e = u.leader.number in omega (arith, e)
@@ -108,7 +110,8 @@ module _ (script : Script) (r : IsRunnable script) (w : World) (first : Node) (k
       ∙ ap (option_and_then alive_in) (u.leader.stands.here.processes 1 (LivingProcess runs.alive) runs.lives)
 
   pub first-lives-now : living_at k 1 ≡ Some runs.alive
-  first-lives-now = ap (option_and_then alive_in) (u.leader.stands.here.processes 1 (LivingProcess runs.alive) runs.lives)
+  first-lives-now = ap (option_and_then alive_in)
+      (u.leader.stands.here.processes 1 (LivingProcess runs.alive) runs.lives)
 
   pub held-now : living_in first.held.processes first.pid ≡ Some runs.alive
   held-now = ap (λ x. living_in first.held.processes x) u.leader.pid ∙ ap (option_and_then alive_in) runs.lives
@@ -122,7 +125,8 @@ module _ (script : Script) (r : IsRunnable script) (w : World) (first : Node) (k
       in run-is script first call (ap is_living runs.stage) u.leader.none_under_way
       (let t = runs.ticket in let e = known.early in let f = known.few in omega (arith, t, e, f)) d
 
-  pub run-in : (call : Call) (s : Step) → due (place_of script first) ≡ Some call → starts_call script first call ≡ Some s
+  pub run-in : (call : Call) (s : Step) → due (place_of script first) ≡ Some call
+      → starts_call script first call ≡ Some s
       → step w (events.Run 1) ≡ Some (world_after w 1 s)
   run-in call s d e = step-run w 1 first s u.first_at (ap (λ x. run x first) u.of_script ∙ runs-call call d ∙ e)
 
@@ -151,7 +155,8 @@ module _ (script : Script) (r : IsRunnable script) (w : World) (first : Node) (k
   enters call reply m next d rule plain makes partings more living leader-then =
       let s : Step = entering m call reply
       in let w' : World = world_after w 1 s
-      in let goes = goes-on script w.journal k next places first.number first.pid call reply (place_of script first) (place-then call reply)
+      in let goes = goes-on script w.journal k next places first.number first.pid call reply (place_of script first)
+      (place-then call reply)
       u.legal u.fits u.ordered place-there d plain makes refl
       in let places' : Places = put places first.pid (place-then call reply)
       in let not-mine : (q : ℕ) → 2 ≤ q → q ≤ node_count script → pids q ≢ first.pid =
@@ -175,7 +180,8 @@ module _ (script : Script) (r : IsRunnable script) (w : World) (first : Node) (k
                 partings = λ q l o. ap (λ x. get x q) partings;
                 pids_stay = λ q l o. refl;
                 places_stay = λ q l h o. goes.other (pids q) (not-mine q l h);
-                lives = λ q l h o x. living (pids q) (pid-not-one script w first k places q (pids q) (u.children q l h)) x;
+                lives = λ q l h o x. living (pids q)
+                    (pid-not-one script w first k places q (pids q) (u.children q l h)) x;
               })
               (record {
                 legal = goes.legal;
@@ -186,7 +192,8 @@ module _ (script : Script) (r : IsRunnable script) (w : World) (first : Node) (k
                 child = λ h. absurd (omega arith);
                 apart = u.apart;
                 below = λ q. let b = u.below q in omega (arith, b, more);
-                known = known-after script places places' pids first.pid (place_of script first) u.known place-there goes.other;
+                known = known-after script places places' pids first.pid
+                    (place_of script first) u.known place-there goes.other;
               });
         };
       }
@@ -195,9 +202,11 @@ module _ (script : Script) (r : IsRunnable script) (w : World) (first : Node) (k
       → list_any (λ l. names_block block l.call) (drop (first.caller.line + 1) (lines_of script first.number)) ≡ true
       → list_any (λ l. names_block block l.call) (place_of script first).left ≡ true
   ahead-still {call} known block h =
-      let next = next-line (lines_of script first.number) first.caller.line known.first.line known.first.rest known.first.left
+      let next = next-line (lines_of script first.number) first.caller.line known.first.line known.first.rest
+      known.first.left
       in ap (list_any (λ l. names_block block l.call)) known.first.left
-      ∙ ahead-behind block known.first.line known.first.rest (sym (ap (list_any (λ l. names_block block l.call)) next.1) ∙ h)
+      ∙ ahead-behind block known.first.line known.first.rest
+      (sym (ap (list_any (λ l. names_block block l.call)) next.1) ∙ h)
 
   -- process 1 goes on; what is still ahead of it isn't forked yet
   pub goes-on-to : (call : Call) (reply : Reply) (m : Node) (next : Kernel) (places' : Places) (pids' : ℕ → ℕ)
@@ -207,16 +216,31 @@ module _ (script : Script) (r : IsRunnable script) (w : World) (first : Node) (k
       → StandsFor m.held m.leader next → (a : Alive) → get m.held.processes 1 ≡ Some (LivingProcess a)
       → m.leader.next_process ≤ first.leader.next_process + 1 → m.leader.next_queue ≤ first.leader.next_queue + 1
       → m.leader.next_set ≤ first.leader.next_set + 1
-      → ((block : ℕ) → list_any (λ l. names_block block l.call) (drop (first.caller.line + 1) (lines_of script first.number)) ≡ true → pids' block ≡ 0)
+      → ((block : ℕ) → list_any (λ l. names_block block l.call)
+      (drop (first.caller.line + 1) (lines_of script first.number)) ≡ true → pids' block ≡ 0)
       → get places' 1 ≡ Some (place-then call reply) → IsLeader script m next places' pids'
   goes-on-to call reply m next places' pids' d goes_on number pid stage caller stands a there np nq ns ahead place =
       let known = due-is script first call r numbered d
-      in let place-is : place-then call reply ≡ record { left = drop (first.caller.line + 1) (lines_of script first.number); tried = 0; vars = (at_once script first call reply).vars } =
-      answered-place (lines_of script first.number) first.caller.line first.caller.vars call reply known.first.line known.first.rest
+      in let place-is : place-then call reply
+      ≡ record {
+        left = drop (first.caller.line + 1) (lines_of script first.number);
+        tried = 0;
+        vars =
+            (at_once script first call reply).vars;
+      } =
+      answered-place (lines_of script first.number) first.caller.line first.caller.vars call reply known.first.line
+      known.first.rest
       known.first.left known.fine.once
-      in let moved : place_of script m ≡ record { left = drop (first.caller.line + 1) (lines_of script first.number); tried = 0; vars = (at_once script first call reply).vars } =
+      in let moved : place_of script m
+      ≡ record {
+        left = drop (first.caller.line + 1) (lines_of script first.number);
+        tried = 0;
+        vars =
+            (at_once script first call reply).vars;
+      } =
       rw (number, caller) refl
-      in let left : (place_of script m).left ≡ drop (first.caller.line + 1) (lines_of script first.number) = ap (λ (z : Place). z.left) moved
+      in let left : (place_of script m).left ≡ drop (first.caller.line + 1) (lines_of script first.number) =
+      ap (λ (z : Place). z.left) moved
       in let line : m.caller.line ≡ first.caller.line + 1 = ap (λ c. c.line) caller
       in let fp = runs.few_processes
       in let fq = runs.few_queues
@@ -241,7 +265,8 @@ module _ (script : Script) (r : IsRunnable script) (w : World) (first : Node) (k
         });
       }
 
-  goes-on-with : (call : Call) (reply : Reply) (m : Node) (next : Kernel) (places' : Places) → due (place_of script first) ≡ Some call
+  goes-on-with : (call : Call) (reply : Reply) (m : Node) (next : Kernel) (places' : Places)
+      → due (place_of script first) ≡ Some call
       → is_exit call ≡ false → m.number ≡ first.number → m.pid ≡ first.pid → m.stage ≡ first.stage
       → m.caller ≡ at_once script first call reply
       → StandsFor m.held m.leader next → (a : Alive) → get m.held.processes 1 ≡ Some (LivingProcess a)
@@ -255,7 +280,8 @@ module _ (script : Script) (r : IsRunnable script) (w : World) (first : Node) (k
   if-both : {X : Type 0} (a b : Bool) (x y : X) → a ≡ true → b ≡ true → (if a && b then x else y) ≡ x
   if-both a b x y h g = rw (h, g) refl
 
-  shared-here : (call : Call) → is_shared call ≡ true → is_waiting call ≡ false → shares script first call ≡ carry_out script first call (serve first.held first.pid call)
+  shared-here : (call : Call) → is_shared call ≡ true → is_waiting call ≡ false
+      → shares script first call ≡ carry_out script first call (serve first.held first.pid call)
   shared-here call s h = rw (s, h, leads) refl
 
   -- a process that lives isn't among the ended ones
@@ -268,7 +294,8 @@ module _ (script : Script) (r : IsRunnable script) (w : World) (first : Node) (k
 
   -- ---- its own number, a new queue and a new set
 
-  pub mine : {call : Call} {reply : Reply} {next : Kernel} → Makes k 1 call reply next → Makes k first.pid call reply next
+  pub mine : {call : Call} {reply : Reply} {next : Kernel} → Makes k 1 call reply next
+      → Makes k first.pid call reply next
   mine {call} {reply} {next} m = subst (λ x. Makes k x call reply next) (sym u.leader.pid) m
 
   pub gets-pid : due (place_of script first) ≡ Some calls.GetPid → Goes script w (events.Run 1)
@@ -277,7 +304,8 @@ module _ (script : Script) (r : IsRunnable script) (w : World) (first : Node) (k
       in let m : Node = (step_here script first calls.GetPid reply first.held).node
       in enters calls.GetPid reply m k d refl (record { not_killed = refl; not_fork = λ s ps place reply. refl })
       (own_calls k first.pid runs.alive u.leader.stands.plain lives-now) refl (omega arith) (λ q o x. x)
-      (λ places' h. goes-on-with calls.GetPid reply m k places' d refl refl refl refl refl u.leader.stands runs.alive runs.lives
+      (λ places' h. goes-on-with calls.GetPid reply m k places' d refl refl refl refl refl u.leader.stands runs.alive
+      runs.lives
       (omega arith) (omega arith) (omega arith) h)
 
   pub few-lines : {call : Call} → due (place_of script first) ≡ Some call → first.caller.line < 20000
@@ -287,7 +315,8 @@ module _ (script : Script) (r : IsRunnable script) (w : World) (first : Node) (k
       in let f = known.few
       in omega (arith, e, f)
 
-  pub new-queue : (create excl : Bool) → due (place_of script first) ≡ Some (calls.MsgGet None create excl) → Goes script w (events.Run 1)
+  pub new-queue : (create excl : Bool) → due (place_of script first) ≡ Some (calls.MsgGet None create excl)
+      → Goes script w (events.Run 1)
   new-queue create excl d =
       let call : Call = calls.MsgGet None create excl
       in let number : ℕ = first.leader.next_queue
@@ -298,10 +327,12 @@ module _ (script : Script) (r : IsRunnable script) (w : World) (first : Node) (k
       in let small : nat_lt number number_end ≡ true =
       lt-ltb number number_end (let f = runs.few_queues in let l = few-lines d in omega (arith, f, l))
       in let law = new_queues first.held first.leader k runs.alive create excl u.leader.stands first-lives-now small
-      in enters call reply m law.next d (rw (leads, small) refl) (record { not_killed = refl; not_fork = λ s ps place reply. refl })
+      in enters call reply m law.next d (rw (leads, small) refl)
+      (record { not_killed = refl; not_fork = λ s ps place reply. refl })
       (mine law.carries.makes) refl (omega arith)
       (λ q o x. record { process = ap (λ ps. get ps q) law.processes ∙ x.process; away = x.away; listed = x.listed })
-      (λ places' h. goes-on-with call reply m law.next places' d refl refl refl refl refl law.carries.stands runs.alive runs.lives
+      (λ places' h. goes-on-with call reply m law.next places' d refl refl refl refl refl law.carries.stands runs.alive
+      runs.lives
       (omega arith) (omega arith) (omega arith) h)
 
   new-set : (count : ℕ) (create excl : Bool) (set : SemaphoreSet) → new_set count ≡ Ok set
@@ -315,14 +346,16 @@ module _ (script : Script) (r : IsRunnable script) (w : World) (first : Node) (k
       in let m : Node = (with_leader leader (step_here script first call reply held)).node
       in let small : nat_lt number number_end ≡ true =
       lt-ltb number number_end (let f = runs.few_sets in let l = few-lines d in omega (arith, f, l))
-      in let law = new_sets first.held first.leader k runs.alive count set create excl u.leader.stands first-lives-now made small
+      in let law = new_sets first.held first.leader k runs.alive count set create excl u.leader.stands first-lives-now
+      made small
       in enters call reply m law.next d
       (if-both _ _ (Some (makes_set_of script first call (new_set count))) None leads small
       ∙ ap (λ x. Some (makes_set_of script first call x)) made)
       (record { not_killed = refl; not_fork = λ s ps place reply. refl })
       (mine law.carries.makes) refl (omega arith)
       (λ q o x. record { process = ap (λ ps. get ps q) law.processes ∙ x.process; away = x.away; listed = x.listed })
-      (λ places' h. goes-on-with call reply m law.next places' d refl refl refl refl refl law.carries.stands runs.alive runs.lives
+      (λ places' h. goes-on-with call reply m law.next places' d refl refl refl refl refl law.carries.stands runs.alive
+      runs.lives
       (omega arith) (omega arith) (omega arith) h)
 
   bad-set : (count : ℕ) (create excl : Bool) (error : Errno) → new_set count ≡ Err error
@@ -337,7 +370,8 @@ module _ (script : Script) (r : IsRunnable script) (w : World) (first : Node) (k
       (if-both _ _ (Some (makes_set_of script first call (new_set count))) None leads small
       ∙ ap (λ x. Some (makes_set_of script first call x)) made)
       (record { not_killed = refl; not_fork = λ s ps place reply. refl })
-      (bad_sets k first.pid runs.alive count error create excl u.leader.stands.plain lives-now made) refl (omega arith) (λ q o x. x)
+      (bad_sets k first.pid runs.alive count error create excl u.leader.stands.plain lives-now made) refl (omega arith)
+      (λ q o x. x)
       (λ places' h. goes-on-with call reply m k places' d refl refl refl refl refl u.leader.stands runs.alive runs.lives
       (omega arith) (omega arith) (omega arith) h)
 
@@ -348,12 +382,14 @@ module _ (script : Script) (r : IsRunnable script) (w : World) (first : Node) (k
 
   -- ---- a shared call
 
-  serves : (call : Call) (e : Effect) → is_shared call ≡ true → is_waiting call ≡ false → serve first.held first.pid call ≡ Some e
+  serves : (call : Call) (e : Effect) → is_shared call ≡ true → is_waiting call ≡ false
+      → serve first.held first.pid call ≡ Some e
       → due (place_of script first) ≡ Some call → Goes script w (events.Run 1)
   serves call e shared waits h d =
       let law = served_calls first.held first.leader k first.pid runs.alive call e u.leader.stands lives-now shared h
       in let m : Node = (step_here script first call e.reply (held_in e.kernel)).node
-      in let same-held : (q : ℕ) → get m.held.processes q ≡ get first.held.processes q = λ q. ap (λ ps. get ps q) law.held
+      in let same-held : (q : ℕ) → get m.held.processes q ≡ get first.held.processes q =
+      λ q. ap (λ ps. get ps q) law.held
       in enters call e.reply m law.next d
       (shared-rule-at script first call shared ∙ shared-here call shared waits ∙ ap (carry_out script first call) h)
       (shared-is-ordinary call shared) law.carries.makes refl (omega arith)
@@ -362,17 +398,21 @@ module _ (script : Script) (r : IsRunnable script) (w : World) (first : Node) (k
         away = same-held q ∙ x.away;
         listed = λ a g. x.listed a (sym (same-held 1) ∙ g);
       })
-      (λ places' g. goes-on-with call e.reply m law.next places' d (shared-goes-on call shared) refl refl refl refl law.carries.stands
+      (λ places' g. goes-on-with call e.reply m law.next places' d
+      (shared-goes-on call shared) refl refl refl refl law.carries.stands
       runs.alive (same-held 1 ∙ runs.lives) (omega arith) (omega arith) (omega arith) g)
 
-  served-by : (call : Call) (o : Option Effect) → is_shared call ≡ true → is_waiting call ≡ false → serve first.held first.pid call ≡ o
+  served-by : (call : Call) (o : Option Effect) → is_shared call ≡ true → is_waiting call ≡ false
+      → serve first.held first.pid call ≡ o
       → IsSome o → due (place_of script first) ≡ Some call → Goes script w (events.Run 1)
   served-by call None shared waits h s d = absurd (false≢true s)
   served-by call (Some e) shared waits h s d = serves call e shared waits h d
 
-  pub shared-call : (call : Call) → is_shared call ≡ true → is_waiting call ≡ false → due (place_of script first) ≡ Some call
+  pub shared-call : (call : Call) → is_shared call ≡ true → is_waiting call ≡ false
+      → due (place_of script first) ≡ Some call
       → Goes script w (events.Run 1)
-  shared-call call shared waits d = served-by call _ shared waits refl (shared_calls first.held first.pid call shared waits) d
+  shared-call call shared waits d =
+      served-by call _ shared waits refl (shared_calls first.held first.pid call shared waits) d
 
   -- ---- the exit
 
@@ -381,7 +421,8 @@ module _ (script : Script) (r : IsRunnable script) (w : World) (first : Node) (k
       let call : Call = calls.Exit status
       in let held : Held = end_first first.held first.pid runs.alive (Exited (status % 256))
       in let m : Node = record (step_here script first call replies.Ended held).node { stage = Over }
-      in let law = first_ends first.held first.leader k runs.alive status (w.journal, u.legal) u.leader.stands runs.lives
+      in let law = first_ends first.held first.leader k runs.alive status
+      (w.journal, u.legal) u.leader.stands runs.lives
       in let same : held ≡ end_first first.held 1 runs.alive (Exited (status % 256)) =
       ap (λ x. end_first first.held x runs.alive (Exited (status % 256))) u.leader.pid
       in let buried-now : List _ = fold bury first.held.processes runs.alive.row.family.ended
@@ -390,7 +431,8 @@ module _ (script : Script) (r : IsRunnable script) (w : World) (first : Node) (k
       in let known = due-is script first call r numbered d
       in let over : (place-then call replies.Ended).left ≡ [] =
       ap (λ (z : Place). z.left)
-      (answered-place (lines_of script first.number) first.caller.line first.caller.vars call replies.Ended known.first.line
+      (answered-place (lines_of script first.number) first.caller.line first.caller.vars call replies.Ended
+      known.first.line
       known.first.rest known.first.left known.fine.once)
       ∙ nothing-behind script first call known runs.ends refl
       in enters call replies.Ended m law.next d

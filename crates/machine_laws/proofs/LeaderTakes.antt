@@ -32,7 +32,7 @@ use Rattle.kernel_laws.specs.Reachable.{IsReachableKernel}
 use Rattle.deed_laws.specs.Carrying.{IsFresh, StandsFor}
 use Rattle.deed_laws.proofs.Shared.{shared_calls, served_calls}
 use Rattle.deed_laws.proofs.Endings.{children_end}
-use Rattle.kernel_laws.proofs.MapLaws.{get-put-same, get-put-other}
+use Rattle.number_maps.proofs.LookUps.{get-put-same, get-put-other}
 use Rattle.machine_laws.specs.Situations.{Answered, Recalled, Gone, IsAsking, TellsEnd, HasHandedOver, LivesHere, parcel_from}
 use Rattle.machine_laws.specs.Invariant.{IsUnderWay, sight}
 use Rattle.machine_laws.proofs.Streams.{Changes, changes-to, changes-from, changes-both}
@@ -45,7 +45,8 @@ use Rattle.machine_laws.proofs.Rests.{Idles, leader-idles, known-after}
 use Rattle.machine_laws.proofs.ChildTakes.{new-deed-same}
 
 -- the numbers to come are the same where only the partings change
-fresh-still : (l m : Leader) (k : Kernel) → m.next_process ≡ l.next_process → m.next_queue ≡ l.next_queue → m.next_set ≡ l.next_set
+fresh-still : (l m : Leader) (k : Kernel) → m.next_process ≡ l.next_process → m.next_queue ≡ l.next_queue
+    → m.next_set ≡ l.next_set
     → IsFresh l k → IsFresh m k
 fresh-still l m k p q s f =
     record {
@@ -57,7 +58,8 @@ fresh-still l m k p q s f =
       sets = λ n h. f.sets n (omega (arith, h, s));
     }
 
-stands-still : (h : Held) (l m : Leader) (k : Kernel) → m.next_process ≡ l.next_process → m.next_queue ≡ l.next_queue → m.next_set ≡ l.next_set
+stands-still : (h : Held) (l m : Leader) (k : Kernel) → m.next_process ≡ l.next_process → m.next_queue ≡ l.next_queue
+    → m.next_set ≡ l.next_set
     → StandsFor h l k → StandsFor h m k
 stands-still h l m k p q s f = record { here = f.here; fresh = fresh-still l m k p q s f.fresh; plain = f.plain }
 
@@ -86,15 +88,19 @@ ended-family : (a : Alive) (child : ℕ) (ending : Ending) (ignored : Bool) → 
 ended-family a child ending true h = rw h refl
 ended-family a child ending false h = rw h refl
 
-lists-still : (a : Alive) (child q : ℕ) (ending : Ending) → q ≢ child → lists (with_ended_child a child ending).row.family q ≡ lists a.row.family q
+lists-still : (a : Alive) (child q : ℕ) (ending : Ending) → q ≢ child
+    → lists (with_ended_child a child ending).row.family q ≡ lists a.row.family q
 lists-still a child q ending h =
-    ap (λ (f : Family). lists f q) (ended-family a child ending (ignores_children a.row) refl) ∙ any-others child q a.row.family.living h
+    ap (λ (f : Family). lists f q) (ended-family a child ending (ignores_children a.row) refl)
+    ∙ any-others child q a.row.family.living h
 
 living-is : (a b : Alive) → LivingProcess a ≡ LivingProcess b → a ≡ b
 living-is a b h = cc
 
-module _ (script : Script) (r : IsRunnable script) (w : World) (first : Node) (k : Kernel) (places : Places) (pids : ℕ → ℕ)
-    (u : IsUnderWay script w first k places pids) (p : ℕ) (low : 2 ≤ p) (high : p ≤ node_count script) (n : Node) (at : node_at w p ≡ Some n)
+module _ (script : Script) (r : IsRunnable script) (w : World) (first : Node) (k : Kernel) (places : Places) (pids : ℕ
+    → ℕ)
+    (u : IsUnderWay script w first k places pids) (p : ℕ) (low : 2 ≤ p) (high : p ≤ node_count script) (n : Node)
+    (at : node_at w p ≡ Some n)
     (lives : LivesHere k first.held (pids p)) (high_pid : 2 ≤ pids p) where
   abbrev without-first : World
   without-first = record w { streams = with_stream w.streams 1 p [] }
@@ -119,7 +125,8 @@ module _ (script : Script) (r : IsRunnable script) (w : World) (first : Node) (k
   reachable = (w.journal, u.legal)
 
   -- the leader holds process 1, so no process whose deed is away is process 1
-  first-not-away : (q : ℕ) → q ≡ 1 → (x : Process) → get first.held.processes 1 ≡ Some x → get first.held.processes q ≡ None → ⊥
+  first-not-away : (q : ℕ) → q ≡ 1 → (x : Process) → get first.held.processes 1 ≡ Some x
+      → get first.held.processes q ≡ None → ⊥
   first-not-away q e x h g =
       let both : Some x ≡ None = sym h ∙ sym (ap (λ y. get first.held.processes y) e) ∙ g
       in cc
@@ -129,7 +136,8 @@ module _ (script : Script) (r : IsRunnable script) (w : World) (first : Node) (k
 
   -- the leader with other deeds and other notes of who parts
   idle : (held : Held) (partings : Numbered Parting) (places' : Places) → get places' 1 ≡ get places 1
-      → ((a : Alive) → get first.held.processes 1 ≡ Some (LivingProcess a) → (b : Alive) × (get held.processes 1 ≡ Some (LivingProcess b)))
+      → ((a : Alive) → get first.held.processes 1 ≡ Some (LivingProcess a) → (b : Alive)
+      × (get held.processes 1 ≡ Some (LivingProcess b)))
       → (get first.held.processes 1 ≡ Some GoneProcess → get held.processes 1 ≡ Some GoneProcess)
       → Idles first (record first { held = held; leader = record first.leader { partings = partings } }) places places'
   idle held partings places' place lives-on gone =
@@ -156,14 +164,16 @@ module _ (script : Script) (r : IsRunnable script) (w : World) (first : Node) (k
         sends = (p, frames.Answer ticket e.reply) ∷ [];
       }
 
-  ask-rule : (ticket : ℕ) (call : Call) (e : Effect) → 0 < ticket → is_shared call ≡ true → serve first.held (pids p) call ≡ Some e
+  ask-rule : (ticket : ℕ) (call : Call) (e : Effect) → 0 < ticket → is_shared call ≡ true
+      → serve first.held (pids p) call ≡ Some e
       → takes script first p (frames.Ask ticket (pids p) call) ≡ Some (answering ticket call e)
   ask-rule ticket call e t s h = rw (from-other, lt-ltb 0 ticket t, s, h) refl
 
   answers : (call : Call) → IsAsking script p (pids p) (sight w first places p (pids p) n) call
       → (e : Effect) → serve first.held (pids p) call ≡ Some e → Goes script w (events.Take 1 p)
   answers call i e h =
-      let law = served_calls first.held first.leader k (pids p) new_process call e u.leader.stands lives-now i.has.shared h
+      let law = served_calls first.held first.leader k
+      (pids p) new_process call e u.leader.stands lives-now i.has.shared h
       in let next : Kernel = law.next
       in let s : Step = answering n.caller.ticket call e
       in let m : Node = s.node
@@ -176,7 +186,8 @@ module _ (script : Script) (r : IsRunnable script) (w : World) (first : Node) (k
       in let goes = goes-on script w.journal k next places first.number (pids p) call e.reply (place_of script n) then
       u.legal u.fits u.ordered i.place i.has.is_due (shared-is-ordinary call i.has.shared) law.carries.makes refl
       in let places' : Places = put places (pids p) then
-      in let same-held : (q : ℕ) → get m.held.processes q ≡ get first.held.processes q = λ q. ap (λ ps. get ps q) law.held
+      in let same-held : (q : ℕ) → get m.held.processes q ≡ get first.held.processes q =
+      λ q. ap (λ ps. get ps q) law.held
       in let living : (q : ℕ) → LivesHere k first.held q → LivesHere next m.held q =
       λ q l. record {
         process = ap (λ ps. get ps q) law.processes ∙ l.process;
@@ -241,18 +252,26 @@ module _ (script : Script) (r : IsRunnable script) (w : World) (first : Node) (k
   asked call i None h s = absurd (false≢true s)
   asked call i (Some e) h s = answers call i e h
 
-  pub takes-ask : (call : Call) → IsAsking script p (pids p) (sight w first places p (pids p) n) call → Goes script w (events.Take 1 p)
+  pub takes-ask : (call : Call) → IsAsking script p (pids p) (sight w first places p (pids p) n) call
+      → Goes script w (events.Take 1 p)
   takes-ask call i = asked call i _ refl (shared_calls first.held (pids p) call i.has.shared i.has.at_once)
 
   -- ---- a Leaving: the leader asks for all
 
   abbrev recalling : Step
-  recalling = record { node = with_parting first p (IsLeaving (pids p)); entries = []; sends = (p, frames.RecallAll) ∷ [] }
+  recalling = record {
+    node = with_parting first p (IsLeaving (pids p));
+    entries = [];
+    sends =
+        (p, frames.RecallAll) ∷ [];
+  }
 
-  leaving-rule : get first.leader.partings p ≡ None → takes script first p (frames.Leaving (pids p) 1 1) ≡ Some recalling
+  leaving-rule : get first.leader.partings p ≡ None
+      → takes script first p (frames.Leaving (pids p) 1 1) ≡ Some recalling
   leaving-rule h = rw (from-other, h, lt-ltb 0 (pids p) (omega arith), ne_eqb (pids p) 1 (λ e. omega arith)) refl
 
-  pub takes-leaving : (status : ℕ) → TellsEnd script p (pids p) (sight w first places p (pids p) n) status → Goes script w (events.Take 1 p)
+  pub takes-leaving : (status : ℕ) → TellsEnd script p (pids p) (sight w first places p (pids p) n) status
+      → Goes script w (events.Take 1 p)
   takes-leaving status i =
       let m : Node = recalling.node
       in let f : Frame = frames.RecallAll
@@ -284,7 +303,8 @@ module _ (script : Script) (r : IsRunnable script) (w : World) (first : Node) (k
               })
               (record {
                 legal = subst (λ (h : List Entry). Replays opening h k) (sym journal) u.legal;
-                fits = subst (λ (h : List Entry). FitsFrom script (opening_places script) h places) (sym journal) u.fits;
+                fits = subst (λ (h : List Entry). FitsFrom script (opening_places script) h places)
+                    (sym journal) u.fits;
                 ordered = u.ordered;
                 first_at = node-same w.nodes 1 first m u.first_at;
                 leader = leader-idles script first m k k places places pids
@@ -318,18 +338,25 @@ module _ (script : Script) (r : IsRunnable script) (w : World) (first : Node) (k
   abbrev ending-step : (status : ℕ) (x : Process) → Step
   ending-step status x =
       record {
-        node = record (with_parting first p HasLeft) { held = end_child first.held (pids p) 1 x (Exited (status % 256)) };
+        node = record (with_parting first p HasLeft) {
+          held =
+              end_child first.held (pids p) 1 x (Exited (status % 256));
+        };
         entries = entry_by first.number (pids p) (calls.Exit status) replies.Ended ∷ [];
         sends = [];
       }
 
-  leaves-as-told : get first.leader.partings p ≡ Some (IsLeaving (pids p)) → leaves_as (pids p) (get first.leader.partings p) ≡ true
+  leaves-as-told : get first.leader.partings p ≡ Some (IsLeaving (pids p))
+      → leaves_as (pids p) (get first.leader.partings p) ≡ true
   leaves-as-told h = ap (leaves_as (pids p)) h ∙ eq-eqb (pids p) (pids p) refl
 
-  left-rule : (status : ℕ) (x : Process) → get first.leader.partings p ≡ Some (IsLeaving (pids p)) → get first.held.processes 1 ≡ Some x
-      → may_end (pids p) x ≡ true → takes script first p (frames.Left (parcel_from (pids p) status)) ≡ Some (ending-step status x)
+  left-rule : (status : ℕ) (x : Process) → get first.leader.partings p ≡ Some (IsLeaving (pids p))
+      → get first.held.processes 1 ≡ Some x
+      → may_end (pids p) x ≡ true
+      → takes script first p (frames.Left (parcel_from (pids p) status)) ≡ Some (ending-step status x)
   left-rule status x h g m =
-      rw (from-other, leaves-as-told h, lives.away, new-deed-same (pids p)) (ap (end_at first p (parcel_from (pids p) status) status) g ∙ rw m refl)
+      rw (from-other, leaves-as-told h, lives.away, new-deed-same (pids p))
+      (ap (end_at first p (parcel_from (pids p) status) status) g ∙ rw m refl)
 
   -- what the leader has of processes afterwards
   away-still : (q : ℕ) (ending : Ending) (x : Process) → q ≢ 1 → q ≢ pids p
@@ -342,20 +369,24 @@ module _ (script : Script) (r : IsRunnable script) (w : World) (first : Node) (k
   away-still q ending GoneProcess one other = get-put-other first.held.processes (pids p) _ q other
 
   first-living : (a : Alive) (ending : Ending)
-      → get (end_child first.held (pids p) 1 (LivingProcess a) ending).processes 1 ≡ Some (LivingProcess (with_ended_child a (pids p) ending))
+      → get (end_child first.held (pids p) 1 (LivingProcess a) ending).processes 1
+      ≡ Some (LivingProcess (with_ended_child a (pids p) ending))
   first-living a ending =
       get-put-same (put first.held.processes (pids p) (process_after_end (ignores_children a.row) ending)) 1
       (LivingProcess (with_ended_child a (pids p) ending))
 
-  first-gone : (ending : Ending) → get (end_child first.held (pids p) 1 GoneProcess ending).processes 1 ≡ get first.held.processes 1
+  first-gone : (ending : Ending)
+      → get (end_child first.held (pids p) 1 GoneProcess ending).processes 1 ≡ get first.held.processes 1
   first-gone ending = get-put-other first.held.processes (pids p) _ 1 (λ e. omega arith)
 
   -- who is listed by process 1 afterwards was listed before
   listed-still : (x : Process) (ending : Ending) (q : ℕ) → get first.held.processes 1 ≡ Some x → q ≢ 1 → q ≢ pids p
       → ((a : Alive) → get first.held.processes 1 ≡ Some (LivingProcess a) → lists a.row.family q ≡ true)
-      → (b : Alive) → get (end_child first.held (pids p) 1 x ending).processes 1 ≡ Some (LivingProcess b) → lists b.row.family q ≡ true
+      → (b : Alive) → get (end_child first.held (pids p) 1 x ending).processes 1 ≡ Some (LivingProcess b)
+      → lists b.row.family q ≡ true
   listed-still (LivingProcess a) ending q h one other before b g =
-      let same : LivingProcess (with_ended_child a (pids p) ending) ≡ LivingProcess b = some-is _ _ (sym (first-living a ending) ∙ g)
+      let same : LivingProcess (with_ended_child a (pids p) ending) ≡ LivingProcess b =
+      some-is _ _ (sym (first-living a ending) ∙ g)
       in let alive : with_ended_child a (pids p) ending ≡ b = living-is _ _ same
       in subst (λ (c : Alive). lists c.row.family q ≡ true) alive (lists-still a (pids p) q ending other ∙ before a h)
   listed-still (EndedProcess e) ending q h one other before b g =
@@ -367,10 +398,12 @@ module _ (script : Script) (r : IsRunnable script) (w : World) (first : Node) (k
       → get first.held.processes 1 ≡ Some (LivingProcess a)
       → (b : Alive) × (get (end_child first.held (pids p) 1 x ending).processes 1 ≡ Some (LivingProcess b))
   still-lives (LivingProcess b) ending a h g = (with_ended_child b (pids p) ending, first-living b ending)
-  still-lives (EndedProcess e) ending a h g = let both : Some (EndedProcess e) ≡ Some (LivingProcess a) = sym h ∙ g in cc
+  still-lives (EndedProcess e) ending a h g = let both : Some (EndedProcess e) ≡ Some (LivingProcess a) =
+      sym h ∙ g in cc
   still-lives GoneProcess ending a h g = let both : Some GoneProcess ≡ Some (LivingProcess a) = sym h ∙ g in cc
 
-  still-gone : (x : Process) (ending : Ending) → get first.held.processes 1 ≡ Some x → get first.held.processes 1 ≡ Some GoneProcess
+  still-gone : (x : Process) (ending : Ending) → get first.held.processes 1 ≡ Some x
+      → get first.held.processes 1 ≡ Some GoneProcess
       → get (end_child first.held (pids p) 1 x ending).processes 1 ≡ Some GoneProcess
   still-gone (LivingProcess b) ending h g = let both : Some (LivingProcess b) ≡ Some GoneProcess = sym h ∙ g in cc
   still-gone (EndedProcess e) ending h g = let both : Some (EndedProcess e) ≡ Some GoneProcess = sym h ∙ g in cc
@@ -380,7 +413,8 @@ module _ (script : Script) (r : IsRunnable script) (w : World) (first : Node) (k
       → HasHandedOver script p (pids p) (sight w first places p (pids p) n) status → Goes script w (events.Take 1 p)
   ends-with status x there may i =
       let ending : Ending = Exited (status % 256)
-      in let law = children_end first.held first.leader k x (pids p) status reachable u.leader.stands (λ e. omega arith) lives.process lives.away there may
+      in let law = children_end first.held first.leader k x (pids p) status reachable u.leader.stands
+      (λ e. omega arith) lives.process lives.away there may
       in let next : Kernel = law.next
       in let s : Step = ending-step status x
       in let m : Node = s.node
@@ -388,14 +422,17 @@ module _ (script : Script) (r : IsRunnable script) (w : World) (first : Node) (k
       in let numbered : 1 ≤ n.number = let b = i.born.number in omega (arith, b)
       in let known = due-is script n (calls.Exit status) r numbered i.at.is_due
       in let then : Place = place_after (place_of script n) (calls.Exit status) (Some replies.Ended)
-      in let goes = goes-on script w.journal k next places first.number (pids p) (calls.Exit status) replies.Ended (place_of script n) then
-      u.legal u.fits u.ordered i.at.place i.at.is_due (record { not_killed = refl; not_fork = λ s ps place reply. refl })
+      in let goes = goes-on script w.journal k next places first.number (pids p) (calls.Exit status) replies.Ended
+      (place_of script n) then
+      u.legal u.fits u.ordered i.at.place i.at.is_due
+      (record { not_killed = refl; not_fork = λ s ps place reply. refl })
       law.carries.makes refl
       in let places' : Places = put places (pids p) then
       in let own : get places' 1 ≡ get places 1 = goes.other 1 (λ e. omega arith)
       in let over : then.left ≡ [] =
       ap (λ (z : Place). z.left)
-      (answered-place (lines_of script n.number) n.caller.line n.caller.vars (calls.Exit status) replies.Ended known.first.line
+      (answered-place (lines_of script n.number) n.caller.line n.caller.vars
+      (calls.Exit status) replies.Ended known.first.line
       known.first.rest known.first.left known.fine.once)
       ∙ nothing-behind script n (calls.Exit status) known i.at.ends refl
       in record {
@@ -431,7 +468,8 @@ module _ (script : Script) (r : IsRunnable script) (w : World) (first : Node) (k
                 ordered = goes.ordered_places;
                 first_at = node-same w.nodes 1 first m u.first_at;
                 leader = leader-idles script first m k next places places' pids
-                    (idle m.held m.leader.partings places' own (λ a g. still-lives x ending a there g) (λ g. still-gone x ending there g))
+                    (idle m.held m.leader.partings places' own (λ a g. still-lives x ending a there g)
+                    (λ g. still-gone x ending there g))
                     (stands-still m.held first.leader m.leader next refl refl refl law.carries.stands) u.leader;
                 child = λ h. record {
                   situation = Gone;
@@ -453,12 +491,14 @@ module _ (script : Script) (r : IsRunnable script) (w : World) (first : Node) (k
                 };
                 apart = u.apart;
                 below = u.below;
-                known = known-after script places places' pids (pids p) (place_of script n) u.known i.at.place goes.other;
+                known = known-after script places places' pids (pids p)
+                    (place_of script n) u.known i.at.place goes.other;
               });
         };
       }
 
-  pub takes-left : (status : ℕ) → HasHandedOver script p (pids p) (sight w first places p (pids p) n) status → Goes script w (events.Take 1 p)
+  pub takes-left : (status : ℕ) → HasHandedOver script p (pids p) (sight w first places p (pids p) n) status
+      → Goes script w (events.Take 1 p)
   takes-left status i =
       elim u.leader.life [
         | inl runs ↦ ends-with status (LivingProcess runs.alive) runs.lives (lives.listed runs.alive runs.lives) i

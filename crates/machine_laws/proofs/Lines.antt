@@ -50,7 +50,8 @@ pub record IsFirst (place : Place) (call : Call) : Type 0 where
   pub left : place.left ≡ line ∷ rest
   pub is_call : call ≡ call_of line place.vars
 
-first-of : (place : Place) (call : Call) (left : List Line) → place.left ≡ left → call_due place left ≡ Some call → IsFirst place call
+first-of : (place : Place) (call : Call) (left : List Line) → place.left ≡ left → call_due place left ≡ Some call
+    → IsFirst place call
 first-of place call [] e h = cc
 first-of place call (line ∷ rest) e h = record { line = line; rest = rest; left = e; is_call = some-is _ _ (sym h) }
 
@@ -62,17 +63,24 @@ and-false true = refl
 and-false false = refl
 
 -- after a line that is tried once the next one is due
-pub answered-place : (lines : List Line) (i : ℕ) (vars : Vars) (call : Call) (reply : Reply) (line : Line) (rest : List Line)
+pub answered-place : (lines : List Line) (i : ℕ) (vars : Vars) (call : Call) (reply : Reply) (line : Line)
+    (rest : List Line)
     → drop i lines ≡ line ∷ rest → line.tries ≡ 1
     → place_after (record { left = drop i lines; tried = 0; vars = vars }) call (Some reply)
-    ≡ record { left = drop (i + 1) lines; tried = 0; vars = set_variable vars (set_by (slice_get lines i)) (value_in (Some reply)) }
+    ≡ record {
+      left = drop (i + 1) lines;
+      tried = 0;
+      vars =
+          set_variable vars (set_by (slice_get lines i)) (value_in (Some reply));
+    }
 answered-place lines i vars call reply line rest cut once =
     let next = next-line lines i line rest cut
     in ap (λ l. after_line (record { left = drop i lines; tried = 0; vars = vars }) call (Some reply) l) cut
     ∙ rw (once, and-false (asks_again call (Some reply)), next.0, next.1) refl
 
 -- the exit is the last
-pub ends-next : (line : Line) (rest : List Line) → EndsInExit (line ∷ rest) → is_exit line.call ≡ false → EndsInExit rest
+pub ends-next : (line : Line) (rest : List Line) → EndsInExit (line ∷ rest) → is_exit line.call ≡ false
+    → EndsInExit rest
 ends-next line [] e h = false≢true (sym h ∙ e)
 ends-next line (next ∷ rest) e h = e.1
 
@@ -98,7 +106,8 @@ pub ends-some : (lines : List Line) → EndsInExit lines → (line : Line) × (r
 ends-some [] e = absurd e
 ends-some (line ∷ rest) e = (line, rest, refl)
 
-pub all-at : {X : Type 0} (P : X → Type 0) (xs : List X) (i : ℕ) (x : X) → AllByRecursion P xs → slice_get xs i ≡ Some x → P x
+pub all-at : {X : Type 0} (P : X → Type 0) (xs : List X) (i : ℕ) (x : X) → AllByRecursion P xs → slice_get xs i ≡ Some x
+    → P x
 all-at P [] i x a h = cc
 all-at P (y ∷ xs) zero x a h = subst P (some-is _ _ h) a.0
 all-at P (y ∷ xs) (suc i) x a h = all-at P xs i x a.1 h

@@ -17,8 +17,10 @@ get-set-other (y ∷ xs) (suc i) zero x h = refl
 get-set-other (y ∷ xs) (suc i) (suc j) x h = get-set-other xs i j x (λ e. h (ap suc e))
 
 -- node p stands at place p - 1
-pub node-same : (nodes : List Node) (p : ℕ) (n m : Node) → slice_get nodes (p - 1) ≡ Some n → slice_get (set nodes (p - 1) m) (p - 1) ≡ Some m
+pub node-same : (nodes : List Node) (p : ℕ) (n m : Node) → slice_get nodes (p - 1) ≡ Some n
+    → slice_get (set nodes (p - 1) m) (p - 1) ≡ Some m
 node-same nodes p n m h = get-set-same nodes (p - 1) m (slice_get_within nodes (p - 1) n h)
 
-pub node-other : (nodes : List Node) (p q : ℕ) (m : Node) → 1 ≤ p → 1 ≤ q → q ≢ p → slice_get (set nodes (p - 1) m) (q - 1) ≡ slice_get nodes (q - 1)
+pub node-other : (nodes : List Node) (p q : ℕ) (m : Node) → 1 ≤ p → 1 ≤ q → q ≢ p
+    → slice_get (set nodes (p - 1) m) (q - 1) ≡ slice_get nodes (q - 1)
 node-other nodes p q m low low_q h = get-set-other nodes (p - 1) (q - 1) m (λ e. h (omega arith))

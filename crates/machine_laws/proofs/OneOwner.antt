@@ -12,7 +12,7 @@ use Rattle.rpc_frame.specs.declared.frame.Frame.{Frame}
 use Rattle.number_maps.specs.Maps.{get}
 use Rattle.kernel_model.specs.Kernel.{Kernel, Process, Living as LivingProcess}
 use Rattle.kernel_model.specs.Fitting.{Places}
-use Rattle.kernel_laws.proofs.MapLaws.{get-later}
+use Rattle.number_maps.proofs.LookUps.{get-later}
 use Rattle.machine_model.specs.Node.{Node, Held, nothing, only, new_process}
 use Rattle.machine_model.specs.Deeds.{new_deed}
 use Rattle.machine_model.specs.World.{World, Streams, node_at, stream, node_count}
@@ -27,7 +27,8 @@ use Rattle.machine_laws.proofs.Runs.{reaches}
 
 -- ---- sums with one place that counts
 
-sum-none : {X : Type 0} (f : X → ℕ) (xs : List X) → ((i : ℕ) (x : X) → slice_get xs i ≡ Some x → f x ≡ 0) → sum_by f xs ≡ 0
+sum-none : {X : Type 0} (f : X → ℕ) (xs : List X) → ((i : ℕ) (x : X) → slice_get xs i ≡ Some x → f x ≡ 0)
+    → sum_by f xs ≡ 0
 sum-none f [] h = refl
 sum-none f (x ∷ xs) h =
     let a = sum_by-cons f x xs
@@ -35,7 +36,8 @@ sum-none f (x ∷ xs) h =
     in let c = sum-none f xs (λ i y g. h (suc i) y g)
     in omega (arith, a, b, c)
 
-sum-one : {X : Type 0} (f : X → ℕ) (xs : List X) (j m : ℕ) → ((i : ℕ) (x : X) → slice_get xs i ≡ Some x → i ≢ j → f x ≡ 0)
+sum-one : {X : Type 0} (f : X → ℕ) (xs : List X) (j m : ℕ)
+    → ((i : ℕ) (x : X) → slice_get xs i ≡ Some x → i ≢ j → f x ≡ 0)
     → ((x : X) → slice_get xs j ≡ Some x → f x ≤ m) → sum_by f xs ≤ m
 sum-one f [] j m h g = omega arith
 sum-one f (x ∷ xs) zero m h g =
@@ -58,18 +60,21 @@ module _ (count : Frame → ℕ) (ss : Streams) where
   abbrev at-place : ℕ → ℕ → List Frame
   at-place i j = get_or (get_or ss i []) j []
 
-  in-place : (i j : ℕ) (row : List (List Frame)) (fs : List Frame) → slice_get ss i ≡ Some row → slice_get row j ≡ Some fs → at-place i j ≡ fs
+  in-place : (i j : ℕ) (row : List (List Frame)) (fs : List Frame) → slice_get ss i ≡ Some row
+      → slice_get row j ≡ Some fs → at-place i j ≡ fs
   in-place i j row fs h g = ap (λ r. get_or r j []) (get-or-is ss i row [] h) ∙ get-or-is row j fs [] g
 
   none-on-the-way : ((i j : ℕ) → sum_by count (at-place i j) ≡ 0) → on_the_way count ss ≡ 0
   none-on-the-way h =
       sum-none _ ss (λ i row g. sum-none _ row (λ j fs e. ap (sum_by count) (sym (in-place i j row fs g e)) ∙ h i j))
 
-  one-on-the-way : (a b m : ℕ) → ((i j : ℕ) → (i ≡ a → j ≢ b) → sum_by count (at-place i j) ≡ 0) → sum_by count (at-place a b) ≤ m
+  one-on-the-way : (a b m : ℕ) → ((i j : ℕ) → (i ≡ a → j ≢ b) → sum_by count (at-place i j) ≡ 0)
+      → sum_by count (at-place a b) ≤ m
       → on_the_way count ss ≤ m
   one-on-the-way a b m h g =
       sum-one _ ss a m
-      (λ i row e o. sum-none _ row (λ j fs x. ap (sum_by count) (sym (in-place i j row fs e x)) ∙ h i j (λ z. absurd (o z))))
+      (λ i row e o. sum-none _ row
+      (λ j fs x. ap (sum_by count) (sym (in-place i j row fs e x)) ∙ h i j (λ z. absurd (o z))))
       (λ row e. sum-one _ row b m
       (λ j fs x o. ap (sum_by count) (sym (in-place a j row fs e x)) ∙ h a j (λ z. o))
       (λ fs x. subst (λ l. sum_by count l ≤ m) (in-place a b row fs e x) g))
@@ -99,7 +104,8 @@ nothing-counts (Msg x) = refl
 nothing-counts (Sem x) = refl
 
 only-other : (name : Name) (pid : ℕ) → name ≢ Proc pid → one_if (holds name (only pid)) ≡ 0
-only-other (Proc x) pid h = ap (λ o. one_if (is_some o)) (get-later (pid, LivingProcess new_process) [] x (λ e. h (ap Proc e)))
+only-other (Proc x) pid h =
+    ap (λ o. one_if (is_some o)) (get-later (pid, LivingProcess new_process) [] x (λ e. h (ap Proc e)))
 only-other (Msg x) pid h = refl
 only-other (Sem x) pid h = refl
 
@@ -158,18 +164,24 @@ module _ (script : Script) (w : World) (first : Node) (k : Kernel) (places : Pla
       (no-frames-count name _ i.shows.to_it) (no-frames-count name _ i.shows.from_it)
   child-counts p n (Forked vars) i =
       ToIt (held-count name n nothing (ap (λ (x : Node). x.held) i.unborn.node) ∙ nothing-counts name)
-      (let a = one-frame-count name _ _ i.shows.to_it in let b = one-if-least (is_of name (new_deed (pids p))) in omega (arith, a, b))
+      (let a = one-frame-count name _ _ i.shows.to_it in let b =
+      one-if-least (is_of name (new_deed (pids p))) in omega (arith, a, b))
       (no-frames-count name _ i.shows.from_it)
   child-counts p n Free i =
-      AtNode (one-if-least (holds name n.held)) (no-frames-count name _ i.shows.to_it) (no-frames-count name _ i.shows.from_it)
+      AtNode (one-if-least (holds name n.held)) (no-frames-count name _ i.shows.to_it)
+      (no-frames-count name _ i.shows.from_it)
   child-counts p n (Asking call) i =
-      AtNode (one-if-least (holds name n.held)) (no-frames-count name _ i.shows.to_it) (one-frame-count name _ _ i.shows.from_it)
+      AtNode (one-if-least (holds name n.held)) (no-frames-count name _ i.shows.to_it)
+      (one-frame-count name _ _ i.shows.from_it)
   child-counts p n (Answered call reply) i =
-      AtNode (one-if-least (holds name n.held)) (one-frame-count name _ _ i.shows.to_it) (no-frames-count name _ i.shows.from_it)
+      AtNode (one-if-least (holds name n.held)) (one-frame-count name _ _ i.shows.to_it)
+      (no-frames-count name _ i.shows.from_it)
   child-counts p n (Telling status) i =
-      AtNode (one-if-least (holds name n.held)) (no-frames-count name _ i.shows.to_it) (one-frame-count name _ _ i.shows.from_it)
+      AtNode (one-if-least (holds name n.held)) (no-frames-count name _ i.shows.to_it)
+      (one-frame-count name _ _ i.shows.from_it)
   child-counts p n (Recalled status) i =
-      AtNode (one-if-least (holds name n.held)) (one-frame-count name _ _ i.shows.to_it) (no-frames-count name _ i.shows.from_it)
+      AtNode (one-if-least (holds name n.held)) (one-frame-count name _ _ i.shows.to_it)
+      (no-frames-count name _ i.shows.from_it)
   child-counts p n (HandedOver status) i =
       FromIt (held-count name n nothing i.has.has_deeds ∙ nothing-counts name) (no-frames-count name _ i.shows.to_it)
       (let a = one-frame-count name _ _ i.shows.from_it
@@ -181,7 +193,8 @@ module _ (script : Script) (w : World) (first : Node) (k : Kernel) (places : Pla
       (no-frames-count name _ i.shows.from_it)
 
   -- and nowhere where the name isn't its process's, or its process's deed is at the leader
-  other-zero : (p : ℕ) (n : Node) (s : Situation) → IsIn s script p (pids p) (sight w first places p (pids p) n) → name ≢ Proc (pids p)
+  other-zero : (p : ℕ) (n : Node) (s : Situation) → IsIn s script p (pids p) (sight w first places p (pids p) n)
+      → name ≢ Proc (pids p)
       → Zero (here n) (to-count p) (from-count p)
   other-zero p n Awaited i o =
       record {
@@ -229,7 +242,8 @@ module _ (script : Script) (w : World) (first : Node) (k : Kernel) (places : Pla
       record {
         at_node = held-count name n nothing i.has.has_deeds ∙ nothing-counts name;
         to_node = no-frames-count name _ i.shows.to_it;
-        from_node = one-frame-count name _ _ i.shows.from_it ∙ count-one name (pids p) ∙ ap one_if (deed-other name (pids p) o);
+        from_node = one-frame-count name _ _ i.shows.from_it ∙ count-one name (pids p)
+            ∙ ap one_if (deed-other name (pids p) o);
       }
   other-zero p n Gone i o =
       record {
@@ -239,7 +253,8 @@ module _ (script : Script) (w : World) (first : Node) (k : Kernel) (places : Pla
       }
 
   -- a process whose deed is at the leader has ended, or isn't forked
-  dead-zero : (p : ℕ) (n : Node) (s : Situation) → IsIn s script p (pids p) (sight w first places p (pids p) n) → LivesIn s k first.held (pids p)
+  dead-zero : (p : ℕ) (n : Node) (s : Situation) → IsIn s script p (pids p) (sight w first places p (pids p) n)
+      → LivesIn s k first.held (pids p)
       → (x : Process) → get first.held.processes (pids p) ≡ Some x → Zero (here n) (to-count p) (from-count p)
   dead-zero p n Awaited i l x h =
       record {
@@ -264,7 +279,8 @@ module _ (script : Script) (w : World) (first : Node) (k : Kernel) (places : Pla
   -- ---- the whole world
 
   -- a node that isn't the leader is a child's
-  child-at : (i : ℕ) (n : Node) → slice_get w.nodes i ≡ Some n → i ≢ 0 → (2 ≤ i + 1) × (i + 1 ≤ node_count script) × (node_at w (i + 1) ≡ Some n)
+  child-at : (i : ℕ) (n : Node) → slice_get w.nodes i ≡ Some n → i ≢ 0 → (2 ≤ i + 1) × (i + 1 ≤ node_count script)
+      × (node_at w (i + 1) ≡ Some n)
   child-at i n h o =
       let l = slice_get_within w.nodes i n h
       in let c = u.nodes
@@ -273,7 +289,8 @@ module _ (script : Script) (w : World) (first : Node) (k : Kernel) (places : Pla
 
   -- all children but one count nowhere
   ZerosBut : ℕ → Type 0
-  ZerosBut c = (p : ℕ) (low : 2 ≤ p) (high : p ≤ node_count script) → p ≢ c → Zero (here (u.children p low high).node) (to-count p) (from-count p)
+  ZerosBut c = (p : ℕ) (low : 2 ≤ p) (high : p ≤ node_count script) → p ≢ c
+      → Zero (here (u.children p low high).node) (to-count p) (from-count p)
 
   module _ (c : ℕ) (zeros : ZerosBut c) where
     node-zero : (i : ℕ) (n : Node) → slice_get w.nodes i ≡ Some n → i ≢ 0 → i + 1 ≢ c → here n ≡ 0
@@ -285,7 +302,8 @@ module _ (script : Script) (w : World) (first : Node) (k : Kernel) (places : Pla
         in sym (ap here same) ∙ (zeros (i + 1) there.0 there.1 other).at_node
 
     -- the streams to a child and from it, and all others are empty
-    to-zero : (i : ℕ) → 1 ≤ i → (i + 1 ≡ c → to-count c ≡ 0) → brings-count name (at-place (brings name) w.streams i 0) ≡ 0
+    to-zero : (i : ℕ) → 1 ≤ i → (i + 1 ≡ c → to-count c ≡ 0)
+        → brings-count name (at-place (brings name) w.streams i 0) ≡ 0
     unfolding ZerosBut
     to-zero i low g =
         let e : i + 1 - 1 ≡ i = omega arith
@@ -301,7 +319,8 @@ module _ (script : Script) (w : World) (first : Node) (k : Kernel) (places : Pla
           ]
         ]
 
-    from-zero : (j : ℕ) → 1 ≤ j → (j + 1 ≡ c → from-count c ≡ 0) → brings-count name (at-place (brings name) w.streams 0 j) ≡ 0
+    from-zero : (j : ℕ) → 1 ≤ j → (j + 1 ≡ c → from-count c ≡ 0)
+        → brings-count name (at-place (brings name) w.streams 0 j) ≡ 0
     unfolding ZerosBut
     from-zero j low g =
         let e : j + 1 - 1 ≡ j = omega arith
@@ -309,8 +328,10 @@ module _ (script : Script) (w : World) (first : Node) (k : Kernel) (places : Pla
         ap (λ i. brings-count name (get_or (get_or w.streams 0 []) i [])) e
         in elim (cases_lt (node_count script) (j + 1)) [
           | inl past ↦
-              let some : 1 ≤ node_count script = let l = slice_get_within w.nodes 0 first u.first_at in let x = u.nodes in omega (arith, l, x)
-              in let r : length (get_or w.streams 0 []) ≤ j = let x = u.row 0 (omega (arith, some)) in omega (arith, past, x)
+              let some : 1 ≤ node_count script = let l = slice_get_within w.nodes 0 first u.first_at in let x =
+              u.nodes in omega (arith, l, x)
+              in let r : length (get_or w.streams 0 []) ≤ j = let x =
+              u.row 0 (omega (arith, some)) in omega (arith, past, x)
               in ap (brings-count name) (get_or_past (get_or w.streams 0 []) j [] r)
           | inr there ↦ elim (cases_eq (j + 1) c) [
             | inl same ↦ sym moved ∙ ap from-count same ∙ g same
@@ -337,7 +358,8 @@ module _ (script : Script) (w : World) (first : Node) (k : Kernel) (places : Pla
     first-count n h = ap here (some-is _ _ (sym u.first_at ∙ h))
 
     -- the leader doesn't count, and child c does once at most
-    by-child : here first ≡ 0 → 2 ≤ c → (n : Node) → slice_get w.nodes (c - 1) ≡ Some n → Counts (here n) (to-count c) (from-count c)
+    by-child : here first ≡ 0 → 2 ≤ c → (n : Node) → slice_get w.nodes (c - 1) ≡ Some n
+        → Counts (here n) (to-count c) (from-count c)
         → owners name w ≤ 1
     by-child z low n at counts = counted counts where
       nodes-none : here n ≡ 0 → holders name w ≡ 0
@@ -388,11 +410,13 @@ module _ (script : Script) (w : World) (first : Node) (k : Kernel) (places : Pla
 
 -- ---- which place it is
 
-leader-none : (name : Name) (x : ℕ) (first : Node) → name ≡ Proc x → get first.held.processes x ≡ None → holds-count name first ≡ 0
+leader-none : (name : Name) (x : ℕ) (first : Node) → name ≡ Proc x → get first.held.processes x ≡ None
+    → holds-count name first ≡ 0
 leader-none name x first e h = ap (λ m. one_if (holds m first.held)) e ∙ ap (λ o. one_if (is_some o)) h
 
 -- one of the numbers up to a bound is the one sought, or none is
-pub found-upto : (pids : ℕ → ℕ) (x count : ℕ) → ((p : ℕ) × (p ≤ count) × (2 ≤ p) × (pids p ≡ x)) ⊎ ((p : ℕ) → 2 ≤ p → p ≤ count → pids p ≢ x)
+pub found-upto : (pids : ℕ → ℕ) (x count : ℕ) → ((p : ℕ) × (p ≤ count) × (2 ≤ p) × (pids p ≡ x))
+    ⊎ ((p : ℕ) → 2 ≤ p → p ≤ count → pids p ≢ x)
 found-upto pids x zero = inr (λ p low high e. omega (arith, low, high))
 found-upto pids x (suc count) =
     elim (found-upto pids x count) [
@@ -413,14 +437,16 @@ module _ (script : Script) (w : World) (first : Node) (k : Kernel) (places : Pla
     (u : IsUnderWay script w first k places pids) where
   -- the zeros of children whose process it isn't
   apart-zero : (name : Name) (p : ℕ) (low : 2 ≤ p) (high : p ≤ node_count script) → name ≢ Proc (pids p)
-      → Zero (holds-count name (u.children p low high).node) (brings-count name (stream w p 1)) (brings-count name (stream w 1 p))
+      → Zero (holds-count name (u.children p low high).node) (brings-count name (stream w p 1))
+      (brings-count name (stream w 1 p))
   apart-zero name p low high o =
       let c = u.children p low high
       in other-zero script w first k places pids u name p c.node c.situation c.is_in o
 
   no-process : (name : Name) → ((x : ℕ) → name ≢ Proc x) → owners name w ≤ 1
   unfolding ZerosBut
-  no-process name h = by-leader script w first k places pids u name (λ p low high o. apart-zero name p low high (h (pids p)))
+  no-process name h = by-leader script w first k places pids u name
+      (λ p low high o. apart-zero name p low high (h (pids p)))
 
   at-leader : (x : ℕ) (y : Process) → get first.held.processes x ≡ Some y → owners (Proc x) w ≤ 1
   unfolding ZerosBut
@@ -434,7 +460,8 @@ module _ (script : Script) (w : World) (first : Node) (k : Kernel) (places : Pla
         | inr other ↦ apart-zero (Proc x) p low high (λ e. other (proc-is x (pids p) e))
       ])
 
-  at-child : (x p : ℕ) → 2 ≤ p → p ≤ node_count script → pids p ≡ x → x ≢ 0 → get first.held.processes x ≡ None → owners (Proc x) w ≤ 1
+  at-child : (x p : ℕ) → 2 ≤ p → p ≤ node_count script → pids p ≡ x → x ≢ 0 → get first.held.processes x ≡ None
+      → owners (Proc x) w ≤ 1
   unfolding ZerosBut
   at-child x p low high e some h =
       let c = u.children p low high
@@ -458,12 +485,14 @@ module _ (script : Script) (w : World) (first : Node) (k : Kernel) (places : Pla
       let c = u.children p low high
       in awaited-zero p c.node c.situation c.is_in) where
         awaited-zero : (p : ℕ) (n : Node) (s : Situation) → IsIn s script p (pids p) (sight w first places p (pids p) n)
-            → Zero (holds-count (Proc 0) n) (brings-count (Proc 0) (stream w p 1)) (brings-count (Proc 0) (stream w 1 p))
+            → Zero (holds-count (Proc 0) n) (brings-count (Proc 0) (stream w p 1))
+            (brings-count (Proc 0) (stream w 1 p))
         awaited-zero p n s i = elim (cases_eq 0 (pids p)) [
           | inl e ↦
               let a = awaited-is s script p (pids p) _ i (sym e)
               in record {
-                at_node = held-count (Proc 0) n nothing (ap (λ (y : Node). y.held) a.unborn.node) ∙ nothing-counts (Proc 0);
+                at_node = held-count (Proc 0) n nothing (ap (λ (y : Node). y.held) a.unborn.node)
+                    ∙ nothing-counts (Proc 0);
                 to_node = no-frames-count (Proc 0) _ a.shows.to_it;
                 from_node = no-frames-count (Proc 0) _ a.shows.from_it;
               }

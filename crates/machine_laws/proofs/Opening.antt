@@ -13,7 +13,8 @@ use Rattle.kernel_model.specs.Fitting.{opening_places, block_at}
 use Rattle.machine_model.specs.Built.{IsRunnable}
 use Rattle.machine_model.specs.Node.{first_node, first_numbers, unborn_node, opening_node, new_process, only, place_of}
 use Rattle.machine_model.specs.World.{numbers, node_count, opening_world, node_at, stream}
-use Rattle.kernel_laws.proofs.MapLaws.{get-first, get-later, ordered}
+use Rattle.number_maps.proofs.LookUps.{get-first, get-later}
+use Rattle.number_maps.proofs.Rising.{ordered}
 use Rattle.kernel_laws.proofs.Plain.{from_some, not_some}
 use Rattle.deed_laws.specs.Carrying.{StandsFor, IsPlainProcess}
 use Rattle.machine_laws.specs.Situations.{Awaited}
@@ -81,8 +82,13 @@ module _ (script : Script) (r : IsRunnable script) where
   only-first : (pid : ℕ) (a : Alive) → living_at opening pid ≡ Some a → (pid ≡ 1) × (a ≡ new_process)
   only-first pid a h =
       elim (cases_eq pid 1) [
-        | inl e ↦ (e, sym (from_some new_process a (sym (ap (option_and_then alive_in) (get-first (1, LivingProcess new_process) [] pid e)) ∙ h)))
-        | inr o ↦ not_some a (sym (ap (option_and_then alive_in) (get-later (1, LivingProcess new_process) [] pid o)) ∙ h)
+        | inl e ↦ (
+          e,
+          sym (from_some new_process a
+              (sym (ap (option_and_then alive_in) (get-first (1, LivingProcess new_process) [] pid e)) ∙ h)),
+        )
+        | inr o ↦ not_some a (sym (ap (option_and_then alive_in) (get-later (1, LivingProcess new_process) [] pid o))
+            ∙ h)
       ]
 
   opening-stands : StandsFor (only 1) first_numbers opening
@@ -117,9 +123,11 @@ module _ (script : Script) (r : IsRunnable script) where
         pids = λ p. 0;
         under_way = record {
           of_script = refl;
-          nodes = length-map-numbers opening_node (numbers 1 (node_count script)) ∙ length-numbers 1 (node_count script);
+          nodes = length-map-numbers opening_node (numbers 1 (node_count script))
+              ∙ length-numbers 1 (node_count script);
           rows = length-same (node_count script) _;
-          row = λ i h. ap length (same-at (node_count script) i (replicate (node_count script) []) [] h) ∙ length-same (node_count script) [];
+          row = λ i h. ap length (same-at (node_count script) i (replicate (node_count script) []) [] h)
+              ∙ length-same (node_count script) [];
           legal = refl;
           fits = refl;
           ordered = ordered (opening_places script) (tt, tt);

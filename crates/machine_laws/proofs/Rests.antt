@@ -26,10 +26,12 @@ pub record Idles (n m : Node) (places places' : Places) : Type 0 where
   pub next_queue : m.leader.next_queue ≡ n.leader.next_queue
   pub next_set : m.leader.next_set ≡ n.leader.next_set
   pub place : get places' 1 ≡ get places 1
-  pub lives : (a : Alive) → get n.held.processes 1 ≡ Some (Living a) → (b : Alive) × (get m.held.processes 1 ≡ Some (Living b))
+  pub lives : (a : Alive) → get n.held.processes 1 ≡ Some (Living a) → (b : Alive)
+      × (get m.held.processes 1 ≡ Some (Living b))
   pub gone : get n.held.processes 1 ≡ Some Gone → get m.held.processes 1 ≡ Some Gone
 
-pub leader-idles : (script : Script) (n m : Node) (k next : Kernel) (places places' : Places) (pids : ℕ → ℕ) → Idles n m places places'
+pub leader-idles : (script : Script) (n m : Node) (k next : Kernel) (places places' : Places) (pids : ℕ → ℕ)
+    → Idles n m places places'
     → StandsFor m.held m.leader next → IsLeader script n k places pids → IsLeader script m next places' pids
 leader-idles script n m k next places places' pids i stands l =
     let same : place_of script m ≡ place_of script n = rw (i.number, i.caller) refl
@@ -59,7 +61,8 @@ leader-idles script n m k next places places' pids i stands l =
               few_processes = omega (arith, np, fp, line);
               few_queues = omega (arith, nq, fq, line);
               few_sets = omega (arith, ns, fs, line);
-              ahead = λ block h. runs.ahead block (ap (λ (x : Place). list_any (λ line. names_block block line.call) x.left) (sym same) ∙ h);
+              ahead = λ block h. runs.ahead block
+                  (ap (λ (x : Place). list_any (λ line. names_block block line.call) x.left) (sym same) ∙ h);
             })
         | inr over ↦ inr (record {
           stage = i.stage ∙ over.stage;
@@ -96,7 +99,8 @@ Known script places pids =
     → (pid ≡ 1) ⊎ ((p : ℕ) × (2 ≤ p) × (p ≤ node_count script) × (pids p ≡ pid) × (pid ≢ 0))
 
 -- a process that had a place has another, and the rest stays
-pub known-after : (script : Script) (places places' : Places) (pids : ℕ → ℕ) (pid : ℕ) (old : Place) → Known script places pids
+pub known-after : (script : Script) (places places' : Places) (pids : ℕ → ℕ) (pid : ℕ) (old : Place)
+    → Known script places pids
     → get places pid ≡ Some old → ((p : ℕ) → p ≢ pid → get places' p ≡ get places p) → Known script places' pids
 known-after script places places' pids pid old known had other x place h =
     elim (cases_eq x pid) [
@@ -108,4 +112,11 @@ known-after script places places' pids pid old known had other x place h =
 pub born-again : (p pid : ℕ) (n m : Node) → IsBorn p pid n → m.number ≡ n.number → m.pid ≡ n.pid → m.parent ≡ n.parent
     → m.parent_node ≡ n.parent_node → IsBorn p pid m
 born-again p pid n m b a c d e =
-    record { number = a ∙ b.number; process = c ∙ b.process; low = b.low; parent = d ∙ b.parent; parent_node = e ∙ b.parent_node }
+    record {
+      number = a ∙ b.number;
+      process = c ∙ b.process;
+      low = b.low;
+      parent = d ∙ b.parent;
+      parent_node =
+          e ∙ b.parent_node;
+    }

@@ -4,7 +4,7 @@ use Rattle.std.proofs.lemmas.Bool.{lt-ltb, ltb-true}
 use Rattle.number_maps.specs.Maps.{put}
 use Rattle.kernel_model.specs.Script.{Vars}
 use Rattle.kernel_model.specs.Fitting.{set_variable}
-use Rattle.kernel_laws.proofs.MapLaws.{Above, Rising, rising-put}
+use Rattle.number_maps.proofs.Rising.{Above, Rising, rising-put}
 use Rattle.machine_model.specs.Frames.{are_rising}
 use Rattle.machine_laws.proofs.Calls.{and-left, and-right}
 
@@ -25,6 +25,7 @@ from-rising [] r = refl
 from-rising (v ∷ []) r = refl
 from-rising (v ∷ w ∷ vars) r = rw (lt-ltb v.0 w.0 r.0.0) (from-rising (w ∷ vars) r.1)
 
-pub rising-set : (vars : Vars) (v : Option ℕ) (n : ℕ) → are_rising vars ≡ true → are_rising (set_variable vars v n) ≡ true
+pub rising-set : (vars : Vars) (v : Option ℕ) (n : ℕ) → are_rising vars ≡ true
+    → are_rising (set_variable vars v n) ≡ true
 rising-set vars None n h = h
 rising-set vars (Some v) n h = from-rising (put vars v n) (rising-put vars v n (to-rising vars h))

@@ -10,7 +10,8 @@ use Rattle.rpc_frame.specs.declared.frame.Frame.{Frame}
 use Rattle.number_maps.specs.Maps.{get}
 use Rattle.kernel_model.specs.Kernel.{Kernel}
 use Rattle.kernel_model.specs.Fitting.{Place, Places, IsOver}
-use Rattle.kernel_laws.proofs.MapLaws.{Rising, rising, get-first, get-later, get-above}
+use Rattle.number_maps.proofs.Rising.{Rising, rising, get-above}
+use Rattle.number_maps.proofs.LookUps.{get-first, get-later}
 use Rattle.kernel_laws.proofs.Plain.{not_some}
 use Rattle.machine_model.specs.Built.{IsRunnable}
 use Rattle.machine_model.specs.Node.{Node, Stage, is_living, is_unborn, can_run}
@@ -24,10 +25,12 @@ use Rattle.machine_laws.proofs.Steps.{Goes, can-run, and-true}
 use Rattle.machine_laws.proofs.Opening.{opening-holds}
 use Rattle.machine_laws.proofs.Events as events_of
 
-pub goes-from : (script : Script) → IsRunnable script → (w : World) → HasInvariant script w → (e : Event) → is_enabled w e ≡ true → Goes script w e
+pub goes-from : (script : Script) → IsRunnable script → (w : World) → HasInvariant script w → (e : Event)
+    → is_enabled w e ≡ true → Goes script w e
 goes-from script r w i e h = events_of.goes script r w i.first i.kernel i.places i.pids i.under_way e h
 
-pub along : (script : Script) → IsRunnable script → (w last : World) (es : List Event) → HasInvariant script w → Runs w es last → HasInvariant script last
+pub along : (script : Script) → IsRunnable script → (w last : World) (es : List Event) → HasInvariant script w
+    → Runs w es last → HasInvariant script last
 along script r w last [] i h = subst (λ (x : World). HasInvariant script x) h i
 along script r w last (e ∷ es) i h =
     let g = goes-from script r w i e h.0
@@ -50,7 +53,8 @@ enabled_events_have_steps_lemma script w e r h enabled =
 -- ---- at rest
 
 -- each place in a map is one that the map has at a number
-over-each : (m : Places) → Rising m → ((pid : ℕ) (place : Place) → get m pid ≡ Some place → place.left ≡ []) → AllByRecursion IsOver m
+over-each : (m : Places) → Rising m → ((pid : ℕ) (place : Place) → get m pid ≡ Some place → place.left ≡ [])
+    → AllByRecursion IsOver m
 over-each [] r h = tt
 over-each (e ∷ m) r h = (
   h e.0 e.1 (get-first e m e.0 refl),
@@ -60,10 +64,12 @@ over-each (e ∷ m) r h = (
   ]),
 )
 
-run-enabled : (w : World) (p : ℕ) (n : Node) → 1 ≤ p → node_at w p ≡ Some n → can_run n ≡ true → is_enabled w (events.Run p) ≡ true
+run-enabled : (w : World) (p : ℕ) (n : Node) → 1 ≤ p → node_at w p ≡ Some n → can_run n ≡ true
+    → is_enabled w (events.Run p) ≡ true
 run-enabled w p n low at h = and-true _ _ (lt-ltb 0 p low) (ap is_run_enabled at ∙ h)
 
-take-enabled : (w : World) (p q : ℕ) (n : Node) (f : Frame) (fs : List Frame) → 1 ≤ p → 1 ≤ q → node_at w p ≡ Some n → stream w p q ≡ f ∷ fs
+take-enabled : (w : World) (p q : ℕ) (n : Node) (f : Frame) (fs : List Frame) → 1 ≤ p → 1 ≤ q → node_at w p ≡ Some n
+    → stream w p q ≡ f ∷ fs
     → (not (is_unborn n.stage) || is_checkpoint f) ≡ true → is_enabled w (events.Take p q) ≡ true
 take-enabled w p q n f fs low low_q at h t =
     and-true _ _ (and-true _ _ (lt-ltb 0 p low) (lt-ltb 0 q low_q))
@@ -85,25 +91,34 @@ module _ (script : Script) (w : World) (first : Node) (k : Kernel) (places : Pla
   first-is-born = elim u.leader.life [ inl runs ↦ ap is_unborn runs.stage | inr over ↦ ap is_unborn over.stage ]
 
   -- frames on their way could be taken, and calls that are due started: only what is gone is left
-  child-over : (p : ℕ) → 2 ≤ p → (n : Node) → node_at w p ≡ Some n → (s : Situation) → IsIn s script p (pids p) (sight w first places p (pids p) n)
+  child-over : (p : ℕ) → 2 ≤ p → (n : Node) → node_at w p ≡ Some n → (s : Situation)
+      → IsIn s script p (pids p) (sight w first places p (pids p) n)
       → pids p ≢ 0 → (place : Place) → get places (pids p) ≡ Some place → place.left ≡ []
   child-over p low n at Awaited i some place h = absurd (some i.none)
   child-over p low n at (Forked vars) i some place h =
-      stuck (events.Take p 1) (take-enabled w p 1 n _ [] (omega arith) (omega arith) at i.shows.to_it (any-takes (not (is_unborn n.stage))))
+      stuck (events.Take p 1)
+      (take-enabled w p 1 n _ [] (omega arith) (omega arith) at i.shows.to_it (any-takes (not (is_unborn n.stage))))
   child-over p low n at Free i some place h =
-      stuck (events.Run p) (run-enabled w p n (omega arith) at (can-run n.stage n.caller.under_way (ap is_living i.has.has_stage) i.has.has_call))
+      stuck (events.Run p) (run-enabled w p n
+      (omega arith) at (can-run n.stage n.caller.under_way (ap is_living i.has.has_stage) i.has.has_call))
   child-over p low n at (Asking call) i some place h =
-      stuck (events.Take 1 p) (take-enabled w 1 p first _ [] (omega arith) (omega arith) u.first_at i.shows.from_it (born-takes first.stage _ first-is-born))
+      stuck (events.Take 1 p)
+      (take-enabled w 1 p first _ [] (omega arith) (omega arith) u.first_at i.shows.from_it
+      (born-takes first.stage _ first-is-born))
   child-over p low n at (Answered call reply) i some place h =
       stuck (events.Take p 1) (take-enabled w p 1 n _ [] (omega arith) (omega arith) at i.shows.to_it
       (born-takes n.stage _ (ap is_unborn i.has.has.has_stage)))
   child-over p low n at (Telling status) i some place h =
-      stuck (events.Take 1 p) (take-enabled w 1 p first _ [] (omega arith) (omega arith) u.first_at i.shows.from_it (born-takes first.stage _ first-is-born))
+      stuck (events.Take 1 p)
+      (take-enabled w 1 p first _ [] (omega arith) (omega arith) u.first_at i.shows.from_it
+      (born-takes first.stage _ first-is-born))
   child-over p low n at (Recalled status) i some place h =
       stuck (events.Take p 1) (take-enabled w p 1 n _ [] (omega arith) (omega arith) at i.shows.to_it
       (born-takes n.stage _ (ap is_unborn i.has.has_stage)))
   child-over p low n at (HandedOver status) i some place h =
-      stuck (events.Take 1 p) (take-enabled w 1 p first _ [] (omega arith) (omega arith) u.first_at i.shows.from_it (born-takes first.stage _ first-is-born))
+      stuck (events.Take 1 p)
+      (take-enabled w 1 p first _ [] (omega arith) (omega arith) u.first_at i.shows.from_it
+      (born-takes first.stage _ first-is-born))
   child-over p low n at Gone i some place h = ap (λ (x : Place). x.left) (some-is _ _ (sym h ∙ i.place)) ∙ i.over
 
   first-over : (place : Place) → get places 1 ≡ Some place → place.left ≡ []

@@ -38,7 +38,8 @@ step-take w p q n f fs s a h r =
     ap (λ x. takes_at w p q x (stream w p q)) a ∙ ap (takes_at w p q (Some n)) h
     ∙ ap (after_turn (record w { streams = with_stream w.streams p q fs }) p) r
 
-pub can-run : (stage : Stage) (call : Option Call) → is_living stage ≡ true → call ≡ None → (is_living stage && not (is_some call)) ≡ true
+pub can-run : (stage : Stage) (call : Option Call) → is_living stage ≡ true → call ≡ None
+    → (is_living stage && not (is_some call)) ≡ true
 can-run stage call l c = rw (l, c) refl
 
 if-true : {X : Type 0} (b : Bool) (x y : X) → b ≡ true → (if b then x else y) ≡ x
@@ -63,7 +64,8 @@ pub record Due (script : Script) (n : Node) (call : Call) : Type 0 where
   pub few : length (lines_of script n.number) ≤ 20000
   pub exit : is_exit call ≡ is_exit first.line.call
 
-pub due-is : (script : Script) (n : Node) (call : Call) → IsRunnable script → 1 ≤ n.number → due (place_of script n) ≡ Some call → Due script n call
+pub due-is : (script : Script) (n : Node) (call : Call) → IsRunnable script → 1 ≤ n.number
+    → due (place_of script n) ≡ Some call → Due script n call
 due-is script n call r low d =
     let f : IsFirst (place_of script n) call = due-first (place_of script n) call d
     in let next = next-line (lines_of script n.number) n.caller.line f.line f.rest f.left
@@ -79,14 +81,16 @@ due-is script n call r low d =
     }
 
 -- behind a call that isn't an exit something is left, and behind an exit nothing is
-pub ends-behind : (script : Script) (n : Node) (call : Call) → Due script n call → EndsInExit (place_of script n).left → is_exit call ≡ false
+pub ends-behind : (script : Script) (n : Node) (call : Call) → Due script n call → EndsInExit (place_of script n).left
+    → is_exit call ≡ false
     → EndsInExit (drop (n.caller.line + 1) (lines_of script n.number))
 ends-behind script n call d e h =
     let next = next-line (lines_of script n.number) n.caller.line d.first.line d.first.rest d.first.left
     in subst EndsInExit (sym next.1)
     (ends-next d.first.line d.first.rest (subst EndsInExit d.first.left e) (sym d.exit ∙ h))
 
-pub nothing-behind : (script : Script) (n : Node) (call : Call) → Due script n call → EndsInExit (place_of script n).left → is_exit call ≡ true
+pub nothing-behind : (script : Script) (n : Node) (call : Call) → Due script n call
+    → EndsInExit (place_of script n).left → is_exit call ≡ true
     → drop (n.caller.line + 1) (lines_of script n.number) ≡ []
 nothing-behind script n call d e h =
     let next = next-line (lines_of script n.number) n.caller.line d.first.line d.first.rest d.first.left

@@ -11,7 +11,8 @@ pub record Square (n : ℕ) (ss : Streams) : Type 0 where
   pub rows : length ss ≡ n
   pub row : (i : ℕ) → i < n → length (get_or ss i []) ≡ n
 
-pub square-with : (n : ℕ) (ss : Streams) (p q : ℕ) (fs : List Frame) → Square n ss → 1 ≤ p → p ≤ n → Square n (with_stream ss p q fs)
+pub square-with : (n : ℕ) (ss : Streams) (p q : ℕ) (fs : List Frame) → Square n ss → 1 ≤ p → p ≤ n
+    → Square n (with_stream ss p q fs)
 square-with n ss p q fs s low high =
     record {
       rows = length-set ss (p - 1) _ ∙ s.rows;
@@ -26,8 +27,10 @@ square-with n ss p q fs s low high =
 pub stream-same : (n : ℕ) (ss : Streams) (p q : ℕ) (fs : List Frame) → Square n ss → 1 ≤ p → p ≤ n → 1 ≤ q → q ≤ n
     → stream_in (with_stream ss p q fs) p q ≡ fs
 stream-same n ss p q fs s low high low_q high_q =
-    ap (λ row. get_or row (q - 1) []) (get_or-set_same ss (p - 1) _ [] (subst (λ x. p - 1 < x) (sym s.rows) (omega arith)))
-    ∙ get_or-set_same (get_or ss (p - 1) []) (q - 1) fs [] (subst (λ x. q - 1 < x) (sym (s.row (p - 1) (omega arith))) (omega arith))
+    ap (λ row. get_or row (q - 1) [])
+    (get_or-set_same ss (p - 1) _ [] (subst (λ x. p - 1 < x) (sym s.rows) (omega arith)))
+    ∙ get_or-set_same (get_or ss (p - 1) []) (q - 1) fs []
+    (subst (λ x. q - 1 < x) (sym (s.row (p - 1) (omega arith))) (omega arith))
 
 -- in another row, or at another place of the same row
 pub stream-row : (n : ℕ) (ss : Streams) (p q r t : ℕ) (fs : List Frame) → r - 1 ≢ p - 1
@@ -37,10 +40,12 @@ stream-row n ss p q r t fs other = ap (λ row. get_or row (t - 1) []) (get_or-se
 pub stream-column : (n : ℕ) (ss : Streams) (p q t : ℕ) (fs : List Frame) → Square n ss → 1 ≤ p → p ≤ n → t - 1 ≢ q - 1
     → stream_in (with_stream ss p q fs) p t ≡ stream_in ss p t
 stream-column n ss p q t fs s low high other =
-    ap (λ row. get_or row (t - 1) []) (get_or-set_same ss (p - 1) _ [] (subst (λ x. p - 1 < x) (sym s.rows) (omega arith)))
+    ap (λ row. get_or row (t - 1) [])
+    (get_or-set_same ss (p - 1) _ [] (subst (λ x. p - 1 < x) (sym s.rows) (omega arith)))
     ∙ get_or-set_other (get_or ss (p - 1) []) (q - 1) (t - 1) fs [] other
 
-pub stream-other : (n : ℕ) (ss : Streams) (p q r t : ℕ) (fs : List Frame) → Square n ss → 1 ≤ p → p ≤ n → 1 ≤ q → 1 ≤ r → 1 ≤ t
+pub stream-other : (n : ℕ) (ss : Streams) (p q r t : ℕ) (fs : List Frame) → Square n ss → 1 ≤ p → p ≤ n → 1 ≤ q → 1 ≤ r
+    → 1 ≤ t
     → (r ≡ p → t ≢ q) → stream_in (with_stream ss p q fs) r t ≡ stream_in ss r t
 stream-other n ss p q r t fs s low high low_q low_r low_t other =
     elim (cases_eq r p) [
@@ -81,7 +86,8 @@ changes-from n c ss fs s low high =
       others = λ p q a b e f. stream-other n ss 1 c p q fs s (omega arith) (omega arith) (omega arith) a b f;
     }
 
-pub changes-both : (n c : ℕ) (ss mid after : Streams) (t f t' f' : List Frame) → Changes n c ss mid t f → Changes n c mid after t' f'
+pub changes-both : (n c : ℕ) (ss mid after : Streams) (t f t' f' : List Frame) → Changes n c ss mid t f
+    → Changes n c mid after t' f'
     → Changes n c ss after t' f'
 changes-both n c ss mid after t f t' f' x y =
     record {

@@ -8,7 +8,8 @@ use Rattle.machine_model.specs.World.{Streams, stream_in, with_stream, with_sent
 use Rattle.machine_laws.proofs.Lines.{some-is}
 
 -- one element in place of another
-pub sum-set : {X : Type 0} (f : X → ℕ) (xs : List X) (i : ℕ) (x y : X) → slice_get xs i ≡ Some y → sum_by f (set xs i x) + f y ≡ sum_by f xs + f x
+pub sum-set : {X : Type 0} (f : X → ℕ) (xs : List X) (i : ℕ) (x y : X) → slice_get xs i ≡ Some y
+    → sum_by f (set xs i x) + f y ≡ sum_by f xs + f x
 sum-set f [] i x y h = cc
 sum-set f (z ∷ xs) zero x y h =
     let a = sum_by-cons f x xs
@@ -22,7 +23,8 @@ sum-set f (z ∷ xs) (suc i) x y h =
     in omega (arith, a, b, rest)
 
 -- the same, also where there is no such element: what isn't there counts nothing
-sum-put : {X : Type 0} (f : X → ℕ) (xs : List X) (i : ℕ) (x d : X) → f d ≡ 0 → sum_by f (set xs i x) + f (get_or xs i d) ≤ sum_by f xs + f x
+sum-put : {X : Type 0} (f : X → ℕ) (xs : List X) (i : ℕ) (x d : X) → f d ≡ 0
+    → sum_by f (set xs i x) + f (get_or xs i d) ≤ sum_by f xs + f x
 sum-put f [] i x d z = omega (arith, z)
 sum-put f (y ∷ xs) zero x d z =
     let a = sum_by-cons f x xs
@@ -52,13 +54,15 @@ module _ (count : Frame → ℕ) where
   abbrev pub sent-count : List (ℕ × Frame) → ℕ
   sent-count sends = sum_by (λ s. count s.1) sends
 
-  sent-one : (from : ℕ) (ss : Streams) (s : ℕ × Frame) → on_the_way count (with_sent from ss s) ≤ on_the_way count ss + count s.1
+  sent-one : (from : ℕ) (ss : Streams) (s : ℕ × Frame)
+      → on_the_way count (with_sent from ss s) ≤ on_the_way count ss + count s.1
   sent-one from ss s =
       let a = stream-changes ss s.0 from (stream_in ss s.0 from ++ s.1 ∷ [])
       in let b = sum_by_push count (stream_in ss s.0 from) s.1
       in omega (arith, a, b)
 
-  pub sent-all : (from : ℕ) (ss : Streams) (sends : List (ℕ × Frame)) → on_the_way count (with_all_sent from ss sends) ≤ on_the_way count ss + sent-count sends
+  pub sent-all : (from : ℕ) (ss : Streams) (sends : List (ℕ × Frame))
+      → on_the_way count (with_all_sent from ss sends) ≤ on_the_way count ss + sent-count sends
   sent-all from ss [] = omega arith
   sent-all from ss (s ∷ sends) =
       let a = sent-one from ss s

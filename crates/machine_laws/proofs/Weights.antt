@@ -61,7 +61,8 @@ chosen false o q x h = inr h
 of-some : {X : Type 0} {B : Type 0} (x : X) → None ≡ Some x → B
 of-some x h = cc
 
-module _ (script : Script) (n : Node) (living : n.stage ≡ Living) (idle : n.caller.under_way ≡ None) (line : Line) (rest : List Line)
+module _ (script : Script) (n : Node) (living : n.stage ≡ Living) (idle : n.caller.under_way ≡ None) (line : Line)
+    (rest : List Line)
     (left : (place_of script n).left ≡ line ∷ rest) where
   before : to_start script n ≡ length rest + 1
   before =
@@ -74,7 +75,8 @@ module _ (script : Script) (n : Node) (living : n.stage ≡ Living) (idle : n.ca
   behind = (next-line (lines_of script n.number) n.caller.line line rest left).1
 
   -- a call that is over at once
-  over-at-once : (m : Node) → m.stage ≡ n.stage → m.number ≡ n.number → m.caller.line ≡ n.caller.line + 1 → m.caller.under_way ≡ None
+  over-at-once : (m : Node) → m.stage ≡ n.stage → m.number ≡ n.number → m.caller.line ≡ n.caller.line + 1
+      → m.caller.under_way ≡ None
       → to_start script m ≡ length rest
   over-at-once m s k l c =
       let here : left_to_start script m.number m.caller ≡ length rest - 0 =
@@ -100,37 +102,49 @@ module _ (script : Script) (n : Node) (living : n.stage ≡ Living) (idle : n.ca
   leaving : (status : ℕ) → Lowers script (leaves n status) (32 * to_start script n)
   leaving status = let x = before in record { lower = omega (arith, x) }
 
-  lowers-carried : (call : Call) (o : Option Effect) (s : Step) → carry_out script n call o ≡ Some s → Lowers script s (32 * to_start script n)
+  lowers-carried : (call : Call) (o : Option Effect) (s : Step) → carry_out script n call o ≡ Some s
+      → Lowers script s (32 * to_start script n)
   lowers-carried call None s h = of-some s h
-  lowers-carried call (Some e) s h = subst (λ x. Lowers script x (32 * to_start script n)) (some-is _ _ h) (at-once _ refl refl refl refl (omega arith))
+  lowers-carried call (Some e) s h =
+      subst (λ x. Lowers script x (32 * to_start script n)) (some-is _ _ h)
+      (at-once _ refl refl refl refl (omega arith))
 
   lowers-shared : (call : Call) (s : Step) → shares script n call ≡ Some s → Lowers script s (32 * to_start script n)
   lowers-shared call s h =
       elim (chosen (is_leader n) (carry_out script n call (serve n.held n.pid call)) (Some (asks n call)) s
-      (passed (is_shared call && not (is_waiting call)) (if is_leader n then carry_out script n call (serve n.held n.pid call) else Some (asks n call)) s h).1) [
+      (passed (is_shared call && not (is_waiting call))
+      (if is_leader n then carry_out script n call (serve n.held n.pid call) else Some (asks n call)) s h).1) [
         | inl c ↦ lowers-carried call (serve n.held n.pid call) s c
         | inr a ↦ subst (λ x. Lowers script x (32 * to_start script n)) (some-is _ _ a) (asking call)
       ]
 
-  lowers-set : (call : Call) (o : Result SemaphoreSet _) → Lowers script (makes_set_of script n call o) (32 * to_start script n)
+  lowers-set : (call : Call) (o : Result SemaphoreSet _)
+      → Lowers script (makes_set_of script n call o) (32 * to_start script n)
   lowers-set call (Ok set) = at-once _ refl refl refl refl (omega arith)
   lowers-set call (Err e) = at-once _ refl refl refl refl (omega arith)
 
-  lowers-forked : (block child : ℕ) (o : Option Alive) (s : Step) → forks_as script n block child o ≡ Some s → Lowers script s (32 * to_start script n)
+  lowers-forked : (block child : ℕ) (o : Option Alive) (s : Step) → forks_as script n block child o ≡ Some s
+      → Lowers script s (32 * to_start script n)
   lowers-forked block child None s h = of-some s h
-  lowers-forked block child (Some a) s h = subst (λ x. Lowers script x (32 * to_start script n)) (some-is _ _ h) (at-once _ refl refl refl refl (omega arith))
+  lowers-forked block child (Some a) s h =
+      subst (λ x. Lowers script x (32 * to_start script n)) (some-is _ _ h)
+      (at-once _ refl refl refl refl (omega arith))
 
-  over : (status : ℕ) (a : Alive) (s : Step) → ends_first script n status (Some a) ≡ Some s → Lowers script s (32 * to_start script n)
+  over : (status : ℕ) (a : Alive) (s : Step) → ends_first script n status (Some a) ≡ Some s
+      → Lowers script s (32 * to_start script n)
   over status a s h =
-      subst (λ x. Lowers script x (32 * to_start script n)) (some-is _ _ h) (let x = before in record { lower = omega (arith, x) })
+      subst (λ x. Lowers script x (32 * to_start script n)) (some-is _ _ h) (let x =
+      before in record { lower = omega (arith, x) })
 
-  lowers-ended : (status : ℕ) (o : Option Alive) (s : Step) → ends_first script n status o ≡ Some s → Lowers script s (32 * to_start script n)
+  lowers-ended : (status : ℕ) (o : Option Alive) (s : Step) → ends_first script n status o ≡ Some s
+      → Lowers script s (32 * to_start script n)
   lowers-ended status None s h = of-some s h
   lowers-ended status (Some a) s h = over status a s h
 
   lowers-exit : (status : ℕ) (s : Step) → exits script n status ≡ Some s → Lowers script s (32 * to_start script n)
   lowers-exit status s h =
-      elim (chosen (is_leader n) (ends_first script n status (living_in n.held.processes n.pid)) (Some (leaves n status)) s h) [
+      elim (chosen (is_leader n) (ends_first script n status (living_in n.held.processes n.pid))
+      (Some (leaves n status)) s h) [
         | inl c ↦ lowers-ended status (living_in n.held.processes n.pid) s c
         | inr a ↦ subst (λ x. Lowers script x (32 * to_start script n)) (some-is _ _ a) (leaving status)
       ]
@@ -141,19 +155,24 @@ module _ (script : Script) (n : Node) (living : n.stage ≡ Living) (idle : n.ca
       (passed (is_leader n && nat_lt n.leader.next_process number_end)
       (forks_as script n block n.leader.next_process (living_in n.held.processes n.pid)) s h).1
   lowers-call (calls.Exit status) s h = lowers-exit status s h
-  lowers-call calls.GetPid s h = subst (λ x. Lowers script x (32 * to_start script n)) (some-is _ _ h) (at-once _ refl refl refl refl (omega arith))
+  lowers-call calls.GetPid s h =
+      subst (λ x. Lowers script x (32 * to_start script n)) (some-is _ _ h)
+      (at-once _ refl refl refl refl (omega arith))
   lowers-call (calls.MsgGet None create excl) s h =
       let number : ℕ = n.leader.next_queue
       in let m : Step =
       with_leader (record n.leader { next_queue = number + 1 })
-      (step_here script n (calls.MsgGet None create excl) (Num number) (record n.held { queues = put n.held.queues number empty_queue }))
+      (step_here script n (calls.MsgGet None create excl) (Num number)
+      (record n.held { queues = put n.held.queues number empty_queue }))
       in let low : Lowers script m (32 * to_start script n) = at-once m refl refl refl refl (omega arith)
-      in subst (λ x. Lowers script x (32 * to_start script n)) (some-is m s (passed (is_leader n && nat_lt number number_end) (Some m) s h).1) low
+      in subst (λ x. Lowers script x (32 * to_start script n))
+      (some-is m s (passed (is_leader n && nat_lt number number_end) (Some m) s h).1) low
   lowers-call (calls.SemGet None count create excl) s h =
       let call : Call = calls.SemGet None count create excl
       in let m : Step = makes_set_of script n call (new_set count)
       in subst (λ x. Lowers script x (32 * to_start script n))
-      (some-is m s (passed (is_leader n && nat_lt n.leader.next_set number_end) (Some m) s h).1) (lowers-set call (new_set count))
+      (some-is m s (passed (is_leader n && nat_lt n.leader.next_set number_end) (Some m) s h).1)
+      (lowers-set call (new_set count))
   lowers-call call s h = lowers-shared call s h
 
 -- ---- a node runs
@@ -170,15 +189,18 @@ is-idle None h = refl
 is-idle (Some call) h = absurd (false≢true h)
 
 run-due : (script : Script) (n : Node) (left : List Line) (s : Step) → n.stage ≡ Living → n.caller.under_way ≡ None
-    → (place_of script n).left ≡ left → starts script n (call_due (place_of script n) left) ≡ Some s → Lowers script s (32 * to_start script n)
+    → (place_of script n).left ≡ left → starts script n (call_due (place_of script n) left) ≡ Some s
+    → Lowers script s (32 * to_start script n)
 run-due script n [] s l c e h = of-some s h
 run-due script n (line ∷ rest) s l c e h = lowers-call script n l c line rest e (call_of line n.caller.vars) s h
 
 run-lowers : (script : Script) (n : Node) (s : Step) → run script n ≡ Some s → Lowers script s (32 * to_start script n)
 run-lowers script n s h =
-    let p = passed (can_run n && nat_lt (n.caller.ticket + 1) number_end) (starts script n (due (place_of script n))) s h
+    let p = passed (can_run n && nat_lt (n.caller.ticket + 1) number_end)
+    (starts script n (due (place_of script n))) s h
     in let can : can_run n ≡ true = and-left _ _ p.0
-    in run-due script n (place_of script n).left s (is-living n.stage (and-left _ _ can)) (is-idle n.caller.under_way (and-right _ _ can)) refl p.1
+    in run-due script n (place_of script n).left s (is-living n.stage (and-left _ _ can))
+    (is-idle n.caller.under_way (and-right _ _ can)) refl p.1
 
 -- ---- a node takes a frame
 
@@ -190,9 +212,11 @@ ask-lowers : (script : Script) (n : Node) (from ticket pid : ℕ) (call : Call) 
     → serve_for n from ticket pid call o ≡ Some s → Lowers script s (with-frame script n (frames.Ask ticket pid call))
 ask-lowers script n from ticket pid call None s h = of-some s h
 ask-lowers script n from ticket pid call (Some e) s h =
-    subst (λ x. Lowers script x (with-frame script n (frames.Ask ticket pid call))) (some-is _ _ h) (record { lower = omega arith })
+    subst (λ x. Lowers script x (with-frame script n (frames.Ask ticket pid call))) (some-is _ _ h)
+    (record { lower = omega arith })
 
-answered-below : (script : Script) (n : Node) (c : Caller) (stage : Stage) → c.line ≡ n.caller.line + 1 → c.under_way ≡ None
+answered-below : (script : Script) (n : Node) (c : Caller) (stage : Stage) → c.line ≡ n.caller.line + 1
+    → c.under_way ≡ None
     → is_awaited n.caller.under_way ≡ true
     → to_start_in script (record n { caller = c }) stage ≤ to_start_in script n stage
 answered-below script n c Unborn l u a = omega arith
@@ -203,7 +227,8 @@ answered-below script n c Living l u a = awaited-below n.caller.under_way refl a
   awaited-below (Some call) e h =
       let x = length-drop (n.caller.line + 1) (lines_of script n.number)
       in let y = length-drop n.caller.line (lines_of script n.number)
-      in let z : to_start_in script (record n { caller = c }) Living ≡ length (drop (n.caller.line + 1) (lines_of script n.number)) - 0 = rw (l, u) refl
+      in let z : to_start_in script (record n { caller = c }) Living
+      ≡ length (drop (n.caller.line + 1) (lines_of script n.number)) - 0 = rw (l, u) refl
       in let v : to_start_in script n Living ≡ length (drop n.caller.line (lines_of script n.number)) - 1 =
       ap (λ w. length (drop n.caller.line (lines_of script n.number)) - one_if (is_some w)) e
       in omega (arith, x, y, z, v)
@@ -211,7 +236,8 @@ answered-below script n c Leaving l u a = omega arith
 answered-below script n c Left l u a = omega arith
 answered-below script n c Over l u a = omega arith
 
-recall-lowers : (script : Script) (n : Node) (o : Option Call) (s : Step) → hands_over n o ≡ Some s → Lowers script s (with-frame script n frames.RecallAll)
+recall-lowers : (script : Script) (n : Node) (o : Option Call) (s : Step) → hands_over n o ≡ Some s
+    → Lowers script s (with-frame script n frames.RecallAll)
 recall-lowers script n None s h = of-some s h
 recall-lowers script n (Some call) s h =
     subst (λ x. Lowers script x (with-frame script n frames.RecallAll)) (some-is _ _ h) (record { lower = omega arith })
@@ -222,14 +248,19 @@ left-lowers-at script n from parcel status None s h = of-some s h
 left-lowers-at script n from parcel status (Some p) s h =
     let m : Step =
     record {
-      node = record (with_parting n from HasLeft) { held = end_child n.held parcel.pid parcel.parent p (Exited (status % 256)) };
+      node = record (with_parting n from HasLeft) {
+        held =
+            end_child n.held parcel.pid parcel.parent p (Exited (status % 256));
+      };
       entries = entry_by n.number parcel.pid parcel.call Ended ∷ [];
       sends = [];
     }
     in let low : Lowers script m (with-frame script n (frames.Left parcel)) = record { lower = omega arith }
-    in subst (λ x. Lowers script x (with-frame script n (frames.Left parcel))) (some-is m s (passed (may_end parcel.pid p) (Some m) s h).1) low
+    in subst (λ x. Lowers script x (with-frame script n (frames.Left parcel)))
+    (some-is m s (passed (may_end parcel.pid p) (Some m) s h).1) low
 
-left-lowers : (script : Script) (n : Node) (from : ℕ) (parcel : Parcel) (call : Call) (s : Step) → end_by n from parcel call ≡ Some s
+left-lowers : (script : Script) (n : Node) (from : ℕ) (parcel : Parcel) (call : Call) (s : Step)
+    → end_by n from parcel call ≡ Some s
     → Lowers script s (with-frame script n (frames.Left parcel))
 left-lowers script n from parcel (calls.Exit status) s h = left-lowers-at script n from parcel status _ s h
 left-lowers script n from parcel call s h = of-some s h
@@ -241,12 +272,16 @@ is-unborn Leaving h = absurd (false≢true h)
 is-unborn Left h = absurd (false≢true h)
 is-unborn Over h = absurd (false≢true h)
 
-takes-lowers : (script : Script) (n : Node) (from : ℕ) (f : Frame) (s : Step) → takes script n from f ≡ Some s → Lowers script s (with-frame script n f)
-takes-lowers script n from (frames.Ask ticket pid call) s h = ask-lowers script n from ticket pid call _ s (passed _ _ s h).1
+takes-lowers : (script : Script) (n : Node) (from : ℕ) (f : Frame) (s : Step) → takes script n from f ≡ Some s
+    → Lowers script s (with-frame script n f)
+takes-lowers script n from (frames.Ask ticket pid call) s h =
+    ask-lowers script n from ticket pid call _ s (passed _ _ s h).1
 takes-lowers script n from (frames.Answer ticket reply) s h =
     let p = passed _ _ s h
-    in let below = answered-below script n (take_reply script n.number n.caller reply) n.stage refl refl (and-left _ _ p.0)
-    in subst (λ x. Lowers script x (with-frame script n (frames.Answer ticket reply))) (some-is _ _ p.1) (record { lower = omega (arith, below) })
+    in let below = answered-below script n (take_reply script n.number n.caller reply) n.stage refl refl
+    (and-left _ _ p.0)
+    in subst (λ x. Lowers script x (with-frame script n (frames.Answer ticket reply))) (some-is _ _ p.1)
+    (record { lower = omega (arith, below) })
 takes-lowers script n from (frames.Checkpoint pid parent deed vars) s h =
     let p = passed _ _ s h
     in let unborn : n.stage ≡ Unborn = is-unborn n.stage (and-left _ _ (and-left _ _ p.0))
@@ -254,16 +289,25 @@ takes-lowers script n from (frames.Checkpoint pid parent deed vars) s h =
     in subst (λ x. Lowers script x (with-frame script n (frames.Checkpoint pid parent deed vars))) (some-is _ _ p.1)
     (record { lower = omega (arith, was) })
 takes-lowers script n from (frames.Leaving pid parent parent_node) s h =
-    let m : Step = record { node = with_parting n from (IsLeaving pid); entries = []; sends = (from, frames.RecallAll) ∷ [] }
-    in let low : Lowers script m (with-frame script n (frames.Leaving pid parent parent_node)) = record { lower = omega arith }
+    let m : Step = record {
+      node = with_parting n from (IsLeaving pid);
+      entries = [];
+      sends =
+          (from, frames.RecallAll) ∷ [];
+    }
+    in let low : Lowers script m (with-frame script n (frames.Leaving pid parent parent_node)) =
+    record { lower = omega arith }
     in subst (λ x. Lowers script x (with-frame script n (frames.Leaving pid parent parent_node)))
-    (some-is m s (passed ((is_to_leader n from && is_none (get n.leader.partings from)) && (nat_lt 0 pid && (nat_lt 0 parent && not (nat_eq pid parent)))) (Some m) s h).1) low
+    (some-is m s (passed ((is_to_leader n from && is_none (get n.leader.partings from))
+    && (nat_lt 0 pid && (nat_lt 0 parent && not (nat_eq pid parent)))) (Some m) s h).1) low
 takes-lowers script n from frames.RecallAll s h = recall-lowers script n n.caller.under_way s (passed _ _ s h).1
 takes-lowers script n from (frames.Left parcel) s h = left-lowers script n from parcel parcel.call s (passed _ _ s h).1
+takes-lowers script n from f s h = of-some s h
 
 -- ---- the world
 
-after-weight : (w : World) (p : ℕ) (n : Node) (s : Step) (below : ℕ) → node_at w p ≡ Some n → Lowers w.script s (32 * to_start w.script n + below)
+after-weight : (w : World) (p : ℕ) (n : Node) (s : Step) (below : ℕ) → node_at w p ≡ Some n
+    → Lowers w.script s (32 * to_start w.script n + below)
     → weight (world_after w p s) < weight w + below
 after-weight w p n s below at l =
     let nodes = sum-set (to_start w.script) w.nodes (p - 1) s.node n at
@@ -271,7 +315,8 @@ after-weight w p n s below at l =
     in let low = l.lower
     in omega (arith, nodes, sent, low)
 
-run-step : (w next : World) (p : ℕ) (o : Option Node) → node_at w p ≡ o → runs_at w p o ≡ Some next → weight next < weight w
+run-step : (w next : World) (p : ℕ) (o : Option Node) → node_at w p ≡ o → runs_at w p o ≡ Some next
+    → weight next < weight w
 run-step w next p None at h = of-some next h
 run-step w next p (Some n) at h = turned (run w.script n) refl h where
   turned : (t : Option Step) → run w.script n ≡ t → after_turn w p t ≡ Some next → weight next < weight w
@@ -285,8 +330,10 @@ run-step w next p (Some n) at h = turned (run w.script n) refl h where
 abbrev without-first : World → ℕ → ℕ → List Frame → World
 without-first w p q fs = record w { streams = with_stream w.streams p q fs }
 
-take-turned : (w next : World) (p q : ℕ) (n : Node) (f : Frame) (fs : List Frame) → node_at w p ≡ Some n → stream w p q ≡ f ∷ fs
-    → (t : Option Step) → takes w.script n q f ≡ t → after_turn (without-first w p q fs) p t ≡ Some next → weight next < weight w
+take-turned : (w next : World) (p q : ℕ) (n : Node) (f : Frame) (fs : List Frame) → node_at w p ≡ Some n
+    → stream w p q ≡ f ∷ fs
+    → (t : Option Step) → takes w.script n q f ≡ t → after_turn (without-first w p q fs) p t ≡ Some next
+    → weight next < weight w
 take-turned w next p q n f fs at there None e g = of-some next g
 take-turned w next p q n f fs at there (Some s) e g =
     let l = takes-lowers w.script n q f s e
@@ -294,7 +341,8 @@ take-turned w next p q n f fs at there (Some s) e g =
     in let y = taken-one frame_weight w.streams p q f fs there
     in subst (λ v. weight v < weight w) (some-is _ _ g) (omega (arith, x, y))
 
-take-step : (w next : World) (p q : ℕ) (o : Option Node) (fs : List Frame) → node_at w p ≡ o → stream w p q ≡ fs → takes_at w p q o fs ≡ Some next
+take-step : (w next : World) (p q : ℕ) (o : Option Node) (fs : List Frame) → node_at w p ≡ o → stream w p q ≡ fs
+    → takes_at w p q o fs ≡ Some next
     → weight next < weight w
 take-step w next p q None fs at there h = of-some next h
 take-step w next p q (Some n) [] at there h = of-some next h
@@ -324,7 +372,8 @@ numbered-sum script (b ∷ bs) first h =
     in let here : to_start script (opening_node first) ≤ calls_in b =
     subst (λ q. to_start script (opening_node q) ≤ calls_in b) e (h 0 b refl)
     in let rest = numbered-sum script bs (first + 1)
-    (λ i c g. let f : first + suc i ≡ first + 1 + i = omega arith in subst (λ q. to_start script (opening_node q) ≤ calls_in c) f (h (suc i) c g))
+    (λ i c g. let f : first + suc i ≡ first + 1 + i =
+    omega arith in subst (λ q. to_start script (opening_node q) ≤ calls_in c) f (h (suc i) c g))
     in let x = sum_by-cons (to_start script) (opening_node first) (map opening_node (numbers (first + 1) (length bs)))
     in let y = sum_by-cons calls_in b bs
     in omega (arith, here, rest, x, y)
@@ -360,7 +409,8 @@ no-streams zero m = refl
 no-streams (suc count) m =
     let rest = no-streams count m
     in let here = no-frames m
-    in let x = sum_by-cons (λ (row : List (List Frame)). sum_by (λ fs. sum_by frame_weight fs) row) (replicate m []) (replicate count (replicate m []))
+    in let x = sum_by-cons (λ (row : List (List Frame)). sum_by (λ fs. sum_by frame_weight fs) row) (replicate m [])
+    (replicate count (replicate m []))
     in omega (arith, rest, here, x)
 
 opening-weight : (script : Script) → IsRunnable script → weight (opening_world script) ≤ 32 * calls_of script

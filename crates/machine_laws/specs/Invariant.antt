@@ -31,7 +31,8 @@ pub record FirstRuns (script : Script) (n : Node) (places : Places) (pids : ℕ 
   pub few_queues : n.leader.next_queue ≤ n.caller.line + 1
   pub few_sets : n.leader.next_set ≤ n.caller.line + 1
   -- what it still forks isn't forked yet
-  pub ahead : (block : ℕ) → list_any (λ line. names_block block line.call) (place_of script n).left ≡ true → pids block ≡ 0
+  pub ahead : (block : ℕ) → list_any (λ line. names_block block line.call) (place_of script n).left ≡ true
+      → pids block ≡ 0
 
 -- process 1 has ended
 pub record FirstIsOver (n : Node) (places : Places) : Type 0 where
@@ -61,7 +62,8 @@ sight w first places p pid n =
     }
 
 -- node p, whose process has this number, 0 where it isn't forked
-pub record IsChild (script : Script) (w : World) (first : Node) (k : Kernel) (places : Places) (p pid : ℕ) : Type 0 where
+pub record IsChild (script : Script) (w : World) (first : Node) (k : Kernel) (places : Places)
+    (p pid : ℕ) : Type 0 where
   pub situation : Situation
   pub node : Node
   pub at : node_at w p ≡ Some node
@@ -71,7 +73,8 @@ pub record IsChild (script : Script) (w : World) (first : Node) (k : Kernel) (pl
 -- ---- the whole
 
 -- `pids` gives the number of each node's process, and 0 where it isn't forked
-pub record IsUnderWay (script : Script) (w : World) (first : Node) (k : Kernel) (places : Places) (pids : ℕ → ℕ) : Type 0 where
+pub record IsUnderWay (script : Script) (w : World) (first : Node) (k : Kernel) (places : Places) (pids : ℕ
+    → ℕ) : Type 0 where
   pub of_script : w.script ≡ script
   -- a node for each block, and a stream for each pair of nodes
   pub nodes : length w.nodes ≡ node_count script

@@ -35,7 +35,8 @@ pub record Step : Type 0 where
 abbrev pub entry_by : ℕ → ℕ → Call → Reply → Entry
 entry_by node pid call reply = record { pid = pid; call = call; outcome = reply_alone reply; by = node }
 
--- the caller once it has started a call, and once it has the reply: the line's variable is set, and the next line is due
+-- the caller once it has started a call, and once it has the reply: the line's variable is set, and the next line is
+-- due
 abbrev pub start_call : Caller → Call → Caller
 start_call c call = record c { ticket = c.ticket + 1; under_way = Some call }
 
@@ -94,7 +95,8 @@ makes_set_of script n call (Ok set) =
 
 abbrev pub makes_set : Script → Node → Call → ℕ → Option Step
 makes_set script n call count =
-    if is_leader n && nat_lt n.leader.next_set number_end then Some (makes_set_of script n call (new_set count)) else None
+    if is_leader n && nat_lt n.leader.next_set number_end then Some
+    (makes_set_of script n call (new_set count)) else None
 
 -- the fork rule: the child has the leader's next number, and its deed and its variables go to its node
 abbrev pub fork_held : Held → ℕ → Alive → ℕ → Held
@@ -105,7 +107,10 @@ forks_as script n block child None = None
 forks_as script n block child (Some a) =
     let step : Step = step_here script n (calls.Fork block) (replies.Num child) (fork_held n.held n.pid a child)
     in Some (with_leader (record n.leader { next_process = child + 1 })
-    (record step { sends = (block, frames.Checkpoint child n.pid (new_deed child) (child_vars (place_of script n))) ∷ [] }))
+    (record step {
+      sends =
+          (block, frames.Checkpoint child n.pid (new_deed child) (child_vars (place_of script n))) ∷ [];
+    }))
 
 abbrev pub forks : Script → Node → ℕ → Option Step
 forks script n block =
@@ -155,7 +160,8 @@ starts_call script n (calls.Fork block) = forks script n block
 starts_call script n (calls.Exit status) = exits script n status
 starts_call script n calls.GetPid = gets_pid script n
 starts_call script n (calls.MsgGet None create excl) = makes_queue script n (calls.MsgGet None create excl)
-starts_call script n (calls.SemGet None count create excl) = makes_set script n (calls.SemGet None count create excl) count
+starts_call script n (calls.SemGet None count create excl) =
+    makes_set script n (calls.SemGet None count create excl) count
 starts_call script n call = shares script n call
 
 abbrev pub starts : Script → Node → Option Call → Option Step

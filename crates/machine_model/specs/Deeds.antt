@@ -46,7 +46,8 @@ end_child h pid parent p ending = record h { processes = end_under h.processes p
 
 -- the process that no process is the parent of ends, and with it what it keeps of its children
 abbrev pub end_first : Held → ℕ → Alive → Ending → Held
-end_first h pid alive ending = record h { processes = end_under (bury_all h.processes alive.row.family) pid ending None }
+end_first h pid alive ending =
+    record h { processes = end_under (bury_all h.processes alive.row.family) pid ending None }
 
 -- a living parent lists its child
 abbrev pub may_end : ℕ → Process → Bool

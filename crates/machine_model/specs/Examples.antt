@@ -28,7 +28,8 @@ both_find_nothing =
           record {
             name = codes "main";
             lines =
-                line (Some 1776) None (MsgGet None false false) ∷ line None (Some 1776) receive_nothing ∷ line None None (Fork 2) ∷ [];
+                line (Some 1776) None (MsgGet None false false) ∷ line None (Some 1776) receive_nothing
+                ∷ line None None (Fork 2) ∷ [];
           }
           ∷ record { name = codes "child"; lines = line None (Some 1776) receive_nothing ∷ [] }
           ∷ [];

@@ -50,7 +50,12 @@ is_awaited (Some call) = is_shared call
 abbrev pub takes_answer : Script → Node → ℕ → Reply → Option Step
 takes_answer script n ticket reply =
     if is_awaited n.caller.under_way && nat_eq ticket n.caller.ticket
-    then Some (record { node = record n { caller = take_reply script n.number n.caller reply }; entries = []; sends = [] })
+    then Some (record {
+      node = record n { caller = take_reply script n.number n.caller reply };
+      entries = [];
+      sends =
+          [];
+    })
     else None
 
 -- the Checkpoint rule: the node is born, as the process that its block is forked by
@@ -73,7 +78,15 @@ are_rising (v ∷ w ∷ vars) = nat_lt v.0 w.0 && are_rising (w ∷ vars)
 
 abbrev pub bear : Node → ℕ → ℕ → ℕ → Vars → Node
 bear n from pid parent vars =
-    record n { stage = Living; pid = pid; parent = parent; parent_node = from; caller = new_caller vars; held = only pid }
+    record n {
+      stage = Living;
+      pid = pid;
+      parent = parent;
+      parent_node = from;
+      caller = new_caller vars;
+      held =
+          only pid;
+    }
 
 abbrev pub takes_checkpoint : Script → Node → ℕ → ℕ → ℕ → PackedDeed → Vars → Option Step
 takes_checkpoint script n from pid parent deed vars =
@@ -90,7 +103,12 @@ abbrev pub takes_leaving : Node → ℕ → ℕ → ℕ → Option Step
 takes_leaving n from pid parent =
     if (is_to_leader n from && is_none (get n.leader.partings from))
     && (nat_lt 0 pid && (nat_lt 0 parent && not (nat_eq pid parent)))
-    then Some (record { node = with_parting n from (IsLeaving pid); entries = []; sends = (from, frames.RecallAll) ∷ [] })
+    then Some (record {
+      node = with_parting n from (IsLeaving pid);
+      entries = [];
+      sends =
+          (from, frames.RecallAll) ∷ [];
+    })
     else None
 
 -- the RecallAll rule: the node hands its deeds over with the call that ends its process
@@ -120,7 +138,10 @@ end_at n from parcel status None = None
 end_at n from parcel status (Some p) =
     if may_end parcel.pid p
     then Some (record {
-      node = record (with_parting n from HasLeft) { held = end_child n.held parcel.pid parcel.parent p (Exited (status % 256)) };
+      node = record (with_parting n from HasLeft) {
+        held =
+            end_child n.held parcel.pid parcel.parent p (Exited (status % 256));
+      };
       entries = entry_by n.number parcel.pid parcel.call replies.Ended ∷ [];
       sends = [];
     })
@@ -137,7 +158,7 @@ takes_left n from parcel =
     then end_by n from parcel parcel.call
     else None
 
--- the rule of the frame
+-- the rule of the frame; no node sends the others yet
 abbrev pub takes : Script → Node → ℕ → Frame → Option Step
 takes script n from (frames.Ask ticket pid call) = takes_ask n from ticket pid call
 takes script n from (frames.Answer ticket reply) = takes_answer script n ticket reply
@@ -145,3 +166,15 @@ takes script n from (frames.Checkpoint pid parent deed vars) = takes_checkpoint 
 takes script n from (frames.Leaving pid parent parent_node) = takes_leaving n from pid parent
 takes script n from frames.RecallAll = takes_recall n from
 takes script n from (frames.Left parcel) = takes_left n from parcel
+takes script n from (frames.Request ticket pid call) = None
+takes script n from (frames.Forward asked) = None
+takes script n from (frames.Bounce asked) = None
+takes script n from (frames.NotOwner ticket) = None
+takes script n from (frames.LeaseAsk kind) = None
+takes script n from (frames.Lease kind first) = None
+takes script n from (frames.Placed name node) = None
+takes script n from (frames.Suggest name node) = None
+takes script n from (frames.Recall name) = None
+takes script n from (frames.GiveBack deed) = None
+takes script n from (frames.Grant deed) = None
+takes script n from (frames.ExitTo parcel) = None

@@ -14,16 +14,19 @@ use Rattle.machine_model.specs.Weights.{weight, calls_of}
 
 -- The journal is one history of a single POSIX kernel, and each process's calls stand in it once and in order.
 abbrev pub JournalsAreLegal : Type 0
-JournalsAreLegal = (script : Script) (w : World) → IsRunnable script → IsReachableWorld script w → IsLegal w.journal × Fits script w.journal
+JournalsAreLegal = (script : Script) (w : World) → IsRunnable script → IsReachableWorld script w → IsLegal w.journal
+    × Fits script w.journal
 
 -- At rest each process that was forked, and process 1, has ended.
 abbrev pub RestIsWhole : Type 0
-RestIsWhole = (script : Script) (w : World) → IsRunnable script → IsReachableWorld script w → IsAtRest w → FitsWhole script w.journal
+RestIsWhole = (script : Script) (w : World) → IsRunnable script → IsReachableWorld script w → IsAtRest w
+    → FitsWhole script w.journal
 
 -- An enabled event has a step: no frame comes that its receiver has no rule for.
 abbrev pub EnabledEventsHaveSteps : Type 0
 EnabledEventsHaveSteps =
-    (script : Script) (w : World) (e : Event) → IsRunnable script → IsReachableWorld script w → is_enabled w e ≡ true → IsSome (step w e)
+    (script : Script) (w : World) (e : Event) → IsRunnable script → IsReachableWorld script w → is_enabled w e ≡ true
+    → IsSome (step w e)
 
 -- No process, queue or set ever has two owners.
 abbrev pub NoNameHasTwoOwners : Type 0

@@ -29,7 +29,22 @@ is_of name deed = is_same_name name deed.name
 abbrev pub brings : Name → Frame → ℕ
 brings name (frames.Checkpoint pid parent deed vars) = one_if (is_of name deed)
 brings name (frames.Left parcel) = count_by (is_of name) parcel.deeds
-brings name frame = 0
+brings name (frames.GiveBack deed) = one_if (is_of name deed)
+brings name (frames.Grant deed) = one_if (is_of name deed)
+brings name (frames.ExitTo parcel) = count_by (is_of name) parcel.deeds
+brings name (frames.Ask ticket pid call) = 0
+brings name (frames.Request ticket pid call) = 0
+brings name (frames.Forward asked) = 0
+brings name (frames.Bounce asked) = 0
+brings name (frames.Answer ticket reply) = 0
+brings name (frames.NotOwner ticket) = 0
+brings name (frames.LeaseAsk kind) = 0
+brings name (frames.Lease kind first) = 0
+brings name (frames.Placed named node) = 0
+brings name (frames.Suggest named node) = 0
+brings name (frames.Recall named) = 0
+brings name (frames.Leaving pid parent parent_node) = 0
+brings name frames.RecallAll = 0
 
 abbrev pub holders : Name → World → ℕ
 holders name w = sum_by (λ n. one_if (holds name n.held)) w.nodes

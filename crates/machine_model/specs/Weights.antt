@@ -9,6 +9,7 @@ use Rattle.machine_model.specs.Node.{Node, Caller, Stage, Unborn, Living, Leavin
 use Rattle.machine_model.specs.World.{World}
 use Rattle.machine_model.specs.Owners.{one_if, on_the_way}
 
+-- the frames that no node sends yet weigh 1
 abbrev pub frame_weight : Frame → ℕ
 frame_weight (frames.Ask ticket pid call) = 11
 frame_weight (frames.Answer ticket reply) = 1
@@ -16,6 +17,18 @@ frame_weight (frames.Checkpoint pid parent deed vars) = 1
 frame_weight (frames.Leaving pid parent parent_node) = 4
 frame_weight frames.RecallAll = 3
 frame_weight (frames.Left parcel) = 2
+frame_weight (frames.Request ticket pid call) = 1
+frame_weight (frames.Forward asked) = 1
+frame_weight (frames.Bounce asked) = 1
+frame_weight (frames.NotOwner ticket) = 1
+frame_weight (frames.LeaseAsk kind) = 1
+frame_weight (frames.Lease kind first) = 1
+frame_weight (frames.Placed name node) = 1
+frame_weight (frames.Suggest name node) = 1
+frame_weight (frames.Recall name) = 1
+frame_weight (frames.GiveBack deed) = 1
+frame_weight (frames.Grant deed) = 1
+frame_weight (frames.ExitTo parcel) = 1
 
 -- the calls that a process hasn't started: those of the lines left, without the one under way
 abbrev pub left_to_start : Script → ℕ → Caller → ℕ

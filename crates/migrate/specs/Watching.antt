@@ -26,7 +26,8 @@ move_at w node = if run_with w node == 4 then Some node else None
 
 -- a node's run is so long: the owner's read and a move begin the count anew
 abbrev pub watching_run : ℕ → ℕ → ℕ → Watching
-watching_run owner node run = if run == 0 || run == 4 then watching_anew owner else record { owner = owner; reader = Some node; run = run }
+watching_run owner node run =
+    if run == 0 || run == 4 then watching_anew owner else record { owner = owner; reader = Some node; run = run }
 
 -- after a read of this node
 abbrev pub watching_after : Watching → ℕ → Watching
@@ -49,7 +50,8 @@ NeverFour owner (node ∷ reads) = (node ≢ owner → in_a_row node (node ∷ r
 -- Where no move has come yet, the next read of a node other than the owner moves the name exactly
 -- where it is that node's fourth in a row.
 abbrev pub FourthMoves : Type 0
-FourthMoves = (owner node : ℕ) (reads : List ℕ) → NeverFour owner reads → node ≢ owner → move_at (watching_reads owner reads) node ≡ (if in_a_row node (node ∷ reads) == 4 then Some node else None)
+FourthMoves = (owner node : ℕ) (reads : List ℕ) → NeverFour owner reads → node ≢ owner
+    → move_at (watching_reads owner reads) node ≡ (if in_a_row node (node ∷ reads) == 4 then Some node else None)
 
 -- three reads of node 2, one of the owner and three of node 2 move nothing, and the next one does
 three_and_three : move_at (watching_reads 1 (2 ∷ 2 ∷ 1 ∷ 2 ∷ 2 ∷ 2 ∷ [])) 2 ≡ None

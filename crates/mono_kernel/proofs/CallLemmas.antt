@@ -34,13 +34,16 @@ pub semop-carried : (k next : Kernel) (pid n id : ℕ) (steps : List SemStep) (c
 unfolding Carried
 semop-carried k next pid n id steps call r is h = subst (Carried k next pid n r) (sym is) (anyway (living_at k pid) _ h)
 
-pub msgrcv-carried : (k next : Kernel) (pid n id : ℕ) (class : ℤ) (size : ℕ) (noerror nowait : Bool) (call : Call) (reply : Reply)
+pub msgrcv-carried : (k next : Kernel) (pid n id : ℕ) (class : ℤ) (size : ℕ) (noerror nowait : Bool) (call : Call)
+    (reply : Reply)
     → call ≡ calls.MsgRcv id class size noerror nowait → nowait ≡ true
-    → on_named k (get k.queues id) (λ q. receive_effect k id (receive q pid class size noerror)) ≡ record { kernel = next; reply = reply }
+    → on_named k (get k.queues id) (λ q. receive_effect k id (receive q pid class size noerror))
+    ≡ record { kernel = next; reply = reply }
     → IfSome (living_at k pid) (λ a. Answers (effect k pid a call n) (Ok reply) k next)
 unfolding Carried
 msgrcv-carried k next pid n id class size noerror nowait call reply is at_once h =
-    subst (Carried k next pid n (Ok reply)) (sym (is ∙ ap (calls.MsgRcv id class size noerror) at_once)) (anyway (living_at k pid) _ (ap Some h))
+    subst (Carried k next pid n (Ok reply)) (sym (is ∙ ap (calls.MsgRcv id class size noerror) at_once))
+    (anyway (living_at k pid) _ (ap Some h))
 
 made : Kernel → Reply → Option Effect
 made m r = Some (record { kernel = m; reply = r })

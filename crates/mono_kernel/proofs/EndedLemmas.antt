@@ -1,40 +1,38 @@
 -- The ended children of a living process are in the table, and don't live.
-use Rattle.std.proofs.Common.{◌≡◌, ◌<◌, ◌∙◌, ℕ, zero, suc, Bool, true, false, ◌||◌, if◌then◌else◌, nat_eq, List, [], ◌∷◌, length, get_or, Option, Some, None, is_some, IfSome, refl, sym, ap, arith}
+use Rattle.std.proofs.Common.{◌≡◌, ◌<◌, ◌∙◌, ℕ, zero, suc, Bool, true, false, ◌||◌, if◌then◌else◌, nat_eq, List, [], ◌∷◌, length, get_or, Option, Some, None, is_some, IfSome, IsSome, refl, sym, ap, arith}
+use Rattle.std.proofs.Math.Bool.{or-true}
 use Rattle.std.specs.List.{All, list_any, fold}
-use Rattle.std.specs.Option.{option_map, option_map_or}
+use Rattle.std.specs.Option.{option_map, option_map_or, option_and_then}
 use Rattle.pico_base.specs.declared.reply.Ending.{Ending}
 use Rattle.number_maps.specs.Maps.{Numbered, get, put}
 use Rattle.kernel_model.specs.Row.{Alive, lists, matches, first_ended_child, EndedChild}
-use Rattle.kernel_model.specs.Kernel.{Process, Gone, living_in, parent_in}
+use Rattle.kernel_model.specs.Kernel.{Process, Gone, alive_in, living_in, parent_in}
 use Rattle.kernel_model.specs.ProcessCalls.{bury, end_under, processes_after_end}
 use Rattle.mono_kernel.specs.Table.{IsTable, IfLiving, lists_there, parent_at, as_parent}
 use Rattle.mono_kernel.proofs.TableLemmas.{living-put_same, living-put_other}
-use Rattle.mono_kernel.proofs.MapLemmas.{same-from-nat_eq}
-
-same-number : (n : ℕ) → nat_eq n n ≡ true
-same-number n = grind arith
-
-either : (b : Bool) → (b || true) ≡ true
-either true = refl
-either false = refl
+use Rattle.number_maps.proofs.Order.{same-from-nat_eq, eq-same}
 
 -- the ended child that is found is among them
-found-kept : (which : Option ℕ) (es : List EndedChild) → IfSome (first_ended_child which es) (λ e. list_any (λ x. nat_eq e.pid x.pid) es ≡ true)
+found-kept : (which : Option ℕ) (es : List EndedChild)
+    → IfSome (first_ended_child which es) (λ e. list_any (λ x. nat_eq e.pid x.pid) es ≡ true)
 found-kept which [] = tt
 found-kept which (e ∷ es) = at (matches which e.pid) (first_ended_child which es) (found-kept which es)
   where
     here : (any : Bool) → (nat_eq e.pid e.pid || any) ≡ true
-    here any = rw (same-number e.pid)
+    here any = rw (eq-same e.pid)
 
     at : (b : Bool) (o : Option EndedChild) → IfSome o (λ x. list_any (λ y. nat_eq x.pid y.pid) es ≡ true)
         → IfSome (if b then Some e else o) (λ x. list_any (λ y. nat_eq x.pid y.pid) (e ∷ es) ≡ true)
     at true o rec = here (list_any (λ y. nat_eq e.pid y.pid) es)
     at false None rec = tt
-    at false (Some x) rec = rw rec (either (nat_eq x.pid e.pid))
+    at false (Some x) rec = rw rec (or-true (nat_eq x.pid e.pid))
 
-pub found-there : (ps : Numbered Process) (parents : Numbered ℕ) (pid : ℕ) (a : Alive) (which : Option ℕ) → IsTable ps parents
-    → living_in ps pid ≡ Some a → IfSome (first_ended_child which a.row.family.ended) (λ e. is_some (get ps e.pid) ≡ true)
-found-there ps parents pid a which t lives = at (first_ended_child which a.row.family.ended) (found-kept which a.row.family.ended)
+pub found-there : (ps : Numbered Process) (parents : Numbered ℕ) (pid : ℕ) (a : Alive) (which : Option ℕ)
+    → IsTable ps parents
+    → living_in ps pid ≡ Some a
+    → IfSome (first_ended_child which a.row.family.ended) (λ e. is_some (get ps e.pid) ≡ true)
+found-there ps parents pid a which t lives =
+    at (first_ended_child which a.row.family.ended) (found-kept which a.row.family.ended)
   where
     at : (o : Option EndedChild) → IfSome o (λ e. list_any (λ x. nat_eq e.pid x.pid) a.row.family.ended ≡ true)
         → IfSome o (λ e. is_some (get ps e.pid) ≡ true)
@@ -42,14 +40,17 @@ found-there ps parents pid a which t lives = at (first_ended_child which a.row.f
     at (Some e) h = (t.kept pid e.pid a lives h).0
 
 -- each of the ended children is among them
-kept-at : (es : List EndedChild) (k : ℕ) (d : EndedChild) → k < length es → list_any (λ x. nat_eq (get_or es k d).pid x.pid) es ≡ true
+kept-at : (es : List EndedChild) (k : ℕ) (d : EndedChild) → k < length es
+    → list_any (λ x. nat_eq (get_or es k d).pid x.pid) es ≡ true
 kept-at [] k d inside = absurd (omega arith)
-kept-at (e ∷ es) zero d inside = rw (same-number e.pid)
-kept-at (e ∷ es) (suc k) d inside = rw (kept-at es k d (omega arith)) (either (nat_eq (get_or es k d).pid e.pid))
+kept-at (e ∷ es) zero d inside = rw (eq-same e.pid)
+kept-at (e ∷ es) (suc k) d inside = rw (kept-at es k d (omega arith)) (or-true (nat_eq (get_or es k d).pid e.pid))
 
-pub all-kept : (ps : Numbered Process) (parents : Numbered ℕ) (pid : ℕ) (a : Alive) → IsTable ps parents → living_in ps pid ≡ Some a
+pub all-kept : (ps : Numbered Process) (parents : Numbered ℕ) (pid : ℕ) (a : Alive) → IsTable ps parents
+    → living_in ps pid ≡ Some a
     → All (λ e. (is_some (get ps e.pid) ≡ true) × (living_in ps e.pid ≡ None)) a.row.family.ended
-all-kept ps parents pid a t lives = λ k d inside. t.kept pid (get_or a.row.family.ended k d).pid a lives (kept-at a.row.family.ended k d inside)
+all-kept ps parents pid a t lives =
+    λ k d inside. t.kept pid (get_or a.row.family.ended k d).pid a lives (kept-at a.row.family.ended k d inside)
 
 -- a living process lives on while others are buried
 dead-put : (ps : Numbered Process) (k q : ℕ) → living_in ps q ≡ None → living_in (put ps k Gone) q ≡ None
@@ -59,7 +60,8 @@ dead-put ps k q none = at (nat_eq q k) refl
     at true is = rw (same-from-nat_eq q k is) (living-put_same ps k Gone)
     at false is = living-put_other ps k q Gone is ∙ none
 
-pub buried-lives : (es : List EndedChild) (ps : Numbered Process) (p : ℕ) (a : Alive) → All (λ e. living_in ps e.pid ≡ None) es
+pub buried-lives : (es : List EndedChild) (ps : Numbered Process) (p : ℕ) (a : Alive)
+    → All (λ e. living_in ps e.pid ≡ None) es
     → living_in ps p ≡ Some a → living_in (fold bury ps es) p ≡ Some a
 buried-lives [] ps p a dead lives = lives
 buried-lives (e ∷ es) ps p a dead lives =
@@ -74,7 +76,8 @@ buried-lives (e ∷ es) ps p a dead lives =
         in cc
     at false is = living-put_other ps e.pid p Gone is ∙ lives
 
-parent-there : (ps : Numbered Process) (p child : ℕ) → lists_there ps p child ≡ true → (a : Alive) × (living_in ps p ≡ Some a)
+parent-there : (ps : Numbered Process) (p child : ℕ) → lists_there ps p child ≡ true → (a : Alive)
+    × (living_in ps p ≡ Some a)
 parent-there ps p child h = at (living_in ps p) refl h
   where
     at : (o : Option Alive) → living_in ps p ≡ o → option_map_or (λ a. lists a.row.family child) o false ≡ true
@@ -83,7 +86,8 @@ parent-there ps p child h = at (living_in ps p) refl h
     at (Some a) is g = (a, is)
 
 -- the parent is the same after the burials, and lists the child still
-pub parent-after : (ps : Numbered Process) (es : List EndedChild) (child : ℕ) (parent : Option ℕ) → All (λ e. living_in ps e.pid ≡ None) es
+pub parent-after : (ps : Numbered Process) (es : List EndedChild) (child : ℕ) (parent : Option ℕ)
+    → All (λ e. living_in ps e.pid ≡ None) es
     → IfSome parent (λ p. (lists_there ps p child ≡ true) × (nat_eq p child ≡ false))
     → parent_at (fold bury ps es) parent ≡ parent_at ps parent
 parent-after ps es child None dead h = refl
@@ -91,7 +95,8 @@ parent-after ps es child (Some p) dead h =
     let l = parent-there ps p child h.0
     in ap (option_map (as_parent p)) (buried-lives es ps p l.0 dead l.1 ∙ sym l.1)
 
-pub listed-after : (ps : Numbered Process) (es : List EndedChild) (child : ℕ) (parent : Option ℕ) → All (λ e. living_in ps e.pid ≡ None) es
+pub listed-after : (ps : Numbered Process) (es : List EndedChild) (child : ℕ) (parent : Option ℕ)
+    → All (λ e. living_in ps e.pid ≡ None) es
     → IfSome parent (λ p. (lists_there ps p child ≡ true) × (nat_eq p child ≡ false))
     → IfSome parent (λ p. (lists_there (fold bury ps es) p child ≡ true) × (nat_eq p child ≡ false))
 listed-after ps es child None dead h = tt
@@ -108,6 +113,20 @@ pub end-is : (ps ns : Numbered Process) (pid : ℕ) (ending : Ending) (es : List
     → IfLiving ps pid (λ a. ns ≡ processes_after_end ps pid a ending)
 end-is ps ns pid ending es parent children found same left = at (living_in ps pid) children
   where
-    at : (o : Option Alive) → IfSome o (λ a. es ≡ a.row.family.ended) → IfSome o (λ a. ns ≡ processes_after_end ps pid a ending)
+    at : (o : Option Alive) → IfSome o (λ a. es ≡ a.row.family.ended)
+        → IfSome o (λ a. ns ≡ processes_after_end ps pid a ending)
     at None h = tt
     at (Some a) h = rw (← h, found, ← same) left
+
+-- what is put where nothing was leaves each process that lives
+pub living-beside : (ps : Numbered Process) (pid child : ℕ) (v : Process) → get ps child ≡ None
+    → IsSome (living_in ps pid)
+    → living_in (put ps child v) pid ≡ living_in ps pid
+living-beside ps pid child v fresh lives = at (nat_eq pid child) refl
+  where
+    at : (b : Bool) → nat_eq pid child ≡ b → living_in (put ps child v) pid ≡ living_in ps pid
+    at true is =
+        let none : get ps pid ≡ None = rw (same-from-nat_eq pid child is) fresh
+        in let no : living_in ps pid ≡ None = ap (option_and_then alive_in) none
+        in absurd (let some : is_some (living_in ps pid) ≡ true = lives in cc)
+    at false is = living-put_other ps child pid v is

@@ -11,12 +11,15 @@ length-others : (child : ℕ) (xs : List ℕ) → length (others child xs) ≤ l
 length-others child [] = omega arith
 length-others child (x ∷ xs) = longer (not (nat_eq child x)) x (others child xs) xs (length-others child xs)
 
-fewer : (b any : Bool) (x : ℕ) (xs ys : List ℕ) → length xs ≤ length ys → (any ≡ true → length xs + 1 ≤ length ys) → (b || any) ≡ true
+fewer : (b any : Bool) (x : ℕ) (xs ys : List ℕ) → length xs ≤ length ys → (any ≡ true → length xs + 1 ≤ length ys)
+    → (b || any) ≡ true
     → length (cond (not b) (x ∷ xs) xs) + 1 ≤ length (x ∷ ys)
 fewer true any x xs ys h g i = omega arith
 fewer false any x xs ys h g i = let less : length xs + 1 ≤ length ys = g i in omega arith
 
-pub fewer-others : (child : ℕ) (xs : List ℕ) → list_any (nat_eq child) xs ≡ true → length (others child xs) + 1 ≤ length xs
+pub fewer-others : (child : ℕ) (xs : List ℕ) → list_any (nat_eq child) xs ≡ true
+    → length (others child xs) + 1 ≤ length xs
 fewer-others child [] h = absurd (cc)
 fewer-others child (x ∷ xs) h =
-    fewer (nat_eq child x) (list_any (nat_eq child) xs) x (others child xs) xs (length-others child xs) (fewer-others child xs) h
+    fewer (nat_eq child x) (list_any (nat_eq child) xs) x (others child xs) xs (length-others child xs)
+    (fewer-others child xs) h

@@ -5,9 +5,10 @@ use Rattle.std.proofs.lemmas.Bool.{lt-ltb}
 use Rattle.number_maps.specs.Maps.{Numbered, get, is_used}
 use Rattle.kernel_model.specs.Numbers.{is_positive_u32, number_end}
 use Rattle.kernel_model.specs.Effect.{is_fresh}
-use Rattle.mono_kernel.proofs.MapLemmas.{is_used-keys}
+use Rattle.number_maps.proofs.Changes.{is_used-keys}
 
-pub fresh-is : {V : Type 0} (m : Numbered V) (n : ℕ) → 0 < n → n < 2 ^ 32 → not (is_some (get m n)) ≡ is_fresh (keys_of m) n
+pub fresh-is : {V : Type 0} (m : Numbered V) (n : ℕ) → 0 < n → n < 2 ^ 32
+    → not (is_some (get m n)) ≡ is_fresh (keys_of m) n
 fresh-is m n above below =
     let some : nat_lt 0 n ≡ true = lt-ltb 0 n above
     in let fits : nat_lt n number_end ≡ true = lt-ltb n number_end below

@@ -7,8 +7,10 @@ use Rattle.std.specs.BTreeMap.{is_at}
 use Rattle.std.proofs.lemmas.Map.Keys.{sorted_head, sorted_tail}
 use Rattle.number_maps.specs.Maps.{Numbered, get}
 use Rattle.kernel_model.specs.QueueCalls.{unbind}
-use Rattle.mono_kernel.specs.Names.{IsRising, LeadsNowhere, LeadsOnly}
-use Rattle.mono_kernel.proofs.MapLemmas.{cmp-same, equal-same, same-from-nat_eq, less-none, past-none, greater-differs, get-rest}
+use Rattle.number_maps.specs.Rising.{IsRising}
+use Rattle.mono_kernel.specs.Names.{LeadsNowhere, LeadsOnly}
+use Rattle.number_maps.proofs.Order.{cmp-same, equal-same, same-from-nat_eq, greater-differs}
+use Rattle.number_maps.proofs.Changes.{less-none, past-none, get-rest}
 
 get-first : (e : ℕ × ℕ) (es : Numbered ℕ) → get (e ∷ es) e.0 ≡ Some e.1
 get-first e es = rw (cmp-same e.0)
@@ -27,9 +29,11 @@ unbound-none (e ∷ es) id rising none =
 apart : (id key : ℕ) (e : ℕ × ℕ) (es : Numbered ℕ) → get (e ∷ es) key ≡ Some id → nat_cmp key e.0 ≡ Equal → e.1 ≡ id
 apart id key e es there h = let here : Some e.1 ≡ Some id = rw h at there in cc
 
-freed : (id key : ℕ) (e : ℕ × ℕ) (es : Numbered ℕ) (o : Ordering) → nat_cmp key e.0 ≡ o → IsRising (e ∷ es) → LeadsOnly (e ∷ es) id key → (get es key ≡ Some id → unbind es id ≡ remove_entry (is_at (nat_cmp key)) es)
+freed : (id key : ℕ) (e : ℕ × ℕ) (es : Numbered ℕ) (o : Ordering) → nat_cmp key e.0 ≡ o → IsRising (e ∷ es)
+    → LeadsOnly (e ∷ es) id key → (get es key ≡ Some id → unbind es id ≡ remove_entry (is_at (nat_cmp key)) es)
     → unbind (e ∷ es) id ≡ remove_entry (is_at (nat_cmp key)) (e ∷ es)
-freed id key e es Less h rising all rec = let none : get (e ∷ es) key ≡ None = less-none key e es rising h in let there : get (e ∷ es) key ≡ Some id = all.0 in absurd (cc)
+freed id key e es Less h rising all rec = let none : get (e ∷ es) key ≡ None =
+    less-none key e es rising h in let there : get (e ∷ es) key ≡ Some id = all.0 in absurd (cc)
 freed id key e es Equal h rising all rec =
     let first : nat_eq e.1 id ≡ true = rw (apart id key e es all.0 h) (grind arith)
     in rw (first, h)
@@ -55,4 +59,5 @@ pub unbound-one : (keys : Numbered ℕ) (id key : ℕ) → IsRising keys → Lea
 unbound-one [] id key rising all = let there : None ≡ Some id = all.0 in absurd (cc)
 unbound-one (e ∷ es) id key rising all =
     freed id key e es (nat_cmp key e.0) refl rising all
-    (λ later. unbound-one es id key (sorted_tail nat_cmp e.0 (keys_of es) rising) (later, λ q h. all.1 q (get-rest e es q id rising h)))
+    (λ later. unbound-one es id key (sorted_tail nat_cmp e.0 (keys_of es) rising)
+    (later, λ q h. all.1 q (get-rest e es q id rising h)))

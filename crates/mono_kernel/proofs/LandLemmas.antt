@@ -9,11 +9,11 @@ use Rattle.kernel_model.specs.Row.{Alive}
 use Rattle.kernel_model.specs.Kernel.{Process, Living, Ended, Gone}
 use Rattle.kernel_model.specs.ProcessCalls.{parent_after_fork}
 use Rattle.mono_kernel.specs.declared.process.Change.{Change}
-use Rattle.mono_kernel.specs.Names.{IsRising}
+use Rattle.number_maps.specs.Rising.{IsRising}
 use Rattle.mono_kernel.specs.Process.{changed, CanChange}
 use Rattle.mono_kernel.specs.Change.{on_living, with_child_there, CanChangeThere}
 use Rattle.mono_kernel.specs.Table.{IfLiving}
-use Rattle.mono_kernel.proofs.MapLemmas.{set_value-put}
+use Rattle.number_maps.proofs.Changes.{set_value-put}
 
 lands : (ps es : Numbered Process) (pid : ℕ) (f : Alive → Alive) (v w : Process) → IsRising ps → get ps pid ≡ Some v
     → ((a : Alive) → v ≡ Living a → w ≡ Living (f a)) → es ≡ set_value (is_at (nat_cmp pid)) ps w
@@ -23,7 +23,8 @@ lands ps es pid f (Living a) w rising there is written =
 lands ps es pid f (Ended ending) w rising there is written = rw there tt
 lands ps es pid f Gone w rising there is written = rw there tt
 
-pub change-lands : (ps es : Numbered Process) (pid : ℕ) (change : Change) (v w : Process) → IsRising ps → get ps pid ≡ Some v
+pub change-lands : (ps es : Numbered Process) (pid : ℕ) (change : Change) (v w : Process) → IsRising ps
+    → get ps pid ≡ Some v
     → w ≡ on_living change v → es ≡ set_value (is_at (nat_cmp pid)) ps w
     → IfLiving ps pid (λ a. es ≡ put ps pid (Living (changed change a)))
 change-lands ps es pid change v w rising there is written =
@@ -33,7 +34,8 @@ pub child-lands : (ps es : Numbered Process) (pid child : ℕ) (v w : Process) �
     → w ≡ with_child_there child v → es ≡ set_value (is_at (nat_cmp pid)) ps w
     → IfLiving ps pid (λ a. es ≡ put ps pid (Living (parent_after_fork a child)))
 child-lands ps es pid child v w rising there is written =
-    lands ps es pid (λ a. parent_after_fork a child) v w rising there (λ a living. is ∙ ap (with_child_there child) living) written
+    lands ps es pid (λ a. parent_after_fork a child) v w rising there
+    (λ a living. is ∙ ap (with_child_there child) living) written
 
 -- what was asked of the living process holds of its place
 pub can-there : (ps : Numbered Process) (pid : ℕ) (change : Change) (v : Process) → get ps pid ≡ Some v

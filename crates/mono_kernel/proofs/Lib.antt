@@ -5,13 +5,11 @@ pub mod FamilyLemmas
 pub mod FreshLemmas
 pub mod KeyLemmas
 pub mod LandLemmas
-pub mod MapLemmas
 pub mod NameLemmas
 pub mod ParentLemmas
 pub mod QueueLemmas
 pub mod ResultLemmas
 pub mod SetLemmas
 pub mod SignalLemmas
-pub mod StepLemmas
 pub mod TableLemmas
 pub mod TrialLemmas

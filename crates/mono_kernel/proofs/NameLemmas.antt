@@ -1,11 +1,15 @@
 -- The way back stays.
 use Rattle.std.proofs.Common.{◌≡◌, ◌∙◌, ℕ, Bool, true, false, nat_eq, List, Option, Some, None, inl, inr, refl, sym, arith}
 use Rattle.number_maps.specs.Maps.{Numbered, get, put, is_used, used_with}
-use Rattle.mono_kernel.specs.Names.{HasWayBack, IsRising, keys_with, ways_with}
-use Rattle.mono_kernel.proofs.MapLemmas.{get-put_same, get-put_other, same-from-nat_eq, used-with}
+use Rattle.mono_kernel.specs.Names.{HasWayBack, keys_with, ways_with}
+use Rattle.number_maps.specs.Rising.{IsRising}
+use Rattle.number_maps.proofs.LookUps.{get-put-same, get-put-apart}
+use Rattle.number_maps.proofs.Order.{same-from-nat_eq}
+use Rattle.number_maps.proofs.Sets.{used-with}
 
 -- a number that isn't given out may have any way back
-pub HasWayBack-stale : (keys key_of : Numbered ℕ) (used : List ℕ) (n key : ℕ) → HasWayBack keys key_of used → is_used used n ≡ false
+pub HasWayBack-stale : (keys key_of : Numbered ℕ) (used : List ℕ) (n key : ℕ) → HasWayBack keys key_of used
+    → is_used used n ≡ false
     → HasWayBack keys (put key_of n key) used
 HasWayBack-stale keys key_of used n key h new =
     record {
@@ -17,9 +21,10 @@ HasWayBack-stale keys key_of used n key h new =
     at : (q id : ℕ) → get keys q ≡ Some id → (b : Bool) → nat_eq id n ≡ b → get (put key_of n key) id ≡ Some q
     at q id there true is =
         let yes : is_used used n ≡ true = rw (← same-from-nat_eq id n is) (h.given_out q id there) in absurd (cc)
-    at q id there false is = get-put_other key_of n id key is ∙ h.back q id there
+    at q id there false is = get-put-apart key_of n id key is ∙ h.back q id there
 
-pub HasWayBack-used : (keys key_of : Numbered ℕ) (used : List ℕ) (n : ℕ) → HasWayBack keys key_of used → HasWayBack keys key_of (used_with used n)
+pub HasWayBack-used : (keys key_of : Numbered ℕ) (used : List ℕ) (n : ℕ) → HasWayBack keys key_of used
+    → HasWayBack keys key_of (used_with used n)
 HasWayBack-used keys key_of used n h =
     record {
       rising = h.rising;
@@ -27,7 +32,8 @@ HasWayBack-used keys key_of used n h =
       given_out = λ q id there. used-with used n id (inr (h.given_out q id there));
     }
 
-pub HasWayBack-bound : (keys key_of : Numbered ℕ) (used : List ℕ) (n key : ℕ) → HasWayBack keys key_of used → is_used used n ≡ false
+pub HasWayBack-bound : (keys key_of : Numbered ℕ) (used : List ℕ) (n key : ℕ) → HasWayBack keys key_of used
+    → is_used used n ≡ false
     → IsRising (put keys key n) → HasWayBack (put keys key n) (put key_of n key) (used_with used n)
 HasWayBack-bound keys key_of used n key h new rising =
     record {
@@ -40,15 +46,18 @@ HasWayBack-bound keys key_of used n key h new rising =
         → (get (put key_of n key) id ≡ Some q) × (is_used (used_with used n) id ≡ true)
     at q id there true is =
         let same : q ≡ key = same-from-nat_eq q key is
-        in let num : Some id ≡ Some n = sym there ∙ rw same (get-put_same keys key n)
+        in let num : Some id ≡ Some n = sym there ∙ rw same (get-put-same keys key n)
         in let here : id ≡ n = cc
-        in (rw (here, same) (get-put_same key_of n key), rw here (used-with used n n (inl (nat_eq-same n))))
+        in (rw (here, same) (get-put-same key_of n key), rw here (used-with used n n (inl (nat_eq-same n))))
       where
         nat_eq-same : (a : ℕ) → nat_eq a a ≡ true
         nat_eq-same a = grind arith
     at q id there false is =
-        let old : get keys q ≡ Some id = sym (get-put_other keys key q n is) ∙ there
-        in ((HasWayBack-stale keys key_of used n key h new).back q id old, used-with used n id (inr (h.given_out q id old)))
+        let old : get keys q ≡ Some id = sym (get-put-apart keys key q n is) ∙ there
+        in (
+          (HasWayBack-stale keys key_of used n key h new).back q id old,
+          used-with used n id (inr (h.given_out q id old)),
+        )
 
 pub HasWayBack-noted : (keys key_of : Numbered ℕ) (used : List ℕ) (n : ℕ) (key : Option ℕ) → HasWayBack keys key_of used
     → is_used used n ≡ false → HasWayBack keys (ways_with key_of key n) used
@@ -56,6 +65,7 @@ HasWayBack-noted keys key_of used n None h new = h
 HasWayBack-noted keys key_of used n (Some key) h new = HasWayBack-stale keys key_of used n key h new
 
 pub HasWayBack-added : (keys key_of : Numbered ℕ) (used : List ℕ) (n : ℕ) (key : Option ℕ) → HasWayBack keys key_of used
-    → is_used used n ≡ false → IsRising (keys_with keys key n) → HasWayBack (keys_with keys key n) (ways_with key_of key n) (used_with used n)
+    → is_used used n ≡ false → IsRising (keys_with keys key n)
+    → HasWayBack (keys_with keys key n) (ways_with key_of key n) (used_with used n)
 HasWayBack-added keys key_of used n None h new rising = HasWayBack-used keys key_of used n h
 HasWayBack-added keys key_of used n (Some key) h new rising = HasWayBack-bound keys key_of used n key h new rising

@@ -8,9 +8,10 @@ use Rattle.std.proofs.lemmas.Map.Keys.{sorted_tail}
 use Rattle.number_maps.specs.Maps.{Numbered, get}
 use Rattle.kernel_model.specs.Row.{Alive, lists}
 use Rattle.kernel_model.specs.Kernel.{Process, Living, Ended, Gone, Parent, alive_in, living_in, parent_if, parent_in}
-use Rattle.mono_kernel.specs.Names.{IsRising}
+use Rattle.number_maps.specs.Rising.{IsRising}
 use Rattle.mono_kernel.specs.Table.{IsTable, lists_there, parent_number, parent_at, as_parent}
-use Rattle.mono_kernel.proofs.MapLemmas.{cmp-same, equal-same, less-none, greater-differs, get-rest}
+use Rattle.number_maps.proofs.Order.{cmp-same, equal-same, greater-differs}
+use Rattle.number_maps.proofs.Changes.{less-none, get-rest}
 
 -- a living process lists the child
 abbrev pub Lists : Numbered Process → ℕ → ℕ → Type 0
@@ -20,7 +21,8 @@ get-first : (e : ℕ × Process) (es : Numbered Process) → get (e ∷ es) e.0 
 get-first e es = rw (cmp-same e.0)
 
 -- a process that lists the child is its parent, and else the rest decides
-passed : (child n : ℕ) (p : Process) (rest : Option Parent) → ((b : Alive) → p ≡ Living b → lists b.row.family child ≡ true → ⊥)
+passed : (child n : ℕ) (p : Process) (rest : Option Parent)
+    → ((b : Alive) → p ≡ Living b → lists b.row.family child ≡ true → ⊥)
     → parent_if child n p rest ≡ rest
 passed child n (Living alive) rest not_it = at (lists alive.row.family child) refl
   where
@@ -30,13 +32,16 @@ passed child n (Living alive) rest not_it = at (lists alive.row.family child) re
 passed child n (Ended ending) rest not_it = refl
 passed child n Gone rest not_it = refl
 
-pub parent-none : (ps : Numbered Process) (child : ℕ) → IsRising ps → ((q : ℕ) → Lists ps child q → ⊥) → parent_in child ps ≡ None
+pub parent-none : (ps : Numbered Process) (child : ℕ) → IsRising ps → ((q : ℕ) → Lists ps child q → ⊥)
+    → parent_in child ps ≡ None
 parent-none [] child rising none = refl
 parent-none (e ∷ es) child rising none =
     passed child e.0 e.1 (parent_in child es) (λ b is it. none e.0 (b, get-first e es ∙ ap Some is, it))
-    ∙ parent-none es child (sorted_tail nat_cmp e.0 (keys_of es) rising) (λ q l. none q (l.0, get-rest e es q (Living l.0) rising l.1, l.2))
+    ∙ parent-none es child (sorted_tail nat_cmp e.0 (keys_of es) rising)
+    (λ q l. none q (l.0, get-rest e es q (Living l.0) rising l.1, l.2))
 
-found : (child p : ℕ) (a : Alive) (e : ℕ × Process) (es : Numbered Process) (o : Ordering) → nat_cmp p e.0 ≡ o → IsRising (e ∷ es)
+found : (child p : ℕ) (a : Alive) (e : ℕ × Process) (es : Numbered Process) (o : Ordering) → nat_cmp p e.0 ≡ o
+    → IsRising (e ∷ es)
     → get (e ∷ es) p ≡ Some (Living a) → lists a.row.family child ≡ true → ((q : ℕ) → Lists (e ∷ es) child q → q ≡ p)
     → (get es p ≡ Some (Living a) → parent_in child es ≡ Some (record { pid = p; alive = a }))
     → parent_if child e.0 e.1 (parent_in child es) ≡ Some (record { pid = p; alive = a })
@@ -49,9 +54,11 @@ found child p a e es Equal h rising there it only rec =
     in rw (is, it, num)
 found child p a e es Greater h rising there it only rec =
     let later : get es p ≡ Some (Living a) = rw h at there
-    in passed child e.0 e.1 (parent_in child es) (λ b is lists_it. greater-differs p e.0 h (only e.0 (b, get-first e es ∙ ap Some is, lists_it))) ∙ rec later
+    in passed child e.0 e.1 (parent_in child es)
+    (λ b is lists_it. greater-differs p e.0 h (only e.0 (b, get-first e es ∙ ap Some is, lists_it))) ∙ rec later
 
-pub parent-one : (ps : Numbered Process) (child p : ℕ) (a : Alive) → IsRising ps → get ps p ≡ Some (Living a) → lists a.row.family child ≡ true
+pub parent-one : (ps : Numbered Process) (child p : ℕ) (a : Alive) → IsRising ps → get ps p ≡ Some (Living a)
+    → lists a.row.family child ≡ true
     → ((q : ℕ) → Lists ps child q → q ≡ p) → parent_in child ps ≡ Some (record { pid = p; alive = a })
 parent-one [] child p a rising there it only = absurd (cc)
 parent-one (e ∷ es) child p a rising there it only =
@@ -73,10 +80,12 @@ get-living ps q b lives = at (get ps q) refl
     at (Some (Ended ending)) is = let none : None ≡ Some b = rw is at lives in absurd (cc)
     at (Some Gone) is = let none : None ≡ Some b = rw is at lives in absurd (cc)
 
-noted : (ps : Numbered Process) (parents : Numbered ℕ) (child q : ℕ) → IsTable ps parents → Lists ps child q → get parents child ≡ Some q
+noted : (ps : Numbered Process) (parents : Numbered ℕ) (child q : ℕ) → IsTable ps parents → Lists ps child q
+    → get parents child ≡ Some q
 noted ps parents child q t l = t.parent q child l.0 (living-get ps q l.0 l.1) l.2
 
-pub parent_in-none : (ps : Numbered Process) (parents : Numbered ℕ) (child : ℕ) → IsTable ps parents → get parents child ≡ None
+pub parent_in-none : (ps : Numbered Process) (parents : Numbered ℕ) (child : ℕ) → IsTable ps parents
+    → get parents child ≡ None
     → parent_in child ps ≡ None
 parent_in-none ps parents child t none =
     parent-none ps child t.rising (λ q l. let some : get parents child ≡ Some q = noted ps parents child q t l in cc)
@@ -84,11 +93,13 @@ parent_in-none ps parents child t none =
 listing : (ps : Numbered Process) (p child : ℕ) → lists_there ps p child ≡ true → Lists ps child p
 listing ps p child h = at (living_in ps p) refl h
   where
-    at : (o : Option Alive) → living_in ps p ≡ o → option_map_or (λ a. lists a.row.family child) o false ≡ true → Lists ps child p
+    at : (o : Option Alive) → living_in ps p ≡ o → option_map_or (λ a. lists a.row.family child) o false ≡ true
+        → Lists ps child p
     at None is g = absurd (cc)
     at (Some a) is g = (a, get-living ps p a is, g)
 
-pub parent_in-one : (ps : Numbered Process) (parents : Numbered ℕ) (child p : ℕ) → IsTable ps parents → get parents child ≡ Some p
+pub parent_in-one : (ps : Numbered Process) (parents : Numbered ℕ) (child p : ℕ) → IsTable ps parents
+    → get parents child ≡ Some p
     → lists_there ps p child ≡ true → parent_in child ps ≡ parent_at ps (Some p)
 parent_in-one ps parents child p t here h =
     let l = listing ps p child h
@@ -96,13 +107,16 @@ parent_in-one ps parents child p t here h =
     (λ q other. let there : get parents child ≡ Some q = noted ps parents child q t other in cc)
     ∙ sym (ap (option_map (as_parent p)) (living-get ps p l.0 l.1))
 
-pub parent_number-one : (ps : Numbered Process) (parents : Numbered ℕ) (child p : ℕ) → IsTable ps parents → get parents child ≡ Some p
+pub parent_number-one : (ps : Numbered Process) (parents : Numbered ℕ) (child p : ℕ) → IsTable ps parents
+    → get parents child ≡ Some p
     → lists_there ps p child ≡ true → parent_number ps child ≡ Some p
 parent_number-one ps parents child p t here h =
     let l = listing ps p child h
-    in rw (parent_in-one ps parents child p t here h) (ap (λ (o : Option Alive). option_map (λ x. x.pid) (option_map (as_parent p) o)) (living-get ps p l.0 l.1))
+    in rw (parent_in-one ps parents child p t here h)
+    (ap (λ (o : Option Alive). option_map (λ x. x.pid) (option_map (as_parent p) o)) (living-get ps p l.0 l.1))
 
-pub parent_in-stale : (ps : Numbered Process) (parents : Numbered ℕ) (child p : ℕ) → IsTable ps parents → get parents child ≡ Some p
+pub parent_in-stale : (ps : Numbered Process) (parents : Numbered ℕ) (child p : ℕ) → IsTable ps parents
+    → get parents child ≡ Some p
     → lists_there ps p child ≡ false → parent_in child ps ≡ None
 parent_in-stale ps parents child p t here h = parent-none ps child t.rising (λ q l. no q l)
   where
@@ -114,7 +128,8 @@ parent_in-stale ps parents child p t here h = parent-none ps child t.rising (λ 
         in cc
 
 -- a listed child isn't its own parent
-pub apart-listed : (ps : Numbered Process) (parents : Numbered ℕ) (child p : ℕ) → IsTable ps parents → lists_there ps p child ≡ true
+pub apart-listed : (ps : Numbered Process) (parents : Numbered ℕ) (child p : ℕ) → IsTable ps parents
+    → lists_there ps p child ≡ true
     → nat_eq p child ≡ false
 apart-listed ps parents child p t h =
     let l = listing ps p child h in flip child p (t.listed p child l.0 (living-get ps p l.0 l.1) l.2).1

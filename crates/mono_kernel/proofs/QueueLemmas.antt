@@ -13,7 +13,8 @@ select-zero (m ∷ ms) (pos zero) is more =
 select-zero (m ∷ ms) (pos (suc n)) is more = absurd (cc)
 select-zero (m ∷ ms) (negsuc n) is more = absurd (cc)
 
-pub select-positive : (ms : List Message) (class : ℤ) → int_lt (pos 0) class ≡ true → first_of class ms ≡ select ms class
+pub select-positive : (ms : List Message) (class : ℤ) → int_lt (pos 0) class ≡ true
+    → first_of class ms ≡ select ms class
 select-positive ms (pos zero) above = absurd (cc)
 select-positive ms (pos (suc n)) above = refl
 select-positive ms (negsuc n) above = absurd (cc)
@@ -21,16 +22,19 @@ select-positive ms (negsuc n) above = absurd (cc)
 -- What receive comes to, where a message is selected.
 
 pub receive-too_long : (q : Queue) (pid : ℕ) (class : ℤ) (size : ℕ) (noerror : Bool) (place : ℕ) (m : Message)
-    → select q.messages class ≡ Some place → slice_get q.messages place ≡ Some m → size < length m.text → noerror ≡ false
+    → select q.messages class ≡ Some place → slice_get q.messages place ≡ Some m → size < length m.text
+    → noerror ≡ false
     → receive q pid class size noerror ≡ Err E2big
 receive-too_long q pid class size noerror place m chosen there long strict =
     let le : nat_le (length m.text) size ≡ false = grind arith
     in rw (chosen, there, le, strict)
 
 pub receive-takes : (q : Queue) (pid : ℕ) (class : ℤ) (size : ℕ) (noerror : Bool) (place : ℕ) (m : Message)
-    → select q.messages class ≡ Some place → slice_get q.messages place ≡ Some m → (nat_le (length m.text) size || noerror) ≡ true
+    → select q.messages class ≡ Some place → slice_get q.messages place ≡ Some m
+    → (nat_le (length m.text) size || noerror) ≡ true
     → receive q pid class size noerror ≡ Ok (take_message q pid size place m)
 receive-takes q pid class size noerror place m chosen there may = rw (chosen, there, may)
 
-pub is_cut_or_fits : (len size : ℕ) (noerror : Bool) → (len ≤ size) ⊎ (noerror ≡ true) → (nat_le len size || noerror) ≡ true
+pub is_cut_or_fits : (len size : ℕ) (noerror : Bool) → (len ≤ size) ⊎ (noerror ≡ true)
+    → (nat_le len size || noerror) ≡ true
 is_cut_or_fits len size noerror may = grind arith

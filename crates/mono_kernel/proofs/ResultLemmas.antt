@@ -1,17 +1,5 @@
--- From what holds on one answer to what follows from it.
-use Rattle.std.proofs.Common.{Result, Ok, Err, OnOk, OnErr, IfOk}
-
-pub on_ok : {X E : Type 0} (r : Result X E) (P Q : Type 0) → (P → Q) → OnOk r P → OnOk r Q
-on_ok (Ok x) P Q f h = f h
-on_ok (Err e) P Q f h = h
-
-pub on_err : {X E : Type 0} (r : Result X E) (P Q : Type 0) → (P → Q) → OnErr r P → OnErr r Q
-on_err (Ok x) P Q f h = h
-on_err (Err e) P Q f h = f h
-
-pub if_ok : {X E : Type 0} (r : Result X E) (P Q : X → Type 0) → ((x : X) → P x → Q x) → IfOk r P → IfOk r Q
-if_ok (Ok x) P Q f h = f x h
-if_ok (Err e) P Q f h = h
+-- What holds whatever the answer.
+use Rattle.std.proofs.Common.{Result, Ok, Err, OnErr}
 
 pub err_anyway : {X E : Type 0} (r : Result X E) (P : Type 0) → P → OnErr r P
 err_anyway (Ok x) P h = tt

@@ -25,18 +25,27 @@ write-next (x ∷ xs) (v ∷ vs) (suc i) s inside some is =
     in let more : i < length vs = omega arith
     in ap (λ (ys : List Semaphore). record x { value = v } ∷ ys) (write-next xs vs i s left more is)
 
-pub write-step : (S : List Semaphore) (V : List ℕ) (ys : List Semaphore) (i : ℕ) (s t : Semaphore) → i < length V → length V ≡ length S
+pub write-step : (S : List Semaphore) (V : List ℕ) (ys : List Semaphore) (i : ℕ) (s t : Semaphore) → i < length V
+    → length V ≡ length S
     → ys ≡ take i (with_values S V) ++ drop i S → t ≡ s → s ≡ get_or ys i s
     → set ys i (record t { value = get_or V i 0 }) ≡ take (i + 1) (with_values S V) ++ drop (i + 1) S
 write-step S V ys i s t some alike is same read =
     let inside : i < length S = omega arith
     in rw (add-one, same, is) (write-next S V i s inside some (rw (← is) read))
 
-pub mark-step : (S : List Semaphore) (pid : ℕ) (steps : List SemStep) (i n : ℕ) (d : SemStep) (ys : List Semaphore) (s t : Semaphore)
-    → i < length steps → n ≡ (get_or steps i d).num → n < length ys → ys ≡ fold (mark pid) S (take i steps) → t ≡ s → s ≡ get_or ys n s
+pub mark-step : (S : List Semaphore) (pid : ℕ) (steps : List SemStep) (i n : ℕ) (d : SemStep) (ys : List Semaphore)
+    (s t : Semaphore)
+    → i < length steps → n ≡ (get_or steps i d).num → n < length ys → ys ≡ fold (mark pid) S (take i steps) → t ≡ s
+    → s ≡ get_or ys n s
     → set ys n (record t { last = pid }) ≡ fold (mark pid) S (take (i + 1) steps)
 mark-step S pid steps i n d ys s t inside is_num within is same read =
-    rw (same, fold_more (mark pid) S steps i d inside, ← is, ← is_num, slice_get_read ys (length ys) n s refl within read)
+    rw (
+      same,
+      fold_more (mark pid) S steps i d inside,
+      ← is,
+      ← is_num,
+      slice_get_read ys (length ys) n s refl within read,
+    )
 
 -- where no step names a number from this size on, each is below
 pub below-size : (size : ℕ) (steps : List SemStep) → list_any (λ step. nat_le size step.num) steps ≡ false
@@ -47,14 +56,16 @@ below-size size (step ∷ steps) none zero d inside = first_below size step (lis
     first_below : (size : ℕ) (step : SemStep) (b : Bool) → (nat_le size step.num || b) ≡ false → step.num < size
     first_below size step b none = grind arith
 below-size size (step ∷ steps) none (suc k) d inside =
-    below-size size steps (rest_none (nat_le size step.num) (list_any (λ s. nat_le size s.num) steps) none) k d (omega arith)
+    below-size size steps (rest_none (nat_le size step.num) (list_any (λ s. nat_le size s.num) steps) none) k d
+    (omega arith)
   where
     rest_none : (a b : Bool) → (a || b) ≡ false → b ≡ false
     rest_none true b none = absurd (cc)
     rest_none false b none = none
 
 -- all values are written
-pub write-done : (S : List Semaphore) (V : List ℕ) (n : ℕ) → length S ≤ n → take n (with_values S V) ++ drop n S ≡ with_values S V
+pub write-done : (S : List Semaphore) (V : List ℕ) (n : ℕ) → length S ≤ n
+    → take n (with_values S V) ++ drop n S ≡ with_values S V
 write-done S V n all =
     let long : length (with_values S V) ≤ n = omega (arith, length-with_values S V)
     in rw (take_all n (with_values S V) long, drop_all n S all) (append-nil (with_values S V))

@@ -9,7 +9,8 @@ use Rattle.mono_kernel.specs.declared.process.Change.TheVariants.{Signals as Set
 use Rattle.mono_kernel.specs.Process.{changed}
 use Rattle.mono_kernel.specs.Answers.{signalled_kernel}
 
-pub signals-land : (k next : Kernel) (pid : ℕ) (b : Alive) (f : Signals → Signals) (s : Signals) → living_at k pid ≡ Some b → s ≡ f b.row.signals
+pub signals-land : (k next : Kernel) (pid : ℕ) (b : Alive) (f : Signals → Signals) (s : Signals)
+    → living_at k pid ≡ Some b → s ≡ f b.row.signals
     → IfSome (living_at k pid) (λ a. next ≡ with_alive k pid (changed (SetSignals s) a))
     → IfSome (living_at k pid) (λ a. next ≡ with_signals k pid a (f a.row.signals))
 signals-land k next pid b f s here is landed =
@@ -19,7 +20,8 @@ signals-land k next pid b f s here is landed =
     here_at h = h
 
 pub own-signal : (k next : Kernel) (caller pid : ℕ) (g : Sig) (o : Option Alive) → caller ≡ pid
-    → IfSome o (λ a. next ≡ with_signals k pid a (raise a.row.signals g)) → IfSome o (λ a. next ≡ signalled_kernel k caller pid a g)
+    → IfSome o (λ a. next ≡ with_signals k pid a (raise a.row.signals g))
+    → IfSome o (λ a. next ≡ signalled_kernel k caller pid a g)
 own-signal k next caller pid g None same h = tt
 own-signal k next caller pid g (Some a) same h = let yes : nat_eq caller pid ≡ true = grind arith in rw yes h
 

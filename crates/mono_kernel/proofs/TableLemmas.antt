@@ -10,24 +10,27 @@ use Rattle.kernel_model.specs.ProcessCalls.{parent_after_fork, new_child}
 use Rattle.mono_kernel.specs.declared.process.Change.{Change}
 use Rattle.mono_kernel.specs.declared.process.Change.TheVariants.{Signals, Raise, EndChild, Reap, Spend}
 use Rattle.mono_kernel.specs.Process.{changed, IsPlain}
-use Rattle.mono_kernel.specs.Names.{IsRising}
+use Rattle.number_maps.specs.Rising.{IsRising}
 use Rattle.mono_kernel.specs.Table.{IsTable, IfLiving, keeps}
-use Rattle.mono_kernel.proofs.MapLemmas.{get-put_same, get-put_other, same-from-nat_eq}
+use Rattle.number_maps.proofs.LookUps.{get-put-same, get-put-apart}
+use Rattle.number_maps.proofs.Order.{same-from-nat_eq}
 
 -- look-ups after a change at a number
 
 pub living-put_same : (ps : Numbered Process) (k : ℕ) (v : Process) → living_in (put ps k v) k ≡ alive_in v
-living-put_same ps k v = ap (option_and_then alive_in) (get-put_same ps k v)
+living-put_same ps k v = ap (option_and_then alive_in) (get-put-same ps k v)
 
-pub living-put_other : (ps : Numbered Process) (k q : ℕ) (v : Process) → nat_eq q k ≡ false → living_in (put ps k v) q ≡ living_in ps q
-living-put_other ps k q v apart = ap (option_and_then alive_in) (get-put_other ps k q v apart)
+pub living-put_other : (ps : Numbered Process) (k q : ℕ) (v : Process) → nat_eq q k ≡ false
+    → living_in (put ps k v) q ≡ living_in ps q
+living-put_other ps k q v apart = ap (option_and_then alive_in) (get-put-apart ps k q v apart)
 
-pub there-put : (ps : Numbered Process) (k q : ℕ) (v : Process) → is_some (get ps q) ≡ true → is_some (get (put ps k v) q) ≡ true
+pub there-put : (ps : Numbered Process) (k q : ℕ) (v : Process) → is_some (get ps q) ≡ true
+    → is_some (get (put ps k v) q) ≡ true
 there-put ps k q v there = at (nat_eq q k) refl
   where
     at : (b : Bool) → nat_eq q k ≡ b → is_some (get (put ps k v) q) ≡ true
-    at true is = rw (same-from-nat_eq q k is) (ap is_some (get-put_same ps k v))
-    at false is = ap is_some (get-put_other ps k q v is) ∙ there
+    at true is = rw (same-from-nat_eq q k is) (ap is_some (get-put-same ps k v))
+    at false is = ap is_some (get-put-apart ps k q v is) ∙ there
 
 -- where a process lives, something is there
 pub there-living : (ps : Numbered Process) (p : ℕ) (a : Alive) → living_in ps p ≡ Some a → is_some (get ps p) ≡ true
@@ -38,7 +41,8 @@ there-living ps p a lives = at (get ps p) refl
     at (Some v) is = refl
 
 -- A process that no longer lives.
-pub IsTable-settled : (ps : Numbered Process) (parents : Numbered ℕ) (k : ℕ) (v : Process) → IsTable ps parents → alive_in v ≡ None
+pub IsTable-settled : (ps : Numbered Process) (parents : Numbered ℕ) (k : ℕ) (v : Process) → IsTable ps parents
+    → alive_in v ≡ None
     → IsRising (put ps k v) → IsTable (put ps k v) parents
 IsTable-settled ps parents k v t dead rising =
     record {
@@ -93,7 +97,8 @@ IsTable-changed ps parents pid a b t here no_more kept_before rising =
 
     at : (p child : ℕ) (c : Alive) → living_in (put ps pid (Living b)) p ≡ Some c → (x : Bool) → nat_eq p pid ≡ x
         → (lists c.row.family child ≡ true → get parents child ≡ Some p)
-        × (lists c.row.family child ≡ true → (is_some (get (put ps pid (Living b)) child) ≡ true) × (nat_eq child p ≡ false))
+        × (lists c.row.family child ≡ true → (is_some (get (put ps pid (Living b)) child) ≡ true)
+        × (nat_eq child p ≡ false))
         × (keeps c.row.family child ≡ true
         → (is_some (get (put ps pid (Living b)) child) ≡ true) × (living_in (put ps pid (Living b)) child ≡ None))
     at p child c lives true is =
@@ -138,7 +143,8 @@ kept-filter p q (e ∷ es) h = at (q e) (list_any p (filter q es)) h (kept-filte
         here true g = refl
         here false g = rec g
 
-plain-lists : (change : Change) (a : Alive) → IsPlain change → (child : ℕ) → lists (changed change a).row.family child ≡ true
+plain-lists : (change : Change) (a : Alive) → IsPlain change → (child : ℕ)
+    → lists (changed change a).row.family child ≡ true
     → lists a.row.family child ≡ true
 plain-lists (Signals s) a plain child h = h
 plain-lists (Raise sig) a plain child h = h
@@ -146,12 +152,14 @@ plain-lists (EndChild c ending) a plain child h = absurd plain
 plain-lists (Reap c) a plain child h = h
 plain-lists Spend a plain child h = h
 
-plain-keeps : (change : Change) (a : Alive) → IsPlain change → (child : ℕ) → keeps (changed change a).row.family child ≡ true
+plain-keeps : (change : Change) (a : Alive) → IsPlain change → (child : ℕ)
+    → keeps (changed change a).row.family child ≡ true
     → keeps a.row.family child ≡ true
 plain-keeps (Signals s) a plain child h = h
 plain-keeps (Raise sig) a plain child h = h
 plain-keeps (EndChild c ending) a plain child h = absurd plain
-plain-keeps (Reap c) a plain child h = kept-filter (λ e. nat_eq child e.pid) (λ e. not (nat_eq c e.pid)) a.row.family.ended h
+plain-keeps (Reap c) a plain child h =
+    kept-filter (λ e. nat_eq child e.pid) (λ e. not (nat_eq c e.pid)) a.row.family.ended h
 plain-keeps Spend a plain child h = h
 
 pub IsTable-plain : (ps ns : Numbered Process) (parents : Numbered ℕ) (pid : ℕ) (change : Change) → IsTable ps parents
@@ -159,7 +167,8 @@ pub IsTable-plain : (ps ns : Numbered Process) (parents : Numbered ℕ) (pid : �
     → IsRising ns → IsTable ns parents
 IsTable-plain ps ns parents pid change t lives plain is rising = at (living_in ps pid) refl lives is
   where
-    at : (o : Option Alive) → living_in ps pid ≡ o → IsSome o → IfSome o (λ a. ns ≡ put ps pid (Living (changed change a))) → IsTable ns parents
+    at : (o : Option Alive) → living_in ps pid ≡ o → IsSome o
+        → IfSome o (λ a. ns ≡ put ps pid (Living (changed change a))) → IsTable ns parents
     at None here some h = absurd (cc)
     at (Some a) here some h =
         rw h
@@ -168,7 +177,8 @@ IsTable-plain ps ns parents pid change t lives plain is rising = at (living_in p
 
 -- a child that has ended
 
-ended-lists : (a : Alive) (c : ℕ) (ending : Ending) (child : ℕ) → lists (with_ended_child a c ending).row.family child ≡ true
+ended-lists : (a : Alive) (c : ℕ) (ending : Ending) (child : ℕ)
+    → lists (with_ended_child a c ending).row.family child ≡ true
     → lists a.row.family child ≡ true
 ended-lists a c ending child h = at (ignores_children a.row) refl
   where
@@ -179,7 +189,8 @@ ended-lists a c ending child h = at (ignores_children a.row) refl
         rest xs g = kept-filter (nat_eq child) (λ x. not (nat_eq c x)) xs g
     at false is = kept-filter (nat_eq child) (λ x. not (nat_eq c x)) a.row.family.living (rw is at h)
 
-ended-keeps : (a : Alive) (c : ℕ) (ending : Ending) (child : ℕ) → keeps (with_ended_child a c ending).row.family child ≡ true
+ended-keeps : (a : Alive) (c : ℕ) (ending : Ending) (child : ℕ)
+    → keeps (with_ended_child a c ending).row.family child ≡ true
     → (keeps a.row.family child ≡ true) ⊎ (child ≡ c)
 ended-keeps a c ending child h = at (ignores_children a.row) refl
   where
@@ -192,8 +203,10 @@ ended-keeps a c ending child h = at (ignores_children a.row) refl
         only false k = k
     last (e ∷ es) g = first (nat_eq child e.pid) (list_any (λ x. nat_eq child x.pid) es) (last es) g
       where
-        first : (x any : Bool) → (list_any (λ y. nat_eq child y.pid) (es ++ ended_child c ending ∷ []) ≡ true → (any ≡ true) ⊎ (child ≡ c))
-            → (x || list_any (λ y. nat_eq child y.pid) (es ++ ended_child c ending ∷ [])) ≡ true → ((x || any) ≡ true) ⊎ (child ≡ c)
+        first : (x any : Bool)
+            → (list_any (λ y. nat_eq child y.pid) (es ++ ended_child c ending ∷ []) ≡ true → (any ≡ true) ⊎ (child ≡ c))
+            → (x || list_any (λ y. nat_eq child y.pid) (es ++ ended_child c ending ∷ [])) ≡ true → ((x || any) ≡ true)
+            ⊎ (child ≡ c)
         first true any rec k = inl refl
         first false any rec k = rec k
 
@@ -201,10 +214,12 @@ ended-keeps a c ending child h = at (ignores_children a.row) refl
     at true is = inl (rw is at h)
     at false is = last a.row.family.ended (rw is at h)
 
-pub IsTable-ended_child : (ps ns : Numbered Process) (parents : Numbered ℕ) (pid c : ℕ) (ending : Ending) → IsTable ps parents
+pub IsTable-ended_child : (ps ns : Numbered Process) (parents : Numbered ℕ) (pid c : ℕ) (ending : Ending)
+    → IsTable ps parents
     → IsSome (living_in ps pid) → IfLiving ps pid (λ a. lists a.row.family c ≡ true) → living_in ps c ≡ None
     → IfLiving ps pid (λ a. ns ≡ put ps pid (Living (with_ended_child a c ending))) → IsRising ns → IsTable ns parents
-IsTable-ended_child ps ns parents pid c ending t lives listed ended is rising = at (living_in ps pid) refl lives listed is
+IsTable-ended_child ps ns parents pid c ending t lives listed ended is rising =
+    at (living_in ps pid) refl lives listed is
   where
     at : (o : Option Alive) → living_in ps pid ≡ o → IsSome o → IfSome o (λ a. lists a.row.family c ≡ true)
         → IfSome o (λ a. ns ≡ put ps pid (Living (with_ended_child a c ending))) → IsTable ns parents
@@ -215,7 +230,8 @@ IsTable-ended_child ps ns parents pid c ending t lives listed ended is rising = 
         → (keeps a.row.family child ≡ true) ⊎ ((is_some (get ps child) ≡ true) × (living_in ps child ≡ None)) =
         λ child k. from (ended-keeps a c ending child k)
         in rw h
-        (IsTable-changed ps parents pid a (with_ended_child a c ending) t here (ended-lists a c ending) kept (rw h at rising))
+        (IsTable-changed ps parents pid a (with_ended_child a c ending) t here (ended-lists a c ending) kept
+        (rw h at rising))
       where
         from : {child : ℕ} → (keeps a.row.family child ≡ true) ⊎ (child ≡ c)
             → (keeps a.row.family child ≡ true) ⊎ ((is_some (get ps child) ≡ true) × (living_in ps child ≡ None))
@@ -234,12 +250,13 @@ IsTable-stale ps parents n pid t fresh =
       kept = t.kept;
     }
   where
-    at : (p child : ℕ) (a : Alive) → living_in ps p ≡ Some a → lists a.row.family child ≡ true → (b : Bool) → nat_eq child n ≡ b
+    at : (p child : ℕ) (a : Alive) → living_in ps p ≡ Some a → lists a.row.family child ≡ true → (b : Bool)
+        → nat_eq child n ≡ b
         → get (put parents n pid) child ≡ Some p
     at p child a lives it true is =
         let there : is_some (get ps n) ≡ true = rw (← same-from-nat_eq child n is) ((t.listed p child a lives it).0)
         in let none : false ≡ true = rw fresh at there in absurd (cc)
-    at p child a lives it false is = get-put_other parents n child pid is ∙ t.parent p child a lives it
+    at p child a lives it false is = get-put-apart parents n child pid is ∙ t.parent p child a lives it
 
 module _ (ps : Numbered Process) (parents : Numbered ℕ) (n pid : ℕ) (a : Alive) (t : IsTable ps parents)
     (here : living_in ps pid ≡ Some a) (fresh : get ps n ≡ None) where
@@ -263,15 +280,19 @@ module _ (ps : Numbered Process) (parents : Numbered ℕ) (n pid : ℕ) (a : Ali
 
   there-forked : (q : ℕ) → is_some (get ps q) ≡ true → is_some (get forked_table q) ≡ true
   unfolding forked_table
-  there-forked q there = there-put (put ps n (Living (new_child a))) pid q (Living (parent_after_fork a n)) (there-put ps n q (Living (new_child a)) there)
+  there-forked q there =
+      there-put (put ps n (Living (new_child a))) pid q (Living (parent_after_fork a n))
+      (there-put ps n q (Living (new_child a)) there)
 
   new-there : is_some (get forked_table n) ≡ true
   unfolding forked_table
-  new-there = there-put (put ps n (Living (new_child a))) pid n (Living (parent_after_fork a n)) (ap is_some (get-put_same ps n (Living (new_child a))))
+  new-there = there-put (put ps n (Living (new_child a))) pid n (Living (parent_after_fork a n))
+      (ap is_some (get-put-same ps n (Living (new_child a))))
 
   others-live : (q : ℕ) → nat_eq q pid ≡ false → nat_eq q n ≡ false → living_in forked_table q ≡ living_in ps q
   unfolding forked_table
-  others-live q p r = living-put_other (put ps n (Living (new_child a))) pid q (Living (parent_after_fork a n)) p ∙ living-put_other ps n q (Living (new_child a)) r
+  others-live q p r = living-put_other (put ps n (Living (new_child a))) pid q (Living (parent_after_fork a n)) p
+      ∙ living-put_other ps n q (Living (new_child a)) r
 
   caller-lives : living_in forked_table pid ≡ Some (parent_after_fork a n)
   unfolding forked_table
@@ -279,17 +300,20 @@ module _ (ps : Numbered Process) (parents : Numbered ℕ) (n pid : ℕ) (a : Ali
 
   child-lives : living_in forked_table n ≡ Some (new_child a)
   unfolding forked_table
-  child-lives = living-put_other (put ps n (Living (new_child a))) pid n (Living (parent_after_fork a n)) caller_apart ∙ living-put_same ps n (Living (new_child a))
+  child-lives = living-put_other (put ps n (Living (new_child a))) pid n (Living (parent_after_fork a n)) caller_apart
+      ∙ living-put_same ps n (Living (new_child a))
 
   still-dead : (q : ℕ) → (is_some (get ps q) ≡ true) × (living_in ps q ≡ None)
       → (is_some (get forked_table q) ≡ true) × (living_in forked_table q ≡ None)
   still-dead q h = (there-forked q h.0, at (nat_eq q pid) refl)
     where
       at : (b : Bool) → nat_eq q pid ≡ b → living_in forked_table q ≡ None
-      at true is = let some : living_in ps q ≡ Some a = rw (same-from-nat_eq q pid is) here in let dead : living_in ps q ≡ None = h.1 in absurd (cc)
+      at true is = let some : living_in ps q ≡ Some a =
+          rw (same-from-nat_eq q pid is) here in let dead : living_in ps q ≡ None = h.1 in absurd (cc)
       at false is = others-live q is (absent q h.0) ∙ h.1
 
-  pushed : (child : ℕ) (xs : List ℕ) → list_any (nat_eq child) (xs ++ n ∷ []) ≡ true → (list_any (nat_eq child) xs ≡ true) ⊎ (child ≡ n)
+  pushed : (child : ℕ) (xs : List ℕ) → list_any (nat_eq child) (xs ++ n ∷ []) ≡ true
+      → (list_any (nat_eq child) xs ≡ true) ⊎ (child ≡ n)
   pushed child [] g = inr (same-from-nat_eq child n (only (nat_eq child n) g))
     where
       only : (x : Bool) → (x || false) ≡ true → x ≡ true
@@ -306,12 +330,14 @@ module _ (ps : Numbered Process) (parents : Numbered ℕ) (n pid : ℕ) (a : Ali
   Fits p child c =
       (lists c.row.family child ≡ true → get (put parents n pid) child ≡ Some p)
       × (lists c.row.family child ≡ true → (is_some (get forked_table child) ≡ true) × (nat_eq child p ≡ false))
-      × (keeps c.row.family child ≡ true → (is_some (get forked_table child) ≡ true) × (living_in forked_table child ≡ None))
+      × (keeps c.row.family child ≡ true → (is_some (get forked_table child) ≡ true)
+      × (living_in forked_table child ≡ None))
 
   fits-old : (p child : ℕ) (c : Alive) → living_in ps p ≡ Some c → Fits p child c
   unfolding Fits
   fits-old p child c lives = (
-    (λ it. get-put_other parents n child pid (absent child (t.listed p child c lives it).0) ∙ t.parent p child c lives it),
+    (λ it. get-put-apart parents n child pid (absent child (t.listed p child c lives it).0)
+        ∙ t.parent p child c lives it),
     (λ it. let old = t.listed p child c lives it in (there-forked child old.0, old.1)),
     (λ it. still-dead child (t.kept p child c lives it)),
   )
@@ -324,11 +350,14 @@ module _ (ps : Numbered Process) (parents : Numbered ℕ) (n pid : ℕ) (a : Ali
     (λ it. still-dead child (t.kept pid child a here it)),
   )
     where
-      parent : (list_any (nat_eq child) a.row.family.living ≡ true) ⊎ (child ≡ n) → get (put parents n pid) child ≡ Some pid
-      parent (inl old) = get-put_other parents n child pid (absent child (t.listed pid child a here old).0) ∙ t.parent pid child a here old
-      parent (inr same) = rw same (get-put_same parents n pid)
+      parent : (list_any (nat_eq child) a.row.family.living ≡ true) ⊎ (child ≡ n)
+          → get (put parents n pid) child ≡ Some pid
+      parent (inl old) = get-put-apart parents n child pid (absent child (t.listed pid child a here old).0)
+          ∙ t.parent pid child a here old
+      parent (inr same) = rw same (get-put-same parents n pid)
 
-      listed : (list_any (nat_eq child) a.row.family.living ≡ true) ⊎ (child ≡ n) → (is_some (get forked_table child) ≡ true) × (nat_eq child pid ≡ false)
+      listed : (list_any (nat_eq child) a.row.family.living ≡ true) ⊎ (child ≡ n)
+          → (is_some (get forked_table child) ≡ true) × (nat_eq child pid ≡ false)
       listed (inl old) = let o = t.listed pid child a here old in (there-forked child o.0, o.1)
       listed (inr same) = (rw same new-there, rw same caller_apart)
 
@@ -356,7 +385,8 @@ module _ (ps : Numbered Process) (parents : Numbered ℕ) (n pid : ℕ) (a : Ali
       at false is = second (nat_eq p n) is refl
 
   pub IsTable-forked : (ns : Numbered Process) → IsRising ns
-      → IfLiving ps pid (λ b. ns ≡ put (put ps n (Living (new_child a))) pid (Living (parent_after_fork b n))) → IsTable ns (put parents n pid)
+      → IfLiving ps pid (λ b. ns ≡ put (put ps n (Living (new_child a))) pid (Living (parent_after_fork b n)))
+      → IsTable ns (put parents n pid)
   unfolding forked_table Fits
   IsTable-forked ns rising is =
       let whole : ns ≡ forked_table = rw here at is

@@ -20,7 +20,8 @@ go_on-stops i values num e Waits rest h = cc
 go_on-stops i values num e TooHigh rest h = cc
 
 pub try-goes : (i : ℕ) (values : List ℕ) (steps : List SemStep) (d : SemStep) (n x v : ℕ) → i < length steps
-    → n ≡ (get_or steps i d).num → n < length values → x ≡ get_or values n x → answer_of (move_by (get_or steps i d).add x) ≡ Ok v
+    → n ≡ (get_or steps i d).num → n < length values → x ≡ get_or values n x
+    → answer_of (move_by (get_or steps i d).add x) ≡ Ok v
     → try_from i values (drop i steps) ≡ try_from (i + 1) (set values n v) (drop (i + 1) steps)
 try-goes i values steps d n x v inside is_num within read h =
     let front : drop i steps ≡ get_or steps i d ∷ drop (i + 1) steps = rw add-one (drop-cons steps i d inside)
@@ -28,7 +29,8 @@ try-goes i values steps d n x v inside is_num within read h =
     (go_on-goes i values n v (move_by (get_or steps i d).add x) (λ next. try_from (i + 1) next (drop (i + 1) steps)) h)
 
 pub try-stops : (i : ℕ) (values : List ℕ) (steps : List SemStep) (d : SemStep) (n x : ℕ) (e : Errno) → i < length steps
-    → n ≡ (get_or steps i d).num → n < length values → x ≡ get_or values n x → answer_of (move_by (get_or steps i d).add x) ≡ Err e
+    → n ≡ (get_or steps i d).num → n < length values → x ≡ get_or values n x
+    → answer_of (move_by (get_or steps i d).add x) ≡ Err e
     → refusal_of (try_from i values (drop i steps)) ≡ Some e
 try-stops i values steps d n x e inside is_num within read h =
     let front : drop i steps ≡ get_or steps i d ∷ drop (i + 1) steps = rw add-one (drop-cons steps i d inside)

@@ -1,9 +1,7 @@
 -- The keys and the used numbers of one kind, queues or sets.
 use Rattle.std.specs.Prelude.{◌≡◌, ℕ, true, List, Option, Some, None}
-use Rattle.std.specs.List.Sorted.{IsStrictlySortedBy}
-use Rattle.std.specs.Ordering.{nat_cmp}
-use Rattle.std.specs.Map.{keys_of}
 use Rattle.number_maps.specs.Maps.{Numbered, get, put, is_used, used_with}
+use Rattle.number_maps.specs.Rising.{IsRising}
 
 pub record NameTable : Type 0 where
   pub keys : Numbered ℕ
@@ -18,10 +16,6 @@ keys_with keys (Some key) n = put keys key n
 abbrev pub ways_with : Numbered ℕ → Option ℕ → ℕ → Numbered ℕ
 ways_with key_of None n = key_of
 ways_with key_of (Some key) n = put key_of n key
-
--- by rising number
-abbrev pub IsRising : {V : Type 0} → Numbered V → Type 0
-IsRising m = IsStrictlySortedBy nat_cmp (keys_of m)
 
 -- a number is given out
 abbrev pub with_name : NameTable → ℕ → Option ℕ → NameTable

@@ -8,7 +8,7 @@ use Rattle.number_maps.specs.Maps.{Numbered, get}
 use Rattle.kernel_model.specs.Row.{Alive, EndedChild, Family, ended_child, Waited, Found, NotYet, NoChild, lists, ignores_children}
 use Rattle.kernel_model.specs.Kernel.{Process, Parent, living_in, parent_in}
 use Rattle.kernel_model.specs.ProcessCalls.{processes_after_wait}
-use Rattle.mono_kernel.specs.Names.{IsRising}
+use Rattle.number_maps.specs.Rising.{IsRising}
 
 -- of the process that lives at a number
 abbrev pub IfLiving : Numbered Process → ℕ → (Alive → Type 0) → Type 0
@@ -30,7 +30,8 @@ ignores_there ps pid = option_map_or (λ a. ignores_children a.row) (living_in p
 -- isn't its own parent, and an ended one that is kept is in the table and doesn't live.
 pub record IsTable (ps : Numbered Process) (parents : Numbered ℕ) : Type 0 where
   pub rising : IsRising ps
-  pub parent : (p child : ℕ) (a : Alive) → living_in ps p ≡ Some a → lists a.row.family child ≡ true → get parents child ≡ Some p
+  pub parent : (p child : ℕ) (a : Alive) → living_in ps p ≡ Some a → lists a.row.family child ≡ true
+      → get parents child ≡ Some p
   pub listed : (p child : ℕ) (a : Alive) → living_in ps p ≡ Some a → lists a.row.family child ≡ true
       → (is_some (get ps child) ≡ true) × (nat_eq child p ≡ false)
   pub kept : (p child : ℕ) (a : Alive) → living_in ps p ≡ Some a → keeps a.row.family child ≡ true

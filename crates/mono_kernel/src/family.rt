@@ -1,3 +1,4 @@
+//! The living and the ended children of one process.
 ghost use Rattle.std.specs.Prelude.{◌≡◌, ◌∷◌, ◌++◌, true, OnOk, OnErr, IfOk, nat_eq, ◌+◌, ◌≤◌, vec_len, vec_capacity};
 ghost use Rattle.std.specs.List.{list_any};
 ghost use Rattle.kernel_model.specs.Row.{no_family, with_child, lists, family_after_end, first_ended_child, without_ended, matches, others};
@@ -12,7 +13,7 @@ use std::marker::Model;
 /// takes no memory.
 #[derive(Drop)]
 pub(crate) struct ChildList {
-    living: Vec<u32>,
+    living: Vec<Pid>,
     ended: Vec<EndedChild>,
 }
 
@@ -29,17 +30,17 @@ impl Model for ChildList {
 }
 
 /// Whether a child is the one that is waited for.
-fn is_waited_for(which: Option<u32>, child: u32) -> bool
-    ensures { result ≡ matches which child }
+fn is_waited_for(which: &Option<Pid>, child: Pid) -> bool
+    ensures { result ≡ matches which.now child }
 {
     match which {
-        Some(which) => which == child,
+        Some(which) => *which == child,
         None => true,
     }
 }
 
 /// Takes a child out of the living ones.
-fn drop_living(living: &mut Vec<u32>, child: u32)
+fn drop_living(living: &mut Vec<Pid>, child: Pid)
     ensures others { living.new.items ≡ others child living.old.items }
     ensures fewer { list_any (nat_eq child) living.old.items ≡ true → vec_len living.new + 1 ≤ vec_len living.old }
 {
@@ -47,12 +48,12 @@ fn drop_living(living: &mut Vec<u32>, child: u32)
 }
 
 /// Takes a child out of the ended ones.
-fn drop_ended(ended: &mut Vec<EndedChild>, child: u32)
+fn drop_ended(ended: &mut Vec<EndedChild>, child: Pid)
     ensures others { ended.new.items ≡ other_ends child ended.old.items }
     ensures fewer { vec_len ended.new ≤ vec_len ended.old }
     ensures capacity { vec_capacity ended.new ≡ vec_capacity ended.old }
 {
-    ended.retain(|ended| child != ended.pid.0);
+    ended.retain(|ended| child != ended.pid);
 }
 
 impl ChildList {
@@ -67,7 +68,7 @@ impl ChildList {
     }
 
     /// A new child. A refusal changes nothing.
-    pub(crate) fn add(&mut self, child: u32) -> Result<(), Memory>
+    pub(crate) fn add(&mut self, child: Pid) -> Result<(), Memory>
         ensures ok { OnOk result (self.new ≡ with_child self.old child) }
         ensures err { OnErr result (self.new ≡ self.old) }
     {
@@ -78,23 +79,20 @@ impl ChildList {
     }
 
     /// Whether it is a living child.
-    pub(crate) fn lists(&self, child: u32) -> bool
+    pub(crate) fn lists(&self, child: Pid) -> bool
         ensures { result ≡ lists self.now child }
     {
         self.living.iter().any(|c| child == *c)
     }
 
     /// A child has ended: it is kept, unless it is ignored.
-    pub(crate) fn end(&mut self, child: u32, ending: Ending, ignored: bool)
+    pub(crate) fn end(&mut self, child: Pid, ending: Ending, ignored: bool)
         requires { lists self.old child ≡ true }
         ensures { self.new ≡ family_after_end self.old child ending ignored }
     {
         drop_living(&mut self.living, child);
         if !ignored {
-            let child = EndedChild {
-                pid: Pid(child),
-                ending,
-            };
+            let child = EndedChild { pid: child, ending };
             match self.ended.push(child) {
                 Ok(()) => (),
                 Err(_) => unreachable!(),
@@ -103,11 +101,11 @@ impl ChildList {
     }
 
     /// The first ended child that is waited for, with its ending.
-    pub(crate) fn first_ended(&self, which: Option<u32>) -> Option<EndedChild>
-        ensures { result ≡ first_ended_child which self.now.ended }
+    pub(crate) fn first_ended(&self, which: &Option<Pid>) -> Option<EndedChild>
+        ensures { result ≡ first_ended_child which.now self.now.ended }
     {
         for child in &self.ended {
-            if is_waited_for(which, child.pid.0) {
+            if is_waited_for(which, child.pid) {
                 return Some(*child);
             }
         }
@@ -115,14 +113,14 @@ impl ChildList {
     }
 
     /// Whether a living child is waited for.
-    pub(crate) fn awaits(&self, which: Option<u32>) -> bool
-        ensures { result ≡ list_any (matches which) self.now.living }
+    pub(crate) fn awaits(&self, which: &Option<Pid>) -> bool
+        ensures { result ≡ list_any (matches which.now) self.now.living }
     {
         self.living.iter().any(|child| is_waited_for(which, *child))
     }
 
     /// The ended child is gone.
-    pub(crate) fn reap(&mut self, child: u32)
+    pub(crate) fn reap(&mut self, child: Pid)
         ensures { self.new ≡ without_ended child self.old }
     {
         drop_ended(&mut self.ended, child);

@@ -1,3 +1,4 @@
+//! Why a call made no step.
 ghost use Rattle.std.specs.Prelude.{◌≡◌};
 ghost use Rattle.mono_kernel.specs.declared.fault.CallFault.TheVariants.{Memory as NoMemory};
 

@@ -1,3 +1,4 @@
+//! The whole kernel as a plain program, one call at a time.
 ghost use Rattle.std.specs.Prelude.{◌≡◌, ◌↔◌, false, IfOk, OnErr, IsErrOf, IsSome, IfSome, Some, None};
 ghost use Rattle.std.specs.Option.{option_map_or};
 ghost use Rattle.number_maps.specs.Maps.{get};
@@ -71,11 +72,11 @@ impl Kernel {
     /// may still do. After `Memory` and `NotAllowed` the kernel is unchanged. `NotAllowed` comes
     /// exactly where the kernel has no transition.
     pub fn call(&mut self, pid: Pid, call: &Call, chosen: u32) -> Result<Outcome, CallFault>
-        ensures ok { IfOk result (λ outcome. transition self.old pid call.now chosen ≡ Some (successor self.new outcome)) }
+        ensures ok { IfOk result
+            (λ outcome. transition self.old pid call.now chosen ≡ Some (successor self.new outcome)) }
         ensures not_allowed { IsErrOf result CallFault.NotAllowed ↔ (transition self.old pid call.now chosen ≡ None) }
         ensures err { OnErr result (self.new ≡ self.old) }
     {
-        let pid = pid.0;
         if !self.may_make(pid, call) {
             return Err(CallFault::NotAllowed);
         }
@@ -88,11 +89,11 @@ impl Kernel {
     pub fn standing(&self, pid: Pid) -> Standing
         ensures { result ≡ standing_of (get self.now.processes pid) }
     {
-        of_cell(self.processes.cell(pid.0))
+        of_cell(self.processes.cell(pid))
     }
 
     /// Whether the process lives and may make this call.
-    fn may_make(&self, pid: u32, call: &Call) -> bool
+    fn may_make(&self, pid: Pid, call: &Call) -> bool
         ensures { result ≡ option_map_or (λ a. may_make a call.now) (living_at self.now pid) false }
     {
         match self.processes.alive(pid) {
@@ -102,16 +103,17 @@ impl Kernel {
     }
 
     /// The call's effect and reply.
-    fn carry_out(&mut self, pid: u32, call: &Call, chosen: u32) -> Result<Reply, CallFault>
+    fn carry_out(&mut self, pid: Pid, call: &Call, chosen: u32) -> Result<Reply, CallFault>
         requires { IsSome (living_at self.old pid) }
-        ensures { IfSome (living_at self.old pid) (λ a. Answers (effect self.old pid a call.now chosen) result self.old self.new) }
+        ensures { IfSome (living_at self.old pid)
+            (λ a. Answers (effect self.old pid a call.now chosen) result self.old self.new) }
     {
         match call {
             Call::Fork { .. } => self.fork(pid, chosen),
             Call::Exit { status } => self.end(pid, Ending::Exited((*status % 256) as u8)),
             Call::Killed { sig } => self.end(pid, Ending::Killed(*sig)),
-            Call::GetPid => Ok(Reply::Num(pid)),
-            Call::Kill { pid: target, sig } => Ok(self.kill(pid, target.0, *sig)),
+            Call::GetPid => Ok(Reply::Num(pid.0)),
+            Call::Kill { pid: target, sig } => Ok(self.kill(pid, *target, *sig)),
             Call::SigAction { sig, act } => Ok(self.act(pid, *sig, *act)),
             Call::SigProcMask { how, set } => Ok(self.change_mask(pid, *how, *set)),
             Call::SigPending => Ok(self.pending(pid)),
@@ -119,7 +121,7 @@ impl Kernel {
             Call::WaitPid {
                 child,
                 nohang: true,
-            } => Ok(self.wait(pid, child.map(|c| c.0))),
+            } => Ok(self.wait(pid, *child)),
             Call::MsgGet { key, create, excl } => self.get_queue(*key, *create, *excl, chosen),
             Call::MsgSnd {
                 id,

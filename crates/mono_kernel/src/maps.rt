@@ -1,13 +1,14 @@
+//! Ordered maps by number, whose growth may be refused.
 ghost use Rattle.std.specs.Prelude.{◌≡◌, IfOk, OnErr, is_some};
 ghost use Rattle.std.specs.Bool.{OnFalse};
 ghost use Rattle.number_maps.specs.Maps.{get, without};
 ghost use Rattle.kernel_model.specs.Queue.{send, receive, set_qbytes};
 ghost use Rattle.kernel_model.specs.SemaphoreSet.{op, set_value, set_all};
-ghost use Rattle.mono_kernel.specs.Answers.{Changes, Receives, done_reply};
+ghost use Rattle.call_answers.specs.Answers.{Changes, Receives, done_reply};
 
 use crate::queue::MessageQueue;
 use crate::semaphores::SemaphoreSet;
-use pico_base::{Bytes, Errno, Memory, Reply, SemStep};
+use pico_base::{Bytes, Errno, Memory, Pid, Reply, SemStep};
 use std::alloc::Global;
 use std::collections::BTreeMap;
 
@@ -32,11 +33,12 @@ pub(crate) fn send_at(
     alloc: Global,
     queues: &mut Queues,
     id: u32,
-    pid: u32,
+    pid: Pid,
     class: i32,
     text: &Bytes,
 ) -> Result<Reply, Memory>
-    ensures ok { IfOk result (λ reply. Changes (λ q. send q pid class text.now) queues.old.entries id queues.new.entries reply) }
+    ensures ok { IfOk result
+        (λ reply. Changes (λ q. send q pid class text.now) queues.old.entries id queues.new.entries reply) }
     ensures err { OnErr result (queues.new.entries ≡ queues.old.entries) }
 {
     match queues.get_mut(&id) {
@@ -49,7 +51,7 @@ pub(crate) fn send_at(
 pub(crate) fn receive_at(
     queues: &mut Queues,
     id: u32,
-    pid: u32,
+    pid: Pid,
     class: i32,
     size: u32,
     noerror: bool,
@@ -80,7 +82,7 @@ pub(crate) fn op_at(
     alloc: Global,
     sets: &mut Sets,
     id: u32,
-    pid: u32,
+    pid: Pid,
     steps: &[SemStep],
 ) -> Result<Reply, Memory>
     ensures ok { IfOk result (λ reply. Changes (λ s. op s pid steps.now) sets.old.entries id sets.new.entries reply) }

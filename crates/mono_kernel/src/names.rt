@@ -1,7 +1,9 @@
+//! Keys and the numbers used so far of one kind.
 ghost use Rattle.std.specs.Prelude.{◌≡◌, ℕ, false, None, [], OnOk, OnErr, MatchResult, MatchOption, IsTrue, ◌↔◌};
 ghost use Rattle.number_maps.specs.Maps.{Numbered, get, put, is_used, used_with};
 ghost use Rattle.kernel_model.specs.QueueCalls.{unbind};
-ghost use Rattle.mono_kernel.specs.Names.{IsRising, with_name, keys_with, ways_with, bound_to, HasWays, LeadsNowhere, LeadsOnly};
+ghost use Rattle.number_maps.specs.Rising.{IsRising};
+ghost use Rattle.mono_kernel.specs.Names.{with_name, keys_with, ways_with, bound_to, HasWays, LeadsNowhere, LeadsOnly};
 
 use pico_base::Memory;
 use std::alloc::Global;
@@ -75,7 +77,8 @@ fn key_of_number(keys: &BTreeMap<u32, u32>, key_of: &BTreeMap<u32, u32>, number:
 
 /// Frees a key, if there is one, that was bound just before.
 fn free(keys: &mut BTreeMap<u32, u32>, key: Option<u32>)
-    ensures { (before : Numbered ℕ) (number : ℕ) → keys.old.entries ≡ keys_with before key number → bound_to before key ≡ None → keys.new.entries ≡ before }
+    ensures { (before : Numbered ℕ) (number : ℕ) → keys.old.entries ≡ keys_with before key number
+        → bound_to before key ≡ None → keys.new.entries ≡ before }
 {
     if let Some(key) = key {
         keys.remove(&key);
@@ -93,9 +96,12 @@ fn give_out<T: Drop>(
 ) -> Result<(), Memory>
     requires fresh { is_used used.old.keys number ≡ false }
     requires unbound { bound_to keys.old.entries key ≡ None }
-    ensures used { MatchResult result (λ _. used.new.keys ≡ used_with used.old.keys number) (λ _. used.new.keys ≡ used.old.keys) }
-    ensures keys { MatchResult result (λ _. keys.new.entries ≡ keys_with keys.old.entries key number) (λ _. keys.new.entries ≡ keys.old.entries) }
-    ensures things { MatchResult result (λ _. things.new.entries ≡ put things.old.entries number thing) (λ _. things.new.entries ≡ things.old.entries) }
+    ensures used { MatchResult result (λ _. used.new.keys ≡ used_with used.old.keys number)
+        (λ _. used.new.keys ≡ used.old.keys) }
+    ensures keys { MatchResult result (λ _. keys.new.entries ≡ keys_with keys.old.entries key number)
+        (λ _. keys.new.entries ≡ keys.old.entries) }
+    ensures things { MatchResult result (λ _. things.new.entries ≡ put things.old.entries number thing)
+        (λ _. things.new.entries ≡ things.old.entries) }
     ensures rising { IsRising keys.old.entries → IsRising keys.new.entries }
 {
     used.insert(number)?;

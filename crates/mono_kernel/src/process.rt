@@ -1,3 +1,4 @@
+//! One living process: its signals, its family, and what it may still do.
 ghost use Rattle.std.specs.Prelude.{◌≡◌, ◌↔◌, true, OnOk, OnErr, IfOk, IsTrue};
 ghost use Rattle.std.specs.Option.{option_copied};
 ghost use Rattle.std.specs.List.{list_any};
@@ -10,7 +11,7 @@ ghost use Rattle.mono_kernel.specs.Change.{on_living, with_child_there, CanChang
 
 use crate::family::ChildList;
 use crate::signals::SignalState;
-use pico_base::{Act, Call, EndedChild, Ending, Memory, Sig};
+use pico_base::{Act, Call, EndedChild, Ending, Memory, Pid, Sig};
 use std::alloc::Global;
 use std::marker::Model;
 
@@ -36,7 +37,11 @@ impl Model for LiveProcess {
 
     ghost Value = { Alive };
 
-    ghost view = { λ a. record { row = record { signals = a.signals; family = a.family }; allowance = allowance_of a.allowance } };
+    ghost view = { λ a. record {
+      row = record { signals = a.signals; family = a.family };
+      allowance =
+          allowance_of a.allowance;
+    } };
 }
 
 /// A change of a living process.
@@ -47,9 +52,9 @@ pub(crate) enum Change {
     /// A signal that another's entry raises.
     Raise(Sig),
     /// The end of a child.
-    EndChild { child: u32, ending: Ending },
+    EndChild { child: Pid, ending: Ending },
     /// An ended child is waited for.
-    Reap { child: u32 },
+    Reap { child: Pid },
     /// Nothing is left but its own ending.
     Spend,
 }
@@ -119,22 +124,22 @@ impl LiveProcess {
     }
 
     /// Whether it is a living child.
-    pub(crate) fn lists(&self, child: u32) -> bool
+    pub(crate) fn lists(&self, child: Pid) -> bool
         ensures { result ≡ lists self.now.row.family child }
     {
         self.family.lists(child)
     }
 
     /// The first ended child that is waited for, with its ending.
-    pub(crate) fn first_ended(&self, which: Option<u32>) -> Option<EndedChild>
-        ensures { result ≡ first_ended_child which self.now.row.family.ended }
+    pub(crate) fn first_ended(&self, which: &Option<Pid>) -> Option<EndedChild>
+        ensures { result ≡ first_ended_child which.now self.now.row.family.ended }
     {
         self.family.first_ended(which)
     }
 
     /// Whether a living child is waited for.
-    pub(crate) fn awaits(&self, which: Option<u32>) -> bool
-        ensures { result ≡ list_any (matches which) self.now.row.family.living }
+    pub(crate) fn awaits(&self, which: &Option<Pid>) -> bool
+        ensures { result ≡ list_any (matches which.now) self.now.row.family.living }
     {
         self.family.awaits(which)
     }
@@ -147,7 +152,7 @@ impl LiveProcess {
     }
 
     /// A new child. A refusal changes nothing.
-    pub(crate) fn add_child(&mut self, child: u32) -> Result<(), Memory>
+    pub(crate) fn add_child(&mut self, child: Pid) -> Result<(), Memory>
         ensures ok { OnOk result (self.new ≡ parent_after_fork self.old child) }
         ensures err { OnErr result (self.new ≡ self.old) }
     {
@@ -167,7 +172,7 @@ impl LiveProcess {
     }
 
     /// A child has ended.
-    fn end_child(&mut self, child: u32, ending: Ending)
+    fn end_child(&mut self, child: Pid, ending: Ending)
         requires { lists self.old.row.family child ≡ true }
         ensures { self.new ≡ with_ended_child self.old child ending }
     {
@@ -285,7 +290,7 @@ impl ProcessCell {
     }
 
     /// A new child, if the process lives. A refusal changes nothing.
-    pub(crate) fn add_child(&mut self, child: u32) -> Result<(), Memory>
+    pub(crate) fn add_child(&mut self, child: Pid) -> Result<(), Memory>
         ensures ok { OnOk result (self.new ≡ with_child_there child self.old) }
         ensures err { OnErr result (self.new ≡ self.old) }
     {

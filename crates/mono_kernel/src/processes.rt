@@ -1,3 +1,4 @@
+//! All processes by number: who lives, has ended or is gone, and who lists whom.
 ghost use Rattle.std.specs.Prelude.{◌≡◌, ◌∷◌, ◌↔◌, ℕ, [], true, not, map, fold, OnOk, OnErr, IfOk, IsTrue, Some, None, IsSome, IsNone, IfSome, is_some, false, nat_eq};
 ghost use Rattle.std.specs.Option.{option_copied, option_map};
 ghost use Rattle.std.specs.List.{All, list_any};
@@ -7,11 +8,11 @@ ghost use Rattle.kernel_model.specs.Row.{Free, new_row, wait, lists, matches, fi
 ghost use Rattle.kernel_model.specs.Kernel.{Living, Ended, Gone, alive_in, living_in, parent_in};
 ghost use Rattle.kernel_model.specs.ProcessCalls.{bury, process_after_end, end_under, parent_after_fork, processes_after_fork, processes_after_end, processes_after_wait};
 ghost use Rattle.mono_kernel.specs.Process.{changed, CanChange, IsPlain};
-ghost use Rattle.mono_kernel.specs.Names.{IsRising};
+ghost use Rattle.number_maps.specs.Rising.{IsRising};
 ghost use Rattle.mono_kernel.specs.Table.{IfLiving, lists_there, ignores_there, parent_number, parent_at, waited_as, table_after};
 
 use crate::process::{Change, LiveProcess, ProcessCell};
-use pico_base::{EndedChild, Ending, Errno, Memory};
+use pico_base::{EndedChild, Ending, Errno, Memory, Pid};
 use std::alloc::Global;
 use std::collections::BTreeMap;
 use std::marker::Model;
@@ -20,8 +21,8 @@ use std::marker::Model;
 /// through the table.
 #[derive(Drop)]
 pub(crate) struct Processes {
-    cells: BTreeMap<u32, ProcessCell>,
-    parents: BTreeMap<u32, u32>,
+    cells: BTreeMap<Pid, ProcessCell>,
+    parents: BTreeMap<Pid, Pid>,
 }
 
 impl Model for Processes {
@@ -37,10 +38,11 @@ impl Model for Processes {
 }
 
 /// A change of the process that lives at a number.
-fn change_at(cells: &mut BTreeMap<u32, ProcessCell>, pid: u32, change: Change)
+fn change_at(cells: &mut BTreeMap<Pid, ProcessCell>, pid: Pid, change: Change)
     requires lives { IsSome (living_in cells.old.entries pid) }
     requires can { IfLiving cells.old.entries pid (CanChange change) }
-    ensures changed { IfLiving cells.old.entries pid (λ a. cells.new.entries ≡ put cells.old.entries pid (Living (changed change a))) }
+    ensures changed { IfLiving cells.old.entries pid
+        (λ a. cells.new.entries ≡ put cells.old.entries pid (Living (changed change a))) }
     ensures same_numbers { keys_of cells.new.entries ≡ keys_of cells.old.entries }
     ensures rising { IsRising cells.new.entries }
 {
@@ -50,7 +52,7 @@ fn change_at(cells: &mut BTreeMap<u32, ProcessCell>, pid: u32, change: Change)
 }
 
 /// A process that is there lives no longer.
-fn settle_at(cells: &mut BTreeMap<u32, ProcessCell>, pid: u32, cell: ProcessCell)
+fn settle_at(cells: &mut BTreeMap<Pid, ProcessCell>, pid: Pid, cell: ProcessCell)
     requires { IsSome (get cells.old.entries pid) }
     ensures settled { cells.new.entries ≡ put cells.old.entries pid cell }
     ensures same_numbers { keys_of cells.new.entries ≡ keys_of cells.old.entries }
@@ -63,9 +65,11 @@ fn settle_at(cells: &mut BTreeMap<u32, ProcessCell>, pid: u32, cell: ProcessCell
 }
 
 /// A new child of the process that lives at a number. A refusal changes nothing.
-fn add_child_at(cells: &mut BTreeMap<u32, ProcessCell>, pid: u32, child: u32) -> Result<(), Memory>
+fn add_child_at(cells: &mut BTreeMap<Pid, ProcessCell>, pid: Pid, child: Pid) -> Result<(), Memory>
     requires { IsSome (living_in cells.old.entries pid) }
-    ensures ok { OnOk result (IfLiving cells.old.entries pid (λ a. cells.new.entries ≡ put cells.old.entries pid (Living (parent_after_fork a child)))) }
+    ensures ok { OnOk result
+        (IfLiving cells.old.entries pid
+        (λ a. cells.new.entries ≡ put cells.old.entries pid (Living (parent_after_fork a child)))) }
     ensures err { OnErr result (cells.new.entries ≡ cells.old.entries) }
     ensures same_numbers { keys_of cells.new.entries ≡ keys_of cells.old.entries }
     ensures rising { IsRising cells.new.entries }
@@ -78,14 +82,16 @@ fn add_child_at(cells: &mut BTreeMap<u32, ProcessCell>, pid: u32, child: u32) ->
 
 /// A new process, which that of another number lists. A refusal changes nothing.
 fn fork_at(
-    cells: &mut BTreeMap<u32, ProcessCell>,
-    pid: u32,
-    child: u32,
+    cells: &mut BTreeMap<Pid, ProcessCell>,
+    pid: Pid,
+    child: Pid,
     cell: ProcessCell,
 ) -> Result<(), Memory>
     requires lives { IsSome (living_in cells.old.entries pid) }
     requires fresh { get cells.old.entries child ≡ None }
-    ensures ok { OnOk result (IfLiving cells.old.entries pid (λ a. cells.new.entries ≡ put (put cells.old.entries child cell) pid (Living (parent_after_fork a child)))) }
+    ensures ok { OnOk result
+        (IfLiving cells.old.entries pid
+        (λ a. cells.new.entries ≡ put (put cells.old.entries child cell) pid (Living (parent_after_fork a child)))) }
     ensures numbers { OnOk result (keys_of cells.new.entries ≡ used_with (keys_of cells.old.entries) child) }
     ensures err { OnErr result (cells.new.entries ≡ cells.old.entries) }
     ensures rising { IsRising cells.new.entries }
@@ -115,7 +121,7 @@ impl Processes {
         ensures { IfOk result (λ ps. ps ≡ (1, Living (record { row = new_row; allowance = Free })) ∷ []) }
     {
         let mut cells = BTreeMap::new(alloc);
-        cells.insert(1, ProcessCell::living(LiveProcess::new(alloc)))?;
+        cells.insert(Pid(1), ProcessCell::living(LiveProcess::new(alloc)))?;
         Ok(Processes {
             cells,
             parents: BTreeMap::new(alloc),
@@ -123,21 +129,21 @@ impl Processes {
     }
 
     /// Whether there is or was a process of this number.
-    pub(crate) fn is_there(&self, pid: u32) -> bool
+    pub(crate) fn is_there(&self, pid: Pid) -> bool
         ensures { result ≡ is_some (get self.now pid) }
     {
         self.cells.contains_key(&pid)
     }
 
     /// The process's place.
-    pub(crate) fn cell(&self, pid: u32) -> Option<&ProcessCell>
+    pub(crate) fn cell(&self, pid: Pid) -> Option<&ProcessCell>
         ensures { option_copied result ≡ get self.now pid }
     {
         self.cells.get(&pid)
     }
 
     /// The living process of a number.
-    pub(crate) fn alive(&self, pid: u32) -> Option<&LiveProcess>
+    pub(crate) fn alive(&self, pid: Pid) -> Option<&LiveProcess>
         ensures { option_copied result ≡ living_in self.now pid }
     {
         match self.cells.get(&pid) {
@@ -147,7 +153,7 @@ impl Processes {
     }
 
     /// Makes a change that adds no child.
-    pub(crate) fn change(&mut self, pid: u32, change: Change)
+    pub(crate) fn change(&mut self, pid: Pid, change: Change)
         requires lives { IsSome (living_in self.old pid) }
         requires plain { IsPlain change }
         ensures changed { IfLiving self.old pid (λ a. self.new ≡ put self.old pid (Living (changed change a))) }
@@ -157,18 +163,19 @@ impl Processes {
     }
 
     /// A child has ended: it is listed as ended, or forgotten.
-    fn end_child(&mut self, parent: u32, child: u32, ending: Ending)
+    fn end_child(&mut self, parent: Pid, child: Pid, ending: Ending)
         requires lives { IsSome (living_in self.old parent) }
         requires listed { IfLiving self.old parent (λ a. lists a.row.family child ≡ true) }
         requires ended { living_in self.old child ≡ None }
-        ensures changed { IfLiving self.old parent (λ a. self.new ≡ put self.old parent (Living (with_ended_child a child ending))) }
+        ensures changed { IfLiving self.old parent
+            (λ a. self.new ≡ put self.old parent (Living (with_ended_child a child ending))) }
         ensures same_numbers { keys_of self.new ≡ keys_of self.old }
     {
         change_at(&mut self.cells, parent, Change::EndChild { child, ending });
     }
 
     /// A process that is there lives no longer.
-    fn settle(&mut self, pid: u32, cell: ProcessCell)
+    fn settle(&mut self, pid: Pid, cell: ProcessCell)
         requires there { IsSome (get self.old pid) }
         requires dead { alive_in cell ≡ None }
         ensures settled { self.new ≡ put self.old pid cell }
@@ -178,7 +185,7 @@ impl Processes {
     }
 
     /// Whether the process lives and lists the child.
-    fn lists(&self, pid: u32, child: u32) -> bool
+    fn lists(&self, pid: Pid, child: Pid) -> bool
         ensures { result ≡ lists_there self.now pid child }
     {
         match self.alive(pid) {
@@ -188,7 +195,7 @@ impl Processes {
     }
 
     /// The number of the process's parent.
-    fn parent_of(&self, pid: u32) -> Option<u32>
+    fn parent_of(&self, pid: Pid) -> Option<Pid>
         ensures number { result ≡ parent_number self.now pid }
         ensures parent { parent_in pid self.now ≡ parent_at self.now result }
         ensures lists { IfSome result (λ p. (lists_there self.now p pid ≡ true) × (nat_eq p pid ≡ false)) }
@@ -210,12 +217,12 @@ impl Processes {
         ensures same_numbers { keys_of self.new ≡ keys_of self.old }
     {
         for child in children {
-            self.settle(child.pid.0, ProcessCell::gone());
+            self.settle(child.pid, ProcessCell::gone());
         }
     }
 
     /// A process leaves: its parent, if there is one, keeps its ending, unless it ignores its children.
-    fn leave(&mut self, pid: u32, ending: Ending, parent: Option<u32>)
+    fn leave(&mut self, pid: Pid, ending: Ending, parent: Option<Pid>)
         requires there { IsSome (get self.old pid) }
         requires listed { IfSome parent (λ p. (lists_there self.old p pid ≡ true) × (nat_eq p pid ≡ false)) }
         ensures left { self.new ≡ end_under self.old pid ending (parent_at self.old parent) }
@@ -231,7 +238,7 @@ impl Processes {
     }
 
     /// Whether the process ignores its ended children. One that doesn't live does.
-    fn ignores_children(&self, pid: u32) -> bool
+    fn ignores_children(&self, pid: Pid) -> bool
         ensures { result ≡ ignores_there self.now pid }
     {
         match self.alive(pid) {
@@ -241,10 +248,12 @@ impl Processes {
     }
 
     /// The ended children of the process that lives at a number.
-    fn ended_children(&self, alloc: Global, pid: u32) -> Result<Vec<EndedChild>, Memory>
+    fn ended_children(&self, alloc: Global, pid: Pid) -> Result<Vec<EndedChild>, Memory>
         requires { IsSome (living_in self.now pid) }
         ensures children { IfOk result (λ children. IfLiving self.now pid (λ a. children.items ≡ a.row.family.ended)) }
-        ensures ended { IfOk result (λ children. All (λ e. (is_some (get self.now e.pid) ≡ true) × (living_in self.now e.pid ≡ None)) children.items) }
+        ensures ended { IfOk result
+            (λ children. All (λ e. (is_some (get self.now e.pid) ≡ true)
+            × (living_in self.now e.pid ≡ None)) children.items) }
     {
         let _ = &self.cells;
         match self.alive(pid) {
@@ -254,9 +263,10 @@ impl Processes {
     }
 
     /// The end of a process (exit).
-    pub(crate) fn end(&mut self, alloc: Global, pid: u32, ending: Ending) -> Result<(), Memory>
+    pub(crate) fn end(&mut self, alloc: Global, pid: Pid, ending: Ending) -> Result<(), Memory>
         requires { IsSome (living_in self.old pid) }
-        ensures ended { OnOk result (IfLiving self.old pid (λ a. self.new ≡ processes_after_end self.old pid a ending)) }
+        ensures ended { OnOk result
+            (IfLiving self.old pid (λ a. self.new ≡ processes_after_end self.old pid a ending)) }
         ensures err { OnErr result (self.new ≡ self.old) }
         ensures same_numbers { keys_of self.new ≡ keys_of self.old }
     {
@@ -268,9 +278,9 @@ impl Processes {
     }
 
     /// The first ended child that is waited for, with its ending.
-    fn ended_child(&self, pid: u32, which: Option<u32>) -> Option<EndedChild>
+    fn ended_child(&self, pid: Pid, which: &Option<Pid>) -> Option<EndedChild>
         requires { IsSome (living_in self.now pid) }
-        ensures child { IfLiving self.now pid (λ a. result ≡ first_ended_child which a.row.family.ended) }
+        ensures child { IfLiving self.now pid (λ a. result ≡ first_ended_child which.now a.row.family.ended) }
         ensures there { IfSome result (λ e. is_some (get self.now e.pid) ≡ true) }
     {
         let _ = &self.cells;
@@ -281,9 +291,9 @@ impl Processes {
     }
 
     /// Whether a living child is waited for.
-    fn awaits(&self, pid: u32, which: Option<u32>) -> bool
+    fn awaits(&self, pid: Pid, which: &Option<Pid>) -> bool
         requires { IsSome (living_in self.now pid) }
-        ensures { IfLiving self.now pid (λ a. result ≡ list_any (matches which) a.row.family.living) }
+        ensures { IfLiving self.now pid (λ a. result ≡ list_any (matches which.now) a.row.family.living) }
     {
         match self.alive(pid) {
             Some(alive) => alive.awaits(which),
@@ -292,7 +302,7 @@ impl Processes {
     }
 
     /// The ended child is gone.
-    fn reap(&mut self, pid: u32, child: u32)
+    fn reap(&mut self, pid: Pid, child: Pid)
         requires lives { IsSome (living_in self.old pid) }
         requires there { IsSome (get self.old child) }
         ensures reaped { IfLiving self.old pid (λ a. self.new ≡ processes_after_wait self.old pid a child) }
@@ -303,21 +313,17 @@ impl Processes {
     }
 
     /// waitpid without waiting: an ended child, none yet, or ECHILD.
-    pub(crate) fn wait(
-        &mut self,
-        pid: u32,
-        which: Option<u32>,
-    ) -> Result<Option<EndedChild>, Errno>
+    pub(crate) fn wait(&mut self, pid: Pid, which: Option<Pid>) -> Result<Option<EndedChild>, Errno>
         requires { IsSome (living_in self.old pid) }
         ensures answer { IfLiving self.old pid (λ a. result ≡ waited_as (wait a.row.family which)) }
         ensures table { IfLiving self.old pid (λ a. self.new ≡ table_after self.old pid a (wait a.row.family which)) }
         ensures same_numbers { keys_of self.new ≡ keys_of self.old }
     {
-        if let Some(child) = self.ended_child(pid, which) {
-            self.reap(pid, child.pid.0);
-            return Ok(Some(child));
+        if let Some(EndedChild { pid: child, ending }) = self.ended_child(pid, &which) {
+            self.reap(pid, child);
+            return Ok(Some(EndedChild { pid: child, ending }));
         }
-        if self.awaits(pid, which) {
+        if self.awaits(pid, &which) {
             Ok(None)
         } else {
             Err(Errno::Echild)
@@ -325,10 +331,11 @@ impl Processes {
     }
 
     /// fork: a new process, which the caller lists. A refusal changes nothing.
-    pub(crate) fn fork(&mut self, alloc: Global, pid: u32, child: u32) -> Result<(), Memory>
+    pub(crate) fn fork(&mut self, alloc: Global, pid: Pid, child: Pid) -> Result<(), Memory>
         requires lives { IsSome (living_in self.old pid) }
         requires fresh { get self.old child ≡ None }
-        ensures forked { OnOk result (IfLiving self.old pid (λ a. self.new ≡ processes_after_fork self.old pid a child)) }
+        ensures forked { OnOk result
+            (IfLiving self.old pid (λ a. self.new ≡ processes_after_fork self.old pid a child)) }
         ensures numbers { OnOk result (keys_of self.new ≡ used_with (keys_of self.old) child) }
         ensures err { OnErr result (self.new ≡ self.old) }
     {

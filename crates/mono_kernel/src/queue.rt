@@ -1,3 +1,4 @@
+//! One message queue: its messages in order, and what a type selects.
 ghost use Rattle.std.specs.Prelude.{◌≡◌, ◌≤◌, ◌+◌, ◌&&◌, nat_le, nat_lt, length, take, drop, MatchResult, Ok, Err, IfOk, OnErr};
 ghost use Rattle.std.specs.Ordering.{int_eq};
 ghost use Rattle.kernel_model.specs.Queue.{empty_queue, bytes_of, bytes_in, max_messages, lower_of, lowest_upto, first_of, select, send, receive, set_qbytes, stat};
@@ -78,8 +79,8 @@ impl Message {
 pub(crate) struct MessageQueue {
     messages: VecDeque<Message>,
     qbytes: u32,
-    last_sender: u32,
-    last_receiver: u32,
+    last_sender: Pid,
+    last_receiver: Pid,
     bytes: usize,
 }
 
@@ -89,7 +90,13 @@ impl Model for MessageQueue {
 
     ghost Value = { Queue };
 
-    ghost view = { λ q. record { messages = q.messages.items; qbytes = q.qbytes; last_sender = q.last_sender; last_receiver = q.last_receiver } };
+    ghost view = { λ q. record {
+      messages = q.messages.items;
+      qbytes = q.qbytes;
+      last_sender =
+          q.last_sender;
+      last_receiver = q.last_receiver;
+    } };
 
     ghost invariant = { λ q. IsCounted q.messages.items q.bytes q.qbytes };
 }
@@ -152,8 +159,8 @@ impl MessageQueue {
         MessageQueue {
             messages: VecDeque::new(alloc),
             qbytes: MAX_QUEUE_BYTES,
-            last_sender: 0,
-            last_receiver: 0,
+            last_sender: Pid(0),
+            last_receiver: Pid(0),
             bytes: 0,
         }
     }
@@ -165,14 +172,15 @@ impl MessageQueue {
         Reply::Stat {
             qnum: self.messages.len() as u32,
             qbytes: self.qbytes,
-            lspid: Pid(self.last_sender),
-            lrpid: Pid(self.last_receiver),
+            lspid: self.last_sender,
+            lrpid: self.last_receiver,
         }
     }
 
     /// msgctl with IPC_SET: EINVAL above the limit.
     pub(crate) fn set_qbytes(&mut self, qbytes: u32) -> Result<(), Errno>
-        ensures { MatchResult result (λ _. set_qbytes self.old qbytes ≡ Ok self.new) (λ e. (set_qbytes self.old qbytes ≡ Err e) × (self.new ≡ self.old)) }
+        ensures { MatchResult result (λ _. set_qbytes self.old qbytes ≡ Ok self.new)
+            (λ e. (set_qbytes self.old qbytes ≡ Err e) × (self.new ≡ self.old)) }
     {
         if qbytes > MAX_QUEUE_BYTES {
             return Err(Errno::Einval);
@@ -183,7 +191,8 @@ impl MessageQueue {
 
     /// Whether there is room for a text of this length.
     fn has_room(&self, len: usize) -> bool
-        ensures { result ≡ (nat_le (bytes_in self.now + len) self.now.qbytes && nat_lt (length self.now.messages) max_messages) }
+        ensures { result ≡ (nat_le (bytes_in self.now + len) self.now.qbytes
+            && nat_lt (length self.now.messages) max_messages) }
     {
         self.qbytes as usize >= self.bytes
             && len <= self.qbytes as usize - self.bytes
@@ -194,7 +203,7 @@ impl MessageQueue {
     pub(crate) fn send(
         &mut self,
         alloc: Global,
-        pid: u32,
+        pid: Pid,
         class: i32,
         text: &Bytes,
     ) -> Result<Result<(), Errno>, Memory>
@@ -222,7 +231,7 @@ impl MessageQueue {
     /// msgrcv: ENOMSG where no message is selected, E2BIG for a text above the size asked.
     pub(crate) fn receive(
         &mut self,
-        pid: u32,
+        pid: Pid,
         class: i32,
         size: u32,
         noerror: bool,

@@ -1,9 +1,10 @@
+//! One semaphore set: its values, the trial of a semop, and last processes.
 ghost use Rattle.std.specs.Prelude.{◌≡◌, ◌<◌, length, map, replicate, fold, MatchResult, Ok, Err, Some, IfOk, OnErr, nat_le, nat_lt, vec_len};
 ghost use Rattle.std.specs.List.{All, list_any};
 ghost use Rattle.kernel_model.specs.SemaphoreSet.{max_value, is_bad_count, new_semaphore, values_of, move_by, try_ops, Done, with_values, mark, op, value_at, last_at, waiting_at, set_of, set_value, set_all};
 ghost use Rattle.mono_kernel.specs.Trial.{answer_of, refusal_of};
 
-use pico_base::{Errno, Memory, SemStep, Values};
+use pico_base::{Errno, Memory, Pid, SemStep, Values};
 use std::alloc::Global;
 use std::marker::Model;
 
@@ -18,7 +19,7 @@ const MAX_OPERATIONS: usize = 32;
 #[derive(Clone, Copy)]
 struct OneSemaphore {
     value: u32,
-    last: u32,
+    last: Pid,
 }
 
 impl Model for OneSemaphore {
@@ -136,7 +137,7 @@ fn write_values(semaphores: &mut Vec<OneSemaphore>, values: &[u32])
 }
 
 /// Notes the process at each semaphore that an operation names.
-fn mark(semaphores: &mut Vec<OneSemaphore>, pid: u32, steps: &[SemStep])
+fn mark(semaphores: &mut Vec<OneSemaphore>, pid: Pid, steps: &[SemStep])
     requires { All (λ step. step.num < vec_len semaphores.old) steps.now }
     ensures { semaphores.new.items ≡ fold (mark pid) semaphores.old.items steps.now }
 {
@@ -152,7 +153,10 @@ impl SemaphoreSet {
     pub(crate) fn new(alloc: Global, count: u32) -> Result<SemaphoreSet, Memory>
         ensures { IfOk result (λ set. set ≡ set_of (replicate count new_semaphore)) }
     {
-        let semaphores = vec![in alloc; OneSemaphore { value: 0, last: 0 }; count as usize]?;
+        let semaphores = vec![in alloc; OneSemaphore {
+            value: 0,
+            last: Pid(0)
+        }; count as usize]?;
         Ok(SemaphoreSet { semaphores })
     }
 
@@ -174,7 +178,7 @@ impl SemaphoreSet {
     }
 
     /// semctl with GETPID, refused likewise.
-    pub(crate) fn last(&self, num: u16) -> Result<u32, Errno>
+    pub(crate) fn last(&self, num: u16) -> Result<Pid, Errno>
         ensures { result ≡ last_at self.now num }
     {
         match self.semaphores.get(usize::from(num)) {
@@ -196,7 +200,8 @@ impl SemaphoreSet {
 
     /// semctl with SETVAL: EINVAL likewise, then ERANGE for a value above the limit.
     pub(crate) fn set_value(&mut self, num: u16, value: u32) -> Result<(), Errno>
-        ensures { MatchResult result (λ _. set_value self.old num value ≡ Ok self.new) (λ e. (set_value self.old num value ≡ Err e) × (self.new ≡ self.old)) }
+        ensures { MatchResult result (λ _. set_value self.old num value ≡ Ok self.new)
+            (λ e. (set_value self.old num value ≡ Err e) × (self.new ≡ self.old)) }
     {
         let place = usize::from(num);
         if place >= self.semaphores.len() {
@@ -229,7 +234,7 @@ impl SemaphoreSet {
     pub(crate) fn op(
         &mut self,
         alloc: Global,
-        pid: u32,
+        pid: Pid,
         steps: &[SemStep],
     ) -> Result<Result<(), Errno>, Memory>
         ensures ok { IfOk result (λ answer. MatchResult answer
@@ -255,7 +260,8 @@ impl SemaphoreSet {
     /// semctl with SETALL: EINVAL for another count of values than the set's size, then ERANGE for a
     /// value above the limit.
     pub(crate) fn set_all(&mut self, values: &[u32]) -> Result<(), Errno>
-        ensures { MatchResult result (λ _. set_all self.old values.now ≡ Ok self.new) (λ e. (set_all self.old values.now ≡ Err e) × (self.new ≡ self.old)) }
+        ensures { MatchResult result (λ _. set_all self.old values.now ≡ Ok self.new)
+            (λ e. (set_all self.old values.now ≡ Err e) × (self.new ≡ self.old)) }
     {
         if values.len() != self.semaphores.len() {
             return Err(Errno::Einval);

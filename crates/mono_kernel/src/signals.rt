@@ -1,3 +1,4 @@
+//! The signals of one process: actions, mask, what is pending, and the doom.
 ghost use Rattle.std.specs.Prelude.{◌≡◌, false, fold, MatchResult, Ok, Err};
 ghost use Rattle.pico_base.specs.Signal.{at, put_at, everywhere};
 ghost use Rattle.kernel_model.specs.Signals.{new_signals, inherit, raise, arrive, deliver, discards, with_action, act_on, with_mask, new_mask};
@@ -22,9 +23,23 @@ impl Model for SignalState {
 
     ghost Value = { Signals };
 
-    ghost view = { λ s. record { actions = s.actions; mask = s.mask; pending = s.pending; handled = s.handled; doom = s.doom } };
+    ghost view = { λ s. record {
+      actions = s.actions;
+      mask = s.mask;
+      pending = s.pending;
+      handled = s.handled;
+      doom =
+          s.doom;
+    } };
 
-    ghost inverse = { λ s. record { actions = s.actions; mask = s.mask; pending = s.pending; handled = s.handled; doom = s.doom } };
+    ghost inverse = { λ s. record {
+      actions = s.actions;
+      mask = s.mask;
+      pending = s.pending;
+      handled = s.handled;
+      doom =
+          s.doom;
+    } };
 }
 
 /// The table of signals, in order.
@@ -187,7 +202,8 @@ impl SignalState {
 
     /// sigaction: EINVAL for KILL, 0 and a number that is no signal's.
     pub(crate) fn act(&mut self, sig: SigArg, act: Act) -> Result<(), Errno>
-        ensures { MatchResult result (λ _. act_on self.old sig act ≡ Ok self.new) (λ e. (act_on self.old sig act ≡ Err e) × (self.new ≡ self.old)) }
+        ensures { MatchResult result (λ _. act_on self.old sig act ≡ Ok self.new)
+            (λ e. (act_on self.old sig act ≡ Err e) × (self.new ≡ self.old)) }
     {
         let SigArg::Is(sig) = sig else {
             return Err(Errno::Einval);

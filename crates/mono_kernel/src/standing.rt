@@ -1,3 +1,4 @@
+//! How a process stands: unknown, living, doomed, ended or gone.
 ghost use Rattle.std.specs.Prelude.{◌≡◌};
 ghost use Rattle.std.specs.Option.{option_copied};
 ghost use Rattle.mono_kernel.specs.Standing.{standing_of, standing_alive};

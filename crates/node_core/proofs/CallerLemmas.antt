@@ -12,11 +12,14 @@ use Rattle.node_core.specs.Caller.{child_variables}
 use Rattle.node_core.proofs.LineLemmas.{child-vars-are}
 use Rattle.node_core.proofs.ResultLemmas.{if_ok}
 
-pub child-variables-are : (script : Script) (node : ℕ) (c : Caller) (line ticket : ℕ) (vars set : Vars) (under_way : Option Call) (variable : Option ℕ)
+pub child-variables-are : (script : Script) (node : ℕ) (c : Caller) (line ticket : ℕ) (vars set : Vars)
+    (under_way : Option Call) (variable : Option ℕ)
     (r : Result Vars Memory) → record { line = line; vars = vars; ticket = ticket; under_way = under_way } ≡ c
-    → variable ≡ set_by (slice_get (lines_of script node) line) → set ≡ set_variable vars variable 0 → IfOk r (λ v. v ≡ set)
+    → variable ≡ set_by (slice_get (lines_of script node) line) → set ≡ set_variable vars variable 0
+    → IfOk r (λ v. v ≡ set)
     → IfOk r (λ v. v ≡ child_variables script node c)
 child-variables-are script node c line ticket vars set under_way variable r view at is all =
     if_ok r _ _
-    (λ v e. e ∙ is ∙ ap (λ (x : Option ℕ). set_variable vars x 0) at ∙ sym (child-vars-are vars (lines_of script node) line)
+    (λ v e. e ∙ is ∙ ap (λ (x : Option ℕ). set_variable vars x 0) at ∙ sym
+    (child-vars-are vars (lines_of script node) line)
     ∙ ap (child_variables script node) view) all

@@ -18,7 +18,7 @@ use Rattle.machine_model.specs.Calls.{Step, set_by, take_reply, start_call, step
 use Rattle.kernel_model.specs.Numbers.{number_end}
 use Rattle.node_core.specs.Caller.{child_variables}
 use Rattle.node_core.specs.Leader.{numbered}
-use Rattle.node_core.proofs.MapLemmas.{put-put}
+use Rattle.number_maps.proofs.Changes.{put-put}
 use Rattle.node_core.proofs.LineLemmas.{child-vars-are}
 
 -- a number that is given out
@@ -30,7 +30,8 @@ numbered-is next number h = at (nat_lt next number_end) h
     at false e = absurd (cc)
 
 -- what a variable was set to doesn't matter once it is set again
-set_twice : (vars : Vars) (variable : Option ℕ) (x y : ℕ) → set_variable (set_variable vars variable x) variable y ≡ set_variable vars variable y
+set_twice : (vars : Vars) (variable : Option ℕ) (x y : ℕ)
+    → set_variable (set_variable vars variable x) variable y ≡ set_variable vars variable y
 set_twice vars None x y = refl
 set_twice vars (Some v) x y = put-put vars v x y
 
@@ -39,19 +40,23 @@ set_child : (script : Script) (node : ℕ) (c : Caller) (child : ℕ)
     → set_variable (child_variables script node c) (set_by (slice_get (lines_of script node) c.line)) child
     ≡ set_variable c.vars (set_by (slice_get (lines_of script node) c.line)) child
 set_child script node c child =
-    ap (λ (x : Vars). set_variable x (set_by (slice_get (lines_of script node) c.line)) child) (child-vars-are c.vars (lines_of script node) c.line)
+    ap (λ (x : Vars). set_variable x (set_by (slice_get (lines_of script node) c.line)) child)
+    (child-vars-are c.vars (lines_of script node) c.line)
     ∙ set_twice c.vars (set_by (slice_get (lines_of script node) c.line)) 0 child
 
 with_vars : Caller → Vars → Caller
 with_vars c vars = record { line = c.line + 1; vars = vars; ticket = c.ticket + 1; under_way = None }
 
-caller_after : (script : Script) (node block : ℕ) (c caller : Caller) (vars : Vars) (child : ℕ) → vars ≡ child_variables script node c
+caller_after : (script : Script) (node block : ℕ) (c caller : Caller) (vars : Vars) (child : ℕ)
+    → vars ≡ child_variables script node c
     → caller ≡ record c { vars = vars }
-    → take_reply script node (start_call caller (Fork block)) (Num child) ≡ take_reply script node (start_call c (Fork block)) (Num child)
+    → take_reply script node (start_call caller (Fork block)) (Num child)
+    ≡ take_reply script node (start_call c (Fork block)) (Num child)
 unfolding with_vars
 caller_after script node block c caller vars child is at =
     ap (λ (x : Caller). take_reply script node (start_call x (Fork block)) (Num child)) at
-    ∙ ap (with_vars c) (ap (λ (x : Vars). set_variable x (set_by (slice_get (lines_of script node) c.line)) child) is ∙ set_child script node c child)
+    ∙ ap (with_vars c) (ap (λ (x : Vars). set_variable x (set_by (slice_get (lines_of script node) c.line)) child) is
+    ∙ set_child script node c child)
 
 abbrev pub step : Node → List Entry → List (ℕ × Frame) → Option Step
 step n entries sends = Some (record { node = n; entries = entries; sends = sends })
@@ -72,16 +77,21 @@ and_true false b h k = absurd (cc)
 parts : Node → Caller → Held → Leader → Node
 parts n caller held leader = record n { caller = caller; held = held; leader = leader }
 
-pub forks-are : (script : Script) (n m : Node) (block child : ℕ) (caller : Caller) (held : Held) (leader : Leader) (vars : Vars) (deed : PackedDeed)
-    (entries : List Entry) (none sends : List (ℕ × Frame)) → is_leader n ≡ true → Some child ≡ numbered n.leader.next_process
-    → is_some (living_in n.held.processes n.pid) ≡ true → vars ≡ child_variables script n.number n.caller → caller ≡ record n.caller { vars = vars }
+pub forks-are : (script : Script) (n m : Node) (block child : ℕ) (caller : Caller) (held : Held) (leader : Leader)
+    (vars : Vars) (deed : PackedDeed)
+    (entries : List Entry) (none sends : List (ℕ × Frame)) → is_leader n ≡ true
+    → Some child ≡ numbered n.leader.next_process
+    → is_some (living_in n.held.processes n.pid) ≡ true → vars ≡ child_variables script n.number n.caller
+    → caller ≡ record n.caller { vars = vars }
     → IfSome (living_in n.held.processes n.pid) (λ a. held ≡ fork_held n.held n.pid a child)
     → leader ≡ record n.leader { next_process = n.leader.next_process + 1 }
-    → record { node = m; entries = entries; sends = none } ≡ step_here script (record n { caller = caller; held = held; leader = leader }) (Fork block) (Num child) held
+    → record { node = m; entries = entries; sends = none }
+    ≡ step_here script (record n { caller = caller; held = held; leader = leader }) (Fork block) (Num child) held
     → deed ≡ new_deed child → sends ≡ (block, Checkpoint child m.pid deed vars) ∷ []
     → forks script n block ≡ Some (record { node = m; entries = entries; sends = sends })
 unfolding parts
-forks-are script n m block child caller held leader vars deed entries none sends leads number lives is at held_is leader_is carried deed_is sends_are =
+forks-are script n m block child caller held leader vars deed entries none sends leads number lives is at held_is
+    leader_is carried deed_is sends_are =
     chosen _ _ _ (and_true (is_leader n) _ leads next.0)
     ∙ ap (λ (k : ℕ). forks_as script n block k (living_in n.held.processes n.pid)) next.1
     ∙ made (living_in n.held.processes n.pid) lives held_is
@@ -90,17 +100,22 @@ forks-are script n m block child caller held leader vars deed entries none sends
     next = numbered-is n.leader.next_process child number
 
     node_is : (a : Alive) → held ≡ fork_held n.held n.pid a child
-        → parts n (take_reply script n.number (start_call n.caller (Fork block)) (Num child)) (fork_held n.held n.pid a child) (record n.leader { next_process = child + 1 }) ≡ m
+        → parts n (take_reply script n.number (start_call n.caller (Fork block)) (Num child))
+        (fork_held n.held n.pid a child) (record n.leader { next_process = child + 1 }) ≡ m
     node_is a h =
         sym (ap (λ (s : Step). s.node) carried
-        ∙ ap (λ (x : Caller). parts n x held leader) (caller_after script n.number block n.caller caller vars child is at)
-        ∙ ap (λ (x : Held). parts n (take_reply script n.number (start_call n.caller (Fork block)) (Num child)) x leader) h
-        ∙ ap (parts n (take_reply script n.number (start_call n.caller (Fork block)) (Num child)) (fork_held n.held n.pid a child))
+        ∙ ap (λ (x : Caller). parts n x held leader)
+        (caller_after script n.number block n.caller caller vars child is at)
+        ∙ ap (λ (x : Held). parts n
+        (take_reply script n.number (start_call n.caller (Fork block)) (Num child)) x leader) h
+        ∙ ap (parts n (take_reply script n.number (start_call n.caller (Fork block)) (Num child))
+        (fork_held n.held n.pid a child))
         (leader_is ∙ ap (λ (k : ℕ). record n.leader { next_process = k + 1 }) next.1))
 
     sent : (block, Checkpoint child n.pid (new_deed child) (child_variables script n.number n.caller)) ∷ [] ≡ sends
     sent =
-        sym (sends_are ∙ ap (λ (p : ℕ). (block, Checkpoint child p deed vars) ∷ []) (ap (λ (s : Step). s.node.pid) carried)
+        sym (sends_are ∙ ap (λ (p : ℕ). (block, Checkpoint child p deed vars) ∷ [])
+        (ap (λ (s : Step). s.node.pid) carried)
         ∙ ap (λ (d : PackedDeed). (block, Checkpoint child n.pid d vars) ∷ []) deed_is
         ∙ ap (λ (v : Vars). (block, Checkpoint child n.pid (new_deed child) v) ∷ []) is)
 

@@ -3,7 +3,6 @@ pub mod Examples
 pub mod ForkLemmas
 pub mod LandLemmas
 pub mod LineLemmas
-pub mod MapLemmas
 pub mod ResultLemmas
 pub mod ServeLemmas
 pub mod StepLemmas

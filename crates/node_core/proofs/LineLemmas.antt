@@ -22,7 +22,8 @@ not_exit : (k : ℕ) (call : Call) → is_built k call ≡ true → is_exit call
 not_exit k (Exit status) h = absurd (cc)
 not_exit k call h = refl
 
-goes_on : (k : ℕ) (lines : List Line) → list_all (is_built_line k) lines ≡ true → with_exit lines ≡ lines ++ implied_exit ∷ []
+goes_on : (k : ℕ) (lines : List Line) → list_all (is_built_line k) lines ≡ true
+    → with_exit lines ≡ lines ++ implied_exit ∷ []
 goes_on k [] h = refl
 goes_on k (line ∷ lines) h =
     let parts = both (is_built_line k line) (list_all (is_built_line k) lines) h
@@ -53,7 +54,8 @@ due_line place [] i line h = absurd (cc)
 due_line place (l ∷ lines) zero line h = let same : l ≡ line = cc in ap (λ (x : Line). Some (call_of x place.vars)) same
 due_line place (l ∷ lines) (suc i) line h = due_line place lines i line h
 
-due_end : (place : Place) (lines : List Line) → call_due place (drop (length lines) (lines ++ implied_exit ∷ [])) ≡ Some (Exit 0)
+due_end : (place : Place) (lines : List Line)
+    → call_due place (drop (length lines) (lines ++ implied_exit ∷ [])) ≡ Some (Exit 0)
 due_end place [] = refl
 due_end place (l ∷ lines) = due_end place lines
 
@@ -78,7 +80,8 @@ set_line (l ∷ lines) zero = refl
 set_line (l ∷ lines) (suc i) = set_line lines i
 
 -- the variables of a child, by the line that is due
-pub child-vars-are : (vars : Vars) (lines : List Line) (i : ℕ) → child_vars_at vars (drop i lines) ≡ set_variable vars (set_by (slice_get lines i)) 0
+pub child-vars-are : (vars : Vars) (lines : List Line) (i : ℕ)
+    → child_vars_at vars (drop i lines) ≡ set_variable vars (set_by (slice_get lines i)) 0
 child-vars-are vars [] zero = refl
 child-vars-are vars [] (suc i) = refl
 child-vars-are vars (l ∷ lines) zero = refl
@@ -89,7 +92,8 @@ child-vars-are vars (l ∷ lines) (suc i) = child-vars-are vars lines i
 place_at : Vars → Place
 place_at vars = record { left = []; tried = 0; vars = vars }
 
-due_in : (script : Script) (node : ℕ) (block : Block) (own : List Line) (i : ℕ) (vars : Vars) → IsRunnable script → Some block ≡ block_at script node
+due_in : (script : Script) (node : ℕ) (block : Block) (own : List Line) (i : ℕ) (vars : Vars) → IsRunnable script
+    → Some block ≡ block_at script node
     → own ≡ block.lines → due_at script node i vars ≡ call_due (place_at vars) (drop i (own ++ implied_exit ∷ []))
 unfolding place_at
 due_in script node block own i vars runnable there is =
@@ -97,29 +101,37 @@ due_in script node block own i vars runnable there is =
     lines-are script node block runnable (sym there) ∙ ap (λ (ls : List Line). ls ++ implied_exit ∷ []) (sym is)
     in ap (λ (ls : List Line). call_due (place_at vars) (drop i ls)) lines
 
-pub line-due : (script : Script) (node : ℕ) (block : Block) (own : List Line) (i : ℕ) (line : Line) (vars : Vars) (call : Call) → IsRunnable script
+pub line-due : (script : Script) (node : ℕ) (block : Block) (own : List Line) (i : ℕ) (line : Line) (vars : Vars)
+    (call : Call) → IsRunnable script
     → Some block ≡ block_at script node → own ≡ block.lines → Some line ≡ slice_get own i → call ≡ call_of line vars
     → Some call ≡ due_at script node i vars
 unfolding place_at
 line-due script node block own i line vars call runnable there is at due =
-    ap (λ (x : Call). Some x) due ∙ sym (due_in script node block own i vars runnable there is ∙ due_line (place_at vars) own i line (sym at))
+    ap (λ (x : Call). Some x) due
+    ∙ sym (due_in script node block own i vars runnable there is ∙ due_line (place_at vars) own i line (sym at))
 
 pub end-due : (script : Script) (node : ℕ) (block : Block) (own : List Line) (i : ℕ) (vars : Vars) → IsRunnable script
     → Some block ≡ block_at script node → own ≡ block.lines → i ≡ length own → Some (Exit 0) ≡ due_at script node i vars
 end-due script node block own i vars runnable there is at =
-    sym (due_in script node block own i vars runnable there is ∙ ap (λ (k : ℕ). call_due (place_at vars) (drop k (own ++ implied_exit ∷ []))) at
+    sym (due_in script node block own i vars runnable there is
+    ∙ ap (λ (k : ℕ). call_due (place_at vars) (drop k (own ++ implied_exit ∷ []))) at
     ∙ due_end (place_at vars) own)
 
 pub past-due : (script : Script) (node : ℕ) (block : Block) (own : List Line) (i : ℕ) (vars : Vars) → IsRunnable script
-    → Some block ≡ block_at script node → own ≡ block.lines → None ≡ slice_get own i → (i ≡ length own → ⊥) → None ≡ due_at script node i vars
+    → Some block ≡ block_at script node → own ≡ block.lines → None ≡ slice_get own i → (i ≡ length own → ⊥)
+    → None ≡ due_at script node i vars
 past-due script node block own i vars runnable there is at apart =
-    sym (due_in script node block own i vars runnable there is ∙ due_past (place_at vars) own i (sym at) (tested i (length own) apart))
+    sym (due_in script node block own i vars runnable there is
+    ∙ due_past (place_at vars) own i (sym at) (tested i (length own) apart))
   where
     tested : (a b : ℕ) → (a ≡ b → ⊥) → nat_eq a b ≡ false
     tested a b h = grind arith
 
-pub set-at : (script : Script) (node : ℕ) (block : Block) (own : List Line) (i : ℕ) (o : Option Line) → IsRunnable script
-    → Some block ≡ block_at script node → own ≡ block.lines → o ≡ slice_get own i → set_by o ≡ set_by (slice_get (lines_of script node) i)
+pub set-at : (script : Script) (node : ℕ) (block : Block) (own : List Line) (i : ℕ) (o : Option Line)
+    → IsRunnable script
+    → Some block ≡ block_at script node → own ≡ block.lines → o ≡ slice_get own i
+    → set_by o ≡ set_by (slice_get (lines_of script node) i)
 set-at script node block own i o runnable there is at =
     ap set_by at ∙ sym (ap (λ (ls : List Line). set_by (slice_get ls i))
-    (lines-are script node block runnable (sym there) ∙ ap (λ (ls : List Line). ls ++ implied_exit ∷ []) (sym is)) ∙ set_line own i)
+    (lines-are script node block runnable (sym there) ∙ ap (λ (ls : List Line). ls ++ implied_exit ∷ []) (sym is))
+    ∙ set_line own i)

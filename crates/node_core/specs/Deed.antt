@@ -1,7 +1,7 @@
 -- What becomes of a process that is held, by its own calls and its children's.
 use Rattle.std.specs.Prelude.{ℕ, List, []}
 use Rattle.pico_base.specs.declared.reply.Ending.{Ending}
-use Rattle.kernel_model.specs.Row.{with_ended_child, ignores_children}
+use Rattle.kernel_model.specs.Row.{EndedChild, with_ended_child, ignores_children}
 use Rattle.kernel_model.specs.Kernel.{Process, Living, Ended, Gone}
 use Rattle.kernel_model.specs.ProcessCalls.{parent_after_fork, process_after_end}
 
@@ -18,7 +18,7 @@ with_end_there child ending (Ended e) = Ended e
 with_end_there child ending Gone = Gone
 
 -- its ended children
-abbrev pub ended_there : Process → List (ℕ × Ending)
+abbrev pub ended_there : Process → List EndedChild
 ended_there (Living a) = a.row.family.ended
 ended_there (Ended ending) = []
 ended_there Gone = []

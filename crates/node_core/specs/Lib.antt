@@ -1,4 +1,3 @@
-pub mod Answers
 pub mod Caller
 pub mod Deed
 pub mod Due

@@ -1,13 +1,6 @@
--- Maps by rising number, and the variables in them.
+-- Variables, by rising number.
 use Rattle.std.specs.Prelude.{ℕ, ◌≤◌, Bool, true, ◌&&◌, nat_lt, [], ◌∷◌}
-use Rattle.std.specs.List.Sorted.{IsStrictlySortedBy}
-use Rattle.std.specs.Ordering.{nat_cmp}
-use Rattle.std.specs.Map.{keys_of}
-use Rattle.number_maps.specs.Maps.{Numbered}
 use Rattle.kernel_model.specs.Script.{Vars}
-
-abbrev pub IsRising : {V : Type 0} → Numbered V → Type 0
-IsRising m = IsStrictlySortedBy nat_cmp (keys_of m)
 
 -- a value at the number of a variable
 abbrev pub IsVariable : ℕ × ℕ → Type 0

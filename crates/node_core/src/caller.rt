@@ -150,7 +150,8 @@ impl Caller {
         self.under_way.take()
     }
 
-    /// The variables that a child begins with: those here, with the one that the line sets at 0. They stay so here, until
+    /// The variables that a child begins with: those here, with the one that the line sets at 0. They stay so here,
+    /// until
     /// the line's reply sets it.
     pub(crate) fn child_variables(
         &mut self,

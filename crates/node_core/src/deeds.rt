@@ -12,7 +12,7 @@ ghost use Rattle.node_core.specs.Deed.{ended_there, kept_by, with_end_there};
 
 use crate::maps::{Queues, Sets};
 use crate::process::Process;
-use pico_base::{Ending, Memory, Pid};
+use pico_base::{EndedChild, Ending, Memory, Pid};
 use std::alloc::Global;
 use std::collections::BTreeMap;
 use std::marker::Model;
@@ -39,21 +39,17 @@ impl Model for Deeds {
 }
 
 /// Children that have ended are gone.
-fn bury(processes: &mut Processes, children: &[(Pid, Ending)]) -> Result<(), Memory>
+fn bury(processes: &mut Processes, children: &[EndedChild]) -> Result<(), Memory>
     ensures { OnOk result (processes.new.entries ≡ fold bury processes.old.entries children.now) }
 {
-    for (child, _) in children {
-        processes.insert(child.0, Process::gone())?;
+    for child in children {
+        processes.insert(child.pid.0, Process::gone())?;
     }
     Ok(())
 }
 
 /// The ended children of the process at a number.
-fn ended_children(
-    processes: &Processes,
-    alloc: Global,
-    pid: Pid,
-) -> Result<Vec<(Pid, Ending)>, Memory>
+fn ended_children(processes: &Processes, alloc: Global, pid: Pid) -> Result<Vec<EndedChild>, Memory>
     ensures { IfOk result (λ ended. ended.items ≡ option_map_or ended_there (get processes.now.entries pid) []) }
 {
     match processes.get(&pid.0) {
@@ -172,7 +168,8 @@ impl Deeds {
     /// fork: a new child of the process that lives at a number.
     pub(crate) fn add_child(&mut self, pid: Pid, child: Pid) -> Result<(), Memory>
         requires { IsSome (living_in self.old.processes pid) }
-        ensures { OnOk result (IfSome (living_in self.old.processes pid) (λ a. self.new ≡ fork_held self.old pid a child)) }
+        ensures { OnOk result
+            (IfSome (living_in self.old.processes pid) (λ a. self.new ≡ fork_held self.old pid a child)) }
     {
         add_child_at(&mut self.processes, pid, child)
     }
@@ -185,7 +182,8 @@ impl Deeds {
         ending: Ending,
     ) -> Result<(), Memory>
         requires { IsSome (living_in self.old.processes pid) }
-        ensures { OnOk result (IfSome (living_in self.old.processes pid) (λ a. self.new ≡ end_first self.old pid a ending)) }
+        ensures { OnOk result
+            (IfSome (living_in self.old.processes pid) (λ a. self.new ≡ end_first self.old pid a ending)) }
     {
         let children = ended_children(&self.processes, alloc, pid)?;
         bury(&mut self.processes, children.as_slice())?;
@@ -197,7 +195,8 @@ impl Deeds {
     pub(crate) fn end_child(&mut self, pid: Pid, parent: Pid, ending: Ending) -> Result<(), Memory>
         requires there { IsSome (get self.old.processes parent) }
         requires elsewhere { get self.old.processes pid ≡ None }
-        ensures { OnOk result (IfSome (get self.old.processes parent) (λ p. self.new ≡ end_child self.old pid parent p ending)) }
+        ensures { OnOk result
+            (IfSome (get self.old.processes parent) (λ p. self.new ≡ end_child self.old pid parent p ending)) }
     {
         end_child_at(&mut self.processes, pid, parent, ending)
     }

@@ -2,7 +2,7 @@
 ghost use Rattle.std.specs.Prelude.{◌≡◌, false, IfOk, OnOk};
 ghost use Rattle.kernel_model.specs.Row.{no_family, with_child, family_after_end, lists, others};
 
-use pico_base::{Ending, Memory, Pid};
+use pico_base::{EndedChild, Ending, Memory, Pid};
 use std::alloc::Global;
 use std::marker::Model;
 
@@ -10,7 +10,7 @@ use std::marker::Model;
 #[derive(Drop)]
 pub(crate) struct Family {
     living: Vec<Pid>,
-    ended: Vec<(Pid, Ending)>,
+    ended: Vec<EndedChild>,
 }
 
 impl Model for Family {
@@ -59,12 +59,12 @@ impl Family {
         ensures { OnOk result (self.new ≡ family_after_end self.old child ending false) }
     {
         drop_living(&mut self.living, child);
-        self.ended.push((child, ending))?;
+        self.ended.push(EndedChild { pid: child, ending })?;
         Ok(())
     }
 
     /// The ended children with their endings.
-    pub(crate) fn ended(&self, alloc: Global) -> Result<Vec<(Pid, Ending)>, Memory>
+    pub(crate) fn ended(&self, alloc: Global) -> Result<Vec<EndedChild>, Memory>
         ensures { IfOk result (λ ended. ended.items ≡ self.now.ended) }
     {
         Ok(Vec::from_slice(alloc, self.ended.as_slice())?)

@@ -1,3 +1,4 @@
+//! Why a turn made no step.
 ghost use Rattle.std.specs.Prelude.{◌≡◌};
 ghost use Rattle.node_core.specs.declared.fault.TurnFault.TheVariants.{Memory as OutOfMemory};
 

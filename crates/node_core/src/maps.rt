@@ -2,7 +2,7 @@
 ghost use Rattle.std.specs.Prelude.{◌≡◌, IfOk};
 ghost use Rattle.kernel_model.specs.Queue.{send, receive, set_qbytes};
 ghost use Rattle.kernel_model.specs.SemaphoreSet.{op, set_value, set_all};
-ghost use Rattle.node_core.specs.Answers.{Changes, Receives, done_reply, reply_to, waiting_reply};
+ghost use Rattle.call_answers.specs.Answers.{Changes, Receives, done_reply, reply_to, waiting_reply};
 
 use pico_base::{Bytes, Errno, Memory, Pid, Reply, SemStep};
 use std::collections::BTreeMap;
@@ -73,7 +73,8 @@ pub(crate) fn send_at(
     class: i32,
     text: Bytes,
 ) -> Result<Reply, Memory>
-    ensures { IfOk result (λ reply. Changes (λ q. send q pid class text) queues.old.entries id queues.new.entries reply) }
+    ensures { IfOk result
+        (λ reply. Changes (λ q. send q pid class text) queues.old.entries id queues.new.entries reply) }
 {
     let Some(queue) = queues.get_mut(&id) else {
         return Ok(Reply::Fail(Errno::Einval));

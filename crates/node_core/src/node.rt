@@ -1,3 +1,4 @@
+//! A picoprocess as callers see it: its turns, and what it may do next.
 ghost use Rattle.std.specs.Prelude.{◌≡◌, ◌≤◌, length, Some, None, Err, IfOk, IfSome, IsErr, IsSome};
 ghost use Rattle.machine_model.specs.Node.{opening_node, can_run, is_born};
 ghost use Rattle.machine_model.specs.Built.{IsRunnable};
@@ -14,7 +15,8 @@ use std::alloc::Global;
 use std::marker::Model;
 
 /// The node of a picoprocess, which contracts see as a node of the picoprocess machine, or none once it is spent: an
-/// allocation was refused in a turn. Node k runs block k of the script. Its process has a number, a parent and a place in
+/// allocation was refused in a turn. Node k runs block k of the script. Its process has a number, a parent and a place
+/// in
 /// the block; it holds the deeds of processes, queues and sets; and node 1 is the leader.
 #[derive(Drop)]
 pub struct PicoNode {
@@ -49,7 +51,8 @@ impl State {
 }
 
 impl PicoNode {
-    /// The node at its opening: node 1 is born, with process 1, and the others aren't. It keeps the allocator for its turns.
+    /// The node at its opening: node 1 is born, with process 1, and the others aren't. It keeps the allocator for its
+    /// turns.
     pub fn new(alloc: Global, script: &Script, node: Node) -> Result<PicoNode, Memory>
         requires block { node ≤ length script.now.blocks }
         ensures { IfOk result (λ n. n ≡ Some (opening_node node)) }

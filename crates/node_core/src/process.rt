@@ -6,7 +6,7 @@ ghost use Rattle.machine_model.specs.Deeds.{may_end};
 ghost use Rattle.node_core.specs.Deed.{with_child_there, with_end_there, ended_there, kept_by};
 
 use crate::family::Family;
-use pico_base::{Ending, Memory, Pid};
+use pico_base::{EndedChild, Ending, Memory, Pid};
 use std::alloc::Global;
 use std::marker::Model;
 
@@ -89,7 +89,7 @@ impl Process {
     }
 
     /// Its ended children with their endings, none where it doesn't live.
-    pub(crate) fn ended_children(&self, alloc: Global) -> Result<Vec<(Pid, Ending)>, Memory>
+    pub(crate) fn ended_children(&self, alloc: Global) -> Result<Vec<EndedChild>, Memory>
         ensures { IfOk result (λ ended. ended.items ≡ ended_there self.now) }
     {
         match &self.life {

@@ -26,7 +26,9 @@ impl State {
     ) -> Result<Turn, Memory>
         requires runnable { IsRunnable script.now }
         requires may { MayStart self.old.caller }
-        ensures { IfOk result (λ turn. step_as (node_of self.new) turn ≡ step_here script.now (node_of self.old) call reply self.old.deeds) }
+        ensures { IfOk result
+            (λ turn. step_as (node_of self.new) turn
+            ≡ step_here script.now (node_of self.old) call reply self.old.deeds) }
     {
         self.caller.pass(script, self.number, &reply)?;
         Ok(Turn {
@@ -62,7 +64,8 @@ impl State {
         Ok(self.carry_out(alloc, script, call, Reply::Num(number))?)
     }
 
-    /// A private semget: the leader's next number names the set, and the leader holds it. EINVAL: there are to be none or
+    /// A private semget: the leader's next number names the set, and the leader holds it. EINVAL: there are to be none
+    /// or
     /// more than 64 semaphores.
     fn make_set(
         &mut self,
@@ -73,7 +76,8 @@ impl State {
     ) -> Result<Turn, TurnFault>
         requires runnable { IsRunnable script.now }
         requires may { MayStart self.old.caller }
-        ensures { Steps (makes_set script.now (node_of self.old) call count) (node_of self.old) (node_of self.new) result }
+        ensures { Steps (makes_set script.now (node_of self.old) call count) (node_of self.old)
+            (node_of self.new) result }
     {
         if !self.is_leader() {
             return Err(TurnFault::NotAllowed);
@@ -215,7 +219,8 @@ impl State {
         }
     }
 
-    /// The next call is started. NotAllowed: the node can't run, no call is due, a further ticket has more than four bytes,
+    /// The next call is started. NotAllowed: the node can't run, no call is due, a further ticket has more than four
+    /// bytes,
     /// or the call has no rule.
     pub(crate) fn run(&mut self, alloc: Global, script: &Script) -> Result<Turn, TurnFault>
         requires { IsRunnable script.now }

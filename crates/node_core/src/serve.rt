@@ -66,7 +66,8 @@ impl Deeds {
     /// msgsnd: EINVAL or EAGAIN.
     fn send(&mut self, pid: Pid, id: Id, class: i32, text: Bytes) -> Result<Reply, Memory>
         ensures { IfOk result (λ reply. on_named (kernel_of self.old) (get self.old.queues id)
-            (λ q. change_queue (kernel_of self.old) id (send q pid class text)) ≡ record { kernel = kernel_of self.new; reply = reply }) }
+            (λ q. change_queue (kernel_of self.old) id (send q pid class text))
+            ≡ record { kernel = kernel_of self.new; reply = reply }) }
     {
         send_at(&mut self.queues, id.0, pid, class, text)
     }
@@ -74,7 +75,8 @@ impl Deeds {
     /// msgrcv: EINVAL, ENOMSG or E2BIG.
     fn receive(&mut self, pid: Pid, id: Id, class: i32, size: u32, noerror: bool) -> Reply
         ensures { on_named (kernel_of self.old) (get self.old.queues id)
-            (λ q. receive_effect (kernel_of self.old) id (receive q pid class size noerror)) ≡ record { kernel = kernel_of self.new; reply = result } }
+            (λ q. receive_effect (kernel_of self.old) id (receive q pid class size noerror))
+            ≡ record { kernel = kernel_of self.new; reply = result } }
     {
         receive_at(&mut self.queues, id.0, pid, class, size, noerror)
     }
@@ -93,7 +95,8 @@ impl Deeds {
     /// msgctl with IPC_SET: EINVAL.
     fn set_qbytes(&mut self, id: Id, qbytes: u32) -> Reply
         ensures { on_named (kernel_of self.old) (get self.old.queues id)
-            (λ q. change_queue (kernel_of self.old) id (set_qbytes q qbytes)) ≡ record { kernel = kernel_of self.new; reply = result } }
+            (λ q. change_queue (kernel_of self.old) id (set_qbytes q qbytes))
+            ≡ record { kernel = kernel_of self.new; reply = result } }
     {
         set_qbytes_at(&mut self.queues, id.0, qbytes)
     }
@@ -101,14 +104,16 @@ impl Deeds {
     /// semop: EINVAL, E2BIG, EFBIG, EAGAIN or ERANGE.
     fn operate(&mut self, pid: Pid, id: Id, steps: &Steps) -> Reply
         ensures { on_named (kernel_of self.old) (get self.old.sets id)
-            (λ s. change_set (kernel_of self.old) id (op s pid steps.now)) ≡ record { kernel = kernel_of self.new; reply = result } }
+            (λ s. change_set (kernel_of self.old) id (op s pid steps.now))
+            ≡ record { kernel = kernel_of self.new; reply = result } }
     {
         op_at(&mut self.sets, id.0, pid, steps.as_slice())
     }
 
     /// semctl with GETVAL: EINVAL.
     fn value(&self, id: Id, num: u16) -> Reply
-        ensures { on_named (kernel_of self.now) (get self.now.sets id) (λ s. look_up (kernel_of self.now) (value_at s num))
+        ensures { on_named (kernel_of self.now) (get self.now.sets id)
+            (λ s. look_up (kernel_of self.now) (value_at s num))
             ≡ record { kernel = kernel_of self.now; reply = result } }
     {
         match self.sets.get(&id.0) {
@@ -119,7 +124,8 @@ impl Deeds {
 
     /// semctl with GETPID: EINVAL.
     fn last(&self, id: Id, num: u16) -> Reply
-        ensures { on_named (kernel_of self.now) (get self.now.sets id) (λ s. look_up (kernel_of self.now) (last_at s num))
+        ensures { on_named (kernel_of self.now) (get self.now.sets id)
+            (λ s. look_up (kernel_of self.now) (last_at s num))
             ≡ record { kernel = kernel_of self.now; reply = result } }
     {
         match self.sets.get(&id.0) {
@@ -130,7 +136,8 @@ impl Deeds {
 
     /// semctl with GETNCNT and GETZCNT: EINVAL, and else 0.
     fn waiting(&self, id: Id, num: u16) -> Reply
-        ensures { on_named (kernel_of self.now) (get self.now.sets id) (λ s. look_up (kernel_of self.now) (waiting_at s num))
+        ensures { on_named (kernel_of self.now) (get self.now.sets id)
+            (λ s. look_up (kernel_of self.now) (waiting_at s num))
             ≡ record { kernel = kernel_of self.now; reply = result } }
     {
         match self.sets.get(&id.0) {
@@ -142,14 +149,16 @@ impl Deeds {
     /// semctl with SETVAL: EINVAL or ERANGE.
     fn set_value(&mut self, id: Id, num: u16, value: u32) -> Reply
         ensures { on_named (kernel_of self.old) (get self.old.sets id)
-            (λ s. change_set (kernel_of self.old) id (set_value s num value)) ≡ record { kernel = kernel_of self.new; reply = result } }
+            (λ s. change_set (kernel_of self.old) id (set_value s num value))
+            ≡ record { kernel = kernel_of self.new; reply = result } }
     {
         set_value_at(&mut self.sets, id.0, num, value)
     }
 
     /// semctl with GETALL: EINVAL.
     fn all_values(&self, id: Id) -> Result<Reply, Memory>
-        ensures { IfOk result (λ reply. on_named (kernel_of self.now) (get self.now.sets id) (all_values (kernel_of self.now))
+        ensures { IfOk result
+            (λ reply. on_named (kernel_of self.now) (get self.now.sets id) (all_values (kernel_of self.now))
             ≡ record { kernel = kernel_of self.now; reply = reply }) }
     {
         match self.sets.get(&id.0) {
@@ -161,14 +170,16 @@ impl Deeds {
     /// semctl with SETALL: EINVAL or ERANGE.
     fn set_all(&mut self, id: Id, values: &Values) -> Reply
         ensures { on_named (kernel_of self.old) (get self.old.sets id)
-            (λ s. change_set (kernel_of self.old) id (set_all s values.now)) ≡ record { kernel = kernel_of self.new; reply = result } }
+            (λ s. change_set (kernel_of self.old) id (set_all s values.now))
+            ≡ record { kernel = kernel_of self.new; reply = result } }
     {
         set_all_at(&mut self.sets, id.0, values.as_slice())
     }
 }
 
 impl Deeds {
-    /// A shared call on a queue or a set, which is held here, or refused with EINVAL. NotAllowed: the call isn't shared,
+    /// A shared call on a queue or a set, which is held here, or refused with EINVAL. NotAllowed: the call isn't
+    /// shared,
     /// or it may have to wait.
     pub(crate) fn serve(&mut self, alloc: Global, pid: Pid, call: &Call) -> Result<Reply, TurnFault>
         ensures { Serves (serving self.old pid call.now) self.old self.new result }

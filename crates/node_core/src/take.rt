@@ -66,7 +66,8 @@ impl State {
         pid: Pid,
         call: Call,
     ) -> Result<Turn, TurnFault>
-        ensures { Steps (takes_ask (node_of self.old) from ticket pid call) (node_of self.old) (node_of self.new) result }
+        ensures { Steps (takes_ask (node_of self.old) from ticket pid call) (node_of self.old)
+            (node_of self.new) result }
     {
         if !self.is_to_leader(from) || ticket == 0 {
             return Err(TurnFault::NotAllowed);
@@ -91,7 +92,8 @@ impl State {
         reply: Reply,
     ) -> Result<Turn, TurnFault>
         requires { IsRunnable script.now }
-        ensures { Steps (takes_answer script.now (node_of self.old) ticket reply) (node_of self.old) (node_of self.new) result }
+        ensures { Steps (takes_answer script.now (node_of self.old) ticket reply) (node_of self.old)
+            (node_of self.new) result }
     {
         if !self.caller.awaits(ticket) {
             return Err(TurnFault::NotAllowed);
@@ -111,7 +113,8 @@ impl State {
         deed: PackedDeed,
         vars: Vars,
     ) -> Result<Turn, TurnFault>
-        ensures { Steps (takes_checkpoint script.now (node_of self.old) from pid parent deed vars) (node_of self.old) (node_of self.new) result }
+        ensures { Steps (takes_checkpoint script.now (node_of self.old) from pid parent deed vars) (node_of self.old)
+            (node_of self.new) result }
     {
         if !self.is_unborn() || !is_forked_by(script, from, self.number) {
             return Err(TurnFault::NotAllowed);
@@ -136,7 +139,8 @@ impl State {
         pid: Pid,
         parent: Pid,
     ) -> Result<Turn, TurnFault>
-        ensures { Steps (takes_leaving (node_of self.old) from pid parent) (node_of self.old) (node_of self.new) result }
+        ensures { Steps (takes_leaving (node_of self.old) from pid parent) (node_of self.old)
+            (node_of self.new) result }
     {
         if !self.is_to_leader(from) || !self.leader.stays(from) {
             return Err(TurnFault::NotAllowed);
@@ -232,6 +236,18 @@ impl State {
             Frame::Leaving { pid, parent, .. } => self.take_leaving(alloc, from, pid, parent),
             Frame::RecallAll => self.take_recall(alloc, from),
             Frame::Left { parcel } => self.take_left(alloc, from, parcel),
+            Frame::Request { .. }
+            | Frame::Forward { .. }
+            | Frame::Bounce { .. }
+            | Frame::NotOwner { .. }
+            | Frame::LeaseAsk { .. }
+            | Frame::Lease { .. }
+            | Frame::Placed { .. }
+            | Frame::Suggest { .. }
+            | Frame::Recall { .. }
+            | Frame::GiveBack { .. }
+            | Frame::Grant { .. }
+            | Frame::ExitTo { .. } => Err(TurnFault::NotAllowed),
         }
     }
 }

@@ -1,3 +1,4 @@
+//! What a turn is handed and what it gives.
 use pico_base::{Entries, Node, Sequence};
 use rpc_frame::Frame;
 

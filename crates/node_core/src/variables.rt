@@ -7,7 +7,7 @@ ghost use Rattle.machine_model.specs.Frames.{are_rising};
 ghost use Rattle.node_core.specs.Rising.{IsVariable, rising_from};
 
 use pico_base::{Call, Line, Memory, Sequence, Var, Vars};
-use script_reader::call_with;
+use script_lines::call_with;
 use std::alloc::Global;
 use std::collections::BTreeMap;
 use std::marker::Model;

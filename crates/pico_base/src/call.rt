@@ -1,3 +1,4 @@
+//! The calls of the profile, with their actual arguments.
 ghost use Rattle.std.specs.Prelude.{◌≡◌, IfOk};
 
 use crate::{

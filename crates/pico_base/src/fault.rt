@@ -1,3 +1,4 @@
+//! Want of memory, and bytes that are no body.
 ghost use Rattle.std.specs.Prelude.{◌≡◌};
 ghost use Rattle.pico_base.specs.declared.fault.UnpackFault.TheVariants.{Memory as OutOfMemory};
 

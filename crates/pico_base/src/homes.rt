@@ -1,3 +1,4 @@
+//! Where a call can be carried out.
 ghost use Rattle.std.specs.Prelude.{◌≡◌};
 ghost use Rattle.pico_base.specs.Home.{home_of};
 

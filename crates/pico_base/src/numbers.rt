@@ -1,4 +1,5 @@
-ghost use Rattle.std.specs.Prelude.{◌≤◌, ℕ};
+//! Numbers with names of their own: nodes, processes, identifiers, keys.
+ghost use Rattle.std.specs.Prelude.{◌≡◌, ◌≤◌, ℕ};
 
 use std::marker::Model;
 
@@ -17,7 +18,7 @@ impl Model for Node {
 }
 
 /// A process number. Process 1 is there at first, and 0 names no process.
-#[derive(Clone, Copy, Debug, PartialEq, Eq, PartialOrd, Ord)]
+#[derive(Clone, Copy, Debug, PartialEq, Eq, PartialOrd, Ord, Hash)]
 pub struct Pid(pub u32);
 
 impl Model for Pid {
@@ -28,8 +29,17 @@ impl Model for Pid {
     ghost inverse = { λ n. record { 0 = n } };
 }
 
+/// No process.
+impl Default for Pid {
+    ghost is_default = { λ p. p ≡ 0 };
+
+    fn default() -> Self {
+        Pid(0)
+    }
+}
+
 /// The identifier of a message queue or of a semaphore set. 0 names none.
-#[derive(Clone, Copy, Debug, PartialEq, Eq, PartialOrd, Ord)]
+#[derive(Clone, Copy, Debug, PartialEq, Eq, PartialOrd, Ord, Hash)]
 pub struct Id(pub u32);
 
 impl Model for Id {
@@ -61,7 +71,7 @@ pub enum Kind {
 }
 
 /// What a call may be carried out on: a process, a message queue or a semaphore set.
-#[derive(Clone, Copy, Debug, PartialEq, Eq)]
+#[derive(Clone, Copy, Debug, PartialEq, Eq, Hash)]
 pub enum Name {
     Proc(Pid),
     Msg(Id),

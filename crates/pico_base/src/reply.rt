@@ -1,3 +1,4 @@
+//! Replies, endings, outcomes and the entries of a journal.
 ghost use Rattle.std.specs.Prelude.{◌≡◌, IfOk, Some, []};
 
 use crate::{Bytes, Call, Memory, Node, Pid, Sequence, Sig, SigSet, Values};

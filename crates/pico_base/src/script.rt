@@ -1,3 +1,4 @@
+//! Scripts: blocks, lines, variables; and events.
 ghost use Rattle.std.specs.Prelude.{ℕ, ◌≤◌};
 
 use crate::{Bytes, Call, Node, Sequence};

@@ -1,3 +1,4 @@
+//! Signals, sets of them, and what a process does about them.
 ghost use Rattle.std.specs.Prelude.{◌≡◌, true, false};
 ghost use Rattle.pico_base.specs.Signal.{at, put_at, everywhere};
 

@@ -18,7 +18,8 @@ use Rattle.rest_laws.specs.Rest.{NothingIsOnItsWayAtRest}
 
 -- a frame that is there, and that the node takes, is none at rest
 empty-at-rest : (w : World) → IsAtRest w → (p q : ℕ) (n : Node) → 1 ≤ p → 1 ≤ q → node_at w p ≡ Some n
-    → (fs : List Frame) → stream w p q ≡ fs → ((f : Frame) (left : List Frame) → fs ≡ f ∷ left → (not (is_unborn n.stage) || is_checkpoint f) ≡ true)
+    → (fs : List Frame) → stream w p q ≡ fs
+    → ((f : Frame) (left : List Frame) → fs ≡ f ∷ left → (not (is_unborn n.stage) || is_checkpoint f) ≡ true)
     → stream w p q ≡ []
 empty-at-rest w rest p q n low low_q at [] there takes = there
 empty-at-rest w rest p q n low low_q at (f ∷ left) there takes =
@@ -59,7 +60,8 @@ module _ (script : Script) (w : World) (first : Node) (k : Kernel) (places : Pla
       in ap (λ g. not (is_unborn n.stage) || is_checkpoint g) (sym same) ∙ any-takes (not (is_unborn n.stage))
   child-takes p n Free i f left h = not-nil f left (sym i.shows.to_it ∙ h)
   child-takes p n (Asking call) i f left h = not-nil f left (sym i.shows.to_it ∙ h)
-  child-takes p n (Answered call reply) i f left h = born-takes n.stage (is_checkpoint f) (ap is_unborn i.has.has.has_stage)
+  child-takes p n (Answered call reply) i f left h =
+      born-takes n.stage (is_checkpoint f) (ap is_unborn i.has.has.has_stage)
   child-takes p n (Telling status) i f left h = not-nil f left (sym i.shows.to_it ∙ h)
   child-takes p n (Recalled status) i f left h = born-takes n.stage (is_checkpoint f) (ap is_unborn i.has.has_stage)
   child-takes p n (HandedOver status) i f left h = not-nil f left (sym i.shows.to_it ∙ h)

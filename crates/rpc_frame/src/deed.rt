@@ -1,3 +1,4 @@
+//! What frames bring of deeds: packed deeds, calls that were asked, and parcels.
 use pico_base::{Bytes, Call, Name, Pid, Sequence};
 
 /// A deed on its way: the right to carry out calls on a name, together with the state of what it names, as bytes.

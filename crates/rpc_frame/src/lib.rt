@@ -2,8 +2,10 @@
 //! told it.
 #![tactic(auto)]
 
+mod asked;
 mod deed;
 mod frame;
 
+pub use asked::Asked;
 pub use deed::{PackedDeed, PackedDeeds, Parcel};
-pub use frame::Frame;
+pub use frame::{Frame, Frames};

@@ -1,7 +1,7 @@
 //! The call that a line makes.
 
 ghost use Rattle.std.specs.Prelude.{◌≡◌, IfOk};
-ghost use Rattle.kernel_model.specs.Script.{value_of, with_target as named, call_of};
+ghost use Rattle.kernel_model.specs.Script.{value_of, with_target, call_of};
 
 use pico_base::{Call, Id, Line, Memory, Pid, Var, Vars};
 use std::alloc::Global;
@@ -19,8 +19,8 @@ fn value(vars: &[(Var, u32)], variable: Var) -> u32
 }
 
 /// The call with this number for the process or the object that it names.
-fn naming(call: Call, number: u32) -> Call
-    ensures { result ≡ named call number }
+fn with_target(call: Call, number: u32) -> Call
+    ensures { result ≡ with_target call number }
 {
     let id = Id(number);
     match call {
@@ -80,6 +80,6 @@ pub fn call_with(alloc: Global, line: &Line, vars: &Vars) -> Result<Call, Memory
     let call = line.call.try_copy(alloc)?;
     Ok(match line.from {
         None => call,
-        Some(variable) => naming(call, value(vars.as_slice(), variable)),
+        Some(variable) => with_target(call, value(vars.as_slice(), variable)),
     })
 }

@@ -1,198 +1,301 @@
--- A script that is read is sound, and nodes can run it.
-use Rattle.std.proofs.Common.{◌≡◌, ℕ, ◌+◌, ◌<◌, ◌≤◌, Bool, true, false, ◌&&◌, ◌||◌, not, cond, leb, ltb, List, [], ◌∷◌, ◌++◌, map, length, None, refl, sym, ap, ◌∙◌, arith}
-use Rattle.std.specs.Prelude.{nat_eq, sum_by, count_by, fold}
-use Rattle.std.specs.List.{AllByRecursion, list_all, list_any, flat_map, enumerate_from}
-use Rattle.std.proofs.lemmas.Bool.{and_parts, and_from, le-leb, leb-true, ltb-true, lt-ltb}
-use Rattle.std.proofs.lemmas.List.{append-nil, length-map}
-use Rattle.std.proofs.lemmas.List.Folds.{list_all-append, fold-map}
-use Rattle.std.proofs.lemmas.List.Sums.{sum_by-cons}
-use Rattle.pico_base.specs.declared.script.Line.{Line}
+-- A script that is read is sound, and where a call without a rule is a fault, the machine can run it.
+use Rattle.std.proofs.Common.{◌≡◌, ℕ, suc, ◌+◌, ◌<◌, ◌≤◌, Bool, true, false, ◌&&◌, ◌||◌, not, cond, eqb, ltb, leb, List, [], ◌∷◌, ◌++◌, map, length, Option, Some, None, Result, Ok, Err, eq-eqb, refl, sym, ap, subst, ◌∙◌, arith}
+use Rattle.std.specs.Prelude.{nat_eq, count_by, sum_by, fold, IfOk}
+use Rattle.std.specs.List.{list_all, list_any, enumerate_from}
+use Rattle.std.specs.Str.Lossy.{utf8_valid_len}
+use Rattle.std.proofs.lemmas.Bool.{and_parts, and_from, le-leb, eqb-true, eqb-false, ltb-false, leb-false}
+use Rattle.std.proofs.lemmas.List.{length-map, append-nil}
+use Rattle.std.proofs.lemmas.Option.{same_Some, none-some}
 use Rattle.pico_base.specs.declared.script.Block.{Block}
+use Rattle.pico_base.specs.declared.script.Line.{Line}
 use Rattle.pico_base.specs.declared.script.Script.{Script}
 use Rattle.kernel_model.specs.Script as model
-use Rattle.kernel_model.specs.Waiting.{is_waiting}
-use Rattle.machine_model.specs.Built.{is_built_line, is_built_block, IsRunnable}
-use Rattle.script_reader.specs.Form.{forks_in, calls_of}
-use Rattle.script_reader.specs.Fault.{names_of, IsWhole}
-use Rattle.script_reader.proofs.Standing.{kept_line, kept_block}
-use Rattle.script_reader.proofs.Facts.{differ, name_of, IsFine, AreForks, AreLater, Facts, facts}
+use Rattle.kernel_model.specs.Script.{IsSoundScript, Fork}
+use Rattle.machine_model.specs.Built.{is_built_block, IsRunnable}
+use Rattle.script_reader.specs.declared.fault.ScriptFault.{ScriptFault}
+use Rattle.script_reader.specs.declared.fault.ScriptFault.TheVariants.{ScriptTooLong, NotUtf8, NoProc, NoEnd}
+use Rattle.script_reader.specs.declared.fault.ScriptStop.{ScriptStop}
+use Rattle.script_reader.specs.declared.fault.ScriptStop.TheVariants.{At}
+use Rattle.script_reader.specs.declared.place.Place.{Place}
+use Rattle.script_reader.specs.declared.says.Said.{Said}
+use Rattle.script_reader.specs.declared.says.Said.TheVariants.{Skipped, Opens, BadProc, Ends, Unknown, Bad, Forks, Calls}
+use Rattle.script_reader.specs.Words.{lines_of}
+use Rattle.script_reader.specs.Says.{names_of, number_of, with_opening, opening_at, said_of, proc_from}
+use Rattle.script_reader.specs.Fault as spec
+use Rattle.script_reader.specs.Fault.{start, fault_of, blocks_from, blocks_of, outcome, Blocks}
+use Rattle.script_reader.proofs.Saying.{IsFine, said_fine, opening_said}
+use Rattle.script_reader.proofs.Steps.{IsFaultless, faultless, blocks_from-goes, blocks_from-stops}
+use Rattle.script_reader.proofs.Opened.{AreOpened, AreNumbered, block_names, names_step, inside_of, number_here, not_both, not_true as no_true}
+use Rattle.script_reader.proofs.Tidy.{IsTidy, tidy_step}
+use Rattle.script_reader.proofs.Forked.{AreForked, forked_step, forks_from, forks_so_far, goes_to, is_to, node_is, no_targets, first_forks}
+use Rattle.script_reader.proofs.Known.{AreKnown, known_open, known_end, known_call, known_fork, first_place_known}
 
--- ---- lines
+-- ---- one line
 
-all_lines : (n : ℕ) (lines : List Line) → AllByRecursion (IsFine n) lines → list_all model.is_line lines ≡ true
-all_lines n [] h = refl
-all_lines n (line ∷ lines) h = and_from (model.is_line line) (list_all model.is_line lines) h.0.in_range (all_lines n lines h.1)
+known_step : (runnable : Bool) (names : List (List ℕ)) (place : Place) (size : ℕ) (o : Option (List ℕ)) (said : Said)
+    → length names ≤ 32 → IsTidy runnable place → AreKnown place → IsFine names o said
+    → IsFaultless runnable place size said → AreKnown (spec.behind place said)
+known_step runnable names place size o (Opens name number) small t h fine f =
+    let here = number_here runnable place size name number f in
+    known_open place name number h (t.outside here.0) here.1
+known_step runnable names place size o Skipped small t h fine f = h
+known_step runnable names place size o Ends small t h fine f = known_end place (spec.calls_of place Ends) h
+known_step runnable names place size o (Forks set None) small t h fine f = h
+known_step runnable names place size o (Forks set (Some n)) small t h fine f =
+    let high : n ≤ 32 = omega (arith, fine.1.1, small) in
+    known_fork place set n h (inside_of place (Forks set (Some n)) f.no_proc refl) high (node_is n fine.1.0 high)
+known_step runnable names place size o (Calls line) small t h fine f =
+    known_call place line h (inside_of place (Calls line) f.no_proc refl) (no_targets line fine.1) f.set
+known_step runnable names place size o BadProc small t h fine f = absurd (no_true f.good)
+known_step runnable names place size o Bad small t h fine f = absurd (no_true f.good)
+known_step runnable names place size o Unknown small t h fine f =
+    absurd (no_true (sym (inside_of place Unknown f.no_proc refl) ∙ not_both place.inside true f.known_call refl))
 
-all_at_once : (n : ℕ) (lines : List Line) → AllByRecursion (IsFine n) lines → list_all (λ (line : Line). not (is_waiting line.call)) lines ≡ true
-all_at_once n [] h = refl
-all_at_once n (line ∷ lines) h = and_from (not (is_waiting line.call)) (list_all (λ (l : Line). not (is_waiting l.call)) lines) (ap not h.0.at_once) (all_at_once n lines h.1)
+-- ---- all lines
 
-all_built : (n : ℕ) (lines : List Line) → AllByRecursion (IsFine n) lines → list_all (is_built_line n) lines ≡ true
-all_built n [] h = refl
-all_built n (line ∷ lines) h = and_from (is_built_line n line) (list_all (is_built_line n) lines) h.0.built (all_built n lines h.1)
+pub record Stands (runnable : Bool) (names : List (List ℕ)) (place : Place) : Type 0 where
+  pub tidy : IsTidy runnable place
+  pub forked : AreForked (length names) place
+  pub known : AreKnown place
 
-all_end : (n : ℕ) (lines : List Line) → AllByRecursion (IsFine n) lines → model.ends_rightly lines ≡ true
-all_end n [] h = refl
-all_end n (line ∷ lines) h = rw (h.0.no_exit) (all_end n lines h.1)
+-- where the lines end
+no_blocks : (fault : ℕ × ScriptFault) (all : List Block) → (let r : Blocks = Err fault in r ≡ Ok all) → ⊥
+no_blocks fault all e = cc
 
-counted : (n : ℕ) (from : ℕ) (lines : List Line) → AllByRecursion (IsFine n) lines → fold (λ (a : ℕ) (line : Line). a + line.tries) from (model.with_exit lines) ≡ from + (length lines + 1)
-counted n from [] h = omega arith
-counted n from (line ∷ lines) h =
-    let more : from + 1 + (length lines + 1) ≡ from + (length (line ∷ lines) + 1) = omega arith in
-    rw (h.0.no_exit, h.0.once) (counted n (from + 1) lines h.1 ∙ more)
+same_blocks : (blocks all : List Block) → (let r : Blocks = Ok blocks in r ≡ Ok all) → blocks ≡ all
+same_blocks blocks all e = cc
 
-all_kept : (n : ℕ) (lines : List Line) → AllByRecursion (IsFine n) lines → list_all (λ k. ltb 0 k && leb k 32) (forks_in lines) ≡ true → map kept_line lines ≡ lines
-all_kept n [] h e = refl
-all_kept n (line ∷ lines) h e =
-    let split = list_all-append (λ k. ltb 0 k && leb k 32) (model.fork_targets line.call) (forks_in lines) in
-    let p = and_parts (list_all (λ k. ltb 0 k && leb k 32) (model.fork_targets line.call)) (list_all (λ k. ltb 0 k && leb k 32) (forks_in lines)) (sym split ∙ e) in
-    rw (h.0.kept p.0, all_kept n lines h.1 p.1) refl
+abbrev ended_as : Bool → Bool → ℕ → List Block → Blocks
+ended_as inside none number blocks = cond inside (Err (number, NoEnd)) (cond none (Err (1, NoProc)) (Ok blocks))
 
--- ---- blocks, one after another
+ending_ok : (inside : Bool) (none : Bool) (number : ℕ) (blocks all : List Block)
+    → ended_as inside none number blocks ≡ Ok all → (inside ≡ false) × (none ≡ false) × (blocks ≡ all)
+ending_ok true none number blocks all e = absurd (no_blocks (number, NoEnd) all e)
+ending_ok false true number blocks all e = absurd (no_blocks (1, NoProc) all e)
+ending_ok false false number blocks all e = (refl, refl, same_blocks blocks all e)
 
--- a block whose lines are fine where they stand
-abbrev IsFineBlock : Block → Type 0
-IsFineBlock block = (n : ℕ) × (model.is_name block.name ≡ true) × AllByRecursion (IsFine n) block.lines × (map kept_line block.lines ≡ block.lines)
+is_same_eq : (x y : List ℕ) → model.is_same x y ≡ true → x ≡ y
+is_same_eq [] [] e = refl
+is_same_eq [] (b ∷ y) e = absurd cc
+is_same_eq (a ∷ x) [] e = absurd cc
+is_same_eq (a ∷ x) (b ∷ y) e =
+    let p = and_parts (eqb a b) (model.is_same x y) e in
+    let first : a ≡ b = eqb-true a b p.0 in
+    let rest : x ≡ y = is_same_eq x y p.1 in
+    cc
 
-later_fine : (first : Block) (k : ℕ) (blocks : List Block) → AreLater first k blocks → AllByRecursion IsFineBlock blocks
-later_fine first k [] h = tt
-later_fine first k (block ∷ blocks) h =
-    ((k, h.0.good.name, h.0.good.lines, all_kept k block.lines h.0.good.lines (ap (list_all (λ f. ltb 0 f && leb f 32)) h.0.quiet)), later_fine first (k + 1) blocks h.1)
+differs_of : (names : List (List ℕ)) (k n : ℕ) (x y : List ℕ) (b rest : Bool) → model.is_same x y ≡ b
+    → number_of names x ≡ Some k → number_of names y ≡ Some n → k < n → rest ≡ false → (b || rest) ≡ false
+differs_of names k n x y false rest e is at low more = more
+differs_of names k n x y true rest e is at low more =
+    let same : k ≡ n = same_Some k n (sym is ∙ ap (number_of names) (is_same_eq x y e) ∙ at) in
+    absurd (omega (arith, same, low))
 
-each : (test : Block → Bool) (blocks : List Block) → ((block : Block) → IsFineBlock block → test block ≡ true) → AllByRecursion IsFineBlock blocks → list_all test blocks ≡ true
-each test [] f h = refl
-each test (block ∷ blocks) f h = and_from (test block) (list_all test blocks) (f block h.0) (each test blocks f h.1)
+none_same : (names : List (List ℕ)) (k n : ℕ) (x : List ℕ) (blocks : List Block) → number_of names x ≡ Some k → k < n
+    → AreNumbered names n (block_names blocks) → list_any (λ (other : Block). model.is_same x other.name) blocks ≡ false
+none_same names k n x [] is low h = refl
+none_same names k n x (b ∷ blocks) is low h =
+    differs_of names k n x b.name (model.is_same x b.name)
+    (list_any (λ (other : Block). model.is_same x other.name) blocks) refl is h.0 low
+    (none_same names k (n + 1) x blocks is (omega (arith, low)) h.1)
 
-blocks_kept : (blocks : List Block) → AllByRecursion IsFineBlock blocks → map kept_block blocks ≡ blocks
-blocks_kept [] h = refl
-blocks_kept (block ∷ blocks) h = rw (h.0.3, blocks_kept blocks h.1) refl
-
-blocks_count : (blocks : List Block) → AllByRecursion IsFineBlock blocks → sum_by model.calls_in blocks ≡ calls_of blocks
-blocks_count [] h = refl
-blocks_count (block ∷ blocks) h =
-    let one : model.calls_in block ≡ length block.lines + 1 = counted h.0.0 0 block.lines h.0.2 ∙ omega arith in
-    sum_by-cons model.calls_in block blocks ∙ rw (one, blocks_count blocks h.1) (sym (sum_by-cons (λ (b : Block). length b.lines + 1) block blocks))
-
-any_name : (n : List ℕ) (blocks : List Block) → list_any (λ (b : Block). model.is_same n b.name) blocks ≡ list_any (model.is_same n) (map name_of blocks)
-any_name n [] = refl
-any_name n (block ∷ blocks) = ap (λ (b : Bool). model.is_same n block.name || b) (any_name n blocks)
-
-names_apart : (blocks : List Block) → model.names_differ blocks ≡ differ (map name_of blocks)
-names_apart [] = refl
-names_apart (block ∷ blocks) = rw (any_name block.name blocks, names_apart blocks) refl
-
--- ---- forks
-
-abbrev forks_at : ℕ × Block → List (ℕ × ℕ)
-forks_at b = map (λ to. (b.0, to)) (forks_in b.1.lines)
-
-later_quiet : (first : Block) (k : ℕ) (blocks : List Block) → AreLater first k blocks → flat_map forks_at (enumerate_from k blocks) ≡ []
-later_quiet first k [] h = refl
-later_quiet first k (block ∷ blocks) h = rw (h.0.quiet, later_quiet first (k + 1) blocks h.1) refl
+apart : (names : List (List ℕ)) (k : ℕ) (blocks : List Block) → AreNumbered names k (block_names blocks)
+    → model.names_differ blocks ≡ true
+apart names k [] h = refl
+apart names k (b ∷ blocks) h =
+    and_from (not (list_any (λ (other : Block). model.is_same b.name other.name) blocks)) (model.names_differ blocks)
+    (ap not (none_same names k (k + 1) b.name blocks h.0 (omega arith) h.1)) (apart names (k + 1) blocks h.1)
 
 abbrev script_of : List Block → Script
 script_of blocks = record { blocks = blocks }
 
-abbrev from_first : ℕ → ℕ × ℕ
-from_first to = (1, to)
-
-forks_are : (first : Block) (others : List Block) → AreLater first 2 others → model.forks_of (script_of (first ∷ others)) ≡ map from_first (forks_in first.lines)
-forks_are first others h = ap (λ r. map from_first (forks_in first.lines) ++ r) (later_quiet first 2 others h) ∙ append-nil (map from_first (forks_in first.lines))
-
-all_forward : (script : Script) (count : ℕ) (forks : List ℕ) → count ≡ length script.blocks → list_all (λ k. ltb 1 k && leb k count) forks ≡ true → list_all (model.goes_forward script) (map from_first forks) ≡ true
-all_forward script count [] e h = refl
-all_forward script count (k ∷ forks) e h =
-    let p = and_parts (ltb 1 k && leb k count) (list_all (λ k. ltb 1 k && leb k count) forks) h in
-    and_from (model.goes_forward script (from_first k)) (list_all (model.goes_forward script) (map from_first forks)) (ap (λ (n : ℕ). ltb 1 k && leb k n) (sym e) ∙ p.0) (all_forward script count forks e p.1)
-
-once_of : (script : Script) (forks : List ℕ) (k : ℕ) → model.forks_of script ≡ map from_first forks → count_by (λ f. nat_eq f k) forks ≡ 1 → model.is_forked_once script k ≡ true
-once_of script forks k are e =
-    let same : count_by (λ fork. nat_eq fork.1 k) (map from_first forks) ≡ count_by (λ f. nat_eq f k) forks = fold-map (λ (a : ℕ) (fork : ℕ × ℕ). a + cond (nat_eq fork.1 k) 1 0) from_first 0 forks in
-    rw (are, same, e) refl
-
-later_once : (script : Script) (names : List (List ℕ)) (first : Block) (k : ℕ) (blocks : List Block) → model.forks_of script ≡ map from_first (forks_in first.lines) → AreForks names (forks_in first.lines) → AreLater first k blocks → list_all (λ b. nat_eq b.0 1 || model.is_forked_once script b.0) (enumerate_from k blocks) ≡ true
-later_once script names first k [] are forks h = refl
-later_once script names first k (block ∷ blocks) are forks h =
-    let one : count_by (λ f. nat_eq f k) (forks_in first.lines) ≡ 1 = forks.once k ∙ ap {B = ℕ} (λ (b : Bool). cond b 1 0) h.0.forked in
-    and_from (nat_eq k 1 || model.is_forked_once script k) (list_all (λ b. nat_eq b.0 1 || model.is_forked_once script b.0) (enumerate_from (k + 1) blocks)) (or_second (nat_eq k 1) (model.is_forked_once script k) (once_of script (forks_in first.lines) k are one)) (later_once script names first (k + 1) blocks are forks h.1)
+forked_at : (script : Script) (k n : ℕ) (b : Bool) → nat_eq k 1 ≡ b → 1 ≤ k
+    → (2 ≤ k → model.is_forked_once script k ≡ true) → (b || model.is_forked_once script k) ≡ true
+forked_at script k n true e low h = refl
+forked_at script k n false e low h = h (at_least k low (eqb-false k 1 e))
   where
-    or_second : (b c : Bool) → c ≡ true → (b || c) ≡ true
-    or_second true c e = refl
-    or_second false c e = e
+    at_least : (k : ℕ) → 1 ≤ k → (k ≡ 1 → ⊥) → 2 ≤ k
+    at_least k low other = omega (arith, low, other)
 
--- forks of blocks up to the last are forks of blocks that there can be
-few_forks : (forks : List ℕ) (count : ℕ) → count ≤ 32 → list_all (λ k. ltb 1 k && leb k count) forks ≡ true → list_all (λ k. ltb 0 k && leb k 32) forks ≡ true
-few_forks [] count small h = refl
-few_forks (k ∷ forks) count small h =
-    let p = and_parts (ltb 1 k && leb k count) (list_all (λ k. ltb 1 k && leb k count) forks) h in
-    let q = and_parts (ltb 1 k) (leb k count) p.0 in
-    let low : 0 < k = omega (arith, ltb-true 1 k q.0) in
-    let high : k ≤ 32 = omega (arith, leb-true k count q.1) in
-    and_from (ltb 0 k && leb k 32) (list_all (λ k. ltb 0 k && leb k 32) forks) (and_from (ltb 0 k) (leb k 32) (lt-ltb 0 k low) (le-leb k 32 high)) (few_forks forks count small p.1)
+all_forked : (script : Script) (k : ℕ) (blocks : List Block) → 1 ≤ k
+    → ((j : ℕ) → 2 ≤ j → j + 1 ≤ k + length blocks + 0 → model.is_forked_once script j ≡ true)
+    → list_all (λ (b : ℕ × Block). nat_eq b.0 1 || model.is_forked_once script b.0) (enumerate_from k blocks) ≡ true
+all_forked script k [] low h = refl
+all_forked script k (b ∷ blocks) low h =
+    and_from (nat_eq k 1 || model.is_forked_once script k)
+    (list_all (λ (b : ℕ × Block). nat_eq b.0 1 || model.is_forked_once script b.0) (enumerate_from (k + 1) blocks))
+    (forked_at script k 0 (nat_eq k 1) refl low (λ l. h k l (omega arith)))
+    (all_forked script (k + 1) blocks (omega arith) (λ j l m. h j l (omega (arith, m))))
 
--- ---- variables
+abbrev pub IsReady : Bool → List Block → Type 0
+IsReady runnable blocks = IsSoundScript (script_of blocks) × (runnable ≡ true → IsRunnable (script_of blocks))
 
-none_first : (xs ys : List ℕ) → xs ++ ys ≡ [] → (xs ≡ []) × (ys ≡ [])
-none_first [] ys e = (refl, e)
-none_first (x ∷ xs) ys e = absurd cc
+forward_of : (blocks : List Block) (lines : List Line) (total : ℕ) → lines ≡ [] → total ≡ length blocks
+    → list_all (goes_to total) (forks_so_far blocks lines) ≡ true
+    → list_all (model.goes_forward (script_of blocks)) (forks_from 1 blocks) ≡ true
+forward_of blocks lines total none count h =
+    let bare : list_all (goes_to total) (forks_from 1 blocks ++ []) ≡ true =
+    subst (λ (ls : List Line). list_all (goes_to total) (forks_so_far blocks ls) ≡ true) none h in
+    let plain : list_all (goes_to total) (forks_from 1 blocks) ≡ true =
+    subst (λ (fs : List Fork). list_all (goes_to total) fs ≡ true) (append-nil (forks_from 1 blocks)) bare in
+    subst (λ (n : ℕ). list_all (goes_to n) (forks_from 1 blocks) ≡ true) count plain
 
-begins_none : (known : List ℕ) (lines : List Line) → forks_in lines ≡ [] → model.begun_in known lines ≡ []
-begins_none known [] e = refl
-begins_none known (line ∷ lines) e =
-    let n = none_first (model.fork_targets line.call) (forks_in lines) e in
-    rw (n.0, begins_none (model.known_with known line.set) lines n.1) refl
+once_of : (blocks : List Block) (lines : List Line) (k : ℕ) → lines ≡ []
+    → count_by (is_to k) (forks_so_far blocks lines) ≡ 1 → model.is_forked_once (script_of blocks) k ≡ true
+once_of blocks lines k none h =
+    let bare : count_by (is_to k) (forks_from 1 blocks ++ []) ≡ 1 =
+    subst (λ (ls : List Line). count_by (is_to k) (forks_so_far blocks ls) ≡ 1) none h in
+    let plain : count_by (is_to k) (forks_from 1 blocks) ≡ 1 =
+    subst (λ (fs : List Fork). count_by (is_to k) fs ≡ 1) (append-nil (forks_from 1 blocks)) bare in
+    eq-eqb (count_by (is_to k) (forks_from 1 blocks)) 1 plain
 
-later_uses : (first : Block) (k : ℕ) (blocks : List Block) → AreLater first k blocks → model.uses_known_from (model.begun_in [] first.lines) k blocks ≡ true
-later_uses first k [] h = refl
-later_uses first k (block ∷ blocks) h =
-    let begun : List (ℕ × List ℕ) = model.begun_in [] first.lines in
-    let known : List ℕ = model.known_at begun k in
-    let same : begun ++ model.begun_in known block.lines ≡ begun = ap (λ r. begun ++ r) (begins_none known block.lines h.0.quiet) ∙ append-nil begun in
-    and_from (model.uses_known known block.lines) (model.uses_known_from (begun ++ model.begun_in known block.lines) (k + 1) blocks) h.0.good.uses (ap (λ b. model.uses_known_from b (k + 1) blocks) same ∙ later_uses first (k + 1) blocks h.1)
+some_of : (n : ℕ) → (n ≡ 0 → ⊥) → 1 ≤ n
+some_of n h = omega (arith, h)
 
-later_built : (first : Block) (k : ℕ) (blocks : List Block) → AreLater first k blocks → list_all is_built_block (enumerate_from k blocks) ≡ true
-later_built first k [] h = refl
-later_built first k (block ∷ blocks) h =
-    and_from (is_built_block (k, block)) (list_all is_built_block (enumerate_from (k + 1) blocks)) (all_built k block.lines h.0.good.lines) (later_built first (k + 1) blocks h.1)
-
--- ---- a whole script
-
-abbrev IsReady : List Block → Type 0
-IsReady blocks = IsRunnable (script_of blocks) × (map kept_block blocks ≡ blocks)
-
-ready : (names texts : List (List ℕ)) (blocks : List Block) → 1 ≤ length blocks → names_of texts ≡ names → Facts names blocks None texts → IsReady blocks
-ready names texts [] some is h = absurd (omega (arith, some))
-ready names texts (first ∷ others) some is h =
-    let blocks : List Block = first ∷ others in
-    let g = h.are_good in
-    let count : length names ≡ length blocks = ap length (sym is ∙ h.are_names.are) ∙ length-map blocks name_of in
-    let few : length blocks ≤ 32 = omega (arith, h.are_names.few, length-map blocks name_of) in
-    let forks = forks_are first others g.2 in
-    let first_fine : IsFineBlock first = (1, g.0.name, g.0.lines, all_kept 1 first.lines g.0.lines (few_forks (forks_in first.lines) (length names) (omega (arith, count, few)) g.1.within)) in
-    let fine : AllByRecursion IsFineBlock blocks = (first_fine, later_fine first 2 others g.2) in
-    let total : sum_by model.calls_in blocks ≡ calls_of blocks = blocks_count blocks fine in
-    let sound : model.IsSoundScript (script_of blocks) =
+finish : (runnable : Bool) (names : List (List ℕ)) (place : Place) → AreOpened names names place
+    → (length names ≤ 32 → Stands runnable names place) → place.inside ≡ false → eqb (length place.blocks) 0 ≡ false
+    → IsReady runnable place.blocks
+finish runnable names place o stands out some =
+    let are : names ≡ block_names place.blocks =
+    o.opened ∙ ap (λ (b : Bool). block_names place.blocks ++ cond b (place.name ∷ []) []) out
+    ∙ append-nil (block_names place.blocks) in
+    let count : length names ≡ length place.blocks = ap length are ∙ length-map place.blocks (λ (b : Block). b.name) in
+    let s = stands o.few in
+    let t = s.tidy in
+    let f = s.forked in
+    let none : place.lines ≡ [] = t.outside out in
+    let forward : list_all (model.goes_forward (script_of place.blocks)) (forks_from 1 place.blocks) ≡ true =
+    forward_of place.blocks place.lines (length names) none count f.forward in
+    let closed : cond {A = ℕ} place.inside 1 0 ≡ 0 = ap {B = ℕ} (λ (b : Bool). cond b 1 0) out in
+    let blocks_some : 1 ≤ length place.blocks =
+    some_of (length place.blocks) (eqb-false (length place.blocks) 0 some) in
+    let sound : IsSoundScript (script_of place.blocks) =
     record {
-      size = and_from (leb 1 (length blocks)) (leb (length blocks) 32) (le-leb 1 (length blocks) some) (le-leb (length blocks) 32 few);
-      names = each (λ (b : Block). model.is_name b.name) blocks (λ b f. f.1) fine;
-      names_apart = names_apart blocks ∙ h.are_names.apart;
-      forward = rw forks (all_forward (script_of blocks) (length names) (forks_in first.lines) count g.1.within);
-      forked_once = later_once (script_of blocks) names first 2 others forks g.1 g.2;
-      lines = each (λ (b : Block). list_all model.is_line b.lines) blocks (λ b f. all_lines f.0 b.lines f.2) fine;
-      at_once = each (λ (b : Block). list_all (λ (line : Line). not (is_waiting line.call)) b.lines) blocks (λ b f. all_at_once f.0 b.lines f.2) fine;
-      exits = each (λ (b : Block). model.ends_rightly b.lines) blocks (λ b f. all_end f.0 b.lines f.2) fine;
-      variables = and_from (model.uses_known [] first.lines) (model.uses_known_from (model.begun_in [] first.lines) 2 others) g.0.uses (later_uses first 2 others g.2);
-      calls = le-leb (sum_by model.calls_in blocks) 20000 (omega (arith, total, h.calls));
+      size = and_from (leb 1 (length place.blocks)) (leb (length place.blocks) 32)
+          (le-leb 1 (length place.blocks) blocks_some) (le-leb (length place.blocks) 32 (omega (arith, count, o.few)));
+      names = t.names;
+      names_apart = apart names 1 place.blocks (subst (AreNumbered names 1) are o.numbered);
+      forward = forward;
+      forked_once = all_forked (script_of place.blocks) 1 place.blocks (omega arith)
+          (λ j l m. once_of place.blocks place.lines j none
+          (f.count j ∙ ap {B = ℕ} (λ (b : Bool). cond b 1 0) (f.forked j l (omega (arith, m, closed)))));
+      lines = t.blocks_lines;
+      at_once = t.blocks_prompt;
+      exits = t.blocks_end;
+      variables = s.known.uses_blocks;
+      calls = le-leb (sum_by model.calls_in place.blocks) 20000 (omega (arith, t.few, t.counted));
     } in
-    let built : list_all is_built_block (enumerate_from 1 blocks) ≡ true =
-    and_from (is_built_block (1, first)) (list_all is_built_block (enumerate_from 2 others)) (all_built 1 first.lines g.0.lines) (later_built first 2 others g.2) in
-    (record { sound = sound; built = built }, blocks_kept blocks fine)
+    (sound, λ r. record { sound = sound; built = t.blocks_built r })
 
-whole_ready : (texts : List (List ℕ)) (script : Script) → IsWhole texts script → IsReady script.blocks
-whole_ready texts script h = ready (names_of texts) texts script.blocks h.some refl (facts (names_of texts) script.blocks None texts h.blocks)
+-- ---- from the first line to the last
 
-pub IsRunnable-whole : (texts : List (List ℕ)) (script : Script) → IsWhole texts script → IsRunnable script
-IsRunnable-whole texts script h = (whole_ready texts script h).0
+stands_step : (runnable : Bool) (names : List (List ℕ)) (place : Place) (size : ℕ) (o : Option (List ℕ)) (said : Said)
+    → IsFine names o said → IsFaultless runnable place size said → (length names ≤ 32 → Stands runnable names place)
+    → length names ≤ 32 → Stands runnable names (spec.behind place said)
+stands_step runnable names place size o said fine f stands small =
+    let s = stands small in
+    record {
+      tidy = tidy_step runnable names place size o said s.tidy fine f;
+      forked = forked_step runnable names place size o said small s.tidy s.forked fine f;
+      known = known_step runnable names place size o said small s.tidy s.known fine f;
+    }
 
-pub kept-whole : (texts : List (List ℕ)) (script : Script) → IsWhole texts script → map kept_block script.blocks ≡ script.blocks
-kept-whole texts script h = (whole_ready texts script h).1
+stopped : (fault : Option ScriptFault) (number : ℕ) (others : Blocks) (blocks : List Block)
+    → spec.unless fault number others ≡ Ok blocks → (fault ≡ None) × (others ≡ Ok blocks)
+stopped None number others blocks e = (refl, e)
+stopped (Some fault) number others blocks e = absurd (no_blocks (number, fault) blocks e)
+
+pub ready_from : (runnable : Bool) (names so_far : List (List ℕ)) (place : Place) (number : ℕ) (lines : List (List ℕ))
+    (blocks : List Block) → AreOpened names so_far place → (length names ≤ 32 → Stands runnable names place)
+    → fold (λ names line. with_opening names (opening_at line)) so_far lines ≡ names
+    → blocks_from runnable names place number lines ≡ Ok blocks → IsReady runnable blocks
+unfolding blocks_from
+ready_from runnable names so_far place number [] blocks o stands all e =
+    let end = ending_ok place.inside (eqb (length place.blocks) 0) number place.blocks blocks e in
+    subst (IsReady runnable) end.2
+    (finish runnable names place
+    (subst (λ (ns : List (List ℕ)). AreOpened names ns place) all o) stands end.0 end.1)
+ready_from runnable names so_far place number (line ∷ lines) blocks o stands all e =
+    let said : Said = said_of names line in
+    let s = stopped (fault_of runnable place (length line) said) number
+    (blocks_from runnable names (spec.behind place said) (number + 1) lines) blocks e in
+    let f = faultless runnable place (length line) said s.0 in
+    let fine = said_fine names line (ltb-false 4096 (length line) f.short) in
+    ready_from runnable names (with_opening so_far (opening_at line)) (spec.behind place said) (number + 1) lines blocks
+    (names_step runnable names so_far place (length line) (opening_at line) said o fine (opening_said names line) f)
+    (stands_step runnable names place (length line) (opening_at line) said fine f stands) all s.1
+
+first_place : (runnable : Bool) (names : List (List ℕ)) → AreOpened names [] (start (length names))
+    × Stands runnable names (start (length names))
+unfolding start
+first_place runnable names = (
+  record { opened = refl; numbered = tt; few = omega arith },
+  record {
+    tidy =
+        record {
+          names = refl;
+          name = λ e. absurd (no_true (sym e));
+          outside = λ _. refl;
+          blocks_lines = refl;
+          lines = refl;
+          blocks_prompt = refl;
+          prompt = refl;
+          blocks_end = refl;
+          end = refl;
+          going = λ _. refl;
+          gone = λ e. absurd (no_true (sym e));
+          counted = refl;
+          few = omega arith;
+          blocks_built = λ _. refl;
+          built = λ _. refl;
+        };
+    forked = first_forks (length names);
+    known = first_place_known (length names);
+  },
+)
+
+pub ready : (runnable : Bool) (lines : List (List ℕ)) (blocks : List Block) → blocks_of runnable lines ≡ Ok blocks
+    → IsReady runnable blocks
+unfolding blocks_of
+ready runnable lines blocks e =
+    let first = first_place runnable (names_of lines) in
+    ready_from runnable (names_of lines) [] (start (length (names_of lines))) 1 lines blocks first.0
+    (λ _. first.1) refl e
+
+read_of : (runnable : Bool) (blocks : Blocks) (script : Script)
+    → (((bs : List Block) → blocks ≡ Ok bs → IsReady runnable bs)) → spec.script_from blocks ≡ Ok script
+    → IsSoundScript script × (runnable ≡ true → IsRunnable script)
+read_of runnable (Ok bs) script h e = let same : script_of bs ≡ script =
+    cc in subst (λ (s : Script). IsSoundScript s × (runnable ≡ true → IsRunnable s)) same (h bs refl)
+read_of runnable (Err fault) script h e = absurd cc
+
+not_first_cond : (b : Bool) (x y : Result Script ScriptStop) (script : Script) → ((s : Script) → x ≡ Ok s → ⊥)
+    → cond b x y ≡ Ok script → y ≡ Ok script
+not_first_cond true x y script h e = absurd (h script e)
+not_first_cond false x y script h e = e
+
+no_script : (stop : ScriptStop) (s : Script) → (let r : Result Script ScriptStop = Err stop in r ≡ Ok s) → ⊥
+no_script stop s e = cc
+
+-- what reads as a script is ready
+pub reads_ready : (runnable : Bool) (bytes : List ℕ) (script : Script) → outcome runnable bytes ≡ Ok script
+    → IsSoundScript script × (runnable ≡ true → IsRunnable script)
+unfolding outcome
+reads_ready runnable bytes script e =
+    let long : ScriptStop = At (spec.line_behind spec.max_bytes bytes) ScriptTooLong in
+    let bad : ScriptStop = At (spec.line_behind (utf8_valid_len bytes) bytes) NotUtf8 in
+    let whole : Result Script ScriptStop = spec.script_from (blocks_of runnable (lines_of bytes)) in
+    let a = not_first_cond (ltb spec.max_bytes (length bytes)) (Err long)
+    (cond (ltb (utf8_valid_len bytes) (length bytes)) (Err bad) whole) script (no_script long) e in
+    let b = not_first_cond (ltb (utf8_valid_len bytes) (length bytes)) (Err bad) whole script (no_script bad) a in
+    read_of runnable (blocks_of runnable (lines_of bytes)) script (λ bs is. ready runnable (lines_of bytes) bs is) b
+
+pub given_sound : (runnable : Bool) (bytes : List ℕ) (r : Result Script ScriptStop)
+    → spec.Gives r (outcome runnable bytes) → IfOk r IsSoundScript
+given_sound runnable bytes (Ok script) h = (reads_ready runnable bytes script h).0
+given_sound runnable bytes (Err stop) h = tt
+
+pub given_runnable : (bytes : List ℕ) (r : Result Script ScriptStop) → spec.Gives r (outcome true bytes)
+    → IfOk r IsRunnable
+given_runnable bytes (Ok script) h = (reads_ready true bytes script h).1 refl
+given_runnable bytes (Err stop) h = tt

@@ -1,4 +1,4 @@
--- A prefix and a suffix: what `strip_prefix` and `strip_suffix` answer, and the laws of `strip` and `strip_end`.
+-- A prefix: what `strip_prefix` answers, and the laws of `strip`.
 use Rattle.std.proofs.Common.{◌≡◌, ℕ, ◌+◌, ◌-◌, true, false, eqb, List, ◌++◌, length, take, drop, Option, Some, None, MatchOption, refl, sym, ap, ◌∙◌, arith}
 use Rattle.std.specs.Prelude.{option_copied, bytes_eq}
 use Rattle.std.specs.Borrow.{Bor}
@@ -6,18 +6,15 @@ use Rattle.std.specs.Cmp.Lexicographic.{pointwise}
 use Rattle.std.proofs.lemmas.List.{take_at, drop_at, take-append-drop, length-append}
 use Rattle.std.proofs.lemmas.Option.{cond_some}
 use Rattle.std.proofs.lemmas.Slice.Eq.{bytes_eq-Decides}
-use Rattle.script_reader.specs.Parts.{strip, strip_end}
+use Rattle.script_reader.specs.Parts.{strip}
 
 -- what std's clauses say
-pub strip_from : (s p : List ℕ) (r : Option (Bor (List ℕ))) → MatchOption r (pointwise eqb (take (length p) s) p ≡ false) (λ x. (pointwise eqb (take (length p) s) p ≡ true) × (x.now ≡ drop (length p) s) × (length x.now + length p ≡ length s)) → option_copied r ≡ strip p s
+pub strip_from : (s p : List ℕ) (r : Option (Bor (List ℕ)))
+    → MatchOption r (pointwise eqb (take (length p) s) p ≡ false) (λ x. (pointwise eqb (take (length p) s) p ≡ true)
+    × (x.now ≡ drop (length p) s) × (length x.now + length p ≡ length s)) → option_copied r ≡ strip p s
 unfolding strip
 strip_from s p None h = rw h refl
 strip_from s p (Some x) h = rw h.0 (ap Some h.1)
-
-pub strip_end_from : (s p : List ℕ) (r : Option (Bor (List ℕ))) → MatchOption r (pointwise eqb (drop (length s - length p) s) p ≡ false) (λ x. (pointwise eqb (drop (length s - length p) s) p ≡ true) × (x.now ≡ take (length s - length p) s) × (length x.now + length p ≡ length s)) → option_copied r ≡ strip_end p s
-unfolding strip_end
-strip_end_from s p None h = rw h refl
-strip_end_from s p (Some x) h = rw h.0 (ap Some h.1)
 
 -- what is left stands behind the prefix
 pub strip_takes : (p s rest : List ℕ) → strip p s ≡ Some rest → s ≡ p ++ rest
@@ -31,20 +28,6 @@ pub strip_again : (p rest : List ℕ) → strip p (p ++ rest) ≡ Some rest
 unfolding strip
 strip_again p rest =
     let front : take (length p) (p ++ rest) ≡ p = take_at p rest (length p) refl in
-    let same : bytes_eq (take (length p) (p ++ rest)) p ≡ true = (bytes_eq-Decides (take (length p) (p ++ rest)) p).1 front in
+    let same : bytes_eq (take (length p) (p ++ rest)) p ≡ true =
+    (bytes_eq-Decides (take (length p) (p ++ rest)) p).1 front in
     rw (same, drop_at p rest (length p) refl) refl
-
-pub strip_end_takes : (q s front : List ℕ) → strip_end q s ≡ Some front → s ≡ front ++ q
-unfolding strip_end
-strip_end_takes q s front e =
-    let g = cond_some (bytes_eq (drop (length s - length q) s) q) (take (length s - length q) s) front e in
-    let back : drop (length s - length q) s ≡ q = (bytes_eq-Decides (drop (length s - length q) s) q).0 g.0 in
-    sym (take-append-drop (length s - length q) s) ∙ rw (back, g.1) refl
-
-pub strip_end_again : (q front : List ℕ) → strip_end q (front ++ q) ≡ Some front
-unfolding strip_end
-strip_end_again q front =
-    let n : length front ≡ length (front ++ q) - length q = omega (arith, length-append front q) in
-    let back : drop (length (front ++ q) - length q) (front ++ q) ≡ q = drop_at front q (length (front ++ q) - length q) n in
-    let same : bytes_eq (drop (length (front ++ q) - length q) (front ++ q)) q ≡ true = (bytes_eq-Decides (drop (length (front ++ q) - length q) (front ++ q)) q).1 back in
-    rw (same, take_at front q (length (front ++ q) - length q) n) refl

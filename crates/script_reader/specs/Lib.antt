@@ -1,6 +1,5 @@
-pub mod Spelling
+pub mod Words
 pub mod Parts
-pub mod Form
+pub mod Forms
+pub mod Says
 pub mod Fault
-pub mod Reading
-pub mod Examples

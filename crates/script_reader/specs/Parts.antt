@@ -1,25 +1,25 @@
--- The parts of a line, read from the front. A part comes with what follows it.
-use Rattle.std.specs.Prelude.{ℕ, zero, suc, ◌+◌, ◌-◌, ◌*◌, ℤ, pos, negsuc, int_le, Bool, true, false, ◌&&◌, ◌||◌, not, ◌==◌, nat_le, List, [], ◌∷◌, length, take, drop, replicate, codes, bytes_eq, if◌then◌else◌, Option, Some, None, option_map, option_and_then}
-use Rattle.std.specs.List.{list_all}
+-- The parts of a line: words that are numbers, variables, names, signals and texts.
+use Rattle.std.specs.Prelude.{ℕ, zero, suc, ◌+◌, ◌-◌, ◌*◌, ℤ, pos, negsuc, Bool, true, false, ◌&&◌, ◌||◌, not, ◌==◌, nat_le, List, [], ◌∷◌, length, take, drop, replicate, codes, bytes_eq, if◌then◌else◌, Option, Some, None, option_map, option_and_then, position}
+use Rattle.std.specs.List.{find}
 use Rattle.std.specs.Option.{option_map_or}
 use Rattle.pico_base.specs.declared.call.SemStep.{SemStep}
+use Rattle.pico_base.specs.declared.signal.Sig.{Sig}
+use Rattle.pico_base.specs.declared.signal.SigArg.{SigArg}
+use Rattle.pico_base.specs.declared.signal.SigArg.TheVariants.{Zero, Is, Bad}
+use Rattle.pico_base.specs.declared.signal.Act.{Act}
+use Rattle.pico_base.specs.declared.signal.Act.TheVariants.{Dfl, Ign, Catch}
+use Rattle.pico_base.specs.declared.signal.How.{How}
+use Rattle.pico_base.specs.declared.signal.How.TheVariants.{Block, Unblock, SetMask}
+use Rattle.pico_base.specs.declared.signal.PerSignal.{PerSignal}
+use Rattle.pico_base.specs.Signal.{at, put_at, everywhere, all_signals}
+use Rattle.kernel_model.specs.Trace.{signal_name, action_name, how_name}
+use Rattle.script_reader.specs.Words.{pieces}
 
 infixl 10 ◌>>=◌
 abbrev pub ◌>>=◌ : {A B : Type 0} → Option A → (A → Option B) → Option B
 o >>= f = option_and_then f o
 
--- ---- parts of a line
-
--- what follows the prefix, or stands before the suffix
-unfoldable pub strip : List ℕ → List ℕ → Option (List ℕ)
-strip prefix bytes =
-    if bytes_eq (take (length prefix) bytes) prefix then Some (drop (length prefix) bytes) else None
-
-unfoldable pub strip_end : List ℕ → List ℕ → Option (List ℕ)
-strip_end suffix bytes =
-    if bytes_eq (drop (length bytes - length suffix) bytes) suffix
-    then Some (take (length bytes - length suffix) bytes)
-    else None
+-- ---- bytes
 
 abbrev pub is_lowercase : ℕ → Bool
 is_lowercase b = nat_le 97 b && nat_le b 122
@@ -27,79 +27,108 @@ is_lowercase b = nat_le 97 b && nat_le b 122
 abbrev pub is_digit : ℕ → Bool
 is_digit b = nat_le 48 b && nat_le b 57
 
-abbrev pub is_name_byte : ℕ → Bool
-is_name_byte b = is_lowercase b || (is_digit b || b == 95)
+-- a letter or a digit
+abbrev pub is_alphanumeric : ℕ → Bool
+is_alphanumeric b = is_lowercase b || (is_digit b || (nat_le 65 b && nat_le b 90))
 
+-- a printable byte that stands for itself between quotes: neither `"` nor `\`
 abbrev pub is_text_byte : ℕ → Bool
 is_text_byte b = nat_le 32 b && (nat_le b 126 && (not (b == 34) && not (b == 92)))
 
--- a digit at the front
-unfoldable pub digit_at : List ℕ → Option (ℕ × List ℕ)
-digit_at [] = None
-digit_at (b ∷ rest) = if is_digit b then Some (b - 48, rest) else None
+-- ---- words taken apart
 
--- the digits of a variable behind its letter, of which there are at most two
-unfoldable pub second_digit_at : ℕ → Option (ℕ × List ℕ) → List ℕ → ℕ × List ℕ
-second_digit_at tens None rest = (1 + tens, rest)
-second_digit_at tens (Some ones) rest = (11 + (10 * tens + ones.0), ones.1)
+-- what follows the prefix
+unfoldable pub strip : List ℕ → List ℕ → Option (List ℕ)
+strip prefix bytes =
+    if bytes_eq (take (length prefix) bytes) prefix then Some (drop (length prefix) bytes) else None
 
-unfoldable pub first_digit_at : Option (ℕ × List ℕ) → List ℕ → ℕ × List ℕ
-first_digit_at None rest = (0, rest)
-first_digit_at (Some tens) rest = second_digit_at tens.0 (digit_at tens.1) tens.1
+-- what stands before the first of these bytes, and what behind it
+unfoldable pub cut : ℕ → List ℕ → Option (List ℕ × List ℕ)
+cut byte word = option_map (λ k. (take k word, drop (k + 1) word)) (position (λ b. b == byte) word)
 
-unfoldable pub variable_at : List ℕ → Option (ℕ × List ℕ)
-variable_at [] = None
-variable_at (b ∷ rest) =
-    let digits = first_digit_at (digit_at rest) rest in
-    if is_lowercase b then Some (111 * (b - 97) + digits.0, digits.1) else None
+-- what each of the items gives, where each gives something
+unfoldable pub each : {A B : Type 0} → (A → Option B) → List A → Option (List B)
+each f [] = Some []
+each f (x ∷ xs) = f x >>= λ y. option_map (λ ys. y ∷ ys) (each f xs)
 
--- a number of at most 65,535, behind digits of this value
-unfoldable pub digits_at : ℕ → List ℕ → Option ℕ
-digits_at value [] = Some value
-digits_at value (b ∷ rest) =
-    if is_digit b && nat_le (value * 10 + (b - 48)) 65535 then digits_at (value * 10 + (b - 48)) rest else None
+-- ---- numbers
 
--- a whole number without leading zeros
-unfoldable pub number_at : List ℕ → Option ℕ
-number_at [] = None
-number_at (b ∷ []) = digits_at 0 (b ∷ [])
-number_at (b ∷ c ∷ rest) = if b == 48 then None else digits_at 0 (b ∷ c ∷ rest)
+-- the value of these digits, behind digits of this value, up to the limit
+unfoldable pub digits : ℕ → ℕ → List ℕ → Option ℕ
+digits limit value [] = Some value
+digits limit value (b ∷ rest) =
+    if is_digit b && nat_le (value * 10 + (b - 48)) limit then digits limit (value * 10 + (b - 48)) rest else None
 
--- the number whose digits stand at the front, behind digits of this value
-unfoldable pub digits_front : ℕ → ℕ → List ℕ → Option (ℕ × List ℕ)
-digits_front limit value [] = Some (value, [])
-digits_front limit value (b ∷ rest) =
-    if is_digit b
-    then if nat_le (value * 10 + (b - 48)) limit then digits_front limit (value * 10 + (b - 48)) rest else None
-    else Some (value, b ∷ rest)
+-- a number up to the limit, which is at least 9: decimal digits without leading zeros
+unfoldable pub number : ℕ → List ℕ → Option ℕ
+number limit [] = None
+number limit (b ∷ []) = digits limit 0 (b ∷ [])
+number limit (b ∷ c ∷ rest) = if b == 48 then None else digits limit 0 (b ∷ c ∷ rest)
 
--- a number up to the limit, which is at least 9. A zero is a number of its own
-unfoldable pub number_front : ℕ → List ℕ → Option (ℕ × List ℕ)
-number_front limit bytes = do
-  first ← digit_at bytes
-  if first.0 == 0 then Some first else digits_front limit first.0 first.1
+-- a number from 1 to the limit
+unfoldable pub positive : ℕ → List ℕ → Option ℕ
+positive limit word = number limit word >>= λ n. if n == 0 then None else Some n
 
-abbrev pub negative : ℕ × List ℕ → Option (ℤ × List ℕ)
-negative number = if number.0 == 0 then None else Some (negsuc (number.0 - 1), number.1)
+abbrev pub signed_from : ℕ → Option (List ℕ) → List ℕ → Option ℤ
+signed_from limit (Some word) whole = option_map (λ n. negsuc (n - 1)) (positive limit word)
+signed_from limit None word = option_map pos (number limit word)
 
-abbrev pub signed_of : ℕ → Option (List ℕ) → List ℕ → Option (ℤ × List ℕ)
-signed_of limit (Some digits) bytes = number_front limit digits >>= negative
-signed_of limit None bytes = option_map (λ (number : ℕ × List ℕ). (pos number.0, number.1)) (number_front limit bytes)
+-- a number from the limit below zero, with one `-`, to the limit
+unfoldable pub signed : ℕ → List ℕ → Option ℤ
+signed limit word = signed_from limit (strip (codes "-") word) word
 
--- a number from the limit below zero to the limit
-unfoldable pub signed_front : ℕ → List ℕ → Option (ℤ × List ℕ)
-signed_front limit bytes = signed_of limit (strip (codes "-") bytes) bytes
+-- ---- variables and names
 
--- ---- texts
+abbrev pub letter_index : ℕ → ℕ
+letter_index b = 111 * (b - 97)
 
-abbrev pub is_alphanumeric : ℕ → Bool
-is_alphanumeric b = is_lowercase b || (is_digit b || (nat_le 65 b && nat_le b 90))
+-- a variable by its index: a lower-case letter and at most two digits
+unfoldable pub variable : List ℕ → Option ℕ
+variable (l ∷ []) = if is_lowercase l then Some (letter_index l) else None
+variable (l ∷ d ∷ []) = if is_lowercase l && is_digit d then Some (letter_index l + (1 + (d - 48))) else None
+variable (l ∷ d ∷ e ∷ []) =
+    if is_lowercase l && (is_digit d && is_digit e)
+    then Some (letter_index l + (11 + (10 * (d - 48) + (e - 48))))
+    else None
+variable _ = None
+
+-- ---- signals
+
+unfoldable pub signal : List ℕ → Option Sig
+signal word = find (λ g. bytes_eq (signal_name g) word) all_signals
+
+-- a signal's name, `0` or `badsig`
+unfoldable pub signal_argument : List ℕ → Option SigArg
+signal_argument word =
+    if bytes_eq word (codes "0")
+    then Some Zero
+    else if bytes_eq word (codes "badsig") then Some Bad else option_map Is (signal word)
+
+unfoldable pub action : List ℕ → Option Act
+action word = find (λ a. bytes_eq (action_name a) word) (Dfl ∷ Ign ∷ Catch ∷ [])
+
+unfoldable pub how : List ℕ → Option How
+how word = find (λ h. bytes_eq (how_name h) word) (Block ∷ Unblock ∷ SetMask ∷ [])
+
+-- the set with the signals of these names, which are different and not in it
+unfoldable pub signals_with : PerSignal Bool → List (List ℕ) → Option (PerSignal Bool)
+signals_with set [] = Some set
+signals_with set (word ∷ words) = signal word >>= λ g. if at set g then None else signals_with (put_at set g true) words
+
+-- `none`, or different signals joined by commas
+unfoldable pub signal_set : List ℕ → Option (PerSignal Bool)
+signal_set word =
+    if bytes_eq word (codes "none")
+    then Some (everywhere false)
+    else signals_with (everywhere false) (pieces 44 word)
+
+-- ---- texts of messages
 
 -- the value of a lower-case hex digit
 unfoldable pub hex_at : ℕ → Option ℕ
 hex_at b = if is_digit b then Some (b - 48) else if nat_le 97 b && nat_le b 102 then Some (b - 87) else None
 
--- the byte of `\xhh` behind its `\`
+-- the byte of `\xhh` behind its `\`, and what follows
 unfoldable pub escape_at : List ℕ → Option (ℕ × List ℕ)
 escape_at (x ∷ h ∷ l ∷ rest) = do
   high ← hex_at h
@@ -107,20 +136,20 @@ escape_at (x ∷ h ∷ l ∷ rest) = do
   if x == 120 then Some (16 * high + low, rest) else None
 escape_at _ = None
 
--- one byte of a text between quotes
+-- one byte of a text between quotes, and what follows
 unfoldable pub text_byte_at : List ℕ → Option (ℕ × List ℕ)
 text_byte_at [] = None
 text_byte_at (b ∷ rest) = if b == 92 then escape_at rest else if is_text_byte b then Some (b, rest) else None
 
--- the text before a closing quote, and what follows that
-abbrev pub closed_at : List ℕ → List ℕ → Option (List ℕ × List ℕ)
-closed_at text bytes = option_map (λ (rest : List ℕ). (text, rest)) (strip (codes "\"") bytes)
+-- the text before a closing quote, which ends the word
+abbrev pub closed_at : List ℕ → List ℕ → Option (List ℕ)
+closed_at text bytes = if bytes_eq bytes (codes "\"") then Some text else None
 
-abbrev pub with_byte : ℕ → List ℕ × List ℕ → List ℕ × List ℕ
-with_byte b text = (b ∷ text.0, text.1)
+abbrev pub with_byte : ℕ → List ℕ → List ℕ
+with_byte b text = b ∷ text
 
--- a text up to its closing quote, of at most so many bytes
-unfoldable pub quoted_at : ℕ → List ℕ → Option (List ℕ × List ℕ)
+-- a text of at most so many bytes and its closing quote
+unfoldable pub quoted_at : ℕ → List ℕ → Option (List ℕ)
 quoted_at zero bytes = closed_at [] bytes
 quoted_at (suc most) bytes =
     option_map_or
@@ -128,99 +157,51 @@ quoted_at (suc most) bytes =
     (text_byte_at bytes)
     (closed_at [] bytes)
 
--- the letter or digit of `rep:N:C`, so many times
-unfoldable pub repeated_at : ℕ → List ℕ → Option (List ℕ × List ℕ)
-repeated_at count [] = None
-repeated_at count (b ∷ rest) = if is_alphanumeric b then Some (replicate count b, rest) else None
-
--- the count of `N:C`, with what follows the colon
-unfoldable pub count_at : List ℕ → Option (ℕ × List ℕ)
-count_at bytes = do
-  count ← number_front 8192 bytes
-  letter ← strip (codes ":") count.1
-  Some (count.0, letter)
+-- a letter or a digit, the only byte of a word
+unfoldable pub letter : List ℕ → Option ℕ
+letter (b ∷ []) = if is_alphanumeric b then Some b else None
+letter _ = None
 
 -- `N:C`
-unfoldable pub repetition_at : List ℕ → Option (List ℕ × List ℕ)
-repetition_at bytes = count_at bytes >>= λ count. repeated_at count.0 count.1
+unfoldable pub counted : List ℕ → Option (ℕ × ℕ)
+counted word = do
+  parts ← cut 58 word
+  count ← number 8192 parts.0
+  byte ← letter parts.1
+  Some (count, byte)
 
-abbrev pub text_of : Option (List ℕ) → Option (List ℕ) → Option (List ℕ × List ℕ)
-text_of (Some repetition) quoted = repetition_at repetition
-text_of None (Some bytes) = quoted_at (length bytes) bytes
-text_of None None = None
+-- which is N times C
+unfoldable pub repetition : List ℕ → Option (List ℕ)
+repetition word = option_map (λ (c : ℕ × ℕ). replicate c.0 c.1) (counted word)
 
-unfoldable pub text_at : List ℕ → Option (List ℕ × List ℕ)
-text_at bytes = text_of (strip (codes "rep:") bytes) (strip (codes "\"") bytes)
+abbrev pub text_from : Option (List ℕ) → Option (List ℕ) → Option (List ℕ)
+text_from (Some word) quoted = repetition word
+text_from None (Some bytes) = quoted_at (length bytes) bytes
+text_from None None = None
+
+-- `rep:N:C`, or bytes between quotes: those that stand for themselves, and any byte as `\xhh`
+unfoldable pub text : List ℕ → Option (List ℕ)
+text word = text_from (strip (codes "rep:") word) (strip (codes "\"") word)
 
 -- ---- operations and values
 
--- what `:nowait` behind an operation says, and what follows
-abbrev pub nowait_of : Option (List ℕ) → List ℕ → Bool × List ℕ
-nowait_of None bytes = (false, bytes)
-nowait_of (Some rest) bytes = (true, rest)
+-- V, or `V:nowait`
+abbrev pub added_from : Option (List ℕ × List ℕ) → List ℕ → Option (ℤ × Bool)
+added_from None word = option_map (λ add. (add, false)) (signed 65535 word)
+added_from (Some parts) word =
+    signed 65535 parts.0 >>= λ add. if bytes_eq parts.1 (codes "nowait") then Some (add, true) else None
 
-unfoldable pub nowait_at : List ℕ → Bool × List ℕ
-nowait_at bytes = nowait_of (strip (codes ":nowait") bytes) bytes
+unfoldable pub added : List ℕ → Option (ℤ × Bool)
+added word = added_from (cut 58 word) word
 
-abbrev pub step_of : ℕ → ℤ → Bool × List ℕ → Option (SemStep × List ℕ)
-step_of num add nowait =
-    if int_le add (pos 0) && not nowait.0
-    then None
-    else Some (record { num = num; add = add; nowait = nowait.0 }, nowait.1)
+-- an operation, `I:V` or `I:V:nowait`
+unfoldable pub step : List ℕ → Option SemStep
+step word = do
+  parts ← cut 58 word
+  num ← number 65535 parts.0
+  add ← added parts.1
+  Some (record { num = num; add = add.0; nowait = add.1 })
 
--- an operation that doesn't wait
-unfoldable pub step_at : List ℕ → Option (SemStep × List ℕ)
-step_at bytes = do
-  num ← number_front 65535 bytes
-  behind ← strip (codes ":") num.1
-  add ← signed_front 65535 behind
-  step_of num.0 add.0 (nowait_at add.1)
-
-abbrev pub has_ended : List ℕ → Bool
-has_ended [] = true
-has_ended (b ∷ bytes) = false
-
-abbrev pub with_part : {A : Type 0} → A → List A → List A
-with_part part parts = part ∷ parts
-
--- at most so many parts to the end, with this byte between two
-unfoldable pub listed : {A : Type 0} → ℕ → (List ℕ → Option (A × List ℕ)) → ℕ → List ℕ → Option (List A)
-listed byte reader zero bytes = None
-listed byte reader (suc most) bytes =
-    reader bytes >>= λ part.
-    if has_ended part.1
-    then Some (part.0 ∷ [])
-    else strip (byte ∷ []) part.1 >>= λ rest. option_map (with_part part.0) (listed byte reader most rest)
-
--- operations with a blank, and values with a comma between two
-abbrev pub steps_at : ℕ → List ℕ → Option (List SemStep)
-steps_at most bytes = listed 32 step_at most bytes
-
-abbrev pub values_at : ℕ → List ℕ → Option (List ℕ)
-values_at most bytes = listed 44 (number_front 65535) most bytes
-
--- a block's name, the whole of what follows `proc `
-unfoldable pub is_name : List ℕ → Bool
-is_name [] = false
-is_name (first ∷ others) = is_lowercase first && (nat_le (length others) 31 && list_all is_name_byte others)
-
--- the name in a line `proc NAME`
-unfoldable pub opening_at : List ℕ → Option (List ℕ)
-opening_at bytes = do
-  name ← strip (codes "proc ") bytes
-  if is_name name then Some name else None
-
--- the variable in front of ` = `, with what follows that
-unfoldable pub assigned_at : List ℕ → Option (ℕ × List ℕ)
-assigned_at bytes = do
-  variable ← variable_at bytes
-  behind ← strip (codes " = ") variable.1
-  Some (variable.0, behind)
-
-abbrev pub set_from : Option (ℕ × List ℕ) → List ℕ → Option ℕ × List ℕ
-set_from None bytes = (None, bytes)
-set_from (Some assigned) bytes = (Some assigned.0, assigned.1)
-
--- the variable that a line sets, with the line's call
-unfoldable pub set_at : List ℕ → Option ℕ × List ℕ
-set_at bytes = set_from (assigned_at bytes) bytes
+-- values joined by commas
+unfoldable pub values : List ℕ → Option (List ℕ)
+values word = each (number 65535) (pieces 44 word)

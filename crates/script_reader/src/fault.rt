@@ -8,13 +8,56 @@ use pico_base::Memory;
 use std::alloc::{AllocError, AllocFailed};
 use thiserror::Error;
 
-/// What is wrong with a script.
+/// What is wrong with a script. On one line the cause that stands first here is told, but for the two that are told
+/// before all others: `ScriptTooLong`, and then `NotUtf8`.
 #[derive(Clone, Copy, Debug, PartialEq, Eq, Error)]
 pub enum ScriptFault {
     /// There are more than 1,048,576 bytes.
     #[error("ScriptTooLong")]
     ScriptTooLong,
-    /// The line isn't of the forms that are built, in the place where it stands.
+    /// The bytes aren't UTF-8.
+    #[error("NotUtf8")]
+    NotUtf8,
+    /// The line has more than 4,096 bytes.
+    #[error("LineTooLong")]
+    LineTooLong,
+    /// Outside a block a line has words and isn't headed by `proc`; or no line has words.
+    #[error("NoProc")]
+    NoProc,
+    /// A line inside a block is headed by `proc`, or the input ends inside a block.
+    #[error("NoEnd")]
+    NoEnd,
+    /// In a block, the word where a call's name is due names no call.
+    #[error("UnknownCall")]
+    UnknownCall,
+    /// The line's words are otherwise not those of its form, a name is used by two blocks, or a call follows `exit`.
+    #[error("BadArgument")]
+    BadArgument,
+    /// `$VAR` is set by no earlier line of the block, and the block didn't begin with it.
+    #[error("UnsetVariable")]
+    UnsetVariable,
+    /// `fork` of a name that no block has.
+    #[error("UnknownProc")]
+    UnknownProc,
+    /// `fork` of a name that an earlier line forks.
+    #[error("ForkedTwice")]
+    ForkedTwice,
+    /// No earlier line forks this block, which isn't the first.
+    #[error("NeverForked")]
+    NeverForked,
+    /// `fork` of the block that it stands in, or of an earlier one.
+    #[error("ForkBackwards")]
+    ForkBackwards,
+    /// The 33rd block begins.
+    #[error("TooManyProcs")]
+    TooManyProcs,
+    /// The calls, each counted as often as its line may try it, pass 20,000.
+    #[error("TooManyCalls")]
+    TooManyCalls,
+    /// The call may have to wait.
+    #[error("WaitingForm")]
+    WaitingForm,
+    /// The machine has no rule for the call. Only `read_runnable` tells this.
     #[error("NotBuilt")]
     NotBuilt,
 }
@@ -26,6 +69,20 @@ impl ScriptFault {
     {
         match self {
             ScriptFault::ScriptTooLong => "ScriptTooLong",
+            ScriptFault::NotUtf8 => "NotUtf8",
+            ScriptFault::LineTooLong => "LineTooLong",
+            ScriptFault::NoProc => "NoProc",
+            ScriptFault::NoEnd => "NoEnd",
+            ScriptFault::UnknownCall => "UnknownCall",
+            ScriptFault::BadArgument => "BadArgument",
+            ScriptFault::UnsetVariable => "UnsetVariable",
+            ScriptFault::UnknownProc => "UnknownProc",
+            ScriptFault::ForkedTwice => "ForkedTwice",
+            ScriptFault::NeverForked => "NeverForked",
+            ScriptFault::ForkBackwards => "ForkBackwards",
+            ScriptFault::TooManyProcs => "TooManyProcs",
+            ScriptFault::TooManyCalls => "TooManyCalls",
+            ScriptFault::WaitingForm => "WaitingForm",
             ScriptFault::NotBuilt => "NotBuilt",
         }
     }

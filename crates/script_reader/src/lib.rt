@@ -1,23 +1,21 @@
 //! Reads the text of a script.
 #![tactic(auto)]
 
-mod call_line;
-mod calls;
+mod checks;
 mod fault;
-mod lists;
+mod forms;
 mod numbers;
 mod parts;
+mod place;
+mod says;
 mod script;
-mod shared_call;
-mod state;
-mod steps;
 mod tables;
 mod texts;
 mod verb;
+mod words;
 
-pub use calls::call_with;
 pub use fault::{ScriptFault, ScriptStop};
-pub use script::read_script;
+pub use script::{read_runnable, read_script};
 
 #[cfg(test)]
 mod tests;

@@ -1,63 +1,80 @@
-//! Numbers at the front of what is left of a line.
+//! Words that are numbers.
 
-ghost use Rattle.std.specs.Prelude.{◌≡◌, ◌≤◌, IfSome, option_map};
-ghost use Rattle.script_reader.specs.Parts.{digits_front, number_front as number_front_of, signed_front as signed_front_of};
+ghost use Rattle.std.specs.Prelude.{◌≡◌, ◌≤◌, ◌<◌, IfSome};
+ghost use Rattle.script_reader.specs.Parts.{digits as digits_of, number as number_of, positive as positive_of, signed as signed_of};
 
-use crate::parts::{digit, strip_front};
+use crate::parts::strip_front;
 
-/// The number of these digits, up to the limit, behind digits of this value.
-fn digits(limit: u32, start: u32, bytes: &[u8]) -> Option<(u32, &[u8])>
-    requires { start ≤ limit }
-    ensures value { option_map (λ x. (x.0, x.1.now)) result ≡ digits_front limit start bytes.now }
-    ensures small { IfSome result (λ x. x.0 ≤ limit) }
+/// The greatest size, index and value in a line.
+pub(crate) const MAX_NUMBER: u32 = 65_535;
+
+/// The value of these digits, up to the limit.
+#[tactic(auto, unfolding(crate::specs::Parts::digits))]
+fn digits(limit: u32, word: &[u8]) -> Option<u32>
+    ensures value { result ≡ digits_of limit 0 word.now }
+    ensures small { IfSome result (λ n. n ≤ limit) }
 {
-    let mut value = start;
-    let mut rest = bytes;
-    while let Some((next, after)) = digit(rest) {
-        let more = u64::from(value) * 10 + u64::from(next);
+    let mut value: u32 = 0;
+    for byte in word {
+        if !byte.is_ascii_digit() {
+            return None;
+        }
+        let more = u64::from(value) * 10 + u64::from(*byte - b'0');
         if more > u64::from(limit) {
             return None;
         }
         value = more as u32;
-        rest = after;
     }
-    Some((value, rest))
+    Some(value)
 }
 
-/// A number up to the limit.
-#[tactic(auto, unfolding(crate::specs::Parts::number_front))]
-pub(crate) fn number_front(limit: u32, bytes: &[u8]) -> Option<(u32, &[u8])>
-    requires { 9 ≤ limit }
-    ensures value { option_map (λ x. (x.0, x.1.now)) result ≡ number_front_of limit bytes.now }
-    ensures small { IfSome result (λ x. x.0 ≤ limit) }
+/// A number up to the limit, without leading zeros.
+#[tactic(auto, unfolding(crate::specs::Parts::number))]
+pub(crate) fn number(limit: u32, word: &[u8]) -> Option<u32>
+    ensures value { result ≡ number_of limit word.now }
+    ensures small { IfSome result (λ n. n ≤ limit) }
 {
-    let (first, rest) = digit(bytes)?;
-    if first == 0 {
-        Some((0, rest))
-    } else {
-        digits(limit, u32::from(first), rest)
+    match word {
+        [] => None,
+        [b'0', _, ..] => None,
+        _ => digits(limit, word),
     }
+}
+
+/// A number from 1 to the limit.
+#[tactic(auto, unfolding(crate::specs::Parts::positive))]
+pub(crate) fn positive(limit: u32, word: &[u8]) -> Option<u32>
+    ensures value { result ≡ positive_of limit word.now }
+    ensures small { IfSome result (λ n. n ≤ limit) }
+    ensures some { IfSome result (λ n. 1 ≤ n) }
+{
+    let value = number(limit, word)?;
+    if value == 0 { None } else { Some(value) }
+}
+
+/// A semaphore's index.
+#[tactic(auto)]
+pub(crate) fn index(word: &[u8]) -> Option<u16>
+    ensures { result ≡ number_of 65535 word.now }
+{
+    let num = number(MAX_NUMBER, word)?;
+    Some(num as u16)
 }
 
 /// A number from the limit below zero to the limit.
-#[tactic(auto, unfolding(crate::specs::Parts::signed_front))]
-pub(crate) fn signed_front(limit: u32, bytes: &[u8]) -> Option<(i32, &[u8])>
-    requires low { 9 ≤ limit }
-    requires high { limit ≤ 2147483647 }
-    ensures { option_map (λ x. (x.0, x.1.now)) result ≡ signed_front_of limit bytes.now }
+#[tactic(auto, unfolding(crate::specs::Parts::signed))]
+pub(crate) fn signed(limit: u32, word: &[u8]) -> Option<i32>
+    requires { limit ≤ 2147483647 }
+    ensures { result ≡ signed_of limit word.now }
 {
-    match strip_front(bytes, b"-") {
+    match strip_front(word, b"-") {
         None => {
-            let (value, rest) = number_front(limit, bytes)?;
-            Some((value as i32, rest))
+            let value = number(limit, word)?;
+            Some(value as i32)
         }
         Some(digits) => {
-            let (value, rest) = number_front(limit, digits)?;
-            if value == 0 {
-                None
-            } else {
-                Some((-(value as i32), rest))
-            }
+            let value = positive(limit, digits)?;
+            Some(-(value as i32))
         }
     }
 }

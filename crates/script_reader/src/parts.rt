@@ -1,13 +1,16 @@
-//! The parts of a line. A reader takes its part from the front, and gives it with what follows.
+//! Words that are variables, names or signals.
 
-ghost use Rattle.std.specs.Prelude.{◌≡◌, ◌≤◌, IfSome, option_map, option_copied};
-ghost use Rattle.std.specs.List.{list_all};
-ghost use Rattle.script_reader.specs.Parts.{strip, strip_end, is_name_byte, is_text_byte, digit_at, first_digit_at, second_digit_at, variable_at, digits_at, number_at, is_name, assigned_at, set_at};
+ghost use Rattle.std.specs.Prelude.{◌≡◌, ◌≤◌, ◌==◌, false, IfOk, IfSome, option_map, option_copied, position, length, ◌<◌};
+ghost use Rattle.std.specs.List.{list_all, find};
+ghost use Rattle.pico_base.specs.Signal.{everywhere};
+ghost use Rattle.kernel_model.specs.Script.{is_name, is_name_byte};
+ghost use Rattle.kernel_model.specs.Trace.{signal_name, action_name, how_name};
+ghost use Rattle.script_reader.specs.Words.{texts};
+ghost use Rattle.script_reader.specs.Parts.{strip, cut as cut_of, is_text_byte, letter_index as index_of_letter, variable as variable_of, signal as signal_of, signal_argument as signal_argument_of, action as action_of, how as how_of, signals_with, signal_set as signal_set_of};
 
-use pico_base::Var;
-
-/// The greatest size, index and value in a line.
-pub(crate) const MAX_NUMBER: u32 = 65_535;
+use crate::words::pieces;
+use pico_base::{Act, How, Memory, Sig, SigArg, SigSet, Var};
+use std::alloc::Global;
 
 /// What follows this prefix.
 pub(crate) fn strip_front<'a>(bytes: &'a [u8], prefix: &[u8]) -> Option<&'a [u8]>
@@ -16,87 +19,46 @@ pub(crate) fn strip_front<'a>(bytes: &'a [u8], prefix: &[u8]) -> Option<&'a [u8]
     bytes.strip_prefix(prefix)
 }
 
-/// A digit's value.
-#[tactic(auto, unfolding(crate::specs::Parts::digit_at))]
-pub(crate) fn digit(bytes: &[u8]) -> Option<(u8, &[u8])>
-    ensures value { option_map (λ x. (x.0, x.1.now)) result ≡ digit_at bytes.now }
-    ensures small { IfSome result (λ x. x.0 ≤ 9) }
+fn first_of(byte: u8, word: &[u8]) -> Option<usize>
+    ensures { result ≡ position (λ b. b == byte) word.now }
 {
-    match bytes {
-        [byte, rest @ ..] if byte.is_ascii_digit() => Some((*byte - b'0', rest)),
-        _ => None,
-    }
+    word.iter().position(|b| *b == byte)
 }
 
-/// What a variable's digits behind the first one, of this value, add to its letter's index.
-#[tactic(auto, unfolding(crate::specs::Parts::second_digit_at))]
-fn second_digit(tens: u8, rest: &[u8]) -> (u16, &[u8])
-    requires { tens ≤ 9 }
-    ensures value { (result.0, result.1.now) ≡ second_digit_at tens (digit_at rest.now) rest.now }
-    ensures small { result.0 ≤ 110 }
+/// What stands before the first of these bytes, and what behind it.
+#[tactic(auto, unfolding(crate::specs::Parts::cut))]
+pub(crate) fn cut(byte: u8, word: &[u8]) -> Option<(&[u8], &[u8])>
+    ensures value { option_map (λ x. (x.0.now, x.1.now)) result ≡ cut_of byte word.now }
+    ensures shorter { IfSome result (λ x. length x.1.now < length word.now) }
 {
-    match digit(rest) {
-        None => (1 + u16::from(tens), rest),
-        Some((ones, rest)) => (11 + (10 * u16::from(tens) + u16::from(ones)), rest),
-    }
+    let at = first_of(byte, word)?;
+    Some((&word[..at], &word[at + 1..]))
 }
 
-/// What a variable's digits add to its letter's index.
-#[tactic(auto, unfolding(crate::specs::Parts::first_digit_at))]
-fn first_digit(rest: &[u8]) -> (u16, &[u8])
-    ensures value { (result.0, result.1.now) ≡ first_digit_at (digit_at rest.now) rest.now }
-    ensures small { result.0 ≤ 110 }
+/// What a letter adds to a variable's index.
+fn letter_index(letter: u8) -> u16
+    requires low { 97 ≤ letter }
+    requires high { letter ≤ 122 }
+    ensures { result ≡ index_of_letter letter }
 {
-    match digit(rest) {
-        None => (0, rest),
-        Some((tens, rest)) => second_digit(tens, rest),
-    }
+    111 * u16::from(letter - b'a')
 }
 
-/// A variable's index.
-#[tactic(auto, unfolding(crate::specs::Parts::variable_at))]
-pub(crate) fn variable(bytes: &[u8]) -> Option<(u16, &[u8])>
-    ensures value { option_map (λ x. (x.0, x.1.now)) result ≡ variable_at bytes.now }
-    ensures small { IfSome result (λ x. x.0 ≤ 2885) }
-{
-    match bytes {
-        [letter, rest @ ..] if letter.is_ascii_lowercase() => {
-            let (digits, rest) = first_digit(rest);
-            Some((111 * u16::from(*letter - b'a') + digits, rest))
-        }
-        _ => None,
-    }
-}
-
-/// The value of these digits.
-#[tactic(auto, unfolding(crate::specs::Parts::digits_at))]
-fn digits(word: &[u8]) -> Option<u32>
-    ensures value { result ≡ digits_at 0 word.now }
-    ensures small { IfSome result (λ n. n ≤ 65535) }
-{
-    let mut value: u32 = 0;
-    for byte in word {
-        if !byte.is_ascii_digit() {
-            return None;
-        }
-        value = value * 10 + u32::from(*byte - b'0');
-        if value > MAX_NUMBER {
-            return None;
-        }
-    }
-    Some(value)
-}
-
-/// The value of a whole word, which is a number without leading zeros.
-#[tactic(auto, unfolding(crate::specs::Parts::number_at))]
-pub(crate) fn number(word: &[u8]) -> Option<u32>
-    ensures value { result ≡ number_at word.now }
-    ensures small { IfSome result (λ n. n ≤ 65535) }
+/// A variable's index: a letter and at most two digits.
+#[tactic(auto, unfolding(crate::specs::Parts::variable))]
+pub(crate) fn variable(word: &[u8]) -> Option<Var>
+    ensures { result ≡ variable_of word.now }
 {
     match word {
-        [] => None,
-        [b'0', _, ..] => None,
-        _ => digits(word),
+        [l] if l.is_ascii_lowercase() => Some(Var(letter_index(*l))),
+        [l, d] if l.is_ascii_lowercase() && d.is_ascii_digit() => {
+            Some(Var(letter_index(*l) + (1 + u16::from(*d - b'0'))))
+        }
+        [l, d, e] if l.is_ascii_lowercase() && d.is_ascii_digit() && e.is_ascii_digit() => {
+            let digits = 10 * u16::from(*d - b'0') + u16::from(*e - b'0');
+            Some(Var(letter_index(*l) + (11 + digits)))
+        }
+        _ => None,
     }
 }
 
@@ -113,14 +75,13 @@ fn are_name_parts(bytes: &[u8]) -> bool
 }
 
 /// Whether the word can be a block's name.
-#[tactic(auto, unfolding(crate::specs::Parts::is_name))]
 pub(crate) fn is_block_name(word: &[u8]) -> bool
     ensures { result ≡ is_name word.now }
 {
     match word {
         [] => false,
         [first, others @ ..] => {
-            first.is_ascii_lowercase() && others.len() <= 31 && are_name_parts(others)
+            first.is_ascii_lowercase() && are_name_parts(others) && others.len() <= 31
         }
     }
 }
@@ -132,23 +93,126 @@ pub(crate) fn is_text_part(byte: u8) -> bool
     byte >= b' ' && byte <= b'~' && byte != b'"' && byte != b'\\'
 }
 
-/// The variable in front of ` = `.
-#[tactic(auto, unfolding(crate::specs::Parts::assigned_at))]
-fn assigned(bytes: &[u8]) -> Option<(u16, &[u8])>
-    ensures value { option_map (λ x. (x.0, x.1.now)) result ≡ assigned_at bytes.now }
-    ensures small { IfSome result (λ x. x.0 ≤ 2885) }
+// The table of signals, in order.
+const SIGNALS: [Sig; 10] = [
+    Sig::Hup,
+    Sig::Int,
+    Sig::Quit,
+    Sig::Kill,
+    Sig::Usr1,
+    Sig::Usr2,
+    Sig::Pipe,
+    Sig::Alrm,
+    Sig::Term,
+    Sig::Chld,
+];
+
+fn name_of_signal(sig: Sig) -> &'static [u8]
+    ensures { result.now ≡ signal_name sig }
 {
-    let (index, rest) = variable(bytes)?;
-    Some((index, strip_front(rest, b" = ")?))
+    match sig {
+        Sig::Hup => b"HUP",
+        Sig::Int => b"INT",
+        Sig::Quit => b"QUIT",
+        Sig::Kill => b"KILL",
+        Sig::Usr1 => b"USR1",
+        Sig::Usr2 => b"USR2",
+        Sig::Pipe => b"PIPE",
+        Sig::Alrm => b"ALRM",
+        Sig::Term => b"TERM",
+        Sig::Chld => b"CHLD",
+    }
 }
 
-/// The variable that a line sets, with the line's call.
-#[tactic(auto, unfolding(crate::specs::Parts::set_at))]
-pub(crate) fn set_front(bytes: &[u8]) -> (Option<Var>, &[u8])
-    ensures { (result.0, result.1.now) ≡ set_at bytes.now }
+fn name_of_action(act: Act) -> &'static [u8]
+    ensures { result.now ≡ action_name act }
 {
-    match assigned(bytes) {
-        None => (None, bytes),
-        Some((index, rest)) => (Some(Var(index)), rest),
+    match act {
+        Act::Dfl => b"dfl",
+        Act::Ign => b"ign",
+        Act::Catch => b"catch",
     }
+}
+
+fn name_of_how(how: How) -> &'static [u8]
+    ensures { result.now ≡ how_name how }
+{
+    match how {
+        How::Block => b"block",
+        How::Unblock => b"unblock",
+        How::SetMask => b"setmask",
+    }
+}
+
+/// The signal of this name.
+#[tactic(auto, unfolding(crate::specs::Parts::signal))]
+pub(crate) fn signal(word: &[u8]) -> Option<Sig>
+    ensures { result ≡ signal_of word.now }
+{
+    SIGNALS.iter().copied().find(|g| name_of_signal(*g) == word)
+}
+
+/// A signal's name, `0` or `badsig`.
+#[tactic(auto, unfolding(crate::specs::Parts::signal_argument))]
+pub(crate) fn signal_argument(word: &[u8]) -> Option<SigArg>
+    ensures { result ≡ signal_argument_of word.now }
+{
+    if word == b"0".as_slice() {
+        return Some(SigArg::Zero);
+    }
+    if word == b"badsig".as_slice() {
+        return Some(SigArg::Bad);
+    }
+    let sig = signal(word)?;
+    Some(SigArg::Is(sig))
+}
+
+/// What a signal is to do.
+#[tactic(auto, unfolding(crate::specs::Parts::action))]
+pub(crate) fn action(word: &[u8]) -> Option<Act>
+    ensures { result ≡ action_of word.now }
+{
+    [Act::Dfl, Act::Ign, Act::Catch]
+        .iter()
+        .copied()
+        .find(|a| name_of_action(*a) == word)
+}
+
+/// How a mask is to change.
+#[tactic(auto, unfolding(crate::specs::Parts::how))]
+pub(crate) fn how(word: &[u8]) -> Option<How>
+    ensures { result ≡ how_of word.now }
+{
+    [How::Block, How::Unblock, How::SetMask]
+        .iter()
+        .copied()
+        .find(|h| name_of_how(*h) == word)
+}
+
+/// The set of the signals of these names, which are to be different.
+#[tactic(auto, unfolding(crate::specs::Parts::signals_with))]
+fn signals(words: &[&[u8]]) -> Option<SigSet>
+    ensures { result ≡ signals_with (everywhere false) (texts words.now) }
+{
+    let mut set = SigSet::empty();
+    for word in words {
+        let sig = signal(word)?;
+        if set.has(sig) {
+            return None;
+        }
+        set = set.with(sig);
+    }
+    Some(set)
+}
+
+/// `none`, or different signals joined by commas.
+#[tactic(auto, unfolding(crate::specs::Parts::signal_set))]
+pub(crate) fn signal_set(alloc: Global, word: &[u8]) -> Result<Option<SigSet>, Memory>
+    ensures { IfOk result (λ set. set ≡ signal_set_of word.now) }
+{
+    if word == b"none".as_slice() {
+        return Ok(Some(SigSet::empty()));
+    }
+    let names = pieces(alloc, b',', word)?;
+    Ok(signals(names.as_slice()))
 }

@@ -1,52 +1,26 @@
 //! The script, line after line.
 
-ghost use Rattle.std.specs.Prelude.{◌≡◌, ◌⊎◌, ◌+◌, ◌<◌, ◌≤◌, ◌==◌, ℕ, IfOk, IfErr, IfSome, MatchOption, [], ◌∷◌, length, take, position, count_by, Ok, Err};
+ghost use Rattle.std.specs.Prelude.{◌≡◌, ◌⊎◌, ◌+◌, ◌<◌, ◌≤◌, ◌==◌, ℕ, IfOk, IfErr, Ok, Err, true, false, length, count_by};
+ghost use Rattle.std.specs.Str.Lossy.{utf8_valid_len};
 ghost use Rattle.pico_base.specs.declared.script.Script.{Script as ScriptValue};
 ghost use Rattle.script_reader.specs.declared.fault.ScriptFault.{ScriptFault as FaultValue};
 ghost use Rattle.kernel_model.specs.Script.{IsSoundScript};
 ghost use Rattle.machine_model.specs.Built.{IsRunnable};
-ghost use Rattle.script_reader.specs.Fault.{lines_of, names_of, Reads, IsFirstFault, HasFault};
-ghost use Rattle.script_reader.specs.Reading.{start, ending as ending_of, blocks_from, blocks_of, script_from, outcome, Gives, GivesScript};
+ghost use Rattle.script_reader.specs.Words.{lines_of};
+ghost use Rattle.script_reader.specs.Says.{names_of};
+ghost use Rattle.script_reader.specs.Fault as spec;
 
-use crate::call_line::opening;
+use crate::checks::fault_of;
 use crate::fault::{ScriptFault, ScriptStop};
-use crate::state::{Read, State};
-use crate::steps::{has_blocks, step};
-use crate::tables::{Flags, Names};
-use pico_base::{Blocks, Memory, Script, Sequence};
+use crate::place::Place;
+use crate::says::{opening, read_line};
+use crate::tables::Names;
+use crate::words::next_line;
+use pico_base::{Blocks, Memory, Script};
 use std::alloc::Global;
 
 /// The longest script.
 const MAX_BYTES: usize = 1_048_576;
-
-/// The line isn't built.
-fn not_built(line: u32) -> ScriptStop
-    ensures { result ≡ ScriptStop.At line ScriptFault.NotBuilt }
-{
-    ScriptStop::At {
-        line,
-        fault: ScriptFault::NotBuilt,
-    }
-}
-
-/// Where the first line feed is.
-fn line_end(bytes: &[u8]) -> Option<usize>
-    ensures { result ≡ position (λ b. b == 10) bytes.now }
-{
-    bytes.iter().position(|b| *b == b'\n')
-}
-
-/// The first line without its line feed, and what follows it.
-fn next_line(bytes: &[u8]) -> Option<(&[u8], &[u8])>
-    ensures lines { MatchOption result (lines_of bytes.now ≡ []) (λ x. lines_of bytes.now ≡ x.0.now ∷ lines_of x.1.now) }
-    ensures shorter { IfSome result (λ x. length x.1.now < length bytes.now) }
-{
-    match line_end(bytes) {
-        Some(at) => Some((&bytes[..at], &bytes[at + 1..])),
-        None if bytes.is_empty() => None,
-        None => Some((bytes, &bytes[bytes.len()..])),
-    }
-}
 
 /// The names in the lines `proc NAME`.
 fn block_names(alloc: Global, text: &[u8]) -> Result<Names, Memory>
@@ -64,43 +38,51 @@ fn block_names(alloc: Global, text: &[u8]) -> Result<Names, Memory>
 }
 
 /// The blocks where the input ends, behind the line before this one.
-fn ending(state: State, number: u32) -> Result<Blocks, ScriptStop>
-    ensures { Gives result (ending_of state number) }
+fn ending(place: Place, number: u32) -> Result<Blocks, ScriptStop>
+    ensures { spec.GivesBlocks result (spec.ending place number) }
 {
-    match state {
-        State::Between(read) => {
-            if has_blocks(&read) {
-                Ok(read.blocks)
-            } else {
-                Err(not_built(number))
-            }
-        }
-        State::Inside(_, _) => Err(not_built(number)),
+    if place.inside {
+        return Err(ScriptStop::At {
+            line: number,
+            fault: ScriptFault::NoEnd,
+        });
     }
+    if place.blocks.len() == 0 {
+        return Err(ScriptStop::At {
+            line: 1,
+            fault: ScriptFault::NoProc,
+        });
+    }
+    Ok(place.blocks)
 }
 
 /// The blocks of a text in which the blocks have these names.
-fn blocks_with(alloc: Global, names: &Names, text: &[u8]) -> Result<Blocks, ScriptStop>
+fn blocks_with(
+    alloc: Global,
+    runnable: bool,
+    names: &Names,
+    text: &[u8],
+) -> Result<Blocks, ScriptStop>
     requires { length text.now ≤ 1048576 }
-    ensures { Gives result (blocks_from names.now (start names.now) 1 (lines_of text.now)) }
+    ensures { spec.GivesBlocks result
+        (spec.blocks_from runnable names.now (spec.start (length names.now)) 1 (lines_of text.now)) }
 {
-    let mut state = State::Between(Read {
-        blocks: Sequence::new(alloc),
-        calls: 0,
-        forked: Flags::new(alloc, names.len())?,
-        begun: Sequence::new(alloc),
-    });
+    let mut place = Place::new(alloc, names.len())?;
     let mut rest = text;
     let mut number: u32 = 1;
     while let Some((bytes, after)) = next_line(rest) {
-        let Some(next) = step(alloc, names, state, bytes)? else {
-            return Err(not_built(number));
-        };
-        state = next;
+        let said = read_line(alloc, names, bytes)?;
+        if let Some(fault) = fault_of(runnable, &place, bytes.len(), &said) {
+            return Err(ScriptStop::At {
+                line: number,
+                fault,
+            });
+        }
+        place = place.behind(alloc, said)?;
         rest = after;
         number += 1;
     }
-    ending(state, number)
+    ending(place, number)
 }
 
 /// How many line feeds there are.
@@ -112,59 +94,87 @@ fn line_feeds(bytes: &[u8]) -> u32
     bytes.iter().filter(|b| **b == b'\n').count() as u32
 }
 
+/// A fault at the line of the byte behind so many.
+fn at_byte(count: usize, bytes: &[u8], fault: ScriptFault) -> ScriptStop
+    requires small { count ≤ 1048576 }
+    requires within { count ≤ length bytes.now }
+    ensures { result ≡ ScriptStop.At (spec.line_behind count bytes.now) fault }
+{
+    ScriptStop::At {
+        line: 1 + line_feeds(&bytes[..count]),
+        fault,
+    }
+}
+
 /// A script of at most 1,048,576 bytes.
-#[tactic(auto, unfolding(crate::specs::Reading::blocks_of))]
-fn short_script(alloc: Global, bytes: &[u8]) -> Result<Script, ScriptStop>
+#[tactic(auto, unfolding(crate::specs::Fault::blocks_of))]
+fn short_script(alloc: Global, runnable: bool, bytes: &[u8]) -> Result<Script, ScriptStop>
     requires { length bytes.now ≤ 1048576 }
-    ensures { GivesScript result (script_from (blocks_of (lines_of bytes.now))) }
+    ensures { spec.Gives result (spec.script_from (spec.blocks_of runnable (lines_of bytes.now))) }
 {
     let names = block_names(alloc, bytes)?;
-    let blocks = blocks_with(alloc, &names, bytes)?;
+    let blocks = blocks_with(alloc, runnable, &names, bytes)?;
     Ok(Script { blocks })
 }
 
-/// The fault of more than 1,048,576 bytes, at the line of the first byte too many.
-fn too_long(bytes: &[u8]) -> ScriptStop
-    requires { 1048576 < length bytes.now }
-    ensures { result ≡ ScriptStop.At (1 + count_by (λ b. b == 10) (take 1048576 bytes.now)) ScriptFault.ScriptTooLong }
+/// How many bytes stand before the first one that isn't part of a character.
+fn valid_len(bytes: &[u8]) -> usize
+    ensures { result ≡ utf8_valid_len bytes.now }
 {
-    ScriptStop::At {
-        line: 1 + line_feeds(&bytes[..MAX_BYTES]),
-        fault: ScriptFault::ScriptTooLong,
+    match std::str::from_utf8(bytes) {
+        Ok(_) => bytes.len(),
+        Err(fault) => fault.valid_up_to(),
     }
 }
 
-#[tactic(auto, unfolding(crate::specs::Reading::outcome))]
-fn read(alloc: Global, bytes: &[u8]) -> Result<Script, ScriptStop>
-    ensures { GivesScript result (outcome bytes.now) }
+#[tactic(auto, unfolding(crate::specs::Fault::outcome))]
+fn read(alloc: Global, runnable: bool, bytes: &[u8]) -> Result<Script, ScriptStop>
+    ensures { spec.Gives result (spec.outcome runnable bytes.now) }
 {
     if bytes.len() > MAX_BYTES {
-        Err(too_long(bytes))
-    } else {
-        short_script(alloc, bytes)
+        return Err(at_byte(MAX_BYTES, bytes, ScriptFault::ScriptTooLong));
     }
+    let valid = valid_len(bytes);
+    if valid < bytes.len() {
+        return Err(at_byte(valid, bytes, ScriptFault::NotUtf8));
+    }
+    short_script(alloc, runnable, bytes)
 }
 
-/// The script that the bytes are the text of. Until more is built a script has these lines, each word parted from the
-/// next by one blank. A block is `proc NAME`, its calls and `end`; each block but the first is forked by one line of
-/// the first, `fork NAME`. Calls are `getpid`, and for a queue or a set Q, which is a number or a variable that is
-/// known, `msgsnd Q T X nowait`, `msgrcv Q T Z [noerror] nowait`, `msgctl Q stat`, `msgctl Q set B`, `semop Q OPS`
-/// without an operation that may wait, and `semctl` but for `rmid`; `msgget private` and `semget private N` stand in
-/// the first block alone. `VAR =` may stand before each call.
+/// The script that the bytes are the text of.
 ///
-/// `ScriptTooLong` comes where there are more than 1,048,576 bytes, at the line of the first byte too many.
-/// Else `NotBuilt` comes at the first line that doesn't stand in such a script in its place; where the text
-/// ends early that is the line after the last one.
+/// A fault is the first one: of the smallest line, and on one line the one that stands first in `ScriptFault`. Before
+/// all others come `ScriptTooLong`, at the line of the first byte past 1,048,576, and then `NotUtf8`, at the line of
+/// the
+/// first byte that isn't part of a character. A block that isn't ended where the input ends is `NoEnd` at the number of
+/// lines plus 1, and a text without words `NoProc` at line 1. `NotBuilt` is no fault here.
 pub fn read_script(alloc: Global, bytes: &[u8]) -> Result<Script, ScriptStop>
-    // What is read is spelled so.
-    ensures ok { IfOk result (Reads bytes.now) }
+    // The bytes are the text of what is read.
+    ensures ok { IfOk result (spec.Reads bytes.now) }
+    ensures sound { IfOk result IsSoundScript }
+    // A fault is the first one.
+    ensures fault { IfErr result (spec.HasFault bytes.now) }
+    // A text of a script is read, and one with a fault is refused for it, unless memory runs out.
+    ensures only { (script : ScriptValue) → spec.Reads bytes.now script → (result ≡ Ok script)
+        ⊎ (result ≡ Err ScriptStop.Memory) }
+    ensures only_fault { (line : ℕ) (fault : FaultValue) → spec.IsFirstFault bytes.now line fault
+        → (result ≡ Err (ScriptStop.At line fault)) ⊎ (result ≡ Err ScriptStop.Memory) }
+{
+    read(alloc, false, bytes)
+}
+
+/// The same, of the scripts that the machine can run: a call line that it has no rule for is `NotBuilt`, after all
+/// other
+/// faults of the line.
+pub fn read_runnable(alloc: Global, bytes: &[u8]) -> Result<Script, ScriptStop>
+    ensures ok { IfOk result (spec.ReadsRunnable bytes.now) }
     ensures sound { IfOk result IsSoundScript }
     ensures runnable { IfOk result IsRunnable }
-    // A fault is the first one.
-    ensures fault { IfErr result (HasFault bytes.now) }
-    // What is spelled so is read, and what has a fault is refused for it, unless memory runs out.
-    ensures only { (script : ScriptValue) → Reads bytes.now script → (result ≡ Ok script) ⊎ (result ≡ Err ScriptStop.Memory) }
-    ensures only_fault { (line : ℕ) (fault : FaultValue) → IsFirstFault bytes.now line fault → (result ≡ Err (ScriptStop.At line fault)) ⊎ (result ≡ Err ScriptStop.Memory) }
+    ensures fault { IfErr result (spec.HasFaultOfRunnable bytes.now) }
+    ensures only { (script : ScriptValue) → spec.ReadsRunnable bytes.now script → (result ≡ Ok script)
+        ⊎ (result ≡ Err ScriptStop.Memory) }
+    ensures only_fault { (line : ℕ) (fault : FaultValue) → spec.IsFirstFaultOfRunnable bytes.now line fault
+        → (result ≡ Err (ScriptStop.At line fault)) ⊎ (result ≡ Err ScriptStop.Memory) }
 {
-    read(alloc, bytes)
+    read(alloc, true, bytes)
 }

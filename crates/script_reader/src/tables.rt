@@ -1,8 +1,8 @@
 //! Tables for variables and for names.
 
-ghost use Rattle.std.specs.Prelude.{◌≡◌, [], length, slice_index_or, slice_set, replicate, false, true, bytes_eq, position, IfOk, OnOk};
-ghost use Rattle.script_reader.specs.Fault.{with_name};
-ghost use Rattle.script_reader.specs.Reading.{no_flags, is_at, set_after};
+ghost use Rattle.std.specs.Prelude.{◌≡◌, [], length, slice_index_or, slice_set, replicate, false, true, bytes_eq, position, IfOk, IfSome, OnOk, ◌<◌};
+ghost use Rattle.script_reader.specs.Says.{with_name, number_of};
+ghost use Rattle.script_reader.specs.Fault.{no_flags, is_at, known_with};
 
 use indexmap::IndexSet;
 use pico_base::{Memory, Var};
@@ -28,7 +28,7 @@ impl Model for Flags {
 
 impl Flags {
     /// So many flags, none of which is set.
-    #[tactic(auto, unfolding(crate::specs::Reading::no_flags))]
+    #[tactic(auto, unfolding(crate::specs::Fault::no_flags))]
     pub(crate) fn new(alloc: Global, count: usize) -> Result<Flags, Memory>
         ensures { IfOk result (λ flags. flags ≡ no_flags count) }
     {
@@ -67,7 +67,7 @@ impl Flags {
 
     /// Notes the variable that a line sets.
     pub(crate) fn note(&mut self, set: Option<Var>)
-        ensures { self.new ≡ set_after self.old set }
+        ensures { self.new ≡ known_with self.old set }
     {
         if let Some(variable) = set {
             self.set(usize::from(variable.0));
@@ -118,9 +118,20 @@ impl Names {
     }
 
     /// The place of a name, counted from 0.
-    pub(crate) fn place(&self, name: &[u8]) -> Option<usize>
-        ensures { result ≡ position (bytes_eq name.now) self.now }
+    fn place(&self, name: &[u8]) -> Option<usize>
+        ensures value { result ≡ position (bytes_eq name.now) self.now }
+        ensures small { IfSome result (λ place. place < length self.now) }
     {
         self.names.get_index_of(name)
+    }
+
+    /// The number of the block of this name, counted from 1.
+    #[tactic(auto, unfolding(crate::specs::Says::number_of))]
+    pub(crate) fn number(&self, name: &[u8]) -> Option<usize>
+        ensures { result ≡ number_of self.now name.now }
+    {
+        let _count = self.len();
+        let place = self.place(name)?;
+        Some(place + 1)
     }
 }

@@ -1,11 +1,14 @@
-//! Texts at the front of what is left of a line.
+//! Words that are texts of messages, operations and values.
 
-ghost use Rattle.std.specs.Prelude.{◌≡◌, ◌≤◌, IfOk, IfSome, option_map, length};
-ghost use Rattle.script_reader.specs.Parts.{is_alphanumeric as is_alphanumeric_of, hex_at, escape_at, text_byte_at, closed_at, quoted_at, repeated_at, count_at, repetition_at, text_at};
+ghost use Rattle.std.specs.Prelude.{◌≡◌, ◌≤◌, not, IfOk, IfSome, option_map, length, position};
+ghost use Rattle.std.specs.List.{position_or_len};
+ghost use Rattle.script_reader.specs.Words.{texts};
+ghost use Rattle.script_reader.specs.Parts.{is_text_byte, is_alphanumeric as is_alphanumeric_of, hex_at, escape_at, text_byte_at, closed_at, quoted_at, letter as letter_of, counted as counted_of, repetition as repetition_of, text as text_of, added as added_of, step as step_of, each, number as number_of, values as values_of};
 
-use crate::numbers::number_front;
-use crate::parts::{is_text_part, strip_front};
-use pico_base::{Bytes, Memory, Sequence};
+use crate::numbers::{MAX_NUMBER, index, number, signed};
+use crate::parts::{cut, is_text_part, strip_front};
+use crate::words::pieces;
+use pico_base::{Bytes, Memory, SemStep, Sequence, Steps, Values};
 use std::alloc::Global;
 
 /// The longest text of `rep:N:C`.
@@ -24,7 +27,7 @@ fn hex(byte: u8) -> Option<u8>
     }
 }
 
-/// The byte of `\xhh` behind its `\`.
+/// The byte of `\xhh` behind its `\`, and what follows.
 #[tactic(auto, unfolding(crate::specs::Parts::escape_at))]
 fn escape(bytes: &[u8]) -> Option<(u8, &[u8])>
     ensures { option_map (λ x. (x.0, x.1.now)) result ≡ escape_at bytes.now }
@@ -43,7 +46,7 @@ fn escape(bytes: &[u8]) -> Option<(u8, &[u8])>
     }
 }
 
-/// One byte of a text between quotes.
+/// One byte of a text between quotes, and what follows.
 #[tactic(auto, unfolding(crate::specs::Parts::text_byte_at))]
 fn text_byte(bytes: &[u8]) -> Option<(u8, &[u8])>
     ensures { option_map (λ x. (x.0, x.1.now)) result ≡ text_byte_at bytes.now }
@@ -62,17 +65,20 @@ fn text_byte(bytes: &[u8]) -> Option<(u8, &[u8])>
     }
 }
 
-/// The text where its closing quote is next.
-fn closed(text: Bytes, bytes: &[u8]) -> Option<(Bytes, &[u8])>
-    ensures { option_map (λ x. (x.0, x.1.now)) result ≡ closed_at text bytes.now }
+/// The text where its closing quote is all that is left.
+fn closed(text: Bytes, bytes: &[u8]) -> Option<Bytes>
+    ensures { result ≡ closed_at text bytes.now }
 {
-    let rest = strip_front(bytes, b"\"")?;
-    Some((text, rest))
+    if bytes == b"\"".as_slice() {
+        Some(text)
+    } else {
+        None
+    }
 }
 
-/// A text behind its opening quote.
-fn quoted(alloc: Global, bytes: &[u8]) -> Result<Option<(Bytes, &[u8])>, Memory>
-    ensures { IfOk result (λ text. option_map (λ x. (x.0, x.1.now)) text ≡ quoted_at (length bytes.now) bytes.now) }
+/// A text behind its opening quote, byte after byte.
+fn escaped(alloc: Global, bytes: &[u8]) -> Result<Option<Bytes>, Memory>
+    ensures { IfOk result (λ text. text ≡ quoted_at (length bytes.now) bytes.now) }
 {
     let mut text = Sequence::new(alloc);
     let mut rest = bytes;
@@ -88,56 +94,156 @@ fn quoted(alloc: Global, bytes: &[u8]) -> Result<Option<(Bytes, &[u8])>, Memory>
     Ok(closed(text, rest))
 }
 
+/// Where the first byte is that doesn't stand for itself.
+fn first_other(bytes: &[u8]) -> Option<usize>
+    ensures { result ≡ position (λ b. not (is_text_byte b)) bytes.now }
+{
+    bytes.iter().position(|b| !is_text_part(*b))
+}
+
+/// How many bytes stand for themselves before the first that doesn't.
+#[tactic(auto, using(crate::proofs::Cuts::else_length, crate::proofs::Cuts::place_within))]
+fn plain_len(bytes: &[u8]) -> usize
+    ensures value { result ≡ position_or_len (λ b. not (is_text_byte b)) bytes.now }
+    ensures within { result ≤ length bytes.now }
+{
+    first_other(bytes).unwrap_or(bytes.len())
+}
+
+/// A text behind its opening quote. Most have no escape, and are copied at once.
+fn quoted(alloc: Global, bytes: &[u8]) -> Result<Option<Bytes>, Memory>
+    ensures { IfOk result (λ text. text ≡ quoted_at (length bytes.now) bytes.now) }
+{
+    let (plain, rest) = bytes.split_at(plain_len(bytes));
+    if rest == b"\"".as_slice() {
+        return Ok(Some(Bytes::from_slice(alloc, plain)?));
+    }
+    escaped(alloc, bytes)
+}
+
 fn is_alphanumeric(byte: u8) -> bool
     ensures { result ≡ is_alphanumeric_of byte }
 {
     byte.is_ascii_lowercase() || byte.is_ascii_digit() || byte.is_ascii_uppercase()
 }
 
-/// The letter or digit of `rep:N:C`, so many times.
-#[tactic(auto, unfolding(crate::specs::Parts::repeated_at))]
-fn repeated(alloc: Global, count: u32, bytes: &[u8]) -> Result<Option<(Bytes, &[u8])>, Memory>
-    ensures { IfOk result (λ text. option_map (λ x. (x.0, x.1.now)) text ≡ repeated_at count bytes.now) }
+/// A letter or a digit, the only byte of a word.
+#[tactic(auto, unfolding(crate::specs::Parts::letter))]
+fn letter(word: &[u8]) -> Option<u8>
+    ensures { result ≡ letter_of word.now }
 {
-    match bytes {
-        [letter, rest @ ..] if is_alphanumeric(*letter) => {
-            let text = vec![in alloc; *letter; count as usize]?;
-            Ok(Some((Sequence::from_vec(text), rest)))
-        }
-        _ => Ok(None),
+    match word {
+        [byte] if is_alphanumeric(*byte) => Some(*byte),
+        _ => None,
     }
 }
 
-/// The count of `N:C`, and what stands behind the colon.
-#[tactic(auto, unfolding(crate::specs::Parts::count_at))]
-fn count_front(bytes: &[u8]) -> Option<(u32, &[u8])>
-    ensures { option_map (λ x. (x.0, x.1.now)) result ≡ count_at bytes.now }
+/// The count and the byte of `N:C`.
+#[tactic(auto, unfolding(crate::specs::Parts::counted))]
+fn counted(word: &[u8]) -> Option<(u32, u8)>
+    ensures { result ≡ counted_of word.now }
 {
-    let (count, rest) = number_front(MAX_REPEATED, bytes)?;
-    Some((count, strip_front(rest, b":")?))
+    let (count, byte) = cut(b':', word)?;
+    let count = number(MAX_REPEATED, count)?;
+    let byte = letter(byte)?;
+    Some((count, byte))
 }
 
 /// The text of `N:C`.
-#[tactic(auto, unfolding(crate::specs::Parts::repetition_at))]
-fn repetition(alloc: Global, bytes: &[u8]) -> Result<Option<(Bytes, &[u8])>, Memory>
-    ensures { IfOk result (λ text. option_map (λ x. (x.0, x.1.now)) text ≡ repetition_at bytes.now) }
+#[tactic(auto, unfolding(crate::specs::Parts::repetition))]
+fn repeated(alloc: Global, word: &[u8]) -> Result<Option<Bytes>, Memory>
+    ensures { IfOk result (λ text. text ≡ repetition_of word.now) }
 {
-    match count_front(bytes) {
+    match counted(word) {
         None => Ok(None),
-        Some((count, rest)) => repeated(alloc, count, rest),
+        Some((count, byte)) => {
+            let text = vec![in alloc; byte; count as usize]?;
+            Ok(Some(Sequence::from_vec(text)))
+        }
     }
 }
 
 /// A text, `rep:N:C` or between quotes.
-#[tactic(auto, unfolding(crate::specs::Parts::text_at))]
-pub(crate) fn text_front(alloc: Global, bytes: &[u8]) -> Result<Option<(Bytes, &[u8])>, Memory>
-    ensures { IfOk result (λ text. option_map (λ x. (x.0, x.1.now)) text ≡ text_at bytes.now) }
+#[tactic(auto, unfolding(crate::specs::Parts::text))]
+pub(crate) fn text(alloc: Global, word: &[u8]) -> Result<Option<Bytes>, Memory>
+    ensures { IfOk result (λ text. text ≡ text_of word.now) }
 {
-    if let Some(rest) = strip_front(bytes, b"rep:") {
-        return repetition(alloc, rest);
+    if let Some(rest) = strip_front(word, b"rep:") {
+        return repeated(alloc, rest);
     }
-    match strip_front(bytes, b"\"") {
+    match strip_front(word, b"\"") {
         None => Ok(None),
         Some(rest) => quoted(alloc, rest),
     }
+}
+
+/// What an operation adds, and whether `:nowait` follows.
+#[tactic(auto, unfolding(crate::specs::Parts::added))]
+fn added(word: &[u8]) -> Option<(i32, bool)>
+    ensures { result ≡ added_of word.now }
+{
+    match cut(b':', word) {
+        None => {
+            let add = signed(MAX_NUMBER, word)?;
+            Some((add, false))
+        }
+        Some((add, nowait)) => {
+            let add = signed(MAX_NUMBER, add)?;
+            if nowait == b"nowait".as_slice() {
+                Some((add, true))
+            } else {
+                None
+            }
+        }
+    }
+}
+
+/// An operation, `I:V` or `I:V:nowait`.
+#[tactic(auto, unfolding(crate::specs::Parts::step))]
+fn step(word: &[u8]) -> Option<SemStep>
+    ensures { result ≡ step_of word.now }
+{
+    let (num, add) = cut(b':', word)?;
+    let num = index(num)?;
+    let (add, nowait) = added(add)?;
+    Some(SemStep { num, add, nowait })
+}
+
+/// The operations of these words.
+#[tactic(auto, unfolding(crate::specs::Parts::each))]
+pub(crate) fn steps(alloc: Global, words: &[&[u8]]) -> Result<Option<Steps>, Memory>
+    ensures { IfOk result (λ steps. steps ≡ each step_of (texts words.now)) }
+{
+    let mut steps = Sequence::new(alloc);
+    for word in words {
+        let Some(step) = step(word) else {
+            return Ok(None);
+        };
+        steps.push(step)?;
+    }
+    Ok(Some(steps))
+}
+
+/// The values of these words.
+#[tactic(auto, unfolding(crate::specs::Parts::each))]
+fn numbers(alloc: Global, words: &[&[u8]]) -> Result<Option<Values>, Memory>
+    ensures { IfOk result (λ values. values ≡ each (number_of 65535) (texts words.now)) }
+{
+    let mut values = Sequence::new(alloc);
+    for word in words {
+        let Some(value) = number(MAX_NUMBER, word) else {
+            return Ok(None);
+        };
+        values.push(value)?;
+    }
+    Ok(Some(values))
+}
+
+/// Values joined by commas.
+#[tactic(auto, unfolding(crate::specs::Parts::values))]
+pub(crate) fn values(alloc: Global, word: &[u8]) -> Result<Option<Values>, Memory>
+    ensures { IfOk result (λ values. values ≡ values_of word.now) }
+{
+    let words = pieces(alloc, b',', word)?;
+    numbers(alloc, words.as_slice())
 }

@@ -10,7 +10,8 @@ use Rattle.kernel_model.specs.Signals.{Signals, discards, is_kill, with_action}
 use Rattle.signal_state.specs.Held.{IsHeld}
 
 -- what holds of two maps at each signal holds where both have a new value at one, if it holds of the two
-put-both : {A B : Type 0} (Q : Sig → A → B → Type 0) (m : PerSignal A) (n : PerSignal B) (g : Sig) (x : A) (y : B) → Q g x y → ((h : Sig) → Q h (at m h) (at n h)) → (h : Sig) → Q h (at (put_at m g x) h) (at (put_at n g y) h)
+put-both : {A B : Type 0} (Q : Sig → A → B → Type 0) (m : PerSignal A) (n : PerSignal B) (g : Sig) (x : A) (y : B)
+    → Q g x y → ((h : Sig) → Q h (at m h) (at n h)) → (h : Sig) → Q h (at (put_at m g x) h) (at (put_at n g y) h)
 put-both Q m n Hup x y here there Hup = here
 put-both Q m n Hup x y here there h = there h
 put-both Q m n Int x y here there Int = here
@@ -46,7 +47,8 @@ pub with_action-held : (s : Signals) (g : Sig) (act : Act) → is_kill g ≡ fal
 with_action-held s g act other held =
     record {
       sound = record {
-        kept = put-both (λ h pending action. pending ≡ true → discards action h ≡ false) s.pending s.actions g (at s.pending g && not (discards act g)) act
+        kept = put-both (λ h pending action. pending ≡ true → discards action h ≡ false) s.pending s.actions g
+            (at s.pending g && not (discards act g)) act
             (stays-kept (at s.pending g) (discards act g)) held.sound.kept;
         unmasked = held.sound.unmasked;
         kill_default = put-kill s.actions g act other ∙ held.sound.kill_default;

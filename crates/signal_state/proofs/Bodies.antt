@@ -1,6 +1,6 @@
 -- What is read of the bytes of a state is that state.
 use Rattle.std.proofs.Common.{◌≡◌, ℕ, ◌+◌, ◌*◌, ◌/◌, ◌%◌, ◌<◌, ◌^◌, zero, suc, Bool, true, false, not, ◌&&◌, cond, eqb, List, [], ◌∷◌, length, map, fold, Option, Some, None, get_or, refl, ap, ◌∙◌, arith}
-use Rattle.std.proofs.lemmas.Bool.{false≢true}
+use Rattle.std.proofs.lemmas.Bool.{false≢true, and_parts}
 use Rattle.std.proofs.lemmas.Bool.Decides.{nat_tests}
 use Rattle.std.proofs.lemmas.Nat.{from_be_bytes-to_be_bytes_2, from_be_bytes-to_be_bytes_4}
 use Rattle.std.proofs.Math.Nat.{pow-suc}
@@ -48,7 +48,8 @@ bits_small (true ∷ bits) = rw pow-suc (omega (arith, bits_small bits))
 bits_small (false ∷ bits) = rw pow-suc (omega (arith, bits_small bits))
 
 -- the bits of a set are its signals
-set-again : (m acc : PerSignal Bool) (gs : List Sig) → set_from (number_of_bits (map (at m) gs)) gs acc ≡ fold (λ s g. put_at s g (at m g)) acc gs
+set-again : (m acc : PerSignal Bool) (gs : List Sig)
+    → set_from (number_of_bits (map (at m) gs)) gs acc ≡ fold (λ s g. put_at s g (at m g)) acc gs
 set-again m acc [] = refl
 set-again m acc (g ∷ gs) =
     rw (low_bit (at m g) (number_of_bits (map (at m) gs)), high_bits (at m g) (number_of_bits (map (at m) gs)))
@@ -80,13 +81,15 @@ actions-again s =
 pub mask-again : (s : Signals) → set_at (signal_bytes s) 10 ≡ s.mask
 unfolding signal_bytes
 mask-again s =
-    ap (λ (n : ℕ). set_from n all_signals (everywhere false)) (from_be_bytes-to_be_bytes_2 (set_number s.mask) (set_small s.mask))
+    ap (λ (n : ℕ). set_from n all_signals (everywhere false))
+    (from_be_bytes-to_be_bytes_2 (set_number s.mask) (set_small s.mask))
     ∙ set-again s.mask (everywhere false) all_signals
 
 pub pending-again : (s : Signals) → set_at (signal_bytes s) 12 ≡ s.pending
 unfolding signal_bytes
 pending-again s =
-    ap (λ (n : ℕ). set_from n all_signals (everywhere false)) (from_be_bytes-to_be_bytes_2 (set_number s.pending) (set_small s.pending))
+    ap (λ (n : ℕ). set_from n all_signals (everywhere false))
+    (from_be_bytes-to_be_bytes_2 (set_number s.pending) (set_small s.pending))
     ∙ set-again s.pending (everywhere false) all_signals
 
 pub counts-again : (s : Signals) → ((g : Sig) → at s.handled g < 2 ^ 32) → counts_from (signal_bytes s) ≡ s.handled
@@ -123,15 +126,11 @@ held-parts s held =
       kept = λ g. kept-test (at s.pending g) (discards (at s.actions g) g) (held.sound.kept g);
     }
 
--- a test of each signal
-both_true : (a b : Bool) → (a && b) ≡ true → (a ≡ true) × (b ≡ true)
-both_true true b h = (refl, h)
-both_true false b h = absurd (false≢true h)
-
-list_all-at : (p : Sig → Bool) (gs : List Sig) (i : ℕ) (d : Sig) → i < length gs → list_all p gs ≡ true → p (get_or gs i d) ≡ true
+list_all-at : (p : Sig → Bool) (gs : List Sig) (i : ℕ) (d : Sig) → i < length gs → list_all p gs ≡ true
+    → p (get_or gs i d) ≡ true
 list_all-at p [] i d within h = absurd (omega arith)
-list_all-at p (g ∷ gs) zero d within h = (both_true (p g) (list_all p gs) h).0
-list_all-at p (g ∷ gs) (suc i) d within h = list_all-at p gs i d (omega arith) (both_true (p g) (list_all p gs) h).1
+list_all-at p (g ∷ gs) zero d within h = (and_parts (p g) (list_all p gs) h).0
+list_all-at p (g ∷ gs) (suc i) d within h = list_all-at p gs i d (omega arith) (and_parts (p g) (list_all p gs) h).1
 
 pub each-signal : (p : Sig → Bool) → list_all p all_signals ≡ true → (g : Sig) → p g ≡ true
 each-signal p h Hup = list_all-at p all_signals 0 Hup (omega arith) h
@@ -149,7 +148,8 @@ pub all_signals-pass : (p : Sig → Bool) → ((g : Sig) → p g ≡ true) → l
 all_signals-pass p h = rw (h Hup, h Int, h Quit, h Kill, h Usr1, h Usr2, h Pipe, h Alrm, h Term, h Chld) refl
 
 -- counts of which each is small
-pub at-small : (m : PerSignal ℕ) (n : ℕ) → m.hup < n → m.int < n → m.quit < n → m.kill < n → m.usr1 < n → m.usr2 < n → m.pipe < n → m.alrm < n → m.term < n → m.chld < n → (g : Sig) → at m g < n
+pub at-small : (m : PerSignal ℕ) (n : ℕ) → m.hup < n → m.int < n → m.quit < n → m.kill < n → m.usr1 < n → m.usr2 < n
+    → m.pipe < n → m.alrm < n → m.term < n → m.chld < n → (g : Sig) → at m g < n
 at-small m n hup int quit kill usr1 usr2 pipe alrm term chld Hup = hup
 at-small m n hup int quit kill usr1 usr2 pipe alrm term chld Int = int
 at-small m n hup int quit kill usr1 usr2 pipe alrm term chld Quit = quit
@@ -162,14 +162,25 @@ at-small m n hup int quit kill usr1 usr2 pipe alrm term chld Term = term
 at-small m n hup int quit kill usr1 usr2 pipe alrm term chld Chld = chld
 
 -- the fields that are read of a state's bytes make that state
-pub fields-again : (bytes : List ℕ) (s : Signals) (actions : PerSignal Act) (mask pending : PerSignal Bool) (handled : PerSignal ℕ) (doom : Option Sig)
+pub fields-again : (bytes : List ℕ) (s : Signals) (actions : PerSignal Act) (mask pending : PerSignal Bool)
+    (handled : PerSignal ℕ) (doom : Option Sig)
     → HasBytes s → bytes ≡ signal_bytes s
-    → actions ≡ actions_from bytes → mask ≡ set_at bytes 10 → pending ≡ set_at bytes 12 → handled ≡ counts_from bytes → doom ≡ doom_from (get_or bytes 54 0)
+    → actions ≡ actions_from bytes → mask ≡ set_at bytes 10 → pending ≡ set_at bytes 12 → handled ≡ counts_from bytes
+    → doom ≡ doom_from (get_or bytes 54 0)
     → ◌≡◌ {A = Signals} (record { actions = actions; mask = mask; pending = pending; handled = handled; doom = doom }) s
 fields-again bytes s actions mask pending handled doom has spelled is_actions is_mask is_pending is_handled is_doom =
     let same_actions : actions ≡ s.actions = is_actions ∙ ap actions_from spelled ∙ actions-again s in
     let same_mask : mask ≡ s.mask = is_mask ∙ ap (λ (b : List ℕ). set_at b 10) spelled ∙ mask-again s in
     let same_pending : pending ≡ s.pending = is_pending ∙ ap (λ (b : List ℕ). set_at b 12) spelled ∙ pending-again s in
     let same_handled : handled ≡ s.handled = is_handled ∙ ap counts_from spelled ∙ counts-again s has.counts in
-    let same_doom : doom ≡ s.doom = is_doom ∙ ap (λ (b : List ℕ). doom_from (get_or b 54 0)) spelled ∙ ap doom_from (last-again s) ∙ doom-again s.doom in
-    λ i. record { actions = same_actions i; mask = same_mask i; pending = same_pending i; handled = same_handled i; doom = same_doom i }
+    let same_doom : doom ≡ s.doom =
+    is_doom ∙ ap (λ (b : List ℕ). doom_from (get_or b 54 0)) spelled ∙ ap doom_from (last-again s)
+    ∙ doom-again s.doom in
+    λ i. record {
+      actions = same_actions i;
+      mask = same_mask i;
+      pending = same_pending i;
+      handled =
+          same_handled i;
+      doom = same_doom i;
+    }

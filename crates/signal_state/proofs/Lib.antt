@@ -1,3 +1,4 @@
 pub mod Masks
 pub mod Actions
 pub mod Bodies
+pub mod Places

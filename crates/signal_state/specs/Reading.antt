@@ -20,10 +20,13 @@ set_from number [] m = m
 set_from number (g ∷ gs) m = set_from (number / 2) gs (put_at m g (number % 2 == 1))
 
 abbrev pub set_at : List ℕ → ℕ → PerSignal Bool
-set_at bytes place = set_from (from_be_bytes w16 (slice_index bytes place ∷ slice_index bytes (place + 1) ∷ [])) all_signals (everywhere false)
+set_at bytes place = set_from
+    (from_be_bytes w16 (slice_index bytes place ∷ slice_index bytes (place + 1) ∷ [])) all_signals (everywhere false)
 
 abbrev pub count_at : List ℕ → ℕ → ℕ
-count_at bytes place = from_be_bytes w32 (slice_index bytes place ∷ slice_index bytes (place + 1) ∷ slice_index bytes (place + 2) ∷ slice_index bytes (place + 3) ∷ [])
+count_at bytes place =
+    from_be_bytes w32 (slice_index bytes place ∷ slice_index bytes (place + 1) ∷ slice_index bytes (place + 2)
+    ∷ slice_index bytes (place + 3) ∷ [])
 
 abbrev pub actions_from : List ℕ → PerSignal Act
 actions_from bytes =

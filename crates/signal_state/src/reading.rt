@@ -4,6 +4,7 @@ ghost use Rattle.signal_state.specs.Reading.{act_from, actions_from, count_at, c
 ghost use Rattle.pico_base.specs.Signal.{everywhere};
 
 use crate::TABLE;
+use body_fields::{u16_at, u32_at};
 use pico_base::{Act, PerSignal, Sig, SigSet};
 
 /// The action of a byte.
@@ -58,7 +59,8 @@ pub(crate) fn set_of_bytes(bytes: &[u8], place: usize) -> SigSet
     requires { place + 2 ≤ length bytes.now }
     ensures { result ≡ set_at bytes.now place }
 {
-    set_of(u16::from_be_bytes([bytes[place], bytes[place + 1]]), &TABLE)
+    let (number, _) = u16_at(&bytes[place..]).unwrap();
+    set_of(number, &TABLE)
 }
 
 /// The number in the four bytes from a place on.
@@ -66,12 +68,8 @@ fn count_of(bytes: &[u8], place: usize) -> u32
     requires { place + 4 ≤ length bytes.now }
     ensures { result ≡ count_at bytes.now place }
 {
-    u32::from_be_bytes([
-        bytes[place],
-        bytes[place + 1],
-        bytes[place + 2],
-        bytes[place + 3],
-    ])
+    let (number, _) = u32_at(&bytes[place..]).unwrap();
+    number
 }
 
 /// The counts of catches, which stand behind the sets.

@@ -1,3 +1,4 @@
+//! The signals of one process, and the bytes that they travel as.
 ghost use Rattle.std.specs.List.{list_all};
 ghost use Rattle.std.specs.Prelude.{◌≡◌, ◌↔◌, Some, Ok, Err, IfSome, IfErr, IsTrue, OnOk, fold, not, ◌&&◌, ◌||◌};
 ghost use Rattle.kernel_model.specs.Row.{is_ign};
@@ -29,9 +30,16 @@ impl Model for Signals {
 
     ghost Value = { State };
 
-    ghost view = { λ s. record { actions = s.actions; mask = s.mask; pending = s.pending; handled = s.handled; doom = s.doom } };
+    ghost view = { λ s. record {
+      actions = s.actions;
+      mask = s.mask;
+      pending = s.pending;
+      handled = s.handled;
+      doom = s.doom;
+    } };
 
-    ghost invariant = { λ s. IsHeld (record { actions = s.actions; mask = s.mask; pending = s.pending; handled = s.handled; doom = s.doom }) };
+    ghost invariant = { λ s. IsHeld
+        (record { actions = s.actions; mask = s.mask; pending = s.pending; handled = s.handled; doom = s.doom }) };
 }
 
 impl Signals {

@@ -1,3 +1,4 @@
+//! Masked and pending signals, and the bytes of a state.
 use crate::{PACKED, Signals};
 use pico_base::{Act, Errno, How, Sig, SigArg, SigSet};
 use std::process::Abort;

@@ -1,17 +1,16 @@
 -- What is read is a body of it, and a body is read as its queue.
-use Rattle.std.proofs.Common.{◌≡◌, ℕ, ◌^◌, cond, eqb, List, [], ◌∷◌, ◌++◌, length, Some, None, Result, Ok, Err, refl, sym, ap, subst, ◌∙◌, append_assoc, arith}
-use Rattle.std.specs.Prelude.{IfOk}
+use Rattle.std.proofs.Common.{◌≡◌, ℕ, ◌^◌, false, cond, eqb, List, [], ◌∷◌, ◌++◌, length, Option, Some, None, refl, sym, ap, subst, ◌∙◌, append_assoc, arith}
+use Rattle.std.specs.Prelude.{MatchOption}
 use Rattle.std.specs.List.{flat_map}
 use Rattle.std.specs.Int.{w16, w32, to_be_bytes}
 use Rattle.std.proofs.lemmas.Bool.{eqb-true}
 use Rattle.std.proofs.lemmas.List.{append-nil, nil_from_length}
-use Rattle.pico_base.specs.declared.fault.UnpackFault.{UnpackFault}
-use Rattle.pico_base.specs.declared.fault.UnpackFault.TheVariants.{Memory, NotABody}
 use Rattle.kernel_model.specs.Queue.{Queue, max_queue_bytes, max_messages}
-use Rattle.sysv_msg.specs.Body.{queue_code, message_field, IsBodyOf, Unpacks}
-use Rattle.body_fields.specs.Fields.{◌>>=◌, Gives, number_at, number_upto}
+use Rattle.sysv_msg.specs.Body.{queue_code, message_field, IsBodyOf}
+use Rattle.body_fields.specs.Fields.{◌>>=◌, number_at, number_upto}
+use Rattle.sysv_msg.specs.Measured.{Measures, HasBody, HasFields}
 use Rattle.sysv_msg.specs.Reading.{messages_at, fields_at, queue_at}
-use Rattle.body_fields.proofs.Fields.{IsBytes, IsBytes-rest, bind_some, guard_ended, guard_then, some_is, Takes-then, wide16, wide32, number_takes, number_again, number_upto_takes, number_upto_again}
+use Rattle.body_fields.proofs.Fields.{IsBytes, IsBytes-rest, bind_some, guard_ended, guard_then, some_is, refused, Takes-then, wide16, wide32, number_takes, number_again, number_upto_takes, number_upto_again}
 use Rattle.sysv_msg.proofs.Messages.{messages_take, messages_again}
 
 abbrev num : ℕ → List ℕ
@@ -23,11 +22,33 @@ small n = to_be_bytes w16 n
 fields_take : (bytes : List ℕ) (q : Queue) → IsBytes bytes → fields_at bytes ≡ Some q → IsBodyOf q (queue_code ∷ bytes)
 unfolding fields_at
 fields_take bytes q fits e =
-    let a = bind_some (number_upto w32 max_queue_bytes bytes) (λ qbytes. number_at w32 qbytes.1 >>= λ sender. number_at w32 sender.1 >>= λ receiver. number_upto w16 max_messages receiver.1 >>= λ count. messages_at count.0 max_queue_bytes count.1 >>= λ messages. cond (eqb (length messages.1) 0) (Some (record { messages = messages.0; qbytes = qbytes.0; last_sender = sender.0; last_receiver = receiver.0 })) None) q e in
-    let b = bind_some (number_at w32 a.0.1) (λ sender. number_at w32 sender.1 >>= λ receiver. number_upto w16 max_messages receiver.1 >>= λ count. messages_at count.0 max_queue_bytes count.1 >>= λ messages. cond (eqb (length messages.1) 0) (Some (record { messages = messages.0; qbytes = a.0.0; last_sender = sender.0; last_receiver = receiver.0 })) None) q a.2 in
-    let c = bind_some (number_at w32 b.0.1) (λ receiver. number_upto w16 max_messages receiver.1 >>= λ count. messages_at count.0 max_queue_bytes count.1 >>= λ messages. cond (eqb (length messages.1) 0) (Some (record { messages = messages.0; qbytes = a.0.0; last_sender = b.0.0; last_receiver = receiver.0 })) None) q b.2 in
-    let d = bind_some (number_upto w16 max_messages c.0.1) (λ count. messages_at count.0 max_queue_bytes count.1 >>= λ messages. cond (eqb (length messages.1) 0) (Some (record { messages = messages.0; qbytes = a.0.0; last_sender = b.0.0; last_receiver = c.0.0 })) None) q c.2 in
-    let f = bind_some (messages_at d.0.0 max_queue_bytes d.0.1) (λ messages. cond (eqb (length messages.1) 0) (Some (record { messages = messages.0; qbytes = a.0.0; last_sender = b.0.0; last_receiver = c.0.0 })) None) q d.2 in
+    let a = bind_some (number_upto w32 max_queue_bytes bytes)
+    (λ qbytes. number_at w32 qbytes.1 >>= λ sender. number_at w32 sender.1 >>= λ receiver.
+    number_upto w16 max_messages receiver.1 >>= λ count. messages_at count.0 max_queue_bytes count.1 >>= λ messages.
+    cond (eqb (length messages.1) 0)
+    (Some (record { messages = messages.0; qbytes = qbytes.0; last_sender = sender.0; last_receiver = receiver.0 }))
+    None) q e in
+    let b = bind_some (number_at w32 a.0.1)
+    (λ sender. number_at w32 sender.1 >>= λ receiver. number_upto w16 max_messages receiver.1 >>= λ count.
+    messages_at count.0 max_queue_bytes count.1 >>= λ messages.
+    cond (eqb (length messages.1) 0)
+    (Some (record { messages = messages.0; qbytes = a.0.0; last_sender = sender.0; last_receiver = receiver.0 }))
+    None) q a.2 in
+    let c = bind_some (number_at w32 b.0.1)
+    (λ receiver. number_upto w16 max_messages receiver.1 >>= λ count.
+    messages_at count.0 max_queue_bytes count.1 >>= λ messages.
+    cond (eqb (length messages.1) 0)
+    (Some (record { messages = messages.0; qbytes = a.0.0; last_sender = b.0.0; last_receiver = receiver.0 })) None)
+    q b.2 in
+    let d = bind_some (number_upto w16 max_messages c.0.1)
+    (λ count. messages_at count.0 max_queue_bytes count.1 >>= λ messages.
+    cond (eqb (length messages.1) 0)
+    (Some (record { messages = messages.0; qbytes = a.0.0; last_sender = b.0.0; last_receiver = c.0.0 })) None) q
+    c.2 in
+    let f = bind_some (messages_at d.0.0 max_queue_bytes d.0.1)
+    (λ messages. cond (eqb (length messages.1) 0)
+    (Some (record { messages = messages.0; qbytes = a.0.0; last_sender = b.0.0; last_receiver = c.0.0 })) None) q
+    d.2 in
     let made : Queue = record { messages = f.0.0; qbytes = a.0.0; last_sender = b.0.0; last_receiver = c.0.0 } in
     let g = guard_ended (eqb (length f.0.1) 0) made q f.2 in
     let t0 = number_upto_takes w32 (2 ^ 32) wide32 max_queue_bytes bytes a.0 fits a.1 in
@@ -38,11 +59,16 @@ fields_take bytes q fits e =
     let nothing : f.0.1 ≡ [] = nil_from_length f.0.1 (eqb-true _ _ g.0) in
     let e34 = Takes-then c.0.1 (small d.0.0) d.0.1 (flat_map message_field f.0.0) f.0.1 t3.0 t4.0 in
     let e12 = Takes-then a.0.1 (num b.0.0) b.0.1 (num c.0.0) c.0.1 t1.0 t2.0 in
-    let e14 = Takes-then a.0.1 (num b.0.0 ++ num c.0.0) c.0.1 (small d.0.0 ++ flat_map message_field f.0.0) f.0.1 e12 e34 in
-    let e04 = Takes-then bytes (num a.0.0) a.0.1 ((num b.0.0 ++ num c.0.0) ++ (small d.0.0 ++ flat_map message_field f.0.0)) f.0.1 t0.0 e14 in
+    let e14 = Takes-then a.0.1 (num b.0.0 ++ num c.0.0) c.0.1
+    (small d.0.0 ++ flat_map message_field f.0.0) f.0.1 e12 e34 in
+    let e04 = Takes-then bytes (num a.0.0) a.0.1
+    ((num b.0.0 ++ num c.0.0) ++ (small d.0.0 ++ flat_map message_field f.0.0)) f.0.1 t0.0 e14 in
     let all : List ℕ = num a.0.0 ++ ((num b.0.0 ++ num c.0.0) ++ (small d.0.0 ++ flat_map message_field f.0.0)) in
     let whole : bytes ≡ all = e04.parts ∙ ap (λ (r : List ℕ). all ++ r) nothing ∙ append-nil all in
-    let counted : bytes ≡ num a.0.0 ++ ((num b.0.0 ++ num c.0.0) ++ (small (length f.0.0) ++ flat_map message_field f.0.0)) = whole ∙ ap (λ (k : ℕ). num a.0.0 ++ ((num b.0.0 ++ num c.0.0) ++ (small k ++ flat_map message_field f.0.0))) (sym t4.1) in
+    let counted : bytes ≡ num a.0.0
+    ++ ((num b.0.0 ++ num c.0.0) ++ (small (length f.0.0) ++ flat_map message_field f.0.0)) =
+    whole ∙ ap (λ (k : ℕ). num a.0.0 ++ ((num b.0.0 ++ num c.0.0) ++ (small k ++ flat_map message_field f.0.0)))
+    (sym t4.1) in
     subst (λ (x : Queue). IsBodyOf x (queue_code ∷ bytes)) g.1 (record {
       limits = record { qbytes = t0.1; count = omega (arith, t4.1, t3.1); bytes = t4.2; each = t4.3 };
       sender = t1.1;
@@ -53,17 +79,32 @@ fields_take bytes q fits e =
 fields_again : (q : Queue) (bytes : List ℕ) → IsBodyOf q (queue_code ∷ bytes) → fields_at bytes ≡ Some q
 unfolding fields_at
 fields_again q bytes is =
-    let fields : bytes ≡ num q.qbytes ++ ((num q.last_sender ++ num q.last_receiver) ++ (small (length q.messages) ++ flat_map message_field q.messages)) = cc in
-    let regrouped : (num q.last_sender ++ num q.last_receiver) ++ (small (length q.messages) ++ flat_map message_field q.messages) ≡ num q.last_sender ++ (num q.last_receiver ++ (small (length q.messages) ++ flat_map message_field q.messages)) = append_assoc (num q.last_sender) (num q.last_receiver) (small (length q.messages) ++ flat_map message_field q.messages) in
+    let fields : bytes ≡ num q.qbytes
+    ++ ((num q.last_sender ++ num q.last_receiver)
+    ++ (small (length q.messages) ++ flat_map message_field q.messages)) = cc in
+    let regrouped : (num q.last_sender ++ num q.last_receiver)
+    ++ (small (length q.messages) ++ flat_map message_field q.messages) ≡ num q.last_sender
+    ++ (num q.last_receiver ++ (small (length q.messages) ++ flat_map message_field q.messages)) =
+    append_assoc (num q.last_sender) (num q.last_receiver)
+    (small (length q.messages) ++ flat_map message_field q.messages) in
     let limits = is.limits in
     let qbytes = limits.qbytes in
     let count = limits.count in
-    let rest : messages_at (length q.messages) max_queue_bytes (flat_map message_field q.messages) ≡ Some (q.messages, []) = ap (messages_at (length q.messages) max_queue_bytes) (sym (append-nil (flat_map message_field q.messages))) ∙ messages_again q.messages max_queue_bytes [] limits.each limits.bytes in
+    let rest : messages_at (length q.messages) max_queue_bytes (flat_map message_field q.messages)
+    ≡ Some (q.messages, []) =
+    ap (messages_at (length q.messages) max_queue_bytes) (sym (append-nil (flat_map message_field q.messages)))
+    ∙ messages_again q.messages max_queue_bytes [] limits.each limits.bytes in
     ap fields_at (fields ∙ ap (λ (r : List ℕ). num q.qbytes ++ r) regrouped) ∙ rw (
-      number_upto_again w32 (2 ^ 32) wide32 max_queue_bytes q.qbytes (num q.last_sender ++ (num q.last_receiver ++ (small (length q.messages) ++ flat_map message_field q.messages))) (omega arith) qbytes,
-      number_again w32 (2 ^ 32) wide32 q.last_sender (num q.last_receiver ++ (small (length q.messages) ++ flat_map message_field q.messages)) is.sender,
-      number_again w32 (2 ^ 32) wide32 q.last_receiver (small (length q.messages) ++ flat_map message_field q.messages) is.receiver,
-      number_upto_again w16 (2 ^ 16) wide16 max_messages (length q.messages) (flat_map message_field q.messages) (omega arith) count,
+      number_upto_again w32 (2 ^ 32) wide32 max_queue_bytes q.qbytes
+          (num q.last_sender ++
+          (num q.last_receiver ++ (small (length q.messages) ++ flat_map message_field q.messages)))
+          (omega arith) qbytes,
+      number_again w32 (2 ^ 32) wide32 q.last_sender
+          (num q.last_receiver ++ (small (length q.messages) ++ flat_map message_field q.messages)) is.sender,
+      number_again w32 (2 ^ 32) wide32 q.last_receiver
+          (small (length q.messages) ++ flat_map message_field q.messages) is.receiver,
+      number_upto_again w16 (2 ^ 16) wide16 max_messages (length q.messages) (flat_map message_field q.messages)
+          (omega arith) count,
       rest,
     ) refl
 
@@ -83,11 +124,38 @@ queue_again q (code ∷ bytes) is =
     let same : code ≡ queue_code = cc in
     rw same (fields_again q bytes (rw same at is))
 
-pub is_found : (bytes : List ℕ) (r : Result Queue UnpackFault) → IsBytes bytes → Gives (λ q. q) r (queue_at bytes) → IfOk r (λ q. IsBodyOf q bytes)
-is_found bytes (Ok q) fits given = queue_takes bytes q fits given
-is_found bytes (Err e) fits given = tt
+-- what is read as no queue is none's body, and bytes are one queue's at most
+pub no_queue : (bytes : List ℕ) → queue_at bytes ≡ None → (q : Queue) → IsBodyOf q bytes → ⊥
+no_queue bytes e q is = refused (queue_at bytes) q e (queue_again q bytes is)
 
-pub is_only : (bytes : List ℕ) (r : Result Queue UnpackFault) → Gives (λ q. q) r (queue_at bytes) → (q : Queue) → IsBodyOf q bytes → Unpacks r q
-is_only bytes (Ok got) given q is = some_is got q (sym given ∙ queue_again q bytes is)
-is_only bytes (Err Memory) given q is = tt
-is_only bytes (Err NotABody) given q is = let again = queue_again q bytes is in absurd cc
+pub one_queue : (bytes : List ℕ) (p q : Queue) → IsBodyOf p bytes → IsBodyOf q bytes → p ≡ q
+one_queue bytes p q is is' = some_is p q (sym (queue_again p bytes is) ∙ queue_again q bytes is')
+
+-- ---- the fields, as the code reads them
+
+pub fields_read : (bytes : List ℕ) (a b c d : ℕ × List ℕ) (room : ℕ) → number_upto w32 max_queue_bytes bytes ≡ Some a
+    → number_at w32 a.1 ≡ Some b → number_at w32 b.1 ≡ Some c → number_upto w16 max_messages c.1 ≡ Some d
+    → Measures (messages_at d.0 max_queue_bytes d.1) room [] → HasFields a.0 b.0 c.0 d.0 room d.1 (fields_at bytes)
+unfolding fields_at
+fields_read bytes a b c d room qbytes sender receiver count measured =
+    let read = measured.are_read in
+    record { measured = measured; is_read = rw (qbytes, sender, receiver, count, read) refl }
+
+pub fields_unread : (bytes : List ℕ) (a b c d : ℕ × List ℕ) (room : ℕ) (rest : List ℕ)
+    → number_upto w32 max_queue_bytes bytes ≡ Some a → number_at w32 a.1 ≡ Some b → number_at w32 b.1 ≡ Some c
+    → number_upto w16 max_messages c.1 ≡ Some d
+    → Measures (messages_at d.0 max_queue_bytes d.1) room rest → eqb (length rest) 0 ≡ false → fields_at bytes ≡ None
+unfolding fields_at
+fields_unread bytes a b c d room rest qbytes sender receiver count measured more =
+    let read = measured.are_read in
+    rw (qbytes, sender, receiver, count, read, more) refl
+
+pub is_unpacked : {X : Type 0} (qbytes sender receiver count room : X → ℕ) (messages : X → List ℕ) (bytes : List ℕ)
+    (r : Option X) → IsBytes bytes
+    → MatchOption r (queue_at bytes ≡ None)
+    (λ f. HasFields (qbytes f) (sender f) (receiver f) (count f) (room f) (messages f) (queue_at bytes))
+    → MatchOption r ((q : Queue) → IsBodyOf q bytes → ⊥)
+    (λ f. HasBody (qbytes f) (sender f) (receiver f) (count f) (room f) (messages f) bytes)
+is_unpacked qbytes sender receiver count room messages bytes None fits read = no_queue bytes read
+is_unpacked qbytes sender receiver count room messages bytes (Some f) fits read =
+    record { measured = read.measured; body = queue_takes bytes _ fits read.is_read }

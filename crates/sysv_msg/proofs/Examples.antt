@@ -7,5 +7,6 @@ an_empty_queue : body empty_queue ≡ 4 ∷ 0 ∷ 0 ∷ 64 ∷ 0 ∷ 0 ∷ 0 ∷
 an_empty_queue = refl
 
 -- type 258 and the text "hi"
-a_message : message_field (record { class = pos 258; text = 104 ∷ 105 ∷ [] }) ≡ 0 ∷ 0 ∷ 1 ∷ 2 ∷ 0 ∷ 0 ∷ 0 ∷ 2 ∷ 104 ∷ 105 ∷ []
+a_message : message_field (record { class = pos 258; text = 104 ∷ 105 ∷ [] }) ≡ 0 ∷ 0 ∷ 1 ∷ 2 ∷ 0 ∷ 0 ∷ 0 ∷ 2 ∷ 104
+    ∷ 105 ∷ []
 a_message = refl

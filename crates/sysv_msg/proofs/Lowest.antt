@@ -30,29 +30,39 @@ eq_above a b h = rw (lt_false a b (omega (arith, ints)), lt_true b a h) refl
 
 -- ---- the first message of a type
 
-counted : {X : Type 0} (p : X → Bool) (xs : List X) → cond (ltb (suc (prefix_len p xs)) (suc (length xs))) (Some (suc (prefix_len p xs))) None ≡ option_map (λ k. 1 + k) (cond (ltb (prefix_len p xs) (length xs)) (Some (prefix_len p xs)) None)
+counted : {X : Type 0} (p : X → Bool) (xs : List X)
+    → cond (ltb (suc (prefix_len p xs)) (suc (length xs))) (Some (suc (prefix_len p xs))) None
+    ≡ option_map (λ k. 1 + k) (cond (ltb (prefix_len p xs) (length xs)) (Some (prefix_len p xs)) None)
 counted p xs = grind (arith, nat_tests)
 
-first_here : (class : ℤ) (m : Message) (rest : List Message) → int_eq m.class class ≡ true → first_of class (m ∷ rest) ≡ Some 0
+first_here : (class : ℤ) (m : Message) (rest : List Message) → int_eq m.class class ≡ true
+    → first_of class (m ∷ rest) ≡ Some 0
 first_here class m rest same =
     let some : ltb 0 (suc (length rest)) ≡ true = grind (arith, nat_tests) in
     rw (same, some) refl
 
-first_later : (class : ℤ) (m : Message) (rest : List Message) → int_eq m.class class ≡ false → first_of class (m ∷ rest) ≡ option_map (λ k. 1 + k) (first_of class rest)
+first_later : (class : ℤ) (m : Message) (rest : List Message) → int_eq m.class class ≡ false
+    → first_of class (m ∷ rest) ≡ option_map (λ k. 1 + k) (first_of class rest)
 first_later class m rest other = rw other (rw one-add (counted (λ m. not (int_eq m.class class)) rest))
 
-shift : (start : ℕ) (place : Option ℕ) → option_map (λ k. start + k) (option_map (λ k. 1 + k) place) ≡ option_map (λ k. (start + 1) + k) place
+shift : (start : ℕ) (place : Option ℕ)
+    → option_map (λ k. start + k) (option_map (λ k. 1 + k) place) ≡ option_map (λ k. (start + 1) + k) place
 shift start None = refl
 shift start (Some k) = ap (λ (n : ℕ). Some n) (omega arith)
 
 -- the place of a later message, seen from one place further in front
 from_here : (start : ℕ) (class : ℤ) (m : Message) (rest : List Message) (place : ℕ) → class <ℤ m.class
-    → option_map (λ k. (start + 1) + k) (first_of class rest) ≡ Some place → option_map (λ k. start + k) (first_of class (m ∷ rest)) ≡ Some place
+    → option_map (λ k. (start + 1) + k) (first_of class rest) ≡ Some place
+    → option_map (λ k. start + k) (first_of class (m ∷ rest)) ≡ Some place
 from_here start class m rest place high first =
-    ap (option_map (λ k. start + k)) (first_later class m rest (eq_above m.class class high)) ∙ shift start (first_of class rest) ∙ first
+    ap (option_map (λ k. start + k)) (first_later class m rest (eq_above m.class class high))
+    ∙ shift start (first_of class rest) ∙ first
 
-at_start : (start : ℕ) (m : Message) (rest : List Message) → option_map (λ k. start + k) (first_of m.class (m ∷ rest)) ≡ Some start
-at_start start m rest = ap (option_map (λ k. start + k)) (first_here m.class m rest (eq_same m.class)) ∙ ap (λ (n : ℕ). Some n) (omega arith)
+at_start : (start : ℕ) (m : Message) (rest : List Message)
+    → option_map (λ k. start + k) (first_of m.class (m ∷ rest)) ≡ Some start
+at_start start m rest =
+    ap (option_map (λ k. start + k)) (first_here m.class m rest (eq_same m.class))
+    ∙ ap (λ (n : ℕ). Some n) (omega arith)
 
 -- ---- one message more in front
 
@@ -65,7 +75,8 @@ above bound start m rest (Some best) high kept = record {
   within = kept.within;
 }
 
-pub later : (bound : ℤ) (start : ℕ) (m : Message) (rest : List Message) (best : ℤ × ℕ) → m.class ≤ℤ bound → best.0 <ℤ m.class
+pub later : (bound : ℤ) (start : ℕ) (m : Message) (rest : List Message) (best : ℤ × ℕ) → m.class ≤ℤ bound
+    → best.0 <ℤ m.class
     → IsLowest bound (start + 1) rest (Some best) → IsLowest bound start (m ∷ rest) (Some best)
 later bound start m rest best low high kept = record {
   lowest = rw (le_true m.class bound low, kept.lowest, lt_true best.0 m.class high) refl;
@@ -97,11 +108,15 @@ found bound ms None kept = rw kept refl
 found bound ms (Some best) kept = rw kept.lowest (sym kept.first ∙ plain (first_of best.0 ms))
 
 -- one step of a walk from the last message on
-pub one_more : (items : List Message) (bound : ℤ) (place : ℕ) (m : Message) (behind lowest : Option (ℤ × ℕ)) → 0 < place → place ≤ length items → m ≡ get_or items (place - 1) m
-    → (IsLowest bound ((place - 1) + 1) (drop place items) behind → IsLowest bound (place - 1) (m ∷ drop place items) lowest)
+pub one_more : (items : List Message) (bound : ℤ) (place : ℕ) (m : Message) (behind lowest : Option (ℤ × ℕ)) → 0 < place
+    → place ≤ length items → m ≡ get_or items (place - 1) m
+    → (IsLowest bound ((place - 1) + 1) (drop place items) behind
+    → IsLowest bound (place - 1) (m ∷ drop place items) lowest)
     → IsLowest bound place (drop place items) behind → IsLowest bound (place - 1) (drop (place - 1) items) lowest
 one_more items bound place m behind lowest some within is step kept =
     let back : (place - 1) + 1 ≡ place = omega arith in
     let next : suc (place - 1) ≡ place = omega arith in
-    let split : drop (place - 1) items ≡ m ∷ drop place items = drop-cons items (place - 1) m (omega arith) ∙ ap (λ (x : Message). x ∷ drop (suc (place - 1)) items) (sym is) ∙ ap (λ (k : ℕ). m ∷ drop k items) next in
+    let split : drop (place - 1) items ≡ m ∷ drop place items =
+    drop-cons items (place - 1) m (omega arith) ∙ ap (λ (x : Message). x ∷ drop (suc (place - 1)) items) (sym is)
+    ∙ ap (λ (k : ℕ). m ∷ drop k items) next in
     rw split (step (rw back kept))

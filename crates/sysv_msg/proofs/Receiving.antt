@@ -10,35 +10,49 @@ use Rattle.kernel_model.specs.Queue.{Message, Queue, select, receive, bytes_of}
 use Rattle.sysv_msg.specs.Limits.{IsSendable, IsWithinLimits}
 
 abbrev pub queue_of : List Message → ℕ → ℕ → ℕ → Queue
-queue_of messages qbytes sender receiver = record { messages = messages; qbytes = qbytes; last_sender = sender; last_receiver = receiver }
+queue_of messages qbytes sender receiver =
+    record { messages = messages; qbytes = qbytes; last_sender = sender; last_receiver = receiver }
 
-pub receive_taken : (q : Queue) (pid : ℕ) (class : ℤ) (size : ℕ) (noerror : Bool) (place : ℕ) (m : Message) (rest : List Message)
-    → Some place ≡ select q.messages class → place < length q.messages → m ≡ get_or q.messages place m → (nat_le (length m.text) size || noerror) ≡ true → rest ≡ remove q.messages place
-    → receive q pid class size noerror ≡ Ok (record { queue = record q { messages = rest; last_receiver = pid }; message = record m { text = take size m.text } })
+pub receive_taken : (q : Queue) (pid : ℕ) (class : ℤ) (size : ℕ) (noerror : Bool) (place : ℕ) (m : Message)
+    (rest : List Message)
+    → Some place ≡ select q.messages class → place < length q.messages → m ≡ get_or q.messages place m
+    → (nat_le (length m.text) size || noerror) ≡ true → rest ≡ remove q.messages place
+    → receive q pid class size noerror
+    ≡ Ok (record {
+      queue = record q { messages = rest; last_receiver = pid };
+      message =
+          record m { text = take size m.text };
+    })
 receive_taken q pid class size noerror place m rest selected within is fits left =
-    let there : slice_get q.messages place ≡ Some m = slice_get_read q.messages (length q.messages) place m refl within is in
+    let there : slice_get q.messages place ≡ Some m =
+    slice_get_read q.messages (length q.messages) place m refl within is in
     rw (← selected, there, fits, left) refl
 
 pub receive_refused : (q : Queue) (pid : ℕ) (class : ℤ) (size : ℕ) (noerror : Bool) (place : ℕ) (m : Message)
-    → Some place ≡ select q.messages class → place < length q.messages → m ≡ get_or q.messages place m → (nat_le (length m.text) size || noerror) ≡ false
+    → Some place ≡ select q.messages class → place < length q.messages → m ≡ get_or q.messages place m
+    → (nat_le (length m.text) size || noerror) ≡ false
     → receive q pid class size noerror ≡ Err E2big
 receive_refused q pid class size noerror place m selected within is fits =
-    let there : slice_get q.messages place ≡ Some m = slice_get_read q.messages (length q.messages) place m refl within is in
+    let there : slice_get q.messages place ≡ Some m =
+    slice_get_read q.messages (length q.messages) place m refl within is in
     rw (← selected, there, fits) refl
 
-each_removed : {X : Type 0} (P : X → Type 0) (xs : List X) (place : ℕ) → AllByRecursion P xs → AllByRecursion P (remove xs place)
+each_removed : {X : Type 0} (P : X → Type 0) (xs : List X) (place : ℕ) → AllByRecursion P xs
+    → AllByRecursion P (remove xs place)
 each_removed P [] zero h = h
 each_removed P [] (suc place) h = h
 each_removed P (x ∷ xs) zero h = h.1
 each_removed P (x ∷ xs) (suc place) h = (h.0, each_removed P xs place h.1)
 
-pub bytes_removed : (ms : List Message) (place : ℕ) (m : Message) → place < length ms → m ≡ get_or ms place m → bytes_of (remove ms place) + length m.text ≡ bytes_of ms
+pub bytes_removed : (ms : List Message) (place : ℕ) (m : Message) → place < length ms → m ≡ get_or ms place m
+    → bytes_of (remove ms place) + length m.text ≡ bytes_of ms
 bytes_removed ms place m within is =
     let sum = sum_by-remove (λ (m : Message). length m.text) ms place m within in
     subst (λ (x : Message). bytes_of (remove ms place) + length x.text ≡ bytes_of ms) (sym is) sum
 
 pub within_removed : (q : Queue) (place pid bytes : ℕ) (m : Message) (rest : List Message)
-    → place < length q.messages → m ≡ get_or q.messages place m → rest ≡ remove q.messages place → bytes ≡ bytes_of q.messages → IsWithinLimits q
+    → place < length q.messages → m ≡ get_or q.messages place m → rest ≡ remove q.messages place
+    → bytes ≡ bytes_of q.messages → IsWithinLimits q
     → (bytes - length m.text ≡ bytes_of rest) × IsWithinLimits (record q { messages = rest; last_receiver = pid })
 within_removed q place pid bytes m rest within is left count limits =
     let sum = bytes_removed q.messages place m within is in
@@ -54,6 +68,8 @@ within_removed q place pid bytes m rest within is left count limits =
     )
 
 -- two reads of one place
-pub same_item : (ms : List Message) (place : ℕ) (x y : Message) → place < length ms → x ≡ get_or ms place x → y ≡ get_or ms place y → x ≡ y
+pub same_item : (ms : List Message) (place : ℕ) (x y : Message) → place < length ms → x ≡ get_or ms place x
+    → y ≡ get_or ms place y → x ≡ y
 same_item ms place x y within x_is y_is =
-    same_Some x y (sym (slice_get_read ms (length ms) place x refl within x_is) ∙ slice_get_read ms (length ms) place y refl within y_is)
+    same_Some x y (sym (slice_get_read ms (length ms) place x refl within x_is)
+    ∙ slice_get_read ms (length ms) place y refl within y_is)

@@ -1,10 +1,8 @@
 -- A queue as bytes (profile): a code, msg_qbytes, the last sender, the last receiver, the count of messages, and
 -- each message as its type and its text. Numbers are big-endian, signed ones in two's complement.
-use Rattle.std.specs.Prelude.{◌≡◌, ℕ, ◌<◌, ◌^◌, List, ◌∷◌, ◌++◌, length, Result, Ok, Err}
+use Rattle.std.specs.Prelude.{◌≡◌, ℕ, ◌<◌, ◌^◌, List, ◌∷◌, ◌++◌, length}
 use Rattle.std.specs.List.{flat_map}
 use Rattle.std.specs.Int.{w16, w32, to_be_bytes, cast_unsigned}
-use Rattle.pico_base.specs.declared.fault.UnpackFault.{UnpackFault}
-use Rattle.pico_base.specs.declared.fault.UnpackFault.TheVariants.{Memory, NotABody}
 use Rattle.kernel_model.specs.Queue.{Message, Queue}
 use Rattle.sysv_msg.specs.Limits.{IsWithinLimits}
 
@@ -33,9 +31,3 @@ pub record IsBodyOf (q : Queue) (bytes : List ℕ) : Type 0 where
   pub sender : q.last_sender < 2 ^ 32
   pub receiver : q.last_receiver < 2 ^ 32
   pub spelled : bytes ≡ body q
-
--- what unpack answers gives this queue, unless memory ran out
-abbrev pub Unpacks : Result Queue UnpackFault → Queue → Type 0
-Unpacks (Ok got) q = got ≡ q
-Unpacks (Err Memory) q = Unit {0}
-Unpacks (Err NotABody) q = ⊥

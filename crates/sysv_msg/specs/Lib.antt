@@ -1,5 +1,6 @@
 pub mod Body
 pub mod Limits
 pub mod Lowest
+pub mod Measured
 pub mod Reading
 pub mod Refusals

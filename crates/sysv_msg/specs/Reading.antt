@@ -31,6 +31,11 @@ messages_at (suc n) room bytes = do
   others ← messages_at n (room - length first.0.text) first.1
   Some (first.0 ∷ others.0, others.1)
 
+-- the messages that were read, without the bytes after them
+abbrev pub messages_in : Option (List Message × List ℕ) → Option (List Message)
+messages_in None = None
+messages_in (Some x) = Some x.0
+
 -- the fields behind the code, and nothing behind them
 unfoldable pub fields_at : List ℕ → Option Queue
 fields_at bytes = do
@@ -39,7 +44,14 @@ fields_at bytes = do
   receiver ← number_at w32 sender.1
   count ← number_upto w16 max_messages receiver.1
   messages ← messages_at count.0 max_queue_bytes count.1
-  if length messages.1 == 0 then Some (record { messages = messages.0; qbytes = qbytes.0; last_sender = sender.0; last_receiver = receiver.0 }) else None
+  if length messages.1 == 0 then Some
+      (record {
+        messages = messages.0;
+        qbytes = qbytes.0;
+        last_sender = sender.0;
+        last_receiver =
+            receiver.0;
+      }) else None
 
 unfoldable pub queue_at : List ℕ → Option Queue
 queue_at [] = None

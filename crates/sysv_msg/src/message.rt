@@ -1,3 +1,4 @@
+//! One message: its type and its text.
 use pico_base::Bytes;
 use std::marker::Model;
 

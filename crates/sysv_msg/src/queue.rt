@@ -1,3 +1,4 @@
+//! A message queue as its node holds it.
 ghost use Rattle.std.specs.Prelude.{◌≡◌, ◌+◌, ◌||◌, nat_le, ◌≤◌, ◌∷◌, ◌++◌, [], Ok, Err, IfOk, IfErr, OnErr, IsOkAnd, length, take};
 ghost use Rattle.kernel_model.specs.Queue as definition;
 ghost use Rattle.sysv_msg.specs.Refusals.{RefusesSend};
@@ -37,9 +38,22 @@ impl Model for Queue {
 
     ghost Value = { Value_ };
 
-    ghost view = { λ q. record { messages = q.messages.items; qbytes = q.qbytes; last_sender = q.last_sender; last_receiver = q.last_receiver } };
+    ghost view = { λ q. record {
+      messages = q.messages.items;
+      qbytes = q.qbytes;
+      last_sender =
+          q.last_sender;
+      last_receiver = q.last_receiver;
+    } };
 
-    ghost invariant = { λ q. (q.bytes ≡ bytes_of q.messages.items) × IsWithinLimits (record { messages = q.messages.items; qbytes = q.qbytes; last_sender = q.last_sender; last_receiver = q.last_receiver }) };
+    ghost invariant = { λ q. (q.bytes ≡ bytes_of q.messages.items)
+        × IsWithinLimits (record {
+          messages = q.messages.items;
+          qbytes = q.qbytes;
+          last_sender =
+              q.last_sender;
+          last_receiver = q.last_receiver;
+        }) };
 }
 
 /// Why a message wasn't sent.

@@ -1,3 +1,4 @@
+//! What a type selects, room at its edges, and bodies that are refused.
 use crate::{Queue, SendFault};
 use pico_base::{Bytes, Errno, Memory, Pid, Reply, UnpackFault};
 use std::alloc::Global;

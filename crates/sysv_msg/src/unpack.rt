@@ -1,123 +1,165 @@
-//! A queue read from bytes.
-ghost use Rattle.std.specs.Prelude.{◌≡◌, ◌+◌, ◌≤◌, length, IfOk, Ok, min};
+//! A queue read from bytes: first all of its fields, which takes no memory, and then its messages are copied.
+ghost use Rattle.std.specs.Prelude.{◌≡◌, ◌≤◌, length, IfOk, IfErr, IfSome, IsSome, MatchOption, min};
 ghost use Rattle.std.specs.Int.{w16, w32};
-ghost use Rattle.std.specs.List.{AllByRecursion};
 ghost use Rattle.kernel_model.specs.Queue as definition;
-ghost use Rattle.kernel_model.specs.Queue.{max_text, max_queue_bytes, bytes_of};
-ghost use Rattle.sysv_msg.specs.Body.{IsBodyOf, Unpacks};
-ghost use Rattle.sysv_msg.specs.Limits.{IsSendable};
-ghost use Rattle.body_fields.specs.Fields.{Gives, number_upto};
-ghost use Rattle.sysv_msg.specs.Reading.{text_at, class_at, message_at, messages_at, fields_at, queue_at};
+ghost use Rattle.kernel_model.specs.Queue.{max_text, max_queue_bytes};
+ghost use Rattle.sysv_msg.specs.Body.{IsBodyOf};
+ghost use Rattle.body_fields.specs.Fields.{Reads, Refuses, number_upto};
+ghost use Rattle.sysv_msg.specs.Reading.{text_at, class_at, message_at, messages_at, fields_at, queue_at, messages_in};
+ghost use Rattle.sysv_msg.specs.Measured.{Measures, HasBody, HasFields};
 
 use crate::pack::CODE;
 use crate::queue::{MAX_BYTES, MAX_MESSAGES, MAX_TEXT};
 use crate::{Message, Queue};
-use body_fields::{u16_at, u16_upto, u32_at, u32_upto};
-use pico_base::{Bytes, Pid, UnpackFault};
+use body_fields::{u16_upto, u32_at, u32_upto};
+use pico_base::{Bytes, Memory, Pid, UnpackFault};
 use std::alloc::Global;
 use std::collections::VecDeque;
 
+/// The fields of a packed queue, with the bytes of its messages, whose texts leave room for so many bytes more.
+#[derive(Clone, Copy)]
+struct Fields<'a> {
+    qbytes: u32,
+    sender: u32,
+    receiver: u32,
+    count: u16,
+    room: u32,
+    messages: &'a [u8],
+}
+
 #[tactic(auto, unfolding(crate::specs::Reading::text_at))]
-fn text_of(alloc: Global, limit: u32, bytes: &[u8]) -> Result<(Bytes, &[u8]), UnpackFault>
-    ensures read { Gives (λ x. (x.0, x.1.now)) result (text_at limit bytes.now) }
-    ensures within { IfOk result (λ x. length x.0 ≤ limit) }
+fn text_of(limit: u32, bytes: &[u8]) -> Option<(&[u8], &[u8])>
+    ensures read { Reads (λ x. (x.0.now, x.1.now)) result (text_at limit bytes.now) }
+    ensures within { IfSome result (λ x. length x.0.now ≤ limit) }
 {
     let (len, rest) = u32_upto(limit, bytes)?;
     let len = len as usize;
     if rest.len() < len {
-        return Err(UnpackFault::NotABody);
+        return None;
     }
-    let (text, rest) = rest.split_at(len);
-    Ok((Bytes::from_slice(alloc, text)?, rest))
+    Some(rest.split_at(len))
 }
 
 #[tactic(auto, unfolding(crate::specs::Reading::class_at))]
-fn class_of(bytes: &[u8]) -> Result<(i32, &[u8]), UnpackFault>
-    ensures { Gives (λ x. (x.0, x.1.now)) result (class_at bytes.now) }
+fn class_of(bytes: &[u8]) -> Option<(i32, &[u8])>
+    ensures { Reads (λ x. (x.0, x.1.now)) result (class_at bytes.now) }
 {
     let (number, rest) = u32_at(bytes)?;
     let class = number.cast_signed();
     if class < 1 {
-        return Err(UnpackFault::NotABody);
+        return None;
     }
-    Ok((class, rest))
+    Some((class, rest))
 }
 
+/// The type and the text of a message, and the bytes after it.
 #[tactic(auto, unfolding(crate::specs::Reading::message_at))]
-fn message_of(alloc: Global, room: u32, bytes: &[u8]) -> Result<(Message, &[u8]), UnpackFault>
-    ensures read { Gives (λ x. (x.0, x.1.now)) result (message_at room bytes.now) }
-    ensures within { IfOk result (λ x. length x.0.text ≤ room) }
+fn message_of(room: u32, bytes: &[u8]) -> Option<(i32, &[u8], &[u8])>
+    ensures read { Reads (λ x. (record { class = x.0; text = x.1.now }, x.2.now)) result (message_at room bytes.now) }
+    ensures within { IfSome result (λ x. length x.1.now ≤ room) }
 {
     let (class, rest) = class_of(bytes)?;
     let limit = room.min(MAX_TEXT as u32);
-    let (text, rest) = text_of(alloc, limit, rest)?;
-    Ok((Message { class, text }, rest))
+    let (text, rest) = text_of(limit, rest)?;
+    Some((class, text, rest))
 }
 
-/// So many messages, for how many more bytes of texts there is room behind them, and the bytes after them.
-fn messages_of(
-    alloc: Global,
-    count: u16,
-    bytes: &[u8],
-) -> Result<(VecDeque<Message>, u32, &[u8]), UnpackFault>
-    ensures read { Gives (λ x. (x.0.items, x.2.now)) result (messages_at count max_queue_bytes bytes.now) }
-    ensures room { IfOk result (λ x. x.1 + bytes_of x.0.items ≡ max_queue_bytes) }
-    ensures count { IfOk result (λ x. length x.0.items ≡ count) }
-    ensures each { IfOk result (λ x. AllByRecursion IsSendable x.0.items) }
+/// For how many more bytes of texts there is room behind so many messages, and the bytes after them.
+fn room_behind(count: u16, bytes: &[u8]) -> Option<(u32, &[u8])>
+    ensures { MatchOption result (messages_at count max_queue_bytes bytes.now ≡ None)
+        (λ x. Measures (messages_at count max_queue_bytes bytes.now) x.0 x.1.now) }
 {
-    let mut messages = VecDeque::new(alloc);
     let mut room = MAX_BYTES;
     let mut rest = bytes;
     for _ in 0..count {
-        let (message, after) = message_of(alloc, room, rest)?;
-        room -= message.text.len() as u32;
-        messages.push_back(message)?;
+        let (_, text, after) = message_of(room, rest)?;
+        room -= text.len() as u32;
         rest = after;
     }
-    Ok((messages, room, rest))
+    Some((room, rest))
 }
 
 /// The fields behind the code.
 #[tactic(auto, unfolding(crate::specs::Reading::fields_at))]
-fn fields_of(alloc: Global, bytes: &[u8]) -> Result<Queue, UnpackFault>
-    ensures { Gives (λ q. q) result (fields_at bytes.now) }
+fn fields_of(bytes: &[u8]) -> Option<Fields<'_>>
+    ensures { MatchOption result (fields_at bytes.now ≡ None)
+        (λ f. HasFields f.qbytes f.sender f.receiver f.count f.room f.messages.now (fields_at bytes.now)) }
 {
     let (qbytes, rest) = u32_upto(MAX_BYTES, bytes)?;
     let (sender, rest) = u32_at(rest)?;
     let (receiver, rest) = u32_at(rest)?;
-    let (count, rest) = u16_upto(MAX_MESSAGES as u16, rest)?;
-    let (messages, room, rest) = messages_of(alloc, count, rest)?;
+    let (count, messages) = u16_upto(MAX_MESSAGES as u16, rest)?;
+    let (room, rest) = room_behind(count, messages)?;
     if !rest.is_empty() {
-        return Err(UnpackFault::NotABody);
+        return None;
     }
-    Ok(Queue {
-        messages,
-        bytes: (MAX_BYTES - room) as usize,
+    Some(Fields {
         qbytes,
-        last_sender: Pid(sender),
-        last_receiver: Pid(receiver),
+        sender,
+        receiver,
+        count,
+        room,
+        messages,
     })
 }
 
 /// The code, and the fields behind it.
 #[tactic(auto, unfolding(crate::specs::Reading::queue_at))]
-fn queue_of(alloc: Global, bytes: &[u8]) -> Result<Queue, UnpackFault>
-    ensures { Gives (λ q. q) result (queue_at bytes.now) }
+fn queue_fields(bytes: &[u8]) -> Option<Fields<'_>>
+    ensures { MatchOption result (queue_at bytes.now ≡ None)
+        (λ f. HasFields f.qbytes f.sender f.receiver f.count f.room f.messages.now (queue_at bytes.now)) }
 {
     match bytes {
-        [CODE, fields @ ..] => fields_of(alloc, fields),
-        _ => Err(UnpackFault::NotABody),
+        [CODE, fields @ ..] => fields_of(fields),
+        _ => None,
     }
 }
 
+/// The fields of the queue whose packed form the bytes are, if they are one's.
+fn unpacked(bytes: &[u8]) -> Option<Fields<'_>>
+    ensures { MatchOption result ((q : definition.Queue) → IsBodyOf q bytes.now → ⊥)
+        (λ f. HasBody f.qbytes f.sender f.receiver f.count f.room f.messages.now bytes.now) }
+{
+    queue_fields(bytes)
+}
+
+/// Copies the messages of bytes that were read.
+fn copied(alloc: Global, count: u16, bytes: &[u8]) -> Result<VecDeque<Message>, Memory>
+    requires { IsSome (messages_at count max_queue_bytes bytes.now) }
+    ensures { IfOk result
+        (λ messages. messages_in (messages_at count max_queue_bytes bytes.now) ≡ Some messages.items) }
+{
+    let mut messages = VecDeque::new(alloc);
+    let mut room = MAX_BYTES;
+    let mut rest = bytes;
+    for _ in 0..count {
+        let (class, text, after) = message_of(room, rest).unwrap();
+        room -= text.len() as u32;
+        let text = Bytes::from_slice(alloc, text)?;
+        messages.push_back(Message { class, text })?;
+        rest = after;
+    }
+    Ok(messages)
+}
+
 impl Queue {
-    /// The queue whose packed form the bytes are. NotABody: they are the packed form of no queue.
+    /// The queue whose packed form the bytes are. NotABody exactly where they are the packed form of no queue, so
+    /// Memory comes only where they are one's.
     pub fn unpack(alloc: Global, bytes: &[u8]) -> Result<Queue, UnpackFault>
         // What is unpacked is packed so.
         ensures found { IfOk result (λ q. IsBodyOf q bytes.now) }
         // What is packed so is unpacked, unless memory runs out.
-        ensures only { (q : definition.Queue) → IsBodyOf q bytes.now → Unpacks result q }
+        ensures only { (q : definition.Queue) → IsBodyOf q bytes.now → IfOk result (λ got. got ≡ q) }
+        ensures refused { IfErr result (Refuses (λ q. IsBodyOf q bytes.now)) }
     {
-        queue_of(alloc, bytes)
+        let fields = unpacked(bytes).ok_or(UnpackFault::NotABody)?;
+        let messages = copied(alloc, fields.count, fields.messages)?;
+        Ok(Queue {
+            messages,
+            bytes: (MAX_BYTES - fields.room) as usize,
+            qbytes: fields.qbytes,
+            last_sender: Pid(fields.sender),
+            last_receiver: Pid(fields.receiver),
+        })
     }
 }

@@ -26,7 +26,8 @@ no_value e = Err e
 same_error : (a b : Errno) → no_value a ≡ no_value b → a ≡ b
 same_error a b e = cc
 
-stops : (i : ℕ) (values : List ℕ) (num : ℕ) (m : Moved) (rest : List ℕ → Tried) (e : Errno) → answer_of m ≡ Err e → trial_of (go_on i values num m rest) ≡ Err e
+stops : (i : ℕ) (values : List ℕ) (num : ℕ) (m : Moved) (rest : List ℕ → Tried) (e : Errno) → answer_of m ≡ Err e
+    → trial_of (go_on i values num m rest) ≡ Err e
 stops i values num (To value) rest e h = absurd cc
 stops i values num Waits rest e h = ap (λ (x : Errno). Err x) (same_error Eagain e h)
 stops i values num TooHigh rest e h = ap (λ (x : Errno). Err x) (same_error Erange e h)
@@ -34,17 +35,24 @@ stops i values num TooHigh rest e h = ap (λ (x : Errno). Err x) (same_error Era
 read_at : (values : List ℕ) (num : ℕ) → num < length values → slice_get values num ≡ Some (get_or values num 0)
 read_at values num inside = slice_get-get_or values num 0 inside
 
-pub tried_more : (values : List ℕ) (steps : List SemStep) (i : ℕ) (d : SemStep) (next : ℕ) → i < length steps → (get_or steps i d).num < length values
-    → Ok next ≡ answer_of (move_by (get_or steps i d).add (get_or values (get_or steps i d).num 0)) → try_from (i + 1) (set values (get_or steps i d).num next) (drop (i + 1) steps) ≡ try_from i values (drop i steps)
+pub tried_more : (values : List ℕ) (steps : List SemStep) (i : ℕ) (d : SemStep) (next : ℕ) → i < length steps
+    → (get_or steps i d).num < length values
+    → Ok next ≡ answer_of (move_by (get_or steps i d).add (get_or values (get_or steps i d).num 0))
+    → try_from (i + 1) (set values (get_or steps i d).num next) (drop (i + 1) steps)
+    ≡ try_from i values (drop i steps)
 tried_more values steps i d next within inside moved =
     let step = get_or steps i d in
     let split : drop i steps ≡ step ∷ drop (i + 1) steps = drop_more steps i d within in
     let to = moves_to (move_by step.add (get_or values step.num 0)) next (sym moved) in
     rw (split, read_at values step.num inside, to) refl
 
-pub tried_stops : (values : List ℕ) (steps : List SemStep) (i : ℕ) (d : SemStep) (e : Errno) → i < length steps → (get_or steps i d).num < length values
-    → Err e ≡ answer_of (move_by (get_or steps i d).add (get_or values (get_or steps i d).num 0)) → trial_of (try_from i values (drop i steps)) ≡ Err e
+pub tried_stops : (values : List ℕ) (steps : List SemStep) (i : ℕ) (d : SemStep) (e : Errno) → i < length steps
+    → (get_or steps i d).num < length values
+    → Err e ≡ answer_of (move_by (get_or steps i d).add (get_or values (get_or steps i d).num 0))
+    → trial_of (try_from i values (drop i steps)) ≡ Err e
 tried_stops values steps i d e within inside moved =
     let step = get_or steps i d in
     let split : drop i steps ≡ step ∷ drop (i + 1) steps = drop_more steps i d within in
-    rw (split, read_at values step.num inside) (stops i values step.num (move_by step.add (get_or values step.num 0)) (λ next. try_from (i + 1) next (drop (i + 1) steps)) e (sym moved))
+    rw (split, read_at values step.num inside)
+    (stops i values step.num (move_by step.add (get_or values step.num 0))
+    (λ next. try_from (i + 1) next (drop (i + 1) steps)) e (sym moved))

@@ -2,7 +2,7 @@
 use Rattle.std.proofs.Common.{◌≡◌, ℕ, zero, suc, ◌+◌, ◌-◌, ◌≤◌, Bool, true, false, cond, eqb, ltb, leb, ◌||◌, ℤ, pos, negsuc, List, [], ◌∷◌, Option, Some, None, Result, Ok, Err, ◌++◌, take, drop, length, set, refl, sym, ap, subst, ◌∙◌, arith}
 use Rattle.std.specs.Prelude.{fold, slice_get, IfOk, IfSome, OnErr}
 use Rattle.std.specs.List.{AllByRecursion, list_any}
-use Rattle.std.proofs.lemmas.Bool.{leb-true, ltb-false, eqb-true}
+use Rattle.std.proofs.lemmas.Bool.{leb-true, ltb-false, eqb-true, or_parts}
 use Rattle.std.proofs.lemmas.List.{length-set, length-map, take_at}
 use Rattle.pico_base.specs.declared.call.SemStep.{SemStep}
 use Rattle.pico_base.specs.declared.reply.Errno.{Errno}
@@ -12,7 +12,8 @@ use Rattle.sysv_sem.specs.Limits.{IsWithinLimits}
 
 -- ---- an element of a list
 
-each_set : {X : Type 0} (P : X → Type 0) (xs : List X) (i : ℕ) (y : X) → AllByRecursion P xs → P y → AllByRecursion P (set xs i y)
+each_set : {X : Type 0} (P : X → Type 0) (xs : List X) (i : ℕ) (y : X) → AllByRecursion P xs → P y
+    → AllByRecursion P (set xs i y)
 each_set P [] i y h p = tt
 each_set P (x ∷ xs) zero y h p = (p, h.1)
 each_set P (x ∷ xs) (suc i) y h p = (h.0, each_set P xs i y h.1 p)
@@ -54,8 +55,10 @@ either b m n (Right is) then_fine else_fine = subst MovesWithin (sym is) else_fi
 
 moved_within : (add : ℤ) (value : ℕ) → IsValue value → MovesWithin (move_by add value)
 moved_within (pos zero) value h = either (eqb value 0) (To 0) Waits (chosen _ _ _) (λ e. omega arith) tt
-moved_within (pos (suc n)) value h = either (leb (value + suc n) max_value) (To (value + suc n)) TooHigh (chosen _ _ _) (λ e. leb-true _ _ e) tt
-moved_within (negsuc n) value h = either (leb (suc n) value) (To (value - suc n)) Waits (chosen _ _ _) (λ e. omega arith) tt
+moved_within (pos (suc n)) value h =
+    either (leb (value + suc n) max_value) (To (value + suc n)) TooHigh (chosen _ _ _) (λ e. leb-true _ _ e) tt
+moved_within (negsuc n) value h =
+    either (leb (suc n) value) (To (value - suc n)) Waits (chosen _ _ _) (λ e. omega arith) tt
 
 at_within : (add : ℤ) (o : Option ℕ) → IfSome o IsValue → MovesWithin (move_at add o)
 at_within add None h = tt
@@ -72,23 +75,33 @@ done values = Done values
 same_done : (a b : List ℕ) → done a ≡ done b → a ≡ b
 same_done a b e = cc
 
-went_on : (count i : ℕ) (values : List ℕ) (num : ℕ) (m : Moved) (rest : List ℕ → Tried) (out : List ℕ) → IsRowFor count values → MovesWithin m
-    → ((next : List ℕ) → IsRowFor count next → rest next ≡ Done out → IsRowFor count out) → go_on i values num m rest ≡ Done out → IsRowFor count out
+went_on : (count i : ℕ) (values : List ℕ) (num : ℕ) (m : Moved) (rest : List ℕ → Tried) (out : List ℕ)
+    → IsRowFor count values → MovesWithin m
+    → ((next : List ℕ) → IsRowFor count next → rest next ≡ Done out → IsRowFor count out)
+    → go_on i values num m rest ≡ Done out → IsRowFor count out
 went_on count i values num (To value) rest out row m further e =
-    further (set values num value) (record { count = length-set values num value ∙ row.count; each = each_set IsValue values num value row.each m }) e
+    further (set values num value)
+    (record {
+      count = length-set values num value ∙ row.count;
+      each =
+          each_set IsValue values num value row.each m;
+    }) e
 went_on count i values num Waits rest out row m further e = absurd cc
 went_on count i values num TooHigh rest out row m further e = absurd cc
 
-tried_within : (count i : ℕ) (values : List ℕ) (steps : List SemStep) (out : List ℕ) → IsRowFor count values → try_from i values steps ≡ Done out → IsRowFor count out
+tried_within : (count i : ℕ) (values : List ℕ) (steps : List SemStep) (out : List ℕ) → IsRowFor count values
+    → try_from i values steps ≡ Done out → IsRowFor count out
 tried_within count i values [] out row e = subst (λ (x : List ℕ). IsRowFor count x) (same_done values out e) row
 tried_within count i values (step ∷ steps) out row e =
-    went_on count i values step.num (move_at step.add (slice_get values step.num)) (λ next. try_from (i + 1) next steps) out row
+    went_on count i values step.num (move_at step.add (slice_get values step.num))
+    (λ next. try_from (i + 1) next steps) out row
     (at_within step.add (slice_get values step.num) (each_get IsValue values step.num row.each))
     (λ next fine. tried_within count (i + 1) next steps out fine) e
 
 -- ---- sets
 
-with_values_within : (row : List Semaphore) (values : List ℕ) → IsRowFor (length row) values → AllByRecursion IsFine (with_values row values) × (length (with_values row values) ≡ length row)
+with_values_within : (row : List Semaphore) (values : List ℕ) → IsRowFor (length row) values
+    → AllByRecursion IsFine (with_values row values) × (length (with_values row values) ≡ length row)
 with_values_within [] values h = (tt, refl)
 with_values_within (s ∷ row) [] h = absurd (let n = h.count in omega arith)
 with_values_within (s ∷ row) (value ∷ values) h =
@@ -96,56 +109,64 @@ with_values_within (s ∷ row) (value ∷ values) h =
     let rest = with_values_within row values (record { count = omega arith; each = h.each.1 }) in
     ((h.each.0, rest.0), ap suc rest.1)
 
-marked_one : (pid num : ℕ) (row : List Semaphore) (o : Option Semaphore) → IfSome o IsFine → AllByRecursion IsFine row → AllByRecursion IsFine (mark_at row pid num o) × (length (mark_at row pid num o) ≡ length row)
+marked_one : (pid num : ℕ) (row : List Semaphore) (o : Option Semaphore) → IfSome o IsFine → AllByRecursion IsFine row
+    → AllByRecursion IsFine (mark_at row pid num o) × (length (mark_at row pid num o) ≡ length row)
 marked_one pid num row None p h = (h, refl)
-marked_one pid num row (Some s) p h = (each_set IsFine row num (with_last s pid) h p, length-set row num (with_last s pid))
+marked_one pid num row (Some s) p h =
+    (each_set IsFine row num (with_last s pid) h p, length-set row num (with_last s pid))
 
-marked_within : (pid : ℕ) (row : List Semaphore) (steps : List SemStep) → AllByRecursion IsFine row → AllByRecursion IsFine (fold (mark pid) row steps) × (length (fold (mark pid) row steps) ≡ length row)
+marked_within : (pid : ℕ) (row : List Semaphore) (steps : List SemStep) → AllByRecursion IsFine row
+    → AllByRecursion IsFine (fold (mark pid) row steps) × (length (fold (mark pid) row steps) ≡ length row)
 marked_within pid row [] h = (h, refl)
 marked_within pid row (step ∷ steps) h =
     let one = marked_one pid step.num row (slice_get row step.num) (each_get IsFine row step.num h) h in
     let rest = marked_within pid (mark pid row step) steps one.0 in
     (rest.0, rest.1 ∙ one.1)
 
-abbrev made : List Semaphore → Result SemaphoreSet Errno
-made row = Ok (set_of row)
+abbrev made : SemaphoreSet → Result SemaphoreSet Errno
+made row = Ok row
 
-same_made : (a b : List Semaphore) → made a ≡ made b → a ≡ b
-same_made a b e =
-    let is : set_of a ≡ set_of b = cc in ap (λ (set : SemaphoreSet). set.semaphores) is
+same_made : (a b : SemaphoreSet) → made a ≡ made b → a ≡ b
+same_made a b e = cc
 
 -- a test that did not fail
 passed : {A : Type 0} (b : Bool) (x : Errno) (r : Result A Errno) (y : A) → cond b (Err x) r ≡ Ok y → r ≡ Ok y
 passed true x r y e = absurd cc
 passed false x r y e = e
 
-same_size : (old new : List Semaphore) → length new ≡ length old → AllByRecursion IsFine new → IsWithinLimits old → IsWithinLimits new
-same_size old new len each h = record { some = let a = h.some in omega arith; count = let a = h.count in omega arith; each = each }
+same_size : (old new : List Semaphore) → length new ≡ length old → AllByRecursion IsFine new
+    → IsWithinLimits (set_of old) → IsWithinLimits (set_of new)
+same_size old new len each h =
+    record { some = let a = h.some in omega arith; count = let a = h.count in omega arith; each = each }
 
-tried_op_within : (old new : List Semaphore) (pid : ℕ) (steps : List SemStep) (t : Tried) → ((values : List ℕ) → t ≡ Done values → IsRowFor (length old) values) → op_after_trial (set_of old) pid steps t ≡ Ok (set_of new) → IsWithinLimits old → IsWithinLimits new
+tried_op_within : (old : List Semaphore) (new : SemaphoreSet) (pid : ℕ) (steps : List SemStep) (t : Tried)
+    → ((values : List ℕ) → t ≡ Done values → IsRowFor (length old) values)
+    → op_after_trial (set_of old) pid steps t ≡ Ok new → IsWithinLimits (set_of old) → IsWithinLimits new
 tried_op_within old new pid steps (Done values) fine e h =
     let a = with_values_within old values (fine values refl) in
     let b = marked_within pid (with_values old values) steps a.0 in
-    subst IsWithinLimits (same_made (fold (mark pid) (with_values old values) steps) new e) (same_size old (fold (mark pid) (with_values old values) steps) (b.1 ∙ a.1) b.0 h)
+    subst IsWithinLimits (same_made (set_of (fold (mark pid) (with_values old values) steps)) new e)
+    (same_size old (fold (mark pid) (with_values old values) steps) (b.1 ∙ a.1) b.0 h)
 tried_op_within old new pid steps (StopsAt index) fine e h = absurd cc
 tried_op_within old new pid steps OutOfRange fine e h = absurd cc
 
-op_within : (old new : List Semaphore) (pid : ℕ) (steps : List SemStep) → op (set_of old) pid steps ≡ Ok (set_of new) → IsWithinLimits old → IsWithinLimits new
+op_within : (old : List Semaphore) (new : SemaphoreSet) (pid : ℕ) (steps : List SemStep)
+    → op (set_of old) pid steps ≡ Ok new → IsWithinLimits (set_of old) → IsWithinLimits new
 op_within old new pid steps e h =
-    let tried : op_after_trial (set_of old) pid steps (try_ops (values_of old) steps) ≡ Ok (set_of new) =
-    passed _ Efbig _ (set_of new) (passed _ E2big _ (set_of new) e) in
-    tried_op_within old new pid steps (try_ops (values_of old) steps) (λ values. tried_within (length old) 0 (values_of old) steps values (record { count = length-map old (λ (s : Semaphore). s.value); each = values_fine old h.each })) tried h
-
-neither : (a b : Bool) → (a || b) ≡ false → (a ≡ false) × (b ≡ false)
-neither true b e = absurd cc
-neither false b e = (refl, e)
+    let tried : op_after_trial (set_of old) pid steps (try_ops (values_of old) steps) ≡ Ok new =
+    passed _ Efbig _ new (passed _ E2big _ new e) in
+    tried_op_within old new pid steps (try_ops (values_of old) steps)
+    (λ values. tried_within (length old) 0 (values_of old) steps values
+    (record { count = length-map old (λ (s : Semaphore). s.value); each = values_fine old h.each })) tried h
 
 -- a test that did not fail, before an answer
-passed_to : {A : Type 0} (b : Bool) (x : Errno) (r : Result A Errno) (y : A) → cond b r (Err x) ≡ Ok y → (b ≡ true) × (r ≡ Ok y)
+passed_to : {A : Type 0} (b : Bool) (x : Errno) (r : Result A Errno) (y : A) → cond b r (Err x) ≡ Ok y → (b ≡ true)
+    × (r ≡ Ok y)
 passed_to true x r y e = (refl, e)
 passed_to false x r y e = absurd cc
 
-failed : {A : Type 0} (b : Bool) (x : Errno) (r : Result A Errno) (y : A) → cond b (Err x) r ≡ Ok y → (b ≡ false) × (r ≡ Ok y)
+failed : {A : Type 0} (b : Bool) (x : Errno) (r : Result A Errno) (y : A) → cond b (Err x) r ≡ Ok y → (b ≡ false)
+    × (r ≡ Ok y)
 failed true x r y e = absurd cc
 failed false x r y e = (refl, e)
 
@@ -153,23 +174,31 @@ failed false x r y e = (refl, e)
 upto : (values : List ℕ) → list_any (ltb max_value) values ≡ false → AllByRecursion IsValue values
 upto [] e = tt
 upto (value ∷ values) e =
-    let both = neither (ltb max_value value) (list_any (ltb max_value) values) e in
+    let both = or_parts (ltb max_value value) (list_any (ltb max_value) values) e in
     (ltb-false _ _ both.0, upto values both.1)
 
-set_all_within : (old new : List Semaphore) (values : List ℕ) → set_all (set_of old) values ≡ Ok (set_of new) → IsWithinLimits old → IsWithinLimits new
+set_all_within : (old : List Semaphore) (new : SemaphoreSet) (values : List ℕ) → set_all (set_of old) values ≡ Ok new
+    → IsWithinLimits (set_of old) → IsWithinLimits new
 set_all_within old new values e h =
-    let a = passed_to (eqb (length values) (length old)) Einval _ (set_of new) e in
-    let b = failed (list_any (ltb max_value) values) Erange (made (with_values old values)) (set_of new) a.1 in
+    let a = passed_to (eqb (length values) (length old)) Einval _ new e in
+    let b = failed (list_any (ltb max_value) values) Erange (Ok (set_of (with_values old values))) new a.1 in
     let fine = with_values_within old values (record { count = eqb-true _ _ a.0; each = upto values b.0 }) in
-    subst IsWithinLimits (same_made (with_values old values) new b.1) (same_size old (with_values old values) fine.1 fine.0 h)
+    subst IsWithinLimits (same_made (set_of (with_values old values)) new b.1)
+    (same_size old (with_values old values) fine.1 fine.0 h)
 
-kept_by_op : {E : Type 0} (r : Result E Errno) (old new : List Semaphore) (pid : ℕ) (steps : List SemStep) → IfOk r (λ _. op (set_of old) pid steps ≡ Ok (set_of new)) → OnErr r (new ≡ old) → IsWithinLimits old → IsWithinLimits new
-kept_by_op (Ok x) old new pid steps done same h = op_within old new pid steps done h
-kept_by_op (Err e) old new pid steps done same h = subst IsWithinLimits (sym same) h
+kept_by_op : {E : Type 0} (r : Result E Errno) (old new : List Semaphore) (pid : ℕ) (steps : List SemStep)
+    → IfOk r (λ _. op (set_of old) pid steps ≡ Ok (set_of new)) → OnErr r (new ≡ old) → IsWithinLimits (set_of old)
+    → IsWithinLimits (set_of new)
+kept_by_op (Ok x) old new pid steps done same h = op_within old (set_of new) pid steps done h
+kept_by_op (Err e) old new pid steps done same h =
+    subst (λ (x : List Semaphore). IsWithinLimits (set_of x)) (sym same) h
 
-kept_by_set_all : {E : Type 0} (r : Result E Errno) (old new : List Semaphore) (values : List ℕ) → IfOk r (λ _. set_all (set_of old) values ≡ Ok (set_of new)) → OnErr r (new ≡ old) → IsWithinLimits old → IsWithinLimits new
-kept_by_set_all (Ok x) old new values done same h = set_all_within old new values done h
-kept_by_set_all (Err e) old new values done same h = subst IsWithinLimits (sym same) h
+kept_by_set_all : {E : Type 0} (r : Result E Errno) (old new : List Semaphore) (values : List ℕ)
+    → IfOk r (λ _. set_all (set_of old) values ≡ Ok (set_of new)) → OnErr r (new ≡ old) → IsWithinLimits (set_of old)
+    → IsWithinLimits (set_of new)
+kept_by_set_all (Ok x) old new values done same h = set_all_within old (set_of new) values done h
+kept_by_set_all (Err e) old new values done same h =
+    subst (λ (x : List Semaphore). IsWithinLimits (set_of x)) (sym same) h
 
 -- what a slice of a list's whole length leaves
 rejoined : {X : Type 0} (size : ℕ) (xs ys : List X) → length xs ≡ size → take size (xs ++ drop (length xs) ys) ≡ xs
@@ -178,14 +207,22 @@ rejoined size xs ys len = take_at xs (drop (length xs) ys) size len
 abbrev whole : {X : Type 0} → ℕ → List X → List X → List X
 whole size xs ys = take size (xs ++ drop (length xs) ys)
 
-pub set_after_op : {E : Type 0} (r : Result E Errno) (old new : List Semaphore) (pid : ℕ) (steps : List SemStep) (scratch trial : List ℕ) (size room : ℕ)
-    → IfOk r (λ _. op (set_of old) pid steps ≡ Ok (set_of new)) → OnErr r (new ≡ old) → length old ≡ size → length scratch ≡ room → length new ≡ length old → length trial ≡ length scratch
-    → (length scratch ≡ length old) × IsWithinLimits old → (length (whole room trial scratch) ≡ length (whole size new old)) × IsWithinLimits (whole size new old)
+pub set_after_op : {E : Type 0} (r : Result E Errno) (old new : List Semaphore) (pid : ℕ) (steps : List SemStep)
+    (scratch trial : List ℕ) (size room : ℕ)
+    → IfOk r (λ _. op (set_of old) pid steps ≡ Ok (set_of new)) → OnErr r (new ≡ old) → length old ≡ size
+    → length scratch ≡ room → length new ≡ length old → length trial ≡ length scratch
+    → (length scratch ≡ length old) × IsWithinLimits (set_of old)
+    → (length (whole room trial scratch) ≡ length (whole size new old))
+    × IsWithinLimits (set_of (whole size new old))
 set_after_op r old new pid steps scratch trial size room done same size_is room_is len trial_len h =
-    rw (rejoined size new old (omega arith), rejoined room trial scratch (omega arith)) (omega arith, kept_by_op r old new pid steps done same h.1)
+    rw (rejoined size new old (omega arith), rejoined room trial scratch (omega arith))
+    (omega arith, kept_by_op r old new pid steps done same h.1)
 
-pub set_after_set_all : {E : Type 0} (r : Result E Errno) (old new : List Semaphore) (values scratch : List ℕ) (size : ℕ)
-    → IfOk r (λ _. set_all (set_of old) values ≡ Ok (set_of new)) → OnErr r (new ≡ old) → length old ≡ size → length new ≡ length old
-    → (length scratch ≡ length old) × IsWithinLimits old → (length scratch ≡ length (whole size new old)) × IsWithinLimits (whole size new old)
+pub set_after_set_all : {E : Type 0} (r : Result E Errno) (old new : List Semaphore) (values scratch : List ℕ)
+    (size : ℕ)
+    → IfOk r (λ _. set_all (set_of old) values ≡ Ok (set_of new)) → OnErr r (new ≡ old) → length old ≡ size
+    → length new ≡ length old
+    → (length scratch ≡ length old) × IsWithinLimits (set_of old) → (length scratch ≡ length (whole size new old))
+    × IsWithinLimits (set_of (whole size new old))
 set_after_set_all r old new values scratch size done same size_is len h =
     rw (rejoined size new old (omega arith)) (omega arith, kept_by_set_all r old new values done same h.1)

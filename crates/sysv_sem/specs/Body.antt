@@ -1,10 +1,8 @@
 -- A set as bytes (profile): a code, the count of semaphores in one byte, and each semaphore as its value and its last
 -- process. Numbers are big-endian.
-use Rattle.std.specs.Prelude.{◌≡◌, ℕ, ◌<◌, ◌^◌, List, ◌∷◌, ◌++◌, length, Result, Ok, Err}
+use Rattle.std.specs.Prelude.{◌≡◌, ℕ, ◌<◌, ◌^◌, List, ◌∷◌, ◌++◌, length}
 use Rattle.std.specs.List.{flat_map, AllByRecursion}
 use Rattle.std.specs.Int.{w16, w32, to_be_bytes}
-use Rattle.pico_base.specs.declared.fault.UnpackFault.{UnpackFault}
-use Rattle.pico_base.specs.declared.fault.UnpackFault.TheVariants.{Memory, NotABody}
 use Rattle.kernel_model.specs.SemaphoreSet.{Semaphore, SemaphoreSet}
 use Rattle.sysv_sem.specs.Limits.{IsWithinLimits}
 
@@ -23,12 +21,6 @@ HasProcess s = s.last < 2 ^ 32
 
 -- The bytes are the body of the set, which is within the limits.
 pub record IsBodyOf (set : SemaphoreSet) (bytes : List ℕ) : Type 0 where
-  pub limits : IsWithinLimits set.semaphores
+  pub limits : IsWithinLimits set
   pub processes : AllByRecursion HasProcess set.semaphores
   pub spelled : bytes ≡ body set
-
--- what unpack answers gives this set, unless memory ran out
-abbrev pub Unpacks : Result SemaphoreSet UnpackFault → SemaphoreSet → Type 0
-Unpacks (Ok got) set = got ≡ set
-Unpacks (Err Memory) set = Unit {0}
-Unpacks (Err NotABody) set = ⊥

@@ -1,3 +1,4 @@
+//! Why no set was made.
 ghost use Rattle.std.specs.Prelude.{◌≡◌};
 ghost use Rattle.sysv_sem.specs.declared.fault.NewFault.TheVariants.{Memory as OutOfMemory};
 

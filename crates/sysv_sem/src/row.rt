@@ -70,7 +70,8 @@ pub(crate) fn operate(
     steps: &[SemStep],
 ) -> Result<(), Errno>
     requires { length values.old ≡ length set.old }
-    ensures done { IfOk result (λ _. definition.op (definition.set_of set.old) pid steps.now ≡ Ok (definition.set_of set.new)) }
+    ensures done { IfOk result
+        (λ _. definition.op (definition.set_of set.old) pid steps.now ≡ Ok (definition.set_of set.new)) }
     ensures refused { IfErr result (λ e. definition.op (definition.set_of set.old) pid steps.now ≡ Err e) }
     ensures err { OnErr result (set.new ≡ set.old) }
 {
@@ -97,7 +98,8 @@ fn is_above(values: &[u32]) -> bool
 /// Gives each semaphore its new value. EINVAL: there are more or fewer values than semaphores. ERANGE: a value is
 /// above 32,767.
 pub(crate) fn replace_values(set: &mut [Semaphore], values: &[u32]) -> Result<(), Errno>
-    ensures done { IfOk result (λ _. definition.set_all (definition.set_of set.old) values.now ≡ Ok (definition.set_of set.new)) }
+    ensures done { IfOk result
+        (λ _. definition.set_all (definition.set_of set.old) values.now ≡ Ok (definition.set_of set.new)) }
     ensures refused { IfErr result (λ e. definition.set_all (definition.set_of set.old) values.now ≡ Err e) }
     ensures err { OnErr result (set.new ≡ set.old) }
 {

@@ -1,3 +1,4 @@
+//! One semaphore: its value, and the last process that operated on it.
 use pico_base::Pid;
 use std::marker::Model;
 
@@ -17,4 +18,14 @@ impl Model for Semaphore {
     ghost view = { λ s. record { value = s.value; last = s.last } };
 
     ghost inverse = { λ s. record { value = s.value; last = s.last } };
+}
+
+/// A place of a list that nothing stands at.
+impl Default for Semaphore {
+    fn default() -> Self {
+        Semaphore {
+            value: 0,
+            last: Pid(0),
+        }
+    }
 }

@@ -1,3 +1,4 @@
+//! A semaphore set as its node holds it.
 ghost use Rattle.std.specs.Prelude.{◌≡◌, ◌↔◌, Ok, Err, IfOk, IfErr, OnErr, IsTrue, length};
 ghost use Rattle.sysv_sem.specs.declared.fault.NewFault.TheVariants.{BadCount};
 ghost use Rattle.kernel_model.specs.SemaphoreSet as definition;
@@ -16,7 +17,7 @@ pub(crate) const MAX_VALUE: u32 = 32767;
 
 pub(crate) const MAX_OPERATIONS: usize = 32;
 
-/// A semaphore set, which contracts see as the kernel's: its semaphores, in order. It has 1 to 64, with values up to 32,767.
+/// A semaphore set, which contracts see as its semaphores, in order. It has 1 to 64, with values up to 32,767.
 #[derive(Debug, Drop)]
 pub struct SemSet {
     pub(crate) semaphores: Vec<Semaphore>,
@@ -26,14 +27,15 @@ pub struct SemSet {
 
 impl Model for SemSet {
     ghost use Rattle.std.specs.Prelude.{◌≡◌, length};
-    ghost use Rattle.kernel_model.specs.SemaphoreSet.{SemaphoreSet};
+    ghost use Rattle.kernel_model.specs.SemaphoreSet.{SemaphoreSet as Value_};
     ghost use Rattle.sysv_sem.specs.Limits.{IsWithinLimits};
 
-    ghost Value = { SemaphoreSet };
+    ghost Value = { Value_ };
 
     ghost view = { λ s. record { semaphores = s.semaphores.items } };
 
-    ghost invariant = { λ s. (length s.scratch.items ≡ length s.semaphores.items) × IsWithinLimits s.semaphores.items };
+    ghost invariant = { λ s. (length s.scratch.items ≡ length s.semaphores.items)
+        × IsWithinLimits (record { semaphores = s.semaphores.items }) };
 }
 
 impl SemSet {

@@ -1,3 +1,4 @@
+//! Values at their edges, operations that stop, and bodies that are refused.
 use crate::{NewFault, SemSet};
 use pico_base::{Errno, Pid, SemStep, UnpackFault};
 use std::alloc::Global;

@@ -10,7 +10,8 @@ use Rattle.world_core.specs.State.{IsAlive, IsStep, world_of}
 use Rattle.world_core.specs.World.{world_in, IsSoundWorld}
 use Rattle.world_core.proofs.Worlds.{kept-step, reachable-more}
 
-pub IsAlive-step : (s next : State) (e : Event) → IsAlive s → is_enabled (world_of s) e ≡ true → IsStep s e next → IsAlive next
+pub IsAlive-step : (s next : State) (e : Event) → IsAlive s → is_enabled (world_of s) e ≡ true → IsStep s e next
+    → IsAlive next
 IsAlive-step s next e alive enabled stepped =
     let same : next.script ≡ s.script = (kept-step (world_of s) (world_of next) e stepped.taken).script
     in record {

@@ -19,23 +19,29 @@ run_some w p None some = tt
 run_some w p (Some n) some = turn_some w p (run w.script n) some
 
 -- the node's call has a rule
-pub run_allowed : (w : World) (e : Event) (p : ℕ) → IsSome (step w e) → e ≡ events.Run p → IfSome (node_at w p) (λ n. IsSome (run w.script n))
+pub run_allowed : (w : World) (e : Event) (p : ℕ) → IsSome (step w e) → e ≡ events.Run p
+    → IfSome (node_at w p) (λ n. IsSome (run w.script n))
 run_allowed w e p some is = run_some w p (node_at w p) (subst (λ (x : Event). IsSome (step w x)) is some)
 
-take_some : (w : World) (p from : ℕ) (o : Option Node) (frame : Frame) (left : List Frame) → IsSome (takes_at w p from o (frame ∷ left))
+take_some : (w : World) (p from : ℕ) (o : Option Node) (frame : Frame) (left : List Frame)
+    → IsSome (takes_at w p from o (frame ∷ left))
     → IfSome o (λ n. IsSome (takes w.script n from frame))
 take_some w p from None frame left some = tt
 take_some w p from (Some n) frame left some =
     turn_some (record w { streams = with_stream w.streams p from left }) p (takes w.script n from frame) some
 
 -- the frame that was taken has a rule
-pub take_allowed : (w : World) (e : Event) (p from k : ℕ) (frame : Frame) (row new : List (List Frame)) → IsSome (step w e)
-    → e ≡ events.Take p from → k ≡ p - 1 → k < length w.streams → row ≡ get_or w.streams k row → IsTaken row from (Some frame) new
+pub take_allowed : (w : World) (e : Event) (p from k : ℕ) (frame : Frame) (row new : List (List Frame))
+    → IsSome (step w e)
+    → e ≡ events.Take p from → k ≡ p - 1 → k < length w.streams → row ≡ get_or w.streams k row
+    → IsTaken row from (Some frame) new
     → IfSome (node_at w p) (λ n. IsSome (takes w.script n from frame))
 take_allowed w e p from k frame row new some is place lt row_is taken =
     let at : row ≡ get_or w.streams (p - 1) [] =
     get_or_read w.streams k row lt row_is [] ∙ ap (λ j. get_or w.streams j []) place
-    in let first : stream w p from ≡ frame ∷ taken.0 = sym (ap (λ (r : List (List Frame)). get_or r (from - 1) []) at) ∙ taken.1
-    in let there : IsSome (takes_at w p from (node_at w p) (stream w p from)) = subst (λ (x : Event). IsSome (step w x)) is some
+    in let first : stream w p from ≡ frame ∷ taken.0 =
+    sym (ap (λ (r : List (List Frame)). get_or r (from - 1) []) at) ∙ taken.1
+    in let there : IsSome (takes_at w p from (node_at w p) (stream w p from)) =
+    subst (λ (x : Event). IsSome (step w x)) is some
     in take_some w p from (node_at w p) frame taken.0
     (subst (λ (fs : List Frame). IsSome (takes_at w p from (node_at w p) fs)) first there)

@@ -28,10 +28,12 @@ within w p n e = let lt = slice_get_within w.nodes (p - 1) n e in omega arith
 
 pub run_within : (w : World) (e : Event) (p : ℕ) → is_enabled w e ≡ true → e ≡ events.Run p → p ≤ length w.nodes
 run_within w e p enabled is =
-    let found = run_some (node_at w p) (and_right (is_number p) _ (sym (ap (λ (x : Event). is_enabled w x) is) ∙ enabled))
+    let found = run_some (node_at w p)
+    (and_right (is_number p) _ (sym (ap (λ (x : Event). is_enabled w x) is) ∙ enabled))
     in within w p found.0 found.1
 
-pub take_within : (w : World) (e : Event) (p from : ℕ) → is_enabled w e ≡ true → e ≡ events.Take p from → p ≤ length w.nodes
+pub take_within : (w : World) (e : Event) (p from : ℕ) → is_enabled w e ≡ true → e ≡ events.Take p from
+    → p ≤ length w.nodes
 take_within w e p from enabled is =
     let found = take_some (node_at w p) (stream w p from)
     (and_right (is_number p && is_number from) _ (sym (ap (λ (x : Event). is_enabled w x) is) ∙ enabled))
@@ -45,7 +47,8 @@ IsSquare-taken streams k from frame row new lt row_is taken square =
     let at : row ≡ get_or streams k [] = get_or_read streams k row lt row_is []
     in let e : new ≡ set (get_or streams k []) (from - 1) taken.0 =
     taken.2 ∙ ap (λ (l : List (List Frame)). set l (from - 1) taken.0) at
-    in subst (λ (l : List (List Frame)). IsSquare (set streams k l)) (sym e) (IsSquare-set streams k (from - 1) taken.0 square)
+    in subst (λ (l : List (List Frame)). IsSquare (set streams k l)) (sym e)
+    (IsSquare-set streams k (from - 1) taken.0 square)
 
 -- each stream to a node that frames are sent to
 pub row_within : (old new : Streams) (from k : ℕ) (sends : List (ℕ × Frame)) (row : List (List Frame))

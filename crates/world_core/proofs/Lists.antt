@@ -9,7 +9,8 @@ slice_get-left [] ys i lt = absurd (omega arith)
 slice_get-left (x ∷ xs) ys zero lt = refl
 slice_get-left (x ∷ xs) ys (suc i) lt = slice_get-left xs ys i (omega arith)
 
-pub slice_get-right : {X : Type 0} (xs ys : List X) (i : ℕ) → length xs ≤ i → slice_get (xs ++ ys) i ≡ slice_get ys (i - length xs)
+pub slice_get-right : {X : Type 0} (xs ys : List X) (i : ℕ) → length xs ≤ i
+    → slice_get (xs ++ ys) i ≡ slice_get ys (i - length xs)
 slice_get-right [] ys i le = let e : i ≡ i - 0 = omega arith in ap (λ (n : ℕ). slice_get ys n) e
 slice_get-right (x ∷ xs) ys zero le = absurd (omega arith)
 slice_get-right (x ∷ xs) ys (suc i) le =
@@ -39,13 +40,15 @@ pub filter-map : {X Y : Type 0} (g : X → Y) (p : Y → Bool) (xs : List X)
     → filter p (map g xs) ≡ map g (filter (λ x. p (g x)) xs)
 filter-map g p [] = refl
 filter-map {X} {Y} g p (x ∷ xs) =
-    ap (λ (l : List Y). cond (p (g x)) (g x ∷ l) l) (filter-map g p xs) ∙ cond-cons g (p (g x)) x (filter (λ y. p (g y)) xs)
+    ap (λ (l : List Y). cond (p (g x)) (g x ∷ l) l) (filter-map g p xs)
+    ∙ cond-cons g (p (g x)) x (filter (λ y. p (g y)) xs)
 
 pub filter_same : (f g : ℕ → Bool) (count first : ℕ) → 1 ≤ first → ((k : ℕ) → 1 ≤ k → f k ≡ g k)
     → filter f (numbers first count) ≡ filter g (numbers first count)
 filter_same f g zero first le same = refl
 filter_same f g (suc count) first le same =
-    ap (λ (b : Bool). cond b (first ∷ filter f (numbers (first + 1) count)) (filter f (numbers (first + 1) count))) (same first le)
+    ap (λ (b : Bool). cond b (first ∷ filter f (numbers (first + 1) count)) (filter f (numbers (first + 1) count)))
+    (same first le)
     ∙ ap (λ (l : List ℕ). cond (g first) (first ∷ l) l) (filter_same f g count (first + 1) (omega arith) same)
 
 pub count_numbers : {X : Type 0} (f : X → Bool) (g : ℕ → Bool) (d : X) (xs : List X) (first : ℕ)
@@ -60,9 +63,11 @@ count_numbers {X} f g d (x ∷ xs) first same =
     ∙ ap (λ (b : Bool). cond b 1 0 + count_by g (numbers (first + 1) (length xs))) here
     ∙ ap (λ (n : ℕ). cond (f x) 1 0 + n) rest ∙ sym (sum_by-cons (λ (y : X). cond (f y) 1 0) x xs)
 
--- an element of a filtered list of numbers: the first number passes and is the one, passes and is passed by, or doesn't pass
+-- an element of a filtered list of numbers: the first number passes and is the one, passes and is passed by, or doesn't
+-- pass
 
-pub filter_hit : (g : ℕ → Bool) (first count : ℕ) → 0 < count → g first ≡ true → slice_get (filter g (numbers first count)) 0 ≡ Some first
+pub filter_hit : (g : ℕ → Bool) (first count : ℕ) → 0 < count → g first ≡ true
+    → slice_get (filter g (numbers first count)) 0 ≡ Some first
 filter_hit g first count lt e =
     let rest = filter g (numbers (first + 1) (count - 1))
     in ap (λ (l : List ℕ). slice_get (filter g l) 0) (numbers-next first count lt)

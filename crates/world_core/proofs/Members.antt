@@ -47,13 +47,15 @@ pub filter-passes : {X : Type 0} (p : X → Bool) (xs : List X) (x : X) → Has 
 filter-passes p [] x h = absurd h
 filter-passes p (y ∷ xs) x h = passed p (p y) y (filter p xs) x refl (filter-passes p xs x) h
 
-pub Has-flat_map : {X Y : Type 0} (f : X → List Y) (xs : List X) (x : X) (y : Y) → Has xs x → Has (f x) y → Has (flat_map f xs) y
+pub Has-flat_map : {X Y : Type 0} (f : X → List Y) (xs : List X) (x : X) (y : Y) → Has xs x → Has (f x) y
+    → Has (flat_map f xs) y
 Has-flat_map f [] x y h here = absurd h
 Has-flat_map {X} {Y} f (z ∷ xs) x y h here =
     ⊎_elim (λ (same : z ≡ x). Has-left (f z) (flat_map f xs) y (subst (λ (k : X). Has (f k) y) (sym same) here))
     (λ r. Has-right (f z) (flat_map f xs) y (Has-flat_map f xs x y r here)) h
 
-pub from-flat_map : {X Y : Type 0} (f : X → List Y) (xs : List X) (y : Y) → Has (flat_map f xs) y → (x : X) × Has (f x) y
+pub from-flat_map : {X Y : Type 0} (f : X → List Y) (xs : List X) (y : Y) → Has (flat_map f xs) y → (x : X)
+    × Has (f x) y
 from-flat_map f [] y h = absurd h
 from-flat_map f (x ∷ xs) y h =
     ⊎_elim (λ a. (x, a)) (λ b. from-flat_map f xs y b) (Has-cases (f x) (flat_map f xs) y h)

@@ -41,14 +41,16 @@ run_listed w p shaped enabled =
       number_of p (and_left (is_number p) _ enabled),
       omega (arith, shaped.nodes),
       Has-filter (is_enabled w) (events_of (size w) p) (events.Run p)
-          (Has-right (map (λ from. events.Take p from) (numbers 1 (size w))) (events.Run p ∷ []) (events.Run p) (inl refl)) enabled,
+          (Has-right (map (λ from. events.Take p from) (numbers 1 (size w))) (events.Run p ∷ []) (events.Run p)
+          (inl refl)) enabled,
     )
 
 sender_within : (w : World) (p from : ℕ) → IsShaped w → 1 ≤ p → p ≤ size w → (stream w p from ≡ [] → ⊥) → from ≤ size w
 sender_within w p from shaped pos le filled =
     let row : List (List Frame) = get_or w.streams (p - 1) []
     in let width : length row ≡ size w = shaped.square (p - 1) (omega (arith, shaped.streams)) ∙ shaped.streams
-    in ⊎_elim (λ (lt : size w < from). absurd (filled (get_or_past row (from - 1) [] (omega arith)))) (λ (ok : from ≤ size w). ok)
+    in ⊎_elim (λ (lt : size w < from). absurd (filled (get_or_past row (from - 1) [] (omega arith))))
+    (λ (ok : from ≤ size w). ok)
     (cases_lt (size w) from)
 
 take_listed : (w : World) (p from : ℕ) → IsShaped w → is_enabled w (events.Take p from) ≡ true
@@ -74,7 +76,8 @@ listed : (w : World) (ns : List ℕ) (e : Event) → IsShaped w → ((p : ℕ) �
 listed w ns (events.Run p) shaped all enabled =
     let l = run_listed w p shaped enabled in Has-flat_map (enabled_at w) ns p (events.Run p) (all p l.0 l.1) l.2
 listed w ns (events.Take p from) shaped all enabled =
-    let l = take_listed w p from shaped enabled in Has-flat_map (enabled_at w) ns p (events.Take p from) (all p l.0 l.1) l.2
+    let l = take_listed w p from shaped enabled in
+    Has-flat_map (enabled_at w) ns p (events.Take p from) (all p l.0 l.1) l.2
 
 not_true : (b : Bool) → (b ≡ true → ⊥) → b ≡ false
 not_true true h = absurd (h refl)
@@ -83,7 +86,8 @@ not_true false h = refl
 pub rests : (w : World) (ns : List ℕ) → IsShaped w → ((p : ℕ) → 1 ≤ p → p ≤ size w → Has ns p)
     → length (flat_map (enabled_at w) ns) ≡ 0 → IsAtRest w
 rests w ns shaped all none e =
-    not_true (is_enabled w e) (λ enabled. nothing-there (flat_map (enabled_at w) ns) e none (listed w ns e shaped all enabled))
+    not_true (is_enabled w e)
+    (λ enabled. nothing-there (flat_map (enabled_at w) ns) e none (listed w ns e shaped all enabled))
 
 pub all_numbers : (w : World) (p : ℕ) → 1 ≤ p → p ≤ size w → Has (numbers 1 (size w)) p
 all_numbers w p pos le = Has-numbers (size w) 1 p pos (omega arith)
@@ -91,14 +95,16 @@ all_numbers w p pos le = Has-numbers (size w) 1 p pos (omega arith)
 pub all_after : (w : World) (last p : ℕ) → last ≤ size w → 1 ≤ p → p ≤ size w → Has (nodes_after (size w) last) p
 all_after w last p within pos le =
     ⊎_elim (λ (lt : last < p).
-    Has-left (numbers (last + 1) (size w - last)) (numbers 1 last) p (Has-numbers (size w - last) (last + 1) p (omega arith) (omega arith)))
+    Has-left (numbers (last + 1) (size w - last)) (numbers 1 last) p
+    (Has-numbers (size w - last) (last + 1) p (omega arith) (omega arith)))
     (λ (ok : p ≤ last).
     Has-right (numbers (last + 1) (size w - last)) (numbers 1 last) p (Has-numbers last 1 p pos (omega arith)))
     (cases_lt last p)
 
 pub nothing_at_rest : (w : World) → IsAtRest w → length (enabled_events w) ≡ 0
 nothing_at_rest w rest =
-    ap length (flat_map-none (enabled_at w) (numbers 1 (size w)) (λ p. filter-none (is_enabled w) (events_of (size w) p) rest))
+    ap length (flat_map-none (enabled_at w) (numbers 1 (size w))
+    (λ p. filter-none (is_enabled w) (events_of (size w) p) rest))
 
 -- what a schedule finds
 
@@ -108,7 +114,8 @@ drawn_none (y ∷ xs) x e =
     let lt : x % length (y ∷ xs) < length (y ∷ xs) = omega arith
     in absurd (let some = slice_get-get_or (y ∷ xs) (x % length (y ∷ xs)) y lt in let f : ⊥ = cc in f)
 
-choice_none : (w : World) (schedule : Schedule) → IsShaped w → IsWithin (size w) schedule → choice w schedule ≡ None → IsAtRest w
+choice_none : (w : World) (schedule : Schedule) → IsShaped w → IsWithin (size w) schedule → choice w schedule ≡ None
+    → IsAtRest w
 choice_none w (InTurn last) shaped within none =
     rests w (nodes_after (size w) last) shaped (λ p pos le. all_after w last p within pos le)
     (let few = nothing_first (flat_map (enabled_at w) (nodes_after (size w) last)) (sym none) in omega arith)
@@ -119,7 +126,8 @@ pub rest_is_where_nothing_is_chosen_lemma : RestIsWhereNothingIsChosen
 rest_is_where_nothing_is_chosen_lemma script w schedule reached within none =
     choice_none w schedule (reachable-shaped script w reached) within none
 
-found_enabled : (w : World) (ns : List ℕ) (i : ℕ) (e : Event) → slice_get (flat_map (enabled_at w) ns) i ≡ Some e → is_enabled w e ≡ true
+found_enabled : (w : World) (ns : List ℕ) (i : ℕ) (e : Event) → slice_get (flat_map (enabled_at w) ns) i ≡ Some e
+    → is_enabled w e ≡ true
 found_enabled w ns i e found =
     let at = from-flat_map (enabled_at w) ns e (Has-slice_get (flat_map (enabled_at w) ns) i e found)
     in filter-passes (is_enabled w) (events_of (size w) at.0) e at.1

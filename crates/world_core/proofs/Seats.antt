@@ -44,13 +44,16 @@ few_taken b (f ∷ fs) = at_most_one (may_take b (f ∷ fs))
 -- no more frames may be taken than there are streams that have one; a node that is born takes them all
 pub count-le-filled : (b : Bool) (row : List (List Frame)) → count_by (may_take b) row ≤ filled_in row
 count-le-filled b row =
-    sum_by-le-sum_by (λ (fs : List Frame). cond (may_take b fs) 1 0) (λ (fs : List Frame). cond (is_filled fs) 1 0) row (few_taken b)
+    sum_by-le-sum_by (λ (fs : List Frame). cond (may_take b fs) 1 0) (λ (fs : List Frame). cond (is_filled fs) 1 0) row
+    (few_taken b)
 
 pub count-born : (row : List (List Frame)) → count_by (may_take true) row ≡ filled_in row
 count-born row =
     let most : filled_in row ≤ count_by (may_take true) row =
-    sum_by-le-sum_by (λ (fs : List Frame). cond (is_filled fs) 1 0) (λ (fs : List Frame). cond (may_take true fs) 1 0) row
-    (λ fs. let one : Bool → ℕ = λ b. cond b 1 0 in let e : one (is_filled fs) ≡ one (may_take true fs) = ap one (sym (any_taken fs)) in omega arith)
+    sum_by-le-sum_by (λ (fs : List Frame). cond (is_filled fs) 1 0)
+    (λ (fs : List Frame). cond (may_take true fs) 1 0) row
+    (λ fs. let one : Bool → ℕ = λ b. cond b 1 0 in let e : one (is_filled fs) ≡ one (may_take true fs) =
+    ap one (sym (any_taken fs)) in omega arith)
     in let least = count-le-filled true row in omega arith
 
 number_is : (p : ℕ) → 1 ≤ p → is_number p ≡ true
@@ -59,15 +62,18 @@ number_is p le = grind arith
 takes_is : (w : World) (p from : ℕ) (n : Node) (row : List (List Frame)) → 1 ≤ p → 1 ≤ from → node_at w p ≡ Some n
     → get_or w.streams (p - 1) [] ≡ row → is_enabled w (events.Take p from) ≡ may_take (is_born n) (from_node row from)
 takes_is w p from n row le_p le_from here is_row =
-    ap (λ (b : Bool). b && is_number from && is_take_enabled (node_at w p) (from_node (get_or w.streams (p - 1) []) from)) (number_is p le_p)
-    ∙ ap (λ (b : Bool). true && b && is_take_enabled (node_at w p) (from_node (get_or w.streams (p - 1) []) from)) (number_is from le_from)
+    ap (λ (b : Bool). b && is_number from
+    && is_take_enabled (node_at w p) (from_node (get_or w.streams (p - 1) []) from)) (number_is p le_p)
+    ∙ ap (λ (b : Bool). true && b && is_take_enabled (node_at w p) (from_node (get_or w.streams (p - 1) []) from))
+    (number_is from le_from)
     ∙ ap (λ (o : Option Node). is_take_enabled o (from_node (get_or w.streams (p - 1) []) from)) here
     ∙ ap (λ (l : List (List Frame)). is_take_enabled (Some n) (from_node l from)) is_row
     ∙ sym (take_enabled n (from_node row from))
 
 run_is : (w : World) (p : ℕ) (n : Node) → 1 ≤ p → node_at w p ≡ Some n → is_enabled w (events.Run p) ≡ can_run n
 run_is w p n le here =
-    ap (λ (b : Bool). b && is_run_enabled (node_at w p)) (number_is p le) ∙ ap (λ (o : Option Node). is_run_enabled o) here
+    ap (λ (b : Bool). b && is_run_enabled (node_at w p)) (number_is p le)
+    ∙ ap (λ (o : Option Node). is_run_enabled o) here
 
 abbrev pub run_of : Bool → ℕ → List Event
 run_of b p = cond b (events.Run p ∷ []) []
@@ -108,7 +114,8 @@ pub taken_at : (w : World) (p i : ℕ) (n : Node) (row : List (List Frame)) → 
     → slice_get (enabled_at w p) i ≡ option_map (λ from. events.Take p from) (slice_get (senders (is_born n) row) i)
 taken_at w p i n row le here is_row width lt =
     let take : ℕ → Event = λ from. events.Take p from
-    in let lt' : i < length (map take (senders (is_born n) row)) = omega (arith, length-map (senders (is_born n) row) take)
+    in let lt' : i < length (map take (senders (is_born n) row)) =
+    omega (arith, length-map (senders (is_born n) row) take)
     in ap (λ (l : List Event). slice_get l i) (enabled_at-seat w p n row le here is_row width)
     ∙ slice_get-left (map take (senders (is_born n) row)) (run_of (can_run n) p) i lt'
     ∙ slice_get-map take (senders (is_born n) row) i
@@ -131,9 +138,11 @@ takes_born b row e =
 
 pub takes_none : (b : Bool) (row : List (List Frame)) → filled_in row ≡ 0 → 0 ≡ length (senders b row)
 takes_none b row none =
-    let few = count-le-filled b row in let e : 0 ≡ count_by (may_take b) row = omega arith in e ∙ sym (length-senders b row)
+    let few = count-le-filled b row in let e : 0 ≡ count_by (may_take b) row =
+    omega arith in e ∙ sym (length-senders b row)
 
-pub takes_unborn : (b : Bool) (row : List (List Frame)) → b ≡ false → count_by (may_take false) row ≡ length (senders b row)
+pub takes_unborn : (b : Bool) (row : List (List Frame)) → b ≡ false
+    → count_by (may_take false) row ≡ length (senders b row)
 takes_unborn b row e = ap (λ (x : Bool). count_by (may_take x) row) (sym e) ∙ sym (length-senders b row)
 
 pub senders-le : (b : Bool) (row : List (List Frame)) → length (senders b row) ≤ length row
@@ -141,7 +150,8 @@ senders-le b row = let few = count_by-le-length (may_take b) row in omega (arith
 
 -- the events at a seat
 
-at_node : (found : Option Node) (n : Node) (b : Bool) (f : Node → Bool) → found ≡ Some n → IfSome found (λ m. b ≡ f m) → b ≡ f n
+at_node : (found : Option Node) (n : Node) (b : Bool) (f : Node → Bool) → found ≡ Some n → IfSome found (λ m. b ≡ f m)
+    → b ≡ f n
 at_node found n b f e h = let P : Option Node → Type 0 = λ o. IfSome o (λ m. b ≡ f m) in subst P e h
 
 pub seat-count : (w : World) (p : ℕ) (found : Option Node) (row : List (List Frame)) (b r : Bool) → IsSeat w p found row
@@ -150,10 +160,12 @@ pub seat-count : (w : World) (p : ℕ) (found : Option Node) (row : List (List F
 seat-count w p found row b r seat born runs =
     let n = seat.node
     in length-enabled_at w p n row seat.number seat.here seat.is_row seat.width
-    ∙ ap (λ (x : Bool). length (senders x row) + cond (can_run n) 1 0) (sym (at_node found n b is_born seat.is_node born))
+    ∙ ap (λ (x : Bool). length (senders x row) + cond (can_run n) 1 0)
+    (sym (at_node found n b is_born seat.is_node born))
     ∙ ap (λ (x : Bool). length (senders b row) + cond x 1 0) (sym (at_node found n r can_run seat.is_node runs))
 
-pub seat-taken : (w : World) (p i from : ℕ) (found : Option Node) (row : List (List Frame)) (b : Bool) → IsSeat w p found row
+pub seat-taken : (w : World) (p i from : ℕ) (found : Option Node) (row : List (List Frame)) (b : Bool)
+    → IsSeat w p found row
     → IfSome found (λ n. b ≡ is_born n) → i < length (senders b row) → Some from ≡ slice_get (senders b row) i
     → Some (events.Take p from) ≡ slice_get (enabled_at w p) i
 seat-taken w p i from found row b seat born lt is_from =
@@ -173,7 +185,8 @@ seat-run_of w p i found row b r seat born runs le =
     in let le' : length (senders (is_born n) row) ≤ i = subst (λ (x : Bool). length (senders x row) ≤ i) e le
     in run_at w p i n row seat.number seat.here seat.is_row seat.width le'
     ∙ ap (λ (x : Bool). slice_get (run_of (can_run n) p) (i - length (senders x row))) (sym e)
-    ∙ ap (λ (x : Bool). slice_get (run_of x p) (i - length (senders b row))) (sym (at_node found n r can_run seat.is_node runs))
+    ∙ ap (λ (x : Bool). slice_get (run_of x p) (i - length (senders b row)))
+    (sym (at_node found n r can_run seat.is_node runs))
 
 pub seat-run : (w : World) (p i : ℕ) (found : Option Node) (row : List (List Frame)) (b r : Bool) → IsSeat w p found row
     → IfSome found (λ n. b ≡ is_born n) → IfSome found (λ n. r ≡ can_run n) → i ≡ length (senders b row) → r ≡ true
@@ -188,13 +201,16 @@ run_past true p zero lt = absurd (omega arith)
 run_past true p (suc k) lt = refl
 run_past false p k lt = refl
 
-pub seat-past : (w : World) (p i : ℕ) (found : Option Node) (row : List (List Frame)) (b r : Bool) → IsSeat w p found row
+pub seat-past : (w : World) (p i : ℕ) (found : Option Node) (row : List (List Frame)) (b r : Bool)
+    → IsSeat w p found row
     → IfSome found (λ n. b ≡ is_born n) → IfSome found (λ n. r ≡ can_run n) → length (senders b row) < i
     → None ≡ slice_get (enabled_at w p) i
 seat-past w p i found row b r seat born runs lt =
-    run_past r p (i - length (senders b row)) (omega arith) ∙ sym (seat-run_of w p i found row b r seat born runs (omega arith))
+    run_past r p (i - length (senders b row)) (omega arith)
+    ∙ sym (seat-run_of w p i found row b r seat born runs (omega arith))
 
-pub seat-rests : (w : World) (p i : ℕ) (found : Option Node) (row : List (List Frame)) (b r : Bool) → IsSeat w p found row
+pub seat-rests : (w : World) (p i : ℕ) (found : Option Node) (row : List (List Frame)) (b r : Bool)
+    → IsSeat w p found row
     → IfSome found (λ n. b ≡ is_born n) → IfSome found (λ n. r ≡ can_run n) → length (senders b row) ≤ i → r ≡ false
     → None ≡ slice_get (enabled_at w p) i
 seat-rests w p i found row b r seat born runs le rests =
@@ -209,8 +225,10 @@ few_of : (n : ℕ) → IsTrue (is_between 1 32 n) → n ≤ 32
 few_of n e = grind arith
 
 -- what stands at a node's place
-pub seat_is : (s : State) (p k : ℕ) (found : Option Node) (row : List (List Frame)) → IsAlive s → p ≤ node_count s.script
-    → k + 1 ≡ p → found ≡ get_or s.nodes.items k found → row ≡ get_or s.inboxes.items k row → IsSeat (world_of s) p found row
+pub seat_is : (s : State) (p k : ℕ) (found : Option Node) (row : List (List Frame)) → IsAlive s
+    → p ≤ node_count s.script
+    → k + 1 ≡ p → found ≡ get_or s.nodes.items k found → row ≡ get_or s.inboxes.items k row
+    → IsSeat (world_of s) p found row
 seat_is s p k found row alive le next is_found is_row =
     let w = world_of s in
     let shaped : IsShaped w = reachable-shaped s.script w alive.reachable in
@@ -219,7 +237,8 @@ seat_is s p k found row alive le next is_found is_row =
     let lt_node : k < length s.nodes.items = omega arith in
     let lt_row : k < length s.inboxes.items = omega (arith, shaped.streams) in
     let slot : found ≡ get_or s.nodes.items k None = get_or_read s.nodes.items k found lt_node is_found None in
-    let some : IsSome found = subst (λ (o : Option Node). IsSome o) (sym slot) (whole_at s.nodes.items k alive.nodes lt_node) in
+    let some : IsSome found =
+    subst (λ (o : Option Node). IsSome o) (sym slot) (whole_at s.nodes.items k alive.nodes lt_node) in
     let node = some_of found some in
     let row_here : get_or s.inboxes.items k [] ≡ row = sym (get_or_read s.inboxes.items k row lt_row is_row []) in
     record {

@@ -26,8 +26,10 @@ here b row at fs lt read =
     let e : at + 1 - 1 ≡ at = omega arith
     in ap (λ (k : ℕ). may_take b (get_or row k [])) e ∙ ap (may_take b) (sym (get_or_read row at fs lt read []))
 
-pub AreLeft-hit : (b : Bool) (row : List (List Frame)) (index at left : ℕ) (fs : List Frame) → AreLeft b row index at left
-    → at < length row → fs ≡ get_or row at fs → may_take b fs ≡ true → left ≡ 0 → Some (at + 1) ≡ slice_get (senders b row) index
+pub AreLeft-hit : (b : Bool) (row : List (List Frame)) (index at left : ℕ) (fs : List Frame)
+    → AreLeft b row index at left
+    → at < length row → fs ≡ get_or row at fs → may_take b fs ≡ true → left ≡ 0
+    → Some (at + 1) ≡ slice_get (senders b row) index
 AreLeft-hit b row index at left fs all lt read e none =
     sym (all.same ∙ ap (λ (k : ℕ). slice_get (filter (may b row) (numbers (at + 1) (length row - at))) k) none
     ∙ filter_hit (may b row) (at + 1) (length row - at) (omega arith) (here b row at fs lt read ∙ e))
@@ -39,8 +41,10 @@ next_count b row at left =
     let e : length row - at - 1 ≡ length row - (at + 1) = omega arith
     in ap (λ (k : ℕ). slice_get (filter (may b row) (numbers (at + 1 + 1) k)) left) e
 
-pub AreLeft-pass : (b : Bool) (row : List (List Frame)) (index at left : ℕ) (fs : List Frame) → AreLeft b row index at left
-    → at < length row → fs ≡ get_or row at fs → may_take b fs ≡ true → 0 < left → AreLeft b row index (at + 1) (left - 1)
+pub AreLeft-pass : (b : Bool) (row : List (List Frame)) (index at left : ℕ) (fs : List Frame)
+    → AreLeft b row index at left
+    → at < length row → fs ≡ get_or row at fs → may_take b fs ≡ true → 0 < left
+    → AreLeft b row index (at + 1) (left - 1)
 AreLeft-pass b row index at left fs all lt read e some = record {
   same =
       all.same
@@ -48,7 +52,8 @@ AreLeft-pass b row index at left fs all lt read e some = record {
       ∙ next_count b row at (left - 1);
 }
 
-pub AreLeft-skip : (b : Bool) (row : List (List Frame)) (index at left : ℕ) (fs : List Frame) → AreLeft b row index at left
+pub AreLeft-skip : (b : Bool) (row : List (List Frame)) (index at left : ℕ) (fs : List Frame)
+    → AreLeft b row index at left
     → at < length row → fs ≡ get_or row at fs → may_take b fs ≡ false → AreLeft b row index (at + 1) left
 AreLeft-skip b row index at left fs all lt read e = record {
   same =

@@ -16,7 +16,8 @@ pub record IsUnder (script : Script) (events : List Event) (i : ℕ) (world : Op
   pub last : World
   pub left : Runs now (drop i events) last
 
-pub IsUnder-first : (script : Script) (events : List Event) (world : Option World) (last : World) → world ≡ Some (opening_world script)
+pub IsUnder-first : (script : Script) (events : List Event) (world : Option World) (last : World)
+    → world ≡ Some (opening_world script)
     → IsRunOf script events last → IsUnder script events 0 world
 IsUnder-first script events world last e run = record {
   now = opening_world script;
@@ -26,14 +27,16 @@ IsUnder-first script events world last e run = record {
   left = run;
 }
 
-left_next : (script : Script) (events : List Event) (i : ℕ) (world : Option World) (e : Event) (u : IsUnder script events i world)
+left_next : (script : Script) (events : List Event) (i : ℕ) (world : Option World) (e : Event)
+    (u : IsUnder script events i world)
     → i < length events → e ≡ get_or events i e → Runs u.now (e ∷ drop (i + 1) events) u.last
 left_next script events i world e u lt read =
     let split : drop i events ≡ e ∷ drop (i + 1) events =
     drop_more events i e lt ∙ ap (λ (x : Event). x ∷ drop (i + 1) events) (sym read)
     in subst (λ (es : List Event). Runs u.now es u.last) split u.left
 
-pub IsUnder-enabled : (script : Script) (events : List Event) (i : ℕ) (world : Option World) (e : Event) → IsUnder script events i world
+pub IsUnder-enabled : (script : Script) (events : List Event) (i : ℕ) (world : Option World) (e : Event)
+    → IsUnder script events i world
     → i < length events → e ≡ get_or events i e → IfSome world (λ w. is_enabled w e ≡ true)
 IsUnder-enabled script events i world e u lt read =
     let P : Option World → Type 0 = λ o. IfSome o (λ w. is_enabled w e ≡ true)
@@ -63,8 +66,10 @@ pub IsUnder-run : (script : Script) (events : List Event) (i : ℕ) (world : Opt
     → length events ≤ i → IfSome world (IsRunOf script events)
 IsUnder-run script events i world u le =
     let all : take i events ≡ events = take_all i events le
-    in let run : IsRunOf script events u.now = subst (λ (es : List Event). Runs (opening_world script) es u.now) all u.so_far
+    in let run : IsRunOf script events u.now =
+    subst (λ (es : List Event). Runs (opening_world script) es u.now) all u.so_far
     in let P : Option World → Type 0 = λ o. IfSome o (IsRunOf script events) in subst P (sym u.is_now) run
 
-pub IsUnder-whole : (script : Script) (events : List Event) (i : ℕ) (world : Option World) → IsUnder script events i world → IsSome world
+pub IsUnder-whole : (script : Script) (events : List Event) (i : ℕ) (world : Option World)
+    → IsUnder script events i world → IsSome world
 IsUnder-whole script events i world u = let P : Option World → Type 0 = λ o. IsSome o in subst P (sym u.is_now) refl

@@ -49,7 +49,8 @@ pub record IsCount {X : Type 0} (f : ℕ → List X) (at count : ℕ) : Type 0 w
   pub same : count ≡ length (flat_map f (numbers 1 at))
   pub few : count ≤ 33 * at
 
-pub IsCount-next : {X : Type 0} (f : ℕ → List X) (at count here : ℕ) → IsCount f at count → here ≡ length (f (at + 1)) → here ≤ 33
+pub IsCount-next : {X : Type 0} (f : ℕ → List X) (at count here : ℕ) → IsCount f at count → here ≡ length (f (at + 1))
+    → here ≤ 33
     → IsCount f (at + 1) (count + here)
 IsCount-next {X} f at count here counted is_here few =
     let e : 1 + at ≡ at + 1 = omega arith in
@@ -58,7 +59,8 @@ IsCount-next {X} f at count here counted is_here few =
     ∙ ap (λ (l : List X). flat_map f (numbers 1 at) ++ l) (append-nil (f (1 + at)) ∙ ap f e) in
     record {
       same =
-          (let n = ap length step ∙ length-append (flat_map f (numbers 1 at)) (f (at + 1)) in omega (arith, counted.same, is_here, n));
+          (let n = ap length step
+          ∙ length-append (flat_map f (numbers 1 at)) (f (at + 1)) in omega (arith, counted.same, is_here, n));
       few = omega (arith, counted.few);
     }
 

@@ -58,7 +58,8 @@ pub may_take-at : (slot o : Option Node) (r b : Bool) (fs : List Frame)
     → o ≡ slot → IsSome slot → IfSome slot (λ n. b ≡ is_born n) → r ≡ may_take b fs → r ≡ is_take_enabled o fs
 may_take-at None o r b fs same some born e = absurd (let f : ⊥ = cc in f)
 may_take-at (Some n) o r b fs same some born e =
-    e ∙ ap (λ (x : Bool). may_take x fs) born ∙ take_enabled n fs ∙ sym (ap (λ (x : Option Node). is_take_enabled x fs) same)
+    e ∙ ap (λ (x : Bool). may_take x fs) born ∙ take_enabled n fs
+    ∙ sym (ap (λ (x : Option Node). is_take_enabled x fs) same)
 
 pub take_nothing : (o : Option Node) (fs : List Frame) → fs ≡ [] → false ≡ is_take_enabled o fs
 take_nothing None fs e = refl
@@ -71,12 +72,14 @@ AreWhole-set ns i m all =
     ap (λ (l : List (Option Node)). set l i (Some m)) all ∙ sym (map-set Some (whole ns) i m)
     in subst AreWhole (sym made) (AreWhole-map (set (whole ns) i m))
 
-pub whole-set : (ns : List (Option Node)) (i : ℕ) (m : Node) → AreWhole ns → whole (set ns i (Some m)) ≡ set (whole ns) i m
+pub whole-set : (ns : List (Option Node)) (i : ℕ) (m : Node) → AreWhole ns
+    → whole (set ns i (Some m)) ≡ set (whole ns) i m
 whole-set ns i m all =
     ap (λ (l : List (Option Node)). whole (set l i (Some m))) all
     ∙ ap whole (sym (map-set Some (whole ns) i m)) ∙ whole-map (set (whole ns) i m)
 
-pub same_world : (script other : Script) (nodes nodes' : List Node) (streams streams' : Streams) (journal journal' : List Entry)
+pub same_world : (script other : Script) (nodes nodes' : List Node) (streams streams' : Streams)
+    (journal journal' : List Entry)
     → script ≡ other → nodes ≡ nodes' → streams ≡ streams' → journal ≡ journal'
     → ◌≡◌ {A = World} (record { script = script; nodes = nodes; streams = streams; journal = journal })
     (record { script = other; nodes = nodes'; streams = streams'; journal = journal' })
@@ -116,7 +119,8 @@ step_run s next p turned = record {
 -- the frame was taken, and then the node had its turn
 pub step_take : (s mid next : State) (p from k : ℕ) (frame : Frame) (row new : List (List Frame))
     → k ≡ p - 1 → k < length s.inboxes.items → row ≡ get_or s.inboxes.items k row → IsTaken row from (Some frame) new
-    → mid.script ≡ s.script → mid.nodes ≡ s.nodes → mid.journal ≡ s.journal → mid.inboxes.items ≡ set s.inboxes.items k new
+    → mid.script ≡ s.script → mid.nodes ≡ s.nodes → mid.journal ≡ s.journal
+    → mid.inboxes.items ≡ set s.inboxes.items k new
     → IsAfterTurn mid p (inputs.Take from frame) next → IsStep s (events.Take p from) next
 step_take s mid next p from k frame row new place lt row_is taken script nodes journal inboxes turned =
     let streams = s.inboxes.items in
@@ -126,12 +130,15 @@ step_take s mid next p from k frame row new place lt row_is taken script nodes j
     let first : stream (world_of s) p from ≡ frame ∷ fs =
     ap (λ (l : List (List Frame)). get_or l (from - 1) []) (sym at) ∙ taken.1 in
     let left : mid.inboxes.items ≡ with_stream streams p from fs =
-    inboxes ∙ ap (λ (l : List (List Frame)). set streams k l) (taken.2 ∙ ap (λ (l : List (List Frame)). set l (from - 1) fs) at)
+    inboxes ∙ ap (λ (l : List (List Frame)). set streams k l)
+    (taken.2 ∙ ap (λ (l : List (List Frame)). set l (from - 1) fs) at)
     ∙ ap (λ (i : ℕ). set streams i (set (get_or streams (p - 1) []) (from - 1) fs)) place in
     let here : node_at (world_of s) p ≡ Some turned.node =
-    ap (λ (ns : List (Option Node)). slice_get (whole ns) (p - 1)) (sym (ap (λ (v : _). v.items) nodes)) ∙ turned.here in
+    ap (λ (ns : List (Option Node)). slice_get (whole ns) (p - 1)) (sym (ap (λ (v : _). v.items) nodes))
+    ∙ turned.here in
     let between : world_of mid ≡ record (world_of s) { streams = with_stream streams p from fs } =
-    same_world mid.script s.script (whole mid.nodes.items) (whole s.nodes.items) mid.inboxes.items (with_stream streams p from fs)
+    same_world mid.script s.script (whole mid.nodes.items) (whole s.nodes.items) mid.inboxes.items
+    (with_stream streams p from fs)
     mid.journal s.journal script (ap (λ (v : _). whole v.items) nodes) left journal in
     record {
       nodes = turned.nodes;

@@ -45,7 +45,8 @@ row_at streams i k j fs square lt =
     subst (λ (m : ℕ). length (get_or (set streams i (set (get_or streams i []) j fs)) m []) ≡ length streams) (sym same)
     (ap length (get_or-set_same streams i (set (get_or streams i []) j fs) [] lt_i)
     ∙ length-set (get_or streams i []) j fs ∙ square i lt_i))
-    (λ (other : k ≢ i). ap length (get_or-set_other streams i k (set (get_or streams i []) j fs) [] other) ∙ square k lt)
+    (λ (other : k ≢ i). ap length (get_or-set_other streams i k (set (get_or streams i []) j fs) [] other)
+    ∙ square k lt)
     (cases_eq k i)
 
 pub length-with_stream : (streams : Streams) (to from : ℕ) (fs : List Frame)
@@ -99,7 +100,8 @@ kept-run : (w next : World) (p : ℕ) (n : Option Node) → runs_at w p n ≡ So
 kept-run w next p None e = absurd (let f : ⊥ = cc in f)
 kept-run w next p (Some n) e = kept-turn w next p (run w.script n) e
 
-kept-take : (w next : World) (p from : ℕ) (n : Option Node) (fs : List Frame) → takes_at w p from n fs ≡ Some next → IsKept w next
+kept-take : (w next : World) (p from : ℕ) (n : Option Node) (fs : List Frame) → takes_at w p from n fs ≡ Some next
+    → IsKept w next
 kept-take w next p from None fs e = absurd (let f : ⊥ = cc in f)
 kept-take w next p from (Some n) [] e = absurd (let f : ⊥ = cc in f)
 kept-take w next p from (Some n) (frame ∷ fs) e =

@@ -1,3 +1,4 @@
+//! The streams to one node, and how many of them have a frame.
 ghost use Rattle.std.specs.Prelude.{◌≡◌, ◌≤◌, ◌-◌, ◌+◌, [], ◌∷◌, ◌++◌, length, replicate, false, count_by, slice_get, IfOk, OnOk};
 ghost use Rattle.world_core.specs.Inbox.{IsTaken, from_node, with_from, may_take, senders};
 

@@ -1,3 +1,4 @@
+//! The world that isn't spent: its nodes, their inboxes and the journal.
 ghost use Rattle.std.specs.Prelude.{◌≡◌, ◌↔◌, ◌≤◌, ◌-◌, [], ◌++◌, length, map, replicate, true, Some, slice_get, ◌+◌, IfOk, OnOk, IfSome, IsSome, IsTrue};
 ghost use Rattle.std.specs.List.{flat_map};
 ghost use Rattle.machine_model.specs.Built.{IsRunnable};
@@ -80,7 +81,8 @@ fn add_entries(journal: &mut Entries, entries: Entries) -> Result<(), Memory>
     Ok(())
 }
 
-/// The frames that a node sends go their ways, each behind those that it has sent to that node before. A frame to a node
+/// The frames that a node sends go their ways, each behind those that it has sent to that node before. A frame to a
+/// node
 /// that there isn't is lost, as in the machine.
 fn send_all(inboxes: &mut Vec<Inbox>, from: Node, sends: Sends) -> Result<(), Memory>
     requires square { IsSquare inboxes.old.items }
@@ -224,7 +226,8 @@ impl State {
     fn first_of(&self, after: u8, last: u8) -> Option<Event>
         requires alive { IsAlive self.now }
         requires there { last ≤ node_count self.now.script }
-        ensures { result ≡ slice_get (flat_map (enabled_at (world_of self.now)) (numbers (after + 1) (last - after))) 0 }
+        ensures { result ≡ slice_get
+            (flat_map (enabled_at (world_of self.now)) (numbers (after + 1) (last - after))) 0 }
     {
         for number in after..last {
             let first = self.nth_at(Node(number + 1), 0);

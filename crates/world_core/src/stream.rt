@@ -1,3 +1,4 @@
+//! One stream of frames, in the order of sending.
 ghost use Rattle.std.specs.Prelude.{◌≡◌, [], ◌∷◌, ◌++◌, OnOk, OnErr};
 ghost use Rattle.world_core.specs.Inbox.{IsFirstOf, is_filled, may_take};
 

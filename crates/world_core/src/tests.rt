@@ -52,7 +52,9 @@ fn queue() -> Option<Var>
 
 // The two blocks of a script.
 fn script_of(alloc: Global, main: Lines, child: Lines) -> Result<Script, Memory>
-    ensures { IfOk result (λ s. s.blocks ≡ record { name = codes "main"; lines = main } ∷ record { name = codes "child"; lines = child } ∷ []) }
+    ensures { IfOk result
+        (λ s. s.blocks ≡ record { name = codes "main"; lines = main } ∷ record { name = codes "child"; lines = child }
+        ∷ []) }
 {
     let mut blocks = Blocks::new(alloc);
     blocks.push(Block {

@@ -1,3 +1,4 @@
+//! A world as callers see it, which a refused allocation spends.
 ghost use Rattle.std.specs.Prelude.{◌≡◌, ◌↔◌, ◌≤◌, true, length, slice_get, Some, None, IfOk, OnOk, OnErr, IfSome, IsSome, IsErr, IsTrue};
 ghost use Rattle.kernel_model.specs.History.{IsLegal};
 ghost use Rattle.kernel_model.specs.Fitting.{Fits, FitsWhole};

@@ -1,3 +1,4 @@
+//! The calls on processes and signals (fork, exit, waitpid, kill, sigaction, sigprocmask).
 ghost use Rattle.std.specs.Prelude.{◌≡◌, IsSome, IfSome, Some};
 ghost use Rattle.pico_base.specs.Signal.{at};
 ghost use Rattle.kernel_model.specs.Signals.{act_on, with_mask};
@@ -18,7 +19,7 @@ use pico_base::{Act, Ending, Errno, How, Pid, Reply, Sig, SigArg, SigSet};
 /// The calls on processes and signals.
 impl Kernel {
     /// Makes a change of a living process that moves no child.
-    pub(super) fn change(&mut self, pid: u32, change: Change)
+    pub(super) fn change(&mut self, pid: Pid, change: Change)
         requires lives { IsSome (living_at self.old pid) }
         requires plain { IsPlain change }
         ensures { IfSome (living_at self.old pid) (λ a. self.new ≡ with_alive self.old pid (changed change a)) }
@@ -30,34 +31,37 @@ impl Kernel {
     pub(super) fn is_new_process(&self, number: u32) -> bool
         ensures { result ≡ is_fresh self.now.used_processes number }
     {
-        number > 0 && !self.processes.is_there(number)
+        number > 0 && !self.processes.is_there(Pid(number))
     }
 
     /// fork: NotAllowed where the number is 0 or used.
-    pub(super) fn fork(&mut self, pid: u32, chosen: u32) -> Result<Reply, CallFault>
+    pub(super) fn fork(&mut self, pid: Pid, chosen: u32) -> Result<Reply, CallFault>
         requires { IsSome (living_at self.old pid) }
-        ensures { IfSome (living_at self.old pid) (λ a. Answers (fork_effect self.old pid a chosen) result self.old self.new) }
+        ensures { IfSome (living_at self.old pid)
+            (λ a. Answers (fork_effect self.old pid a chosen) result self.old self.new) }
     {
         if !self.is_new_process(chosen) {
             return Err(CallFault::NotAllowed);
         }
-        self.processes.fork(self.alloc, pid, chosen)?;
+        self.processes.fork(self.alloc, pid, Pid(chosen))?;
         Ok(Reply::Num(chosen))
     }
 
     /// exit, and the end by a signal.
-    pub(super) fn end(&mut self, pid: u32, ending: Ending) -> Result<Reply, CallFault>
+    pub(super) fn end(&mut self, pid: Pid, ending: Ending) -> Result<Reply, CallFault>
         requires { IsSome (living_at self.old pid) }
-        ensures { IfSome (living_at self.old pid) (λ a. Answers (Some (end_process self.old pid a ending)) result self.old self.new) }
+        ensures { IfSome (living_at self.old pid)
+            (λ a. Answers (Some (end_process self.old pid a ending)) result self.old self.new) }
     {
         self.processes.end(self.alloc, pid, ending)?;
         Ok(Reply::Ended)
     }
 
     /// waitpid: ECHILD where there is no such child.
-    pub(super) fn wait(&mut self, pid: u32, which: Option<u32>) -> Reply
+    pub(super) fn wait(&mut self, pid: Pid, which: Option<Pid>) -> Reply
         requires { IsSome (living_at self.old pid) }
-        ensures { IfSome (living_at self.old pid) (λ a. reap_child self.old pid a (wait a.row.family which) ≡ record { kernel = self.new; reply = result }) }
+        ensures { IfSome (living_at self.old pid)
+            (λ a. reap_child self.old pid a (wait a.row.family which) ≡ record { kernel = self.new; reply = result }) }
     {
         match self.processes.wait(pid, which) {
             Ok(Some(child)) => Reply::Child {
@@ -70,9 +74,11 @@ impl Kernel {
     }
 
     /// sigaction: EINVAL for KILL, 0 and a number that is no signal's.
-    pub(super) fn act(&mut self, pid: u32, sig: SigArg, act: Act) -> Reply
+    pub(super) fn act(&mut self, pid: Pid, sig: SigArg, act: Act) -> Reply
         requires { IsSome (living_at self.old pid) }
-        ensures { IfSome (living_at self.old pid) (λ a. action_effect self.old pid a (act_on a.row.signals sig act) ≡ record { kernel = self.new; reply = result }) }
+        ensures { IfSome (living_at self.old pid)
+            (λ a. action_effect self.old pid a (act_on a.row.signals sig act)
+            ≡ record { kernel = self.new; reply = result }) }
     {
         let Some(alive) = self.processes.alive(pid) else {
             return Reply::Num(0);
@@ -88,9 +94,10 @@ impl Kernel {
     }
 
     /// sigprocmask: gives the old mask.
-    pub(super) fn change_mask(&mut self, pid: u32, how: How, set: SigSet) -> Reply
+    pub(super) fn change_mask(&mut self, pid: Pid, how: How, set: SigSet) -> Reply
         requires { IsSome (living_at self.old pid) }
-        ensures masked { IfSome (living_at self.old pid) (λ a. self.new ≡ with_signals self.old pid a (with_mask a.row.signals how set)) }
+        ensures masked { IfSome (living_at self.old pid)
+            (λ a. self.new ≡ with_signals self.old pid a (with_mask a.row.signals how set)) }
         ensures reply { IfSome (living_at self.old pid) (λ a. result ≡ Reply.Bits a.row.signals.mask) }
     {
         let Some(alive) = self.processes.alive(pid) else {
@@ -103,7 +110,7 @@ impl Kernel {
     }
 
     /// sigpending.
-    pub(super) fn pending(&self, pid: u32) -> Reply
+    pub(super) fn pending(&self, pid: Pid) -> Reply
         requires { IsSome (living_at self.now pid) }
         ensures { IfSome (living_at self.now pid) (λ a. result ≡ Reply.Bits a.row.signals.pending) }
     {
@@ -114,7 +121,7 @@ impl Kernel {
     }
 
     /// How often the signal was caught.
-    pub(super) fn handled(&self, pid: u32, sig: Sig) -> Reply
+    pub(super) fn handled(&self, pid: Pid, sig: Sig) -> Reply
         requires { IsSome (living_at self.now pid) }
         ensures { IfSome (living_at self.now pid) (λ a. result ≡ Reply.Num (at a.row.signals.handled sig)) }
     {
@@ -125,7 +132,7 @@ impl Kernel {
     }
 
     /// kill: EINVAL for a number that is no signal's, then ESRCH where there is no such process.
-    pub(super) fn kill(&mut self, caller: u32, pid: u32, sig: SigArg) -> Reply
+    pub(super) fn kill(&mut self, caller: Pid, pid: Pid, sig: SigArg) -> Reply
         ensures { kill self.old caller pid sig ≡ record { kernel = self.new; reply = result } }
     {
         if sig == SigArg::Bad {
@@ -146,7 +153,7 @@ impl Kernel {
     }
 
     /// A signal arrives at a living process: its own, or another's.
-    pub(super) fn signal(&mut self, caller: u32, pid: u32, mut signals: SignalState, sig: Sig)
+    pub(super) fn signal(&mut self, caller: Pid, pid: Pid, mut signals: SignalState, sig: Sig)
         requires lives { IsSome (living_at self.old pid) }
         requires its { IfSome (living_at self.old pid) (λ a. signals ≡ a.row.signals) }
         ensures { IfSome (living_at self.old pid) (λ a. self.new ≡ signalled_kernel self.old caller pid a sig) }
@@ -160,7 +167,7 @@ impl Kernel {
     }
 
     /// A doomed process that lives on after an entry of its own has nothing left but its ending.
-    pub(super) fn finish(&mut self, pid: u32)
+    pub(super) fn finish(&mut self, pid: Pid)
         ensures { self.new ≡ finish_call self.old pid (living_at self.old pid) }
     {
         let doomed = match self.processes.alive(pid) {

@@ -1,3 +1,4 @@
+//! The calls on message queues (msgget, msgsnd, msgrcv, msgctl).
 ghost use Rattle.std.specs.Prelude.{◌≡◌, None, IfOk, OnErr};
 ghost use Rattle.number_maps.specs.Maps.{get};
 ghost use Rattle.kernel_model.specs.Queue.{send, receive, set_qbytes};
@@ -10,7 +11,7 @@ use crate::fault::CallFault;
 use crate::kernel::Kernel;
 use crate::maps::{receive_at, remove_at, send_at, set_qbytes_at};
 use crate::queue::MessageQueue;
-use pico_base::{Bytes, Errno, Key, Memory, Reply};
+use pico_base::{Bytes, Errno, Key, Memory, Pid, Reply};
 
 /// The calls on message queues.
 impl Kernel {
@@ -24,7 +25,8 @@ impl Kernel {
     /// A new queue, with a key if there is one. NotAllowed where the number is 0 or used.
     fn new_queue(&mut self, key: Option<u32>, chosen: u32) -> Result<Reply, CallFault>
         requires { bound_to self.old.queue_keys key ≡ None }
-        ensures { Answers (new_queue self.old (keys_with self.old.queue_keys key chosen) chosen) result self.old self.new }
+        ensures { Answers (new_queue self.old (keys_with self.old.queue_keys key chosen) chosen) result self.old
+            self.new }
     {
         if !self.is_new_queue(chosen) {
             return Err(CallFault::NotAllowed);
@@ -64,12 +66,14 @@ impl Kernel {
     /// msgsnd: EINVAL or EAGAIN.
     pub(super) fn send(
         &mut self,
-        pid: u32,
+        pid: Pid,
         id: u32,
         class: i32,
         text: &Bytes,
     ) -> Result<Reply, Memory>
-        ensures ok { IfOk result (λ reply. on_named self.old (get self.old.queues id) (λ q. change_queue self.old id (send q pid class text.now))
+        ensures ok { IfOk result
+            (λ reply. on_named self.old (get self.old.queues id)
+            (λ q. change_queue self.old id (send q pid class text.now))
             ≡ record { kernel = self.new; reply = reply }) }
         ensures err { OnErr result (self.new ≡ self.old) }
     {
@@ -79,13 +83,14 @@ impl Kernel {
     /// msgrcv: EINVAL, ENOMSG or E2BIG.
     pub(super) fn receive(
         &mut self,
-        pid: u32,
+        pid: Pid,
         id: u32,
         class: i32,
         size: u32,
         noerror: bool,
     ) -> Reply
-        ensures { on_named self.old (get self.old.queues id) (λ q. receive_effect self.old id (receive q pid class size noerror))
+        ensures { on_named self.old (get self.old.queues id)
+            (λ q. receive_effect self.old id (receive q pid class size noerror))
             ≡ record { kernel = self.new; reply = result } }
     {
         receive_at(&mut self.queues, id, pid, class, size, noerror)
@@ -93,7 +98,8 @@ impl Kernel {
 
     /// msgctl with IPC_STAT: EINVAL.
     pub(super) fn stat(&self, id: u32) -> Reply
-        ensures { on_named self.now (get self.now.queues id) (stat_effect self.now) ≡ record { kernel = self.now; reply = result } }
+        ensures { on_named self.now (get self.now.queues id) (stat_effect self.now)
+            ≡ record { kernel = self.now; reply = result } }
     {
         match self.queues.get(&id) {
             Some(queue) => queue.stat(),

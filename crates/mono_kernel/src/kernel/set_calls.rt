@@ -1,3 +1,4 @@
+//! The calls on semaphore sets (semget, semop, semctl).
 ghost use Rattle.std.specs.Prelude.{◌≡◌, None, IfOk};
 ghost use Rattle.std.specs.List.{list_any};
 ghost use Rattle.number_maps.specs.Maps.{get};
@@ -6,13 +7,14 @@ ghost use Rattle.kernel_model.specs.Effect.{is_fresh, on_named, look_up};
 ghost use Rattle.kernel_model.specs.SetCalls.{new_set_of, find_set, get_set, change_set, set_size, operate, all_values, remove_set};
 ghost use Rattle.kernel_model.specs.Waiting.{may_wait};
 ghost use Rattle.mono_kernel.specs.Names.{keys_with, bound_to};
-ghost use Rattle.mono_kernel.specs.Answers.{Answers, reply_to};
+ghost use Rattle.call_answers.specs.Answers.{reply_to};
+ghost use Rattle.mono_kernel.specs.Answers.{Answers};
 
 use crate::fault::CallFault;
 use crate::kernel::Kernel;
 use crate::maps::{op_at, remove_at, set_all_at, set_value_at};
 use crate::semaphores::{SemaphoreSet, is_bad_size};
-use pico_base::{Errno, Key, Memory, Reply, SemStep, Steps, Values};
+use pico_base::{Errno, Key, Memory, Pid, Reply, SemStep, Steps, Values};
 
 /// The reply of a look at a set.
 fn looked(found: Result<u32, Errno>) -> Reply
@@ -44,7 +46,8 @@ impl Kernel {
     /// the number is 0 or used.
     fn new_set(&mut self, key: Option<u32>, count: u32, chosen: u32) -> Result<Reply, CallFault>
         requires { bound_to self.old.set_keys key ≡ None }
-        ensures { Answers (new_set_of self.old (keys_with self.old.set_keys key chosen) chosen (new_set count)) result self.old self.new }
+        ensures { Answers (new_set_of self.old (keys_with self.old.set_keys key chosen) chosen (new_set count)) result
+            self.old self.new }
     {
         if is_bad_size(count) {
             return Ok(Reply::Fail(Errno::Einval));
@@ -107,7 +110,7 @@ impl Kernel {
     }
 
     /// semop: EINVAL, E2BIG, EFBIG, EAGAIN or ERANGE. NotAllowed where an operation may have to wait.
-    pub(super) fn operate(&mut self, pid: u32, id: u32, steps: &Steps) -> Result<Reply, CallFault>
+    pub(super) fn operate(&mut self, pid: Pid, id: u32, steps: &Steps) -> Result<Reply, CallFault>
         ensures { Answers (operate self.old pid id steps.now) result self.old self.new }
     {
         let steps = steps.as_slice();
@@ -120,7 +123,8 @@ impl Kernel {
 
     /// semctl with GETVAL: EINVAL.
     pub(super) fn value(&self, id: u32, num: u16) -> Reply
-        ensures { on_named self.now (get self.now.sets id) (λ s. look_up self.now (value_at s num)) ≡ record { kernel = self.now; reply = result } }
+        ensures { on_named self.now (get self.now.sets id) (λ s. look_up self.now (value_at s num))
+            ≡ record { kernel = self.now; reply = result } }
     {
         match self.sets.get(&id) {
             Some(set) => looked(set.value(num)),
@@ -130,17 +134,22 @@ impl Kernel {
 
     /// semctl with GETPID: EINVAL.
     pub(super) fn last(&self, id: u32, num: u16) -> Reply
-        ensures { on_named self.now (get self.now.sets id) (λ s. look_up self.now (last_at s num)) ≡ record { kernel = self.now; reply = result } }
+        ensures { on_named self.now (get self.now.sets id) (λ s. look_up self.now (last_at s num))
+            ≡ record { kernel = self.now; reply = result } }
     {
         match self.sets.get(&id) {
-            Some(set) => looked(set.last(num)),
+            Some(set) => match set.last(num) {
+                Ok(pid) => Reply::Num(pid.0),
+                Err(errno) => Reply::Fail(errno),
+            },
             None => Reply::Fail(Errno::Einval),
         }
     }
 
     /// semctl with GETNCNT and GETZCNT: EINVAL, and else 0.
     pub(super) fn waiting(&self, id: u32, num: u16) -> Reply
-        ensures { on_named self.now (get self.now.sets id) (λ s. look_up self.now (waiting_at s num)) ≡ record { kernel = self.now; reply = result } }
+        ensures { on_named self.now (get self.now.sets id) (λ s. look_up self.now (waiting_at s num))
+            ≡ record { kernel = self.now; reply = result } }
     {
         match self.sets.get(&id) {
             Some(set) => looked(set.waiting(num)),
@@ -158,7 +167,9 @@ impl Kernel {
 
     /// semctl with GETALL: EINVAL.
     pub(super) fn all_values(&self, id: u32) -> Result<Reply, Memory>
-        ensures { IfOk result (λ reply. on_named self.now (get self.now.sets id) (all_values self.now) ≡ record { kernel = self.now; reply = reply }) }
+        ensures { IfOk result
+            (λ reply. on_named self.now (get self.now.sets id) (all_values self.now)
+            ≡ record { kernel = self.now; reply = reply }) }
     {
         match self.sets.get(&id) {
             Some(set) => Ok(Reply::All(set.all(self.alloc)?)),

@@ -1,21 +1,25 @@
 use Rattle.std.proofs.Common.{◌≡◌, ◌++◌, ◌∷◌, [], arith}
-use Rattle.std.proofs.lemmas.Result.{err_from_is_err_and}
+use Rattle.body_fields.proofs.Many.{ends, goes_on, is_done}
 use Rattle.fork_wait.specs.Reading.{numbers_at}
-use Rattle.fork_wait.proofs.Loops.{ends, goes_on, is_done, numbers_repeat}
+use Rattle.fork_wait.proofs.Loops.{numbers_repeat}
 use Rattle.fork_wait.proofs.reading.read_numbers.Goals as goal
 
-pub returns-in_err-number-clause-read : goal.returns-in_err-number-clause-read
-returns-in_err-number-clause-read c =
-    let p = err_from_is_err_and c.from_residual.result c.from_residual.ensures.1 in
-    rw (p.1, p.2) (ends numbers_repeat c.in_err-number.field-0.0 c.loop.into.items c.args.count c.loop.counter c.loop.rest.now (numbers_at c.args.count c.args.bytes.now) c.loop-test.true c.in_err-number.ensures c.loop.invariant.read)
+pub returns-in_err-number : goal.returns-in_err-number
+returns-in_err-number c =
+    rw c.from_residual.ensures
+    (ends numbers_repeat c.loop.into.items c.args.count c.loop.counter c.loop.rest.now
+    (numbers_at c.args.count c.args.bytes.now) c.loop-test.true c.in_err-number.ensures c.loop.invariant.read)
 
 pub loop-preserved : goal.loop-preserved
 loop-preserved c =
-    let pushed : c.push.new.self.items ≡ c.loop.into.items ++ c.in_ok-number.number ∷ [] = c.in_ok-push.ensures.items in
+    let pushed : c.push.new.self.items ≡ c.loop.into.items ++ c.in_ok-number.number ∷ [] = c.push.ensures.items in
     record {
-      read = rw pushed (goes_on numbers_repeat c.loop.into.items c.args.count c.loop.counter c.loop.rest.now c.in_ok-number.number c.in_ok-number.after.now (numbers_at c.args.count c.args.bytes.now) c.loop-test.true c.in_ok-number.ensures c.loop.invariant.read);
-      room = omega (arith, c.loop.invariant.room, c.in_ok-push.ensures.capacity);
+      read = rw pushed (goes_on numbers_repeat c.loop.into.items c.args.count c.loop.counter c.loop.rest.now
+          c.in_ok-number.number c.in_ok-number.after.now
+          (numbers_at c.args.count c.args.bytes.now) c.loop-test.true c.in_ok-number.ensures c.loop.invariant.read);
+      so_far = omega (arith, c.loop.invariant.so_far, c.push.ensures.len);
     }
 
-pub returns-clause-read : goal.returns-clause-read
-returns-clause-read c = is_done numbers_repeat c.loop.into.items c.args.count c.loop.counter c.loop.rest.now (numbers_at c.args.count c.args.bytes.now) c.loop-test.false c.loop.invariant.read
+pub returns : goal.returns
+returns c = is_done numbers_repeat c.loop.into.items c.args.count c.loop.counter c.loop.rest.now
+    (numbers_at c.args.count c.args.bytes.now) c.loop-test.false c.loop.invariant.read

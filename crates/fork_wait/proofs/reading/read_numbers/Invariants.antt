@@ -1,12 +1,11 @@
-use Rattle.std.proofs.Common.{◌≡◌, ◌-◌, ◌≤◌}
-use Rattle.std.specs.Vec.{vec_capacity}
+use Rattle.std.proofs.Common.{◌≡◌, ◌-◌, length}
+use Rattle.body_fields.proofs.Many.{with_front}
 use Rattle.fork_wait.specs.Reading.{numbers_at}
-use Rattle.fork_wait.proofs.Loops.{with_front}
 use Rattle.fork_wait.proofs.reading.read_numbers.Given as goal
 
 abbrev pub invariant-loop : goal.invariant-loop
 invariant-loop l =
     record {
       read : with_front l.into.items (numbers_at (l.count - l.counter) l.rest) ≡ numbers_at l.count l.bytes;
-      room : vec_capacity l.fn.into ≤ vec_capacity l.into;
+      so_far : length l.into.items ≡ l.counter;
     }

@@ -12,9 +12,12 @@ loop-pid-preserved c =
     let read : get_or c.args.numbers.now c.loop-pid.pid-index pid ≡ pid = sym c.pid-item.is in
     record {
       written =
-          c.in_ok-write_number.ensures.written ∙ ap (λ (bytes : List ℕ). bytes ++ to_be_bytes w32 pid) c.loop-pid.invariant.written
+          c.in_ok-write_number.ensures.written
+          ∙ ap (λ (bytes : List ℕ). bytes ++ to_be_bytes w32 pid) c.loop-pid.invariant.written
           ∙ flat_map_more (to_be_bytes w32) c.args.bytes.now.items so_far pid
           ∙ ap (λ (n : ℕ). c.args.bytes.now.items ++ flat_map (to_be_bytes w32) (so_far ++ n ∷ [])) c.pid-item.is
-          ∙ ap (λ (ns : List ℕ). c.args.bytes.now.items ++ flat_map (to_be_bytes w32) ns) (sym (take_more c.args.numbers.now c.loop-pid.pid-index c.pid-item.result c.loop-pid-test.true));
-      numbers = All-more (λ n. n < 2 ^ 32) c.args.numbers.now c.loop-pid.pid-index c.pid-item.result c.loop-pid-test.true c.loop-pid.invariant.numbers (rw read c.write_number.ensures.number);
+          ∙ ap (λ (ns : List ℕ). c.args.bytes.now.items ++ flat_map (to_be_bytes w32) ns)
+          (sym (take_more c.args.numbers.now c.loop-pid.pid-index c.pid-item.result c.loop-pid-test.true));
+      numbers = All-more (λ n. n < 2 ^ 32) c.args.numbers.now c.loop-pid.pid-index c.pid-item.result
+          c.loop-pid-test.true c.loop-pid.invariant.numbers (rw read c.write_number.ensures.number);
     }

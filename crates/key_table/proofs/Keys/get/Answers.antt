@@ -9,5 +9,6 @@ pub returns : goal.returns
 returns c =
     c.answer.ensures
     ∙ ap (λ (bound : Option Bound). key_answer bound c.args.create c.args.excl)
-    (c.copied.ensures ∙ c.get.ensures.value ∙ sym (get-seen c.self.inside.by_key.entries c.args.self.now c.self.view_is c.key.inside.0)
+    (c.copied.ensures ∙ c.get.ensures.value
+    ∙ sym (get-seen c.self.inside.by_key.entries c.args.self.now c.self.view_is c.key.inside.0)
     ∙ ap (λ (k : ℕ). map.get c.args.self.now k) c.key.view_is)

@@ -13,12 +13,15 @@ none c = rw (← c.id.view_is) (sym c.in-None.ensures.value)
 
 -- so no key is bound to it
 unheld : (c : goal.In-None) (q : ℕ) → false ≡ is_bound_to c.args.id (get nat_eq c.self.inside.by_key q)
-unheld c = nobody (get nat_eq c.self.inside.by_key) (get nat_eq c.self.inside.key_of) c.self.invariant c.args.id (none c)
+unheld c = nobody (get nat_eq c.self.inside.by_key) (get nat_eq c.self.inside.key_of) c.self.invariant c.args.id
+    (none c)
 
 pub returns-in-None-clause-bound : goal.returns-in-None-clause-bound
 returns-in-None-clause-bound c = (
   λ never. absurd (false≢true never),
-  λ held. unheld c held.0 ∙ ap (is_bound_to c.args.id) (sym (get-seen c.self.inside.by_key.entries c.args.self.now c.self.view_is held.0)) ∙ held.1,
+  λ held. unheld c held.0
+      ∙ ap (is_bound_to c.args.id) (sym (get-seen c.self.inside.by_key.entries c.args.self.now c.self.view_is held.0))
+      ∙ held.1,
 )
 
 pub returns-in-None-clause-unbound : goal.returns-in-None-clause-unbound
@@ -33,12 +36,19 @@ was c = rw (← c.id.view_is) (sym c.in-Some.ensures.value)
 
 pub invariant_of-self-in-Some : goal.invariant_of-self-in-Some
 invariant_of-self-in-Some c =
-    agree-unbound (get nat_eq c.self.inside.by_key) (get nat_eq c.swap_remove-in-Some.new.self) (get nat_eq c.self.inside.key_of) (get nat_eq c.swap_remove.new.self) c.self.invariant
-    c.in-Some.key c.args.id (was c) c.swap_remove-in-Some.ensures.updates.0 (rw (← c.id.view_is) c.in-Some.ensures.updates.0)
+    agree-unbound (get nat_eq c.self.inside.by_key) (get nat_eq c.swap_remove-in-Some.new.self)
+    (get nat_eq c.self.inside.key_of) (get nat_eq c.swap_remove.new.self) c.self.invariant
+    c.in-Some.key c.args.id (was c) c.swap_remove-in-Some.ensures.updates.0
+    (rw (← c.id.view_is) c.in-Some.ensures.updates.0)
 
 pub returns-in-Some-clause-bound : goal.returns-in-Some-clause-bound
 returns-in-Some-clause-bound c = (
-  λ _. (c.in-Some.key, ap (is_bound_to c.args.id) (get-seen c.self.inside.by_key.entries c.args.self.now c.self.view_is c.in-Some.key) ∙ (c.self.invariant c.args.id c.in-Some.key).1 (was c)),
+  λ _. (
+    c.in-Some.key,
+    ap (is_bound_to c.args.id)
+        (get-seen c.self.inside.by_key.entries c.args.self.now c.self.view_is c.in-Some.key)
+        ∙ (c.self.invariant c.args.id c.in-Some.key).1 (was c),
+  ),
   λ _. refl,
 )
 
@@ -46,7 +56,9 @@ pub returns-in-Some-clause-unbound : goal.returns-in-Some-clause-unbound
 returns-in-Some-clause-unbound c =
     view-without c.self.inside.by_key.entries c.swap_remove-in-Some.new.self.entries c.args.id
     (λ q. c.swap_remove-in-Some.ensures.updates.0 q
-    ∙ ap (λ (t : Bool). cond t None (get nat_eq c.self.inside.by_key q)) (alone (get nat_eq c.self.inside.by_key) (get nat_eq c.self.inside.key_of) c.self.invariant c.in-Some.key c.args.id (was c) q))
+    ∙ ap (λ (t : Bool). cond t None (get nat_eq c.self.inside.by_key q))
+    (alone (get nat_eq c.self.inside.by_key)
+    (get nat_eq c.self.inside.key_of) c.self.invariant c.in-Some.key c.args.id (was c) q))
     ∙ ap (λ (m : KeyMap). without_id m c.args.id) c.self.view_is
 
 pub returns-in-None-clause-gone : goal.returns-in-None-clause-gone

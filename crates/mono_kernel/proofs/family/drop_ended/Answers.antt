@@ -4,4 +4,5 @@ use Rattle.mono_kernel.proofs.family.drop_ended.Goals as goal
 
 pub returns-clause-others : goal.returns-clause-others
 returns-clause-others c =
-    filter_same _ (λ e. not (nat_eq c.args.child e.pid)) _ (λ x b q r. (search (rules, r), search (rules, r))) _ _ c.retain.ensures.filtered
+    filter_same _ (λ e. not (nat_eq c.args.child e.pid)) _
+    (λ x b q r. (search (rules, r), search (rules, r))) _ _ c.retain.ensures.filtered

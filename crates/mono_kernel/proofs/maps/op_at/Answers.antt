@@ -1,6 +1,6 @@
 use Rattle.std.proofs.Common.{sym}
 use Rattle.mono_kernel.proofs.ResultLemmas.{err_anyway}
-use Rattle.mono_kernel.proofs.StepLemmas.{step-lands, same-lands}
+use Rattle.call_answers.proofs.Landing.{step-lands, same-lands}
 use Rattle.mono_kernel.proofs.maps.op_at.Goals as goal
 
 pub returns-in_err-op-in-Some-clause-err : goal.returns-in_err-op-in-Some-clause-err
@@ -11,5 +11,7 @@ returns-in_err-op-in-Some-clause-err c =
 
 pub returns-in_ok-op-in-Some-clause-ok : goal.returns-in_ok-op-in-Some-clause-ok
 returns-in_ok-op-in-Some-clause-ok c =
-    step-lands _ c.args.sets.now.entries _ c.args.id c.in-Some.set.now c.op.new.self c.in_ok-op-in-Some.field-0 c.answer.result
-    c.get_mut.ensures.ordered (sym c.in-Some.ensures.value) c.in_ok-op-in-Some.ensures.ok (c.get_mut.follows.holds c.op.new.self).0 c.answer.ensures
+    step-lands _ c.args.sets.now.entries _ c.args.id c.in-Some.set.now c.op.new.self c.in_ok-op-in-Some.field-0
+    c.answer.result
+    c.get_mut.ensures.ordered (sym c.in-Some.ensures.value) c.in_ok-op-in-Some.ensures.ok
+    (c.get_mut.follows.holds c.op.new.self).0 c.answer.ensures

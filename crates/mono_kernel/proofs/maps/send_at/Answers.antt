@@ -1,7 +1,7 @@
 use Rattle.std.proofs.Common.{sym, rules, SFits, w32}
 use Rattle.std.proofs.lemmas.Int.{to_z-of_z}
 use Rattle.mono_kernel.proofs.ResultLemmas.{err_anyway}
-use Rattle.mono_kernel.proofs.StepLemmas.{step-lands, same-lands}
+use Rattle.call_answers.proofs.Landing.{step-lands, same-lands}
 use Rattle.mono_kernel.proofs.maps.send_at.Goals as goal
 
 pub returns-in_err-send-in-Some-clause-err : goal.returns-in_err-send-in-Some-clause-err
@@ -13,6 +13,7 @@ returns-in_err-send-in-Some-clause-err c =
 pub returns-in_ok-send-in-Some-clause-ok : goal.returns-in_ok-send-in-Some-clause-ok
 returns-in_ok-send-in-Some-clause-ok c =
     let fits : SFits w32 c.args.class = search rules
-    in step-lands _ c.args.queues.now.entries _ c.args.id c.in-Some.queue.now c.send.new.self c.in_ok-send-in-Some.field-0 c.answer.result
+    in step-lands _ c.args.queues.now.entries _ c.args.id c.in-Some.queue.now c.send.new.self
+    c.in_ok-send-in-Some.field-0 c.answer.result
     c.get_mut.ensures.ordered (sym c.in-Some.ensures.value) (simp to_z-of_z at c.in_ok-send-in-Some.ensures.ok)
     (c.get_mut.follows.holds c.send.new.self).0 c.answer.ensures

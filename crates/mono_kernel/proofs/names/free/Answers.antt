@@ -1,4 +1,4 @@
-use Rattle.mono_kernel.proofs.MapLemmas.{remove-put}
+use Rattle.number_maps.proofs.Changes.{remove-put}
 use Rattle.mono_kernel.proofs.names.free.Goals as goal
 
 pub returns-in-Some : goal.returns-in-Some

@@ -12,6 +12,9 @@ loop-step-preserved c =
     in let within : c.from-num.result < length c.loop-step.semaphores.items = search rules
     in record {
       as_many = grind (arith, length-set);
-      marked = mark-step c.args.semaphores.now.items c.args.pid c.args.steps.now i c.from-num.result no_step c.loop-step.semaphores.items
-          c.index-old.result.now (record { value = c.old.inside.value; last = c.old.inside.last }) inside c.from-num.ensures within c.loop-step.invariant.marked c.old.view_is c.index-old.ensures;
+      marked = mark-step c.args.semaphores.now.items c.args.pid c.args.steps.now i c.from-num.result no_step
+          c.loop-step.semaphores.items
+          c.index-old.result.now
+          (record { value = c.old.inside.value; last = c.old.inside.last }) inside c.from-num.ensures within
+          c.loop-step.invariant.marked c.old.view_is c.index-old.ensures;
     }

@@ -16,7 +16,8 @@ loop-step-preserved c =
     in record {
       as_many = grind (arith, length-set);
       rest = c.loop-step.invariant.rest
-          ∙ try-goes i c.loop-step.values.items c.args.steps.now no_step c.from-num.result c.index.result.now c.in-Ok.value
+          ∙ try-goes i c.loop-step.values.items c.args.steps.now no_step c.from-num.result c.index.result.now
+          c.in-Ok.value
           inside c.from-num.ensures num c.index.ensures (sym c.moved.ensures ∙ c.in-Ok.is);
     }
 

@@ -1,10 +1,8 @@
-use Rattle.std.proofs.Common.{◌≡◌, ◌≤◌, length}
-use Rattle.script_reader.specs.Parts.{digits_front}
+use Rattle.std.proofs.Common.{◌≡◌, ◌≤◌, drop}
+use Rattle.script_reader.specs.Parts.{digits}
 use Rattle.script_reader.proofs.numbers.digits.Given as goal
 
 -- the digits left, behind those so far
-abbrev pub invariant-loop-next : goal.invariant-loop-next
-invariant-loop-next l = (digits_front l.limit l.value l.rest ≡ digits_front l.limit l.fn.start l.fn.bytes) × (l.value ≤ l.limit)
-
-abbrev pub decreases-loop-next : goal.decreases-loop-next
-decreases-loop-next l = length l.rest
+abbrev pub invariant-loop-byte : goal.invariant-loop-byte
+invariant-loop-byte l =
+    (digits l.limit l.value (drop l.byte-index l.word) ≡ digits l.limit 0 l.word) × (l.value ≤ l.limit)

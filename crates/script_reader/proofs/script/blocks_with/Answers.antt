@@ -1,29 +1,57 @@
-use Rattle.std.proofs.Common.{sym, ap, ◌∙◌, arith}
-use Rattle.script_reader.specs.Fault.{lines_of}
-use Rattle.script_reader.specs.Reading.{ending, blocks_from}
-use Rattle.script_reader.proofs.OneStep.{blocks_from-stops, blocks_from-goes, fails_at, gives_same}
+use Rattle.std.proofs.Common.{◌+◌, length, sym, ap, ◌∙◌, arith}
+use Rattle.script_reader.specs.Words.{lines_of}
+use Rattle.script_reader.specs.Fault.{start, ending, blocks_from}
+use Rattle.script_reader.proofs.Steps.{blocks_from-stops, blocks_from-goes, blocks_from-ends, behind_blocks, calls_within, start_place, gives_same}
 use Rattle.script_reader.proofs.script.blocks_with.Goals as goal
 
-pub returns-in_default-2 : goal.returns-in_default-2
-returns-in_default-2 c =
+pub loop-bytes-init : goal.loop-bytes-init
+loop-bytes-init c =
+    let first = start_place c.len.result c.in_ok-place.place c.in_ok-place.ensures in
+    record {
+      reads = ap (λ p. blocks_from c.args.runnable c.args.names.now p 1 (lines_of c.args.text.now))
+          (c.in_ok-place.ensures ∙ ap start c.len.ensures);
+      counted = omega arith;
+      blocks = omega (arith, first.0);
+      calls = omega (arith, first.1);
+    }
+
+pub returns-in-Some-fault_of : goal.returns-in-Some-fault_of
+returns-in-Some-fault_of c =
     let l = c.loop-bytes in
-    let names = c.args.names.now in
-    let stuck = blocks_from-stops names l.state l.number c.in-Some.bytes.now (lines_of c.in-Some.after.now) (sym c.in_ok-next.ensures ∙ c.in_default-2.is) in
-    fails_at c.not_built.result l.number _ c.not_built.ensures (sym l.invariant.reads ∙ ap (blocks_from names l.state l.number) c.in-Some.ensures.lines ∙ stuck)
+    let from = blocks_from c.args.runnable c.args.names.now l.place l.number in
+    sym l.invariant.reads ∙ ap from c.in-Some.ensures.lines
+    ∙ blocks_from-stops c.args.runnable c.args.names.now l.place l.number c.in-Some.bytes.now
+    (lines_of c.in-Some.after.now) c.in_ok-said.said c.in-Some-fault_of.fault c.in_ok-said.ensures
+    (sym c.fault_of.ensures ∙ c.in-Some-fault_of.is)
 
 pub loop-bytes-preserved : goal.loop-bytes-preserved
 loop-bytes-preserved c =
     let l = c.loop-bytes in
-    let names = c.args.names.now in
-    let goes = blocks_from-goes names l.state c.in-Some-2.next l.number c.in-Some.bytes.now (lines_of c.in-Some.after.now) (sym c.in_ok-next.ensures ∙ c.in-Some-2.is) in
+    let from = blocks_from c.args.runnable c.args.names.now in
+    let none = sym c.fault_of.ensures ∙ c.in_default-fault_of.is in
+    let goes = blocks_from-goes c.args.runnable c.args.names.now l.place l.number c.in-Some.bytes.now
+    (lines_of c.in-Some.after.now) c.in_ok-said.said c.in_ok-said.ensures none in
     record {
-      reads = sym goes ∙ sym (ap (blocks_from names l.state l.number) c.in-Some.ensures.lines) ∙ l.invariant.reads;
+      reads = ap (λ p. from p (l.number + 1) (lines_of c.in-Some.after.now)) c.in_ok-place-2.ensures ∙ sym goes
+          ∙ sym (ap (from l.place l.number) c.in-Some.ensures.lines) ∙ l.invariant.reads;
       counted = omega (arith, c.in-Some.ensures.shorter, l.invariant.counted);
+      blocks = omega (
+        arith,
+        l.invariant.blocks,
+        behind_blocks l.place c.in_ok-said.said,
+        ap (λ p. length p.blocks) c.in_ok-place-2.ensures,
+      );
+      calls = omega (
+        arith,
+        calls_within c.args.runnable l.place (length c.in-Some.bytes.now) c.in_ok-said.said none,
+        ap (λ p. p.calls) c.in_ok-place-2.ensures,
+      );
     }
 
 pub returns : goal.returns
-unfolding blocks_from
 returns c =
     let l = c.loop-bytes in
-    let names = c.args.names.now in
-    gives_same c.ending.result (ending l.state l.number) _ (sym (ap (blocks_from names l.state l.number) c.in_default.ensures.lines) ∙ l.invariant.reads) c.ending.ensures
+    let from = blocks_from c.args.runnable c.args.names.now l.place l.number in
+    gives_same c.ending.result (ending l.place l.number) _
+    (sym (blocks_from-ends c.args.runnable c.args.names.now l.place l.number
+    (lines_of l.rest.now) c.in_default.ensures.lines) ∙ l.invariant.reads) c.ending.ensures

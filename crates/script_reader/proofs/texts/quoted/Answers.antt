@@ -1,18 +1,11 @@
-use Rattle.std.proofs.Common.{◌≡◌, ℕ, ◌+◌, ◌-◌, length, sym, ◌∙◌, arith}
-use Rattle.script_reader.proofs.Spelled.{quoted-goes, quoted-ends, quoted-full}
+use Rattle.std.proofs.Common.{sym, ap, ◌∙◌}
+use Rattle.std.specs.Prelude.{bytes_eq}
+use Rattle.script_reader.proofs.Quotes.{quoted_at_once}
 use Rattle.script_reader.proofs.texts.quoted.Goals as goal
 
-pub returns-in-None : goal.returns-in-None
-returns-in-None c =
-    c.closed.ensures ∙ sym (quoted-ends c.loop.text c.loop.rest.now (length c.args.bytes.now - c.loop.counter) (sym c.in-None.ensures)) ∙ c.loop.invariant
-
-pub loop-preserved : goal.loop-preserved
-loop-preserved c =
-    let n : ℕ = length c.args.bytes.now - c.loop.counter in
-    let fewer : n - 1 ≡ length c.args.bytes.now - (c.loop.counter + 1) = omega arith in
-    let goes = quoted-goes c.loop.text c.loop.rest.now c.in-Some.after.now n c.in-Some.byte (omega arith) c.in-Some.ensures in
-    rw (c.in_ok-push-in-Some.ensures.ok, ← fewer) (sym goes ∙ c.loop.invariant)
-
-pub returns : goal.returns
-returns c =
-    c.closed-2.ensures ∙ sym (quoted-full c.loop.text c.loop.rest.now (length c.args.bytes.now - c.loop.counter) (omega arith)) ∙ c.loop.invariant
+pub returns-then-eq : goal.returns-then-eq
+returns-then-eq c =
+    quoted_at_once c.args.bytes.now c.in_ok-from_slice.field-0 c.split_at.result.1.now c.plain_len.result
+    c.plain_len.ensures.value c.plain_len.ensures.within
+    (c.in_ok-from_slice.ensures ∙ c.split_at.ensures.front) c.split_at.ensures.back
+    (ap (bytes_eq c.split_at.result.1.now) (sym c.as_slice.ensures) ∙ sym c.eq.ensures ∙ c.if-eq.true)

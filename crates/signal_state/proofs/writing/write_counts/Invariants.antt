@@ -7,6 +7,7 @@ use Rattle.signal_state.proofs.writing.write_counts.Given as goal
 abbrev pub invariant-loop-sig : goal.invariant-loop-sig
 invariant-loop-sig l =
     record {
-      written : l.into.items ≡ l.fn.into.items ++ flat_map (λ g. to_be_bytes w32 (at l.counts g)) (take l.sig-index l.sigs);
+      written : l.into.items ≡ l.fn.into.items
+          ++ flat_map (λ g. to_be_bytes w32 (at l.counts g)) (take l.sig-index l.sigs);
       room : length l.into.items ≡ length l.fn.into.items + 4 * l.sig-index;
     }

@@ -13,7 +13,9 @@ returns-in_err-values-clause-refused c =
     let inside = c.requires c.loop-step.step-index no_step c.loop-step-test.true in
     let fits : SFits w32 (get_or c.args.steps.now c.loop-step.step-index no_step).add = search rules in
     let moved = simp to_z-of_z at c.in_err-values.ensures in
-    rw (p.1, p.2) (ap trial_of (sym c.loop-step.invariant) ∙ tried_stops c.loop-step.values c.args.steps.now c.loop-step.step-index no_step c.in_err-values.field-0.0 c.loop-step-test.true (omega (arith, inside)) moved)
+    rw (p.1, p.2) (ap trial_of (sym c.loop-step.invariant)
+    ∙ tried_stops c.loop-step.values c.args.steps.now c.loop-step.step-index no_step c.in_err-values.field-0.0
+    c.loop-step-test.true (omega (arith, inside)) moved)
 
 pub loop-step-preserved : goal.loop-step-preserved
 loop-step-preserved c =
@@ -21,4 +23,5 @@ loop-step-preserved c =
     let inside = c.requires c.loop-step.step-index no_step c.loop-step-test.true in
     let fits : SFits w32 (get_or c.args.steps.now c.loop-step.step-index no_step).add = search rules in
     let moved = simp to_z-of_z at c.in_ok-values.ensures in
-    tried_more c.loop-step.values c.args.steps.now c.loop-step.step-index no_step c.in_ok-values.field-0 c.loop-step-test.true (omega (arith, inside)) moved ∙ c.loop-step.invariant
+    tried_more c.loop-step.values c.args.steps.now c.loop-step.step-index no_step c.in_ok-values.field-0
+    c.loop-step-test.true (omega (arith, inside)) moved ∙ c.loop-step.invariant

@@ -1,5 +1,6 @@
-use Rattle.std.proofs.Common.{sym}
+use Rattle.std.proofs.Common.{ℕ, sym}
 use Rattle.std.proofs.lemmas.List.Elements.{All-from_recursion, All-same, recursion_from_All}
+use Rattle.pico_base.specs.declared.reply.Ending.{Ending}
 use Rattle.kernel_model.specs.Row.{EndedChild}
 use Rattle.fork_wait.proofs.Bodies.{Small, Small-join}
 use Rattle.fork_wait.proofs.family.Family.pack.Goals as goal
@@ -12,6 +13,10 @@ returns-clause-state c =
       numbers =
           All-from_recursion Small _
           (Small-join f.living.items f.ended.items
-          (recursion_from_All Small f.living.items (All-same Small f.living.items c.deref.result.now (sym c.deref.ensures.value) c.in_ok-write_numbers.ensures.numbers))
-          (recursion_from_All (λ (e : EndedChild). Small e.pid) f.ended.items (All-same (λ (e : EndedChild). Small e.pid) f.ended.items c.deref-2.result.now (sym c.deref-2.ensures.value) c.in_ok-write_ended.ensures.numbers)));
+          (recursion_from_All Small f.living.items
+          (All-same Small f.living.items c.deref.result.now
+          (sym c.deref.ensures.value) c.in_ok-write_numbers.ensures.numbers))
+          (recursion_from_All (λ (e : EndedChild). Small e.pid) f.ended.items
+          (All-same (λ (e : EndedChild). Small e.pid) f.ended.items c.deref-2.result.now
+          (sym c.deref-2.ensures.value) c.in_ok-write_ended.ensures.numbers)));
     }

@@ -5,21 +5,27 @@ use Rattle.mono_kernel.proofs.kernel.Kernel.carry_out.Goals as goal
 
 pub returns-in-SigProcMask : goal.returns-in-SigProcMask
 returns-in-SigProcMask c =
-    mask-carried c.args.self.now c.change_mask.new.self c.args.pid c.args.chosen c.in-SigProcMask.how c.in-SigProcMask.set c.args.call.now
+    mask-carried c.args.self.now c.change_mask.new.self c.args.pid c.args.chosen c.in-SigProcMask.how
+    c.in-SigProcMask.set c.args.call.now
     c.change_mask.result c.in-SigProcMask.is c.change_mask.ensures.masked c.change_mask.ensures.reply
 
 pub returns-in-MsgRcv-default-default-default-default-true : goal.returns-in-MsgRcv-default-default-default-default-true
 returns-in-MsgRcv-default-default-default-default-true c =
     let fits : SFits w32 c.in-MsgRcv-default-default-default-default-true.class = search rules
     in let made = simp to_z-of_z at c.receive.ensures
-    in msgrcv-carried c.args.self.now c.receive.new.self c.args.pid c.args.chosen c.in-MsgRcv-default-default-default-default-true.id
+    in msgrcv-carried c.args.self.now c.receive.new.self c.args.pid c.args.chosen
+    c.in-MsgRcv-default-default-default-default-true.id
     c.in-MsgRcv-default-default-default-default-true.class c.in-MsgRcv-default-default-default-default-true.size
-    c.in-MsgRcv-default-default-default-default-true.noerror c.in-MsgRcv-default-default-default-default-true.nowait c.args.call.now
-    c.receive.result c.in-MsgRcv-default-default-default-default-true.is (sym c.in-MsgRcv-default-default-default-default-true.nowait-is ∙ c.in-MsgRcv-default-default-default-default-true.nowait-test)
+    c.in-MsgRcv-default-default-default-default-true.noerror c.in-MsgRcv-default-default-default-default-true.nowait
+    c.args.call.now
+    c.receive.result c.in-MsgRcv-default-default-default-default-true.is
+    (sym c.in-MsgRcv-default-default-default-default-true.nowait-is
+    ∙ c.in-MsgRcv-default-default-default-default-true.nowait-test)
     (rw c.id-in-MsgRcv-default-default-default-default-true.view_is at made)
 
 pub returns-in-SemOp : goal.returns-in-SemOp
 returns-in-SemOp c =
     let made = rw c.id-in-SemOp.view_is at c.operate.ensures
-    in semop-carried c.args.self.now c.operate.new.self c.args.pid c.args.chosen c.in-SemOp.id c.in-SemOp.steps c.args.call.now
+    in semop-carried c.args.self.now c.operate.new.self c.args.pid c.args.chosen c.in-SemOp.id c.in-SemOp.steps
+    c.args.call.now
     c.operate.result c.in-SemOp.is made

@@ -12,7 +12,9 @@ unfolding with_keys
 returns-in-Some c =
     rw (← c.self.view_is)
     (ap (with_keys c.self.inside.used.keys)
-    (c.remove.ensures.entries ∙ sym (unbound-one c.self.inside.keys.entries c.args.number c.in-Some.key c.self.invariant.rising c.in-Some.ensures)))
+    (c.remove.ensures.entries
+    ∙ sym (unbound-one c.self.inside.keys.entries c.args.number c.in-Some.key c.self.invariant.rising
+    c.in-Some.ensures)))
 
 pub returns-in_default : goal.returns-in_default
 unfolding with_keys

@@ -8,7 +8,8 @@ bury-requires c = rw c.as_slice.ensures.value (λ k d inside. (c.in_ok-children.
 
 pub leave-requires-clause-there : goal.leave-requires-clause-there
 leave-requires-clause-there c =
-    there-same c.args.self.now c.bury.new.self c.args.pid c.bury.ensures.same_numbers (there-alive c.args.self.now c.args.pid c.requires)
+    there-same c.args.self.now c.bury.new.self c.args.pid c.bury.ensures.same_numbers
+    (there-alive c.args.self.now c.args.pid c.requires)
 
 pub leave-requires-clause-listed : goal.leave-requires-clause-listed
 leave-requires-clause-listed c =
@@ -19,7 +20,8 @@ leave-requires-clause-listed c =
 pub returns-clause-ended : goal.returns-clause-ended
 returns-clause-ended c =
     let left = rw (c.bury.ensures.buried, c.as_slice.ensures.value) at c.leave.ensures.left
-    in end-is c.args.self.now c.leave.new.self c.args.pid c.args.ending c.in_ok-children.children.items c.parent_of-parent.result
+    in end-is c.args.self.now c.leave.new.self c.args.pid c.args.ending c.in_ok-children.children.items
+    c.parent_of-parent.result
     c.in_ok-children.ensures.children c.parent_of-parent.ensures.parent
     (parent-after c.args.self.now c.in_ok-children.children.items c.args.pid c.parent_of-parent.result
     (λ k d inside. (c.in_ok-children.ensures.ended k d inside).1) c.parent_of-parent.ensures.lists)

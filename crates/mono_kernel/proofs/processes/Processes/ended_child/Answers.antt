@@ -6,4 +6,5 @@ pub returns-in-Some-clause-there : goal.returns-in-Some-clause-there
 returns-in-Some-clause-there c =
     let lives = rw (← c.self.view_is) at (sym c.in-Some.ensures)
     in rw (← c.self.view_is, c.first_ended.ensures)
-    (found-there c.self.inside.cells.entries c.self.inside.parents.entries c.args.pid c.in-Some.alive.now c.args.which c.self.invariant lives)
+    (found-there c.self.inside.cells.entries c.self.inside.parents.entries c.args.pid c.in-Some.alive.now
+    c.args.which.now c.self.invariant lives)

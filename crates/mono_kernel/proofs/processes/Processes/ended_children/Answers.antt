@@ -1,13 +1,14 @@
 use Rattle.std.proofs.Common.{sym}
 use Rattle.mono_kernel.proofs.EndedLemmas.{all-kept}
-use Rattle.mono_kernel.proofs.ResultLemmas.{if_ok}
+use Rattle.std.proofs.lemmas.Result.{IfOk-weaker}
 use Rattle.mono_kernel.proofs.processes.Processes.ended_children.Goals as goal
 
 pub returns-in-Some-clause-ended : goal.returns-in-Some-clause-ended
 returns-in-Some-clause-ended c =
     let lives = rw (← c.self.view_is) at (sym c.in-Some.ensures)
     in rw (← c.self.view_is)
-    (if_ok c.all_ended.result _ _
+    (IfOk-weaker c.all_ended.result _ _
     (λ children is. rw is
-    (all-kept c.self.inside.cells.entries c.self.inside.parents.entries c.args.pid c.in-Some.alive.now c.self.invariant lives))
+    (all-kept c.self.inside.cells.entries c.self.inside.parents.entries c.args.pid c.in-Some.alive.now c.self.invariant
+    lives))
     c.all_ended.ensures)

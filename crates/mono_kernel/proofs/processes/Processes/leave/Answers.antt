@@ -24,9 +24,13 @@ end_child-requires-clause-ended c =
 pub returns-clause-left : goal.returns-clause-left
 returns-clause-left c =
     let listed = rw c.in-Some.is at c.requires.listed
-    in let settled : c.settle-2.new.self ≡ put c.args.self.now c.args.pid (process_after_end (ignores_there c.args.self.now c.in-Some.parent) c.args.ending) =
+    in let settled : c.settle-2.new.self
+    ≡ put c.args.self.now c.args.pid
+    (process_after_end (ignores_there c.args.self.now c.in-Some.parent) c.args.ending) =
     c.settle-2.ensures.settled
-    ∙ ap (put c.args.self.now c.args.pid) (c.kept.ensures ∙ ap (λ (b : Bool). process_after_end b c.args.ending) c.ignores_children-ignored.ensures)
+    ∙ ap (put c.args.self.now c.args.pid)
+    (c.kept.ensures ∙ ap (λ (b : Bool). process_after_end b c.args.ending) c.ignores_children-ignored.ensures)
     in let changed = rw settled at c.end_child.ensures.changed
     in rw c.in-Some.is
-    (left-under c.args.self.now c.end_child.new.self c.args.pid c.in-Some.parent c.args.ending listed.1 listed.0 changed)
+    (left-under c.args.self.now c.end_child.new.self c.args.pid c.in-Some.parent c.args.ending listed.1 listed.0
+    changed)

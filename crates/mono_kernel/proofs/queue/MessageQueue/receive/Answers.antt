@@ -10,29 +10,53 @@ use Rattle.mono_kernel.proofs.queue.MessageQueue.receive.Goals.{else-len-size-vi
 pub returns-then-not-noerror : goal.returns-then-not-noerror
 returns-then-not-noerror c =
     let fits : SFits w32 c.args.class = search rules
-    in let q : Queue = record { messages = c.self.inside.messages.items; qbytes = c.self.inside.qbytes; last_sender = c.self.inside.last_sender; last_receiver = c.self.inside.last_receiver }
+    in let q : Queue = record {
+      messages = c.self.inside.messages.items;
+      qbytes = c.self.inside.qbytes;
+      last_sender =
+          c.self.inside.last_sender;
+      last_receiver = c.self.inside.last_receiver;
+    }
     in let counted : deque_len c.self.inside.messages ≡ length c.self.inside.messages.items = search rules
-    in let chosen : select c.self.inside.messages.items c.args.class ≡ Some c.in-Some.place = sym (simp to_z-of_z at c.selected.ensures) ∙ c.in-Some.is
+    in let chosen : select c.self.inside.messages.items c.args.class ≡ Some c.in-Some.place =
+    sym (simp to_z-of_z at c.selected.ensures) ∙ c.in-Some.is
     in let there : slice_get c.self.inside.messages.items c.in-Some.place ≡ Some c.in-Some-get.found.now =
-    slice_get_read c.self.inside.messages.items _ _ _ counted (c.in-Some-get.ensures.variant.0 refl) c.in-Some-get.ensures.lookup
+    slice_get_read c.self.inside.messages.items _ _ _ counted
+    (c.in-Some-get.ensures.variant.0 refl) c.in-Some-get.ensures.lookup
     in let long : c.args.size < length c.in-Some-get.found.now.text = omega arith
-    in rw (← c.self.view_is) (receive-too_long q c.args.pid c.args.class c.args.size c.args.noerror c.in-Some.place c.in-Some-get.found.now chosen there long c.if-not-noerror.true, refl)
+    in rw (← c.self.view_is) (
+      receive-too_long q c.args.pid c.args.class c.args.size c.args.noerror c.in-Some.place c.in-Some-get.found.now
+          chosen there long c.if-not-noerror.true,
+      refl,
+    )
 
 pub returns-in-Some-remove : goal.returns-in-Some-remove
 returns-in-Some-remove c =
     let fits : SFits w32 c.args.class = search rules
-    in let q : Queue = record { messages = c.self.inside.messages.items; qbytes = c.self.inside.qbytes; last_sender = c.self.inside.last_sender; last_receiver = c.self.inside.last_receiver }
+    in let q : Queue = record {
+      messages = c.self.inside.messages.items;
+      qbytes = c.self.inside.qbytes;
+      last_sender =
+          c.self.inside.last_sender;
+      last_receiver = c.self.inside.last_receiver;
+    }
     in let counted : deque_len c.self.inside.messages ≡ length c.self.inside.messages.items = search rules
-    in let chosen : select c.self.inside.messages.items c.args.class ≡ Some c.in-Some.place = sym (simp to_z-of_z at c.selected.ensures) ∙ c.in-Some.is
+    in let chosen : select c.self.inside.messages.items c.args.class ≡ Some c.in-Some.place =
+    sym (simp to_z-of_z at c.selected.ensures) ∙ c.in-Some.is
     in let seen : slice_get c.self.inside.messages.items c.in-Some.place ≡ Some c.in-Some-get.found.now =
-    slice_get_read c.self.inside.messages.items _ _ _ counted (c.in-Some-get.ensures.variant.0 refl) c.in-Some-get.ensures.lookup
+    slice_get_read c.self.inside.messages.items _ _ _ counted
+    (c.in-Some-get.ensures.variant.0 refl) c.in-Some-get.ensures.lookup
     in let there : slice_get c.self.inside.messages.items c.in-Some.place ≡ Some c.in-Some-remove.message =
-    slice_get_read c.self.inside.messages.items _ _ _ counted (c.in-Some-remove.ensures.variant.0 refl) c.in-Some-remove.ensures.value
+    slice_get_read c.self.inside.messages.items _ _ _ counted
+    (c.in-Some-remove.ensures.variant.0 refl) c.in-Some-remove.ensures.value
     in let same : length c.in-Some-remove.message.text ≡ c.len-len.result = cc
     in let may : (nat_le (length c.in-Some-remove.message.text) c.args.size || c.args.noerror) ≡ true =
     elim c.else-len-size.branch [
-      | else-len-size-via-then-len-size+else-not-noerror w ↦ is_cut_or_fits _ c.args.size c.args.noerror (inr (cc w.if-not-noerror.false))
-      | else-len-size-via-else-len-size w ↦ is_cut_or_fits (length c.in-Some-remove.message.text) c.args.size c.args.noerror (inl (omega arith))
+      | else-len-size-via-then-len-size+else-not-noerror w ↦ is_cut_or_fits _ c.args.size c.args.noerror
+          (inr (cc w.if-not-noerror.false))
+      | else-len-size-via-else-len-size w ↦ is_cut_or_fits
+          (length c.in-Some-remove.message.text) c.args.size c.args.noerror (inl (omega arith))
     ]
     in rw (← c.self.view_is, c.in-Some-remove.ensures.items, c.cut.ensures)
-    (receive-takes q c.args.pid c.args.class c.args.size c.args.noerror c.in-Some.place c.in-Some-remove.message chosen there may)
+    (receive-takes q c.args.pid c.args.class c.args.size c.args.noerror c.in-Some.place c.in-Some-remove.message chosen
+    there may)

@@ -13,4 +13,5 @@ after_mask s t how set m p q =
     in subst P p (ap (λ (n : PerSignal Bool). fold deliver (record s { mask = n }) all_signals) q)
 
 pub returns-clause-masked : goal.returns-clause-masked
-returns-clause-masked c = c.deliver_all.ensures ∙ after_mask _ _ c.args.how c.args.set _ c.self.view_is c.mask_of-self-inside.ensures
+returns-clause-masked c =
+    c.deliver_all.ensures ∙ after_mask _ _ c.args.how c.args.set _ c.self.view_is c.mask_of-self-inside.ensures

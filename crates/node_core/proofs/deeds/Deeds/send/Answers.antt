@@ -7,5 +7,6 @@ pub returns : goal.returns
 returns c =
     let fits : SFits w32 c.args.class = search rules
     in let made = simp to_z-of_z at c.send_at.ensures
-    in change-serves c.args.self.now c.self.inside.processes.entries c.self.inside.queues.entries c.send_at.new.queues.entries c.self.inside.sets.entries
+    in change-serves c.args.self.now c.self.inside.processes.entries c.self.inside.queues.entries
+    c.send_at.new.queues.entries c.self.inside.sets.entries
     c.id.inside.0 c.args.id _ c.send_at.result c.self.view_is c.id.view_is made

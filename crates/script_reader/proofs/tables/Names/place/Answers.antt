@@ -3,5 +3,8 @@ use Rattle.std.specs.Prelude.{bytes_eq}
 use Rattle.script_reader.proofs.Names.{position-map}
 use Rattle.script_reader.proofs.tables.Names.place.Goals as goal
 
-pub returns : goal.returns
-returns c = c.get_index_of.ensures.index ∙ position-map (λ name. name.items) (bytes_eq c.args.name.now) c.self.inside.names.keys c.args.self.now c.self.view_is
+pub returns-clause-value : goal.returns-clause-value
+returns-clause-value c =
+    c.get_index_of.ensures.index
+    ∙ position-map (λ name. name.items)
+    (bytes_eq c.args.name.now) c.self.inside.names.keys c.args.self.now c.self.view_is

@@ -5,7 +5,8 @@ use Rattle.signal_state.proofs.Actions.{with_action-held}
 use Rattle.signal_state.proofs.signals.Signals.act.Goals as goal
 use Rattle.signal_state.proofs.signals.Signals.act.Goals.{then-has, else-has}
 
-stays : (c : goal.After-self-1) → c.if-has.stays ≡ (at c.self.inside.pending c.in-Is.sig && not (discards c.args.act c.in-Is.sig))
+stays : (c : goal.After-self-1)
+    → c.if-has.stays ≡ (at c.self.inside.pending c.in-Is.sig && not (discards c.args.act c.in-Is.sig))
 stays c =
     elim c.if-has.branch [
       | then-has w ↦
@@ -19,5 +20,7 @@ stays c =
 pub invariant_of-self : goal.invariant_of-self
 invariant_of-self c =
     let s = c.self.inside in
-    let before : Signals = record { actions = s.actions; mask = s.mask; pending = s.pending; handled = s.handled; doom = s.doom } in
-    rw (c.set.ensures, c.with-self-inside.ensures, stays c) (with_action-held before c.in-Is.sig c.args.act (sym c.is_kill.ensures ∙ c.if-is_kill.false) c.self.invariant)
+    let before : Signals =
+    record { actions = s.actions; mask = s.mask; pending = s.pending; handled = s.handled; doom = s.doom } in
+    rw (c.set.ensures, c.with-self-inside.ensures, stays c)
+    (with_action-held before c.in-Is.sig c.args.act (sym c.is_kill.ensures ∙ c.if-is_kill.false) c.self.invariant)

@@ -6,6 +6,8 @@ use Rattle.signal_state.proofs.signals.Signals.mask.Goals as goal
 pub returns-clause-masked : goal.returns-clause-masked
 returns-clause-masked c =
     let s = c.self.inside in
-    let before : Signals = record { actions = s.actions; mask = s.mask; pending = s.pending; handled = s.handled; doom = s.doom } in
-    mask-then-deliver before _ c.args.how c.args.set c.changed-self-inside.result c.changed-self-inside.ensures c.deliver_each.ensures
+    let before : Signals =
+    record { actions = s.actions; mask = s.mask; pending = s.pending; handled = s.handled; doom = s.doom } in
+    mask-then-deliver before _ c.args.how c.args.set c.changed-self-inside.result c.changed-self-inside.ensures
+    c.deliver_each.ensures
     ∙ ap (λ (s : Signals). with_mask s c.args.how c.args.set) c.self.view_is

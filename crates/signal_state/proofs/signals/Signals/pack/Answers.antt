@@ -7,5 +7,8 @@ returns-clause-state c =
     let h = c.counts-counts.type_inv in
     record {
       held = rw (← c.self.view_is) c.self.invariant;
-      counts = rw (← c.counts-counts.ensures) (at-small c.counts-counts.result (2 ^ 32) (omega (arith, h)) (omega (arith, h)) (omega (arith, h)) (omega (arith, h)) (omega (arith, h)) (omega (arith, h)) (omega (arith, h)) (omega (arith, h)) (omega (arith, h)) (omega (arith, h)));
+      counts = rw (← c.counts-counts.ensures)
+          (at-small c.counts-counts.result (2 ^ 32) (omega (arith, h)) (omega (arith, h)) (omega (arith, h))
+          (omega (arith, h)) (omega (arith, h)) (omega (arith, h)) (omega (arith, h)) (omega (arith, h))
+          (omega (arith, h)) (omega (arith, h)));
     }

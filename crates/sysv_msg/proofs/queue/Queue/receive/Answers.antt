@@ -10,9 +10,13 @@ returns-then-not-fits-clause-refused c =
     let range = c.ranges.class in
     let place = c.in_ok-place.place in
     let items = c.self.inside.messages.items in
-    let selected : Some place ≡ select items c.args.class = sym c.in_ok-place.ensures.ok_part ∙ simp to_z-of_z at c.place_of.ensures.selected in
+    let selected : Some place ≡ select items c.args.class =
+    sym c.in_ok-place.ensures.ok_part ∙ simp to_z-of_z at c.place_of.ensures.selected in
     let within : place < length items = rw c.in_ok-place.ensures.ok_part at c.place_of.ensures.within in
-    rw (← c.self.view_is) (receive_refused (queue_of items c.self.inside.qbytes c.self.inside.last_sender c.self.inside.last_receiver) c.args.pid c.args.class c.args.size c.args.noerror place c.index.result.now selected within c.index.ensures (sym c.if-not-fits.ensures))
+    rw (← c.self.view_is)
+    (receive_refused (queue_of items c.self.inside.qbytes c.self.inside.last_sender c.self.inside.last_receiver)
+    c.args.pid c.args.class c.args.size c.args.noerror place c.index.result.now selected within c.index.ensures
+    (sym c.if-not-fits.ensures))
 
 pub invariant_of-self : goal.invariant_of-self
 invariant_of-self c =
@@ -23,7 +27,9 @@ invariant_of-self c =
     let is : m ≡ get_or items place m = rw c.unwrap-message.ensures at c.remove.ensures.value in
     let left : c.remove.new.self.items ≡ remove items place = rw c.unwrap-message.ensures at c.remove.ensures.items in
     let len : c.len.result ≡ length m.text = c.len.ensures ∙ ap (λ (x : Message). length x.text) c.message.view_is in
-    rw len (within_removed (queue_of items c.self.inside.qbytes c.self.inside.last_sender c.self.inside.last_receiver) place c.args.pid c.self.inside.bytes m c.remove.new.self.items within is left c.self.invariant.0 c.self.invariant.1)
+    rw len (within_removed
+    (queue_of items c.self.inside.qbytes c.self.inside.last_sender c.self.inside.last_receiver) place c.args.pid
+    c.self.inside.bytes m c.remove.new.self.items within is left c.self.invariant.0 c.self.invariant.1)
 
 pub returns-clause-taken : goal.returns-clause-taken
 returns-clause-taken c =
@@ -31,10 +37,14 @@ returns-clause-taken c =
     let place = c.in_ok-place.place in
     let items = c.self.inside.messages.items in
     let m = c.unwrap-message.result in
-    let selected : Some place ≡ select items c.args.class = sym c.in_ok-place.ensures.ok_part ∙ simp to_z-of_z at c.place_of.ensures.selected in
+    let selected : Some place ≡ select items c.args.class =
+    sym c.in_ok-place.ensures.ok_part ∙ simp to_z-of_z at c.place_of.ensures.selected in
     let within : place < length items = rw c.in_ok-place.ensures.ok_part at c.place_of.ensures.within in
     let is : m ≡ get_or items place m = rw c.unwrap-message.ensures at c.remove.ensures.value in
     let left : c.remove.new.self.items ≡ remove items place = rw c.unwrap-message.ensures at c.remove.ensures.items in
     let fit : (nat_le (length m.text) c.args.size || c.args.noerror) ≡ true =
-    ap (λ (x : Message). nat_le (length x.text) c.args.size || c.args.noerror) (same_item items place m c.index.result.now within is c.index.ensures) ∙ sym c.if-not-fits.ensures in
-    rw (← c.self.view_is, c.cut.ensures) (receive_taken (queue_of items c.self.inside.qbytes c.self.inside.last_sender c.self.inside.last_receiver) c.args.pid c.args.class c.args.size c.args.noerror place m c.remove.new.self.items selected within is fit left)
+    ap (λ (x : Message). nat_le (length x.text) c.args.size || c.args.noerror)
+    (same_item items place m c.index.result.now within is c.index.ensures) ∙ sym c.if-not-fits.ensures in
+    rw (← c.self.view_is, c.cut.ensures)
+    (receive_taken (queue_of items c.self.inside.qbytes c.self.inside.last_sender c.self.inside.last_receiver)
+    c.args.pid c.args.class c.args.size c.args.noerror place m c.remove.new.self.items selected within is fit left)

@@ -1,9 +1,18 @@
-use Rattle.std.proofs.Common.{arith}
-use Rattle.sysv_msg.proofs.Bodies.{is_found, is_only}
+use Rattle.std.proofs.Common.{rules}
+use Rattle.kernel_model.specs.Queue.{Queue}
+use Rattle.sysv_msg.specs.Body.{IsBodyOf}
+use Rattle.sysv_msg.proofs.Bodies.{one_queue}
 use Rattle.sysv_msg.proofs.queue.Queue.unpack.Goals as goal
 
-pub returns-clause-found : goal.returns-clause-found
-returns-clause-found c = is_found c.args.bytes.now c.queue_of.result (λ i. omega (arith, c.type_inv.bytes i)) c.queue_of.ensures
-
 pub returns-clause-only : goal.returns-clause-only
-returns-clause-only c = is_only c.args.bytes.now c.queue_of.result c.queue_of.ensures
+returns-clause-only c q is =
+    let read : Queue = record {
+      messages = c.in_ok-messages.messages.items;
+      qbytes =
+          c.in_ok-fields.fields.qbytes;
+      last_sender = c.in_ok-fields.fields.sender;
+      last_receiver =
+          c.in_ok-fields.fields.receiver;
+    } in
+    let found : IsBodyOf read c.args.bytes.now = search rules in
+    one_queue c.args.bytes.now read q found is

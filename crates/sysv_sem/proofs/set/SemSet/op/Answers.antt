@@ -8,7 +8,8 @@ invariant_of-self c =
     let scratch = c.self.inside.scratch.items in
     let row_is = c.deref_mut.ensures.value in
     let scratch_is = c.deref_mut-2.ensures.value in
-    set_after_op c.operate.result row c.operate.new.set c.args.pid c.args.steps.now scratch c.operate.new.values c.self.inside.semaphores.len c.self.inside.scratch.len
+    set_after_op c.operate.result row c.operate.new.set c.args.pid c.args.steps.now scratch c.operate.new.values
+    c.self.inside.semaphores.len c.self.inside.scratch.len
     (rw row_is at c.operate.ensures.done) (rw row_is at c.operate.ensures.err)
     (ap length (sym row_is) ∙ c.deref_mut.ensures.len) (ap length (sym scratch_is) ∙ c.deref_mut-2.ensures.len)
     (c.operate.auto.set ∙ ap length row_is) (c.operate.auto.values ∙ ap length scratch_is) c.self.invariant

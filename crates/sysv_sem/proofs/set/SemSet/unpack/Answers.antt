@@ -1,9 +1,11 @@
-use Rattle.std.proofs.Common.{arith}
-use Rattle.sysv_sem.proofs.Semaphores.{is_found, is_only}
+use Rattle.std.proofs.Common.{rules}
+use Rattle.kernel_model.specs.SemaphoreSet.{SemaphoreSet, set_of}
+use Rattle.sysv_sem.specs.Body.{IsBodyOf}
+use Rattle.sysv_sem.proofs.Semaphores.{one_set}
 use Rattle.sysv_sem.proofs.set.SemSet.unpack.Goals as goal
 
-pub returns-clause-found : goal.returns-clause-found
-returns-clause-found c = is_found c.args.bytes.now c.set_of.result (λ i. omega (arith, c.type_inv.bytes i)) c.set_of.ensures
-
 pub returns-clause-only : goal.returns-clause-only
-returns-clause-only c = is_only c.args.bytes.now c.set_of.result c.set_of.ensures
+returns-clause-only c set is =
+    let read : SemaphoreSet = set_of c.extend_from_slice.new.self.items in
+    let found : IsBodyOf read c.args.bytes.now = search rules in
+    one_set c.args.bytes.now read set found is

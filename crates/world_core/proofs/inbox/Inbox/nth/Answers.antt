@@ -10,10 +10,12 @@ loop-at-preserved c =
     elim c.if-may_take.branch [
       | then-may_take+else-left-eq0 w ↦
           subst (λ (k : ℕ). AreLeft b row c.args.index (c.loop-at.at + 1) k) (sym w.left-is)
-          (AreLeft-pass b row c.args.index c.loop-at.at c.loop-at.left c.stream-item.result c.loop-at.invariant (omega arith)
+          (AreLeft-pass b row c.args.index c.loop-at.at c.loop-at.left c.stream-item.result c.loop-at.invariant
+          (omega arith)
           c.stream-item.is (sym c.may_take.ensures ∙ w.if-may_take.true) (omega arith))
       | else-may_take w ↦
           subst (λ (k : ℕ). AreLeft b row c.args.index (c.loop-at.at + 1) k) (sym w.left-is)
-          (AreLeft-skip b row c.args.index c.loop-at.at c.loop-at.left c.stream-item.result c.loop-at.invariant (omega arith)
+          (AreLeft-skip b row c.args.index c.loop-at.at c.loop-at.left c.stream-item.result c.loop-at.invariant
+          (omega arith)
           c.stream-item.is (sym c.may_take.ensures ∙ w.if-may_take.false))
     ]

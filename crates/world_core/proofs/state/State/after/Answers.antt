@@ -29,13 +29,15 @@ turn-requires-in-Take-clause-square c =
     in let shaped : IsShaped w = reachable-shaped c.args.self.script w c.requires.alive.reachable
     in let le = take_within w c.args.event c.in-Take.node c.in-Take.from c.requires.enabled c.in-Take.is
     in IsSquare-taken c.args.self.inboxes.items c.place.result c.in-Take.from c.in-Some.frame _ _
-    (omega (arith, shaped.nodes, shaped.streams, c.place.ensures.next)) c.index_mut.ensures.value c.in-Some.ensures shaped.square
+    (omega (arith, shaped.nodes, shaped.streams, c.place.ensures.next)) c.index_mut.ensures.value c.in-Some.ensures
+    shaped.square
 
 pub turn-requires-clause-allowed : goal.turn-requires-clause-allowed
 turn-requires-clause-allowed c =
     let w = world_of c.args.self
     in run_allowed w c.args.event c.in-Run.node
-    (c.enabled_events_have_steps.ensures c.args.self.script w c.args.event c.requires.alive.runnable c.requires.alive.reachable c.requires.enabled)
+    (c.enabled_events_have_steps.ensures c.args.self.script w c.args.event c.requires.alive.runnable
+    c.requires.alive.reachable c.requires.enabled)
     c.in-Run.is
 
 pub turn-requires-in-Take-clause-allowed : goal.turn-requires-in-Take-clause-allowed
@@ -44,5 +46,7 @@ turn-requires-in-Take-clause-allowed c =
     in let shaped : IsShaped w = reachable-shaped c.args.self.script w c.requires.alive.reachable
     in let le = take_within w c.args.event c.in-Take.node c.in-Take.from c.requires.enabled c.in-Take.is
     in take_allowed w c.args.event c.in-Take.node c.in-Take.from c.place.result c.in-Some.frame _ _
-    (c.enabled_events_have_steps.ensures c.args.self.script w c.args.event c.requires.alive.runnable c.requires.alive.reachable c.requires.enabled)
-    c.in-Take.is c.place.ensures.place (omega (arith, shaped.nodes, shaped.streams, c.place.ensures.next)) c.index_mut.ensures.value c.in-Some.ensures
+    (c.enabled_events_have_steps.ensures c.args.self.script w c.args.event c.requires.alive.runnable
+    c.requires.alive.reachable c.requires.enabled)
+    c.in-Take.is c.place.ensures.place
+    (omega (arith, shaped.nodes, shaped.streams, c.place.ensures.next)) c.index_mut.ensures.value c.in-Some.ensures

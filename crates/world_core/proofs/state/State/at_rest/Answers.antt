@@ -9,6 +9,7 @@ pub returns : goal.returns
 returns c =
     let w = world_of c.args.self.now in
     let shaped = reachable-shaped c.args.self.now.script w c.requires.reachable in (
-      λ none. rests w (numbers 1 (size w)) shaped (all_numbers w) (sym c.count.ensures ∙ (zero_is c.count.result).0 none),
+      λ none. rests w (numbers 1 (size w)) shaped (all_numbers w)
+          (sym c.count.ensures ∙ (zero_is c.count.result).0 none),
       λ rest. (zero_is c.count.result).1 (c.count.ensures ∙ nothing_at_rest w rest),
     )

@@ -28,5 +28,6 @@ returns-in-None c =
     first_right (flat_map f behind) (flat_map f (numbers 1 p)) c.first_of-in-None.result
     (c.in-None.ensures ∙ ap (λ (q : ℕ). slice_get (flat_map f (numbers (q + 1) (c.size.result - q))) 0) c.after.view_is
     ∙ ap (λ (k : ℕ). slice_get (flat_map f (numbers (p + 1) (k - p))) 0) c.size.ensures.size)
-    (c.first_of-in-None.ensures ∙ ap (λ (q : ℕ). slice_get (flat_map f (numbers 1 (q - 0))) 0) c.after.view_is ∙ ap (λ (l : List Event). slice_get l 0) (span-all f p))
+    (c.first_of-in-None.ensures ∙ ap (λ (q : ℕ). slice_get (flat_map f (numbers 1 (q - 0))) 0) c.after.view_is
+    ∙ ap (λ (l : List Event). slice_get l 0) (span-all f p))
     ∙ ap (λ (l : List Event). slice_get l 0) (sym (flat_map-append f behind (numbers 1 p)))

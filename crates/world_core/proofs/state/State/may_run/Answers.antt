@@ -35,7 +35,8 @@ pub returns-in-None : goal.returns-in-None
 returns-in-None c =
     let nodes = c.args.self.now.nodes.items
     in let a = c.in-None.ensures.lookup
-    in let ge : length nodes ≤ c.place.result = subst (λ (l : List (Option Node)). length l ≤ c.place.result) c.deref.ensures.value a.3
+    in let ge : length nodes ≤ c.place.result =
+    subst (λ (l : List (Option Node)). length l ≤ c.place.result) c.deref.ensures.value a.3
     in let e = slice_get-whole nodes (c.args.node - 1) c.requires
     ∙ ap (λ k. get_or nodes k None) (sym c.place.ensures.place) ∙ get_or_past nodes c.place.result None ge
     in sym (ap is_run_enabled e)

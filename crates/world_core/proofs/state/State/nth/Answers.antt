@@ -11,14 +11,18 @@ pub returns-then-left-count : goal.returns-then-left-count
 returns-then-left-count c =
     let f = enabled_at (world_of c.args.self.now)
     in c.nth_at.ensures
-    ∙ IsWalk-here f 0 c.size-number-end.result c.args.index c.loop-number.number c.loop-number.left c.loop-number.invariant (omega arith)
+    ∙ IsWalk-here f 0 c.size-number-end.result c.args.index c.loop-number.number c.loop-number.left
+    c.loop-number.invariant (omega arith)
     (omega (arith, c.count_at-count.ensures.count))
-    ∙ ap (λ (l : List Event). slice_get l c.args.index) (span-all f c.size-number-end.result ∙ ap (λ (k : ℕ). flat_map f (numbers 1 k)) c.size-number-end.ensures.size)
+    ∙ ap (λ (l : List Event). slice_get l c.args.index)
+    (span-all f c.size-number-end.result ∙ ap (λ (k : ℕ). flat_map f (numbers 1 k)) c.size-number-end.ensures.size)
 
 pub loop-number-preserved : goal.loop-number-preserved
 loop-number-preserved c =
     let f = enabled_at (world_of c.args.self.now)
-    in subst (λ (k : ℕ). IsWalk f 0 c.size-number-end.result c.args.index (c.loop-number.number + 1) (c.loop-number.left - k))
+    in subst (λ (k : ℕ). IsWalk f 0 c.size-number-end.result c.args.index (c.loop-number.number + 1)
+    (c.loop-number.left - k))
     (sym c.count_at-count.ensures.count)
-    (IsWalk-next f 0 c.size-number-end.result c.args.index c.loop-number.number c.loop-number.left c.loop-number.invariant (omega arith)
+    (IsWalk-next f 0 c.size-number-end.result c.args.index c.loop-number.number c.loop-number.left
+    c.loop-number.invariant (omega arith)
     (omega (arith, c.count_at-count.ensures.count)))

@@ -6,8 +6,10 @@ use Rattle.world_core.proofs.state.State.nth_at.Goals.{else-may_run-via-then-may
 
 pub returns-then-index-takes : goal.returns-then-index-takes
 returns-then-index-takes c =
-    seat-taken (world_of c.args.self.now) c.args.node c.args.index c.in_ok-from.from c.seat.result.0.now c.seat.result.1.now
-    c.born-is_born.result c.seat.ensures c.born-is_born.ensures (omega (arith, c.count-takes.ensures.count)) c.in_ok-from.ensures
+    seat-taken (world_of c.args.self.now) c.args.node c.args.index c.in_ok-from.from c.seat.result.0.now
+    c.seat.result.1.now
+    c.born-is_born.result c.seat.ensures c.born-is_born.ensures
+    (omega (arith, c.count-takes.ensures.count)) c.in_ok-from.ensures
 
 pub returns-then-index-takes-2 : goal.returns-then-index-takes-2
 returns-then-index-takes-2 c =
@@ -26,5 +28,6 @@ returns-else-may_run c =
           c.born-is_born.ensures c.can_run-may_run.ensures (omega (arith, c.count-takes.ensures.count))
       | else-may_run-via-else-may_run r ↦
           seat-rests w c.args.node c.args.index found row c.born-is_born.result c.can_run-may_run.result c.seat.ensures
-          c.born-is_born.ensures c.can_run-may_run.ensures (omega (arith, c.count-takes.ensures.count)) r.if-may_run.false
+          c.born-is_born.ensures c.can_run-may_run.ensures
+          (omega (arith, c.count-takes.ensures.count)) r.if-may_run.false
     ]

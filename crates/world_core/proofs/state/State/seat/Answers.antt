@@ -19,5 +19,6 @@ index-requires-2 c =
 
 pub returns : goal.returns
 returns c =
-    seat_is c.args.self.now c.args.node c.place-at.result c.index.result.now c.index-2.result.now c.requires.alive c.requires.there
+    seat_is c.args.self.now c.args.node c.place-at.result c.index.result.now c.index-2.result.now c.requires.alive
+    c.requires.there
     c.place-at.ensures.next c.index.ensures c.index-2.ensures

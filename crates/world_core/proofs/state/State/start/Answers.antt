@@ -12,5 +12,6 @@ returns c =
     in (
       subst AreWhole (sym c.in_ok-nodes.ensures) (AreWhole-map nodes),
       (let n = ap whole c.in_ok-nodes.ensures ∙ whole-map nodes
-          in let i = c.in_ok-inboxes.ensures ∙ ap (λ k. replicate k (replicate k [])) c.len.ensures in let j = c.new.ensures in cc),
+          in let i = c.in_ok-inboxes.ensures ∙ ap (λ k. replicate k (replicate k [])) c.len.ensures in let j =
+          c.new.ensures in cc),
     )

@@ -9,5 +9,6 @@ returns-clause-ended c =
     let s = c.state.result.now
     in let P : Option World → Type 0 = λ o. IfSome o (λ w. IsTrue c.at_rest.result → FitsWhole w.script w.journal)
     in subst P (sym c.state.ensures.world)
-    (λ rest. c.rest_is_whole.ensures s.script (world_of s) c.state.ensures.alive.runnable c.state.ensures.alive.reachable
+    (λ rest. c.rest_is_whole.ensures s.script
+    (world_of s) c.state.ensures.alive.runnable c.state.ensures.alive.reachable
     (c.at_rest.ensures.0 rest))

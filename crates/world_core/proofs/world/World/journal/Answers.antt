@@ -7,11 +7,13 @@ use Rattle.world_core.proofs.world.World.journal.Goals as goal
 pub returns-clause-legal : goal.returns-clause-legal
 returns-clause-legal c =
     let s = c.state.result.now
-    in (c.journals_are_legal.ensures s.script (world_of s) c.state.ensures.alive.runnable c.state.ensures.alive.reachable).0
+    in (c.journals_are_legal.ensures s.script
+    (world_of s) c.state.ensures.alive.runnable c.state.ensures.alive.reachable).0
 
 pub returns-clause-fits : goal.returns-clause-fits
 returns-clause-fits c =
     let s = c.state.result.now
     in let P : Option World → Type 0 = λ o. IfSome o (λ w. Fits w.script s.journal)
     in subst P (sym c.state.ensures.world)
-    (c.journals_are_legal.ensures s.script (world_of s) c.state.ensures.alive.runnable c.state.ensures.alive.reachable).1
+    (c.journals_are_legal.ensures s.script
+    (world_of s) c.state.ensures.alive.runnable c.state.ensures.alive.reachable).1

@@ -1,0 +1,5 @@
+pub mod Deeds
+pub mod Lending
+pub mod Packing
+pub mod Placing
+pub mod Room

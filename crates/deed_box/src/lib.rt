@@ -1,0 +1,15 @@
+//! Deeds: the right to carry out calls on a name, together with the state of what it names. Each name has one deed, and
+//! the node that holds it is the name's owner.
+#![tactic(auto)]
+
+mod deed;
+mod deeds;
+mod packing;
+mod shared;
+mod table;
+#[cfg(test)]
+mod tests;
+
+pub use deed::Deed;
+pub use deeds::Deeds;
+pub use shared::Shared;

@@ -1,0 +1,148 @@
+-- Calls as bytes: a code, and the call's arguments.
+use Rattle.std.specs.Prelude.{ℕ, ℤ, FitsSigned, List, [], ◌∷◌, ◌++◌, length, Some}
+use Rattle.std.specs.List.{flat_map, AllByRecursion}
+use Rattle.std.specs.Int.{w32}
+use Rattle.pico_base.specs.declared.call.Call.{Call}
+use Rattle.pico_base.specs.declared.call.Call.TheVariants as calls
+use Rattle.pico_base.specs.declared.call.SemStep.{SemStep}
+use Rattle.pico_base.specs.Signal.{signal_number}
+use Rattle.frame_bytes.specs.Readers.{Reader, one, two, three, four, five, counted, tabled}
+use Rattle.frame_bytes.specs.Fields.{IsWord, IsHalf, IsPositive, IsCount, IsSigArg, IsText, word, half, signed, text, flag_byte, sigarg_byte, word_at, half_at, positive_at, count_at, signed_at, flag_at, sig_at, sigarg_at, text_at}
+
+-- an operation of semop
+
+pub record IsStep (s : SemStep) : Type 0 where
+  pub num : IsHalf s.num
+  pub add : FitsSigned w32 s.add
+
+abbrev pub step_field : SemStep → List ℕ
+step_field s = half s.num ++ (signed s.add ++ flag_byte s.nowait ∷ [])
+
+unfoldable pub step_at : Reader SemStep
+step_at bytes = three half_at signed_at flag_at
+    (λ num add nowait. record { num = num; add = add; nowait = nowait }) bytes
+
+-- operations, of which there is one at least
+
+pub record AreSteps (steps : List SemStep) : Type 0 where
+  pub count : IsCount (length steps)
+  pub each : AllByRecursion IsStep steps
+
+abbrev pub steps_field : List SemStep → List ℕ
+steps_field steps = half (length steps) ++ flat_map step_field steps
+
+unfoldable pub steps_at : Reader (List SemStep)
+steps_at bytes = counted count_at step_at bytes
+
+-- values for a whole set, of which there is one at least
+
+pub record AreSet (values : List ℕ) : Type 0 where
+  pub count : IsCount (length values)
+  pub each : AllByRecursion IsWord values
+
+abbrev pub values_field : List ℕ → List ℕ
+values_field values = half (length values) ++ flat_map word values
+
+unfoldable pub set_at : Reader (List ℕ)
+set_at bytes = counted count_at word_at bytes
+
+-- The calls that one node asks another to carry out. The private gets and `kill` with a number that is no signal's are
+-- carried out by their caller, and so are all calls on the caller itself.
+
+pub record IsSend (i : ℕ) (z : ℤ) (bytes : List ℕ) : Type 0 where
+  pub id : IsWord i
+  pub class : FitsSigned w32 z
+  pub text : IsText bytes
+
+pub record IsReceive (i : ℕ) (z : ℤ) (most : ℕ) : Type 0 where
+  pub id : IsWord i
+  pub class : FitsSigned w32 z
+  pub size : IsWord most
+
+pub record IsSetValue (i k v : ℕ) : Type 0 where
+  pub id : IsWord i
+  pub num : IsHalf k
+  pub value : IsWord v
+
+abbrev pub IsAskedCall : Call → Type 0
+IsAskedCall (calls.Kill pid sig) = IsWord pid × IsSigArg sig
+IsAskedCall (calls.MsgGet (Some key) create excl) = IsPositive key
+IsAskedCall (calls.MsgSnd id class bytes nowait) = IsSend id class bytes
+IsAskedCall (calls.MsgRcv id class size noerror nowait) = IsReceive id class size
+IsAskedCall (calls.MsgStat id) = IsWord id
+IsAskedCall (calls.MsgSet id qbytes) = IsWord id × IsWord qbytes
+IsAskedCall (calls.MsgRmid id) = IsWord id
+IsAskedCall (calls.SemGet (Some key) count create excl) = IsPositive key × IsWord count
+IsAskedCall (calls.SemOp id steps) = IsWord id × AreSteps steps
+IsAskedCall (calls.SemGetVal id num) = IsWord id × IsHalf num
+IsAskedCall (calls.SemSetVal id num value) = IsSetValue id num value
+IsAskedCall (calls.SemGetAll id) = IsWord id
+IsAskedCall (calls.SemSetAll id values) = IsWord id × AreSet values
+IsAskedCall (calls.SemGetPid id num) = IsWord id × IsHalf num
+IsAskedCall (calls.SemGetNcnt id num) = IsWord id × IsHalf num
+IsAskedCall (calls.SemGetZcnt id num) = IsWord id × IsHalf num
+IsAskedCall (calls.SemRmid id) = IsWord id
+IsAskedCall _ = ⊥
+
+-- the calls that end a process
+abbrev pub IsLastCall : Call → Type 0
+IsLastCall (calls.Exit status) = IsHalf status
+IsLastCall (calls.Killed sig) = Unit {0}
+IsLastCall _ = ⊥
+
+abbrev pub call_bytes : Call → List ℕ
+call_bytes (calls.Kill pid sig) = 1 ∷ (word pid ++ sigarg_byte sig ∷ [])
+call_bytes (calls.MsgGet (Some key) create excl) = 2 ∷ (word key ++ flag_byte create ∷ flag_byte excl ∷ [])
+call_bytes (calls.MsgSnd id class bytes nowait) =
+    3 ∷ (word id ++ (signed class ++ (text bytes ++ flag_byte nowait ∷ [])))
+call_bytes (calls.MsgRcv id class size noerror nowait) =
+    4 ∷ (word id ++ (signed class ++ (word size ++ flag_byte noerror ∷ flag_byte nowait ∷ [])))
+call_bytes (calls.MsgStat id) = 5 ∷ word id
+call_bytes (calls.MsgSet id qbytes) = 6 ∷ (word id ++ word qbytes)
+call_bytes (calls.MsgRmid id) = 7 ∷ word id
+call_bytes (calls.SemGet (Some key) count create excl) =
+    8 ∷ (word key ++ (word count ++ flag_byte create ∷ flag_byte excl ∷ []))
+call_bytes (calls.SemOp id steps) = 9 ∷ (word id ++ steps_field steps)
+call_bytes (calls.SemGetVal id num) = 10 ∷ (word id ++ half num)
+call_bytes (calls.SemSetVal id num value) = 11 ∷ (word id ++ (half num ++ word value))
+call_bytes (calls.SemGetAll id) = 12 ∷ word id
+call_bytes (calls.SemSetAll id values) = 13 ∷ (word id ++ values_field values)
+call_bytes (calls.SemGetPid id num) = 14 ∷ (word id ++ half num)
+call_bytes (calls.SemGetNcnt id num) = 15 ∷ (word id ++ half num)
+call_bytes (calls.SemGetZcnt id num) = 16 ∷ (word id ++ half num)
+call_bytes (calls.SemRmid id) = 17 ∷ word id
+call_bytes (calls.Exit status) = 18 ∷ half status
+call_bytes (calls.Killed sig) = 19 ∷ signal_number sig ∷ []
+call_bytes _ = []
+
+-- Reading: each code with the fields behind it.
+
+abbrev pub asked_rows : List (ℕ × Reader Call)
+asked_rows =
+    (1, two word_at sigarg_at calls.Kill)
+    ∷ (2, three positive_at flag_at flag_at (λ key. calls.MsgGet (Some key)))
+    ∷ (3, four word_at signed_at text_at flag_at calls.MsgSnd)
+    ∷ (4, five word_at signed_at word_at flag_at flag_at calls.MsgRcv)
+    ∷ (5, one word_at calls.MsgStat)
+    ∷ (6, two word_at word_at calls.MsgSet)
+    ∷ (7, one word_at calls.MsgRmid)
+    ∷ (8, four positive_at word_at flag_at flag_at (λ key. calls.SemGet (Some key)))
+    ∷ (9, two word_at steps_at calls.SemOp)
+    ∷ (10, two word_at half_at calls.SemGetVal)
+    ∷ (11, three word_at half_at word_at calls.SemSetVal)
+    ∷ (12, one word_at calls.SemGetAll)
+    ∷ (13, two word_at set_at calls.SemSetAll)
+    ∷ (14, two word_at half_at calls.SemGetPid)
+    ∷ (15, two word_at half_at calls.SemGetNcnt)
+    ∷ (16, two word_at half_at calls.SemGetZcnt)
+    ∷ (17, one word_at calls.SemRmid)
+    ∷ []
+
+unfoldable pub asked_call_at : Reader Call
+asked_call_at bytes = tabled asked_rows bytes
+
+abbrev pub last_rows : List (ℕ × Reader Call)
+last_rows = (18, one half_at calls.Exit) ∷ (19, one sig_at calls.Killed) ∷ []
+
+unfoldable pub last_call_at : Reader Call
+last_call_at bytes = tabled last_rows bytes

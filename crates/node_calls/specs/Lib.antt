@@ -1,0 +1,5 @@
+pub mod Caller
+pub mod Examples
+pub mod Law
+pub mod Lines
+pub mod Place

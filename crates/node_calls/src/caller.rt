@@ -1,0 +1,154 @@
+ghost use Rattle.std.specs.Prelude.{◌≡◌, ◌↔◌, None, Some, IfOk, IfSome, OnOk, OnErr, IsSome, IsTrue};
+ghost use Rattle.std.specs.Option.{option_copied};
+ghost use Rattle.kernel_model.specs.Script.{IsSoundScript};
+ghost use Rattle.kernel_model.specs.Fitting.{child_vars};
+ghost use Rattle.node_calls.specs.Caller.{BlockCaller, HasLine, are_rising, answered, beginning, call_due, place_of, started};
+
+#[cfg(test)]
+use crate::lines::is_reached;
+use crate::lines::{count, terms_at, written_line};
+use crate::replies::{tries_again, value_in};
+use crate::variables::Variables;
+use pico_base::{Call, Memory, Node, Reply, Script, Sig, Vars};
+use std::alloc::Global;
+use std::marker::Model;
+
+/// Where a process is in its block: the lines passed, how often the next one was tried, the variables, how many calls
+/// it
+/// has started, and the call under way, from its start until its reply is here.
+#[derive(Debug, Drop)]
+pub struct Caller {
+    alloc: Global,
+    block: Node,
+    line: usize,
+    tried: u32,
+    variables: Variables,
+    ticket: u32,
+    under_way: Option<Call>,
+}
+
+impl Model for Caller {
+    ghost use Rattle.node_calls.specs.Caller.{BlockCaller};
+
+    ghost Value = { BlockCaller };
+
+    ghost view = { λ c. record {
+      block = c.block;
+      caller =
+          record { line = c.line; tried = c.tried; vars = c.variables; ticket = c.ticket; under_way = c.under_way };
+    } };
+}
+
+impl Caller {
+    /// At the first line of the block, with these variables, which come by rising variable. It takes no memory.
+    pub fn new(alloc: Global, block: Node, vars: Vars) -> Caller
+        requires { IsTrue (are_rising vars) }
+        ensures { result ≡ beginning block vars }
+    {
+        Caller {
+            alloc,
+            block,
+            line: 0,
+            tried: 0,
+            variables: Variables::new(vars),
+            ticket: 0,
+            under_way: None,
+        }
+    }
+
+    /// Whether the script has the block, and the line that is reached stands in it, an implied `exit 0` counted. It
+    /// doesn't
+    /// once the process has ended.
+    pub fn has_line(&self, script: &Script) -> bool
+        requires { IsSoundScript script.now }
+        ensures { IsTrue result ↔ HasLine script.now self.now }
+    {
+        self.line < count(script, self.block)
+    }
+
+    /// The call due: the end by the signal that dooms the process, or the call of the line that is reached, with its
+    /// variable's value. Behind the last line stands `exit 0`, where that isn't an exit itself.
+    pub fn due(&self, script: &Script, doom: Option<Sig>) -> Result<Call, Memory>
+        requires { HasLine script.now self.now }
+        ensures { IfOk result (λ call. call_due script.now self.now doom ≡ Some call) }
+    {
+        if let Some(sig) = doom {
+            return Ok(Call::Killed { sig });
+        }
+        match written_line(script, self.block, self.line) {
+            Some(line) => self.variables.call_of(self.alloc, line),
+            None => Ok(Call::Exit { status: 0 }),
+        }
+    }
+
+    /// Starts a call, and gives its ticket: the calls started up to now. The count stays at 4294967295. It takes no
+    /// memory.
+    pub fn start(&mut self, call: Call) -> u32
+        requires { self.old.caller.under_way ≡ None }
+        ensures started { self.new ≡ started self.old call }
+        ensures ticket { result ≡ self.new.caller.ticket }
+    {
+        self.ticket = self.ticket.saturating_add(1);
+        self.under_way = Some(call);
+        self.ticket
+    }
+
+    /// The call under way has its reply. Where that says that nothing was ready, and the line has tries left, the line
+    /// is
+    /// due once more; else its variable is set, and the next line is due. A refusal changes nothing.
+    pub fn answered(&mut self, script: &Script, reply: &Reply) -> Result<(), Memory>
+        requires reached { HasLine script.now self.old }
+        requires under_way { IsSome self.old.caller.under_way }
+        ensures ok { OnOk result
+            (IfSome self.old.caller.under_way (λ call. self.new ≡ answered script.now self.old call reply.now)) }
+        ensures err { OnErr result (self.new ≡ self.old) }
+    {
+        let Some(call) = &self.under_way else {
+            return Ok(());
+        };
+        let terms = terms_at(script, self.block, self.line);
+        if tries_again(call, reply, self.tried, terms.tries) {
+            self.tried += 1;
+        } else {
+            self.variables.set(terms.set, value_in(reply))?;
+            self.line = terms.next;
+            self.tried = 0;
+        }
+        self.under_way = None;
+        Ok(())
+    }
+
+    /// The call under way, or `None` exactly where there is none. It takes no memory.
+    pub fn under_way(&self) -> Option<&Call>
+        ensures { option_copied result ≡ self.now.caller.under_way }
+    {
+        self.under_way.as_ref()
+    }
+
+    /// The ticket of the call that was started last, 0 before the first one.
+    pub fn ticket(&self) -> u32
+        ensures { result ≡ self.now.caller.ticket }
+    {
+        self.ticket
+    }
+
+    /// The variables with which the block that the reached line forks begins: those here, with the one that the line
+    /// sets at 0.
+    pub fn child_vars(&self, script: &Script) -> Result<Vars, Memory>
+        requires { HasLine script.now self.now }
+        ensures { IfOk result (λ vars. vars ≡ child_vars (place_of script.now self.now)) }
+    {
+        let terms = terms_at(script, self.block, self.line);
+        self.variables.with_zero(self.alloc, terms.set)
+    }
+}
+
+#[cfg(test)]
+impl Caller {
+    /// Whether no line before the reached one is an exit, and the reached one isn't past the end.
+    pub(crate) fn reaches(&self, script: &Script) -> bool
+        ensures { IsTrue result → HasLine script.now self.now }
+    {
+        is_reached(script, self.block, self.line)
+    }
+}

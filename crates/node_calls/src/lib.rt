@@ -1,0 +1,14 @@
+//! Where a process is in its block of the script: the call due, the call under way, and its variables.
+#![tactic(auto)]
+
+mod caller;
+mod laws;
+mod lines;
+mod replies;
+mod variables;
+
+pub use caller::Caller;
+pub use laws::{callers_begin_at_their_blocks, replies_move_places};
+
+#[cfg(test)]
+mod tests;

@@ -1,0 +1,116 @@
+//! The lines of a block, with the exit that its end stands for.
+ghost use Rattle.std.specs.Prelude.{◌≡◌, ◌+◌, ◌<◌, IfSome, IsTrue, length, slice_get};
+ghost use Rattle.std.specs.List.{list_any};
+ghost use Rattle.std.specs.Option.{option_copied};
+ghost use Rattle.kernel_model.specs.Fitting.{block_at};
+ghost use Rattle.kernel_model.specs.Script.{IsSoundScript, is_exit};
+ghost use Rattle.node_model.specs.Caller.{lines_of};
+ghost use Rattle.node_calls.specs.Lines.{written_lines, written_count};
+
+use pico_base::{Block, Call, Line, Node, Script, Var};
+
+/// What a line says beside its call: the variable that it sets, how often it is tried at most, and the place behind it.
+#[derive(Clone, Copy)]
+pub(crate) struct Terms {
+    pub(crate) set: Option<Var>,
+    pub(crate) tries: u32,
+    pub(crate) next: usize,
+}
+
+/// The block of a node.
+fn block_of(script: &Script, node: Node) -> Option<&Block>
+    ensures { option_copied result ≡ block_at script.now node }
+{
+    script.blocks.as_slice().get(node.0 as usize - 1)
+}
+
+/// The lines that a block is written with.
+fn written_lines(script: &Script, node: Node) -> &[Line]
+    ensures { result.now ≡ written_lines script.now node }
+{
+    match block_of(script, node) {
+        Some(block) => block.lines.as_slice(),
+        None => &[],
+    }
+}
+
+/// The line at a place. Past the last one there is none.
+fn line_in(lines: &[Line], line: usize) -> Option<&Line>
+    ensures { option_copied result ≡ slice_get lines.now line }
+{
+    lines.get(line)
+}
+
+/// The line of a block that is written at this place. Past the last one there is none.
+pub(crate) fn written_line(script: &Script, node: Node, line: usize) -> Option<&Line>
+    ensures { option_copied result ≡ slice_get (written_lines script.now node) line }
+{
+    line_in(written_lines(script, node), line)
+}
+
+/// The terms of the line at this place, which may be the exit that the block's end stands for.
+pub(crate) fn terms_at(script: &Script, node: Node, line: usize) -> Terms
+    requires { line < length (lines_of script.now node) }
+    ensures terms { IfSome (slice_get (lines_of script.now node) line) (λ l. (result.set ≡ l.set)
+        × (result.tries ≡ l.tries)) }
+    ensures next { result.next ≡ line + 1 }
+{
+    let lines = written_lines(script, node);
+    match line_in(lines, line) {
+        Some(written) => Terms {
+            set: written.set,
+            tries: written.tries,
+            next: line + 1,
+        },
+        None => Terms {
+            set: None,
+            tries: 1,
+            next: lines.len() + 1,
+        },
+    }
+}
+
+/// How many lines these are with the exit that their end stands for, where only the last one can be an exit.
+fn count_with_exit(lines: &[Line]) -> usize
+    ensures { result ≡ written_count lines.now }
+{
+    match lines.last() {
+        Some(line) if matches!(line.call, Call::Exit { .. }) => lines.len(),
+        _ => lines.len() + 1,
+    }
+}
+
+/// How many lines a block has, with the exit that its end stands for.
+pub(crate) fn count(script: &Script, node: Node) -> usize
+    requires { IsSoundScript script.now }
+    ensures { result ≡ length (lines_of script.now node) }
+{
+    match block_of(script, node) {
+        Some(block) => count_with_exit(block.lines.as_slice()),
+        None => 0,
+    }
+}
+
+/// Whether one of the lines is an exit.
+#[cfg(test)]
+fn any_exit(lines: &[Line]) -> bool
+    ensures { result ≡ list_any (λ l. is_exit l.call) lines.now }
+{
+    lines
+        .iter()
+        .any(|line| matches!(line.call, Call::Exit { .. }))
+}
+
+/// Whether a line is reached, for scripts of which it isn't known that they are sound.
+#[cfg(test)]
+pub(crate) fn is_reached(script: &Script, node: Node, line: usize) -> bool
+    ensures { IsTrue result → line < length (lines_of script.now node) }
+{
+    match block_of(script, node) {
+        Some(block) => {
+            let lines = block.lines.as_slice();
+            line <= lines.len() && !any_exit(&lines[..line])
+        }
+        None => false,
+    }
+}

@@ -1,0 +1,12 @@
+pub mod Bodies
+pub mod Cache
+pub mod Caller
+pub mod Carrying
+pub mod Directory
+pub mod Examples
+pub mod Kinds
+pub mod Leases
+pub mod Parcels
+pub mod Serving
+pub mod Spelling
+pub mod Watches

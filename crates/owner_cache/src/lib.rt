@@ -1,0 +1,100 @@
+//! Which node last answered for a name. It may be out of date: then the node that is asked says so.
+#![tactic(auto)]
+
+ghost use Rattle.std.specs.Prelude.{◌≡◌, [], IfOk, OnOk, OnErr};
+ghost use Rattle.node_model.specs.Cache.{forget, learn, look, owner_in};
+
+use lru::LruCache;
+use pico_base::{Memory, Name, Node};
+use std::alloc::Global;
+use std::marker::Model;
+use std::num::NonZeroUsize;
+
+/// How many names a cache has room for.
+const NAMES: usize = 64;
+
+/// The owners of at most 64 names, which contracts see as a list of names and nodes, the most recently used first.
+#[derive(Drop)]
+pub struct Cache {
+    owners: LruCache<Name, Node>,
+}
+
+impl Model for Cache {
+    ghost use Rattle.std.specs.Prelude.{List, ℕ};
+    ghost use Rattle.std.specs.Coded.{coded_list, coded×, coded_ℕ};
+    ghost use Rattle.owner_cache.specs.Coded.{coded_name};
+    ghost use Rattle.node_model.specs.Cache.{Cache as Value_};
+    ghost use Rattle.owner_cache.specs.Distinct.{IsWithin};
+
+    ghost Value = { Value_ };
+
+    ghost coded = { coded_list (coded× coded_name coded_ℕ) };
+
+    ghost view = { λ c. c.owners.entries };
+
+    ghost invariant = { λ c. IsWithin c.owners.entries c.owners.cap };
+}
+
+impl Cache {
+    /// A cache without names.
+    pub fn new(alloc: Global) -> Result<Cache, Memory>
+        ensures { IfOk result (λ cache. cache ≡ []) }
+    {
+        let places = NonZeroUsize::new(NAMES).unwrap();
+        Ok(Cache {
+            owners: LruCache::new(alloc, places)?,
+        })
+    }
+
+    /// The node that last answered for the name, where that is known. The name is then the one used last.
+    pub fn look(&mut self, name: Name) -> Option<Node>
+        ensures owner { result ≡ owner_in self.old name }
+        ensures used { self.new ≡ look self.old name }
+    {
+        let owner = self.owners.peek(&name).copied();
+        let _ = self.owners.promote(&name);
+        owner
+    }
+
+    /// Notes that this node has answered for the name, which is then the one used last. Past 64 names the one used
+    /// longest ago is forgotten. A refusal for want of memory changes nothing.
+    pub fn learn(&mut self, name: Name, node: Node) -> Result<(), Memory>
+        ensures ok { OnOk result (self.new ≡ learn self.old name node) }
+        ensures err { OnErr result (self.new ≡ self.old) }
+    {
+        let _ = self.owners.put(name, node)?;
+        Ok(())
+    }
+
+    /// Forgets the name.
+    pub fn forget(&mut self, name: Name)
+        ensures { self.new ≡ forget self.old name }
+    {
+        let _ = self.owners.pop(&name);
+    }
+}
+
+#[cfg(test)]
+mod tests {
+    use super::*;
+    use pico_base::Id;
+    use std::test::Fail;
+
+    #[test]
+    fn the_name_used_longest_ago_goes(rt: HostRuntime) -> Result<(), Fail> {
+        let mut cache = Cache::new(rt.alloc())?;
+        for number in 1..66 {
+            cache.learn(Name::Msg(Id(number)), Node(2))?;
+        }
+        assert_eq!(rt; cache.look(Name::Msg(Id(1))), None);
+        assert_eq!(rt; cache.look(Name::Msg(Id(2))), Some(Node(2)));
+        // The look has kept the second name, so the third is the one that goes.
+        cache.learn(Name::Sem(Id(2)), Node(3))?;
+        assert_eq!(rt; cache.look(Name::Msg(Id(3))), None);
+        assert_eq!(rt; cache.look(Name::Msg(Id(2))), Some(Node(2)));
+        assert_eq!(rt; cache.look(Name::Sem(Id(2))), Some(Node(3)));
+        cache.forget(Name::Sem(Id(2)));
+        assert_eq!(rt; cache.look(Name::Sem(Id(2))), None);
+        Ok(())
+    }
+}

@@ -1,0 +1,56 @@
+-- Lines and words.
+use Rattle.std.specs.Prelude.{ℕ, ◌+◌, ◌==◌, drop, ◌||◌, Bool, List, [], ◌∷◌, if◌then◌else◌, map}
+use Rattle.std.specs.List.{onto_first, slice_split, position_or_len}
+use denote.Ref.{Bor}
+
+-- the lines of a text: a line feed ends a line, and a last one begins no further line
+abbrev pub lines_of : List ℕ → List (List ℕ)
+lines_of [] = []
+lines_of (b ∷ bytes) = if b == 10 then [] ∷ lines_of bytes else onto_first b (lines_of bytes)
+
+-- a space, a tab or a carriage return
+abbrev pub is_blank : ℕ → Bool
+is_blank b = b == 32 || (b == 9 || b == 13)
+
+-- where a byte stands: between words, in a word, or in a word and behind its quote
+pub data Stretch : Type 0 where
+  between : Stretch
+  plain : Stretch
+  quoted : Stretch
+
+-- a quote at the front of a word begins a text
+abbrev pub entering : ℕ → Stretch
+entering b = if b == 34 then quoted else plain
+
+-- the next quote ends it
+abbrev pub leaving : ℕ → Stretch
+leaving b = if b == 34 then plain else quoted
+
+-- the words of these bytes. Inside a word the first of them is the rest of that word
+unfoldable pub words_in : Stretch → List ℕ → List (List ℕ)
+words_in between [] = []
+words_in between (b ∷ bytes) =
+    if is_blank b then words_in between bytes else onto_first b (words_in (entering b) bytes)
+words_in plain [] = [] ∷ []
+words_in plain (b ∷ bytes) = if is_blank b then [] ∷ words_in between bytes else onto_first b (words_in plain bytes)
+words_in quoted [] = [] ∷ []
+words_in quoted (b ∷ bytes) = onto_first b (words_in (leaving b) bytes)
+
+-- Blanks part the words of a line. A word that begins with a quote goes on to the next quote, over blanks, and then to
+-- the next blank
+abbrev pub words_of : List ℕ → List (List ℕ)
+words_of line = words_in between line
+
+-- how many bytes of a word stand behind its first one, in front of these bytes
+abbrev pub rest_length : ℕ → List ℕ → ℕ
+rest_length first bytes =
+    let quote : ℕ = position_or_len (λ b. b == 34) bytes in
+    if first == 34 then quote + position_or_len is_blank (drop quote bytes) else position_or_len is_blank bytes
+
+-- the pieces between each two of these bytes
+unfoldable pub pieces : ℕ → List ℕ → List (List ℕ)
+pieces byte bytes = slice_split (λ b. b == byte) bytes
+
+-- what words that the code refers to say
+abbrev pub texts : List (Bor (List ℕ)) → List (List ℕ)
+texts words = map (λ (w : Bor (List ℕ)). w.now) words

@@ -1,0 +1,274 @@
+//! The faults of a line.
+
+ghost use Rattle.std.specs.Prelude.{◌≡◌, ◌+◌, ◌≤◌, ◌<◌, ◌^◌, length};
+ghost use Rattle.std.specs.List.{list_any};
+ghost use Rattle.kernel_model.specs.Waiting.{may_wait as may_wait_at, is_waiting as is_waiting_call};
+ghost use Rattle.machine_model.specs.Built.{is_shared as is_shared_call, is_built as is_built_call, is_built_line as is_built_line_at};
+ghost use Rattle.script_reader.specs.Fault as spec;
+
+use crate::fault::ScriptFault;
+use crate::place::{MAX_BLOCKS, Place, calls_of};
+use crate::says::Said;
+use pico_base::{Call, Line, SemStep, Var};
+
+/// The longest line, without its line feed.
+const MAX_LINE: usize = 4096;
+
+/// The most calls of a script.
+const MAX_CALLS: usize = 20_000;
+
+/// The faults that a line may have, in the order in which they are told.
+const LINE_FAULTS: [ScriptFault; 14] = [
+    ScriptFault::LineTooLong,
+    ScriptFault::NoProc,
+    ScriptFault::NoEnd,
+    ScriptFault::UnknownCall,
+    ScriptFault::BadArgument,
+    ScriptFault::UnsetVariable,
+    ScriptFault::UnknownProc,
+    ScriptFault::ForkedTwice,
+    ScriptFault::NeverForked,
+    ScriptFault::ForkBackwards,
+    ScriptFault::TooManyProcs,
+    ScriptFault::TooManyCalls,
+    ScriptFault::WaitingForm,
+    ScriptFault::NotBuilt,
+];
+
+fn is_proc(said: &Said) -> bool
+    ensures { result ≡ spec.is_proc said.now }
+{
+    matches!(said, Said::Opens(_, _) | Said::BadProc)
+}
+
+fn is_skipped(said: &Said) -> bool
+    ensures { result ≡ spec.is_skipped said.now }
+{
+    matches!(said, Said::Skipped)
+}
+
+fn is_unknown(said: &Said) -> bool
+    ensures { result ≡ spec.is_unknown said.now }
+{
+    matches!(said, Said::Unknown)
+}
+
+/// Whether the words aren't those of a line of any form.
+fn is_bad(said: &Said) -> bool
+    ensures { result ≡ spec.is_bad said.now }
+{
+    matches!(said, Said::Bad | Said::BadProc)
+}
+
+fn is_call(said: &Said) -> bool
+    ensures { result ≡ spec.is_call said.now }
+{
+    matches!(said, Said::Forks(_, _) | Said::Calls(_))
+}
+
+/// Whether a block gets the name of an earlier one.
+fn repeats(place: &Place, said: &Said) -> bool
+    requires { length place.now.blocks < 2 ^ 32 }
+    ensures { result ≡ spec.repeats place.now said.now }
+{
+    match said {
+        Said::Opens(_, number) => *number != place.number(),
+        _ => false,
+    }
+}
+
+/// Whether a line uses a variable that isn't known.
+fn uses_unset(place: &Place, said: &Said) -> bool
+    ensures { result ≡ spec.uses_unset place.now said.now }
+{
+    match said {
+        Said::Calls(line) => match line.from {
+            None => false,
+            Some(Var(index)) => !place.known.is_set(usize::from(index)),
+        },
+        _ => false,
+    }
+}
+
+/// Whether no block has the name of a fork.
+fn forks_nothing(said: &Said) -> bool
+    ensures { result ≡ spec.forks_nothing said.now }
+{
+    matches!(said, Said::Forks(_, None))
+}
+
+/// Whether an earlier line forks the same block.
+fn forks_again(place: &Place, said: &Said) -> bool
+    ensures { result ≡ spec.forks_again place.now said.now }
+{
+    match said {
+        Said::Forks(_, Some(number)) => place.forked.is_set(*number),
+        _ => false,
+    }
+}
+
+/// Whether a fork is of the open block or of an earlier one.
+fn forks_back(place: &Place, said: &Said) -> bool
+    requires { length place.now.blocks < 2 ^ 32 }
+    ensures { result ≡ spec.forks_back place.now said.now }
+{
+    match said {
+        Said::Forks(_, Some(number)) => *number <= place.number(),
+        _ => false,
+    }
+}
+
+/// Whether no earlier line forks the block that begins, which isn't the first.
+fn is_never_forked(place: &Place, said: &Said) -> bool
+    requires { length place.now.blocks < 2 ^ 32 }
+    ensures { result ≡ spec.is_never_forked place.now said.now }
+{
+    match said {
+        Said::Opens(_, number) => 1 < place.number() && !place.forked.is_set(*number),
+        _ => false,
+    }
+}
+
+/// Whether one block too many begins.
+fn is_proc_too_many(place: &Place, said: &Said) -> bool
+    requires { length place.now.blocks < 2 ^ 32 }
+    ensures { result ≡ spec.is_proc_too_many place.now said.now }
+{
+    match said {
+        Said::Opens(_, _) => MAX_BLOCKS < place.number(),
+        _ => false,
+    }
+}
+
+/// Whether an operation may have to wait.
+fn may_wait(steps: &[SemStep]) -> bool
+    ensures { result ≡ list_any may_wait_at steps.now }
+{
+    steps.iter().any(|step| step.add <= 0 && !step.nowait)
+}
+
+/// Whether the call has a form that may have to wait.
+fn is_waiting(call: &Call) -> bool
+    ensures { result ≡ is_waiting_call call.now }
+{
+    match call {
+        Call::MsgSnd { nowait, .. } | Call::MsgRcv { nowait, .. } => !*nowait,
+        Call::WaitPid { nohang, .. } => !*nohang,
+        Call::SemOp { steps, .. } => may_wait(steps.as_slice()),
+        _ => false,
+    }
+}
+
+fn waits(said: &Said) -> bool
+    ensures { result ≡ spec.waits said.now }
+{
+    match said {
+        Said::Calls(line) => is_waiting(&line.call),
+        _ => false,
+    }
+}
+
+/// Whether the call is on a queue or a set by its identifier, but for its removal.
+fn is_shared(call: &Call) -> bool
+    ensures { result ≡ is_shared_call call.now }
+{
+    matches!(
+        call,
+        Call::MsgSnd { .. }
+            | Call::MsgRcv { .. }
+            | Call::MsgStat { .. }
+            | Call::MsgSet { .. }
+            | Call::SemOp { .. }
+            | Call::SemGetVal { .. }
+            | Call::SemGetPid { .. }
+            | Call::SemGetNcnt { .. }
+            | Call::SemGetZcnt { .. }
+            | Call::SemSetVal { .. }
+            | Call::SemGetAll { .. }
+            | Call::SemSetAll { .. }
+    )
+}
+
+/// Whether the machine has a rule for the call in this block.
+fn is_built(block: usize, call: &Call) -> bool
+    ensures { result ≡ is_built_call block call.now }
+{
+    match call {
+        Call::Fork { .. } => block == 1,
+        Call::MsgGet { key, .. } | Call::SemGet { key, .. } => block == 1 && key.is_none(),
+        Call::GetPid => true,
+        _ => is_shared(call),
+    }
+}
+
+fn is_built_line(block: usize, line: &Line) -> bool
+    ensures { result ≡ is_built_line_at block line.now }
+{
+    line.tries == 1 && is_built(block, &line.call)
+}
+
+/// Whether the machine has no rule for the line's call.
+fn has_no_rule(place: &Place, said: &Said) -> bool
+    requires { length place.now.blocks < 2 ^ 32 }
+    ensures { result ≡ spec.has_no_rule place.now said.now }
+{
+    match said {
+        Said::Forks(_, Some(_)) => place.number() != 1,
+        Said::Calls(line) => !is_built_line(place.number(), line),
+        _ => false,
+    }
+}
+
+/// Whether a line of this length, which says this in its place, has the fault.
+#[tactic(auto, unfolding(crate::specs::Fault::has_fault))]
+fn has_fault(place: &Place, size: usize, said: &Said, fault: ScriptFault) -> bool
+    requires blocks { length place.now.blocks < 2 ^ 32 }
+    requires calls { place.now.calls ≤ 20000 }
+    ensures { result ≡ spec.has_fault place.now size said.now fault }
+{
+    match fault {
+        ScriptFault::ScriptTooLong | ScriptFault::NotUtf8 => false,
+        ScriptFault::LineTooLong => MAX_LINE < size,
+        ScriptFault::NoProc => !place.inside && !(is_proc(said) || is_skipped(said)),
+        ScriptFault::NoEnd => place.inside && is_proc(said),
+        ScriptFault::UnknownCall => place.inside && is_unknown(said),
+        ScriptFault::BadArgument => {
+            is_bad(said) || repeats(place, said) || (place.over && is_call(said))
+        }
+        ScriptFault::UnsetVariable => uses_unset(place, said),
+        ScriptFault::UnknownProc => forks_nothing(said),
+        ScriptFault::ForkedTwice => forks_again(place, said),
+        ScriptFault::NeverForked => is_never_forked(place, said),
+        ScriptFault::ForkBackwards => forks_back(place, said),
+        ScriptFault::TooManyProcs => is_proc_too_many(place, said),
+        ScriptFault::TooManyCalls => MAX_CALLS < place.calls + calls_of(place, said),
+        ScriptFault::WaitingForm => waits(said),
+        ScriptFault::NotBuilt => has_no_rule(place, said),
+    }
+}
+
+/// Whether the fault is one of those asked for.
+fn is_asked(runnable: bool, fault: ScriptFault) -> bool
+    ensures { result ≡ spec.is_asked runnable fault }
+{
+    match fault {
+        ScriptFault::NotBuilt => runnable,
+        _ => true,
+    }
+}
+
+/// The fault of a line in its place.
+#[tactic(auto, unfolding(crate::specs::Fault::fault_of))]
+pub(crate) fn fault_of(
+    runnable: bool,
+    place: &Place,
+    size: usize,
+    said: &Said,
+) -> Option<ScriptFault>
+    requires blocks { length place.now.blocks < 2 ^ 32 }
+    requires calls { place.now.calls ≤ 20000 }
+    ensures { result ≡ spec.fault_of runnable place.now size said.now }
+{
+    LINE_FAULTS.iter().copied().find(|fault| is_asked(runnable, *fault)
+        && has_fault(place, size, said, *fault))
+}

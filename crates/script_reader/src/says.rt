@@ -1,0 +1,248 @@
+//! What a line says by itself, wherever it stands.
+
+ghost use Rattle.std.specs.Prelude.{◌≡◌, ◌≤◌, IfOk, IfSome, option_copied};
+ghost use Rattle.script_reader.specs.Words.{texts};
+ghost use Rattle.script_reader.specs.Says as says;
+
+use crate::forms::{FromCall, call};
+use crate::numbers::positive;
+use crate::parts::{is_block_name, variable};
+use crate::tables::Names;
+use crate::verb::Verb;
+use crate::words::{next_word, words};
+use pico_base::{Bytes, Line, Memory, Var};
+use std::alloc::Global;
+
+/// How often a line may try its call.
+const MAX_TRIES: u32 = 20_000;
+
+/// What a line says. A block goes by its number among the names of the text.
+#[derive(Drop)]
+pub(crate) enum Said {
+    /// Nothing: it has no words, or is a comment.
+    Skipped,
+    /// `proc NAME`.
+    Opens(Bytes, usize),
+    /// Headed by `proc`, with other words behind it.
+    BadProc,
+    /// `end`.
+    Ends,
+    /// The word where a call's name is due names no call.
+    Unknown,
+    /// The words aren't those of a line.
+    Bad,
+    /// `fork NAME` with the variable that it sets, and the block of that name, where there is one.
+    Forks(Option<Var>, Option<usize>),
+    /// A line with another call.
+    Calls(Line),
+}
+
+/// What may stand in front of a call: none where it is there and wrong, and `Some(None)` where it isn't there.
+type Front<T> = Option<Option<T>>;
+
+/// `VAR =`, and the words behind it.
+#[tactic(auto, unfolding(crate::specs::Says::set_at))]
+fn set_front<'a, 'b>(words: &'b [&'a [u8]]) -> (Front<Var>, &'b [&'a [u8]])
+    ensures { (result.0, texts result.1.now) ≡ says.set_at (texts words.now) }
+{
+    match words {
+        [v, e, rest @ ..] if *e == b"=".as_slice() => match variable(v) {
+            None => (None, rest),
+            Some(variable) => (Some(Some(variable)), rest),
+        },
+        _ => (Some(None), words),
+    }
+}
+
+/// `try N`, and the words behind it.
+#[tactic(auto, unfolding(crate::specs::Says::tries_at))]
+fn tries_front<'a, 'b>(words: &'b [&'a [u8]]) -> (Front<u32>, &'b [&'a [u8]])
+    ensures { (result.0, texts result.1.now) ≡ says.tries_at (texts words.now) }
+{
+    match words {
+        [t, n, rest @ ..] if *t == b"try".as_slice() => match positive(MAX_TRIES, n) {
+            None => (None, rest),
+            Some(tries) => (Some(Some(tries)), rest),
+        },
+        [t] if *t == b"try".as_slice() => (None, &[]),
+        _ => (Some(None), words),
+    }
+}
+
+/// `fork NAME`.
+#[tactic(auto, unfolding(crate::specs::Says::fork_said))]
+fn fork(names: &Names, set: Front<Var>, tries: Front<u32>, words: &[&[u8]]) -> Said
+    ensures { result ≡ says.fork_said names.now set tries (texts words.now) }
+{
+    match (set, tries, words) {
+        (Some(set), Some(None), [name]) if is_block_name(name) => {
+            Said::Forks(set, names.number(name))
+        }
+        _ => Said::Bad,
+    }
+}
+
+fn said_from(set: Option<Var>, tries: Option<u32>, call: Option<FromCall>) -> Said
+    ensures { result ≡ says.said_from set tries call }
+{
+    match call {
+        None => Said::Bad,
+        Some((from, call)) => Said::Calls(Line {
+            set,
+            tries: tries.unwrap_or(1),
+            from,
+            call,
+        }),
+    }
+}
+
+/// `exit N`.
+#[tactic(auto, unfolding(crate::specs::Says::exit_said))]
+fn exit(set: Front<Var>, tries: Front<u32>, call: Option<FromCall>) -> Said
+    ensures { result ≡ says.exit_said set tries call }
+{
+    match (set, tries) {
+        (Some(None), Some(None)) => said_from(None, None, call),
+        _ => Said::Bad,
+    }
+}
+
+/// Another call.
+#[tactic(auto, unfolding(crate::specs::Says::other_said))]
+fn other(set: Front<Var>, tries: Front<u32>, call: Option<FromCall>) -> Said
+    ensures { result ≡ says.other_said set tries call }
+{
+    match (set, tries) {
+        (Some(set), Some(tries)) => said_from(set, tries, call),
+        _ => Said::Bad,
+    }
+}
+
+/// A call of this name.
+#[tactic(auto, unfolding(crate::specs::Says::verb_said))]
+fn verb_line(
+    alloc: Global,
+    names: &Names,
+    set: Front<Var>,
+    tries: Front<u32>,
+    verb: Verb,
+    words: &[&[u8]],
+) -> Result<Said, Memory>
+    ensures { IfOk result (λ said. said ≡ says.verb_said names.now set tries verb (texts words.now)) }
+{
+    Ok(match verb {
+        Verb::Fork => fork(names, set, tries, words),
+        Verb::Exit => exit(set, tries, call(alloc, verb, words)?),
+        _ => other(set, tries, call(alloc, verb, words)?),
+    })
+}
+
+/// The call behind `VAR =` and `try N`.
+#[tactic(auto, unfolding(crate::specs::Says::call_said))]
+fn call_line(
+    alloc: Global,
+    names: &Names,
+    set: Front<Var>,
+    tries: Front<u32>,
+    words: &[&[u8]],
+) -> Result<Said, Memory>
+    ensures { IfOk result (λ said. said ≡ says.call_said names.now set tries (texts words.now)) }
+{
+    match words {
+        [] => Ok(Said::Bad),
+        [name, words @ ..] => match Verb::named(name) {
+            None => Ok(Said::Unknown),
+            Some(verb) => verb_line(alloc, names, set, tries, verb, words),
+        },
+    }
+}
+
+/// A call line.
+#[tactic(auto, unfolding(crate::specs::Says::line_said))]
+fn line(alloc: Global, names: &Names, words: &[&[u8]]) -> Result<Said, Memory>
+    ensures { IfOk result (λ said. said ≡ says.line_said names.now (texts words.now)) }
+{
+    let (set, words) = set_front(words);
+    let (tries, words) = tries_front(words);
+    call_line(alloc, names, set, tries, words)
+}
+
+/// `proc NAME`, by the words behind `proc`.
+#[tactic(auto, unfolding(crate::specs::Says::proc_said))]
+fn proc_line(alloc: Global, names: &Names, words: &[&[u8]]) -> Result<Said, Memory>
+    ensures { IfOk result (λ said. said ≡ says.proc_said names.now (texts words.now)) }
+{
+    match words {
+        [name] if is_block_name(name) => match names.number(name) {
+            None => Ok(Said::BadProc),
+            Some(number) => Ok(Said::Opens(Bytes::from_slice(alloc, name)?, number)),
+        },
+        _ => Ok(Said::BadProc),
+    }
+}
+
+#[tactic(auto, unfolding(crate::specs::Says::end_said))]
+fn end_line(words: &[&[u8]]) -> Said
+    ensures { result ≡ says.end_said (texts words.now) }
+{
+    match words {
+        [] => Said::Ends,
+        _ => Said::Bad,
+    }
+}
+
+#[tactic(auto, unfolding(crate::specs::Says::is_comment))]
+fn is_comment(word: &[u8]) -> bool
+    ensures { result ≡ says.is_comment word.now }
+{
+    match word {
+        [] => false,
+        [first, ..] => *first == b'#',
+    }
+}
+
+/// A line by its words.
+#[tactic(auto, unfolding(crate::specs::Says::words_said))]
+fn words_line(alloc: Global, names: &Names, words: &[&[u8]]) -> Result<Said, Memory>
+    ensures { IfOk result (λ said. said ≡ says.words_said names.now (texts words.now)) }
+{
+    match words {
+        [] => Ok(Said::Skipped),
+        [first, rest @ ..] => {
+            if is_comment(first) {
+                Ok(Said::Skipped)
+            } else if *first == b"proc".as_slice() {
+                proc_line(alloc, names, rest)
+            } else if *first == b"end".as_slice() {
+                Ok(end_line(rest))
+            } else {
+                line(alloc, names, words)
+            }
+        }
+    }
+}
+
+/// What the line says, in a text whose blocks have these names.
+pub(crate) fn read_line(alloc: Global, names: &Names, bytes: &[u8]) -> Result<Said, Memory>
+    ensures { IfOk result (λ said. said ≡ says.said_of names.now bytes.now) }
+{
+    let words = words(alloc, bytes)?;
+    words_line(alloc, names, words.as_slice())
+}
+
+/// The name in a line `proc NAME`.
+#[tactic(auto, unfolding(crate::specs::Says::opened_by))]
+pub(crate) fn opening(bytes: &[u8]) -> Option<&[u8]>
+    ensures { option_copied result ≡ says.opening_at bytes.now }
+{
+    let (head, rest) = next_word(bytes)?;
+    if head != b"proc".as_slice() {
+        return None;
+    }
+    let (name, rest) = next_word(rest)?;
+    if next_word(rest).is_none() && is_block_name(name) {
+        Some(name)
+    } else {
+        None
+    }
+}

@@ -1,0 +1,247 @@
+-- What holds of one node's call: it is in one place, is the call due there, and may be made.
+use Rattle.std.specs.Prelude.{◌≡◌, ◌≢◌, ◌⊎◌, ◌≤◌, ℕ, ◌+◌, Bool, true, false, ◌&&◌, nat_eq, List, [], ◌∷◌, Option, Some, None, take, sum_by}
+use Rattle.std.specs.List.{filter}
+use Rattle.pico_base.specs.declared.call.Call.{Call}
+use Rattle.pico_base.specs.declared.call.Home.{Home}
+use Rattle.pico_base.specs.declared.call.Home.TheVariants as homes
+use Rattle.pico_base.specs.declared.numbers.Kind.{Kind}
+use Rattle.pico_base.specs.declared.numbers.Name.{Name}
+use Rattle.pico_base.specs.declared.reply.Reply.{Reply}
+use Rattle.pico_base.specs.declared.script.Script.{Script}
+use Rattle.pico_base.specs.Home.{home_of}
+use Rattle.rpc_frame.specs.declared.asked.Asked.{Asked}
+use Rattle.rpc_frame.specs.declared.frame.Frame.{Frame}
+use Rattle.rpc_frame.specs.declared.frame.Frame.TheVariants as frames
+use Rattle.number_maps.specs.Maps.{get}
+use Rattle.kernel_model.specs.Row.{Alive}
+use Rattle.kernel_model.specs.Kernel.{living_at}
+use Rattle.kernel_model.specs.Transition.{may_make}
+use Rattle.kernel_model.specs.Fitting.{Place, IsDue, place_after}
+use Rattle.node_model.specs.declared.held.Held.{Held}
+use Rattle.node_model.specs.declared.held.Held.TheVariants.{Request, Ending}
+use Rattle.node_model.specs.Kinds.{for_kind, is_same_name}
+use Rattle.node_model.specs.Directory.{held_for}
+use Rattle.node_model.specs.Leases.{takes_number}
+use Rattle.node_model.specs.Caller.{Caller, caller_place, lines_of}
+use Rattle.world_model.specs.Node.{Node, Stage, Unborn, Living, Leaving, Left, Over, asked_here}
+use Rattle.world_model.specs.Calls.{is_on_name, is_on_name_or_removal, is_for_others}
+use Rattle.world_model.specs.World.{World, stream}
+use Rattle.world_laws.specs.Places.{CallPlace, Idle, AsksLease, HasLease, InAsk, InRequest, InNotOwner, SentByPlace, SentByRange, InBounce, IsHeld, IsInHand, InAnswer, Ends, Beside}
+use Rattle.world_laws.specs.Sights.{node_of, directory_of, is_born_in}
+
+-- ---- what there is to see of a node's call
+
+-- a frame, on its way to a node from a node, is about the call under way at p
+abbrev pub is_about : ℕ → ℕ → ℕ → Frame → Bool
+is_about p to sender (frames.Ask ticket pid call) = nat_eq sender p
+is_about p to sender (frames.Request ticket pid call) = nat_eq sender p
+is_about p to sender (frames.Forward asked) = nat_eq asked.caller p
+is_about p to sender (frames.Bounce asked) = nat_eq asked.caller p
+is_about p to sender (frames.Answer ticket reply) = nat_eq to p
+is_about p to sender (frames.NotOwner ticket) = nat_eq to p
+is_about p to sender (frames.LeaseAsk kind) = nat_eq sender p
+is_about p to sender (frames.Lease kind first) = nat_eq to p
+is_about p to sender frame = false
+
+abbrev pub is_item_about : ℕ → Held → Bool
+is_item_about p (Request asked) = nat_eq asked.caller p
+is_item_about p (Ending parcel) = false
+
+pub record CallSight : Type 0 where
+  pub node : Node
+  -- its process in the history and in the kernel
+  pub place : Option Place
+  pub alive : Option Alive
+  pub call : CallPlace
+  pub born : ℕ → Bool
+  pub frames_about : ℕ → ℕ → List Frame
+  pub held : Name → List Held
+  pub hand : List Held
+
+abbrev pub call_sight : World → List Held → Beside → ℕ → CallSight
+call_sight w hand b p =
+    record {
+      node = node_of w p;
+      place = get b.places (b.pids p);
+      alive = living_at b.kernel (b.pids p);
+      call = b.call p;
+      born = is_born_in w;
+      frames_about = λ to sender. filter (is_about p to sender) (stream w to sender);
+      held = λ name. filter (is_item_about p) (held_for (directory_of w) name);
+      hand = filter (is_item_about p) hand;
+    }
+
+-- ---- where it is
+
+abbrev pub only_if : {A : Type 0} → Bool → A → List A
+only_if true x = x ∷ []
+only_if false x = []
+
+-- it is in the stream to a node from another
+abbrev pub is_in_stream : CallPlace → ℕ → ℕ → ℕ → Bool
+is_in_stream (AsksLease kind) p to sender = nat_eq to 1 && nat_eq sender p
+is_in_stream (HasLease kind first) p to sender = nat_eq to p && nat_eq sender 1
+is_in_stream InAsk p to sender = nat_eq to 1 && nat_eq sender p
+is_in_stream (InRequest h) p to sender = nat_eq to h && nat_eq sender p
+is_in_stream (InNotOwner h) p to sender = nat_eq to p && nat_eq sender h
+is_in_stream (SentByPlace h) p to sender = nat_eq to h && nat_eq sender 1
+is_in_stream (SentByRange h) p to sender = nat_eq to h && nat_eq sender 1
+is_in_stream (InBounce h) p to sender = nat_eq to 1 && nat_eq sender h
+is_in_stream (InAnswer h reply) p to sender = nat_eq to p && nat_eq sender h
+is_in_stream place p to sender = false
+
+abbrev pub frame_at : CallPlace → Asked → Frame
+frame_at (AsksLease kind) asked = frames.LeaseAsk kind
+frame_at (HasLease kind first) asked = frames.Lease kind first
+frame_at InAsk asked = frames.Ask asked.ticket asked.pid asked.call
+frame_at (InRequest h) asked = frames.Request asked.ticket asked.pid asked.call
+frame_at (InNotOwner h) asked = frames.NotOwner asked.ticket
+frame_at (SentByPlace h) asked = frames.Forward asked
+frame_at (SentByRange h) asked = frames.Forward asked
+frame_at (InBounce h) asked = frames.Bounce asked
+frame_at (InAnswer h reply) asked = frames.Answer asked.ticket reply
+frame_at place asked = frames.RecallAll
+
+abbrev pub is_held_at : CallPlace → Name → Bool
+is_held_at (IsHeld name) other = is_same_name name other
+is_held_at place other = false
+
+abbrev pub is_in_hand : CallPlace → Bool
+is_in_hand IsInHand = true
+is_in_hand place = false
+
+-- the call is in its place, and nowhere else
+pub record IsJustThere (p : ℕ) (x : CallSight) (asked : Asked) : Type 0 where
+  pub in_streams : (to sender : ℕ) → 1 ≤ to → 1 ≤ sender
+      → x.frames_about to sender ≡ only_if (is_in_stream x.call p to sender) (frame_at x.call asked)
+  pub held_for_names : (name : Name) → x.held name ≡ only_if (is_held_at x.call name) (Request asked)
+  pub in_hand : x.hand ≡ only_if (is_in_hand x.call) (Request asked)
+
+pub record IsNowhere (x : CallSight) : Type 0 where
+  pub in_streams : (to sender : ℕ) → 1 ≤ to → 1 ≤ sender → x.frames_about to sender ≡ []
+  pub held_for_names : (name : Name) → x.held name ≡ []
+  pub in_hand : x.hand ≡ []
+
+-- ---- which calls go where
+
+abbrev pub is_call_of_kind : Kind → Home → Call → Bool
+is_call_of_kind kind homes.Own call = takes_number kind call
+is_call_of_kind kind home call = false
+
+abbrev pub is_on : Name → Home → Bool
+is_on name (homes.At other) = is_same_name name other
+is_on name (homes.Removal other) = is_same_name name other
+is_on name home = false
+
+abbrev pub may_be_in : CallPlace → Home → Call → Bool
+may_be_in Idle home call = false
+may_be_in (AsksLease kind) home call = is_call_of_kind kind home call
+may_be_in (HasLease kind first) home call = is_call_of_kind kind home call
+may_be_in InAsk home call = is_for_others home
+may_be_in (InRequest h) home call = is_on_name home
+may_be_in (InNotOwner h) home call = is_on_name home
+may_be_in (SentByPlace h) home call = is_on_name home
+may_be_in (SentByRange h) home call = is_on_name_or_removal home
+may_be_in (InBounce h) home call = is_on_name_or_removal home
+may_be_in (IsHeld name) home call = is_on name home
+may_be_in IsInHand home call = is_for_others home
+may_be_in (InAnswer h reply) home call = is_for_others home
+may_be_in Ends homes.Parent call = true
+may_be_in Ends home call = false
+
+-- a number is asked for and comes where none of the kind is left
+abbrev pub lease_is_over : CallPlace → Node → Type 0
+lease_is_over (AsksLease kind) n = for_kind n.leases kind ≡ []
+lease_is_over (HasLease kind first) n = for_kind n.leases kind ≡ []
+lease_is_over place n = Unit {0}
+
+-- who asks is another node than the leader, and who is asked, or answers, is born
+abbrev pub IsBetween : ℕ → (ℕ → Bool) → CallPlace → Type 0
+IsBetween p born (AsksLease kind) = p ≢ 1
+IsBetween p born (HasLease kind first) = p ≢ 1
+IsBetween p born InAsk = p ≢ 1
+IsBetween p born (InRequest h) = (born h ≡ true) × (h ≢ p)
+IsBetween p born (InNotOwner h) = h ≢ p
+IsBetween p born (SentByPlace h) = h ≢ 1
+IsBetween p born (SentByRange h) = h ≢ 1
+IsBetween p born (InBounce h) = h ≢ 1
+IsBetween p born (InAnswer h reply) = (born h ≡ true) × (h ≢ p)
+IsBetween p born place = Unit {0}
+
+-- ---- how far it is
+
+-- the calls started so far are no more than the tries of the lines passed, with those made of the line reached
+abbrev pub tries_made : Script → ℕ → Caller → ℕ
+tries_made script p c = sum_by (λ line. line.tries) (take c.line (lines_of script p)) + c.tried
+
+-- not carried out: the history is at the node's place, where the call is due, and its process may make it
+pub record IsToBeMade (script : Script) (p : ℕ) (x : CallSight) (call : Call) : Type 0 where
+  pub there : x.place ≡ Some (caller_place script p x.node.caller)
+  pub due : IsDue (caller_place script p x.node.caller) call
+  pub alive : Alive
+  pub lives : x.alive ≡ Some alive
+  pub may : may_make alive call ≡ true
+
+-- carried out, with this reply: the history is where the node will be
+pub record IsMade (script : Script) (p : ℕ) (x : CallSight) (call : Call) (reply : Reply) : Type 0 where
+  pub there : x.place ≡ Some (place_after (caller_place script p x.node.caller) call (Some reply))
+  pub due : IsDue (caller_place script p x.node.caller) call
+  pub alive : Alive
+  pub lives : x.alive ≡ Some alive
+
+-- its process has made its last call
+pub record HasEnded (x : CallSight) : Type 0 where
+  pub last : Place
+  pub there : x.place ≡ Some last
+  pub over : last.left ≡ []
+  pub dead : x.alive ≡ None
+
+abbrev pub IsSoFar : Script → ℕ → CallSight → Call → CallPlace → Type 0
+IsSoFar script p x call (InAnswer h reply) = IsMade script p x call reply
+IsSoFar script p x call Ends = IsToBeMade script p x call ⊎ HasEnded x
+IsSoFar script p x call place = IsToBeMade script p x call
+
+pub record HasCall (script : Script) (p : ℕ) (x : CallSight) (call : Call) : Type 0 where
+  pub just_there : IsJustThere p x (asked_here x.node call)
+  pub home : may_be_in x.call (home_of x.node.pid call) call ≡ true
+  pub used_up : lease_is_over x.call x.node
+  pub between : IsBetween p x.born x.call
+  pub so_far : IsSoFar script p x call x.call
+  pub tickets : x.node.caller.ticket ≤ tries_made script p x.node.caller + 1
+
+-- no call is under way: the process may go on, or it has ended, or it isn't there yet
+pub record IsFree (script : Script) (p : ℕ) (x : CallSight) : Type 0 where
+  pub there : x.place ≡ Some (caller_place script p x.node.caller)
+  pub alive : Alive
+  pub lives : x.alive ≡ Some alive
+  pub tickets : x.node.caller.ticket ≤ tries_made script p x.node.caller
+
+abbrev pub FreeIn : Script → ℕ → CallSight → Stage → Type 0
+FreeIn script p x Unborn = Unit {0}
+FreeIn script p x Living = IsFree script p x
+FreeIn script p x Leaving = ⊥
+FreeIn script p x Left = ⊥
+FreeIn script p x Over = HasEnded x
+
+pub record HasNoCall (script : Script) (p : ℕ) (x : CallSight) : Type 0 where
+  pub nowhere : IsNowhere x
+  pub idle : x.call ≡ Idle
+  pub free : FreeIn script p x x.node.stage
+
+-- a call that ends its process is under way exactly where the process leaves or has left
+abbrev pub is_end_place : CallPlace → Bool
+is_end_place Ends = true
+is_end_place place = false
+
+abbrev pub is_end_stage : Stage → Bool
+is_end_stage Leaving = true
+is_end_stage Left = true
+is_end_stage stage = false
+
+abbrev pub HasCallOrNone : Script → ℕ → CallSight → Option Call → Type 0
+HasCallOrNone script p x None = HasNoCall script p x
+HasCallOrNone script p x (Some call) = HasCall script p x call
+
+pub record CallHolds (script : Script) (p : ℕ) (x : CallSight) : Type 0 where
+  pub call : HasCallOrNone script p x x.node.caller.under_way
+  pub ends : is_end_place x.call ≡ is_end_stage x.node.stage

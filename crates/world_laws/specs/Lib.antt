@@ -1,0 +1,9 @@
+pub mod Places
+pub mod Sights
+pub mod Plays
+pub mod Names
+pub mod Callers
+pub mod Ways
+pub mod Ranges
+pub mod Families
+pub mod Invariant

@@ -1,0 +1,48 @@
+-- Where a name's deed is, where a call under way is, and what stands beside a world: the kernel and the places of its
+-- journal, the number of each node's process, and these two. All but the kernel and the places can be read off the
+-- world; written beside it they spare every "exactly one".
+use Rattle.std.specs.Prelude.{ℕ}
+use Rattle.pico_base.specs.declared.numbers.Kind.{Kind}
+use Rattle.pico_base.specs.declared.numbers.Name.{Name}
+use Rattle.pico_base.specs.declared.reply.Reply.{Reply}
+use Rattle.kernel_model.specs.Kernel.{Kernel}
+use Rattle.kernel_model.specs.Fitting.{Places}
+
+-- A deed is nowhere while nothing has the name's number; in a node's table; in a frame to or from a node; or in the
+-- parcel of a node's process: on its way to the leader, held for the parent, in the leader's hand in the middle of an
+-- event, or on its way to a node.
+pub data DeedPlace : Type 0 where
+  Unmade : DeedPlace
+  InTable : (node : ℕ) → DeedPlace
+  InCheckpoint : (to : ℕ) → DeedPlace
+  InGrant : (to : ℕ) → DeedPlace
+  InGiveBack : («from» : ℕ) → DeedPlace
+  InLeft : (of : ℕ) → DeedPlace
+  InKept : (of : ℕ) → DeedPlace
+  InHand : (of : ℕ) → DeedPlace
+  InExitTo : (of : ℕ) (to : ℕ) → DeedPlace
+
+-- A call is under way nowhere; at its caller while numbers are asked for and come; in a frame to or from a node; held for
+-- a name; in the leader's hand; carried out, with its reply on its way; or it ends its process.
+pub data CallPlace : Type 0 where
+  Idle : CallPlace
+  AsksLease : (kind : Kind) → CallPlace
+  HasLease : (kind : Kind) (first : ℕ) → CallPlace
+  InAsk : CallPlace
+  InRequest : (to : ℕ) → CallPlace
+  InNotOwner : («from» : ℕ) → CallPlace
+  SentByPlace : (to : ℕ) → CallPlace
+  SentByRange : (to : ℕ) → CallPlace
+  InBounce : («from» : ℕ) → CallPlace
+  IsHeld : (name : Name) → CallPlace
+  IsInHand : CallPlace
+  InAnswer : («from» : ℕ) (reply : Reply) → CallPlace
+  Ends : CallPlace
+
+pub record Beside : Type 0 where
+  pub kernel : Kernel
+  pub places : Places
+  -- 0 where the node's process isn't forked
+  pub pids : ℕ → ℕ
+  pub deed : Name → DeedPlace
+  pub call : ℕ → CallPlace

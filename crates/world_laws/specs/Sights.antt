@@ -1,0 +1,41 @@
+-- What there is to see in a world, by node and by stream. A number that is no node's shows an unborn node.
+use Rattle.std.specs.Prelude.{ℕ, Bool, true, false, List, Some}
+use Rattle.std.specs.List.{flat_map}
+use Rattle.std.specs.Option.{unwrap_or}
+use Rattle.pico_base.specs.declared.numbers.Name.{Name}
+use Rattle.number_maps.specs.Maps.{Numbered, is_used}
+use Rattle.kernel_model.specs.Kernel.{Kernel}
+use Rattle.kernel_model.specs.Footprint.{used_of}
+use Rattle.node_model.specs.declared.held.Held.{Held}
+use Rattle.node_model.specs.Kinds.{kind_of, number_of}
+use Rattle.node_model.specs.Directory.{Directory, Place, items_of}
+use Rattle.world_model.specs.Node.{Node, Stage, Unborn, unborn_node}
+use Rattle.world_model.specs.World.{World, node_at}
+
+abbrev pub node_of : World → ℕ → Node
+node_of w p = unwrap_or (node_at w p) (unborn_node p)
+
+abbrev pub directory_of : World → Directory
+directory_of w =
+    let first : Node = node_of w 1
+    in first.leader.directory
+
+abbrev pub stage_of : World → ℕ → Stage
+stage_of w p =
+    let n : Node = node_of w p
+    in n.stage
+
+abbrev pub is_born_stage : Stage → Bool
+is_born_stage Unborn = false
+is_born_stage _ = true
+
+abbrev pub is_born_in : World → ℕ → Bool
+is_born_in w p = is_born_stage (stage_of w p)
+
+-- all that the leader holds, name after name
+abbrev pub items_in : Numbered Place → List Held
+items_in places = flat_map (λ e. items_of (Some e.1)) places
+
+-- something has, or had, the name's number
+abbrev pub is_used_name : Kernel → Name → Bool
+is_used_name k name = is_used (used_of k (kind_of name)) (number_of name)

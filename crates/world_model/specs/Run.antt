@@ -1,0 +1,20 @@
+-- Runs of the machine: any events, each enabled when it comes.
+use Rattle.std.specs.Prelude.{◌≡◌, true, false, List, [], ◌∷◌, Some}
+use Rattle.pico_base.specs.declared.script.Script.{Script}
+use Rattle.pico_base.specs.declared.script.Event.{Event}
+use Rattle.world_model.specs.World.{World, opening_world, step, is_enabled}
+
+abbrev pub Runs : World → List Event → World → Type 0
+Runs w [] last = w ≡ last
+Runs w (e ∷ events) last = (is_enabled w e ≡ true) × (next : World) × (step w e ≡ Some next) × Runs next events last
+
+-- these events lead from the opening world of the script to this one
+abbrev pub IsRunOf : Script → List Event → World → Type 0
+IsRunOf script events w = Runs (opening_world script) events w
+
+-- some run leads to it
+abbrev pub IsReachableWorld : Script → World → Type 0
+IsReachableWorld script w = (events : List Event) × IsRunOf script events w
+
+abbrev pub IsAtRest : World → Type 0
+IsAtRest w = (e : Event) → is_enabled w e ≡ false
