@@ -1,5 +1,5 @@
 -- Names and sets of signals: a spelling is read, with what follows it.
-use Rattle.std.proofs.Common.{◌≡◌, ℕ, suc, ◌≤◌, Bool, true, false, cond, List, [], ◌∷◌, ◌++◌, length, Option, Some, None, refl, sym, ap, ◌∙◌, append_assoc, arith}
+use Rattle.std.proofs.Common.{◌≡◌, ℕ, ◌≤◌, Bool, true, false, cond, List, [], ◌∷◌, ◌++◌, length, Some, None, refl, ap, ◌∙◌, append_assoc, arith}
 use Rattle.std.specs.Prelude.{codes, fold}
 use Rattle.std.specs.List.{AllByRecursion, flat_map, filter}
 use Rattle.pico_base.specs.declared.signal.Sig.{Sig}
@@ -15,7 +15,7 @@ use Rattle.pico_base.specs.declared.reply.Errno.{Errno}
 use Rattle.pico_base.specs.declared.reply.Errno.TheVariants.{Esrch, Einval, Echild, Enoent, Eexist, Enomsg, Eagain, E2big, Efbig, Erange, Eidrm, Eintr}
 use Rattle.pico_base.specs.Signal.{at, put_at, everywhere, all_signals}
 use Rattle.kernel_model.specs.Trace.{signal_name, signal_argument, action_name, how_name, error_name, signals_text, set_text}
-use Rattle.text_fields.specs.Fields.{strip, named_at, signal_at, argument_at, action_at, how_at, error_at, all_at, behind_comma, joined_at, with_signals, set_from, set_at}
+use Rattle.text_fields.specs.Fields.{strip, named_at, signal_at, argument_at, action_at, how_at, error_at, all_at, behind_comma, joined_at, set_at}
 use Rattle.text_fields.proofs.Many.{many-again, parts-room}
 
 pub signal_again : (g : Sig) (rest : List ℕ) → signal_at (signal_name g ++ rest) ≡ Some (g, rest)
@@ -96,13 +96,17 @@ no_more : (more : List ℕ) → behind_comma signal_at (32 ∷ more) ≡ None
 unfolding strip
 no_more more = refl
 
-joined_again : (g : Sig) (gs : List Sig) (more : List ℕ) → joined_at signal_at (signals_text (g ∷ gs) ++ 32 ∷ more) ≡ Some (g ∷ gs, 32 ∷ more)
+joined_again : (g : Sig) (gs : List Sig) (more : List ℕ)
+    → joined_at signal_at (signals_text (g ∷ gs) ++ 32 ∷ more) ≡ Some (g ∷ gs, 32 ∷ more)
 joined_again g gs more =
     let bytes : List ℕ = flat_map more_text gs ++ 32 ∷ more in
-    let front : signals_text (g ∷ gs) ++ 32 ∷ more ≡ signal_name g ++ bytes = append_assoc (signal_name g) (flat_map more_text gs) (32 ∷ more) in
-    let room : length gs ≤ length bytes = parts-room (behind_comma signal_at) more_text IsAny Anything gs (32 ∷ more) (λ h _. omega arith) (any_of gs) in
+    let front : signals_text (g ∷ gs) ++ 32 ∷ more ≡ signal_name g ++ bytes =
+    append_assoc (signal_name g) (flat_map more_text gs) (32 ∷ more) in
+    let room : length gs ≤ length bytes =
+    parts-room (behind_comma signal_at) more_text IsAny Anything gs (32 ∷ more) (λ h _. omega arith) (any_of gs) in
     let all : all_at (behind_comma signal_at) bytes ≡ (gs, 32 ∷ more) =
-    many-again (behind_comma signal_at) more_text IsAny Anything (length bytes) gs (32 ∷ more) (λ h rest _ _. more_again h rest) (λ _. tt) (no_more more) (any_of gs) room in
+    many-again (behind_comma signal_at) more_text IsAny Anything (length bytes) gs (32 ∷ more)
+    (λ h rest _ _. more_again h rest) (λ _. tt) (no_more more) (any_of gs) room in
     rw (front, signal_again g bytes, all) refl
 
 -- no signal's name begins like `none`
@@ -127,7 +131,8 @@ added set g = put_at set g true
 abbrev set_with : PerSignal Bool → List Sig → PerSignal Bool
 set_with set gs = fold added set gs
 
-chosen : (b : Bool) (set : PerSignal Bool) (g : Sig) (gs : List Sig) → set_with set (cond b (g ∷ gs) gs) ≡ set_with (cond b (added set g) set) gs
+chosen : (b : Bool) (set : PerSignal Bool) (g : Sig) (gs : List Sig)
+    → set_with set (cond b (g ∷ gs) gs) ≡ set_with (cond b (added set g) set) gs
 chosen true set g gs = refl
 chosen false set g gs = refl
 
@@ -135,32 +140,40 @@ abbrev of_ten : Bool → Bool → Bool → Bool → Bool → Bool → Bool → B
 of_ten a b c d e f g h i j =
     record { hup = a; int = b; quit = c; kill = d; usr1 = e; usr2 = f; pipe = g; alrm = h; term = i; chld = j }
 
-put_if : (x : Bool) (set full : PerSignal Bool) (g : Sig) → (x ≡ true → added set g ≡ full) → (x ≡ false → set ≡ full) → cond x (added set g) set ≡ full
+put_if : (x : Bool) (set full : PerSignal Bool) (g : Sig) → (x ≡ true → added set g ≡ full) → (x ≡ false → set ≡ full)
+    → cond x (added set g) set ≡ full
 put_if true set full g with_it without = with_it refl
 put_if false set full g with_it without = without refl
 
 members_of : (s : PerSignal Bool) → set_with (everywhere false) (filter (at s) all_signals) ≡ s
 members_of s =
     let f : Bool = false in
-    let step : (b : Bool) (set full : PerSignal Bool) (g : Sig) (gs : List Sig) → (b ≡ true → added set g ≡ full) → (b ≡ false → set ≡ full) → set_with set (cond b (g ∷ gs) gs) ≡ set_with full gs =
-    λ b set full g gs with_it without. chosen b set g gs ∙ ap (λ (x : PerSignal Bool). set_with x gs) (put_if b set full g with_it without) in
+    let step : (b : Bool) (set full : PerSignal Bool) (g : Sig) (gs : List Sig) → (b ≡ true → added set g ≡ full)
+    → (b ≡ false → set ≡ full) → set_with set (cond b (g ∷ gs) gs) ≡ set_with full gs =
+    λ b set full g gs with_it without. chosen b set g gs
+    ∙ ap (λ (x : PerSignal Bool). set_with x gs) (put_if b set full g with_it without) in
     step s.hup _ (of_ten s.hup f f f f f f f f f) Hup _ (λ e. rw e refl) (λ e. rw e refl)
     ∙ step s.int _ (of_ten s.hup s.int f f f f f f f f) Int _ (λ e. rw e refl) (λ e. rw e refl)
     ∙ step s.quit _ (of_ten s.hup s.int s.quit f f f f f f f) Quit _ (λ e. rw e refl) (λ e. rw e refl)
     ∙ step s.kill _ (of_ten s.hup s.int s.quit s.kill f f f f f f) Kill _ (λ e. rw e refl) (λ e. rw e refl)
     ∙ step s.usr1 _ (of_ten s.hup s.int s.quit s.kill s.usr1 f f f f f) Usr1 _ (λ e. rw e refl) (λ e. rw e refl)
     ∙ step s.usr2 _ (of_ten s.hup s.int s.quit s.kill s.usr1 s.usr2 f f f f) Usr2 _ (λ e. rw e refl) (λ e. rw e refl)
-    ∙ step s.pipe _ (of_ten s.hup s.int s.quit s.kill s.usr1 s.usr2 s.pipe f f f) Pipe _ (λ e. rw e refl) (λ e. rw e refl)
-    ∙ step s.alrm _ (of_ten s.hup s.int s.quit s.kill s.usr1 s.usr2 s.pipe s.alrm f f) Alrm _ (λ e. rw e refl) (λ e. rw e refl)
-    ∙ step s.term _ (of_ten s.hup s.int s.quit s.kill s.usr1 s.usr2 s.pipe s.alrm s.term f) Term _ (λ e. rw e refl) (λ e. rw e refl)
+    ∙ step s.pipe _ (of_ten s.hup s.int s.quit s.kill s.usr1 s.usr2 s.pipe f f f) Pipe _ (λ e. rw e refl)
+    (λ e. rw e refl)
+    ∙ step s.alrm _ (of_ten s.hup s.int s.quit s.kill s.usr1 s.usr2 s.pipe s.alrm f f) Alrm _ (λ e. rw e refl)
+    (λ e. rw e refl)
+    ∙ step s.term _ (of_ten s.hup s.int s.quit s.kill s.usr1 s.usr2 s.pipe s.alrm s.term f) Term _ (λ e. rw e refl)
+    (λ e. rw e refl)
     ∙ step s.chld _ s Chld [] (λ e. rw (← e) refl) (λ e. rw (← e) refl)
 
-listed_again : (s : PerSignal Bool) (gs : List Sig) (more : List ℕ) → set_with (everywhere false) gs ≡ s → set_at (signals_text gs ++ 32 ∷ more) ≡ Some (s, 32 ∷ more)
+listed_again : (s : PerSignal Bool) (gs : List Sig) (more : List ℕ) → set_with (everywhere false) gs ≡ s
+    → set_at (signals_text gs ++ 32 ∷ more) ≡ Some (s, 32 ∷ more)
 unfolding set_at strip
 listed_again s [] more e = ap (λ (x : PerSignal Bool). Some (x, 32 ∷ more)) e
 listed_again s (g ∷ gs) more e =
     let other : strip (codes "none") (signals_text (g ∷ gs) ++ 32 ∷ more) ≡ None =
-    ap (strip (codes "none")) (append_assoc (signal_name g) (flat_map more_text gs) (32 ∷ more)) ∙ not_none g (flat_map more_text gs ++ 32 ∷ more) in
+    ap (strip (codes "none")) (append_assoc (signal_name g) (flat_map more_text gs) (32 ∷ more))
+    ∙ not_none g (flat_map more_text gs ++ 32 ∷ more) in
     rw (other, joined_again g gs more) (ap (λ (x : PerSignal Bool). Some (x, 32 ∷ more)) e)
 
 pub set_again : (s : PerSignal Bool) (more : List ℕ) → set_at (set_text s ++ 32 ∷ more) ≡ Some (s, 32 ∷ more)

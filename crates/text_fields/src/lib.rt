@@ -1,4 +1,5 @@
-//! The fields of a call's text, read from the front: numbers, names, texts, operations, values and sets. What the trace's
+//! The fields of a call's text, read from the front: numbers, names, texts, operations, values and sets. What the
+//! trace's
 //! printer writes of a field is read as that field, with what follows it left.
 #![tactic(auto)]
 

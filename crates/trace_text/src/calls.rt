@@ -426,7 +426,8 @@ fn arguments<'a>(
     bytes: &'a [u8],
 ) -> Result<Read<'a>, Memory>
     requires { length script.now.blocks ≤ 32 }
-    ensures { IfOk result (λ call. option_map (λ x. (x.0, x.1.now)) call ≡ reading.arguments_at script.now verb bytes.now) }
+    ensures { IfOk result
+        (λ call. option_map (λ x. (x.0, x.1.now)) call ≡ reading.arguments_at script.now verb bytes.now) }
 {
     match verb {
         Verb::Fork => Ok(fork(script, bytes)),

@@ -100,7 +100,8 @@ pub(crate) fn is_line(printed: &[u8], line: &[u8]) -> bool
     }
 }
 
-/// The entry whose text the line is, without its line feed. The line is printed again into `scratch`, so that it is read
+/// The entry whose text the line is, without its line feed. The line is printed again into `scratch`, so that it is
+/// read
 /// exactly where the trace text prints it.
 #[tactic(auto, unfolding(crate::specs::Reading::entry_in))]
 pub(crate) fn entry_in(

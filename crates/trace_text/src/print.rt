@@ -208,14 +208,16 @@ fn push_block_name(out: &mut Vec<u8>, script: &Script, block: Node) -> Result<()
 }
 
 fn push_fork(out: &mut Vec<u8>, script: &Script, block: Node) -> Result<(), Memory>
-    ensures { OnOk result (out.new.items ≡ out.old.items ++ codes "fork " ++ trace.name_of_block (block_at script.now block)) }
+    ensures { OnOk result
+        (out.new.items ≡ out.old.items ++ codes "fork " ++ trace.name_of_block (block_at script.now block)) }
 {
     push(out, b"fork ")?;
     push_block_name(out, script, block)
 }
 
 fn push_kill(out: &mut Vec<u8>, pid: Pid, sig: SigArg) -> Result<(), Memory>
-    ensures { OnOk result (out.new.items ≡ out.old.items ++ codes "kill " ++ decimal pid ++ 32 ∷ trace.signal_argument sig) }
+    ensures { OnOk result
+        (out.new.items ≡ out.old.items ++ codes "kill " ++ decimal pid ++ 32 ∷ trace.signal_argument sig) }
 {
     push(out, b"kill ")?;
     push_pid(out, pid)?;
@@ -224,7 +226,9 @@ fn push_kill(out: &mut Vec<u8>, pid: Pid, sig: SigArg) -> Result<(), Memory>
 }
 
 fn push_sigaction(out: &mut Vec<u8>, sig: SigArg, act: Act) -> Result<(), Memory>
-    ensures { OnOk result (out.new.items ≡ out.old.items ++ codes "sigaction " ++ trace.signal_argument sig ++ 32 ∷ trace.action_name act) }
+    ensures { OnOk result
+        (out.new.items ≡ out.old.items ++ codes "sigaction " ++ trace.signal_argument sig ++ 32
+        ∷ trace.action_name act) }
 {
     push(out, b"sigaction ")?;
     push(out, signal_argument(sig))?;
@@ -240,7 +244,9 @@ fn push_signal_call(out: &mut Vec<u8>, name: &[u8], sig: Sig) -> Result<(), Memo
 }
 
 fn push_waitpid(out: &mut Vec<u8>, child: Option<Pid>, nohang: bool) -> Result<(), Memory>
-    ensures { OnOk result (out.new.items ≡ out.old.items ++ codes "waitpid " ++ trace.child_text child ++ trace.word nohang (codes "nohang")) }
+    ensures { OnOk result
+        (out.new.items ≡ out.old.items ++ codes "waitpid " ++ trace.child_text child
+        ++ trace.word nohang (codes "nohang")) }
 {
     push(out, b"waitpid ")?;
     match child {
@@ -259,7 +265,8 @@ fn push_msgctl(out: &mut Vec<u8>, id: Id, command: &[u8]) -> Result<(), Memory>
 }
 
 fn push_msgset(out: &mut Vec<u8>, id: Id, qbytes: u32) -> Result<(), Memory>
-    ensures { OnOk result (out.new.items ≡ out.old.items ++ codes "msgctl " ++ decimal id ++ codes " set " ++ decimal qbytes) }
+    ensures { OnOk result
+        (out.new.items ≡ out.old.items ++ codes "msgctl " ++ decimal id ++ codes " set " ++ decimal qbytes) }
 {
     push_msgctl(out, id, b" set ")?;
     push_number(out, u64::from(qbytes))
@@ -361,7 +368,8 @@ fn push_step(out: &mut Vec<u8>, step: SemStep) -> Result<(), Memory>
 }
 
 fn push_semop(out: &mut Vec<u8>, id: Id, steps: &[SemStep]) -> Result<(), Memory>
-    ensures { OnOk result (out.new.items ≡ out.old.items ++ codes "semop " ++ decimal id ++ flat_map trace.step_text steps.now) }
+    ensures { OnOk result
+        (out.new.items ≡ out.old.items ++ codes "semop " ++ decimal id ++ flat_map trace.step_text steps.now) }
 {
     push(out, b"semop ")?;
     push_id(out, id)?;
@@ -404,7 +412,8 @@ fn push_semget(
 }
 
 fn push_setval(out: &mut Vec<u8>, id: Id, num: u16, value: u32) -> Result<(), Memory>
-    ensures { OnOk result (out.new.items ≡ out.old.items ++ trace.semctl_at id (codes " setval ") num ++ 32 ∷ decimal value) }
+    ensures { OnOk result
+        (out.new.items ≡ out.old.items ++ trace.semctl_at id (codes " setval ") num ++ 32 ∷ decimal value) }
 {
     push_semctl_at(out, id, b" setval ", num)?;
     push_byte(out, b' ')?;
@@ -412,7 +421,9 @@ fn push_setval(out: &mut Vec<u8>, id: Id, num: u16, value: u32) -> Result<(), Me
 }
 
 fn push_setall(out: &mut Vec<u8>, id: Id, values: &[u32]) -> Result<(), Memory>
-    ensures { OnOk result (out.new.items ≡ out.old.items ++ codes "semctl " ++ decimal id ++ codes " setall " ++ trace.values_text values.now) }
+    ensures { OnOk result
+        (out.new.items ≡ out.old.items ++ codes "semctl " ++ decimal id ++ codes " setall "
+        ++ trace.values_text values.now) }
 {
     push_semctl(out, id, b" setall ")?;
     push_values(out, values)
@@ -680,8 +691,10 @@ struct Tally {
 fn tally_of(journal: &[Entry]) -> Result<Tally, Memory>
     ensures forks { IfOk result (λ tally. tally.forks ≡ count_by (λ e. trace.is_fork e.call) journal.now) }
     ensures few { IfOk result (λ tally. tally.forks ≤ length journal.now) }
-    ensures not_ready { IfOk result (λ tally. tally.not_ready ≡ sum_by (λ e. trace.replies_where trace.is_not_ready_reply e.outcome) journal.now) }
-    ensures refused { IfOk result (λ tally. tally.refused ≡ sum_by (λ e. trace.replies_where trace.is_refused_reply e.outcome) journal.now) }
+    ensures not_ready { IfOk result
+        (λ tally. tally.not_ready ≡ sum_by (λ e. trace.replies_where trace.is_not_ready_reply e.outcome) journal.now) }
+    ensures refused { IfOk result
+        (λ tally. tally.refused ≡ sum_by (λ e. trace.replies_where trace.is_refused_reply e.outcome) journal.now) }
 {
     let mut forks: usize = 0;
     let mut not_ready: usize = 0;

@@ -104,7 +104,8 @@ pub(crate) fn read(
 }
 
 /// The entries of the history whose text these bytes are: lines in the grammar of a trace, each of at most 65,536 bytes
-/// without its line feed, and the totals, in at most 67,108,864 bytes. `NotATrace` comes exactly where they are none, with
+/// without its line feed, and the totals, in at most 67,108,864 bytes. `NotATrace` comes exactly where they are none,
+/// with
 /// the line at which the first fault stands, counted from `first_line`.
 pub fn read_trace(
     alloc: Global,
@@ -118,7 +119,8 @@ pub fn read_trace(
     ensures gives { spec.Gives result (spec.read_of script.now bytes.now first_line) }
     // What is read is the history whose text the bytes are, and each such history is read.
     ensures ok { IfOk result (spec.IsTraceOf script.now bytes.now) }
-    ensures only { (history : List EntryValue) → spec.IsTraceOf script.now bytes.now history → (result ≡ Ok history) ⊎ (result ≡ Err CheckFault.Memory) }
+    ensures only { (history : List EntryValue) → spec.IsTraceOf script.now bytes.now history → (result ≡ Ok history)
+        ⊎ (result ≡ Err CheckFault.Memory) }
 {
     read(alloc, script, bytes, first_line)
 }

@@ -50,7 +50,9 @@ fn message(alloc: Global, class: i32, bytes: &[u8]) -> Result<Read<'_>, Memory>
 /// A message of this type, or the number alone.
 fn message_or_number(alloc: Global, number: u32, bytes: &[u8]) -> Result<Read<'_>, Memory>
     requires { number ≤ 2147483647 }
-    ensures { IfOk result (λ reply. option_map (λ x. (x.0, x.1.now)) reply ≡ reading.or_number number bytes.now (reading.message_at (pos number) bytes.now)) }
+    ensures { IfOk result
+        (λ reply. option_map (λ x. (x.0, x.1.now)) reply
+        ≡ reading.or_number number bytes.now (reading.message_at (pos number) bytes.now)) }
 {
     match message(alloc, number as i32, bytes)? {
         Some((reply, rest)) => Ok(Some((reply, rest))),

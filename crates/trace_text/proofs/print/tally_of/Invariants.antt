@@ -8,6 +8,8 @@ abbrev pub invariant-loop-entry : goal.invariant-loop-entry
 invariant-loop-entry l = record {
   forks : l.forks ≡ count_by (λ e. trace.is_fork e.call) (take l.entry-index l.journal);
   forks_few : l.forks ≤ l.entry-index;
-  not_ready : l.not_ready ≡ sum_by (λ e. trace.replies_where trace.is_not_ready_reply e.outcome) (take l.entry-index l.journal);
-  refused : l.refused ≡ sum_by (λ e. trace.replies_where trace.is_refused_reply e.outcome) (take l.entry-index l.journal);
+  not_ready : l.not_ready
+      ≡ sum_by (λ e. trace.replies_where trace.is_not_ready_reply e.outcome) (take l.entry-index l.journal);
+  refused : l.refused ≡ sum_by (λ e. trace.replies_where trace.is_refused_reply e.outcome)
+      (take l.entry-index l.journal);
 }

@@ -6,4 +6,5 @@ pub returns-clause-ok : goal.returns-clause-ok
 returns-clause-ok c = read-ok c.args.script.now c.args.bytes.now c.args.first_line c.read.result c.read.ensures
 
 pub returns-clause-only : goal.returns-clause-only
-returns-clause-only c = read-only c.args.script.now c.requires.sound c.args.bytes.now c.args.first_line c.read.result c.read.ensures
+returns-clause-only c =
+    read-only c.args.script.now c.requires.sound c.args.bytes.now c.args.first_line c.read.result c.read.ensures
