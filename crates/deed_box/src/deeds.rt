@@ -1,3 +1,4 @@
+//! The deeds that a node holds, by name.
 ghost use Rattle.std.specs.Prelude.{◌≡◌, ◌≤◌, ◌<◌, ◌+◌, ◌-◌, None, Some, Ok, IsTrue, IsOk, IsSome, IfSome, IfOk, IfErr, OnOk, OnErr, is_some, if◌then◌else◌, length, min};
 ghost use Rattle.std.specs.Borrow.{sem};
 ghost use Rattle.std.specs.List.{IsDistinct};

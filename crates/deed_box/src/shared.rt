@@ -1,3 +1,4 @@
+//! What a body has to do to travel in a deed.
 ghost use Rattle.std.specs.Prelude.{◌≡◌, ℕ, Bool, List, Err, IsTrue, IfOk};
 ghost use Rattle.pico_base.specs.declared.fault.UnpackFault.TheVariants.{NotABody};
 ghost use Rattle.pico_base.specs.declared.numbers.Name.{Name as Named};

@@ -1,3 +1,4 @@
+//! What a node knows of its process's calls: the line, the tries made, the variables, and the call under way.
 ghost use Rattle.std.specs.Prelude.{◌≡◌, ◌↔◌, None, Some, IfOk, IfSome, OnOk, OnErr, IsSome, IsTrue};
 ghost use Rattle.std.specs.Option.{option_copied};
 ghost use Rattle.kernel_model.specs.Script.{IsSoundScript};

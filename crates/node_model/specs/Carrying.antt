@@ -81,7 +81,8 @@ act row (Ok s) = done (with_signals row s) (replies.Num 0)
 act row (Err e) = done row (replies.Fail e)
 
 abbrev pub reap : Row → Waited → Done Row
-reap row (Found child ending) = done (record row { family = without_ended child row.family }) (replies.Child child ending)
+reap row (Found child ending) =
+    done (record row { family = without_ended child row.family }) (replies.Child child ending)
 reap row NotYet = done row (replies.Num 0)
 reap row NoChild = done row (replies.Fail Echild)
 
@@ -89,7 +90,8 @@ abbrev pub on_row : Row → ℕ → Call → Done Row
 on_row row pid calls.GetPid = done row (replies.Num pid)
 on_row row pid (calls.Kill target sig) = signal row sig
 on_row row pid (calls.SigAction sig action) = act row (act_on row.signals sig action)
-on_row row pid (calls.SigProcMask how set) = done (with_signals row (with_mask row.signals how set)) (replies.Bits row.signals.mask)
+on_row row pid (calls.SigProcMask how set) =
+    done (with_signals row (with_mask row.signals how set)) (replies.Bits row.signals.mask)
 on_row row pid calls.SigPending = done row (replies.Bits row.signals.pending)
 on_row row pid (calls.Handled sig) = done row (replies.Num (at row.signals.handled sig))
 on_row row pid (calls.WaitPid child nohang) = reap row (wait row.family child)

@@ -17,7 +17,8 @@ IsReadFault cause ReadFault = cause
 
 -- all that was left, or one byte more than the greatest script has
 abbrev pub AreScriptBytes : List ℕ → List ℕ → Type 0
-AreScriptBytes bytes left = ((bytes ≡ left) × (length left ≤ 1048576)) ⊎ ((1048576 < length left) × (bytes ≡ take 1048577 left))
+AreScriptBytes bytes left =
+    ((bytes ≡ left) × (length left ≤ 1048576)) ⊎ ((1048576 < length left) × (bytes ≡ take 1048577 left))
 
 -- What is left behind these bytes, where the source tells it: none where there were at most 1,048,576, and else those
 -- behind the first 1,048,577.

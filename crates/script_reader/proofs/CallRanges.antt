@@ -362,6 +362,7 @@ semaphore_fits o h c n k =
     (λ _. if_cond (bytes_eq c (codes "getzcnt")) (Some (calls.SemGetZcnt o.1 n)) None (IsOn o)
     (λ _. shared o (calls.SemGetZcnt o.1 n) h (place_fits o h n k) (either o.0) refl refl) (λ _. tt))))
 
+-- a number between two others passes the test
 pub between_from : (low high n : ℕ) → low ≤ n → n ≤ high → (leb low n && leb n high) ≡ true
 between_from low high n h k = and_from (leb low n) (leb n high) (le-leb low n h) (le-leb n high k)
 
@@ -448,17 +449,21 @@ semctl_fits (s ∷ more) room =
 
 -- ---- the table
 
+-- an `exit`, which no variable names
 abbrev pub IsExit : FromCall → Type 0
 IsExit c = Fits c × (c.0 ≡ None) × (model.is_exit c.1 ≡ true)
 
+-- `exit N` is within its range
 pub exits_fit : (ws : List (List ℕ)) → IfSome (forms.call_of verbs.Exit ws) IsExit
 exits_fit ws = exit_fits ws
 
+-- a call other than `fork` and `exit`
 abbrev pub NamesOther : Verb → Type 0
 NamesOther verbs.Fork = ⊥
 NamesOther verbs.Exit = ⊥
 NamesOther verb = Unit {0}
 
+-- each other call is within its ranges, in words that a line has room for
 pub others_fit : (verb : Verb) (ws : List (List ℕ)) → NamesOther verb → width ws ≤ 4097
     → IfSome (forms.call_of verb ws) IsOther
 others_fit verbs.Fork ws h room = tt

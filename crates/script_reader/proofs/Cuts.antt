@@ -94,6 +94,7 @@ unfolding words_in
 skip_blanks [] = refl
 skip_blanks (x ∷ xs) = blanks_step (is_blank x) x xs (position_or_len is_solid xs) refl (skip_blanks xs)
 
+-- a list of length 0 is empty
 pub empty_list : (xs : List ℕ) → length xs ≡ 0 → xs ≡ []
 empty_list [] e = refl
 empty_list (x ∷ xs) e = absurd (omega (arith, e))
@@ -207,6 +208,7 @@ next_of byte xs parts true t e =
     (ltb-true (position_or_len (λ b. eqb b byte) xs) (length xs) t))
 next_of byte xs parts false t e = absurd (none-some parts e)
 
+-- the first cut gives the first piece
 pub next_piece : (byte : ℕ) (xs piece rest : List ℕ) → Some (piece, rest) ≡ cut byte xs
     → pieces byte xs ≡ piece ∷ pieces byte rest
 unfolding cut pieces
@@ -217,6 +219,7 @@ no_cut : (o : Option ℕ) (f : ℕ → List ℕ × List ℕ) → option_map f o 
 no_cut None f e = refl
 no_cut (Some k) f e = absurd (none-some (f k) (sym e))
 
+-- without a cut the word is the one piece
 pub no_more_pieces : (byte : ℕ) (xs : List ℕ) → None ≡ cut byte xs → pieces byte xs ≡ xs ∷ []
 unfolding cut pieces
 no_more_pieces byte xs e = last_piece byte xs (no_cut (position (λ b. eqb b byte) xs) (around xs) (sym e))

@@ -9,6 +9,7 @@ use Rattle.std.proofs.lemmas.List.{map_push, append-nil, drop_all}
 use Rattle.script_reader.specs.Words.{texts}
 use Rattle.script_reader.specs.Parts.{◌>>=◌, each, signal, signals_with}
 
+-- one word more
 pub texts-push : (words : List (Bor (List ℕ))) (word : Bor (List ℕ))
     → texts (words ++ word ∷ []) ≡ texts words ++ word.now ∷ []
 texts-push words word = map_push (λ (w : Bor (List ℕ)). w.now) words word
@@ -26,24 +27,29 @@ pub texts-next : (words : List (Bor (List ℕ))) (i : ℕ) (d : Bor (List ℕ)) 
     → texts (drop i words) ≡ (get_or words i d).now ∷ texts (drop (i + 1) words)
 texts-next words i d h = let more : suc i ≡ i + 1 = omega arith in ap texts (drop-cons words i d h) ∙ rw (← more) refl
 
+-- no word is left past the last
 pub texts-none : (words : List (Bor (List ℕ))) (i : ℕ) → length words ≤ i → texts (drop i words) ≡ []
 texts-none words i h = ap texts (drop_all i words h)
 
+-- a word that is no signal
 pub signals-stuck : (set : PerSignal Bool) (all rest : List (List ℕ)) (x : List ℕ) → all ≡ x ∷ rest → signal x ≡ None
     → None ≡ signals_with set all
 unfolding signals_with
 signals-stuck set all rest x e g = rw (e, g) refl
 
+-- a signal that is there already
 pub signals-again : (set : PerSignal Bool) (all rest : List (List ℕ)) (x : List ℕ) (g : Sig) → all ≡ x ∷ rest
     → signal x ≡ Some g → at set g ≡ true → None ≡ signals_with set all
 unfolding signals_with
 signals-again set all rest x g e h there = rw (e, h, there) refl
 
+-- a signal that is new
 pub signals-goes : (set more : PerSignal Bool) (all rest : List (List ℕ)) (x : List ℕ) (g : Sig) → all ≡ x ∷ rest
     → signal x ≡ Some g → at set g ≡ false → more ≡ put_at set g true → signals_with more rest ≡ signals_with set all
 unfolding signals_with
 signals-goes set more all rest x g e h there same = rw (e, h, there, same) refl
 
+-- no word is left
 pub signals-done : (set : PerSignal Bool) (all : List (List ℕ)) → all ≡ [] → Some set ≡ signals_with set all
 unfolding signals_with
 signals-done set all e = rw e refl

@@ -28,6 +28,7 @@ targets lines = flat_map (λ line. fork_targets line.call) lines
 abbrev pub forks_of_lines : ℕ → List Line → List Fork
 forks_of_lines n lines = map (fork_from n) (targets lines)
 
+-- the forks of these blocks, the first of which has this number
 abbrev pub forks_from : ℕ → List Block → List Fork
 forks_from k blocks = flat_map (λ (b : ℕ × Block). forks_of_lines b.0 b.1.lines) (enumerate_from k blocks)
 
@@ -50,6 +51,7 @@ forks_push k n (b ∷ blocks) block e =
     ap (λ (r : List Fork). forks_of_lines k b.lines ++ r) (forks_push (k + 1) n blocks block (omega (arith, e)))
     ∙ sym (append_assoc (forks_of_lines k b.lines) (forks_from (k + 1) blocks) (forks_of_lines n block.lines))
 
+-- the forks of the whole blocks and of the open one
 abbrev pub forks_so_far : List Block → List Line → List Fork
 forks_so_far blocks lines = forks_from 1 blocks ++ forks_of_lines (length blocks + 1) lines
 
@@ -60,6 +62,7 @@ end_forks blocks name lines =
     append-nil (forks_from 1 (blocks ++ record { name = name; lines = lines } ∷ []))
     ∙ forks_push 1 (length blocks + 1) blocks (record { name = name; lines = lines }) same
 
+-- a call other than `fork` forks nothing
 pub no_targets : (line : Line) → model.is_fork line.call ≡ false → fork_targets line.call ≡ []
 no_targets line e = of line.call e
   where
@@ -86,9 +89,11 @@ fork_forks blocks lines line n e =
 
 -- ---- what stands, in a text of so many names
 
+-- a fork of a later block, up to this one
 abbrev pub goes_to : ℕ → Fork → Bool
 goes_to total fork = ltb fork.from fork.to && leb fork.to total
 
+-- a fork of this block
 abbrev pub is_to : ℕ → Fork → Bool
 is_to k fork = nat_eq fork.to k
 
@@ -171,6 +176,7 @@ opens_forked place number k false e low high is before f =
     ap (spec.is_at place.forked) (last ∙ sym is)
     ∙ either_way (spec.is_at place.forked number) (length place.blocks) k f low last
 
+-- each line without a fault keeps what stands of forks
 pub forked_step : (runnable : Bool) (names : List (List ℕ)) (place : Place) (size : ℕ) (o : Option (List ℕ))
     (said : Said) → length names ≤ 32 → IsTidy runnable place → AreForked (length names) place → IsFine names o said
     → IsFaultless runnable place size said → AreForked (length names) (spec.behind place said)
@@ -225,6 +231,7 @@ no_flag_of zero k = refl
 no_flag_of (suc n) zero = refl
 no_flag_of (suc n) (suc k) = no_flag_of n k
 
+-- before the first line nothing is forked
 pub first_forks : (names : ℕ) → AreForked names (start names)
 unfolding start no_flags
 first_forks names =

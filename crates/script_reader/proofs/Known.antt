@@ -184,6 +184,7 @@ pub record AreKnown (place : Place) : Type 0 where
 next_place : (n : ℕ) → 1 + n ≡ n + 1
 next_place n = omega arith
 
+-- a block begins with what was known behind its fork
 pub known_open : (place : Place) (name : List ℕ) (number : ℕ) → AreKnown place → place.lines ≡ []
     → number ≡ length place.blocks + 1 → AreKnown (spec.opened place name number)
 known_open place name number h none is =
@@ -199,6 +200,7 @@ known_open place name number h none is =
       begun = begun;
     }
 
+-- a whole block keeps what stands of variables
 pub known_end : (place : Place) (implied : ℕ) → AreKnown place → AreKnown (spec.ended place implied)
 known_end place implied h =
     let block : Block = record { name = place.name; lines = place.lines } in
@@ -245,6 +247,7 @@ begun_one_more blocks lines line =
     ∙ sym (append_assoc (begun_over [] 1 blocks) (model.begun_in (first_known blocks) lines)
     (begun_by (known_over (first_known blocks) lines) line))
 
+-- a call line keeps it
 pub known_call : (place : Place) (line : Line) → AreKnown place → place.inside ≡ true → fork_targets line.call ≡ []
     → spec.is_unset place line.from ≡ false → AreKnown (spec.calling place line)
 known_call place line h within quiet e =
@@ -262,6 +265,7 @@ known_call place line h within quiet e =
       begun = subst (AreBegun place.begun) (sym same) h.begun;
     }
 
+-- a line that forks keeps it
 pub known_fork : (place : Place) (set : Option ℕ) (n : ℕ) → AreKnown place → place.inside ≡ true → n ≤ 32
     → spec.node_of n ≡ n → AreKnown (spec.forking place set n)
 known_fork place set n h within small node =
@@ -288,6 +292,7 @@ known_fork place set n h within small node =
           (subst (AreBegun (place.begun ++ record { number = n; known = known } ∷ [])) (sym all) pushed);
     }
 
+-- before the first line no variable is known
 pub first_place_known : (names : ℕ) → AreKnown (start names)
 unfolding start
 first_place_known names =

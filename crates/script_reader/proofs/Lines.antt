@@ -30,6 +30,7 @@ none_within : (o : Bool) (i : ℕ) → cond o (Some i) None ≡ None → o ≡ f
 none_within true i e = absurd cc
 none_within false i e = refl
 
+-- the first line feed ends the first line
 pub lines_of-at : (xs : List ℕ) (i : ℕ) → position is_feed xs ≡ Some i
     → lines_of xs ≡ take i xs ∷ lines_of (drop (i + 1) xs)
 lines_of-at xs i e =
@@ -52,9 +53,11 @@ Plain-none xs e =
     (All-from_get_or (λ b. eqb b 10 ≡ false) xs 0
     (λ k lt. not-true _ (prefix_len_passes (λ b. not (is_feed b)) xs k 0 (omega arith))))
 
+-- a length that is not 0 is above it
 pub some_from_not_empty : (n : ℕ) → eqb n 0 ≡ false → 0 < n
 some_from_not_empty n e = grind (arith, eqb-false)
 
+-- without a line feed the bytes are one line
 pub lines_of-none : (xs : List ℕ) → position is_feed xs ≡ None → 0 < length xs → lines_of xs ≡ xs ∷ []
 lines_of-none [] e some = absurd (omega arith)
 lines_of-none (x ∷ xs) e some = lines_of-plain x xs (Plain-none (x ∷ xs) e)

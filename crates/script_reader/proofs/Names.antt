@@ -10,6 +10,7 @@ position_or_len-map : {A B : Type 0} (f : A → B) (p : B → Bool) (xs : List A
 position_or_len-map f p [] = refl
 position_or_len-map f p (x ∷ xs) = rw (position_or_len-map f p xs) refl
 
+-- a place is found through a function
 pub position-map : {A B : Type 0} (f : A → B) (p : B → Bool) (xs : List A) (ys : List B) → map f xs ≡ ys
     → position (λ x. p (f x)) xs ≡ position p ys
 position-map f p xs ys e = rw (← e, position_or_len-map f p xs, length-map xs f) refl

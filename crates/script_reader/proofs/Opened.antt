@@ -18,26 +18,31 @@ use Rattle.script_reader.proofs.Steps.{IsFaultless}
 
 -- ---- tests that fail
 
+-- an `or` that fails, fails at both
 pub neither : (a b : Bool) → (a || b) ≡ false → (a ≡ false) × (b ≡ false)
 neither false b e = (refl, e)
 neither true b e = absurd cc
 
+-- an `and` that fails, fails at the first where the second passes
 pub not_both : (a b : Bool) → (a && b) ≡ false → b ≡ true → a ≡ false
 not_both false b e t = refl
 not_both true b e t = absurd cc
 
+-- what is not false is true
 pub not_false : (a : Bool) → not a ≡ false → a ≡ true
 not_false true e = refl
 not_false false e = absurd cc
 
 -- ---- names and their numbers
 
+-- the names of blocks
 abbrev pub block_names : List Block → List (List ℕ)
 block_names blocks = map (λ (b : Block). b.name) blocks
 
 abbrev pub open_names : Bool → List ℕ → List (List ℕ)
 open_names inside name = cond inside (name ∷ []) []
 
+-- names whose numbers rise from this one
 abbrev pub AreNumbered : List (List ℕ) → ℕ → List (List ℕ) → Type 0
 AreNumbered names k [] = Unit {0}
 AreNumbered names k (x ∷ xs) = (number_of names x ≡ Some k) × AreNumbered names (k + 1) xs
@@ -136,12 +141,14 @@ ended_names names so_far place implied h in_block =
       few = h.few;
     }
 
+-- true is not false
 pub not_true : true ≡ false → ⊥
 not_true e = cc
 
 same_number : (n k : ℕ) → not (eqb n k) ≡ false → n ≡ k
 same_number n k e = eqb-true n k (not_false (eqb n k) e)
 
+-- a block that opens without a fault has the next number, at most 32
 pub number_here : (runnable : Bool) (place : Place) (size : ℕ) (name : List ℕ) (number : ℕ)
     → IsFaultless runnable place size (Opens name number) → (place.inside ≡ false) × (number ≡ length place.blocks + 1)
     × (number ≤ 32)
@@ -152,6 +159,7 @@ number_here runnable place size name number f =
     (neither (not (eqb number (length place.blocks + 1))) (place.over && false) f.good).0 in
     (out, n, omega (arith, n, ltb-false 32 (length place.blocks + 1) f.few_procs))
 
+-- each line without a fault keeps the names of the blocks those of the text so far
 pub names_step : (runnable : Bool) (names so_far : List (List ℕ)) (place : Place) (size : ℕ) (o : Option (List ℕ))
     (said : Said) → AreOpened names so_far place → IsFine names o said
     → ((x : List ℕ) → o ≡ Some x → said ≡ proc_from (number_of names x) x) → IsFaultless runnable place size said

@@ -18,6 +18,7 @@ onto_closed : (so_far : List ℕ) (c : Bool)
 onto_closed so_far false = refl
 onto_closed so_far true = ap Some (append-nil so_far)
 
+-- one byte more
 pub quoted-goes : (so_far rest after : List ℕ) (n b : ℕ) → 0 < n → Some (b, after) ≡ text_byte_at rest
     → option_map (λ more. so_far ++ more) (quoted_at n rest)
     ≡ option_map (λ more. (so_far ++ b ∷ []) ++ more) (quoted_at (n - 1) after)
@@ -27,12 +28,14 @@ quoted-goes so_far rest after (suc n) b some e =
     let same : suc n - 1 ≡ n = omega arith in
     rw (← e, same) (onto_byte so_far b (quoted_at n after))
 
+-- no byte is next
 pub quoted-ends : (so_far rest : List ℕ) (n : ℕ) → text_byte_at rest ≡ None
     → option_map (λ more. so_far ++ more) (quoted_at n rest) ≡ closed_at so_far rest
 unfolding quoted_at
 quoted-ends so_far rest zero e = onto_closed so_far (bytes_eq rest (codes "\""))
 quoted-ends so_far rest (suc n) e = rw e (onto_closed so_far (bytes_eq rest (codes "\"")))
 
+-- no byte is left
 pub quoted-full : (so_far rest : List ℕ) (n : ℕ) → n ≡ 0
     → option_map (λ more. so_far ++ more) (quoted_at n rest) ≡ closed_at so_far rest
 unfolding quoted_at
@@ -82,6 +85,7 @@ plain_text : (xs : List ℕ) → IsPlainText xs (position_or_len is_other xs)
 plain_text [] n h e = cc
 plain_text (b ∷ xs) n h e = plain_step (is_text_byte b) b xs (position_or_len is_other xs) n refl (plain_text xs) h e
 
+-- the bytes before the closing quote, where each stands for itself
 pub quoted_at_once : (xs front rest : List ℕ) (k : ℕ) → k ≡ position_or_len is_other xs → k ≤ length xs
     → front ≡ take k xs → rest ≡ drop k xs → bytes_eq rest (codes "\"") ≡ true → Some front ≡ quoted_at (length xs) xs
 quoted_at_once xs front rest k is within f r e =

@@ -16,24 +16,29 @@ use Rattle.script_reader.specs.Forms.{Object, FromCall, identifier, process, chi
 
 -- ---- options
 
+-- what holds of a value, if there is one, passes through a step
 pub if_bind : {A B : Type 0} (o : Option A) (f : A → Option B) (P : A → Type 0) (Q : B → Type 0) → IfSome o P
     → ((x : A) → P x → IfSome (f x) Q) → IfSome (o >>= f) Q
 if_bind None f P Q h g = tt
 if_bind (Some x) f P Q h g = g x h
 
+-- it passes through a function
 pub if_map : {A B : Type 0} (o : Option A) (f : A → B) (P : A → Type 0) (Q : B → Type 0) → IfSome o P
     → ((x : A) → P x → Q (f x)) → IfSome (option_map f o) Q
 if_map None f P Q h g = tt
 if_map (Some x) f P Q h g = g x h
 
+-- it passes through a test
 pub if_cond : {A : Type 0} (b : Bool) (x y : Option A) (Q : A → Type 0) → (b ≡ true → IfSome x Q)
     → (b ≡ false → IfSome y Q) → IfSome (cond b x y) Q
 if_cond true x y Q f g = f refl
 if_cond false x y Q f g = g refl
 
+-- nothing is asked
 abbrev pub Anything : {A : Type 0} → A → Type 0
 Anything x = Unit {0}
 
+-- and that always holds
 pub anything : {A : Type 0} (o : Option A) → IfSome o Anything
 anything None = tt
 anything (Some x) = tt
@@ -50,6 +55,7 @@ digits_small limit value (b ∷ w) h =
     (leb-true (value * 10 + (b - 48)) limit (and_parts (parts.is_digit b) (leb (value * 10 + (b - 48)) limit) t).1))
     (λ _. tt)
 
+-- a number is at most its limit
 pub number_small : (limit : ℕ) (w : List ℕ) → IfSome (number limit w) (λ n. n ≤ limit)
 unfolding number
 number_small limit [] = tt
@@ -58,6 +64,7 @@ number_small limit (b ∷ c ∷ w) =
     if_cond (eqb b 48) None (digits limit 0 (b ∷ c ∷ w)) (λ n. n ≤ limit) (λ _. tt)
     (λ _. digits_small limit 0 (b ∷ c ∷ w) (omega arith))
 
+-- a positive number is between 1 and its limit
 pub positive_small : (limit : ℕ) (w : List ℕ) → IfSome (positive limit w) (λ n. (1 ≤ n) × (n ≤ limit))
 unfolding positive
 positive_small limit w =
@@ -79,10 +86,12 @@ signed_from_small limit (Some d) w =
     if_map (positive limit d) (λ n. negsuc (n - 1)) (λ n. (1 ≤ n) × (n ≤ limit)) (IsWithin limit)
     (positive_small limit d) (λ n h. omega (arith, h.0, h.1))
 
+-- a signed number is within its limit
 pub signed_small : (limit : ℕ) (w : List ℕ) → IfSome (signed limit w) (IsWithin limit)
 unfolding signed
 signed_small limit w = signed_from_small limit (parts.strip (codes "-") w) w
 
+-- a type of a message is within its range
 pub is_type_from : (z : ℤ) → IsWithin 2147483647 z → model.is_type z ≡ true
 is_type_from (pos n) h = le-leb n 2147483647 h
 is_type_from (negsuc n) h = and_from (leb n 2147483646) true (le-leb n 2147483646 (omega (arith, h))) refl
@@ -95,6 +104,7 @@ letter_small b e = omega (arith, leb-true b 122 (and_parts (leb 97 b) (leb b 122
 digit_small : (b : ℕ) → parts.is_digit b ≡ true → b - 48 ≤ 9
 digit_small b e = omega (arith, leb-true b 57 (and_parts (leb 48 b) (leb b 57) e).1)
 
+-- a variable has an index of at most 2,885
 pub variable_small : (w : List ℕ) → IfSome (variable w) (λ v. v ≤ 2885)
 unfolding variable
 variable_small [] = tt
@@ -137,6 +147,7 @@ identifier_from None w =
     if_map (number 4294967295 w) (λ n. (None, n)) (λ n. n ≤ 4294967295) IsObject (number_small 4294967295 w)
     (λ n h. record { small = as_u32 n h; variable = refl })
 
+-- an identifier is a u32, or a variable
 pub identifier_small : (w : List ℕ) → IfSome (identifier w) IsObject
 unfolding identifier
 identifier_small w = identifier_from (parts.strip (codes "$") w) w
@@ -150,6 +161,7 @@ process_from None w =
     (positive_small 4294967295 w)
     (λ n h. record { object = record { small = as_u32 n h.1; variable = refl }; some = λ e. h.0 })
 
+-- a process number is a u32 of at least 1, or a variable
 pub process_small : (w : List ℕ) → IfSome (process w) IsProcess
 unfolding process
 process_small w = process_from (parts.strip (codes "$") w) w

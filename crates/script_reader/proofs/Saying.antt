@@ -252,6 +252,7 @@ words_fine names o (w ∷ ws) e room =
     fine_cond names o (says.is_comment w) Skipped (cond (bytes_eq w (codes "proc")) (says.proc_said names ws) rest)
     (λ _. tt) inner
 
+-- what a line of at most 4,096 bytes says is within its ranges
 pub said_fine : (names : List (List ℕ)) (line : List ℕ) → length line ≤ 4096
     → IsFine names (says.opening_at line) (said_of names line)
 said_fine names line h =
@@ -282,6 +283,7 @@ words_open names (w ∷ name ∷ []) x e =
     two_words names w name x (bytes_eq w (codes "proc")) (model.is_name name) refl refl e
 words_open names (w ∷ name ∷ v ∷ ws) x e = absurd (none-some x e)
 
+-- a line with a name opens its block
 pub opening_said : (names : List (List ℕ)) (line x : List ℕ) → says.opening_at line ≡ Some x
     → said_of names line ≡ says.proc_from (number_of names x) x
 opening_said names line x e = words_open names (words_of line) x e

@@ -290,11 +290,13 @@ reads_ready runnable bytes script e =
     let b = not_first_cond (ltb (utf8_valid_len bytes) (length bytes)) (Err bad) whole script (no_script bad) a in
     read_of runnable (blocks_of runnable (lines_of bytes)) script (λ bs is. ready runnable (lines_of bytes) bs is) b
 
+-- a script that is given is sound
 pub given_sound : (runnable : Bool) (bytes : List ℕ) (r : Result Script ScriptStop)
     → spec.Gives r (outcome runnable bytes) → IfOk r IsSoundScript
 given_sound runnable bytes (Ok script) h = (reads_ready runnable bytes script h).0
 given_sound runnable bytes (Err stop) h = tt
 
+-- one that is given as runnable is so
 pub given_runnable : (bytes : List ℕ) (r : Result Script ScriptStop) → spec.Gives r (outcome true bytes)
     → IfOk r IsRunnable
 given_runnable bytes (Ok script) h = (reads_ready true bytes script h).1 refl

@@ -21,6 +21,7 @@ use Rattle.script_reader.proofs.Opened.{neither, not_both, inside_of, number_her
 
 -- ---- one item more
 
+-- a test that all items pass, and one more
 pub all_push : {A : Type 0} (test : A → Bool) (xs : List A) (x : A) → list_all test xs ≡ true → test x ≡ true
     → list_all test (xs ++ x ∷ []) ≡ true
 all_push test xs x h k = list_all-append test xs (x ∷ []) ∙ rw (h, k) refl
@@ -205,6 +206,7 @@ fork_is_line : (set : Option ℕ) (number : ℕ) → model.is_variable set ≡ t
 fork_is_line None number h = refl
 fork_is_line (Some v) number h = rw h refl
 
+-- each line without a fault keeps what stands of lines and calls
 pub tidy_step : (runnable : Bool) (names : List (List ℕ)) (place : Place) (size : ℕ) (o : Option (List ℕ)) (said : Said)
     → IsTidy runnable place → IsFine names o said → IsFaultless runnable place size said
     → IsTidy runnable (spec.behind place said)

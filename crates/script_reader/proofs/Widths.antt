@@ -47,6 +47,7 @@ words_width plain (b ∷ bytes) =
 words_width quoted (b ∷ bytes) =
     onto_width b (length bytes) (words_in (leaving b) bytes) (words_width (leaving b) bytes)
 
+-- the words of a line have room in it
 pub line_width : (line : List ℕ) → width (words_of line) ≤ length line + 1
 line_width line = words_width between line
 
@@ -92,10 +93,12 @@ module _ {A B : Type 0} (f : A → Option B) where
       (λ y _. if_map (each f xs) (λ ys. y ∷ ys) (λ ys. length ys ≡ length xs) (λ ys. length ys ≡ length (x ∷ xs))
       (each_length xs) (λ ys e. ap suc e))
 
+-- two facts of one value
 pub if_both : {A : Type 0} (o : Option A) (P Q : A → Type 0) → IfSome o P → IfSome o Q → IfSome o (λ x. P x × Q x)
 if_both None P Q h k = tt
 if_both (Some x) P Q h k = (h, k)
 
+-- a word has at least one piece
 pub pieces_some : (byte : ℕ) (w : List ℕ) → 1 ≤ length (pieces byte w)
 unfolding pieces
 pieces_some byte w = omega (arith, length-slice_split (λ b. eqb b byte) w)
@@ -179,6 +182,7 @@ step_wide w =
     (added_wide p.1)
     (λ a k. (omega (arith, split, n.0, k.0), in_range_from num a.0 a.1 n.1 k.1))))
 
+-- operations have at least three bytes each
 pub steps_wide : (ws : List (List ℕ)) → IfSome (each step ws) (Passes step model.is_step_in_range 3 (width ws))
 steps_wide ws = each_wide step model.is_step_in_range 3 step_wide ws
 
@@ -190,6 +194,7 @@ value_wide w = weaker (number 65535 w) (number_wide 65535 w)
     weaker None h = tt
     weaker (Some n) h = (h.0, le-leb n 65535 h.1)
 
+-- values have at least one byte each
 pub values_wide : (w : List ℕ) → IfSome (values w) (λ vs. (length vs * 2 ≤ length w + 1) × (list_all is_u16 vs ≡ true))
 unfolding values pieces
 values_wide w = weaker (each (number 65535) (pieces 44 w)) (each_wide (number 65535) is_u16 1 value_wide (pieces 44 w))
@@ -371,12 +376,12 @@ quoted_spelled n bytes h = of (quoted_at n bytes) (quoted_short n bytes)
     of None k = tt
     of (Some t) k = spelled_from bytes t h k
 
-strip_shorter : (w : List ℕ) → IfSome (parts.strip (codes "\"") w) (λ rest. length rest + 1 ≤ length w + 0)
+strip_shorter : (w : List ℕ) → IfSome (parts.strip (codes "\"") w) (λ rest. length rest + 1 ≤ length w)
 unfolding parts.strip
 strip_shorter [] = tt
 strip_shorter (b ∷ w) =
     if_cond (bytes_eq (take 1 (b ∷ w))
-    (codes "\"")) (Some (drop 1 (b ∷ w))) None (λ rest. length rest + 1 ≤ length (b ∷ w) + 0) (λ _. omega arith) (λ _. tt)
+    (codes "\"")) (Some (drop 1 (b ∷ w))) None (λ rest. length rest + 1 ≤ length (b ∷ w)) (λ _. omega arith) (λ _. tt)
 
 text_of_spelled : (o : Option (List ℕ)) (q : Option (List ℕ)) → IfSome q (λ rest. length rest ≤ 4095)
     → IfSome (parts.text_from o q) IsSpelled
@@ -384,12 +389,13 @@ text_of_spelled (Some w) q h = repetition_spelled w
 text_of_spelled None None h = tt
 text_of_spelled None (Some bytes) h = quoted_spelled (length bytes) bytes h
 
+-- a text of a word has a spelling
 pub text_spelled : (w : List ℕ) → length w ≤ 4096 → IfSome (text w) IsSpelled
 unfolding text
 text_spelled w h = text_of_spelled (parts.strip (codes "rep:") w)
     (parts.strip (codes "\"") w) (of (parts.strip (codes "\"") w) (strip_shorter w))
   where
-    of : (o : Option (List ℕ)) → IfSome o (λ rest. length rest + 1 ≤ length w + 0)
+    of : (o : Option (List ℕ)) → IfSome o (λ rest. length rest + 1 ≤ length w)
         → IfSome o (λ rest. length rest ≤ 4095)
     of None k = tt
     of (Some rest) k = omega (arith, h, k)
