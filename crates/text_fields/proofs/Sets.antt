@@ -1,5 +1,5 @@
 -- Names and sets of signals: a spelling is read, with what follows it.
-use Rattle.std.proofs.Common.{◌≡◌, ℕ, suc, ◌≤◌, Bool, true, false, cond, List, [], ◌∷◌, ◌++◌, length, Option, Some, None, refl, sym, ap, ◌∙◌, append_assoc, arith}
+use Rattle.std.proofs.Common.{◌≡◌, ℕ, ◌≤◌, Bool, true, false, cond, List, [], ◌∷◌, ◌++◌, length, Some, None, refl, ap, ◌∙◌, append_assoc, arith}
 use Rattle.std.specs.Prelude.{codes, fold}
 use Rattle.std.specs.List.{AllByRecursion, flat_map, filter}
 use Rattle.pico_base.specs.declared.signal.Sig.{Sig}
@@ -15,7 +15,7 @@ use Rattle.pico_base.specs.declared.reply.Errno.{Errno}
 use Rattle.pico_base.specs.declared.reply.Errno.TheVariants.{Esrch, Einval, Echild, Enoent, Eexist, Enomsg, Eagain, E2big, Efbig, Erange, Eidrm, Eintr}
 use Rattle.pico_base.specs.Signal.{at, put_at, everywhere, all_signals}
 use Rattle.kernel_model.specs.Trace.{signal_name, signal_argument, action_name, how_name, error_name, signals_text, set_text}
-use Rattle.text_fields.specs.Fields.{strip, named_at, signal_at, argument_at, action_at, how_at, error_at, all_at, behind_comma, joined_at, with_signals, set_from, set_at}
+use Rattle.text_fields.specs.Fields.{strip, named_at, signal_at, argument_at, action_at, how_at, error_at, all_at, behind_comma, joined_at, set_at}
 use Rattle.text_fields.proofs.Many.{many-again, parts-room}
 
 pub signal_again : (g : Sig) (rest : List ℕ) → signal_at (signal_name g ++ rest) ≡ Some (g, rest)

@@ -1,14 +1,13 @@
 -- Texts, operations, values and sets: a spelling is read, with what follows it.
-use Rattle.std.proofs.Common.{◌≡◌, ◌⊎◌, inl, inr, ℕ, zero, suc, ◌+◌, ◌-◌, ◌*◌, ◌/◌, ◌%◌, ◌≤◌, ◌<◌, ℤ, pos, negsuc, Bool, true, false, ◌&&◌, ◌||◌, not, cond, eqb, leb, ltb, List, [], ◌∷◌, ◌++◌, length, replicate, Option, Some, None, refl, sym, ap, subst, ◌∙◌, append_assoc, arith}
+use Rattle.std.proofs.Common.{◌≡◌, inl, inr, ℕ, suc, ◌+◌, ◌-◌, ◌*◌, ◌/◌, ◌%◌, ◌≤◌, Bool, true, false, ◌&&◌, cond, eqb, leb, List, [], ◌∷◌, ◌++◌, length, replicate, Some, None, refl, sym, ap, ◌∙◌, append_assoc, arith}
 use Rattle.std.specs.Prelude.{codes, decimal}
 use Rattle.std.specs.Fmt.{signed_decimal}
 use Rattle.std.specs.List.{AllByRecursion, flat_map, list_all}
-use Rattle.std.proofs.lemmas.Bool.{and_parts, and_from, leb-true, le-leb, lt-ltb, le-ltb, eqb-true, ne_eqb, cases_lt}
-use Rattle.std.proofs.lemmas.List.{length-append}
+use Rattle.std.proofs.lemmas.Bool.{and_parts, lt-ltb, le-ltb, eqb-true, cases_lt}
 use Rattle.pico_base.specs.declared.call.SemStep.{SemStep}
-use Rattle.kernel_model.specs.Trace.{step_text, commas, values_text}
+use Rattle.kernel_model.specs.Trace.{step_text, values_text}
 use Rattle.kernel_model.specs.Texts.{hex_digit, is_plain, escape, quoted_text, is_repeated, repeated_text, message_text, is_letter_or_digit}
-use Rattle.text_fields.specs.Fields.{strip, is_digit, is_text_byte, digit_at, number_at, signed_at, hex_at, escape_at, text_byte_at, closed_of, quoted_at, repeated_at, repetition_at, text_at, flag_at, step_at, all_at, many, in_front, behind_comma, joined_at, values_at}
+use Rattle.text_fields.specs.Fields.{strip, is_digit, digit_at, number_at, hex_at, escape_at, text_byte_at, quoted_at, repeated_at, repetition_at, text_at, flag_at, step_at, all_at, behind_comma, values_at}
 use Rattle.text_fields.proofs.Chains.{between_true, between_from}
 use Rattle.text_fields.proofs.Strips.{strip_again}
 use Rattle.text_fields.proofs.Numerals.{front_number_again, signed_again, IsWithin}

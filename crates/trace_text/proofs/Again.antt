@@ -1,6 +1,6 @@
 -- Each trace within the limits is read as its history.
-use Rattle.std.proofs.Common.{◌≡◌, ◌⊎◌, inl, inr, ◌∙◌, ℕ, zero, suc, ◌+◌, ◌-◌, ◌≤◌, ◌<◌, Bool, true, false, not, ◌&&◌, cond, leb, ltb, eqb, List, [], ◌∷◌, ◌++◌, length, take, drop, get_or, Option, Some, None, refl, sym, ap, subst, append_assoc, arith}
-use Rattle.std.specs.Prelude.{codes, decimal, position, option_map, Result, Ok, Err}
+use Rattle.std.proofs.Common.{◌≡◌, ◌⊎◌, inl, inr, ◌∙◌, ℕ, ◌+◌, ◌-◌, ◌≤◌, ◌<◌, Bool, true, false, not, leb, ltb, eqb, List, [], ◌∷◌, ◌++◌, length, drop, get_or, Option, Some, refl, sym, ap, subst, append_assoc, arith}
+use Rattle.std.specs.Prelude.{codes, decimal, position, Result, Ok, Err}
 use Rattle.std.specs.List.{flat_map, list_all, position_or_len, count_by, sum_by}
 use Rattle.std.proofs.lemmas.Bool.{and_parts, and_from, leb-true, le-leb, lt-ltb}
 use Rattle.std.proofs.lemmas.List.{append-nil, length-append, take_at, drop_at}
@@ -15,10 +15,10 @@ use Rattle.text_fields.proofs.Numerals.{decimal_first}
 use Rattle.trace_text.specs.declared.fault.CheckFault.{CheckFault}
 use Rattle.trace_text.specs.declared.fault.CheckFault.TheVariants.{Memory, NotATrace, Illegal, NotTheScript}
 use Rattle.trace_text.specs.Grammar.{is_entry}
-use Rattle.trace_text.specs.Reading.{has_ended, is_line, entry_in}
-use Rattle.trace_text.specs.Read.{has_line, BeginsWith, IsTraceOf, next_line, fits, begins_like_totals, read_from, read_of, Gives}
+use Rattle.trace_text.specs.Reading.{is_line}
+use Rattle.trace_text.specs.Read.{has_line, IsTraceOf, next_line, fits, begins_like_totals, read_from, read_of, Gives}
 use Rattle.trace_text.proofs.CallText.{position-is}
-use Rattle.trace_text.proofs.EntryLaws.{IsAlone, is-alone, line_of, line-is, line-again, entry-reads}
+use Rattle.trace_text.proofs.EntryLaws.{is-alone, line_of, line-is, line-again, entry-reads}
 use Rattle.trace_text.proofs.Feeds.{IsFree, is_other, both, behind, number, call, reply}
 use Rattle.trace_text.proofs.ReadLaws.{no-totals, read-whole, read-goes}
 use Rattle.trace_text.proofs.Whole.{is_feed}

@@ -1,9 +1,8 @@
 -- Each call's text, and then ` =`, is read as that call.
-use Rattle.std.proofs.Common.{◌≡◌, ◌⊎◌, inl, inr, ℕ, suc, ◌+◌, ◌≤◌, ◌<◌, ℤ, Bool, true, false, ◌&&◌, not, leb, ltb, List, [], ◌∷◌, ◌++◌, length, Option, Some, None, is_some, refl, sym, ap, ◌∙◌, append_assoc, arith}
+use Rattle.std.proofs.Common.{◌≡◌, ℕ, ◌≤◌, ℤ, Bool, true, false, List, [], ◌∷◌, ◌++◌, Some, None, refl, ◌∙◌, arith}
 use Rattle.std.specs.Prelude.{codes, decimal}
 use Rattle.std.specs.Fmt.{signed_decimal}
-use Rattle.std.specs.List.{AllByRecursion, flat_map, list_all}
-use Rattle.std.proofs.lemmas.Bool.{and_parts}
+use Rattle.std.specs.List.{AllByRecursion, flat_map}
 use Rattle.pico_base.specs.declared.call.Call.{Call}
 use Rattle.pico_base.specs.declared.call.Call.TheVariants as calls
 use Rattle.pico_base.specs.declared.call.SemStep.{SemStep}
@@ -12,8 +11,6 @@ use Rattle.pico_base.specs.declared.signal.How.{How}
 use Rattle.pico_base.specs.declared.signal.PerSignal.{PerSignal}
 use Rattle.pico_base.specs.declared.signal.Sig.{Sig}
 use Rattle.pico_base.specs.declared.signal.SigArg.{SigArg}
-use Rattle.kernel_model.specs.Numbers.{is_u16, is_u32}
-use Rattle.kernel_model.specs.Script.{is_type, is_step_in_range}
 use Rattle.kernel_model.specs.Texts.{message_text}
 use Rattle.kernel_model.specs.Trace.{signal_name, signal_argument, action_name, how_name, set_text, word, create_words, step_text, values_text}
 use Rattle.text_fields.specs.Fields.{strip, digit_at, flag_at}
@@ -21,7 +18,6 @@ use Rattle.text_fields.proofs.Strips.{strip_again}
 use Rattle.text_fields.proofs.Numerals.{IsWithin, front_number_again, signed_again}
 use Rattle.text_fields.proofs.Sets.{signal_again, argument_again, action_again, how_again, set_again}
 use Rattle.text_fields.proofs.Spelled.{IsStep, text_again, steps_again, values_again}
-use Rattle.trace_text.specs.Grammar.{is_text}
 use Rattle.trace_text.specs.Reading.{exit_at, killed_at, handled_at, kill_at, sigaction_at, sigprocmask_at, child_at, waitpid_at, options_at, msgget_key_at, msgget_at, object_at, msgsnd_at, msgrcv_at, msgset_at, queue_command_at, msgctl_at, semget_key_at, semget_private_at, semget_at, semop_at, semaphore_at, setval_at, setall_at, set_command_at, semctl_at}
 use Rattle.trace_text.proofs.Ranges.{IsTextInRange, no-word}
 

@@ -1,9 +1,9 @@
 -- A call in the grammar is read from its text.
-use Rattle.std.proofs.Common.{◌≡◌, ◌≢◌, ◌⊎◌, inl, inr, ℕ, zero, suc, ◌+◌, ◌-◌, ◌≤◌, ◌<◌, ℤ, Bool, true, false, ◌&&◌, not, ◌||◌, leb, ltb, eqb, List, [], ◌∷◌, ◌++◌, length, Option, Some, None, is_some, refl, sym, ap, ◌∙◌, append_assoc, arith}
+use Rattle.std.proofs.Common.{◌≡◌, ℕ, zero, suc, ◌+◌, ◌-◌, ◌≤◌, ◌<◌, Bool, true, false, ◌&&◌, not, ◌||◌, leb, ltb, eqb, List, [], ◌∷◌, ◌++◌, length, Option, Some, None, is_some, refl, sym, ap, ◌∙◌, append_assoc, arith}
 use Rattle.std.specs.Prelude.{codes, decimal, position, bytes_eq, slice_get, option_map}
 use Rattle.std.specs.Fmt.{signed_decimal}
-use Rattle.std.specs.List.{AllByRecursion, flat_map, list_all, list_any, position_or_len}
-use Rattle.std.proofs.lemmas.Bool.{and_parts, and_from, leb-true, lt-ltb, eqb-true}
+use Rattle.std.specs.List.{flat_map, list_all, list_any, position_or_len}
+use Rattle.std.proofs.lemmas.Bool.{and_parts, and_from, leb-true, lt-ltb}
 use Rattle.std.proofs.lemmas.List.{take_at, drop_at, length-append}
 use Rattle.std.proofs.lemmas.Slice.Eq.{bytes_eq-Decides}
 use Rattle.pico_base.specs.declared.call.Call.{Call}
@@ -14,9 +14,8 @@ use Rattle.kernel_model.specs.Fitting.{block_at}
 use Rattle.kernel_model.specs.Numbers.{is_u16, is_u32}
 use Rattle.kernel_model.specs.Script.{IsSoundScript, is_name, is_name_byte, is_lower, is_same, names_differ, is_type, is_step_in_range, is_place}
 use Rattle.kernel_model.specs.Texts.{message_text}
-use Rattle.kernel_model.specs.Trace.{call_text, name_of_block, signal_name, signal_argument, action_name, how_name, set_text, word, create_words, step_text, values_text}
-use Rattle.text_fields.specs.Fields.{◌>>=◌, strip, word_length, word_at}
-use Rattle.text_fields.proofs.Strips.{strip_again}
+use Rattle.kernel_model.specs.Trace.{call_text, name_of_block, signal_argument, action_name, how_name, set_text, word, create_words, step_text, values_text}
+use Rattle.text_fields.specs.Fields.{strip, word_length, word_at}
 use Rattle.text_fields.proofs.Spelled.{IsStep}
 use Rattle.trace_text.specs.Grammar.{is_call, is_text, is_block}
 use Rattle.trace_text.specs.Reading.{verb_of, block_named, fork_at, exit_at, killed_at, handled_at, kill_at, sigaction_at, sigprocmask_at, waitpid_at, msgget_at, msgsnd_at, msgrcv_at, msgctl_at, semget_at, semop_at, semctl_at, call_at}

@@ -1,11 +1,10 @@
 -- A line is read exactly where it is the text of an entry in the grammar, as that entry.
-use Rattle.std.proofs.Common.{◌≡◌, ℕ, zero, suc, ◌+◌, ◌≤◌, Bool, true, false, ◌&&◌, cond, leb, eqb, List, [], ◌∷◌, ◌++◌, length, Option, Some, None, refl, sym, ap, ◌∙◌, append_assoc, subst, arith}
+use Rattle.std.proofs.Common.{◌≡◌, ℕ, ◌≤◌, true, false, ◌&&◌, leb, eqb, List, [], ◌∷◌, ◌++◌, length, Option, Some, None, refl, sym, ap, ◌∙◌, append_assoc, arith}
 use Rattle.std.specs.Prelude.{codes, decimal, bytes_eq}
-use Rattle.std.specs.List.{flat_map}
 use Rattle.std.specs.Option.{option_map_or}
-use Rattle.std.proofs.lemmas.Bool.{and_parts, and_from, leb-true, le-leb, eqb-true}
+use Rattle.std.proofs.lemmas.Bool.{and_parts, leb-true, le-leb, eqb-true}
 use Rattle.std.proofs.lemmas.List.{append-nil}
-use Rattle.std.proofs.lemmas.Option.{same_Some, none-some}
+use Rattle.std.proofs.lemmas.Option.{same_Some}
 use Rattle.std.proofs.lemmas.Slice.Eq.{bytes_eq-Decides}
 use Rattle.pico_base.specs.declared.call.Call.{Call}
 use Rattle.pico_base.specs.declared.reply.Entry.{Entry}
@@ -16,12 +15,12 @@ use Rattle.kernel_model.specs.Effect.{reply_alone}
 use Rattle.kernel_model.specs.Numbers.{is_u32, is_between}
 use Rattle.kernel_model.specs.Script.{IsSoundScript}
 use Rattle.kernel_model.specs.Trace.{call_text, reply_text, entry_line}
-use Rattle.text_fields.specs.Fields.{◌>>=◌, strip, digit_at, number_at}
+use Rattle.text_fields.specs.Fields.{strip, digit_at, number_at}
 use Rattle.text_fields.proofs.Chains.{bind_some, chosen}
 use Rattle.text_fields.proofs.Strips.{strip_takes, strip_again}
 use Rattle.text_fields.proofs.Numerals.{front_number_again}
 use Rattle.trace_text.specs.Grammar.{is_call, is_reply, is_own, is_outcome, is_entry}
-use Rattle.trace_text.specs.Reading.{has_ended, made_at, by_at, entry_of, replied_at, entry_at, is_line, entry_if, entry_in, reply_at}
+use Rattle.trace_text.specs.Reading.{made_at, by_at, entry_of, replied_at, entry_at, is_line, entry_if, entry_in}
 use Rattle.trace_text.proofs.Ranges.{u32-bound}
 use Rattle.trace_text.proofs.CallText.{call-again}
 use Rattle.trace_text.proofs.ReplyLaws.{reply-again}

@@ -1,6 +1,6 @@
 -- No line that is printed has a line feed but its last byte.
-use Rattle.std.proofs.Common.{◌≡◌, ◌⊎◌, inl, inr, ◌∙◌, ℕ, zero, suc, ◌+◌, ◌-◌, ◌/◌, ◌%◌, ◌≤◌, ◌<◌, ℤ, pos, negsuc, Bool, true, false, not, ◌&&◌, ◌||◌, cond, leb, ltb, eqb, List, [], ◌∷◌, ◌++◌, length, Option, Some, None, is_some, refl, sym, ap, arith}
-use Rattle.std.specs.Prelude.{codes, decimal, slice_get}
+use Rattle.std.proofs.Common.{◌≡◌, ℕ, suc, ◌-◌, ◌/◌, ◌%◌, ◌≤◌, ℤ, pos, negsuc, Bool, true, false, not, ◌&&◌, ◌||◌, cond, leb, ltb, eqb, List, [], ◌∷◌, ◌++◌, length, Option, Some, None, refl, arith}
+use Rattle.std.specs.Prelude.{codes, decimal}
 use Rattle.std.specs.Fmt.{signed_decimal}
 use Rattle.std.specs.List.{AllByRecursion, flat_map, filter, list_all}
 use Rattle.std.specs.Str.{all_ascii_digits}
@@ -28,12 +28,12 @@ use Rattle.pico_base.specs.declared.script.Script.{Script}
 use Rattle.pico_base.specs.Signal.{at, all_signals}
 use Rattle.kernel_model.specs.Fitting.{block_at}
 use Rattle.kernel_model.specs.Numbers.{is_u16, is_u32, is_byte}
-use Rattle.kernel_model.specs.Script.{IsSoundScript, is_name, is_name_byte, is_type, is_step_in_range, is_place}
-use Rattle.kernel_model.specs.Texts.{is_plain, is_letter_or_digit, hex_digit, escape, quoted_text, is_repeated, repeated_text, message_text}
+use Rattle.kernel_model.specs.Script.{IsSoundScript, is_name_byte, is_type, is_step_in_range, is_place}
+use Rattle.kernel_model.specs.Texts.{is_plain, is_letter_or_digit, hex_digit, escape, quoted_text, is_repeated, message_text}
 use Rattle.kernel_model.specs.Trace.{signal_name, signal_argument, action_name, how_name, error_name, signals_text, set_text, word, create_words, step_text, values_text, name_of_block, queue_words, call_text, ending_text, reply_text}
 use Rattle.text_fields.proofs.Numerals.{AreDigits, IsWithin, decimal-digits}
 use Rattle.text_fields.proofs.Spelled.{IsStep}
-use Rattle.trace_text.specs.Grammar.{is_call, is_block, is_reply, is_ending, is_text}
+use Rattle.trace_text.specs.Grammar.{is_call, is_reply, is_ending, is_text}
 use Rattle.trace_text.proofs.Ranges.{u32-bound, u16-bound, byte-bound, type-within, step-within, all-from}
 use Rattle.trace_text.proofs.CallText.{name-at, name-bytes}
 

@@ -1,14 +1,12 @@
 -- The loop over the lines of a trace, step by step.
-use Rattle.std.proofs.Common.{◌≡◌, ◌⊎◌, inl, inr, ◌∙◌, ℕ, zero, suc, ◌+◌, ◌-◌, ◌≤◌, ◌<◌, Bool, true, false, not, ◌&&◌, cond, leb, ltb, eqb, List, [], ◌∷◌, ◌++◌, length, take, drop, Option, Some, None, refl, sym, ap, subst, append_assoc, arith}
-use Rattle.std.specs.Prelude.{codes, decimal, Result, Ok, Err}
-use Rattle.std.specs.List.{flat_map, list_all}
+use Rattle.std.proofs.Common.{◌≡◌, ℕ, zero, suc, ◌+◌, ◌-◌, ◌<◌, Bool, true, false, leb, ltb, eqb, List, [], ◌∷◌, ◌++◌, length, Some, None, refl, arith}
+use Rattle.std.specs.Prelude.{Ok, Err}
 use Rattle.std.proofs.lemmas.Bool.{and_parts, ltb-true}
 use Rattle.pico_base.specs.declared.reply.Entry.{Entry}
 use Rattle.pico_base.specs.declared.script.Script.{Script}
-use Rattle.kernel_model.specs.Trace.{entry_line, totals_line, entries_total}
-use Rattle.text_fields.proofs.Chains.{none_from}
+use Rattle.kernel_model.specs.Trace.{totals_line, entries_total}
 use Rattle.trace_text.specs.Reading.{has_ended, is_line, entry_in}
-use Rattle.trace_text.specs.Read.{next_line, fits, begins_like_totals, read_line, read_from}
+use Rattle.trace_text.specs.Read.{next_line, fits, begins_like_totals, read_from}
 use Rattle.trace_text.proofs.EntryLaws.{line-tested}
 
 module _ (script : Script) (line left : ℕ) (done : List Entry) (bytes : List ℕ) where

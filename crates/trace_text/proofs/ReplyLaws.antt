@@ -1,9 +1,9 @@
 -- Each reply's text, and then ` by`, is read as that reply.
-use Rattle.std.proofs.Common.{◌≡◌, ◌⊎◌, inl, inr, ℕ, zero, suc, ◌+◌, ◌≤◌, ◌<◌, ℤ, pos, negsuc, Bool, true, false, ◌&&◌, not, cond, leb, ltb, List, [], ◌∷◌, ◌++◌, length, Option, Some, None, refl, sym, ap, ◌∙◌, append_assoc, arith}
+use Rattle.std.proofs.Common.{◌≡◌, ◌⊎◌, inl, inr, ℕ, suc, ◌≤◌, ℤ, pos, negsuc, Bool, true, false, ◌&&◌, cond, leb, List, [], ◌∷◌, ◌++◌, length, Option, Some, None, refl, ap, ◌∙◌, append_assoc, arith}
 use Rattle.std.specs.Prelude.{codes, decimal}
 use Rattle.std.specs.Fmt.{signed_decimal}
 use Rattle.std.specs.List.{AllByRecursion, flat_map, filter, list_all}
-use Rattle.std.proofs.lemmas.Bool.{and_parts, le-leb, leb-true, cases_lt}
+use Rattle.std.proofs.lemmas.Bool.{and_parts, le-leb}
 use Rattle.pico_base.specs.declared.reply.Reply.{Reply}
 use Rattle.pico_base.specs.declared.reply.Reply.TheVariants as replies
 use Rattle.pico_base.specs.declared.reply.Ending.{Ending}
@@ -14,17 +14,17 @@ use Rattle.pico_base.specs.declared.signal.PerSignal.{PerSignal}
 use Rattle.pico_base.specs.declared.signal.Sig.{Sig}
 use Rattle.pico_base.specs.declared.signal.Sig.TheVariants.{Hup, Int, Quit, Kill, Usr1, Usr2, Pipe, Alrm, Term, Chld}
 use Rattle.pico_base.specs.Signal.{at, all_signals}
-use Rattle.kernel_model.specs.Numbers.{is_u32, is_byte}
+use Rattle.kernel_model.specs.Numbers.{is_u32}
 use Rattle.kernel_model.specs.Script.{is_type}
 use Rattle.kernel_model.specs.Texts.{message_text, is_repeated, repeated_text, escape}
 use Rattle.kernel_model.specs.Trace.{reply_text, ending_text, signal_name, signals_text, set_text, error_name, values_text}
-use Rattle.text_fields.specs.Fields.{strip, digit_at, number_at, named_at, error_at, set_at, text_at}
+use Rattle.text_fields.specs.Fields.{strip, digit_at, number_at, named_at, text_at}
 use Rattle.text_fields.proofs.Strips.{strip_again}
 use Rattle.text_fields.proofs.Numerals.{IsWithin, front_number_again, signed_again}
-use Rattle.text_fields.proofs.Sets.{signal_again, error_again, set_again}
+use Rattle.text_fields.proofs.Sets.{signal_again, set_again}
 use Rattle.text_fields.proofs.Spelled.{text_again, values_again}
 use Rattle.trace_text.specs.Grammar.{is_reply, is_ending, is_text}
-use Rattle.trace_text.specs.Reading.{exited_at, ended_by_at, message_at, or_number, numbered_at, negative_at, stat_at, all_values_at, word_reply_at, reply_of, reply_at, or_set}
+use Rattle.trace_text.specs.Reading.{exited_at, ended_by_at, message_at, or_number, numbered_at, negative_at, stat_at, all_values_at, word_reply_at, reply_at, or_set}
 use Rattle.trace_text.proofs.Ranges.{IsTextInRange, text-in-range, u32-bound, byte-bound, type-within, all-from}
 
 -- what stands behind a reply

@@ -1,12 +1,11 @@
 -- What is read of a trace is the history whose text it is.
-use Rattle.std.proofs.Common.{◌≡◌, ◌∙◌, ℕ, zero, suc, ◌+◌, ◌-◌, ◌≤◌, ◌<◌, Bool, true, false, not, ◌&&◌, cond, leb, ltb, eqb, List, [], ◌∷◌, ◌++◌, length, take, drop, get_or, Option, Some, None, refl, sym, ap, subst, append_assoc, arith, drop-cons, add-one}
-use Rattle.std.specs.Prelude.{position, option_map, Result, Ok, Err, IfOk}
+use Rattle.std.proofs.Common.{◌≡◌, ◌∙◌, ℕ, zero, suc, ◌+◌, ◌-◌, ◌≤◌, ◌<◌, Bool, true, false, not, cond, leb, ltb, eqb, List, [], ◌∷◌, ◌++◌, length, take, drop, get_or, Option, Some, None, refl, sym, ap, append_assoc, arith, drop-cons, add-one}
+use Rattle.std.specs.Prelude.{position, Result, Ok, Err, IfOk}
 use Rattle.std.specs.List.{flat_map, list_all}
 use Rattle.std.specs.Option.{option_map_or}
 use Rattle.std.proofs.lemmas.Bool.{and_parts, and_from, leb-true, le-leb, ltb-true, eqb-true}
 use Rattle.std.proofs.lemmas.List.{append-nil, length-append, take-append-drop}
 use Rattle.std.proofs.lemmas.List.Quantifiers.{position-Some}
-use Rattle.std.proofs.lemmas.Option.{same_Some, none-some}
 use Rattle.pico_base.specs.declared.reply.Entry.{Entry}
 use Rattle.pico_base.specs.declared.script.Script.{Script}
 use Rattle.kernel_model.specs.Trace.{entry_line, totals_line}
@@ -14,7 +13,7 @@ use Rattle.text_fields.proofs.Chains.{mapped}
 use Rattle.trace_text.specs.Grammar.{is_entry}
 use Rattle.trace_text.specs.Reading.{has_ended, is_line, entry_in}
 use Rattle.trace_text.specs.declared.fault.CheckFault.{CheckFault}
-use Rattle.trace_text.specs.Read.{has_line, BeginsWith, IsTraceOf, next_line, fits, read_line, read_from, read_of, Gives}
+use Rattle.trace_text.specs.Read.{has_line, IsTraceOf, next_line, fits, read_line, read_from, read_of, Gives}
 use Rattle.trace_text.proofs.EntryLaws.{line-tested, entry-takes}
 
 abbrev pub is_feed : ℕ → Bool

@@ -1,10 +1,9 @@
 -- The grammar of a trace: which entries have a line. A line is in the grammar exactly where it is the text of one of
 -- these.
-use Rattle.std.specs.Prelude.{ℕ, ◌+◌, ℤ, negsuc, pos, Bool, true, false, not, ◌&&◌, ◌||◌, nat_eq, nat_le, nat_lt, int_le, List, [], ◌∷◌, length, Option, Some, None, is_some, IsTrue}
+use Rattle.std.specs.Prelude.{ℕ, Bool, true, false, not, ◌&&◌, ◌||◌, nat_eq, nat_le, List, length, Option, Some, None, is_some}
 use Rattle.std.specs.List.{list_all}
 use Rattle.pico_base.specs.declared.call.Call.{Call}
 use Rattle.pico_base.specs.declared.call.Call.TheVariants as calls
-use Rattle.pico_base.specs.declared.call.SemStep.{SemStep}
 use Rattle.pico_base.specs.declared.reply.Reply.{Reply}
 use Rattle.pico_base.specs.declared.reply.Reply.TheVariants as replies
 use Rattle.pico_base.specs.declared.reply.Ending.{Ending}

@@ -1,10 +1,10 @@
 -- What the bytes of a trace are: the text of a history, within the limits; and else the first line that is none.
-use Rattle.std.specs.Prelude.{◌≡◌, ◌⊎◌, ℕ, zero, suc, ◌+◌, ◌-◌, ◌≤◌, ◌==◌, nat_le, nat_lt, Bool, true, false, not, ◌&&◌, List, [], ◌∷◌, ◌++◌, length, take, drop, position, if◌then◌else◌, Option, Some, None, option_map, Result, Ok, Err, IsTrue}
+use Rattle.std.specs.Prelude.{◌≡◌, ℕ, zero, suc, ◌+◌, ◌-◌, ◌≤◌, ◌==◌, nat_le, nat_lt, Bool, false, not, ◌&&◌, List, [], ◌∷◌, ◌++◌, length, take, drop, position, if◌then◌else◌, Option, option_map, Result, Ok, Err, IsTrue}
 use Rattle.std.specs.List.{flat_map, list_all}
 use Rattle.std.specs.Option.{option_map_or}
 use Rattle.pico_base.specs.declared.reply.Entry.{Entry}
 use Rattle.pico_base.specs.declared.script.Script.{Script}
-use Rattle.kernel_model.specs.Trace.{entry_line, totals_line, trace_text}
+use Rattle.kernel_model.specs.Trace.{entry_line, totals_line}
 use Rattle.trace_text.specs.Grammar.{is_entry}
 use Rattle.trace_text.specs.Reading.{has_ended, is_line, entry_in}
 use Rattle.trace_text.specs.declared.fault.CheckFault.{CheckFault}

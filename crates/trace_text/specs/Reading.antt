@@ -1,5 +1,5 @@
 -- Reading a line from left to right, as the code does. What a line means is said by `Grammar`.
-use Rattle.std.specs.Prelude.{ℕ, ◌+◌, ◌-◌, ℤ, pos, negsuc, Bool, true, false, not, ◌==◌, nat_le, nat_eq, ◌&&◌, List, [], ◌∷◌, ◌++◌, length, take, codes, bytes_eq, position, if◌then◌else◌, Option, Some, None, option_map}
+use Rattle.std.specs.Prelude.{ℕ, ◌+◌, ℤ, pos, Bool, true, false, nat_le, ◌&&◌, List, [], ◌∷◌, codes, bytes_eq, position, if◌then◌else◌, Option, Some, None, option_map}
 use Rattle.std.specs.Option.{option_map_or}
 use Rattle.pico_base.specs.declared.call.Call.{Call}
 use Rattle.pico_base.specs.declared.call.Call.TheVariants as calls
@@ -9,11 +9,7 @@ use Rattle.pico_base.specs.declared.reply.Reply.TheVariants as replies
 use Rattle.pico_base.specs.declared.reply.Ending.TheVariants as endings
 use Rattle.pico_base.specs.declared.reply.Entry.{Entry}
 use Rattle.pico_base.specs.declared.reply.Errno.{Errno}
-use Rattle.pico_base.specs.declared.signal.Act.{Act}
-use Rattle.pico_base.specs.declared.signal.How.{How}
 use Rattle.pico_base.specs.declared.signal.PerSignal.{PerSignal}
-use Rattle.pico_base.specs.declared.signal.Sig.{Sig}
-use Rattle.pico_base.specs.declared.signal.SigArg.{SigArg}
 use Rattle.pico_base.specs.declared.script.Script.{Script}
 use Rattle.kernel_model.specs.Effect.{reply_alone}
 use Rattle.kernel_model.specs.Trace.{entry_line}

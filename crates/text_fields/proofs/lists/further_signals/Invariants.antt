@@ -1,4 +1,4 @@
-use Rattle.std.proofs.Common.{◌≡◌, ◌-◌, length}
+use Rattle.std.proofs.Common.{◌≡◌, ◌-◌}
 use Rattle.text_fields.specs.Fields.{many, all_at, in_front, behind_comma, signal_at, with_signals, set_from}
 use Rattle.text_fields.proofs.lists.further_signals.Given as goal
 

@@ -1,4 +1,4 @@
-use Rattle.std.proofs.Common.{◌≡◌, ◌-◌, length}
+use Rattle.std.proofs.Common.{◌≡◌, ◌-◌}
 use Rattle.text_fields.specs.Fields.{many, all_at, step_at}
 use Rattle.text_fields.proofs.Many.{onto}
 use Rattle.text_fields.proofs.lists.steps_front.Given as goal

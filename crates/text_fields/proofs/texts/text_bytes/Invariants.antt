@@ -1,4 +1,4 @@
-use Rattle.std.proofs.Common.{◌≡◌, ◌-◌, length}
+use Rattle.std.proofs.Common.{◌≡◌, ◌-◌}
 use Rattle.text_fields.specs.Fields.{many, all_at, text_byte_at}
 use Rattle.text_fields.proofs.Many.{onto}
 use Rattle.text_fields.proofs.texts.text_bytes.Given as goal
