@@ -1,3 +1,4 @@
+//! What a deed brings beside its name: the body of a process, a queue or a set.
 use fork_wait::Family;
 use pico_base::Ending;
 use signal_state::Signals;

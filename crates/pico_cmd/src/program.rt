@@ -93,7 +93,8 @@ fn answer<S: Source>(alloc: Global, words: &[String], source: &mut S) -> Result<
     ensures done { IsInOrder (map string_bytes words.now) → IfSome (S.left source.old) (λ bytes.
         (script : ScriptValue) → ReadsRunnable bytes script → IfOk result (λ answer. answer.status ≡ Status.Done)) }
     ensures fault { IsInOrder (map string_bytes words.now) → IfSome (S.left source.old) (λ bytes.
-        (line : ℕ) (fault : FaultValue) → IsFirstFaultOfRunnable bytes line fault → IfOk result (λ answer. answer.status ≡ Status.BadScript)) }
+        (line : ℕ) (fault : FaultValue) → IsFirstFaultOfRunnable bytes line fault
+        → IfOk result (λ answer. answer.status ≡ Status.BadScript)) }
     ensures rest { IsInOrder (map string_bytes words.now)
         → OnOk result (S.left source.new ≡ left_behind (S.left source.old)) }
     ensures stop { IfErr result (IsStop (S.faults source.old) (S.faults source.new)) }
@@ -161,7 +162,8 @@ pub fn pico<R, S: Source, K: Sink, G: Gate>(
     // Words out of order give the usage line, and a script with a fault its fault.
     ensures usage_exactly { (IsInOrder (map string_bytes words.now) → ⊥) → IsOrFails result.status Status.Usage }
     ensures fault_exactly { IsInOrder (map string_bytes words.now) → IfSome (S.left source.old) (λ bytes.
-        (line : ℕ) (fault : FaultValue) → IsFirstFaultOfRunnable bytes line fault → IsOrStops result.status Status.BadScript) }
+        (line : ℕ) (fault : FaultValue) → IsFirstFaultOfRunnable bytes line fault
+        → IsOrStops result.status Status.BadScript) }
 
     // A script without a fault is run, unless memory runs out or a count of faults rises.
     ensures complete { IsInOrder (map string_bytes words.now)
