@@ -42,8 +42,23 @@ fn start<R: Env + AllocGlobal + Input + Print>(rt: &R) -> Status {
     pico(rt, rt.alloc(), &words, &mut source, &mut sink, &OpenGate).status
 }
 
+// Why what was asked for isn't written, or not all of it. The other statuses go with a text that says it.
+fn reason(status: Status) -> Option<&'static str> {
+    match status {
+        Status::Memory => Some("pico: memory ran out; nothing is written"),
+        Status::ReadFault => Some("pico: reading standard input failed; nothing is written"),
+        Status::WriteFault => Some("pico: writing to standard output failed"),
+        Status::Done | Status::BadScript | Status::Usage => None,
+    }
+}
+
 fn main(rt: HostRuntime) -> ExitCode {
-    ExitCode::from(start(&rt).code())
+    let status = start(&rt);
+    if let Some(line) = reason(status) {
+        // Where that fails too, the exit status alone tells it.
+        let _ = rt.eprintln(line);
+    }
+    ExitCode::from(status.code())
 }
 
 #[cfg(test)]
