@@ -29,33 +29,43 @@ from_true false h = absurd (cc)
 module _ {B : Type 0} where
   -- ---- past the lower entries
 
-  get-past : (before : Numbered B) (n : ℕ) (after : Numbered B) → AllByRecursion (λ e. nat_cmp e.0 n ≡ Less) before → get (before ++ after) n ≡ get after n
+  get-past : (before : Numbered B) (n : ℕ) (after : Numbered B) → AllByRecursion (λ e. nat_cmp e.0 n ≡ Less) before
+      → get (before ++ after) n ≡ get after n
   get-past [] n after low = refl
-  get-past (e ∷ es) n after low = ap (λ o. cond (is_eq o) (Some e.1) (get (es ++ after) n)) (turned e.0 n Less low.0) ∙ get-past es n after low.1
+  get-past (e ∷ es) n after low =
+      ap (λ o. cond (is_eq o) (Some e.1) (get (es ++ after) n)) (turned e.0 n Less low.0) ∙ get-past es n after low.1
 
-  put-past : (before : Numbered B) (n : ℕ) (b : B) (after : Numbered B) → AllByRecursion (λ e. nat_cmp e.0 n ≡ Less) before → put (before ++ after) n b ≡ before ++ put after n b
+  put-past : (before : Numbered B) (n : ℕ) (b : B) (after : Numbered B)
+      → AllByRecursion (λ e. nat_cmp e.0 n ≡ Less) before → put (before ++ after) n b ≡ before ++ put after n b
   put-past [] n b after low = refl
   put-past (e ∷ es) n b after low =
-      ap (λ o. match_ordering o ((n, b) ∷ e ∷ es ++ after) ((e.0, b) ∷ (es ++ after)) (e ∷ put (es ++ after) n b)) (turned e.0 n Less low.0)
+      ap (λ o. match_ordering o ((n, b) ∷ e ∷ es ++ after) ((e.0, b) ∷ (es ++ after)) (e ∷ put (es ++ after) n b))
+      (turned e.0 n Less low.0)
       ∙ ap (λ xs. e ∷ xs) (put-past es n b after low.1)
 
-  without-past : (before : Numbered B) (n : ℕ) (after : Numbered B) → AllByRecursion (λ e. nat_cmp e.0 n ≡ Less) before → without (before ++ after) n ≡ before ++ without after n
+  without-past : (before : Numbered B) (n : ℕ) (after : Numbered B) → AllByRecursion (λ e. nat_cmp e.0 n ≡ Less) before
+      → without (before ++ after) n ≡ before ++ without after n
   without-past [] n after low = refl
   without-past (e ∷ es) n after low =
-      ap (λ t. cond (not t) (e ∷ without (es ++ after) n) (without (es ++ after) n)) (tie n e.0 ∙ ap is_eq (turned e.0 n Less low.0))
+      ap (λ t. cond (not t) (e ∷ without (es ++ after) n) (without (es ++ after) n))
+      (tie n e.0 ∙ ap is_eq (turned e.0 n Less low.0))
       ∙ ap (λ xs. e ∷ xs) (without-past es n after low.1)
 
   -- ---- before the higher entries
 
   get-higher : (n : ℕ) (after : Numbered B) → AllByRecursion (λ e. nat_cmp e.0 n ≡ Greater) after → get after n ≡ None
   get-higher n [] high = refl
-  get-higher n (e ∷ es) high = ap (λ o. cond (is_eq o) (Some e.1) (get es n)) (turned e.0 n Greater high.0) ∙ get-higher n es high.1
+  get-higher n (e ∷ es) high =
+      ap (λ o. cond (is_eq o) (Some e.1) (get es n)) (turned e.0 n Greater high.0) ∙ get-higher n es high.1
 
-  put-higher : (n : ℕ) (b : B) (after : Numbered B) → AllByRecursion (λ e. nat_cmp e.0 n ≡ Greater) after → put after n b ≡ (n, b) ∷ after
+  put-higher : (n : ℕ) (b : B) (after : Numbered B) → AllByRecursion (λ e. nat_cmp e.0 n ≡ Greater) after
+      → put after n b ≡ (n, b) ∷ after
   put-higher n b [] high = refl
-  put-higher n b (e ∷ es) high = ap (λ o. match_ordering o ((n, b) ∷ e ∷ es) ((e.0, b) ∷ es) (e ∷ put es n b)) (turned e.0 n Greater high.0)
+  put-higher n b (e ∷ es) high =
+      ap (λ o. match_ordering o ((n, b) ∷ e ∷ es) ((e.0, b) ∷ es) (e ∷ put es n b)) (turned e.0 n Greater high.0)
 
-  without-higher : (n : ℕ) (after : Numbered B) → AllByRecursion (λ e. nat_cmp e.0 n ≡ Greater) after → without after n ≡ after
+  without-higher : (n : ℕ) (after : Numbered B) → AllByRecursion (λ e. nat_cmp e.0 n ≡ Greater) after
+      → without after n ≡ after
   without-higher n [] high = refl
   without-higher n (e ∷ es) high =
       ap (λ t. cond (not t) (e ∷ without es n) (without es n)) (tie n e.0 ∙ ap is_eq (turned e.0 n Greater high.0))
@@ -86,7 +96,8 @@ module _ {B : Type 0} where
 
   pub within_stands : (es : Numbered B) (n i : ℕ) (s : StandsAt es n i) → i < length es
   within_stands es n i s =
-      let long : length es ≡ length s.before + length ((n, s.body) ∷ s.after) = ap length s.split ∙ length-append s.before _ in
+      let long : length es ≡ length s.before + length ((n, s.body) ∷ s.after) =
+      ap length s.split ∙ length-append s.before _ in
       omega (arith, s.counted, long)
 
   pub get_or-stands : (es : Numbered B) (n i : ℕ) (s : StandsAt es n i) (d : ℕ × B) → get_or es i d ≡ (n, s.body)
@@ -97,14 +108,16 @@ module _ {B : Type 0} where
   pub put-stands : (es : Numbered B) (n i : ℕ) (b : B) (s : StandsAt es n i) → put es n b ≡ set es i (n, b)
   put-stands es n i b s =
       ap (λ xs. put xs n b) s.split ∙ put-past s.before n b _ s.lower
-      ∙ ap (λ o. s.before ++ match_ordering o ((n, b) ∷ (n, s.body) ∷ s.after) ((n, b) ∷ s.after) ((n, s.body) ∷ put s.after n b)) (tied_itself nat_cmp_total n)
+      ∙ ap (λ o. s.before ++ match_ordering o ((n, b) ∷ (n, s.body) ∷ s.after) ((n, b) ∷ s.after)
+      ((n, s.body) ∷ put s.after n b)) (tied_itself nat_cmp_total n)
       ∙ sym (set-append_seam s.before (n, s.body) s.after (n, b))
       ∙ ap (λ k. set (s.before ++ (n, s.body) ∷ s.after) k (n, b)) s.counted ∙ ap (λ xs. set xs i (n, b)) (sym s.split)
 
   pub without-stands : (es : Numbered B) (n i : ℕ) (s : StandsAt es n i) → without es n ≡ remove es i
   without-stands es n i s =
       ap (λ xs. without xs n) s.split ∙ without-past s.before n _ s.lower
-      ∙ ap (λ t. s.before ++ cond (not t) ((n, s.body) ∷ without s.after n) (without s.after n)) (tie n n ∙ ap is_eq (tied_itself nat_cmp_total n))
+      ∙ ap (λ t. s.before ++ cond (not t) ((n, s.body) ∷ without s.after n) (without s.after n))
+      (tie n n ∙ ap is_eq (tied_itself nat_cmp_total n))
       ∙ ap (λ xs. s.before ++ xs) (without-higher n s.after s.higher)
       ∙ sym (remove-seam s.before s.after (n, s.body))
       ∙ ap (λ k. remove (s.before ++ (n, s.body) ∷ s.after) k) s.counted ∙ ap (λ xs. remove xs i) (sym s.split)
@@ -121,13 +134,15 @@ module _ {B : Type 0} where
 
   pub put-belongs : (es : Numbered B) (n i : ℕ) (b : B) → BelongsAt es n i → put es n b ≡ insert es i (n, b)
   put-belongs es n i b s =
-      ap (λ xs. put xs n b) s.split ∙ put-past s.before n b _ s.lower ∙ ap (λ xs. s.before ++ xs) (put-higher n b s.after s.higher)
+      ap (λ xs. put xs n b) s.split ∙ put-past s.before n b _ s.lower
+      ∙ ap (λ xs. s.before ++ xs) (put-higher n b s.after s.higher)
       ∙ sym (insert-seam s.before s.after (n, b))
       ∙ ap (λ k. insert (s.before ++ s.after) k (n, b)) s.counted ∙ ap (λ xs. insert xs i (n, b)) (sym s.split)
 
   pub without-belongs : (es : Numbered B) (n i : ℕ) → BelongsAt es n i → without es n ≡ es
   without-belongs es n i s =
-      ap (λ xs. without xs n) s.split ∙ without-past s.before n _ s.lower ∙ ap (λ xs. s.before ++ xs) (without-higher n s.after s.higher)
+      ap (λ xs. without xs n) s.split ∙ without-past s.before n _ s.lower
+      ∙ ap (λ xs. s.before ++ xs) (without-higher n s.after s.higher)
       ∙ sym s.split
 
   -- ---- and the order stays
@@ -140,18 +155,25 @@ module _ {B : Type 0} where
   put_is : (es : Numbered B) (n : ℕ) (b : B) → put_in_order nat_cmp n b es ≡ put es n b
   put_is [] n b = refl
   put_is (e ∷ es) n b =
-      chosen (nat_cmp n e.0) _ _ _ ∙ ap (λ xs. match_ordering (nat_cmp n e.0) ((n, b) ∷ e ∷ es) ((e.0, b) ∷ es) (e ∷ xs)) (put_is es n b)
+      chosen (nat_cmp n e.0) _ _ _
+      ∙ ap (λ xs. match_ordering (nat_cmp n e.0) ((n, b) ∷ e ∷ es) ((e.0, b) ∷ es) (e ∷ xs)) (put_is es n b)
 
-  pub is_sorted-put_at : (es : Numbered B) (n : ℕ) (b : B) → IsTrue (is_sorted nat_cmp es) → IsTrue (is_sorted nat_cmp (put es n b))
-  is_sorted-put_at es n b h = subst (λ xs. IsTrue (is_sorted nat_cmp xs)) (put_is es n b) (to_true _ (is_sorted-put nat_cmp nat_cmp_total n b es (from_true _ h)))
+  pub is_sorted-put_at : (es : Numbered B) (n : ℕ) (b : B) → IsTrue (is_sorted nat_cmp es)
+      → IsTrue (is_sorted nat_cmp (put es n b))
+  is_sorted-put_at es n b h =
+      subst (λ xs. IsTrue (is_sorted nat_cmp xs)) (put_is es n b)
+      (to_true _ (is_sorted-put nat_cmp nat_cmp_total n b es (from_true _ h)))
 
-  pub is_sorted-without : (es : Numbered B) (n : ℕ) → IsTrue (is_sorted nat_cmp es) → IsTrue (is_sorted nat_cmp (without es n))
+  pub is_sorted-without : (es : Numbered B) (n : ℕ) → IsTrue (is_sorted nat_cmp es)
+      → IsTrue (is_sorted nat_cmp (without es n))
   is_sorted-without es n h = to_true _ (is_sorted-where_key nat_cmp (λ k. not (nat_eq n k)) es (from_true _ h))
 
   -- ---- the same of a table that is seen as these entries
 
-  pub found_get : (xs es : Numbered B) (n i : ℕ) (e : ℕ × B) → xs ≡ es → StandsAt xs n i → e ≡ get_or xs i e → Some e.1 ≡ get es n
-  found_get xs es n i e seen s is = ap (λ x. Some x.1) (is ∙ get_or-stands xs n i s e) ∙ sym (get-stands xs n i s) ∙ ap (λ ys. get ys n) seen
+  pub found_get : (xs es : Numbered B) (n i : ℕ) (e : ℕ × B) → xs ≡ es → StandsAt xs n i → e ≡ get_or xs i e
+      → Some e.1 ≡ get es n
+  found_get xs es n i e seen s is =
+      ap (λ x. Some x.1) (is ∙ get_or-stands xs n i s e) ∙ sym (get-stands xs n i s) ∙ ap (λ ys. get ys n) seen
 
   pub absent_get : (xs es : Numbered B) (n i : ℕ) → xs ≡ es → BelongsAt xs n i → None ≡ get es n
   absent_get xs es n i seen s = sym (get-belongs xs n i s) ∙ ap (λ ys. get ys n) seen
@@ -162,22 +184,27 @@ module _ {B : Type 0} where
   pub present_absent : (xs es : Numbered B) (n i : ℕ) → xs ≡ es → StandsAt xs n i → get es n ≡ None → ⊥
   present_absent xs es n i seen s none = some≢none s.body (sym (get-stands xs n i s) ∙ ap (λ ys. get ys n) seen ∙ none)
 
-  pub is_some_place : (xs es : Numbered B) (n : ℕ) (r : Result ℕ ℕ) → xs ≡ es → MatchResult r (StandsAt xs n) (BelongsAt xs n) → is_ok r ≡ is_some (get es n)
+  pub is_some_place : (xs es : Numbered B) (n : ℕ) (r : Result ℕ ℕ) → xs ≡ es
+      → MatchResult r (StandsAt xs n) (BelongsAt xs n) → is_ok r ≡ is_some (get es n)
   is_some_place xs es n (Ok i) seen s = ap is_some (sym (get-stands xs n i s) ∙ ap (λ ys. get ys n) seen)
   is_some_place xs es n (Err i) seen s = ap is_some (absent_get xs es n i seen s)
 
-  pub put_there : (xs es ys : Numbered B) (n i : ℕ) (b : B) → xs ≡ es → BelongsAt xs n i → ys ≡ insert xs i (n, b) → ys ≡ put es n b
+  pub put_there : (xs es ys : Numbered B) (n i : ℕ) (b : B) → xs ≡ es → BelongsAt xs n i → ys ≡ insert xs i (n, b)
+      → ys ≡ put es n b
   put_there xs es ys n i b seen s is = is ∙ sym (put-belongs xs n i b s) ∙ ap (λ zs. put zs n b) seen
 
-  pub without_there : (xs es ys : Numbered B) (n i : ℕ) → xs ≡ es → StandsAt xs n i → ys ≡ remove xs i → ys ≡ without es n
+  pub without_there : (xs es ys : Numbered B) (n i : ℕ) → xs ≡ es → StandsAt xs n i → ys ≡ remove xs i
+      → ys ≡ without es n
   without_there xs es ys n i seen s is = is ∙ sym (without-stands xs n i s) ∙ ap (λ zs. without zs n) seen
 
   pub without_absent : (xs es : Numbered B) (n i : ℕ) → xs ≡ es → BelongsAt xs n i → es ≡ without es n
   without_absent xs es n i seen s = sym seen ∙ sym (without-belongs xs n i s) ∙ ap (λ zs. without zs n) seen
 
-  pub set_there : (xs es : Numbered B) (n i : ℕ) (e : ℕ × B) (b : B) → xs ≡ es → StandsAt xs n i → e ≡ get_or xs i e → set xs i (e.0, b) ≡ put es n b
+  pub set_there : (xs es : Numbered B) (n i : ℕ) (e : ℕ × B) (b : B) → xs ≡ es → StandsAt xs n i → e ≡ get_or xs i e
+      → set xs i (e.0, b) ≡ put es n b
   set_there xs es n i e b seen s is =
-      ap (λ x. set xs i (x.0, b)) (is ∙ get_or-stands xs n i s e) ∙ sym (put-stands xs n i b s) ∙ ap (λ zs. put zs n b) seen
+      ap (λ x. set xs i (x.0, b)) (is ∙ get_or-stands xs n i s e) ∙ sym (put-stands xs n i b s)
+      ∙ ap (λ zs. put zs n b) seen
 
   pub length-put_stands : (es : Numbered B) (n i : ℕ) (b : B) → StandsAt es n i → length (put es n b) ≡ length es
   length-put_stands es n i b s = ap length (put-stands es n i b s) ∙ length-set es i (n, b)

@@ -35,36 +35,45 @@ rising : (x y n : ℕ) → nat_cmp x y ≡ Less → ordering_index (nat_cmp x n)
 rising x y n e =
     elim (nat_cmp x n) as (λ o. nat_cmp x n ≡ o → ordering_index o ≤ ordering_index (nat_cmp y n)) [
       | Less ↦ λ is. omega arith
-      | Equal ↦ λ is. let greater : nat_cmp y n ≡ Greater = subst (λ z. nat_cmp y z ≡ Greater) (nat_cmp-IsAntisymmetric x n is) (reversed x y e) in rw greater (omega arith)
-      | Greater ↦ λ is. let greater : nat_cmp y n ≡ Greater = reversed n y (nat_cmp_total.trans n x y (turned x n is) e) in rw greater (omega arith)
+      | Equal ↦ λ is. let greater : nat_cmp y n ≡ Greater =
+          subst (λ z. nat_cmp y z ≡ Greater) (nat_cmp-IsAntisymmetric x n is) (reversed x y e) in
+          rw greater (omega arith)
+      | Greater ↦ λ is. let greater : nat_cmp y n ≡ Greater =
+          reversed n y (nat_cmp_total.trans n x y (turned x n is) e) in rw greater (omega arith)
     ] refl
 
 module _ {B : Type 0} where
-  below_in : (x : ℕ) (before : Numbered B) (n : ℕ) (b : B) (after : Numbered B) → IsTrue (below_all nat_cmp x (before ++ (n, b) ∷ after)) → nat_cmp x n ≡ Less
+  below_in : (x : ℕ) (before : Numbered B) (n : ℕ) (b : B) (after : Numbered B)
+      → IsTrue (below_all nat_cmp x (before ++ (n, b) ∷ after)) → nat_cmp x n ≡ Less
   below_in x [] n b after h = less _ (first _ _ h)
   below_in x (e ∷ es) n b after h = below_in x es n b after (second _ _ h)
 
-  above_all : (x : ℕ) (es : Numbered B) → IsTrue (below_all nat_cmp x es) → AllByRecursion (λ e. nat_cmp e.0 x ≡ Greater) es
+  above_all : (x : ℕ) (es : Numbered B) → IsTrue (below_all nat_cmp x es)
+      → AllByRecursion (λ e. nat_cmp e.0 x ≡ Greater) es
   above_all x [] h = tt
   above_all x (e ∷ es) h = (reversed x e.0 (less _ (first _ _ h)), above_all x es (second _ _ h))
 
-  below_at : (x : ℕ) (es : Numbered B) (i : ℕ) (d : ℕ × B) → IsTrue (below_all nat_cmp x es) → i < length es → nat_cmp x (get_or es i d).0 ≡ Less
+  below_at : (x : ℕ) (es : Numbered B) (i : ℕ) (d : ℕ × B) → IsTrue (below_all nat_cmp x es) → i < length es
+      → nat_cmp x (get_or es i d).0 ≡ Less
   below_at x [] i d h lt = absurd (omega arith)
   below_at x (e ∷ es) zero d h lt = less _ (first _ _ h)
   below_at x (e ∷ es) (suc i) d h lt = below_at x es i d (second _ _ h) (omega arith)
 
-  pub rises : (es : Numbered B) (n : ℕ) → IsTrue (is_sorted nat_cmp es) → IsNonDecreasingBy (λ e. ordering_index (nat_cmp e.0 n)) es
+  pub rises : (es : Numbered B) (n : ℕ) → IsTrue (is_sorted nat_cmp es)
+      → IsNonDecreasingBy (λ e. ordering_index (nat_cmp e.0 n)) es
   rises [] n h i j d le lt = absurd (omega arith)
   rises (e ∷ es) n h zero zero d le lt = omega arith
   rises (e ∷ es) n h zero (suc j) d le lt = rising _ _ n (below_at e.0 es j d (first _ _ h) (omega arith))
   rises (e ∷ es) n h (suc i) zero d le lt = absurd (omega arith)
   rises (e ∷ es) n h (suc i) (suc j) d le lt = rises es n (second _ _ h) i j d (omega arith) (omega arith)
 
-  all_at : (P : ℕ × B → Type 0) (es : Numbered B) → ((k : ℕ) (d : ℕ × B) → k < length es → P (get_or es k d)) → AllByRecursion P es
+  all_at : (P : ℕ × B → Type 0) (es : Numbered B) → ((k : ℕ) (d : ℕ × B) → k < length es → P (get_or es k d))
+      → AllByRecursion P es
   all_at P [] h = tt
   all_at P (e ∷ es) h = (h 0 e (omega arith), all_at P es (λ k d lt. h (suc k) d (omega arith)))
 
-  pub stands_at : (es : Numbered B) (i : ℕ) (n : ℕ) → IsTrue (is_sorted nat_cmp es) → i < length es → ((d : ℕ × B) → nat_cmp (get_or es i d).0 n ≡ Equal) → StandsAt es n i
+  pub stands_at : (es : Numbered B) (i : ℕ) (n : ℕ) → IsTrue (is_sorted nat_cmp es) → i < length es
+      → ((d : ℕ × B) → nat_cmp (get_or es i d).0 n ≡ Equal) → StandsAt es n i
   stands_at [] i n h lt is = absurd (omega arith)
   stands_at (e ∷ es) zero n h lt is =
       let same : e.0 ≡ n = nat_cmp-IsAntisymmetric e.0 n (is e) in
@@ -79,7 +88,8 @@ module _ {B : Type 0} where
       }
   stands_at (e ∷ es) (suc i) n h lt is =
       let r : StandsAt es n i = stands_at es i n (second _ _ h) (omega arith) is in
-      let below : IsTrue (below_all nat_cmp e.0 (r.before ++ (n, r.body) ∷ r.after)) = subst (λ xs. IsTrue (below_all nat_cmp e.0 xs)) r.split (first _ _ h) in
+      let below : IsTrue (below_all nat_cmp e.0 (r.before ++ (n, r.body) ∷ r.after)) =
+      subst (λ xs. IsTrue (below_all nat_cmp e.0 xs)) r.split (first _ _ h) in
       record {
         before = e ∷ r.before;
         body = r.body;
@@ -90,11 +100,25 @@ module _ {B : Type 0} where
         higher = r.higher;
       }
 
-  pub belongs_at : (es : Numbered B) (i : ℕ) (n : ℕ) → i ≤ length es → ((k : ℕ) (d : ℕ × B) → k < i → nat_cmp (get_or es k d).0 n ≡ Less) → ((k : ℕ) (d : ℕ × B) → i ≤ k → k < length es → nat_cmp (get_or es k d).0 n ≡ Greater) → BelongsAt es n i
-  belongs_at [] i n le low high = record { before = []; after = []; split = refl; counted = omega arith; lower = tt; higher = tt }
-  belongs_at (e ∷ es) zero n le low high = record { before = []; after = e ∷ es; split = refl; counted = refl; lower = tt; higher = all_at _ (e ∷ es) (λ k d lt. high k d (omega arith) lt) }
+  pub belongs_at : (es : Numbered B) (i : ℕ) (n : ℕ) → i ≤ length es
+      → ((k : ℕ) (d : ℕ × B) → k < i → nat_cmp (get_or es k d).0 n ≡ Less)
+      → ((k : ℕ) (d : ℕ × B) → i ≤ k → k < length es → nat_cmp (get_or es k d).0 n ≡ Greater) → BelongsAt es n i
+  belongs_at [] i n le low high =
+      record { before = []; after = []; split = refl; counted = omega arith; lower = tt; higher = tt }
+  belongs_at (e ∷ es) zero n le low high =
+      record {
+        before = [];
+        after = e ∷ es;
+        split = refl;
+        counted = refl;
+        lower = tt;
+        higher =
+            all_at _ (e ∷ es) (λ k d lt. high k d (omega arith) lt);
+      }
   belongs_at (e ∷ es) (suc i) n le low high =
-      let r : BelongsAt es n i = belongs_at es i n (omega arith) (λ k d lt. low (suc k) d (omega arith)) (λ k d ge lt. high (suc k) d (omega arith) (omega arith)) in
+      let r : BelongsAt es n i =
+      belongs_at es i n (omega arith) (λ k d lt. low (suc k) d (omega arith))
+      (λ k d ge lt. high (suc k) d (omega arith) (omega arith)) in
       record {
         before = e ∷ r.before;
         after = r.after;
@@ -105,7 +129,9 @@ module _ {B : Type 0} where
       }
 
   -- what a binary search by the names says
-  pub place_from : (es : Numbered B) (n : ℕ) (r : Result ℕ ℕ) → IsTrue (is_sorted nat_cmp es) → IsSearchInRange r (length es) → IsBinarySearchResult (λ e. nat_cmp e.0 n) es r → MatchResult r (StandsAt es n) (BelongsAt es n)
+  pub place_from : (es : Numbered B) (n : ℕ) (r : Result ℕ ℕ) → IsTrue (is_sorted nat_cmp es)
+      → IsSearchInRange r (length es) → IsBinarySearchResult (λ e. nat_cmp e.0 n) es r
+      → MatchResult r (StandsAt es n) (BelongsAt es n)
   place_from es n (Ok i) h lt is = stands_at es i n h lt is
   place_from es n (Err i) h le is =
       let parts = is (rises es n h) in

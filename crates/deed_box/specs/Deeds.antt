@@ -34,5 +34,7 @@ abbrev pub AreAbsent : {B : Type 0} → Named B → List Name → Type 0
 AreAbsent bodies [] = Unit {0}
 AreAbsent bodies (name ∷ names) = (get_named bodies name ≡ None) × AreAbsent bodies names
 
-in_order : all_deeds (record { processes = (2, true) ∷ []; queues = (3, true) ∷ (9, true) ∷ []; sets = (1, true) ∷ [] }) ≡ (Msg 3, true) ∷ (Msg 9, true) ∷ (Sem 1, true) ∷ (Proc 2, true) ∷ []
+in_order : all_deeds
+    (record { processes = (2, true) ∷ []; queues = (3, true) ∷ (9, true) ∷ []; sets = (1, true) ∷ [] })
+    ≡ (Msg 3, true) ∷ (Msg 9, true) ∷ (Sem 1, true) ∷ (Proc 2, true) ∷ []
 in_order = refl

@@ -1,3 +1,4 @@
+//! One deed: the right to carry out calls on a name, with its body.
 use crate::Shared;
 use pico_base::{Bytes, Memory, Name, UnpackFault};
 use rpc_frame::PackedDeed;

@@ -1,3 +1,4 @@
+//! The deeds that a node holds, by name.
 ghost use Rattle.std.specs.Prelude.{◌≡◌, ◌≤◌, ◌<◌, ◌+◌, ◌-◌, None, Some, Ok, IsTrue, IsOk, IsSome, IfSome, IfOk, IfErr, OnOk, OnErr, is_some, if◌then◌else◌, length, min};
 ghost use Rattle.std.specs.Borrow.{sem};
 ghost use Rattle.std.specs.List.{IsDistinct};
@@ -54,9 +55,13 @@ impl<B> Deeds<B> {
 
     /// How many deeds there are, where that is a `usize`.
     fn count(&self) -> Option<usize>
-        ensures { IfSome result (λ n. n ≡ length self.now.bodies.processes + length self.now.bodies.queues + length self.now.bodies.sets) }
+        ensures { IfSome result (λ n.
+            n ≡ length self.now.bodies.processes + length self.now.bodies.queues + length self.now.bodies.sets) }
     {
-        self.processes.len().checked_add(self.queues.len())?.checked_add(self.sets.len())
+        self.processes
+            .len()
+            .checked_add(self.queues.len())?
+            .checked_add(self.sets.len())
     }
 
     /// Takes room for so many more deeds.
@@ -72,15 +77,18 @@ impl<B> Deeds<B> {
     fn spare(&self) -> usize
         ensures { result ≡ self.now.spare }
     {
-        let capacity = self.processes.capacity().min(self.queues.capacity().min(self.sets.capacity()));
+        let capacity = self
+            .processes
+            .capacity()
+            .min(self.queues.capacity().min(self.sets.capacity()));
         capacity
             .saturating_sub(self.processes.len())
             .saturating_sub(self.queues.len())
             .saturating_sub(self.sets.len())
     }
 
-    /// Puts a deed of a name that isn't there. A refusal for want of memory changes nothing and hands it back; with room
-    /// to spare there is none.
+    /// Puts a deed of a name that isn't there. A refusal for want of memory changes nothing and hands it back; with
+    /// room to spare there is none.
     pub fn put(&mut self, deed: Deed<B>) -> Result<(), (Memory, Deed<B>)>
         requires { get_named self.old.bodies deed.0 ≡ None }
         ensures ok { OnOk result (self.new.bodies ≡ put_named self.old.bodies deed.0 deed.1) }
@@ -148,7 +156,11 @@ impl<B> Deeds<B> {
         ensures* writes_back { sem 𝓛 (lends_body_if B.row self.entry name result) }
         ensures value { option_copied_mut result ≡ get_named self.old.bodies name }
     {
-        if self.holds(&name) { Some(self.body_mut(&name)) } else { None }
+        if self.holds(&name) {
+            Some(self.body_mut(&name))
+        } else {
+            None
+        }
     }
 
     fn holds(&self, name: &Name) -> bool
@@ -180,7 +192,10 @@ impl<B> Deeds<B> {
         ensures keeps { self.old.spare ≤ self.new.spare }
         ensures same { self.new.bodies ≡ self.old.bodies }
     {
-        let count = self.count().and_then(|count| count.checked_add(more)).ok_or(Memory)?;
+        let count = self
+            .count()
+            .and_then(|count| count.checked_add(more))
+            .ok_or(Memory)?;
         self.processes.reserve_for(count)?;
         self.queues.reserve_for(count)?;
         self.sets.reserve_for(count)

@@ -30,7 +30,8 @@ fn pack_kind<B: Shared>(
     entries: &[(u32, B)],
 ) -> Result<Vec<PackedDeed>, Memory>
     requires { AllFit B.fits (deeds_of (name_of kind) entries.now) }
-    ensures { IfOk result (λ packed. ArePackedDeeds B.fits B.IsSpelled (deeds_of (name_of kind) entries.now) packed.items) }
+    ensures { IfOk result
+        (λ packed. ArePackedDeeds B.fits B.IsSpelled (deeds_of (name_of kind) entries.now) packed.items) }
 {
     let mut packed = Vec::with_capacity(alloc, entries.len())?;
     for entry in entries {
@@ -59,12 +60,14 @@ fn unpack_all<B: Shared + Drop>(
 }
 
 impl<B: Shared + Drop> Deeds<B> {
-    /// Unpacks and puts deeds of different names that aren't there, all or none of them. NotABody comes exactly where the
-    /// bytes of one of them spell no body that goes with its name. A refusal changes nothing and hands them back.
+    /// Unpacks and puts deeds of different names that aren't there, all or none of them. NotABody comes exactly where
+    /// the bytes of one of them spell no body that goes with its name. A refusal changes nothing and hands them back.
     pub fn put_packed(&mut self, packed: PackedDeeds) -> Result<(), (UnpackFault, PackedDeeds)>
         requires distinct { IsDistinct is_same_name (names_of packed) }
         requires absent { AreAbsent self.old.bodies (names_of packed) }
-        ensures ok { OnOk result ((deeds : List (Named × B)) × ArePackedDeeds B.fits B.IsSpelled deeds packed × (self.new.bodies ≡ put_all self.old.bodies deeds)) }
+        ensures ok { OnOk result
+            ((deeds : List (Named × B)) × ArePackedDeeds B.fits B.IsSpelled deeds packed
+            × (self.new.bodies ≡ put_all self.old.bodies deeds)) }
         ensures not_a_body { IfErr result (λ back. back.0 ≡ NotABody → SomeIsNoDeed B.fits B.IsSpelled packed) }
         ensures err { OnErr result (self.new.bodies ≡ self.old.bodies) }
         ensures back { IfErr result (λ back. back.1 ≡ packed) }
@@ -76,7 +79,9 @@ impl<B: Shared + Drop> Deeds<B> {
     }
 
     fn unpack_and_put(&mut self, packed: &[PackedDeed]) -> Result<(), UnpackFault>
-        ensures ok { OnOk result ((deeds : List (Named × B)) × ArePackedDeeds B.fits B.IsSpelled deeds packed.now × (self.new.bodies ≡ put_all self.old.bodies deeds)) }
+        ensures ok { OnOk result
+            ((deeds : List (Named × B)) × ArePackedDeeds B.fits B.IsSpelled deeds packed.now
+            × (self.new.bodies ≡ put_all self.old.bodies deeds)) }
         ensures not_a_body { result ≡ Err NotABody → SomeIsNoDeed B.fits B.IsSpelled packed.now }
         ensures err { OnErr result (self.new.bodies ≡ self.old.bodies) }
     {

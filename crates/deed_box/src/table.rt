@@ -42,7 +42,6 @@ fn place_of<B>(entries: &[(u32, B)], number: u32) -> Result<usize, usize>
 impl<B> Table<B> {
     ghost use Rattle.deed_box.specs.Lending.{lends_entry};
 
-
     pub(crate) fn new(alloc: Global) -> Table<B>
         ensures { result.entries ≡ [] }
     {

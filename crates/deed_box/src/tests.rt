@@ -35,30 +35,42 @@ impl Shared for Tally {
         }
     }
 
-    ghost one_body = { λ name body other bytes fits also spelled again. ap (λ xs. record { count = get_or xs 0 0 }) (sym spelled ∙ again) };
+    ghost one_body = { λ name body other bytes fits also spelled again.
+        ap (λ xs. record { count = get_or xs 0 0 }) (sym spelled ∙ again) };
 
     ghost one_spelling = { λ body bytes other spelled again. spelled ∙ sym again };
 }
 
-#[test]
-fn deeds_are_handed_over_in_order(rt: HostRuntime) -> Result<(), Fail> {
-    let mut deeds = Deeds::new(rt.alloc())?;
-    deeds.reserve(4)?;
-    for (name, count) in [
-        (Name::Proc(Pid(2)), 1),
-        (Name::Msg(Id(9)), 2),
-        (Name::Sem(Id(1)), 3),
-        (Name::Msg(Id(3)), 4),
-    ] {
-        if !deeds.has(name) {
-            let put = deeds.put(Deed::create(name, Tally { count }));
-            assert!(rt; put.is_ok());
+/// Puts the deed of a name that is new.
+fn put_new(deeds: &mut Deeds<Tally>, name: &Name, count: u8) -> Result<(), Memory> {
+    if deeds.has(*name) {
+        return Ok(());
+    }
+    match deeds.put(Deed::create(*name, Tally { count })) {
+        Ok(()) => Ok(()),
+        Err((Memory, back)) => {
+            let Deed { name: _, body: _ } = back;
+            Err(Memory)
         }
     }
-    assert_eq!(rt; deeds.get(Name::Sem(Id(1))).ok_or("set 1")?.count, 3);
-    let Some(tally) = deeds.get_mut(Name::Msg(Id(3))) else {
-        panic!(rt; "queue 3 isn't there");
-    };
-    tally.count = 5;
+}
+
+#[test]
+fn deeds_are_held_by_name(rt: HostRuntime) -> Result<(), Fail> {
+    let mut deeds = Deeds::new(rt.alloc())?;
+    deeds.reserve(4)?;
+    put_new(&mut deeds, &Name::Proc(Pid(2)), 1)?;
+    put_new(&mut deeds, &Name::Msg(Id(9)), 2)?;
+    put_new(&mut deeds, &Name::Sem(Id(9)), 3)?;
+    put_new(&mut deeds, &Name::Msg(Id(3)), 4)?;
+    assert_eq!(rt; deeds.get(Name::Sem(Id(9))).ok_or("set 9")?.count, 3);
+    deeds.get_mut(Name::Msg(Id(3))).ok_or("queue 3")?.count = 5;
+    assert_eq!(rt; deeds.get(Name::Msg(Id(3))).ok_or("queue 3")?.count, 5);
+    if let Some(deed) = deeds.take(Name::Msg(Id(9))) {
+        let Deed { name: _, body } = deed;
+        assert_eq!(rt; body.count, 2);
+    }
+    assert!(rt; !deeds.has(Name::Msg(Id(9))));
+    assert!(rt; deeds.has(Name::Proc(Pid(2))));
     Ok(())
 }

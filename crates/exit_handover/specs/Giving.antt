@@ -17,7 +17,8 @@ hand_over objects processes pid parent call =
     ++ frames.Left (record { pid = pid; parent = parent; call = call; deeds = processes }) ∷ []
 
 -- Every deed once: first the queues by rising number, then the sets, and in the end the processes.
-pub record HandsOver {B : Type 0} (fits : B → Name → Bool) (IsSpelled : B → List ℕ → Type 0) (bodies : Named B) (pid parent : ℕ) (call : Call) (sent : List Frame) : Type 0 where
+pub record HandsOver {B : Type 0} (fits : B → Name → Bool) (IsSpelled : B → List ℕ → Type 0)
+    (bodies : Named B) (pid parent : ℕ) (call : Call) (sent : List Frame) : Type 0 where
   pub objects : List PackedDeed
   pub processes : List PackedDeed
   pub objects_packed : ArePackedDeeds fits IsSpelled (deeds_of Msg bodies.queues ++ deeds_of Sem bodies.sets) objects

@@ -1,5 +1,5 @@
-//! How a node leaves once its process has made its last call: it says so, and when the leader asks for them it hands over
-//! all deeds that it holds.
+//! How a node leaves once its process has made its last call: it says so, and when the leader asks for them it hands
+//! over all deeds that it holds.
 #![tactic(auto)]
 
 ghost use Rattle.std.specs.Prelude.{◌≡◌, ◌⊎◌, IfOk, OnOk, OnErr, map};
@@ -52,7 +52,9 @@ struct Sorted {
 
 /// Sorts packed deeds, and keeps their order.
 fn sort(alloc: Global, packed: Vec<PackedDeed>) -> Result<Sorted, Memory>
-    ensures { IfOk result (λ sorted. (sorted.frames.items ≡ map (λ deed. frames.GiveBack deed) (objects_in packed.items)) × (sorted.processes.items ≡ processes_in packed.items)) }
+    ensures { IfOk result (λ sorted.
+        (sorted.frames.items ≡ map (λ deed. frames.GiveBack deed) (objects_in packed.items))
+        × (sorted.processes.items ≡ processes_in packed.items)) }
 {
     let mut frames = Vec::with_capacity(alloc, packed.len())?;
     let mut processes = Vec::new(alloc);
@@ -66,8 +68,8 @@ fn sort(alloc: Global, packed: Vec<PackedDeed>) -> Result<Sorted, Memory>
 }
 
 /// Packs and hands over all deeds: each queue and set by a frame of its own, queues first, each kind by rising number,
-/// and then all processes by rising number in the parcel that ends this node's process with this call. The table is then
-/// empty. After a refusal for want of memory it is as before or empty.
+/// and then all processes by rising number in the parcel that ends this node's process with this call. The table is
+/// then empty. After a refusal for want of memory it is as before or empty.
 pub fn give_all<B: Shared + Drop>(
     alloc: Global,
     deeds: &mut Deeds<B>,

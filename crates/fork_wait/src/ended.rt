@@ -1,3 +1,4 @@
+//! A child that has ended, with its ending.
 use pico_base::{Ending, Pid};
 use std::marker::Model;
 

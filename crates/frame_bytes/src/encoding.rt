@@ -1,3 +1,4 @@
+//! A frame to its bytes.
 ghost use Rattle.std.specs.Prelude.{◌≡◌, IfOk};
 ghost use Rattle.frame_bytes.specs.Frames.{IsFrame, frame_bytes};
 ghost use Rattle.frame_bytes.specs.Limits.{IsWithinLimits};

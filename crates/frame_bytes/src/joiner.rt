@@ -1,3 +1,4 @@
+//! Pieces of a stream to the frames that they complete.
 ghost use Rattle.std.specs.Prelude.{◌≡◌, ◌≤◌, [], drop, vec_len};
 ghost use Rattle.frame_bytes.specs.Streams.{Feeds, Rest};
 

@@ -1,3 +1,4 @@
+//! Frames byte by byte, cut anywhere, and bytes that are none.
 ghost use Rattle.frame_bytes.specs.Limits.{IsWithinLimits};
 
 use crate::{FrameFault, Joiner, encode};

@@ -8,15 +8,15 @@ ghost use Rattle.call_answers.specs.Answers.{Changes, Receives, done_reply};
 
 use crate::queue::MessageQueue;
 use crate::semaphores::SemaphoreSet;
-use pico_base::{Bytes, Errno, Memory, Pid, Reply, SemStep};
+use pico_base::{Bytes, Errno, Id, Memory, Pid, Reply, SemStep};
 use std::alloc::Global;
 use std::collections::BTreeMap;
 
 /// The queues by number.
-pub(crate) type Queues = BTreeMap<u32, MessageQueue>;
+pub(crate) type Queues = BTreeMap<Id, MessageQueue>;
 
 /// The semaphore sets by number.
-pub(crate) type Sets = BTreeMap<u32, SemaphoreSet>;
+pub(crate) type Sets = BTreeMap<Id, SemaphoreSet>;
 
 /// The reply to a change.
 fn answer(outcome: Result<(), Errno>) -> Reply
@@ -32,7 +32,7 @@ fn answer(outcome: Result<(), Errno>) -> Reply
 pub(crate) fn send_at(
     alloc: Global,
     queues: &mut Queues,
-    id: u32,
+    id: Id,
     pid: Pid,
     class: i32,
     text: &Bytes,
@@ -50,7 +50,7 @@ pub(crate) fn send_at(
 /// msgrcv from the queue of a number.
 pub(crate) fn receive_at(
     queues: &mut Queues,
-    id: u32,
+    id: Id,
     pid: Pid,
     class: i32,
     size: u32,
@@ -68,7 +68,7 @@ pub(crate) fn receive_at(
 }
 
 /// msgctl with IPC_SET at the queue of a number.
-pub(crate) fn set_qbytes_at(queues: &mut Queues, id: u32, qbytes: u32) -> Reply
+pub(crate) fn set_qbytes_at(queues: &mut Queues, id: Id, qbytes: u32) -> Reply
     ensures { Changes (λ q. set_qbytes q qbytes) queues.old.entries id queues.new.entries result }
 {
     match queues.get_mut(&id) {
@@ -81,7 +81,7 @@ pub(crate) fn set_qbytes_at(queues: &mut Queues, id: u32, qbytes: u32) -> Reply
 pub(crate) fn op_at(
     alloc: Global,
     sets: &mut Sets,
-    id: u32,
+    id: Id,
     pid: Pid,
     steps: &[SemStep],
 ) -> Result<Reply, Memory>
@@ -95,7 +95,7 @@ pub(crate) fn op_at(
 }
 
 /// semctl with SETVAL at the set of a number.
-pub(crate) fn set_value_at(sets: &mut Sets, id: u32, num: u16, value: u32) -> Reply
+pub(crate) fn set_value_at(sets: &mut Sets, id: Id, num: u16, value: u32) -> Reply
     ensures { Changes (λ s. set_value s num value) sets.old.entries id sets.new.entries result }
 {
     match sets.get_mut(&id) {
@@ -105,7 +105,7 @@ pub(crate) fn set_value_at(sets: &mut Sets, id: u32, num: u16, value: u32) -> Re
 }
 
 /// semctl with SETALL at the set of a number.
-pub(crate) fn set_all_at(sets: &mut Sets, id: u32, values: &[u32]) -> Reply
+pub(crate) fn set_all_at(sets: &mut Sets, id: Id, values: &[u32]) -> Reply
     ensures { Changes (λ s. set_all s values.now) sets.old.entries id sets.new.entries result }
 {
     match sets.get_mut(&id) {
@@ -115,7 +115,7 @@ pub(crate) fn set_all_at(sets: &mut Sets, id: u32, values: &[u32]) -> Reply
 }
 
 /// Removes what a map has at a number, and says whether it had anything there.
-pub(crate) fn remove_at<T: Drop>(things: &mut BTreeMap<u32, T>, id: u32) -> bool
+pub(crate) fn remove_at<T: Drop>(things: &mut BTreeMap<Id, T>, id: Id) -> bool
     ensures removed { things.new.entries ≡ without things.old.entries id }
     ensures there { result ≡ is_some (get things.old.entries id) }
     ensures unchanged { OnFalse result (things.new.entries ≡ things.old.entries) }

@@ -5,7 +5,7 @@ ghost use Rattle.kernel_model.specs.QueueCalls.{unbind};
 ghost use Rattle.number_maps.specs.Rising.{IsRising};
 ghost use Rattle.mono_kernel.specs.Names.{with_name, keys_with, ways_with, bound_to, HasWays, LeadsNowhere, LeadsOnly};
 
-use pico_base::Memory;
+use pico_base::{Id, Memory};
 use std::alloc::Global;
 use std::collections::{BTreeMap, BTreeSet};
 use std::marker::Model;
@@ -89,7 +89,7 @@ fn free(keys: &mut BTreeMap<u32, u32>, key: Option<u32>)
 fn give_out<T: Drop>(
     used: &mut BTreeSet<u32>,
     keys: &mut BTreeMap<u32, u32>,
-    things: &mut BTreeMap<u32, T>,
+    things: &mut BTreeMap<Id, T>,
     number: u32,
     key: Option<u32>,
     thing: T,
@@ -109,7 +109,7 @@ fn give_out<T: Drop>(
         used.remove(&number);
         return Err(memory);
     }
-    if things.insert(number, thing).is_err() {
+    if things.insert(Id(number), thing).is_err() {
         free(keys, key);
         used.remove(&number);
         return Err(Memory);
@@ -147,7 +147,7 @@ impl Names {
     /// changes nothing.
     pub(crate) fn add<T: Drop>(
         &mut self,
-        things: &mut BTreeMap<u32, T>,
+        things: &mut BTreeMap<Id, T>,
         number: u32,
         key: Option<u32>,
         thing: T,

@@ -7,7 +7,7 @@ use Rattle.pico_base.specs.declared.script.Block.{Block}
 use Rattle.pico_base.specs.declared.script.Script.{Script}
 use Rattle.kernel_model.specs.Script.{IsSoundScript, is_exit, with_exit, implied_exit, ends_rightly}
 use Rattle.kernel_model.specs.Fitting.{block_at}
-use Rattle.node_calls.specs.Model.{lines_in, lines_of}
+use Rattle.node_model.specs.Caller.{lines_in, lines_of}
 use Rattle.node_calls.specs.Lines.{written_in, written_lines, written_count, is_exit_line}
 
 -- A line that is reached is the written one, or the exit that the end stands for.
@@ -39,7 +39,8 @@ reached_end (x ∷ xs) zero there within = absurd (cc)
 reached_end (x ∷ xs) (suc i) there within =
     later_of (is_exit x.call) x (with_exit xs) i (Some implied_exit) within (reached_end xs i there)
 
-written-line_in : (b : Option Block) (i : ℕ) (line : Line) → slice_get (written_in b) i ≡ Some line → i < length (lines_in b)
+written-line_in : (b : Option Block) (i : ℕ) (line : Line) → slice_get (written_in b) i ≡ Some line
+    → i < length (lines_in b)
     → slice_get (lines_in b) i ≡ Some line
 written-line_in None i line there within = absurd (omega arith)
 written-line_in (Some block) i line there within = reached_line block.lines i line there within
@@ -49,7 +50,8 @@ written-end_in : (b : Option Block) (i : ℕ) → slice_get (written_in b) i ≡
 written-end_in None i there within = absurd (omega arith)
 written-end_in (Some block) i there within = reached_end block.lines i there within
 
-pub reached-written : (script : Script) (block i : ℕ) (line : Line) → slice_get (written_lines script block) i ≡ Some line
+pub reached-written : (script : Script) (block i : ℕ) (line : Line)
+    → slice_get (written_lines script block) i ≡ Some line
     → i < length (lines_of script block) → slice_get (lines_of script block) i ≡ Some line
 reached-written script block i line there within = written-line_in (block_at script block) i line there within
 
@@ -62,13 +64,16 @@ behind_last : (lines : List Line) (i : ℕ) → slice_get lines i ≡ None → i
 behind_last [] zero there within = refl
 behind_last [] (suc i) there within = absurd (omega arith)
 behind_last (x ∷ xs) zero there within = absurd (cc)
-behind_last (x ∷ xs) (suc i) there within = next_of (is_exit x.call) x (with_exit xs) i (length xs) within (behind_last xs i there)
+behind_last (x ∷ xs) (suc i) there within =
+    next_of (is_exit x.call) x (with_exit xs) i (length xs) within (behind_last xs i there)
   where
-    next_of : (b : Bool) (line : Line) (rest : List Line) (i n : ℕ) → suc i < length (exit_or b line rest) → (i < length rest → n ≡ i) → suc n ≡ suc i
+    next_of : (b : Bool) (line : Line) (rest : List Line) (i n : ℕ) → suc i < length (exit_or b line rest)
+        → (i < length rest → n ≡ i) → suc n ≡ suc i
     next_of true line rest i n within later = absurd (omega arith)
     next_of false line rest i n within later = ap suc (later (omega arith))
 
-behind_last_in : (b : Option Block) (i : ℕ) → slice_get (written_in b) i ≡ None → i < length (lines_in b) → length (written_in b) ≡ i
+behind_last_in : (b : Option Block) (i : ℕ) → slice_get (written_in b) i ≡ None → i < length (lines_in b)
+    → length (written_in b) ≡ i
 behind_last_in None i there within = absurd (omega arith)
 behind_last_in (Some block) i there within = behind_last block.lines i there within
 
@@ -77,7 +82,8 @@ pub implied-last : (script : Script) (block i : ℕ) → slice_get (written_line
 implied-last script block i there within = behind_last_in (block_at script block) i there within
 
 -- as the code has it: own is the slice of the written lines
-pub written-there : (lines own : List Line) (i : ℕ) (o : Option Line) → o ≡ slice_get own i → own ≡ lines → slice_get lines i ≡ o
+pub written-there : (lines own : List Line) (i : ℕ) (o : Option Line) → o ≡ slice_get own i → own ≡ lines
+    → slice_get lines i ≡ o
 written-there lines own i o there is = sym (there ∙ ap (λ (ls : List Line). slice_get ls i) is)
 
 -- How many lines a block of a sound script has.
@@ -115,7 +121,8 @@ counted_lines (x ∷ y ∷ ys) h =
     let parts = both (not (is_exit x.call) || nat_eq (length (y ∷ ys)) 0) (ends_rightly (y ∷ ys)) h
     in let goes_on : is_exit x.call ≡ false = not_both (is_exit x.call) (length ys) parts.0
     in let last : length (x ∷ y ∷ ys) - 1 ≡ suc (length (y ∷ ys) - 1) = omega arith
-    in let there : slice_get (x ∷ y ∷ ys) (length (x ∷ y ∷ ys) - 1) ≡ slice_get (y ∷ ys) (length (y ∷ ys) - 1) = ap (slice_get (x ∷ y ∷ ys)) last
+    in let there : slice_get (x ∷ y ∷ ys) (length (x ∷ y ∷ ys) - 1) ≡ slice_get (y ∷ ys) (length (y ∷ ys) - 1) =
+    ap (slice_get (x ∷ y ∷ ys)) last
     in ap (λ (o : Option Line). with_end (is_exit_line o) (length (x ∷ y ∷ ys))) there
     ∙ grows (is_exit_line (slice_get (y ∷ ys) (length (y ∷ ys) - 1))) (length (y ∷ ys))
     ∙ ap suc (counted_lines (y ∷ ys) parts.1)
@@ -129,15 +136,18 @@ ends_last (b ∷ blocks) zero block h there =
     in ap (λ (x : Block). ends_rightly x.lines) (sym same)
     ∙ (both (ends_rightly b.lines) (list_all (λ (x : Block). ends_rightly x.lines) blocks) h).0
 ends_last (b ∷ blocks) (suc k) block h there =
-    ends_last blocks k block (both (ends_rightly b.lines) (list_all (λ (x : Block). ends_rightly x.lines) blocks) h).1 there
+    ends_last blocks k block
+    (both (ends_rightly b.lines) (list_all (λ (x : Block). ends_rightly x.lines) blocks) h).1 there
 
 -- as the code has it: own is the slice of the block's lines
-pub count-is : (script : Script) (node n : ℕ) (block : Block) (own : List Line) → IsSoundScript script → Some block ≡ block_at script node
+pub count-is : (script : Script) (node n : ℕ) (block : Block) (own : List Line) → IsSoundScript script
+    → Some block ≡ block_at script node
     → own ≡ block.lines → n ≡ written_count own → n ≡ length (lines_of script node)
 unfolding with_end
 count-is script node n block own sound there is count =
     let right : ends_rightly block.lines ≡ true = ends_last script.blocks (node - 1) block sound.exits (sym there)
-    in count ∙ ap written_count is ∙ counted_lines block.lines right ∙ ap (λ (b : Option Block). length (lines_in b)) there
+    in count ∙ ap written_count is ∙ counted_lines block.lines right
+    ∙ ap (λ (b : Option Block). length (lines_in b)) there
 
 -- A line is reached where no line before it is an exit.
 
@@ -145,7 +155,8 @@ first_goes_on : (b rest : Bool) → (b || rest) ≡ false → (b ≡ false) × (
 first_goes_on true rest h = absurd (cc)
 first_goes_on false rest h = (refl, h)
 
-reached_before : (lines : List Line) (i : ℕ) → i ≤ length lines → list_any (λ (l : Line). is_exit l.call) (take i lines) ≡ false
+reached_before : (lines : List Line) (i : ℕ) → i ≤ length lines
+    → list_any (λ (l : Line). is_exit l.call) (take i lines) ≡ false
     → i < length (with_exit lines)
 reached_before [] i within h = omega arith
 reached_before (x ∷ xs) zero within h = some_first (is_exit x.call) x (with_exit xs)
@@ -158,15 +169,18 @@ reached_before (x ∷ xs) (suc i) within h =
     in let later : i < length (with_exit xs) = reached_before xs i (omega arith) parts.1
     in goes_on (is_exit x.call) x (with_exit xs) i parts.0 later
   where
-    goes_on : (b : Bool) (line : Line) (rest : List Line) (i : ℕ) → b ≡ false → i < length rest → suc i < length (exit_or b line rest)
+    goes_on : (b : Bool) (line : Line) (rest : List Line) (i : ℕ) → b ≡ false → i < length rest
+        → suc i < length (exit_or b line rest)
     goes_on true line rest i h later = absurd (cc)
     goes_on false line rest i h later = omega arith
 
-pub is-reached : (script : Script) (node i : ℕ) (block : Block) (own : List Line) → Some block ≡ block_at script node → own ≡ block.lines
+pub is-reached : (script : Script) (node i : ℕ) (block : Block) (own : List Line) → Some block ≡ block_at script node
+    → own ≡ block.lines
     → i ≤ length own → list_any (λ (l : Line). is_exit l.call) (take i own) ≡ false → i < length (lines_of script node)
 is-reached script node i block own there is within h =
     let low : i < length (with_exit own) = reached_before own i within h
-    in subst (λ (b : Option Block). i < length (lines_in b)) there (subst (λ (ls : List Line). i < length (with_exit ls)) is low)
+    in subst (λ (b : Option Block). i < length (lines_in b)) there
+    (subst (λ (ls : List Line). i < length (with_exit ls)) is low)
 
 pub from-not : (b : Bool) → not b ≡ true → b ≡ false
 from-not true h = absurd (cc)

@@ -13,10 +13,11 @@ use Rattle.kernel_model.specs.Script.{Vars, call_of, implied_exit}
 use Rattle.kernel_model.specs.Fitting.{Place, place_after, after_line, call_due as call_due_at, child_vars, child_vars_at, due, asks_again, set_variable, value_in}
 use Rattle.node_calls.specs.Lines.{written_lines}
 use Rattle.node_calls.proofs.LineLemmas.{reached-written, reached-implied}
-use Rattle.node_calls.specs.Model.{Caller, answered_at, ended_call, lines_of}
+use Rattle.node_model.specs.Caller.{Caller, answer_at, end_call, lines_of}
 use Rattle.node_calls.specs.Caller.{BlockCaller, HasLine, answered, call_due, place_of}
 
-pub drop-at : (lines : List Line) (i : ℕ) (line : Line) → slice_get lines i ≡ Some line → drop i lines ≡ line ∷ drop (suc i) lines
+pub drop-at : (lines : List Line) (i : ℕ) (line : Line) → slice_get lines i ≡ Some line
+    → drop i lines ≡ line ∷ drop (suc i) lines
 drop-at [] i line there = absurd (cc)
 drop-at (x ∷ xs) zero line there = let same : x ≡ line = cc in ap (λ (y : Line). y ∷ xs) same
 drop-at (x ∷ xs) (suc i) line there = drop-at xs i line there
@@ -32,11 +33,13 @@ record IsReached (lines : List Line) (i : ℕ) (set : Option ℕ) (tries : ℕ) 
   sets : set ≡ line.set
   tried : tries ≡ line.tries
 
-reached : (lines : List Line) (i : ℕ) (set : Option ℕ) (tries : ℕ) → i < length lines → Terms lines i set tries → IsReached lines i set tries
+reached : (lines : List Line) (i : ℕ) (set : Option ℕ) (tries : ℕ) → i < length lines → Terms lines i set tries
+    → IsReached lines i set tries
 unfolding Terms
 reached lines i set tries within terms =
     let at : slice_get lines i ≡ Some (get_or lines i implied_exit) = slice_get-get_or lines i implied_exit within
-    in let facts : (set ≡ (get_or lines i implied_exit).set) × (tries ≡ (get_or lines i implied_exit).tries) = rw at at terms
+    in let facts : (set ≡ (get_or lines i implied_exit).set) × (tries ≡ (get_or lines i implied_exit).tries) =
+    rw at at terms
     in record {
       line = get_or lines i implied_exit;
       there = at;
@@ -51,8 +54,8 @@ place_at : List Line → Caller → Place
 place_at lines c = record { left = drop c.line lines; tried = c.tried; vars = c.vars }
 
 moved_by : (again : Bool) (lines : List Line) (c : Caller) (line : Line) (n : ℕ)
-    → place_at lines (if again then record (ended_call c) { tried = c.tried + 1 }
-    else record (ended_call c) { line = c.line + 1; tried = 0; vars = set_variable c.vars line.set n })
+    → place_at lines (if again then record (end_call c) { tried = c.tried + 1 }
+    else record (end_call c) { line = c.line + 1; tried = 0; vars = set_variable c.vars line.set n })
     ≡ (if again then record (place_at lines c) { tried = c.tried + 1 }
     else record { left = drop (suc c.line) lines; tried = 0; vars = set_variable c.vars line.set n })
 unfolding place_at
@@ -64,11 +67,13 @@ moved_by false lines c line n =
     at_left : List Line → ℕ → Vars → Place
     at_left left tried vars = record { left = left; tried = tried; vars = vars }
 
-moves_at : (lines : List Line) (c : Caller) (call : Call) (reply : Reply) (line : Line) → slice_get lines c.line ≡ Some line
-    → place_at lines (answered_at c call reply (slice_get lines c.line)) ≡ place_after (place_at lines c) call (Some reply)
+moves_at : (lines : List Line) (c : Caller) (call : Call) (reply : Reply) (line : Line)
+    → slice_get lines c.line ≡ Some line
+    → place_at lines (answer_at c call reply (slice_get lines c.line))
+    ≡ place_after (place_at lines c) call (Some reply)
 unfolding place_at
 moves_at lines c call reply line there =
-    ap (λ (o : Option Line). place_at lines (answered_at c call reply o)) there
+    ap (λ (o : Option Line). place_at lines (answer_at c call reply o)) there
     ∙ moved_by (asks_again call (Some reply) && nat_lt (c.tried + 1) line.tries) lines c line (value_in (Some reply))
     ∙ ap (after_line (place_at lines c) call (Some reply)) (sym (drop-at lines c.line line there))
 
@@ -77,86 +82,118 @@ pub place-moves : (script : Script) (c : BlockCaller) (call : Call) (reply : Rep
 unfolding place_at
 place-moves script c call reply reached =
     let lines = lines_of script c.block
-    in moves_at lines c.caller call reply (get_or lines c.caller.line implied_exit) (slice_get-get_or lines c.caller.line implied_exit reached)
+    in moves_at lines c.caller call reply (get_or lines c.caller.line implied_exit)
+    (slice_get-get_or lines c.caller.line implied_exit reached)
 
 -- As the code has it: what each way out of a reply leaves.
 
 abbrev caller_of : ℕ → ℕ → ℕ → Vars → ℕ → Option Call → BlockCaller
 caller_of block line tried vars ticket under_way =
-    record { block = block; caller = record { line = line; tried = tried; vars = vars; ticket = ticket; under_way = under_way } }
+    record {
+      block = block;
+      caller =
+          record { line = line; tried = tried; vars = vars; ticket = ticket; under_way = under_way };
+    }
 
 Answers : Script → Reply → BlockCaller → BlockCaller → Type 0
 Answers script reply new c = IfSome c.caller.under_way (λ call. new ≡ answered script c call reply)
 
-here_with : (script : Script) (c : BlockCaller) (new : BlockCaller) (u : Option Call) (call : Call) (reply : Reply) → u ≡ Some call
+here_with : (script : Script) (c : BlockCaller) (new : BlockCaller) (u : Option Call) (call : Call) (reply : Reply)
+    → u ≡ Some call
     → new ≡ answered script c call reply → IfSome u (λ call. new ≡ answered script c call reply)
 here_with script c new u call reply is answer = rw is answer
 
 -- the reply to a line that is reached, by whether it is tried again
 tried_on : Bool → BlockCaller → Option ℕ → ℕ → BlockCaller
 tried_on again c set n =
-    if again then record c { caller = record (ended_call c.caller) { tried = c.caller.tried + 1 } }
-    else record c { caller = record (ended_call c.caller) { line = c.caller.line + 1; tried = 0; vars = set_variable c.caller.vars set n } }
+    if again then record c { caller = record (end_call c.caller) { tried = c.caller.tried + 1 } }
+    else record c {
+      caller =
+          record (end_call c.caller) { line = c.caller.line + 1; tried = 0; vars = set_variable c.caller.vars set n };
+    }
 
 tried_in : (again : Bool) (c : BlockCaller) (line : Line) (n : ℕ)
     → record c {
-      caller = if again then record (ended_call c.caller) { tried = c.caller.tried + 1 }
-          else record (ended_call c.caller) { line = c.caller.line + 1; tried = 0; vars = set_variable c.caller.vars line.set n };
+      caller = if again then record (end_call c.caller) { tried = c.caller.tried + 1 }
+          else record (end_call c.caller) {
+            line = c.caller.line + 1;
+            tried = 0;
+            vars =
+                set_variable c.caller.vars line.set n;
+          };
     }
     ≡ tried_on again c line.set n
 unfolding tried_on
 tried_in true c line n = refl
 tried_in false c line n = refl
 
-answered_as : (script : Script) (c : BlockCaller) (set : Option ℕ) (tries : ℕ) (call : Call) (reply : Reply) (again : Bool)
+answered_as : (script : Script) (c : BlockCaller) (set : Option ℕ) (tries : ℕ) (call : Call) (reply : Reply)
+    (again : Bool)
     → IsReached (lines_of script c.block) c.caller.line set tries
     → again ≡ (asks_again call (Some reply) && nat_lt (c.caller.tried + 1) tries)
     → tried_on again c set (value_in (Some reply)) ≡ answered script c call reply
 answered_as script c set tries call reply again line is =
-    sym (ap (λ (o : Option Line). at_block c (answered_at c.caller call reply o)) line.there
-    ∙ tried_in (asks_again call (Some reply) && nat_lt (c.caller.tried + 1) line.line.tries) c line.line (value_in (Some reply))
-    ∙ ap (λ (s : Option ℕ). tried_on (asks_again call (Some reply) && nat_lt (c.caller.tried + 1) line.line.tries) c s (value_in (Some reply))) (sym line.sets)
-    ∙ ap (λ (m : ℕ). tried_on (asks_again call (Some reply) && nat_lt (c.caller.tried + 1) m) c set (value_in (Some reply))) (sym line.tried)
+    sym (ap (λ (o : Option Line). at_block c (answer_at c.caller call reply o)) line.there
+    ∙ tried_in (asks_again call (Some reply) && nat_lt (c.caller.tried + 1) line.line.tries) c line.line
+    (value_in (Some reply))
+    ∙ ap (λ (s : Option ℕ).
+    tried_on (asks_again call (Some reply) && nat_lt (c.caller.tried + 1) line.line.tries) c s
+    (value_in (Some reply))) (sym line.sets)
+    ∙ ap (λ (m : ℕ). tried_on (asks_again call (Some reply) && nat_lt (c.caller.tried + 1) m) c set
+    (value_in (Some reply))) (sym line.tried)
     ∙ ap (λ (b : Bool). tried_on b c set (value_in (Some reply))) (sym is))
   where
     at_block : BlockCaller → Caller → BlockCaller
     at_block c caller = record c { caller = caller }
 
-pub again-answers : (script : Script) (c : BlockCaller) (block line tried ticket tries : ℕ) (vars : Vars) (set : Option ℕ) (under_way : Option Call)
+pub again-answers : (script : Script) (c : BlockCaller) (block line tried ticket tries : ℕ) (vars : Vars)
+    (set : Option ℕ) (under_way : Option Call)
     (call : Call) (reply : Reply) → caller_of block line tried vars ticket under_way ≡ c → under_way ≡ Some call
     → HasLine script c
     → IfSome (slice_get (lines_of script block) line) (λ l. (set ≡ l.set) × (tries ≡ l.tries))
     → (asks_again call (Some reply) && nat_lt (tried + 1) tries) ≡ true
-    → IfSome c.caller.under_way (λ call. caller_of block line (tried + 1) vars ticket None ≡ answered script c call reply)
+    → IfSome c.caller.under_way
+    (λ call. caller_of block line (tried + 1) vars ticket None ≡ answered script c call reply)
 unfolding Answers Terms tried_on
 again-answers script c block line tried ticket tries vars set under_way call reply view is within terms again =
     let was = caller_of block line tried vars ticket under_way
     in let low : line < length (lines_of script block) = subst (HasLine script) (sym view) within
     in subst (Answers script reply (caller_of block line (tried + 1) vars ticket None)) view
     (here_with script was (caller_of block line (tried + 1) vars ticket None) under_way call reply is
-    (answered_as script was set tries call reply true (reached (lines_of script block) line set tries low terms) (sym again)))
+    (answered_as script was set tries call reply true (reached (lines_of script block) line set tries low terms)
+    (sym again)))
 
-pub next-answers : (script : Script) (c : BlockCaller) (block line tried ticket tries : ℕ) (vars : Vars) (set : Option ℕ) (under_way : Option Call)
+pub next-answers : (script : Script) (c : BlockCaller) (block line tried ticket tries : ℕ) (vars : Vars)
+    (set : Option ℕ) (under_way : Option Call)
     (call : Call) (reply : Reply) → caller_of block line tried vars ticket under_way ≡ c → under_way ≡ Some call
     → HasLine script c
     → IfSome (slice_get (lines_of script block) line) (λ l. (set ≡ l.set) × (tries ≡ l.tries))
     → (asks_again call (Some reply) && nat_lt (tried + 1) tries) ≡ false
-    → IfSome c.caller.under_way (λ call. caller_of block (line + 1) 0 (set_variable vars set (value_in (Some reply))) ticket None ≡ answered script c call reply)
+    → IfSome c.caller.under_way
+    (λ call. caller_of block (line + 1) 0 (set_variable vars set (value_in (Some reply))) ticket None
+    ≡ answered script c call reply)
 unfolding Answers Terms tried_on
 next-answers script c block line tried ticket tries vars set under_way call reply view is within terms once =
     let was = caller_of block line tried vars ticket under_way
     in let low : line < length (lines_of script block) = subst (HasLine script) (sym view) within
-    in subst (Answers script reply (caller_of block (line + 1) 0 (set_variable vars set (value_in (Some reply))) ticket None)) view
-    (here_with script was (caller_of block (line + 1) 0 (set_variable vars set (value_in (Some reply))) ticket None) under_way call reply is
-    (answered_as script was set tries call reply false (reached (lines_of script block) line set tries low terms) (sym once)))
+    in subst (Answers script reply
+    (caller_of block (line + 1) 0 (set_variable vars set (value_in (Some reply))) ticket None)) view
+    (here_with script was
+    (caller_of block (line + 1) 0 (set_variable vars set (value_in (Some reply))) ticket None) under_way call reply
+    is
+    (answered_as script was set tries call reply false (reached (lines_of script block) line set tries low terms)
+    (sym once)))
 
 -- What is due, and what a child begins with, by the line that is reached.
 
-due_with : (script : Script) (c : BlockCaller) (line : Line) → slice_get (lines_of script c.block) c.caller.line ≡ Some line
+due_with : (script : Script) (c : BlockCaller) (line : Line)
+    → slice_get (lines_of script c.block) c.caller.line ≡ Some line
     → due (place_of script c) ≡ Some (call_of line c.caller.vars)
-due_with script c line there = ap (call_due_at (place_of script c)) (drop-at (lines_of script c.block) c.caller.line line there)
+due_with script c line there =
+    ap (call_due_at (place_of script c)) (drop-at (lines_of script c.block) c.caller.line line there)
 
-pub line-due : (script : Script) (c : BlockCaller) (line : Line) (call : Call) → slice_get (lines_of script c.block) c.caller.line ≡ Some line
+pub line-due : (script : Script) (c : BlockCaller) (line : Line) (call : Call)
+    → slice_get (lines_of script c.block) c.caller.line ≡ Some line
     → call ≡ call_of line c.caller.vars → due (place_of script c) ≡ Some call
 line-due script c line call there is = due_with script c line there ∙ ap (λ (x : Call). Some x) (sym is)
 
@@ -166,19 +203,23 @@ pub child-vars-are : (script : Script) (c : BlockCaller) (set : Option ℕ) (tri
 unfolding Terms
 child-vars-are script c set tries within terms =
     let line = reached (lines_of script c.block) c.caller.line set tries within terms
-    in ap (λ (s : Option ℕ). set_variable c.caller.vars s 0) line.sets ∙ sym (ap (child_vars_at c.caller.vars) line.left)
+    in ap (λ (s : Option ℕ). set_variable c.caller.vars s 0) line.sets
+    ∙ sym (ap (child_vars_at c.caller.vars) line.left)
 
 Dues : Script → Option Sig → Result Call Memory → BlockCaller → Type 0
 Dues script doom r c = IfOk r (λ call. call_due script c doom ≡ Some call)
 
-dues_line : (script : Script) (c : BlockCaller) (line : Line) (r : Result Call Memory) → slice_get (lines_of script c.block) c.caller.line ≡ Some line
+dues_line : (script : Script) (c : BlockCaller) (line : Line) (r : Result Call Memory)
+    → slice_get (lines_of script c.block) c.caller.line ≡ Some line
     → IfOk r (λ call. call ≡ call_of line c.caller.vars) → Dues script None r c
 unfolding Dues
 dues_line script c line (Ok call) there is = line-due script c line call there is
 dues_line script c line (Err e) there is = tt
 
-pub due-line : (script : Script) (c : BlockCaller) (block line tried ticket : ℕ) (vars : Vars) (under_way : Option Call) (written : Line)
-    (doom : Option Sig) (r : Result Call Memory) → caller_of block line tried vars ticket under_way ≡ c → HasLine script c → doom ≡ None
+pub due-line : (script : Script) (c : BlockCaller) (block line tried ticket : ℕ) (vars : Vars) (under_way : Option Call)
+    (written : Line)
+    (doom : Option Sig) (r : Result Call Memory) → caller_of block line tried vars ticket under_way ≡ c
+    → HasLine script c → doom ≡ None
     → Some written ≡ slice_get (written_lines script block) line → IfOk r (λ call. call ≡ call_of written vars)
     → IfOk r (λ call. call_due script c doom ≡ Some call)
 unfolding Dues
@@ -186,7 +227,8 @@ due-line script c block line tried ticket vars under_way written doom r view wit
     let was = caller_of block line tried vars ticket under_way
     in let low : line < length (lines_of script block) = subst (HasLine script) (sym view) within
     in subst (λ (d : Option Sig). Dues script d r c) (sym is)
-    (subst (Dues script None r) view (dues_line script was written r (reached-written script block line written (sym at) low) called))
+    (subst (Dues script None r) view
+    (dues_line script was written r (reached-written script block line written (sym at) low) called))
 
 pub due-end : (script : Script) (c : BlockCaller) (block line tried ticket : ℕ) (vars : Vars) (under_way : Option Call)
     (doom : Option Sig) → caller_of block line tried vars ticket under_way ≡ c → HasLine script c → doom ≡ None
@@ -194,7 +236,8 @@ pub due-end : (script : Script) (c : BlockCaller) (block line tried ticket : ℕ
 due-end script c block line tried ticket vars under_way doom view within is at =
     let was = caller_of block line tried vars ticket under_way
     in let low : line < length (lines_of script block) = subst (HasLine script) (sym view) within
-    in let due_then : due (place_of script was) ≡ Some (Exit 0) = due_with script was implied_exit (reached-implied script block line (sym at) low)
+    in let due_then : due (place_of script was) ≡ Some (Exit 0) =
+    due_with script was implied_exit (reached-implied script block line (sym at) low)
     in subst (λ (d : Option Sig). call_due script c d ≡ Some (Exit 0)) (sym is)
     (subst (λ (x : BlockCaller). due (place_of script x) ≡ Some (Exit 0)) view due_then)
 
@@ -208,7 +251,8 @@ unfolding Begins
 begins script c set tries (Ok vars) within terms is = is ∙ child-vars-are script c set tries within terms
 begins script c set tries (Err e) within terms is = tt
 
-pub begun-are : (script : Script) (c : BlockCaller) (block line tried ticket tries : ℕ) (vars : Vars) (set : Option ℕ) (under_way : Option Call)
+pub begun-are : (script : Script) (c : BlockCaller) (block line tried ticket tries : ℕ) (vars : Vars) (set : Option ℕ)
+    (under_way : Option Call)
     (r : Result Vars Memory) → caller_of block line tried vars ticket under_way ≡ c → HasLine script c
     → IfSome (slice_get (lines_of script block) line) (λ l. (set ≡ l.set) × (tries ≡ l.tries))
     → IfOk r (λ zeroed. zeroed ≡ set_variable vars set 0) → IfOk r (λ zeroed. zeroed ≡ child_vars (place_of script c))

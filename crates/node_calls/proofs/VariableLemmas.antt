@@ -46,7 +46,8 @@ is_above last (suc i) (v ∷ vars) h within =
     in let later : v.0 < variable_at vars i = is_above v.0 i vars parts.1 (omega arith)
     in omega arith
 
-rises : (vars : Vars) (i j : ℕ) → are_rising vars ≡ true → i < j → j < length vars → variable_at vars i < variable_at vars j
+rises : (vars : Vars) (i j : ℕ) → are_rising vars ≡ true → i < j → j < length vars
+    → variable_at vars i < variable_at vars j
 rises [] i j h low within = absurd (omega arith)
 rises (v ∷ vars) zero zero h low within = absurd (omega arith)
 rises (v ∷ vars) zero (suc j) h low within = is_above v.0 j vars h (omega arith)
@@ -70,7 +71,8 @@ module _ (vars : Vars) (h : are_rising vars ≡ true) (k low high : ℕ) where
   narrow-up middle was above below small = record {
     ordered = omega arith;
     within = was.within;
-    smaller = λ i le. let weakly : variable_at vars i ≤ variable_at vars middle = rise_weakly i middle (omega arith) (omega (arith, was.within)) in omega arith;
+    smaller = λ i le. let weakly : variable_at vars i ≤ variable_at vars middle =
+        rise_weakly i middle (omega arith) (omega (arith, was.within)) in omega arith;
     greater = was.greater;
   }
 
@@ -80,7 +82,8 @@ module _ (vars : Vars) (h : are_rising vars ≡ true) (k low high : ℕ) where
     ordered = above;
     within = omega (arith, was.within);
     smaller = was.smaller;
-    greater = λ i le inside. let weakly : variable_at vars middle ≤ variable_at vars i = rise_weakly middle i le inside in omega arith;
+    greater = λ i le inside. let weakly : variable_at vars middle ≤ variable_at vars i =
+        rise_weakly middle i le inside in omega arith;
   }
 
 pub gap-found : (vars : Vars) (k low high : ℕ) → Narrowed vars k low high → high ≤ low → IsGapFor vars k low
@@ -92,7 +95,8 @@ gap-found vars k low high was end =
       greater = λ i le inside. was.greater i (omega arith) inside;
     }
 
-pub read-at : (vars : Vars) (middle : ℕ) (d : ℕ × ℕ) → middle < length vars → d ≡ get_or vars middle d → variable_at vars middle ≡ d.0
+pub read-at : (vars : Vars) (middle : ℕ) (d : ℕ × ℕ) → middle < length vars → d ≡ get_or vars middle d
+    → variable_at vars middle ≡ d.0
 read-at vars middle d within is =
     let there : d ≡ get_or vars middle (0, 0) = is ∙ get_or_default vars middle d (0, 0) within
     in ap (λ (e : ℕ × ℕ). e.0) (sym there)
@@ -122,7 +126,8 @@ put_gap (v ∷ vars) k x (suc place) within smaller larger =
     let low : v.0 < k = smaller 0 (omega arith)
     in let above : nat_cmp k v.0 ≡ Greater = greater k v.0 low
     in rw above (ap (λ (vs : Vars). v ∷ vs)
-    (put_gap vars k x place (omega arith) (λ i le. smaller (suc i) (omega arith)) (λ i le inside. larger (suc i) (omega arith) (omega arith))))
+    (put_gap vars k x place (omega arith) (λ i le. smaller (suc i) (omega arith))
+    (λ i le inside. larger (suc i) (omega arith) (omega arith))))
 
 get_here : (vars : Vars) (k place : ℕ) → are_rising vars ≡ true → place < length vars → variable_at vars place ≡ k
     → get vars k ≡ Some (get_or vars place (0, 0)).1
@@ -139,15 +144,18 @@ get_gap [] k place within smaller larger = refl
 get_gap (v ∷ vars) k zero within smaller larger =
     let low : k < v.0 = larger 0 (omega arith) (omega arith)
     in let first : nat_cmp k v.0 ≡ Less = less k v.0 low
-    in rw first (get_gap vars k zero (omega arith) (λ i le. absurd (omega arith)) (λ i le inside. larger (suc i) (omega arith) (omega arith)))
+    in rw first (get_gap vars k zero (omega arith) (λ i le. absurd (omega arith))
+    (λ i le inside. larger (suc i) (omega arith) (omega arith)))
 get_gap (v ∷ vars) k (suc place) within smaller larger =
     let low : v.0 < k = smaller 0 (omega arith)
     in let above : nat_cmp k v.0 ≡ Greater = greater k v.0 low
-    in rw above (get_gap vars k place (omega arith) (λ i le. smaller (suc i) (omega arith)) (λ i le inside. larger (suc i) (omega arith) (omega arith)))
+    in rw above (get_gap vars k place (omega arith) (λ i le. smaller (suc i) (omega arith))
+    (λ i le inside. larger (suc i) (omega arith) (omega arith)))
 
 -- A variable that is put among rising ones keeps them rising.
 
-rising_with : (last k x : ℕ) (v : ℕ × ℕ) (vars : Vars) (o : Ordering) → nat_cmp k v.0 ≡ o → last < k → rise_from last (v ∷ vars) ≡ true
+rising_with : (last k x : ℕ) (v : ℕ × ℕ) (vars : Vars) (o : Ordering) → nat_cmp k v.0 ≡ o → last < k
+    → rise_from last (v ∷ vars) ≡ true
     → (v.0 < k → rise_from v.0 (put vars k x) ≡ true)
     → rise_from last (match_ordering o ((k, x) ∷ v ∷ vars) ((v.0, x) ∷ vars) (v ∷ put vars k x)) ≡ true
 rising_with last k x v vars Less is low h later =
@@ -176,13 +184,15 @@ rising-put (v ∷ vars) k x h = first_with k x v vars (nat_cmp k v.0) refl h
 
 -- As the code has it.
 
-pub put-at : (vars : Vars) (k x place : ℕ) → are_rising vars ≡ true → IsAt vars k place → set vars place (k, x) ≡ put vars k x
+pub put-at : (vars : Vars) (k x place : ℕ) → are_rising vars ≡ true → IsAt vars k place
+    → set vars place (k, x) ≡ put vars k x
 put-at vars k x place h at = put_here vars k x place h at.within at.here
 
 pub put-in_gap : (vars : Vars) (k x place : ℕ) → IsGapFor vars k place → insert vars place (k, x) ≡ put vars k x
 put-in_gap vars k x place gap = put_gap vars k x place gap.within gap.smaller gap.greater
 
-pub value-at : (vars : Vars) (k place : ℕ) → are_rising vars ≡ true → IsAt vars k place → value_of vars k ≡ (get_or vars place (0, 0)).1
+pub value-at : (vars : Vars) (k place : ℕ) → are_rising vars ≡ true → IsAt vars k place
+    → value_of vars k ≡ (get_or vars place (0, 0)).1
 value-at vars k place h at = rw (get_here vars k place h at.within at.here)
 
 pub value-in_gap : (vars : Vars) (k place : ℕ) → IsGapFor vars k place → value_of vars k ≡ 0
@@ -191,16 +201,19 @@ value-in_gap vars k place gap = rw (get_gap vars k place gap.within gap.smaller 
 alone : (k x : ℕ) → value_of ((k, x) ∷ []) k ≡ x
 alone k x = rw (same k)
 
-pub only-at : (vars own : Vars) (k x place : ℕ) (d : ℕ × ℕ) → are_rising own ≡ true → own ≡ vars → IsAt own k place → d ≡ get_or own place d → x ≡ d.1
+pub only-at : (vars own : Vars) (k x place : ℕ) (d : ℕ × ℕ) → are_rising own ≡ true → own ≡ vars → IsAt own k place
+    → d ≡ get_or own place d → x ≡ d.1
     → value_of ((k, x) ∷ []) k ≡ value_of vars k
 only-at vars own k x place d h is at read x_is =
     let there : d ≡ get_or own place (0, 0) = read ∙ get_or_default own place d (0, 0) at.within
-    in alone k x ∙ x_is ∙ ap (λ (e : ℕ × ℕ). e.1) there ∙ sym (value-at own k place h at) ∙ ap (λ (vs : Vars). value_of vs k) is
+    in alone k x ∙ x_is ∙ ap (λ (e : ℕ × ℕ). e.1) there ∙ sym (value-at own k place h at)
+    ∙ ap (λ (vs : Vars). value_of vs k) is
 
 pub none-in_gap : (vars own : Vars) (k place : ℕ) → own ≡ vars → IsGapFor own k place → 0 ≡ value_of vars k
 none-in_gap vars own k place is gap = sym (value-in_gap own k place gap) ∙ ap (λ (vs : Vars). value_of vs k) is
 
-pub rising-set : (vars new : Vars) (k x : ℕ) (r : Result (Unit {0}) Memory) → are_rising vars ≡ true → OnOk r (new ≡ put vars k x)
+pub rising-set : (vars new : Vars) (k x : ℕ) (r : Result (Unit {0}) Memory) → are_rising vars ≡ true
+    → OnOk r (new ≡ put vars k x)
     → OnErr r (new ≡ vars) → are_rising new ≡ true
 rising-set vars new k x (Ok u) h ok err = rw ok (rising-put vars k x h)
 rising-set vars new k x (Err e) h ok err = rw err h

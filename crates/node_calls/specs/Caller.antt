@@ -7,8 +7,8 @@ use Rattle.pico_base.specs.declared.signal.Sig.{Sig}
 use Rattle.kernel_model.specs.Script.{Vars}
 use Rattle.kernel_model.specs.Signals.{count_up}
 use Rattle.kernel_model.specs.Fitting.{Place}
-use Rattle.node_calls.specs.Model as model
-use Rattle.node_calls.specs.Model.{Caller, lines_of, caller_place, due_call}
+use Rattle.node_model.specs.Caller as model
+use Rattle.node_model.specs.Caller.{Caller, lines_of, caller_place, due_call}
 
 -- a caller, and its block
 pub record BlockCaller : Type 0 where
@@ -39,7 +39,7 @@ call_due script c doom = due_call script c.block c.caller doom
 
 -- at the first line of the block, with these variables
 abbrev pub beginning : ℕ → Vars → BlockCaller
-beginning block vars = record { block = block; caller = model.beginning vars }
+beginning block vars = record { block = block; caller = model.new_caller vars }
 
 -- A call is started. The count of calls stays at its greatest value.
 abbrev pub started : BlockCaller → Call → BlockCaller
@@ -47,4 +47,4 @@ started c call = record c { caller = record c.caller { ticket = count_up c.calle
 
 -- the call under way has this reply
 abbrev pub answered : Script → BlockCaller → Call → Reply → BlockCaller
-answered script c call reply = record c { caller = model.answered script c.block c.caller call reply }
+answered script c call reply = record c { caller = model.answer_call script c.block c.caller call reply }

@@ -41,11 +41,13 @@ once = answered two_lines (started forked (WaitPid (Some 2) true)) (WaitPid (Som
 it_tries_again : call_due two_lines once None ≡ Some (WaitPid (Some 2) true)
 it_tries_again = refl
 
-twice : call_due two_lines (answered two_lines (started once (WaitPid (Some 2) true)) (WaitPid (Some 2) true) (Num 0)) None ≡ Some (Exit 0)
+twice : call_due two_lines
+    (answered two_lines (started once (WaitPid (Some 2) true)) (WaitPid (Some 2) true) (Num 0)) None ≡ Some (Exit 0)
 twice = refl
 
 no_more_after_success : call_due two_lines
-    (answered two_lines (started forked (WaitPid (Some 2) true)) (WaitPid (Some 2) true) (Child 2 (Exited 7))) None ≡ Some (Exit 0)
+    (answered two_lines (started forked (WaitPid (Some 2) true)) (WaitPid (Some 2) true) (Child 2 (Exited 7))) None
+    ≡ Some (Exit 0)
 no_more_after_success = refl
 
 a_doom_comes_first : call_due two_lines once (Some Term) ≡ Some (Killed Term)

@@ -2,5 +2,4 @@ pub mod Caller
 pub mod Examples
 pub mod Law
 pub mod Lines
-pub mod Model
 pub mod Place

@@ -1,3 +1,4 @@
+//! What a node knows of its process's calls: the line, the tries made, the variables, and the call under way.
 ghost use Rattle.std.specs.Prelude.{◌≡◌, ◌↔◌, None, Some, IfOk, IfSome, OnOk, OnErr, IsSome, IsTrue};
 ghost use Rattle.std.specs.Option.{option_copied};
 ghost use Rattle.kernel_model.specs.Script.{IsSoundScript};
@@ -13,7 +14,8 @@ use pico_base::{Call, Memory, Node, Reply, Script, Sig, Vars};
 use std::alloc::Global;
 use std::marker::Model;
 
-/// Where a process is in its block: the lines passed, how often the next one was tried, the variables, how many calls it
+/// Where a process is in its block: the lines passed, how often the next one was tried, the variables, how many calls
+/// it
 /// has started, and the call under way, from its start until its reply is here.
 #[derive(Debug, Drop)]
 pub struct Caller {
@@ -31,7 +33,11 @@ impl Model for Caller {
 
     ghost Value = { BlockCaller };
 
-    ghost view = { λ c. record { block = c.block; caller = record { line = c.line; tried = c.tried; vars = c.variables; ticket = c.ticket; under_way = c.under_way } } };
+    ghost view = { λ c. record {
+      block = c.block;
+      caller =
+          record { line = c.line; tried = c.tried; vars = c.variables; ticket = c.ticket; under_way = c.under_way };
+    } };
 }
 
 impl Caller {
@@ -51,7 +57,8 @@ impl Caller {
         }
     }
 
-    /// Whether the script has the block, and the line that is reached stands in it, an implied `exit 0` counted. It doesn't
+    /// Whether the script has the block, and the line that is reached stands in it, an implied `exit 0` counted. It
+    /// doesn't
     /// once the process has ended.
     pub fn has_line(&self, script: &Script) -> bool
         requires { IsSoundScript script.now }
@@ -87,12 +94,14 @@ impl Caller {
         self.ticket
     }
 
-    /// The call under way has its reply. Where that says that nothing was ready, and the line has tries left, the line is
+    /// The call under way has its reply. Where that says that nothing was ready, and the line has tries left, the line
+    /// is
     /// due once more; else its variable is set, and the next line is due. A refusal changes nothing.
     pub fn answered(&mut self, script: &Script, reply: &Reply) -> Result<(), Memory>
         requires reached { HasLine script.now self.old }
         requires under_way { IsSome self.old.caller.under_way }
-        ensures ok { OnOk result (IfSome self.old.caller.under_way (λ call. self.new ≡ answered script.now self.old call reply.now)) }
+        ensures ok { OnOk result
+            (IfSome self.old.caller.under_way (λ call. self.new ≡ answered script.now self.old call reply.now)) }
         ensures err { OnErr result (self.new ≡ self.old) }
     {
         let Some(call) = &self.under_way else {

@@ -4,7 +4,7 @@ ghost use Rattle.std.specs.List.{list_any};
 ghost use Rattle.std.specs.Option.{option_copied};
 ghost use Rattle.kernel_model.specs.Fitting.{block_at};
 ghost use Rattle.kernel_model.specs.Script.{IsSoundScript, is_exit};
-ghost use Rattle.node_calls.specs.Model.{lines_of};
+ghost use Rattle.node_model.specs.Caller.{lines_of};
 ghost use Rattle.node_calls.specs.Lines.{written_lines, written_count};
 
 use pico_base::{Block, Call, Line, Node, Script, Var};
@@ -51,7 +51,8 @@ pub(crate) fn written_line(script: &Script, node: Node, line: usize) -> Option<&
 /// The terms of the line at this place, which may be the exit that the block's end stands for.
 pub(crate) fn terms_at(script: &Script, node: Node, line: usize) -> Terms
     requires { line < length (lines_of script.now node) }
-    ensures terms { IfSome (slice_get (lines_of script.now node) line) (λ l. (result.set ≡ l.set) × (result.tries ≡ l.tries)) }
+    ensures terms { IfSome (slice_get (lines_of script.now node) line) (λ l. (result.set ≡ l.set)
+        × (result.tries ≡ l.tries)) }
     ensures next { result.next ≡ line + 1 }
 {
     let lines = written_lines(script, node);

@@ -1,3 +1,4 @@
+//! Lines that are tried again, and the variables of a child.
 use crate::Caller;
 use pico_base::{
     Block, Bytes, Call, Ending, Errno, Line, Node, Pid, Reply, Script, Sequence, Sig, SigArg, Var,

@@ -51,7 +51,12 @@ answer_at c call reply None = end_call c
 answer_at c call reply (Some line) =
     if asks_again call (Some reply) && nat_lt (c.tried + 1) line.tries
     then record (end_call c) { tried = c.tried + 1 }
-    else record (end_call c) { line = c.line + 1; tried = 0; vars = set_variable c.vars line.set (value_in (Some reply)) }
+    else record (end_call c) {
+      line = c.line + 1;
+      tried = 0;
+      vars =
+          set_variable c.vars line.set (value_in (Some reply));
+    }
 
 abbrev pub answer_call : Script → ℕ → Caller → Call → Reply → Caller
 answer_call script block c call reply = answer_at c call reply (slice_get (lines_of script block) c.line)

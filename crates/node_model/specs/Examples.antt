@@ -75,7 +75,8 @@ abbrev pub an_item : ℕ → Held
 an_item ticket = Request (record { caller = 2; ticket = ticket; pid = 9; call = calls.MsgRmid 1 })
 
 abbrev pub moving : Directory
-moving = hold (hold (recall (place_name opening_directory (Msg 1) 1) (Msg 1) (Some 3)) (Msg 1) (an_item 4)) (Msg 1) (an_item 5)
+moving = hold (hold (recall (place_name opening_directory (Msg 1) 1) (Msg 1) (Some 3)) (Msg 1) (an_item 4)) (Msg 1)
+    (an_item 5)
 
 held_in_order : held_for moving (Msg 1) ≡ an_item 4 ∷ an_item 5 ∷ []
 held_in_order = refl
@@ -130,7 +131,12 @@ unfolding read_body Rattle.node_model.specs.Spelling.read_process
 no_removed_process = refl
 
 new_process_body : read_deed (pack (Proc 2) (Living new_row)) ≡ Some (Living new_row)
-unfolding read_deed read_body body_bytes Rattle.node_model.specs.Spelling.row_bytes Rattle.node_model.specs.Spelling.read_process Rattle.node_model.specs.Spelling.read_row Rattle.node_model.specs.Spelling.read_signals Rattle.node_model.specs.Spelling.read_family Rattle.signal_state.specs.Spelling.signal_bytes Rattle.fork_wait.specs.Spelling.family_bytes Rattle.fork_wait.specs.Reading.family_at Rattle.fork_wait.specs.Reading.numbers_at Rattle.fork_wait.specs.Reading.all_ended_at Rattle.body_fields.specs.Fields.byte_upto
+unfolding read_deed read_body body_bytes Rattle.node_model.specs.Spelling.row_bytes
+    Rattle.node_model.specs.Spelling.read_process Rattle.node_model.specs.Spelling.read_row
+    Rattle.node_model.specs.Spelling.read_signals Rattle.node_model.specs.Spelling.read_family
+    Rattle.signal_state.specs.Spelling.signal_bytes Rattle.fork_wait.specs.Spelling.family_bytes
+    Rattle.fork_wait.specs.Reading.family_at Rattle.fork_wait.specs.Reading.numbers_at
+    Rattle.fork_wait.specs.Reading.all_ended_at Rattle.body_fields.specs.Fields.byte_upto
 new_process_body = refl
 
 -- ---- serving
@@ -150,7 +156,8 @@ reply_of s = option_map (λ (done : Served). done.reply) s
 abbrev pub holding_a_message : Deeds
 holding_a_message = deeds_after holding_queue (serve holding_queue 2 (calls.MsgSnd 1 (pos 1) (codes "hi") true))
 
-received : reply_of (serve holding_a_message 3 (calls.MsgRcv 1 (pos 0) 8 false true)) ≡ Some (Message (pos 1) (codes "hi"))
+received : reply_of (serve holding_a_message 3 (calls.MsgRcv 1 (pos 0) 8 false true))
+    ≡ Some (Message (pos 1) (codes "hi"))
 received = refl
 
 -- a removal leaves the deed, which answers for the name from now on
@@ -161,7 +168,11 @@ not_held : serve holding_queue 2 (calls.MsgStat 2) ≡ None
 not_held = refl
 
 abbrev pub parent_row : Row
-parent_row = record { signals = new_row.signals; family = record { living = 9 ∷ []; ended = ended_child 3 (Exited 7) ∷ [] } }
+parent_row = record {
+  signals = new_row.signals;
+  family =
+      record { living = 9 ∷ []; ended = ended_child 3 (Exited 7) ∷ [] };
+}
 
 abbrev pub with_family : Deeds
 with_family = put_named (put_named none_named (Proc 2) (Living parent_row)) (Proc 3) (Ended (Exited 7))
@@ -188,6 +199,13 @@ ends_there : commit_exit parcel_of_9 ((9, Living new_row) ∷ []) (Living parent
     ≡ Some (
     (Proc 9, Gone)
     ∷ (Proc 9, Ended (Exited 44))
-    ∷ (Proc 2, Living (record { signals = parent_row.signals; family = record { living = []; ended = ended_child 3 (Exited 7) ∷ ended_child 9 (Exited 44) ∷ [] } }))
+    ∷ (
+      Proc 2,
+      Living (record {
+        signals = parent_row.signals;
+        family =
+            record { living = []; ended = ended_child 3 (Exited 7) ∷ ended_child 9 (Exited 44) ∷ [] };
+      }),
+    )
     ∷ [])
 ends_there = refl

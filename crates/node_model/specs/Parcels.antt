@@ -30,12 +30,14 @@ abbrev pub give_back : PackedDeed → Frame
 give_back deed = frames.GiveBack deed
 
 abbrev pub parcel_of : Deeds → ℕ → ℕ → Call → Parcel
-parcel_of deeds pid parent call = record { pid = pid; parent = parent; call = call; deeds = pack_all Proc deeds.processes }
+parcel_of deeds pid parent call =
+    record { pid = pid; parent = parent; call = call; deeds = pack_all Proc deeds.processes }
 
 -- a GiveBack for each queue and then for each set, and then all process deeds in a parcel
 abbrev pub give_all : Deeds → ℕ → ℕ → Call → List Frame
 give_all deeds pid parent call =
-    map give_back (pack_all Msg deeds.queues ++ pack_all Sem deeds.sets) ++ frames.Left (parcel_of deeds pid parent call) ∷ []
+    map give_back (pack_all Msg deeds.queues ++ pack_all Sem deeds.sets)
+    ++ frames.Left (parcel_of deeds pid parent call) ∷ []
 
 -- ---- a parcel that can be taken
 
@@ -107,7 +109,8 @@ lets_end child (Living row) = lists row.family child
 lets_end child _ = true
 
 abbrev pub kernel_after_end : ℕ → ℕ → Body → Ending → Kernel
-kernel_after_end pid parent body ending = record empty_kernel { processes = end_under [] pid ending (parent_with parent body) }
+kernel_after_end pid parent body ending =
+    record empty_kernel { processes = end_under [] pid ending (parent_with parent body) }
 
 abbrev pub names_after_end : ℕ → ℕ → Body → List Name
 names_after_end pid parent (Living row) = Proc pid ∷ Proc parent ∷ []
@@ -123,7 +126,8 @@ abbrev pub commit_exit : Parcel → Numbered Body → Body → Option (List (Nam
 commit_exit parcel bodies parent =
     if lets_end parcel.pid parent
     then Some (all_gone (map (λ e. e.0) bodies)
-    ++ parts_in (kernel_after_end parcel.pid parcel.parent parent (ending_of parcel.call)) (names_after_end parcel.pid parcel.parent parent))
+    ++ parts_in (kernel_after_end parcel.pid parcel.parent parent (ending_of parcel.call))
+    (names_after_end parcel.pid parcel.parent parent))
     else None
 
 -- process 1 ends, which no process is the parent of, and with it what it keeps of its children

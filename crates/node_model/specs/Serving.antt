@@ -70,7 +70,8 @@ makes_something call = false
 
 abbrev pub serve_at : Deeds → ℕ → Call → Option Name → Option Served
 serve_at deeds caller call None = None
-serve_at deeds caller call (Some name) = option_and_then (λ body. serve_on name body caller call) (get_named deeds name)
+serve_at deeds caller call (Some name) =
+    option_and_then (λ body. serve_on name body caller call) (get_named deeds name)
 
 -- nor is there one where the name's deed isn't held
 abbrev pub serve : Deeds → ℕ → Call → Option Served

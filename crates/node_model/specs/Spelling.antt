@@ -64,7 +64,8 @@ is_default Catch = false
 -- KILL has its default action and is in no set, and no pending signal has an action that discards it
 abbrev pub are_signals : Signals → Bool
 are_signals s =
-    is_default s.actions.kill && (not s.mask.kill && (not s.pending.kill && list_all (is_kept s.actions s.pending) all_signals))
+    is_default s.actions.kill
+    && (not s.mask.kill && (not s.pending.kill && list_all (is_kept s.actions s.pending) all_signals))
 
 abbrev pub signals_if : List ℕ → Signals → Option Signals
 signals_if bytes s = if bytes_eq (signal_bytes s) bytes && are_signals s then Some s else None
@@ -77,7 +78,8 @@ abbrev pub max_children : ℕ
 max_children = 31
 
 abbrev pub are_children : List ℕ → Bool
-are_children numbers = nat_le (length numbers) max_children && (not (list_any (nat_eq 0) numbers) && are_different numbers)
+are_children numbers =
+    nat_le (length numbers) max_children && (not (list_any (nat_eq 0) numbers) && are_different numbers)
 
 abbrev pub family_if : Family → Option Family
 family_if f = if are_children (children f) then Some f else None

@@ -1,3 +1,4 @@
+//! What the leader holds for a name that is on its way.
 use rpc_frame::{Asked, Parcel};
 
 /// What the leader holds for a name until its deed has come.

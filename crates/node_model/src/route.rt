@@ -1,3 +1,4 @@
+//! Where a call on a name goes.
 use pico_base::Node;
 
 /// Where the leader sends a call on a name.

@@ -40,7 +40,8 @@ some≢none a h = cc
 forget-absent : (es : Cache) (n : Name) → owner_in es n ≡ None → forget es n ≡ es
 forget-absent [] n h = refl
 forget-absent (e ∷ es) n h =
-    elim (is_same_name n e.0) as (λ t. cond t (Some e.1) (owner_in es n) ≡ None → cond (not t) (e ∷ forget es n) (forget es n) ≡ e ∷ es) [
+    elim (is_same_name n e.0) as (λ t. cond t (Some e.1) (owner_in es n) ≡ None
+    → cond (not t) (e ∷ forget es n) (forget es n) ≡ e ∷ es) [
       | true ↦ λ k. absurd (some≢none e.1 k)
       | false ↦ λ k. ap (λ xs. e ∷ xs) (forget-absent es n k)
     ] h
@@ -48,18 +49,21 @@ forget-absent (e ∷ es) n h =
 absent_forget : (es : Cache) (n k : Name) → owner_in es k ≡ None → owner_in (forget es n) k ≡ None
 absent_forget [] n k h = refl
 absent_forget (e ∷ es) n k h =
-    elim (is_same_name k e.0) as (λ t. is_same_name k e.0 ≡ t → cond t (Some e.1) (owner_in es k) ≡ None → owner_in (forget (e ∷ es) n) k ≡ None) [
+    elim (is_same_name k e.0) as (λ t. is_same_name k e.0 ≡ t → cond t (Some e.1) (owner_in es k) ≡ None
+    → owner_in (forget (e ∷ es) n) k ≡ None) [
       | true ↦ λ is there. absurd (some≢none e.1 there)
-      | false ↦ λ is there. elim (is_same_name n e.0) as (λ u. owner_in (cond (not u) (e ∷ forget es n) (forget es n)) k ≡ None) [
-        | true ↦ absent_forget es n k there
-        | false ↦ ap (λ t. cond t (Some e.1) (owner_in (forget es n) k)) is ∙ absent_forget es n k there
-      ]
+      | false ↦ λ is there.
+          elim (is_same_name n e.0) as (λ u. owner_in (cond (not u) (e ∷ forget es n) (forget es n)) k ≡ None) [
+            | true ↦ absent_forget es n k there
+            | false ↦ ap (λ t. cond t (Some e.1) (owner_in (forget es n) k)) is ∙ absent_forget es n k there
+          ]
     ] refl h
 
 forgotten : (es : Cache) (n : Name) → owner_in (forget es n) n ≡ None
 forgotten [] n = refl
 forgotten (e ∷ es) n =
-    elim (is_same_name n e.0) as (λ u. is_same_name n e.0 ≡ u → owner_in (cond (not u) (e ∷ forget es n) (forget es n)) n ≡ None) [
+    elim (is_same_name n e.0) as (λ u. is_same_name n e.0 ≡ u
+    → owner_in (cond (not u) (e ∷ forget es n) (forget es n)) n ≡ None) [
       | true ↦ λ is. forgotten es n
       | false ↦ λ is. ap (λ t. cond t (Some e.1) (owner_in (forget es n) n)) is ∙ forgotten es n
     ] refl
@@ -83,7 +87,8 @@ length_forget (e ∷ es) n =
 length_forget_there : (es : Cache) (n : Name) (v : ℕ) → owner_in es n ≡ Some v → length (forget es n) + 1 ≤ length es
 length_forget_there [] n v h = absurd (some≢none v (sym h))
 length_forget_there (e ∷ es) n v h =
-    elim (is_same_name n e.0) as (λ u. cond u (Some e.1) (owner_in es n) ≡ Some v → length (cond (not u) (e ∷ forget es n) (forget es n)) + 1 ≤ length (e ∷ es)) [
+    elim (is_same_name n e.0) as (λ u. cond u (Some e.1) (owner_in es n) ≡ Some v
+    → length (cond (not u) (e ∷ forget es n) (forget es n)) + 1 ≤ length (e ∷ es)) [
       | true ↦ λ k. omega (arith, length_forget es n)
       | false ↦ λ k. omega (arith, length_forget_there es n v k)
     ] h
@@ -94,7 +99,8 @@ absent_take : (n : ℕ) (es : Cache) (k : Name) → owner_in es k ≡ None → o
 absent_take zero es k h = refl
 absent_take (suc n) [] k h = refl
 absent_take (suc n) (e ∷ es) k h =
-    elim (is_same_name k e.0) as (λ t. cond t (Some e.1) (owner_in es k) ≡ None → cond t (Some e.1) (owner_in (take n es) k) ≡ None) [
+    elim (is_same_name k e.0) as (λ t. cond t (Some e.1) (owner_in es k) ≡ None
+    → cond t (Some e.1) (owner_in (take n es) k) ≡ None) [
       | true ↦ λ there. there
       | false ↦ λ there. absent_take n es k there
     ] h
@@ -118,7 +124,8 @@ length_take (suc n) (e ∷ es) = omega (arith, length_take n es)
 -- ---- the calls
 
 pub forget_within : (es : Cache) (places : ℕ) (n : Name) → IsWithin es places → IsWithin (forget es n) places
-forget_within es places n h = record { cap = h.cap; size = omega (arith, length_forget es n, h.size); once = once_forget es n h.once }
+forget_within es places n h =
+    record { cap = h.cap; size = omega (arith, length_forget es n, h.size); once = once_forget es n h.once }
 
 pub learn_within : (es : Cache) (places : ℕ) (n : Name) (v : ℕ) → IsWithin es places → IsWithin (learn es n v) places
 learn_within es places n v h =
@@ -128,7 +135,8 @@ learn_within es places n v h =
       once = once_take 64 ((n, v) ∷ forget es n) (forgotten es n, once_forget es n h.once);
     }
 
-look_by_within : (es : Cache) (places : ℕ) (n : Name) (o : Option ℕ) → owner_in es n ≡ o → IsWithin es places → IsWithin (look_by es n o) places
+look_by_within : (es : Cache) (places : ℕ) (n : Name) (o : Option ℕ) → owner_in es n ≡ o → IsWithin es places
+    → IsWithin (look_by es n o) places
 look_by_within es places n None is h = h
 look_by_within es places n (Some v) is h =
     record {
@@ -144,41 +152,57 @@ module _ (n : Name) (test : Name → Bool) (same : (k : Name) → test k ≡ is_
   pub remove_is : (es : Cache) → IsOnceEach es → remove_entry test es ≡ forget es n
   remove_is [] h = refl
   remove_is (e ∷ es) h =
-      elim (is_same_name n e.0) as (λ u. is_same_name n e.0 ≡ u → test e.0 ≡ u → cond (test e.0) es (e ∷ remove_entry test es) ≡ cond (not u) (e ∷ forget es n) (forget es n)) [
-        | true ↦ λ is on. ap (λ t. cond t es (e ∷ remove_entry test es)) on ∙ sym (forget-absent es n (subst (λ k. owner_in es k ≡ None) (sym (same_is n e.0 is)) h.0))
+      elim (is_same_name n e.0) as (λ u. is_same_name n e.0 ≡ u → test e.0 ≡ u
+      → cond (test e.0) es (e ∷ remove_entry test es) ≡ cond (not u) (e ∷ forget es n) (forget es n)) [
+        | true ↦ λ is on. ap (λ t. cond t es (e ∷ remove_entry test es)) on
+            ∙ sym (forget-absent es n (subst (λ k. owner_in es k ≡ None) (sym (same_is n e.0 is)) h.0))
         | false ↦ λ is on. ap (λ t. cond t es (e ∷ remove_entry test es)) on ∙ ap (λ xs. e ∷ xs) (remove_is es h.1)
       ] refl (same e.0)
 
   pub lookup_is : (es : Cache) → lookup test es ≡ owner_in es n
   lookup_is [] = refl
-  lookup_is (e ∷ es) = ap (λ t. cond t (Some e.1) (lookup test es)) (same e.0) ∙ ap (λ o. cond (is_same_name n e.0) (Some e.1) o) (lookup_is es)
+  lookup_is (e ∷ es) = ap (λ t. cond t (Some e.1) (lookup test es)) (same e.0)
+      ∙ ap (λ o. cond (is_same_name n e.0) (Some e.1) o) (lookup_is es)
 
   entry_is : (es : Cache) → lookup_entry test es ≡ option_map (λ v. (n, v)) (owner_in es n)
   entry_is [] = refl
   entry_is (e ∷ es) =
-      elim (is_same_name n e.0) as (λ u. is_same_name n e.0 ≡ u → test e.0 ≡ u → cond (test e.0) (Some e) (lookup_entry test es) ≡ option_map (λ v. (n, v)) (cond u (Some e.1) (owner_in es n))) [
-        | true ↦ λ is on. ap (λ t. cond t (Some e) (lookup_entry test es)) on ∙ ap (λ k. Some (k, e.1)) (sym (same_is n e.0 is))
+      elim (is_same_name n e.0) as (λ u. is_same_name n e.0 ≡ u → test e.0 ≡ u
+      → cond (test e.0) (Some e) (lookup_entry test es)
+      ≡ option_map (λ v. (n, v)) (cond u (Some e.1) (owner_in es n))) [
+        | true ↦ λ is on. ap (λ t. cond t (Some e) (lookup_entry test es)) on
+            ∙ ap (λ k. Some (k, e.1)) (sym (same_is n e.0 is))
         | false ↦ λ is on. ap (λ t. cond t (Some e) (lookup_entry test es)) on ∙ entry_is es
       ] refl (same e.0)
 
-  promote_by : (es : Cache) (o : Option ℕ) → IsOnceEach es → option_map_or (λ e. e ∷ remove_entry test es) (option_map (λ v. (n, v)) o) es ≡ look_by es n o
+  promote_by : (es : Cache) (o : Option ℕ) → IsOnceEach es
+      → option_map_or (λ e. e ∷ remove_entry test es) (option_map (λ v. (n, v)) o) es ≡ look_by es n o
   promote_by es None h = refl
   promote_by es (Some v) h = ap (λ xs. (n, v) ∷ xs) (remove_is es h)
 
   pub promote_is : (es : Cache) → IsOnceEach es → promoted test es ≡ look es n
-  promote_is es h = ap (λ o. option_map_or (λ e. e ∷ remove_entry test es) o es) (entry_is es) ∙ promote_by es (owner_in es n) h
+  promote_is es h = ap (λ o. option_map_or (λ e. e ∷ remove_entry test es) o es) (entry_is es)
+      ∙ promote_by es (owner_in es n) h
 
-  put_by : (es : Cache) (v : ℕ) (o : Option ℕ) → owner_in es n ≡ o → length es ≤ 64 → IsOnceEach es → option_map_or (λ (e : Name × ℕ). (e.0, v) ∷ remove_entry test es) (option_map (λ w. (n, w)) o) ((n, v) ∷ take 63 es) ≡ (n, v) ∷ take 63 (forget es n)
+  put_by : (es : Cache) (v : ℕ) (o : Option ℕ) → owner_in es n ≡ o → length es ≤ 64 → IsOnceEach es
+      → option_map_or (λ (e : Name × ℕ). (e.0, v) ∷ remove_entry test es) (option_map (λ w. (n, w)) o)
+      ((n, v) ∷ take 63 es) ≡ (n, v) ∷ take 63 (forget es n)
   put_by es v None is le h = ap (λ xs. (n, v) ∷ take 63 xs) (sym (forget-absent es n is))
   put_by es v (Some w) is le h =
-      ap (λ xs. (n, v) ∷ xs) (remove_is es h ∙ sym (take_all 63 (forget es n) (omega (arith, length_forget_there es n w is))))
+      ap (λ xs. (n, v) ∷ xs)
+      (remove_is es h ∙ sym (take_all 63 (forget es n) (omega (arith, length_forget_there es n w is))))
 
-  pub put_is : (es : Cache) (v : ℕ) → length es ≤ 64 → IsOnceEach es → option_map_or (λ (e : Name × ℕ). (e.0, v) ∷ remove_entry test es) (lookup_entry test es) ((n, v) ∷ take 63 es) ≡ (n, v) ∷ take 63 (forget es n)
+  pub put_is : (es : Cache) (v : ℕ) → length es ≤ 64 → IsOnceEach es
+      → option_map_or (λ (e : Name × ℕ). (e.0, v) ∷ remove_entry test es) (lookup_entry test es) ((n, v) ∷ take 63 es)
+      ≡ (n, v) ∷ take 63 (forget es n)
   put_is es v le h =
       ap (λ o. option_map_or (λ (e : Name × ℕ). (e.0, v) ∷ remove_entry test es) o ((n, v) ∷ take 63 es)) (entry_is es)
       ∙ put_by es v (owner_in es n) refl le h
 
-  pub put_cap : (es : Cache) (places v : ℕ) → IsWithin es places → option_map_or (λ (e : Name × ℕ). (e.0, v) ∷ remove_entry test es) (lookup_entry test es) ((n, v) ∷ take (places - 1) es) ≡ learn es n v
+  pub put_cap : (es : Cache) (places v : ℕ) → IsWithin es places
+      → option_map_or (λ (e : Name × ℕ). (e.0, v) ∷ remove_entry test es) (lookup_entry test es)
+      ((n, v) ∷ take (places - 1) es) ≡ learn es n v
   put_cap es places v h =
-      ap (λ k. option_map_or (λ (e : Name × ℕ). (e.0, v) ∷ remove_entry test es) (lookup_entry test es) ((n, v) ∷ take (k - 1) es)) h.cap
+      ap (λ k. option_map_or (λ (e : Name × ℕ). (e.0, v) ∷ remove_entry test es) (lookup_entry test es)
+      ((n, v) ∷ take (k - 1) es)) h.cap
       ∙ put_is es v h.size h.once

@@ -16,7 +16,8 @@ runs_keep w last [] r = ap (λ (x : World). x.script) (sym r)
 runs_keep w last (e ∷ es) r = runs_keep r.1 last es r.3 ∙ step_script w e r.1 r.2
 
 -- the text of a run is that of the script's
-pub text_told : {E : Type 0} (script : Script) (options : Options) (es : List Event) (world : Option World) (r : Result (List ℕ) E)
+pub text_told : {E : Type 0} (script : Script) (options : Options) (es : List Event) (world : Option World)
+    (r : Result (List ℕ) E)
     → IsRunTo script options.seed es world
     → IfOk r (λ text. IfSome world (λ last. text ≡ trace_text last.script last.journal ++ steps_if options.steps es))
     → IfOk r (IsTextOfRun script options)
@@ -27,5 +28,6 @@ text_told script options es (Some last) (Ok text) run told =
       events = es;
       last = last;
       run = run;
-      is_text = told ∙ ap (λ (s : Script). trace_text s last.journal ++ steps_if options.steps es) (runs_keep (opening_world script) last es run.run);
+      is_text = told ∙ ap (λ (s : Script). trace_text s last.journal ++ steps_if options.steps es)
+          (runs_keep (opening_world script) last es run.run);
     }

@@ -21,7 +21,8 @@ use Rattle.pico_cmd.proofs.Chosen.{IsNext, choice_next}
 
 -- a step keeps the script
 
-after_turn_script : (w : World) (p : ℕ) (o : Option Step) (next : World) → after_turn w p o ≡ Some next → next.script ≡ w.script
+after_turn_script : (w : World) (p : ℕ) (o : Option Step) (next : World) → after_turn w p o ≡ Some next
+    → next.script ≡ w.script
 after_turn_script w p None next e = absurd (let f : ⊥ = cc in f)
 after_turn_script w p (Some s) next e = let is : world_after w p s ≡ next = cc in sym (ap (λ (x : World). x.script) is)
 
@@ -29,7 +30,8 @@ runs_script : (w : World) (p : ℕ) (o : Option Node) (next : World) → runs_at
 runs_script w p None next e = absurd (let f : ⊥ = cc in f)
 runs_script w p (Some n) next e = after_turn_script w p (run w.script n) next e
 
-takes_script : (w : World) (p from : ℕ) (o : Option Node) (fs : List Frame) (next : World) → takes_at w p from o fs ≡ Some next → next.script ≡ w.script
+takes_script : (w : World) (p from : ℕ) (o : Option Node) (fs : List Frame) (next : World)
+    → takes_at w p from o fs ≡ Some next → next.script ≡ w.script
 takes_script w p from None fs next e = absurd (let f : ⊥ = cc in f)
 takes_script w p from (Some n) [] next e = absurd (let f : ⊥ = cc in f)
 takes_script w p from (Some n) (frame ∷ fs) next e =
@@ -46,21 +48,26 @@ Takes w s (e ∷ es) now at =
     (choice w s ≡ Some e) × (next : World) × (step w e ≡ Some next) × Takes next (schedule_after s e) es now at
 
 Takes-more : (w : World) (s : Schedule) (es : List Event) (now : World) (at : Schedule) (e : Event) (next : World)
-    → Takes w s es now at → choice now at ≡ Some e → step now e ≡ Some next → Takes w s (es ++ e ∷ []) next (schedule_after at e)
+    → Takes w s es now at → choice now at ≡ Some e → step now e ≡ Some next
+    → Takes w s (es ++ e ∷ []) next (schedule_after at e)
 Takes-more w s [] now at e next t chosen stepped =
     subst (λ (x : World). Takes x s (e ∷ []) next (schedule_after at e)) (sym t.0)
-    (subst (λ (y : Schedule). Takes now y (e ∷ []) next (schedule_after at e)) (sym t.1) (chosen, next, stepped, (refl, refl)))
+    (subst (λ (y : Schedule). Takes now y (e ∷ []) next (schedule_after at e)) (sym t.1)
+    (chosen, next, stepped, (refl, refl)))
 Takes-more w s (e1 ∷ es) now at e next t chosen stepped =
     (t.0, t.1, t.2, Takes-more t.1 (schedule_after s e1) es now at e next t.3 chosen stepped)
 
 Takes-end : (w : World) (s : Schedule) (es : List Event) (now : World) (at : Schedule)
     → Takes w s es now at → choice now at ≡ None → Follows w s es now
-Takes-end w s [] now at t none =
-    (subst (λ (x : World). choice x s ≡ None) (sym t.0) (subst (λ (y : Schedule). choice now y ≡ None) (sym t.1) none), t.0)
+Takes-end w s [] now at t none = (
+  subst (λ (x : World). choice x s ≡ None) (sym t.0) (subst (λ (y : Schedule). choice now y ≡ None) (sym t.1) none),
+  t.0,
+)
 Takes-end w s (e ∷ es) now at t none = (t.0, t.1, t.2, Takes-end t.1 (schedule_after s e) es now at t.3 none)
 
 -- the run so far
-pub record IsUnderWay (script : Script) (seed : ℕ) (taken : List Event) (world : Option World) (at : Schedule) : Type 0 where
+pub record IsUnderWay (script : Script) (seed : ℕ) (taken : List Event) (world : Option World)
+    (at : Schedule) : Type 0 where
   pub now : World
   pub is_now : world ≡ Some now
   pub same : now.script ≡ script
@@ -72,11 +79,13 @@ abbrev pub weight_of : Option World → ℕ
 weight_of None = 0
 weight_of (Some w) = weight w
 
-of_first : (w : World) (b : Bool) (count seed : ℕ) → count ≤ size w → IsWithin (size w) (if b then InTurn count else Drawn seed)
+of_first : (w : World) (b : Bool) (count seed : ℕ) → count ≤ size w
+    → IsWithin (size w) (if b then InTurn count else Drawn seed)
 of_first w true count seed le = le
 of_first w false count seed le = tt
 
-of_after : (w next : World) (at : Schedule) (e : Event) → next.script ≡ w.script → node_of e ≤ size w → IsWithin (size next) (schedule_after at e)
+of_after : (w next : World) (at : Schedule) (e : Event) → next.script ≡ w.script → node_of e ≤ size w
+    → IsWithin (size next) (schedule_after at e)
 of_after w next (InTurn last) e same le = subst (λ (s : Script). node_of e ≤ node_count s) (sym same) le
 of_after w next (Drawn x) e same le = tt
 
@@ -91,17 +100,24 @@ IsUnderWay-start script seed taken world at none opening first =
       same = refl;
       of_world = subst (λ (s : Schedule). IsWithin (node_count script) s) (sym first)
           (of_first (opening_world script) (nat_eq seed 0) (node_count script) seed (omega arith));
-      takes = subst (λ (s : Schedule). Takes (opening_world script) (schedule_of seed (node_count script)) taken (opening_world script) s) (sym first)
-          (subst (λ (es : List Event). Takes (opening_world script) (schedule_of seed (node_count script)) es (opening_world script) (schedule_of seed (node_count script))) (sym none) (refl, refl));
+      takes = subst (λ (s : Schedule).
+          Takes (opening_world script) (schedule_of seed (node_count script)) taken (opening_world script) s)
+          (sym first)
+          (subst (λ (es : List Event).
+          Takes (opening_world script) (schedule_of seed (node_count script)) es (opening_world script)
+          (schedule_of seed (node_count script))) (sym none) (refl, refl));
     }
 
 -- the event that the schedule chooses
 chosen_now : (script : Script) (seed : ℕ) (taken : List Event) (world : Option World) (at : Schedule) (r : Option Event)
     (u : IsUnderWay script seed taken world at) → IfSome world (λ w. r ≡ choice w at) → choice u.now at ≡ r
-chosen_now script seed taken world at r u chosen = sym (subst (λ (o : Option World). IfSome o (λ w. r ≡ choice w at)) u.is_now chosen)
+chosen_now script seed taken world at r u chosen =
+    sym (subst (λ (o : Option World). IfSome o (λ w. r ≡ choice w at)) u.is_now chosen)
 
-next_now : (script : Script) (seed : ℕ) (taken : List Event) (world : Option World) (at : Schedule) (r : Option Event) (e : Event)
-    (u : IsUnderWay script seed taken world at) → IfSome world (λ w. r ≡ choice w at) → r ≡ Some e → IsNext u.now (size u.now) e
+next_now : (script : Script) (seed : ℕ) (taken : List Event) (world : Option World) (at : Schedule) (r : Option Event)
+    (e : Event)
+    (u : IsUnderWay script seed taken world at) → IfSome world (λ w. r ≡ choice w at) → r ≡ Some e
+    → IsNext u.now (size u.now) e
 next_now script seed taken world at r e u chosen is =
     choice_next u.now at e u.of_world (chosen_now script seed taken world at r u chosen ∙ is)
 
@@ -114,20 +130,25 @@ pub world_has_last : (script : Script) (seed : ℕ) (taken : List Event) (world 
 world_has_last script seed taken world at u =
     subst (λ (o : Option World). IfSome o (λ w. IsWithin (size w) at)) (sym u.is_now) u.of_world
 
-pub chosen_is_enabled : (script : Script) (seed : ℕ) (taken : List Event) (world : Option World) (at : Schedule) (r : Option Event) (e : Event)
-    → IsUnderWay script seed taken world at → IfSome world (λ w. r ≡ choice w at) → r ≡ Some e → IfSome world (λ w. is_enabled w e ≡ true)
+pub chosen_is_enabled : (script : Script) (seed : ℕ) (taken : List Event) (world : Option World) (at : Schedule)
+    (r : Option Event) (e : Event)
+    → IsUnderWay script seed taken world at → IfSome world (λ w. r ≡ choice w at) → r ≡ Some e
+    → IfSome world (λ w. is_enabled w e ≡ true)
 chosen_is_enabled script seed taken world at r e u chosen is =
-    subst (λ (o : Option World). IfSome o (λ w. is_enabled w e ≡ true)) (sym u.is_now) (next_now script seed taken world at r e u chosen is).enabled
+    subst (λ (o : Option World). IfSome o (λ w. is_enabled w e ≡ true)) (sym u.is_now)
+    (next_now script seed taken world at r e u chosen is).enabled
 
 same_world : (world : Option World) (w now : World) → world ≡ Some w → world ≡ Some now → w ≡ now
 same_world world w now a b = let e : Some w ≡ Some now = sym a ∙ b in cc
 
 -- a run goes on
-pub IsUnderWay-more : (script : Script) (seed : ℕ) (taken more : List Event) (world new : Option World) (at next_at : Schedule) (r : Option Event) (e : Event)
+pub IsUnderWay-more : (script : Script) (seed : ℕ) (taken more : List Event) (world new : Option World)
+    (at next_at : Schedule) (r : Option Event) (e : Event)
     → IsUnderWay script seed taken world at → IfSome world (λ w. r ≡ choice w at) → r ≡ Some e → IsStepped world e new
     → next_at ≡ schedule_after at e → more ≡ taken ++ e ∷ [] → IsUnderWay script seed more new next_at
 IsUnderWay-more script seed taken more world new at next_at r e u chosen is s after_it with_it =
-    let stepped : step u.now e ≡ Some s.1 = subst (λ (x : World). step x e ≡ Some s.1) (same_world world s.0 u.now s.2 u.is_now) s.4
+    let stepped : step u.now e ≡ Some s.1 =
+    subst (λ (x : World). step x e ≡ Some s.1) (same_world world s.0 u.now s.2 u.is_now) s.4
     in let same : s.1.script ≡ u.now.script = step_script u.now e s.1 stepped
     in let first : World = opening_world script
     in let begins : Schedule = schedule_of seed (node_count script)
@@ -139,22 +160,29 @@ IsUnderWay-more script seed taken more world new at next_at r e u chosen is s af
           (of_after u.now s.1 at e same (next_now script seed taken world at r e u chosen is).within);
       takes = subst (λ (x : Schedule). Takes first begins more s.1 x) (sym after_it)
           (subst (λ (es : List Event). Takes first begins es s.1 (schedule_after at e)) (sym with_it)
-          (Takes-more first begins taken u.now at e s.1 u.takes (chosen_now script seed taken world at r u chosen ∙ is) stepped));
+          (Takes-more first begins taken u.now at e s.1 u.takes
+          (chosen_now script seed taken world at r u chosen ∙ is) stepped));
     }
 
-pub weight_lowered : (world new : Option World) (e : Event) → StepsLowerWeights → IsStepped world e new → weight_of new < weight_of world
+pub weight_lowered : (world new : Option World) (e : Event) → StepsLowerWeights → IsStepped world e new
+    → weight_of new < weight_of world
 weight_lowered world new e lower s =
     subst (λ (o : Option World). weight_of new < weight_of o) (sym s.2)
     (subst (λ (o : Option World). weight_of o < weight s.0) (sym s.3) (lower s.0 s.1 e s.4))
 
 -- a run ends
-pub IsUnderWay-end : (script : Script) (seed : ℕ) (taken : List Event) (world : Option World) (at : Schedule) (r : Option Event)
-    → JournalsAreLegal → RestIsWhole → NoNameHasTwoOwners → RunsAreShort → SchedulesAreRuns → RestIsWhereNothingIsChosen → IsRunnable script
-    → IsUnderWay script seed taken world at → IfSome world (λ w. r ≡ choice w at) → r ≡ None → IsRunTo script seed taken world
+pub IsUnderWay-end : (script : Script) (seed : ℕ) (taken : List Event) (world : Option World) (at : Schedule)
+    (r : Option Event)
+    → JournalsAreLegal → RestIsWhole → NoNameHasTwoOwners → RunsAreShort → SchedulesAreRuns → RestIsWhereNothingIsChosen
+    → IsRunnable script
+    → IsUnderWay script seed taken world at → IfSome world (λ w. r ≡ choice w at) → r ≡ None
+    → IsRunTo script seed taken world
 IsUnderWay-end script seed taken world at r legal whole owned short runs rests runnable u chosen none =
     let nothing : choice u.now at ≡ None = chosen_now script seed taken world at r u chosen ∙ none
-    in let follows = Takes-end (opening_world script) (schedule_of seed (node_count script)) taken u.now at u.takes nothing
-    in let run : IsRunOf script taken u.now = runs (opening_world script) u.now (schedule_of seed (node_count script)) taken follows
+    in let follows = Takes-end (opening_world script)
+    (schedule_of seed (node_count script)) taken u.now at u.takes nothing
+    in let run : IsRunOf script taken u.now =
+    runs (opening_world script) u.now (schedule_of seed (node_count script)) taken follows
     in let rest : IsAtRest u.now = rests script u.now at (taken, run) u.of_world nothing
     in let ended : IsScheduledRun script seed taken u.now = record {
       schedule = follows;

@@ -10,7 +10,8 @@ use Rattle.pico_cmd.specs.declared.words.Options.{Options}
 use Rattle.pico_cmd.specs.Words.{Asks, steps_words}
 
 -- one word
-pub one_word : {A : Type 0} (f : A → List ℕ) (xs : List A) (w : A) (y : List ℕ) → 1 ≤ length xs → length xs < 2 → w ≡ get_or xs 0 w
+pub one_word : {A : Type 0} (f : A → List ℕ) (xs : List A) (w : A) (y : List ℕ) → 1 ≤ length xs → length xs < 2
+    → w ≡ get_or xs 0 w
     → f w ≡ y → map f xs ≡ y ∷ []
 one_word f [] w y low high e h = absurd (omega arith)
 one_word f (x ∷ []) w y low high e h = ap (λ t. t ∷ []) (ap f (sym e) ∙ h)
@@ -31,7 +32,8 @@ first_word f (x ∷ xs) w y low e h =
     ap (λ t. t ∷ map f xs) (ap f (sym e) ∙ h) ∙ ap (λ t. y ∷ map f t) (sym (rest_is_drop 1 (x ∷ xs)))
 
 -- the first two words and the others
-pub two_words : {A : Type 0} (f : A → List ℕ) (xs : List A) (w n : A) (y z : List ℕ) → 2 ≤ length xs → w ≡ get_or xs 0 w → n ≡ get_or xs 1 n
+pub two_words : {A : Type 0} (f : A → List ℕ) (xs : List A) (w n : A) (y z : List ℕ) → 2 ≤ length xs → w ≡ get_or xs 0 w
+    → n ≡ get_or xs 1 n
     → f w ≡ y → f n ≡ z → map f xs ≡ y ∷ z ∷ map f (rest_of 2 xs)
 two_words f [] w n y z low e e1 h h1 = absurd (omega arith)
 two_words f (x ∷ []) w n y z low e e1 h h1 = absurd (omega arith)
@@ -47,15 +49,18 @@ asks_seed words rest number seed steps is le is_number is_steps =
     record {
       within = le;
       spelled = inr (ap (λ (t : List (List ℕ)). codes "sim" ∷ t)
-          (is ∙ ap (λ (n : List ℕ). codes "--seed" ∷ n ∷ rest) is_number ∙ ap (λ (t : List (List ℕ)). codes "--seed" ∷ decimal seed ∷ t) is_steps));
+          (is ∙ ap (λ (n : List ℕ). codes "--seed" ∷ n ∷ rest) is_number
+          ∙ ap (λ (t : List (List ℕ)). codes "--seed" ∷ decimal seed ∷ t) is_steps));
     }
 
-pub asks_all : (words more : List (List ℕ)) (r : Option Options) → words ≡ more → IfSome r (Asks more) → IfSome r (Asks words)
+pub asks_all : (words more : List (List ℕ)) (r : Option Options) → words ≡ more → IfSome r (Asks more)
+    → IfSome r (Asks words)
 asks_all words more r e h = subst (λ (t : List (List ℕ)). IfSome r (Asks t)) (sym e) h
 
 -- a number in its one spelling is read
 pub read_seed : {E : Type 0} (bytes word : List ℕ) (seed : ℕ) (r : Result ℕ E) (o : Option ℕ)
-    → ParsesUnsigned 32 10 bytes r → o ≡ result_ok r → bytes ≡ word → seed ≤ 2147483646 → word ≡ decimal seed → o ≡ Some seed
+    → ParsesUnsigned 32 10 bytes r → o ≡ result_ok r → bytes ≡ word → seed ≤ 2147483646 → word ≡ decimal seed
+    → o ≡ Some seed
 read_seed bytes word seed r o parses is same le spelled =
     is ∙ ap result_ok (parse-decimal 32 seed bytes r (omega (arith, le)) (omega (arith, le)) (same ∙ spelled) parses)
 

@@ -4,7 +4,7 @@ use Rattle.std.specs.Fmt.{decimal}
 use Rattle.pico_base.specs.declared.script.Script.{Script}
 use Rattle.host_iface.specs.Told.{followed_by}
 use Rattle.script_reader.specs.declared.fault.ScriptFault.{ScriptFault}
-use Rattle.script_reader.specs.Fault.{Reads, IsFirstFault, name_of}
+use Rattle.script_reader.specs.Fault.{ReadsRunnable, IsFirstFaultOfRunnable, name_of}
 use Rattle.pico_cmd.specs.declared.status.Status.{Status}
 use Rattle.pico_cmd.specs.declared.status.Status.TheVariants as status
 use Rattle.pico_cmd.specs.declared.words.Options.{Options}
@@ -20,14 +20,14 @@ fault_text line fault = codes "fault: line " ++ decimal line ++ codes ": " ++ na
 -- the bytes are a script, and the text is that of its run by the schedule that is asked for
 pub record IsTraceOf (options : Options) (bytes text : List ℕ) : Type 0 where
   pub script : Script
-  pub reads : Reads bytes script
+  pub reads : ReadsRunnable bytes script
   pub run : IsTextOfRun script options text
 
 -- the text names the first fault of the bytes
 pub record IsFaultOf (bytes text : List ℕ) : Type 0 where
   pub line : ℕ
   pub fault : ScriptFault
-  pub first : IsFirstFault bytes line fault
+  pub first : IsFirstFaultOfRunnable bytes line fault
   pub is_text : text ≡ fault_text line fault
 
 -- what goes with a status for these options and bytes
@@ -56,7 +56,8 @@ Allows words left status.Usage text = (IsInOrder words → ⊥) × (text ≡ usa
 Allows words left _ text = ⊥
 
 -- the sink took exactly a text that goes with the status
-pub record Wrote (words : List (List ℕ)) (left : Option (List ℕ)) (s : Status) (old new : Option (List ℕ)) : Type 0 where
+pub record Wrote (words : List (List ℕ)) (left : Option (List ℕ)) (s : Status)
+    (old new : Option (List ℕ)) : Type 0 where
   pub text : List ℕ
   pub allowed : Allows words left s text
   pub taken : new ≡ followed_by old text

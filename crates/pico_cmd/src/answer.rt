@@ -4,7 +4,7 @@ ghost use Rattle.pico_base.specs.declared.script.Script.{Script as ScriptValue};
 ghost use Rattle.kernel_model.specs.Trace.{trace_text};
 ghost use Rattle.machine_model.specs.Built.{IsRunnable};
 ghost use Rattle.script_reader.specs.declared.fault.ScriptFault.{ScriptFault as FaultValue};
-ghost use Rattle.script_reader.specs.Fault.{Reads, IsFirstFault};
+ghost use Rattle.script_reader.specs.Fault.{ReadsRunnable, IsFirstFaultOfRunnable};
 ghost use Rattle.pico_cmd.specs.Run.{IsRunTo, IsTextOfRun, steps_if};
 ghost use Rattle.pico_cmd.specs.Promise.{Answers, fault_text};
 
@@ -12,7 +12,7 @@ use crate::run::{Run, run_script};
 use crate::status::Status;
 use crate::words::Options;
 use pico_base::{Bytes, Memory, Script};
-use script_reader::{ScriptFault, ScriptStop, read_script};
+use script_reader::{ScriptFault, ScriptStop, read_runnable};
 use std::alloc::Global;
 use trace_text::{push, push_byte, push_number, write_steps, write_trace};
 
@@ -65,10 +65,12 @@ fn text_of_run(alloc: Global, script: Script, options: Options) -> Result<Bytes,
 pub fn answer_to(alloc: Global, bytes: &[u8], options: Options) -> Result<Answer, Memory>
     ensures answer { IfOk result (λ answer. Answers options bytes.now answer.status answer.text) }
     ensures status { IfOk result (λ answer. (answer.status ≡ Status.Done) ⊎ (answer.status ≡ Status.BadScript)) }
-    ensures done { (script : ScriptValue) → Reads bytes.now script → IfOk result (λ answer. answer.status ≡ Status.Done) }
-    ensures fault { (line : ℕ) (fault : FaultValue) → IsFirstFault bytes.now line fault → IfOk result (λ answer. answer.status ≡ Status.BadScript) }
+    ensures done { (script : ScriptValue) → ReadsRunnable bytes.now script
+        → IfOk result (λ answer. answer.status ≡ Status.Done) }
+    ensures fault { (line : ℕ) (fault : FaultValue) → IsFirstFaultOfRunnable bytes.now line fault
+        → IfOk result (λ answer. answer.status ≡ Status.BadScript) }
 {
-    match read_script(alloc, bytes) {
+    match read_runnable(alloc, bytes) {
         Ok(script) => Ok(Answer {
             status: Status::Done,
             text: text_of_run(alloc, script, options)?,

@@ -2,13 +2,13 @@
 ghost use Rattle.std.specs.Prelude.{◌≡◌, ◌⊎◌, ℕ, map, string_bytes, IfOk, OnOk, IfSome, IfErr};
 ghost use Rattle.pico_base.specs.declared.script.Script.{Script as ScriptValue};
 ghost use Rattle.script_reader.specs.declared.fault.ScriptFault.{ScriptFault as FaultValue};
-ghost use Rattle.script_reader.specs.Fault.{Reads, IsFirstFault};
+ghost use Rattle.script_reader.specs.Fault.{ReadsRunnable, IsFirstFaultOfRunnable};
 ghost use Rattle.host_iface.specs.Faults.{HasRisen};
 ghost use Rattle.host_iface.specs.Told.{followed_by};
 ghost use Rattle.pico_cmd.specs.Promise.{Allows, AnswersTold, Wrote, WroteFront, IsOrFails, IsOrStops, IsWritten, usage_text};
 ghost use Rattle.pico_cmd.specs.Words.{IsInOrder};
 ghost use Rattle.pico_cmd.specs.declared.program.Stop.TheVariants.{Memory as OutOfMemory};
-ghost use Rattle.pico_cmd.specs.Stop.{IsReadFault, AreScriptBytes, left_behind};
+ghost use Rattle.pico_cmd.specs.Stop.{IsReadFault, IsStop, AreScriptBytes, left_behind};
 
 use crate::answer::{Answer, answer_to};
 use crate::status::Status;
@@ -57,7 +57,8 @@ fn usage(alloc: Global) -> Result<Answer, Memory>
 fn script_bytes<S: Source>(alloc: Global, source: &mut S) -> Result<Bytes, Stop>
     ensures bytes { IfOk result (λ bytes. IfSome (S.left source.old) (AreScriptBytes bytes)) }
     ensures rest { OnOk result (S.left source.new ≡ left_behind (S.left source.old)) }
-    ensures fault { IfErr result (IsReadFault (HasRisen (S.faults source.old) (S.faults source.new))) }
+    ensures calm { OnOk result (S.faults source.new ≡ S.faults source.old) }
+    ensures stop { IfErr result (IsStop (S.faults source.old) (S.faults source.new)) }
 {
     match read_all(alloc, source, MAX_SCRIPT) {
         Ok(bytes) => Ok(bytes),
@@ -71,10 +72,13 @@ fn script_bytes<S: Source>(alloc: Global, source: &mut S) -> Result<Bytes, Stop>
 fn simulate<S: Source>(alloc: Global, options: Options, source: &mut S) -> Result<Answer, Stop>
     ensures answer { IfOk result (λ answer. AnswersTold options (S.left source.old) answer.status answer.text) }
     ensures status { IfOk result (λ answer. (answer.status ≡ Status.Done) ⊎ (answer.status ≡ Status.BadScript)) }
-    ensures done { IfSome (S.left source.old) (λ bytes. (script : ScriptValue) → Reads bytes script → IfOk result (λ answer. answer.status ≡ Status.Done)) }
-    ensures fault { IfSome (S.left source.old) (λ bytes. (line : ℕ) (fault : FaultValue) → IsFirstFault bytes line fault → IfOk result (λ answer. answer.status ≡ Status.BadScript)) }
+    ensures done { IfSome (S.left source.old) (λ bytes. (script : ScriptValue) → ReadsRunnable bytes script
+        → IfOk result (λ answer. answer.status ≡ Status.Done)) }
+    ensures fault { IfSome (S.left source.old) (λ bytes. (line : ℕ) (fault : FaultValue)
+        → IsFirstFaultOfRunnable bytes line fault → IfOk result (λ answer. answer.status ≡ Status.BadScript)) }
     ensures rest { OnOk result (S.left source.new ≡ left_behind (S.left source.old)) }
-    ensures stop { IfErr result (IsReadFault (HasRisen (S.faults source.old) (S.faults source.new))) }
+    ensures calm { OnOk result (S.faults source.new ≡ S.faults source.old) }
+    ensures stop { IfErr result (IsStop (S.faults source.old) (S.faults source.new)) }
 {
     let bytes = script_bytes(alloc, source)?;
     Ok(answer_to(alloc, bytes.as_slice(), options)?)
@@ -82,15 +86,19 @@ fn simulate<S: Source>(alloc: Global, options: Options, source: &mut S) -> Resul
 
 // The answer to the words and the bytes.
 fn answer<S: Source>(alloc: Global, words: &[String], source: &mut S) -> Result<Answer, Stop>
-    ensures answer { IfOk result (λ answer. Allows (map string_bytes words.now) (S.left source.old) answer.status answer.text) }
-    ensures usage { (IsInOrder (map string_bytes words.now) → ⊥) → IfOk result (λ answer. answer.status ≡ Status.Usage) }
+    ensures answer { IfOk result
+        (λ answer. Allows (map string_bytes words.now) (S.left source.old) answer.status answer.text) }
+    ensures usage { (IsInOrder (map string_bytes words.now) → ⊥)
+        → IfOk result (λ answer. answer.status ≡ Status.Usage) }
     ensures done { IsInOrder (map string_bytes words.now) → IfSome (S.left source.old) (λ bytes.
-        (script : ScriptValue) → Reads bytes script → IfOk result (λ answer. answer.status ≡ Status.Done)) }
+        (script : ScriptValue) → ReadsRunnable bytes script → IfOk result (λ answer. answer.status ≡ Status.Done)) }
     ensures fault { IsInOrder (map string_bytes words.now) → IfSome (S.left source.old) (λ bytes.
-        (line : ℕ) (fault : FaultValue) → IsFirstFault bytes line fault → IfOk result (λ answer. answer.status ≡ Status.BadScript)) }
+        (line : ℕ) (fault : FaultValue) → IsFirstFaultOfRunnable bytes line fault → IfOk result (λ answer. answer.status ≡ Status.BadScript)) }
     ensures rest { IsInOrder (map string_bytes words.now)
         → OnOk result (S.left source.new ≡ left_behind (S.left source.old)) }
-    ensures stop { IfErr result (IsReadFault (IsInOrder (map string_bytes words.now) × HasRisen (S.faults source.old) (S.faults source.new))) }
+    ensures stop { IfErr result (IsStop (S.faults source.old) (S.faults source.new)) }
+    ensures read { IfErr result (IsReadFault (IsInOrder (map string_bytes words.now))) }
+    ensures words_first { (IsInOrder (map string_bytes words.now) → ⊥) → source.new ≡ source.old }
 {
     match options_of(words) {
         Some(options) => simulate(alloc, options, source),
@@ -100,7 +108,8 @@ fn answer<S: Source>(alloc: Global, words: &[String], source: &mut S) -> Result<
 
 // Writes an answer, and gives its status or that the write failed.
 fn write_answer<K: Sink>(sink: &mut K, answer: Answer) -> Status
-    ensures { IsWritten answer.status answer.text (K.taken sink.old) (K.taken sink.new) (HasRisen (K.faults sink.old) (K.faults sink.new)) result }
+    ensures { IsWritten answer.status answer.text (K.taken sink.old) (K.taken sink.new)
+        (HasRisen (K.faults sink.old) (K.faults sink.new)) result }
 {
     match write_all(sink, answer.text.as_slice()) {
         Ok(()) => answer.status,
@@ -130,8 +139,12 @@ pub fn pico<R, S: Source, K: Sink, G: Gate>(
         Wrote (map string_bytes words.now) (S.left source.old) Status.BadScript (K.taken sink.old) (K.taken sink.new) }
     ensures usage { result.status ≡ Status.Usage →
         Wrote (map string_bytes words.now) (S.left source.old) Status.Usage (K.taken sink.old) (K.taken sink.new) }
-    ensures memory { result.status ≡ Status.Memory → K.taken sink.new ≡ K.taken sink.old }
-    ensures read_fault { result.status ≡ Status.ReadFault → K.taken sink.new ≡ K.taken sink.old }
+    ensures memory { result.status ≡ Status.Memory → sink.new ≡ sink.old }
+    ensures read_fault { result.status ≡ Status.ReadFault → sink.new ≡ sink.old }
+
+    // Want of memory isn't told for a read that failed. The words are looked at before the source.
+    ensures memory_calm { result.status ≡ Status.Memory → S.faults source.new ≡ S.faults source.old }
+    ensures words_first { (IsInOrder (map string_bytes words.now) → ⊥) → source.new ≡ source.old }
 
     // The causes of the faults of reading and writing. A write that fails leaves a front of what was to be written.
     ensures read_cause { result.status ≡ Status.ReadFault →
@@ -141,18 +154,20 @@ pub fn pico<R, S: Source, K: Sink, G: Gate>(
         WroteFront (map string_bytes words.now) (S.left source.old) (K.taken sink.old) (K.taken sink.new) }
 
     // The source is read to its end, or one byte past the greatest script.
-    ensures rest { IsInOrder (map string_bytes words.now) → (result.status ≡ Status.ReadFault → ⊥) → (result.status ≡ Status.Memory → ⊥)
+    ensures rest { IsInOrder (map string_bytes words.now) → (result.status ≡ Status.ReadFault → ⊥)
+        → (result.status ≡ Status.Memory → ⊥)
         → S.left source.new ≡ left_behind (S.left source.old) }
 
     // Words out of order give the usage line, and a script with a fault its fault.
     ensures usage_exactly { (IsInOrder (map string_bytes words.now) → ⊥) → IsOrFails result.status Status.Usage }
     ensures fault_exactly { IsInOrder (map string_bytes words.now) → IfSome (S.left source.old) (λ bytes.
-        (line : ℕ) (fault : FaultValue) → IsFirstFault bytes line fault → IsOrStops result.status Status.BadScript) }
+        (line : ℕ) (fault : FaultValue) → IsFirstFaultOfRunnable bytes line fault → IsOrStops result.status Status.BadScript) }
 
     // A script without a fault is run, unless memory runs out or a count of faults rises.
     ensures complete { IsInOrder (map string_bytes words.now)
-        → (HasRisen (S.faults source.old) (S.faults source.new) → ⊥) → (HasRisen (K.faults sink.old) (K.faults sink.new) → ⊥)
-        → IfSome (S.left source.old) (λ bytes. (script : ScriptValue) → Reads bytes script
+        → (HasRisen (S.faults source.old) (S.faults source.new) → ⊥)
+        → (HasRisen (K.faults sink.old) (K.faults sink.new) → ⊥)
+        → IfSome (S.left source.old) (λ bytes. (script : ScriptValue) → ReadsRunnable bytes script
         → (result.status ≡ Status.Done) ⊎ (result.status ≡ Status.Memory)) }
 {
     let status = match answer(alloc, words, source) {

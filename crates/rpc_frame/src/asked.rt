@@ -1,3 +1,4 @@
+//! A call that a node asks for.
 use pico_base::{Call, Node, Pid};
 
 /// A call that its caller asked for, on its way to whom it is to be carried out by: the node of the caller, the ticket

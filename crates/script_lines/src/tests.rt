@@ -1,3 +1,4 @@
+//! Calls of lines with and without a variable.
 use super::*;
 use pico_base::{Bytes, Call, Id, Line, Memory, Pid, Sequence, Sig, SigArg, Var};
 use std::alloc::Global;

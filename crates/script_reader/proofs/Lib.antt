@@ -11,3 +11,7 @@ pub mod Widths
 pub mod CallRanges
 pub mod Saying
 pub mod Opened
+pub mod Tidy
+pub mod Forked
+pub mod Known
+pub mod Sound

@@ -30,22 +30,34 @@ none_within : (o : Bool) (i : ℕ) → cond o (Some i) None ≡ None → o ≡ f
 none_within true i e = absurd cc
 none_within false i e = refl
 
-pub lines_of-at : (xs : List ℕ) (i : ℕ) → position is_feed xs ≡ Some i → lines_of xs ≡ take i xs ∷ lines_of (drop (i + 1) xs)
+-- the first line feed ends the first line
+pub lines_of-at : (xs : List ℕ) (i : ℕ) → position is_feed xs ≡ Some i
+    → lines_of xs ≡ take i xs ∷ lines_of (drop (i + 1) xs)
 lines_of-at xs i e =
     let h = position-Some is_feed xs i 0 e in
     let feed : get_or xs i 0 ≡ 10 = eqb-true _ _ h.1 in
-    let front : Plain (take i xs) = recursion_from_All (λ b. eqb b 10 ≡ false) (take i xs) (All-from_get_or (λ b. eqb b 10 ≡ false) (take i xs) 0 (λ k lt. let small : k < i = omega (arith, length-take i xs) in rw (get_or-take i xs k 0 small) (h.2 k small))) in
-    let parts : xs ≡ take i xs ++ 10 ∷ drop (i + 1) xs = sym (take-append-drop i xs) ∙ ap (λ ys. take i xs ++ ys) (drop_more xs i 0 h.0 ∙ ap (λ b. b ∷ drop (i + 1) xs) feed) in
+    let front : Plain (take i xs) =
+    recursion_from_All (λ b. eqb b 10 ≡ false) (take i xs)
+    (All-from_get_or (λ b. eqb b 10 ≡ false) (take i xs) 0 (λ k lt. let small : k < i =
+    omega (arith, length-take i xs) in rw (get_or-take i xs k 0 small) (h.2 k small))) in
+    let parts : xs ≡ take i xs ++ 10 ∷ drop (i + 1) xs =
+    sym (take-append-drop i xs)
+    ∙ ap (λ ys. take i xs ++ ys) (drop_more xs i 0 h.0 ∙ ap (λ b. b ∷ drop (i + 1) xs) feed) in
     ap lines_of parts ∙ lines_of-feed (take i xs) (drop (i + 1) xs) front
 
 pub Plain-none : (xs : List ℕ) → position is_feed xs ≡ None → Plain xs
 Plain-none xs e =
-    let far : length xs ≤ position_or_len is_feed xs = ltb-false _ _ (none_within (ltb (position_or_len is_feed xs) (length xs)) (position_or_len is_feed xs) e) in
-    recursion_from_All (λ b. eqb b 10 ≡ false) xs (All-from_get_or (λ b. eqb b 10 ≡ false) xs 0 (λ k lt. not-true _ (prefix_len_passes (λ b. not (is_feed b)) xs k 0 (omega arith))))
+    let far : length xs ≤ position_or_len is_feed xs =
+    ltb-false _ _ (none_within (ltb (position_or_len is_feed xs) (length xs)) (position_or_len is_feed xs) e) in
+    recursion_from_All (λ b. eqb b 10 ≡ false) xs
+    (All-from_get_or (λ b. eqb b 10 ≡ false) xs 0
+    (λ k lt. not-true _ (prefix_len_passes (λ b. not (is_feed b)) xs k 0 (omega arith))))
 
+-- a length that is not 0 is above it
 pub some_from_not_empty : (n : ℕ) → eqb n 0 ≡ false → 0 < n
 some_from_not_empty n e = grind (arith, eqb-false)
 
+-- without a line feed the bytes are one line
 pub lines_of-none : (xs : List ℕ) → position is_feed xs ≡ None → 0 < length xs → lines_of xs ≡ xs ∷ []
 lines_of-none [] e some = absurd (omega arith)
 lines_of-none (x ∷ xs) e some = lines_of-plain x xs (Plain-none (x ∷ xs) e)

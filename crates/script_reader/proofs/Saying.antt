@@ -29,12 +29,14 @@ IsForkOf names (Some number) = (1 ≤ number) × (number ≤ length names)
 
 -- a line in a text whose blocks have these names, which opens a block of this name or none
 abbrev pub IsFine : List (List ℕ) → Option (List ℕ) → Said → Type 0
-IsFine names o (Opens name number) = (model.is_name name ≡ true) × (number_of names name ≡ Some number) × (o ≡ Some name)
+IsFine names o (Opens name number) =
+    (model.is_name name ≡ true) × (number_of names name ≡ Some number) × (o ≡ Some name)
 IsFine names o (Forks set number) = (model.is_variable set ≡ true) × IsForkOf names number
 IsFine names o (Calls line) = (model.is_line line ≡ true) × (model.is_fork line.call ≡ false)
 IsFine names o said = Unit {0}
 
-fine_cond : (names : List (List ℕ)) (o : Option (List ℕ)) (b : Bool) (x y : Said) → (b ≡ true → IsFine names o x) → IsFine names o y → IsFine names o (cond b x y)
+fine_cond : (names : List (List ℕ)) (o : Option (List ℕ)) (b : Bool) (x y : Said) → (b ≡ true → IsFine names o x)
+    → IsFine names o y → IsFine names o (cond b x y)
 fine_cond names o true x y f g = f refl
 fine_cond names o false x y f g = g
 
@@ -46,7 +48,8 @@ IsSet set = model.is_variable set ≡ true
 abbrev IsTries : Option ℕ → Type 0
 IsTries tries = (leb 1 (unwrap_or tries 1) && leb (unwrap_or tries 1) 20000) ≡ true
 
-front_cond : (P : Option ℕ → Type 0) (n : ℕ) (b : Bool) (x y : Front × List (List ℕ)) → IfSome x.0 P × (width x.1 ≤ n) → IfSome y.0 P × (width y.1 ≤ n) → IfSome (cond b x y).0 P × (width (cond b x y).1 ≤ n)
+front_cond : (P : Option ℕ → Type 0) (n : ℕ) (b : Bool) (x y : Front × List (List ℕ)) → IfSome x.0 P × (width x.1 ≤ n)
+    → IfSome y.0 P × (width y.1 ≤ n) → IfSome (cond b x y).0 P × (width (cond b x y).1 ≤ n)
 front_cond P n true x y f g = f
 front_cond P n false x y f g = g
 
@@ -55,40 +58,53 @@ unfolding says.set_at
 set_fits [] = (refl, omega arith)
 set_fits (v ∷ []) = (refl, omega arith)
 set_fits (v ∷ e ∷ ws) =
-    front_cond IsSet (width (v ∷ e ∷ ws)) (bytes_eq e (codes "=")) (says.given (variable v), ws) (says.nothing, v ∷ e ∷ ws)
-    (if_map (variable v) (λ v. Some v) (λ v. v ≤ 2885) IsSet (variable_small v) (λ v h. le-leb v 2885 h), omega arith) (refl, omega arith)
+    front_cond IsSet (width (v ∷ e ∷ ws)) (bytes_eq e (codes "=")) (says.given (variable v), ws)
+    (says.nothing, v ∷ e ∷ ws)
+    (if_map (variable v) (λ v. Some v) (λ v. v ≤ 2885) IsSet (variable_small v) (λ v h. le-leb v 2885 h), omega arith)
+    (refl, omega arith)
 
 tries_fit : (ws : List (List ℕ)) → IfSome (says.tries_at ws).0 IsTries × (width (says.tries_at ws).1 ≤ width ws)
 unfolding says.tries_at
 tries_fit [] = (refl, omega arith)
 tries_fit (t ∷ []) =
-    front_cond IsTries (width (t ∷ [])) (bytes_eq t (codes "try")) (None, []) (says.nothing, t ∷ []) (tt, omega arith) (refl, omega arith)
+    front_cond IsTries (width (t ∷ [])) (bytes_eq t (codes "try")) (None, []) (says.nothing, t ∷ []) (tt, omega arith)
+    (refl, omega arith)
 tries_fit (t ∷ n ∷ ws) =
-    front_cond IsTries (width (t ∷ n ∷ ws)) (bytes_eq t (codes "try")) (says.given (positive 20000 n), ws) (says.nothing, t ∷ n ∷ ws)
-    (if_map (positive 20000 n) (λ v. Some v) (λ n. (1 ≤ n) × (n ≤ 20000)) IsTries (positive_small 20000 n) (λ v h. between_from 1 20000 v h.0 h.1), omega arith) (refl, omega arith)
+    front_cond IsTries (width (t ∷ n ∷ ws)) (bytes_eq t (codes "try")) (says.given (positive 20000 n), ws)
+    (says.nothing, t ∷ n ∷ ws) (
+      if_map (positive 20000 n) (λ v. Some v) (λ n. (1 ≤ n) × (n ≤ 20000)) IsTries (positive_small 20000 n)
+          (λ v h. between_from 1 20000 v h.0 h.1),
+      omega arith,
+    ) (refl, omega arith)
 
 -- ---- calls
 
-position_within : (b : Bool) (i n : ℕ) → (b ≡ true → i < n) → IfSome (option_map (λ place. place + 1) (cond b (Some i) None)) (λ k. (1 ≤ k) × (k ≤ n))
+position_within : (b : Bool) (i n : ℕ) → (b ≡ true → i < n)
+    → IfSome (option_map (λ place. place + 1) (cond b (Some i) None)) (λ k. (1 ≤ k) × (k ≤ n))
 position_within true i n h = (omega arith, omega (arith, h refl))
 position_within false i n h = tt
 
-number_within : (names : List (List ℕ)) (name : List ℕ) → IfSome (number_of names name) (λ k. (1 ≤ k) × (k ≤ length names))
+number_within : (names : List (List ℕ)) (name : List ℕ)
+    → IfSome (number_of names name) (λ k. (1 ≤ k) × (k ≤ length names))
 unfolding number_of
-number_within names name = position_within (ltb (position_or_len (bytes_eq name) names) (length names)) (position_or_len (bytes_eq name) names) (length names) (ltb-true (position_or_len (bytes_eq name) names) (length names))
+number_within names name =
+    position_within (ltb (position_or_len (bytes_eq name) names) (length names)) (position_or_len (bytes_eq name) names)
+    (length names) (ltb-true (position_or_len (bytes_eq name) names) (length names))
 
 fork_of : (names : List (List ℕ)) (o : Option ℕ) → IfSome o (λ k. (1 ≤ k) × (k ≤ length names)) → IsForkOf names o
 fork_of names None h = tt
 fork_of names (Some k) h = h
 
-fork_fine : (names : List (List ℕ)) (o : Option (List ℕ)) (set tries : Front) (ws : List (List ℕ)) → IfSome set IsSet → IsFine names o (says.fork_said names set tries ws)
+fork_fine : (names : List (List ℕ)) (o : Option (List ℕ)) (set tries : Front) (ws : List (List ℕ)) → IfSome set IsSet
+    → IsFine names o (says.fork_said names set tries ws)
 unfolding says.fork_said
 fork_fine names o None tries ws h = tt
 fork_fine names o (Some set) None ws h = tt
 fork_fine names o (Some set) (Some (Some n)) ws h = tt
 fork_fine names o (Some set) (Some None) [] h = tt
 fork_fine names o (Some set) (Some None) (name ∷ []) h =
-    fine_cond names o (model.is_name name) (Forks set (number_of names name)) Bad (λ _. (h, fork_of names (number_of names name) (number_within names name))) tt
+    fine_cond names o (model.is_name name) (Forks set (number_of names name)) Bad
+    (λ _. (h, fork_of names (number_of names name) (number_within names name))) tt
 fork_fine names o (Some set) (Some None) (name ∷ x ∷ ws) h = tt
 
 no_fork : (call : Call) → model.is_exit call ≡ true → model.is_fork call ≡ false
@@ -96,17 +112,24 @@ no_fork (calls.Fork block) e = cc
 no_fork call e = refl
 
 -- the parts of a line's test
-line_from : (line : Line) → (leb 1 line.tries && leb line.tries 20000) ≡ true → model.is_tried_once line ≡ true → model.sets_rightly line ≡ true → Fits (line.from, line.call) → model.is_variable line.set ≡ true → model.is_line line ≡ true
+line_from : (line : Line) → (leb 1 line.tries && leb line.tries 20000) ≡ true → model.is_tried_once line ≡ true
+    → model.sets_rightly line ≡ true → Fits (line.from, line.call) → model.is_variable line.set ≡ true
+    → model.is_line line ≡ true
 line_from line tries once sets fits set =
     let named : Bool = cond (is_some line.from) (model.can_name line.call) (model.is_process_in_range line.call) in
     let variables : Bool = model.is_variable line.set && model.is_variable line.from in
-    and_from (leb 1 line.tries && leb line.tries 20000) (model.is_tried_once line && (model.sets_rightly line && (model.is_in_range line.call && (named && variables)))) tries
-    (and_from (model.is_tried_once line) (model.sets_rightly line && (model.is_in_range line.call && (named && variables))) once
+    and_from (leb 1 line.tries && leb line.tries 20000)
+    (model.is_tried_once line
+    && (model.sets_rightly line && (model.is_in_range line.call && (named && variables)))) tries
+    (and_from (model.is_tried_once line)
+    (model.sets_rightly line && (model.is_in_range line.call && (named && variables))) once
     (and_from (model.sets_rightly line) (model.is_in_range line.call && (named && variables)) sets
     (and_from (model.is_in_range line.call) (named && variables) fits.in_range
-    (and_from named variables fits.named (and_from (model.is_variable line.set) (model.is_variable line.from) set fits.variable)))))
+    (and_from named variables fits.named
+    (and_from (model.is_variable line.set) (model.is_variable line.from) set fits.variable)))))
 
-exit_fine : (names : List (List ℕ)) (o : Option (List ℕ)) (set tries : Front) (call : Option FromCall) → IfSome call IsExit → IsFine names o (says.exit_said set tries call)
+exit_fine : (names : List (List ℕ)) (o : Option (List ℕ)) (set tries : Front) (call : Option FromCall)
+    → IfSome call IsExit → IsFine names o (says.exit_said set tries call)
 unfolding says.exit_said
 exit_fine names o None tries call h = tt
 exit_fine names o (Some (Some v)) tries call h = tt
@@ -124,61 +147,91 @@ not_both : (a b : Bool) → b ≡ false → not (a && b) ≡ true
 not_both true b e = rw e refl
 not_both false b e = refl
 
-other_fine : (names : List (List ℕ)) (o : Option (List ℕ)) (set tries : Front) (call : Option FromCall) → IfSome set IsSet → IfSome tries IsTries → IfSome call IsOther → IsFine names o (says.other_said set tries call)
+other_fine : (names : List (List ℕ)) (o : Option (List ℕ)) (set tries : Front) (call : Option FromCall)
+    → IfSome set IsSet → IfSome tries IsTries → IfSome call IsOther → IsFine names o (says.other_said set tries call)
 unfolding says.other_said
 other_fine names o None tries call s t h = tt
 other_fine names o (Some set) None call s t h = tt
 other_fine names o (Some set) (Some tries) None s t h = tt
 other_fine names o (Some set) (Some tries) (Some c) s t h =
-    let line : Line = record { set = set; tries = unwrap_or tries 1; from = c.0; call = c.1 } in
-    (line_from line t (or_not (eqb line.tries 1) (model.is_fork c.1) (model.is_exit c.1) h.no_fork h.no_exit) (not_both (is_some set) (model.is_exit c.1) h.no_exit) h.fits s, h.no_fork)
+    let line : Line = record { set = set; tries = unwrap_or tries 1; from = c.0; call = c.1 } in (
+      line_from line t (or_not (eqb line.tries 1) (model.is_fork c.1) (model.is_exit c.1) h.no_fork h.no_exit)
+          (not_both (is_some set) (model.is_exit c.1) h.no_exit) h.fits s,
+      h.no_fork,
+    )
 
-verb_fine : (names : List (List ℕ)) (o : Option (List ℕ)) (set tries : Front) (verb : Verb) (ws : List (List ℕ)) → IfSome set IsSet → IfSome tries IsTries → width ws ≤ 4097 → IsFine names o (says.verb_said names set tries verb ws)
+verb_fine : (names : List (List ℕ)) (o : Option (List ℕ)) (set tries : Front) (verb : Verb) (ws : List (List ℕ))
+    → IfSome set IsSet → IfSome tries IsTries → width ws ≤ 4097
+    → IsFine names o (says.verb_said names set tries verb ws)
 unfolding says.verb_said
 verb_fine names o set tries verbs.Fork ws s t room = fork_fine names o set tries ws s
 verb_fine names o set tries verbs.Exit ws s t room = exit_fine names o set tries (call_of verbs.Exit ws) (exits_fit ws)
-verb_fine names o set tries verbs.GetPid ws s t room = other_fine names o set tries (call_of verbs.GetPid ws) s t (others_fit verbs.GetPid ws tt room)
-verb_fine names o set tries verbs.Kill ws s t room = other_fine names o set tries (call_of verbs.Kill ws) s t (others_fit verbs.Kill ws tt room)
-verb_fine names o set tries verbs.SigAction ws s t room = other_fine names o set tries (call_of verbs.SigAction ws) s t (others_fit verbs.SigAction ws tt room)
-verb_fine names o set tries verbs.SigProcMask ws s t room = other_fine names o set tries (call_of verbs.SigProcMask ws) s t (others_fit verbs.SigProcMask ws tt room)
-verb_fine names o set tries verbs.SigPending ws s t room = other_fine names o set tries (call_of verbs.SigPending ws) s t (others_fit verbs.SigPending ws tt room)
-verb_fine names o set tries verbs.Handled ws s t room = other_fine names o set tries (call_of verbs.Handled ws) s t (others_fit verbs.Handled ws tt room)
-verb_fine names o set tries verbs.WaitPid ws s t room = other_fine names o set tries (call_of verbs.WaitPid ws) s t (others_fit verbs.WaitPid ws tt room)
-verb_fine names o set tries verbs.MsgGet ws s t room = other_fine names o set tries (call_of verbs.MsgGet ws) s t (others_fit verbs.MsgGet ws tt room)
-verb_fine names o set tries verbs.MsgSnd ws s t room = other_fine names o set tries (call_of verbs.MsgSnd ws) s t (others_fit verbs.MsgSnd ws tt room)
-verb_fine names o set tries verbs.MsgRcv ws s t room = other_fine names o set tries (call_of verbs.MsgRcv ws) s t (others_fit verbs.MsgRcv ws tt room)
-verb_fine names o set tries verbs.MsgCtl ws s t room = other_fine names o set tries (call_of verbs.MsgCtl ws) s t (others_fit verbs.MsgCtl ws tt room)
-verb_fine names o set tries verbs.SemGet ws s t room = other_fine names o set tries (call_of verbs.SemGet ws) s t (others_fit verbs.SemGet ws tt room)
-verb_fine names o set tries verbs.SemOp ws s t room = other_fine names o set tries (call_of verbs.SemOp ws) s t (others_fit verbs.SemOp ws tt room)
-verb_fine names o set tries verbs.SemCtl ws s t room = other_fine names o set tries (call_of verbs.SemCtl ws) s t (others_fit verbs.SemCtl ws tt room)
+verb_fine names o set tries verbs.GetPid ws s t room =
+    other_fine names o set tries (call_of verbs.GetPid ws) s t (others_fit verbs.GetPid ws tt room)
+verb_fine names o set tries verbs.Kill ws s t room =
+    other_fine names o set tries (call_of verbs.Kill ws) s t (others_fit verbs.Kill ws tt room)
+verb_fine names o set tries verbs.SigAction ws s t room =
+    other_fine names o set tries (call_of verbs.SigAction ws) s t (others_fit verbs.SigAction ws tt room)
+verb_fine names o set tries verbs.SigProcMask ws s t room =
+    other_fine names o set tries (call_of verbs.SigProcMask ws) s t (others_fit verbs.SigProcMask ws tt room)
+verb_fine names o set tries verbs.SigPending ws s t room =
+    other_fine names o set tries (call_of verbs.SigPending ws) s t (others_fit verbs.SigPending ws tt room)
+verb_fine names o set tries verbs.Handled ws s t room =
+    other_fine names o set tries (call_of verbs.Handled ws) s t (others_fit verbs.Handled ws tt room)
+verb_fine names o set tries verbs.WaitPid ws s t room =
+    other_fine names o set tries (call_of verbs.WaitPid ws) s t (others_fit verbs.WaitPid ws tt room)
+verb_fine names o set tries verbs.MsgGet ws s t room =
+    other_fine names o set tries (call_of verbs.MsgGet ws) s t (others_fit verbs.MsgGet ws tt room)
+verb_fine names o set tries verbs.MsgSnd ws s t room =
+    other_fine names o set tries (call_of verbs.MsgSnd ws) s t (others_fit verbs.MsgSnd ws tt room)
+verb_fine names o set tries verbs.MsgRcv ws s t room =
+    other_fine names o set tries (call_of verbs.MsgRcv ws) s t (others_fit verbs.MsgRcv ws tt room)
+verb_fine names o set tries verbs.MsgCtl ws s t room =
+    other_fine names o set tries (call_of verbs.MsgCtl ws) s t (others_fit verbs.MsgCtl ws tt room)
+verb_fine names o set tries verbs.SemGet ws s t room =
+    other_fine names o set tries (call_of verbs.SemGet ws) s t (others_fit verbs.SemGet ws tt room)
+verb_fine names o set tries verbs.SemOp ws s t room =
+    other_fine names o set tries (call_of verbs.SemOp ws) s t (others_fit verbs.SemOp ws tt room)
+verb_fine names o set tries verbs.SemCtl ws s t room =
+    other_fine names o set tries (call_of verbs.SemCtl ws) s t (others_fit verbs.SemCtl ws tt room)
 
-named_fine : (names : List (List ℕ)) (o : Option (List ℕ)) (set tries : Front) (verb : Option Verb) (ws : List (List ℕ)) → IfSome set IsSet → IfSome tries IsTries → width ws ≤ 4097 → IsFine names o (says.named_said names set tries verb ws)
+named_fine : (names : List (List ℕ)) (o : Option (List ℕ)) (set tries : Front) (verb : Option Verb) (ws : List (List ℕ))
+    → IfSome set IsSet → IfSome tries IsTries → width ws ≤ 4097
+    → IsFine names o (says.named_said names set tries verb ws)
 named_fine names o set tries None ws s t room = tt
 named_fine names o set tries (Some verb) ws s t room = verb_fine names o set tries verb ws s t room
 
-call_fine : (names : List (List ℕ)) (o : Option (List ℕ)) (set tries : Front) (ws : List (List ℕ)) → IfSome set IsSet → IfSome tries IsTries → width ws ≤ 4097 → IsFine names o (says.call_said names set tries ws)
+call_fine : (names : List (List ℕ)) (o : Option (List ℕ)) (set tries : Front) (ws : List (List ℕ)) → IfSome set IsSet
+    → IfSome tries IsTries → width ws ≤ 4097 → IsFine names o (says.call_said names set tries ws)
 unfolding says.call_said
 call_fine names o set tries [] s t room = tt
-call_fine names o set tries (name ∷ ws) s t room = named_fine names o set tries (verb_of name) ws s t (omega (arith, room))
+call_fine names o set tries (name ∷ ws) s t room =
+    named_fine names o set tries (verb_of name) ws s t (omega (arith, room))
 
-line_fine : (names : List (List ℕ)) (o : Option (List ℕ)) (ws : List (List ℕ)) → width ws ≤ 4097 → IsFine names o (says.line_said names ws)
+line_fine : (names : List (List ℕ)) (o : Option (List ℕ)) (ws : List (List ℕ)) → width ws ≤ 4097
+    → IsFine names o (says.line_said names ws)
 unfolding says.line_said
 line_fine names o ws room =
     let s = set_fits ws in
     let t = tries_fit (says.set_at ws).1 in
-    call_fine names o (says.set_at ws).0 (says.tries_at (says.set_at ws).1).0 (says.tries_at (says.set_at ws).1).1 s.0 t.0 (omega (arith, s.1, t.1, room))
+    call_fine names o (says.set_at ws).0 (says.tries_at (says.set_at ws).1).0
+    (says.tries_at (says.set_at ws).1).1 s.0 t.0 (omega (arith, s.1, t.1, room))
 
 -- ---- lines
 
-proc_from_fine : (names : List (List ℕ)) (o : Option (List ℕ)) (name : List ℕ) (number : Option ℕ) → model.is_name name ≡ true → number_of names name ≡ number → o ≡ Some name → IsFine names o (says.proc_from number name)
+proc_from_fine : (names : List (List ℕ)) (o : Option (List ℕ)) (name : List ℕ) (number : Option ℕ)
+    → model.is_name name ≡ true → number_of names name ≡ number → o ≡ Some name
+    → IsFine names o (says.proc_from number name)
 proc_from_fine names o name None is e h = tt
 proc_from_fine names o name (Some k) is e h = (is, e, h)
 
-proc_fine : (names : List (List ℕ)) (o : Option (List ℕ)) (w : List ℕ) (ws : List (List ℕ)) → o ≡ says.opened_by (w ∷ ws) → bytes_eq w (codes "proc") ≡ true → IsFine names o (says.proc_said names ws)
+proc_fine : (names : List (List ℕ)) (o : Option (List ℕ)) (w : List ℕ) (ws : List (List ℕ))
+    → o ≡ says.opened_by (w ∷ ws) → bytes_eq w (codes "proc") ≡ true → IsFine names o (says.proc_said names ws)
 unfolding says.proc_said says.opened_by
 proc_fine names o w [] e t = tt
 proc_fine names o w (name ∷ []) e t =
-    fine_cond names o (model.is_name name) (says.proc_from (number_of names name) name) BadProc (λ is. proc_from_fine names o name (number_of names name) is refl (e ∙ rw (t, is) refl)) tt
+    fine_cond names o (model.is_name name) (says.proc_from (number_of names name) name) BadProc
+    (λ is. proc_from_fine names o name (number_of names name) is refl (e ∙ rw (t, is) refl)) tt
 proc_fine names o w (name ∷ x ∷ ws) e t = tt
 
 end_fine : (names : List (List ℕ)) (o : Option (List ℕ)) (ws : List (List ℕ)) → IsFine names o (says.end_said ws)
@@ -186,24 +239,33 @@ unfolding says.end_said
 end_fine names o [] = tt
 end_fine names o (w ∷ ws) = tt
 
-words_fine : (names : List (List ℕ)) (o : Option (List ℕ)) (ws : List (List ℕ)) → o ≡ says.opened_by ws → width ws ≤ 4097 → IsFine names o (says.words_said names ws)
+words_fine : (names : List (List ℕ)) (o : Option (List ℕ)) (ws : List (List ℕ)) → o ≡ says.opened_by ws
+    → width ws ≤ 4097 → IsFine names o (says.words_said names ws)
 unfolding says.words_said
 words_fine names o [] e room = tt
 words_fine names o (w ∷ ws) e room =
     let rest : Said = cond (bytes_eq w (codes "end")) (says.end_said ws) (says.line_said names (w ∷ ws)) in
-    let call = fine_cond names o (bytes_eq w (codes "end")) (says.end_said ws) (says.line_said names (w ∷ ws)) (λ _. end_fine names o ws) (line_fine names o (w ∷ ws) room) in
-    let inner = fine_cond names o (bytes_eq w (codes "proc")) (says.proc_said names ws) rest (λ t. proc_fine names o w ws e t) call in
-    fine_cond names o (says.is_comment w) Skipped (cond (bytes_eq w (codes "proc")) (says.proc_said names ws) rest) (λ _. tt) inner
+    let call = fine_cond names o (bytes_eq w (codes "end")) (says.end_said ws) (says.line_said names (w ∷ ws))
+    (λ _. end_fine names o ws) (line_fine names o (w ∷ ws) room) in
+    let inner = fine_cond names o (bytes_eq w (codes "proc")) (says.proc_said names ws) rest
+    (λ t. proc_fine names o w ws e t) call in
+    fine_cond names o (says.is_comment w) Skipped (cond (bytes_eq w (codes "proc")) (says.proc_said names ws) rest)
+    (λ _. tt) inner
 
-pub said_fine : (names : List (List ℕ)) (line : List ℕ) → length line ≤ 4096 → IsFine names (says.opening_at line) (said_of names line)
-said_fine names line h = words_fine names (says.opening_at line) (words_of line) refl (omega (arith, line_width line, h))
+-- what a line of at most 4,096 bytes says is within its ranges
+pub said_fine : (names : List (List ℕ)) (line : List ℕ) → length line ≤ 4096
+    → IsFine names (says.opening_at line) (said_of names line)
+said_fine names line h =
+    words_fine names (says.opening_at line) (words_of line) refl (omega (arith, line_width line, h))
 
 -- ---- lines that open a block
 
 bytes_same : (a b : List ℕ) → bytes_eq a b ≡ true → a ≡ b
 bytes_same a b e = (bytes_eq-Decides a b).0 e
 
-two_words : (names : List (List ℕ)) (w name x : List ℕ) (b c : Bool) → bytes_eq w (codes "proc") ≡ b → model.is_name name ≡ c → cond (b && c) (Some name) None ≡ Some x → says.words_said names (w ∷ name ∷ []) ≡ says.proc_from (number_of names x) x
+two_words : (names : List (List ℕ)) (w name x : List ℕ) (b c : Bool) → bytes_eq w (codes "proc") ≡ b
+    → model.is_name name ≡ c → cond (b && c) (Some name) None ≡ Some x
+    → says.words_said names (w ∷ name ∷ []) ≡ says.proc_from (number_of names x) x
 unfolding says.words_said says.proc_said says.is_comment
 two_words names w name x true true t is e =
     let same : name ≡ x = same_Some name x e in
@@ -212,12 +274,16 @@ two_words names w name x true true t is e =
 two_words names w name x true false t is e = absurd (none-some x e)
 two_words names w name x false c t is e = absurd (none-some x e)
 
-words_open : (names : List (List ℕ)) (ws : List (List ℕ)) (x : List ℕ) → says.opened_by ws ≡ Some x → says.words_said names ws ≡ says.proc_from (number_of names x) x
+words_open : (names : List (List ℕ)) (ws : List (List ℕ)) (x : List ℕ) → says.opened_by ws ≡ Some x
+    → says.words_said names ws ≡ says.proc_from (number_of names x) x
 unfolding says.opened_by
 words_open names [] x e = absurd (none-some x e)
 words_open names (w ∷ []) x e = absurd (none-some x e)
-words_open names (w ∷ name ∷ []) x e = two_words names w name x (bytes_eq w (codes "proc")) (model.is_name name) refl refl e
+words_open names (w ∷ name ∷ []) x e =
+    two_words names w name x (bytes_eq w (codes "proc")) (model.is_name name) refl refl e
 words_open names (w ∷ name ∷ v ∷ ws) x e = absurd (none-some x e)
 
-pub opening_said : (names : List (List ℕ)) (line x : List ℕ) → says.opening_at line ≡ Some x → said_of names line ≡ says.proc_from (number_of names x) x
+-- a line with a name opens its block
+pub opening_said : (names : List (List ℕ)) (line x : List ℕ) → says.opening_at line ≡ Some x
+    → said_of names line ≡ says.proc_from (number_of names x) x
 opening_said names line x e = words_open names (words_of line) x e

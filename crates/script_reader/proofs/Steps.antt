@@ -37,7 +37,9 @@ after_none : (b : Bool) (x : ScriptFault) (o : Option ScriptFault) → cond b (S
 after_none true x o e = absurd (none-some x (sym e))
 after_none false x o e = (refl, e)
 
-pub faultless : (runnable : Bool) (place : Place) (size : ℕ) (said : Said) → fault_of runnable place size said ≡ None → IsFaultless runnable place size said
+-- without a fault none of the conditions holds
+pub faultless : (runnable : Bool) (place : Place) (size : ℕ) (said : Said) → fault_of runnable place size said ≡ None
+    → IsFaultless runnable place size said
 unfolding fault_of has_fault
 faultless runnable place size said e =
     let a = after_none _ _ _ e in
@@ -73,7 +75,8 @@ faultless runnable place size said e =
 
 -- ---- what a line adds
 
-pub behind_calls : (place : Place) (said : Said) → (spec.behind place said).calls ≤ place.calls + spec.calls_of place said
+pub behind_calls : (place : Place) (said : Said)
+    → (spec.behind place said).calls ≤ place.calls + spec.calls_of place said
 behind_calls place Skipped = omega arith
 behind_calls place (Opens name number) = omega arith
 behind_calls place BadProc = omega arith
@@ -84,43 +87,66 @@ behind_calls place (Forks set None) = omega arith
 behind_calls place (Forks set (Some number)) = omega arith
 behind_calls place (Calls line) = omega arith
 
+-- a line ends at most one block
 pub behind_blocks : (place : Place) (said : Said) → length (spec.behind place said).blocks ≤ length place.blocks + 1
 behind_blocks place Skipped = omega arith
 behind_blocks place (Opens name number) = omega arith
 behind_blocks place BadProc = omega arith
-behind_blocks place Ends = omega (arith, length-append place.blocks (record { name = place.name; lines = place.lines } ∷ []))
+behind_blocks place Ends =
+    omega (arith, length-append place.blocks (record { name = place.name; lines = place.lines } ∷ []))
 behind_blocks place Unknown = omega arith
 behind_blocks place Bad = omega arith
 behind_blocks place (Forks set None) = omega arith
 behind_blocks place (Forks set (Some number)) = omega arith
 behind_blocks place (Calls line) = omega arith
 
-pub calls_within : (runnable : Bool) (place : Place) (size : ℕ) (said : Said) → fault_of runnable place size said ≡ None → (spec.behind place said).calls ≤ 20000
+-- the calls stay within 20,000
+pub calls_within : (runnable : Bool) (place : Place) (size : ℕ) (said : Said) → fault_of runnable place size said ≡ None
+    → (spec.behind place said).calls ≤ 20000
 calls_within runnable place size said e =
-    omega (arith, behind_calls place said, ltb-false 20000 (place.calls + spec.calls_of place said) (faultless runnable place size said e).few_calls)
+    omega (
+      arith,
+      behind_calls place said,
+      ltb-false 20000 (place.calls + spec.calls_of place said) (faultless runnable place size said e).few_calls,
+    )
 
+-- before the first line there is no block and no call
 pub start_place : (names : ℕ) (place : Place) → place ≡ start names → (length place.blocks ≡ 0) × (place.calls ≡ 0)
 unfolding start
 start_place names place e = (ap (λ (p : Place). length p.blocks) e, ap (λ (p : Place). p.calls) e)
 
 -- ---- one line of a text
 
-pub blocks_from-stops : (runnable : Bool) (names : List (List ℕ)) (place : Place) (number : ℕ) (line : List ℕ) (lines : List (List ℕ)) (said : Said) (fault : ScriptFault) → said ≡ said_of names line → fault_of runnable place (length line) said ≡ Some fault → blocks_from runnable names place number (line ∷ lines) ≡ Err (number, fault)
+-- a line with a fault is the answer
+pub blocks_from-stops : (runnable : Bool) (names : List (List ℕ)) (place : Place) (number : ℕ) (line : List ℕ)
+    (lines : List (List ℕ)) (said : Said) (fault : ScriptFault) → said ≡ said_of names line
+    → fault_of runnable place (length line) said ≡ Some fault
+    → blocks_from runnable names place number (line ∷ lines) ≡ Err (number, fault)
 unfolding blocks_from
 blocks_from-stops runnable names place number line lines said fault is e =
     rw (← is, e) refl
 
-pub blocks_from-goes : (runnable : Bool) (names : List (List ℕ)) (place : Place) (number : ℕ) (line : List ℕ) (lines : List (List ℕ)) (said : Said) → said ≡ said_of names line → fault_of runnable place (length line) said ≡ None → blocks_from runnable names place number (line ∷ lines) ≡ blocks_from runnable names (spec.behind place said) (number + 1) lines
+-- a line without one leaves the answer to the rest
+pub blocks_from-goes : (runnable : Bool) (names : List (List ℕ)) (place : Place) (number : ℕ) (line : List ℕ)
+    (lines : List (List ℕ)) (said : Said) → said ≡ said_of names line
+    → fault_of runnable place (length line) said ≡ None
+    → blocks_from runnable names place number (line ∷ lines)
+    ≡ blocks_from runnable names (spec.behind place said) (number + 1) lines
 unfolding blocks_from
 blocks_from-goes runnable names place number line lines said is e =
     rw (← is, e) refl
 
-pub blocks_from-ends : (runnable : Bool) (names : List (List ℕ)) (place : Place) (number : ℕ) (lines : List (List ℕ)) → lines ≡ [] → blocks_from runnable names place number lines ≡ spec.ending place number
+-- where no line is left
+pub blocks_from-ends : (runnable : Bool) (names : List (List ℕ)) (place : Place) (number : ℕ) (lines : List (List ℕ))
+    → lines ≡ [] → blocks_from runnable names place number lines ≡ spec.ending place number
 unfolding blocks_from
 blocks_from-ends runnable names place number lines e = rw e refl
 
-pub fails_at : (stop : ScriptStop) (number : ℕ) (fault : ScriptFault) (total : Blocks) → stop ≡ At number fault → total ≡ Err (number, fault) → Fails stop total
+pub fails_at : (stop : ScriptStop) (number : ℕ) (fault : ScriptFault) (total : Blocks) → stop ≡ At number fault
+    → total ≡ Err (number, fault) → Fails stop total
 fails_at stop number fault total e t = rw e t
 
-pub gives_same : (r : Result (List Block) ScriptStop) (read total : Blocks) → read ≡ total → GivesBlocks r read → GivesBlocks r total
+-- an answer of the same reading
+pub gives_same : (r : Result (List Block) ScriptStop) (read total : Blocks) → read ≡ total → GivesBlocks r read
+    → GivesBlocks r total
 gives_same r read total e h = rw (← e) h

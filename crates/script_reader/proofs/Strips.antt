@@ -9,7 +9,9 @@ use Rattle.std.proofs.lemmas.Slice.Eq.{bytes_eq-Decides}
 use Rattle.script_reader.specs.Parts.{strip}
 
 -- what std's clauses say
-pub strip_from : (s p : List ℕ) (r : Option (Bor (List ℕ))) → MatchOption r (pointwise eqb (take (length p) s) p ≡ false) (λ x. (pointwise eqb (take (length p) s) p ≡ true) × (x.now ≡ drop (length p) s) × (length x.now + length p ≡ length s)) → option_copied r ≡ strip p s
+pub strip_from : (s p : List ℕ) (r : Option (Bor (List ℕ)))
+    → MatchOption r (pointwise eqb (take (length p) s) p ≡ false) (λ x. (pointwise eqb (take (length p) s) p ≡ true)
+    × (x.now ≡ drop (length p) s) × (length x.now + length p ≡ length s)) → option_copied r ≡ strip p s
 unfolding strip
 strip_from s p None h = rw h refl
 strip_from s p (Some x) h = rw h.0 (ap Some h.1)
@@ -26,5 +28,6 @@ pub strip_again : (p rest : List ℕ) → strip p (p ++ rest) ≡ Some rest
 unfolding strip
 strip_again p rest =
     let front : take (length p) (p ++ rest) ≡ p = take_at p rest (length p) refl in
-    let same : bytes_eq (take (length p) (p ++ rest)) p ≡ true = (bytes_eq-Decides (take (length p) (p ++ rest)) p).1 front in
+    let same : bytes_eq (take (length p) (p ++ rest)) p ≡ true =
+    (bytes_eq-Decides (take (length p) (p ++ rest)) p).1 front in
     rw (same, drop_at p rest (length p) refl) refl

@@ -95,6 +95,7 @@ ended place implied =
       inside = false;
       name = [];
       lines = [];
+      over = false;
       calls = place.calls + implied;
     }
 
@@ -154,7 +155,8 @@ is_bad Bad = true
 is_bad BadProc = true
 is_bad said = false
 
--- `proc NAME` with the name of an earlier block. Blocks are numbered in the order of the names' first lines, so each other
+-- `proc NAME` with the name of an earlier block. Blocks are numbered in the order of the names' first lines, so each
+-- other
 -- name has the number of the next block
 abbrev pub repeats : Place → Said → Bool
 repeats place (Opens name number) = not (number == number_at place)

@@ -136,6 +136,7 @@ impl Place {
         let mut place = self;
         place.calls += implied;
         place.inside = false;
+        place.over = false;
         let name = std::mem::replace(&mut place.name, Sequence::new(alloc));
         let lines = std::mem::replace(&mut place.lines, Sequence::new(alloc));
         place.blocks.push(Block { name, lines })?;

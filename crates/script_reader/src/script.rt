@@ -64,7 +64,8 @@ fn blocks_with(
     text: &[u8],
 ) -> Result<Blocks, ScriptStop>
     requires { length text.now ≤ 1048576 }
-    ensures { spec.GivesBlocks result (spec.blocks_from runnable names.now (spec.start (length names.now)) 1 (lines_of text.now)) }
+    ensures { spec.GivesBlocks result
+        (spec.blocks_from runnable names.now (spec.start (length names.now)) 1 (lines_of text.now)) }
 {
     let mut place = Place::new(alloc, names.len())?;
     let mut rest = text;
@@ -143,28 +144,37 @@ fn read(alloc: Global, runnable: bool, bytes: &[u8]) -> Result<Script, ScriptSto
 /// The script that the bytes are the text of.
 ///
 /// A fault is the first one: of the smallest line, and on one line the one that stands first in `ScriptFault`. Before
-/// all others come `ScriptTooLong`, at the line of the first byte past 1,048,576, and then `NotUtf8`, at the line of the
+/// all others come `ScriptTooLong`, at the line of the first byte past 1,048,576, and then `NotUtf8`, at the line of
+/// the
 /// first byte that isn't part of a character. A block that isn't ended where the input ends is `NoEnd` at the number of
 /// lines plus 1, and a text without words `NoProc` at line 1. `NotBuilt` is no fault here.
 pub fn read_script(alloc: Global, bytes: &[u8]) -> Result<Script, ScriptStop>
     // The bytes are the text of what is read.
     ensures ok { IfOk result (spec.Reads bytes.now) }
+    ensures sound { IfOk result IsSoundScript }
     // A fault is the first one.
     ensures fault { IfErr result (spec.HasFault bytes.now) }
     // A text of a script is read, and one with a fault is refused for it, unless memory runs out.
-    ensures only { (script : ScriptValue) → spec.Reads bytes.now script → (result ≡ Ok script) ⊎ (result ≡ Err ScriptStop.Memory) }
-    ensures only_fault { (line : ℕ) (fault : FaultValue) → spec.IsFirstFault bytes.now line fault → (result ≡ Err (ScriptStop.At line fault)) ⊎ (result ≡ Err ScriptStop.Memory) }
+    ensures only { (script : ScriptValue) → spec.Reads bytes.now script → (result ≡ Ok script)
+        ⊎ (result ≡ Err ScriptStop.Memory) }
+    ensures only_fault { (line : ℕ) (fault : FaultValue) → spec.IsFirstFault bytes.now line fault
+        → (result ≡ Err (ScriptStop.At line fault)) ⊎ (result ≡ Err ScriptStop.Memory) }
 {
     read(alloc, false, bytes)
 }
 
-/// The same, of the scripts that the machine can run: a call line that it has no rule for is `NotBuilt`, after all other
+/// The same, of the scripts that the machine can run: a call line that it has no rule for is `NotBuilt`, after all
+/// other
 /// faults of the line.
 pub fn read_runnable(alloc: Global, bytes: &[u8]) -> Result<Script, ScriptStop>
     ensures ok { IfOk result (spec.ReadsRunnable bytes.now) }
+    ensures sound { IfOk result IsSoundScript }
+    ensures runnable { IfOk result IsRunnable }
     ensures fault { IfErr result (spec.HasFaultOfRunnable bytes.now) }
-    ensures only { (script : ScriptValue) → spec.ReadsRunnable bytes.now script → (result ≡ Ok script) ⊎ (result ≡ Err ScriptStop.Memory) }
-    ensures only_fault { (line : ℕ) (fault : FaultValue) → spec.IsFirstFaultOfRunnable bytes.now line fault → (result ≡ Err (ScriptStop.At line fault)) ⊎ (result ≡ Err ScriptStop.Memory) }
+    ensures only { (script : ScriptValue) → spec.ReadsRunnable bytes.now script → (result ≡ Ok script)
+        ⊎ (result ≡ Err ScriptStop.Memory) }
+    ensures only_fault { (line : ℕ) (fault : FaultValue) → spec.IsFirstFaultOfRunnable bytes.now line fault
+        → (result ≡ Err (ScriptStop.At line fault)) ⊎ (result ≡ Err ScriptStop.Memory) }
 {
     read(alloc, true, bytes)
 }

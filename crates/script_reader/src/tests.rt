@@ -1,3 +1,4 @@
+//! Scripts and their first faults.
 use super::*;
 use pico_base::{Block, Bytes, Call, Id, Line, Memory, Script, Sequence, Var};
 use std::alloc::Global;

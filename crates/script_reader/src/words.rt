@@ -17,7 +17,8 @@ fn line_end(bytes: &[u8]) -> Option<usize>
 
 /// The first line without its line feed, and what follows it.
 pub(crate) fn next_line(bytes: &[u8]) -> Option<(&[u8], &[u8])>
-    ensures lines { MatchOption result (lines_of bytes.now ≡ []) (λ x. lines_of bytes.now ≡ x.0.now ∷ lines_of x.1.now) }
+    ensures lines { MatchOption result (lines_of bytes.now ≡ [])
+        (λ x. lines_of bytes.now ≡ x.0.now ∷ lines_of x.1.now) }
     ensures shorter { IfSome result (λ x. length x.1.now < length bytes.now) }
 {
     match line_end(bytes) {
@@ -97,7 +98,8 @@ fn rest_len(first: u8, bytes: &[u8]) -> usize
 
 /// The first word, and what follows it.
 pub(crate) fn next_word(bytes: &[u8]) -> Option<(&[u8], &[u8])>
-    ensures words { MatchOption result (words_of bytes.now ≡ []) (λ x. words_of bytes.now ≡ x.0.now ∷ words_of x.1.now) }
+    ensures words { MatchOption result (words_of bytes.now ≡ [])
+        (λ x. words_of bytes.now ≡ x.0.now ∷ words_of x.1.now) }
     ensures shorter { IfSome result (λ x. length x.1.now < length bytes.now) }
 {
     let (_, word) = bytes.split_at(blank_len(bytes));

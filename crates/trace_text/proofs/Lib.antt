@@ -1,1 +1,10 @@
+pub mod Again
 pub mod Appends
+pub mod CallLaws
+pub mod CallText
+pub mod EntryLaws
+pub mod Feeds
+pub mod ReadLaws
+pub mod Ranges
+pub mod Whole
+pub mod ReplyLaws

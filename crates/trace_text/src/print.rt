@@ -1,16 +1,17 @@
 //! The text of a history: a line for each entry, and the totals.
-ghost use Rattle.std.specs.Prelude.{◌≡◌, ◌+◌, ◌<◌, ◌≤◌, ◌^◌, [], ◌∷◌, ◌++◌, codes, length, count_by, IfOk, OnOk};
+ghost use Rattle.std.specs.Prelude.{◌≡◌, ◌+◌, ◌<◌, ◌≤◌, ◌^◌, [], ◌∷◌, ◌++◌, codes, length, count_by, sum_by, Some, if◌then◌else◌, IfOk, OnOk};
 ghost use Rattle.std.specs.List.{flat_map, filter};
 ghost use Rattle.pico_base.specs.Signal.{at, all_signals};
 ghost use Rattle.std.specs.Fmt.{decimal, signed_decimal};
 ghost use Rattle.kernel_model.specs.Fitting.{block_at};
 ghost use Rattle.kernel_model.specs.Trace as trace;
+ghost use Rattle.kernel_model.specs.Texts.{message_text};
 ghost use Rattle.pico_base.specs.declared.reply.Reply.TheVariants.{Stat};
 
 use crate::text::{push, push_byte, push_message, push_number, push_signed};
 use pico_base::{
-    Act, Block, Bytes, Call, Ending, Entries, Entry, Errno, How, Id, Key, Memory, Node, Pid, Reply,
-    Script, SemStep, Sig, SigArg, SigSet,
+    Act, Block, Bytes, Call, Ending, Entries, Entry, Errno, How, Id, Key, Memory, Node, Outcome,
+    Pid, Reply, Script, SemStep, Sig, SigArg, SigSet,
 };
 use std::alloc::Global;
 
@@ -207,14 +208,16 @@ fn push_block_name(out: &mut Vec<u8>, script: &Script, block: Node) -> Result<()
 }
 
 fn push_fork(out: &mut Vec<u8>, script: &Script, block: Node) -> Result<(), Memory>
-    ensures { OnOk result (out.new.items ≡ out.old.items ++ codes "fork " ++ trace.name_of_block (block_at script.now block)) }
+    ensures { OnOk result
+        (out.new.items ≡ out.old.items ++ codes "fork " ++ trace.name_of_block (block_at script.now block)) }
 {
     push(out, b"fork ")?;
     push_block_name(out, script, block)
 }
 
 fn push_kill(out: &mut Vec<u8>, pid: Pid, sig: SigArg) -> Result<(), Memory>
-    ensures { OnOk result (out.new.items ≡ out.old.items ++ codes "kill " ++ decimal pid ++ 32 ∷ trace.signal_argument sig) }
+    ensures { OnOk result
+        (out.new.items ≡ out.old.items ++ codes "kill " ++ decimal pid ++ 32 ∷ trace.signal_argument sig) }
 {
     push(out, b"kill ")?;
     push_pid(out, pid)?;
@@ -223,7 +226,9 @@ fn push_kill(out: &mut Vec<u8>, pid: Pid, sig: SigArg) -> Result<(), Memory>
 }
 
 fn push_sigaction(out: &mut Vec<u8>, sig: SigArg, act: Act) -> Result<(), Memory>
-    ensures { OnOk result (out.new.items ≡ out.old.items ++ codes "sigaction " ++ trace.signal_argument sig ++ 32 ∷ trace.action_name act) }
+    ensures { OnOk result
+        (out.new.items ≡ out.old.items ++ codes "sigaction " ++ trace.signal_argument sig ++ 32
+        ∷ trace.action_name act) }
 {
     push(out, b"sigaction ")?;
     push(out, signal_argument(sig))?;
@@ -239,7 +244,9 @@ fn push_signal_call(out: &mut Vec<u8>, name: &[u8], sig: Sig) -> Result<(), Memo
 }
 
 fn push_waitpid(out: &mut Vec<u8>, child: Option<Pid>, nohang: bool) -> Result<(), Memory>
-    ensures { OnOk result (out.new.items ≡ out.old.items ++ codes "waitpid " ++ trace.child_text child ++ trace.word nohang (codes "nohang")) }
+    ensures { OnOk result
+        (out.new.items ≡ out.old.items ++ codes "waitpid " ++ trace.child_text child
+        ++ trace.word nohang (codes "nohang")) }
 {
     push(out, b"waitpid ")?;
     match child {
@@ -258,7 +265,8 @@ fn push_msgctl(out: &mut Vec<u8>, id: Id, command: &[u8]) -> Result<(), Memory>
 }
 
 fn push_msgset(out: &mut Vec<u8>, id: Id, qbytes: u32) -> Result<(), Memory>
-    ensures { OnOk result (out.new.items ≡ out.old.items ++ codes "msgctl " ++ decimal id ++ codes " set " ++ decimal qbytes) }
+    ensures { OnOk result
+        (out.new.items ≡ out.old.items ++ codes "msgctl " ++ decimal id ++ codes " set " ++ decimal qbytes) }
 {
     push_msgctl(out, id, b" set ")?;
     push_number(out, u64::from(qbytes))
@@ -284,7 +292,7 @@ fn push_child(out: &mut Vec<u8>, pid: Pid, ending: Ending) -> Result<(), Memory>
 }
 
 fn push_received(out: &mut Vec<u8>, class: i32, text: &[u8]) -> Result<(), Memory>
-    ensures { OnOk result (out.new.items ≡ out.old.items ++ signed_decimal class ++ 32 ∷ trace.message_text text.now) }
+    ensures { OnOk result (out.new.items ≡ out.old.items ++ signed_decimal class ++ 32 ∷ message_text text.now) }
 {
     push_signed(out, class)?;
     push_byte(out, b' ')?;
@@ -360,7 +368,8 @@ fn push_step(out: &mut Vec<u8>, step: SemStep) -> Result<(), Memory>
 }
 
 fn push_semop(out: &mut Vec<u8>, id: Id, steps: &[SemStep]) -> Result<(), Memory>
-    ensures { OnOk result (out.new.items ≡ out.old.items ++ codes "semop " ++ decimal id ++ flat_map trace.step_text steps.now) }
+    ensures { OnOk result
+        (out.new.items ≡ out.old.items ++ codes "semop " ++ decimal id ++ flat_map trace.step_text steps.now) }
 {
     push(out, b"semop ")?;
     push_id(out, id)?;
@@ -403,7 +412,8 @@ fn push_semget(
 }
 
 fn push_setval(out: &mut Vec<u8>, id: Id, num: u16, value: u32) -> Result<(), Memory>
-    ensures { OnOk result (out.new.items ≡ out.old.items ++ trace.semctl_at id (codes " setval ") num ++ 32 ∷ decimal value) }
+    ensures { OnOk result
+        (out.new.items ≡ out.old.items ++ trace.semctl_at id (codes " setval ") num ++ 32 ∷ decimal value) }
 {
     push_semctl_at(out, id, b" setval ", num)?;
     push_byte(out, b' ')?;
@@ -411,7 +421,9 @@ fn push_setval(out: &mut Vec<u8>, id: Id, num: u16, value: u32) -> Result<(), Me
 }
 
 fn push_setall(out: &mut Vec<u8>, id: Id, values: &[u32]) -> Result<(), Memory>
-    ensures { OnOk result (out.new.items ≡ out.old.items ++ codes "semctl " ++ decimal id ++ codes " setall " ++ trace.values_text values.now) }
+    ensures { OnOk result
+        (out.new.items ≡ out.old.items ++ codes "semctl " ++ decimal id ++ codes " setall "
+        ++ trace.values_text values.now) }
 {
     push_semctl(out, id, b" setall ")?;
     push_values(out, values)
@@ -548,16 +560,41 @@ fn push_made(
     push_call(alloc, out, script, call)
 }
 
-// Who carried it out.
-fn push_by(out: &mut Vec<u8>, node: Node) -> Result<(), Memory>
-    ensures { OnOk result (out.new.items ≡ out.old.items ++ trace.by_text node) }
+// A caller that is woken, with its reply.
+fn push_wake(alloc: Global, out: &mut Vec<u8>, pid: Pid, reply: &Reply) -> Result<(), Memory>
+    ensures { OnOk result (out.new.items ≡ out.old.items ++ trace.wake_text (pid, reply.now)) }
+{
+    push(out, b" wakes ")?;
+    push_pid(out, pid)?;
+    push_byte(out, b' ')?;
+    push_reply(alloc, out, reply)
+}
+
+fn push_wakes(alloc: Global, out: &mut Vec<u8>, woken: &[(Pid, Reply)]) -> Result<(), Memory>
+    ensures { OnOk result (out.new.items ≡ out.old.items ++ flat_map trace.wake_text woken.now) }
+{
+    for (pid, reply) in woken {
+        push_wake(alloc, out, *pid, reply)?;
+    }
+    Ok(())
+}
+
+// Who carried it out, and whom that woke.
+fn push_by(
+    alloc: Global,
+    out: &mut Vec<u8>,
+    node: Node,
+    woken: &[(Pid, Reply)],
+) -> Result<(), Memory>
+    ensures { OnOk result (out.new.items ≡ out.old.items ++ trace.by_text node woken.now) }
 {
     push(out, b" by ")?;
     push_node(out, node)?;
+    push_wakes(alloc, out, woken)?;
     push_byte(out, b'\n')
 }
 
-fn push_entry(
+pub(crate) fn push_entry(
     alloc: Global,
     out: &mut Vec<u8>,
     script: &Script,
@@ -568,7 +605,7 @@ fn push_entry(
     push_made(alloc, out, script, entry.pid, &entry.call)?;
     push(out, b" = ")?;
     push_own(alloc, out, &entry.outcome.own)?;
-    push_by(out, entry.by)
+    push_by(alloc, out, entry.by, entry.outcome.woken.as_slice())
 }
 
 fn is_fork(entry: &Entry) -> bool
@@ -578,27 +615,67 @@ fn is_fork(entry: &Entry) -> bool
 }
 
 // ENOMSG or EAGAIN: nothing was ready.
-fn is_wait_error(errno: Errno) -> bool
+fn is_not_ready(errno: Errno) -> bool
     ensures { result ≡ trace.is_not_ready errno }
 {
     matches!(errno, Errno::Enomsg | Errno::Eagain)
 }
 
-fn is_not_ready(entry: &Entry) -> bool
-    ensures { result ≡ trace.is_not_ready_reply entry.now.outcome.own }
+// What the totals line counts of a reply.
+#[derive(Clone, Copy)]
+struct Refusals {
+    not_ready: usize,
+    refused: usize,
+}
+
+fn refusals_in(reply: &Reply) -> Refusals
+    ensures not_ready { result.not_ready ≡ (if trace.is_not_ready_reply (Some reply.now) then 1 else 0) }
+    ensures refused { result.refused ≡ (if trace.is_refused_reply (Some reply.now) then 1 else 0) }
 {
-    match &entry.outcome.own {
-        Some(Reply::Fail(errno)) => is_wait_error(*errno),
-        _ => false,
+    match reply {
+        Reply::Fail(errno) => {
+            let not_ready = is_not_ready(*errno);
+            Refusals {
+                not_ready: usize::from(not_ready),
+                refused: usize::from(!not_ready),
+            }
+        }
+        _ => Refusals {
+            not_ready: 0,
+            refused: 0,
+        },
     }
 }
 
-fn is_refused(entry: &Entry) -> bool
-    ensures { result ≡ trace.is_refused_reply entry.now.outcome.own }
+fn refusals_in_own(own: &Option<Reply>) -> Refusals
+    ensures not_ready { result.not_ready ≡ (if trace.is_not_ready_reply own.now then 1 else 0) }
+    ensures refused { result.refused ≡ (if trace.is_refused_reply own.now then 1 else 0) }
 {
-    match &entry.outcome.own {
-        Some(Reply::Fail(errno)) => !is_wait_error(*errno),
-        _ => false,
+    match own {
+        Some(reply) => refusals_in(reply),
+        None => Refusals {
+            not_ready: 0,
+            refused: 0,
+        },
+    }
+}
+
+// Of an outcome's replies: the caller's own, and those of the callers that it wakes.
+fn refusals_of(outcome: &Outcome) -> Refusals
+    ensures not_ready { result.not_ready ≡ trace.replies_where trace.is_not_ready_reply outcome.now }
+    ensures refused { result.refused ≡ trace.replies_where trace.is_refused_reply outcome.now }
+{
+    let own = refusals_in_own(&outcome.own);
+    let mut not_ready = 0;
+    let mut refused = 0;
+    for (_, reply) in outcome.woken.as_slice() {
+        let one = refusals_in(reply);
+        not_ready += one.not_ready;
+        refused += one.refused;
+    }
+    Refusals {
+        not_ready: not_ready + own.not_ready,
+        refused: refused + own.refused,
     }
 }
 
@@ -610,25 +687,29 @@ struct Tally {
     refused: usize,
 }
 
-fn tally_of(journal: &[Entry]) -> Tally
-    ensures forks { result.forks ≡ count_by (λ e. trace.is_fork e.call) journal.now }
-    ensures few { result.forks ≤ length journal.now }
-    ensures not_ready { result.not_ready ≡ count_by (λ e. trace.is_not_ready_reply e.outcome.own) journal.now }
-    ensures refused { result.refused ≡ count_by (λ e. trace.is_refused_reply e.outcome.own) journal.now }
+// More replies than memory has bytes count as want of memory.
+fn tally_of(journal: &[Entry]) -> Result<Tally, Memory>
+    ensures forks { IfOk result (λ tally. tally.forks ≡ count_by (λ e. trace.is_fork e.call) journal.now) }
+    ensures few { IfOk result (λ tally. tally.forks ≤ length journal.now) }
+    ensures not_ready { IfOk result
+        (λ tally. tally.not_ready ≡ sum_by (λ e. trace.replies_where trace.is_not_ready_reply e.outcome) journal.now) }
+    ensures refused { IfOk result
+        (λ tally. tally.refused ≡ sum_by (λ e. trace.replies_where trace.is_refused_reply e.outcome) journal.now) }
 {
-    let mut forks = 0;
-    let mut not_ready = 0;
-    let mut refused = 0;
+    let mut forks: usize = 0;
+    let mut not_ready: usize = 0;
+    let mut refused: usize = 0;
     for entry in journal {
+        let more = refusals_of(&entry.outcome);
         forks += usize::from(is_fork(entry));
-        not_ready += usize::from(is_not_ready(entry));
-        refused += usize::from(is_refused(entry));
+        not_ready = not_ready.checked_add(more.not_ready).ok_or(Memory)?;
+        refused = refused.checked_add(more.refused).ok_or(Memory)?;
     }
-    Tally {
+    Ok(Tally {
         forks,
         not_ready,
         refused,
-    }
+    })
 }
 
 #[tactic(auto, unfolding(kernel_model::specs::Trace::entries_total))]
@@ -659,10 +740,10 @@ fn push_refused_total(out: &mut Vec<u8>, count: u64) -> Result<(), Memory>
     push_labelled(out, b" refused ", count)
 }
 
-fn push_totals(out: &mut Vec<u8>, journal: &[Entry]) -> Result<(), Memory>
+pub(crate) fn push_totals(out: &mut Vec<u8>, journal: &[Entry]) -> Result<(), Memory>
     ensures { OnOk result (out.new.items ≡ out.old.items ++ trace.totals_line journal.now) }
 {
-    let tally = tally_of(journal);
+    let tally = tally_of(journal)?;
     push_entries_total(out, journal.len() as u64)?;
     push_processes_total(out, 1 + tally.forks as u64)?;
     push_not_ready_total(out, tally.not_ready as u64)?;

@@ -15,7 +15,8 @@ fn push_run(out: &mut Vec<u8>, node: Node) -> Result<(), Memory>
 }
 
 fn push_take(out: &mut Vec<u8>, node: Node, from: Node) -> Result<(), Memory>
-    ensures { OnOk result (out.new.items ≡ out.old.items ++ codes "take " ++ decimal node ++ codes " from " ++ decimal from) }
+    ensures { OnOk result
+        (out.new.items ≡ out.old.items ++ codes "take " ++ decimal node ++ codes " from " ++ decimal from) }
 {
     push(out, b"take ")?;
     push_number(out, u64::from(node.0))?;

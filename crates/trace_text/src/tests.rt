@@ -1,5 +1,6 @@
 //! A history and a list of events, and what is written of them.
 use super::*;
+use crate::read::read;
 use pico_base::{
     Block, Bytes, Call, Entries, Entry, Errno, Event, Id, Lines, Node, Outcome, Pid, Reply, Script,
     Sequence,
@@ -93,5 +94,21 @@ fn a_text_is_put_together(rt: HostRuntime) -> Result<(), Fail> {
     push_number(&mut out, 18446744073709551615)?;
     push_byte(&mut out, b'.')?;
     assert_eq!(rt; out.as_slice(), b"line 18446744073709551615.".as_slice());
+    Ok(())
+}
+
+// One call of each kind, with a reply of each kind.
+const TRACE: &str =
+    "1 fork child = 2 by 1\n1 exit 65535 = ended by 32\n4294967295 killed TERM = ended by 2\n0 getpid = 4294967295 by 1\n1 kill 0 badsig = EINVAL by 1\n1 kill 1 0 = 0 by 1\n1 sigaction USR1 catch = 0 by 1\n1 sigprocmask setmask HUP,KILL,CHLD = none by 1\n1 sigprocmask block none = HUP,KILL,CHLD by 1\n1 sigpending = USR2 by 1\n1 handled PIPE = 3 by 1\n1 waitpid any nohang = 2 exited 255 by 1\n1 waitpid 2 = 2 killed INT by 1\n1 msgget private = EINTR by 1\n1 msgget 7 create excl = EEXIST by 1\n1 msgsnd 1 -3 \"a\\x22 \\xff\" nowait = 0 by 1\n1 msgsnd 1 1 rep:17:z = EAGAIN by 1\n1 msgrcv 1 0 8 noerror nowait = -1 \"\" by 1\n1 msgrcv 1 2 9 = 7 rep:8192:A by 1\n1 msgctl 1 stat = qnum 1 qbytes 2 lspid 3 lrpid 4 by 1\n1 msgctl 1 set 16384 = 0 by 1\n1 msgctl 1 rmid = EIDRM by 1\n1 semget private 2 = 1 by 1\n1 semget 5 0 create = ENOENT by 1\n1 semop 1 0:-1:nowait 1:65535 = 0 by 1\n1 semctl 1 getval 0 = 0 by 1\n1 semctl 1 getpid 0 = 1 by 1\n1 semctl 1 getncnt 0 = 0 by 1\n1 semctl 1 getzcnt 65535 = 0 by 1\n1 semctl 1 setval 0 9 = ERANGE by 1\n1 semctl 1 getall = all 1,0 by 1\n1 semctl 1 setall 1,0,65535 = 0 by 1\n1 semctl 1 rmid = 0 by 1\ntotals entries 33 processes 2 notready 1 refused 6\n";
+
+#[test]
+fn a_trace_is_read_and_written_again(rt: HostRuntime) -> Result<(), Fail> {
+    let alloc = rt.alloc();
+    let script = two_blocks(alloc)?;
+    assert!(rt; script.blocks.len() <= 32);
+    let entries = read(alloc, &script, TRACE.as_bytes(), 1)?;
+    assert_eq!(rt; entries.len(), 33);
+    let text = write_trace(alloc, &script, &entries)?;
+    assert_eq!(rt; text.as_slice(), TRACE.as_bytes());
     Ok(())
 }

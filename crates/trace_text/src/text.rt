@@ -92,7 +92,7 @@ fn is_run(first: u8, rest: &[u8]) -> bool
 }
 
 // Whether the text is printed by the one letter or digit that it repeats.
-fn is_repeat(text: &[u8]) -> bool
+pub(crate) fn is_repeat(text: &[u8]) -> bool
     ensures { result ≡ is_repeated text.now }
 {
     match text.split_first() {

@@ -73,15 +73,18 @@ pub record PidsHold (script : Script) (b : Beside) : Type 0 where
   pub nodes : (c : ℕ) → b.pids c ≢ 0 → (1 ≤ c) × (c ≤ node_count script)
   pub forked : (c : ℕ) → b.pids c ≢ 0 → c ≢ 1 → (b.pids (forker script c) ≢ 0) × (forker script c < c)
   pub placed : (pid : ℕ) (place : Place) → get b.places pid ≡ Some place → (c : ℕ) × (b.pids c ≡ pid) × (pid ≢ 0)
-  pub there : (pid : ℕ) (process : Process) → get b.kernel.processes pid ≡ Some process → (c : ℕ) × (b.pids c ≡ pid) × (pid ≢ 0)
+  pub there : (pid : ℕ) (process : Process) → get b.kernel.processes pid ≡ Some process → (c : ℕ) × (b.pids c ≡ pid)
+      × (pid ≢ 0)
   pub has_place : (c : ℕ) → b.pids c ≢ 0 → (place : Place) × (get b.places (b.pids c) ≡ Some place)
   -- a block that a process has still to fork isn't forked
   pub ahead : (p c : ℕ) (place : Place) → get b.places (b.pids p) ≡ Some place → b.pids p ≢ 0
       → list_any (λ line. names_block c line.call) place.left ≡ true → b.pids c ≡ 0
   -- a process that lives isn't over, and one that doesn't is
-  pub alive : (c : ℕ) (a : Alive) (place : Place) → living_at b.kernel (b.pids c) ≡ Some a → get b.places (b.pids c) ≡ Some place
+  pub alive : (c : ℕ) (a : Alive) (place : Place) → living_at b.kernel (b.pids c) ≡ Some a
+      → get b.places (b.pids c) ≡ Some place
       → place.left ≢ []
-  pub dead : (c : ℕ) (place : Place) → b.pids c ≢ 0 → living_at b.kernel (b.pids c) ≡ None → get b.places (b.pids c) ≡ Some place
+  pub dead : (c : ℕ) (place : Place) → b.pids c ≢ 0 → living_at b.kernel (b.pids c) ≡ None
+      → get b.places (b.pids c) ≡ Some place
       → place.left ≡ []
 
 -- ---- families
@@ -131,7 +134,8 @@ IsWithParent b parent pid process = Unit {0}
 pub record IsCheckpointFor (script : Script) (b : Beside) (c : ℕ) (frame : Frame) : Type 0 where
   pub row : Row
   pub vars : Vars
-  pub is : frame ≡ frames.Checkpoint (b.pids c) (b.pids (forker script c)) (pack (Proc (b.pids c)) (LivingBody row)) vars
+  pub is : frame ≡ frames.Checkpoint (b.pids c) (b.pids (forker script c))
+      (pack (Proc (b.pids c)) (LivingBody row)) vars
   pub fresh : is_new_row row ≡ true
   pub place : get b.places (b.pids c) ≡ Some (block_place (block_at script c) vars)
 
@@ -141,7 +145,8 @@ is_checkpoint_frame frame = false
 
 abbrev pub CheckpointIn : Script → World → Beside → ℕ → DeedPlace → Type 0
 CheckpointIn script w b c (InCheckpoint to) =
-    (frame : Frame) × (filter is_checkpoint_frame (stream w c (forker script c)) ≡ frame ∷ []) × IsCheckpointFor script b c frame
+    (frame : Frame) × (filter is_checkpoint_frame (stream w c (forker script c)) ≡ frame ∷ [])
+    × IsCheckpointFor script b c frame
 CheckpointIn script w b c place = Unit {0}
 
 pub record FamilyHolds (script : Script) (w : World) (b : Beside) (c : ℕ) : Type 0 where

@@ -1,4 +1,5 @@
--- What holds in every world that a run leads to, and in the middle of an event, while the leader has calls and parcels in
+-- What holds in every world that a run leads to, and in the middle of an event, while the leader has calls and parcels
+-- in
 -- hand.
 use Rattle.std.specs.Prelude.{◌≡◌, ◌≢◌, ◌≤◌, ◌<◌, ℕ, List, [], length, get_or, Contains}
 use Rattle.pico_base.specs.declared.numbers.Kind.{Kind}
@@ -13,10 +14,11 @@ use Rattle.kernel_model.specs.Fitting.{FitsFrom, opening_places}
 use Rattle.kernel_model.specs.Valid.{IsOrdered}
 use Rattle.node_model.specs.declared.held.Held.{Held}
 use Rattle.node_model.specs.Kinds.{is_object}
+use Rattle.node_model.specs.Directory.{Directory, stays}
 use Rattle.world_model.specs.Node.{Node}
 use Rattle.world_model.specs.World.{World, stream, node_count}
 use Rattle.world_laws.specs.Places.{Beside}
-use Rattle.world_laws.specs.Sights.{node_of, is_born_in}
+use Rattle.world_laws.specs.Sights.{node_of, directory_of, is_born_in}
 use Rattle.world_laws.specs.Names.{NameHolds, name_sight, forker}
 use Rattle.world_laws.specs.Callers.{CallHolds, call_sight}
 use Rattle.world_laws.specs.Ways.{Way, way_sight, IsParcelIn, HasSender}
@@ -30,6 +32,13 @@ pub record IsShaped (script : Script) (w : World) : Type 0 where
   pub nodes : length w.nodes ≡ node_count script
   pub rows : length w.streams ≡ node_count script
   pub row : (p : ℕ) → p < node_count script → length (get_or w.streams p []) ≡ node_count script
+
+-- the leader stays, and it knows each name once
+pub record IsLeading (d : Directory) : Type 0 where
+  pub stays : stays d 1 ≡ true
+  pub processes : IsOrdered d.places.processes
+  pub queues : IsOrdered d.places.queues
+  pub sets : IsOrdered d.places.sets
 
 -- the journal is legal and leads to the kernel, and it fits the script so far
 pub record IsHistory (script : Script) (w : World) (b : Beside) : Type 0 where
@@ -61,6 +70,7 @@ MayBe script w to sender (frames.ExitTo parcel) = sender ≡ 1
 pub record Holds (script : Script) (w : World) (hand : List Held) (b : Beside) : Type 0 where
   pub shape : IsShaped script w
   pub history : IsHistory script w b
+  pub leading : IsLeading (directory_of w)
   pub pids : PidsHold script b
   pub nodes : (p : ℕ) → 1 ≤ p → p ≤ node_count script → NodeHolds script w b p (node_of w p)
   pub frames_there : (to sender : ℕ) (frame : Frame) → 1 ≤ to → 1 ≤ sender → Contains (stream w to sender) frame

@@ -12,7 +12,7 @@ use Rattle.kernel_model.specs.Script.{Vars}
 use Rattle.node_model.specs.declared.held.Held.{Held}
 use Rattle.node_model.specs.declared.held.Held.TheVariants.{Request, Ending}
 use Rattle.node_model.specs.Kinds.{kind_of, number_of, is_same_kind, is_object, get_named}
-use Rattle.node_model.specs.Directory.{Directory, Place, place_of, items_of, destination_of, maker, stays, is_parcel_with}
+use Rattle.node_model.specs.Directory.{Directory, Place, place_of, items_of, held_for, destination_of, maker, stays, is_parcel_with}
 use Rattle.node_model.specs.Leases.{lease_of}
 use Rattle.node_model.specs.Bodies.{Body, body_in}
 use Rattle.node_model.specs.Spelling.{pack}
@@ -21,7 +21,7 @@ use Rattle.world_model.specs.Lives.{is_forked_by}
 use Rattle.world_model.specs.World.{World, stream, numbers, node_count}
 use Rattle.world_model.specs.Census.{brings}
 use Rattle.world_laws.specs.Places.{DeedPlace, Unmade, InTable, InCheckpoint, InGrant, InGiveBack, InLeft, InKept, InHand, InExitTo, CallPlace, SentByRange, Beside}
-use Rattle.world_laws.specs.Sights.{node_of, directory_of, stage_of, is_born_in, items_in, is_used_name}
+use Rattle.world_laws.specs.Sights.{node_of, directory_of, stage_of, is_born_in, is_used_name}
 use Rattle.world_laws.specs.Plays.{Hold, PlayStep, play, plays, begin, brings_checkpoint, Belief, Nowhere, believed, is_there, is_has, placed_in, News, news, finds_place, is_call_on}
 
 -- the node whose block forks a block, 0 for none
@@ -74,10 +74,11 @@ pub record NameSight : Type 0 where
   pub used : Bool
   pub body : Body
   pub deed : DeedPlace
-  -- the deeds of it: at each node, in the stream to a node from a node, and in parcels that are held or in hand
+  -- the deeds of it: at each node, in the stream to a node from a node, and in parcels that are held for a process, or
+  -- in hand
   pub held : ℕ → Option Body
   pub brought : ℕ → ℕ → List Frame
-  pub kept : List Held
+  pub kept : ℕ → List Held
   pub hand : List Held
   -- what is on its way from the leader to each node, and how that begins
   pub begins : ℕ → Hold
@@ -112,7 +113,7 @@ name_sight script w hand b name =
       deed = b.deed name;
       held = held_at w name;
       brought = λ to «from». filter (brings name) (stream w to «from»);
-      kept = filter (is_parcel_with name) (items_in d.places.processes);
+      kept = λ pid. filter (is_parcel_with name) (held_for d (Proc pid));
       hand = filter (is_parcel_with name) hand;
       begins = λ h. begin (stage_of w h) (is_some (held_at w name h)) (comes_to script w name h);
       steps = λ h. plays b.call name (stream w h 1);
@@ -146,9 +147,10 @@ is_stream_of forks_it (InLeft c) to sender = nat_eq to 1 && nat_eq sender c
 is_stream_of forks_it (InExitTo c x) to sender = nat_eq to x && nat_eq sender 1
 is_stream_of forks_it place to sender = false
 
-abbrev pub is_kept_place : DeedPlace → Bool
-is_kept_place (InKept c) = true
-is_kept_place place = false
+-- it is in a parcel that is held for this process, the parent of the node's
+abbrev pub is_kept_for : (ℕ → ℕ) → (ℕ → ℕ) → DeedPlace → ℕ → Bool
+is_kept_for forks_it pids (InKept c) pid = nat_eq (pids (forks_it c)) pid
+is_kept_for forks_it pids place pid = false
 
 abbrev pub is_hand_place : DeedPlace → Bool
 is_hand_place (InHand c) = true
@@ -263,7 +265,9 @@ pub record NameHolds (script : Script) (pids : ℕ → ℕ) (name : Name) (x : N
   pub tables : (h : ℕ) → x.held h ≡ held_as x.deed x.body h
   pub streams : (to sender : ℕ) → 1 ≤ to → 1 ≤ sender
       → OneIf (is_stream_of (forker script) x.deed to sender) (IsBringer pids name x.body x.deed) (x.brought to sender)
-  pub kept : OneIf (is_kept_place x.deed) (IsItemWith name x.body (pids (node_in x.deed))) x.kept
+  pub kept : (pid : ℕ)
+      → OneIf (is_kept_for (forker script) pids x.deed pid) (IsItemWith name x.body (pids (node_in x.deed)))
+      (x.kept pid)
   pub in_hand : OneIf (is_hand_place x.deed) (IsItemWith name x.body (pids (node_in x.deed))) x.hand
   -- what the leader believes is what there will be
   pub known : is_some x.place ≡ true → x.used ≡ true
@@ -274,6 +278,8 @@ pub record NameHolds (script : Script) (pids : ℕ → ℕ) (name : Name) (x : N
   pub told : (sender node : ℕ) → Contains (x.placed sender) node → IsTold pids name x sender node
   pub found : (q : ℕ) → 2 ≤ q → finds_place (is_some x.place) (x.news q) ≡ true
   pub unplaced : x.used ≡ true → x.place ≡ None → HasMakerThatStays x
+  -- a call goes by range to the maker, and no lease with the number stands behind it
+  pub ranged : (h : ℕ) → Contains (x.ranges h) IsSentThere → x.maker ≡ Some h
   pub leased : (h : ℕ) → 2 ≤ h → leases_first (x.ranges h) ≡ true
   -- where it is bound for, and what is held for it
   pub bound : (to : ℕ) → destination_of x.place ≡ Some to → IsBoundRightly name x to

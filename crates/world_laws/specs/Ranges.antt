@@ -66,7 +66,8 @@ pub record IsRestOf (ranges : List ℕ) (numbers : List ℕ) (node : ℕ) : Type
 
 pub record KindHolds (w : World) (k : Kernel) (kind : Kind) : Type 0 where
   -- a number is used exactly where its range was given out and it is taken
-  pub used : (number : ℕ) → is_used (used_of k kind) number ≡ is_given w kind number (maker_in (ranges_of w kind) number)
+  pub used : (number : ℕ)
+      → is_used (used_of k kind) number ≡ is_given w kind number (maker_in (ranges_of w kind) number)
   pub leases : (h : ℕ) → 1 ≤ h → (lease_at w kind h ≡ []) ⊎ IsRestOf (ranges_of w kind) (lease_at w kind h) h
   pub coming : (h first : ℕ) → 1 ≤ h → Contains (leases_to w kind h) first → IsRangeOf (ranges_of w kind) first h
   pub one_coming : (h : ℕ) → 1 ≤ h → length (leases_to w kind h) ≤ 1
@@ -74,7 +75,8 @@ pub record KindHolds (w : World) (k : Kernel) (kind : Kind) : Type 0 where
 
 -- each range after the first was taken for a call that was carried out, or that its Lease is on its way for
 abbrev pub leases_under_way : Kind → Streams → ℕ
-leases_under_way kind streams = sum_by (λ row. sum_by (λ frames_there. length (flat_map (lease_in kind) frames_there)) row) streams
+leases_under_way kind streams =
+    sum_by (λ row. sum_by (λ frames_there. length (flat_map (lease_in kind) frames_there)) row) streams
 
 abbrev pub FewRanges : World → Kind → Type 0
 FewRanges w kind = length (ranges_of w kind) ≤ length w.journal + leases_under_way kind w.streams + 1

@@ -1,14 +1,12 @@
 -- What there is to see in a world, by node and by stream. A number that is no node's shows an unborn node.
-use Rattle.std.specs.Prelude.{ℕ, Bool, true, false, List, Some}
-use Rattle.std.specs.List.{flat_map}
+use Rattle.std.specs.Prelude.{ℕ, Bool, true, false}
 use Rattle.std.specs.Option.{unwrap_or}
 use Rattle.pico_base.specs.declared.numbers.Name.{Name}
-use Rattle.number_maps.specs.Maps.{Numbered, is_used}
+use Rattle.number_maps.specs.Maps.{is_used}
 use Rattle.kernel_model.specs.Kernel.{Kernel}
 use Rattle.kernel_model.specs.Footprint.{used_of}
-use Rattle.node_model.specs.declared.held.Held.{Held}
 use Rattle.node_model.specs.Kinds.{kind_of, number_of}
-use Rattle.node_model.specs.Directory.{Directory, Place, items_of}
+use Rattle.node_model.specs.Directory.{Directory}
 use Rattle.world_model.specs.Node.{Node, Stage, Unborn, unborn_node}
 use Rattle.world_model.specs.World.{World, node_at}
 
@@ -31,10 +29,6 @@ is_born_stage _ = true
 
 abbrev pub is_born_in : World → ℕ → Bool
 is_born_in w p = is_born_stage (stage_of w p)
-
--- all that the leader holds, name after name
-abbrev pub items_in : Numbered Place → List Held
-items_in places = flat_map (λ e. items_of (Some e.1)) places
 
 -- something has, or had, the name's number
 abbrev pub is_used_name : Kernel → Name → Bool

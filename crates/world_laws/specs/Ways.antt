@@ -1,5 +1,5 @@
 -- What holds of one node's way out, and of the parcel of its process.
-use Rattle.std.specs.Prelude.{◌≡◌, ◌≢◌, ◌⊎◌, ℕ, Bool, true, false, ◌||◌, nat_eq, List, [], ◌∷◌, Option, Some, None}
+use Rattle.std.specs.Prelude.{◌≡◌, ◌⊎◌, ℕ, Bool, true, false, List, [], ◌∷◌, Option, Some, None, Contains}
 use Rattle.std.specs.List.{filter, AllByRecursion}
 use Rattle.pico_base.specs.declared.call.Call.{Call}
 use Rattle.pico_base.specs.declared.numbers.Name.TheVariants.{Proc}
@@ -12,13 +12,13 @@ use Rattle.kernel_model.specs.Row.{Row}
 use Rattle.kernel_model.specs.Valid.{IsOrdered}
 use Rattle.node_model.specs.declared.held.Held.{Held}
 use Rattle.node_model.specs.declared.held.Held.TheVariants.{Ending}
-use Rattle.node_model.specs.Directory.{Directory, Parting, IsLeaving, HasLeft, is_known}
+use Rattle.node_model.specs.Directory.{Directory, Parting, IsLeaving, HasLeft, is_known, held_for}
 use Rattle.node_model.specs.Bodies.{Body, Living as LivingBody}
 use Rattle.node_model.specs.Parcels.{pack_all, may_end_with, is_over_but_for}
 use Rattle.world_model.specs.Node.{Node, Stage, Unborn, Living, Leaving, Left}
 use Rattle.world_model.specs.World.{World, stream}
 use Rattle.world_laws.specs.Places.{Beside}
-use Rattle.world_laws.specs.Sights.{node_of, directory_of, items_in}
+use Rattle.world_laws.specs.Sights.{node_of, directory_of}
 use Rattle.world_laws.specs.Names.{forker}
 
 abbrev pub is_leaving_frame : Frame → Bool
@@ -118,10 +118,10 @@ pub record IsParcelOf (script : Script) (b : Beside) (c : ℕ) (call : Call) (pa
 
 -- the parcels that there are: in the streams to and from the leader, in its lists, and in its hand
 pub data IsParcelIn (w : World) (hand : List Held) (parcel : Parcel) : Type 0 where
-  left : (c : ℕ) → Rattle.std.specs.Prelude.Contains (stream w 1 c) (frames.Left parcel) → IsParcelIn w hand parcel
-  sent : (x : ℕ) → Rattle.std.specs.Prelude.Contains (stream w x 1) (frames.ExitTo parcel) → IsParcelIn w hand parcel
-  kept : Rattle.std.specs.Prelude.Contains (items_in (Directory.places (directory_of w)).processes) (Ending parcel) → IsParcelIn w hand parcel
-  at_hand : Rattle.std.specs.Prelude.Contains hand (Ending parcel) → IsParcelIn w hand parcel
+  left : (c : ℕ) → Contains (stream w 1 c) (frames.Left parcel) → IsParcelIn w hand parcel
+  sent : (x : ℕ) → Contains (stream w x 1) (frames.ExitTo parcel) → IsParcelIn w hand parcel
+  kept : (pid : ℕ) → Contains (held_for (directory_of w) (Proc pid)) (Ending parcel) → IsParcelIn w hand parcel
+  at_hand : Contains hand (Ending parcel) → IsParcelIn w hand parcel
 
 pub record HasSender (script : Script) (w : World) (b : Beside) (parcel : Parcel) : Type 0 where
   pub node : ℕ

@@ -105,7 +105,8 @@ ask_after script n call (homes.At name) = ask script (step_to (with_forgotten n 
 ask_after script n call home = None
 
 abbrev pub take_not_owner : Script → Node → ℕ → Option Step
-take_not_owner script n ticket = option_and_then (λ call. ask_after script n call (home_of n.pid call)) (under_way_as n ticket)
+take_not_owner script n ticket =
+    option_and_then (λ call. ask_after script n call (home_of n.pid call)) (under_way_as n ticket)
 
 -- the Answer rule: the call under way has its reply, and the cache learns who owns its name
 abbrev pub with_learnt : Node → ℕ → Home → Node

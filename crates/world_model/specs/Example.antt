@@ -31,7 +31,8 @@ no_signals = everywhere false
 abbrev pub after_events : World → List Event → Option World
 after_events w [] = Some w
 after_events w (e ∷ events) =
-    elim (is_enabled w e) [ false ↦ None | true ↦ elim (step w e) [ None ↦ None | Some next ↦ after_events next events ] ]
+    elim (is_enabled w e)
+    [ false ↦ None | true ↦ elim (step w e) [ None ↦ None | Some next ↦ after_events next events ] ]
 
 abbrev pub journal_in : Option World → Option (List Entry)
 journal_in None = None

@@ -166,7 +166,8 @@ removal_during_a_move_events =
     Run 2 ∷ Take 1 2 ∷ Take 2 1 ∷ Run 2 ∷ Take 1 2 ∷ Take 2 1 ∷ Run 2 ∷ Take 1 2 ∷ Take 2 1 ∷ Run 3 ∷ Take 1 3 ∷
     Take 2 1 ∷ Take 2 1 ∷ Take 1 2 ∷ Take 3 1 ∷ Run 3 ∷ Take 1 3 ∷ []
 
-pub removal_during_a_move_journal : journal_of (opening_world removal_during_a_move) removal_during_a_move_events ≡ Some (
+pub removal_during_a_move_journal : journal_of (opening_world removal_during_a_move) removal_during_a_move_events
+    ≡ Some (
     entry_by 1 1 (calls.MsgGet (Some 7) true false) (Num 1)
     ∷ entry_by 1 1 (calls.MsgSnd 1 (pos 1) (codes "x") true) (Num 0)
     ∷ entry_by 1 1 (calls.MsgSnd 1 (pos 1) (codes "x") true) (Num 0)

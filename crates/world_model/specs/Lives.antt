@@ -88,7 +88,9 @@ may_leave script n from pid parent parent_node =
 abbrev pub take_leaving : Script → Node → ℕ → ℕ → ℕ → ℕ → Option Step
 take_leaving script n from pid parent parent_node =
     if is_to_leader n from && may_leave script n from pid parent parent_node
-    then Some (send (step_to (with_directory n (with_leaving (place_family n.leader.directory from pid parent parent_node) from))) from frames.RecallAll)
+    then Some (send (step_to
+    (with_directory n (with_leaving (place_family n.leader.directory from pid parent parent_node) from))) from
+    frames.RecallAll)
     else None
 
 -- the RecallAll rule: all deeds are handed over, with the call that ends the process
@@ -120,7 +122,8 @@ is_free_to_end d name = is_coming d name && not (is_in_parcel d name)
 abbrev pub may_take : Node → ℕ → Parcel → Bool
 may_take n from parcel =
     is_leaving n.leader.directory from
-    && (list_all (is_free_to_end n.leader.directory) (names_in parcel) && is_known n.leader.directory (Proc parcel.parent))
+    && (list_all (is_free_to_end n.leader.directory) (names_in parcel)
+    && is_known n.leader.directory (Proc parcel.parent))
 
 abbrev pub end_released : Script → Node → ℕ → Parcel → Numbered Body → Option Step
 end_released script n from parcel bodies =

@@ -78,7 +78,8 @@ fork_with script step call block child row =
     in let vars = child_vars (caller_place script n.number n.caller)
     in let held : Step = with_deeds step (put_named n.deeds (Proc n.pid) (parent_body row child))
     in let done : Step = carry_out script held (asked_here n call) (replies.Num child)
-    in tell_place (send done block (frames.Checkpoint child n.pid (pack (Proc child) (child_body row)) vars)) (Proc child) block
+    in tell_place (send done block (frames.Checkpoint child n.pid (pack (Proc child) (child_body row)) vars))
+    (Proc child) block
 
 -- a new queue or set is held where it is made
 abbrev pub make_object : Script → Step → Call → Name → Body → ℕ → Step

@@ -56,7 +56,8 @@ abbrev pub make_bound : Script → Step → Asked → Name → Body → ℕ → 
 make_bound script step asked name body id leader =
     let n : Node = step.node
     in let made : Node = record n { deeds = put_named n.deeds name body; leader = leader }
-    in carry_out script (with_node step (with_directory made (place_name leader.directory name n.number))) asked (replies.Num id)
+    in carry_out script (with_node step (with_directory made (place_name leader.directory name n.number))) asked
+    (replies.Num id)
 
 abbrev pub make_queue : Script → Step → Asked → ℕ → Taken → Step
 make_queue script step asked key t =
@@ -73,7 +74,8 @@ make_set script step asked key set t =
 -- msgget and semget by a key (POSIX.1-2017)
 abbrev pub get_queue : Script → Step → Asked → ℕ → KeyAnswer → Option Step
 get_queue script step asked key (answers.Found id count) = Some (carry_out script step asked (replies.Num id))
-get_queue script step asked key answers.Create = option_map (make_queue script step asked key) (take_number step.node kinds.Msg)
+get_queue script step asked key answers.Create =
+    option_map (make_queue script step asked key) (take_number step.node kinds.Msg)
 get_queue script step asked key (answers.Fail e) = Some (carry_out script step asked (replies.Fail e))
 
 abbrev pub find_set : ℕ → ℕ → ℕ → Reply
@@ -81,10 +83,12 @@ find_set id size count = if nat_eq count 0 || nat_le count size then replies.Num
 
 abbrev pub create_set : Script → Step → Asked → ℕ → Result SemaphoreSet Errno → Option Step
 create_set script step asked key (Err e) = Some (carry_out script step asked (replies.Fail e))
-create_set script step asked key (Ok set) = option_map (make_set script step asked key set) (take_number step.node kinds.Sem)
+create_set script step asked key (Ok set) =
+    option_map (make_set script step asked key set) (take_number step.node kinds.Sem)
 
 abbrev pub get_set : Script → Step → Asked → ℕ → ℕ → KeyAnswer → Option Step
-get_set script step asked key count (answers.Found id size) = Some (carry_out script step asked (find_set id size count))
+get_set script step asked key count (answers.Found id size) =
+    Some (carry_out script step asked (find_set id size count))
 get_set script step asked key count answers.Create = create_set script step asked key (new_set count)
 get_set script step asked key count (answers.Fail e) = Some (carry_out script step asked (replies.Fail e))
 
@@ -103,7 +107,8 @@ hold_item step name item = with_node step (with_directory step.node (hold step.n
 -- a removal at another node waits until the name's deed has come
 abbrev pub recall_from : Step → Name → Option ℕ → ℕ → Step
 recall_from step name to owner =
-    send (with_node step (with_directory step.node (recall step.node.leader.directory name to))) owner (frames.Recall name)
+    send (with_node step (with_directory step.node (recall step.node.leader.directory name to))) owner
+    (frames.Recall name)
 
 abbrev pub recall_and_hold : Step → Name → Held → ℕ → Step
 recall_and_hold step name item owner =
@@ -136,7 +141,8 @@ abbrev pub route_home : Script → Step → Asked → Home → Option Step
 route_home script step asked homes.Own = None
 route_home script step asked homes.Keys = get_by_key script step asked asked.call
 route_home script step asked (homes.At name) = route_by script step name asked (route step.node.leader.directory name)
-route_home script step asked (homes.Removal name) = remove_by script step name asked (route step.node.leader.directory name)
+route_home script step asked (homes.Removal name) =
+    remove_by script step name asked (route step.node.leader.directory name)
 route_home script step asked homes.Parent = None
 
 -- the route rule
@@ -167,7 +173,8 @@ pub data AfterEnd : Type 0 where
 abbrev pub release_names : Parcel → ℕ → Step → AfterEnd
 release_names parcel node step =
     let d : Directory = step.node.leader.directory
-    in Releases (with_node step (with_directory step.node (arrive_all d (names_in parcel) node))) (held_for_all d (names_in parcel))
+    in Releases (with_node step (with_directory step.node (arrive_all d (names_in parcel) node)))
+    (held_for_all d (names_in parcel))
 
 -- the exit is carried out here
 abbrev pub enter_exit : Step → Parcel → List (Name × Body) → Step
@@ -175,7 +182,8 @@ enter_exit step parcel changes =
     enter (with_deeds step (put_all step.node.deeds changes)) parcel.pid parcel.call replies.Ended
 
 abbrev pub exit_with : Step → Parcel → Option (Numbered Body) → Option Body → Option Step
-exit_with step parcel (Some bodies) (Some parent) = option_map (enter_exit step parcel) (commit_exit parcel bodies parent)
+exit_with step parcel (Some bodies) (Some parent) =
+    option_map (enter_exit step parcel) (commit_exit parcel bodies parent)
 exit_with step parcel _ _ = None
 
 abbrev pub exit_here : Step → Parcel → Option Step

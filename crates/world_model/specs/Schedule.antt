@@ -52,4 +52,5 @@ schedule_after (Drawn x) e = Drawn (drawn x)
 abbrev pub Follows : World → Schedule → List Event → World → Type 0
 Follows w schedule [] last = (choice w schedule ≡ None) × (w ≡ last)
 Follows w schedule (e ∷ es) last =
-    (choice w schedule ≡ Some e) × (next : World) × (step w e ≡ Some next) × Follows next (schedule_after schedule e) es last
+    (choice w schedule ≡ Some e) × (next : World) × (step w e ≡ Some next)
+    × Follows next (schedule_after schedule e) es last

@@ -29,7 +29,8 @@ grant_held step name to (Some body) =
 abbrev pub grant : Step → Name → ℕ → Step
 grant step name to = grant_held step name to (get_named step.node.deeds name)
 
--- the name would be better at another node: an owner tells the leader, and the leader moves it at once if that node stays
+-- the name would be better at another node: an owner tells the leader, and the leader moves it at once if that node
+-- stays
 abbrev pub move_to : Step → Name → Option ℕ → Step
 move_to step name None = step
 move_to step name (Some to) =

@@ -13,7 +13,8 @@ returns-clause-given g c =
     let qs = deeds_of Msg held.queues in
     let ss = deeds_of Sem held.sets in
     let ps = deeds_of Proc held.processes in
-    let kinds = AreOfKind-append fits spelled _ qs ss (queues_are_objects fits spelled held.queues) (sets_are_objects fits spelled held.sets) in
+    let kinds = AreOfKind-append fits spelled _ qs ss (queues_are_objects fits spelled held.queues)
+    (sets_are_objects fits spelled held.sets) in
     let others = processes_are_none fits spelled held.processes in
     let packed = c.in_ok-packed.ensures.packed in
     let sorted = rw c.into_vec.ensures at c.in_ok-frames.ensures in
@@ -22,5 +23,6 @@ returns-clause-given g c =
       processes = processes_in c.in_ok-packed.packed;
       objects_packed = objects_packed fits spelled (qs ++ ss) ps c.in_ok-packed.packed kinds others packed;
       processes_packed = processes_packed fits spelled (qs ++ ss) ps c.in_ok-packed.packed kinds others packed;
-      frames = rw (c.from_vec.ensures, c.in_ok-push.ensures.items, c.from_vec-deeds.ensures) (rw (sorted.0, sorted.1) refl);
+      frames = rw (c.from_vec.ensures, c.in_ok-push.ensures.items, c.from_vec-deeds.ensures)
+          (rw (sorted.0, sorted.1) refl);
     }

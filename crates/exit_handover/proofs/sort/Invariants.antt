@@ -5,5 +5,6 @@ use Rattle.exit_handover.proofs.sort.Given as goal
 
 abbrev pub invariant-loop-deed : goal.invariant-loop-deed
 invariant-loop-deed l =
-    (l.frames.items ++ map (λ deed. frames.GiveBack deed) (objects_in l.deed-iterator.rest.items) ≡ map (λ deed. frames.GiveBack deed) (objects_in l.fn.packed.items))
+    (l.frames.items ++ map (λ deed. frames.GiveBack deed) (objects_in l.deed-iterator.rest.items)
+    ≡ map (λ deed. frames.GiveBack deed) (objects_in l.fn.packed.items))
     × (l.processes.items ++ processes_in l.deed-iterator.rest.items ≡ processes_in l.fn.packed.items)

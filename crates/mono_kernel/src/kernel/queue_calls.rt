@@ -11,7 +11,7 @@ use crate::fault::CallFault;
 use crate::kernel::Kernel;
 use crate::maps::{receive_at, remove_at, send_at, set_qbytes_at};
 use crate::queue::MessageQueue;
-use pico_base::{Bytes, Errno, Key, Memory, Pid, Reply};
+use pico_base::{Bytes, Errno, Id, Key, Memory, Pid, Reply};
 
 /// The calls on message queues.
 impl Kernel {
@@ -67,7 +67,7 @@ impl Kernel {
     pub(super) fn send(
         &mut self,
         pid: Pid,
-        id: u32,
+        id: Id,
         class: i32,
         text: &Bytes,
     ) -> Result<Reply, Memory>
@@ -84,7 +84,7 @@ impl Kernel {
     pub(super) fn receive(
         &mut self,
         pid: Pid,
-        id: u32,
+        id: Id,
         class: i32,
         size: u32,
         noerror: bool,
@@ -97,7 +97,7 @@ impl Kernel {
     }
 
     /// msgctl with IPC_STAT: EINVAL.
-    pub(super) fn stat(&self, id: u32) -> Reply
+    pub(super) fn stat(&self, id: Id) -> Reply
         ensures { on_named self.now (get self.now.queues id) (stat_effect self.now)
             ≡ record { kernel = self.now; reply = result } }
     {
@@ -108,7 +108,7 @@ impl Kernel {
     }
 
     /// msgctl with IPC_SET: EINVAL.
-    pub(super) fn set_qbytes(&mut self, id: u32, qbytes: u32) -> Reply
+    pub(super) fn set_qbytes(&mut self, id: Id, qbytes: u32) -> Reply
         ensures { on_named self.old (get self.old.queues id) (λ q. change_queue self.old id (set_qbytes q qbytes))
             ≡ record { kernel = self.new; reply = result } }
     {
@@ -116,14 +116,14 @@ impl Kernel {
     }
 
     /// msgctl with IPC_RMID: EINVAL.
-    pub(super) fn remove_queue(&mut self, id: u32) -> Reply
+    pub(super) fn remove_queue(&mut self, id: Id) -> Reply
         ensures { on_named self.old (get self.old.queues id) (λ _. remove_queue self.old id)
             ≡ record { kernel = self.new; reply = result } }
     {
         if !remove_at(&mut self.queues, id) {
             return Reply::Fail(Errno::Einval);
         }
-        self.queue_names.unbind(id);
+        self.queue_names.unbind(id.0);
         Reply::Num(0)
     }
 }

@@ -14,7 +14,7 @@ use crate::fault::CallFault;
 use crate::kernel::Kernel;
 use crate::maps::{op_at, remove_at, set_all_at, set_value_at};
 use crate::semaphores::{SemaphoreSet, is_bad_size};
-use pico_base::{Errno, Key, Memory, Pid, Reply, SemStep, Steps, Values};
+use pico_base::{Errno, Id, Key, Memory, Pid, Reply, SemStep, Steps, Values};
 
 /// The reply of a look at a set.
 fn looked(found: Result<u32, Errno>) -> Reply
@@ -61,7 +61,7 @@ impl Kernel {
     }
 
     /// The size of the set of a number, 0 where there is none.
-    fn size_of(&self, id: u32) -> usize
+    fn size_of(&self, id: Id) -> usize
         ensures { result ≡ set_size self.now id }
     {
         match self.sets.get(&id) {
@@ -71,11 +71,11 @@ impl Kernel {
     }
 
     /// What a bound key gives: EINVAL where more semaphores are asked for than the set has.
-    fn found_set(&self, id: u32, count: u32) -> Reply
+    fn found_set(&self, id: Id, count: u32) -> Reply
         ensures { find_set self.now id count ≡ record { kernel = self.now; reply = result } }
     {
         if count == 0 || count as usize <= self.size_of(id) {
-            Reply::Num(id)
+            Reply::Num(id.0)
         } else {
             Reply::Fail(Errno::Einval)
         }
@@ -100,7 +100,7 @@ impl Kernel {
             return Ok(if create && excl {
                 Reply::Fail(Errno::Eexist)
             } else {
-                self.found_set(id, count)
+                self.found_set(Id(id), count)
             });
         }
         if !create {
@@ -110,7 +110,7 @@ impl Kernel {
     }
 
     /// semop: EINVAL, E2BIG, EFBIG, EAGAIN or ERANGE. NotAllowed where an operation may have to wait.
-    pub(super) fn operate(&mut self, pid: Pid, id: u32, steps: &Steps) -> Result<Reply, CallFault>
+    pub(super) fn operate(&mut self, pid: Pid, id: Id, steps: &Steps) -> Result<Reply, CallFault>
         ensures { Answers (operate self.old pid id steps.now) result self.old self.new }
     {
         let steps = steps.as_slice();
@@ -122,7 +122,7 @@ impl Kernel {
     }
 
     /// semctl with GETVAL: EINVAL.
-    pub(super) fn value(&self, id: u32, num: u16) -> Reply
+    pub(super) fn value(&self, id: Id, num: u16) -> Reply
         ensures { on_named self.now (get self.now.sets id) (λ s. look_up self.now (value_at s num))
             ≡ record { kernel = self.now; reply = result } }
     {
@@ -133,7 +133,7 @@ impl Kernel {
     }
 
     /// semctl with GETPID: EINVAL.
-    pub(super) fn last(&self, id: u32, num: u16) -> Reply
+    pub(super) fn last(&self, id: Id, num: u16) -> Reply
         ensures { on_named self.now (get self.now.sets id) (λ s. look_up self.now (last_at s num))
             ≡ record { kernel = self.now; reply = result } }
     {
@@ -147,7 +147,7 @@ impl Kernel {
     }
 
     /// semctl with GETNCNT and GETZCNT: EINVAL, and else 0.
-    pub(super) fn waiting(&self, id: u32, num: u16) -> Reply
+    pub(super) fn waiting(&self, id: Id, num: u16) -> Reply
         ensures { on_named self.now (get self.now.sets id) (λ s. look_up self.now (waiting_at s num))
             ≡ record { kernel = self.now; reply = result } }
     {
@@ -158,7 +158,7 @@ impl Kernel {
     }
 
     /// semctl with SETVAL: EINVAL or ERANGE.
-    pub(super) fn set_value(&mut self, id: u32, num: u16, value: u32) -> Reply
+    pub(super) fn set_value(&mut self, id: Id, num: u16, value: u32) -> Reply
         ensures { on_named self.old (get self.old.sets id) (λ s. change_set self.old id (set_value s num value))
             ≡ record { kernel = self.new; reply = result } }
     {
@@ -166,7 +166,7 @@ impl Kernel {
     }
 
     /// semctl with GETALL: EINVAL.
-    pub(super) fn all_values(&self, id: u32) -> Result<Reply, Memory>
+    pub(super) fn all_values(&self, id: Id) -> Result<Reply, Memory>
         ensures { IfOk result
             (λ reply. on_named self.now (get self.now.sets id) (all_values self.now)
             ≡ record { kernel = self.now; reply = reply }) }
@@ -178,7 +178,7 @@ impl Kernel {
     }
 
     /// semctl with SETALL: EINVAL or ERANGE.
-    pub(super) fn set_all(&mut self, id: u32, values: &Values) -> Reply
+    pub(super) fn set_all(&mut self, id: Id, values: &Values) -> Reply
         ensures { on_named self.old (get self.old.sets id) (λ s. change_set self.old id (set_all s values.now))
             ≡ record { kernel = self.new; reply = result } }
     {
@@ -186,14 +186,14 @@ impl Kernel {
     }
 
     /// semctl with IPC_RMID: EINVAL.
-    pub(super) fn remove_set(&mut self, id: u32) -> Reply
+    pub(super) fn remove_set(&mut self, id: Id) -> Reply
         ensures { on_named self.old (get self.old.sets id) (λ _. remove_set self.old id)
             ≡ record { kernel = self.new; reply = result } }
     {
         if !remove_at(&mut self.sets, id) {
             return Reply::Fail(Errno::Einval);
         }
-        self.set_names.unbind(id);
+        self.set_names.unbind(id.0);
         Reply::Num(0)
     }
 }

@@ -7,4 +7,5 @@ use Rattle.deed_box.proofs.table.place_of.Goals as goal
 pub returns : goal.returns
 returns g c =
     place_from c.args.entries.now c.args.number c.binary_search_by.result c.requires c.binary_search_by.ensures.bound
-    (c.binary_search_by.ensures.position (λ e. nat_cmp e.0 c.args.number) (always_returns_same _ _ _ (λ a r f e. search rules)))
+    (c.binary_search_by.ensures.position (λ e. nat_cmp e.0 c.args.number)
+    (always_returns_same _ _ _ (λ a r f e. search rules)))

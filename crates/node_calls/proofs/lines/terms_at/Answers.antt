@@ -9,10 +9,12 @@ returns-in-Some-clause-terms c =
 
 pub returns-in-None-clause-terms : goal.returns-in-None-clause-terms
 returns-in-None-clause-terms c =
-    rw (reached-implied c.args.script.now c.args.node c.args.line (written-there _ _ _ _ c.in-None.ensures c.written_lines-lines.ensures) c.requires)
+    rw (reached-implied c.args.script.now c.args.node c.args.line
+    (written-there _ _ _ _ c.in-None.ensures c.written_lines-lines.ensures) c.requires)
     (refl, refl)
 
 pub returns-in-None-clause-next : goal.returns-in-None-clause-next
 returns-in-None-clause-next c =
     ap (λ (n : ℕ). n + 1) (ap length c.written_lines-lines.ensures
-    ∙ implied-last c.args.script.now c.args.node c.args.line (written-there _ _ _ _ c.in-None.ensures c.written_lines-lines.ensures) c.requires)
+    ∙ implied-last c.args.script.now c.args.node c.args.line
+    (written-there _ _ _ _ c.in-None.ensures c.written_lines-lines.ensures) c.requires)

@@ -12,5 +12,6 @@ invariant_of-self c =
 
 pub returns : goal.returns
 returns c =
-    ap (λ l. l.entries) c.pop.ensures.entries ∙ remove_is c.args.name _ (tests_same c.args.name) c.self.inside.owners.entries c.self.invariant.once
+    ap (λ l. l.entries) c.pop.ensures.entries
+    ∙ remove_is c.args.name _ (tests_same c.args.name) c.self.inside.owners.entries c.self.invariant.once
     ∙ ap (λ es. forget es c.args.name) c.self.view_is

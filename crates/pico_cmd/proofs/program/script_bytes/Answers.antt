@@ -7,4 +7,5 @@ returns-in-Ok-clause-rest g c =
 
 pub returns-in-Err-TooLong-clause-rest : goal.returns-in-Err-TooLong-clause-rest
 returns-in-Err-TooLong-clause-rest g c =
-    left_past_limit _ _ _ (rw c.in-Err-TooLong.field-0-is at c.in-Err-TooLong.ensures.rest) (rw c.in-Err-TooLong.field-0-is at c.in-Err-TooLong.ensures.one_more)
+    left_past_limit _ _ _ (rw c.in-Err-TooLong.field-0-is at c.in-Err-TooLong.ensures.rest)
+    (rw c.in-Err-TooLong.field-0-is at c.in-Err-TooLong.ensures.one_more)

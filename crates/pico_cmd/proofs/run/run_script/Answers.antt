@@ -15,7 +15,10 @@ pub choice-requires-clause-within : goal.choice-requires-clause-within
 choice-requires-clause-within c = world_has_last _ _ _ _ _ c.loop-event.invariant
 
 pub step-requires : goal.step-requires
-step-requires c = record { enabled = chosen_is_enabled _ _ _ _ _ _ _ c.loop-event.invariant c.choice.ensures c.in-Some.is }
+step-requires c = record {
+  enabled =
+      chosen_is_enabled _ _ _ _ _ _ _ c.loop-event.invariant c.choice.ensures c.in-Some.is;
+}
 
 pub loop-event-preserved : goal.loop-event-preserved
 loop-event-preserved c =

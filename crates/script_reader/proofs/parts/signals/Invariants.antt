@@ -6,4 +6,5 @@ use Rattle.script_reader.proofs.parts.signals.Given as goal
 
 -- the names left, behind those so far
 abbrev pub invariant-loop-word : goal.invariant-loop-word
-invariant-loop-word l = signals_with l.set (texts (drop l.word-index l.words)) ≡ signals_with (everywhere false) (texts l.words)
+invariant-loop-word l =
+    signals_with l.set (texts (drop l.word-index l.words)) ≡ signals_with (everywhere false) (texts l.words)

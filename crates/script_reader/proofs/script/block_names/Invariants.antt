@@ -6,7 +6,8 @@ use Rattle.script_reader.proofs.script.block_names.Given as goal
 
 -- the names so far, and those of the lines left, are those of all lines
 abbrev pub invariant-loop-bytes : goal.invariant-loop-bytes
-invariant-loop-bytes l = fold (λ names line. with_opening names (opening_at line)) l.names (lines_of l.rest) ≡ names_of (lines_of l.fn.text)
+invariant-loop-bytes l =
+    fold (λ names line. with_opening names (opening_at line)) l.names (lines_of l.rest) ≡ names_of (lines_of l.fn.text)
 
 abbrev pub decreases-loop-bytes : goal.decreases-loop-bytes
 decreases-loop-bytes l = length l.rest

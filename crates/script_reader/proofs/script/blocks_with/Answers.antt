@@ -8,7 +8,8 @@ pub loop-bytes-init : goal.loop-bytes-init
 loop-bytes-init c =
     let first = start_place c.len.result c.in_ok-place.place c.in_ok-place.ensures in
     record {
-      reads = ap (λ p. blocks_from c.args.runnable c.args.names.now p 1 (lines_of c.args.text.now)) (c.in_ok-place.ensures ∙ ap start c.len.ensures);
+      reads = ap (λ p. blocks_from c.args.runnable c.args.names.now p 1 (lines_of c.args.text.now))
+          (c.in_ok-place.ensures ∙ ap start c.len.ensures);
       counted = omega arith;
       blocks = omega (arith, first.0);
       calls = omega (arith, first.1);
@@ -18,23 +19,39 @@ pub returns-in-Some-fault_of : goal.returns-in-Some-fault_of
 returns-in-Some-fault_of c =
     let l = c.loop-bytes in
     let from = blocks_from c.args.runnable c.args.names.now l.place l.number in
-    sym l.invariant.reads ∙ ap from c.in-Some.ensures.lines ∙ blocks_from-stops c.args.runnable c.args.names.now l.place l.number c.in-Some.bytes.now (lines_of c.in-Some.after.now) c.in_ok-said.said c.in-Some-fault_of.fault c.in_ok-said.ensures (sym c.fault_of.ensures ∙ c.in-Some-fault_of.is)
+    sym l.invariant.reads ∙ ap from c.in-Some.ensures.lines
+    ∙ blocks_from-stops c.args.runnable c.args.names.now l.place l.number c.in-Some.bytes.now
+    (lines_of c.in-Some.after.now) c.in_ok-said.said c.in-Some-fault_of.fault c.in_ok-said.ensures
+    (sym c.fault_of.ensures ∙ c.in-Some-fault_of.is)
 
 pub loop-bytes-preserved : goal.loop-bytes-preserved
 loop-bytes-preserved c =
     let l = c.loop-bytes in
     let from = blocks_from c.args.runnable c.args.names.now in
     let none = sym c.fault_of.ensures ∙ c.in_default-fault_of.is in
-    let goes = blocks_from-goes c.args.runnable c.args.names.now l.place l.number c.in-Some.bytes.now (lines_of c.in-Some.after.now) c.in_ok-said.said c.in_ok-said.ensures none in
+    let goes = blocks_from-goes c.args.runnable c.args.names.now l.place l.number c.in-Some.bytes.now
+    (lines_of c.in-Some.after.now) c.in_ok-said.said c.in_ok-said.ensures none in
     record {
-      reads = ap (λ p. from p (l.number + 1) (lines_of c.in-Some.after.now)) c.in_ok-place-2.ensures ∙ sym goes ∙ sym (ap (from l.place l.number) c.in-Some.ensures.lines) ∙ l.invariant.reads;
+      reads = ap (λ p. from p (l.number + 1) (lines_of c.in-Some.after.now)) c.in_ok-place-2.ensures ∙ sym goes
+          ∙ sym (ap (from l.place l.number) c.in-Some.ensures.lines) ∙ l.invariant.reads;
       counted = omega (arith, c.in-Some.ensures.shorter, l.invariant.counted);
-      blocks = omega (arith, l.invariant.blocks, behind_blocks l.place c.in_ok-said.said, ap (λ p. length p.blocks) c.in_ok-place-2.ensures);
-      calls = omega (arith, calls_within c.args.runnable l.place (length c.in-Some.bytes.now) c.in_ok-said.said none, ap (λ p. p.calls) c.in_ok-place-2.ensures);
+      blocks = omega (
+        arith,
+        l.invariant.blocks,
+        behind_blocks l.place c.in_ok-said.said,
+        ap (λ p. length p.blocks) c.in_ok-place-2.ensures,
+      );
+      calls = omega (
+        arith,
+        calls_within c.args.runnable l.place (length c.in-Some.bytes.now) c.in_ok-said.said none,
+        ap (λ p. p.calls) c.in_ok-place-2.ensures,
+      );
     }
 
 pub returns : goal.returns
 returns c =
     let l = c.loop-bytes in
     let from = blocks_from c.args.runnable c.args.names.now l.place l.number in
-    gives_same c.ending.result (ending l.place l.number) _ (sym (blocks_from-ends c.args.runnable c.args.names.now l.place l.number (lines_of l.rest.now) c.in_default.ensures.lines) ∙ l.invariant.reads) c.ending.ensures
+    gives_same c.ending.result (ending l.place l.number) _
+    (sym (blocks_from-ends c.args.runnable c.args.names.now l.place l.number
+    (lines_of l.rest.now) c.in_default.ensures.lines) ∙ l.invariant.reads) c.ending.ensures

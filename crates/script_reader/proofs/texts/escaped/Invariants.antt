@@ -5,4 +5,5 @@ use Rattle.script_reader.proofs.texts.escaped.Given as goal
 
 -- the bytes so far, and the text that is left
 abbrev pub invariant-loop : goal.invariant-loop
-invariant-loop l = option_map (λ more. l.text ++ more) (quoted_at (l.end - l.counter) l.rest) ≡ quoted_at (length l.fn.bytes) l.fn.bytes
+invariant-loop l = option_map (λ more. l.text ++ more) (quoted_at (l.end - l.counter) l.rest)
+    ≡ quoted_at (length l.fn.bytes) l.fn.bytes

@@ -6,4 +6,6 @@ use Rattle.script_reader.proofs.texts.numbers.Given as goal
 
 -- what the words so far give, and those that are left
 abbrev pub invariant-loop-word : goal.invariant-loop-word
-invariant-loop-word l = option_map (λ more. l.values ++ more) (each (number 65535) (texts (drop l.word-index l.words))) ≡ each (number 65535) (texts l.words)
+invariant-loop-word l =
+    option_map (λ more. l.values ++ more) (each (number 65535) (texts (drop l.word-index l.words)))
+    ≡ each (number 65535) (texts l.words)

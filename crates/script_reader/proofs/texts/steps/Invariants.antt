@@ -6,4 +6,5 @@ use Rattle.script_reader.proofs.texts.steps.Given as goal
 
 -- what the words so far give, and those that are left
 abbrev pub invariant-loop-word : goal.invariant-loop-word
-invariant-loop-word l = option_map (λ more. l.steps ++ more) (each step (texts (drop l.word-index l.words))) ≡ each step (texts l.words)
+invariant-loop-word l =
+    option_map (λ more. l.steps ++ more) (each step (texts (drop l.word-index l.words))) ≡ each step (texts l.words)

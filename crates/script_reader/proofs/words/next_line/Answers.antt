@@ -12,4 +12,6 @@ returns-in-Some-clause-lines c =
 pub returns-in-None-2-clause-lines : goal.returns-in-None-2-clause-lines
 returns-in-None-2-clause-lines c =
     let xs = c.args.bytes.now in
-    rw (take_rest xs (length xs), drop_all (length xs) xs (omega arith)) (lines_of-none xs (sym c.in-None-2.ensures) (some_from_not_empty (length xs) (sym c.is_empty.ensures ∙ c.if-is_empty.false)))
+    rw (take_rest xs (length xs), drop_all (length xs) xs (omega arith))
+    (lines_of-none xs (sym c.in-None-2.ensures)
+    (some_from_not_empty (length xs) (sym c.is_empty.ensures ∙ c.if-is_empty.false)))

@@ -6,8 +6,13 @@ use Rattle.script_reader.proofs.words.pieces.Goals as goal
 
 pub loop-piece-preserved : goal.loop-piece-preserved
 loop-piece-preserved c =
-    onto_rest c.loop-piece.pieces.items c.in-Some.piece c.push.new.self.items (pieces c.args.byte c.loop-piece.rest.now) (pieces c.args.byte c.in-Some.after.now) c.in_ok-push.ensures.items (next_piece c.args.byte c.loop-piece.rest.now c.in-Some.piece.now c.in-Some.after.now c.in-Some.ensures.value) ∙ c.loop-piece.invariant
+    onto_rest c.loop-piece.pieces.items c.in-Some.piece c.push.new.self.items (pieces c.args.byte c.loop-piece.rest.now)
+    (pieces c.args.byte c.in-Some.after.now) c.in_ok-push.ensures.items
+    (next_piece c.args.byte c.loop-piece.rest.now c.in-Some.piece.now c.in-Some.after.now c.in-Some.ensures.value)
+    ∙ c.loop-piece.invariant
 
 pub returns : goal.returns
 returns c =
-    ap texts c.in_ok-push-2.ensures.items ∙ texts-push c.loop-piece.pieces.items c.loop-piece.rest ∙ ap (λ ps. texts c.loop-piece.pieces.items ++ ps) (sym (no_more_pieces c.args.byte c.loop-piece.rest.now c.in_default.ensures.value)) ∙ c.loop-piece.invariant
+    ap texts c.in_ok-push-2.ensures.items ∙ texts-push c.loop-piece.pieces.items c.loop-piece.rest
+    ∙ ap (λ ps. texts c.loop-piece.pieces.items ++ ps)
+    (sym (no_more_pieces c.args.byte c.loop-piece.rest.now c.in_default.ensures.value)) ∙ c.loop-piece.invariant

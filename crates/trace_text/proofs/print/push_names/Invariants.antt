@@ -5,4 +5,5 @@ use Rattle.trace_text.proofs.print.push_names.Given as goal
 
 -- the first one and those so far
 abbrev pub invariant-loop-sig : goal.invariant-loop-sig
-invariant-loop-sig l = l.out.items ≡ l.initial.out.items ++ flat_map (λ x. 44 ∷ trace.signal_name x) (take l.sig-index l.others)
+invariant-loop-sig l =
+    l.out.items ≡ l.initial.out.items ++ flat_map (λ x. 44 ∷ trace.signal_name x) (take l.sig-index l.others)

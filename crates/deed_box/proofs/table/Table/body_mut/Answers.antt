@@ -7,5 +7,12 @@ pub unreachable-requires : goal.unreachable-requires
 unreachable-requires g c = false≢true (rw (← absent_get _ _ _ _ refl c.in-Err.ensures) at c.requires)
 
 pub returns : goal.returns
-returns g c =
-    ((refl, λ w. refl), record { writes_back = tt; value = c.value_mut.ensures.value; len = λ body. length-put_stands _ _ _ body c.in-Ok.ensures })
+returns g c = (
+  (refl, λ w. refl),
+  record {
+    writes_back = tt;
+    value = c.value_mut.ensures.value;
+    len =
+        λ body. length-put_stands _ _ _ body c.in-Ok.ensures;
+  },
+)

@@ -4,17 +4,20 @@ use Rattle.deed_box.proofs.table.Table.put.Goals as goal
 
 pub unreachable-requires : goal.unreachable-requires
 unreachable-requires g c =
-    present_absent _ _ _ _ (c.as_slice.ensures.value ∙ ap (λ t. t.entries) c.self.view_is) c.in-Ok.ensures c.requires.absent
+    present_absent _ _ _ _
+    (c.as_slice.ensures.value ∙ ap (λ t. t.entries) c.self.view_is) c.in-Ok.ensures c.requires.absent
 
 pub invariant_of-self : goal.invariant_of-self
 invariant_of-self g c =
     let s = rw c.as_slice.ensures.value at c.in-Err.ensures in
     let items = rw c.unwrap.ensures at c.insert.ensures.items in
-    rw (put_there c.self.inside.entries.items _ c.insert.new.self.items c.args.number c.in-Err.place c.args.body refl s items)
+    rw (put_there c.self.inside.entries.items _ c.insert.new.self.items c.args.number c.in-Err.place c.args.body refl s
+    items)
     (is_sorted-put_at c.self.inside.entries.items c.args.number c.args.body c.self.invariant)
 
 pub returns-clause-entries : goal.returns-clause-entries
 returns-clause-entries g c =
     let s = rw c.as_slice.ensures.value at c.in-Err.ensures in
     let items = rw c.unwrap.ensures at c.insert.ensures.items in
-    put_there c.self.inside.entries.items _ _ c.args.number c.in-Err.place c.args.body (ap (λ t. t.entries) c.self.view_is) s items
+    put_there c.self.inside.entries.items _ _ c.args.number c.in-Err.place c.args.body
+    (ap (λ t. t.entries) c.self.view_is) s items

@@ -15,7 +15,18 @@ pub returns : goal.returns
 returns g c =
     let items = c.self.inside.entries.items in
     let s : StandsAt items c.args.number c.args.place = rw (← c.self.view_is) at c.requires in
-    let shelf : Numbered g.row.B.Denot → Shelf g.row.B.Denot = λ xs. record { entries = xs; capacity = vec_capacity c.self.inside.entries } in (
-      (refl, λ w. rw (← c.self.view_is) (ap shelf (set_there items items c.args.number c.args.place c.index_mut.result.now w refl s c.index_mut.ensures.value))),
-      record { writes_back = tt; value = rw (← c.self.view_is) (sym (found_get items items _ _ c.index_mut.result.now refl s c.index_mut.ensures.value)) },
+    let shelf : Numbered g.row.B.Denot → Shelf g.row.B.Denot =
+    λ xs. record { entries = xs; capacity = vec_capacity c.self.inside.entries } in (
+      (
+        refl,
+        λ w. rw (← c.self.view_is)
+            (ap shelf (set_there items items c.args.number c.args.place c.index_mut.result.now w refl s
+            c.index_mut.ensures.value)),
+      ),
+      record {
+        writes_back = tt;
+        value =
+            rw (← c.self.view_is)
+            (sym (found_get items items _ _ c.index_mut.result.now refl s c.index_mut.ensures.value));
+      },
     )

@@ -21,11 +21,10 @@ returns-in-MsgRcv-default-default-default-default-true c =
     c.receive.result c.in-MsgRcv-default-default-default-default-true.is
     (sym c.in-MsgRcv-default-default-default-default-true.nowait-is
     ∙ c.in-MsgRcv-default-default-default-default-true.nowait-test)
-    (rw c.id-in-MsgRcv-default-default-default-default-true.view_is at made)
+    made
 
 pub returns-in-SemOp : goal.returns-in-SemOp
 returns-in-SemOp c =
-    let made = rw c.id-in-SemOp.view_is at c.operate.ensures
-    in semop-carried c.args.self.now c.operate.new.self c.args.pid c.args.chosen c.in-SemOp.id c.in-SemOp.steps
+    semop-carried c.args.self.now c.operate.new.self c.args.pid c.args.chosen c.in-SemOp.id c.in-SemOp.steps
     c.args.call.now
-    c.operate.result c.in-SemOp.is made
+    c.operate.result c.in-SemOp.is c.operate.ensures

@@ -1,0 +1,5 @@
+pub mod Bodies
+pub mod Laws
+pub mod Serving
+pub mod Spelled
+pub mod Waits

@@ -1,0 +1,26 @@
+use fork_wait::Family;
+use pico_base::Ending;
+use signal_state::Signals;
+use sysv_msg::Queue as MessageQueue;
+use sysv_sem::SemSet;
+
+/// The row of a living process: its signals and its children. What it may still do isn't kept in it: that follows from
+/// its doom and from its calls.
+#[derive(Debug, Drop)]
+pub struct Row {
+    pub signals: Signals,
+    pub family: Family,
+}
+
+/// What a deed carries: the state of a process, a message queue or a semaphore set. A process lives, has ended and
+/// isn't
+/// waited for yet, or is gone. A queue or a set that was removed is never found again.
+#[derive(Debug, Drop)]
+pub enum Body {
+    Living(Row),
+    Ended(Ending),
+    Gone,
+    Queue(MessageQueue),
+    Set(SemSet),
+    Removed,
+}

@@ -1,0 +1,18 @@
+//! What a node does with the deeds that it holds: it carries calls out on their bodies, as the kernel would.
+#![tactic(auto)]
+
+mod body;
+mod carrying;
+mod packing;
+mod queues;
+mod rows;
+mod serving;
+mod sets;
+mod shared;
+mod unpacking;
+
+pub use body::{Body, Row};
+pub use serving::{Served, serve};
+
+#[cfg(test)]
+mod tests;

@@ -1,0 +1,68 @@
+//! Calls on a message queue.
+ghost use Rattle.std.specs.Prelude.{◌≡◌, IfOk, OnErr};
+ghost use Rattle.kernel_model.specs.Queue as definition;
+ghost use Rattle.node_model.specs.Carrying.{change, done, on_queue, take_message};
+
+use pico_base::{Bytes, Call, Errno, Memory, Pid, Reply};
+use std::alloc::Global;
+use sysv_msg::{Queue, SendFault};
+
+/// msgsnd with IPC_NOWAIT: EINVAL or EAGAIN. A refusal for want of memory changes nothing.
+fn send(queue: &mut Queue, pid: Pid, class: i32, text: Bytes) -> Result<Reply, Memory>
+    ensures ok { IfOk result
+        (λ reply. change queue.old (definition.send queue.old pid class text) ≡ done queue.new reply) }
+    ensures err { OnErr result (queue.new ≡ queue.old) }
+{
+    match queue.send(pid, class, text) {
+        Ok(()) => Ok(Reply::Num(0)),
+        Err(SendFault::No(errno)) => Ok(Reply::Fail(errno)),
+        Err(SendFault::Memory(_)) => Err(Memory),
+    }
+}
+
+/// msgrcv with IPC_NOWAIT: ENOMSG or E2BIG.
+fn receive(queue: &mut Queue, pid: Pid, class: i32, size: u32, noerror: bool) -> Reply
+    ensures { take_message queue.old (definition.receive queue.old pid class size noerror) ≡ done queue.new result }
+{
+    match queue.receive(pid, class, size, noerror) {
+        Ok(message) => Reply::Message {
+            class: message.class,
+            text: message.text,
+        },
+        Err(errno) => Reply::Fail(errno),
+    }
+}
+
+/// msgctl with IPC_SET: EINVAL.
+fn set_qbytes(queue: &mut Queue, qbytes: u32) -> Reply
+    ensures { change queue.old (definition.set_qbytes queue.old qbytes) ≡ done queue.new result }
+{
+    match queue.set(qbytes) {
+        Ok(()) => Reply::Num(0),
+        Err(errno) => Reply::Fail(errno),
+    }
+}
+
+/// A call on a queue that is there, other than its removal. A refusal for want of memory changes nothing.
+pub(crate) fn on_queue(
+    alloc: Global,
+    queue: &mut Queue,
+    pid: Pid,
+    call: &Call,
+) -> Result<Reply, Memory>
+    ensures ok { IfOk result (λ reply. on_queue queue.old pid call.now ≡ done queue.new reply) }
+    ensures err { OnErr result (queue.new ≡ queue.old) }
+{
+    match call {
+        Call::MsgSnd { class, text, .. } => send(queue, pid, *class, text.try_copy(alloc)?),
+        Call::MsgRcv {
+            class,
+            size,
+            noerror,
+            ..
+        } => Ok(receive(queue, pid, *class, *size, *noerror)),
+        Call::MsgStat { .. } => Ok(queue.stat()),
+        Call::MsgSet { qbytes, .. } => Ok(set_qbytes(queue, *qbytes)),
+        _ => Ok(Reply::Fail(Errno::Einval)),
+    }
+}

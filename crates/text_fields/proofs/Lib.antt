@@ -1,0 +1,6 @@
+pub mod Chains
+pub mod Strips
+pub mod Numerals
+pub mod Many
+pub mod Spelled
+pub mod Sets

@@ -1,0 +1,8 @@
+use Rattle.std.proofs.Common.{◌≡◌, ◌-◌, length}
+use Rattle.text_fields.specs.Fields.{many, all_at, step_at}
+use Rattle.text_fields.proofs.Many.{onto}
+use Rattle.text_fields.proofs.lists.steps_front.Given as goal
+
+-- the parts so far, and those that are left
+abbrev pub invariant-loop : goal.invariant-loop
+invariant-loop l = onto l.steps (many step_at (l.end - l.counter) l.rest) ≡ all_at step_at l.fn.bytes

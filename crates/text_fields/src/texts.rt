@@ -1,0 +1,151 @@
+//! Messages' texts at the front of a text.
+ghost use Rattle.std.specs.Prelude.{◌≡◌, ◌≤◌, IfOk, IfSome, option_map};
+ghost use Rattle.text_fields.specs.Fields.{hex_at, escape_at, is_text_byte, text_byte_at, all_at, closed_of, quoted_at, repeated_at, count_at, repetition_at, text_at};
+
+use crate::names::strip_front;
+use crate::numbers::number_front;
+use pico_base::{Bytes, Memory, Sequence};
+use std::alloc::Global;
+
+/// The longest text of `rep:N:C`.
+const MAX_REPEATED: u32 = 8192;
+
+/// The value of a lower-case hex digit.
+#[tactic(auto, unfolding(crate::specs::Fields::hex_at))]
+fn hex(byte: u8) -> Option<u8>
+    ensures value { result ≡ hex_at byte }
+    ensures small { IfSome result (λ n. n ≤ 15) }
+{
+    match byte {
+        b'0'..=b'9' => Some(byte - b'0'),
+        b'a'..=b'f' => Some(byte - b'a' + 10),
+        _ => None,
+    }
+}
+
+/// The byte of `\xhh` behind its `\`.
+#[tactic(auto, unfolding(crate::specs::Fields::escape_at))]
+fn escape(bytes: &[u8]) -> Option<(u8, &[u8])>
+    ensures { option_map (λ x. (x.0, x.1.now)) result ≡ escape_at bytes.now }
+{
+    match bytes {
+        [x, high, low, rest @ ..] => {
+            let high = hex(*high)?;
+            let low = hex(*low)?;
+            if *x == b'x' {
+                Some((16 * high + low, rest))
+            } else {
+                None
+            }
+        }
+        _ => None,
+    }
+}
+
+/// Whether the byte may stand for itself between quotes.
+fn is_text_part(byte: u8) -> bool
+    ensures { result ≡ is_text_byte byte }
+{
+    byte >= b' ' && byte <= b'~' && byte != b'"' && byte != b'\\'
+}
+
+/// One byte of a text between quotes.
+#[tactic(auto, unfolding(crate::specs::Fields::text_byte_at))]
+fn text_byte(bytes: &[u8]) -> Option<(u8, &[u8])>
+    ensures { option_map (λ x. (x.0, x.1.now)) result ≡ text_byte_at bytes.now }
+{
+    match bytes {
+        [] => None,
+        [byte, rest @ ..] => {
+            if *byte == b'\\' {
+                escape(rest)
+            } else if is_text_part(*byte) {
+                Some((*byte, rest))
+            } else {
+                None
+            }
+        }
+    }
+}
+
+/// The bytes of a text between quotes, up to what is none.
+fn text_bytes(alloc: Global, bytes: &[u8]) -> Result<(Bytes, &[u8]), Memory>
+    ensures { IfOk result (λ x. (x.0, x.1.now) ≡ all_at text_byte_at bytes.now) }
+{
+    let mut text = Sequence::new(alloc);
+    let mut rest = bytes;
+    for _ in 0..bytes.len() {
+        let Some((byte, after)) = text_byte(rest) else {
+            return Ok((text, rest));
+        };
+        text.push(byte)?;
+        rest = after;
+    }
+    Ok((text, rest))
+}
+
+/// The text where its closing quote is next.
+fn closed(text: Bytes, bytes: &[u8]) -> Option<(Bytes, &[u8])>
+    ensures { option_map (λ x. (x.0, x.1.now)) result ≡ closed_of (text, bytes.now) }
+{
+    let rest = strip_front(bytes, b"\"")?;
+    Some((text, rest))
+}
+
+/// A text behind its opening quote.
+#[tactic(auto, unfolding(crate::specs::Fields::quoted_at))]
+fn quoted(alloc: Global, bytes: &[u8]) -> Result<Option<(Bytes, &[u8])>, Memory>
+    ensures { IfOk result (λ text. option_map (λ x. (x.0, x.1.now)) text ≡ quoted_at bytes.now) }
+{
+    match text_bytes(alloc, bytes) {
+        Ok((text, rest)) => Ok(closed(text, rest)),
+        Err(memory) => Err(memory),
+    }
+}
+
+/// The byte of `rep:N:C`, so many times.
+#[tactic(auto, unfolding(crate::specs::Fields::repeated_at))]
+fn repeated(alloc: Global, count: u32, bytes: &[u8]) -> Result<Option<(Bytes, &[u8])>, Memory>
+    ensures { IfOk result (λ text. option_map (λ x. (x.0, x.1.now)) text ≡ repeated_at count bytes.now) }
+{
+    match bytes {
+        [letter, rest @ ..] => {
+            let text = vec![in alloc; *letter; count as usize]?;
+            Ok(Some((Sequence::from_vec(text), rest)))
+        }
+        [] => Ok(None),
+    }
+}
+
+/// The count of `N:C`, and what stands behind the colon.
+fn count_front(bytes: &[u8]) -> Option<(u32, &[u8])>
+    ensures { option_map (λ x. (x.0, x.1.now)) result ≡ count_at bytes.now }
+{
+    let (count, rest) = number_front(MAX_REPEATED, bytes)?;
+    Some((count, strip_front(rest, b":")?))
+}
+
+/// The text of `N:C`.
+#[tactic(auto, unfolding(crate::specs::Fields::repetition_at))]
+fn repetition(alloc: Global, bytes: &[u8]) -> Result<Option<(Bytes, &[u8])>, Memory>
+    ensures { IfOk result (λ text. option_map (λ x. (x.0, x.1.now)) text ≡ repetition_at bytes.now) }
+{
+    match count_front(bytes) {
+        None => Ok(None),
+        Some((count, rest)) => repeated(alloc, count, rest),
+    }
+}
+
+/// A text, `rep:N:C` or between quotes.
+#[tactic(auto, unfolding(crate::specs::Fields::text_at))]
+pub fn text_front(alloc: Global, bytes: &[u8]) -> Result<Option<(Bytes, &[u8])>, Memory>
+    ensures { IfOk result (λ text. option_map (λ x. (x.0, x.1.now)) text ≡ text_at bytes.now) }
+{
+    if let Some(rest) = strip_front(bytes, b"rep:") {
+        return repetition(alloc, rest);
+    }
+    match strip_front(bytes, b"\"") {
+        None => Ok(None),
+        Some(rest) => quoted(alloc, rest),
+    }
+}

@@ -1,0 +1,5 @@
+pub mod Named
+pub mod Played
+pub mod Streams
+pub mod Sends
+pub mod Stays
