@@ -7,3 +7,4 @@ pub mod Streams
 pub mod Limits
 pub mod Splitting
 pub mod Examples
+pub mod LimitTests

@@ -16,7 +16,9 @@ mod writing;
 pub use encoding::encode;
 pub use fault::FrameFault;
 pub use joiner::Joiner;
-pub use laws::{a_stream_has_one_reading, no_spelling_begins_another, pieces_do_not_matter};
+pub use laws::{
+    a_stream_has_one_reading, limits_are_a_test, no_spelling_begins_another, pieces_do_not_matter,
+};
 
 #[cfg(test)]
 mod tests;
