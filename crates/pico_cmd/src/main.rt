@@ -42,8 +42,21 @@ fn start<R: Env + AllocGlobal + Input + Print>(rt: &R) -> Status {
     pico(rt, rt.alloc(), &words, &mut source, &mut sink, &OpenGate).status
 }
 
+// Why standard output has nothing, or not all. Whether standard error takes the line isn't asked.
+fn complain<R: Eprint>(rt: &R, status: Status) {
+    let why = match status {
+        Status::Memory => "out of memory; nothing was written",
+        Status::ReadFault => "standard input could not be read; nothing was written",
+        Status::WriteFault => "standard output could not be written to the end",
+        Status::Done | Status::BadScript | Status::Usage => return,
+    };
+    let _ = eprintln!(rt; "pico: {why}");
+}
+
 fn main(rt: HostRuntime) -> ExitCode {
-    ExitCode::from(start(&rt).code())
+    let status = start(&rt);
+    complain(&rt, status);
+    ExitCode::from(status.code())
 }
 
 #[cfg(test)]
