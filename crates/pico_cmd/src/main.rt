@@ -42,20 +42,22 @@ fn start<R: Env + AllocGlobal + Input + Print>(rt: &R) -> Status {
     pico(rt, rt.alloc(), &words, &mut source, &mut sink, &OpenGate).status
 }
 
-// Why standard output has nothing, or not all. Whether standard error takes the line isn't asked.
-fn complain<R: Eprint>(rt: &R, status: Status) {
-    let why = match status {
-        Status::Memory => "out of memory; nothing was written",
-        Status::ReadFault => "standard input could not be read; nothing was written",
-        Status::WriteFault => "standard output could not be written to the end",
-        Status::Done | Status::BadScript | Status::Usage => return,
-    };
-    let _ = eprintln!(rt; "pico: {why}");
+// Why what was asked for isn't written, or not all of it. The other statuses go with a text that says it.
+fn reason(status: Status) -> Option<&'static str> {
+    match status {
+        Status::Memory => Some("pico: memory ran out; nothing is written"),
+        Status::ReadFault => Some("pico: reading standard input failed; nothing is written"),
+        Status::WriteFault => Some("pico: writing to standard output failed"),
+        Status::Done | Status::BadScript | Status::Usage => None,
+    }
 }
 
 fn main(rt: HostRuntime) -> ExitCode {
     let status = start(&rt);
-    complain(&rt, status);
+    if let Some(line) = reason(status) {
+        // Where that fails too, the exit status alone tells it.
+        let _ = rt.eprintln(line);
+    }
     ExitCode::from(status.code())
 }
 
