@@ -1,4 +1,5 @@
 pub mod Bodies
+pub mod Ending
 pub mod Laws
 pub mod Serving
 pub mod Spelled

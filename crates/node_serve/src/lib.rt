@@ -3,6 +3,7 @@
 
 mod body;
 mod carrying;
+mod ending;
 mod packing;
 mod queues;
 mod rows;
@@ -12,6 +13,7 @@ mod shared;
 mod unpacking;
 
 pub use body::{Body, Row};
+pub use ending::{ServeFault, commit_exit};
 pub use serving::{Served, serve};
 
 #[cfg(test)]
