@@ -1,4 +1,4 @@
-//! Two nodes that are handed each other's frames.
+//! A node that is handed the frames of another.
 ghost use Rattle.std.specs.Prelude.{◌≡◌, ◌≤◌, pos, true, false, IfOk, length};
 ghost use Rattle.machine_model.specs.Built.{IsRunnable};
 ghost use Rattle.machine_model.specs.Examples.{line};
@@ -6,10 +6,10 @@ ghost use Rattle.node_core.specs.Examples.{main_block, parent_and_child};
 
 use crate::{Input, PicoNode, Sends, Turn, TurnFault};
 use pico_base::{
-    Block, Bytes, Call, Entries, Entry, Errno, Id, Line, Lines, Memory, Name, Node, Outcome, Pid,
-    Reply, Script, Sequence, Var, Vars,
+    Block, Bytes, Call, Errno, Id, Line, Lines, Memory, Name, Node, Pid, Reply, Script, Sequence,
+    Var, Vars,
 };
-use rpc_frame::{Frame, PackedDeed, Parcel};
+use rpc_frame::{Frame, PackedDeed};
 use std::alloc::Global;
 use std::process::Abort;
 use std::test::Fail;
@@ -113,18 +113,6 @@ fn expect(
     assert_eq!(rt; node.turn(script, input), turned);
 }
 
-/// The entry of a call that node 1 carried out, alone.
-fn entered(alloc: Global, pid: u32, call: Call, reply: Reply) -> Result<Entries, Memory> {
-    let mut entries = Entries::new(alloc);
-    entries.push(Entry {
-        pid: Pid(pid),
-        call,
-        outcome: Outcome::reply(alloc, reply),
-        by: Node(1),
-    })?;
-    Ok(entries)
-}
-
 /// A frame to a node, alone.
 fn sent(alloc: Global, to: u8, frame: Frame) -> Result<Sends, Memory>
     requires { (1 ≤ to) × (to ≤ 32) }
@@ -132,14 +120,6 @@ fn sent(alloc: Global, to: u8, frame: Frame) -> Result<Sends, Memory>
     let mut sends = Sends::new(alloc);
     sends.push((Node(to), frame))?;
     Ok(sends)
-}
-
-/// A turn that carries a call out here and sends nothing.
-fn carried(alloc: Global, pid: u32, call: Call, reply: Reply) -> Result<Turn, Memory> {
-    Ok(Turn {
-        entries: entered(alloc, pid, call, reply)?,
-        sends: Sequence::new(alloc),
-    })
 }
 
 /// A turn that only sends a frame.
@@ -176,42 +156,6 @@ fn checkpoint(alloc: Global) -> Result<Frame, Memory> {
     })
 }
 
-/// The first turn: a queue is made.
-fn made(alloc: Global) -> Result<Turn, Memory> {
-    let get = Call::MsgGet {
-        key: None,
-        create: false,
-        excl: false,
-    };
-    carried(alloc, 1, get, Reply::Num(1))
-}
-
-/// The second turn: a message is sent.
-fn message_sent(alloc: Global) -> Result<Turn, Memory> {
-    let text = Bytes::from_slice(alloc, b"hi")?;
-    carried(alloc, 1, send(1, text), Reply::Num(0))
-}
-
-/// The third turn: it is received.
-fn message_received(alloc: Global) -> Result<Turn, Memory> {
-    let text = Bytes::from_slice(alloc, b"hi")?;
-    carried(alloc, 1, receive(1), Reply::Message { class: 7, text })
-}
-
-/// The fourth turn: process 2 is forked.
-fn forked(alloc: Global) -> Result<Turn, Memory> {
-    let fork = Call::Fork { block: Node(2) };
-    Ok(Turn {
-        entries: entered(alloc, 1, fork, Reply::Num(2))?,
-        sends: sent(alloc, 2, checkpoint(alloc)?)?,
-    })
-}
-
-/// A process's exit.
-fn ended(alloc: Global, pid: u32) -> Result<Turn, Memory> {
-    carried(alloc, pid, Call::Exit { status: 0 }, Reply::Ended)
-}
-
 /// What process 2 asks for.
 fn ask() -> Frame {
     Frame::Ask {
@@ -229,37 +173,6 @@ fn answer() -> Frame {
     }
 }
 
-/// The leader serves it.
-fn served(alloc: Global) -> Result<Turn, Memory> {
-    Ok(Turn {
-        entries: entered(alloc, 2, receive(1), Reply::Fail(Errno::Enomsg))?,
-        sends: sent(alloc, 2, answer())?,
-    })
-}
-
-/// What process 2 tells at its end.
-fn leaving() -> Frame {
-    Frame::Leaving {
-        pid: Pid(2),
-        parent: Pid(1),
-        parent_node: Node(1),
-    }
-}
-
-/// What process 2 hands over.
-fn left(alloc: Global) -> Result<Frame, Memory> {
-    let mut deeds = Sequence::new(alloc);
-    deeds.push(deed(alloc)?)?;
-    Ok(Frame::Left {
-        parcel: Parcel {
-            pid: Pid(2),
-            parent: Pid(1),
-            call: Call::Exit { status: 0 },
-            deeds,
-        },
-    })
-}
-
 /// A turn that carries out and sends nothing.
 fn quiet(alloc: Global) -> Turn {
     Turn {
@@ -274,30 +187,6 @@ fn from_leader(frame: Frame) -> Input {
         from: Node(1),
         frame,
     }
-}
-
-/// The frame, from node 2.
-fn from_child(frame: Frame) -> Input {
-    Input::Take {
-        from: Node(2),
-        frame,
-    }
-}
-
-/// Node 1 runs to the fork.
-fn run_to_fork(
-    rt: &impl Abort,
-    alloc: Global,
-    script: &Script,
-    parent: &mut PicoNode,
-) -> Result<(), Memory>
-    requires { IsRunnable script.now }
-{
-    expect(rt, parent, script, Input::Run, Ok(made(alloc)?));
-    expect(rt, parent, script, Input::Run, Ok(message_sent(alloc)?));
-    expect(rt, parent, script, Input::Run, Ok(message_received(alloc)?));
-    expect(rt, parent, script, Input::Run, Ok(forked(alloc)?));
-    Ok(())
 }
 
 /// Node 2 is born, asks, and has its answer.
@@ -341,78 +230,10 @@ fn begins(rt: HostRuntime) -> Result<(), Fail> {
 }
 
 #[test]
-fn parent_calls(rt: HostRuntime) -> Result<(), Fail> {
-    let alloc = rt.alloc();
-    let script = script(alloc)?;
-    let mut parent = PicoNode::new(alloc, &script, Node(1))?;
-    run_to_fork(&rt, alloc, &script, &mut parent)?;
-    expect(&rt, &mut parent, &script, Input::Run, Ok(ended(alloc, 1)?));
-    expect(
-        &rt,
-        &mut parent,
-        &script,
-        Input::Run,
-        Err(TurnFault::NotAllowed),
-    );
-    Ok(())
-}
-
-#[test]
-fn child_asks_and_leaves(rt: HostRuntime) -> Result<(), Fail> {
+fn child_is_born_and_asks(rt: HostRuntime) -> Result<(), Fail> {
     let alloc = rt.alloc();
     let script = script(alloc)?;
     let mut child = PicoNode::new(alloc, &script, Node(2))?;
     ask_as_child(&rt, alloc, &script, &mut child)?;
-    expect(
-        &rt,
-        &mut child,
-        &script,
-        Input::Run,
-        Ok(sends(alloc, 1, leaving())?),
-    );
-    expect(
-        &rt,
-        &mut child,
-        &script,
-        from_leader(Frame::RecallAll),
-        Ok(sends(alloc, 1, left(alloc)?)?),
-    );
-    expect(
-        &rt,
-        &mut child,
-        &script,
-        from_leader(Frame::RecallAll),
-        Err(TurnFault::NotAllowed),
-    );
-    Ok(())
-}
-
-#[test]
-fn leader_answers_and_ends_the_child(rt: HostRuntime) -> Result<(), Fail> {
-    let alloc = rt.alloc();
-    let script = script(alloc)?;
-    let mut parent = PicoNode::new(alloc, &script, Node(1))?;
-    run_to_fork(&rt, alloc, &script, &mut parent)?;
-    expect(
-        &rt,
-        &mut parent,
-        &script,
-        from_child(ask()),
-        Ok(served(alloc)?),
-    );
-    expect(
-        &rt,
-        &mut parent,
-        &script,
-        from_child(leaving()),
-        Ok(sends(alloc, 2, Frame::RecallAll)?),
-    );
-    expect(
-        &rt,
-        &mut parent,
-        &script,
-        from_child(left(alloc)?),
-        Ok(ended(alloc, 2)?),
-    );
     Ok(())
 }
