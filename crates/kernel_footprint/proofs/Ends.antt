@@ -17,7 +17,8 @@ use Rattle.kernel_model.specs.ProcessCalls.{bury, bury_all, process_after_end, e
 use Rattle.kernel_model.specs.Transition.{effect, transition}
 use Rattle.kernel_model.specs.Valid.{IsValid}
 use Rattle.kernel_model.specs.Footprint.{Part, MayDo, Whole, ParentOf, is_whole, parts_of_ended, parent_parts, parent_number, AgreeOn}
-use Rattle.number_maps.proofs.Rising.{Rising, rising-put, rising}
+use Rattle.number_maps.specs.Rising.{IsRising}
+use Rattle.number_maps.proofs.Rising.{rising-put}
 use Rattle.number_maps.proofs.LookUps.{get-put-same, get-put-other}
 use Rattle.number_maps.proofs.Order.{eq-same}
 use Rattle.kernel_footprint.proofs.Parents.{orphan-put, orphan-from_unlisted, parent-is}
@@ -55,7 +56,7 @@ buried-orphan : (child : ℕ) (es : List EndedChild) (ps : Numbered Process) →
 buried-orphan child [] ps h = h
 buried-orphan child (e ∷ es) ps h = buried-orphan child es (put ps e.pid Gone) (orphan-put child ps e.pid Gone refl h)
 
-buried-rises : (es : List EndedChild) (ps : Numbered Process) → Rising ps → Rising (fold bury ps es)
+buried-rises : (es : List EndedChild) (ps : Numbered Process) → IsRising ps → IsRising (fold bury ps es)
 buried-rises [] ps h = h
 buried-rises (e ∷ es) ps h = buried-rises es (put ps e.pid Gone) (rising-put ps e.pid Gone h)
 
@@ -83,7 +84,7 @@ kept-dead false ending = refl
 
 -- Nobody lists the ended process.
 
-module _ (ps : Numbered Process) (rises : Rising ps)
+module _ (ps : Numbered Process) (rises : IsRising ps)
     (one_parent : (p q : ℕ) (a b : Alive) (child : ℕ) → living_in ps p ≡ Some a → living_in ps q ≡ Some b
     → lists a.row.family child ≡ true → lists b.row.family child ≡ true → p ≡ q)
     (es : List EndedChild) (pid : ℕ) (ending : Ending) where
@@ -132,7 +133,7 @@ module _ (ps : Numbered Process) (rises : Rising ps)
 orphaned : (k : Kernel) → IsValid k → (es : List EndedChild) (pid : ℕ) (ending : Ending)
     → parent_in pid (end_under (fold bury k.processes es) pid ending (parent_in pid k.processes)) ≡ None
 orphaned k v es pid ending =
-    orphan-under k.processes (rising k.processes v.processes) v.one_parent es pid ending
+    orphan-under k.processes v.processes v.one_parent es pid ending
     (parent_in pid k.processes) refl
 
 -- The same changes.
@@ -220,8 +221,8 @@ module _ (j k : Kernel) (vj : IsValid j) (vk : IsValid k) (pid : ℕ) where
   same-parent-by (Some r) None x y e h = cc
   same-parent-by (Some r) (Some s) x y e h =
       let number : r.pid ≡ s.pid = cc
-      in let is_j = parent-is pid j.processes r (rising j.processes vj.processes) x
-      in let is_k = parent-is pid k.processes s (rising k.processes vk.processes) y
+      in let is_j = parent-is pid j.processes r vj.processes x
+      in let is_k = parent-is pid k.processes s vk.processes y
       in let there : living_in k.processes r.pid ≡ Some r.alive = sym (ap (option_and_then alive_in) h.0) ∙ is_j.0
       in let too : living_in k.processes s.pid ≡ Some r.alive =
       subst (λ (q : ℕ). living_in k.processes q ≡ Some r.alive) number there

@@ -5,7 +5,8 @@ use Rattle.std.proofs.lemmas.Bool.{cases_order, cases_eq}
 use Rattle.number_maps.specs.Maps.{Numbered, get, put}
 use Rattle.kernel_model.specs.Row.{Alive, lists}
 use Rattle.kernel_model.specs.Kernel.{Process, Living, Ended, Gone, Parent, alive_in, living_in, parent_if, parent_in}
-use Rattle.number_maps.proofs.Rising.{Rising, Above, get-above}
+use Rattle.number_maps.specs.Rising.{IsRising}
+use Rattle.number_maps.proofs.Rising.{Above, above-first, rising-rest, get-above}
 use Rattle.number_maps.proofs.Order.{cmp-equal, cmp-less, cmp-greater}
 use Rattle.number_maps.proofs.LookUps.{get-first, get-later}
 
@@ -78,15 +79,15 @@ first-unlisted child (Living a) h = h a refl
 first-unlisted child (Ended ending) h = refl
 first-unlisted child Gone h = refl
 
-pub orphan-from_unlisted : (child : ℕ) (ps : Numbered Process) → Rising ps
+pub orphan-from_unlisted : (child : ℕ) (ps : Numbered Process) → IsRising ps
     → ((p : ℕ) (a : Alive) → living_in ps p ≡ Some a → lists a.row.family child ≡ false) → parent_in child ps ≡ None
 orphan-from_unlisted child [] r h = refl
 orphan-from_unlisted child (e ∷ es) r h =
     let first : lists_in child e.1 ≡ false =
     first-unlisted child e.1 (λ a l. h e.0 a (ap (option_and_then alive_in) (get-first e es e.0 refl) ∙ l))
     in parent-skip child e.0 e.1 (parent_in child es) first
-    ∙ orphan-from_unlisted child es r.1
-    (λ p a l. h p a (ap (option_and_then alive_in) (get-later e es p (rest-apart e es p a r.0 l)) ∙ l))
+    ∙ orphan-from_unlisted child es (rising-rest e es r)
+    (λ p a l. h p a (ap (option_and_then alive_in) (get-later e es p (rest-apart e es p a (above-first e es r) l)) ∙ l))
 
 -- the parent lives and lists the child
 abbrev pub IsParentIn : ℕ → Numbered Process → Parent → Type 0
@@ -108,13 +109,13 @@ parent-cases child pid (Living a) rest r h =
 parent-cases child pid (Ended ending) rest r h = inr h
 parent-cases child pid Gone rest r h = inr h
 
-pub parent-is : (child : ℕ) (ps : Numbered Process) (r : Parent) → Rising ps → parent_in child ps ≡ Some r
+pub parent-is : (child : ℕ) (ps : Numbered Process) (r : Parent) → IsRising ps → parent_in child ps ≡ Some r
     → IsParentIn child ps r
 parent-is child [] r s h = cc
 parent-is child (e ∷ es) r s h =
     elim (parent-cases child e.0 e.1 (parent_in child es) r h) [
       | inl w ↦ (ap (option_and_then alive_in) (get-first e es r.pid w.0) ∙ w.1, w.2)
       | inr w ↦
-          let i = parent-is child es r s.1 w
-          in (ap (option_and_then alive_in) (get-later e es r.pid (rest-apart e es r.pid r.alive s.0 i.0)) ∙ i.0, i.1)
+          let i = parent-is child es r (rising-rest e es s) w
+          in (ap (option_and_then alive_in) (get-later e es r.pid (rest-apart e es r.pid r.alive (above-first e es s) i.0)) ∙ i.0, i.1)
     ]

@@ -8,7 +8,8 @@ use Rattle.kernel_model.specs.Row.{Alive, Family, lists, family_after_end, Ended
 use Rattle.kernel_model.specs.Kernel.{Process, Living, Ended, Gone, Parent, parent_in}
 use Rattle.kernel_model.specs.ProcessCalls.{bury, bury_all, process_after_end}
 use Rattle.kernel_laws.proofs.Plain.{from_some, not_some, not_none, not_true}
-use Rattle.number_maps.proofs.Rising.{Rising, Above, get-above}
+use Rattle.number_maps.specs.Rising.{IsRising}
+use Rattle.number_maps.proofs.Rising.{Above, above-first, rising-rest, get-above}
 use Rattle.number_maps.proofs.LookUps.{get-first, get-later}
 use Rattle.kernel_laws.proofs.Members.{contains-none, contains-first, contains-later, contains-cases, lists-end, ended-end, ended-stays, ended-new}
 use Rattle.kernel_laws.proofs.Families.{Map, Lists, KeepsEnded, IsLiving, Families, Over, living-ended, living-gone, ended-gone, same-alive, same-ending, at-once}
@@ -123,13 +124,16 @@ parent-if child n a ps pa above ih true e h =
     (get-first (n, Living a) ps n refl, e)
 parent-if child n a ps pa above ih false e h = first-parent child (n, Living a) ps pa above ih h
 
-pub parent-is : (child : ℕ) (ps : Numbered Process) → Rising ps → (pa : Parent) → parent_in child ps ≡ Some pa
+pub parent-is : (child : ℕ) (ps : Numbered Process) → IsRising ps → (pa : Parent) → parent_in child ps ≡ Some pa
     → (get ps pa.pid ≡ Some (Living pa.alive)) × (lists pa.alive.row.family child ≡ true)
 parent-is child [] r pa h = not_some pa h
 parent-is child ((n, Living a) ∷ ps) r pa h =
-    parent-if child n a ps pa r.0 (parent-is child ps r.1) (lists a.row.family child) refl h
-parent-is child ((n, Ended e) ∷ ps) r pa h = first-parent child (n, Ended e) ps pa r.0 (parent-is child ps r.1) h
-parent-is child ((n, Gone) ∷ ps) r pa h = first-parent child (n, Gone) ps pa r.0 (parent-is child ps r.1) h
+    parent-if child n a ps pa (above-first (n, Living a) ps r) (parent-is child ps (rising-rest (n, Living a) ps r)) (lists a.row.family child) refl h
+parent-is child ((n, Ended e) ∷ ps) r pa h =
+    first-parent child (n, Ended e) ps pa (above-first (n, Ended e) ps r)
+    (parent-is child ps (rising-rest (n, Ended e) ps r)) h
+parent-is child ((n, Gone) ∷ ps) r pa h =
+    first-parent child (n, Gone) ps pa (above-first (n, Gone) ps r) (parent-is child ps (rising-rest (n, Gone) ps r)) h
 
 -- where there is none, no process lists it
 orphan-later : (child : ℕ) (n : ℕ) (v : Process) (ps : Numbered Process)

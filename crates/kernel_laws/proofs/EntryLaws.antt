@@ -10,7 +10,6 @@ use Rattle.kernel_model.specs.Kernel.{Kernel, Process, Living, living_in}
 use Rattle.kernel_model.specs.Valid.{IsValid}
 use Rattle.kernel_laws.specs.Processes.{NoneListsItself, EntriesKeepValidity}
 use Rattle.kernel_laws.proofs.Plain.{not_true}
-use Rattle.number_maps.proofs.Rising.{rising}
 use Rattle.kernel_laws.proofs.Families.{IsLiving, Families}
 use Rattle.kernel_laws.proofs.Living.{Strong}
 use Rattle.kernel_laws.proofs.People.{from-living, to-living}
@@ -49,8 +48,8 @@ any-set = record {
 queues-valid : (k : Kernel) → IsValid k → QueueTable AnyQueue k
 queues-valid k v =
     record {
-      things_rise = rising k.queues v.queues;
-      keys_rise = rising k.queue_keys v.queue_keys.ordered;
+      things_rise = v.queues;
+      keys_rise = v.queue_keys.ordered;
       used_at = v.used_queues;
       lead = v.queue_keys.lead;
       apart = v.queue_keys.apart;
@@ -60,8 +59,8 @@ queues-valid k v =
 sets-valid : (k : Kernel) → IsValid k → SetTable AnySet k
 sets-valid k v =
     record {
-      things_rise = rising k.sets v.sets;
-      keys_rise = rising k.set_keys v.set_keys.ordered;
+      things_rise = v.sets;
+      keys_rise = v.set_keys.ordered;
       used_at = v.used_sets;
       lead = v.set_keys.lead;
       apart = v.set_keys.apart;
@@ -106,7 +105,7 @@ strong-valid k v p a l =
 settled-valid : (k : Kernel) → IsValid k → NoneListsItself k → Settled k
 settled-valid k v alone =
     record {
-      body = record { rise = rising k.processes v.processes; used_is = v.used_processes; each = strong-valid k v };
+      body = record { rise = v.processes; used_is = v.used_processes; each = strong-valid k v };
       families = families-valid k v alone;
     }
 

@@ -12,13 +12,14 @@ use Rattle.kernel_model.specs.ProcessCalls.{bury}
 use Rattle.kernel_laws.proofs.Plain.{from_some, not_some}
 use Rattle.number_maps.proofs.LookUps.{get-put-same, get-put-other}
 use Rattle.number_maps.proofs.Sets.{used-with-same, used-with-other}
-use Rattle.number_maps.proofs.Rising.{Rising, rising-put}
+use Rattle.number_maps.specs.Rising.{IsRising}
+use Rattle.number_maps.proofs.Rising.{rising-put}
 use Rattle.kernel_laws.proofs.Tables.{there-put}
 use Rattle.kernel_laws.proofs.Members.{contains-first, contains-later}
 use Rattle.kernel_laws.proofs.Families.{Families, living-gone}
 
 pub record Body (A : ℕ → Alive → Type 0) (ps : Numbered Process) (used : List ℕ) : Type 0 where
-  pub rise : Rising ps
+  pub rise : IsRising ps
   pub used_is : (n : ℕ) → is_used used n ≡ is_some (get ps n)
   pub each : (p : ℕ) (x : Alive) → get ps p ≡ Some (Living x) → A p x
 

@@ -10,23 +10,24 @@ use Rattle.kernel_model.specs.Valid.{AreKeys}
 use Rattle.kernel_laws.proofs.Plain.{from_some, not_some, not_true}
 use Rattle.number_maps.proofs.LookUps.{get-put-same, get-put-other, get-without-same, get-without-other}
 use Rattle.number_maps.proofs.Sets.{used-with-same, used-stays}
-use Rattle.number_maps.proofs.Rising.{Rising, rising-put, rising-filter, ordered}
+use Rattle.number_maps.specs.Rising.{IsRising}
+use Rattle.number_maps.proofs.Rising.{rising-nothing, rising-put, rising-filter}
 use Rattle.kernel_laws.proofs.Unbinding.{get-unbound}
 
 -- with what holds of each thing
 pub record Table {V : Type 0} (P : V → Type 0) (things : Numbered V) (keys : Numbered ℕ) (used : List ℕ) : Type 0 where
-  pub things_rise : Rising things
-  pub keys_rise : Rising keys
+  pub things_rise : IsRising things
+  pub keys_rise : IsRising keys
   pub used_at : (n : ℕ) → is_some (get things n) ≡ true → is_used used n ≡ true
   pub lead : (key id : ℕ) → get keys key ≡ Some id → is_some (get things id) ≡ true
   pub apart : (key other id : ℕ) → get keys key ≡ Some id → get keys other ≡ Some id → key ≡ other
   pub each : (n : ℕ) (v : V) → get things n ≡ Some v → P v
 
 pub table-empty : {V : Type 0} (P : V → Type 0) → Table P [] [] []
-table-empty P =
+table-empty {V} P =
     record {
-      things_rise = tt;
-      keys_rise = tt;
+      things_rise = rising-nothing V;
+      keys_rise = rising-nothing ℕ;
       used_at = λ n h. not_true h;
       lead = λ key id h. not_some id h;
       apart = λ key other id h g. not_some id h;
@@ -35,7 +36,7 @@ table-empty P =
 
 pub table-keys : {V : Type 0} (P : V → Type 0) (things : Numbered V) (keys : Numbered ℕ) (used : List ℕ)
     → Table P things keys used → AreKeys keys things
-table-keys P things keys used t = record { ordered = ordered keys t.keys_rise; lead = t.lead; apart = t.apart }
+table-keys P things keys used t = record { ordered = t.keys_rise; lead = t.lead; apart = t.apart }
 
 -- something is there after a put, where it was before or where it is put
 pub there-put : {V : Type 0} (m : Numbered V) (k : ℕ) (v : V) (q : ℕ) → is_some (get m q) ≡ true

@@ -14,7 +14,7 @@ use Rattle.kernel_laws.specs.Processes.{ReachableKernelsAreValid, SignalsAreSoun
 use Rattle.kernel_laws.proofs.Plain.{from_some, not_some, not_true}
 use Rattle.number_maps.proofs.LookUps.{get-first, get-later}
 use Rattle.number_maps.proofs.Sets.{used-first, used-later}
-use Rattle.number_maps.proofs.Rising.{ordered}
+use Rattle.number_maps.proofs.Rising.{rising-nothing, rising-put}
 use Rattle.kernel_laws.proofs.Members.{contains-none}
 use Rattle.kernel_laws.proofs.SignalLaws.{sound-new}
 use Rattle.kernel_laws.proofs.Families.{Lists, KeepsEnded, Families, living-ended, same-alive, at-once}
@@ -81,7 +81,7 @@ first-settled : People IsStrong start (1 ∷ [])
 first-settled =
     record {
       body = record {
-        rise = (tt, tt);
+        rise = rising-put {V = Process} [] 1 (Living first) (rising-nothing Process);
         used_is = first-used;
         each =
             λ p x l. subst Strong (first-living p x l) first-strong;
@@ -113,9 +113,9 @@ pub valid-from : (P : Queue → Type 0) (R : SemaphoreSet → Type 0) (k : Kerne
     → SetTable R k → IsValid k
 valid-from P R k h q s =
     record {
-      processes = ordered k.processes h.body.rise;
-      queues = ordered k.queues q.things_rise;
-      sets = ordered k.sets s.things_rise;
+      processes = h.body.rise;
+      queues = q.things_rise;
+      sets = s.things_rise;
       used_processes = h.body.used_is;
       used_queues = q.used_at;
       used_sets = s.used_at;

@@ -1,19 +1,15 @@
 -- What holds of each kernel that a legal history leads to.
-use Rattle.std.specs.Prelude.{◌≡◌, ◌↔◌, ℕ, true, map, Some, None, is_some, IsTrue, Contains}
-use Rattle.std.specs.List.Sorted.{IsStrictlyIncreasing}
+use Rattle.std.specs.Prelude.{◌≡◌, ◌↔◌, ℕ, true, Some, None, is_some, IsTrue, Contains}
 use Rattle.pico_base.specs.declared.reply.Ending.{Ending}
 use Rattle.number_maps.specs.Maps.{Numbered, get, is_used}
+use Rattle.number_maps.specs.Rising.{IsRising}
 use Rattle.kernel_model.specs.Signals.{AreSoundSignals}
 use Rattle.kernel_model.specs.Row.{Alive, Free, ended_child, lists}
 use Rattle.kernel_model.specs.Kernel.{Kernel, Ended, living_at}
 
--- a map is by rising number
-abbrev pub IsOrdered : {V : Type 0} → Numbered V → Type 0
-IsOrdered m = IsStrictlyIncreasing (map (λ e. e.0) m)
-
 -- each key leads to something that is there, and no two to the same
 pub record AreKeys {V : Type 0} (keys : Numbered ℕ) (things : Numbered V) : Type 0 where
-  pub ordered : IsOrdered keys
+  pub ordered : IsRising keys
   pub lead : (key id : ℕ) → get keys key ≡ Some id → IsTrue (is_some (get things id))
   pub apart : (key other id : ℕ) → get keys key ≡ Some id → get keys other ≡ Some id → key ≡ other
 
@@ -38,9 +34,9 @@ pub record HasKeeper (k : Kernel) (child : ℕ) (ending : Ending) : Type 0 where
   pub kept : Contains alive.row.family.ended (ended_child child ending)
 
 pub record IsValid (k : Kernel) : Type 0 where
-  pub processes : IsOrdered k.processes
-  pub queues : IsOrdered k.queues
-  pub sets : IsOrdered k.sets
+  pub processes : IsRising k.processes
+  pub queues : IsRising k.queues
+  pub sets : IsRising k.sets
   -- what is there has a used number, and each used process number leads to a process
   pub used_processes : (n : ℕ) → is_used k.used_processes n ≡ is_some (get k.processes n)
   pub used_queues : (n : ℕ) → IsTrue (is_some (get k.queues n)) → IsTrue (is_used k.used_queues n)

@@ -8,7 +8,7 @@ use Rattle.pico_base.specs.declared.reply.Reply.TheVariants as replies
 use Rattle.pico_base.specs.declared.reply.Entry.{Entry}
 use Rattle.pico_base.specs.declared.script.Script.{Script}
 use Rattle.number_maps.specs.Maps.{Numbered, get, put}
-use Rattle.kernel_model.specs.Valid.{IsOrdered}
+use Rattle.number_maps.specs.Rising.{IsRising}
 use Rattle.kernel_model.specs.Kernel.{Kernel, opening}
 use Rattle.kernel_model.specs.Transition.{successor, transition}
 use Rattle.kernel_model.specs.History.{Replays, number_in}
@@ -16,7 +16,7 @@ use Rattle.kernel_model.specs.Fitting.{Place, Places, FitsFrom, HasReplyAlone, I
 use Rattle.machine_model.specs.Calls.{entry_by}
 use Rattle.deed_laws.specs.Carrying.{Makes}
 use Rattle.number_maps.proofs.LookUps.{get-put-same, get-put-other}
-use Rattle.number_maps.proofs.Rising.{rising, rising-put, ordered}
+use Rattle.number_maps.proofs.Rising.{rising-put}
 
 pub replays-more : (k mid next : Kernel) (h : List Entry) (e : Entry) → Replays k h mid
     → transition mid e.pid e.call (number_in e.outcome.own) ≡ Some (successor next e.outcome)
@@ -63,7 +63,7 @@ pub record GoesOn (s : Script) (h : List Entry) (k : Kernel) (places : Places) (
     (k' : Kernel) (places' : Places) : Type 0 where
   pub legal : Replays opening (h ++ entry_by node pid call reply ∷ []) k'
   pub fits : FitsFrom s (opening_places s) (h ++ entry_by node pid call reply ∷ []) places'
-  pub ordered_places : IsOrdered places'
+  pub ordered_places : IsRising places'
   pub here : get places' pid ≡ Some next
   pub other : (p : ℕ) → p ≢ pid → get places' p ≡ get places p
 
@@ -71,12 +71,9 @@ moved-is : (place : Place) (call : Call) (reply : Option Reply) → is_killed ca
     → move_on place call reply ≡ place_after place call reply
 moved-is place call reply h = rw h refl
 
-ordered-put : {V : Type 0} (m : Numbered V) (k : ℕ) (v : V) → IsOrdered m → IsOrdered (put m k v)
-ordered-put m k v h = ordered _ (rising-put m k v (rising m h))
-
 pub goes-on : (s : Script) (h : List Entry) (k next : Kernel) (places : Places) (node pid : ℕ) (call : Call)
     (reply : Reply) (place then : Place)
-    → Replays opening h k → FitsFrom s (opening_places s) h places → IsOrdered places
+    → Replays opening h k → FitsFrom s (opening_places s) h places → IsRising places
     → get places pid ≡ Some place → due place ≡ Some call → IsOrdinary call → Makes k pid call reply next
     → place_after place call (Some reply) ≡ then
     → GoesOn s h k places node pid call reply place then next (put places pid then)
@@ -89,7 +86,7 @@ goes-on s h k next places node pid call reply place then legal fits ord at is_du
       fits = subst (λ (x : Places). FitsFrom s (opening_places s) (h ++ entry_by node pid call reply ∷ []) x) leads
           (follows-more s (opening_places s) places h (entry_by node pid call reply) place fits at (inl is_due)
           (record { reply = _; alone = refl }));
-      ordered_places = ordered-put places pid then ord;
+      ordered_places = rising-put places pid then ord;
       here = get-put-same places pid then;
       other = λ p o. get-put-other places pid then p o;
     }
@@ -97,7 +94,7 @@ goes-on s h k next places node pid call reply place then legal fits ord at is_du
 -- and by a fork, which gives the child its place
 pub forks-on : (s : Script) (h : List Entry) (k next : Kernel) (places : Places) (node pid block child : ℕ)
     (place then : Place)
-    → Replays opening h k → FitsFrom s (opening_places s) h places → IsOrdered places
+    → Replays opening h k → FitsFrom s (opening_places s) h places → IsRising places
     → get places pid ≡ Some place → due place ≡ Some (calls.Fork block)
     → Makes k pid (calls.Fork block) (replies.Num child) next
     → place_after place (calls.Fork block) (Some (replies.Num child)) ≡ then → child ≢ pid
@@ -118,7 +115,7 @@ forks-on s h k next places node pid block child place then legal fits ord at is_
         fits = subst (λ (x : Places). FitsFrom s (opening_places s) (h ++ e ∷ []) x) leads
             (follows-more s (opening_places s) places h e place fits at (inl is_due)
             (record { reply = _; alone = refl }));
-        ordered_places = ordered-put _ child begins (ordered-put places pid then ord);
+        ordered_places = rising-put _ child begins (rising-put places pid then ord);
         here = get-put-other (put places pid then) child begins pid (λ x. apart (sym x)) ∙ get-put-same places pid then;
         other = λ p o. elim (cases_eq p child) [
           | inl same ↦ ap (λ q. get after_places q) same ∙ get-put-same (put places pid then) child begins

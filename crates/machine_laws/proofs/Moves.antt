@@ -7,7 +7,7 @@ use Rattle.rpc_frame.specs.declared.frame.Frame.{Frame}
 use Rattle.number_maps.specs.Maps.{get}
 use Rattle.kernel_model.specs.Kernel.{Kernel, opening}
 use Rattle.kernel_model.specs.History.{Replays}
-use Rattle.kernel_model.specs.Valid.{IsOrdered}
+use Rattle.number_maps.specs.Rising.{IsRising}
 use Rattle.kernel_model.specs.Fitting.{Place, Places, FitsFrom, opening_places}
 use Rattle.machine_model.specs.Node.{Node, Parting}
 use Rattle.machine_model.specs.World.{World, node_at, stream, node_count}
@@ -77,7 +77,7 @@ pub record News (script : Script) (w' : World) (first' : Node) (k' : Kernel) (pl
     (c : ℕ) : Type 0 where
   pub legal : Replays opening w'.journal k'
   pub fits : FitsFrom script (opening_places script) w'.journal places'
-  pub ordered : IsOrdered places'
+  pub ordered : IsRising places'
   pub first_at : node_at w' 1 ≡ Some first'
   pub leader : IsLeader script first' k' places' pids'
   pub child : c ≤ node_count script → IsChild script w' first' k' places' c (pids' c)

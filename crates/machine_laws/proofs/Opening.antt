@@ -9,12 +9,12 @@ use Rattle.rpc_frame.specs.declared.frame.Frame.{Frame}
 use Rattle.number_maps.specs.Maps.{get}
 use Rattle.kernel_model.specs.Row.{Alive}
 use Rattle.kernel_model.specs.Kernel.{Living as LivingProcess, alive_in, living_at, opening}
-use Rattle.kernel_model.specs.Fitting.{opening_places, block_at}
+use Rattle.kernel_model.specs.Fitting.{Place, opening_places, block_at, block_place}
 use Rattle.machine_model.specs.Built.{IsRunnable}
 use Rattle.machine_model.specs.Node.{first_node, first_numbers, unborn_node, opening_node, new_process, only, place_of}
 use Rattle.machine_model.specs.World.{numbers, node_count, opening_world, node_at, stream}
 use Rattle.number_maps.proofs.LookUps.{get-first, get-later}
-use Rattle.number_maps.proofs.Rising.{ordered}
+use Rattle.number_maps.proofs.Rising.{rising-nothing, rising-put}
 use Rattle.kernel_laws.proofs.Plain.{from_some, not_some}
 use Rattle.deed_laws.specs.Carrying.{StandsFor, IsPlainProcess}
 use Rattle.machine_laws.specs.Situations.{Awaited}
@@ -130,7 +130,7 @@ module _ (script : Script) (r : IsRunnable script) where
               ∙ length-same (node_count script) [];
           legal = refl;
           fits = refl;
-          ordered = ordered (opening_places script) (tt, tt);
+          ordered = rising-put {V = Place} [] 1 (block_place (block_at script 1) []) (rising-nothing Place);
           first_at = node-is 1 (omega arith) some-blocks;
           leader = record {
             number = refl;

@@ -10,7 +10,8 @@ use Rattle.rpc_frame.specs.declared.frame.Frame.{Frame}
 use Rattle.number_maps.specs.Maps.{get}
 use Rattle.kernel_model.specs.Kernel.{Kernel}
 use Rattle.kernel_model.specs.Fitting.{Place, Places, IsOver}
-use Rattle.number_maps.proofs.Rising.{Rising, rising, get-above}
+use Rattle.number_maps.specs.Rising.{IsRising}
+use Rattle.number_maps.proofs.Rising.{above-first, rising-rest, get-above}
 use Rattle.number_maps.proofs.LookUps.{get-first, get-later}
 use Rattle.kernel_laws.proofs.Plain.{not_some}
 use Rattle.machine_model.specs.Built.{IsRunnable}
@@ -53,13 +54,13 @@ enabled_events_have_steps_lemma script w e r h enabled =
 -- ---- at rest
 
 -- each place in a map is one that the map has at a number
-over-each : (m : Places) → Rising m → ((pid : ℕ) (place : Place) → get m pid ≡ Some place → place.left ≡ [])
+over-each : (m : Places) → IsRising m → ((pid : ℕ) (place : Place) → get m pid ≡ Some place → place.left ≡ [])
     → AllByRecursion IsOver m
 over-each [] r h = tt
 over-each (e ∷ m) r h = (
   h e.0 e.1 (get-first e m e.0 refl),
-  over-each m r.1 (λ pid place g. elim (cases_eq pid e.0) [
-    | inl same ↦ not_some place (sym (get-above e.0 m r.0) ∙ ap (λ q. get m q) (sym same) ∙ g)
+  over-each m (rising-rest e m r) (λ pid place g. elim (cases_eq pid e.0) [
+    | inl same ↦ not_some place (sym (get-above e.0 m (above-first e m r)) ∙ ap (λ q. get m q) (sym same) ∙ g)
     | inr o ↦ h pid place (get-later e m pid o ∙ g)
   ]),
 )
@@ -145,6 +146,6 @@ rest_is_whole_lemma script w r h rest =
     in record {
       last = i.places;
       fits = i.under_way.fits;
-      over = over-each i.places (rising i.places i.under_way.ordered)
+      over = over-each i.places i.under_way.ordered
           (place-over script w i.first i.kernel i.places i.pids i.under_way rest);
     }

@@ -7,7 +7,7 @@ use Rattle.kernel_model.specs.Row.{Alive}
 use Rattle.kernel_model.specs.Kernel.{Kernel, Living as LivingProcess, Gone, opening}
 use Rattle.kernel_model.specs.History.{Replays}
 use Rattle.kernel_model.specs.Fitting.{Place, Places, FitsFrom, opening_places}
-use Rattle.kernel_model.specs.Valid.{IsOrdered}
+use Rattle.number_maps.specs.Rising.{IsRising}
 use Rattle.machine_model.specs.Node.{Node, Living, Over, place_of}
 use Rattle.machine_model.specs.Frames.{names_block, are_rising}
 use Rattle.machine_model.specs.World.{World, node_at, stream, node_count}
@@ -83,7 +83,7 @@ pub record IsUnderWay (script : Script) (w : World) (first : Node) (k : Kernel) 
   -- the journal so far is legal and leads to the kernel, and it fits the script so far
   pub legal : Replays opening w.journal k
   pub fits : FitsFrom script (opening_places script) w.journal places
-  pub ordered : IsOrdered places
+  pub ordered : IsRising places
   -- the leader
   pub first_at : node_at w 1 ≡ Some first
   pub leader : IsLeader script first k places pids

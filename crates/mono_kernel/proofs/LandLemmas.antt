@@ -10,7 +10,7 @@ use Rattle.kernel_model.specs.Kernel.{Process, Living, Ended, Gone}
 use Rattle.kernel_model.specs.ProcessCalls.{parent_after_fork}
 use Rattle.mono_kernel.specs.declared.process.Change.{Change}
 use Rattle.number_maps.specs.Rising.{IsRising}
-use Rattle.mono_kernel.specs.Process.{changed, CanChange}
+use Rattle.mono_kernel.specs.Process.{after_change, CanChange}
 use Rattle.mono_kernel.specs.Change.{on_living, with_child_there, CanChangeThere}
 use Rattle.mono_kernel.specs.Table.{IfLiving}
 use Rattle.number_maps.proofs.Changes.{set_value-put}
@@ -26,9 +26,9 @@ lands ps es pid f Gone w rising there is written = rw there tt
 pub change-lands : (ps es : Numbered Process) (pid : ℕ) (change : Change) (v w : Process) → IsRising ps
     → get ps pid ≡ Some v
     → w ≡ on_living change v → es ≡ set_value (is_at (nat_cmp pid)) ps w
-    → IfLiving ps pid (λ a. es ≡ put ps pid (Living (changed change a)))
+    → IfLiving ps pid (λ a. es ≡ put ps pid (Living (after_change change a)))
 change-lands ps es pid change v w rising there is written =
-    lands ps es pid (changed change) v w rising there (λ a living. is ∙ ap (on_living change) living) written
+    lands ps es pid (after_change change) v w rising there (λ a living. is ∙ ap (on_living change) living) written
 
 pub child-lands : (ps es : Numbered Process) (pid child : ℕ) (v w : Process) → IsRising ps → get ps pid ≡ Some v
     → w ≡ with_child_there child v → es ≡ set_value (is_at (nat_cmp pid)) ps w

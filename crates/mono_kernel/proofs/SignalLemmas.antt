@@ -6,17 +6,17 @@ use Rattle.kernel_model.specs.Row.{Alive}
 use Rattle.kernel_model.specs.Kernel.{Kernel, living_at, with_alive}
 use Rattle.kernel_model.specs.ProcessCalls.{with_signals}
 use Rattle.mono_kernel.specs.declared.process.Change.TheVariants.{Signals as SetSignals}
-use Rattle.mono_kernel.specs.Process.{changed}
+use Rattle.mono_kernel.specs.Process.{after_change}
 use Rattle.mono_kernel.specs.Answers.{signalled_kernel}
 
 pub signals-land : (k next : Kernel) (pid : ℕ) (b : Alive) (f : Signals → Signals) (s : Signals)
     → living_at k pid ≡ Some b → s ≡ f b.row.signals
-    → IfSome (living_at k pid) (λ a. next ≡ with_alive k pid (changed (SetSignals s) a))
+    → IfSome (living_at k pid) (λ a. next ≡ with_alive k pid (after_change (SetSignals s) a))
     → IfSome (living_at k pid) (λ a. next ≡ with_signals k pid a (f a.row.signals))
 signals-land k next pid b f s here is landed =
     rw here (here_at (rw here at landed) ∙ ap (with_signals k pid b) is)
   where
-    here_at : next ≡ with_alive k pid (changed (SetSignals s) b) → next ≡ with_signals k pid b s
+    here_at : next ≡ with_alive k pid (after_change (SetSignals s) b) → next ≡ with_signals k pid b s
     here_at h = h
 
 pub own-signal : (k next : Kernel) (caller pid : ℕ) (g : Sig) (o : Option Alive) → caller ≡ pid

@@ -9,7 +9,7 @@ use Rattle.kernel_model.specs.Kernel.{Process, Living, alive_in, living_in}
 use Rattle.kernel_model.specs.ProcessCalls.{parent_after_fork, new_child}
 use Rattle.mono_kernel.specs.declared.process.Change.{Change}
 use Rattle.mono_kernel.specs.declared.process.Change.TheVariants.{Signals, Raise, EndChild, Reap, Spend}
-use Rattle.mono_kernel.specs.Process.{changed, IsPlain}
+use Rattle.mono_kernel.specs.Process.{after_change, IsPlain}
 use Rattle.number_maps.specs.Rising.{IsRising}
 use Rattle.mono_kernel.specs.Table.{IsTable, IfLiving, keeps}
 use Rattle.number_maps.proofs.LookUps.{get-put-same, get-put-apart}
@@ -144,7 +144,7 @@ kept-filter p q (e ∷ es) h = at (q e) (list_any p (filter q es)) h (kept-filte
         here false g = rec g
 
 plain-lists : (change : Change) (a : Alive) → IsPlain change → (child : ℕ)
-    → lists (changed change a).row.family child ≡ true
+    → lists (after_change change a).row.family child ≡ true
     → lists a.row.family child ≡ true
 plain-lists (Signals s) a plain child h = h
 plain-lists (Raise sig) a plain child h = h
@@ -153,7 +153,7 @@ plain-lists (Reap c) a plain child h = h
 plain-lists Spend a plain child h = h
 
 plain-keeps : (change : Change) (a : Alive) → IsPlain change → (child : ℕ)
-    → keeps (changed change a).row.family child ≡ true
+    → keeps (after_change change a).row.family child ≡ true
     → keeps a.row.family child ≡ true
 plain-keeps (Signals s) a plain child h = h
 plain-keeps (Raise sig) a plain child h = h
@@ -163,16 +163,16 @@ plain-keeps (Reap c) a plain child h =
 plain-keeps Spend a plain child h = h
 
 pub IsTable-plain : (ps ns : Numbered Process) (parents : Numbered ℕ) (pid : ℕ) (change : Change) → IsTable ps parents
-    → IsSome (living_in ps pid) → IsPlain change → IfLiving ps pid (λ a. ns ≡ put ps pid (Living (changed change a)))
+    → IsSome (living_in ps pid) → IsPlain change → IfLiving ps pid (λ a. ns ≡ put ps pid (Living (after_change change a)))
     → IsRising ns → IsTable ns parents
 IsTable-plain ps ns parents pid change t lives plain is rising = at (living_in ps pid) refl lives is
   where
     at : (o : Option Alive) → living_in ps pid ≡ o → IsSome o
-        → IfSome o (λ a. ns ≡ put ps pid (Living (changed change a))) → IsTable ns parents
+        → IfSome o (λ a. ns ≡ put ps pid (Living (after_change change a))) → IsTable ns parents
     at None here some h = absurd (cc)
     at (Some a) here some h =
         rw h
-        (IsTable-changed ps parents pid a (changed change a) t here (plain-lists change a plain)
+        (IsTable-changed ps parents pid a (after_change change a) t here (plain-lists change a plain)
         (λ child k. inl (plain-keeps change a plain child k)) (rw h at rising))
 
 -- a child that has ended

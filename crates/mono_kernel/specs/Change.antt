@@ -3,10 +3,10 @@ use Rattle.std.specs.Prelude.{ℕ}
 use Rattle.kernel_model.specs.ProcessCalls.{parent_after_fork}
 use Rattle.kernel_model.specs.Kernel.{Process, Living, Ended, Gone}
 use Rattle.mono_kernel.specs.declared.process.Change.{Change}
-use Rattle.mono_kernel.specs.Process.{changed, CanChange}
+use Rattle.mono_kernel.specs.Process.{after_change, CanChange}
 
 abbrev pub on_living : Change → Process → Process
-on_living change (Living a) = Living (changed change a)
+on_living change (Living a) = Living (after_change change a)
 on_living change (Ended ending) = Ended ending
 on_living change Gone = Gone
 

@@ -6,11 +6,11 @@ use Rattle.pico_base.specs.declared.signal.PerSignal.{PerSignal}
 use Rattle.pico_base.specs.declared.signal.Sig.{Sig}
 use Rattle.pico_base.specs.Signal.{at, put_at}
 
-abbrev pub masked_by : How → Bool → Bool → Bool
-masked_by Block masked in_set = masked || in_set
-masked_by Unblock masked in_set = masked && not in_set
-masked_by SetMask masked in_set = in_set
+abbrev pub mask_bit : How → Bool → Bool → Bool
+mask_bit Block masked in_set = masked || in_set
+mask_bit Unblock masked in_set = masked && not in_set
+mask_bit SetMask masked in_set = in_set
 
 -- the mask with this signal as it will be
-abbrev pub masked_with : How → PerSignal Bool → PerSignal Bool → PerSignal Bool → Sig → PerSignal Bool
-masked_with how old set mask sig = put_at mask sig (masked_by how (at old sig) (at set sig))
+abbrev pub mask_with_bit : How → PerSignal Bool → PerSignal Bool → PerSignal Bool → Sig → PerSignal Bool
+mask_with_bit how old set mask sig = put_at mask sig (mask_bit how (at old sig) (at set sig))

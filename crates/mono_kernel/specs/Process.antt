@@ -15,15 +15,15 @@ allowance_of One = rows.One
 allowance_of Spent = rows.Spent
 
 -- a living process with other signals
-abbrev pub signalling : Alive → Signals → Alive
-signalling a s = record a { row = record { signals = s; family = a.row.family } }
+abbrev pub with_signals_of : Alive → Signals → Alive
+with_signals_of a s = record a { row = record { signals = s; family = a.row.family } }
 
-abbrev pub changed : Change → Alive → Alive
-changed (SetSignals s) a = signalling a s
-changed (Raise sig) a = raise_by_other a sig
-changed (EndChild child ending) a = with_ended_child a child ending
-changed (Reap child) a = parent_after_wait a child
-changed Spend a = record a { allowance = rows.Spent }
+abbrev pub after_change : Change → Alive → Alive
+after_change (SetSignals s) a = with_signals_of a s
+after_change (Raise sig) a = raise_by_other a sig
+after_change (EndChild child ending) a = with_ended_child a child ending
+after_change (Reap child) a = parent_after_wait a child
+after_change Spend a = record a { allowance = rows.Spent }
 
 -- only a child that is there can end
 abbrev pub CanChange : Change → Alive → Type 0

@@ -11,12 +11,12 @@ use Rattle.mono_kernel.specs.declared.standing.Standing.TheVariants.{Unknown, Li
 abbrev pub entries_left : Alive → ℕ
 entries_left a = if is_spent a.allowance then 0 else 1
 
-abbrev pub doomed_as : Alive → Option Sig → Standing
-doomed_as a None = Living
-doomed_as a (Some sig) = Doomed sig (entries_left a)
+abbrev pub standing_of_doom : Alive → Option Sig → Standing
+standing_of_doom a None = Living
+standing_of_doom a (Some sig) = Doomed sig (entries_left a)
 
 abbrev pub standing_alive : Alive → Standing
-standing_alive a = doomed_as a a.row.signals.doom
+standing_alive a = standing_of_doom a a.row.signals.doom
 
 abbrev pub standing_of : Option kernels.Process → Standing
 standing_of None = Unknown

@@ -50,10 +50,10 @@ parent_at ps None = None
 parent_at ps (Some pid) = option_map (as_parent pid) (living_in ps pid)
 
 -- waitpid: what is found, and the table afterwards
-abbrev pub waited_as : Waited → Result (Option EndedChild) Errno
-waited_as (Found child ending) = Ok (Some (ended_child child ending))
-waited_as NotYet = Ok None
-waited_as NoChild = Err Echild
+abbrev pub answer_of_wait : Waited → Result (Option EndedChild) Errno
+answer_of_wait (Found child ending) = Ok (Some (ended_child child ending))
+answer_of_wait NotYet = Ok None
+answer_of_wait NoChild = Err Echild
 
 abbrev pub table_after : Numbered Process → ℕ → Alive → Waited → Numbered Process
 table_after ps pid a (Found child ending) = processes_after_wait ps pid a child

@@ -6,7 +6,7 @@ ghost use Rattle.kernel_model.specs.Row.{Free, new_row, lists, matches, first_en
 ghost use Rattle.kernel_model.specs.ProcessCalls.{parent_after_fork, new_child, parent_after_wait};
 ghost use Rattle.kernel_model.specs.Kernel.{Living, Ended, Gone, alive_in};
 ghost use Rattle.kernel_model.specs.Transition.{may_make, is_spent, is_doomed_by};
-ghost use Rattle.mono_kernel.specs.Process.{changed, CanChange};
+ghost use Rattle.mono_kernel.specs.Process.{after_change, CanChange};
 ghost use Rattle.mono_kernel.specs.Change.{on_living, with_child_there, CanChangeThere};
 
 use crate::family::ChildList;
@@ -186,7 +186,7 @@ impl LiveProcess {
     /// Makes a change.
     fn change(&mut self, change: Change)
         requires { CanChange change self.old }
-        ensures { self.new ≡ changed change self.old }
+        ensures { self.new ≡ after_change change self.old }
     {
         match change {
             Change::Signals(signals) => self.signals = signals,

@@ -7,9 +7,9 @@ ghost use Rattle.number_maps.specs.Maps.{get, put, used_with};
 ghost use Rattle.kernel_model.specs.Row.{Free, new_row, wait, lists, matches, first_ended_child, with_ended_child};
 ghost use Rattle.kernel_model.specs.Kernel.{Living, Ended, Gone, alive_in, living_in, parent_in};
 ghost use Rattle.kernel_model.specs.ProcessCalls.{bury, process_after_end, end_under, parent_after_fork, processes_after_fork, processes_after_end, processes_after_wait};
-ghost use Rattle.mono_kernel.specs.Process.{changed, CanChange, IsPlain};
+ghost use Rattle.mono_kernel.specs.Process.{after_change, CanChange, IsPlain};
 ghost use Rattle.number_maps.specs.Rising.{IsRising};
-ghost use Rattle.mono_kernel.specs.Table.{IfLiving, lists_there, ignores_there, parent_number, parent_at, waited_as, table_after};
+ghost use Rattle.mono_kernel.specs.Table.{IfLiving, lists_there, ignores_there, parent_number, parent_at, answer_of_wait, table_after};
 
 use crate::process::{Change, LiveProcess, ProcessCell};
 use pico_base::{EndedChild, Ending, Errno, Memory, Pid};
@@ -42,7 +42,7 @@ fn change_at(cells: &mut BTreeMap<Pid, ProcessCell>, pid: Pid, change: Change)
     requires lives { IsSome (living_in cells.old.entries pid) }
     requires can { IfLiving cells.old.entries pid (CanChange change) }
     ensures changed { IfLiving cells.old.entries pid
-        (λ a. cells.new.entries ≡ put cells.old.entries pid (Living (changed change a))) }
+        (λ a. cells.new.entries ≡ put cells.old.entries pid (Living (after_change change a))) }
     ensures same_numbers { keys_of cells.new.entries ≡ keys_of cells.old.entries }
     ensures rising { IsRising cells.new.entries }
 {
@@ -156,7 +156,7 @@ impl Processes {
     pub(crate) fn change(&mut self, pid: Pid, change: Change)
         requires lives { IsSome (living_in self.old pid) }
         requires plain { IsPlain change }
-        ensures changed { IfLiving self.old pid (λ a. self.new ≡ put self.old pid (Living (changed change a))) }
+        ensures changed { IfLiving self.old pid (λ a. self.new ≡ put self.old pid (Living (after_change change a))) }
         ensures same_numbers { keys_of self.new ≡ keys_of self.old }
     {
         change_at(&mut self.cells, pid, change);
@@ -315,7 +315,7 @@ impl Processes {
     /// waitpid without waiting: an ended child, none yet, or ECHILD.
     pub(crate) fn wait(&mut self, pid: Pid, which: Option<Pid>) -> Result<Option<EndedChild>, Errno>
         requires { IsSome (living_in self.old pid) }
-        ensures answer { IfLiving self.old pid (λ a. result ≡ waited_as (wait a.row.family which)) }
+        ensures answer { IfLiving self.old pid (λ a. result ≡ answer_of_wait (wait a.row.family which)) }
         ensures table { IfLiving self.old pid (λ a. self.new ≡ table_after self.old pid a (wait a.row.family which)) }
         ensures same_numbers { keys_of self.new ≡ keys_of self.old }
     {

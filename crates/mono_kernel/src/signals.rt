@@ -2,7 +2,7 @@
 ghost use Rattle.std.specs.Prelude.{◌≡◌, false, fold, MatchResult, Ok, Err};
 ghost use Rattle.pico_base.specs.Signal.{at, put_at, everywhere};
 ghost use Rattle.kernel_model.specs.Signals.{new_signals, inherit, raise, arrive, deliver, discards, with_action, act_on, with_mask, new_mask};
-ghost use Rattle.mono_kernel.specs.Masks.{masked_by, masked_with};
+ghost use Rattle.mono_kernel.specs.Masks.{mask_bit, mask_with_bit};
 
 use pico_base::{Act, Errno, How, PerSignal, Sig, SigArg, SigSet};
 use std::marker::Model;
@@ -69,7 +69,7 @@ fn is_discarded(act: Act, sig: Sig) -> bool
 
 /// Whether a signal is masked, by whether it was and whether it is in the set.
 fn stays_masked(how: How, masked: bool, in_set: bool) -> bool
-    ensures { result ≡ masked_by how masked in_set }
+    ensures { result ≡ mask_bit how masked in_set }
 {
     match how {
         How::Block => masked || in_set,
@@ -98,7 +98,7 @@ fn mask_of(how: How, old: SigSet, set: SigSet) -> SigSet
 
 /// The mask, of these signals alone.
 fn masked_of(how: How, old: SigSet, set: SigSet, signals: &[Sig]) -> SigSet
-    ensures { result ≡ fold (masked_with how old set) (everywhere false) signals.now }
+    ensures { result ≡ fold (mask_with_bit how old set) (everywhere false) signals.now }
 {
     let mut mask = SigSet::empty();
     for sig in signals {

@@ -12,6 +12,9 @@ cmp-equal n m h = sym (nat_cmp_is n m Equal h)
 pub cmp-less : (n m : ℕ) → n < m → nat_cmp n m ≡ Less
 cmp-less n m h = sym (nat_cmp_is n m Less h)
 
+pub less-below : (n m : ℕ) → nat_cmp n m ≡ Less → n < m
+less-below n m h = grind arith
+
 pub cmp-greater : (n m : ℕ) → m < n → nat_cmp n m ≡ Greater
 cmp-greater n m h = sym (nat_cmp_is n m Greater h)
 

@@ -1,10 +1,15 @@
--- Maps by rising number: two forms of that fact, and what follows from it.
-use Rattle.std.proofs.Common.{◌≡◌, ◌≢◌, ℕ, zero, suc, ◌+◌, ◌<◌, Bool, [], ◌∷◌, length, map, None, refl, subst, ◌∙◌, sym, inl, inr, arith}
-use Rattle.std.specs.Prelude.{slice_index}
-use Rattle.std.specs.List.Sorted.{IsStrictlyIncreasing}
-use Rattle.std.specs.List.{filter}
+-- Maps by rising number: what the first entry and the rest have, and that changes keep them so.
+use Rattle.std.proofs.Common.{◌≡◌, ◌≢◌, ℕ, ◌<◌, Bool, [], ◌∷◌, None, refl, subst, ◌∙◌, sym, inl, inr, arith}
+use Rattle.std.specs.List.{filter, AllByRecursion}
+use Rattle.std.specs.List.Sorted.{IsStrictlySortedBy}
+use Rattle.std.specs.Ordering.{nat_cmp}
+use Rattle.std.specs.declared.cmp.Ordering.TheVariants.{Less}
+use Rattle.std.specs.Map.{keys_of}
 use Rattle.std.proofs.lemmas.Bool.{cases_order, cases_Bool}
+use Rattle.std.proofs.lemmas.Map.Keys.{sorted_head, sorted_tail}
 use Rattle.number_maps.specs.Maps.{Numbered, get, put}
+use Rattle.number_maps.specs.Rising.{IsRising}
+use Rattle.number_maps.proofs.Order.{cmp-less, less-below}
 use Rattle.number_maps.proofs.LookUps.{put-less, put-equal, put-greater, filter-kept, filter-dropped, get-later}
 
 -- each number is above this one
@@ -12,12 +17,37 @@ abbrev pub Above : {V : Type 0} → ℕ → Numbered V → Type 0
 Above n [] = Unit {0}
 Above n (e ∷ m) = (n < e.0) × Above n m
 
--- each number is above those before it
-abbrev pub Rising : {V : Type 0} → Numbered V → Type 0
-Rising [] = Unit {0}
-Rising (e ∷ m) = Above e.0 m × Rising m
+-- The order of std's maps says the same entry by entry.
 
-above-lower : {V : Type 0} (n k : ℕ) (m : Numbered V) → n < k → Above k m → Above n m
+above-by_order : {V : Type 0} (n : ℕ) (m : Numbered V) → AllByRecursion (λ y. nat_cmp n y ≡ Less) (keys_of m)
+    → Above n m
+above-by_order n [] h = tt
+above-by_order n (e ∷ m) h = (less-below n e.0 h.0, above-by_order n m h.1)
+
+by_order-above : {V : Type 0} (n : ℕ) (m : Numbered V) → Above n m
+    → AllByRecursion (λ y. nat_cmp n y ≡ Less) (keys_of m)
+by_order-above n [] a = tt
+by_order-above n (e ∷ m) a = (cmp-less n e.0 a.0, by_order-above n m a.1)
+
+-- nothing is in no order
+pub rising-nothing : (V : Type 0) → IsRising {V = V} []
+unfolding IsStrictlySortedBy
+rising-nothing V = tt
+
+-- the first number is below the others
+pub above-first : {V : Type 0} (e : ℕ × V) (m : Numbered V) → IsRising (e ∷ m) → Above e.0 m
+above-first e m r = above-by_order e.0 m (sorted_head nat_cmp e.0 (keys_of m) r)
+
+-- what stands behind the first rises
+pub rising-rest : {V : Type 0} (e : ℕ × V) (m : Numbered V) → IsRising (e ∷ m) → IsRising m
+rising-rest e m r = sorted_tail nat_cmp e.0 (keys_of m) r
+
+-- a number below all in front of numbers that rise
+pub rising-behind : {V : Type 0} (e : ℕ × V) (m : Numbered V) → Above e.0 m → IsRising m → IsRising (e ∷ m)
+unfolding IsStrictlySortedBy
+rising-behind e m a r = (by_order-above e.0 m a, r)
+
+pub above-lower : {V : Type 0} (n k : ℕ) (m : Numbered V) → n < k → Above k m → Above n m
 above-lower n k [] h a = tt
 above-lower n k (e ∷ m) h a = (let f : k < e.0 = a.0 in omega arith, above-lower n k m h a.1)
 
@@ -34,16 +64,23 @@ above-put {V} n (e ∷ m) k v h a =
           ]
     ]
 
-pub rising-put : {V : Type 0} (m : Numbered V) (k : ℕ) (v : V) → Rising m → Rising (put m k v)
-rising-put [] k v r = (tt, tt)
+-- `put` keeps a map by rising number
+pub rising-put : {V : Type 0} (m : Numbered V) (k : ℕ) (v : V) → IsRising m → IsRising (put m k v)
+rising-put [] k v r = rising-behind (k, v) [] tt r
 rising-put {V} (e ∷ m) k v r =
-    let P : Numbered V → Type 0 = λ s. Rising s
+    let P : Numbered V → Type 0 = λ s. IsRising s
+    in let above = above-first e m r
+    in let rest = rising-rest e m r
     in elim (cases_order k e.0) [
-      | inl same ↦ subst P (sym (put-equal e m k v same)) r
+      | inl same ↦ subst P (sym (put-equal e m k v same)) (rising-behind (e.0, v) m above rest)
       | inr c ↦
           elim c [
-            | inl l ↦ subst P (sym (put-less e m k v l)) ((l, above-lower k e.0 m l r.0), r)
-            | inr g ↦ subst P (sym (put-greater e m k v g)) (above-put e.0 m k v g r.0, rising-put m k v r.1)
+            | inl l ↦
+                subst P (sym (put-less e m k v l))
+                (rising-behind (k, v) (e ∷ m) (l, above-lower k e.0 m l above) r)
+            | inr g ↦
+                subst P (sym (put-greater e m k v g))
+                (rising-behind e (put m k v) (above-put e.0 m k v g above) (rising-put m k v rest))
           ]
     ]
 
@@ -56,13 +93,17 @@ above-filter {V} p n (e ∷ m) a =
       | inr f ↦ subst P (sym (filter-dropped p e m f)) (above-filter p n m a.1)
     ]
 
-pub rising-filter : {V : Type 0} (p : ℕ × V → Bool) (m : Numbered V) → Rising m → Rising (filter p m)
-rising-filter p [] r = tt
+-- what is left of a map by rising number rises
+pub rising-filter : {V : Type 0} (p : ℕ × V → Bool) (m : Numbered V) → IsRising m → IsRising (filter p m)
+rising-filter p [] r = r
 rising-filter {V} p (e ∷ m) r =
-    let P : Numbered V → Type 0 = λ s. Rising s
+    let P : Numbered V → Type 0 = λ s. IsRising s
+    in let rest = rising-filter p m (rising-rest e m r)
     in elim (cases_Bool (p e)) [
-      | inl t ↦ subst P (sym (filter-kept p e m t)) (above-filter p e.0 m r.0, rising-filter p m r.1)
-      | inr f ↦ subst P (sym (filter-dropped p e m f)) (rising-filter p m r.1)
+      | inl t ↦
+          subst P (sym (filter-kept p e m t))
+          (rising-behind e (filter p m) (above-filter p e.0 m (above-first e m r)) rest)
+      | inr f ↦ subst P (sym (filter-dropped p e m f)) rest
     ]
 
 -- nothing stands at a number that is below all
@@ -70,35 +111,3 @@ pub get-above : {V : Type 0} (n : ℕ) (m : Numbered V) → Above n m → get m 
 get-above n [] a = refl
 get-above n (e ∷ m) a = let l : n < e.0 = a.0 in let ne : n ≢ e.0 =
     omega arith in get-later e m n ne ∙ get-above n m a.1
-
--- the same by std's word for lists: the numbers are strictly increasing
-first-below : {V : Type 0} (n : ℕ) (m : Numbered V) → Above n m → 0 < length (map (λ e. e.0) m)
-    → n < slice_index (map (λ e. e.0) m) 0
-first-below n [] a h = absurd (omega arith)
-first-below n (e ∷ m) a h = a.0
-
-pub ordered : {V : Type 0} (m : Numbered V) → Rising m → IsStrictlyIncreasing (map (λ e. e.0) m)
-ordered [] r k h = absurd (omega arith)
-ordered (e ∷ m) r zero h = first-below e.0 m r.0 (omega arith)
-ordered (e ∷ m) r (suc k) h =
-    let i = ordered m r.1 k (omega arith)
-    in let s : suc k + 1 ≡ suc (k + 1) = omega arith
-    in subst (λ (j : ℕ). slice_index (map (λ e. e.0) (e ∷ m)) (suc k) < slice_index (map (λ e. e.0) (e ∷ m)) j)
-    (sym s) i
-
-above-first : {V : Type 0} (n : ℕ) (m : Numbered V) → Rising m
-    → (0 < length (map (λ e. e.0) m) → n < slice_index (map (λ e. e.0) m) 0) → Above n m
-above-first n [] r h = tt
-above-first n (d ∷ m) r h = let l : n < d.0 = h (omega arith) in (l, above-lower n d.0 m l r.0)
-
-ordered-later : {V : Type 0} (e : ℕ × V) (m : Numbered V) → IsStrictlyIncreasing (map (λ e. e.0) (e ∷ m))
-    → IsStrictlyIncreasing (map (λ e. e.0) m)
-ordered-later e m h k l =
-    let s : suc k + 1 ≡ suc (k + 1) = omega arith
-    in subst (λ (j : ℕ). slice_index (map (λ d. d.0) (e ∷ m)) (suc k) < slice_index (map (λ d. d.0) (e ∷ m)) j) s
-    (h (suc k) (omega arith))
-
-pub rising : {V : Type 0} (m : Numbered V) → IsStrictlyIncreasing (map (λ e. e.0) m) → Rising m
-rising [] h = tt
-rising (e ∷ m) h =
-    let r = rising m (ordered-later e m h) in (above-first e.0 m r (λ l. h 0 (omega arith)), r)

@@ -6,9 +6,8 @@
 //! - `proofs/Order.antt`: how two numbers compare, by facts (`cmp-less`) and by tests (`same-from-nat_eq`).
 //! - `proofs/LookUps.antt`: what a map has at a number after `put` and `without`; the first entry and the later ones.
 //! - `proofs/Sets.antt`: what a set has after `used_with`; a number that is used stays used.
-//! - `proofs/Rising.antt`: maps by rising number by recursion (`Above`, `Rising`), kept by `put` and by filters, and
-//! the
-//!   same as std's word for increasing lists (`rising`, `ordered`).
+//! - `proofs/Rising.antt`: what the first entry of a map by rising number and the rest have (`above-first`,
+//!   `rising-rest`), and that `put` and filters keep it so.
 //! - `proofs/Changes.antt`: changes that undo one another, and what the code's ordered maps do (`set_value-put`,
 //!   `without-remove`, `remove-put`, `keys-put`).
 #![tactic(auto)]

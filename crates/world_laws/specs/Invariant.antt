@@ -11,7 +11,7 @@ use Rattle.rpc_frame.specs.declared.frame.Frame.TheVariants as frames
 use Rattle.kernel_model.specs.Kernel.{opening}
 use Rattle.kernel_model.specs.History.{Replays}
 use Rattle.kernel_model.specs.Fitting.{FitsFrom, opening_places}
-use Rattle.kernel_model.specs.Valid.{IsOrdered}
+use Rattle.number_maps.specs.Rising.{IsRising}
 use Rattle.node_model.specs.declared.held.Held.{Held}
 use Rattle.node_model.specs.Kinds.{is_object}
 use Rattle.node_model.specs.Directory.{Directory, stays}
@@ -36,15 +36,15 @@ pub record IsShaped (script : Script) (w : World) : Type 0 where
 -- the leader stays, and it knows each name once
 pub record IsLeading (d : Directory) : Type 0 where
   pub stays : stays d 1 ≡ true
-  pub processes : IsOrdered d.places.processes
-  pub queues : IsOrdered d.places.queues
-  pub sets : IsOrdered d.places.sets
+  pub processes : IsRising d.places.processes
+  pub queues : IsRising d.places.queues
+  pub sets : IsRising d.places.sets
 
 -- the journal is legal and leads to the kernel, and it fits the script so far
 pub record IsHistory (script : Script) (w : World) (b : Beside) : Type 0 where
   pub legal : Replays opening w.journal b.kernel
   pub fits : FitsFrom script (opening_places script) w.journal b.places
-  pub ordered : IsOrdered b.places
+  pub ordered : IsRising b.places
 
 -- Who sends which frames to whom. Nobody sends itself any.
 abbrev pub MayBe : Script → World → ℕ → ℕ → Frame → Type 0

@@ -9,7 +9,7 @@ use Rattle.rpc_frame.specs.declared.frame.Frame.{Frame}
 use Rattle.rpc_frame.specs.declared.frame.Frame.TheVariants as frames
 use Rattle.number_maps.specs.Maps.{Numbered, get}
 use Rattle.kernel_model.specs.Row.{Row}
-use Rattle.kernel_model.specs.Valid.{IsOrdered}
+use Rattle.number_maps.specs.Rising.{IsRising}
 use Rattle.node_model.specs.declared.held.Held.{Held}
 use Rattle.node_model.specs.declared.held.Held.TheVariants.{Ending}
 use Rattle.node_model.specs.Directory.{Directory, Parting, IsLeaving, HasLeft, is_known, held_for}
@@ -110,7 +110,7 @@ pub record IsParcelOf (script : Script) (b : Beside) (c : ℕ) (call : Call) (pa
   pub call_is : parcel.call ≡ call
   pub bodies : Numbered Body
   pub packed : parcel.deeds ≡ pack_all Proc bodies
-  pub ordered : IsOrdered bodies
+  pub ordered : IsRising bodies
   pub row : Row
   pub own : get bodies (b.pids c) ≡ Some (LivingBody row)
   pub allowed : may_end_with row call ≡ true

@@ -7,7 +7,7 @@ ghost use Rattle.kernel_model.specs.Kernel.{living_at, with_alive};
 ghost use Rattle.kernel_model.specs.ProcessCalls.{fork_effect, end_process, reap_child, action_effect, kill, with_signals};
 ghost use Rattle.kernel_model.specs.Effect.{is_fresh};
 ghost use Rattle.kernel_model.specs.Transition.{finish_call};
-ghost use Rattle.mono_kernel.specs.Process.{changed, IsPlain};
+ghost use Rattle.mono_kernel.specs.Process.{after_change, IsPlain};
 ghost use Rattle.mono_kernel.specs.Answers.{Answers, signalled_kernel};
 
 use crate::fault::CallFault;
@@ -22,16 +22,16 @@ impl Kernel {
     pub(super) fn change(&mut self, pid: Pid, change: Change)
         requires lives { IsSome (living_at self.old pid) }
         requires plain { IsPlain change }
-        ensures { IfSome (living_at self.old pid) (λ a. self.new ≡ with_alive self.old pid (changed change a)) }
+        ensures { IfSome (living_at self.old pid) (λ a. self.new ≡ with_alive self.old pid (after_change change a)) }
     {
         self.processes.change(pid, change);
     }
 
     /// Whether a process may take this number.
-    pub(super) fn is_new_process(&self, number: u32) -> bool
-        ensures { result ≡ is_fresh self.now.used_processes number }
+    pub(super) fn is_new_process(&self, pid: Pid) -> bool
+        ensures { result ≡ is_fresh self.now.used_processes pid }
     {
-        number > 0 && !self.processes.is_there(Pid(number))
+        pid.0 > 0 && !self.processes.is_there(pid)
     }
 
     /// fork: NotAllowed where the number is 0 or used.
@@ -40,7 +40,7 @@ impl Kernel {
         ensures { IfSome (living_at self.old pid)
             (λ a. Answers (fork_effect self.old pid a chosen) result self.old self.new) }
     {
-        if !self.is_new_process(chosen) {
+        if !self.is_new_process(Pid(chosen)) {
             return Err(CallFault::NotAllowed);
         }
         self.processes.fork(self.alloc, pid, Pid(chosen))?;

@@ -16,14 +16,14 @@ use pico_base::{Bytes, Errno, Id, Key, Memory, Pid, Reply};
 /// The calls on message queues.
 impl Kernel {
     /// Whether a queue may take this number.
-    fn is_new_queue(&self, number: u32) -> bool
-        ensures { result ≡ is_fresh self.now.used_queues number }
+    fn is_new_queue(&self, id: Id) -> bool
+        ensures { result ≡ is_fresh self.now.used_queues id }
     {
-        number > 0 && !self.queue_names.is_used(number)
+        id.0 > 0 && !self.queue_names.is_used(id)
     }
 
     /// A new queue, with a key if there is one. NotAllowed where the number is 0 or used.
-    fn new_queue(&mut self, key: Option<u32>, chosen: u32) -> Result<Reply, CallFault>
+    fn new_queue(&mut self, key: Option<Key>, chosen: Id) -> Result<Reply, CallFault>
         requires { bound_to self.old.queue_keys key ≡ None }
         ensures { Answers (new_queue self.old (keys_with self.old.queue_keys key chosen) chosen) result self.old
             self.new }
@@ -33,7 +33,7 @@ impl Kernel {
         }
         let queue = MessageQueue::new(self.alloc);
         self.queue_names.add(&mut self.queues, chosen, key, queue)?;
-        Ok(Reply::Num(chosen))
+        Ok(Reply::Num(chosen.0))
     }
 
     /// msgget: ENOENT for a key that leads nowhere, without IPC_CREAT; EEXIST for one that leads to a
@@ -47,20 +47,20 @@ impl Kernel {
     ) -> Result<Reply, CallFault>
         ensures { Answers (get_queue self.old key create excl chosen) result self.old self.new }
     {
-        let Some(Key(key)) = key else {
-            return self.new_queue(None, chosen);
+        let Some(key) = key else {
+            return self.new_queue(None, Id(chosen));
         };
         if let Some(id) = self.queue_names.find(key) {
             return Ok(if create && excl {
                 Reply::Fail(Errno::Eexist)
             } else {
-                Reply::Num(id)
+                Reply::Num(id.0)
             });
         }
         if !create {
             return Ok(Reply::Fail(Errno::Enoent));
         }
-        self.new_queue(Some(key), chosen)
+        self.new_queue(Some(key), Id(chosen))
     }
 
     /// msgsnd: EINVAL or EAGAIN.
@@ -123,7 +123,7 @@ impl Kernel {
         if !remove_at(&mut self.queues, id) {
             return Reply::Fail(Errno::Einval);
         }
-        self.queue_names.unbind(id.0);
+        self.queue_names.unbind(id);
         Reply::Num(0)
     }
 }

@@ -36,15 +36,15 @@ fn waits(steps: &[SemStep]) -> bool
 /// The calls on semaphore sets.
 impl Kernel {
     /// Whether a set may take this number.
-    fn is_new_set(&self, number: u32) -> bool
-        ensures { result ≡ is_fresh self.now.used_sets number }
+    fn is_new_set(&self, id: Id) -> bool
+        ensures { result ≡ is_fresh self.now.used_sets id }
     {
-        number > 0 && !self.set_names.is_used(number)
+        id.0 > 0 && !self.set_names.is_used(id)
     }
 
     /// A new set, with a key if there is one: EINVAL for a bad number of semaphores. NotAllowed where
     /// the number is 0 or used.
-    fn new_set(&mut self, key: Option<u32>, count: u32, chosen: u32) -> Result<Reply, CallFault>
+    fn new_set(&mut self, key: Option<Key>, count: u32, chosen: Id) -> Result<Reply, CallFault>
         requires { bound_to self.old.set_keys key ≡ None }
         ensures { Answers (new_set_of self.old (keys_with self.old.set_keys key chosen) chosen (new_set count)) result
             self.old self.new }
@@ -57,7 +57,7 @@ impl Kernel {
         }
         let set = SemaphoreSet::new(self.alloc, count)?;
         self.set_names.add(&mut self.sets, chosen, key, set)?;
-        Ok(Reply::Num(chosen))
+        Ok(Reply::Num(chosen.0))
     }
 
     /// The size of the set of a number, 0 where there is none.
@@ -93,20 +93,20 @@ impl Kernel {
     ) -> Result<Reply, CallFault>
         ensures { Answers (get_set self.old key count create excl chosen) result self.old self.new }
     {
-        let Some(Key(key)) = key else {
-            return self.new_set(None, count, chosen);
+        let Some(key) = key else {
+            return self.new_set(None, count, Id(chosen));
         };
         if let Some(id) = self.set_names.find(key) {
             return Ok(if create && excl {
                 Reply::Fail(Errno::Eexist)
             } else {
-                self.found_set(Id(id), count)
+                self.found_set(id, count)
             });
         }
         if !create {
             return Ok(Reply::Fail(Errno::Enoent));
         }
-        self.new_set(Some(key), count, chosen)
+        self.new_set(Some(key), count, Id(chosen))
     }
 
     /// semop: EINVAL, E2BIG, EFBIG, EAGAIN or ERANGE. NotAllowed where an operation may have to wait.
@@ -193,7 +193,7 @@ impl Kernel {
         if !remove_at(&mut self.sets, id) {
             return Reply::Fail(Errno::Einval);
         }
-        self.set_names.unbind(id.0);
+        self.set_names.unbind(id);
         Reply::Num(0)
     }
 }

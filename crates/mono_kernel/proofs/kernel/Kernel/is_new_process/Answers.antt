@@ -1,8 +1,10 @@
-use Rattle.std.proofs.Common.{◌∙◌, not, ap, arith}
+use Rattle.std.proofs.Common.{◌∙◌, ◌<◌, ◌^◌, not, ap, rules}
 use Rattle.mono_kernel.proofs.FreshLemmas.{fresh-is}
 use Rattle.mono_kernel.proofs.kernel.Kernel.is_new_process.Goals as goal
 
-pub returns-then-number-gt0 : goal.returns-then-number-gt0
-returns-then-number-gt0 c =
-    rw (← c.self.view_is)
-    (ap not c.is_there.ensures ∙ fresh-is c.self.inside.processes c.args.number c.if-number-gt0.true (omega arith))
+pub returns-then-pid-gt0 : goal.returns-then-pid-gt0
+returns-then-pid-gt0 c =
+    let fits : c.args.pid < 2 ^ 32 = search rules
+    in let above : 0 < c.args.pid = search rules
+    in rw (← c.self.view_is)
+    (ap not c.is_there.ensures ∙ fresh-is c.self.inside.processes c.args.pid above fits)

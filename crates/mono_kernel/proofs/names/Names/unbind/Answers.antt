@@ -13,7 +13,7 @@ returns-in-Some c =
     rw (← c.self.view_is)
     (ap (with_keys c.self.inside.used.keys)
     (c.remove.ensures.entries
-    ∙ sym (unbound-one c.self.inside.keys.entries c.args.number c.in-Some.key c.self.invariant.rising
+    ∙ sym (unbound-one c.self.inside.keys.entries c.args.id c.in-Some.key c.self.invariant.rising
     c.in-Some.ensures)))
 
 pub returns-in_default : goal.returns-in_default
@@ -21,4 +21,4 @@ unfolding with_keys
 returns-in_default c =
     rw (← c.self.view_is)
     (ap (with_keys c.self.inside.used.keys)
-    (sym (unbound-none c.self.inside.keys.entries c.args.number c.self.invariant.rising c.in_default.ensures)))
+    (sym (unbound-none c.self.inside.keys.entries c.args.id c.self.invariant.rising c.in_default.ensures)))
