@@ -20,6 +20,7 @@ kept : (id : ℕ) (e : ℕ × ℕ) (es : Numbered ℕ) (b : Bool) → nat_eq e.1
 kept id e es true h other rec = absurd (other (same-from-nat_eq e.1 id h))
 kept id e es false h other rec = ap (λ (xs : Numbered ℕ). e ∷ xs) rec
 
+-- unbinding what no key leads to changes nothing
 pub unbound-none : (keys : Numbered ℕ) (id : ℕ) → IsRising keys → LeadsNowhere keys id → unbind keys id ≡ keys
 unbound-none [] id rising none = refl
 unbound-none (e ∷ es) id rising none =
@@ -54,6 +55,7 @@ freed id key e es Greater h rising all rec =
     at true is = absurd (greater-differs key e.0 h (all.1 e.0 (get-first e es ∙ ap Some (same-from-nat_eq e.1 id is))))
     at false is = is
 
+-- unbinding takes the one key away that leads there
 pub unbound-one : (keys : Numbered ℕ) (id key : ℕ) → IsRising keys → LeadsOnly keys id key
     → unbind keys id ≡ remove_entry (is_at (nat_cmp key)) keys
 unbound-one [] id key rising all = let there : None ≡ Some id = all.0 in absurd (cc)

@@ -59,11 +59,13 @@ HasWayBack-bound keys key_of used n key h new rising =
           used-with used n id (inr (h.given_out q id old)),
         )
 
+-- a way back that is noted early does no harm
 pub HasWayBack-noted : (keys key_of : Numbered ℕ) (used : List ℕ) (n : ℕ) (key : Option ℕ) → HasWayBack keys key_of used
     → is_used used n ≡ false → HasWayBack keys (ways_with key_of key n) used
 HasWayBack-noted keys key_of used n None h new = h
 HasWayBack-noted keys key_of used n (Some key) h new = HasWayBack-stale keys key_of used n key h new
 
+-- with the key bound, each key has its way back
 pub HasWayBack-added : (keys key_of : Numbered ℕ) (used : List ℕ) (n : ℕ) (key : Option ℕ) → HasWayBack keys key_of used
     → is_used used n ≡ false → IsRising (keys_with keys key n)
     → HasWayBack (keys_with keys key n) (ways_with key_of key n) (used_with used n)
