@@ -120,7 +120,8 @@ parent-is child (e ∷ es) r s h =
       | inr w ↦
           let i = parent-is child es r (rising-rest e es s) w
           in (
-            ap (option_and_then alive_in) (get-later e es r.pid (rest-apart e es r.pid r.alive (above-first e es s) i.0))
+            ap (option_and_then alive_in)
+                (get-later e es r.pid (rest-apart e es r.pid r.alive (above-first e es s) i.0))
                 ∙ i.0,
             i.1,
           )
