@@ -12,10 +12,12 @@ use Rattle.log_laws.proofs.Lists.{map-append, append-all, log-of-own, log-of-oth
 
 -- ---- one node's entries
 
-own-entry : (e : JournalEntry) (es : List JournalEntry) (p : ℕ) → e.node ≡ p → entries_by p (e ∷ es) ≡ e ∷ entries_by p es
+own-entry : (e : JournalEntry) (es : List JournalEntry) (p : ℕ) → e.node ≡ p
+    → entries_by p (e ∷ es) ≡ e ∷ entries_by p es
 own-entry e es p h = ap (λ b. entry_if b e ++ entries_by p es) (eq-eqb e.node p h)
 
-others-entry : (e : JournalEntry) (es : List JournalEntry) (p : ℕ) → e.node ≢ p → entries_by p (e ∷ es) ≡ entries_by p es
+others-entry : (e : JournalEntry) (es : List JournalEntry) (p : ℕ) → e.node ≢ p
+    → entries_by p (e ∷ es) ≡ entries_by p es
 others-entry e es p h = ap (λ b. entry_if b e ++ entries_by p es) (ne_eqb e.node p h)
 
 by-append : (p : ℕ) (xs ys : List JournalEntry) → entries_by p (xs ++ ys) ≡ entries_by p xs ++ entries_by p ys

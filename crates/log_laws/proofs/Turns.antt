@@ -114,7 +114,8 @@ module _ (script : Script) (ends : Ends) (w : World) (now : Nodes) (on_way : OnW
   none-below (u ∷ us) h = (not-below u h.0, none-below us h.1)
 
   -- what is still to be sent has high stamps
-  still-high : (p q : ℕ) → AllByRecursion (λ (f : StampedFrame). t.turn.stamp ≤ f.stamp) (sent_in p (log_of q (t ∷ turns)))
+  still-high : (p q : ℕ)
+      → AllByRecursion (λ (f : StampedFrame). t.turn.stamp ≤ f.stamp) (sent_in p (log_of q (t ∷ turns)))
   still-high p q =
       let same : t.turn.stamp ≤ t.turn.stamp = omega arith
       in high-sent t.turn.stamp p (log_of q (t ∷ turns))
@@ -251,7 +252,8 @@ module _ (script : Script) (ends : Ends) (w : World) (now : Nodes) (on_way : OnW
         of_script = half.of_script;
         count = half.count;
         square =
-            square-with (node_count script) w.streams t.node from (map frame_of rest) half.square to_here.low to_here.high;
+            square-with (node_count script) w.streams t.node from (map frame_of rest) half.square to_here.low
+            to_here.high;
         here = to_here;
         sent = (let first : GoesBetween script t.turn = half.between.0 in first.sent);
         node = half.node;

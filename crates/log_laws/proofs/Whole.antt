@@ -60,7 +60,8 @@ length-nodes first (suc count) = ap suc (length-nodes (first + 1) count)
 node-number : (first count i : ℕ) → i < count
     → slice_get (map opening_node (numbers first count)) i ≡ Some (opening_node (first + i))
 node-number first zero i h = absurd (omega arith)
-node-number first (suc count) zero h = let same : first ≡ first + 0 = omega arith in ap (λ n. Some (opening_node n)) same
+node-number first (suc count) zero h =
+    let same : first ≡ first + 0 = omega arith in ap (λ n. Some (opening_node n)) same
 node-number first (suc count) (suc i) h =
     let same : first + 1 + i ≡ first + suc i = omega arith
     in node-number (first + 1) count i (omega arith) ∙ ap (λ n. Some (opening_node n)) same
@@ -73,7 +74,8 @@ opening-node-at script p is =
     in let same : 1 + (p - 1) ≡ p = omega arith
     in node-number 1 (node_count script) (p - 1) (omega arith) ∙ ap (λ n. Some (opening_node n)) same
 
-opening-stream : (script : Script) (p q : ℕ) → IsNode script p → IsNode script q → stream (opening_world script) p q ≡ []
+opening-stream : (script : Script) (p q : ℕ) → IsNode script p → IsNode script q
+    → stream (opening_world script) p q ≡ []
 opening-stream script p q is_p is_q =
     let n = node_count script
     in let low = is_p.low
@@ -118,7 +120,8 @@ opening-halfway script logs last untaken turns consistent merge =
       };
       node = opening-node-at script;
       leads = λ p is.
-          subst (λ (l : Log). LeadsTo script (opening_node p) l (last p)) (sym (merge.each p is)) (consistent.leads p is);
+          subst (λ (l : Log). LeadsTo script (opening_node p) l (last p)) (sym (merge.each p is))
+          (consistent.leads p is);
       stream_is = opening-stream script;
       balance = λ p q is_p is_q.
           ap (λ (l : Log). taken_in q l ++ untaken p q) (merge.each p is_p)

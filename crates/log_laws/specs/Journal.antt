@@ -32,7 +32,8 @@ StampsDontFall (first ∷ rest) = AllByRecursion (λ e. first.stamp ≤ e.stamp)
 -- entries with one stamp are of one node
 abbrev pub OneNodeAStamp : List JournalEntry → Type 0
 OneNodeAStamp [] = Unit {0}
-OneNodeAStamp (first ∷ rest) = AllByRecursion (λ e. e.stamp ≡ first.stamp → e.node ≡ first.node) rest × OneNodeAStamp rest
+OneNodeAStamp (first ∷ rest) =
+    AllByRecursion (λ e. e.stamp ≡ first.stamp → e.node ≡ first.node) rest × OneNodeAStamp rest
 
 -- Each node's entries are those of its turns, under their stamps. Stamps don't fall, and different events have
 -- different stamps.
