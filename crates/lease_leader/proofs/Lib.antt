@@ -1,0 +1,6 @@
+pub mod StageLemmas
+pub mod Kept
+pub mod Late
+pub mod Changes
+pub mod Totals
+pub mod Tables
