@@ -3,16 +3,29 @@ use Rattle.std.proofs.Common.{◌≡◌, ℕ, Bool, true, false, cond, not, ◌&
 use Rattle.std.proofs.lemmas.Bool.{false≢true}
 use Rattle.std.specs.Option.{option_map}
 use Rattle.pico_base.specs.declared.numbers.Name.{Name}
-use Rattle.number_maps.specs.Maps.{Numbered, get}
+use Rattle.number_maps.specs.Maps.{Numbered, get, put}
 use Rattle.node_model.specs.declared.held.Held.{Held}
 use Rattle.node_model.specs.declared.route.Route.{Route}
 use Rattle.node_model.specs.declared.route.Route.TheVariants as routes
 use Rattle.node_model.specs.Kinds.{Named, PerKind, get_named, put_named}
-use Rattle.node_model.specs.Directory.{Directory, Parting, Place, At, Coming, bound_for, destination_of, held_for, hold, hold_at, is_coming, is_coming_to, is_known, items_of, maker, maker_stays, place_name, place_of, route, route_by, route_by_maker, with_place}
-use Rattle.lease_leader.specs.Places.{all_places_by, directory_by, is_at, is_at_node, items_in, place_by, route_of, spot_at, with_item}
+use Rattle.node_model.specs.Directory.{Directory, Parting, IsLeaving, HasLeft, Place, At, Coming, bound_for, destination_of, held_for, hold, hold_at, is_coming, is_coming_to, is_known, is_leaving, items_of, maker, maker_stays, place_name, place_of, route, route_by, route_by_maker, stays, with_leaving, with_left, with_place}
+use Rattle.lease_leader.specs.Places.{AllAreLate, all_places_by, directory_by, is_at, is_at_node, items_in, place_by, route_of, spot_at, with_item}
 use Rattle.lease_leader.specs.declared.spot.Spot.{Spot}
 use Rattle.lease_leader.specs.declared.spot.Spot.TheVariants as spots
+use Rattle.lease_leader.proofs.Late.{all_places_by-leaving, all_places_by-left}
 use Rattle.lease_leader.proofs.Kept.{get-all_places_by, all_places_by-put, place_by-spot_at}
+
+none-from : {A : Type 0} (o : Option A) → is_none o ≡ true → o ≡ None
+none-from None h = refl
+none-from (Some a) h = absurd (false≢true h)
+
+pub none-some : {A : Type 0} (o : Option A) → is_some o ≡ false → o ≡ None
+none-some None h = refl
+none-some (Some a) h = absurd (false≢true (sym h))
+
+pub some-there : {A : Type 0} (o : Option A) → IsSome o → (a : A) × (o ≡ Some a)
+some-there None h = absurd (false≢true h)
+some-there (Some a) h = (a, refl)
 
 -- where a call on a known name goes doesn't depend on its number
 route_of_known : (place : Place) (b : Bool) (made_by : Option ℕ) → route_by (Some place) b made_by ≡ route_of place
@@ -154,3 +167,18 @@ module _ (partings : Numbered Parting) where
     pub bound-spot : (name : Name) (spot : Spot) → get_named kept name ≡ Some spot
         → destination_of (Some (place_by partings spot)) ≡ bound_for (directory_by partings kept ranges) name
     bound-spot name spot there = sym (ap destination_of (place_of-spot name spot there))
+
+    -- a node leaves, or has left
+    pub leaves : (node : ℕ) → IsTrue (stays (directory_by partings kept ranges) node) → AllAreLate partings kept
+        → directory_by (put partings node IsLeaving) kept ranges ≡ with_leaving (directory_by partings kept ranges) node
+    leaves node h late =
+        let with : Named Place → Directory =
+        λ places. record { places = places; partings = put partings node IsLeaving; ranges = ranges } in
+        ap with (all_places_by-leaving partings node (none-from (get partings node) h) kept late)
+
+    pub has-left : (node : ℕ) → IsTrue (is_leaving (directory_by partings kept ranges) node)
+        → directory_by (put partings node HasLeft) kept ranges ≡ with_left (directory_by partings kept ranges) node
+    has-left node h =
+        let with : Named Place → Directory =
+        λ places. record { places = places; partings = put partings node HasLeft; ranges = ranges } in
+        ap with (all_places_by-left partings node h kept)

@@ -26,16 +26,14 @@ get-past n k (Some p) rest h = let ne : k ≢ n = omega arith in get-later (n, p
 
 -- what the map has at a node, by its place in the table
 pub get-from : (n : ℕ) (table : List Stage) (i k : ℕ) (s : Stage) → k ≡ n + i → i < length table
-    → s ≡ get_or table i s → parting_of s ≡ get (partings_from n table) k
-get-from n [] i k s at h is = absurd (omega arith)
-get-from n (x ∷ table) zero k s at h is =
+    → parting_of (get_or table i s) ≡ get (partings_from n table) k
+get-from n [] i k s at h = absurd (omega arith)
+get-from n (x ∷ table) zero k s at h =
     let here : k ≡ n = omega arith in
-    ap parting_of is
-    ∙ sym (get-here n (parting_of x) _ (above-from n (n + 1) table (omega arith)))
+    sym (get-here n (parting_of x) _ (above-from n (n + 1) table (omega arith)))
     ∙ ap (get (partings_from n (x ∷ table))) (sym here)
-get-from n (x ∷ table) (suc i) k s at h is =
-    get-from (n + 1) table i k s (omega arith) (omega arith) is
-    ∙ sym (get-past n k (parting_of x) _ (omega arith))
+get-from n (x ∷ table) (suc i) k s at h =
+    get-from (n + 1) table i k s (omega arith) (omega arith) ∙ sym (get-past n k (parting_of x) _ (omega arith))
 
 put-below : (n : ℕ) (p : Parting) (m : Numbered Parting) → Above n m → put m n p ≡ (n, p) ∷ m
 put-below n p [] a = refl

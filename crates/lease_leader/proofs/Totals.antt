@@ -25,7 +25,8 @@ use Rattle.lease_leader.proofs.Changes.{items_of-place_by}
 
 above-sum : (a b : ℕ) → (nat_lt 0 a || nat_lt 0 b) ≡ nat_lt 0 (a + b)
 above-sum zero b = ap (nat_lt 0) (omega arith)
-above-sum (suc a) b = sym (lt-ltb 0 (suc a + b) (omega arith))
+above-sum (suc a) b =
+    ap (λ (t : Bool). t || nat_lt 0 b) (lt-ltb 0 (suc a) (omega arith)) ∙ sym (lt-ltb 0 (suc a + b) (omega arith))
 
 any-sum : {X : Type 0} (p : X → Bool) (f : X → ℕ) → ((x : X) → p x ≡ nat_lt 0 (f x)) → (xs : List X)
     → list_any p xs ≡ nat_lt 0 (sum_by f xs)
@@ -65,7 +66,8 @@ module _ (name : Name) where
 
   none-counts : (items : List Held) → sum_by (λ item. deeds_named name []) items ≡ 0
   none-counts [] = refl
-  none-counts (item ∷ items) = sum_by-cons (λ item. deeds_named name []) item items ∙ none-counts items
+  none-counts (item ∷ items) =
+      omega (arith, sum_by-cons {X = Held} (λ item'. deeds_named name []) item items, none-counts items)
 
   none-count : (o : Option Spot) → unwrap_or (option_map (λ spot. sum_by (λ item. deeds_named name []) (items_in spot)) o) 0 ≡ 0
   none-count None = refl

@@ -83,7 +83,7 @@ impl Directory {
         ensures ok { OnOk result (self.new ≡ with_range self.old kind node) }
         ensures err { OnErr result (self.new ≡ self.old) }
     {
-        let first = self.ranges.count(kind) as u32 * RANGE + 1;
+        let first = self.upcoming(kind);
         self.ranges.give(kind, node)?;
         Ok(first)
     }

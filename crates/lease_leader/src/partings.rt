@@ -29,6 +29,7 @@ pub(crate) struct Partings {
 }
 
 impl Model for Partings {
+    ghost use Rattle.std.specs.Prelude.{◌≡◌, length};
     ghost use Rattle.number_maps.specs.Maps.{Numbered};
     ghost use Rattle.node_model.specs.Directory.{Parting};
     ghost use Rattle.lease_leader.specs.Stages.{partings_from};
@@ -36,6 +37,8 @@ impl Model for Partings {
     ghost Value = { Numbered Parting };
 
     ghost view = { λ p. partings_from 1 p.stages };
+
+    ghost invariant = { λ p. length p.stages ≡ 32 };
 }
 
 impl Partings {
