@@ -9,7 +9,7 @@ use Rattle.node_model.specs.declared.route.Route.{Route}
 use Rattle.node_model.specs.declared.route.Route.TheVariants as routes
 use Rattle.node_model.specs.Kinds.{Named, PerKind, get_named, put_named}
 use Rattle.node_model.specs.Directory.{Directory, Parting, IsLeaving, HasLeft, Place, At, Coming, bound_for, destination_of, held_for, hold, hold_at, is_coming, is_coming_to, is_known, is_leaving, items_of, maker, maker_stays, place_name, place_of, route, route_by, route_by_maker, stays, with_leaving, with_left, with_place}
-use Rattle.lease_leader.specs.Places.{AllAreLate, all_places_by, directory_by, is_at, is_at_node, items_in, place_by, route_of, spot_at, with_item}
+use Rattle.lease_leader.specs.Places.{AllAreLate, all_places_by, destination_in, directory_by, is_at, is_at_node, items_in, place_by, route_of, spot_at, with_item}
 use Rattle.lease_leader.specs.declared.spot.Spot.{Spot}
 use Rattle.lease_leader.specs.declared.spot.Spot.TheVariants as spots
 use Rattle.lease_leader.proofs.Late.{all_places_by-leaving, all_places_by-left}
@@ -55,9 +55,20 @@ module _ (partings : Numbered Parting) where
   items_of-place_by (spots.Regardless node) = refl
   items_of-place_by (spots.Coming to held) = refl
 
-  pub bound-by : (b : Bool) (node : ℕ) → destination_of (Some (cond b (At node) (Coming None []))) ≡ None
+  bound-by : (b : Bool) (node : ℕ) → destination_of (Some (cond b (At node) (Coming None []))) ≡ None
   bound-by true node = refl
   bound-by false node = refl
+
+  destination_in-place_by : (spot : Spot) → destination_in spot ≡ destination_of (Some (place_by partings spot))
+  destination_in-place_by (spots.WhileItStays node) = sym (bound-by (is_none (get partings node)) node)
+  destination_in-place_by (spots.Regardless node) = refl
+  destination_in-place_by (spots.Coming to held) = refl
+
+  -- nothing is held for a name that is at a node
+  pub at-items : (spot : Spot) → IsTrue (is_at_node (Some (place_by partings spot))) → items_in spot ≡ []
+  at-items (spots.WhileItStays node) h = refl
+  at-items (spots.Regardless node) h = refl
+  at-items (spots.Coming to held) h = absurd (false≢true h)
 
   module _ (kept : Named Spot) (ranges : PerKind (List ℕ)) where
     pub known : (name : Name) → is_known (directory_by partings kept ranges) name ≡ is_some (get_named kept name)
@@ -165,8 +176,13 @@ module _ (partings : Numbered Parting) where
         sym (ap destination_of (get-all_places_by partings kept name ∙ ap (option_map (place_by partings)) none))
 
     pub bound-spot : (name : Name) (spot : Spot) → get_named kept name ≡ Some spot
-        → destination_of (Some (place_by partings spot)) ≡ bound_for (directory_by partings kept ranges) name
-    bound-spot name spot there = sym (ap destination_of (place_of-spot name spot there))
+        → destination_in spot ≡ bound_for (directory_by partings kept ranges) name
+    bound-spot name spot there =
+        destination_in-place_by spot ∙ sym (ap destination_of (place_of-spot name spot there))
+
+    pub at-spot : (name : Name) (spot : Spot) → get_named kept name ≡ Some spot
+        → IsTrue (is_at (directory_by partings kept ranges) name) → items_in spot ≡ []
+    at-spot name spot there h = at-items spot (ap is_at_node (sym (place_of-spot name spot there)) ∙ h)
 
     -- a node leaves, or has left
     pub leaves : (node : ℕ) → IsTrue (stays (directory_by partings kept ranges) node) → AllAreLate partings kept

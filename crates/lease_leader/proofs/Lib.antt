@@ -4,3 +4,4 @@ pub mod Late
 pub mod Changes
 pub mod Totals
 pub mod Tables
+pub mod Landing

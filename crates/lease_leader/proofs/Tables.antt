@@ -1,5 +1,5 @@
 -- A table of counts by name, as its calls change it, and loops over deeds and items.
-use Rattle.std.proofs.Common.{◌≡◌, ℕ, ◌+◌, ◌≤◌, ◌<◌, Bool, true, false, cond, nat_eq, List, [], ◌∷◌, length, get_or, take, Option, Some, None, unwrap_or, refl, sym, ap, subst, ◌∙◌, arith}
+use Rattle.std.proofs.Common.{◌≡◌, ℕ, ◌+◌, ◌≤◌, ◌<◌, Bool, true, false, cond, nat_eq, List, [], ◌∷◌, length, get_or, take, Option, Some, None, unwrap_or, Result, Ok, Err, IsOk, is_err, OnOk, OnErr, refl, sym, ap, ◌∙◌, arith}
 use Rattle.std.proofs.lemmas.Bool.{false≢true, eq-eqb}
 use Rattle.std.proofs.lemmas.Bool.Decides.{nat_tests}
 use Rattle.std.proofs.lemmas.List.Sums.{count_by-le-length, sum_by_more, sum_by_more_le}
@@ -140,3 +140,16 @@ module _ (holder : Name) (items : List Held) (i : ℕ) (item : Held) (within : i
       let count : Held → ℕ = λ x. deeds_named q (deeds_in holder x) in
       let here : count (get_or items i item) ≡ count item = ap count (sym is) in
       omega (arith, sum_by_more_le count items i item within, here)
+
+-- ---- outcomes
+
+-- a call that is refused only at an absent name isn't at one that is counted
+pub never-refused : {U E : Type 0} (r : Result U E) (counts : Counts) (key : Name)
+    → OnErr r (lookup (eq-value.it key) counts ≡ None) → 0 < count_in counts key → IsOk r
+never-refused (Ok u) counts key absent above = refl
+never-refused (Err e) counts key absent above =
+    let none : 0 ≡ count_in counts key = looked_up counts key None (sym absent) in absurd (omega arith)
+
+pub on-ok : {U E : Type 0} (r : Result U E) {P : Type 0} → is_err r ≡ false → OnOk r P → P
+on-ok (Ok u) h p = p
+on-ok (Err e) h p = absurd (false≢true (sym h))

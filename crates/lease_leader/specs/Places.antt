@@ -38,6 +38,12 @@ abbrev pub spot_at : ℕ → Bool → Spot
 spot_at node true = spots.WhileItStays node
 spot_at node false = spots.Regardless node
 
+-- where the deed of a name that is on its way is to go
+abbrev pub destination_in : Spot → Option ℕ
+destination_in (spots.WhileItStays node) = None
+destination_in (spots.Regardless node) = None
+destination_in (spots.Coming to held) = to
+
 -- what is held for a name
 abbrev pub items_in : Spot → List Held
 items_in (spots.WhileItStays node) = []

@@ -181,8 +181,8 @@ impl Directory {
         ensures { result ≡ bound_for self.now name }
     {
         match self.spots.get(&name) {
-            Some(Spot::Coming { to, held: _ }) => *to,
-            _ => None,
+            Some(spot) => spot.destination(),
+            None => None,
         }
     }
 

@@ -1,7 +1,7 @@
 //! What the leader keeps of one known name.
 ghost use Rattle.std.specs.Prelude.{◌≡◌, ◌∷◌, ◌++◌, [], OnOk, OnErr, IfErr};
 ghost use Rattle.number_maps.specs.Maps.{get};
-ghost use Rattle.lease_leader.specs.Places.{items_in, place_by, route_of, spot_at, with_item};
+ghost use Rattle.lease_leader.specs.Places.{destination_in, items_in, place_by, route_of, spot_at, with_item};
 
 use crate::partings::Partings;
 use node_model::{Held, Route};
@@ -63,6 +63,16 @@ impl Spot {
             }
             Spot::Regardless(node) => Route::At(*node),
             Spot::Coming { to: _, held: _ } => Route::Coming,
+        }
+    }
+
+    /// The node that the deed of a coming name is to be sent on to.
+    pub(crate) fn destination(&self) -> Option<Node>
+        ensures { result ≡ destination_in self.now }
+    {
+        match self {
+            Spot::WhileItStays(_) | Spot::Regardless(_) => None,
+            Spot::Coming { to, held: _ } => *to,
         }
     }
 

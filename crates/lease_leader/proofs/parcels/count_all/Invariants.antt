@@ -7,5 +7,5 @@ abbrev pub invariant-loop-deed : goal.invariant-loop-deed
 invariant-loop-deed l =
     record {
       come : HaveCome (take l.deed-index l.deeds) l.fn.counts.entries l.counts.entries;
-      room : length l.deeds ≤ spare l.counts + l.deed-index
+      room : length l.deeds ≤ spare l.counts + l.deed-index;
     }
