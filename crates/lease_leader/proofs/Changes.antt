@@ -19,10 +19,12 @@ none-from : {A : Type 0} (o : Option A) → is_none o ≡ true → o ≡ None
 none-from None h = refl
 none-from (Some a) h = absurd (false≢true h)
 
+-- an option by its test
 pub none-some : {A : Type 0} (o : Option A) → is_some o ≡ false → o ≡ None
 none-some None h = refl
 none-some (Some a) h = absurd (false≢true (sym h))
 
+-- the value that is there
 pub some-there : {A : Type 0} (o : Option A) → IsSome o → (a : A) × (o ≡ Some a)
 some-there None h = absurd (false≢true h)
 some-there (Some a) h = (a, refl)

@@ -71,7 +71,8 @@ module _ (partings : Numbered Parting) where
       } in
       ap with (places_by-put kept.sets id spot)
 
-  come : (node : ℕ) (o : Option Parting) → get partings node ≡ o → place_by partings (spot_at node (is_none o)) ≡ At node
+  come : (node : ℕ) (o : Option Parting) → get partings node ≡ o
+      → place_by partings (spot_at node (is_none o)) ≡ At node
   come node None h = rw h refl
   come node (Some p) h = refl
 

@@ -5,3 +5,5 @@ pub mod Changes
 pub mod Totals
 pub mod Tables
 pub mod Landing
+pub mod RangeLemmas
+pub mod Routes

@@ -20,7 +20,8 @@ get-here : (n : ℕ) (o : Option Parting) (rest : Numbered Parting) → Above n 
 get-here n None rest a = get-above n rest a
 get-here n (Some p) rest a = get-first (n, p) rest n refl
 
-get-past : (n k : ℕ) (o : Option Parting) (rest : Numbered Parting) → n < k → get (parting_first n o rest) k ≡ get rest k
+get-past : (n k : ℕ) (o : Option Parting) (rest : Numbered Parting) → n < k
+    → get (parting_first n o rest) k ≡ get rest k
 get-past n k None rest h = refl
 get-past n k (Some p) rest h = let ne : k ≢ n = omega arith in get-later (n, p) rest k ne
 

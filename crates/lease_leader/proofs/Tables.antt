@@ -150,6 +150,7 @@ never-refused (Ok u) counts key absent above = refl
 never-refused (Err e) counts key absent above =
     let none : 0 ≡ count_in counts key = looked_up counts key None (sym absent) in absurd (omega arith)
 
+-- what holds of a call that isn't refused
 pub on-ok : {U E : Type 0} (r : Result U E) {P : Type 0} → is_err r ≡ false → OnOk r P → P
 on-ok (Ok u) h p = p
 on-ok (Err e) h p = absurd (false≢true (sym h))

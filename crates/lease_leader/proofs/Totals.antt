@@ -69,7 +69,8 @@ module _ (name : Name) where
   none-counts (item ∷ items) =
       omega (arith, sum_by-cons {X = Held} (λ item'. deeds_named name []) item items, none-counts items)
 
-  none-count : (o : Option Spot) → unwrap_or (option_map (λ spot. sum_by (λ item. deeds_named name []) (items_in spot)) o) 0 ≡ 0
+  none-count : (o : Option Spot)
+      → unwrap_or (option_map (λ spot. sum_by (λ item. deeds_named name []) (items_in spot)) o) 0 ≡ 0
   none-count None = refl
   none-count (Some spot) = none-counts (items_in spot)
 

@@ -1,6 +1,8 @@
 //! The directory.
 ghost use Rattle.std.specs.Prelude.{◌≡◌, IsTrue, IfOk, IfErr, OnOk, OnErr, not};
 ghost use Rattle.node_model.specs.Directory.{arrive, bound_for, has_more, held_for, hold, is_coming, is_in_parcel, is_known, is_leaving, opening_directory, place_name, recall, route, stays, upcoming, with_leaving, with_left, with_range};
+ghost use Rattle.node_model.specs.Kinds.{for_kind};
+ghost use Rattle.lease_leader.specs.Apart.{IsNextRange};
 ghost use Rattle.lease_leader.specs.Places.{is_at};
 
 use crate::parcels::{Parcels, deeds_in};
@@ -76,11 +78,14 @@ impl Directory {
         self.ranges.count(kind) as u32 * RANGE + 1
     }
 
-    /// Gives the next range of the kind to this node: its first number. A refusal for want of memory changes nothing.
+    /// Gives the next range of the kind to this node: its first number. None of its eight numbers was in a range, and
+    /// every other number stays where it was, so ranges of one kind don't overlap. A refusal for want of memory changes nothing.
     pub fn next_range(&mut self, kind: Kind, node: Node) -> Result<u32, Memory>
         requires { IsTrue (has_more self.old kind) }
         ensures first { IfOk result (λ first. first ≡ upcoming self.old kind) }
         ensures ok { OnOk result (self.new ≡ with_range self.old kind node) }
+        ensures apart { OnOk result
+            (IsNextRange (for_kind self.old.ranges kind) (for_kind self.new.ranges kind) (upcoming self.old kind) node) }
         ensures err { OnErr result (self.new ≡ self.old) }
     {
         let first = self.upcoming(kind);
