@@ -79,13 +79,14 @@ impl Directory {
     }
 
     /// Gives the next range of the kind to this node: its first number. None of its eight numbers was in a range, and
-    /// every other number stays where it was, so ranges of one kind don't overlap. A refusal for want of memory changes nothing.
+    /// every other number stays where it was, so ranges of one kind don't overlap. A refusal for want of memory changes
+    /// nothing.
     pub fn next_range(&mut self, kind: Kind, node: Node) -> Result<u32, Memory>
         requires { IsTrue (has_more self.old kind) }
         ensures first { IfOk result (λ first. first ≡ upcoming self.old kind) }
         ensures ok { OnOk result (self.new ≡ with_range self.old kind node) }
-        ensures apart { OnOk result
-            (IsNextRange (for_kind self.old.ranges kind) (for_kind self.new.ranges kind) (upcoming self.old kind) node) }
+        ensures apart { OnOk result (IsNextRange
+            (for_kind self.old.ranges kind) (for_kind self.new.ranges kind) (upcoming self.old kind) node) }
         ensures err { OnErr result (self.new ≡ self.old) }
     {
         let first = self.upcoming(kind);
