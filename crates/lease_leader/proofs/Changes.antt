@@ -1,12 +1,10 @@
 -- What a change of the spots makes of the directory.
-use Rattle.std.proofs.Common.{◌≡◌, ℕ, Bool, true, false, cond, not, ◌&&◌, nat_eq, List, [], ◌∷◌, ◌++◌, Option, Some, None, is_none, is_some, refl, sym, ap, ◌∙◌, IsTrue, IsSome}
+use Rattle.std.proofs.Common.{◌≡◌, ℕ, Bool, true, false, cond, not, List, [], ◌∷◌, Option, Some, None, is_none, is_some, refl, sym, ap, ◌∙◌, IsTrue, IsSome}
 use Rattle.std.proofs.lemmas.Bool.{false≢true}
 use Rattle.std.specs.Option.{option_map}
 use Rattle.pico_base.specs.declared.numbers.Name.{Name}
 use Rattle.number_maps.specs.Maps.{Numbered, get, put}
 use Rattle.node_model.specs.declared.held.Held.{Held}
-use Rattle.node_model.specs.declared.route.Route.{Route}
-use Rattle.node_model.specs.declared.route.Route.TheVariants as routes
 use Rattle.node_model.specs.Kinds.{Named, PerKind, get_named, put_named}
 use Rattle.node_model.specs.Directory.{Directory, Parting, IsLeaving, HasLeft, Place, At, Coming, bound_for, destination_of, held_for, hold, hold_at, is_coming, is_coming_to, is_known, is_leaving, items_of, maker, maker_stays, place_name, place_of, route, route_by, route_by_maker, stays, with_leaving, with_left, with_place}
 use Rattle.lease_leader.specs.Places.{AllAreLate, all_places_by, destination_in, directory_by, is_at, is_at_node, items_in, place_by, route_of, spot_at, with_item}

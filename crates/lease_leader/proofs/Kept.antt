@@ -1,5 +1,5 @@
 -- The places that are kept spots mean: look-ups and changes of them.
-use Rattle.std.proofs.Common.{◌≡◌, ℕ, Bool, true, false, cond, not, List, [], ◌∷◌, Option, Some, None, is_none, is_some, refl, sym, ap, ◌∙◌, IsTrue}
+use Rattle.std.proofs.Common.{◌≡◌, ℕ, Bool, true, false, cond, [], ◌∷◌, Option, Some, None, is_none, refl, ap}
 use Rattle.std.specs.Option.{option_map}
 use Rattle.std.specs.Ordering.{nat_cmp, match_ordering}
 use Rattle.std.specs.declared.cmp.Ordering.{Ordering}
@@ -8,8 +8,8 @@ use Rattle.std.specs.BTreeMap.{is_at}
 use Rattle.pico_base.specs.declared.numbers.Name.{Name}
 use Rattle.pico_base.specs.declared.numbers.Name.TheVariants.{Proc, Msg, Sem}
 use Rattle.number_maps.specs.Maps.{Numbered, get, put}
-use Rattle.node_model.specs.Kinds.{Named, PerKind, get_named, put_named}
-use Rattle.node_model.specs.Directory.{Parting, Place, At, Coming}
+use Rattle.node_model.specs.Kinds.{Named, get_named, put_named}
+use Rattle.node_model.specs.Directory.{Parting, Place, At}
 use Rattle.lease_leader.specs.Places.{all_places_by, place_by, places_by, spot_at}
 use Rattle.lease_leader.specs.declared.spot.Spot.{Spot}
 

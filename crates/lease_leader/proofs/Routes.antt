@@ -1,9 +1,8 @@
 -- What a route tells of a name's place: whoever asked for it may recall the name, or hold for it.
 use Rattle.std.proofs.Common.{◌≡◌, ℕ, Bool, true, false, cond, not, ◌&&◌, nat_eq, Option, Some, None, refl, IsTrue}
 use Rattle.pico_base.specs.declared.numbers.Name.{Name}
-use Rattle.node_model.specs.declared.route.Route.{Route}
 use Rattle.node_model.specs.declared.route.Route.TheVariants as routes
-use Rattle.node_model.specs.Directory.{Directory, Place, At, Coming, is_coming, is_coming_to, maker, maker_stays, place_of, route, route_by, route_by_maker}
+use Rattle.node_model.specs.Directory.{Directory, Place, At, Coming, is_coming, is_coming_to, maker, maker_stays, place_of, route, route_by}
 use Rattle.lease_leader.specs.Places.{is_at, is_at_node}
 
 not-at : (b : Bool) (x node : ℕ) → cond b (routes.Range x) routes.Nobody ≡ routes.At node → ⊥

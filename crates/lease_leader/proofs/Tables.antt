@@ -1,5 +1,5 @@
 -- A table of counts by name, as its calls change it, and loops over deeds and items.
-use Rattle.std.proofs.Common.{◌≡◌, ℕ, ◌+◌, ◌≤◌, ◌<◌, Bool, true, false, cond, nat_eq, List, [], ◌∷◌, length, get_or, take, Option, Some, None, unwrap_or, Result, Ok, Err, IsOk, is_err, OnOk, OnErr, refl, sym, ap, ◌∙◌, arith}
+use Rattle.std.proofs.Common.{◌≡◌, ℕ, ◌+◌, ◌≤◌, ◌<◌, Bool, true, false, cond, nat_eq, List, length, get_or, take, Option, Some, None, unwrap_or, Result, Ok, Err, IsOk, is_err, OnOk, OnErr, refl, sym, ap, ◌∙◌, arith}
 use Rattle.std.proofs.lemmas.Bool.{false≢true, eq-eqb}
 use Rattle.std.proofs.lemmas.Bool.Decides.{nat_tests}
 use Rattle.std.proofs.lemmas.List.Sums.{count_by-le-length, sum_by_more, sum_by_more_le}
@@ -10,7 +10,7 @@ use Rattle.pico_base.specs.contracts.numbers.NamePartialEq.TheImpl.{eq-value}
 use Rattle.rpc_frame.specs.declared.deed.PackedDeed.{PackedDeed}
 use Rattle.node_model.specs.declared.held.Held.{Held}
 use Rattle.node_model.specs.Kinds.{is_same_name}
-use Rattle.lease_leader.specs.Counting.{AllAreIn, AreIn, Counts, count_in, deeds_in, deeds_named, named_in}
+use Rattle.lease_leader.specs.Counting.{Counts, count_in, deeds_in, deeds_named, named_in}
 
 -- ---- the derived equality of names is the one of the definitions
 

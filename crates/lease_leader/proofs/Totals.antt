@@ -1,6 +1,6 @@
 -- How many deeds of a name are held: what a change of a spot makes of it.
-use Rattle.std.proofs.Common.{◌≡◌, ℕ, zero, suc, ◌+◌, ◌≤◌, ◌<◌, Bool, true, false, cond, ◌||◌, nat_lt, List, [], ◌∷◌, ◌++◌, map, Option, Some, None, is_none, unwrap_or, sum_by, count_by, refl, sym, ap, ◌∙◌, arith, IsTrue}
-use Rattle.std.proofs.lemmas.Bool.{lt-ltb, le-ltb, false≢true}
+use Rattle.std.proofs.Common.{◌≡◌, ℕ, zero, suc, ◌+◌, Bool, true, false, cond, ◌||◌, nat_lt, List, [], ◌∷◌, Option, Some, None, unwrap_or, sum_by, refl, sym, ap, ◌∙◌, arith}
+use Rattle.std.proofs.lemmas.Bool.{lt-ltb}
 use Rattle.std.proofs.lemmas.List.Sums.{sum_by-cons, sum_by_push}
 use Rattle.std.proofs.lemmas.Map.Entries.{sum_by-insert_entry}
 use Rattle.std.specs.Cmp.{nat_cmp_total}
@@ -9,13 +9,13 @@ use Rattle.std.specs.Map.{values_of}
 use Rattle.std.specs.Option.{option_map}
 use Rattle.pico_base.specs.declared.numbers.Name.{Name}
 use Rattle.pico_base.specs.declared.numbers.Name.TheVariants.{Proc, Msg, Sem}
-use Rattle.number_maps.specs.Maps.{Numbered, get, put}
+use Rattle.number_maps.specs.Maps.{Numbered, get}
 use Rattle.number_maps.specs.Rising.{IsRising}
 use Rattle.node_model.specs.declared.held.Held.{Held}
 use Rattle.node_model.specs.declared.held.Held.TheVariants.{Request, Ending}
 use Rattle.node_model.specs.Kinds.{Named, get_named, put_named, is_same_name}
-use Rattle.node_model.specs.Directory.{Parting, Place, At, Coming, is_held_in, is_parcel_with, items_of}
-use Rattle.lease_leader.specs.Places.{items_in, place_by, places_by, spot_at, with_item}
+use Rattle.node_model.specs.Directory.{Parting, is_held_in, is_parcel_with}
+use Rattle.lease_leader.specs.Places.{items_in, places_by, spot_at, with_item}
 use Rattle.lease_leader.specs.Counting.{AllAreIn, AreCounted, Counts, count_in, deeds_in, deeds_named, named_among, named_at, named_in, parcel_deeds}
 use Rattle.lease_leader.specs.declared.spot.Spot.{Spot}
 use Rattle.lease_leader.specs.declared.spot.Spot.TheVariants as spots

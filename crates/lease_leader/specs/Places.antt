@@ -1,5 +1,5 @@
 -- What the leader keeps of a known name, and which place that means.
-use Rattle.std.specs.Prelude.{ℕ, Bool, true, false, not, List, [], ◌∷◌, ◌++◌, map, if◌then◌else◌, Option, Some, None, IsTrue, is_none, is_some}
+use Rattle.std.specs.Prelude.{ℕ, Bool, true, false, List, [], ◌∷◌, ◌++◌, map, if◌then◌else◌, Option, Some, None, IsTrue, is_none, is_some}
 use Rattle.number_maps.specs.Maps.{Numbered, get}
 use Rattle.pico_base.specs.declared.numbers.Name.{Name}
 use Rattle.node_model.specs.declared.held.Held.{Held}

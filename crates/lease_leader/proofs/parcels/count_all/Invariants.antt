@@ -1,4 +1,4 @@
-use Rattle.std.proofs.Common.{◌≡◌, ◌+◌, ◌≤◌, length, take}
+use Rattle.std.proofs.Common.{◌+◌, ◌≤◌, length, take}
 use Rattle.indexmap.specs.IndexMap.{spare}
 use Rattle.lease_leader.specs.Counting.{HaveCome}
 use Rattle.lease_leader.proofs.parcels.count_all.Given as goal

@@ -1,4 +1,4 @@
-use Rattle.std.proofs.Common.{ℕ, ◌+◌, Option, Some, ap}
+use Rattle.std.proofs.Common.{ℕ, ◌+◌, Some, ap}
 use Rattle.indexmap.specs.IndexMap.{Updates}
 use Rattle.pico_base.specs.contracts.numbers.NamePartialEq.TheImpl.{eq-value}
 use Rattle.lease_leader.proofs.Tables.{counted-up}

@@ -1,4 +1,4 @@
-use Rattle.std.proofs.Common.{◌≡◌, Bool, true, false, not, is_none, is_some, None, ap, sym, ◌∙◌}
+use Rattle.std.proofs.Common.{◌≡◌, true, false, not, is_none, is_some, ap, sym, ◌∙◌}
 use Rattle.number_maps.specs.Maps.{get}
 use Rattle.node_model.specs.Directory.{is_known, place_name}
 use Rattle.node_model.specs.Kinds.{get_named, put_named}
