@@ -58,11 +58,11 @@ can_put m old floor seat entries found now (Err fault) slot taken number seen or
       order = subst IsInOrder (sym adds.1) order;
     }
 
--- what is told with a stamp
-pub appends : (floor : ℕ) (entries : List Entry) (found now : List Stamped) (old new : Seated) (answer : Result ℕ AppendFault)
+-- what is told of an append
+pub tells : (floor : ℕ) (entries : List Entry) (found now : List Stamped) (old new : Seated) (answer : Result ℕ AppendFault)
     → BeginsWith found old.seen → IsInOrder found → new.own ≡ old.own ++ drop (length found) now → new.seen ≡ now → Adds floor old.number entries found now answer
-    → IfOk answer (λ stamp. Appends floor entries old new stamp)
-appends floor entries found now old new (Ok stamp) begins order own seen adds =
+    → MatchResult answer (λ stamp. Appends floor entries old new stamp) (λ fault. Refuses floor old new fault)
+tells floor entries found now old new (Ok stamp) begins order own seen adds =
     let whole = under stamp old.number entries in
     record {
       found = found;
@@ -72,14 +72,7 @@ appends floor entries found now old new (Ok stamp) begins order own seen adds =
       seen = seen ∙ adds.1;
       order = subst IsInOrder (sym (seen ∙ adds.1)) (order_now floor old.number stamp entries found order adds.0);
     }
-appends floor entries found now old new (Err fault) begins order own seen adds = tt
-
--- what is told with a fault
-pub refuses : (floor : ℕ) (entries : List Entry) (found now : List Stamped) (old new : Seated) (answer : Result ℕ AppendFault)
-    → BeginsWith found old.seen → IsInOrder found → new.own ≡ old.own ++ drop (length found) now → new.seen ≡ now → Adds floor old.number entries found now answer
-    → IfErr answer (λ fault. Refuses floor old new fault)
-refuses floor entries found now old new (Ok stamp) begins order own seen adds = tt
-refuses floor entries found now old new (Err fault) begins order own seen adds =
+tells floor entries found now old new (Err fault) begins order own seen adds =
     let same = seen ∙ adds.1 in
     let nothing : drop (length found) now ≡ [] = ap (drop (length found)) (adds.1 ∙ sym (append-nil found)) ∙ drop_seen found [] in
     record {

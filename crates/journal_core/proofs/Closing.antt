@@ -10,7 +10,7 @@ use Rattle.journal_core.specs.declared.stamped.Stamped.{Stamped}
 use Rattle.journal_core.specs.declared.view.Share.{Share}
 use Rattle.journal_core.specs.declared.view.View.{View}
 use Rattle.journal_core.specs.Journal.{of_seat, BeginsWith, IsInOrder, IsOfSeats}
-use Rattle.journal_core.specs.Seated.{Seated, AreNumbered, HasAllOf}
+use Rattle.journal_core.specs.Seated.{Seated, AreNumbered, HasAllOf, Closes}
 use Rattle.journal_core.specs.Rule.{Book, FitsShare, Fits, IsKept, Kept, slot_of}
 use Rattle.journal_core.specs.Turns.{share_of, HasGathered}
 use Rattle.journal_core.proofs.Journals.{of_more_seats}
@@ -58,27 +58,27 @@ nobody_left : (seats : ℕ) (book : Book) (s : State (List Stamped) View) (k : I
 nobody_left seats book s k place v at one idle all =
     ⊎_elim (λ is. is)
     (λ (some_one : (p : ℕ) × (book.holder ≡ Some p)).
-        let p = some_one.0 in
-        let u = k.held p some_one.1 in
-        let mine = k.each place v at in
-        let theirs = k.each p u.0 u.1 in
-        let low : 1 ≤ u.0.number = (theirs.taken u.2).3 in
-        let number : u.0.number ≡ p + 1 = (theirs.number low).0 in
-        let below : p < length s.views = place_below s.views p u.0 u.1 in
-        let count : length s.views ≡ book.given = k.numbers in
-        let most : book.given ≤ seats = k.most.1 in
-        let joined : length v.joined ≡ book.joined = (mine.first one).0 in
-        let own : v.number ≡ place + 1 = (mine.number (omega arith)).0 in
-        let first : u.0.number ≡ 1 = ⊎_elim (λ is. is) (λ (later : book.joined + 1 < u.0.number). absurd (omega arith)) (theirs.number low).1 in
-        let same : p ≡ place = omega arith in
-        let it : u.0 ≡ v = some-injective u.0 v (sym u.1 ∙ (ap (get_elem? s.views) same ∙ at)) in
-        absurd (true≢false (sym u.2 ∙ (ap (λ (x : View). x.taken) it ∙ idle))))
+    let p = some_one.0 in
+    let u = k.held p some_one.1 in
+    let mine = k.each place v at in
+    let theirs = k.each p u.0 u.1 in
+    let low : 1 ≤ u.0.number = (theirs.taken u.2).3 in
+    let number : u.0.number ≡ p + 1 = (theirs.number low).0 in
+    let below : p < length s.views = place_below s.views p u.0 u.1 in
+    let count : length s.views ≡ book.given = k.numbers in
+    let most : book.given ≤ seats = k.most.1 in
+    let joined : length v.joined ≡ book.joined = (mine.first one).0 in
+    let own : v.number ≡ place + 1 = (mine.number (omega arith)).0 in
+    let first : u.0.number ≡ 1 = ⊎_elim (λ is. is) (λ (later : book.joined + 1 < u.0.number). absurd (omega arith)) (theirs.number low).1 in
+    let same : p ≡ place = omega arith in
+    let it : u.0 ≡ v = some-injective u.0 v (sym u.1 ∙ (ap (get_elem? s.views) same ∙ at)) in
+    absurd (true≢false (sym u.2 ∙ (ap (λ (x : View). x.taken) it ∙ idle))))
     (none_or_some book.holder)
 
 -- what the table says at its end
 pub closes : (seats place : ℕ) (v : View) (table : TableId) (all : List Seated) (words : List ℕ) (slots : List (List Stamped)) (journal : List Stamped)
     → Final (Seen (Kept seats) place v) words slots → HasGathered v all → AreNumbered table 1 all → length all ≡ seats → get_elem? slots 0 ≡ some journal
-    → HasAllOf journal all × IsInOrder journal × IsOfSeats seats journal
+    → Closes (record { id = table; seats = seats }) all journal
 closes seats place v table all words slots journal last gathered numbered count taken =
     let s = last.0 in
     let book = last.1.0.0 in
@@ -89,5 +89,9 @@ closes seats place v table all words slots journal last gathered numbered count 
     let home : s.homes ≡ some book.journal ∷ [] = k.slot ∙ ap (λ o. slot_of o book.journal ∷ []) free in
     let there : get_elem? slots 0 ≡ some book.journal = last.4 0 book.journal (ap (λ hs. get_elem? hs 0) home) in
     let same : book.journal ≡ journal = some-injective book.journal journal (sym there ∙ taken) in
-    subst (λ l. HasAllOf l all × IsInOrder l × IsOfSeats seats l) same
-        (all_have seats book place v table all (k.each place v at) gathered numbered, k.order, of_more_seats book.given seats book.journal k.most.1 k.within)
+    subst (Closes (record { id = table; seats = seats }) all) same
+    (record {
+      whole = all_have seats book place v table all (k.each place v at) gathered numbered;
+      order = k.order;
+      others = of_more_seats book.given seats book.journal k.most.1 k.within;
+    })

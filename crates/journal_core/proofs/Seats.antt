@@ -53,6 +53,7 @@ begins seats low high = (
   where
     opened : Book
     opened = record { journal = []; holder = None; served = 0; drawn = 0; drawer = λ _. 0; joined = 0; given = 1 }
+
     alone : (place : ℕ) (v : View) → get_elem? (first_view ∷ []) place ≡ some v → Fits opened place v
     alone zero v e =
         subst (Fits opened 0) (some-injective first_view v e) (fits_fresh opened 0 1 1 (λ _. refl) (λ _. (refl, inl refl)) (λ _. (refl, refl)))
@@ -121,18 +122,18 @@ gives seats place v one room s kept at =
         each = λ j u e.
             ⊎_elim
             (λ old.
-                each_set after s.views place w (fits_giving book place v one mine)
-                (λ i x apart there.
-                    let f = k.each i x there in
-                    fits_one_more book i x (λ is. apart (first_place book i x f is ∙ sym first)) f)
-                j u old)
+            each_set after s.views place w (fits_giving book place v one mine)
+            (λ i x apart there.
+            let f = k.each i x there in
+            fits_one_more book i x (λ is. apart (first_place book i x f is ∙ sym first)) f)
+            j u old)
             (λ (new : (fresh ≡ u) × (j ≡ length longer)).
-                let place_is : j ≡ book.given = new.1 ∙ (long ∙ count) in
-                subst (Fits after j) new.0
-                (fits_fresh after j (v.given + 1) 0
-                  (λ _. none_of_later book.given (v.given + 1) book.journal k.within (omega arith))
-                  (λ _. (omega arith, inr (omega arith)))
-                  (λ is. absurd (omega arith))))
+            let place_is : j ≡ book.given = new.1 ∙ (long ∙ count) in
+            subst (Fits after j) new.0
+            (fits_fresh after j (v.given + 1) 0
+            (λ _. none_of_later book.given (v.given + 1) book.journal k.within (omega arith))
+            (λ _. (omega arith, inr (omega arith)))
+            (λ is. absurd (omega arith))))
             (at_behind longer fresh u j e);
       },
     )
@@ -171,7 +172,7 @@ fits_gathering book place v w one share fits =
       shares = λ k x e.
           ⊎_elim (λ old. fits.shares k x old)
           (λ (is : (new ≡ x) × (k ≡ length v.joined)).
-              subst (λ (y : ℕ × Share). FitsShare book.journal y.0 y.1) (λ i. (sym is.1 i, is.0 i)) share)
+          subst (λ (y : ℕ × Share). FitsShare book.journal y.0 y.1) (λ i. (sym is.1 i, is.0 i)) share)
           (at_behind v.joined new x k e);
     }
   where
@@ -215,11 +216,11 @@ joins seats place v other w one next idle none s kept at apart there =
         each = each_set after middle other spent_view
             (fits_fresh after other 0 0 (λ low. absurd (omega arith)) (λ low. absurd (omega arith)) (λ is. absurd (omega arith)))
             (λ j u else e.
-                each_set_but after s.views place both other (fits_gathering book place v w one share mine)
-                (λ i x away off x_at.
-                    let f = k.each i x x_at in
-                    fits_joined book i x (λ is. away (first_place book i x f is ∙ sym first))
-                    (λ is. let own : x.number ≡ i + 1 = (f.number (omega arith)).0 in off (omega arith)) f)
-                j u else e);
+            each_set_but after s.views place both other (fits_gathering book place v w one share mine)
+            (λ i x away off x_at.
+            let f = k.each i x x_at in
+            fits_joined book i x (λ is. away (first_place book i x f is ∙ sym first))
+            (λ is. let own : x.number ≡ i + 1 = (f.number (omega arith)).0 in off (omega arith)) f)
+            j u else e);
       },
     )

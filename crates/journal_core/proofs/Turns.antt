@@ -123,14 +123,14 @@ nobody : (seats : ℕ) (book : Book) (s : St) (k : IsKept seats book s) (place :
 nobody seats book s k place v t at has idle served =
     ⊎_elim (λ is. is)
     (λ (some_one : (p : ℕ) × (book.holder ≡ Some p)).
-        let p = some_one.0 in
-        let u = k.held p some_one.1 in
-        let theirs = k.each p u.0 u.1 in
-        let drew : book.drawer book.served ≡ p = (theirs.ticket book.served (theirs.taken u.2).1).2 in
-        let mine : book.drawer t ≡ place = ((k.each place v at).ticket t has).2 in
-        let same : p ≡ place = sym drew ∙ (ap book.drawer served ∙ mine) in
-        let one : u.0 ≡ v = some-injective u.0 v (sym u.1 ∙ (ap (get_elem? s.views) same ∙ at)) in
-        absurd (true≢false (sym u.2 ∙ (ap (λ (x : View). x.taken) one ∙ idle))))
+    let p = some_one.0 in
+    let u = k.held p some_one.1 in
+    let theirs = k.each p u.0 u.1 in
+    let drew : book.drawer book.served ≡ p = (theirs.ticket book.served (theirs.taken u.2).1).2 in
+    let mine : book.drawer t ≡ place = ((k.each place v at).ticket t has).2 in
+    let same : p ≡ place = sym drew ∙ (ap book.drawer served ∙ mine) in
+    let one : u.0 ≡ v = some-injective u.0 v (sym u.1 ∙ (ap (get_elem? s.views) same ∙ at)) in
+    absurd (true≢false (sym u.2 ∙ (ap (λ (x : View). x.taken) one ∙ idle))))
     (none_or_some book.holder)
 
 -- the others, once this seat has taken the journal
@@ -165,37 +165,37 @@ pub looks : (seats slots place : ℕ) (v : View) (t : ℕ) → v.ticket ≡ Some
 looks seats slots place v t has idle low s kept wide at small =
     dite (ℕ_discrete (get_or s.words 1 0) (t % 2 ^ 64))
     (λ (shown : get_or s.words 1 0 ≡ t % 2 ^ 64).
-        let book = kept.0 in
-        let k = kept.1 in
-        let word : get_or s.words 1 0 ≡ book.served % 2 ^ 64 = ap (λ ws. get_or ws 1 0) k.words in
-        let served : book.served ≡ t = served_is seats book s k place v t at has (sym word ∙ shown) in
-        let free : book.holder ≡ None = nobody seats book s k place v t at has idle served in
-        let home : s.homes ≡ some book.journal ∷ [] = k.slot ∙ ap (λ o. slot_of o book.journal ∷ []) free in
-        let mine = k.each place v at in
-        let w = holding v book.journal in
-        let after = record book { holder = Some place } in
-        let out : book.drawn ≡ book.served + tickets_out s.views = k.tickets in
-        let same : tickets_out (set s.views place w) + tickets_of v.ticket ≡ tickets_out s.views + tickets_of v.ticket = tickets_set s.views place v w at in (
-          w,
-          takes 0 book.journal,
-          ap (λ hs. get_elem? hs 0) home,
-          (
-            after,
-            record {
-              words = set-get_or s.words 1 0 ∙ k.words;
-              slot = ap (λ hs. set hs 0 none) home;
-              held = λ p e. let is : place ≡ p = same_Some place p e in
-                  (w, ap (get_elem? (set s.views place w)) (sym is) ∙ set_here s.views place w (place_below s.views place v at), refl);
-              tickets = omega arith;
-              numbers = length-set s.views place w ∙ k.numbers;
-              most = k.most;
-              order = k.order;
-              within = k.within;
-              each = each_set after s.views place w (fits_holding book place v (has ∙ ap Some (sym served)) low mine) (λ j u apart e. fits_taken book place j u free (k.each j u e));
-            },
-          ),
-          λ t' has'. ((λ _. (book.journal, refl, mine.seen, k.order)), (λ off. absurd (off (shown ∙ ap (λ x. x % 2 ^ 64) (same_Some t t' (sym has ∙ has')))))),
-        ))
+    let book = kept.0 in
+    let k = kept.1 in
+    let word : get_or s.words 1 0 ≡ book.served % 2 ^ 64 = ap (λ ws. get_or ws 1 0) k.words in
+    let served : book.served ≡ t = served_is seats book s k place v t at has (sym word ∙ shown) in
+    let free : book.holder ≡ None = nobody seats book s k place v t at has idle served in
+    let home : s.homes ≡ some book.journal ∷ [] = k.slot ∙ ap (λ o. slot_of o book.journal ∷ []) free in
+    let mine = k.each place v at in
+    let w = holding v book.journal in
+    let after = record book { holder = Some place } in
+    let out : book.drawn ≡ book.served + tickets_out s.views = k.tickets in
+    let same : tickets_out (set s.views place w) + tickets_of v.ticket ≡ tickets_out s.views + tickets_of v.ticket = tickets_set s.views place v w at in (
+      w,
+      takes 0 book.journal,
+      ap (λ hs. get_elem? hs 0) home,
+      (
+        after,
+        record {
+          words = set-get_or s.words 1 0 ∙ k.words;
+          slot = ap (λ hs. set hs 0 none) home;
+          held = λ p e. let is : place ≡ p = same_Some place p e in
+              (w, ap (get_elem? (set s.views place w)) (sym is) ∙ set_here s.views place w (place_below s.views place v at), refl);
+          tickets = omega arith;
+          numbers = length-set s.views place w ∙ k.numbers;
+          most = k.most;
+          order = k.order;
+          within = k.within;
+          each = each_set after s.views place w (fits_holding book place v (has ∙ ap Some (sym served)) low mine) (λ j u apart e. fits_taken book place j u free (k.each j u e));
+        },
+      ),
+      λ t' has'. ((λ _. (book.journal, refl, mine.seen, k.order)), (λ off. absurd (off (shown ∙ ap (λ x. x % 2 ^ 64) (same_Some t t' (sym has ∙ has')))))),
+    ))
     (λ (off : get_or s.words 1 0 ≢ t % 2 ^ 64). (
       v,
       keeps,
@@ -231,12 +231,12 @@ module _ (book : Book) (place : ℕ) (v : View) (added : List Stamped) (mine : F
       let below : k < length u.joined = place_below u.joined k share e in
       let f = fits.shares k share e in
       let apart : v.number ≢ k + 2 =
-          ⊎_elim
-          (λ (one : u.number ≡ 1).
-              let joined : length u.joined ≡ book.joined = (fits.first one).0 in
-              ⊎_elim (λ (first : v.number ≡ 1) (is : v.number ≡ k + 2). omega arith) (λ (later : book.joined + 1 < v.number) (is : v.number ≡ k + 2). omega arith) (mine.number low).1)
-          (λ (nothing : u.joined ≡ []). let zero : length u.joined ≡ 0 = ap length nothing in absurd (omega arith))
-          fits.others
+      ⊎_elim
+      (λ (one : u.number ≡ 1).
+      let joined : length u.joined ≡ book.joined = (fits.first one).0 in
+      ⊎_elim (λ (first : v.number ≡ 1) (is : v.number ≡ k + 2). omega arith) (λ (later : book.joined + 1 < v.number) (is : v.number ≡ k + 2). omega arith) (mine.number low).1)
+      (λ (nothing : u.joined ≡ []). let zero : length u.joined ≡ 0 = ap length nothing in absurd (omega arith))
+      fits.others
       in
       record { own = others_have (k + 2) apart ∙ f.own; seen = begins_still share.seen f.seen }
 

@@ -54,8 +54,8 @@ held_set holder views place v w at same held p is =
     let u = held p is in
     dite (ℕ_discrete p place)
     (λ (here : p ≡ place).
-        let one : u.0 ≡ v = some-injective u.0 v (sym u.1 ∙ (ap (get_elem? views) here ∙ at)) in
-        (w, ap (get_elem? (set views place w)) here ∙ set_here views place w (place_below views place v at), same ∙ (ap (λ (x : View). x.taken) (sym one) ∙ u.2)))
+    let one : u.0 ≡ v = some-injective u.0 v (sym u.1 ∙ (ap (get_elem? views) here ∙ at)) in
+    (w, ap (get_elem? (set views place w)) here ∙ set_here views place w (place_below views place v at), same ∙ (ap (λ (x : View). x.taken) (sym one) ∙ u.2)))
     (λ (else : p ≢ place). (u.0, set_else views place p w else ∙ u.1, u.2))
 
 one_ticket : (o : Option ℕ) → tickets_of o ≤ 1

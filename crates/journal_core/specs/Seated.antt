@@ -62,3 +62,9 @@ AreNew (s ∷ ss) = (s.own ≡ []) × (s.seen ≡ []) × AreNew ss
 abbrev pub HasAllOf : List Stamped → List Seated → Type 0
 HasAllOf journal [] = Unit {0}
 HasAllOf journal (s ∷ ss) = (of_seat s.number journal ≡ s.own) × BeginsWith journal s.seen × HasAllOf journal ss
+
+-- the journal at the end: what all seats have appended, in order, and no entry of another seat
+pub record Closes (lock : Lock) (seats : List Seated) (journal : List Stamped) : Type 0 where
+  pub whole : HasAllOf journal seats
+  pub order : IsInOrder journal
+  pub others : IsOfSeats lock.seats journal

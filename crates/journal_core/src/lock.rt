@@ -1,8 +1,7 @@
 //! The lock: its seats are made, they append, and it is closed.
-ghost use Rattle.std.specs.Prelude.{◌≡◌, ℕ, ◌<◌, ◌≤◌, [], ◌∷◌, length, IfOk, IfErr};
-ghost use Rattle.journal_core.specs.Journal.{IsInOrder, IsOfSeats};
+ghost use Rattle.std.specs.Prelude.{◌≡◌, ◌≤◌, [], length, IfOk, MatchResult};
 ghost use Rattle.journal_core.specs.Rule.{first_view};
-ghost use Rattle.journal_core.specs.Seated.{Appends, Refuses, AreAll, AreNew, AreNumbered, HasAllOf};
+ghost use Rattle.journal_core.specs.Seated.{Appends, AreAll, AreNew, AreNumbered, Closes, Refuses};
 ghost use Rattle.journal_core.specs.Steps.{done};
 ghost use Rattle.journal_core.specs.Turns.{CanPut, HasGathered, HasTaken, IsBoard, IsFree};
 
@@ -78,8 +77,7 @@ impl JournalLock {
     ) -> Result<u64, AppendFault>
         requires { seat.old.lock ≡ self.now.id }
         ensures seat { (seat.new.lock ≡ seat.old.lock) × (seat.new.number ≡ seat.old.number) }
-        ensures ok { IfOk result (λ stamp. Appends floor entries seat.old seat.new stamp) }
-        ensures err { IfErr result (λ fault. Refuses floor seat.old seat.new fault) }
+        ensures answer { MatchResult result (λ stamp. Appends floor entries seat.old seat.new stamp) (λ fault. Refuses floor seat.old seat.new fault) }
     {
         let board = &self.table.shared;
         let mut journal = take(rt, board, self.alloc, &mut seat.seat).into_vec();
@@ -91,9 +89,7 @@ impl JournalLock {
     /// The journal, once all seats are back: of each seat it has just the entries that the seat appended, in order.
     pub fn close(self, seats: Seats) -> Journal
         requires { AreAll self seats }
-        ensures whole { HasAllOf result seats }
-        ensures order { IsInOrder result }
-        ensures others { IsOfSeats self.seats result }
+        ensures { Closes self seats result }
     {
         let JournalLock { table, alloc: _ } = self;
         let first = gather(&table.shared, seats);

@@ -1,6 +1,6 @@
 //! The rule of the journal's lock, and what each kind of step tells the seat that makes it.
-use crate::view::View;
 use crate::Journal;
+use crate::view::View;
 use atomic_table::{Join, Play, Split, TableRule};
 
 /// The rule. Its key is the number of seats.

@@ -1,6 +1,6 @@
 //! A seat at the journal's lock.
-use crate::view::View;
 use crate::Journal;
+use crate::view::View;
 use atomic_table::Seat;
 use pico_base::Sequence;
 use std::marker::Model;
