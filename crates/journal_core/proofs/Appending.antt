@@ -1,7 +1,7 @@
 -- What an append says, from the journal that was found and the journal that is put back.
-use Rattle.std.proofs.Common.{◌≡◌, ℕ, zero, suc, ◌+◌, ◌<◌, ◌≤◌, true, List, [], ◌∷◌, ◌++◌, length, drop, max, sym, refl, ap, ◌∙◌, subst, append-nil, arith}
-use Rattle.std.specs.Prelude.{Some, Result, Ok, Err, MatchResult, IfOk, IfErr, slice_get}
-use Rattle.std.proofs.lemmas.Option.{same_Some, none-some}
+use Rattle.std.proofs.Common.{◌≡◌, ℕ, zero, suc, ◌+◌, ◌≤◌, true, List, [], ◌∷◌, ◌++◌, length, drop, max, sym, ap, ◌∙◌, subst, append-nil, arith}
+use Rattle.std.specs.Prelude.{Some, Result, Ok, Err, MatchResult, slice_get}
+use Rattle.std.proofs.lemmas.Option.{same_Some}
 use Rattle.std.proofs.Math.Nat.{le-max_right}
 use Rattle.pico_base.specs.declared.reply.Entry.{Entry}
 use Rattle.journal_core.specs.declared.stamped.Stamped.{Stamped}
@@ -9,34 +9,31 @@ use Rattle.journal_core.specs.declared.fault.AppendFault.{AppendFault}
 use Rattle.journal_core.specs.Journal.{stamp_after, last_stamp, under, BeginsWith, IsInOrder}
 use Rattle.journal_core.specs.Seated.{Seated, IsStamp, IsCause, Appends, Refuses}
 use Rattle.journal_core.specs.Steps.{Mine}
-use Rattle.journal_core.specs.Turns.{IsOf, CanPut}
+use Rattle.journal_core.specs.Turns.{IsOf, CanPut, Adds}
 use Rattle.journal_core.proofs.Journals.{order_behind, under_is_of, drop_seen}
 
 -- the stamp of the entry that stands last
-pub stamp_of_last : (last : ℕ) (xs : List Stamped) (i : ℕ) (x : Stamped) → i + 1 ≡ length xs → slice_get xs i ≡ Some x → x.stamp ≡ stamp_after last xs
+pub stamp_of_last : (last : ℕ) (xs : List Stamped) (i : ℕ) (x : Stamped) → i + 1 ≡ length xs
+    → slice_get xs i ≡ Some x → x.stamp ≡ stamp_after last xs
 stamp_of_last last [] i x at e = absurd (omega arith)
 stamp_of_last last (y ∷ []) zero x at e = ap (λ (s : Stamped). s.stamp) (sym (same_Some y x e))
 stamp_of_last last (y ∷ []) (suc i) x at e = absurd (omega arith)
 stamp_of_last last (y ∷ z ∷ zs) zero x at e = absurd (omega arith)
 stamp_of_last last (y ∷ z ∷ zs) (suc i) x at e = stamp_of_last y.stamp (z ∷ zs) i x (omega arith) e
 
--- the journal now is the one found, with these entries behind it where a stamp was given
-abbrev pub Adds : ℕ → ℕ → List Entry → List Stamped → List Stamped → Result ℕ AppendFault → Type 0
-Adds floor seat entries found now answer =
-    MatchResult answer
-    (λ stamp. IsStamp stamp (max floor (last_stamp found)) × (now ≡ found ++ under stamp seat entries))
-    (λ fault. IsCause fault (max floor (last_stamp found)) × (now ≡ found))
-
 -- a new stamp keeps the order
-order_now : (floor seat stamp : ℕ) (entries : List Entry) (found : List Stamped) → IsInOrder found → IsStamp stamp (max floor (last_stamp found)) → IsInOrder (found ++ under stamp seat entries)
+order_now : (floor seat stamp : ℕ) (entries : List Entry) (found : List Stamped) → IsInOrder found
+    → IsStamp stamp (max floor (last_stamp found)) → IsInOrder (found ++ under stamp seat entries)
 order_now floor seat stamp entries found order is =
     let most : last_stamp found ≤ max floor (last_stamp found) = le-max_right floor (last_stamp found) in
     let one : stamp ≡ max floor (last_stamp found) + 1 = is.1 in
     order_behind 0 found stamp seat entries order (omega arith)
 
 -- the seat can put the journal back
-pub can_put : (m : Mine) (old : List Stamped) (floor seat : ℕ) (entries : List Entry) (found now : List Stamped) (answer : Result ℕ AppendFault)
-    → m.1 ≡ (0, old) ∷ [] → m.0.taken ≡ true → m.0.number ≡ seat → m.0.seen ≡ found → IsInOrder found → Adds floor seat entries found now answer → CanPut m now
+pub can_put : (m : Mine) (old : List Stamped) (floor seat : ℕ) (entries : List Entry) (found now : List Stamped)
+    (answer : Result ℕ AppendFault)
+    → m.1 ≡ (0, old) ∷ [] → m.0.taken ≡ true → m.0.number ≡ seat → m.0.seen ≡ found → IsInOrder found
+    → Adds floor seat entries found now answer → CanPut m now
 can_put m old floor seat entries found now (Ok stamp) slot taken number seen order adds =
     record {
       old = old;
@@ -59,8 +56,10 @@ can_put m old floor seat entries found now (Err fault) slot taken number seen or
     }
 
 -- what is told of an append
-pub tells : (floor : ℕ) (entries : List Entry) (found now : List Stamped) (old new : Seated) (answer : Result ℕ AppendFault)
-    → BeginsWith found old.seen → IsInOrder found → new.own ≡ old.own ++ drop (length found) now → new.seen ≡ now → Adds floor old.number entries found now answer
+pub tells : (floor : ℕ) (entries : List Entry) (found now : List Stamped) (old new : Seated)
+    (answer : Result ℕ AppendFault)
+    → BeginsWith found old.seen → IsInOrder found → new.own ≡ old.own ++ drop (length found) now → new.seen ≡ now
+    → Adds floor old.number entries found now answer
     → MatchResult answer (λ stamp. Appends floor entries old new stamp) (λ fault. Refuses floor old new fault)
 tells floor entries found now old new (Ok stamp) begins order own seen adds =
     let whole = under stamp old.number entries in
@@ -74,7 +73,8 @@ tells floor entries found now old new (Ok stamp) begins order own seen adds =
     }
 tells floor entries found now old new (Err fault) begins order own seen adds =
     let same = seen ∙ adds.1 in
-    let nothing : drop (length found) now ≡ [] = ap (drop (length found)) (adds.1 ∙ sym (append-nil found)) ∙ drop_seen found [] in
+    let nothing : drop (length found) now ≡ [] =
+    ap (drop (length found)) (adds.1 ∙ sym (append-nil found)) ∙ drop_seen found [] in
     record {
       begins = subst (λ l. BeginsWith l old.seen) (sym same) begins;
       own = own ∙ (ap (λ l. old.own ++ l) nothing ∙ append-nil old.own);

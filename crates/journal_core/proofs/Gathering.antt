@@ -1,5 +1,5 @@
 -- The first seat on its way to having the shares of all others.
-use Rattle.std.proofs.Common.{◌≡◌, ℕ, ◌+◌, ◌≤◌, false, List, [], ◌∷◌, ◌++◌, map, length, sym, refl, ap, ◌∙◌, subst, length-append, append_assoc, append-nil, arith}
+use Rattle.std.proofs.Common.{◌≡◌, ℕ, ◌+◌, false, List, [], ◌∷◌, ◌++◌, map, length, sym, refl, ap, ◌∙◌, subst, length-append, append_assoc, append-nil, arith}
 use Rattle.atomic_table.specs.Seated.{TableId}
 use Rattle.journal_core.specs.declared.view.Share.{Share}
 use Rattle.journal_core.specs.declared.view.View.{View}
@@ -21,7 +21,8 @@ pub record Gathers (table : TableId) (v : View) (left all : List Seated) : Type 
 
 -- none is joined yet
 pub gathers_first : (table : TableId) (v : View) (first : Seated) (others all : List Seated)
-    → all ≡ first ∷ others → AreNumbered table 1 all → v.number ≡ first.number → v.taken ≡ false → v.joined ≡ [] → v.own ≡ first.own → v.seen ≡ first.seen
+    → all ≡ first ∷ others → AreNumbered table 1 all → v.number ≡ first.number → v.taken ≡ false → v.joined ≡ []
+    → v.own ≡ first.own → v.seen ≡ first.seen
     → Gathers table v others all
 gathers_first table v first others all are numbered number idle joined own seen =
     let each : AreNumbered table 1 (first ∷ others) = subst (AreNumbered table 1) are numbered in
@@ -34,11 +35,13 @@ gathers_first table v first others all are numbered number idle joined own seen 
       own = own;
       seen = seen;
       shares = ap (λ j. j ++ map share_of others) joined;
-      numbered = subst (λ n. AreNumbered table n others) (let n : length v.joined ≡ 0 = ap length joined in omega arith) each.2;
+      numbered = subst (λ n. AreNumbered table n others)
+          (let n : length v.joined ≡ 0 = ap length joined in omega arith) each.2;
     }
 
 -- one more is joined
-pub gathers_next : (table : TableId) (v w : View) (s : Seated) (left all : List Seated) → w.own ≡ s.own → w.seen ≡ s.seen → Gathers table v (s ∷ left) all → Gathers table (with_share v w) left all
+pub gathers_next : (table : TableId) (v w : View) (s : Seated) (left all : List Seated) → w.own ≡ s.own
+    → w.seen ≡ s.seen → Gathers table v (s ∷ left) all → Gathers table (with_share v w) left all
 gathers_next table v w s left all own seen g =
     let share : Share = record { own = w.own; seen = w.seen } in
     let same : share ≡ share_of s = λ i. record { own = own i; seen = seen i } in
@@ -50,8 +53,11 @@ gathers_next table v w s left all own seen g =
       idle = g.idle;
       own = g.own;
       seen = g.seen;
-      shares = append_assoc v.joined (share ∷ []) (map share_of left) ∙ (ap (λ x. v.joined ++ x ∷ map share_of left) same ∙ g.shares);
-      numbered = subst (λ n. AreNumbered table n left) (let n : length (v.joined ++ share ∷ []) ≡ length v.joined + 1 = length-append v.joined (share ∷ []) in omega arith) g.numbered.2;
+      shares = append_assoc v.joined (share ∷ []) (map share_of left)
+          ∙ (ap (λ x. v.joined ++ x ∷ map share_of left) same ∙ g.shares);
+      numbered = subst (λ n. AreNumbered table n left)
+          (let n : length (v.joined ++ share ∷ []) ≡ length v.joined + 1 = length-append v.joined (share ∷ []) in omega
+          arith) g.numbered.2;
     }
 
 -- all are joined
@@ -60,7 +66,8 @@ gathered_all table v all g =
     subst (HasGathered v) (sym g.all_are) (g.number, g.idle, g.own, g.seen, sym (append-nil v.joined) ∙ g.shares)
 
 -- the numbers go on behind those that are there
-pub numbered_behind : (table : TableId) (n : ℕ) (xs : List Seated) (s : Seated) → AreNumbered table n xs → s.lock ≡ table → s.number ≡ n + length xs → AreNumbered table n (xs ++ s ∷ [])
+pub numbered_behind : (table : TableId) (n : ℕ) (xs : List Seated) (s : Seated) → AreNumbered table n xs
+    → s.lock ≡ table → s.number ≡ n + length xs → AreNumbered table n (xs ++ s ∷ [])
 numbered_behind table n [] s h lock number = (lock, (let m : s.number ≡ n + 0 = number in omega arith), tt)
 numbered_behind table n (x ∷ xs) s h lock number = (h.0, h.1, numbered_behind table (n + 1) xs s h.2 lock (omega arith))
 

@@ -1,20 +1,19 @@
 -- A new table, a seat more and a seat joined into the first one keep the rule.
-use Rattle.std.proofs.Common.{◌≡◌, ◌≢◌, ◌⊎◌, ℕ, zero, suc, ◌+◌, ◌^◌, ◌<◌, ◌≤◌, true, false, true≢false, List, [], ◌∷◌, ◌++◌, length, set, sym, refl, ap, ◌∙◌, subst, inl, inr, ⊎_elim, length-append, length-set, arith}
-use Rattle.std.specs.Prelude.{Some, None}
+use Rattle.std.proofs.Common.{◌≡◌, ◌≢◌, ◌⊎◌, ℕ, zero, suc, ◌+◌, ◌^◌, ◌<◌, ◌≤◌, false, true≢false, [], ◌∷◌, ◌++◌, length, set, sym, refl, ap, ◌∙◌, subst, inl, inr, ⊎_elim, length-append, length-set, arith}
+use Rattle.std.specs.Prelude.{None}
 use Rattle.std.proofs.lemmas.Option.{none-some}
 use mathlib.Core.Option.{some, some-injective, some-ne-none}
 use mathlib.Core.Logic.{dite}
 use native.Mathlib.Decide.{ℕ_discrete}
 use lib.ListN.{get_elem?}
-use Rattle.atomic_table.specs.Table.{State, opening, Splits, Joins}
+use Rattle.atomic_table.specs.Table.{opening, Splits, Joins}
 use Rattle.atomic_table.proofs.Lists.{at_longer, set_else}
-use Rattle.journal_core.specs.declared.stamped.Stamped.{Stamped}
 use Rattle.journal_core.specs.declared.view.Share.{Share}
 use Rattle.journal_core.specs.declared.view.View.{View}
 use Rattle.journal_core.specs.Journal.{of_seat}
-use Rattle.journal_core.specs.Rule.{Book, FitsShare, Fits, IsKept, Kept, fresh_view, first_view, spent_view, newcomer, one_more_given, with_share, tickets_of, tickets_out}
+use Rattle.journal_core.specs.Rule.{Book, FitsShare, Fits, Kept, fresh_view, first_view, spent_view, newcomer, one_more_given, with_share, tickets_of, tickets_out}
 use Rattle.journal_core.proofs.Journals.{none_of_later, of_more_seats}
-use Rattle.journal_core.proofs.Views.{place_below, at_behind, each_set, each_set_but, IsHeld, held_set, tickets_set, tickets_behind}
+use Rattle.journal_core.proofs.Views.{place_below, at_behind, each_set, each_set_but, held_set, tickets_set, tickets_behind}
 
 -- a seat that has done nothing yet fits
 fits_fresh : (book : Book) (place number given : ℕ)
@@ -56,7 +55,8 @@ begins seats low high = (
 
     alone : (place : ℕ) (v : View) → get_elem? (first_view ∷ []) place ≡ some v → Fits opened place v
     alone zero v e =
-        subst (Fits opened 0) (some-injective first_view v e) (fits_fresh opened 0 1 1 (λ _. refl) (λ _. (refl, inl refl)) (λ _. (refl, refl)))
+        subst (Fits opened 0) (some-injective first_view v e)
+        (fits_fresh opened 0 1 1 (λ _. refl) (λ _. (refl, inl refl)) (λ _. (refl, refl)))
     alone (suc place) v e = absurd (some-ne-none v (sym e))
 
 -- the first seat stands first
@@ -64,7 +64,8 @@ first_place : (book : Book) (place : ℕ) (v : View) → Fits book place v → v
 first_place book place v fits one = let own : v.number ≡ place + 1 = (fits.number (omega arith)).0 in omega arith
 
 -- another seat fits where one more number was given out
-fits_one_more : (book : Book) (place : ℕ) (v : View) → v.number ≢ 1 → Fits book place v → Fits (record book { given = book.given + 1 }) place v
+fits_one_more : (book : Book) (place : ℕ) (v : View) → v.number ≢ 1 → Fits book place v
+    → Fits (record book { given = book.given + 1 }) place v
 fits_one_more book place v other fits =
     record {
       own = fits.own;
@@ -78,7 +79,8 @@ fits_one_more book place v other fits =
     }
 
 -- the first seat itself
-fits_giving : (book : Book) (place : ℕ) (v : View) → v.number ≡ 1 → Fits book place v → Fits (record book { given = book.given + 1 }) place (one_more_given v)
+fits_giving : (book : Book) (place : ℕ) (v : View) → v.number ≡ 1 → Fits book place v
+    → Fits (record book { given = book.given + 1 }) place (one_more_given v)
 fits_giving book place v one fits =
     record {
       own = fits.own;
@@ -92,7 +94,8 @@ fits_giving book place v one fits =
     }
 
 -- the first seat gives out a number
-pub gives : (seats place : ℕ) (v : View) → v.number ≡ 1 → v.given + 1 ≤ seats → Splits (Kept seats) place v (one_more_given v) (newcomer v.given)
+pub gives : (seats place : ℕ) (v : View) → v.number ≡ 1 → v.given + 1 ≤ seats
+    → Splits (Kept seats) place v (one_more_given v) (newcomer v.given)
 gives seats place v one room s kept at =
     let book = kept.0 in
     let k = kept.1 in
@@ -106,14 +109,16 @@ gives seats place v one room s kept at =
     let count : length s.views ≡ book.given = k.numbers in
     let below : book.joined < book.given = k.most.0 in
     let after = record book { given = book.given + 1 } in
-    let same : tickets_out longer + tickets_of v.ticket ≡ tickets_out s.views + tickets_of v.ticket = tickets_set s.views place v w at in
+    let same : tickets_out longer + tickets_of v.ticket ≡ tickets_out s.views + tickets_of v.ticket =
+    tickets_set s.views place v w at in
     let behind : tickets_out (longer ++ fresh ∷ []) ≡ tickets_out longer + 0 = tickets_behind longer fresh in
     let out : book.drawn ≡ book.served + tickets_out s.views = k.tickets in (
       after,
       record {
         words = k.words;
         slot = k.slot;
-        held = λ p e. let h = held_set book.holder s.views place v w at refl k.held p e in (h.0, at_longer longer (fresh ∷ []) p h.0 h.1, h.2);
+        held = λ p e. let h = held_set book.holder s.views place v w at refl k.held p e in
+            (h.0, at_longer longer (fresh ∷ []) p h.0 h.1, h.2);
         tickets = omega arith;
         numbers = length-append longer (fresh ∷ []) ∙ (ap (λ n. n + 1) (long ∙ count));
         most = (omega arith, (let r : v.given + 1 ≤ seats = room in omega arith), k.most.2);
@@ -139,7 +144,8 @@ gives seats place v one room s kept at =
     )
 
 -- a seat that is neither, where one more was joined
-fits_joined : (book : Book) (place : ℕ) (v : View) → v.number ≢ 1 → v.number ≢ book.joined + 2 → Fits book place v → Fits (record book { joined = book.joined + 1 }) place v
+fits_joined : (book : Book) (place : ℕ) (v : View) → v.number ≢ 1 → v.number ≢ book.joined + 2 → Fits book place v
+    → Fits (record book { joined = book.joined + 1 }) place v
 fits_joined book place v other apart fits =
     record {
       own = fits.own;
@@ -156,10 +162,13 @@ fits_joined book place v other apart fits =
   where
     above : book.joined + 1 < v.number → book.joined + 1 + 1 < v.number
     above more =
-        dite (ℕ_discrete v.number (book.joined + 2)) (λ is. absurd (apart is)) (λ not. let n : v.number ≢ book.joined + 2 = not in grind arith)
+        dite (ℕ_discrete v.number (book.joined + 2)) (λ is. absurd (apart is))
+        (λ not. let n : v.number ≢ book.joined + 2 = not in grind arith)
 
 -- the first seat, with the next share
-fits_gathering : (book : Book) (place : ℕ) (v w : View) → v.number ≡ 1 → FitsShare book.journal (length v.joined) (record { own = w.own; seen = w.seen }) → Fits book place v → Fits (record book { joined = book.joined + 1 }) place (with_share v w)
+fits_gathering : (book : Book) (place : ℕ) (v w : View) → v.number ≡ 1
+    → FitsShare book.journal (length v.joined) (record { own = w.own; seen = w.seen }) → Fits book place v
+    → Fits (record book { joined = book.joined + 1 }) place (with_share v w)
 fits_gathering book place v w one share fits =
     record {
       own = fits.own;
@@ -180,7 +189,8 @@ fits_gathering book place v w one share fits =
     new = record { own = w.own; seen = w.seen }
 
 -- the next seat is joined into the first one
-pub joins : (seats place : ℕ) (v : View) (other : ℕ) (w : View) → v.number ≡ 1 → w.number ≡ length v.joined + 2 → w.taken ≡ false → w.ticket ≡ None → Joins (Kept seats) place v other w (with_share v w) spent_view
+pub joins : (seats place : ℕ) (v : View) (other : ℕ) (w : View) → v.number ≡ 1 → w.number ≡ length v.joined + 2
+    → w.taken ≡ false → w.ticket ≡ None → Joins (Kept seats) place v other w (with_share v w) spent_view
 joins seats place v other w one next idle none s kept at apart there =
     let book = kept.0 in
     let k = kept.1 in
@@ -199,22 +209,26 @@ joins seats place v other w one next idle none s kept at apart there =
       own = ap (λ n. of_seat n book.journal) (sym next) ∙ theirs.own (omega arith);
       seen = theirs.seen;
     } in
-    let same : tickets_out middle + tickets_of v.ticket ≡ tickets_out s.views + tickets_of v.ticket = tickets_set s.views place v both at in
-    let gone : tickets_out (set middle other spent_view) + tickets_of w.ticket ≡ tickets_out middle + 0 = tickets_set middle other w spent_view there in
+    let same : tickets_out middle + tickets_of v.ticket ≡ tickets_out s.views + tickets_of v.ticket =
+    tickets_set s.views place v both at in
+    let gone : tickets_out (set middle other spent_view) + tickets_of w.ticket ≡ tickets_out middle + 0 =
+    tickets_set middle other w spent_view there in
     let zero : tickets_of w.ticket ≡ 0 = ap tickets_of none in
     let out : book.drawn ≡ book.served + tickets_out s.views = k.tickets in (
       after,
       record {
         words = k.words;
         slot = k.slot;
-        held = held_set book.holder middle other w spent_view there (sym idle) (held_set book.holder s.views place v both at refl k.held);
+        held = held_set book.holder middle other w spent_view there (sym idle)
+            (held_set book.holder s.views place v both at refl k.held);
         tickets = omega arith;
         numbers = length-set middle other spent_view ∙ (length-set s.views place both ∙ count);
         most = (omega arith, k.most.1, k.most.2);
         order = k.order;
         within = k.within;
         each = each_set after middle other spent_view
-            (fits_fresh after other 0 0 (λ low. absurd (omega arith)) (λ low. absurd (omega arith)) (λ is. absurd (omega arith)))
+            (fits_fresh after other 0 0 (λ low. absurd (omega arith)) (λ low. absurd (omega arith))
+            (λ is. absurd (omega arith)))
             (λ j u else e.
             each_set_but after s.views place both other (fits_gathering book place v w one share mine)
             (λ i x away off x_at.

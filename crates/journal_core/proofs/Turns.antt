@@ -1,25 +1,25 @@
 -- The steps of an append keep the rule: drawing a ticket, looking who is served and taking the journal, and putting the
 -- journal back.
-use Rattle.std.proofs.Common.{◌≡◌, ◌≢◌, ◌⊎◌, ℕ, zero, suc, ◌+◌, ◌%◌, ◌^◌, ◌<◌, ◌≤◌, eqb, eq-eqb, ne_eqb, cond, true, false, true≢false, List, [], ◌∷◌, ◌++◌, length, get_or, set, drop, sym, refl, ap, ◌∙◌, subst, inl, inr, ⊎_elim, length-set, append-nil, arith}
+use Rattle.std.proofs.Common.{◌≡◌, ◌≢◌, ◌⊎◌, ℕ, ◌+◌, ◌%◌, ◌^◌, ◌<◌, ◌≤◌, eqb, eq-eqb, ne_eqb, cond, true, false, true≢false, List, [], ◌∷◌, ◌++◌, length, get_or, set, drop, sym, refl, ap, ◌∙◌, subst, inl, inr, ⊎_elim, length-set, append-nil, arith}
 use Rattle.std.specs.Prelude.{Option, Some, None}
 use Rattle.std.proofs.lemmas.Option.{same_Some, none-some}
-use Rattle.std.proofs.Math.Nat.{add-mod-mod, add_comm}
-use mathlib.Core.Option.{none, some, some-injective, some-ne-none}
+use Rattle.std.proofs.Math.Nat.{add-mod-mod}
+use mathlib.Core.Option.{none, some, some-injective}
 use mathlib.Core.Logic.{dite}
 use native.Mathlib.Decide.{ℕ_discrete}
 use lib.ListN.{get_elem?}
 use lib.Seq.{set-get_or}
-use Rattle.atomic_table.specs.Table.{State, Allows, keeps, takes, gives, stepped}
-use Rattle.atomic_table.proofs.Lists.{at_set, set_again, set_here, one_turn}
+use Rattle.atomic_table.specs.Table.{State, Allows, keeps, takes, gives}
+use Rattle.atomic_table.proofs.Lists.{set_again, set_here, one_turn}
 use Rattle.journal_core.specs.declared.stamped.Stamped.{Stamped}
 use Rattle.journal_core.specs.declared.view.Share.{Share}
 use Rattle.journal_core.specs.declared.view.View.{View}
 use Rattle.journal_core.specs.Journal.{of_seat, BeginsWith, IsInOrder, IsOfSeats}
 use Rattle.journal_core.specs.Rule.{Book, FitsShare, Fits, IsKept, Kept, slot_of, tickets_of, tickets_out}
-use Rattle.journal_core.specs.Steps.{Mine, waiting, holding, done, Draws, Takes, Looks, PutsBack}
+use Rattle.journal_core.specs.Steps.{Mine, waiting, holding, done, Draws, Looks, PutsBack}
 use Rattle.journal_core.specs.Turns.{IsOf}
 use Rattle.journal_core.proofs.Journals.{begins_twice, begins_with_all, of_seat-append, all_of_seat, none_of_another, of_seats_own, of_seats-append, drop_seen}
-use Rattle.journal_core.proofs.Views.{place_below, each_set, IsHeld, held_set, tickets_set, tickets_at_most, tickets_with_none}
+use Rattle.journal_core.proofs.Views.{place_below, each_set, held_set, tickets_set, tickets_at_most}
 
 abbrev St : Type 0
 St = State (List Stamped) View
@@ -46,8 +46,12 @@ fits_drawn book by place v fits =
       seen = fits.seen;
       ticket = λ t e.
           let f = fits.ticket t e in
-          let low : t < book.drawn = f.1 in
-          (f.0, omega arith, ap (λ b. cond b by (book.drawer t)) (ne_eqb t book.drawn (λ is. absurd (omega arith))) ∙ f.2);
+          let low : t < book.drawn = f.1 in (
+            f.0,
+            omega arith,
+            ap (λ b. cond b by (book.drawer t)) (ne_eqb t book.drawn (λ is. absurd (omega arith)))
+                ∙ f.2,
+          );
       taken = fits.taken;
       number = fits.number;
       first = fits.first;
@@ -55,7 +59,8 @@ fits_drawn book by place v fits =
       shares = fits.shares;
     }
 
-fits_waiting : (book : Book) (place : ℕ) (v : View) → v.taken ≡ false → book.served ≤ book.drawn → Fits book place v → Fits (drawn_by book place) place (waiting v book.drawn)
+fits_waiting : (book : Book) (place : ℕ) (v : View) → v.taken ≡ false → book.served ≤ book.drawn → Fits book place v
+    → Fits (drawn_by book place) place (waiting v book.drawn)
 fits_waiting book place v idle low fits =
     record {
       own = fits.own;
@@ -71,7 +76,8 @@ fits_waiting book place v idle low fits =
     }
 
 -- a seat draws a ticket
-pub draws : (seats slots place : ℕ) (m : Mine) → m.0.ticket ≡ None → m.0.taken ≡ false → Allows (Kept seats) slots place m 0 (λ n. (n + 1) % 2 ^ 64) (λ n m'. Draws m n m')
+pub draws : (seats slots place : ℕ) (m : Mine) → m.0.ticket ≡ None → m.0.taken ≡ false
+    → Allows (Kept seats) slots place m 0 (λ n. (n + 1) % 2 ^ 64) (λ n m'. Draws m n m')
 draws seats slots place m ticketless idle s kept wide at small =
     let book = kept.0 in
     let k = kept.1 in
@@ -79,7 +85,8 @@ draws seats slots place m ticketless idle s kept wide at small =
     let w = waiting v book.drawn in
     let after = drawn_by book place in
     let out : book.drawn ≡ book.served + tickets_out s.views = k.tickets in
-    let more : tickets_out (set s.views place w) + tickets_of v.ticket ≡ tickets_out s.views + 1 = tickets_set s.views place v w at in
+    let more : tickets_out (set s.views place w) + tickets_of v.ticket ≡ tickets_out s.views + 1 =
+    tickets_set s.views place v w at in
     let zero : tickets_of v.ticket ≡ 0 = ap tickets_of ticketless in (
       w,
       keeps,
@@ -87,7 +94,8 @@ draws seats slots place m ticketless idle s kept wide at small =
       (
         after,
         record {
-          words = ap (λ ws. set ws 0 ((get_or ws 0 0 + 1) % 2 ^ 64)) k.words ∙ ap (λ n. n ∷ (book.served % 2 ^ 64) ∷ []) (next_word book.drawn);
+          words = ap (λ ws. set ws 0 ((get_or ws 0 0 + 1) % 2 ^ 64)) k.words
+              ∙ ap (λ n. n ∷ (book.served % 2 ^ 64) ∷ []) (next_word book.drawn);
           slot = k.slot;
           held = held_set book.holder s.views place v w at refl k.held;
           tickets = omega arith;
@@ -95,14 +103,16 @@ draws seats slots place m ticketless idle s kept wide at small =
           most = k.most;
           order = k.order;
           within = k.within;
-          each = each_set after s.views place w (fits_waiting book place v idle (omega arith) (k.each place v at)) (λ j u apart e. fits_drawn book place j u (k.each j u e));
+          each = each_set after s.views place w (fits_waiting book place v idle (omega arith) (k.each place v at))
+              (λ j u apart e. fits_drawn book place j u (k.each j u e));
         },
       ),
       (book.drawn, ap (λ ws. get_or ws 0 0) k.words, refl),
     )
 
 -- the ticket that is served is the one whose word is shown
-served_is : (seats : ℕ) (book : Book) (s : St) (k : IsKept seats book s) (place : ℕ) (v : View) (t : ℕ) → get_elem? s.views place ≡ some v → v.ticket ≡ Some t → book.served % 2 ^ 64 ≡ t % 2 ^ 64 → book.served ≡ t
+served_is : (seats : ℕ) (book : Book) (s : St) (k : IsKept seats book s) (place : ℕ) (v : View) (t : ℕ)
+    → get_elem? s.views place ≡ some v → v.ticket ≡ Some t → book.served % 2 ^ 64 ≡ t % 2 ^ 64 → book.served ≡ t
 served_is seats book s k place v t at has shown =
     let f = (k.each place v at).ticket t has in
     let low : book.served ≤ t = f.0 in
@@ -119,7 +129,8 @@ none_or_some None = inl refl
 none_or_some (Some p) = inr (p, refl)
 
 -- where the ticket of a seat that has not taken the journal is served, nobody has taken it
-nobody : (seats : ℕ) (book : Book) (s : St) (k : IsKept seats book s) (place : ℕ) (v : View) (t : ℕ) → get_elem? s.views place ≡ some v → v.ticket ≡ Some t → v.taken ≡ false → book.served ≡ t → book.holder ≡ None
+nobody : (seats : ℕ) (book : Book) (s : St) (k : IsKept seats book s) (place : ℕ) (v : View) (t : ℕ)
+    → get_elem? s.views place ≡ some v → v.ticket ≡ Some t → v.taken ≡ false → book.served ≡ t → book.holder ≡ None
 nobody seats book s k place v t at has idle served =
     ⊎_elim (λ is. is)
     (λ (some_one : (p : ℕ) × (book.holder ≡ Some p)).
@@ -134,7 +145,8 @@ nobody seats book s k place v t at has idle served =
     (none_or_some book.holder)
 
 -- the others, once this seat has taken the journal
-fits_taken : (book : Book) (by place : ℕ) (v : View) → book.holder ≡ None → Fits book place v → Fits (record book { holder = Some by }) place v
+fits_taken : (book : Book) (by place : ℕ) (v : View) → book.holder ≡ None → Fits book place v
+    → Fits (record book { holder = Some by }) place v
 fits_taken book by place v nobody fits =
     record {
       own = fits.own;
@@ -147,7 +159,8 @@ fits_taken book by place v nobody fits =
       shares = fits.shares;
     }
 
-fits_holding : (book : Book) (place : ℕ) (v : View) → v.ticket ≡ Some book.served → 1 ≤ v.number → Fits book place v → Fits (record book { holder = Some place }) place (holding v book.journal)
+fits_holding : (book : Book) (place : ℕ) (v : View) → v.ticket ≡ Some book.served → 1 ≤ v.number → Fits book place v
+    → Fits (record book { holder = Some place }) place (holding v book.journal)
 fits_holding book place v has low fits =
     record {
       own = fits.own;
@@ -161,7 +174,8 @@ fits_holding book place v has low fits =
     }
 
 -- a seat looks who is served: it takes the journal out of its slot, or nothing changes
-pub looks : (seats slots place : ℕ) (v : View) (t : ℕ) → v.ticket ≡ Some t → v.taken ≡ false → 1 ≤ v.number → Allows (Kept seats) slots place (v, []) 1 (λ n. n) (λ n m'. Looks (v, []) n m')
+pub looks : (seats slots place : ℕ) (v : View) (t : ℕ) → v.ticket ≡ Some t → v.taken ≡ false → 1 ≤ v.number
+    → Allows (Kept seats) slots place (v, []) 1 (λ n. n) (λ n m'. Looks (v, []) n m')
 looks seats slots place v t has idle low s kept wide at small =
     dite (ℕ_discrete (get_or s.words 1 0) (t % 2 ^ 64))
     (λ (shown : get_or s.words 1 0 ≡ t % 2 ^ 64).
@@ -175,7 +189,8 @@ looks seats slots place v t has idle low s kept wide at small =
     let w = holding v book.journal in
     let after = record book { holder = Some place } in
     let out : book.drawn ≡ book.served + tickets_out s.views = k.tickets in
-    let same : tickets_out (set s.views place w) + tickets_of v.ticket ≡ tickets_out s.views + tickets_of v.ticket = tickets_set s.views place v w at in (
+    let same : tickets_out (set s.views place w) + tickets_of v.ticket ≡ tickets_out s.views + tickets_of v.ticket =
+    tickets_set s.views place v w at in (
       w,
       takes 0 book.journal,
       ap (λ hs. get_elem? hs 0) home,
@@ -184,31 +199,44 @@ looks seats slots place v t has idle low s kept wide at small =
         record {
           words = set-get_or s.words 1 0 ∙ k.words;
           slot = ap (λ hs. set hs 0 none) home;
-          held = λ p e. let is : place ≡ p = same_Some place p e in
-              (w, ap (get_elem? (set s.views place w)) (sym is) ∙ set_here s.views place w (place_below s.views place v at), refl);
+          held = λ p e. let is : place ≡ p = same_Some place p e in (
+            w,
+            ap (get_elem? (set s.views place w)) (sym is)
+                ∙ set_here s.views place w (place_below s.views place v at),
+            refl,
+          );
           tickets = omega arith;
           numbers = length-set s.views place w ∙ k.numbers;
           most = k.most;
           order = k.order;
           within = k.within;
-          each = each_set after s.views place w (fits_holding book place v (has ∙ ap Some (sym served)) low mine) (λ j u apart e. fits_taken book place j u free (k.each j u e));
+          each = each_set after s.views place w (fits_holding book place v (has ∙ ap Some (sym served)) low mine)
+              (λ j u apart e. fits_taken book place j u free (k.each j u e));
         },
       ),
-      λ t' has'. ((λ _. (book.journal, refl, mine.seen, k.order)), (λ off. absurd (off (shown ∙ ap (λ x. x % 2 ^ 64) (same_Some t t' (sym has ∙ has')))))),
+      λ t' has'. (
+        (λ _. (book.journal, refl, mine.seen, k.order)),
+        (λ off. absurd (off (shown ∙ ap (λ x. x % 2 ^ 64) (same_Some t t' (sym has ∙ has'))))),
+      ),
     ))
     (λ (off : get_or s.words 1 0 ≢ t % 2 ^ 64). (
       v,
       keeps,
       tt,
-      subst (Kept seats) (λ i. record { words = sym (set-get_or s.words 1 0) i; homes = s.homes; views = sym (set_again s.views place v at) i }) kept,
-      λ t' has'. ((λ shown. absurd (off (shown ∙ ap (λ x. x % 2 ^ 64) (same_Some t' t (sym has' ∙ has))))), (λ _. refl)),
+      subst (Kept seats)
+          (λ i. record
+          { words = sym (set-get_or s.words 1 0) i; homes = s.homes; views = sym (set_again s.views place v at) i })
+          kept,
+      λ t' has'.
+          ((λ shown. absurd (off (shown ∙ ap (λ x. x % 2 ^ 64) (same_Some t' t (sym has' ∙ has))))), (λ _. refl)),
     ))
 
 -- the book, once this journal is in the slot
 abbrev put_by : Book → List Stamped → Book
 put_by book journal = record book { journal = journal; holder = None; served = book.served + 1 }
 
-module _ (book : Book) (place : ℕ) (v : View) (added : List Stamped) (mine : Fits book place v) (taken : v.taken ≡ true) (own : IsOf v.number added) where
+module _ (book : Book) (place : ℕ) (v : View) (added : List Stamped) (mine : Fits book place v)
+    (taken : v.taken ≡ true) (own : IsOf v.number added) where
   -- what was found and what was added, as one journal
   abbrev now : List Stamped
   now = book.journal ++ added
@@ -219,14 +247,17 @@ module _ (book : Book) (place : ℕ) (v : View) (added : List Stamped) (mine : F
   -- a seat of another number has no more entries than before
   others_have : (number : ℕ) → v.number ≢ number → of_seat number now ≡ of_seat number book.journal
   others_have number apart =
-      of_seat-append number book.journal added ∙ (ap (λ l. of_seat number book.journal ++ l) (none_of_another v.number number added own apart) ∙ append-nil (of_seat number book.journal))
+      of_seat-append number book.journal added
+      ∙ (ap (λ l. of_seat number book.journal ++ l) (none_of_another v.number number added own apart)
+      ∙ append-nil (of_seat number book.journal))
 
   -- the journal begins with what it began with
   begins_still : (seen : List Stamped) → BeginsWith book.journal seen → BeginsWith now seen
   begins_still seen h = begins_twice now book.journal seen (added, refl) h
 
   -- shares are of other seats
-  shares_still : (j : ℕ) (u : View) → Fits book j u → (k : ℕ) (share : Share) → get_elem? u.joined k ≡ some share → FitsShare now k share
+  shares_still : (j : ℕ) (u : View) → Fits book j u → (k : ℕ) (share : Share) → get_elem? u.joined k ≡ some share
+      → FitsShare now k share
   shares_still j u fits k share e =
       let below : k < length u.joined = place_below u.joined k share e in
       let f = fits.shares k share e in
@@ -234,7 +265,8 @@ module _ (book : Book) (place : ℕ) (v : View) (added : List Stamped) (mine : F
       ⊎_elim
       (λ (one : u.number ≡ 1).
       let joined : length u.joined ≡ book.joined = (fits.first one).0 in
-      ⊎_elim (λ (first : v.number ≡ 1) (is : v.number ≡ k + 2). omega arith) (λ (later : book.joined + 1 < v.number) (is : v.number ≡ k + 2). omega arith) (mine.number low).1)
+      ⊎_elim (λ (first : v.number ≡ 1) (is : v.number ≡ k + 2). omega arith)
+      (λ (later : book.joined + 1 < v.number) (is : v.number ≡ k + 2). omega arith) (mine.number low).1)
       (λ (nothing : u.joined ≡ []). let zero : length u.joined ≡ 0 = ap length nothing in absurd (omega arith))
       fits.others
       in
@@ -253,8 +285,12 @@ module _ (book : Book) (place : ℕ) (v : View) (added : List Stamped) (mine : F
             let f = fits.ticket t e in
             let above : book.served ≤ t = f.0 in
             let m = mine.ticket book.served (mine.taken taken).1 in
-            let other : book.served ≢ t = λ is. apart (sym f.2 ∙ (ap book.drawer (sym is) ∙ m.2)) in
-            ((dite (ℕ_discrete book.served t) (λ is. absurd (other is)) (λ not. let n : book.served ≢ t = not in grind arith)), f.1, f.2);
+            let other : book.served ≢ t = λ is. apart (sym f.2 ∙ (ap book.drawer (sym is) ∙ m.2)) in (
+              (dite (ℕ_discrete book.served t) (λ is. absurd (other is))
+                  (λ not. let n : book.served ≢ t = not in grind arith)),
+              f.1,
+              f.2,
+            );
         taken = λ e. absurd (apart (same_Some j place (sym (fits.taken e).0 ∙ (mine.taken taken).0)));
         number = fits.number;
         first = fits.first;
@@ -269,7 +305,10 @@ module _ (book : Book) (place : ℕ) (v : View) (added : List Stamped) (mine : F
       record {
         own = λ _.
             of_seat-append v.number book.journal added
-            ∙ (ap (λ l. l ++ of_seat v.number added) (mine.own low) ∙ (ap (λ l. v.own ++ l) (all_of_seat v.number added own ∙ sym (drop_seen book.journal added) ∙ ap (λ l. drop (length l) now) (sym whole))));
+            ∙ (ap (λ l. l ++ of_seat v.number added) (mine.own low)
+            ∙ (ap (λ l. v.own ++ l)
+            (all_of_seat v.number added own ∙ sym (drop_seen book.journal added)
+            ∙ ap (λ l. drop (length l) now) (sym whole))));
         seen = begins_with_all now;
         ticket = λ t e. absurd (none-some t e);
         taken = λ e. absurd (true≢false (sym e));
@@ -280,7 +319,8 @@ module _ (book : Book) (place : ℕ) (v : View) (added : List Stamped) (mine : F
       }
 
 -- the journal that a seat has taken
-taken_one : (journal l : List Stamped) → ◌≡◌ {A = List (ℕ × List Stamped)} ((0, journal) ∷ []) ((0, l) ∷ []) → journal ≡ l
+taken_one : (journal l : List Stamped) → ◌≡◌ {A = List (ℕ × List Stamped)} ((0, journal) ∷ []) ((0, l) ∷ [])
+    → journal ≡ l
 taken_one journal l e = ap carried e
   where
     carried : List (ℕ × List Stamped) → List Stamped
@@ -288,8 +328,10 @@ taken_one journal l e = ap carried e
     carried (x ∷ xs) = x.1
 
 -- the seat puts the journal back, with entries of its own behind what it found, and the next ticket is served
-pub puts : (seats slots place : ℕ) (v : View) (journal added : List Stamped) → v.taken ≡ true → journal ≡ v.seen ++ added → IsOf v.number added → IsInOrder journal
-    → Allows (Kept seats) slots place (v, (0, journal) ∷ []) 1 (λ n. (n + 1) % 2 ^ 64) (λ n m'. PutsBack (v, (0, journal) ∷ []) m')
+pub puts : (seats slots place : ℕ) (v : View) (journal added : List Stamped) → v.taken ≡ true
+    → journal ≡ v.seen ++ added → IsOf v.number added → IsInOrder journal
+    → Allows (Kept seats) slots place (v, (0, journal) ∷ []) 1 (λ n. (n + 1) % 2 ^ 64)
+    (λ n m'. PutsBack (v, (0, journal) ∷ []) m')
 puts seats slots place v journal added taken is own order s kept wide at small =
     let book = kept.0 in
     let k = kept.1 in
@@ -301,7 +343,8 @@ puts seats slots place v journal added taken is own order s kept wide at small =
     let below : place < length s.views = place_below s.views place v at in
     let count : length s.views ≡ book.given = k.numbers in
     let out : book.drawn ≡ book.served + tickets_out s.views = k.tickets in
-    let less : tickets_out (set s.views place w) + tickets_of v.ticket ≡ tickets_out s.views + 0 = tickets_set s.views place v w at in
+    let less : tickets_out (set s.views place w) + tickets_of v.ticket ≡ tickets_out s.views + 0 =
+    tickets_set s.views place v w at in
     let one : tickets_of v.ticket ≡ 1 = ap tickets_of mt.1 in
     let after = put_by book journal in (
       w,
@@ -310,17 +353,22 @@ puts seats slots place v journal added taken is own order s kept wide at small =
       (
         after,
         record {
-          words = ap (λ ws. set ws 1 ((get_or ws 1 0 + 1) % 2 ^ 64)) k.words ∙ ap (λ n. (book.drawn % 2 ^ 64) ∷ n ∷ []) (next_word book.served);
+          words = ap (λ ws. set ws 1 ((get_or ws 1 0 + 1) % 2 ^ 64)) k.words
+              ∙ ap (λ n. (book.drawn % 2 ^ 64) ∷ n ∷ []) (next_word book.served);
           slot = ap (λ hs. set hs 0 (some journal)) k.slot;
           held = λ p e. absurd (none-some p e);
           tickets = omega arith;
           numbers = length-set s.views place w ∙ count;
           most = k.most;
           order = order;
-          within = subst (IsOfSeats book.given) (sym same) (of_seats-append book.given book.journal added k.within (of_seats_own book.given v.number added own mt.3 (omega arith)));
+          within = subst (IsOfSeats book.given) (sym same)
+              (of_seats-append book.given book.journal added k.within
+              (of_seats_own book.given v.number added own mt.3 (omega arith)));
           each = each_set after s.views place w
-              (subst (λ l. Fits (put_by book l) place (done v l)) (sym same) (fits_done book place v added mine taken own))
-              (λ j u apart e. subst (λ l. Fits (put_by book l) j u) (sym same) (fits_put book place v added mine taken own j u apart (k.each j u e)));
+              (subst (λ l. Fits (put_by book l) place (done v l)) (sym same)
+              (fits_done book place v added mine taken own))
+              (λ j u apart e. subst (λ l. Fits (put_by book l) j u) (sym same)
+              (fits_put book place v added mine taken own j u apart (k.each j u e)));
         },
       ),
       λ l here. ap (λ j. (done v j, [])) (taken_one journal l here),

@@ -17,7 +17,8 @@ module _ {A : Type 0} where
   place_below (x ∷ xs) (suc i) a e = let below : i < length xs = place_below xs i a e in omega arith
 
   -- what stands in a list with one more behind: something of before, or the new one at the end
-  pub at_behind : (l : List A) (a b : A) (j : ℕ) → get_elem? (l ++ a ∷ []) j ≡ some b → (get_elem? l j ≡ some b) ⊎ ((a ≡ b) × (j ≡ length l))
+  pub at_behind : (l : List A) (a b : A) (j : ℕ) → get_elem? (l ++ a ∷ []) j ≡ some b
+      → (get_elem? l j ≡ some b) ⊎ ((a ≡ b) × (j ≡ length l))
   at_behind [] a b zero e = inr (some-injective a b e, refl)
   at_behind [] a b (suc j) e = absurd (some-ne-none b (sym e))
   at_behind (x ∷ xs) a b zero e = inl e
@@ -49,13 +50,18 @@ each_set_but book views place w off mine others j u else e =
 abbrev pub IsHeld : Option ℕ → List View → Type 0
 IsHeld holder views = (p : ℕ) → holder ≡ Some p → (v : View) × (get_elem? views p ≡ some v) × (v.taken ≡ true)
 
-pub held_set : (holder : Option ℕ) (views : List View) (place : ℕ) (v w : View) → get_elem? views place ≡ some v → w.taken ≡ v.taken → IsHeld holder views → IsHeld holder (set views place w)
+pub held_set : (holder : Option ℕ) (views : List View) (place : ℕ) (v w : View) → get_elem? views place ≡ some v
+    → w.taken ≡ v.taken → IsHeld holder views → IsHeld holder (set views place w)
 held_set holder views place v w at same held p is =
     let u = held p is in
     dite (ℕ_discrete p place)
     (λ (here : p ≡ place).
-    let one : u.0 ≡ v = some-injective u.0 v (sym u.1 ∙ (ap (get_elem? views) here ∙ at)) in
-    (w, ap (get_elem? (set views place w)) here ∙ set_here views place w (place_below views place v at), same ∙ (ap (λ (x : View). x.taken) (sym one) ∙ u.2)))
+    let one : u.0 ≡ v = some-injective u.0 v (sym u.1 ∙ (ap (get_elem? views) here ∙ at)) in (
+      w,
+      ap (get_elem? (set views place w)) here ∙ set_here views place w (place_below views place v at),
+      same
+          ∙ (ap (λ (x : View). x.taken) (sym one) ∙ u.2),
+    ))
     (λ (else : p ≢ place). (u.0, set_else views place p w else ∙ u.1, u.2))
 
 one_ticket : (o : Option ℕ) → tickets_of o ≤ 1
@@ -74,10 +80,12 @@ pub tickets_at_most : (vs : List View) (n : ℕ) → length vs ≡ n → tickets
 tickets_at_most vs n is = let most : tickets_out vs ≤ length vs = tickets_below vs in omega arith
 
 -- one seat has none
-pub tickets_with_none : (vs : List View) (i : ℕ) (v : View) → get_elem? vs i ≡ some v → v.ticket ≡ None → tickets_out vs + 1 ≤ length vs
+pub tickets_with_none : (vs : List View) (i : ℕ) (v : View) → get_elem? vs i ≡ some v → v.ticket ≡ None
+    → tickets_out vs + 1 ≤ length vs
 tickets_with_none [] i v e none = absurd (some-ne-none v (sym e))
 tickets_with_none (x ∷ xs) zero v e none =
-    let is : tickets_of x.ticket ≡ 0 = ap (λ (u : View). tickets_of u.ticket) (some-injective x v e) ∙ ap tickets_of none in
+    let is : tickets_of x.ticket ≡ 0 =
+    ap (λ (u : View). tickets_of u.ticket) (some-injective x v e) ∙ ap tickets_of none in
     let more : tickets_out xs ≤ length xs = tickets_below xs in
     omega arith
 tickets_with_none (x ∷ xs) (suc i) v e none =
@@ -86,13 +94,16 @@ tickets_with_none (x ∷ xs) (suc i) v e none =
     omega arith
 
 -- the tickets that are out, where one seat has changed
-pub tickets_set : (vs : List View) (i : ℕ) (v w : View) → get_elem? vs i ≡ some v → tickets_out (set vs i w) + tickets_of v.ticket ≡ tickets_out vs + tickets_of w.ticket
+pub tickets_set : (vs : List View) (i : ℕ) (v w : View) → get_elem? vs i ≡ some v
+    → tickets_out (set vs i w) + tickets_of v.ticket ≡ tickets_out vs + tickets_of w.ticket
 tickets_set [] i v w e = absurd (some-ne-none v (sym e))
 tickets_set (x ∷ xs) zero v w e =
-    let is : tickets_of x.ticket ≡ tickets_of v.ticket = ap (λ (u : View). tickets_of u.ticket) (some-injective x v e) in
+    let is : tickets_of x.ticket ≡ tickets_of v.ticket =
+    ap (λ (u : View). tickets_of u.ticket) (some-injective x v e) in
     omega arith
 tickets_set (x ∷ xs) (suc i) v w e =
-    let more : tickets_out (set xs i w) + tickets_of v.ticket ≡ tickets_out xs + tickets_of w.ticket = tickets_set xs i v w e in
+    let more : tickets_out (set xs i w) + tickets_of v.ticket ≡ tickets_out xs + tickets_of w.ticket =
+    tickets_set xs i v w e in
     omega arith
 
 pub tickets_behind : (vs : List View) (w : View) → tickets_out (vs ++ w ∷ []) ≡ tickets_out vs + tickets_of w.ticket

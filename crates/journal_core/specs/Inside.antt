@@ -1,5 +1,5 @@
 -- A seat, between two appends, from the parts that it is kept in.
-use Rattle.std.specs.Prelude.{◌≡◌, ℕ, ◌≤◌, false, None, []}
+use Rattle.std.specs.Prelude.{◌≡◌, ◌≤◌, false, None, []}
 use Rattle.journal_core.specs.declared.seat.JSeat.TheInside.{Inside}
 use Rattle.journal_core.specs.Seated.{Seated}
 

@@ -1,5 +1,5 @@
 -- A lock, from the parts that it is kept in.
-use Rattle.std.specs.Prelude.{◌≡◌, ◌≤◌}
+use Rattle.std.specs.Prelude.{◌≤◌}
 use Rattle.journal_core.specs.declared.lock.JournalLock.TheInside.{Inside}
 use Rattle.journal_core.specs.Seated.{Lock}
 use Rattle.journal_core.specs.Turns.{IsBoard}

@@ -1,6 +1,7 @@
--- The rule of the journal's lock: what holds between any two steps of any seats. The word 0 is the next ticket, the word
+-- The rule of the journal's lock: what holds between any two steps of any seats. The word 0 is the next ticket, the
+-- word
 -- 1 the ticket that is served, and the one slot has the journal.
-use Rattle.std.specs.Prelude.{◌≡◌, ◌⊎◌, ◌≢◌, ℕ, ◌+◌, ◌%◌, ◌^◌, ◌<◌, ◌≤◌, Bool, true, false, Option, Some, None, List, [], ◌∷◌, ◌++◌, length, drop}
+use Rattle.std.specs.Prelude.{◌≡◌, ◌⊎◌, ℕ, ◌+◌, ◌%◌, ◌^◌, ◌<◌, ◌≤◌, true, false, Option, Some, None, List, [], ◌∷◌, ◌++◌, length}
 use mathlib.Core.Option as table
 use lib.ListN.{get_elem?}
 use Rattle.atomic_table.specs.Table.{State}
@@ -42,8 +43,10 @@ abbrev pub tickets_out : List View → ℕ
 tickets_out [] = 0
 tickets_out (v ∷ vs) = tickets_of v.ticket + tickets_out vs
 
--- What is true besides: the journal, the place among the seats of the one that has taken it, how many tickets were served
--- and drawn, the place of the seat that drew each ticket, and how many seats were joined and how many numbers given out.
+-- What is true besides: the journal, the place among the seats of the one that has taken it, how many tickets were
+-- served
+-- and drawn, the place of the seat that drew each ticket, and how many seats were joined and how many numbers given
+-- out.
 -- Places begin at 0.
 pub record Book : Type 0 where
   pub journal : List Stamped
@@ -73,7 +76,8 @@ pub record Fits (book : Book) (place : ℕ) (v : View) : Type 0 where
   -- its ticket is one of those that are out, and nobody else's
   pub ticket : (t : ℕ) → v.ticket ≡ Some t → (book.served ≤ t) × (t < book.drawn) × (book.drawer t ≡ place)
   -- if it has taken the journal, it is served, and has seen just that journal
-  pub taken : v.taken ≡ true → (book.holder ≡ Some place) × (v.ticket ≡ Some book.served) × (v.seen ≡ book.journal) × (1 ≤ v.number)
+  pub taken : v.taken ≡ true
+      → (book.holder ≡ Some place) × (v.ticket ≡ Some book.served) × (v.seen ≡ book.journal) × (1 ≤ v.number)
   -- its number is its own: the numbers up to joined + 1, past the first, are those of joined seats
   pub number : 1 ≤ v.number → (v.number ≡ place + 1) × ((v.number ≡ 1) ⊎ (book.joined + 1 < v.number))
   -- the first seat has the shares of all joined seats, and the count of numbers given out
@@ -86,7 +90,8 @@ pub record IsKept (seats : ℕ) (book : Book) (s : State (List Stamped) View) : 
   pub words : s.words ≡ (book.drawn % 2 ^ 64) ∷ (book.served % 2 ^ 64) ∷ []
   -- the journal is in the slot exactly where no seat has taken it
   pub slot : s.homes ≡ slot_of book.holder book.journal ∷ []
-  pub held : (place : ℕ) → book.holder ≡ Some place → (v : View) × (get_elem? s.views place ≡ table.some v) × (v.taken ≡ true)
+  pub held : (place : ℕ) → book.holder ≡ Some place
+      → (v : View) × (get_elem? s.views place ≡ table.some v) × (v.taken ≡ true)
   -- as many tickets are out as were drawn and not yet served, so they are all of these
   pub tickets : book.drawn ≡ book.served + tickets_out s.views
   -- each seat was given one number, and there are fewer than 2^64

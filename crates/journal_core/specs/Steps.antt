@@ -1,5 +1,5 @@
 -- What each kind of step tells the seat that makes it.
-use Rattle.std.specs.Prelude.{◌≡◌, ◌≢◌, ℕ, ◌%◌, ◌^◌, Bool, true, false, Option, Some, None, List, [], ◌∷◌, ◌++◌, length, drop}
+use Rattle.std.specs.Prelude.{◌≡◌, ◌≢◌, ℕ, ◌%◌, ◌^◌, true, false, Some, None, List, [], ◌∷◌, ◌++◌, length, drop}
 use Rattle.atomic_table.specs.Table.{Me}
 use Rattle.journal_core.specs.declared.stamped.Stamped.{Stamped}
 use Rattle.journal_core.specs.declared.view.View.{View}
@@ -29,7 +29,8 @@ Draws m n m' = (t : ℕ) × (n ≡ t % 2 ^ 64) × (m' ≡ (waiting m.0 t, m.1))
 -- the seat has the journal, which begins with what it had seen, and it has seen it
 abbrev pub Takes : View → Mine → Type 0
 Takes v m' =
-    (journal : List Stamped) × (m' ≡ (holding v journal, (0, journal) ∷ [])) × BeginsWith journal v.seen × IsInOrder journal
+    (journal : List Stamped) × (m' ≡ (holding v journal, (0, journal) ∷ [])) × BeginsWith journal v.seen
+    × IsInOrder journal
 
 -- where its ticket is served, the seat takes the journal, and else nothing changes
 abbrev pub Looks : Mine → ℕ → Mine → Type 0

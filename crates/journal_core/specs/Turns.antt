@@ -1,11 +1,13 @@
 -- What the private steps of an append and of a close say of the raw seat at the table.
-use Rattle.std.specs.Prelude.{◌≡◌, ◌≢◌, ℕ, ◌≤◌, Bool, true, false, None, List, [], ◌∷◌, ◌++◌, map, length}
+use Rattle.std.specs.Prelude.{◌≡◌, ℕ, ◌≤◌, true, false, None, Result, MatchResult, List, [], ◌∷◌, ◌++◌, map, max}
 use Rattle.atomic_table.specs.Seated.{TableId}
+use Rattle.pico_base.specs.declared.reply.Entry.{Entry}
+use Rattle.journal_core.specs.declared.fault.AppendFault.{AppendFault}
 use Rattle.journal_core.specs.declared.stamped.Stamped.{Stamped}
 use Rattle.journal_core.specs.declared.view.Share.{Share}
 use Rattle.journal_core.specs.declared.view.View.{View}
-use Rattle.journal_core.specs.Journal.{BeginsWith, IsInOrder}
-use Rattle.journal_core.specs.Seated.{Seated}
+use Rattle.journal_core.specs.Journal.{last_stamp, under, BeginsWith, IsInOrder}
+use Rattle.journal_core.specs.Seated.{Seated, IsStamp, IsCause}
 use Rattle.journal_core.specs.Steps.{Mine, waiting, holding}
 
 -- a table with two words and one slot
@@ -45,3 +47,10 @@ abbrev pub HasGathered : View → List Seated → Type 0
 HasGathered v [] = ⊥
 HasGathered v (s ∷ ss) =
     (v.number ≡ 1) × (v.taken ≡ false) × (v.own ≡ s.own) × (v.seen ≡ s.seen) × (v.joined ≡ map share_of ss)
+
+-- the journal now is the one found, with these entries behind it where a stamp was given
+abbrev pub Adds : ℕ → ℕ → List Entry → List Stamped → List Stamped → Result ℕ AppendFault → Type 0
+Adds floor seat entries found now answer =
+    MatchResult answer
+    (λ stamp. IsStamp stamp (max floor (last_stamp found)) × (now ≡ found ++ under stamp seat entries))
+    (λ fault. IsCause fault (max floor (last_stamp found)) × (now ≡ found))

@@ -77,7 +77,9 @@ impl JournalLock {
     ) -> Result<u64, AppendFault>
         requires { seat.old.lock ≡ self.now.id }
         ensures seat { (seat.new.lock ≡ seat.old.lock) × (seat.new.number ≡ seat.old.number) }
-        ensures answer { MatchResult result (λ stamp. Appends floor entries seat.old seat.new stamp) (λ fault. Refuses floor seat.old seat.new fault) }
+        ensures answer { MatchResult result
+            (λ stamp. Appends floor entries seat.old seat.new stamp)
+            (λ fault. Refuses floor seat.old seat.new fault) }
     {
         let board = &self.table.shared;
         let mut journal = take(rt, board, self.alloc, &mut seat.seat).into_vec();

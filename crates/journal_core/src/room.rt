@@ -1,7 +1,7 @@
 //! Entries behind a journal that was found.
-ghost use Rattle.std.specs.Prelude.{◌≡◌, ◌+◌, ◌≤◌, ◌++◌, length, max, vec_len, vec_capacity, MatchResult};
+ghost use Rattle.std.specs.Prelude.{◌≡◌, ◌+◌, ◌≤◌, ◌++◌, length, vec_len, vec_capacity};
 ghost use Rattle.journal_core.specs.Journal.{last_stamp, under};
-ghost use Rattle.journal_core.specs.Seated.{IsStamp, IsCause};
+ghost use Rattle.journal_core.specs.Turns.{Adds};
 
 use crate::{AppendFault, Stamped};
 use pico_base::Entries;
@@ -37,9 +37,7 @@ pub(crate) fn add(
     seat: u32,
     entries: Entries,
 ) -> Result<u64, AppendFault>
-    ensures { MatchResult result
-        (λ stamp. IsStamp stamp (max floor (last_stamp journal.old.items)) × (journal.new.items ≡ journal.old.items ++ under stamp seat entries))
-        (λ fault. IsCause fault (max floor (last_stamp journal.old.items)) × (journal.new.items ≡ journal.old.items)) }
+    ensures { Adds floor seat entries journal.old.items journal.new.items result }
 {
     let last = floor.max(last_stamp(journal.as_slice()));
     if last >= LAST {

@@ -1,4 +1,4 @@
-use Rattle.std.proofs.Common.{◌≡◌, ◌+◌, ◌≤◌, [], length}
+use Rattle.std.proofs.Common.{◌≡◌, ◌+◌, [], length}
 use Rattle.journal_core.specs.Rule.{fresh_view}
 use Rattle.journal_core.specs.Seated.{AreNumbered, AreNew}
 use Rattle.journal_core.proofs.lock.deal.Given as goal

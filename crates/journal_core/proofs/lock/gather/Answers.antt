@@ -1,8 +1,7 @@
-use Rattle.std.proofs.Common.{◌≡◌, ℕ, ◌<◌, List, [], ◌∷◌, ◌++◌, arith, rules, refl, sym, ap, ◌∙◌, subst}
+use Rattle.std.proofs.Common.{List, arith, ap, ◌∙◌, subst}
 use Rattle.journal_core.specs.Seated.{Seated}
-use Rattle.journal_core.specs.Steps.{Mine}
 use Rattle.journal_core.proofs.Seats.{joins}
-use Rattle.journal_core.proofs.Gathering.{Gathers, gathers_first, gathers_next, gathered_all, nothing_left}
+use Rattle.journal_core.proofs.Gathering.{Gathers}
 use Rattle.journal_core.proofs.lock.gather.Goals as goal
 
 pub join_seat-requires : goal.join_seat-requires
@@ -17,5 +16,6 @@ join_seat-requires c =
       ap (λ (s : Seated). s.lock) next.view_is ∙ g.numbered.0,
       next.invariant.slots,
       omega arith,
-      joins c.args.board.now.key first.id first.me.0 next.inside.seat.id next.inside.seat.me.0 g.number (ap (λ (s : Seated). s.number) next.view_is ∙ g.numbered.1) next.invariant.taken next.invariant.ticket,
+      joins c.args.board.now.key first.id first.me.0 next.inside.seat.id next.inside.seat.me.0 g.number
+          (ap (λ (s : Seated). s.number) next.view_is ∙ g.numbered.1) next.invariant.taken next.invariant.ticket,
     )

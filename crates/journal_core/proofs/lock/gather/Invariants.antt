@@ -1,6 +1,4 @@
-use Rattle.std.proofs.Common.{◌≡◌, ◌+◌, ◌≤◌, [], ◌∷◌, ◌++◌, map, length}
-use Rattle.journal_core.specs.Seated.{AreNumbered}
-use Rattle.journal_core.specs.Turns.{share_of, HasGathered}
+use Rattle.std.proofs.Common.{◌≡◌}
 use Rattle.journal_core.proofs.Gathering.{Gathers}
 use Rattle.journal_core.proofs.lock.gather.Given as goal
 

@@ -1,4 +1,4 @@
-use Rattle.std.proofs.Common.{◌≡◌, ℕ, ◌+◌, ◌%◌, ◌^◌, ◌<◌, [], ◌∷◌, arith, refl, sym, ap, ◌∙◌, subst}
+use Rattle.std.proofs.Common.{◌+◌, ◌%◌, ◌^◌, [], ◌∷◌, arith, sym, ap, ◌∙◌, subst}
 use Rattle.atomic_table.specs.Table.{Allows, rest}
 use Rattle.journal_core.specs.Rule.{Kept}
 use Rattle.journal_core.specs.Steps.{Mine, PutsBack, done}

@@ -1,4 +1,4 @@
-use Rattle.std.proofs.Common.{◌≡◌, ℕ, ◌<◌, arith, refl, sym, subst}
+use Rattle.std.proofs.Common.{arith, refl, sym, subst}
 use Rattle.atomic_table.specs.Table.{Allows}
 use Rattle.journal_core.specs.Rule.{Kept}
 use Rattle.journal_core.specs.Steps.{Mine, waiting, Looks}
@@ -7,8 +7,12 @@ use Rattle.journal_core.proofs.lock.take.Goals as goal
 
 pub fetch_add-ticket-requires : goal.fetch_add-ticket-requires
 fetch_add-ticket-requires g c =
-    let words = c.requires.board.0.0 in
-    (c.requires.board.1, omega arith, draws c.args.board.now.key c.args.board.now.table_id.slots c.args.seat.now.id c.args.seat.now.me c.requires.free.0 c.requires.free.1)
+    let words = c.requires.board.0.0 in (
+      c.requires.board.1,
+      omega arith,
+      draws c.args.board.now.key c.args.board.now.table_id.slots c.args.seat.now.id
+          c.args.seat.now.me c.requires.free.0 c.requires.free.1,
+    )
 
 pub load-requires : goal.load-requires
 load-requires g c =

@@ -1,4 +1,4 @@
-use Rattle.std.proofs.Common.{◌≡◌, ◌+◌, ◌-◌, ◌<◌, length, arith, sym}
+use Rattle.std.proofs.Common.{◌-◌, length, arith, sym}
 use Rattle.journal_core.proofs.Appending.{stamp_of_last}
 use Rattle.journal_core.proofs.room.last_stamp.Goals as goal
 

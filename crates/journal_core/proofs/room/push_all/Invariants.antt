@@ -6,5 +6,6 @@ use Rattle.journal_core.proofs.room.push_all.Given as goal
 -- what is there and what is left, and there is room for it
 abbrev pub invariant-loop-entry : goal.invariant-loop-entry
 invariant-loop-entry l =
-    (l.journal.items ++ under l.stamp l.seat l.entry-iterator.rest.items ≡ l.fn.journal.items ++ under l.stamp l.seat l.fn.entries)
+    (l.journal.items ++ under l.stamp l.seat l.entry-iterator.rest.items ≡ l.fn.journal.items
+    ++ under l.stamp l.seat l.fn.entries)
     × (vec_len l.journal + length l.entry-iterator.rest.items ≤ vec_capacity l.journal)
