@@ -5,3 +5,4 @@ pub mod Turns
 pub mod Closing
 pub mod Gathering
 pub mod Appending
+pub mod Numbering

@@ -12,9 +12,9 @@ use crate::{AppendFault, JSeat, Journal, Seats};
 use atomic_table::{Seat, Shared, Table};
 use pico_base::{Entries, Memory};
 use std::alloc::Global;
+use std::hint::spin_loop;
 use std::marker::Model;
 use std::sync::Wait;
-use std::thread;
 
 /// The word of the next ticket.
 const TICKET: usize = 0;
@@ -24,6 +24,9 @@ const SERVED: usize = 1;
 
 /// The slot of the journal.
 const SLOT: usize = 0;
+
+/// How often a waiting seat looks before it sleeps until the next ticket is served.
+const LOOKS: u32 = 128;
 
 /// The table, as threads see it.
 type Board = Shared<Journal, View, u32, LockRule>;
@@ -140,11 +143,18 @@ fn take<R: Wait>(rt: &R, board: &Board, alloc: Global, seat: &mut Seat<Journal, 
     ensures taken { HasTaken seat.old.me.0 result seat.new.me }
 {
     let ticket = board.fetch_add::<Draw>(seat, TICKET, 1);
+    let mut looks = 0u32;
     for _ in rt.forever() {
-        if board.load::<Look>(seat, SERVED) == ticket {
+        let served = board.load::<Look>(seat, SERVED);
+        if served == ticket {
             return board.exchange(seat, SLOT, Journal::new(alloc));
         }
-        thread::yield_now();
+        looks = looks.wrapping_add(1);
+        if looks % LOOKS == 0 {
+            board.park(rt, SERVED, (served % (1 << 32)) as u32);
+        } else {
+            spin_loop();
+        }
     }
     unreachable!()
 }
@@ -157,7 +167,17 @@ fn put_back(board: &Board, seat: &mut Seat<Journal, View>, journal: Journal)
     ensures done { seat.new.me ≡ (done seat.old.me.0 journal, []) }
 {
     let _ = board.exchange(seat, SLOT, journal);
-    board.fetch_add::<PutBack>(seat, SERVED, 1);
+    let served = board.fetch_add::<PutBack>(seat, SERVED, 1);
+    wake(board, served.wrapping_add(1));
+}
+
+/// Wakes the seats that sleep, where a ticket is out.
+fn wake(board: &Board, served: u64)
+    requires { IsBoard board.now.table_id }
+{
+    if board.peek(TICKET) != served {
+        board.wake_all(SERVED);
+    }
 }
 
 /// The first seat, with the shares of all others.

@@ -14,8 +14,8 @@ fetch_add-ticket-requires g c =
           c.args.seat.now.me c.requires.free.0 c.requires.free.1,
     )
 
-pub load-requires : goal.load-requires
-load-requires g c =
+pub load-served-requires : goal.load-served-requires
+load-served-requires g c =
     let words = c.requires.board.0.0 in
     let key = c.args.board.now.key in
     let slots = c.args.board.now.table_id.slots in
