@@ -83,8 +83,10 @@ pub record Fits (book : Book) (place : ℕ) (v : View) : Type 0 where
   -- the first seat has the shares of all joined seats, and the count of numbers given out
   pub first : v.number ≡ 1 → (length v.joined ≡ book.joined) × (v.given ≡ book.given)
   pub others : (v.number ≡ 1) ⊎ (v.joined ≡ [])
+  -- a share is what the seat that was joined had
   pub shares : (k : ℕ) (share : Share) → get_elem? v.joined k ≡ table.some share → FitsShare book.journal k share
 
+-- the rule, with what is true besides
 pub record IsKept (seats : ℕ) (book : Book) (s : State (List Stamped) View) : Type 0 where
   -- the two words, modulo 2^64
   pub words : s.words ≡ (book.drawn % 2 ^ 64) ∷ (book.served % 2 ^ 64) ∷ []
@@ -97,10 +99,12 @@ pub record IsKept (seats : ℕ) (book : Book) (s : State (List Stamped) View) : 
   -- each seat was given one number, and there are fewer than 2^64
   pub numbers : length s.views ≡ book.given
   pub most : (book.joined < book.given) × (book.given ≤ seats) × (seats < 2 ^ 64)
-  -- the journal's stamps don't fall, entries with one stamp are of one seat, and no seat has a number that wasn't given
+  -- the journal's stamps don't fall, entries with one stamp are of one seat, and no seat's number wasn't given out
   pub order : IsInOrder book.journal
   pub within : IsOfSeats book.given book.journal
+  -- and each seat fits
   pub each : (place : ℕ) (v : View) → get_elem? s.views place ≡ table.some v → Fits book place v
 
+-- the rule of a lock with this many seats
 abbrev pub Kept : ℕ → State (List Stamped) View → Type 0
 Kept seats s = (book : Book) × IsKept seats book s

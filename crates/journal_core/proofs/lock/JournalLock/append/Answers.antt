@@ -2,7 +2,7 @@ use Rattle.std.proofs.Common.{ℕ, List, [], ◌++◌, length, drop, sym, ap, �
 use Rattle.journal_core.specs.declared.stamped.Stamped.{Stamped}
 use Rattle.journal_core.specs.Journal.{BeginsWith}
 use Rattle.journal_core.specs.Seated.{Seated}
-use Rattle.journal_core.specs.Steps.{Mine, done}
+use Rattle.journal_core.specs.Steps.{Mine}
 use Rattle.journal_core.proofs.Appending.{can_put, tells}
 use Rattle.journal_core.specs.Turns.{Adds}
 use Rattle.journal_core.proofs.lock.JournalLock.append.Goals as goal
@@ -33,8 +33,10 @@ returns-clause-answer g c =
     let mine = c.seat.invariant.number ∙ ap (λ (s : Seated). s.number) is in
     let adds = subst (λ (p : ℕ × List Stamped × List Stamped). Adds c.args.floor p.0 c.args.entries p.1 p.2 answer)
     (λ k. (mine k, c.into_vec-journal.ensures k, sym c.from_vec.ensures k)) c.add-answer.ensures in
-    let me = c.put_back.ensures.done ∙ ap (λ (m : Mine). (done m.0 now, [])) taken.0.1 in
+    let put = c.put_back.ensures.done in
     tells c.args.floor c.args.entries found now old _ answer
     (subst (BeginsWith found) (ap (λ (s : Seated). s.seen) is) taken.1) taken.2
-    (ap (λ (m : Mine). m.0.own) me ∙ ap (λ (s : Seated). s.own ++ drop (length found) now) is)
-    (ap (λ (m : Mine). m.0.seen) me) adds
+    (ap (λ (m : Mine). m.0.own) put
+    ∙ (ap (λ (m : Mine). m.0.own ++ drop (length m.0.seen) now) taken.0.1
+    ∙ ap (λ (s : Seated). s.own ++ drop (length found) now) is))
+    (ap (λ (m : Mine). m.0.seen) put) adds
