@@ -50,6 +50,7 @@ of_seats_own seats seat [] h low high = tt
 of_seats_own seats seat (e ∷ es) h low high = let same = h.0 in
     (omega arith, omega arith, of_seats_own seats seat es h.1 low high)
 
+-- of two journals, one behind the other
 pub of_seats-append : (seats : ℕ) (xs ys : List Stamped) → IsOfSeats seats xs → IsOfSeats seats ys
     → IsOfSeats seats (xs ++ ys)
 of_seats-append seats [] ys h k = k

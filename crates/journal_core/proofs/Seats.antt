@@ -1,5 +1,5 @@
 -- A new table, a seat more and a seat joined into the first one keep the rule.
-use Rattle.std.proofs.Common.{◌≡◌, ◌≢◌, ◌⊎◌, ℕ, zero, suc, ◌+◌, ◌^◌, ◌<◌, ◌≤◌, false, true≢false, [], ◌∷◌, ◌++◌, length, set, sym, refl, ap, ◌∙◌, subst, inl, inr, ⊎_elim, length-append, length-set, arith}
+use Rattle.std.proofs.Common.{List, ◌≡◌, ◌≢◌, ◌⊎◌, ℕ, zero, suc, ◌+◌, ◌^◌, ◌<◌, ◌≤◌, false, true≢false, [], ◌∷◌, ◌++◌, length, set, sym, refl, ap, ◌∙◌, subst, inl, inr, ⊎_elim, length-append, length-set, arith}
 use Rattle.std.specs.Prelude.{None}
 use Rattle.std.proofs.lemmas.Option.{none-some}
 use mathlib.Core.Option.{some, some-injective, some-ne-none}
@@ -10,7 +10,7 @@ use Rattle.atomic_table.specs.Table.{opening, Splits, Joins}
 use Rattle.atomic_table.proofs.Lists.{at_longer, set_else}
 use Rattle.journal_core.specs.declared.view.Share.{Share}
 use Rattle.journal_core.specs.declared.view.View.{View}
-use Rattle.journal_core.specs.Journal.{of_seat}
+use Rattle.journal_core.specs.Journal.{of_seat, IsOfSeats}
 use Rattle.journal_core.specs.Rule.{Book, FitsShare, Fits, Kept, fresh_view, first_view, spent_view, newcomer, one_more_given, with_share, tickets_of, tickets_out}
 use Rattle.journal_core.proofs.Journals.{none_of_later, of_more_seats}
 use Rattle.journal_core.proofs.Views.{place_below, at_behind, each_set, each_set_but, held_set, tickets_set, tickets_behind}
@@ -93,53 +93,63 @@ fits_giving book place v one fits =
       shares = fits.shares;
     }
 
+-- each seat fits, with one more at the end
+each_given : (book : Book) (views : List View) (place : ℕ) (v : View)
+    → ((j : ℕ) (u : View) → get_elem? views j ≡ some u → Fits book j u) → get_elem? views place ≡ some v → v.number ≡ 1
+    → length views ≡ book.given → book.joined < book.given → IsOfSeats book.given book.journal
+    → (j : ℕ) (u : View) → get_elem? (set views place (one_more_given v) ++ newcomer v.given ∷ []) j ≡ some u
+    → Fits (record book { given = book.given + 1 }) j u
+each_given book views place v fits at one count below within j u e =
+    let mine = fits place v at in
+    let given : v.given ≡ book.given = (mine.first one).1 in
+    let first : place ≡ 0 = first_place book place v mine one in
+    let w = one_more_given v in
+    let longer = set views place w in
+    let after = record book { given = book.given + 1 } in
+    ⊎_elim
+    (λ old.
+    each_set after views place w (fits_giving book place v one mine)
+    (λ i x apart there.
+    let f = fits i x there in
+    fits_one_more book i x (λ is. apart (first_place book i x f is ∙ sym first)) f)
+    j u old)
+    (λ (new : (newcomer v.given ≡ u) × (j ≡ length longer)).
+    let here : j ≡ book.given = new.1 ∙ (length-set views place w ∙ count) in
+    subst (Fits after j) new.0
+    (fits_fresh after j (v.given + 1) 0
+    (λ _. none_of_later book.given (v.given + 1) book.journal within (omega arith))
+    (λ _. (omega arith, inr (omega arith)))
+    (λ is. absurd (omega arith))))
+    (at_behind longer (newcomer v.given) u j e)
+
 -- the first seat gives out a number
 pub gives : (seats place : ℕ) (v : View) → v.number ≡ 1 → v.given + 1 ≤ seats
     → Splits (Kept seats) place v (one_more_given v) (newcomer v.given)
 gives seats place v one room s kept at =
     let book = kept.0 in
     let k = kept.1 in
-    let mine = k.each place v at in
-    let given : v.given ≡ book.given = (mine.first one).1 in
-    let first : place ≡ 0 = first_place book place v mine one in
+    let given : v.given ≡ book.given = ((k.each place v at).first one).1 in
     let w = one_more_given v in
     let fresh = newcomer v.given in
     let longer = set s.views place w in
-    let long : length longer ≡ length s.views = length-set s.views place w in
-    let count : length s.views ≡ book.given = k.numbers in
     let below : book.joined < book.given = k.most.0 in
-    let after = record book { given = book.given + 1 } in
     let same : tickets_out longer + tickets_of v.ticket ≡ tickets_out s.views + tickets_of v.ticket =
     tickets_set s.views place v w at in
     let behind : tickets_out (longer ++ fresh ∷ []) ≡ tickets_out longer + 0 = tickets_behind longer fresh in
     let out : book.drawn ≡ book.served + tickets_out s.views = k.tickets in (
-      after,
+      record book { given = book.given + 1 },
       record {
         words = k.words;
         slot = k.slot;
-        held = λ p e. let h = held_set book.holder s.views place v w at refl k.held p e in
+        held = λ p e.
+            let h = held_set book.holder s.views place v w at refl k.held p e in
             (h.0, at_longer longer (fresh ∷ []) p h.0 h.1, h.2);
         tickets = omega arith;
-        numbers = length-append longer (fresh ∷ []) ∙ (ap (λ n. n + 1) (long ∙ count));
+        numbers = length-append longer (fresh ∷ []) ∙ ap (λ n. n + 1) (length-set s.views place w ∙ k.numbers);
         most = (omega arith, (let r : v.given + 1 ≤ seats = room in omega arith), k.most.2);
         order = k.order;
         within = of_more_seats book.given (book.given + 1) book.journal (omega arith) k.within;
-        each = λ j u e.
-            ⊎_elim
-            (λ old.
-            each_set after s.views place w (fits_giving book place v one mine)
-            (λ i x apart there.
-            let f = k.each i x there in
-            fits_one_more book i x (λ is. apart (first_place book i x f is ∙ sym first)) f)
-            j u old)
-            (λ (new : (fresh ≡ u) × (j ≡ length longer)).
-            let place_is : j ≡ book.given = new.1 ∙ (long ∙ count) in
-            subst (Fits after j) new.0
-            (fits_fresh after j (v.given + 1) 0
-            (λ _. none_of_later book.given (v.given + 1) book.journal k.within (omega arith))
-            (λ _. (omega arith, inr (omega arith)))
-            (λ is. absurd (omega arith))))
-            (at_behind longer fresh u j e);
+        each = each_given book s.views place v k.each at one k.numbers below k.within;
       },
     )
 
@@ -188,6 +198,34 @@ fits_gathering book place v w one share fits =
     new : Share
     new = record { own = w.own; seen = w.seen }
 
+-- each seat fits, with one joined into the first
+each_joined : (book : Book) (views : List View) (place : ℕ) (v : View) (other : ℕ) (w : View)
+    → ((j : ℕ) (u : View) → get_elem? views j ≡ some u → Fits book j u) → get_elem? views place ≡ some v
+    → get_elem? views other ≡ some w → v.number ≡ 1 → w.number ≡ length v.joined + 2
+    → (j : ℕ) (u : View) → get_elem? (set (set views place (with_share v w)) other spent_view) j ≡ some u
+    → Fits (record book { joined = book.joined + 1 }) j u
+each_joined book views place v other w fits at there one next =
+    let both = with_share v w in
+    let mine = fits place v at in
+    let theirs = fits other w there in
+    let first : place ≡ 0 = first_place book place v mine one in
+    let joined : length v.joined ≡ book.joined = (mine.first one).0 in
+    let number : w.number ≡ other + 1 = (theirs.number (omega arith)).0 in
+    let after = record book { joined = book.joined + 1 } in
+    let share : FitsShare book.journal (length v.joined) (record { own = w.own; seen = w.seen }) = record {
+      own = ap (λ n. of_seat n book.journal) (sym next) ∙ theirs.own (omega arith);
+      seen = theirs.seen;
+    } in
+    each_set after (set views place both) other spent_view
+    (fits_fresh after other 0 0 (λ low. absurd (omega arith)) (λ low. absurd (omega arith)) (λ is. absurd (omega arith)))
+    (λ j u else e.
+    each_set_but after views place both other (fits_gathering book place v w one share mine)
+    (λ i x away off x_at.
+    let f = fits i x x_at in
+    fits_joined book i x (λ is. away (first_place book i x f is ∙ sym first))
+    (λ is. let own : x.number ≡ i + 1 = (f.number (omega arith)).0 in off (omega arith)) f)
+    j u else e)
+
 -- the next seat is joined into the first one
 pub joins : (seats place : ℕ) (v : View) (other : ℕ) (w : View) → v.number ≡ 1 → w.number ≡ length v.joined + 2
     → w.taken ≡ false → w.ticket ≡ None → Joins (Kept seats) place v other w (with_share v w) spent_view
@@ -197,25 +235,17 @@ joins seats place v other w one next idle none s kept at apart there =
     let both = with_share v w in
     let middle = set s.views place both in
     let at_other : get_elem? s.views other ≡ some w = sym (set_else s.views place other both apart) ∙ there in
-    let mine = k.each place v at in
-    let theirs = k.each other w at_other in
-    let first : place ≡ 0 = first_place book place v mine one in
-    let joined : length v.joined ≡ book.joined = (mine.first one).0 in
-    let number : w.number ≡ other + 1 = (theirs.number (omega arith)).0 in
+    let joined : length v.joined ≡ book.joined = ((k.each place v at).first one).0 in
+    let number : w.number ≡ other + 1 = ((k.each other w at_other).number (omega arith)).0 in
     let below : other < length s.views = place_below s.views other w at_other in
     let count : length s.views ≡ book.given = k.numbers in
-    let after = record book { joined = book.joined + 1 } in
-    let share : FitsShare book.journal (length v.joined) (record { own = w.own; seen = w.seen }) = record {
-      own = ap (λ n. of_seat n book.journal) (sym next) ∙ theirs.own (omega arith);
-      seen = theirs.seen;
-    } in
     let same : tickets_out middle + tickets_of v.ticket ≡ tickets_out s.views + tickets_of v.ticket =
     tickets_set s.views place v both at in
     let gone : tickets_out (set middle other spent_view) + tickets_of w.ticket ≡ tickets_out middle + 0 =
     tickets_set middle other w spent_view there in
     let zero : tickets_of w.ticket ≡ 0 = ap tickets_of none in
     let out : book.drawn ≡ book.served + tickets_out s.views = k.tickets in (
-      after,
+      record book { joined = book.joined + 1 },
       record {
         words = k.words;
         slot = k.slot;
@@ -226,15 +256,6 @@ joins seats place v other w one next idle none s kept at apart there =
         most = (omega arith, k.most.1, k.most.2);
         order = k.order;
         within = k.within;
-        each = each_set after middle other spent_view
-            (fits_fresh after other 0 0 (λ low. absurd (omega arith)) (λ low. absurd (omega arith))
-            (λ is. absurd (omega arith)))
-            (λ j u else e.
-            each_set_but after s.views place both other (fits_gathering book place v w one share mine)
-            (λ i x away off x_at.
-            let f = k.each i x x_at in
-            fits_joined book i x (λ is. away (first_place book i x f is ∙ sym first))
-            (λ is. let own : x.number ≡ i + 1 = (f.number (omega arith)).0 in off (omega arith)) f)
-            j u else e);
+        each = each_joined book s.views place v other w k.each at at_other one next;
       },
     )

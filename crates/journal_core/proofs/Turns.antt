@@ -9,7 +9,7 @@ use mathlib.Core.Logic.{dite}
 use native.Mathlib.Decide.{ℕ_discrete}
 use lib.ListN.{get_elem?}
 use lib.Seq.{set-get_or}
-use Rattle.atomic_table.specs.Table.{State, Allows, keeps, takes, gives}
+use Rattle.atomic_table.specs.Table.{State, Allows, keeps, takes, gives, stepped}
 use Rattle.atomic_table.proofs.Lists.{set_again, set_here, one_turn}
 use Rattle.journal_core.specs.declared.stamped.Stamped.{Stamped}
 use Rattle.journal_core.specs.declared.view.Share.{Share}
@@ -173,6 +173,42 @@ fits_holding book place v has low fits =
       shares = fits.shares;
     }
 
+-- the table, once the seat whose ticket is served has the journal
+taken_keeps : (seats : ℕ) (book : Book) (s : St) (k : IsKept seats book s) (place : ℕ) (v : View)
+    → get_elem? s.views place ≡ some v → v.ticket ≡ Some book.served → 1 ≤ v.number → book.holder ≡ None
+    → s.homes ≡ some book.journal ∷ []
+    → IsKept seats (record book { holder = Some place })
+    (stepped s 1 (get_or s.words 1 0) place [] (holding v book.journal) (takes 0 book.journal))
+taken_keeps seats book s k place v at has low free home =
+    let w = holding v book.journal in
+    let after = record book { holder = Some place } in
+    let out : book.drawn ≡ book.served + tickets_out s.views = k.tickets in
+    let same : tickets_out (set s.views place w) + tickets_of v.ticket ≡ tickets_out s.views + tickets_of v.ticket =
+    tickets_set s.views place v w at in
+    record {
+      words = set-get_or s.words 1 0 ∙ k.words;
+      slot = ap (λ hs. set hs 0 none) home;
+      held = λ p e.
+          let is : place ≡ p = same_Some place p e in
+          let here = set_here s.views place w (place_below s.views place v at) in
+          (w, ap (get_elem? (set s.views place w)) (sym is) ∙ here, refl);
+      tickets = omega arith;
+      numbers = length-set s.views place w ∙ k.numbers;
+      most = k.most;
+      order = k.order;
+      within = k.within;
+      each = each_set after s.views place w (fits_holding book place v has low (k.each place v at))
+          (λ j u apart e. fits_taken book place j u free (k.each j u e));
+    }
+
+-- the table, where the seat found that another is served
+unchanged_keeps : (seats : ℕ) (s : St) (place : ℕ) (v : View) → get_elem? s.views place ≡ some v → Kept seats s
+    → Kept seats (stepped s 1 (get_or s.words 1 0) place [] v keeps)
+unchanged_keeps seats s place v at kept =
+    let words = sym (set-get_or s.words 1 0) in
+    let views = sym (set_again s.views place v at) in
+    subst (Kept seats) (λ i. record { words = words i; homes = s.homes; views = views i }) kept
+
 -- a seat looks who is served: it takes the journal out of its slot, or nothing changes
 pub looks : (seats slots place : ℕ) (v : View) (t : ℕ) → v.ticket ≡ Some t → v.taken ≡ false → 1 ≤ v.number
     → Allows (Kept seats) slots place (v, []) 1 (λ n. n) (λ n m'. Looks (v, []) n m')
@@ -185,34 +221,13 @@ looks seats slots place v t has idle low s kept wide at small =
     let served : book.served ≡ t = served_is seats book s k place v t at has (sym word ∙ shown) in
     let free : book.holder ≡ None = nobody seats book s k place v t at has idle served in
     let home : s.homes ≡ some book.journal ∷ [] = k.slot ∙ ap (λ o. slot_of o book.journal ∷ []) free in
-    let mine = k.each place v at in
-    let w = holding v book.journal in
-    let after = record book { holder = Some place } in
-    let out : book.drawn ≡ book.served + tickets_out s.views = k.tickets in
-    let same : tickets_out (set s.views place w) + tickets_of v.ticket ≡ tickets_out s.views + tickets_of v.ticket =
-    tickets_set s.views place v w at in (
-      w,
+    let mine = k.each place v at in (
+      holding v book.journal,
       takes 0 book.journal,
       ap (λ hs. get_elem? hs 0) home,
       (
-        after,
-        record {
-          words = set-get_or s.words 1 0 ∙ k.words;
-          slot = ap (λ hs. set hs 0 none) home;
-          held = λ p e. let is : place ≡ p = same_Some place p e in (
-            w,
-            ap (get_elem? (set s.views place w)) (sym is)
-                ∙ set_here s.views place w (place_below s.views place v at),
-            refl,
-          );
-          tickets = omega arith;
-          numbers = length-set s.views place w ∙ k.numbers;
-          most = k.most;
-          order = k.order;
-          within = k.within;
-          each = each_set after s.views place w (fits_holding book place v (has ∙ ap Some (sym served)) low mine)
-              (λ j u apart e. fits_taken book place j u free (k.each j u e));
-        },
+        record book { holder = Some place },
+        taken_keeps seats book s k place v at (has ∙ ap Some (sym served)) low free home,
       ),
       λ t' has'. (
         (λ _. (book.journal, refl, mine.seen, k.order)),
@@ -223,10 +238,7 @@ looks seats slots place v t has idle low s kept wide at small =
       v,
       keeps,
       tt,
-      subst (Kept seats)
-          (λ i. record
-          { words = sym (set-get_or s.words 1 0) i; homes = s.homes; views = sym (set_again s.views place v at) i })
-          kept,
+      unchanged_keeps seats s place v at kept,
       λ t' has'.
           ((λ shown. absurd (off (shown ∙ ap (λ x. x % 2 ^ 64) (same_Some t' t (sym has' ∙ has))))), (λ _. refl)),
     ))

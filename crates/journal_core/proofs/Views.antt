@@ -50,6 +50,7 @@ each_set_but book views place w off mine others j u else e =
 abbrev pub IsHeld : Option ℕ → List View → Type 0
 IsHeld holder views = (p : ℕ) → holder ≡ Some p → (v : View) × (get_elem? views p ≡ some v) × (v.taken ≡ true)
 
+-- it is there, too, where a seat has changed, but not whether it has taken the journal
 pub held_set : (holder : Option ℕ) (views : List View) (place : ℕ) (v w : View) → get_elem? views place ≡ some v
     → w.taken ≡ v.taken → IsHeld holder views → IsHeld holder (set views place w)
 held_set holder views place v w at same held p is =
@@ -76,6 +77,7 @@ tickets_below (v ∷ vs) =
     let more : tickets_out vs ≤ length vs = tickets_below vs in
     omega arith
 
+-- the same, where the number of seats is known
 pub tickets_at_most : (vs : List View) (n : ℕ) → length vs ≡ n → tickets_out vs ≤ n
 tickets_at_most vs n is = let most : tickets_out vs ≤ length vs = tickets_below vs in omega arith
 
@@ -106,6 +108,7 @@ tickets_set (x ∷ xs) (suc i) v w e =
     tickets_set xs i v w e in
     omega arith
 
+-- and where there is one seat more
 pub tickets_behind : (vs : List View) (w : View) → tickets_out (vs ++ w ∷ []) ≡ tickets_out vs + tickets_of w.ticket
 tickets_behind [] w = omega arith
 tickets_behind (x ∷ xs) w =
