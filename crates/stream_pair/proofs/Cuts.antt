@@ -16,7 +16,7 @@ chunk_is_first_cut all front rest parts size =
     elim (cases_lt (length all) 512) [
       | inl short ↦
           let none : rest ≡ [] = nil_from_length rest (omega arith) in
-          let behind : drop 512 all ≡ [] = drop_of_length-le all (omega arith) in
+          let behind : drop 512 all ≡ [] = drop_of_length-le all {i = 512} (omega arith) in
           let whole : take 512 all ≡ all = sym (append-nil (take 512 all)) ∙ ap (λ l. take 512 all ++ l) (sym behind) ∙ take-append-drop 512 all in
           (whole ∙ parts ∙ ap (λ l. front ++ l) none ∙ append-nil front, behind ∙ sym none, sum)
       | inr long ↦
@@ -43,3 +43,8 @@ pieces_begin_with_the_chunk stamp all front rest parts size some =
 -- no bytes, no pieces
 pub no_bytes_no_pieces : (stamp : ℕ) (bytes : List ℕ) → length bytes ≡ 0 → pieces stamp bytes ≡ []
 no_bytes_no_pieces stamp bytes none = ap (λ l. pieces stamp l) (nil_from_length bytes none)
+
+-- a list with a first item isn't empty
+pub first_item_is_there : (p : Piece) (ps qs : List Piece) → qs ≡ p ∷ ps → qs ≢ []
+first_item_is_there p ps qs is none =
+    let none_long : length (p ∷ ps) ≡ 0 = ap length (sym is ∙ none) in absurd (omega arith)

@@ -23,12 +23,6 @@ all_set : (F : ℕ → Hand → Type 0) (hands : List Hand) (end : ℕ) (new : H
 all_set F hands end new mine others j u e = ⊎_elim (λ (x : (j ≡ end) × (new ≡ u)). subst (λ (y : ℕ × Hand). F y.0 y.1) (λ i. (sym x.0 i, x.1 i)) mine)
     (λ (x : (j ≢ end) × (get_elem? hands j ≡ some u)). others j u x.0 x.1) (at_set hands end j new u e)
 
-no_send : {X : Type 0} {h : Hand} → h.sends ≡ false → h.sends ≡ true → X
-no_send no yes = absurd (true≢false (sym yes ∙ no))
-
-no_take : {X : Type 0} {h : Hand} → h.takes ≡ false → h.takes ≡ true → X
-no_take no yes = absurd (true≢false (sym yes ∙ no))
-
 -- a new stream is in order: one hand has both ends
 pub new_stream_is_in_order : IsInOrder [] (hand true true [] [] ∷ [])
 new_stream_is_in_order = record {
@@ -84,7 +78,7 @@ pub takes_give_the_next : (end : ℕ) (h : Hand) → h.sends ≡ true → h.take
 takes_give_the_next end h may_send may_take p items hands order at =
     let mine = order.each end h at in
     let step = takes_keep_order end h may_take p items hands order at in
-    (step.0, step.1, step.2, items, (mine.sends may_send).1 ∙ order.whole ∙ ap (λ l. l ++ p ∷ items) (sym (mine.takes may_take).1))
+    (step.0, step.1, (step.2, (items, (mine.sends may_send).1 ∙ order.whole ∙ ap (λ l. l ++ p ∷ items) (sym (mine.takes may_take).1))))
 
 -- a look at the queue sees it in order
 pub looks_see_order : (end : ℕ) (h : Hand) → Learns IsInOrder end h (WasThere h)

@@ -1,10 +1,10 @@
 -- Bytes and their pieces, computed by the checker.
-use Rattle.std.specs.Prelude.{◌≡◌, List, [], ◌∷◌, length, map, replicate}
+use Rattle.std.specs.Prelude.{◌≡◌, ℕ, List, [], ◌∷◌, length, map, replicate}
 use mathlib.Core.Path.{refl}
 use Rattle.stream_pair.specs.declared.piece.Piece.{Piece}
 use Rattle.stream_pair.specs.Pieces.{pieces}
 
-sizes_of : List Piece → List ℕ
+abbrev sizes_of : List Piece → List ℕ
 sizes_of ps = map (λ p. length p.bytes) ps
 
 -- a frame of 1,200 bytes with its length field goes as three pieces, all with its event's stamp

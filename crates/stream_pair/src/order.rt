@@ -52,6 +52,7 @@ impl Join<Hand> for Meets {
 pub struct Sends;
 
 impl Outcome<Piece, Hand> for Sends {
+    ghost use Rattle.std.specs.Prelude.{◌≡◌};
     ghost use Rattle.stream_pair.specs.Order.{after_send};
 
     ghost then = { λ h piece new. new ≡ after_send h piece };
@@ -61,6 +62,7 @@ impl Outcome<Piece, Hand> for Sends {
 pub struct Takes;
 
 impl Outcome<Piece, Hand> for Takes {
+    ghost use Rattle.std.specs.Prelude.{◌≡◌};
     ghost use Rattle.stream_pair.specs.Order.{after_take};
 
     ghost then = { λ h piece new. new ≡ after_take h piece };
@@ -82,6 +84,8 @@ impl Outcome<Piece, Hand> for TakesOn {
 }
 
 impl Lesson<Piece, Hand> for TakesOn {
+    ghost use Rattle.std.specs.Prelude.{◌≡◌, ◌++◌};
+
     ghost fact = { λ h items. h.sent ≡ h.taken ++ items };
 }
 
