@@ -4,9 +4,9 @@ use Rattle.std.proofs.Math.Seq.{take-append_seam, drop-append_seam, take-length,
 use Rattle.std.proofs.lemmas.Bool.{cases_lt}
 use Rattle.std.proofs.lemmas.List.{nil_from_length}
 use Rattle.std.proofs.Math.ListN.{drop_of_length-le}
-use Rattle.std.proofs.lemmas.List.{take-append-drop}
+use Rattle.std.proofs.lemmas.List.{take-append-drop, length-take, length-drop}
 use Rattle.stream_pair.specs.declared.piece.Piece.{Piece}
-use Rattle.stream_pair.specs.Pieces.{piece, pieces, cut, piece_count}
+use Rattle.stream_pair.specs.Pieces.{piece, pieces, cut, piece_count, AreCutFrom}
 
 -- the front of some bytes, as chunks of 512 come off them, is the first piece's bytes, and the rest is what is behind
 chunk_is_first_cut : (all front rest : List ℕ) → all ≡ front ++ rest → length front ≡ min 512 (length all)
@@ -48,3 +48,19 @@ no_bytes_no_pieces stamp bytes none = ap (λ l. pieces stamp l) (nil_from_length
 pub first_item_is_there : (p : Piece) (ps qs : List Piece) → qs ≡ p ∷ ps → qs ≢ []
 first_item_is_there p ps qs is none =
     let none_long : length (p ∷ ps) ≡ 0 = ap length (sym is ∙ none) in absurd (omega arith)
+
+cuts_are_the_bytes : (stamp count : ℕ) (bytes : List ℕ) → piece_count bytes ≡ count → AreCutFrom stamp bytes (map (piece stamp) (cut count bytes))
+cuts_are_the_bytes stamp zero bytes is =
+    let none : length bytes ≡ 0 = omega arith in record { each = tt; whole = sym (nil_from_length bytes none) }
+cuts_are_the_bytes stamp (suc count) bytes is =
+    let front = length-take 512 bytes in
+    let behind = length-drop 512 bytes in
+    let others = cuts_are_the_bytes stamp count (drop 512 bytes) (omega arith) in
+    record {
+      each = (record { stamped = refl; some = omega arith; short = omega arith }, others.each);
+      whole = ap (λ l. take 512 bytes ++ l) others.whole ∙ take-append-drop 512 bytes;
+    }
+
+-- the pieces of some bytes are the bytes
+pub the_pieces_are_the_bytes : (stamp : ℕ) (bytes : List ℕ) → AreCutFrom stamp bytes (pieces stamp bytes)
+the_pieces_are_the_bytes stamp bytes = cuts_are_the_bytes stamp (piece_count bytes) bytes refl

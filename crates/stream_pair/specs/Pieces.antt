@@ -1,5 +1,6 @@
 -- How the bytes of one event are cut into pieces: each of 512 bytes, but the last, which may be shorter. *(profile)*
-use Rattle.std.specs.Prelude.{◌≡◌, ◌≢◌, ℕ, zero, suc, ◌+◌, ◌/◌, List, [], ◌∷◌, ◌++◌, length, take, drop, map}
+use Rattle.std.specs.Prelude.{◌≡◌, ◌≢◌, ℕ, zero, suc, ◌+◌, ◌/◌, ◌≤◌, List, [], ◌∷◌, ◌++◌, length, take, drop, map}
+use Rattle.std.specs.List.{flat_map, AllByRecursion}
 use Rattle.stream_pair.specs.declared.piece.Piece.{Piece}
 
 abbrev pub piece : ℕ → List ℕ → Piece
@@ -24,3 +25,17 @@ pub record IsFrontSent (old new all : List Piece) : Type 0 where
   pub sent : new ≡ old ++ front
   pub whole : all ≡ front ++ left
   pub refused : left ≢ []
+
+-- 1 to 512 bytes under this stamp
+pub record IsPiece (stamp : ℕ) (p : Piece) : Type 0 where
+  pub stamped : p.stamp ≡ stamp
+  pub some : 1 ≤ length p.bytes
+  pub short : length p.bytes ≤ 512
+
+-- these are pieces under this stamp, and one behind the other they are the bytes
+pub record AreCutFrom (stamp : ℕ) (bytes : List ℕ) (ps : List Piece) : Type 0 where
+  pub each : AllByRecursion (IsPiece stamp) ps
+  pub whole : flat_map (λ p. p.bytes) ps ≡ bytes
+
+abbrev pub PiecesAreTheBytes : Type 0
+PiecesAreTheBytes = (stamp : ℕ) (bytes : List ℕ) → AreCutFrom stamp bytes (pieces stamp bytes)

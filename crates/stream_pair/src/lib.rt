@@ -3,6 +3,7 @@
 #![tactic(auto)]
 
 mod inlet;
+mod laws;
 mod order;
 mod outlet;
 mod piece;
@@ -10,6 +11,7 @@ mod rest;
 mod stream;
 
 pub use inlet::In;
+pub use laws::pieces_are_the_bytes;
 pub use outlet::Out;
 pub use piece::Piece;
 pub use rest::{Rest, settle};
