@@ -17,7 +17,8 @@ chunk_is_first_cut all front rest parts size =
       | inl short ↦
           let none : rest ≡ [] = nil_from_length rest (omega arith) in
           let behind : drop 512 all ≡ [] = drop_of_length-le all {i = 512} (omega arith) in
-          let whole : take 512 all ≡ all = sym (append-nil (take 512 all)) ∙ ap (λ l. take 512 all ++ l) (sym behind) ∙ take-append-drop 512 all in
+          let whole : take 512 all ≡ all = sym (append-nil (take 512 all)) ∙ ap (λ l. take 512 all ++ l) (sym behind)
+          ∙ take-append-drop 512 all in
           (whole ∙ parts ∙ ap (λ l. front ++ l) none ∙ append-nil front, behind ∙ sym none, sum)
       | inr long ↦
           let full : 512 ≡ length front = omega arith in (
@@ -27,15 +28,18 @@ chunk_is_first_cut all front rest parts size =
           )
     ]
 
-count_is_one_more : (all front rest : ℕ) → all ≡ front + rest → front ≡ min 512 all → 0 < all → (all + 511) / 512 ≡ suc ((rest + 511) / 512)
+count_is_one_more : (all front rest : ℕ) → all ≡ front + rest → front ≡ min 512 all → 0 < all
+    → (all + 511) / 512 ≡ suc ((rest + 511) / 512)
 count_is_one_more all front rest sum size some = omega arith
 
 -- the pieces of bytes begin with the first chunk that comes off, and go on with those of the rest
-pub pieces_begin_with_the_chunk : (stamp : ℕ) (all front rest : List ℕ) → all ≡ front ++ rest → length front ≡ min 512 (length all) → 0 < length all
+pub pieces_begin_with_the_chunk : (stamp : ℕ) (all front rest : List ℕ) → all ≡ front ++ rest
+    → length front ≡ min 512 (length all) → 0 < length all
     → pieces stamp all ≡ piece stamp front ∷ pieces stamp rest
 pieces_begin_with_the_chunk stamp all front rest parts size some =
     let first = chunk_is_first_cut all front rest parts size in
-    let count : piece_count all ≡ suc (piece_count rest) = count_is_one_more (length all) (length front) (length rest) first.2 size some in
+    let count : piece_count all ≡ suc (piece_count rest) = count_is_one_more (length all) (length front)
+    (length rest) first.2 size some in
     ap (λ n. map (piece stamp) (cut n all)) count
     ∙ ap (λ l. piece stamp l ∷ map (piece stamp) (cut (piece_count rest) (drop 512 all))) first.0
     ∙ ap (λ l. piece stamp front ∷ map (piece stamp) (cut (piece_count rest) l)) first.1
@@ -49,7 +53,8 @@ pub first_item_is_there : (p : Piece) (ps qs : List Piece) → qs ≡ p ∷ ps �
 first_item_is_there p ps qs is none =
     let none_long : length (p ∷ ps) ≡ 0 = ap length (sym is ∙ none) in absurd (omega arith)
 
-cuts_are_the_bytes : (stamp count : ℕ) (bytes : List ℕ) → piece_count bytes ≡ count → AreCutFrom stamp bytes (map (piece stamp) (cut count bytes))
+cuts_are_the_bytes : (stamp count : ℕ) (bytes : List ℕ) → piece_count bytes ≡ count
+    → AreCutFrom stamp bytes (map (piece stamp) (cut count bytes))
 cuts_are_the_bytes stamp zero bytes is =
     let none : length bytes ≡ 0 = omega arith in record { each = tt; whole = sym (nil_from_length bytes none) }
 cuts_are_the_bytes stamp (suc count) bytes is =

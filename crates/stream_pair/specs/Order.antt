@@ -1,5 +1,5 @@
--- The rule of a stream: what was sent is what was taken, followed by what the queue holds. One end at most may send, and
--- it knows what was sent; one at most may take, and it knows what was taken.
+-- The rule of a stream: what was sent is what was taken, followed by what the queue holds. One end at most may send,
+-- and it knows what was sent; one at most may take, and it knows what was taken.
 use Rattle.std.specs.Prelude.{◌≡◌, ℕ, Bool, true, false, List, [], ◌∷◌, ◌++◌, length, drop}
 use mathlib.Core.Option.{some}
 use lib.ListN.{get_elem?}

@@ -1,8 +1,7 @@
 //! The end of a stream that sends.
-ghost use Rattle.std.specs.Prelude.{◌≡◌, ◌++◌, [], ◌∷◌, true, false, OnOk, OnErr};
+ghost use Rattle.std.specs.Prelude.{◌≡◌, ◌++◌, [], ◌∷◌, OnOk, OnErr};
 ghost use Rattle.std.specs.Arc.{arc_value};
-ghost use Rattle.crossbeam_queue.specs.SegTies.{IsSegPassOf};
-ghost use Rattle.stream_pair.specs.Order.{hand};
+ghost use Rattle.stream_pair.specs.Ends.{IsSender};
 ghost use Rattle.stream_pair.specs.Pieces.{piece, pieces, IsFrontSent};
 
 use crate::order::{Pass, Sends};
@@ -25,25 +24,21 @@ pub struct Out {
 }
 
 impl Model for Out {
-    ghost use Rattle.std.specs.Prelude.{◌≡◌, [], true, false};
     ghost use Rattle.std.specs.Arc.{arc_value};
-    ghost use Rattle.crossbeam_queue.specs.SegTies.{IsSegPassOf};
-    ghost use Rattle.stream_pair.specs.Order.{hand};
-    ghost use Rattle.stream_pair.specs.Ends.{Sending};
+    ghost use Rattle.stream_pair.specs.Ends.{Sending, sent_by, IsSender};
 
     ghost Value = { Sending };
 
-    ghost view = { λ o. record { stream = (arc_value o.stream).queue; sent = o.pass.me.view.client.sent } };
+    ghost view = { λ o. record { stream = (arc_value o.stream).queue; sent = sent_by o.pass } };
 
-    ghost invariant = { λ o. IsSegPassOf (arc_value o.stream).queue o.pass × (o.pass.me.view.client ≡ hand true false o.pass.me.view.client.sent []) };
+    ghost invariant = { λ o. IsSender (arc_value o.stream).queue o.pass (sent_by o.pass) };
 }
 
 impl Out {
-    /// The end of this stream that has this pass.
+    /// The end of this stream that has this pass, and hasn't sent yet.
     pub(crate) fn new(alloc: Global, stream: Arc<Stream, Global>, pass: Pass) -> Out
-        requires pass { IsSegPassOf (arc_value stream).queue pass }
-        requires hand { pass.me.view.client ≡ hand true false pass.me.view.client.sent [] }
-        ensures { (result.stream ≡ (arc_value stream).queue) × (result.sent ≡ pass.me.view.client.sent) }
+        requires { IsSender (arc_value stream).queue pass [] }
+        ensures { (result.stream ≡ (arc_value stream).queue) × (result.sent ≡ []) }
     {
         Out {
             alloc,
@@ -54,8 +49,7 @@ impl Out {
 
     /// Its stream and its pass.
     pub(crate) fn into_parts(self) -> (Arc<Stream, Global>, Pass)
-        ensures pass { IsSegPassOf (arc_value result.0).queue result.1 }
-        ensures hand { result.1.me.view.client ≡ hand true false self.sent [] }
+        ensures pass { IsSender self.stream result.1 self.sent }
         ensures stream { (arc_value result.0).queue ≡ self.stream }
     {
         let Out { stream, pass, .. } = self;

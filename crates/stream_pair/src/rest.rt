@@ -19,16 +19,16 @@ pub struct Rest {
 
 impl Model for Rest {
     ghost use Rattle.std.specs.Prelude.{List};
-    ghost use Rattle.stream_pair.specs.declared.piece.Piece.{Piece};
-    ghost use Rattle.stream_pair.specs.Order.{left_of, HasBothEnds};
     ghost use Rattle.std.specs.Arc.{arc_value};
-    ghost use Rattle.crossbeam_queue.specs.SegTies.{IsSegPassOf};
+    ghost use Rattle.stream_pair.specs.declared.piece.Piece.{Piece};
+    ghost use Rattle.stream_pair.specs.Order.{left_of};
+    ghost use Rattle.stream_pair.specs.Ends.{IsBoth};
 
     ghost Value = { List Piece };
 
     ghost view = { λ r. left_of r.pass.me.view.client };
 
-    ghost invariant = { λ r. IsSegPassOf (arc_value r.stream).queue r.pass × HasBothEnds r.pass.me.view.client };
+    ghost invariant = { λ r. IsBoth (arc_value r.stream).queue r.pass };
 }
 
 /// Puts the two ends of one stream together: what was sent is what was taken, followed by the rest. It takes no memory.

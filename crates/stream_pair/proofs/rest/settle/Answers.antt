@@ -4,7 +4,8 @@ use Rattle.stream_pair.proofs.rest.settle.Goals as goal
 
 pub absorb-requires-clause-rule : goal.absorb-requires-clause-rule
 absorb-requires-clause-rule g c =
-    meeting_keeps_order _ _ _ _ (ap (λ h. h.sends) c.into_parts-stream.ensures.hand) (ap (λ h. h.takes) c.into_pass.ensures.hand)
+    meeting_keeps_order _ _ _ _ (ap (λ h. h.sends) c.into_parts-stream.ensures.pass.1)
+    (ap (λ h. h.takes) c.into_pass.ensures.1)
 
 pub len_as-requires-clause-rule : goal.len_as-requires-clause-rule
 len_as-requires-clause-rule g c =

@@ -16,14 +16,16 @@ loop-front-preserved g c =
     let left = chunks_rest c.loop-front.front-iterator in
     let front = piece c.args.stamp c.in-Some.front.now in
     let size = steps.1.1 ∙ ap (λ n. min n (length left)) c.loop-front.invariant.2 in
-    let cut = pieces_begin_with_the_chunk c.args.stamp left c.in-Some.front.now (chunks_rest c.next.new.self) steps.1.0 size steps.1.2 in (
+    let cut = pieces_begin_with_the_chunk c.args.stamp left c.in-Some.front.now
+    (chunks_rest c.next.new.self) steps.1.0 size steps.1.2 in (
       search rules,
       tt,
       steps.0 ∙ c.loop-front.invariant.2,
       c.in_ok-send_piece.ensures.stream ∙ c.loop-front.invariant.3,
       (
         so_far.0 ++ front ∷ [],
-        c.in_ok-send_piece.ensures.sent ∙ ap (λ l. l ++ front ∷ []) so_far.1 ∙ append_assoc c.args.self.now.sent so_far.0 (front ∷ []),
+        c.in_ok-send_piece.ensures.sent ∙ ap (λ l. l ++ front ∷ []) so_far.1
+            ∙ append_assoc c.args.self.now.sent so_far.0 (front ∷ []),
         append_assoc so_far.0 (front ∷ []) _ ∙ ap (λ l. so_far.0 ++ l) (sym cut) ∙ so_far.2,
       ),
     )
@@ -34,7 +36,8 @@ returns-in_err-send_piece-clause-refused g c =
     let steps = c.in-Some.ensures.steps in
     let left = chunks_rest c.loop-front.front-iterator in
     let size = steps.1.1 ∙ ap (λ n. min n (length left)) c.loop-front.invariant.2 in
-    let cut = pieces_begin_with_the_chunk c.args.stamp left c.in-Some.front.now (chunks_rest c.next.new.self) steps.1.0 size steps.1.2 in
+    let cut = pieces_begin_with_the_chunk c.args.stamp left c.in-Some.front.now
+    (chunks_rest c.next.new.self) steps.1.0 size steps.1.2 in
     on_err c.from_residual.result _ record {
       front = so_far.0;
       left = pieces c.args.stamp left;

@@ -11,4 +11,5 @@ invariant-loop-front g l =
     × (goal.iterator-loop-front g).is_finite l.front-iterator
     × (chunks_size l.front-iterator ≡ 512)
     × (l.self.stream ≡ l.fn.self.stream)
-    × ((done : List Piece) × (l.self.sent ≡ l.fn.self.sent ++ done) × (done ++ pieces l.stamp (chunks_rest l.front-iterator) ≡ pieces l.stamp l.fn.bytes))
+    × ((done : List Piece) × (l.self.sent ≡ l.fn.self.sent ++ done)
+    × (done ++ pieces l.stamp (chunks_rest l.front-iterator) ≡ pieces l.stamp l.fn.bytes))
