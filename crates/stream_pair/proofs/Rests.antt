@@ -1,10 +1,10 @@
 -- What is left of a stream whose two ends are together, and what a take leaves of it.
-use Rattle.std.proofs.Common.{◌≡◌, ℕ, List, [], ◌∷◌, ◌++◌, length, drop, sym, refl, ap, ◌∙◌, subst, append_assoc, true, Option, Some, None}
+use Rattle.std.proofs.Common.{◌≡◌, List, [], ◌∷◌, ◌++◌, length, drop, sym, ap, ◌∙◌, subst, append_assoc, true, Option, Some, None}
 use Rattle.std.proofs.Math.Seq.{drop-append_seam}
 use Rattle.std.specs.Prelude.{MatchOption}
 use Rattle.stream_pair.specs.declared.piece.Piece.{Piece}
 use Rattle.stream_pair.specs.declared.order.Hand.{Hand}
-use Rattle.stream_pair.specs.Order.{hand, after_take, TakesNext, left_of, HasBothEnds}
+use Rattle.stream_pair.specs.Order.{after_take, TakesNext, left_of, HasBothEnds}
 
 -- what the queue holds is what is left
 pub items_are_left : (h : Hand) (items : List Piece) → h.sent ≡ h.taken ++ items → left_of h ≡ items

@@ -1,7 +1,6 @@
 -- Bytes and their pieces, computed by the checker.
 use Rattle.std.specs.Prelude.{◌≡◌, ℕ, List, [], ◌∷◌, length, map, replicate}
 use mathlib.Core.Path.{refl}
-use Rattle.stream_pair.specs.declared.piece.Piece.{Piece}
 use Rattle.stream_pair.specs.Pieces.{pieces}
 
 -- the sizes of the pieces of so many bytes

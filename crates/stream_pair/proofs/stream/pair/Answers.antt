@@ -1,4 +1,4 @@
-use Rattle.std.proofs.Common.{rules, ap, true, ◌≡◌}
+use Rattle.std.proofs.Common.{rules}
 use Rattle.stream_pair.proofs.Steps.{new_stream_is_in_order, parting_keeps_order}
 use Rattle.stream_pair.proofs.stream.pair.Goals as goal
 

@@ -1,7 +1,7 @@
-use Rattle.std.proofs.Common.{◌≡◌, ℕ, List, [], ◌∷◌, ◌++◌, rules, sym, ap, ◌∙◌, append_assoc, min, length, Result, Ok, Err}
+use Rattle.std.proofs.Common.{[], ◌∷◌, ◌++◌, rules, sym, ap, ◌∙◌, append_assoc, min, length, Result, Ok, Err}
 use Rattle.std.specs.Prelude.{OnErr}
 use Rattle.std.specs.Slice.Iter.{chunks_rest}
-use Rattle.stream_pair.specs.Pieces.{piece, pieces, IsFrontSent}
+use Rattle.stream_pair.specs.Pieces.{piece, pieces}
 use Rattle.stream_pair.proofs.Cuts.{pieces_begin_with_the_chunk, first_item_is_there}
 use Rattle.stream_pair.proofs.outlet.Out.send.Goals as goal
 
