@@ -132,14 +132,12 @@ fn faults_last(rt: HostRuntime) {
     for bytes in too_long {
         refuses(&rt, alloc, bytes, FrameFault::TooLong);
     }
-    let not_frames: [&[u8]; 10] = [
+    let not_frames: [&[u8]; 8] = [
         // a length 0, a kind 0 and a kind 19
         b"\x00\x00\x00\x00",
         b"\x00\x00\x00\x01\x00",
         b"\x00\x00\x00\x01\x13",
-        // one byte too many, and one too few
-        b"\x00\x00\x00\x06\x06\x00\x00\x00\x07\x00",
-        b"\x00\x00\x00\x02\x10\x00",
+        // one byte too few
         b"\x00\x00\x00\x04\x06\x00\x00\x00",
         // ticket 0, node 0, node 33, and name number 0
         b"\x00\x00\x00\x05\x06\x00\x00\x00\x00",
@@ -150,12 +148,39 @@ fn faults_last(rt: HostRuntime) {
     for bytes in not_frames {
         refuses(&rt, alloc, bytes, FrameFault::NotAFrame);
     }
-    // each flag of a receive as 2
+}
+
+#[test]
+fn one_byte_behind_the_last_field_is_too_many(rt: HostRuntime) {
+    let longer: [&[u8]; 7] = [
+        b"\x00\x00\x00\x06\x06\x00\x00\x00\x07\x00",
+        b"\x00\x00\x00\x02\x10\x00",
+        b"\x00\x00\x00\x08\x0b\x02\x00\x00\x00\x01\x02\x00",
+        b"\x00\x00\x00\x07\x08\x01\x00\x00\x00\x09\x00",
+        &[
+            0, 0, 0, 25, 1, 0, 0, 0, 3, 0, 0, 0, 2, 4, 0, 0, 0, 1, 0, 0, 0, 0, 0, 0, 0, 8, 0, 1, 0,
+        ],
+        &[
+            0, 0, 0, 26, 1, 0, 0, 0, 2, 0, 0, 0, 2, 3, 0, 0, 0, 1, 0, 0, 0, 1, 0, 0, 0, 2, 104,
+            105, 1, 0,
+        ],
+        b"\x00\x00\x00\x08\x05\x00\x00\x00\x03\x05\x06\x00",
+    ];
+    for bytes in longer {
+        refuses(&rt, rt.alloc(), bytes, FrameFault::NotAFrame);
+    }
+}
+
+#[test]
+fn a_flag_is_0_or_1(rt: HostRuntime) {
     for place in [26, 27] {
         let mut bytes = RECEIVE;
         bytes[place] = 2;
-        refuses(&rt, alloc, &bytes, FrameFault::NotAFrame);
+        refuses(&rt, rt.alloc(), &bytes, FrameFault::NotAFrame);
     }
+    let mut bytes = SEND;
+    bytes[28] = 2;
+    refuses(&rt, rt.alloc(), &bytes, FrameFault::NotAFrame);
 }
 
 #[test]

@@ -1,0 +1,66 @@
+//! The end of a stream that takes.
+ghost use Rattle.std.specs.Prelude.{◌≡◌, ◌++◌, [], ◌∷◌, IfSome, IfNone};
+ghost use Rattle.std.specs.Arc.{arc_value};
+ghost use Rattle.stream_pair.specs.Order.{WasEmpty};
+ghost use Rattle.stream_pair.specs.Ends.{one_more_look, IsTaker};
+
+use crate::order::{Pass, Takes};
+use crate::piece::Piece;
+use crate::stream::Stream;
+use std::alloc::Global;
+use std::marker::Model;
+use std::sync::{Arc, Wait};
+
+/// The end of a stream that takes. Contracts see the stream, all that was taken from it, and how often this end has
+/// looked: a number that stands still at its type's last value.
+#[derive(Drop)]
+pub struct In {
+    stream: Arc<Stream, Global>,
+    pass: Pass,
+    looks: u64,
+}
+
+impl Model for In {
+    ghost use Rattle.std.specs.Arc.{arc_value};
+    ghost use Rattle.stream_pair.specs.Ends.{Taking, taken_by, IsTaker};
+
+    ghost Value = { Taking };
+
+    ghost view = { λ i. record { stream = (arc_value i.stream).queue; taken = taken_by i.pass; looks = i.looks } };
+
+    ghost invariant = { λ i. IsTaker (arc_value i.stream).queue i.pass (taken_by i.pass) };
+}
+
+impl In {
+    /// The end of this stream that has this pass, and hasn't looked yet.
+    pub(crate) fn new(stream: Arc<Stream, Global>, pass: Pass) -> In
+        requires { IsTaker (arc_value stream).queue pass [] }
+        ensures { (result.stream ≡ (arc_value stream).queue) × (result.taken ≡ []) × (result.looks ≡ 0) }
+    {
+        In {
+            stream,
+            pass,
+            looks: 0,
+        }
+    }
+
+    /// Its pass.
+    pub(crate) fn into_pass(self) -> Pass
+        ensures { IsTaker self.stream result self.taken }
+    {
+        let In { pass, .. } = self;
+        pass
+    }
+
+    /// The next piece that was sent. None only where the stream was empty at one step of this call. Each call is one
+    /// look.
+    pub fn take<R: Wait>(&mut self, rt: &R) -> Option<Piece>
+        ensures stream { self.new.stream ≡ self.old.stream }
+        ensures looks { self.new.looks ≡ one_more_look self.old.looks }
+        ensures taken { IfSome result (λ p. self.new.taken ≡ self.old.taken ++ p ∷ []) }
+        ensures empty { IfNone result ((self.new.taken ≡ self.old.taken) × WasEmpty self.old.taken) }
+    {
+        self.looks = self.looks.saturating_add(1);
+        self.stream.queue.pop_as::<Takes, R>(rt, &mut self.pass)
+    }
+}

@@ -1,0 +1,134 @@
+//! A long frame in pieces, a sender and a taker on two threads, and what is left when both ends are together again.
+ghost use Rattle.std.specs.Prelude.{◌≡◌, IfOk};
+
+use crate::{In, Out, Piece, pair, settle};
+use pico_base::Memory;
+use std::process::Abort;
+use std::sync::Wait;
+use std::test::*;
+use std::thread;
+use std::thread::{Threads, join};
+
+/// Looks that find nothing yet, of who takes beside a sender.
+const PATIENCE: u32 = 1000;
+
+/// The piece has this stamp and these bytes.
+fn is_piece<R: Abort>(rt: &R, piece: Option<Piece>, stamp: u64, bytes: &[u8]) {
+    match piece {
+        Some(piece) => {
+            assert_eq!(rt; piece.stamp, stamp);
+            assert_eq!(rt; piece.bytes.as_slice(), bytes);
+        }
+        None => assert!(rt; false, "no piece"),
+    }
+}
+
+/// The stamp of the next piece, and how many bytes it has.
+fn taken<R: Wait>(rt: &R, into: &mut In) -> Option<(u64, usize)> {
+    let piece = into.take(rt)?;
+    Some((piece.stamp, piece.bytes.len()))
+}
+
+/// Where an allocation is refused, the first pieces come, and no others.
+#[test]
+fn a_long_frame_goes_in_three_pieces(rt: HostRuntime) {
+    let Ok((mut out, mut into)) = pair(rt.alloc()) else {
+        return;
+    };
+    assert_eq!(rt; taken(&rt, &mut into), None);
+    let sent = out.send(&rt, 7, &[5; 1200]).is_ok();
+    let first = taken(&rt, &mut into);
+    let second = taken(&rt, &mut into);
+    let third = taken(&rt, &mut into);
+    if sent {
+        assert_eq!(rt; [first, second], [Some((7, 512)), Some((7, 512))]);
+        assert_eq!(rt; third, Some((7, 176)));
+    } else {
+        assert!(rt; first.is_some() || second.is_none());
+        assert_eq!(rt; third, None);
+    }
+    assert_eq!(rt; taken(&rt, &mut into), None);
+}
+
+#[test]
+fn what_was_not_taken_is_left(rt: HostRuntime) -> Result<(), Fail> {
+    let (mut out, mut into) = pair(rt.alloc())?;
+    out.send(&rt, 1, b"one")?;
+    out.send(&rt, 2, b"")?;
+    out.send(&rt, 3, b"three")?;
+    out.send(&rt, 4, &[4; 513])?;
+    is_piece(&rt, into.take(&rt), 1, b"one");
+    let mut rest = settle(&rt, out, into);
+    is_piece(&rt, rest.next(&rt), 3, b"three");
+    is_piece(&rt, rest.next(&rt), 4, &[4; 512]);
+    is_piece(&rt, rest.next(&rt), 4, b"\x04");
+    assert!(rt; rest.next(&rt).is_none());
+    assert!(rt; rest.next(&rt).is_none());
+    Ok(())
+}
+
+/// Sends 50 events of 700 bytes, each of the byte of its stamp.
+fn send_fifty<R: Wait>(rt: &R, mut out: Out) -> Result<Out, Memory>
+    ensures { IfOk result (λ o. o.stream ≡ out.stream) }
+{
+    for stamp in 1..51u8 {
+        out.send(rt, u64::from(stamp), &[stamp; 700])?;
+    }
+    Ok(out)
+}
+
+/// Takes what comes.
+fn take_some<R: Wait>(
+    rt: &R,
+    mut into: In,
+    mut pieces: Vec<Piece>,
+) -> Result<(In, Vec<Piece>), Memory>
+    ensures { IfOk result (λ r. r.0.stream ≡ into.stream) }
+{
+    for _ in 0..PATIENCE {
+        match into.take(rt) {
+            Some(piece) => pieces.push(piece)?,
+            None => thread::yield_now(),
+        }
+    }
+    Ok((into, pieces))
+}
+
+#[test]
+fn two_threads(rt: HostRuntime) -> Result<(), Fail> {
+    let (out, into) = pair(rt.alloc())?;
+    let pieces = Vec::new(rt.alloc());
+    let (out, taken) = join(
+        &rt,
+        move ||
+            ensures { IfOk result (λ o. o.stream ≡ out.stream) }
+        { send_fifty(&rt, out) },
+        move ||
+            ensures { IfOk result (λ r. r.0.stream ≡ into.stream) }
+        { take_some(&rt, into, pieces) },
+    );
+    let out = out?;
+    let (into, mut pieces) = taken?;
+    let mut rest = settle(&rt, out, into);
+    for _ in 0..100 {
+        if let Some(piece) = rest.next(&rt) {
+            pieces.push(piece)?;
+        }
+    }
+    assert!(rt; rest.next(&rt).is_none());
+    let mut stamps = Vec::new(rt.alloc());
+    let mut bytes = Vec::new(rt.alloc());
+    for piece in pieces.iter() {
+        stamps.push(piece.stamp)?;
+        bytes.extend_from_slice(piece.bytes.as_slice())?;
+    }
+    let mut want_stamps = Vec::new(rt.alloc());
+    let mut want_bytes = Vec::new(rt.alloc());
+    for stamp in 1..51u8 {
+        want_stamps.extend_from_slice(&[u64::from(stamp); 2])?;
+        want_bytes.extend_from_slice(&[stamp; 700])?;
+    }
+    assert_eq!(rt; stamps.as_slice(), want_stamps.as_slice());
+    assert_eq!(rt; bytes.as_slice(), want_bytes.as_slice());
+    Ok(())
+}
