@@ -137,13 +137,14 @@ judge_from script (suc most) line left done so_far bytes =
 abbrev pub verdict_of : Script → List ℕ → ℕ → Result Legal CheckFault
 verdict_of script bytes first = judge_from script (length bytes) first max_trace [] (opening_progress script) bytes
 
--- the answer is the verdict, unless memory ran out
-abbrev pub GivesFault : CheckFault → Result Legal CheckFault → Type 0
+-- the fault is that of the verdict, unless memory ran out
+abbrev pub GivesFault : {A : Type 0} → CheckFault → Result A CheckFault → Type 0
 GivesFault Memory verdict = Unit {0}
 GivesFault (NotATrace line) verdict = verdict ≡ Err (NotATrace line)
 GivesFault (Illegal line kernel trace) verdict = verdict ≡ Err (Illegal line kernel trace)
 GivesFault (NotTheScript line due found) verdict = verdict ≡ Err (NotTheScript line due found)
 
+-- the answer is the verdict, unless memory ran out
 abbrev pub Gives : Result Legal CheckFault → Result Legal CheckFault → Type 0
 Gives (Ok legal) verdict = verdict ≡ Ok legal
 Gives (Err fault) verdict = GivesFault fault verdict

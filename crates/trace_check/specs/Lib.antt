@@ -1,4 +1,5 @@
+pub mod Cursors
 pub mod FirstFault
+pub mod Judging
 pub mod Refusal
 pub mod Tally
-pub mod Cursors

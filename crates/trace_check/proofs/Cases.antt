@@ -1,0 +1,60 @@
+-- What a line leads to, case by case, as the code goes.
+use Rattle.std.proofs.Common.{◌≡◌, ℕ, zero, suc, ◌+◌, ◌-◌, ◌<◌, Bool, true, false, List, [], ◌∷◌, ◌++◌, length, Option, Some, None, refl, arith}
+use Rattle.std.specs.Prelude.{Result, Ok, Err}
+use Rattle.pico_base.specs.declared.reply.Entry.{Entry}
+use Rattle.pico_base.specs.declared.script.Script.{Script}
+use Rattle.kernel_model.specs.Trace.{totals_line}
+use Rattle.trace_text.specs.Reading.{has_ended, is_line, entry_in}
+use Rattle.trace_text.specs.Read.{next_line, fits}
+use Rattle.trace_text.specs.declared.fault.CheckFault.{CheckFault}
+use Rattle.trace_text.specs.declared.fault.CheckFault.TheVariants.{NotATrace}
+use Rattle.trace_check.specs.declared.check.Legal.{Legal}
+use Rattle.trace_check.specs.FirstFault.{Progress, judge_entry, judge_totals, first_unended, or_fault, judge_from}
+
+module _ (script : Script) (line left : ℕ) (done : List Entry) (so_far : Progress) (bytes : List ℕ) where
+  -- no line is left to be looked at
+  pub judge-full : (n : ℕ) → n ≡ 0 → judge_from script n line left done so_far bytes ≡ Err (NotATrace line)
+  unfolding judge_from
+  judge-full zero e = refl
+  judge-full (suc n) e = absurd (omega (arith, e))
+
+  -- no line feed comes any more
+  pub judge-end : (n : ℕ) → None ≡ next_line bytes → judge_from script n line left done so_far bytes ≡ Err (NotATrace line)
+  unfolding judge_from
+  judge-end zero e = refl
+  judge-end (suc n) e = rw (← e) refl
+
+  module _ (text after : List ℕ) (there : Some (text, after) ≡ next_line bytes) where
+    -- the line is too long
+    pub judge-unfit : (n : ℕ) → fits left text ≡ false
+        → judge_from script n line left done so_far bytes ≡ Err (NotATrace line)
+    unfolding judge_from
+    judge-unfit zero f = refl
+    judge-unfit (suc n) f = rw (← there, f) refl
+
+    -- it is the totals
+    pub judge-whole : (n : ℕ) → 0 < n → fits left text ≡ true → is_line (totals_line done) text ≡ true
+        → judge_from script n line left done so_far bytes
+        ≡ judge_totals line (length done) so_far after (first_unended so_far.places)
+    unfolding judge_from
+    judge-whole zero some f t = absurd (omega (arith, some))
+    judge-whole (suc n) some f t = rw (← there, f, t) refl
+
+    -- it is no entry's
+    pub judge-none : (n : ℕ) → fits left text ≡ true → is_line (totals_line done) text ≡ false
+        → entry_in script text ≡ None → judge_from script n line left done so_far bytes ≡ Err (NotATrace line)
+    unfolding judge_from
+    judge-none zero f t e = refl
+    judge-none (suc n) f t e = rw (← there, f, t, e) refl
+
+    -- it is an entry's
+    pub judge-entry : (n : ℕ) (e : Entry) → 0 < n → fits left text ≡ true → is_line (totals_line done) text ≡ false
+        → entry_in script text ≡ Some e
+        → judge_from script n line left done so_far bytes
+        ≡ or_fault (judge_entry script line so_far e) (λ next. judge_from script (n - 1) (line + 1)
+        (left - (length text + 1)) (done ++ e ∷ []) next after)
+    unfolding judge_from
+    judge-entry zero e some f t is = absurd (omega (arith, some))
+    judge-entry (suc n) e some f t is =
+        let same : suc n - 1 ≡ n = omega arith in
+        rw (← there, f, t, is, same) refl
