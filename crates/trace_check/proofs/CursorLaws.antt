@@ -32,6 +32,13 @@ due-left place (suc i) (line ∷ lines) =
         let low : suc i < length (line ∷ lines) = ltb-true (suc i) (length (line ∷ lines)) also in
         lt-ltb i (length lines) (omega (arith, low)) ∙ sym also
 
+-- where a call is due the line stands in the block
+pub has-line : (script : Script) (c : Cursor) → is_some (due (callers.place_of script c.caller)) ≡ true
+    → callers.HasLine script c.caller
+has-line script c some =
+    ltb-true c.caller.caller.line (length (lines_of script c.caller.block))
+    (sym (due-left (callers.place_of script c.caller) c.caller.caller.line (lines_of script c.caller.block)) ∙ some)
+
 -- a process that no signal has ended has a call due exactly where its line stands in its block
 pub has-call : (script : Script) (c : Cursor) (b : Bool) → c.is_killed ≡ false
     → (IsTrue b ↔ callers.HasLine script c.caller) → b ≡ is_some (due (place_of script c))

@@ -10,19 +10,19 @@ use Rattle.pico_base.specs.declared.reply.Outcome.{Outcome}
 use Rattle.pico_base.specs.declared.reply.Entry.{Entry}
 use Rattle.pico_base.specs.declared.script.Script.{Script}
 use Rattle.pico_base.specs.declared.signal.Sig.{Sig}
-use Rattle.number_maps.specs.Maps.{get}
+use Rattle.number_maps.specs.Maps.{get, put}
 use Rattle.kernel_model.specs.Effect.{reply_alone}
 use Rattle.kernel_model.specs.Row.{Alive}
 use Rattle.kernel_model.specs.Kernel.{Kernel, living_at}
 use Rattle.kernel_model.specs.Transition.{Successor, successor, transition}
 use Rattle.kernel_model.specs.History.{number_in}
 use Rattle.kernel_model.specs.Script.{IsSoundScript}
-use Rattle.kernel_model.specs.Fitting.{Place, Places, IsDue, HasReplyAlone, due, is_killed, places_after}
+use Rattle.kernel_model.specs.Fitting.{Place, Places, IsDue, HasReplyAlone, due, is_killed, move_on, places_after, places_after_fork}
 use Rattle.trace_text.specs.Grammar.{is_call, is_reply, is_entry}
 use Rattle.trace_text.specs.declared.fault.CheckFault.{CheckFault}
 use Rattle.trace_text.specs.declared.fault.CheckFault.TheVariants.{NotATrace, Illegal, NotTheScript}
 use Rattle.trace_text.proofs.EntryLaws.{IsAlone, is-alone}
-use Rattle.trace_check.specs.FirstFault.{Progress, last_doom, doom_at, due_by, due_at, is_same_call, may_stand, is_same_reply, judge_reply, or_fault, places_with, with_entry, judge_call, judge_entry}
+use Rattle.trace_check.specs.FirstFault.{Progress, last_doom, doom_at, due_by, due_at, is_same_call, may_stand, is_same_reply, judge_reply, or_fault, places_with, with_call, judge_own, judge_entry}
 use Rattle.trace_check.proofs.SameTexts.{same-call, call-itself, same-reply, reply-itself}
 use Rattle.trace_check.proofs.Kernels.{RepliesAlone, replies-alone, Makes, makes, IsEnd, spent-ends, doom-ends, IsLast, last-is}
 
@@ -75,7 +75,7 @@ module _ (script : Script) (sound : IsSoundScript script) where
       (option_and_then (λ place. due_by (doom_at so_far e.pid) (due place)) o) e.call ≡ true
       → (s : Successor) → transition so_far.kernel e.pid e.call (number_in (Some a.reply)) ≡ Some s
       → is_same_reply s.outcome.own a.reply ≡ true
-      → record { kernel = s.kernel; places = places_with script so_far.places e o } ≡ next
+      → record { kernel = s.kernel; places = places_with script so_far.places e.pid e.call a.reply o } ≡ next
       → GoesOn script so_far e next
   goes-with so_far next e a None there may s step same is = absurd (cc)
   goes-with so_far next e a (Some place) there may s step same is =
@@ -97,7 +97,9 @@ module _ (script : Script) (sound : IsSoundScript script) where
         there = there;
         due = place-due place e.call a.call (doom_at so_far e.pid) (due place) refl may;
         replied = record { reply = a.reply; alone = sym (ap (λ (x : Entry). x.outcome) a.is) };
-        moved = ap (λ (x : Progress). x.places) (sym is);
+        moved = ap (λ (x : Progress). x.places) (sym is)
+            ∙ ap (λ (x : Entry). places_after_fork script
+            (put so_far.places e.pid (move_on place e.call x.outcome.own)) place e.call x.outcome.own) a.is;
       }
 
   replied-with : (so_far next : Progress) (e : Entry) → (a : IsAlone script e) → (line : ℕ)
@@ -105,17 +107,17 @@ module _ (script : Script) (sound : IsSoundScript script) where
       → (s : Successor) → transition so_far.kernel e.pid e.call (number_in (Some a.reply)) ≡ Some s
       → (same : Bool) → is_same_reply s.outcome.own a.reply ≡ same
       → or_fault (cond same (Ok s.kernel) (Err (Illegal line s.outcome.own a.reply)))
-      (λ kernel. Ok (with_entry script so_far e kernel)) ≡ Ok next
+      (λ kernel. Ok (with_call script so_far e.pid e.call a.reply kernel)) ≡ Ok next
       → GoesOn script so_far e next
   replied-with so_far next e a line may s step false same h = absurd (cc)
   replied-with so_far next e a line may s step true same h =
-      let is : with_entry script so_far e s.kernel ≡ next = cc in
+      let is : with_call script so_far e.pid e.call a.reply s.kernel ≡ next = cc in
       goes-with so_far next e a (get so_far.places e.pid) refl may s step same is
 
   carried-out : (so_far next : Progress) (e : Entry) → (a : IsAlone script e) → (line : ℕ)
       → may_stand script (doom_at so_far e.pid) (due_at so_far e.pid) e.call ≡ true
       → (t : Option Successor) → transition so_far.kernel e.pid e.call (number_in (Some a.reply)) ≡ t
-      → or_fault (judge_reply line a.reply t) (λ kernel. Ok (with_entry script so_far e kernel)) ≡ Ok next
+      → or_fault (judge_reply line a.reply t) (λ kernel. Ok (with_call script so_far e.pid e.call a.reply kernel)) ≡ Ok next
       → GoesOn script so_far e next
   carried-out so_far next e a line may None step h = absurd (cc)
   carried-out so_far next e a line may (Some s) step h =
@@ -125,7 +127,7 @@ module _ (script : Script) (sound : IsSoundScript script) where
       → (may : Bool) → may_stand script (doom_at so_far e.pid) (due_at so_far e.pid) e.call ≡ may
       → cond may (or_fault (judge_reply line a.reply
       (transition so_far.kernel e.pid e.call (number_in (Some a.reply))))
-      (λ kernel. Ok (with_entry script so_far e kernel)))
+      (λ kernel. Ok (with_call script so_far e.pid e.call a.reply kernel)))
       (Err (NotTheScript line (due_at so_far e.pid) (Some e.call))) ≡ Ok next
       → GoesOn script so_far e next
   stands so_far next e a line false may h = absurd (cc)
@@ -140,8 +142,8 @@ module _ (script : Script) (sound : IsSoundScript script) where
       → judge_entry script line so_far e ≡ Ok next → GoesOn script so_far e next
   judged-goes-on line so_far next e there h =
       let a = is-alone script e there in
-      let judged : judge_call script line so_far e (Some a.reply) ≡ Ok next =
-      ap (judge_call script line so_far e) (sym (own-is e a)) ∙ h in
+      let judged : judge_own script line so_far e (Some a.reply) ≡ Ok next =
+      ap (judge_own script line so_far e) (sym (own-is e a)) ∙ h in
       stands so_far next e a line
       (may_stand script (doom_at so_far e.pid) (due_at so_far e.pid) e.call) refl judged
 
@@ -210,7 +212,10 @@ module _ (script : Script) (sound : IsSoundScript script) where
       ap (λ (o : Option Reply). transition so_far.kernel e.pid e.call (number_in o)) (sym own) ∙ step in
       let same : is_same_reply e.outcome.own a.reply ≡ true =
       ap (λ (o : Option Reply). is_same_reply o a.reply) own ∙ reply-itself a.reply a.replies in
-      let judged : judge_call script line so_far e (Some a.reply)
-      ≡ Ok (record { kernel = kernel; places = places_after script so_far.places e place }) =
+      let after : Option Reply → Places = λ (o : Option Reply).
+      places_after_fork script (put so_far.places e.pid (move_on place e.call o)) place e.call o in
+      let judged : judge_own script line so_far e (Some a.reply)
+      ≡ Ok (record { kernel = kernel; places = after (Some a.reply) }) =
       rw (may, number, same, at) refl in
-      ap (judge_call script line so_far e) own ∙ judged
+      ap (judge_own script line so_far e) own ∙ judged
+      ∙ ap (λ (o : Option Reply). Ok (record { kernel = kernel; places = after o })) (sym own)

@@ -60,22 +60,28 @@ first_unended_of script cursors = first_unended (places_of script cursors)
 abbrev pub HasCall : Script → Numbered Cursor → ℕ → Type 0
 HasCall script cursors pid = IsTrue (is_some (due_in script cursors pid None))
 
--- the process that a call forks with this reply, and its number
-abbrev pub forked_by : Script → Option Cursor → Call → Reply → Option (ℕ × Cursor)
-forked_by script (Some parent) (Fork block) (Num child) =
+-- the process that a call of this one forks with this reply, and its number
+abbrev pub forked_by : Script → Cursor → Call → Reply → Option (ℕ × Cursor)
+forked_by script parent (Fork block) (Num child) =
     Some (child, beginning block (child_vars (place_of script parent)))
 forked_by script parent call reply = None
-
-abbrev pub moved_at : Script → Numbered Cursor → ℕ → Call → Reply → Option Cursor → Numbered Cursor
-moved_at script cursors pid call reply None = cursors
-moved_at script cursors pid call reply (Some c) = put cursors pid (moved script c call reply)
 
 abbrev pub with_forked : Numbered Cursor → Option (ℕ × Cursor) → Numbered Cursor
 with_forked cursors None = cursors
 with_forked cursors (Some child) = put cursors child.0 child.1
 
+-- of a process that is there or isn't
+abbrev pub forked_at : Script → Option Cursor → Call → Reply → Option (ℕ × Cursor)
+forked_at script o call reply = option_and_then (λ c. forked_by script c call reply) o
+
+abbrev pub moved_at : Script → Numbered Cursor → ℕ → Call → Reply → Option Cursor → Numbered Cursor
+moved_at script cursors pid call reply None = cursors
+moved_at script cursors pid call reply (Some c) = put cursors pid (moved script c call reply)
+
 -- the processes after an entry
+abbrev pub after_entry : Script → Numbered Cursor → ℕ → Call → Reply → Option Cursor → Numbered Cursor
+after_entry script cursors pid call reply o =
+    with_forked (moved_at script cursors pid call reply o) (forked_at script o call reply)
+
 abbrev pub moved_on : Script → Numbered Cursor → ℕ → Call → Reply → Numbered Cursor
-moved_on script cursors pid call reply =
-    with_forked (moved_at script cursors pid call reply (get cursors pid))
-    (forked_by script (get cursors pid) call reply)
+moved_on script cursors pid call reply = after_entry script cursors pid call reply (get cursors pid)

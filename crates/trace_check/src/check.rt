@@ -40,12 +40,14 @@ fn judge(
             return Err(CheckFault::NotATrace { line });
         }
         if judge.is_totals(text, &mut scratch)? {
-            return judge.totals(script, line, !after.is_empty());
+            return judge.totals(script, line, after);
         }
         let Some(entry) = entry_in(alloc, script, text, &mut scratch)? else {
             return Err(CheckFault::NotATrace { line });
         };
-        judge.entry(script, line, entry)?;
+        if let Err(fault) = judge.entry(script, line, entry) {
+            return Err(fault);
+        }
         left -= text.len() + 1;
         line += 1;
         rest = after;

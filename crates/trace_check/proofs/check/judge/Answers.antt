@@ -1,0 +1,95 @@
+use Rattle.std.proofs.Common.{◌≡◌, ◌∙◌, ℕ, ◌+◌, ◌-◌, ◌<◌, ◌≤◌, Bool, true, false, List, [], ◌∷◌, ◌++◌, length, Ok, Err, refl, sym, ap, subst, arith, length-append}
+use Rattle.pico_base.specs.declared.reply.Entry.{Entry}
+use Rattle.trace_text.specs.Reading.{is_line}
+use Rattle.trace_text.proofs.EntryLaws.{entry-takes}
+use Rattle.trace_text.proofs.ReadLaws.{fits-room}
+use Rattle.kernel_model.specs.Kernel.{opening}
+use Rattle.kernel_model.specs.Fitting.{Place}
+use Rattle.trace_check.specs.FirstFault.{Gives, GivesFault, judge_totals, first_unended, judge_from, judge_entry as judge_entry_of}
+use Rattle.trace_check.specs.Judging.{progress_of}
+use Rattle.trace_check.specs.Cursors.{AreSteady, places_of}
+use Rattle.trace_check.specs.Tally.{Counts, line_of}
+use Rattle.trace_check.proofs.Cases.{judge-full, judge-end, judge-unfit, judge-whole, judge-none, judge-entry}
+use Rattle.trace_check.proofs.JudgeLaws.{fault-goes, goes-next}
+use Rattle.trace_check.proofs.PlaceLaws.{begins}
+use Rattle.trace_check.proofs.TallyLaws.{counts-push}
+use Rattle.trace_check.proofs.check.judge.Goals as goal
+
+pub loop-init : goal.loop-init
+loop-init c = record {
+  done = [];
+  tally = c.in_ok-judge.ensures.tally;
+  steady = subst AreSteady (sym c.in_ok-judge.ensures.cursors) (record { idle = refl; rising = refl }, tt);
+  so_far = rw (c.in_ok-judge.ensures.kernel, c.in_ok-judge.ensures.cursors)
+      (ap (λ (p : Place). judge_from c.args.script.now (length c.args.bytes.now) c.args.first_line 67108864 []
+      (record { kernel = opening; places = (1, p) ∷ [] }) c.args.bytes.now) (begins c.args.script.now 1 []));
+  few = omega arith;
+  count = omega arith;
+}
+
+pub returns-in_default : goal.returns-in_default
+returns-in_default c =
+    sym c.loop.invariant.so_far
+    ∙ judge-end c.args.script.now c.loop.line c.loop.left c.loop.invariant.done
+    (progress_of c.args.script.now c.loop.judge.kernel c.loop.judge.cursors.entries) c.loop.rest.now
+    (length c.args.bytes.now - c.loop.counter) c.in_default.ensures
+
+pub returns-then-not-fits : goal.returns-then-not-fits
+returns-then-not-fits c =
+    sym c.loop.invariant.so_far
+    ∙ judge-unfit c.args.script.now c.loop.line c.loop.left c.loop.invariant.done
+    (progress_of c.args.script.now c.loop.judge.kernel c.loop.judge.cursors.entries) c.loop.rest.now
+    c.in-Some.text.now c.in-Some.after.now c.in-Some.ensures
+    (length c.args.bytes.now - c.loop.counter) (sym c.fits.ensures ∙ c.if-not-fits.true)
+
+pub returns-then-branch : goal.returns-then-branch
+returns-then-branch c =
+    let whole = sym c.loop.invariant.so_far
+    ∙ judge-whole c.args.script.now c.loop.line c.loop.left c.loop.invariant.done
+    (progress_of c.args.script.now c.loop.judge.kernel c.loop.judge.cursors.entries) c.loop.rest.now
+    c.in-Some.text.now c.in-Some.after.now c.in-Some.ensures
+    (length c.args.bytes.now - c.loop.counter) (omega arith) (sym c.fits.ensures ∙ c.if-not-fits.false)
+    (sym (c.in_ok-is_totals.ensures
+    ∙ ap (λ (t : Counts). is_line (line_of t) c.in-Some.text.now) c.loop.invariant.tally) ∙ c.if-branch.true) in
+    let entries : c.loop.judge.tally.entries ≡ length c.loop.invariant.done =
+    ap (λ (t : Counts). t.entries) c.loop.invariant.tally in
+    subst (Gives c.totals.result)
+    (ap (λ (n : ℕ). judge_totals c.loop.line n
+    (progress_of c.args.script.now c.loop.judge.kernel c.loop.judge.cursors.entries) c.in-Some.after.now
+    (first_unended (places_of c.args.script.now c.loop.judge.cursors.entries))) entries ∙ sym whole)
+    c.totals.ensures
+
+pub returns-in_default-2 : goal.returns-in_default-2
+returns-in_default-2 c =
+    sym c.loop.invariant.so_far
+    ∙ judge-none c.args.script.now c.loop.line c.loop.left c.loop.invariant.done
+    (progress_of c.args.script.now c.loop.judge.kernel c.loop.judge.cursors.entries) c.loop.rest.now
+    c.in-Some.text.now c.in-Some.after.now c.in-Some.ensures
+    (length c.args.bytes.now - c.loop.counter) (sym c.fits.ensures ∙ c.if-not-fits.false)
+    (sym (c.in_ok-is_totals.ensures
+    ∙ ap (λ (t : Counts). is_line (line_of t) c.in-Some.text.now) c.loop.invariant.tally) ∙ c.if-branch.false)
+    (sym c.in_ok-entry.ensures ∙ c.in_default-2.is)
+
+pub returns-in-Err : goal.returns-in-Err
+returns-in-Err c =
+    let goes = sym c.loop.invariant.so_far
+    ∙ judge-entry c.args.script.now c.loop.line c.loop.left c.loop.invariant.done
+    (progress_of c.args.script.now c.loop.judge.kernel c.loop.judge.cursors.entries) c.loop.rest.now
+    c.in-Some.text.now c.in-Some.after.now c.in-Some.ensures
+    (length c.args.bytes.now - c.loop.counter) c.in-Some-2.entry (omega arith)
+    (sym c.fits.ensures ∙ c.if-not-fits.false)
+    (sym (c.in_ok-is_totals.ensures
+    ∙ ap (λ (t : Counts). is_line (line_of t) c.in-Some.text.now) c.loop.invariant.tally) ∙ c.if-branch.false)
+    (sym c.in_ok-entry.ensures ∙ c.in-Some-2.is) in
+    subst (GivesFault c.in-Err.fault) (sym goes)
+    (fault-goes c.in-Err.fault
+    (judge_entry_of c.args.script.now c.loop.line
+    (progress_of c.args.script.now c.loop.judge.kernel c.loop.judge.cursors.entries) c.in-Some-2.entry)
+    _ c.in-Err.ensures.judged)
+
+pub returns : goal.returns
+returns c =
+    sym c.loop.invariant.so_far
+    ∙ judge-full c.args.script.now c.loop.line c.loop.left c.loop.invariant.done
+    (progress_of c.args.script.now c.loop.judge.kernel c.loop.judge.cursors.entries) c.loop.rest.now
+    (length c.args.bytes.now - c.loop.counter) (omega arith)
