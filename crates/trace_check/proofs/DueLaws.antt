@@ -65,7 +65,3 @@ pub else-may : (x killed : Bool) (doom : Option Sig) → (killed && not (is_some
     → x ≡ (x || (killed && not (is_some doom)))
 else-may true killed doom none = refl
 else-may false killed doom none = sym none
-
-pub none-some : {A : Type 0} (o : Option A) → not (is_some o) ≡ true → is_some o ≡ false
-none-some None none = refl
-none-some (Some x) none = absurd (cc)

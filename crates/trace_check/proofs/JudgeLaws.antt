@@ -17,20 +17,8 @@ use Rattle.trace_check.specs.declared.cursor.Cursor.{Cursor}
 use Rattle.trace_check.specs.Cursors.{HasCall, due_in, moved_on, places_of, place_of}
 use Rattle.trace_check.specs.FirstFault.{Progress, doom_at, due_at, due_by, last_doom, may_stand, is_same_reply, judge_reply, judge_totals, or_fault, with_call, places_with, judge_made, GivesFault}
 use Rattle.trace_check.specs.Judging.{progress_of, Yields}
+use Rattle.trace_check.proofs.Cases.{fault-goes, goes-next}
 use Rattle.trace_check.proofs.PlaceLaws.{due-is, after-call}
-
--- a fault goes through what follows
-pub fault-goes : {A B : Type 0} (fault : CheckFault) (r : Result A CheckFault) (next : A → Result B CheckFault)
-    → GivesFault fault r → GivesFault fault (or_fault r next)
-fault-goes Memory r next given = tt
-fault-goes (NotATrace line) r next given = ap (λ x. or_fault x next) given
-fault-goes (Illegal line kernel trace) r next given = ap (λ x. or_fault x next) given
-fault-goes (NotTheScript line due found) r next given = ap (λ x. or_fault x next) given
-
--- and where there is none, that follows
-pub goes-next : {A B : Type 0} (r : Result A CheckFault) (x : A) (next : A → Result B CheckFault) → r ≡ Ok x
-    → or_fault r next ≡ next x
-goes-next r x next is = ap (λ y. or_fault y next) is
 
 module _ (script : Script) (line : ℕ) (kernel : Kernel) (cursors : Numbered Cursor) (pid : ℕ) (call : Call)
     (reply : Reply) (doom : Option Sig) (found : Option Call) where

@@ -219,10 +219,14 @@ rising-with vars None n h = h
 rising-with vars (Some v) n h = rising-put vars v n h
 
 answered-again : (c : BlockCaller) (line : Line) (n : ℕ) (b : Bool) → callers.are_rising c.caller.vars ≡ true
-    → IsSteady (record { caller = record c { caller = cond b
-    (record (end_call c.caller) { tried = c.caller.tried + 1 })
-    (record (end_call c.caller) { line = c.caller.line + 1; tried = 0; vars = set_variable c.caller.vars line.set n })
-    }; is_killed = false })
+    → IsSteady (record {
+      caller = record c {
+        caller = cond b
+            (record (end_call c.caller) { tried = c.caller.tried + 1 })
+            (record (end_call c.caller) { line = c.caller.line + 1; tried = 0; vars = set_variable c.caller.vars line.set n });
+      };
+      is_killed = false;
+    })
 answered-again c line n true rising = record { idle = refl; rising = rising }
 answered-again c line n false rising =
     record { idle = refl; rising = rising-with c.caller.vars line.set n rising }

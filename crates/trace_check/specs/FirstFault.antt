@@ -97,7 +97,7 @@ abbrev pub judge_made : Script → ℕ → Progress → ℕ → Call → Reply �
 judge_made script line so_far pid call reply =
     if may_stand script (doom_at so_far pid) (due_at so_far pid) call
     then or_fault (judge_reply line reply (transition so_far.kernel pid call (number_in (Some reply))))
-      (λ kernel. Ok (with_call script so_far pid call reply kernel))
+    (λ kernel. Ok (with_call script so_far pid call reply kernel))
     else Err (NotTheScript line (due_at so_far pid) (Some call))
 
 -- an entry in the grammar has a reply
@@ -126,7 +126,7 @@ judge_line script line left done so_far text after next =
     if is_line (totals_line done) text
     then judge_totals line (length done) so_far after (first_unended so_far.places)
     else option_map_or (λ e. or_fault (judge_entry script line so_far e) (next e)) (entry_in script text)
-      (Err (NotATrace line))
+    (Err (NotATrace line))
 
 -- At most so many lines, from this one on, where so many bytes may still come, behind those of the entries done.
 unfoldable pub judge_from : Script → ℕ → ℕ → ℕ → List Entry → Progress → List ℕ → Result Legal CheckFault

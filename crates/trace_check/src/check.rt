@@ -17,12 +17,7 @@ pub struct Legal {
 }
 
 /// Judges the lines in order, up to the first fault.
-fn judge(
-    alloc: Global,
-    script: &Script,
-    bytes: &[u8],
-    first_line: u32,
-) -> Result<Legal, CheckFault>
+fn judge(alloc: Global, script: &Script, bytes: &[u8], first_line: u32) -> Result<Legal, CheckFault>
     requires sound { IsSoundScript script.now }
     requires first { first_line < 2 ^ 31 }
     ensures { Gives result (verdict_of script.now bytes.now first_line) }
@@ -45,8 +40,9 @@ fn judge(
         let Some(entry) = entry_in(alloc, script, text, &mut scratch)? else {
             return Err(CheckFault::NotATrace { line });
         };
-        if let Err(fault) = judge.entry(script, line, entry) {
-            return Err(fault);
+        match judge.entry(script, line, entry) {
+            Ok(()) => (),
+            Err(fault) => return Err(fault),
         }
         left -= text.len() + 1;
         line += 1;

@@ -248,7 +248,12 @@ impl Judge {
     }
 
     /// Judges the next entry.
-    pub(crate) fn entry(&mut self, script: &Script, line: u32, entry: Entry) -> Result<(), CheckFault>
+    pub(crate) fn entry(
+        &mut self,
+        script: &Script,
+        line: u32,
+        entry: Entry,
+    ) -> Result<(), CheckFault>
         requires sound { IsSoundScript script.now }
         requires steady { AreSteady self.old.cursors.entries }
         requires few { self.old.tally.entries < 2 ^ 32 }
@@ -271,7 +276,12 @@ impl Judge {
     }
 
     /// Judges the totals, behind which there is something more or not.
-    pub(crate) fn totals(&self, script: &Script, line: u32, after: &[u8]) -> Result<Legal, CheckFault>
+    pub(crate) fn totals(
+        &self,
+        script: &Script,
+        line: u32,
+        after: &[u8],
+    ) -> Result<Legal, CheckFault>
         requires sound { IsSoundScript script.now }
         requires few { self.now.tally.entries < 2 ^ 32 }
         requires line { line < 2 ^ 32 - 1 }

@@ -1,17 +1,12 @@
 use Rattle.std.proofs.Common.{◌≡◌, ◌∙◌, ℕ, ◌+◌, ◌-◌, ◌<◌, ◌≤◌, Bool, true, false, List, [], ◌∷◌, ◌++◌, length, Ok, Err, refl, sym, ap, subst, arith, length-append}
-use Rattle.pico_base.specs.declared.reply.Entry.{Entry}
 use Rattle.trace_text.specs.Reading.{is_line}
 use Rattle.trace_text.proofs.EntryLaws.{entry-takes}
 use Rattle.trace_text.proofs.ReadLaws.{fits-room}
-use Rattle.kernel_model.specs.Kernel.{opening}
-use Rattle.kernel_model.specs.Fitting.{Place}
-use Rattle.trace_check.specs.FirstFault.{Gives, GivesFault, judge_totals, first_unended, judge_from, judge_entry as judge_entry_of}
-use Rattle.trace_check.specs.Judging.{progress_of}
+use Rattle.trace_check.specs.FirstFault.{Gives, GivesFault, judge_totals, first_unended}
+use Rattle.trace_check.specs.Judging.{CountsEntry, progress_of}
 use Rattle.trace_check.specs.Cursors.{AreSteady, places_of}
 use Rattle.trace_check.specs.Tally.{Counts, line_of}
-use Rattle.trace_check.proofs.Cases.{judge-full, judge-end, judge-unfit, judge-whole, judge-none, judge-entry}
-use Rattle.trace_check.proofs.JudgeLaws.{fault-goes, goes-next}
-use Rattle.trace_check.proofs.PlaceLaws.{begins}
+use Rattle.trace_check.proofs.Cases.{judge-starts, judge-full, judge-end, judge-unfit, judge-whole, judge-none, judge-fault, judge-next}
 use Rattle.trace_check.proofs.TallyLaws.{counts-push}
 use Rattle.trace_check.proofs.check.judge.Goals as goal
 
@@ -20,9 +15,8 @@ loop-init c = record {
   done = [];
   tally = c.in_ok-judge.ensures.tally;
   steady = subst AreSteady (sym c.in_ok-judge.ensures.cursors) (record { idle = refl; rising = refl }, tt);
-  so_far = rw (c.in_ok-judge.ensures.kernel, c.in_ok-judge.ensures.cursors)
-      (ap (λ (p : Place). judge_from c.args.script.now (length c.args.bytes.now) c.args.first_line 67108864 []
-      (record { kernel = opening; places = (1, p) ∷ [] }) c.args.bytes.now) (begins c.args.script.now 1 []));
+  so_far = judge-starts c.args.script.now _ c.args.bytes.now c.args.first_line _ _ (omega arith)
+      c.in_ok-judge.ensures.kernel c.in_ok-judge.ensures.cursors;
   few = omega arith;
   count = omega arith;
 }
@@ -72,20 +66,44 @@ returns-in_default-2 c =
 
 pub returns-in-Err : goal.returns-in-Err
 returns-in-Err c =
-    let goes = sym c.loop.invariant.so_far
-    ∙ judge-entry c.args.script.now c.loop.line c.loop.left c.loop.invariant.done
+    subst (GivesFault c.in-Err.fault) c.loop.invariant.so_far
+    (judge-fault c.args.script.now c.loop.line c.loop.left c.loop.invariant.done
     (progress_of c.args.script.now c.loop.judge.kernel c.loop.judge.cursors.entries) c.loop.rest.now
     c.in-Some.text.now c.in-Some.after.now c.in-Some.ensures
     (length c.args.bytes.now - c.loop.counter) c.in-Some-2.entry (omega arith)
     (sym c.fits.ensures ∙ c.if-not-fits.false)
     (sym (c.in_ok-is_totals.ensures
     ∙ ap (λ (t : Counts). is_line (line_of t) c.in-Some.text.now) c.loop.invariant.tally) ∙ c.if-branch.false)
-    (sym c.in_ok-entry.ensures ∙ c.in-Some-2.is) in
-    subst (GivesFault c.in-Err.fault) (sym goes)
-    (fault-goes c.in-Err.fault
-    (judge_entry_of c.args.script.now c.loop.line
-    (progress_of c.args.script.now c.loop.judge.kernel c.loop.judge.cursors.entries) c.in-Some-2.entry)
-    _ c.in-Err.ensures.judged)
+    (sym c.in_ok-entry.ensures ∙ c.in-Some-2.is) c.in-Err.fault c.in-Err.ensures.judged)
+
+pub loop-preserved : goal.loop-preserved
+loop-preserved c =
+    let n : ℕ = length c.args.bytes.now - c.loop.counter in
+    let fewer : n - 1 ≡ length c.args.bytes.now - (c.loop.counter + 1) = omega arith in
+    let room : length c.in-Some.text.now < c.loop.left =
+    fits-room c.loop.left c.in-Some.text.now (sym c.fits.ensures ∙ c.if-not-fits.false) in
+    let is = sym c.in_ok-entry.ensures ∙ c.in-Some-2.is in
+    let taken = entry-takes c.args.script.now c.in-Some.text.now c.in-Some-2.entry is in
+    let goes = judge-next c.args.script.now c.loop.line c.loop.left c.loop.invariant.done
+    (progress_of c.args.script.now c.loop.judge.kernel c.loop.judge.cursors.entries) c.loop.rest.now
+    c.in-Some.text.now c.in-Some.after.now c.in-Some.ensures n c.in-Some-2.entry (omega arith)
+    (sym c.fits.ensures ∙ c.if-not-fits.false)
+    (sym (c.in_ok-is_totals.ensures
+    ∙ ap (λ (t : Counts). is_line (line_of t) c.in-Some.text.now) c.loop.invariant.tally) ∙ c.if-branch.false)
+    is (progress_of c.args.script.now c.entry.new.self.kernel c.entry.new.self.cursors.entries)
+    c.in-Ok.ensures.judged in
+    let more : length (c.loop.invariant.done ++ c.in-Some-2.entry ∷ []) ≡ length c.loop.invariant.done + 1 =
+    length-append c.loop.invariant.done (c.in-Some-2.entry ∷ []) in
+    record {
+      done = c.loop.invariant.done ++ c.in-Some-2.entry ∷ [];
+      tally = counts-push c.args.script.now c.loop.invariant.done c.in-Some-2.entry c.entry.new.self.tally taken.0
+          (subst (λ (t : Counts). CountsEntry t c.in-Some-2.entry c.entry.new.self.tally) c.loop.invariant.tally
+          c.in-Ok.ensures.tally);
+      steady = c.in-Ok.ensures.steady;
+      so_far = rw (← fewer) (sym goes ∙ c.loop.invariant.so_far);
+      few = omega arith;
+      count = omega (arith, more);
+    }
 
 pub returns : goal.returns
 returns c =
