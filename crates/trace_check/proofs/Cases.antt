@@ -51,7 +51,8 @@ module _ (script : Script) (line left : ℕ) (done : List Entry) (so_far : Progr
   judge-full (suc n) e = absurd (omega (arith, e))
 
   -- no line feed comes any more
-  pub judge-end : (n : ℕ) → None ≡ next_line bytes → judge_from script n line left done so_far bytes ≡ Err (NotATrace line)
+  pub judge-end : (n : ℕ) → None ≡ next_line bytes
+      → judge_from script n line left done so_far bytes ≡ Err (NotATrace line)
   unfolding judge_from
   judge-end zero e = refl
   judge-end (suc n) e = rw (← e) refl
@@ -99,7 +100,8 @@ module _ (script : Script) (line left : ℕ) (done : List Entry) (so_far : Progr
     judge-fault n e some f t is fault given =
         subst (GivesFault fault) (sym (judge-entry n e some f t is))
         (fault-goes fault (judge_entry script line so_far e)
-        (λ (next : Progress). judge_from script (n - 1) (line + 1) (left - (length text + 1)) (done ++ e ∷ []) next after)
+        (λ (next : Progress).
+        judge_from script (n - 1) (line + 1) (left - (length text + 1)) (done ++ e ∷ []) next after)
         given)
 
     -- or with none
@@ -110,5 +112,6 @@ module _ (script : Script) (line left : ℕ) (done : List Entry) (so_far : Progr
     judge-next n e some f t is next judged =
         judge-entry n e some f t is
         ∙ goes-next (judge_entry script line so_far e) next
-        (λ (next : Progress). judge_from script (n - 1) (line + 1) (left - (length text + 1)) (done ++ e ∷ []) next after)
+        (λ (next : Progress).
+        judge_from script (n - 1) (line + 1) (left - (length text + 1)) (done ++ e ∷ []) next after)
         judged

@@ -82,8 +82,8 @@ module _ (script : Script) (sound : IsSoundScript script) (h : List Entry) where
       let r = takes script n line left (done ++ e ∷ []) after h read in
       let both : done ++ ends.more ≡ done ++ e ∷ r.more = sym ends.is ∙ r.is ∙ append_assoc done (e ∷ []) r.more in
       let same : ends.more ≡ e ∷ r.more = same-behind done ends.more (e ∷ r.more) both in
-      next-entry done at so_far text e r.more ends.more entry same ends.is ends.kernel ends.replays ends.places ends.fits
-      ends.over
+      next-entry done at so_far text e r.more ends.more entry same ends.is ends.kernel ends.replays ends.places
+      ends.fits ends.over
 
   ended-places : (done : List Entry) (so_far : Progress) → h ≡ done → (more : List Entry) → h ≡ done ++ more
       → (places : Places) → FitsFrom script so_far.places more places → AllByRecursion IsOver places

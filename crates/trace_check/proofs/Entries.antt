@@ -117,7 +117,8 @@ module _ (script : Script) (sound : IsSoundScript script) where
   carried-out : (so_far next : Progress) (e : Entry) → (a : IsAlone script e) → (line : ℕ)
       → may_stand script (doom_at so_far e.pid) (due_at so_far e.pid) e.call ≡ true
       → (t : Option Successor) → transition so_far.kernel e.pid e.call (number_in (Some a.reply)) ≡ t
-      → or_fault (judge_reply line a.reply t) (λ kernel. Ok (with_call script so_far e.pid e.call a.reply kernel)) ≡ Ok next
+      → or_fault (judge_reply line a.reply t) (λ kernel. Ok (with_call script so_far e.pid e.call a.reply kernel))
+      ≡ Ok next
       → GoesOn script so_far e next
   carried-out so_far next e a line may None step h = absurd (cc)
   carried-out so_far next e a line may (Some s) step h =
@@ -208,7 +209,8 @@ module _ (script : Script) (sound : IsSoundScript script) where
       ap (λ (d : Option Call). may_stand script doom d e.call) dues
       ∙ doom-stands place e.call a.call is so_far.kernel e.pid (number_in e.outcome.own)
       (successor kernel e.outcome) step doom refl in
-      let number : transition so_far.kernel e.pid e.call (number_in (Some a.reply)) ≡ Some (successor kernel e.outcome) =
+      let number : transition so_far.kernel e.pid e.call (number_in (Some a.reply))
+      ≡ Some (successor kernel e.outcome) =
       ap (λ (o : Option Reply). transition so_far.kernel e.pid e.call (number_in o)) (sym own) ∙ step in
       let same : is_same_reply e.outcome.own a.reply ≡ true =
       ap (λ (o : Option Reply). is_same_reply o a.reply) own ∙ reply-itself a.reply a.replies in

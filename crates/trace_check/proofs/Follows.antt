@@ -40,6 +40,7 @@ pub all-ended : (places : Places) → first_unended places ≡ None → AllByRec
 all-ended [] h = tt
 all-ended (p ∷ ps) h = ended-by p ps (is_some (due p.1)) refl h (all-ended ps)
 
+-- where all have, none is found
 pub none-unended : (places : Places) → AllByRecursion IsOver places → first_unended places ≡ None
 none-unended [] h = refl
 none-unended (p ∷ ps) h =

@@ -32,7 +32,8 @@ module _ (script : Script) (line : ℕ) (kernel : Kernel) (cursors : Numbered Cu
       f.dues ∙ ap (due_in script cursors pid) f.dooms ∙ sym (due-is script kernel cursors pid)
 
   stands-as : Finds → may_stand script doom found call
-      ≡ may_stand script (doom_at (progress_of script kernel cursors) pid) (due_at (progress_of script kernel cursors) pid) call
+      ≡ may_stand script (doom_at (progress_of script kernel cursors) pid)
+      (due_at (progress_of script kernel cursors) pid) call
   stands-as f =
       ap (λ (d : Option Sig). may_stand script d found call) f.dooms
       ∙ ap (λ (c : Option Call). may_stand script (last_doom (living_at kernel pid)) c call) (same-due f)

@@ -63,6 +63,7 @@ pub record IsEnd (a : Alive) (call : Call) : Type 0 where
   pub is : call ≡ calls.Killed sig
   pub dooms : is_doomed_by a.row.signals.doom sig ≡ true
 
+-- nobody else may make a call then
 pub spent-ends : (a : Alive) (call : Call) → is_spent a.allowance ≡ true → may_make a call ≡ true → IsEnd a call
 spent-ends a (calls.Killed sig) spent may = record { sig = sig; is = refl; dooms = may }
 spent-ends a call spent may = let no : false ≡ true = sym (ap not spent) ∙ may in absurd (cc)
@@ -83,5 +84,6 @@ last-by : (a : Alive) (sig : Sig) (b : Bool) → is_spent a.allowance ≡ b → 
 last-by a sig true spent doom = record { spent = spent; doom = doom }
 last-by a sig false spent doom = absurd (cc)
 
+-- the signal that ends a process next is the one that dooms it, and it has no further entry
 pub last-is : (a : Alive) (sig : Sig) → last_doom (Some a) ≡ Some sig → IsLast a sig
 last-is a sig doom = last-by a sig (is_spent a.allowance) refl doom

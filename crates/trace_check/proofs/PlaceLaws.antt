@@ -223,7 +223,11 @@ answered-again : (c : BlockCaller) (line : Line) (n : ℕ) (b : Bool) → caller
       caller = record c {
         caller = cond b
             (record (end_call c.caller) { tried = c.caller.tried + 1 })
-            (record (end_call c.caller) { line = c.caller.line + 1; tried = 0; vars = set_variable c.caller.vars line.set n });
+            (record (end_call c.caller) {
+              line = c.caller.line + 1;
+              tried = 0;
+              vars = set_variable c.caller.vars line.set n;
+            });
       };
       is_killed = false;
     })
@@ -236,7 +240,8 @@ answered-steady : (c : BlockCaller) (call : Call) (reply : Reply) (o : Option Li
     → IsSteady (record { caller = record c { caller = answer_at c.caller call reply o }; is_killed = false })
 answered-steady c call reply None rising = record { idle = refl; rising = rising }
 answered-steady c call reply (Some line) rising =
-    answered-again c line (value_in (Some reply)) (asks_again call (Some reply) && nat_lt (c.caller.tried + 1) line.tries)
+    answered-again c line (value_in (Some reply))
+    (asks_again call (Some reply) && nat_lt (c.caller.tried + 1) line.tries)
     rising
 
 moved-steady : (script : Script) (c : Cursor) (call : Call) (reply : Reply) → IsSteady c → (b : Bool)

@@ -40,7 +40,8 @@ fold-push : (f : ℕ → Entry → ℕ) (n : ℕ) (es : List Entry) (e : Entry) 
 fold-push f n [] e = refl
 fold-push f n (x ∷ xs) e = fold-push f (f n x) xs e
 
-count-push : (p : Entry → Bool) (es : List Entry) (e : Entry) → count_by p (es ++ e ∷ []) ≡ count_by p es + cond (p e) 1 0
+count-push : (p : Entry → Bool) (es : List Entry) (e : Entry)
+    → count_by p (es ++ e ∷ []) ≡ count_by p es + cond (p e) 1 0
 count-push p es e = fold-push (λ n x. n + cond (p x) 1 0) 0 es e
 
 alone-count : (test : Option Reply → Bool) (e : Entry) (o : Outcome) (reply : Reply) → e.outcome ≡ o

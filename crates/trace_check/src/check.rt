@@ -55,8 +55,8 @@ fn judge(alloc: Global, script: &Script, bytes: &[u8], first_line: u32) -> Resul
 /// bytes are the text, with any nodes, of a history that is legal and fits the script whole, within the limits of a
 /// trace. Else the first fault comes, in the order of the lines and, on one line, in this order:
 ///
-/// 1. `NotATrace`: the line is none of a trace, or has other totals; or a line follows the totals; or a limit is passed;
-///    or the bytes end before the totals, at the line behind the last one.
+/// 1. `NotATrace`: the line is none of a trace, or has other totals; or a line follows the totals; or a limit is
+///    passed; or the bytes end before the totals, at the line behind the last one.
 /// 2. `NotTheScript`: the process was not forked, or has ended, or another call is due; or, at the totals, a process
 ///    has not ended, of which that of the smallest number is named. A process that was doomed, and has had the entry
 ///    that it may still have, has its end due. In place of the script's call the end by any signal may stand.

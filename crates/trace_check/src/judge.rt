@@ -217,7 +217,8 @@ impl Judge {
         requires steady { AreSteady self.old.cursors.entries }
         requires few { self.old.tally.entries < 2 ^ 32 }
         ensures judged { Yields result (progress_of script.now self.new.kernel self.new.cursors.entries)
-            (judge_made script.now line (progress_of script.now self.old.kernel self.old.cursors.entries) pid call reply) }
+            (judge_made script.now line (progress_of script.now self.old.kernel self.old.cursors.entries) pid call
+            reply) }
         ensures steady { OnOk result (AreSteady self.new.cursors.entries) }
         ensures tally { OnOk result (self.new.tally ≡ with_reply self.old.tally (is_fork call) reply) }
     {
