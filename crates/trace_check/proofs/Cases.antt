@@ -1,5 +1,5 @@
 -- What a line leads to, case by case, as the code goes.
-use Rattle.std.proofs.Common.{◌≡◌, ◌∙◌, ℕ, zero, suc, ◌+◌, ◌-◌, ◌<◌, Bool, true, false, List, [], ◌∷◌, ◌++◌, length, Option, Some, None, refl, sym, ap, subst, arith}
+use Rattle.std.proofs.Common.{◌≡◌, ◌∙◌, ℕ, zero, suc, ◌+◌, ◌-◌, ◌<◌, true, false, List, [], ◌∷◌, ◌++◌, length, Some, None, refl, sym, ap, subst, arith}
 use Rattle.std.specs.Prelude.{Result, Ok, Err}
 use Rattle.pico_base.specs.declared.reply.Entry.{Entry}
 use Rattle.pico_base.specs.declared.script.Script.{Script}
@@ -7,11 +7,10 @@ use Rattle.number_maps.specs.Maps.{Numbered}
 use Rattle.kernel_model.specs.Kernel.{Kernel, opening}
 use Rattle.kernel_model.specs.Fitting.{Place}
 use Rattle.kernel_model.specs.Trace.{totals_line}
-use Rattle.trace_text.specs.Reading.{has_ended, is_line, entry_in}
+use Rattle.trace_text.specs.Reading.{is_line, entry_in}
 use Rattle.trace_text.specs.Read.{next_line, fits}
 use Rattle.trace_text.specs.declared.fault.CheckFault.{CheckFault}
 use Rattle.trace_text.specs.declared.fault.CheckFault.TheVariants.{Memory, NotATrace, Illegal, NotTheScript}
-use Rattle.trace_check.specs.declared.check.Legal.{Legal}
 use Rattle.trace_check.specs.declared.cursor.Cursor.{Cursor}
 use Rattle.trace_check.specs.Cursors.{beginning}
 use Rattle.trace_check.specs.FirstFault.{Progress, GivesFault, judge_entry, judge_totals, first_unended, or_fault, judge_from, verdict_of}

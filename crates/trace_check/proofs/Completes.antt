@@ -3,7 +3,6 @@ use Rattle.std.proofs.Common.{◌≡◌, ◌⊎◌, inl, inr, ◌∙◌, ℕ, ze
 use Rattle.std.specs.Prelude.{Result, Ok, Err}
 use Rattle.std.specs.List.{AllByRecursion}
 use Rattle.std.specs.Option.{option_map_or}
-use Rattle.std.proofs.lemmas.List.{append-nil}
 use Rattle.pico_base.specs.declared.reply.Entry.{Entry}
 use Rattle.pico_base.specs.declared.script.Script.{Script}
 use Rattle.kernel_model.specs.Kernel.{Kernel}
@@ -12,14 +11,14 @@ use Rattle.kernel_model.specs.Script.{IsSoundScript}
 use Rattle.kernel_model.specs.Trace.{totals_line}
 use Rattle.kernel_model.specs.Fitting.{Places, IsOver, FitsFrom, places_after}
 use Rattle.trace_text.specs.Reading.{has_ended, is_line, entry_in}
-use Rattle.trace_text.specs.Read.{max_trace, next_line, fits, read_line, read_from, read_of}
+use Rattle.trace_text.specs.Read.{max_trace, next_line, fits, read_line, read_from}
 use Rattle.trace_text.specs.declared.fault.CheckFault.{CheckFault}
 use Rattle.trace_text.specs.declared.fault.CheckFault.TheVariants.{Memory, NotATrace, Illegal, NotTheScript}
 use Rattle.trace_text.proofs.EntryLaws.{entry-takes}
-use Rattle.trace_text.proofs.Whole.{Rests, takes}
+use Rattle.trace_text.proofs.Whole.{takes}
 use Rattle.trace_text.proofs.Again.{reads-again}
 use Rattle.trace_check.specs.declared.check.Legal.{Legal}
-use Rattle.trace_check.specs.FirstFault.{Progress, opening_progress, judge_entry, judge_totals, judge_line, judge_from, first_unended, or_fault, verdict_of, GivesFault, Gives, IsLegalTrace}
+use Rattle.trace_check.specs.FirstFault.{Progress, opening_progress, judge_entry, judge_line, judge_from, first_unended, verdict_of, Gives, IsLegalTrace}
 use Rattle.trace_check.proofs.Entries.{goes-on-judged}
 use Rattle.trace_check.proofs.Follows.{none-unended}
 

@@ -1,6 +1,6 @@
 -- An entry is judged to have no fault exactly where it goes on a legal history that fits the script.
-use Rattle.std.proofs.Common.{◌≡◌, ◌⊎◌, inl, inr, ◌∙◌, ℕ, Bool, true, false, not, cond, ◌&&◌, ◌||◌, List, [], ◌∷◌, Option, Some, None, is_some, refl, sym, ap, subst}
-use Rattle.std.specs.Prelude.{Result, Ok, Err}
+use Rattle.std.proofs.Common.{◌≡◌, inl, inr, ◌∙◌, ℕ, Bool, true, false, cond, ◌&&◌, ◌||◌, Option, Some, None, is_some, refl, sym, ap}
+use Rattle.std.specs.Prelude.{Ok, Err}
 use Rattle.std.specs.Option.{option_and_then}
 use Rattle.std.proofs.lemmas.Option.{same_Some}
 use Rattle.pico_base.specs.declared.call.Call.{Call}
@@ -12,19 +12,17 @@ use Rattle.pico_base.specs.declared.script.Script.{Script}
 use Rattle.pico_base.specs.declared.signal.Sig.{Sig}
 use Rattle.number_maps.specs.Maps.{get, put}
 use Rattle.kernel_model.specs.Effect.{reply_alone}
-use Rattle.kernel_model.specs.Row.{Alive}
 use Rattle.kernel_model.specs.Kernel.{Kernel, living_at}
 use Rattle.kernel_model.specs.Transition.{Successor, successor, transition}
 use Rattle.kernel_model.specs.History.{number_in}
 use Rattle.kernel_model.specs.Script.{IsSoundScript}
 use Rattle.kernel_model.specs.Fitting.{Place, Places, IsDue, HasReplyAlone, due, is_killed, move_on, places_after, places_after_fork}
-use Rattle.trace_text.specs.Grammar.{is_call, is_reply, is_entry}
-use Rattle.trace_text.specs.declared.fault.CheckFault.{CheckFault}
-use Rattle.trace_text.specs.declared.fault.CheckFault.TheVariants.{NotATrace, Illegal, NotTheScript}
+use Rattle.trace_text.specs.Grammar.{is_call, is_entry}
+use Rattle.trace_text.specs.declared.fault.CheckFault.TheVariants.{Illegal, NotTheScript}
 use Rattle.trace_text.proofs.EntryLaws.{IsAlone, is-alone}
 use Rattle.trace_check.specs.FirstFault.{Progress, last_doom, doom_at, due_by, due_at, is_same_call, may_stand, is_same_reply, judge_reply, or_fault, places_with, with_call, judge_own, judge_entry}
 use Rattle.trace_check.proofs.SameTexts.{same-call, call-itself, same-reply, reply-itself}
-use Rattle.trace_check.proofs.Kernels.{RepliesAlone, replies-alone, Makes, makes, IsEnd, spent-ends, doom-ends, IsLast, last-is}
+use Rattle.trace_check.proofs.Kernels.{replies-alone, makes, spent-ends, doom-ends, last-is}
 
 -- an entry goes on: the kernel has its outcome, and its call was due
 pub record GoesOn (script : Script) (so_far : Progress) (e : Entry) (next : Progress) : Type 0 where

@@ -1,5 +1,5 @@
 -- A trace is judged to be legal exactly where it is the text of a history that is legal and fits the script whole.
-use Rattle.std.proofs.Common.{◌≡◌, ◌⊎◌, inl, inr, ◌∙◌, ℕ, zero, suc, ◌+◌, ◌-◌, Bool, true, false, not, cond, List, [], ◌∷◌, ◌++◌, length, Option, Some, None, is_some, refl, sym, ap, subst, append_assoc}
+use Rattle.std.proofs.Common.{◌≡◌, ◌∙◌, ℕ, zero, suc, ◌+◌, ◌-◌, Bool, true, false, not, cond, List, [], ◌∷◌, ◌++◌, length, Option, Some, None, is_some, refl, sym, ap, subst, append_assoc}
 use Rattle.std.specs.Prelude.{Result, Ok, Err, IfOk}
 use Rattle.std.specs.List.{AllByRecursion}
 use Rattle.std.specs.Option.{option_map_or}
@@ -8,20 +8,19 @@ use Rattle.pico_base.specs.declared.reply.Entry.{Entry}
 use Rattle.pico_base.specs.declared.script.Script.{Script}
 use Rattle.pico_base.specs.declared.script.Line.{Line}
 use Rattle.kernel_model.specs.Kernel.{Kernel, opening}
-use Rattle.kernel_model.specs.History.{Replays, IsLegal}
+use Rattle.kernel_model.specs.History.{Replays}
 use Rattle.kernel_model.specs.Script.{IsSoundScript}
 use Rattle.kernel_model.specs.Trace.{totals_line}
-use Rattle.kernel_model.specs.Fitting.{Place, Places, IsOver, FitsFrom, FitsWhole, due, call_due, opening_places, places_after}
+use Rattle.kernel_model.specs.Fitting.{Place, Places, IsOver, FitsFrom, due, call_due, opening_places}
 use Rattle.trace_text.specs.Reading.{has_ended, is_line, entry_in}
-use Rattle.trace_text.specs.Read.{IsTraceOf, max_trace, next_line, fits, read_line, read_from, read_of}
+use Rattle.trace_text.specs.Read.{max_trace, next_line, fits, read_from}
 use Rattle.trace_text.specs.declared.fault.CheckFault.{CheckFault}
-use Rattle.trace_text.specs.declared.fault.CheckFault.TheVariants.{Memory, NotATrace, Illegal, NotTheScript}
+use Rattle.trace_text.specs.declared.fault.CheckFault.TheVariants.{NotATrace}
 use Rattle.trace_text.proofs.EntryLaws.{entry-takes}
-use Rattle.trace_text.proofs.Whole.{Rests, takes, read-is}
-use Rattle.trace_text.proofs.Again.{reads-again}
+use Rattle.trace_text.proofs.Whole.{read-is}
 use Rattle.trace_check.specs.declared.check.Legal.{Legal}
-use Rattle.trace_check.specs.FirstFault.{Progress, opening_progress, judge_entry, judge_totals, judge_line, judge_from, first_unended, or_fault, verdict_of, GivesFault, Gives, IsLegalTrace, CountsLegal}
-use Rattle.trace_check.proofs.Entries.{GoesOn, judged-goes-on, goes-on-judged}
+use Rattle.trace_check.specs.FirstFault.{Progress, opening_progress, judge_entry, judge_totals, judge_line, judge_from, first_unended, or_fault, verdict_of, Gives, CountsLegal}
+use Rattle.trace_check.proofs.Entries.{GoesOn, judged-goes-on}
 
 -- Processes that have ended.
 

@@ -1,6 +1,6 @@
 -- What the parts of the code's judging come to.
-use Rattle.std.proofs.Common.{◌≡◌, ◌∙◌, ℕ, ◌+◌, Bool, true, false, cond, List, [], ◌∷◌, ◌++◌, Option, Some, None, is_some, refl, sym, ap, subst}
-use Rattle.std.specs.Prelude.{Result, Ok, Err}
+use Rattle.std.proofs.Common.{◌≡◌, ◌∙◌, ℕ, true, false, List, Option, Some, None, is_some, refl, sym, ap, subst}
+use Rattle.std.specs.Prelude.{Ok, Err}
 use Rattle.std.specs.Option.{option_and_then}
 use Rattle.pico_base.specs.declared.call.Call.{Call}
 use Rattle.pico_base.specs.declared.reply.Reply.{Reply}
@@ -9,14 +9,14 @@ use Rattle.pico_base.specs.declared.signal.Sig.{Sig}
 use Rattle.number_maps.specs.Maps.{Numbered, get}
 use Rattle.kernel_model.specs.Kernel.{Kernel, living_at}
 use Rattle.kernel_model.specs.History.{number_in}
-use Rattle.kernel_model.specs.Transition.{Successor, transition}
-use Rattle.kernel_model.specs.Fitting.{Place, Places, due}
+use Rattle.kernel_model.specs.Transition.{transition}
+use Rattle.kernel_model.specs.Fitting.{Places, due}
 use Rattle.trace_text.specs.declared.fault.CheckFault.{CheckFault}
-use Rattle.trace_text.specs.declared.fault.CheckFault.TheVariants.{Memory, NotATrace, Illegal, NotTheScript}
+use Rattle.trace_text.specs.declared.fault.CheckFault.TheVariants.{NotTheScript}
 use Rattle.trace_check.specs.declared.cursor.Cursor.{Cursor}
 use Rattle.trace_check.specs.Cursors.{HasCall, due_in, moved_on, places_of, place_of}
-use Rattle.trace_check.specs.FirstFault.{Progress, doom_at, due_at, due_by, last_doom, may_stand, is_same_reply, judge_reply, judge_totals, or_fault, with_call, places_with, judge_made, GivesFault}
-use Rattle.trace_check.specs.Judging.{progress_of, Yields}
+use Rattle.trace_check.specs.FirstFault.{doom_at, due_at, due_by, last_doom, may_stand, judge_reply, judge_totals, or_fault, with_call, places_with, judge_made, GivesFault}
+use Rattle.trace_check.specs.Judging.{progress_of}
 use Rattle.trace_check.proofs.Cases.{fault-goes, goes-next}
 use Rattle.trace_check.proofs.PlaceLaws.{due-is, after-call}
 

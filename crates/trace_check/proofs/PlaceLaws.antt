@@ -29,7 +29,7 @@ use Rattle.node_calls.proofs.PlaceLemmas.{place-moves}
 use Rattle.node_calls.proofs.VariableLemmas.{rising-put}
 use Rattle.trace_check.specs.declared.cursor.Cursor.{Cursor}
 use Rattle.trace_check.specs.Cursors.{IsSteady, AreSteady, HasCall, ended_if, place_of, beginning, moved, places_of, due_in, forked_by, with_forked, after_entry, moved_at, moved_on}
-use Rattle.trace_check.specs.FirstFault.{Progress, doom_at, due_at, due_by, last_doom, places_with}
+use Rattle.trace_check.specs.FirstFault.{due_at, due_by, last_doom, places_with}
 use Rattle.trace_check.specs.Judging.{progress_of}
 use Rattle.trace_check.proofs.CursorLaws.{has-line}
 

@@ -1,5 +1,5 @@
 -- The counts of entries, and their line.
-use Rattle.std.proofs.Common.{◌≡◌, ◌∙◌, ℕ, ◌+◌, Bool, true, false, cond, eqb, List, [], ◌∷◌, ◌++◌, length, count_by, Option, Some, None, refl, sym, ap, subst, arith}
+use Rattle.std.proofs.Common.{◌≡◌, ◌∙◌, ℕ, ◌+◌, Bool, true, false, cond, eqb, List, [], ◌∷◌, ◌++◌, length, count_by, Option, Some, refl, sym, ap, subst, arith}
 use Rattle.std.specs.Prelude.{sum_by}
 use Rattle.std.specs.List.{fold}
 use Rattle.std.proofs.lemmas.List.{length-append}
@@ -11,7 +11,7 @@ use Rattle.pico_base.specs.declared.script.Script.{Script}
 use Rattle.kernel_model.specs.Trace.{entries_total, is_fork, is_not_ready_reply, is_refused_reply, replies_where}
 use Rattle.trace_text.specs.Reading.{is_line}
 use Rattle.trace_text.specs.Read.{begins_like_totals}
-use Rattle.trace_text.proofs.EntryLaws.{line-tested, IsAlone, is-alone}
+use Rattle.trace_text.proofs.EntryLaws.{line-tested, is-alone}
 use Rattle.trace_text.specs.Grammar.{is_entry}
 use Rattle.trace_check.specs.Tally.{Counts, counts_of, with_reply, line_of}
 use Rattle.trace_check.specs.Judging.{CountsReply, CountsEntry}

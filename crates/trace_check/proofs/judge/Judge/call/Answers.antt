@@ -1,4 +1,4 @@
-use Rattle.std.proofs.Common.{◌≡◌, ◌∙◌, ℕ, Ok, sym, ap, subst}
+use Rattle.std.proofs.Common.{◌∙◌, Ok, sym, ap, subst}
 use Rattle.pico_base.specs.declared.reply.Reply.{Reply}
 use Rattle.number_maps.specs.Maps.{Numbered}
 use Rattle.trace_check.specs.declared.cursor.Cursor.{Cursor}
