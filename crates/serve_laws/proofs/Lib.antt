@@ -1,3 +1,7 @@
+pub mod Committed
 pub mod Effects
+pub mod Ends
 pub mod Follow
+pub mod KernelEnds
+pub mod Puts
 pub mod Steps
