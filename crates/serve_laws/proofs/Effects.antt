@@ -172,20 +172,26 @@ own : (k : Kernel) (pid : ℕ) (a : Alive) (call : Call) (e : Effect) → body_i
 unfolding Serves
 own k pid a call e is acts = subst (λ (b : Body). Acts k (Proc pid) (on_body (Proc pid) b pid call) e) (sym is) acts
 
-module _ (k : Kernel) (pid n : ℕ) (a : Alive) (alone : IsApart pid a) where
+module _ (k : Kernel) (pid n : ℕ) (a : Alive) where
+  -- the caller may make calls of its own
+  pub record MakesOwnCalls : Type 0 where
+    pub lives : living_at k pid ≡ Some a
+    pub apart : IsApart pid a
+
   here : living_at k pid ≡ Some a → body_in k (Proc pid) ≡ Living a.row
   here lives = ap process_body (same_living (get k.processes pid) a lives)
 
   kill_named : (target : ℕ) (sig : SigArg) (name : Name) (e : Effect) (b : Bool) → nat_eq target pid ≡ b
       → home_of pid (calls.Kill target sig) ≡ home_of_kill pid target
-      → (is_own pid (calls.Kill target sig) ≡ true → living_at k pid ≡ Some a)
+      → (is_own pid (calls.Kill target sig) ≡ true → MakesOwnCalls)
       → name_in pid (if b then homes.Own else homes.At (Proc target)) ≡ Some name
       → Some (kill_at k pid target sig (get k.processes target)) ≡ Some e → Serves k pid (calls.Kill target sig) name e
   unfolding Serves
-  kill_named target sig name e true same home lives named eff =
+  kill_named target sig name e true same home makes named eff =
       let is : target ≡ pid = same_number target pid same
-      in let alive : living_at k pid ≡ Some a =
-      lives (ap is_own_home (home ∙ ap (λ (t : Bool). if t then homes.Own else homes.At (Proc target)) same))
+      in let maker : MakesOwnCalls =
+      makes (ap is_own_home (home ∙ ap (λ (t : Bool). if t then homes.Own else homes.At (Proc target)) same))
+      in let alive : living_at k pid ≡ Some a = maker.lives
       in conclude k pid (calls.Kill target sig) (Proc pid) name
       (kill_at k pid target sig (get k.processes target)) e named eff
       (own k pid a (calls.Kill target sig) (kill_at k pid target sig (get k.processes target)) (here alive)
@@ -193,7 +199,7 @@ module _ (k : Kernel) (pid n : ℕ) (a : Alive) (alone : IsApart pid a) where
       (kill_at k pid t sig (get k.processes t))) (sym is)
       (subst (λ (o : Option Process). Acts k (Proc pid) (in_body Living (signal a.row sig)) (kill_at k pid pid sig o))
       (sym (same_living (get k.processes pid) a alive)) (kill_self k pid a sig (here alive)))))
-  kill_named target sig name e false apart home lives named eff =
+  kill_named target sig name e false apart home makes named eff =
       conclude k pid (calls.Kill target sig) (Proc target) name
       (kill_at k pid target sig (get k.processes target)) e named eff
       (kill_other k pid target sig (calls.Kill target sig) (other_way target pid apart)
@@ -211,9 +217,15 @@ module _ (k : Kernel) (pid n : ℕ) (a : Alive) (alone : IsApart pid a) where
       (at-set k id pid (calls.SemOp id steps) (λ s. change_set k id (op s pid steps))
       (λ s there. set-changes k id s (op s pid steps) there) (get k.sets id) refl)
 
+  own_lives : {b : Bool} → (b ≡ true → MakesOwnCalls) → b ≡ true → living_at k pid ≡ Some a
+  own_lives makes own = let maker : MakesOwnCalls = makes own in maker.lives
+
+  own_apart : {b : Bool} → (b ≡ true → MakesOwnCalls) → b ≡ true → IsApart pid a
+  own_apart makes own = let maker : MakesOwnCalls = makes own in maker.apart
+
   -- the caller has to live for its own calls alone
   pub effect-serves : (call : Call) (name : Name) (e : Effect) → is_served call ≡ true
-      → (is_own pid call ≡ true → living_at k pid ≡ Some a) → name_for pid call ≡ Some name
+      → (is_own pid call ≡ true → MakesOwnCalls) → name_for pid call ≡ Some name
       → effect k pid a call n ≡ Some e → Serves k pid call name e
   unfolding Serves
   effect-serves (calls.Fork block) name e s l named eff = absurd (cc)
@@ -223,20 +235,20 @@ module _ (k : Kernel) (pid n : ℕ) (a : Alive) (alone : IsApart pid a) where
   effect-serves (calls.SemGet key count create excl) name e s l named eff = absurd (cc)
   effect-serves calls.GetPid name e s l named eff =
       conclude k pid calls.GetPid (Proc pid) name _ e named eff
-      (own k pid a calls.GetPid (reply_with k pid) (here (l refl))
-      (stays k (Proc pid) (Living a.row) (replies.Num pid) (λ other. refl) (here (l refl))))
+      (own k pid a calls.GetPid (reply_with k pid) (here (own_lives l refl))
+      (stays k (Proc pid) (Living a.row) (replies.Num pid) (λ other. refl) (here (own_lives l refl))))
   effect-serves (calls.Kill target Bad) name e s l named eff =
       conclude k pid (calls.Kill target Bad) (Proc pid) name _ e named eff
-      (own k pid a (calls.Kill target Bad) (refuse k Einval) (here (l refl))
-      (stays k (Proc pid) (Living a.row) (replies.Fail Einval) (λ other. refl) (here (l refl))))
+      (own k pid a (calls.Kill target Bad) (refuse k Einval) (here (own_lives l refl))
+      (stays k (Proc pid) (Living a.row) (replies.Fail Einval) (λ other. refl) (here (own_lives l refl))))
   effect-serves (calls.Kill target Zero) name e s l named eff =
       kill_named target Zero name e (nat_eq target pid) refl refl l named eff
   effect-serves (calls.Kill target (Is g)) name e s l named eff =
       kill_named target (Is g) name e (nat_eq target pid) refl refl l named eff
   effect-serves (calls.SigAction sig action) name e s l named eff =
       conclude k pid (calls.SigAction sig action) (Proc pid) name _ e named eff
-      (own k pid a (calls.SigAction sig action) (action_effect k pid a (act_on a.row.signals sig action)) (here (l refl))
-      (own_acts k pid a (act_on a.row.signals sig action) (here (l refl))))
+      (own k pid a (calls.SigAction sig action) (action_effect k pid a (act_on a.row.signals sig action)) (here (own_lives l refl))
+      (own_acts k pid a (act_on a.row.signals sig action) (here (own_lives l refl))))
   effect-serves (calls.SigProcMask how set) name e s l named eff =
       conclude k pid (calls.SigProcMask how set) (Proc pid) name _ e named eff
       (own k pid a (calls.SigProcMask how set)
@@ -244,22 +256,22 @@ module _ (k : Kernel) (pid n : ℕ) (a : Alive) (alone : IsApart pid a) where
         kernel = with_signals k pid a (with_mask a.row.signals how set);
         reply =
             replies.Bits a.row.signals.mask;
-      }) (here (l refl))
+      }) (here (own_lives l refl))
       (process-changes k pid
       (record a { row = record { signals = with_mask a.row.signals how set; family = a.row.family } })
       (replies.Bits a.row.signals.mask) (λ other. refl)))
   effect-serves calls.SigPending name e s l named eff =
       conclude k pid calls.SigPending (Proc pid) name _ e named eff
-      (own k pid a calls.SigPending (record { kernel = k; reply = replies.Bits a.row.signals.pending }) (here (l refl))
-      (stays k (Proc pid) (Living a.row) (replies.Bits a.row.signals.pending) (λ other. refl) (here (l refl))))
+      (own k pid a calls.SigPending (record { kernel = k; reply = replies.Bits a.row.signals.pending }) (here (own_lives l refl))
+      (stays k (Proc pid) (Living a.row) (replies.Bits a.row.signals.pending) (λ other. refl) (here (own_lives l refl))))
   effect-serves (calls.Handled sig) name e s l named eff =
       conclude k pid (calls.Handled sig) (Proc pid) name _ e named eff
-      (own k pid a (calls.Handled sig) (reply_with k (at a.row.signals.handled sig)) (here (l refl))
-      (stays k (Proc pid) (Living a.row) (replies.Num (at a.row.signals.handled sig)) (λ other. refl) (here (l refl))))
+      (own k pid a (calls.Handled sig) (reply_with k (at a.row.signals.handled sig)) (here (own_lives l refl))
+      (stays k (Proc pid) (Living a.row) (replies.Num (at a.row.signals.handled sig)) (λ other. refl) (here (own_lives l refl))))
   effect-serves (calls.WaitPid child true) name e s l named eff =
       conclude k pid (calls.WaitPid child true) (Proc pid) name _ e named eff
-      (own k pid a (calls.WaitPid child true) (reap_child k pid a (wait a.row.family child)) (here (l refl))
-      (wait_acts k pid a child (wait a.row.family child) alone refl (here (l refl))))
+      (own k pid a (calls.WaitPid child true) (reap_child k pid a (wait a.row.family child)) (here (own_lives l refl))
+      (wait_acts k pid a child (wait a.row.family child) (own_apart l refl) refl (here (own_lives l refl))))
   effect-serves (calls.WaitPid child false) name e s l named eff = absurd (cc)
   effect-serves (calls.MsgSnd id class text true) name e s l named eff =
       conclude k pid (calls.MsgSnd id class text true) (Msg id) name _ e named eff

@@ -32,8 +32,8 @@ use Rattle.serve_laws.proofs.KernelEnds.{HasEnded, ended-by, ends-under, kept_by
 -- ---- the deeds afterwards, at each name
 
 record AreAfter (deeds after : Deeds) (pid parent : ℕ) (pids : List ℕ) (kept left : Body) : Type 0 where
-  pub process : get_named after (Proc pid) ≡ Some kept
-  pub parent : get_named after (Proc parent) ≡ Some left
+  pub own : get_named after (Proc pid) ≡ Some kept
+  pub its : get_named after (Proc parent) ≡ Some left
   pub children : (q : ℕ) → nat_eq q pid ≡ false → nat_eq q parent ≡ false → is_used pids q ≡ true
       → get_named after (Proc q) ≡ Some Gone
   pub others : (q : ℕ) → nat_eq q pid ≡ false → nat_eq q parent ≡ false → is_used pids q ≡ false
@@ -52,8 +52,8 @@ module _ (deeds : Deeds) (pid parent : ℕ) (pids : List ℕ) (ending : Ending) 
       let kept : Body = kept_under row ending
       in let left : Body = parent_after row pid ending
       in record {
-        process = get-put-apart (put gone pid kept) parent pid left apart ∙ get-put-same gone pid kept;
-        parent = get-put-same (put gone pid kept) parent left;
+        own = get-put-apart (put gone pid kept) parent pid left apart ∙ get-put-same gone pid kept;
+        its = get-put-same (put gone pid kept) parent left;
         children = λ q ne np used.
             get-put-apart (put gone pid kept) parent q left np ∙ get-put-apart gone pid q kept ne
             ∙ each-in Gone deeds.processes pids q used;
@@ -69,8 +69,8 @@ module _ (deeds : Deeds) (pid parent : ℕ) (pids : List ℕ) (ending : Ending) 
       → AreAfter deeds (record deeds { processes = put gone pid Gone }) pid parent pids Gone body
   after-over body held apart unused =
       record {
-        process = get-put-same gone pid Gone;
-        parent = get-put-apart gone pid parent Gone apart ∙ each-out Gone deeds.processes pids parent unused ∙ held;
+        own = get-put-same gone pid Gone;
+        its = get-put-apart gone pid parent Gone apart ∙ each-out Gone deeds.processes pids parent unused ∙ held;
         children = λ q ne np used. get-put-apart gone pid q Gone ne ∙ each-in Gone deeds.processes pids q used;
         others = λ q ne np not. get-put-apart gone pid q Gone ne ∙ each-out Gone deeds.processes pids q not;
         queues = refl;
@@ -105,11 +105,11 @@ module _ (k next : Kernel) (deeds after : Deeds) (parcel : Parcel) (bodies : Num
       → (a || (b || is_among row.family.ended q)) ≡ true → get_named after (Proc q) ≡ Some (body_in next (Proc q))
   here q true b own its h =
       subst (λ (n : ℕ). get_named after (Proc n) ≡ Some (body_in next (Proc n))) (sym (same-from-nat_eq q parcel.pid own))
-      (held.process ∙ ap Some (sym kernels.process))
+      (held.own ∙ ap Some (sym kernels.own))
   here q false true own its h =
       subst (λ (n : ℕ). get_named after (Proc n) ≡ Some (body_in next (Proc n)))
       (sym (same-from-nat_eq q parcel.parent its))
-      (held.parent ∙ ap Some (sym kernels.parent))
+      (held.its ∙ ap Some (sym kernels.its))
   here q false false own its h =
       held.children q own its (brought q h) ∙ ap Some (sym (kernels.children q own its h))
 
@@ -149,11 +149,11 @@ module _ (k next : Kernel) (deeds after : Deeds) (parcel : Parcel) (bodies : Num
 
   both-ended : IsEnded k deeds parcel bodies row after next outcome
   both-ended = record {
-    outcome = outcome_is;
+    alone = outcome_is;
     concerned = concerned;
     others = others;
-    held = stay;
-    brought = buried;
+    stays = stay;
+    gone = buried;
   }
 
 -- ---- what a parcel that fits says
@@ -185,14 +185,15 @@ absent-at : (deeds : Deeds) (bodies : Numbered Body) (q : ℕ) → list_all (is_
 absent-at deeds [] q all used = differ used
 absent-at deeds (e ∷ es) q all used =
     let w = both (is_none (get deeds.processes e.0)) (list_all (is_held_none deeds) es) all
-    in by (nat_eq q e.0) refl w used
+    in by (nat_eq q e.0) refl w.0 used (absent-at deeds es q w.1)
   where
-    by : (b : Bool) → nat_eq q e.0 ≡ b
-        → (is_none (get deeds.processes e.0) ≡ true) × (list_all (is_held_none deeds) es ≡ true)
-        → (b || is_used (map (λ x. x.0) es) q) ≡ true → get deeds.processes q ≡ None
-    by true is w h =
-        ap (get deeds.processes) (same-from-nat_eq q e.0 is) ∙ no-value (get deeds.processes e.0) w.0
-    by false is w h = absent-at deeds es q w.1 h
+    by : (b : Bool) → nat_eq q e.0 ≡ b → is_none (get deeds.processes e.0) ≡ true
+        → (b || is_used (map (λ x. x.0) es) q) ≡ true
+        → (is_used (map (λ x. x.0) es) q ≡ true → get deeds.processes q ≡ None)
+        → get deeds.processes q ≡ None
+    by true is none h rest =
+        ap (get deeds.processes) (same-from-nat_eq q e.0 is) ∙ no-value (get deeds.processes e.0) none
+    by false is none h rest = rest h
 
 -- whose deed is held isn't in the parcel
 held-apart : (deeds : Deeds) (bodies : Numbered Body) (q : ℕ) (body : Body)
@@ -206,16 +207,19 @@ held-apart deeds bodies q body all held = by (is_used (map (λ e. e.0) bodies) q
         let none : Some body ≡ None = sym held ∙ absent-at deeds bodies q all is in absurd (cc)
 
 -- an ended child with its ending
-among-ended : (es : List EndedChild) (q : ℕ) → is_among es q ≡ true → (ending : Ending) × Contains es (ended_child q ending)
+abbrev HasEnding : List EndedChild → ℕ → Type 0
+HasEnding es q = (ending : Ending) × Contains es (ended_child q ending)
+
+among-ended : (es : List EndedChild) (q : ℕ) → is_among es q ≡ true → HasEnding es q
 among-ended [] q h = differ h
-among-ended (e ∷ es) q h = by (nat_eq q e.pid) refl h
+among-ended (e ∷ es) q h = by (nat_eq q e.pid) refl h (among-ended es q)
   where
-    by : (b : Bool) → nat_eq q e.pid ≡ b → (b || is_among es q) ≡ true
-        → (ending : Ending) × Contains (e ∷ es) (ended_child q ending)
-    by true is used =
+    by : (b : Bool) → nat_eq q e.pid ≡ b → (b || is_among es q) ≡ true → (is_among es q ≡ true → HasEnding es q)
+        → HasEnding (e ∷ es) q
+    by true is used later =
         (e.ending, (0, omega arith, ap (λ (p : ℕ). ended_child p e.ending) (sym (same-from-nat_eq q e.pid is))))
-    by false is used =
-        let rest = among-ended es q used
+    by false is used later =
+        let rest : HasEnding es q = later used
         in (rest.0, (suc rest.1.0, omega (arith, rest.1.1), rest.1.2))
 
 own-may : (call : Call) (o : Option Body) (row : Row) → o ≡ Some (Living row) → has_own_row call o ≡ true
@@ -227,22 +231,22 @@ in-keys : (bodies : Numbered Body) (q : ℕ) (body : Body) → get bodies q ≡ 
 in-keys bodies q body there = is_used-keys bodies q ∙ ap is_some there
 
 apart-from : (a b : ℕ) (ns : List ℕ) → is_used ns a ≡ true → is_used ns b ≡ false → nat_eq a b ≡ false
-apart-from a b ns yes no = by (nat_eq a b) refl
+apart-from a b ns used unused = by (nat_eq a b) refl
   where
     by : (t : Bool) → nat_eq a b ≡ t → nat_eq a b ≡ false
     by false is = is
     by true is =
         let same : a ≡ b = same-from-nat_eq a b is
-        in differ (sym (subst (λ (n : ℕ). is_used ns n ≡ false) (sym same) no) ∙ yes)
+        in differ (sym (subst (λ (n : ℕ). is_used ns n ≡ false) (sym same) unused) ∙ used)
 
 not-among : (es : List EndedChild) (bodies : Numbered Body) (q : ℕ)
     → ((p : ℕ) → is_among es p ≡ true → is_used (map (λ e. e.0) bodies) p ≡ true)
     → is_used (map (λ e. e.0) bodies) q ≡ false → is_among es q ≡ false
-not-among es bodies q brought no = by (is_among es q) refl
+not-among es bodies q brought unused = by (is_among es q) refl
   where
     by : (t : Bool) → is_among es q ≡ t → is_among es q ≡ false
     by false is = is
-    by true is = differ (sym no ∙ brought q is)
+    by true is = differ (sym unused ∙ brought q is)
 
 flip : (a b : ℕ) → nat_eq a b ≡ false → nat_eq b a ≡ false
 flip a b h = grind arith
@@ -266,7 +270,7 @@ ends-are-the-kernels k deeds parcel bodies changes n next outcome valid fits agr
     in let ends = ends-under k valid parcel.pid parcel.parent w.alive (ending_of parcel.call) apart agrees.parent
     agrees.parent_is agrees.parent_of off stays
     in let dead : living_at (end_process k parcel.pid w.alive (ending_of parcel.call)).kernel parcel.pid ≡ None =
-    not-living _ (kept_by agrees.parent (ending_of parcel.call)) ends.process
+    not-living _ (kept_by agrees.parent (ending_of parcel.call)) ends.own
     (kept_by-dead agrees.parent (ending_of parcel.call))
     in let lives : living_at k parcel.pid ≡ Some w.alive = ap (option_and_then alive_in) w.lives
     in let step = ended-by parcel.pid next outcome k n w.alive agrees.row parcel.call lives

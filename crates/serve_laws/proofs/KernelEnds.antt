@@ -20,7 +20,6 @@ use Rattle.kernel_model.specs.Footprint.{parent_number}
 use Rattle.kernel_model.specs.ProcessCalls.{bury, end_process, end_under, process_after_end}
 use Rattle.kernel_model.specs.Transition.{Successor, successor, effect, finish_call, may_make, outcome_of, transition, transition_by}
 use Rattle.kernel_model.specs.Valid.{IsValid}
-use Rattle.number_maps.proofs.Rising.{rising}
 use Rattle.kernel_footprint.proofs.Parents.{parent-is}
 use Rattle.node_model.specs.Bodies.{Body, Living, Ended, Gone, AQueue, ASet, Removed, body_in, free_to_act, is_living_body, process_body}
 use Rattle.node_model.specs.Parcels.{ending_of, may_end_with}
@@ -33,8 +32,8 @@ use Rattle.serve_laws.proofs.Committed.{kept_under, parent_after}
 
 -- the next kernel's parts after the end of a process with these ended children and this parent
 pub record HasEnded (k next : Kernel) (pid parent : ℕ) (es : List EndedChild) (kept left : Body) : Type 0 where
-  pub process : body_in next (Proc pid) ≡ kept
-  pub parent : body_in next (Proc parent) ≡ left
+  pub own : body_in next (Proc pid) ≡ kept
+  pub its : body_in next (Proc parent) ≡ left
   pub children : (q : ℕ) → nat_eq q pid ≡ false → nat_eq q parent ≡ false → is_among es q ≡ true
       → body_in next (Proc q) ≡ Gone
   pub others : (q : ℕ) → nat_eq q pid ≡ false → nat_eq q parent ≡ false → is_among es q ≡ false
@@ -67,8 +66,8 @@ module _ (k : Kernel) (pid : ℕ) (es : List EndedChild) where
       in let w : Process = kernel.Living (with_ended_child r.alive pid ending)
       in let ps : Numbered Process = fold bury k.processes es
       in record {
-        process = ap process_body (get-put-apart (put ps pid v) r.pid pid w apart ∙ get-put-same ps pid v);
-        parent = ap process_body (get-put-same (put ps pid v) r.pid w);
+        own = ap process_body (get-put-apart (put ps pid v) r.pid pid w apart ∙ get-put-same ps pid v);
+        its = ap process_body (get-put-same (put ps pid v) r.pid w);
         children = λ q ne np among.
             ap process_body
             (get-put-apart (put ps pid v) r.pid q w np ∙ get-put-apart ps pid q v ne ∙ buried-in q among);
@@ -85,8 +84,8 @@ module _ (k : Kernel) (pid : ℕ) (es : List EndedChild) where
   alone parent ending apart stays =
       let ps : Numbered Process = fold bury k.processes es
       in record {
-        process = ap process_body (get-put-same ps pid kernel.Gone);
-        parent = ap process_body (get-put-apart ps pid parent kernel.Gone apart ∙ buried-out parent stays);
+        own = ap process_body (get-put-same ps pid kernel.Gone);
+        its = ap process_body (get-put-apart ps pid parent kernel.Gone apart ∙ buried-out parent stays);
         children = λ q ne np among. ap process_body (get-put-apart ps pid q kernel.Gone ne ∙ buried-in q among);
         others = λ q ne np apart. ap process_body (get-put-apart ps pid q kernel.Gone ne ∙ buried-out q apart);
         queues = refl;
@@ -174,7 +173,7 @@ module _ (k : Kernel) (valid : IsValid k) (pid parent : ℕ) (a : Alive) (ending
   living-parent row body number =
       let f = parent-found (parent_in pid k.processes) parent number
       in let r : Parent = f.found
-      in let lives = parent-is pid k.processes r (rising k.processes valid.processes) f.is
+      in let lives = parent-is pid k.processes r valid.processes f.is
       in let there : get k.processes r.pid ≡ Some (kernel.Living r.alive) =
       same_living (get k.processes r.pid) r.alive lives.0
       in let body_there : process_body (get k.processes r.pid) ≡ Living row =
@@ -226,7 +225,7 @@ effect-of-end k pid n a row (calls.Exit status) h = refl
 effect-of-end k pid n a row (calls.Killed sig) h = refl
 effect-of-end k pid n a row call h = absurd (cc)
 
-not-living : (o : Option Process) (b : Body) → process_body o ≡ b → is_living_body b ≡ false
+pub not-living : (o : Option Process) (b : Body) → process_body o ≡ b → is_living_body b ≡ false
     → option_and_then alive_in o ≡ None
 not-living None b is not = refl
 not-living (Some (kernel.Ended e)) b is not = refl
@@ -238,7 +237,8 @@ kept-dead : (b : Bool) (ending : Ending) → is_living_body (process_body (Some 
 kept-dead true ending = refl
 kept-dead false ending = refl
 
-kept_by-dead : (body : Body) (ending : Ending) → is_living_body (kept_by body ending) ≡ false
+-- a process that has ended doesn't live
+pub kept_by-dead : (body : Body) (ending : Ending) → is_living_body (kept_by body ending) ≡ false
 kept_by-dead (Living row) ending = kept-dead (ignores_children row) ending
 kept_by-dead (Ended e) ending = refl
 kept_by-dead Gone ending = refl
@@ -247,7 +247,7 @@ kept_by-dead (ASet s) ending = refl
 kept_by-dead Removed ending = refl
 
 module _ (pid : ℕ) (next : Kernel) (outcome : Outcome) where
-  record IsSuccessor (e : Effect) : Type 0 where
+  pub record IsSuccessor (e : Effect) : Type 0 where
     pub kernel_is : e.kernel ≡ next
     pub outcome_is : outcome ≡ reply_alone e.reply
 

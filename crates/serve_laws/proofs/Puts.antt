@@ -55,7 +55,7 @@ put-apart m k j v w apart =
     ]
   where
     differ : (a b : ℕ) → nat_eq a b ≡ false → a ≡ b → ⊥
-    differ a b no yes = grind arith
+    differ a b apart same = grind arith
 
 -- ---- the same value at many numbers
 
@@ -84,12 +84,14 @@ each-kept v m (n ∷ ns) q there = each-kept v (put m n v) ns q (put-kept v m n 
 pub each-in : {V : Type 0} (v : V) (m : Numbered V) (ns : List ℕ) (q : ℕ) → is_used ns q ≡ true
     → get (put_each v m ns) q ≡ Some v
 each-in v m [] q h = absurd (cc)
-each-in v m (n ∷ ns) q h = by (nat_eq q n) refl h
+each-in v m (n ∷ ns) q h = by (nat_eq q n) refl h (each-in v (put m n v) ns q)
   where
-    by : (b : Bool) → nat_eq q n ≡ b → (b || is_used ns q) ≡ true → get (put_each v (put m n v) ns) q ≡ Some v
-    by true is used =
+    by : (b : Bool) → nat_eq q n ≡ b → (b || is_used ns q) ≡ true
+        → (is_used ns q ≡ true → get (put_each v (put m n v) ns) q ≡ Some v)
+        → get (put_each v (put m n v) ns) q ≡ Some v
+    by true is used rest =
         each-kept v (put m n v) ns q (ap (get (put m n v)) (same-from-nat_eq q n is) ∙ get-put-same m n v)
-    by false is used = each-in v (put m n v) ns q used
+    by false is used rest = rest used
 
 -- at all others the map is as it was
 pub each-out : {V : Type 0} (v : V) (m : Numbered V) (ns : List ℕ) (q : ℕ) → is_used ns q ≡ false

@@ -81,7 +81,8 @@ module _ (k : Kernel) (pid n : ℕ) (call : Call) (name : Name) (next : Kernel) 
         follows = follows_on k name (on_body name (body_in k name) pid call) e next
             (λ other. ap (λ (j : Kernel). body_in j other) (sym kernels)
             ∙ finished e.kernel pid (living_at e.kernel pid) refl other)
-            (effect-serves k pid n a (valid-apart k pid a valid lives) call name e served (λ _. lives) named eff);
+            (effect-serves k pid n a call name e served
+            (λ _. record { lives = lives; apart = valid-apart k pid a valid lives }) named eff);
       }
 
   of_may : (a : Alive) (b : Bool) → living_at k pid ≡ Some a

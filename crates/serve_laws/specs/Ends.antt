@@ -55,12 +55,12 @@ is_brought bodies name = false
 -- kernel as it was. A deed that was held is as before, but for the parent's; each other process of the parcel is gone.
 pub record IsEnded (k : Kernel) (deeds : Deeds) (parcel : Parcel) (bodies : Numbered Body) (row : Row) (after : Deeds)
     (next : Kernel) (outcome : Outcome) : Type 0 where
-  pub outcome : outcome ≡ reply_alone replies.Ended
+  pub alone : outcome ≡ reply_alone replies.Ended
   pub concerned : (name : Name) → concerns row parcel name ≡ true → get_named after name ≡ Some (body_in next name)
   pub others : (name : Name) → concerns row parcel name ≡ false → body_in next name ≡ body_in k name
-  pub held : (name : Name) → concerns row parcel name ≡ false → is_brought bodies name ≡ false
+  pub stays : (name : Name) → concerns row parcel name ≡ false → is_brought bodies name ≡ false
       → get_named after name ≡ get_named deeds name
-  pub brought : (name : Name) → concerns row parcel name ≡ false → is_brought bodies name ≡ true
+  pub gone : (name : Name) → concerns row parcel name ≡ false → is_brought bodies name ≡ true
       → get_named after name ≡ Some Gone
 
 -- A parcel that fits the deeds is taken where the parent's deed is held, as the kernel's transition ends its process.
