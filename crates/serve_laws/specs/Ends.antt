@@ -1,5 +1,5 @@
--- What it comes to for the kernel when the end of a process is carried out where its parent's deed is held (POSIX.1-2017:
--- _Exit, consequences of the end of a process).
+-- What it comes to for the kernel when the end of a process is carried out where its parent's deed is held
+-- (POSIX.1-2017: _Exit, consequences of the end of a process).
 use Rattle.std.specs.Prelude.{◌≡◌, ◌≢◌, ℕ, Bool, true, false, ◌||◌, nat_eq, List, map, Option, Some, None, is_some, Contains}
 use Rattle.pico_base.specs.declared.numbers.Name.{Name}
 use Rattle.pico_base.specs.declared.numbers.Name.TheVariants.{Proc}
