@@ -108,7 +108,10 @@ fn refusal(answer: Result<(), (UnpackFault, PackedDeeds)>) -> Option<(UnpackFaul
 fn deeds_travel_packed(rt: HostRuntime) -> Result<(), Fail> {
     let alloc = rt.alloc();
     let mut deeds: Deeds<Tally> = Deeds::new(alloc)?;
-    assert_eq!(rt; refusal(deeds.put_packed(queue_and_process(alloc, &[7])?)), None);
+    assert_eq!(rt;
+        refusal(deeds.put_packed(queue_and_process(alloc, &[7])?)),
+        None
+    );
     assert_eq!(rt; deeds.get(Name::Proc(Pid(2))).ok_or("process 2")?.count, 9);
     let packed = deeds.pack_all()?;
     let [queue, process] = packed.as_slice() else {

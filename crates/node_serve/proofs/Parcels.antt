@@ -83,12 +83,11 @@ rise-distinct : (deeds : List PackedDeed) → rise (map (λ deed. number_of deed
     → IsDistinct is_same_name (names_of deeds)
 unfolding IsDistinct
 rise-distinct [] h = tt
-rise-distinct (deed ∷ deeds) h =
-    (
-      others-differ deed.name deeds
-          (rise-above (number_of deed.name) (map (λ d. number_of d.name) deeds) h),
-      rise-distinct deeds (rise-rest (number_of deed.name) (map (λ d. number_of d.name) deeds) h),
-    )
+rise-distinct (deed ∷ deeds) h = (
+  others-differ deed.name deeds
+      (rise-above (number_of deed.name) (map (λ d. number_of d.name) deeds) h),
+  rise-distinct deeds (rise-rest (number_of deed.name) (map (λ d. number_of d.name) deeds) h),
+)
 
 -- ---- what the test says
 
@@ -208,7 +207,8 @@ module _ (parcel : Parcel) where
       let k = all.0
       in let here : is_over_but_for parcel.pid (number_of d.0, body_of d.1) ≡ true =
       ap (λ (name : Name). is_over_but_for parcel.pid (number_of name, body_of d.1)) k.same
-      ∙ by (nat_eq k.number parcel.pid) (has_own_row parcel.call (Some (body_of d.1))) (is_over_body (body_of d.1)) k.may
+      ∙ by (nat_eq k.number parcel.pid) (has_own_row parcel.call (Some (body_of d.1))) (is_over_body (body_of d.1))
+      k.may
       in rw here (over-each ds ps all.1)
     where
       by : (b own over : Bool) → (if b then own else over) ≡ true → (b || over) ≡ true
@@ -225,7 +225,8 @@ module _ (parcel : Parcel) where
   own-there (d ∷ ds) (p ∷ ps) all h =
       let k = all.0
       in by (number_of d.0) (ap number_of k.same) (nat_eq parcel.pid k.number) refl k.may
-      (sym (ap (λ (name : Name). is_same_name (Proc parcel.pid) name || list_any (is_same_name (Proc parcel.pid)) (names_of ps)) k.name) ∙ h)
+      (sym (ap (λ (name : Name).
+      is_same_name (Proc parcel.pid) name || list_any (is_same_name (Proc parcel.pid)) (names_of ps)) k.name) ∙ h)
       (own-there ds ps all.1)
     where
       flip : (a b : ℕ) → nat_eq a b ≡ true → nat_eq b a ≡ true
@@ -240,12 +241,14 @@ module _ (parcel : Parcel) where
       by n is true same may any later =
           let at : parcel.pid ≡ n = same-from-nat_eq parcel.pid all.0.number same ∙ sym is
           in ap (has_own_row parcel.call) (get-first (n, body_of d.1) (numbered ds) parcel.pid at)
-          ∙ sym (ap (λ (b : Bool). if b then has_own_row parcel.call (Some (body_of d.1)) else is_over_body (body_of d.1))
+          ∙ sym (ap (λ (b : Bool).
+          if b then has_own_row parcel.call (Some (body_of d.1)) else is_over_body (body_of d.1))
           (flip parcel.pid all.0.number same)) ∙ may
       by n is false same may any later =
           let apart : nat_eq parcel.pid n ≡ false =
           subst (λ (m : ℕ). nat_eq parcel.pid m ≡ false) (sym is) same
-          in ap (has_own_row parcel.call) (get-later (n, body_of d.1) (numbered ds) parcel.pid (apart-from parcel.pid n apart))
+          in ap (has_own_row parcel.call)
+          (get-later (n, body_of d.1) (numbered ds) parcel.pid (apart-from parcel.pid n apart))
           ∙ later any
         where
           apart-from : (a b : ℕ) → nat_eq a b ≡ false → a ≡ b → ⊥
@@ -274,8 +277,12 @@ module _ (parcel : Parcel) where
   parcel-fits old ds all absent f =
       let rises : rise (numbers ds) ≡ true = sym (ap rise (same-numbers ds parcel.deeds all)) ∙ f.rises
       in let fits : fits_bodies (bodies_of old) parcel (numbered ds) ≡ true =
-      rw (rising-by ds rises, own-there ds parcel.deeds all f.own, over-each ds parcel.deeds all,
-      none-held old ds parcel.deeds all absent) refl
+      rw (
+        rising-by ds rises,
+        own-there ds parcel.deeds all f.own,
+        over-each ds parcel.deeds all,
+        none-held old ds parcel.deeds all absent,
+      ) refl
       in ap (option_and_then (fits_if (bodies_of old) parcel)) (read-all ds parcel.deeds all)
       ∙ ap (λ (b : Bool). if b then Some (numbered ds) else None) fits
 

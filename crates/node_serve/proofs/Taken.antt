@@ -347,7 +347,8 @@ module _ (old new : Named Body) (parcel : Parcel) (t : Takes old parcel new)
       let n = t.notes.noted on
       in let was_is : n.was ≡ was = some_same n.was was (sym n.there ∙ parent-first)
       in let body_is : body_of n.was ≡ model.Living row = ap body_of was_is ∙ is
-      in let left : body_of n.left ≡ model.Living (kernel.with_ended_child (model.free_to_act row) parcel.pid ending).row =
+      in let left : body_of n.left
+      ≡ model.Living (kernel.with_ended_child (model.free_to_act row) parcel.pid ending).row =
       n.notes ∙ ap (λ (b : model.Body). parent_after b parcel.pid ending) body_is
       ∙ ap (λ (b : Bool).
       if b
@@ -366,7 +367,8 @@ module _ (old new : Named Body) (parcel : Parcel) (t : Takes old parcel new)
       ∙ ap (λ (b : model.Body).
       put (put (put_each model.Gone (numbered_of old.processes) nums) parcel.pid b) parcel.parent (body_of n.left)) kept
       ∙ ap (λ (b : model.Body).
-      put (put (put_each model.Gone (numbered_of old.processes) nums) parcel.pid (kept_under row ending)) parcel.parent b)
+      put (put (put_each model.Gone (numbered_of old.processes) nums) parcel.pid (kept_under row ending)) parcel.parent
+      b)
       left)
 
   keeps-is : (body : Body) → was ≡ body
@@ -402,7 +404,8 @@ takes-commits old new parcel lets_it absent fits t =
     in let unused : is_used (numbers t.deeds) parcel.parent ≡ false =
     held-apart parcel old t.deeds parcel.deeds parcel.parent p.was all absent p.there
     in let used : is_used (numbers t.deeds) parcel.pid ≡ true = own-used parcel t.deeds parcel.deeds all f.own
-    in let apart : Apart (numbers t.deeds) = rise-apart (numbers t.deeds) (known-rise parcel t.deeds parcel.deeds all f.rises)
+    in let apart : Apart (numbers t.deeds) =
+    rise-apart (numbers t.deeds) (known-rise parcel t.deeds parcel.deeds all f.rises)
     in let made : definition.commit_exit parcel bodies parent ≡ Some (changes_of parcel bodies parent) =
     ap (λ (b : Bool). if b then Some (changes_of parcel bodies parent) else None) p.lets_it
     in let off : nat_eq parcel.pid parcel.parent ≡ false =

@@ -68,7 +68,8 @@ pub record Notes (old : Named Body) (parent child : ℕ) (ending : Ends) (new : 
   pub after : new ≡ put_named old (Proc parent) left
 
 -- Where nobody lists the child nothing is noted, and the child is gone.
-pub record NotesEnd (old : Named Body) (parent child : ℕ) (ending : Ends) (new : Named Body) (kept : Body) : Type 0 where
+pub record NotesEnd (old : Named Body) (parent child : ℕ) (ending : Ends) (new : Named Body)
+    (kept : Body) : Type 0 where
   pub noted : keeps old parent child ≡ true → Notes old parent child ending new kept
   pub unchanged : keeps old parent child ≡ false → new ≡ old
   pub gone : keeps old parent child ≡ false → kept ≡ Gone
@@ -105,7 +106,8 @@ may_be_read parcel (Proc pid) (Some body) = may_be parcel pid body
 may_be_read parcel (Proc pid) None = true
 may_be_read parcel name body = false
 
--- The parcel fits, as far as its bodies can be read: it has deeds of processes by rising number, the own one among them.
+-- The parcel fits, as far as its bodies can be read: it has deeds of processes by rising number, the own one among
+-- them.
 abbrev pub fits_as_read : Parcel → Bool
 fits_as_read parcel =
     rise (map (λ deed. number_of deed.name) parcel.deeds)

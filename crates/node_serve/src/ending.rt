@@ -186,8 +186,8 @@ fn take_parcel(
 /// Ends the process of a parcel where its parent's deed is. The parent notes the end, if it lives; all processes of the
 /// parcel are gone, but for the one that ends where its parent keeps its ending. `ok` says so by the definition of an
 /// exit that is carried out, and `kernel` by the transition of any valid kernel that agrees with the deeds and the
-/// parcel. A refusal changes no deed and hands the parcel back; NotABody comes exactly where a deed of the parcel spells
-/// no body that goes with its name.
+/// parcel. A refusal changes no deed and hands the parcel back; NotABody comes exactly where a deed of the parcel
+/// spells no body that goes with its name.
 pub fn commit_exit(
     alloc: Global,
     deeds: &mut Deeds<Body>,

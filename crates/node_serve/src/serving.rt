@@ -115,9 +115,9 @@ fn carry_out(
 }
 
 /// Carries a call out on the deed of its name. NotHeld comes exactly where that isn't here, and then nothing has
-/// changed. A removal makes the body Removed; a child that `waitpid` found is gone; all other bodies stay. `defined` says
-/// the same by the definition of a served call, and `kernel` by the transition of any valid kernel that agrees with the
-/// deeds on the call's name. A refusal for want of memory changes no body.
+/// changed. A removal makes the body Removed; a child that `waitpid` found is gone; all other bodies stay. `defined`
+/// says the same by the definition of a served call, and `kernel` by the transition of any valid kernel that agrees
+/// with the deeds on the call's name. A refusal for want of memory changes no body.
 pub fn serve(
     alloc: Global,
     deeds: &mut Deeds<Body>,

@@ -82,15 +82,16 @@ module _ (m : Deeds) (parcel : Parcel) (bodies : Numbered Body) (changes : List 
   gone-there : process_body (get (put [] parcel.pid kernel.Gone) parcel.pid) ≡ Gone
   gone-there = ap process_body (get-put-same [] parcel.pid kernel.Gone)
 
-  over : (made : Some (all_gone pids ++ (Proc parcel.pid, process_body (get (put [] parcel.pid kernel.Gone) parcel.pid)) ∷ [])
-      ≡ Some changes)
+  over : Some (all_gone pids ++ (Proc parcel.pid, process_body (get (put [] parcel.pid kernel.Gone) parcel.pid)) ∷ [])
+      ≡ Some changes
       → put_all m changes ≡ record m { processes = put (put_each Gone m.processes pids) parcel.pid Gone }
   over made =
       ap (put_all m) (sym (some_same _ changes made))
       ∙ one-more m pids (Proc parcel.pid) (process_body (get (put [] parcel.pid kernel.Gone) parcel.pid))
       ∙ ap (λ (x : Body). record m { processes = put (put_each Gone m.processes pids) parcel.pid x }) gone-there
 
-  living : (row : Row) (b : Bool) → lets_end parcel.pid (Living row) ≡ b → commit_exit parcel bodies (Living row) ≡ Some changes
+  living : (row : Row) (b : Bool) → lets_end parcel.pid (Living row) ≡ b
+      → commit_exit parcel bodies (Living row) ≡ Some changes
       → After (Living row)
   living row true lets made =
       let v : Process = process_after_end (ignores_children row) ending
@@ -98,7 +99,8 @@ module _ (m : Deeds) (parcel : Parcel) (bodies : Numbered Body) (changes : List 
       in let ps : Numbered Process = put (put [] parcel.pid v) parcel.parent w
       in let x : Body = process_body (get ps parcel.pid)
       in let y : Body = process_body (get ps parcel.parent)
-      in let is : Some (all_gone pids ++ (Proc parcel.pid, x) ∷ (Proc parcel.parent, y) ∷ []) ≡ Some changes = rw lets at made
+      in let is : Some (all_gone pids ++ (Proc parcel.pid, x) ∷ (Proc parcel.parent, y) ∷ []) ≡ Some changes =
+      rw lets at made
       in ap (put_all m) (sym (some_same _ changes is))
       ∙ two-more m pids (Proc parcel.pid) (Proc parcel.parent) x y
       ∙ ap (λ (z : Body). record m {

@@ -94,7 +94,8 @@ wait_acts : (k : Kernel) (pid : ℕ) (a : Alive) (which : Option ℕ) (w : Waite
     → wait a.row.family which ≡ w → body_in k (Proc pid) ≡ Living a.row
     → Acts k (Proc pid) (in_body Living (reap a.row w)) (reap_child k pid a w)
 wait_acts k pid a which (Found child ending) apart is body =
-    child-found k pid child ending (parent_after_wait a child) (apart child ending (found_there a which child ending is))
+    child-found k pid child ending (parent_after_wait a child)
+    (apart child ending (found_there a which child ending is))
 wait_acts k pid a which NotYet apart is body =
     stays k (Proc pid) (Living a.row) (replies.Num 0) (λ other. refl) body
 wait_acts k pid a which NoChild apart is body =
@@ -247,7 +248,8 @@ module _ (k : Kernel) (pid n : ℕ) (a : Alive) where
       kill_named target (Is g) name e (nat_eq target pid) refl refl l named eff
   effect-serves (calls.SigAction sig action) name e s l named eff =
       conclude k pid (calls.SigAction sig action) (Proc pid) name _ e named eff
-      (own k pid a (calls.SigAction sig action) (action_effect k pid a (act_on a.row.signals sig action)) (here (own_lives l refl))
+      (own k pid a (calls.SigAction sig action) (action_effect k pid a (act_on a.row.signals sig action))
+      (here (own_lives l refl))
       (own_acts k pid a (act_on a.row.signals sig action) (here (own_lives l refl))))
   effect-serves (calls.SigProcMask how set) name e s l named eff =
       conclude k pid (calls.SigProcMask how set) (Proc pid) name _ e named eff
@@ -262,12 +264,15 @@ module _ (k : Kernel) (pid n : ℕ) (a : Alive) where
       (replies.Bits a.row.signals.mask) (λ other. refl)))
   effect-serves calls.SigPending name e s l named eff =
       conclude k pid calls.SigPending (Proc pid) name _ e named eff
-      (own k pid a calls.SigPending (record { kernel = k; reply = replies.Bits a.row.signals.pending }) (here (own_lives l refl))
-      (stays k (Proc pid) (Living a.row) (replies.Bits a.row.signals.pending) (λ other. refl) (here (own_lives l refl))))
+      (own k pid a calls.SigPending (record { kernel = k; reply = replies.Bits a.row.signals.pending })
+      (here (own_lives l refl))
+      (stays k (Proc pid) (Living a.row) (replies.Bits a.row.signals.pending) (λ other. refl)
+      (here (own_lives l refl))))
   effect-serves (calls.Handled sig) name e s l named eff =
       conclude k pid (calls.Handled sig) (Proc pid) name _ e named eff
       (own k pid a (calls.Handled sig) (reply_with k (at a.row.signals.handled sig)) (here (own_lives l refl))
-      (stays k (Proc pid) (Living a.row) (replies.Num (at a.row.signals.handled sig)) (λ other. refl) (here (own_lives l refl))))
+      (stays k (Proc pid) (Living a.row) (replies.Num (at a.row.signals.handled sig)) (λ other. refl)
+      (here (own_lives l refl))))
   effect-serves (calls.WaitPid child true) name e s l named eff =
       conclude k pid (calls.WaitPid child true) (Proc pid) name _ e named eff
       (own k pid a (calls.WaitPid child true) (reap_child k pid a (wait a.row.family child)) (here (own_lives l refl))

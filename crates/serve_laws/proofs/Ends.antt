@@ -46,7 +46,8 @@ module _ (deeds : Deeds) (pid parent : ℕ) (pids : List ℕ) (ending : Ending) 
   gone = put_each Gone deeds.processes pids
 
   after-living : (row : Row) → nat_eq pid parent ≡ false
-      → AreAfter deeds (record deeds { processes = processes_after deeds.processes pids pid parent (Living row) ending })
+      → AreAfter deeds
+      (record deeds { processes = processes_after deeds.processes pids pid parent (Living row) ending })
       pid parent pids (kept_under row ending) (parent_after row pid ending)
   after-living row apart =
       let kept : Body = kept_under row ending
@@ -104,7 +105,8 @@ module _ (k next : Kernel) (deeds after : Deeds) (parcel : Parcel) (bodies : Num
   here : (q : ℕ) (a b : Bool) → nat_eq q parcel.pid ≡ a → nat_eq q parcel.parent ≡ b
       → (a || (b || is_among row.family.ended q)) ≡ true → get_named after (Proc q) ≡ Some (body_in next (Proc q))
   here q true b own its h =
-      subst (λ (n : ℕ). get_named after (Proc n) ≡ Some (body_in next (Proc n))) (sym (same-from-nat_eq q parcel.pid own))
+      subst (λ (n : ℕ). get_named after (Proc n) ≡ Some (body_in next (Proc n)))
+      (sym (same-from-nat_eq q parcel.pid own))
       (held.own ∙ ap Some (sym kernels.own))
   here q false true own its h =
       subst (λ (n : ℕ). get_named after (Proc n) ≡ Some (body_in next (Proc n)))

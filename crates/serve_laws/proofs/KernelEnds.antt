@@ -181,7 +181,8 @@ module _ (k : Kernel) (valid : IsValid k) (pid parent : ℕ) (a : Alive) (ending
       in let rows : r.alive.row ≡ row = living-same r.alive.row row (sym (ap process_body there) ∙ body_there)
       in let apart_there : nat_eq pid r.pid ≡ false =
       subst (λ (q : ℕ). nat_eq pid q ≡ false) (sym f.number) apart
-      in let kept : process_body (Some (process_after_end (ignores_children r.alive.row) ending)) ≡ kept_under row ending =
+      in let kept : process_body (Some (process_after_end (ignores_children r.alive.row) ending))
+      ≡ kept_under row ending =
       ap (λ (x : Row). kept_under x ending) rows
       in let left : Living (with_ended_child r.alive pid ending).row ≡ parent_after row pid ending =
       ap Living (kept-row r.alive pid ending) ∙ ap (λ (x : Row). parent_after x pid ending) rows
