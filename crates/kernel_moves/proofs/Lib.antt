@@ -1,0 +1,4 @@
+pub mod Bodies
+pub mod Making
+pub mod Others
+pub mod Effects
