@@ -31,8 +31,7 @@ use Rattle.kernel_laws.proofs.People.{from-living, to-living}
 use Rattle.kernel_laws.proofs.Plain.{by_test}
 use Rattle.kernel_laws.proofs.Steps.{Step, step}
 use Rattle.kernel_laws.proofs.Tables.{fresh-unused}
-use Rattle.number_maps.proofs.Rising.{rising}
-use Rattle.kernel_moves.specs.Entering.{MayMake, Makes, IsAsFree, TurnsTo, Goes}
+use Rattle.kernel_moves.specs.Entering.{MayMake, Makes, IsAsFree, TurnsTo, LeavesOthers}
 
 -- ---- what a process may do
 
@@ -212,7 +211,7 @@ module _ (k : Kernel) (valid : IsValid k) (pid p : ℕ) (apart : p ≢ pid) wher
   ends-under a ending lives (Some parent) is =
       let mid : Numbered Process = bury_all ps a.row.family
       in let v : Process = process_after_end (ignores_children parent.alive.row) ending
-      in let w = parent-is pid ps (rising ps valid.processes) parent is
+      in let w = parent-is pid ps valid.processes parent is
       in parent-turns ps (put mid pid v) p parent pid ending w.0
       (subst (λ (o : Option Process). TurnsTo (get ps p) o) (sym (get-put-other mid pid v p apart))
       (buried-turns ps a.row.family.ended ps p (λ q e c. (valid.alive pid a lives).ended q e c) here))
@@ -255,7 +254,7 @@ module _ (k : Kernel) (valid : IsValid k) (pid p : ℕ) (apart : p ≢ pid) wher
 
 -- each entry keeps the kernel valid, and the others as free as they were
 pub goes : (k : Kernel) (pid : ℕ) (call : Call) (reply : Reply) (next : Kernel) → IsValid k → NoneListsItself k
-    → Makes k pid call reply next → Goes k pid next
+    → Makes k pid call reply next → LeavesOthers k pid next
 goes k pid call reply next valid alone makes =
     let n : ℕ = number_in (Some reply)
     in let kept = entries_keep_validity_lemma k next pid call n (reply_alone reply) valid alone makes.step
@@ -284,7 +283,7 @@ still-from next p a o was h =
     }
 
 -- a process that lives and may make a call still may
-pub others-still-may : (k : Kernel) (pid : ℕ) (next : Kernel) (p : ℕ) (a : Alive) → Goes k pid next → p ≢ pid
+pub others-still-may : (k : Kernel) (pid : ℕ) (next : Kernel) (p : ℕ) (a : Alive) → LeavesOthers k pid next → p ≢ pid
     → living_at k p ≡ Some a → StillMay next p a
 others-still-may k pid next p a g apart lives =
     still-from next p a (get k.processes p) (from-living k.processes p a lives) (g.others p apart)
@@ -299,7 +298,7 @@ dead-from k next p (Some (kernel.Ended e)) there used dead (inr is) = ap (option
 dead-from k next p (Some kernel.Gone) there used dead is = ap (option_and_then alive_in) is
 
 -- a process that doesn't live any more stays so
-pub others-stay-dead : (k : Kernel) (pid : ℕ) (next : Kernel) (p : ℕ) → Goes k pid next → p ≢ pid
+pub others-stay-dead : (k : Kernel) (pid : ℕ) (next : Kernel) (p : ℕ) → LeavesOthers k pid next → p ≢ pid
     → is_some (get k.processes p) ≡ true → living_at k p ≡ None → living_at next p ≡ None
 others-stay-dead k pid next p g apart there dead =
     dead-from k next p (get k.processes p) refl there dead (g.others p apart)
@@ -316,7 +315,7 @@ none-lives : (o : Option Alive) (b : Alive) → o ≡ Some b → o ≡ None → 
 none-lives o b h g = absurd (cc)
 
 -- a process that lives afterwards lived before, but for a new one
-pub others-lived : (k : Kernel) (pid : ℕ) (next : Kernel) (p : ℕ) (b : Alive) → Goes k pid next → p ≢ pid
+pub others-lived : (k : Kernel) (pid : ℕ) (next : Kernel) (p : ℕ) (b : Alive) → LeavesOthers k pid next → p ≢ pid
     → is_some (get k.processes p) ≡ true → living_at next p ≡ Some b → Lived k p
 others-lived k pid next p b g apart there lives =
     lived-from k p (living_at k p) refl

@@ -18,7 +18,7 @@ use Rattle.kernel_model.specs.SetCalls.{set_size}
 use Rattle.kernel_model.specs.Transition.{successor, transition, may_make, is_spent, is_doomed_by}
 use Rattle.kernel_model.specs.History.{number_in}
 use Rattle.kernel_model.specs.Footprint.{used_of, grown_by}
-use Rattle.kernel_model.specs.Valid.{IsValid, IsOrdered}
+use Rattle.kernel_model.specs.Valid.{IsValid}
 use Rattle.kernel_laws.specs.Processes.{NoneListsItself}
 use Rattle.node_model.specs.Kinds.{kind_of, number_of, is_same_kind}
 use Rattle.node_model.specs.Bodies.{Body, body_in}
@@ -80,7 +80,7 @@ TurnsTo (Some (kernel.Ended ending)) after = (after ≡ Some (kernel.Ended endin
 TurnsTo (Some kernel.Gone) after = after ≡ Some kernel.Gone
 
 -- what each entry of a process leaves, whatever its call is
-pub record Goes (k : Kernel) (pid : ℕ) (next : Kernel) : Type 0 where
+pub record LeavesOthers (k : Kernel) (pid : ℕ) (next : Kernel) : Type 0 where
   pub valid : IsValid next
   pub alone : NoneListsItself next
   pub others : (p : ℕ) → p ≢ pid → TurnsTo (get k.processes p) (get next.processes p)
