@@ -2,3 +2,5 @@ pub mod Bodies
 pub mod Making
 pub mod Others
 pub mod Effects
+pub mod Names
+pub mod Served
