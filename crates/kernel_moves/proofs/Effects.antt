@@ -32,8 +32,10 @@ use Rattle.kernel_model.specs.SetCalls.{all_values, change_set, remove_set}
 use Rattle.kernel_model.specs.Waiting.{may_wait}
 use Rattle.kernel_model.specs.Transition.{effect}
 use Rattle.kernel_model.specs.Footprint.{used_of}
-use Rattle.node_model.specs.Carrying.{is_own, is_removal, is_served}
-use Rattle.serve_laws.proofs.Effects.{ActsOnRow}
+use Rattle.kernel_model.specs.Valid.{IsValid}
+use Rattle.kernel_laws.proofs.Members.{found-contained}
+use Rattle.kernel_laws.proofs.People.{from-living}
+use Rattle.node_model.specs.Carrying.{is_removal, is_served}
 use Rattle.kernel_moves.proofs.Others.{Lived}
 
 abbrev effect_to : Kernel → Reply → Effect
@@ -132,11 +134,11 @@ module _ (k : Kernel) (pid : ℕ) where
   kills t target sig (Some (kernel.Ended ending)) = same t _
   kills t target sig (Some (kernel.Living b)) = signals t target b sig
 
-  reaps : (t : Bool) (a : Alive) (which : Option ℕ) (w : Waited) → ActsOnRow k pid a
+  reaps : (t : Bool) (a : Alive) (which : Option ℕ) (w : Waited)
+      → ((child : ℕ) (ending : Ending) → wait a.row.family which ≡ Found child ending → pid ≢ child)
       → wait a.row.family which ≡ w → Leaves k pid t (reap_child k pid a w)
-  reaps t a which (Found child ending) acting is =
+  reaps t a which (Found child ending) apart is =
       let mid : Numbered Process = put k.processes pid (kernel.Living (parent_after_wait a child))
-      in let apart : pid ≢ child = acting.apart which child ending is
       in record {
         used = λ kind. refl;
         queue_keys = λ h. refl;
@@ -144,12 +146,22 @@ module _ (k : Kernel) (pid : ℕ) where
         lives = λ h. record {
           alive = parent_after_wait a child;
           lives = ap (option_and_then alive_in)
-              (get-put-other mid child kernel.Gone pid apart
+              (get-put-other mid child kernel.Gone pid (apart child ending is)
               ∙ get-put-same k.processes pid (kernel.Living (parent_after_wait a child)));
         };
       }
-  reaps t a which NotYet acting is = same t _
-  reaps t a which NoChild acting is = same t _
+  reaps t a which NotYet apart is = same t _
+  reaps t a which NoChild apart is = same t _
+
+-- a child that a process finds isn't that process
+pub found-apart : (k : Kernel) (pid : ℕ) (a : Alive) → IsValid k → living_at k pid ≡ Some a → (which : Option ℕ)
+    (child : ℕ) (ending : Ending) → wait a.row.family which ≡ Found child ending → pid ≢ child
+found-apart k pid a valid lives which child ending is same =
+    let kept : get k.processes child ≡ Some (kernel.Ended ending) =
+    (valid.alive pid a lives).ended child ending (found-contained a.row.family which child ending is)
+    in let both : Some (kernel.Living a) ≡ Some (kernel.Ended ending) =
+    sym (from-living k.processes pid a lives) ∙ ap (get k.processes) same ∙ kept
+    in cc
 
 -- the effect of a call
 pub record Gives (k : Kernel) (pid : ℕ) (a : Alive) (call : Call) (n : ℕ) : Type 0 where
@@ -168,22 +180,22 @@ operates-by k pid n a id steps ready =
     }
 
 module _ (k : Kernel) (pid n : ℕ) (a : Alive) where
-  pub gives : (call : Call) → is_served call ≡ true → (is_own pid call ≡ true → ActsOnRow k pid a) → Gives k pid a call n
-  gives (calls.Fork block) s acting = absurd (cc)
-  gives (calls.Exit status) s acting = absurd (cc)
-  gives (calls.Killed sig) s acting = absurd (cc)
-  gives (calls.MsgGet key create excl) s acting = absurd (cc)
-  gives (calls.SemGet key count create excl) s acting = absurd (cc)
-  gives calls.GetPid s acting = record { result = _; gives = refl; leaves = same k pid false (replies.Num pid) }
-  gives (calls.Kill target Bad) s acting =
+  pub gives : (call : Call) → is_served call ≡ true → IsValid k → living_at k pid ≡ Some a → Gives k pid a call n
+  gives (calls.Fork block) s valid lives = absurd (cc)
+  gives (calls.Exit status) s valid lives = absurd (cc)
+  gives (calls.Killed sig) s valid lives = absurd (cc)
+  gives (calls.MsgGet key create excl) s valid lives = absurd (cc)
+  gives (calls.SemGet key count create excl) s valid lives = absurd (cc)
+  gives calls.GetPid s valid lives = record { result = _; gives = refl; leaves = same k pid false (replies.Num pid) }
+  gives (calls.Kill target Bad) s valid lives =
       record { result = _; gives = refl; leaves = same k pid false (replies.Fail Einval) }
-  gives (calls.Kill target Zero) s acting =
+  gives (calls.Kill target Zero) s valid lives =
       record { result = _; gives = refl; leaves = kills k pid false target Zero (get k.processes target) }
-  gives (calls.Kill target (Is g)) s acting =
+  gives (calls.Kill target (Is g)) s valid lives =
       record { result = _; gives = refl; leaves = kills k pid false target (Is g) (get k.processes target) }
-  gives (calls.SigAction sig action) s acting =
+  gives (calls.SigAction sig action) s valid lives =
       record { result = _; gives = refl; leaves = acts k pid false a (act_on a.row.signals sig action) }
-  gives (calls.SigProcMask how set) s acting =
+  gives (calls.SigProcMask how set) s valid lives =
       record {
         result = _;
         gives = refl;
@@ -191,45 +203,45 @@ module _ (k : Kernel) (pid n : ℕ) (a : Alive) where
             (record a { row = record { signals = with_mask a.row.signals how set; family = a.row.family } })
             (replies.Bits a.row.signals.mask);
       }
-  gives calls.SigPending s acting =
+  gives calls.SigPending s valid lives =
       record { result = _; gives = refl; leaves = same k pid false (replies.Bits a.row.signals.pending) }
-  gives (calls.Handled sig) s acting =
+  gives (calls.Handled sig) s valid lives =
       record { result = _; gives = refl; leaves = same k pid false (replies.Num (at a.row.signals.handled sig)) }
-  gives (calls.WaitPid child true) s acting =
+  gives (calls.WaitPid child true) s valid lives =
       record {
         result = _;
         gives = refl;
-        leaves = reaps k pid false a child (wait a.row.family child) (acting refl) refl;
+        leaves = reaps k pid false a child (wait a.row.family child) (found-apart k pid a valid lives child) refl;
       }
-  gives (calls.WaitPid child false) s acting = absurd (cc)
-  gives (calls.MsgSnd id class text true) s acting =
+  gives (calls.WaitPid child false) s valid lives = absurd (cc)
+  gives (calls.MsgSnd id class text true) s valid lives =
       record {
         result = _;
         gives = refl;
         leaves = named k pid false (get k.queues id) _ (λ q. changes-queue k pid false id (send q pid class text));
       }
-  gives (calls.MsgSnd id class text false) s acting = absurd (cc)
-  gives (calls.MsgRcv id class size noerror true) s acting =
+  gives (calls.MsgSnd id class text false) s valid lives = absurd (cc)
+  gives (calls.MsgRcv id class size noerror true) s valid lives =
       record {
         result = _;
         gives = refl;
         leaves = named k pid false (get k.queues id) _
             (λ q. receives k pid false id (receive q pid class size noerror));
       }
-  gives (calls.MsgRcv id class size noerror false) s acting = absurd (cc)
-  gives (calls.MsgStat id) s acting =
+  gives (calls.MsgRcv id class size noerror false) s valid lives = absurd (cc)
+  gives (calls.MsgStat id) s valid lives =
       record {
         result = _;
         gives = refl;
         leaves = named k pid false (get k.queues id) (stat_effect k) (λ q. same k pid false _);
       }
-  gives (calls.MsgSet id qbytes) s acting =
+  gives (calls.MsgSet id qbytes) s valid lives =
       record {
         result = _;
         gives = refl;
         leaves = named k pid false (get k.queues id) _ (λ q. changes-queue k pid false id (set_qbytes q qbytes));
       }
-  gives (calls.MsgRmid id) s acting =
+  gives (calls.MsgRmid id) s valid lives =
       record {
         result = _;
         gives = refl;
@@ -241,54 +253,54 @@ module _ (k : Kernel) (pid n : ℕ) (a : Alive) where
               lives = λ h. record { alive = h.alive; lives = h.lives };
             });
       }
-  gives (calls.SemOp id steps) s acting = operates-by k pid n a id steps (ready (list_any may_wait steps) s)
+  gives (calls.SemOp id steps) s valid lives = operates-by k pid n a id steps (ready (list_any may_wait steps) s)
     where
       ready : (b : Bool) → not b ≡ true → b ≡ false
       ready true h = absurd (cc)
       ready false h = refl
-  gives (calls.SemGetVal id num) s acting =
+  gives (calls.SemGetVal id num) s valid lives =
       record {
         result = _;
         gives = refl;
         leaves = named k pid false (get k.sets id) _ (λ s. looks k pid false (value_at s num));
       }
-  gives (calls.SemGetPid id num) s acting =
+  gives (calls.SemGetPid id num) s valid lives =
       record {
         result = _;
         gives = refl;
         leaves = named k pid false (get k.sets id) _ (λ s. looks k pid false (last_at s num));
       }
-  gives (calls.SemGetNcnt id num) s acting =
+  gives (calls.SemGetNcnt id num) s valid lives =
       record {
         result = _;
         gives = refl;
         leaves = named k pid false (get k.sets id) _ (λ s. looks k pid false (waiting_at s num));
       }
-  gives (calls.SemGetZcnt id num) s acting =
+  gives (calls.SemGetZcnt id num) s valid lives =
       record {
         result = _;
         gives = refl;
         leaves = named k pid false (get k.sets id) _ (λ s. looks k pid false (waiting_at s num));
       }
-  gives (calls.SemSetVal id num value) s acting =
+  gives (calls.SemSetVal id num value) s valid lives =
       record {
         result = _;
         gives = refl;
         leaves = named k pid false (get k.sets id) _ (λ s. changes-set k pid false id (set_value s num value));
       }
-  gives (calls.SemGetAll id) s acting =
+  gives (calls.SemGetAll id) s valid lives =
       record {
         result = _;
         gives = refl;
         leaves = named k pid false (get k.sets id) (all_values k) (λ s. same k pid false _);
       }
-  gives (calls.SemSetAll id values) s acting =
+  gives (calls.SemSetAll id values) s valid lives =
       record {
         result = _;
         gives = refl;
         leaves = named k pid false (get k.sets id) _ (λ s. changes-set k pid false id (set_all s values));
       }
-  gives (calls.SemRmid id) s acting =
+  gives (calls.SemRmid id) s valid lives =
       record {
         result = _;
         gives = refl;

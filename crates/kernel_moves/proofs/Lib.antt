@@ -3,4 +3,5 @@ pub mod Making
 pub mod Others
 pub mod Effects
 pub mod Names
+pub mod Keys
 pub mod Served

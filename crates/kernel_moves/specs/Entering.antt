@@ -1,16 +1,20 @@
 -- What an entry of the history comes to: a call of a process is the kernel's transition, with this reply, and what that
 -- leaves of bodies, of used numbers, of keys, and of what other processes may do.
-use Rattle.std.specs.Prelude.{◌≡◌, ◌≢◌, ◌⊎◌, ℕ, Bool, true, false, List, Option, Some, None}
-use Rattle.std.specs.Option.{option_map}
+use Rattle.std.specs.Prelude.{◌≡◌, ◌≢◌, ◌⊎◌, ℕ, Bool, true, false, not, List, nat_eq, if◌then◌else◌, Option, Some, None}
+use Rattle.std.specs.List.{filter}
+use Rattle.std.specs.Option.{option_map, option_and_then}
 use Rattle.pico_base.specs.declared.call.Call.{Call}
+use Rattle.pico_base.specs.declared.call.Call.TheVariants as calls
 use Rattle.pico_base.specs.declared.numbers.Kind.{Kind}
 use Rattle.pico_base.specs.declared.numbers.Name.{Name}
 use Rattle.pico_base.specs.declared.numbers.Name.TheVariants.{Proc, Msg, Sem}
+use Rattle.pico_base.specs.declared.reply.Ending.{Ending}
 use Rattle.pico_base.specs.declared.reply.Reply.{Reply}
+use Rattle.pico_base.specs.declared.reply.Reply.TheVariants as replies
 use Rattle.pico_base.specs.declared.signal.Sig.{Sig}
 use Rattle.key_table.specs.declared.Bound.{Bound}
 use Rattle.number_maps.specs.Maps.{Numbered, get, is_used}
-use Rattle.kernel_model.specs.Row.{Alive, Row}
+use Rattle.kernel_model.specs.Row.{Alive, Family, Row, ignores_children, with_ended_child, without_ended}
 use Rattle.kernel_model.specs.Kernel.{Kernel, Process, living_at}
 use Rattle.kernel_model.specs.Kernel as kernel
 use Rattle.kernel_model.specs.Effect.{reply_alone}
@@ -21,7 +25,7 @@ use Rattle.kernel_model.specs.Footprint.{used_of, grown_by}
 use Rattle.kernel_model.specs.Valid.{IsValid}
 use Rattle.kernel_laws.specs.Processes.{NoneListsItself}
 use Rattle.node_model.specs.Kinds.{kind_of, number_of, is_same_kind}
-use Rattle.node_model.specs.Bodies.{Body, body_in}
+use Rattle.node_model.specs.Bodies.{Body, Living, Ended, Gone, body_in, free_to_act}
 
 -- ---- before the entry
 
@@ -95,8 +99,56 @@ pub record HasKeys (queue_keys set_keys : Numbered Bound) (k : Kernel) : Type 0 
   pub queues : (key : ℕ) → get queue_keys key ≡ option_map (λ id. bound_to id 0) (get k.queue_keys key)
   pub sets : (key : ℕ) → get set_keys key ≡ option_map (λ id. bound_to id (set_size k id)) (get k.set_keys key)
 
+-- the queue, or set, that a call removes
+abbrev pub removed_queue : Call → Option ℕ
+removed_queue (calls.MsgRmid id) = Some id
+removed_queue call = None
+
+abbrev pub removed_set : Call → Option ℕ
+removed_set (calls.SemRmid id) = Some id
+removed_set call = None
+
+-- what a key leads to once no key leads to this identifier any more
+abbrev pub other_than : ℕ → ℕ → Option ℕ
+other_than id found = if nat_eq found id then None else Some found
+
+abbrev pub unless_removed : Option ℕ → Option ℕ → Option ℕ
+unless_removed None found = found
+unless_removed (Some id) found = option_and_then (other_than id) found
+
+-- the table without the keys of this identifier
+abbrev pub without_keys_of : Option ℕ → Numbered Bound → Numbered Bound
+without_keys_of None keys = keys
+without_keys_of (Some id) keys = filter (λ e. not (nat_eq e.1.id id)) keys
+
 -- the keys are as before, and so are the sizes of the sets that they lead to
 pub record KeepsKeys (k next : Kernel) : Type 0 where
   pub queues : (key : ℕ) → get next.queue_keys key ≡ get k.queue_keys key
   pub sets : (key : ℕ) → get next.set_keys key ≡ get k.set_keys key
   pub sizes : (key id : ℕ) → get k.set_keys key ≡ Some id → set_size next id ≡ set_size k id
+
+-- ---- families
+
+-- the family of who has this reply: a child that it waited for isn't kept any more
+abbrev pub family_after : Reply → Family → Family
+family_after (replies.Child child ending) f = without_ended child f
+family_after reply f = f
+
+-- a process lives, with this family
+pub record HasFamily (k : Kernel) (p : ℕ) (f : Family) : Type 0 where
+  pub row : Row
+  pub is : body_in k (Proc p) ≡ Living row
+  pub family_is : row.family ≡ f
+
+-- what becomes of a process that ends, by the body of who was its parent: a living parent keeps its ending, unless it
+-- ignores its children
+abbrev pub child_end : Body → Ending → Body
+child_end (Living row) ending = if ignores_children row then Gone else Ended ending
+child_end body ending = Gone
+
+-- and of the parent: it notes the end, and CHLD is raised; one that has ended knows nothing of it
+abbrev pub parent_end : Body → ℕ → Ending → Body
+parent_end (Living row) child ending =
+    let noted : Alive = with_ended_child (free_to_act row) child ending
+    in Living noted.row
+parent_end body child ending = body

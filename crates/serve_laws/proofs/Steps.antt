@@ -18,7 +18,7 @@ use Rattle.node_model.specs.Serving.{name_for}
 use Rattle.node_model.specs.Carrying.{Done, is_served, on_body}
 use Rattle.serve_laws.specs.Laws.{Follows, IsServed, ServedCallsAreTheKernels, is_found}
 use Rattle.serve_laws.proofs.Follow.{same_living}
-use Rattle.serve_laws.proofs.Effects.{Serves, effect-serves, found-apart}
+use Rattle.serve_laws.proofs.Effects.{Serves, effect-serves}
 
 same_number : (p q : ℕ) → nat_eq p q ≡ true → p ≡ q
 same_number p q h = grind arith
@@ -54,7 +54,7 @@ finished k pid (Some a) lives name = by (is_some a.row.signals.doom)
     by true = allowed k pid a lives name
     by false = refl
 
-pub follows_on : (k : Kernel) (name : Name) (d : Done Body) (e : Effect) (next : Kernel)
+follows_on : (k : Kernel) (name : Name) (d : Done Body) (e : Effect) (next : Kernel)
     → ((other : Name) → body_in next other ≡ body_in e.kernel other)
     → Follows k name d e.kernel e.reply → Follows k name d next e.reply
 follows_on k name d e next same f = record {
@@ -81,8 +81,7 @@ module _ (k : Kernel) (pid n : ℕ) (call : Call) (name : Name) (next : Kernel) 
         follows = follows_on k name (on_body name (body_in k name) pid call) e next
             (λ other. ap (λ (j : Kernel). body_in j other) (sym kernels)
             ∙ finished e.kernel pid (living_at e.kernel pid) refl other)
-            (effect-serves k pid n a call name e (λ own. record { lives = lives; apart = found-apart k pid a valid lives })
-            served named eff);
+            (effect-serves k pid n a valid lives call name e served named eff);
       }
 
   of_may : (a : Alive) (b : Bool) → living_at k pid ≡ Some a
