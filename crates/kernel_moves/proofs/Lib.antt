@@ -4,4 +4,5 @@ pub mod Others
 pub mod Effects
 pub mod Names
 pub mod Keys
+pub mod Replies
 pub mod Served
