@@ -47,7 +47,7 @@ get-unbound keys id key rises = get-filtered (λ v. v) id keys key rises
 
 -- ---- sizes
 
-size_in : Body → ℕ
+unfoldable pub size_in : Body → ℕ
 size_in (ASet set) = length set.semaphores
 size_in body = 0
 
@@ -55,6 +55,10 @@ size-by : (o : Option SemaphoreSet) → option_map_or (λ set. length set.semaph
 unfolding size_in
 size-by None = refl
 size-by (Some s) = refl
+
+pub size-by-body : (j k : Kernel) (id : ℕ) → size_in (body_in j (Sem id)) ≡ size_in (body_in k (Sem id))
+    → set_size j id ≡ set_size k id
+size-by-body j k id same = size-by (get j.sets id) ∙ same ∙ sym (size-by (get k.sets id))
 
 -- the same body has the same size
 pub size-same : (j k : Kernel) (id : ℕ) → body_in j (Sem id) ≡ body_in k (Sem id) → set_size j id ≡ set_size k id
