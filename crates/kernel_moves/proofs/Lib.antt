@@ -6,3 +6,4 @@ pub mod Names
 pub mod Keys
 pub mod Replies
 pub mod Served
+pub mod Fresh

@@ -55,10 +55,10 @@ pub record Carried (k : Kernel) (pid : ℕ) (call : Call) (name : Name) : Type 0
   -- the caller lives on
   pub caller : Lived next pid
 
-some-is : {A : Type 0} (x y : A) → Some x ≡ Some y → x ≡ y
+pub some-is : {A : Type 0} (x y : A) → Some x ≡ Some y → x ≡ y
 some-is x y h = cc
 
-lived-finished : (k : Kernel) (pid : ℕ) → Lived k pid → Lived (finished k pid) pid
+pub lived-finished : (k : Kernel) (pid : ℕ) → Lived k pid → Lived (finished k pid) pid
 lived-finished k pid h =
     let same = (finished-is-like k pid).bodies (Proc pid)
     in let row = body-living (finished k pid) pid h.alive.row (same ∙ living-body k pid h.alive h.lives)
@@ -66,7 +66,7 @@ lived-finished k pid h =
 
 -- ---- keys
 
-absent-other : {V : Type 0} (keys : Numbered ℕ) (things : Numbered V) (id key : ℕ) → AreKeys keys things
+pub absent-other : {V : Type 0} (keys : Numbered ℕ) (things : Numbered V) (id key : ℕ) → AreKeys keys things
     → get things id ≡ None → get keys key ≡ option_and_then (other_than id) (get keys key)
 absent-other keys things id key are none = by (get keys key) refl
   where
