@@ -165,7 +165,7 @@ pub record Forks (k : Kernel) (pid block child : ℕ) (row : Row) : Type 0 where
   pub absent : get k.processes child ≡ None
   pub caller : Lived next pid
 
-fresh-is : (used : List ℕ) (n : ℕ) → is_positive_u32 n ≡ true → is_used used n ≡ false → is_fresh used n ≡ true
+pub fresh-is : (used : List ℕ) (n : ℕ) → is_positive_u32 n ≡ true → is_used used n ≡ false → is_fresh used n ≡ true
 fresh-is used n low unused =
     ap (λ (b : Bool). b && not (is_used used n)) low ∙ ap (λ (b : Bool). not b) unused
 
@@ -254,44 +254,18 @@ abbrev pub with_new_queue : Kernel → Numbered ℕ → ℕ → Kernel
 with_new_queue k keys n =
     record k { queues = put k.queues n empty_queue; queue_keys = keys; used_queues = used_with k.used_queues n }
 
-queue-used : (k : Kernel) (keys : Numbered ℕ) (n : ℕ) (kind : Kind)
+pub queue-used : (k : Kernel) (keys : Numbered ℕ) (n : ℕ) (kind : Kind)
     → used_of (with_new_queue k keys n) kind ≡ used_after (Some (Msg n)) kind (used_of k kind)
 queue-used k keys n kinds.Proc = refl
 queue-used k keys n kinds.Msg = refl
 queue-used k keys n kinds.Sem = refl
 
-queue-rest : (k : Kernel) (keys : Numbered ℕ) (n : ℕ) (m : Name) → m ≢ Msg n
+pub queue-rest : (k : Kernel) (keys : Numbered ℕ) (n : ℕ) (m : Name) → m ≢ Msg n
     → body_in (with_new_queue k keys n) m ≡ body_in k m
 queue-rest k keys n (Proc p) other = refl
 queue-rest k keys n (Sem s) other = refl
 queue-rest k keys n (Msg i) other =
     ap queue_body (get-put-other k.queues n empty_queue i (λ (e : i ≡ n). other (ap Msg e)))
-
--- a call whose effect is a new queue, with these keys
-pub makes-queue : (k : Kernel) (pid : ℕ) (call : Call) (n : ℕ) (keys : Numbered ℕ) (m : MayMake k pid call)
-    → effect k pid m.alive call n
-    ≡ (if is_fresh k.used_queues n then Some (reply_with (with_new_queue k keys n) n) else None)
-    → is_used k.used_queues n ≡ false → is_positive_u32 n ≡ true
-    → MakesObject k pid call (Msg n) (AQueue empty_queue)
-makes-queue k pid call n keys m gives unused low =
-    let j : Kernel = with_new_queue k keys n
-    in let e : Effect = reply_with j n
-    in let like = finished-is-like j pid
-    in record {
-      next = finished j pid;
-      enters = enters-by k pid call e (Some (Msg n)) m
-          (gives ∙ ap (λ (t : Bool). if t then Some e else None) (fresh-is k.used_queues n low unused))
-          (queue-used k keys n);
-      there = like.bodies (Msg n) ∙ ap queue_body (get-put-same k.queues n empty_queue);
-      rest = λ name other. like.bodies name ∙ queue-rest k keys n name other;
-      caller = lived-finished j pid (record { alive = m.alive; lives = m.lives });
-    }
-
--- the keys are those that it was made with
-pub makes-queue-keys : (k : Kernel) (pid : ℕ) (n : ℕ) (keys : Numbered ℕ) (key : ℕ)
-    → get (finished (with_new_queue k keys n) pid).queue_keys key ≡ get keys key
-makes-queue-keys k pid n keys key =
-    ap (λ m. get m key) (finished-is-like (with_new_queue k keys n) pid).queue_keys
 
 -- msgget with IPC_PRIVATE
 pub makes-private-queue : (k : Kernel) (pid n : ℕ) (create excl : Bool) → MayMake k pid (calls.MsgGet None create excl)

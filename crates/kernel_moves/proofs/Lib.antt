@@ -7,3 +7,5 @@ pub mod Keys
 pub mod Replies
 pub mod Served
 pub mod Fresh
+pub mod Keyed
+pub mod History

@@ -9,18 +9,22 @@ use Rattle.pico_base.specs.declared.numbers.Kind.{Kind}
 use Rattle.pico_base.specs.declared.numbers.Name.{Name}
 use Rattle.pico_base.specs.declared.numbers.Name.TheVariants.{Proc, Msg, Sem}
 use Rattle.pico_base.specs.declared.reply.Ending.{Ending}
+use Rattle.pico_base.specs.declared.reply.Entry.{Entry}
 use Rattle.pico_base.specs.declared.reply.Reply.{Reply}
 use Rattle.pico_base.specs.declared.reply.Reply.TheVariants as replies
+use Rattle.pico_base.specs.declared.script.Script.{Script}
 use Rattle.pico_base.specs.declared.signal.Sig.{Sig}
 use Rattle.key_table.specs.declared.Bound.{Bound}
 use Rattle.number_maps.specs.Maps.{Numbered, get, is_used}
+use Rattle.number_maps.specs.Rising.{IsRising}
 use Rattle.kernel_model.specs.Row.{Alive, Family, Row, ignores_children, with_ended_child, without_ended}
-use Rattle.kernel_model.specs.Kernel.{Kernel, Process, living_at}
+use Rattle.kernel_model.specs.Kernel.{Kernel, Process, living_at, opening}
 use Rattle.kernel_model.specs.Kernel as kernel
 use Rattle.kernel_model.specs.Effect.{reply_alone}
 use Rattle.kernel_model.specs.SetCalls.{set_size}
 use Rattle.kernel_model.specs.Transition.{successor, transition, may_make, is_spent, is_doomed_by}
-use Rattle.kernel_model.specs.History.{number_in}
+use Rattle.kernel_model.specs.History.{Replays, number_in}
+use Rattle.kernel_model.specs.Fitting.{Places, FitsFrom, opening_places}
 use Rattle.kernel_model.specs.Footprint.{used_of, grown_by}
 use Rattle.kernel_model.specs.Valid.{IsValid}
 use Rattle.kernel_laws.specs.Processes.{NoneListsItself}
@@ -152,3 +156,15 @@ parent_end (Living row) child ending =
     let noted : Alive = with_ended_child (free_to_act row) child ending
     in Living noted.row
 parent_end body child ending = body
+
+-- ---- the history
+
+-- an entry of a process's call, which the node made
+abbrev pub entry_of : ℕ → ℕ → Call → Reply → Entry
+entry_of node pid call reply = record { pid = pid; call = call; outcome = reply_alone reply; by = node }
+
+-- the journal is legal and leads to the kernel, and it fits the script so far
+pub record HasHistory (script : Script) (journal : List Entry) (k : Kernel) (places : Places) : Type 0 where
+  pub legal : Replays opening journal k
+  pub fits : FitsFrom script (opening_places script) journal places
+  pub ordered : IsRising places
