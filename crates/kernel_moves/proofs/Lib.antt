@@ -1,11 +1,16 @@
 pub mod Bodies
 pub mod Making
 pub mod Others
-pub mod Effects
 pub mod Names
+pub mod Numbers
 pub mod Keys
 pub mod Replies
+pub mod Effects
 pub mod Served
+pub mod Holding
 pub mod Fresh
 pub mod Keyed
+pub mod Families
+pub mod Ends
 pub mod History
+pub mod Places

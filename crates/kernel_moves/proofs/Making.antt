@@ -31,6 +31,7 @@ pub record IsLike (k j : Kernel) : Type 0 where
   pub used : (kind : Kind) → used_of j kind ≡ used_of k kind
   pub queue_keys : j.queue_keys ≡ k.queue_keys
   pub set_keys : j.set_keys ≡ k.set_keys
+  pub queues : j.queues ≡ k.queues
   pub sets : j.sets ≡ k.sets
 
 spent-body : (k : Kernel) (pid : ℕ) (a : Alive) → living_at k pid ≡ Some a → (name : Name)
@@ -54,6 +55,7 @@ finish-by k pid None lives = record {
   used = λ kind. refl;
   queue_keys = refl;
   set_keys = refl;
+  queues = refl;
   sets = refl;
 }
 finish-by k pid (Some a) lives = by (is_some a.row.signals.doom)
@@ -64,6 +66,7 @@ finish-by k pid (Some a) lives = by (is_some a.row.signals.doom)
       used = λ kind. refl;
       queue_keys = refl;
       set_keys = refl;
+      queues = refl;
       sets = refl;
     }
     by false = record {
@@ -71,6 +74,7 @@ finish-by k pid (Some a) lives = by (is_some a.row.signals.doom)
       used = λ kind. refl;
       queue_keys = refl;
       set_keys = refl;
+      queues = refl;
       sets = refl;
     }
 

@@ -8,7 +8,6 @@ use Rattle.pico_base.specs.declared.call.Call.TheVariants as calls
 use Rattle.pico_base.specs.declared.numbers.Kind.{Kind}
 use Rattle.pico_base.specs.declared.numbers.Name.{Name}
 use Rattle.pico_base.specs.declared.numbers.Name.TheVariants.{Proc, Msg, Sem}
-use Rattle.pico_base.specs.declared.reply.Ending.{Ending}
 use Rattle.pico_base.specs.declared.reply.Entry.{Entry}
 use Rattle.pico_base.specs.declared.reply.Reply.{Reply}
 use Rattle.pico_base.specs.declared.reply.Reply.TheVariants as replies
@@ -17,7 +16,7 @@ use Rattle.pico_base.specs.declared.signal.Sig.{Sig}
 use Rattle.key_table.specs.declared.Bound.{Bound}
 use Rattle.number_maps.specs.Maps.{Numbered, get, is_used}
 use Rattle.number_maps.specs.Rising.{IsRising}
-use Rattle.kernel_model.specs.Row.{Alive, Family, Row, ignores_children, with_ended_child, without_ended}
+use Rattle.kernel_model.specs.Row.{Alive, Family, Row, lists, without_ended}
 use Rattle.kernel_model.specs.Kernel.{Kernel, Process, living_at, opening}
 use Rattle.kernel_model.specs.Kernel as kernel
 use Rattle.kernel_model.specs.Effect.{reply_alone}
@@ -29,7 +28,7 @@ use Rattle.kernel_model.specs.Footprint.{used_of, grown_by}
 use Rattle.kernel_model.specs.Valid.{IsValid}
 use Rattle.kernel_laws.specs.Processes.{NoneListsItself}
 use Rattle.node_model.specs.Kinds.{kind_of, number_of, is_same_kind}
-use Rattle.node_model.specs.Bodies.{Body, Living, Ended, Gone, body_in, free_to_act}
+use Rattle.node_model.specs.Bodies.{Body, Living, body_in}
 
 -- ---- before the entry
 
@@ -144,18 +143,11 @@ pub record HasFamily (k : Kernel) (p : ℕ) (f : Family) : Type 0 where
   pub is : body_in k (Proc p) ≡ Living row
   pub family_is : row.family ≡ f
 
--- what becomes of a process that ends, by the body of who was its parent: a living parent keeps its ending, unless it
--- ignores its children
-abbrev pub child_end : Body → Ending → Body
-child_end (Living row) ending = if ignores_children row then Gone else Ended ending
-child_end body ending = Gone
-
--- and of the parent: it notes the end, and CHLD is raised; one that has ended knows nothing of it
-abbrev pub parent_end : Body → ℕ → Ending → Body
-parent_end (Living row) child ending =
-    let noted : Alive = with_ended_child (free_to_act row) child ending
-    in Living noted.row
-parent_end body child ending = body
+-- a process's parent, by the body of who it was: if that lives it lists the process, and no other does
+pub record IsChildOf (k : Kernel) (pid parent : ℕ) (body : Body) : Type 0 where
+  pub is : body_in k (Proc parent) ≡ body
+  pub listed : (row : Row) → body ≡ Living row → lists row.family pid ≡ true
+  pub only : (p : ℕ) (a : Alive) → living_at k p ≡ Some a → lists a.row.family pid ≡ true → p ≡ parent
 
 -- ---- the history
 
