@@ -1,7 +1,7 @@
 -- A served call has an effect, whatever number is offered. It uses no number, leaves the keys where it removes nothing,
 -- and its caller lives on.
-use Rattle.std.proofs.Common.{◌≡◌, ◌≢◌, ℕ, Bool, true, false, not, List, [], ◌∷◌, length, Option, Some, None, Result, Ok, Err, refl, ap, sym, subst, ◌∙◌, inl, inr, nat_eq}
-use Rattle.std.specs.Prelude.{if◌then◌else◌, fold}
+use Rattle.std.proofs.Common.{◌≡◌, ◌≢◌, ℕ, Bool, true, false, not, List, Option, Some, None, Result, Ok, Err, refl, ap, sym, ◌∙◌, inl, inr, nat_eq}
+use Rattle.std.specs.Prelude.{if◌then◌else◌}
 use Rattle.std.specs.List.{list_any}
 use Rattle.std.specs.Option.{option_and_then}
 use Rattle.std.proofs.lemmas.Bool.{cases_eq}
@@ -19,14 +19,14 @@ use Rattle.pico_base.specs.declared.signal.SigArg.TheVariants.{Zero, Is, Bad}
 use Rattle.pico_base.specs.Signal.{at}
 use Rattle.number_maps.specs.Maps.{Numbered, get, put}
 use Rattle.number_maps.proofs.LookUps.{get-put-same, get-put-other}
-use Rattle.kernel_model.specs.Signals.{Signals, act_on, raise, with_mask}
+use Rattle.kernel_model.specs.Signals.{Signals, act_on, with_mask}
 use Rattle.kernel_model.specs.Queue.{Queue, Received, send, receive, set_qbytes}
 use Rattle.kernel_model.specs.SemaphoreSet.{SemaphoreSet, op, value_at, last_at, waiting_at, set_value, set_all}
-use Rattle.kernel_model.specs.Row.{Alive, Waited, Found, NotYet, NoChild, raise_by_other, wait}
+use Rattle.kernel_model.specs.Row.{Alive, Waited, Found, NotYet, NoChild, wait}
 use Rattle.kernel_model.specs.Kernel.{Kernel, Process, alive_in, living_at, with_alive}
 use Rattle.kernel_model.specs.Kernel as kernel
 use Rattle.kernel_model.specs.Effect.{Effect, look_up, on_named}
-use Rattle.kernel_model.specs.ProcessCalls.{action_effect, kill_at, parent_after_wait, reap_child, signal_living, with_signals}
+use Rattle.kernel_model.specs.ProcessCalls.{action_effect, kill_at, parent_after_wait, reap_child, signal_living}
 use Rattle.kernel_model.specs.QueueCalls.{change_queue, receive_effect, remove_queue, stat_effect}
 use Rattle.kernel_model.specs.SetCalls.{all_values, change_set, remove_set}
 use Rattle.kernel_model.specs.Waiting.{may_wait}

@@ -1,11 +1,10 @@
 -- The end of a process where its parent's deed is held, and the end of the first process: they are the kernel's.
-use Rattle.std.proofs.Common.{◌≡◌, ◌≢◌, ℕ, Bool, true, false, ◌||◌, List, [], ◌∷◌, ◌++◌, map, Option, Some, None, refl, ap, sym, subst, ◌∙◌, inl, inr, nat_eq}
-use Rattle.std.specs.Prelude.{Contains, fold, if◌then◌else◌, is_some}
-use Rattle.std.specs.Option.{option_and_then}
-use Rattle.std.proofs.lemmas.Bool.{cases_eq, eq-eqb, eqb-true, ne_eqb, false≢true}
+use Rattle.std.proofs.Common.{◌≡◌, ◌≢◌, ℕ, Bool, true, false, ◌&&◌, List, [], ◌∷◌, ◌++◌, map, Option, Some, None, refl, ap, sym, subst, ◌∙◌, inl, inr, nat_eq}
+use Rattle.std.specs.Prelude.{Contains, fold, if◌then◌else◌, is_none}
+use Rattle.std.specs.List.{list_all}
+use Rattle.std.proofs.lemmas.Bool.{cases_eq, eqb-true, ne_eqb, or_cases, false≢true}
 use Rattle.pico_base.specs.declared.call.Call.{Call}
 use Rattle.pico_base.specs.declared.call.Call.TheVariants as calls
-use Rattle.pico_base.specs.declared.numbers.Kind.{Kind}
 use Rattle.pico_base.specs.declared.numbers.Name.{Name}
 use Rattle.pico_base.specs.declared.numbers.Name.TheVariants.{Proc, Msg, Sem}
 use Rattle.pico_base.specs.declared.reply.EndedChild.{EndedChild}
@@ -13,30 +12,27 @@ use Rattle.pico_base.specs.declared.reply.Ending.{Ending}
 use Rattle.pico_base.specs.declared.reply.Reply.TheVariants as replies
 use Rattle.rpc_frame.specs.declared.deed.Parcel.{Parcel}
 use Rattle.number_maps.specs.Maps.{Numbered, get, put, is_used}
-use Rattle.number_maps.proofs.Changes.{is_used-keys}
-use Rattle.number_maps.proofs.LookUps.{get-put-same, get-put-other}
+use Rattle.number_maps.proofs.LookUps.{get-later}
+use Rattle.kernel_laws.proofs.Members.{contains-first, contains-later}
 use Rattle.kernel_model.specs.Row.{Alive, Row, ended_child, lists}
 use Rattle.kernel_model.specs.Kernel.{Kernel, Parent, Process, living_at, parent_in}
 use Rattle.kernel_model.specs.Kernel as kernel
 use Rattle.kernel_model.specs.Effect.{Effect, reply_alone}
 use Rattle.kernel_model.specs.ProcessCalls.{bury, bury_all, end_process, end_under}
 use Rattle.kernel_model.specs.Transition.{effect}
-use Rattle.kernel_model.specs.Footprint.{used_of}
 use Rattle.kernel_model.specs.Valid.{IsValid}
-use Rattle.kernel_footprint.proofs.Parents.{parent-is}
-use Rattle.node_model.specs.Kinds.{get_named, put_all}
+use Rattle.node_model.specs.Kinds.{get_named, is_object, put_all}
 use Rattle.node_model.specs.Bodies.{Body, Living, Ended, Gone, AQueue, ASet, Removed, Deeds, body_in, process_body, queue_body, set_body}
-use Rattle.node_model.specs.Parcels.{all_gone, commit_exit, end_first, ending_of, fits_bodies, has_own_row, kernel_after_end, lets_end, may_end_with, names_after_end}
+use Rattle.node_model.specs.Parcels.{all_gone, commit_exit, end_first, ending_of, fits_bodies, has_own_row, is_held_none, kernel_after_end, lets_end, may_end_with, names_after_end}
 use Rattle.node_model.specs.Serving.{parts_in}
 use Rattle.serve_laws.specs.Ends.{AgreesOnEnd, IsEnded, is_among}
 use Rattle.serve_laws.proofs.Ends.{ends-are-the-kernels, fits-parts}
-use Rattle.serve_laws.proofs.KernelEnds.{HasEnded, kept_by, left_by, lives-as}
+use Rattle.serve_laws.proofs.KernelEnds.{HasEnded, ends-under, kept_by, left_by}
 use Rattle.serve_laws.proofs.Puts.{each-in, each-out, put_each}
 use Rattle.kernel_moves.specs.Entering.{Enters, IsChildOf, KeepsKeys, MayMake}
 use Rattle.kernel_moves.proofs.Bodies.{living-body}
 use Rattle.kernel_moves.proofs.Families.{no-parent, parent-number}
 use Rattle.kernel_moves.proofs.Making.{finished, finished-is-like, enters-by, keys-finished}
-use Rattle.kernel_moves.proofs.Names.{get-put-same-name, get-put-other-name, put-all-append}
 
 -- ---- the effect of an end
 
@@ -49,6 +45,21 @@ end-effect k pid n a row call h = absurd (false≢true h)
 -- keys stay
 end-keys : (k : Kernel) (pid : ℕ) (a : Alive) (ending : Ending) → KeepsKeys k (end_process k pid a ending).kernel
 end-keys k pid a ending = record { queues = λ key. refl; sets = λ key. refl; sizes = λ key id bound. refl }
+
+-- and so do queues and sets
+end-objects : (k : Kernel) (pid : ℕ) (a : Alive) (ending : Ending) (name : Name) → is_object name ≡ true
+    → body_in (end_process k pid a ending).kernel name ≡ body_in k name
+end-objects k pid a ending (Proc p) h = absurd (false≢true h)
+end-objects k pid a ending (Msg id) h = refl
+end-objects k pid a ending (Sem id) h = refl
+
+and-first : (a b : Bool) → (a && b) ≡ true → a ≡ true
+and-first true b h = refl
+and-first false b h = absurd (false≢true h)
+
+and-second : (a b : Bool) → (a && b) ≡ true → b ≡ true
+and-second true b h = h
+and-second false b h = absurd (false≢true h)
 
 -- ---- where the parent's deed is held
 
@@ -105,6 +116,72 @@ may-end : (call : Call) (row : Row) (o : Option Body) → o ≡ Some (Living row
     → may_end_with row call ≡ true
 may-end call row o is h = sym (ap (has_own_row call) is) ∙ h
 
+-- The bodies after the end of a process with this row: it is gone or kept for its parent, which notes the end; its ended
+-- children are gone; and all else stays.
+pub record EndBodies (k next : Kernel) (pid parent : ℕ) (row : Row) (body : Body) (ending : Ending) : Type 0 where
+  pub own : body_in next (Proc pid) ≡ kept_by body ending
+  pub its : body_in next (Proc parent) ≡ left_by body pid ending
+  pub children : (q : ℕ) → q ≢ pid → q ≢ parent → is_among row.family.ended q ≡ true → body_in next (Proc q) ≡ Gone
+  pub others : (q : ℕ) → q ≢ pid → q ≢ parent → is_among row.family.ended q ≡ false
+      → body_in next (Proc q) ≡ body_in k (Proc q)
+  pub objects : (name : Name) → is_object name ≡ true → body_in next name ≡ body_in k name
+  pub apart : parent ≢ pid
+  pub not_among : is_among row.family.ended parent ≡ false
+
+all-at : (test : ℕ × Body → Bool) (bodies : Numbered Body) (q : ℕ) (b : Body) → list_all test bodies ≡ true
+    → get bodies q ≡ Some b → (e : ℕ × Body) × (test e ≡ true) × (e.0 ≡ q)
+all-at test [] q b h there = absurd (cc)
+all-at test (e ∷ es) q b h there =
+    elim (cases_eq q e.0) [
+      | inl same ↦ (e, and-first (test e) (list_all test es) h, sym same)
+      | inr other ↦ all-at test es q b (and-second (test e) (list_all test es) h) (sym (get-later e es q other) ∙ there)
+    ]
+
+pub among-kept : (es : List EndedChild) (q : ℕ) → is_among es q ≡ true → (e : Ending) × Contains es (ended_child q e)
+among-kept [] q h = absurd (false≢true h)
+among-kept (x ∷ xs) q h =
+    elim (or_cases (nat_eq q x.pid) (is_among xs q) h) [
+      | inl first ↦ (
+        x.ending,
+        subst (λ (n : ℕ). Contains (x ∷ xs) (ended_child n x.ending)) (sym (eqb-true q x.pid first))
+            (contains-first x xs),
+      )
+      | inr later ↦
+          let w = among-kept xs q later in (w.0, contains-later x xs (ended_child q w.0) w.1)
+    ]
+
+-- what is held isn't in the parcel
+held-not-brought : (deeds : Deeds) (bodies : Numbered Body) (q : ℕ) (b held : Body)
+    → list_all (is_held_none deeds) bodies ≡ true → get bodies q ≡ Some b → get deeds.processes q ≡ Some held → ⊥
+held-not-brought deeds bodies q b held none there here =
+    let w = all-at (is_held_none deeds) bodies q b none there
+    in false≢true (sym (ap (λ o. is_none o) here)
+    ∙ ap (λ n. is_none (get deeds.processes n)) (sym w.2) ∙ w.1)
+
+parent-not-among : (k : Kernel) (deeds : Deeds) (parcel : Parcel) (bodies : Numbered Body) (row : Row) (parent : Body)
+    → MayEnd k deeds parcel bodies row parent → is_among row.family.ended parcel.parent ≡ false
+parent-not-among k deeds parcel bodies row parent m = by (is_among row.family.ended parcel.parent) refl
+  where
+    by : (t : Bool) → is_among row.family.ended parcel.parent ≡ t → is_among row.family.ended parcel.parent ≡ false
+    by false h = h
+    by true h =
+        let w = among-kept row.family.ended parcel.parent h
+        in absurd (held-not-brought deeds bodies parcel.parent (Ended w.0) parent
+        (fits-parts deeds parcel bodies m.fits).absent (m.children parcel.parent w.0 w.1) m.held)
+
+parent-apart : (k : Kernel) (deeds : Deeds) (parcel : Parcel) (bodies : Numbered Body) (row : Row) (parent : Body)
+    → MayEnd k deeds parcel bodies row parent → parcel.parent ≢ parcel.pid
+parent-apart k deeds parcel bodies row parent m same =
+    held-not-brought deeds bodies parcel.parent (Living row) parent (fits-parts deeds parcel bodies m.fits).absent
+    (ap (get bodies) same ∙ m.brought) m.held
+
+same-row-of : (k : Kernel) (pid : ℕ) (call : Call) (row : Row) (m : MayMake k pid call) → body_in k (Proc pid) ≡ Living row
+    → m.alive.row ≡ row
+same-row-of k pid call row m own = same (sym (living-body k pid m.alive m.lives) ∙ own)
+  where
+    same : {r s : Row} → Living r ≡ Living s → r ≡ s
+    same h = cc
+
 -- The exit is carried out, and is the kernel's: the process is gone or kept, its parent notes it, and its ended children
 -- are gone; the deeds held afterwards have the next kernel's bodies.
 pub record EndsHere (k : Kernel) (deeds : Deeds) (parcel : Parcel) (bodies : Numbered Body) (row : Row)
@@ -113,6 +190,7 @@ pub record EndsHere (k : Kernel) (deeds : Deeds) (parcel : Parcel) (bodies : Num
   pub enters : Enters k parcel.pid parcel.call replies.Ended None next
   pub ended : IsEnded k deeds parcel bodies row (put_all deeds (exit_changes parcel bodies parent)) next
       (reply_alone replies.Ended)
+  pub bodies_are : EndBodies k next parcel.pid parcel.parent row parent (ending_of parcel.call)
   pub keys : KeepsKeys k next
 
 pub ends-here : (k : Kernel) (deeds : Deeds) (parcel : Parcel) (bodies : Numbered Body) (row : Row) (parent : Body)
@@ -127,9 +205,34 @@ ends-here k deeds parcel bodies row parent m may =
     (end-effect k parcel.pid 0 m.alive row parcel.call
     (may-end parcel.call row (get bodies parcel.pid) may.brought own))
     (λ kind. refl)
+    in let like = finished-is-like e.kernel parcel.pid
+    in let apart : parcel.parent ≢ parcel.pid = parent-apart k deeds parcel bodies row parent may
+    in let among = parent-not-among k deeds parcel bodies row parent may
+    in let rows : m.alive.row ≡ row = same-row-of k parcel.pid parcel.call row m may.lives
+    in let h : HasEnded k e.kernel parcel.pid parcel.parent m.alive.row.family.ended
+    (kept_by parent (ending_of parcel.call)) (left_by parent parcel.pid (ending_of parcel.call)) =
+    ends-under k m.valid parcel.pid parcel.parent m.alive (ending_of parcel.call)
+    (ne_eqb parcel.pid parcel.parent (λ same. apart (sym same))) parent may.child_of.is
+    (parent-number k parcel.pid parcel.parent parent m.valid may.child_of) (ne_eqb parcel.parent parcel.pid apart)
+    (ap (λ (r : Row). is_among r.family.ended parcel.parent) rows ∙ among)
     in record {
       next = finished e.kernel parcel.pid;
       enters = enters;
+      bodies_are = record {
+        own = like.bodies (Proc parcel.pid) ∙ h.own;
+        its = like.bodies (Proc parcel.parent) ∙ h.its;
+        children = λ q ne np is.
+            like.bodies (Proc q)
+            ∙ h.children q (ne_eqb q parcel.pid ne) (ne_eqb q parcel.parent np)
+            (ap (λ (r : Row). is_among r.family.ended q) rows ∙ is);
+        others = λ q ne np is.
+            like.bodies (Proc q)
+            ∙ h.others q (ne_eqb q parcel.pid ne) (ne_eqb q parcel.parent np)
+            (ap (λ (r : Row). is_among r.family.ended q) rows ∙ is);
+        objects = λ name object. like.bodies name ∙ end-objects k parcel.pid m.alive (ending_of parcel.call) name object;
+        apart = apart;
+        not_among = among;
+      };
       ended = ends-are-the-kernels k deeds parcel bodies (exit_changes parcel bodies parent) 0
           (finished e.kernel parcel.pid) (reply_alone replies.Ended) m.valid may.fits
           (agrees k deeds parcel bodies row parent m.valid may) (commits k deeds parcel bodies row parent may)

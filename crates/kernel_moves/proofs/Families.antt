@@ -1,21 +1,17 @@
 -- Who lists whom after a fork, a wait and an end; and whose child a process is.
-use Rattle.std.proofs.Common.{◌≡◌, ◌≢◌, ◌⊎◌, ℕ, Bool, true, false, not, ◌||◌, List, [], ◌∷◌, ◌++◌, Option, Some, None, refl, ap, sym, subst, ◌∙◌, inl, inr, nat_eq}
-use Rattle.std.specs.Prelude.{Contains}
-use Rattle.std.specs.List.{filter, list_any}
+use Rattle.std.proofs.Common.{◌≡◌, ◌≢◌, ℕ, Bool, true, false, not, ◌||◌, List, [], ◌∷◌, ◌++◌, Option, Some, None, refl, ap, sym, ◌∙◌, inl, inr, nat_eq}
+use Rattle.std.specs.List.{list_any}
 use Rattle.std.specs.Option.{option_map}
-use Rattle.std.proofs.lemmas.Bool.{cases_eq, cases_Bool, eq-eqb, ne_eqb, eqb-true, or_left, or_right, or_cases, not_from_false, false≢true}
-use Rattle.std.proofs.lemmas.List.Elements.{Contains-append_left, Contains-push}
+use Rattle.std.proofs.lemmas.Bool.{cases_Bool, eq-eqb, ne_eqb, eqb-true, or_left, or_right, or_cases, not_from_false, false≢true}
 use Rattle.pico_base.specs.declared.numbers.Name.TheVariants.{Proc}
 use Rattle.pico_base.specs.declared.reply.Ending.{Ending}
-use Rattle.number_maps.specs.Maps.{get}
 use Rattle.number_maps.proofs.LookUps.{filter-kept, filter-dropped}
-use Rattle.kernel_model.specs.Row.{Alive, EndedChild, Family, Row, ended_child, family_after_end, lists, no_family, others, with_child, without_ended}
+use Rattle.kernel_model.specs.Row.{Alive, Family, Row, family_after_end, lists, no_family, others, with_child}
 use Rattle.kernel_model.specs.Kernel.{Kernel, Parent, living_at, parent_in}
-use Rattle.kernel_model.specs.Kernel as kernel
 use Rattle.kernel_model.specs.Footprint.{parent_number}
 use Rattle.kernel_model.specs.Valid.{IsValid}
 use Rattle.kernel_laws.proofs.EndChanges.{orphan, parent-is}
-use Rattle.kernel_laws.proofs.Members.{lists-end, without-on}
+use Rattle.kernel_laws.proofs.Members.{lists-end}
 use Rattle.kernel_laws.proofs.People.{from-living, to-living}
 use Rattle.node_model.specs.Bodies.{Body, Living, Ended, Gone, AQueue, ASet, Removed, body_in}
 use Rattle.serve_laws.specs.Ends.{parent_by}

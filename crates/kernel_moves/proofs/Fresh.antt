@@ -1,8 +1,7 @@
 -- Entries that change nothing, and those that make something: forks, and new queues and sets with no key.
 use Rattle.std.proofs.Common.{◌≡◌, ◌≢◌, ℕ, Bool, true, false, not, ◌&&◌, List, Option, Some, None, Ok, Err, refl, ap, sym, subst, ◌∙◌, inl, inr}
 use Rattle.std.specs.Prelude.{is_some, if◌then◌else◌}
-use Rattle.std.specs.Option.{option_and_then}
-use Rattle.std.proofs.lemmas.Bool.{cases_eq, false≢true}
+use Rattle.std.proofs.lemmas.Bool.{false≢true}
 use Rattle.pico_base.specs.declared.call.Call.{Call}
 use Rattle.pico_base.specs.declared.call.Call.TheVariants as calls
 use Rattle.pico_base.specs.declared.numbers.Kind.{Kind}
@@ -15,18 +14,18 @@ use Rattle.pico_base.specs.declared.reply.Reply.TheVariants as replies
 use Rattle.number_maps.specs.Maps.{Numbered, get, put, is_used, used_with}
 use Rattle.number_maps.proofs.LookUps.{get-put-same, get-put-other}
 use Rattle.kernel_model.specs.Numbers.{is_positive_u32}
-use Rattle.kernel_model.specs.Queue.{Queue, empty_queue}
+use Rattle.kernel_model.specs.Queue.{empty_queue}
 use Rattle.kernel_model.specs.SemaphoreSet.{SemaphoreSet, new_set}
 use Rattle.kernel_model.specs.Row.{Alive, Row}
 use Rattle.kernel_model.specs.Kernel.{Kernel, Process, alive_in, living_at}
 use Rattle.kernel_model.specs.Kernel as kernel
-use Rattle.kernel_model.specs.Effect.{Effect, is_fresh, reply_with, refuse}
+use Rattle.kernel_model.specs.Effect.{Effect, is_fresh, reply_with}
 use Rattle.kernel_model.specs.ProcessCalls.{new_child, parent_after_fork, processes_after_fork}
-use Rattle.kernel_model.specs.SetCalls.{new_set_of, set_size}
+use Rattle.kernel_model.specs.SetCalls.{new_set_of}
 use Rattle.kernel_model.specs.Transition.{effect}
 use Rattle.kernel_model.specs.History.{number_in}
 use Rattle.kernel_model.specs.Footprint.{used_of}
-use Rattle.kernel_model.specs.Valid.{AreKeys, IsValid}
+use Rattle.kernel_model.specs.Valid.{IsValid}
 use Rattle.kernel_laws.proofs.People.{from-living}
 use Rattle.node_model.specs.Kinds.{number_of}
 use Rattle.node_model.specs.Bodies.{Body, Living, Gone, AQueue, ASet, Removed, body_in, process_body, queue_body, set_body}

@@ -1,7 +1,7 @@
 -- One more entry in the history: it stays legal and fits the script, and the caller's place alone moves; a fork gives the
 -- new process its place.
-use Rattle.std.proofs.Common.{◌≡◌, ◌≢◌, ℕ, Bool, true, false, List, [], ◌∷◌, ◌++◌, Option, Some, None, refl, ap, sym, subst, ◌∙◌, inl, inr}
-use Rattle.std.proofs.lemmas.Bool.{cases_eq, false≢true}
+use Rattle.std.proofs.Common.{◌≡◌, ◌≢◌, ℕ, true, false, List, [], ◌∷◌, ◌++◌, Option, Some, None, refl, ap, sym, subst, ◌∙◌}
+use Rattle.std.proofs.lemmas.Bool.{false≢true}
 use Rattle.pico_base.specs.declared.call.Call.{Call}
 use Rattle.pico_base.specs.declared.call.Call.TheVariants as calls
 use Rattle.pico_base.specs.declared.reply.Reply.{Reply}
@@ -13,12 +13,10 @@ use Rattle.number_maps.specs.Rising.{IsRising}
 use Rattle.number_maps.proofs.LookUps.{get-put-same, get-put-other}
 use Rattle.number_maps.proofs.Rising.{rising-put}
 use Rattle.kernel_model.specs.Kernel.{Kernel, opening}
-use Rattle.kernel_model.specs.Effect.{reply_alone}
 use Rattle.kernel_model.specs.Transition.{successor, transition}
 use Rattle.kernel_model.specs.History.{Replays, number_in}
 use Rattle.kernel_model.specs.Script.{is_fork}
 use Rattle.kernel_model.specs.Fitting.{Place, Places, FitsFrom, HasReplyAlone, IsDue, block_at, block_place, child_vars, is_killed, move_on, opening_places, place_after, places_after, places_after_fork}
-use Rattle.kernel_laws.specs.Processes.{NoneListsItself}
 use Rattle.kernel_laws.specs.Reachable.{IsReachableKernel}
 use Rattle.kernel_laws.proofs.ValidLaws.{children_have_one_parent_lemma, reachable_kernels_are_valid_lemma}
 use Rattle.kernel_model.specs.Row.{Alive}

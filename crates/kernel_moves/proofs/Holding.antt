@@ -1,8 +1,8 @@
 -- A node that holds the deed of a call's name serves the call, and then holds what the kernel has.
-use Rattle.std.proofs.Common.{◌≡◌, ◌≢◌, ℕ, Bool, true, false, not, List, [], ◌∷◌, Option, Some, None, refl, ap, sym, subst, ◌∙◌, inl, inr, nat_eq}
+use Rattle.std.proofs.Common.{◌≡◌, ◌≢◌, ℕ, Bool, true, false, Option, Some, None, refl, ap, sym, ◌∙◌}
 use Rattle.std.specs.Prelude.{if◌then◌else◌, Contains}
 use Rattle.std.specs.Option.{option_and_then}
-use Rattle.std.proofs.lemmas.Bool.{cases_eq, eq-eqb, eqb-true, false≢true}
+use Rattle.std.proofs.lemmas.Bool.{eq-eqb, eqb-true, false≢true}
 use Rattle.pico_base.specs.declared.call.Call.{Call}
 use Rattle.pico_base.specs.declared.call.Call.TheVariants as calls
 use Rattle.pico_base.specs.declared.call.Home.{Home}
@@ -16,12 +16,12 @@ use Rattle.pico_base.specs.Home.{home_of}
 use Rattle.number_maps.specs.Maps.{get}
 use Rattle.kernel_model.specs.Queue.{Queue}
 use Rattle.kernel_model.specs.SemaphoreSet.{SemaphoreSet}
-use Rattle.kernel_model.specs.Row.{Alive, Row, ended_child}
+use Rattle.kernel_model.specs.Row.{Alive, ended_child}
 use Rattle.kernel_model.specs.Kernel.{Kernel, Process}
 use Rattle.kernel_model.specs.Kernel as kernel
 use Rattle.kernel_laws.proofs.People.{from-living}
 use Rattle.node_model.specs.Kinds.{get_named, put_named, put_all}
-use Rattle.node_model.specs.Bodies.{Body, Living, Gone, Deeds, body_in, fits_name, process_body, queue_body, set_body}
+use Rattle.node_model.specs.Bodies.{Body, Gone, Deeds, body_in, fits_name, process_body, queue_body, set_body}
 use Rattle.node_model.specs.Serving.{makes_something, name_for, name_in, serve, serve_at, serve_on}
 use Rattle.node_model.specs.Carrying.{Done, is_own, is_own_home, is_served, on_body}
 use Rattle.serve_laws.specs.Laws.{is_found}

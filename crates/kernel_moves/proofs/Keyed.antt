@@ -1,5 +1,5 @@
 -- Gets by a key, by what the leader's tables answer.
-use Rattle.std.proofs.Common.{◌≡◌, ◌≢◌, ℕ, Bool, true, false, not, ◌&&◌, ◌||◌, length, Option, Some, None, Result, Ok, Err, refl, ap, sym, subst, ◌∙◌, nat_eq}
+use Rattle.std.proofs.Common.{◌≡◌, ℕ, Bool, true, false, ◌||◌, length, Option, Some, None, Ok, Err, refl, ap, sym, ◌∙◌, nat_eq}
 use Rattle.std.specs.Prelude.{if◌then◌else◌, nat_le}
 use Rattle.std.specs.Option.{option_map}
 use Rattle.pico_base.specs.declared.call.Call.{Call}
@@ -29,7 +29,6 @@ use Rattle.kernel_moves.specs.Entering.{HasKeys, MayMake, bound_to}
 use Rattle.kernel_moves.proofs.Fresh.{LeavesAll, MakesObject, bound-apart, fresh-is, leaves-all, queue-rest, queue-used, set-rest, set-used, with_new_queue, with_new_set}
 use Rattle.kernel_moves.proofs.Keys.{keys-bind-queue, keys-bind-set}
 use Rattle.kernel_moves.proofs.Making.{finished, finished-is-like, enters-by}
-use Rattle.kernel_moves.proofs.Names.{name-cases}
 use Rattle.kernel_moves.proofs.Served.{lived-finished}
 
 -- ---- what an answer says of the kernel

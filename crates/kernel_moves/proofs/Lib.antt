@@ -14,3 +14,5 @@ pub mod Families
 pub mod Ends
 pub mod History
 pub mod Places
+pub mod Kin
+pub mod ForkedOnce

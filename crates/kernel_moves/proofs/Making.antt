@@ -1,5 +1,5 @@
 -- From a call's effect to its entry: after the effect only what the caller may still do can be another one.
-use Rattle.std.proofs.Common.{◌≡◌, ◌≢◌, ℕ, Bool, true, false, List, Option, Some, None, refl, ap, sym, subst, ◌∙◌, inl, inr}
+use Rattle.std.proofs.Common.{◌≡◌, ℕ, Bool, true, false, Option, Some, None, refl, ap, sym, ◌∙◌, inl, inr}
 use Rattle.std.specs.Prelude.{is_some, if◌then◌else◌}
 use Rattle.std.specs.Option.{option_map, option_map_or}
 use Rattle.std.proofs.lemmas.Bool.{cases_eq}
@@ -18,7 +18,7 @@ use Rattle.kernel_model.specs.Transition.{effect, finish_call, outcome_of, trans
 use Rattle.kernel_model.specs.History.{number_in}
 use Rattle.kernel_model.specs.Footprint.{used_of}
 use Rattle.kernel_laws.proofs.People.{from-living}
-use Rattle.node_model.specs.Bodies.{Body, body_in, process_body}
+use Rattle.node_model.specs.Bodies.{body_in, process_body}
 use Rattle.kernel_moves.specs.Entering.{MayMake, Makes, Enters, KeepsBodies, KeepsKeys, used_after}
 
 -- the kernel once the entry of a call with this kernel as its effect's is made

@@ -1,17 +1,15 @@
 -- Names that are one or two, and what a map from names has after changes.
-use Rattle.std.proofs.Common.{◌≡◌, ◌≢◌, ◌⊎◌, Bool, true, false, ◌||◌, List, [], ◌∷◌, ◌++◌, Option, Some, None, refl, ap, sym, subst, ◌∙◌, inl, inr, nat_eq}
-use Rattle.std.specs.Prelude.{if◌then◌else◌, fold, map}
+use Rattle.std.proofs.Common.{◌≡◌, ◌≢◌, ◌⊎◌, Bool, true, false, ◌||◌, List, [], ◌∷◌, ◌++◌, Some, refl, ap, sym, subst, ◌∙◌, inl, inr}
 use Rattle.std.specs.List.{list_any}
-use Rattle.std.proofs.lemmas.Bool.{cases_eq, cases_Bool, eq-eqb, eqb-true, false≢true}
+use Rattle.std.proofs.lemmas.Bool.{cases_Bool, eq-eqb, eqb-true, false≢true}
 use Rattle.std.proofs.lemmas.List.Sums.{fold-append}
 use Rattle.pico_base.specs.declared.numbers.Name.{Name}
 use Rattle.pico_base.specs.declared.numbers.Name.TheVariants.{Proc, Msg, Sem}
 use Rattle.number_maps.proofs.LookUps.{get-put-same, get-put-other}
 use Rattle.kernel_model.specs.Kernel.{Kernel}
-use Rattle.node_model.specs.Kinds.{Named, kind_of, number_of, is_same_kind, is_same_name, get_named, put_named, put_pair, put_all}
-use Rattle.node_model.specs.Bodies.{Body, Deeds, Gone, body_in}
+use Rattle.node_model.specs.Kinds.{Named, is_same_name, get_named, put_named, put_pair, put_all}
+use Rattle.node_model.specs.Bodies.{Deeds, body_in}
 use Rattle.node_model.specs.Serving.{parts_in}
-use Rattle.node_model.specs.Parcels.{all_gone}
 
 -- ---- names
 

@@ -1,10 +1,9 @@
 -- The numbers used after an entry: those before it, and the one of what it made.
-use Rattle.std.proofs.Common.{◌≡◌, ◌≢◌, ℕ, Bool, true, false, ◌&&◌, ◌||◌, List, Option, Some, None, refl, ap, sym, subst, ◌∙◌, inl, inr, nat_eq}
-use Rattle.std.specs.Prelude.{is_some, if◌then◌else◌}
-use Rattle.std.proofs.lemmas.Bool.{cases_eq, cases_Bool, eq-eqb, ne_eqb, eqb-true, false≢true}
+use Rattle.std.proofs.Common.{◌≡◌, ◌≢◌, ℕ, Bool, true, false, ◌&&◌, ◌||◌, List, Option, Some, None, refl, ap, sym, ◌∙◌, inl, inr, nat_eq}
+use Rattle.std.specs.Prelude.{is_some}
+use Rattle.std.proofs.lemmas.Bool.{cases_eq, eq-eqb, ne_eqb}
 use Rattle.pico_base.specs.declared.call.Call.{Call}
 use Rattle.pico_base.specs.declared.numbers.Kind.{Kind}
-use Rattle.pico_base.specs.declared.numbers.Kind.TheVariants as kinds
 use Rattle.pico_base.specs.declared.numbers.Name.{Name}
 use Rattle.pico_base.specs.declared.numbers.Name.TheVariants.{Proc, Msg, Sem}
 use Rattle.pico_base.specs.declared.reply.Reply.{Reply}
@@ -13,9 +12,8 @@ use Rattle.number_maps.proofs.Sets.{used-with-same, used-with-other}
 use Rattle.kernel_model.specs.Kernel.{Kernel}
 use Rattle.kernel_model.specs.Footprint.{used_of, grown_by}
 use Rattle.kernel_model.specs.Valid.{IsValid}
-use Rattle.node_model.specs.Kinds.{is_same_kind, kind_of, name_of, number_of}
+use Rattle.node_model.specs.Kinds.{is_same_kind, kind_of, number_of}
 use Rattle.kernel_moves.specs.Entering.{Enters, is_used_as, used_after}
-use Rattle.kernel_moves.proofs.Names.{other-name}
 
 -- the number of this kind is that of what was made
 abbrev pub is_made : Option Name → Kind → ℕ → Bool

@@ -1,7 +1,7 @@
 -- What an entry leaves of the processes that didn't make it: who lives lives on, and may do what it might before; who has
 -- ended stays so, or is gone; and the kernel stays valid.
-use Rattle.std.proofs.Common.{◌≡◌, ◌≢◌, ◌⊎◌, ℕ, Bool, true, false, not, List, [], ◌∷◌, Option, Some, None, refl, ap, sym, subst, ◌∙◌, inl, inr}
-use Rattle.std.specs.Prelude.{is_some, if◌then◌else◌, fold, Contains}
+use Rattle.std.proofs.Common.{◌≡◌, ◌≢◌, ℕ, Bool, true, false, not, List, [], ◌∷◌, Option, Some, None, refl, ap, sym, subst, ◌∙◌, inl, inr}
+use Rattle.std.specs.Prelude.{is_some, fold, Contains}
 use Rattle.std.specs.Option.{option_and_then}
 use Rattle.std.proofs.lemmas.Bool.{cases_eq, false≢true}
 use Rattle.pico_base.specs.declared.call.Call.{Call}
@@ -14,7 +14,7 @@ use Rattle.pico_base.specs.declared.signal.Sig.TheVariants.{Chld}
 use Rattle.number_maps.specs.Maps.{Numbered, get, put, is_used}
 use Rattle.number_maps.proofs.LookUps.{get-put-same, get-put-other}
 use Rattle.kernel_model.specs.Signals.{Signals, raise}
-use Rattle.kernel_model.specs.Row.{Alive, Allowance, Free, One, Spent, EndedChild, Family, ended_child, allowance_after_raise, family_after_end, ignores_children, raise_by_other, with_ended_child}
+use Rattle.kernel_model.specs.Row.{Alive, Allowance, Spent, EndedChild, ended_child, allowance_after_raise, family_after_end, ignores_children, raise_by_other, with_ended_child}
 use Rattle.kernel_model.specs.Kernel.{Kernel, Process, Parent, alive_in, living_at, with_alive, parent_in}
 use Rattle.kernel_model.specs.Kernel as kernel
 use Rattle.kernel_model.specs.Effect.{reply_alone}
@@ -29,9 +29,9 @@ use Rattle.kernel_laws.proofs.Members.{contains-first, contains-later, found-con
 use Rattle.kernel_laws.proofs.Moves.{Moves, after-step}
 use Rattle.kernel_laws.proofs.People.{from-living, to-living}
 use Rattle.kernel_laws.proofs.Plain.{by_test}
-use Rattle.kernel_laws.proofs.Steps.{Step, step}
+use Rattle.kernel_laws.proofs.Steps.{step}
 use Rattle.kernel_laws.proofs.Tables.{fresh-unused}
-use Rattle.kernel_moves.specs.Entering.{MayMake, Makes, IsAsFree, TurnsTo, LeavesOthers}
+use Rattle.kernel_moves.specs.Entering.{Makes, IsAsFree, TurnsTo, LeavesOthers}
 
 -- ---- what a process may do
 

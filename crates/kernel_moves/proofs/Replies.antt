@@ -1,5 +1,5 @@
 -- Which calls find a child, and what a call leaves of the size of a set and of a family.
-use Rattle.std.proofs.Common.{◌≡◌, ◌≢◌, ℕ, suc, Bool, true, false, not, ◌&&◌, ◌||◌, List, [], ◌∷◌, length, Option, Some, None, Result, Ok, Err, refl, ap, sym, subst, ◌∙◌}
+use Rattle.std.proofs.Common.{◌≡◌, ℕ, suc, Bool, true, false, List, [], ◌∷◌, length, Option, Some, None, Result, Ok, Err, refl, ap, sym, ◌∙◌}
 use Rattle.std.specs.Prelude.{if◌then◌else◌, fold, slice_get, nat_lt, nat_le, nat_eq, Contains}
 use Rattle.std.specs.List.{list_any}
 use Rattle.std.proofs.lemmas.Bool.{false≢true}
@@ -18,12 +18,12 @@ use Rattle.pico_base.specs.declared.signal.SigArg.TheVariants.{Zero, Is, Bad}
 use Rattle.kernel_model.specs.Signals.{Signals, act_on}
 use Rattle.kernel_model.specs.Queue.{Queue, Received, send, receive, set_qbytes}
 use Rattle.kernel_model.specs.SemaphoreSet.{Semaphore, SemaphoreSet, Tried, Done as Tries, StopsAt, OutOfRange, op, op_after_trial, mark, mark_at, with_values, with_last, set_value, set_value_at, set_all, value_at, last_at, waiting_at, try_ops, values_of, max_operations, max_value}
-use Rattle.kernel_model.specs.Row.{Row, Family, Waited, Found, NotYet, NoChild, ended_child, wait}
+use Rattle.kernel_model.specs.Row.{Row, Waited, Found, NotYet, NoChild, ended_child, wait}
 use Rattle.kernel_model.specs.Fitting.{is_waitpid}
 use Rattle.kernel_laws.proofs.Members.{found-contained}
 use Rattle.kernel_laws.proofs.Plain.{by_test}
 use Rattle.node_model.specs.Bodies.{Body, Living, Ended, Gone, AQueue, ASet, Removed}
-use Rattle.node_model.specs.Carrying.{Done, act, change, done, is_own, is_removal, look, on_body, on_queue, on_row, on_set, reap, signal, take_message}
+use Rattle.node_model.specs.Carrying.{Done, act, change, is_own, is_removal, look, on_body, on_queue, on_row, on_set, reap, signal, take_message}
 use Rattle.serve_laws.specs.Laws.{is_found}
 use Rattle.kernel_moves.specs.Entering.{family_after}
 

@@ -1,13 +1,14 @@
 -- What an entry of the history comes to: a call of a process is the kernel's transition, with this reply, and what that
 -- leaves of bodies, of used numbers, of keys, and of what other processes may do.
-use Rattle.std.specs.Prelude.{◌≡◌, ◌≢◌, ◌⊎◌, ℕ, Bool, true, false, not, List, nat_eq, if◌then◌else◌, Option, Some, None}
+use Rattle.std.specs.Prelude.{◌≡◌, ◌≢◌, ◌⊎◌, ℕ, Bool, true, false, not, List, nat_eq, if◌then◌else◌, Option, Some, None, Contains}
 use Rattle.std.specs.List.{filter}
 use Rattle.std.specs.Option.{option_map, option_and_then}
 use Rattle.pico_base.specs.declared.call.Call.{Call}
 use Rattle.pico_base.specs.declared.call.Call.TheVariants as calls
 use Rattle.pico_base.specs.declared.numbers.Kind.{Kind}
 use Rattle.pico_base.specs.declared.numbers.Name.{Name}
-use Rattle.pico_base.specs.declared.numbers.Name.TheVariants.{Proc, Msg, Sem}
+use Rattle.pico_base.specs.declared.numbers.Name.TheVariants.{Proc}
+use Rattle.pico_base.specs.declared.reply.Ending.{Ending}
 use Rattle.pico_base.specs.declared.reply.Entry.{Entry}
 use Rattle.pico_base.specs.declared.reply.Reply.{Reply}
 use Rattle.pico_base.specs.declared.reply.Reply.TheVariants as replies
@@ -16,7 +17,7 @@ use Rattle.pico_base.specs.declared.signal.Sig.{Sig}
 use Rattle.key_table.specs.declared.Bound.{Bound}
 use Rattle.number_maps.specs.Maps.{Numbered, get, is_used}
 use Rattle.number_maps.specs.Rising.{IsRising}
-use Rattle.kernel_model.specs.Row.{Alive, Family, Row, lists, without_ended}
+use Rattle.kernel_model.specs.Row.{Alive, Family, Row, ended_child, lists, without_ended}
 use Rattle.kernel_model.specs.Kernel.{Kernel, Process, living_at, opening}
 use Rattle.kernel_model.specs.Kernel as kernel
 use Rattle.kernel_model.specs.Effect.{reply_alone}
@@ -25,10 +26,10 @@ use Rattle.kernel_model.specs.Transition.{successor, transition, may_make, is_sp
 use Rattle.kernel_model.specs.History.{Replays, number_in}
 use Rattle.kernel_model.specs.Fitting.{Places, FitsFrom, opening_places}
 use Rattle.kernel_model.specs.Footprint.{used_of, grown_by}
-use Rattle.kernel_model.specs.Valid.{IsValid}
+use Rattle.kernel_model.specs.Valid.{IsValid, ListsEnded}
 use Rattle.kernel_laws.specs.Processes.{NoneListsItself}
 use Rattle.node_model.specs.Kinds.{kind_of, number_of, is_same_kind}
-use Rattle.node_model.specs.Bodies.{Body, Living, body_in}
+use Rattle.node_model.specs.Bodies.{Body, Living, Ended, Gone, body_in}
 
 -- ---- before the entry
 
@@ -148,6 +149,35 @@ pub record IsChildOf (k : Kernel) (pid parent : ℕ) (body : Body) : Type 0 wher
   pub is : body_in k (Proc parent) ≡ body
   pub listed : (row : Row) → body ≡ Living row → lists row.family pid ≡ true
   pub only : (p : ℕ) (a : Alive) → living_at k p ≡ Some a → lists a.row.family pid ≡ true → p ≡ parent
+
+-- by how the kernel has a process: a living parent lists it among the living, keeps its ending, or forgot it
+abbrev pub IsChildIn : Kernel → ℕ → ℕ → Process → Type 0
+IsChildIn k parent pid (kernel.Living alive) =
+    (a : Alive) → living_at k parent ≡ Some a → lists a.row.family pid ≡ true
+IsChildIn k parent pid (kernel.Ended ending) = (a : Alive) × (living_at k parent ≡ Some a) × ListsEnded a pid
+IsChildIn k parent pid kernel.Gone =
+    (a : Alive) → living_at k parent ≡ Some a → lists a.row.family pid ≡ false
+
+-- the number leads to a process, which is this one's child
+pub record IsKin (k : Kernel) (parent pid : ℕ) : Type 0 where
+  pub process : Process
+  pub is : get k.processes pid ≡ Some process
+  pub child : IsChildIn k parent pid process
+
+-- the same by bodies
+abbrev pub KeepsEnding : Row → ℕ → Type 0
+KeepsEnding row pid = (ending : Ending) × Contains row.family.ended (ended_child pid ending)
+
+abbrev pub AreKin : Body → ℕ → Body → Type 0
+AreKin parent pid (Living row) = (r : Row) → parent ≡ Living r → lists r.family pid ≡ true
+AreKin parent pid (Ended ending) = (r : Row) × (parent ≡ Living r) × KeepsEnding r pid
+AreKin parent pid Gone = (r : Row) → parent ≡ Living r → lists r.family pid ≡ false
+AreKin parent pid body = ⊥
+
+-- a body that is as before for its family: the same one, or another row with the same children
+pub data SameKind (before after : Body) : Type 0 where
+  Same : after ≡ before → SameKind before after
+  Lives : (r s : Row) → before ≡ Living r → after ≡ Living s → s.family ≡ r.family → SameKind before after
 
 -- ---- the history
 
