@@ -1,6 +1,6 @@
 -- A body's bytes are read as that body.
-use Rattle.std.proofs.Common.{◌≡◌, ◌∙◌, ℕ, zero, suc, ◌<◌, ◌≤◌, Bool, true, false, not, ◌&&◌, nat_eq, nat_le, List, [], ◌∷◌, ◌++◌, length, take, drop, get_or, Option, Some, None, refl, sym, ap, subst, arith}
-use Rattle.std.specs.Prelude.{if◌then◌else◌, bytes_eq, slice_index}
+use Rattle.std.proofs.Common.{◌≡◌, ◌∙◌, ℕ, zero, suc, Bool, true, false, not, ◌&&◌, nat_eq, nat_le, List, [], ◌∷◌, ◌++◌, length, take, drop, Some, None, refl, ap, arith}
+use Rattle.std.specs.Prelude.{if◌then◌else◌, bytes_eq}
 use Rattle.std.specs.List.{list_all, list_any}
 use Rattle.std.specs.Option.{option_and_then, option_map}
 use Rattle.std.proofs.lemmas.Bool.{eq-eqb, le-leb}
@@ -10,29 +10,23 @@ use Rattle.pico_base.specs.declared.reply.Ending.{Ending}
 use Rattle.pico_base.specs.declared.reply.Ending.TheVariants.{Exited, Killed}
 use Rattle.pico_base.specs.declared.signal.Act.{Act}
 use Rattle.pico_base.specs.declared.signal.Act.TheVariants.{Dfl}
-use Rattle.pico_base.specs.declared.signal.Sig.{Sig}
 use Rattle.pico_base.specs.declared.signal.Sig.TheVariants.{Hup, Int, Quit, Kill, Usr1, Usr2, Pipe, Alrm, Term, Chld}
 use Rattle.pico_base.specs.Signal.{all_signals}
-use Rattle.kernel_model.specs.Queue.{Queue}
 use Rattle.kernel_model.specs.Row.{Family, Row}
-use Rattle.kernel_model.specs.SemaphoreSet.{SemaphoreSet}
 use Rattle.kernel_model.specs.Signals.{Signals}
 use Rattle.signal_state.specs.Held.{AreHeld, is_kept}
 use Rattle.signal_state.specs.Spelling.{signal_bytes, HasBytes as HasSignalBytes}
 use Rattle.signal_state.proofs.Bodies.{all_signals-pass, fields-again, held-parts, signal_bytes-length}
 use Rattle.fork_wait.specs.Children.{AreChildren, are_different, children}
-use Rattle.fork_wait.specs.Reading.{ending_from, family_at}
 use Rattle.fork_wait.specs.Spelling.{ending_bytes, family_bytes, HasBytes as HasFamilyBytes}
 use Rattle.fork_wait.proofs.Bodies.{bytes_again}
 use Rattle.sysv_msg.specs.Body.{body as queue_bytes}
-use Rattle.sysv_msg.specs.Reading.{queue_at}
 use Rattle.sysv_msg.proofs.Bodies.{queue_again}
 use Rattle.sysv_sem.specs.Body.{body as set_bytes}
-use Rattle.sysv_sem.specs.Reading.{set_at}
 use Rattle.sysv_sem.proofs.Semaphores.{set_again}
 use Rattle.node_model.specs.Bodies.{Body, Living, Ended, Gone, AQueue, ASet, Removed}
 use Rattle.node_model.specs.Spelling.{are_children, are_signals, body_bytes, family_if, is_default, max_children, pack, read_body, read_deed, read_ending, read_family, read_process, read_queue, read_row, read_set, read_signals, row_bytes, row_with, signals_from, signals_if, signals_size}
-use Rattle.deeds_read.specs.Spelled.{HasBytes, HasQueueBytes, HasRowBytes, HasSetBytes}
+use Rattle.deeds_read.specs.Spelled.{HasBytes, HasRowBytes}
 
 -- ---- signals
 

@@ -1,10 +1,8 @@
 -- The bodies that have bytes, by the kind of their name: all that a kernel of a run can have.
-use Rattle.std.specs.Prelude.{ℕ, ◌<◌, ◌^◌}
+use Rattle.std.specs.Prelude.{◌<◌, ◌^◌}
 use Rattle.std.specs.List.{AllByRecursion}
 use Rattle.pico_base.specs.declared.numbers.Name.{Name}
 use Rattle.pico_base.specs.declared.numbers.Name.TheVariants.{Proc, Msg, Sem}
-use Rattle.pico_base.specs.declared.reply.Ending.{Ending}
-use Rattle.pico_base.specs.declared.reply.Ending.TheVariants.{Exited, Killed}
 use Rattle.kernel_model.specs.Queue.{Queue}
 use Rattle.kernel_model.specs.Row.{Row}
 use Rattle.kernel_model.specs.SemaphoreSet.{SemaphoreSet}

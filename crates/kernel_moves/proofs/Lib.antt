@@ -16,3 +16,4 @@ pub mod History
 pub mod Places
 pub mod Kin
 pub mod ForkedOnce
+pub mod Listed
