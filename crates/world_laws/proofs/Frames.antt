@@ -30,7 +30,7 @@ pub all-weaker : {A : Type 0} {P Q : A → Type 0} → ((x : A) → P x → Q x)
 all-weaker g [] all = tt
 all-weaker g (x ∷ xs) all = (g x all.0, all-weaker g xs all.1)
 
-contains-none : (frame : Frame) → Contains [] frame → ⊥
+pub contains-none : (frame : Frame) → Contains [] frame → ⊥
 contains-none frame there = omega (arith, there.1)
 
 pub contains-one : (f g : Frame) → Contains (f ∷ []) g → f ≡ g

@@ -6,3 +6,4 @@ pub mod Stays
 pub mod Changes
 pub mod Frames
 pub mod LeftAlone
+pub mod Steps
