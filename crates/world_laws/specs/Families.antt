@@ -14,7 +14,7 @@ use Rattle.kernel_model.specs.Valid.{ListsEnded}
 use Rattle.kernel_model.specs.Script.{Vars}
 use Rattle.kernel_model.specs.Fitting.{Place, Places, block_place, block_at}
 use Rattle.node_model.specs.Kinds.{none_named, get_named}
-use Rattle.node_model.specs.Bodies.{Living as LivingBody}
+use Rattle.node_model.specs.Bodies.{Living as LivingBody, Deeds}
 use Rattle.node_model.specs.Spelling.{pack}
 use Rattle.world_model.specs.Node.{Node, Stage, Unborn, Living, Leaving, Left, Over, unborn_node}
 use Rattle.world_model.specs.Lives.{names_block, is_new_row}
@@ -26,14 +26,14 @@ use Rattle.world_laws.specs.Names.{forker}
 -- ---- a node
 
 -- it holds its process's row while that makes calls or leaves, and nothing before it is born and once it has left
-pub record HoldsRow (n : Node) : Type 0 where
+pub record HoldsRow (deeds : Deeds) (pid : ℕ) : Type 0 where
   pub row : Row
-  pub here : get_named n.deeds (Proc n.pid) ≡ Some (LivingBody row)
+  pub here : get_named deeds (Proc pid) ≡ Some (LivingBody row)
 
 abbrev pub HoldsIn : ℕ → Node → Stage → Type 0
 HoldsIn p n Unborn = n ≡ unborn_node p
-HoldsIn p n Living = HoldsRow n
-HoldsIn p n Leaving = HoldsRow n
+HoldsIn p n Living = HoldsRow n.deeds n.pid
+HoldsIn p n Leaving = HoldsRow n.deeds n.pid
 HoldsIn p n Left = n.deeds ≡ none_named
 HoldsIn p n Over = p ≡ 1
 
@@ -43,20 +43,20 @@ is_first_stage Over = true
 is_first_stage stage = false
 
 -- a born node's process has its number, its parent's, and the node whose block forks it
-pub record IsBorn (script : Script) (pids : ℕ → ℕ) (p : ℕ) (n : Node) : Type 0 where
-  pub pid : n.pid ≡ pids p
-  pub parent : p ≢ 1 → n.parent ≡ pids (forker script p)
-  pub parent_node : p ≢ 1 → n.parent_node ≡ forker script p
+pub record IsBorn (script : Script) (pids : ℕ → ℕ) (p : ℕ) (pid parent parent_node : ℕ) : Type 0 where
+  pub pid_is : pid ≡ pids p
+  pub parent_is : p ≢ 1 → parent ≡ pids (forker script p)
+  pub parent_node_is : p ≢ 1 → parent_node ≡ forker script p
   pub forked : pids p ≢ 0
 
-abbrev pub BornIn : Script → (ℕ → ℕ) → ℕ → Node → Stage → Type 0
-BornIn script pids p n Unborn = Unit {0}
-BornIn script pids p n stage = IsBorn script pids p n
+abbrev pub BornIn : Script → (ℕ → ℕ) → ℕ → ℕ → ℕ → ℕ → Stage → Type 0
+BornIn script pids p pid parent parent_node Unborn = Unit {0}
+BornIn script pids p pid parent parent_node stage = IsBorn script pids p pid parent parent_node
 
 pub record NodeHolds (script : Script) (pids : ℕ → ℕ) (born : ℕ → Bool) (p : ℕ) (n : Node) : Type 0 where
   pub number : n.number ≡ p
   pub holds : HoldsIn p n n.stage
-  pub birth : BornIn script pids p n n.stage
+  pub birth : BornIn script pids p n.pid n.parent n.parent_node n.stage
   pub first : p ≡ 1 → is_first_stage n.stage ≡ true
   pub others : p ≢ 1 → (n.stage ≡ Over) → ⊥
   -- a process's deed that says that it lives is where that process is at work
