@@ -7,3 +7,5 @@ pub mod Changes
 pub mod Frames
 pub mod LeftAlone
 pub mod Steps
+pub mod NameFacts
+pub mod Heads

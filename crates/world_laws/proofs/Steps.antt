@@ -114,17 +114,17 @@ low-cases (suc x) = inl (omega arith)
 pub square-of : (script : Script) (w : World) → IsShaped script w → Square (node_count script) w.streams
 square-of script w s = record { rows = s.rows; row = s.row }
 
-taken-here : (p q : ℕ) (frame : Frame) → taken p ((q, frame) ∷ []) p q ≡ frame ∷ []
+pub taken-here : (p q : ℕ) (frame : Frame) → taken p ((q, frame) ∷ []) p q ≡ frame ∷ []
 taken-here p q frame = rw (eq-eqb p p refl, eq-eqb q q refl) refl
 
-taken-not-to : (p to sender : ℕ) (takes : List (ℕ × Frame)) → to ≢ p → taken p takes to sender ≡ []
+pub taken-not-to : (p to sender : ℕ) (takes : List (ℕ × Frame)) → to ≢ p → taken p takes to sender ≡ []
 taken-not-to p to sender takes d = ap (λ b. frames_if b (sent_to sender takes)) (ne_eqb to p d)
 
 frames-of-none : (b : Bool) → frames_if b [] ≡ []
 frames-of-none true = refl
 frames-of-none false = refl
 
-taken-not-from : (p to q sender : ℕ) (frame : Frame) → sender ≢ q → taken p ((q, frame) ∷ []) to sender ≡ []
+pub taken-not-from : (p to q sender : ℕ) (frame : Frame) → sender ≢ q → taken p ((q, frame) ∷ []) to sender ≡ []
 taken-not-from p to q sender frame d =
     ap (λ b. frames_if (nat_eq to p) (frame_if b frame ++ [])) (ne_eqb sender q d) ∙ frames-of-none (nat_eq to p)
 
