@@ -9,3 +9,4 @@ pub mod LeftAlone
 pub mod Steps
 pub mod NameFacts
 pub mod Heads
+pub mod Middles
