@@ -10,3 +10,4 @@ pub mod Steps
 pub mod NameFacts
 pub mod Heads
 pub mod Middles
+pub mod Numbers

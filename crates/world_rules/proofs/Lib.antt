@@ -1,3 +1,4 @@
 pub mod Quiet
 pub mod Nodes
 pub mod Recalls
+pub mod Places
