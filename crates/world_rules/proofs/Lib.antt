@@ -2,3 +2,5 @@ pub mod Quiet
 pub mod Nodes
 pub mod Recalls
 pub mod Places
+pub mod Placings
+pub mod Suggestions

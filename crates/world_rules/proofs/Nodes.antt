@@ -1,5 +1,5 @@
 -- What holds of a node whose deeds of queues and sets are other ones.
-use Rattle.std.proofs.Common.{◌≡◌, ◌≢◌, ℕ, Bool, true, false, not, Some, refl, ap, sym, subst, ◌∙◌, Contains}
+use Rattle.std.proofs.Common.{◌≡◌, ◌≢◌, ℕ, Bool, true, false, not, ◌&&◌, Some, refl, ap, sym, subst, ◌∙◌, Contains}
 use Rattle.std.proofs.lemmas.Bool.{false≢true}
 use Rattle.pico_base.specs.declared.numbers.Name.{Name}
 use Rattle.pico_base.specs.declared.numbers.Name.TheVariants.{Proc, Msg, Sem}
@@ -10,8 +10,10 @@ use Rattle.node_model.specs.Kinds.{is_object, is_same_name, get_named, put_named
 use Rattle.node_model.specs.Bodies.{Body, Living as LivingBody, Deeds}
 use Rattle.node_model.specs.Watches.{Watches}
 use Rattle.world_model.specs.Node.{Node, Stage, Unborn, Living, Leaving, Left, Over, is_unborn, unborn_node}
+use Rattle.node_model.specs.Directory.{Directory}
+use Rattle.world_model.specs.Step.{with_directory}
 use Rattle.world_laws.specs.Sights.{is_born_stage}
-use Rattle.world_laws.specs.Families.{NodeHolds, HoldsIn, HoldsRow}
+use Rattle.world_laws.specs.Families.{NodeHolds, HoldsIn, HoldsRow, is_first_stage}
 use Rattle.world_laws.proofs.NameFacts.{has_left}
 
 -- a queue's or set's deed leaves the processes' alone
@@ -71,3 +73,33 @@ node-with-objects script pids born p n deeds watches is_born here e h =
       rows = λ pid row there. h.rows pid row (ap (λ (m : Numbered Body). get m pid) (sym e) ∙ there);
       owners = h.owners;
     }
+
+first-stage : (stage : Stage) → is_first_stage stage ≡ true → (is_born_stage stage ≡ true) × (has_left stage ≡ false)
+first-stage Living h = (refl, refl)
+first-stage Over h = (refl, refl)
+first-stage Unborn h = absurd (false≢true h)
+first-stage Leaving h = absurd (false≢true h)
+first-stage Left h = absurd (false≢true h)
+
+-- node 1 is born, and stays
+pub leader-stage : (script : Script) (pids : ℕ → ℕ) (born : ℕ → Bool) (p : ℕ) (n : Node) → p ≡ 1
+    → NodeHolds script pids born p n → (is_born_stage n.stage ≡ true) × (has_left n.stage ≡ false)
+leader-stage script pids born p n e h = first-stage n.stage (h.first e)
+
+-- the leader, with another directory
+pub node-with-directory : (script : Script) (pids : ℕ → ℕ) (born : ℕ → Bool) (p : ℕ) (n : Node) (d : Directory)
+    → p ≡ 1 → NodeHolds script pids born p n → NodeHolds script pids born p (with_directory n d)
+node-with-directory script pids born p n d e h =
+    let stage = leader-stage script pids born p n e h
+    in record {
+      number = h.number;
+      holds = holds-stay p n (with_directory n d) n.stage stage.0 stage.1 refl refl h.holds;
+      birth = h.birth;
+      first = h.first;
+      others = h.others;
+      rows = h.rows;
+      owners = h.owners;
+    }
+
+pub and-true : (a b : Bool) → a ≡ true → b ≡ true → (a && b) ≡ true
+and-true a b h g = rw (h, g) refl
