@@ -229,9 +229,8 @@ ranges-of-all-others call changed x same name to sender (f ∷ fs) h =
 
 -- ---- what only some events have
 
--- neither a process's birth or end, nor new numbers
+-- neither a process's birth, nor its end
 abbrev pub is_plain : Frame → Bool
-is_plain (frames.Lease kind first) = false
 is_plain (frames.Checkpoint pid parent deed vars) = false
 is_plain (frames.Leaving pid parent parent_node) = false
 is_plain frames.RecallAll = false
@@ -258,9 +257,12 @@ pub no-birth : (frame : Frame) → is_plain frame ≡ true → filter is_checkpo
 no-birth (frames.Checkpoint pid parent deed vars) h = absurd (false≢true h)
 no-birth frame h = refl
 
-pub no-lease : (kind : Kind) (frame : Frame) → is_plain frame ≡ true → flat_map (lease_in kind) (frame ∷ []) ≡ []
-no-lease kind (frames.Lease other first) h = absurd (false≢true h)
-no-lease kind frame h = refl
+-- none of them brings new numbers
+abbrev pub BringNoLease : List (ℕ × Frame) → Type 0
+BringNoLease pairs = (kind : Kind) → AllByRecursion (λ s. lease_in kind s.1 ≡ []) pairs
+
+pub no-lease : (kind : Kind) (frame : Frame) → lease_in kind frame ≡ [] → flat_map (lease_in kind) (frame ∷ []) ≡ []
+no-lease kind frame h = just-one (lease_in kind) frame h
 
 pub no-parcel-left : (frame : Frame) (parcel : Parcel) → is_plain frame ≡ true → frame ≢ frames.Left parcel
 no-parcel-left frame parcel h e = false≢true (subst (λ f. is_plain f ≡ true) e h)

@@ -40,7 +40,7 @@ use Rattle.world_laws.specs.Invariant.{MayBe, FramesFit}
 use Rattle.world_laws.proofs.Sends.{frame_if, sent_to}
 use Rattle.world_laws.proofs.Stays.{IsMore, SameName, SameCall, SameWay, SameKind, node-born, may-be-born}
 use Rattle.world_laws.proofs.Changes.{Changes, frames_if, taken, sent, IsListMap, filter-is-list-map, flat_map-is-list-map, made-before, made-after, stayed, only-stayed, made-same, read-same}
-use Rattle.world_laws.proofs.Frames.{all-weaker, contains-none, sent-is, concerns, no-deed, no-checkpoint, no-steps, no-ranges, no-places, no-news, not-about, is_plain, ArePlain, no-leaving, no-recall-all, no-left, no-birth, no-lease, no-parcel-left, no-parcel-sent}
+use Rattle.world_laws.proofs.Frames.{all-weaker, contains-none, sent-is, concerns, no-deed, no-checkpoint, no-steps, no-ranges, no-places, no-news, not-about, is_plain, ArePlain, BringNoLease, no-leaving, no-recall-all, no-left, no-birth, no-lease, no-parcel-left, no-parcel-sent}
 
 -- ---- what a rule shows of the rest
 
@@ -334,7 +334,7 @@ module _ (script : Script) (p : ℕ) (w w' : World) (n : Node) (takes sends : Li
       → ((number : ℕ) → is_used (used_of k' kind) number ≡ is_used (used_of k kind) number)
       → for_kind n.leases kind ≡ lease_at w kind p
       → for_kind (directory_of w').ranges kind ≡ for_kind (directory_of w).ranges kind
-      → ArePlain takes → ArePlain sends → SameKind (kind_sight w k kind) (kind_sight w' k' kind)
+      → BringNoLease takes → BringNoLease sends → SameKind (kind_sight w k kind) (kind_sight w' k' kind)
   kind-left-alone k k' kind used own ranges plain_taken plain_sent =
       record {
         used = λ number. sym (used number);
@@ -342,8 +342,8 @@ module _ (script : Script) (p : ℕ) (w w' : World) (n : Node) (takes sends : Li
             (λ (m : Node). for_kind m.leases kind) own h);
         coming = λ h. sym (same-made (λ t s fs. flat_map (lease_in kind) fs)
             (λ t s. flat_map-is-list-map (lease_in kind))
-            (all-weaker (λ s. no-lease kind s.1) takes plain_taken)
-            (all-weaker (λ s. no-lease kind s.1) sends plain_sent) h 1);
+            (all-weaker (λ s. no-lease kind s.1) takes (plain_taken kind))
+            (all-weaker (λ s. no-lease kind s.1) sends (plain_sent kind)) h 1);
         ranges = sym ranges;
       }
 

@@ -144,7 +144,9 @@ has-call-born script p born more x call m h =
       used_up = h.used_up;
       between = between-born p born more x.call m h.between;
       so_far = h.so_far;
+      at_work = h.at_work;
       tickets = h.tickets;
+      try_left = h.try_left;
     }
 
 call-or-none-born : (script : Script) (p : ℕ) (born more : ℕ → Bool) (x : CallSight) (call : Option Call)

@@ -16,6 +16,7 @@ use Rattle.world_model.specs.Starting.{run}
 use Rattle.world_model.specs.World.{World, Streams, node_at, stream, stream_in, with_stream, with_all_sent, node_count, world_after, after_turn, takes_at, runs_at, step, is_number}
 use Rattle.world_laws.specs.Places.{Beside}
 use Rattle.world_laws.specs.Sights.{node_of, frames_to}
+use Rattle.world_laws.specs.Callers.{HasTries}
 use Rattle.world_laws.specs.Invariant.{IsShaped, Holds}
 use Rattle.world_laws.proofs.Streams.{Square, square-with, stream-same, stream-other}
 use Rattle.world_laws.proofs.Sends.{AreToNodes, IsToNode, frame_if, sent_to, square-sent, all-sent, none-sent}
@@ -175,9 +176,9 @@ sends-behind n v p s square to_nodes low high to sender =
 
 shaped-after : (script : Script) (v : World) (p : ℕ) (s : Step) → v.script ≡ script
     → length v.nodes ≡ node_count script → Square (node_count script) v.streams
-    → AreToNodes (node_count script) s.sends
+    → AreToNodes (node_count script) s.sends → HasTries script
     → IsShaped script (world_after v p s)
-shaped-after script v p s of_script nodes square to_nodes =
+shaped-after script v p s of_script nodes square to_nodes tries =
     let sent_square : Square (node_count script) (with_all_sent p v.streams s.sends) =
     square-sent (node_count script) p v.streams s.sends square to_nodes
     in record {
@@ -185,6 +186,7 @@ shaped-after script v p s of_script nodes square to_nodes =
       nodes = length-set v.nodes (p - 1) s.node ∙ nodes;
       rows = sent_square.rows;
       row = sent_square.row;
+      tries = tries;
     }
 
 node-after : (v : World) (p : ℕ) (s : Step) → 1 ≤ p → p ≤ length v.nodes → node_of (world_after v p s) p ≡ s.node
@@ -213,7 +215,7 @@ module _ (script : Script) (w : World) (shape : IsShaped script w) where
   changes-by-run p s low high to_nodes =
       let square : Square (node_count script) w.streams = square-of script w shape
       in record {
-        shape = shaped-after script w p s shape.of_script shape.nodes square to_nodes;
+        shape = shaped-after script w p s shape.of_script shape.nodes square to_nodes shape.tries;
         here = node-after w p s low (subst (λ n. p ≤ n) (sym shape.nodes) high);
         others = λ x d. node-elsewhere w p s low x d;
         journal = refl;
@@ -229,7 +231,7 @@ module _ (script : Script) (w : World) (shape : IsShaped script w) where
       let square : Square (node_count script) (with_stream w.streams p q rest) =
       square-with (node_count script) w.streams p q rest (square-of script w shape) h.low h.high
       in record {
-        shape = shaped-after script (world_without w p q rest) p s shape.of_script shape.nodes square to_nodes;
+        shape = shaped-after script (world_without w p q rest) p s shape.of_script shape.nodes square to_nodes shape.tries;
         here = node-after (world_without w p q rest) p s h.low (subst (λ n. p ≤ n) (sym shape.nodes) h.high);
         others = λ x d. node-elsewhere (world_without w p q rest) p s h.low x d;
         journal = refl;

@@ -1,12 +1,13 @@
 -- What holds of one node's call: it is in one place, is the call due there, and may be made.
-use Rattle.std.specs.Prelude.{◌≡◌, ◌≢◌, ◌⊎◌, ◌≤◌, ℕ, ◌+◌, Bool, true, false, ◌&&◌, nat_eq, List, [], ◌∷◌, Option, Some, None, take, sum_by}
-use Rattle.std.specs.List.{filter}
+use Rattle.std.specs.Prelude.{◌≡◌, ◌≢◌, ◌⊎◌, ◌≤◌, ℕ, ◌+◌, Bool, true, false, ◌&&◌, nat_eq, List, [], ◌∷◌, Option, Some, None, take, slice_get, sum_by}
+use Rattle.std.specs.List.{filter, AllByRecursion}
 use Rattle.pico_base.specs.declared.call.Call.{Call}
 use Rattle.pico_base.specs.declared.call.Home.{Home}
 use Rattle.pico_base.specs.declared.call.Home.TheVariants as homes
 use Rattle.pico_base.specs.declared.numbers.Kind.{Kind}
 use Rattle.pico_base.specs.declared.numbers.Name.{Name}
 use Rattle.pico_base.specs.declared.reply.Reply.{Reply}
+use Rattle.pico_base.specs.declared.script.Line.{Line}
 use Rattle.pico_base.specs.declared.script.Script.{Script}
 use Rattle.pico_base.specs.Home.{home_of}
 use Rattle.rpc_frame.specs.declared.asked.Asked.{Asked}
@@ -186,6 +187,14 @@ IsBetween p born place = Unit {0}
 abbrev pub tries_made : Script → ℕ → Caller → ℕ
 tries_made script p c = sum_by (λ line. line.tries) (take c.line (lines_of script p)) + c.tried
 
+-- the line reached may be tried once more
+abbrev pub HasTryLeft : Script → ℕ → Caller → Type 0
+HasTryLeft script p c = (line : Line) → slice_get (lines_of script p) c.line ≡ Some line → c.tried + 1 ≤ line.tries
+
+-- each line of the script is tried once at least
+abbrev pub HasTries : Script → Type 0
+HasTries script = (p : ℕ) → AllByRecursion (λ line. 1 ≤ line.tries) (lines_of script p)
+
 -- not carried out: the history is at the node's place, where the call is due, and its process may make it
 pub record IsToBeMade (script : Script) (p : ℕ) (x : CallSight) (call : Call) : Type 0 where
   pub there : x.place ≡ Some (caller_place script p x.caller)
@@ -208,6 +217,12 @@ pub record HasEnded (x : CallSight) : Type 0 where
   pub over : last.left ≡ []
   pub dead : x.alive ≡ None
 
+-- a node has a call under way while its process makes calls, and once it leaves
+abbrev pub is_at_work : Stage → Bool
+is_at_work Unborn = false
+is_at_work Over = false
+is_at_work stage = true
+
 abbrev pub IsSoFar : Script → ℕ → CallSight → Call → CallPlace → Type 0
 IsSoFar script p x call (InAnswer h reply) = IsMade script p x call reply
 IsSoFar script p x call Ends = IsToBeMade script p x call ⊎ HasEnded x
@@ -219,7 +234,9 @@ pub record HasCall (script : Script) (p : ℕ) (born : ℕ → Bool) (x : CallSi
   pub used_up : lease_is_over x.call x.leases
   pub between : IsBetween p born x.call
   pub so_far : IsSoFar script p x call x.call
+  pub at_work : is_at_work x.stage ≡ true
   pub tickets : x.caller.ticket ≤ tries_made script p x.caller + 1
+  pub try_left : HasTryLeft script p x.caller
 
 -- no call is under way: the process may go on, or it has ended, or it isn't there yet
 pub record IsFree (script : Script) (p : ℕ) (x : CallSight) : Type 0 where
@@ -227,6 +244,7 @@ pub record IsFree (script : Script) (p : ℕ) (x : CallSight) : Type 0 where
   pub alive : Alive
   pub lives : x.alive ≡ Some alive
   pub tickets : x.caller.ticket ≤ tries_made script p x.caller
+  pub try_left : HasTryLeft script p x.caller
 
 abbrev pub FreeIn : Script → ℕ → CallSight → Stage → Type 0
 FreeIn script p x Unborn = Unit {0}

@@ -22,7 +22,7 @@ use Rattle.world_model.specs.World.{World, node_count}
 use Rattle.world_laws.specs.Places.{DeedPlace, Beside}
 use Rattle.world_laws.specs.Sights.{node_of, frames_to, directory_of, stage_of, is_born_in}
 use Rattle.world_laws.specs.Names.{NameHolds, name_sight, forker}
-use Rattle.world_laws.specs.Callers.{CallHolds, call_sight}
+use Rattle.world_laws.specs.Callers.{CallHolds, call_sight, HasTries}
 use Rattle.world_laws.specs.Ways.{Way, way_sight, knows_parent, under_way_of, IsParcelIn, HasSender}
 use Rattle.world_laws.specs.Ranges.{KindHolds, kind_sight, FewRanges, KeysHold}
 use Rattle.world_laws.specs.Families.{NodeHolds, PidsHold, FamilyHolds, checkpoints_to}
@@ -34,6 +34,7 @@ pub record IsShaped (script : Script) (w : World) : Type 0 where
   pub nodes : length w.nodes ≡ node_count script
   pub rows : length w.streams ≡ node_count script
   pub row : (p : ℕ) → p < node_count script → length (get_or w.streams p []) ≡ node_count script
+  pub tries : HasTries script
 
 -- the leader stays, and it knows each name once
 pub record IsLeading (d : Directory) : Type 0 where

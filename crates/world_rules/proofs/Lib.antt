@@ -4,3 +4,4 @@ pub mod Recalls
 pub mod Places
 pub mod Placings
 pub mod Suggestions
+pub mod Grants

@@ -46,7 +46,7 @@ row-stays : (deeds deeds' : Deeds) (pid : ℕ) → deeds'.processes ≡ deeds.pr
 row-stays deeds deeds' pid e h =
     record { row = h.row; here = ap (λ (m : Numbered Body). get m pid) e ∙ h.here }
 
-holds-stay : (p : ℕ) (n m : Node) (stage : Stage) → is_born_stage stage ≡ true → has_left stage ≡ false
+pub holds-stay : (p : ℕ) (n m : Node) (stage : Stage) → is_born_stage stage ≡ true → has_left stage ≡ false
     → m.pid ≡ n.pid
     → m.deeds.processes ≡ n.deeds.processes → HoldsIn p n stage → HoldsIn p m stage
 holds-stay p n m Unborn born here pid e h = absurd (false≢true born)
