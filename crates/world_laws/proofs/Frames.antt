@@ -229,9 +229,8 @@ ranges-of-all-others call changed x same name to sender (f ∷ fs) h =
 
 -- ---- what only some events have
 
--- neither a process's birth, nor its end
+-- nothing of a process's end
 abbrev pub is_plain : Frame → Bool
-is_plain (frames.Checkpoint pid parent deed vars) = false
 is_plain (frames.Leaving pid parent parent_node) = false
 is_plain frames.RecallAll = false
 is_plain (frames.Left parcel) = false
@@ -253,9 +252,12 @@ pub no-left : (frame : Frame) → is_plain frame ≡ true → filter is_left_fra
 no-left (frames.Left parcel) h = absurd (false≢true h)
 no-left frame h = refl
 
-pub no-birth : (frame : Frame) → is_plain frame ≡ true → filter is_checkpoint_frame (frame ∷ []) ≡ []
-no-birth (frames.Checkpoint pid parent deed vars) h = absurd (false≢true h)
-no-birth frame h = refl
+-- none of them brings a process
+abbrev pub BringNoBirth : List (ℕ × Frame) → Type 0
+BringNoBirth pairs = AllByRecursion (λ s. is_checkpoint_frame s.1 ≡ false) pairs
+
+pub no-birth : (frame : Frame) → is_checkpoint_frame frame ≡ false → filter is_checkpoint_frame (frame ∷ []) ≡ []
+no-birth frame h = dropped is_checkpoint_frame frame h
 
 -- none of them brings new numbers
 abbrev pub BringNoLease : List (ℕ × Frame) → Type 0

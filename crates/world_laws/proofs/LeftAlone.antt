@@ -40,7 +40,7 @@ use Rattle.world_laws.specs.Invariant.{MayBe, FramesFit}
 use Rattle.world_laws.proofs.Sends.{frame_if, sent_to}
 use Rattle.world_laws.proofs.Stays.{IsMore, SameName, SameCall, SameWay, SameKind, node-born, may-be-born}
 use Rattle.world_laws.proofs.Changes.{Changes, frames_if, taken, sent, IsListMap, filter-is-list-map, flat_map-is-list-map, made-before, made-after, stayed, only-stayed, made-same, read-same}
-use Rattle.world_laws.proofs.Frames.{all-weaker, contains-none, sent-is, concerns, no-deed, no-checkpoint, no-steps, no-ranges, no-places, no-news, not-about, is_plain, ArePlain, BringNoLease, no-leaving, no-recall-all, no-left, no-birth, no-lease, no-parcel-left, no-parcel-sent}
+use Rattle.world_laws.proofs.Frames.{all-weaker, contains-none, sent-is, concerns, no-deed, no-checkpoint, no-steps, no-ranges, no-places, no-news, not-about, is_plain, ArePlain, BringNoBirth, no-leaving, no-recall-all, no-left, no-birth, no-lease, no-parcel-left, no-parcel-sent}
 
 -- ---- what a rule shows of the rest
 
@@ -334,7 +334,8 @@ module _ (script : Script) (p : ℕ) (w w' : World) (n : Node) (takes sends : Li
       → ((number : ℕ) → is_used (used_of k' kind) number ≡ is_used (used_of k kind) number)
       → for_kind n.leases kind ≡ lease_at w kind p
       → for_kind (directory_of w').ranges kind ≡ for_kind (directory_of w).ranges kind
-      → BringNoLease takes → BringNoLease sends → SameKind (kind_sight w k kind) (kind_sight w' k' kind)
+      → AllByRecursion (λ s. lease_in kind s.1 ≡ []) takes → AllByRecursion (λ s. lease_in kind s.1 ≡ []) sends
+      → SameKind (kind_sight w k kind) (kind_sight w' k' kind)
   kind-left-alone k k' kind used own ranges plain_taken plain_sent =
       record {
         used = λ number. sym (used number);
@@ -342,23 +343,30 @@ module _ (script : Script) (p : ℕ) (w w' : World) (n : Node) (takes sends : Li
             (λ (m : Node). for_kind m.leases kind) own h);
         coming = λ h. sym (same-made (λ t s fs. flat_map (lease_in kind) fs)
             (λ t s. flat_map-is-list-map (lease_in kind))
-            (all-weaker (λ s. no-lease kind s.1) takes (plain_taken kind))
-            (all-weaker (λ s. no-lease kind s.1) sends (plain_sent kind)) h 1);
+            (all-weaker (λ s. no-lease kind s.1) takes plain_taken)
+            (all-weaker (λ s. no-lease kind s.1) sends plain_sent) h 1);
         ranges = sym ranges;
       }
 
   pub family-left-alone : (pids : ℕ → ℕ) (places : Places) (k : Kernel) (deed deed' : ℕ → DeedPlace) (x : ℕ)
-      → ((pid : ℕ) → deed' pid ≡ deed pid) → ArePlain takes → ArePlain sends
-      → FamilyHolds script pids places k deed (checkpoints_to script w x) x
-      → FamilyHolds script pids places k deed' (checkpoints_to script w' x) x
-  family-left-alone pids places k deed deed' x same plain_taken plain_sent h =
-      subst (λ fs. FamilyHolds script pids places k deed' fs x)
+      → ((pid : ℕ) → deed' pid ≡ deed pid) → (x ≡ p → n.stage ≡ stage_of w p) → BringNoBirth takes → BringNoBirth sends
+      → FamilyHolds script pids places k deed (checkpoints_to script w x) (stage_of w x) x
+      → FamilyHolds script pids places k deed' (checkpoints_to script w' x) (stage_of w' x) x
+  family-left-alone pids places k deed deed' x same own plain_taken plain_sent h =
+      subst (λ stage. FamilyHolds script pids places k deed' (checkpoints_to script w' x) stage x)
+      (sym (stage-same (cases_eq x p)))
+      (subst (λ fs. FamilyHolds script pids places k deed' fs (stage_of w x) x)
       (sym (same-made (λ t s fs. filter is_checkpoint_frame fs)
       (λ t s. filter-is-list-map is_checkpoint_frame)
       (all-weaker (λ s. no-birth s.1) takes plain_taken)
       (all-weaker (λ s. no-birth s.1) sends plain_sent) x (forker script x)))
-      (subst (λ (f : ℕ → DeedPlace). FamilyHolds script pids places k f (checkpoints_to script w x) x)
-      (λ i pid. sym (same pid) i) h)
+      (subst (λ (f : ℕ → DeedPlace). FamilyHolds script pids places k f (checkpoints_to script w x) (stage_of w x) x)
+      (λ i pid. sym (same pid) i) h))
+    where
+      stage-same : (x ≡ p) ⊎ (x ≢ p) → stage_of w' x ≡ stage_of w x
+      stage-same (inl e) =
+          subst (λ y. stage_of w' y ≡ stage_of w y) (sym e) (ap (λ (m : Node). m.stage) c.here ∙ own e)
+      stage-same (inr d) = ap (λ (m : Node). m.stage) (c.others x d)
 
   -- ---- nodes and frames
 

@@ -11,3 +11,5 @@ pub mod NameFacts
 pub mod Heads
 pub mod Middles
 pub mod Numbers
+pub mod Lines
+pub mod NewRanges

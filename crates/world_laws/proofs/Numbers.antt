@@ -10,7 +10,7 @@ or-cases : (a b : Bool) → (a || b) ≡ true → (a ≡ true) ⊎ (b ≡ true)
 or-cases true b h = inl refl
 or-cases false b h = inr h
 
-in-range : (first count x : ℕ) → list_any (nat_eq x) (range_with_len first count) ≡ true
+pub in-range : (first count x : ℕ) → list_any (nat_eq x) (range_with_len first count) ≡ true
     → (first ≤ x) × (x < first + count)
 in-range first zero x h = absurd (false≢true h)
 in-range first (suc count) x h =

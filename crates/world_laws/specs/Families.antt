@@ -4,6 +4,7 @@ use Rattle.std.specs.List.{list_any, filter}
 use Rattle.pico_base.specs.declared.numbers.Name.{Name}
 use Rattle.pico_base.specs.declared.numbers.Name.TheVariants.{Proc}
 use Rattle.pico_base.specs.declared.script.Script.{Script}
+use Rattle.rpc_frame.specs.declared.deed.PackedDeed.{PackedDeed}
 use Rattle.rpc_frame.specs.declared.frame.Frame.{Frame}
 use Rattle.rpc_frame.specs.declared.frame.Frame.TheVariants as frames
 use Rattle.number_maps.specs.Maps.{get}
@@ -15,7 +16,6 @@ use Rattle.kernel_model.specs.Script.{Vars}
 use Rattle.kernel_model.specs.Fitting.{Place, Places, block_place, block_at}
 use Rattle.node_model.specs.Kinds.{none_named, get_named}
 use Rattle.node_model.specs.Bodies.{Living as LivingBody, Deeds}
-use Rattle.node_model.specs.Spelling.{pack}
 use Rattle.world_model.specs.Node.{Node, Stage, Unborn, Living, Leaving, Left, Over, unborn_node}
 use Rattle.world_model.specs.Lives.{names_block, is_new_row}
 use Rattle.world_model.specs.World.{World, node_count}
@@ -130,13 +130,11 @@ abbrev pub IsWithParent : (ℕ → DeedPlace) → ℕ → ℕ → Process → Ty
 IsWithParent deed parent pid (kernel.Ended ending) = deed pid ≡ deed parent
 IsWithParent deed parent pid process = Unit {0}
 
--- a Checkpoint brings a new process, which is at the beginning of its block
+-- a Checkpoint brings a process that is at the beginning of its block
 pub record IsCheckpointFor (script : Script) (pids : ℕ → ℕ) (places : Places) (c : ℕ) (frame : Frame) : Type 0 where
-  pub row : Row
+  pub packed : PackedDeed
   pub vars : Vars
-  pub is : frame ≡ frames.Checkpoint (pids c) (pids (forker script c))
-      (pack (Proc (pids c)) (LivingBody row)) vars
-  pub fresh : is_new_row row ≡ true
+  pub is : frame ≡ frames.Checkpoint (pids c) (pids (forker script c)) packed vars
   pub place : get places (pids c) ≡ Some (block_place (block_at script c) vars)
 
 abbrev pub is_checkpoint_frame : Frame → Bool
@@ -151,15 +149,27 @@ CheckpointIn script pids places c checkpoints place = Unit {0}
 abbrev pub checkpoints_to : Script → World → ℕ → List Frame
 checkpoints_to script w c = filter is_checkpoint_frame (frames_to w c (forker script c))
 
--- where each process's deed is, and which Checkpoints are on their way to the node
+-- and that is new: it has no children, and nothing ends it
+abbrev pub IsNewAt : Process → DeedPlace → Type 0
+IsNewAt (kernel.Living alive) (InCheckpoint to) = is_new_row alive.row ≡ true
+IsNewAt process place = Unit {0}
+
+-- until its Checkpoint has come the node isn't born
+abbrev pub IsAwaited : Stage → DeedPlace → Type 0
+IsAwaited stage (InCheckpoint to) = stage ≡ Unborn
+IsAwaited stage place = Unit {0}
+
+-- where each process's deed is, which Checkpoints are on their way to the node, and how far that is in its life
 pub record FamilyHolds (script : Script) (pids : ℕ → ℕ) (places : Places) (k : Kernel) (deed : ℕ → DeedPlace)
-    (checkpoints : List Frame) (c : ℕ) : Type 0 where
+    (checkpoints : List Frame) (stage : Stage) (c : ℕ) : Type 0 where
   pub process : Process
   pub is : get k.processes (pids c) ≡ Some process
   pub child : c ≢ 1 → IsChildAs k (pids (forker script c)) (pids c) process
   pub where_it_is : IsWhereFor c (deed (pids c)) process
   pub with_parent : IsWithParent deed (pids (forker script c)) (pids c) process
   pub checkpoint : CheckpointIn script pids places c checkpoints (deed (pids c))
+  pub fresh : IsNewAt process (deed (pids c))
+  pub awaited : IsAwaited stage (deed (pids c))
   -- its children are those that its block forks
   pub children : (a : Alive) (child : ℕ) → living_at k (pids c) ≡ Some a → ListsChild a child
       → (d : ℕ) × (forker script d ≡ c) × (pids d ≡ child) × (child ≢ 0)

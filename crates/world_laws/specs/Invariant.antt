@@ -95,7 +95,7 @@ pub record Holds (script : Script) (w : World) (hand : List Held) (b : Beside) :
   pub few : (kind : Kind) → FewRanges script w b.call kind
   pub keys : let n : Node = node_of w 1 in KeysHold n.leader b.kernel
   pub families : (c : ℕ) → b.pids c ≢ 0
-      → FamilyHolds script b.pids b.places b.kernel (process_deed b.deed) (checkpoints_to script w c) c
+      → FamilyHolds script b.pids b.places b.kernel (process_deed b.deed) (checkpoints_to script w c) (stage_of w c) c
 
 -- something stands beside the world with which it holds
 pub record HasInvariant (script : Script) (w : World) : Type 0 where

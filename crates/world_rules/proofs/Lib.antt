@@ -5,3 +5,4 @@ pub mod Places
 pub mod Placings
 pub mod Suggestions
 pub mod Grants
+pub mod CallMoves

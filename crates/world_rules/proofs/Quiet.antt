@@ -30,7 +30,7 @@ use Rattle.world_laws.specs.Families.{NodeHolds, checkpoints_to}
 use Rattle.world_laws.specs.Invariant.{Holds, IsHistory, IsLeading, MayBe, FramesFit, process_deed}
 use Rattle.world_laws.proofs.Stays.{IsMore, node-born, may-be-born, call-stays, way-stays, kind-stays}
 use Rattle.world_laws.proofs.Changes.{Changes, read-same, still-born}
-use Rattle.world_laws.proofs.Frames.{ArePlain, BringNoLease, all-weaker}
+use Rattle.world_laws.proofs.Frames.{ArePlain, BringNoBirth, BringNoLease, all-weaker}
 use Rattle.world_laws.proofs.LeftAlone.{SameCaller, LeavesCall, call-left-alone, way-left-alone, parcel-was-there, sender-stays, kind-left-alone, family-left-alone, other-node-stays, frames-still-fit, few-still}
 
 -- the directory says the same but for where names are, and what it holds for them is the same
@@ -65,6 +65,8 @@ pub record IsQuiet (script : Script) (w w' : World) (b : Beside) (deed : Name �
   -- of the frames
   pub plain_taken : ArePlain takes
   pub plain_sent : ArePlain sends
+  pub no_birth_taken : BringNoBirth takes
+  pub no_birth_sent : BringNoBirth sends
   pub no_lease_taken : BringNoLease takes
   pub no_lease_sent : BringNoLease sends
   pub of_no_call : (x : ℕ) → AllByRecursion (λ s. is_about x p s.0 s.1 ≡ false) takes
@@ -168,12 +170,12 @@ module _ (script : Script) (w w' : World) (hand : List Held) (b : Beside) (deed 
         kinds = λ kind. kind-stays (is_born_in w) (is_born_in w') (kind_sight w b.kernel kind)
             (kind_sight w' b.kernel kind) quiet-born
             (kind-left-alone script p w w' n takes sends [] c b.kernel b.kernel kind (λ number. refl)
-            (ap (λ m. for_kind m kind) same-caller.leases) (directory.ranges_are kind) q.no_lease_taken q.no_lease_sent)
+            (ap (λ m. for_kind m kind) same-caller.leases) (directory.ranges_are kind) (q.no_lease_taken kind) (q.no_lease_sent kind))
             (holds.kinds kind);
         few = λ kind. few-still script p w w' n takes sends [] c b.call b.call kind refl (directory.ranges_are kind)
             (λ x. refl) (holds.few kind);
         keys = quiet-keys;
         families = λ x forked. family-left-alone script p w w' n takes sends [] c b.pids b.places b.kernel
-            (process_deed b.deed) (process_deed deed) x q.deeds q.plain_taken q.plain_sent
+            (process_deed b.deed) (process_deed deed) x q.deeds (λ e. same-caller.stage) q.no_birth_taken q.no_birth_sent
             (holds.families x forked);
       }

@@ -246,6 +246,8 @@ module _ (script : Script) (w : World) (b : Beside) (holds : Holds script w [] b
         deeds = λ pid. ap (λ t. if t then InGiveBack p else b.deed (Proc pid)) (object-is-no-process name pid object);
         plain_taken = (refl, tt);
         plain_sent = (refl, tt);
+        no_birth_taken = (refl, tt);
+        no_birth_sent = (refl, tt);
         no_lease_taken = λ kind. (refl, tt);
         no_lease_sent = λ kind. (refl, tt);
         of_no_call = λ y. (refl, tt);

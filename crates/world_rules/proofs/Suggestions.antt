@@ -223,6 +223,8 @@ module _ (script : Script) (w : World) (b : Beside) (holds : Holds script w [] b
           deeds = λ pid. refl;
           plain_taken = (refl, tt);
           plain_sent = (refl, tt);
+          no_birth_taken = (refl, tt);
+          no_birth_sent = (refl, tt);
           no_lease_taken = λ kind. (refl, tt);
           no_lease_sent = λ kind. (refl, tt);
           of_no_call = λ y. (refl, tt);
@@ -367,6 +369,8 @@ module _ (script : Script) (w : World) (b : Beside) (holds : Holds script w [] b
           deeds = λ pid. refl;
           plain_taken = (refl, tt);
           plain_sent = tt;
+          no_birth_taken = (refl, tt);
+          no_birth_sent = tt;
           no_lease_taken = λ kind. (refl, tt);
           no_lease_sent = λ kind. tt;
           of_no_call = λ y. (refl, tt);
