@@ -1,6 +1,5 @@
 -- What the streams are after a node has sent frames: those to a receiver are at the end of its stream, in order, and
--- all
--- other streams stay.
+-- all other streams stay.
 use Rattle.std.proofs.Common.{◌≡◌, ◌≢◌, ℕ, ◌≤◌, Bool, true, false, List, [], ◌∷◌, ◌++◌, refl, ap, sym, subst, ◌∙◌, inl, inr, arith, nat_eq, append_assoc, append-nil}
 use Rattle.std.specs.List.{flat_map, AllByRecursion}
 use Rattle.std.proofs.lemmas.Bool.{cases_eq, eq-eqb, ne_eqb}
@@ -14,7 +13,7 @@ frame_if true frame = frame ∷ []
 frame_if false frame = []
 
 abbrev pub sent_to : ℕ → List (ℕ × Frame) → List Frame
-sent_to to sends = flat_map (λ s. frame_if (nat_eq s.0 to) s.1) sends
+sent_to to sends = flat_map (λ s. frame_if (nat_eq to s.0) s.1) sends
 
 -- each receiver is a node
 pub record IsToNode (n : ℕ) (s : ℕ × Frame) : Type 0 where
@@ -32,14 +31,14 @@ square-sent n p ss (send ∷ sends) s all =
     in square-sent n p (with_sent p ss send) sends
     (square-with n ss send.0 p (stream_in ss send.0 p ++ send.1 ∷ []) s first.low first.high) all.1
 
-to-same : (to r : ℕ) (frame : Frame) → r ≡ to → frame_if (nat_eq r to) frame ≡ frame ∷ []
-to-same to r frame e = ap (λ b. frame_if b frame) (eq-eqb r to e)
+to-same : (to r : ℕ) (frame : Frame) → r ≡ to → frame_if (nat_eq to r) frame ≡ frame ∷ []
+to-same to r frame e = ap (λ b. frame_if b frame) (eq-eqb to r (sym e))
 
-to-other : (to r : ℕ) (frame : Frame) → r ≢ to → frame_if (nat_eq r to) frame ≡ []
-to-other to r frame d = ap (λ b. frame_if b frame) (ne_eqb r to d)
+to-other : (to r : ℕ) (frame : Frame) → r ≢ to → frame_if (nat_eq to r) frame ≡ []
+to-other to r frame d = ap (λ b. frame_if b frame) (ne_eqb to r (λ e. d (sym e)))
 
 one-sent : (n p : ℕ) (ss : Streams) (send : ℕ × Frame) (to : ℕ) → Square n ss → IsToNode n send → 1 ≤ p → p ≤ n → 1 ≤ to
-    → stream_in (with_sent p ss send) to p ≡ stream_in ss to p ++ frame_if (nat_eq send.0 to) send.1
+    → stream_in (with_sent p ss send) to p ≡ stream_in ss to p ++ frame_if (nat_eq to send.0) send.1
 one-sent n p ss send to s is low high low_to =
     let sent : List Frame = stream_in ss send.0 p ++ send.1 ∷ []
     in elim (cases_eq send.0 to) [
@@ -47,7 +46,7 @@ one-sent n p ss send to s is low high low_to =
           let there : stream_in (with_stream ss send.0 p sent) send.0 p ≡ sent =
           stream-same n ss send.0 p sent s is.low is.high low high
           in subst (λ t. stream_in (with_stream ss send.0 p sent) t p ≡ stream_in ss t p
-          ++ frame_if (nat_eq send.0 t) send.1) e
+          ++ frame_if (nat_eq t send.0) send.1) e
           (there ∙ sym (ap (λ fs. stream_in ss send.0 p ++ fs) (to-same send.0 send.0 send.1 refl)))
       | inr d ↦
           stream-row n ss send.0 p to p sent (λ g. d (omega arith))
@@ -64,7 +63,7 @@ all-sent n p ss (send ∷ sends) to s all low high low_to =
     in let square : Square n (with_sent p ss send) = square-sent n p ss (send ∷ []) s (first, tt)
     in all-sent n p (with_sent p ss send) sends to square all.1 low high low_to
     ∙ ap (λ fs. fs ++ sent_to to sends) (one-sent n p ss send to s first low high low_to)
-    ∙ append_assoc (stream_in ss to p) (frame_if (nat_eq send.0 to) send.1) (sent_to to sends)
+    ∙ append_assoc (stream_in ss to p) (frame_if (nat_eq to send.0) send.1) (sent_to to sends)
 
 -- from any other node
 pub none-sent : (n p : ℕ) (ss : Streams) (sends : List (ℕ × Frame)) (to q : ℕ) → Square n ss → AreToNodes n sends

@@ -7,3 +7,4 @@ pub mod Ways
 pub mod Ranges
 pub mod Families
 pub mod Invariant
+pub mod Deeds
