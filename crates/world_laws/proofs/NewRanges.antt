@@ -63,7 +63,7 @@ maker-stays ranges node x maker h =
           ∙ there
     ]
 
-in-lease-again : (x first count : ℕ) → first ≤ x → x < first + count → list_any (nat_eq x) (range_with_len first count) ≡ true
+pub in-lease-again : (x first count : ℕ) → first ≤ x → x < first + count → list_any (nat_eq x) (range_with_len first count) ≡ true
 in-lease-again x first zero low high = absurd (omega (arith, low, high))
 in-lease-again x first (suc count) low high =
     elim (cases_eq x first) [
