@@ -72,10 +72,10 @@ only-one true f g fs h =
 only-one false f g fs h = absurd (not-none g fs (sym h))
 
 pub record IsAnswerOf (place : CallPlace) (asked : Asked) (q ticket : ℕ) (reply : Reply) (fs : List Frame) : Type 0
-    where
-  pub place_is : place ≡ InAnswer q reply
-  pub ticket_is : ticket ≡ asked.ticket
-  pub alone : fs ≡ []
+  where
+    pub place_is : place ≡ InAnswer q reply
+    pub ticket_is : ticket ≡ asked.ticket
+    pub alone : fs ≡ []
 
 answers-ticket : (a c : ℕ) (r s : Reply) → frames.Answer a r ≡ frames.Answer c s → a ≡ c
 answers-ticket a c r s h = cc
@@ -93,6 +93,7 @@ no-answer t f ticket reply fs other h =
     let one : IsOnly t f (frames.Answer ticket reply) fs = only-one t f (frames.Answer ticket reply) fs h
     in false≢true (sym other ∙ ap is_answer one.same)
 
+-- an Answer at the head of a stream says that the call is there
 pub answer-of : (place : CallPlace) (asked : Asked) (p q ticket : ℕ) (reply : Reply) (fs : List Frame)
     → only_if (is_in_stream place p p q) (frame_at place asked) ≡ frames.Answer ticket reply ∷ fs
     → IsAnswerOf place asked q ticket reply fs
@@ -142,6 +143,7 @@ working Over work no_end = absurd (false≢true work)
 working Leaving work no_end = absurd (false≢true (sym no_end))
 working Left work no_end = absurd (false≢true (sym no_end))
 
+-- the call is over, and the process goes on
 pub call-ended : (script : Script) (p : ℕ) (born : ℕ → Bool) (x : CallSight) (call : Call) (q : ℕ) (reply : Reply)
     (next : Caller) → CallHolds script p born x → HasCall script p born x call → x.call ≡ InAnswer q reply
     → IsAnswered script p x.caller call reply next → CallHolds script p born (ended x next)
@@ -149,29 +151,30 @@ call-ended script p born x call q reply next holds has place answer =
     record {
       call = subst (λ o. HasCallOrNone script p born (ended x next) o) (sym answer.free)
           (record {
-          nowhere = record {
-            in_streams = λ to sender. refl;
-            held_for_names = λ name. refl;
-            in_hand = refl;
-          };
-          idle = refl;
-          free = free-in script p (ended x next) x.stage has.at_work no-end
-              (record {
-              there = made.there ∙ ap Some (sym answer.place_is);
-              alive = made.alive;
-              lives = made.lives;
-              tickets =
-                  let few = has.tickets
-                  in let more = answer.more_tries
-                  in subst (λ t. t ≤ tries_made script p next) (sym answer.ticket_is) (omega (arith, few, more));
-              try_left = answer.left;
-            });
-        });
+            nowhere = record {
+              in_streams = λ to sender. refl;
+              held_for_names = λ name. refl;
+              in_hand = refl;
+            };
+            idle = refl;
+            free = free-in script p (ended x next) x.stage has.at_work no-end
+                (record {
+                  there = made.there ∙ ap Some (sym answer.place_is);
+                  alive = made.alive;
+                  lives = made.lives;
+                  tickets =
+                      let few = has.tickets
+                      in let more = answer.more_tries
+                      in subst (λ t. t ≤ tries_made script p next) (sym answer.ticket_is) (omega (arith, few, more));
+                  try_left = answer.left;
+                });
+          });
       ends = sym no-end;
     }
   where
     no-end : is_end_stage x.stage ≡ false
     no-end = sym holds.ends ∙ ap is_end_place place
+
     made : IsMade script p x call reply
     made = subst (λ y. IsSoFar script p x call y) place has.so_far
 
@@ -371,6 +374,7 @@ module _ (script : Script) (w : World) (b : Beside) (holds : Holds script w [] b
       and-false : (t : Bool) → (t && false) ≡ false
       and-false true = refl
       and-false false = refl
+
       away : (to ≢ p) ⊎ (sender ≢ q) → (nat_eq to p && nat_eq sender q) ≡ false
           → filter (is_about p to sender) (changes.left to sender) ≡ []
       away d none =
@@ -379,6 +383,7 @@ module _ (script : Script) (w : World) (b : Beside) (holds : Holds script w [] b
           ∙ there.in_streams to sender
           ∙ ap (λ y. only_if (is_in_stream y p to sender) (frame_at y (asked_of x call))) is-answer.place_is
           ∙ ap (λ t. only_if t (frames.Answer n.caller.ticket reply)) none
+
       at-head : filter (is_about p p q) (changes.left p q) ≡ []
       at-head =
           rest-same frame frame (filter (is_about p p q) (changes.left p q)) (filter (is_about p p q) rest)

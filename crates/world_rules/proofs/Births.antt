@@ -93,7 +93,8 @@ module _ (forks_it : ℕ → ℕ) (pids : ℕ → ℕ) (name : Name) (body : Bod
   abbrev it : Frame
   it = frames.Checkpoint pid parent packed vars
 
-  pub checkpointed : (deed : DeedPlace) → OneIf (is_stream_of forks_it deed to sender) (IsBringer pids name body deed) fs
+  pub checkpointed : (deed : DeedPlace)
+      → OneIf (is_stream_of forks_it deed to sender) (IsBringer pids name body deed) fs
       → IsCheckpointed deed to packed name body rest
   checkpointed Unmade h = absurd (not-none it rest (sym e ∙ h))
   checkpointed (InTable node) h = absurd (not-none it rest (sym e ∙ h))
@@ -104,7 +105,8 @@ module _ (forks_it : ℕ → ℕ) (pids : ℕ → ℕ) (name : Name) (body : Bod
       is-alone (nat_eq to c && nat_eq sender (forks_it c)) (IsCheckpointOf name body) it rest fs e h
       in let is : IsCheckpointOf name body it = one.holds
       in record {
-        deed_is = ap InCheckpoint (sym (eqb-true to c (and-first (nat_eq to c) (nat_eq sender (forks_it c)) one.is_there)));
+        deed_is = ap InCheckpoint (sym (eqb-true to c (and-first (nat_eq to c) (nat_eq sender
+            (forks_it c)) one.is_there)));
         packed_is = packed-same pid parent is.pid is.parent packed (pack name body) vars is.vars is.is;
         alone = one.alone;
       }
@@ -146,11 +148,13 @@ module _ (script : Script) (pids : ℕ → ℕ) (born : ℕ → Bool) (name : Na
   not-in-tables : (q : ℕ) → x.held q ≡ None
   not-in-tables q = h.tables q ∙ ap (λ d. held_as d x.body q) deed
 
+  -- a deed on its way is of a used name
   pub checkpointed-is-used : x.used ≡ true
   checkpointed-is-used = by-test x.used refl
     where
       not-unmade : InCheckpoint p ≡ Unmade → ⊥
       not-unmade e = cc
+
       by-test : (t : Bool) → x.used ≡ t → x.used ≡ true
       by-test true e = e
       by-test false e = absurd (not-unmade (sym deed ∙ h.made.1 e))
@@ -163,6 +167,7 @@ module _ (script : Script) (pids : ℕ → ℕ) (born : ℕ → Bool) (name : Na
       (λ e. subst (λ y. PlaysTo Has rest (is_there y (belief_of x))) (sym (eqb-true q p e))
       (plays-on (subst (λ y. 2 ≤ y) (eqb-true q p e) low))) (λ e. h.plays q low)
 
+  -- all holds of the name with its deed in the table of the node that is born
   pub name-housed : NameHolds script pids born name (housed x p rest)
   name-housed =
       record {
@@ -193,9 +198,11 @@ module _ (script : Script) (pids : ℕ → ℕ) (born : ℕ → Bool) (name : Na
 
 -- ---- the call: the process is at the beginning of its block
 
+-- no call is under way yet
 abbrev pub started : CallSight → ℕ → Caller → CallSight
 started x pid caller = record x { pid = pid; stage = Living; caller = caller; frames_about = λ to sender. [] }
 
+-- where a block begins
 pub first-lines : (script : Script) (p : ℕ) (vars : Vars)
     → block_place (block_at script p) vars ≡ caller_place script p (new_caller vars)
 first-lines script p vars = by-block (block_at script p)
@@ -203,6 +210,7 @@ first-lines script p vars = by-block (block_at script p)
     none-dropped : (lines : List Line) → lines ≡ drop 0 lines
     none-dropped [] = refl
     none-dropped (line ∷ lines) = refl
+
     by-block : (o : Option Block)
         → block_place o vars ≡ record { left = drop 0 (lines_in o); tried = 0; vars = vars }
     by-block None = ap (λ lines. record { left = lines; tried = 0; vars = vars }) (none-dropped [])
@@ -284,6 +292,7 @@ module _ (script : Script) (w : World) (b : Beside) (holds : Holds script w [] b
     where
       not-unmade : InCheckpoint p ≡ Unmade → ⊥
       not-unmade e = cc
+
       by-test : (t : Bool) → x.used ≡ t → x.used ≡ true
       by-test true e = e
       by-test false e = absurd (not-unmade (sym is-checkpointed.deed_is ∙ known.made.1 e))
@@ -333,7 +342,8 @@ module _ (script : Script) (w : World) (b : Beside) (holds : Holds script w [] b
   deed-is : b.deed (Proc (b.pids p)) ≡ InCheckpoint p
   deed-is = its-deed p it-is-here
 
-  family : FamilyHolds script b.pids b.places b.kernel (process_deed b.deed) (checkpoints_to script w p) (stage_of w p) p
+  family : FamilyHolds script b.pids b.places b.kernel (process_deed b.deed) (checkpoints_to script w p)
+      (stage_of w p) p
   family = holds.families p forked
 
   unborn : stage_of w p ≡ Unborn
@@ -372,7 +382,8 @@ module _ (script : Script) (w : World) (b : Beside) (holds : Holds script w [] b
   body-is = ap (body_in b.kernel) name-is ∙ ap process_body process-is
 
   checkpoint : CheckpointIn script b.pids b.places p (checkpoints_to script w p) (InCheckpoint p)
-  checkpoint = subst (λ d. CheckpointIn script b.pids b.places p (checkpoints_to script w p) d) deed-is family.checkpoint
+  checkpoint = subst (λ d. CheckpointIn script b.pids b.places p
+      (checkpoints_to script w p) d) deed-is family.checkpoint
 
   checkpoints-first : checkpoints_to script w p ≡ frame ∷ filter is_checkpoint_frame rest
   checkpoints-first =
@@ -555,6 +566,7 @@ module _ (script : Script) (w : World) (b : Beside) (holds : Holds script w [] b
           rest-stays script p q w next after.node frame [] [] changes (λ t s fs. plays b.call name fs)
           (λ t s. flat_map-is-list-map _)
           ∙ ap (λ t. (steps_if t Comes ++ []) ++ plays b.call name (changes.left p q)) (same-name name name refl)
+
       comes-here : q ≢ 1 → comes_to script w name p ≡ true
       comes-here d =
           subst (λ y. (not (nat_eq y 1) && has_any (filter (is_checkpoint_of name) (frames_to w p y))) ≡ true)
@@ -563,9 +575,11 @@ module _ (script : Script) (w : World) (b : Beside) (holds : Holds script w [] b
           ∙ ap (λ fs. has_any (filter (is_checkpoint_of name) fs)) (head-is script w p q frame rest h)
           ∙ ap (λ t. has_any (cond t (frame ∷ filter (is_checkpoint_of name) rest)
           (filter (is_checkpoint_of name) rest))) (same-name name name refl))
+
       or-true : (t : Bool) → (t || true) ≡ true
       or-true true = refl
       or-true false = refl
+
       begins-has : q ≢ 1 → x.begins p ≡ Has
       begins-has d =
           begins-with (stage_of w p) (is_some (held_at w name p)) (comes_to script w name p) (ap has_left unborn)
@@ -656,6 +670,7 @@ module _ (script : Script) (w : World) (b : Beside) (holds : Holds script w [] b
       and-false : (t : Bool) → (t && false) ≡ false
       and-false true = refl
       and-false false = refl
+
       away : (to ≢ p) ⊎ (sender ≢ q) → (nat_eq to p && nat_eq sender (forker script p)) ≡ false
           → filter (brings name) (changes.left to sender) ≡ []
       away d none =
@@ -664,6 +679,7 @@ module _ (script : Script) (w : World) (b : Beside) (holds : Holds script w [] b
           ∙ subst (λ t. OneIf t (IsBringer b.pids name x.body (InCheckpoint p)) (x.brought to sender)) none
           (subst (λ y. OneIf (is_stream_of (forker script) y to sender) (IsBringer b.pids name x.body y)
           (x.brought to sender)) is-checkpointed.deed_is (known.streams to sender))
+
       at-head : filter (brings name) (changes.left p q) ≡ []
       at-head =
           tails-same frame frame (filter (brings name) (changes.left p q)) (filter (brings name) rest)
@@ -903,7 +919,8 @@ module _ (script : Script) (w : World) (b : Beside) (holds : Holds script w [] b
       ap (λ t. if t then InTable p else b.deed (Proc y))
       (other-name name (Proc y) (λ e. d (proc-same y (b.pids p) (sym e ∙ name-is))))
 
-  family-here : FamilyHolds script b.pids b.places b.kernel places-now (checkpoints_to script next p) (stage_of next p) p
+  family-here : FamilyHolds script b.pids b.places b.kernel places-now (checkpoints_to script next p)
+      (stage_of next p) p
   family-here =
       record {
         process = kernel.Living alive;
@@ -912,7 +929,8 @@ module _ (script : Script) (w : World) (b : Beside) (holds : Holds script w [] b
             living.1 (family.child d);
         where_it_is = subst (λ d. IsWhereFor p d (kernel.Living alive)) (sym place-here) refl;
         with_parent = tt;
-        checkpoint = subst (λ d. CheckpointIn script b.pids b.places p (checkpoints_to script next p) d) (sym place-here) tt;
+        checkpoint = subst (λ d. CheckpointIn script b.pids b.places p (checkpoints_to script next p) d)
+            (sym place-here) tt;
         fresh = subst (λ d. IsNewAt (kernel.Living alive) d) (sym place-here) tt;
         awaited = subst (λ d. IsAwaited (stage_of next p) d) (sym place-here) tt;
         children = family.children;

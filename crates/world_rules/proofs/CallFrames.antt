@@ -70,6 +70,7 @@ ask-call : (a c : ℕ) (p q : ℕ) (x y : Call) → frames.Ask a p x ≡ frames.
 ask-call a c p q x y h = cc
 
 module _ (asked : Asked) (p to sender ticket pid : ℕ) (call : Call) (fs : List Frame) where
+  -- an Ask says that the call is there
   pub ask-of : (place : CallPlace)
       → only_if (is_in_stream place p to sender) (frame_at place asked) ≡ frames.Ask ticket pid call ∷ fs
       → IsAskOf place asked ticket pid call fs
@@ -101,12 +102,12 @@ module _ (asked : Asked) (p to sender ticket pid : ℕ) (call : Call) (fs : List
 -- ---- a Request
 
 pub record IsRequestOf (place : CallPlace) (asked : Asked) (to ticket pid : ℕ) (call : Call) (fs : List Frame) : Type 0
-    where
-  pub place_is : place ≡ InRequest to
-  pub ticket_is : ticket ≡ asked.ticket
-  pub pid_is : pid ≡ asked.pid
-  pub call_is : call ≡ asked.call
-  pub alone : fs ≡ []
+  where
+    pub place_is : place ≡ InRequest to
+    pub ticket_is : ticket ≡ asked.ticket
+    pub pid_is : pid ≡ asked.pid
+    pub call_is : call ≡ asked.call
+    pub alone : fs ≡ []
 
 request-ticket : (a c : ℕ) (p q : ℕ) (x y : Call) → frames.Request a p x ≡ frames.Request c q y → c ≡ a
 request-ticket a c p q x y h = cc
@@ -118,6 +119,7 @@ request-call : (a c : ℕ) (p q : ℕ) (x y : Call) → frames.Request a p x ≡
 request-call a c p q x y h = cc
 
 module _ (asked : Asked) (p to sender ticket pid : ℕ) (call : Call) (fs : List Frame) where
+  -- so does a Request
   pub request-of : (place : CallPlace)
       → only_if (is_in_stream place p to sender) (frame_at place asked) ≡ frames.Request ticket pid call ∷ fs
       → IsRequestOf place asked to ticket pid call fs
@@ -157,6 +159,7 @@ forward-asked : (a c : Asked) → frames.Forward a ≡ frames.Forward c → c �
 forward-asked a c h = cc
 
 module _ (asked : Asked) (p to sender : ℕ) (it : Asked) (fs : List Frame) where
+  -- a Forward says that it was sent by place or by range
   pub forward-of : (place : CallPlace)
       → only_if (is_in_stream place p to sender) (frame_at place asked) ≡ frames.Forward it ∷ fs
       → IsForwardOf place asked to it fs
@@ -201,6 +204,7 @@ bounce-asked : (a c : Asked) → frames.Bounce a ≡ frames.Bounce c → c ≡ a
 bounce-asked a c h = cc
 
 module _ (asked : Asked) (p to sender : ℕ) (it : Asked) (fs : List Frame) where
+  -- a Bounce says that the call comes back
   pub bounce-of : (place : CallPlace)
       → only_if (is_in_stream place p to sender) (frame_at place asked) ≡ frames.Bounce it ∷ fs
       → IsBounceOf place asked sender it fs
@@ -208,7 +212,8 @@ module _ (asked : Asked) (p to sender : ℕ) (it : Asked) (fs : List Frame) wher
       let one : IsOnly (nat_eq to 1 && nat_eq sender node) (frames.Bounce asked) (frames.Bounce it) fs =
       only-one (nat_eq to 1 && nat_eq sender node) (frames.Bounce asked) (frames.Bounce it) fs h
       in record {
-        place_is = ap InBounce (sym (eqb-true sender node (and-second (nat_eq to 1) (nat_eq sender node) one.is_there)));
+        place_is = ap InBounce (sym (eqb-true sender node (and-second (nat_eq to 1)
+            (nat_eq sender node) one.is_there)));
         asked_is = bounce-asked asked it one.same;
         alone = one.alone;
       }
@@ -236,6 +241,7 @@ not-owner-ticket : (a c : ℕ) → frames.NotOwner a ≡ frames.NotOwner c → c
 not-owner-ticket a c h = cc
 
 module _ (asked : Asked) (p to sender ticket : ℕ) (fs : List Frame) where
+  -- a NotOwner says so of a Request
   pub not-owner-of : (place : CallPlace)
       → only_if (is_in_stream place p to sender) (frame_at place asked) ≡ frames.NotOwner ticket ∷ fs
       → IsNotOwnerOf place asked sender ticket fs
@@ -243,7 +249,8 @@ module _ (asked : Asked) (p to sender ticket : ℕ) (fs : List Frame) where
       let one : IsOnly (nat_eq to p && nat_eq sender node) (frames.NotOwner asked.ticket) (frames.NotOwner ticket) fs =
       only-one (nat_eq to p && nat_eq sender node) (frames.NotOwner asked.ticket) (frames.NotOwner ticket) fs h
       in record {
-        place_is = ap InNotOwner (sym (eqb-true sender node (and-second (nat_eq to p) (nat_eq sender node) one.is_there)));
+        place_is = ap InNotOwner (sym (eqb-true sender node (and-second (nat_eq to p)
+            (nat_eq sender node) one.is_there)));
         ticket_is = not-owner-ticket asked.ticket ticket one.same;
         alone = one.alone;
       }
@@ -273,6 +280,7 @@ lease-first : (a c : Kind) (x y : ℕ) → frames.Lease a x ≡ frames.Lease c y
 lease-first a c x y h = cc
 
 module _ (asked : Asked) (p to sender : ℕ) (kind : Kind) (first : ℕ) (fs : List Frame) where
+  -- a Lease says that its numbers come
   pub lease-of-call : (place : CallPlace)
       → only_if (is_in_stream place p to sender) (frame_at place asked) ≡ frames.Lease kind first ∷ fs
       → IsLeaseOf place kind first fs

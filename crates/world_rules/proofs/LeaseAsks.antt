@@ -67,6 +67,7 @@ none-is-not f fs h = cc
 asks-same : (a c : Kind) → frames.LeaseAsk a ≡ frames.LeaseAsk c → a ≡ c
 asks-same a c h = cc
 
+-- a LeaseAsk says that the call waits for numbers
 pub lease-ask-of : (place : CallPlace) (asked : Asked) (p to sender : ℕ) (kind : Kind) (fs : List Frame)
     → only_if (is_in_stream place p to sender) (frame_at place asked) ≡ frames.LeaseAsk kind ∷ fs
     → IsLeaseAskOf place kind fs
@@ -97,7 +98,9 @@ with-lease x p kind first =
       frames_about = λ to sender. only_if (nat_eq to p && nat_eq sender 1) (frames.Lease kind first);
     }
 
-pub call-with-lease : (script : Script) (p : ℕ) (born : ℕ → Bool) (x : CallSight) (call : Call) (kind : Kind) (first : ℕ)
+-- all holds of the call once its numbers are on their way
+pub call-with-lease : (script : Script) (p : ℕ) (born : ℕ
+    → Bool) (x : CallSight) (call : Call) (kind : Kind) (first : ℕ)
     → CallHolds script p born x → x.caller.under_way ≡ Some call → HasCall script p born x call
     → x.call ≡ AsksLease kind
     → CallHolds script p born (with-lease x p kind first)
@@ -105,28 +108,30 @@ call-with-lease script p born x call kind first holds is has place =
     record {
       call = subst (λ o. HasCallOrNone script p born (with-lease x p kind first) o) (sym is)
           (record {
-          just_there = record {
-            in_streams = λ to sender. refl;
-            held_for_names = λ name. there.held_for_names name
-                ∙ ap (λ y. only_if (is_held_at y name) (Request (asked_of x call))) place;
-            in_hand = there.in_hand
-                ∙ ap (λ y. only_if (is_in_hand y) (Request (asked_of x call))) place;
-          };
-          home = sym (ap (λ y. may_be_in y (home_of x.pid call) call) place) ∙ has.home;
-          used_up = subst (λ y. lease_is_over y x.leases) place has.used_up;
-          between = subst (λ y. IsBetween p born y) place has.between;
-          so_far = so-far;
-          at_work = has.at_work;
-          tickets = has.tickets;
-          try_left = has.try_left;
-        });
+            just_there = record {
+              in_streams = λ to sender. refl;
+              held_for_names = λ name. there.held_for_names name
+                  ∙ ap (λ y. only_if (is_held_at y name) (Request (asked_of x call))) place;
+              in_hand = there.in_hand
+                  ∙ ap (λ y. only_if (is_in_hand y) (Request (asked_of x call))) place;
+            };
+            home = sym (ap (λ y. may_be_in y (home_of x.pid call) call) place) ∙ has.home;
+            used_up = subst (λ y. lease_is_over y x.leases) place has.used_up;
+            between = subst (λ y. IsBetween p born y) place has.between;
+            so_far = so-far;
+            at_work = has.at_work;
+            tickets = has.tickets;
+            try_left = has.try_left;
+          });
       ends = sym (ap is_end_place place) ∙ holds.ends;
     }
   where
     there : IsJustThere p x (asked_of x call)
     there = has.just_there
+
     made : IsToBeMade script p x call
     made = subst (λ y. IsSoFar script p x call y) place has.so_far
+
     so-far : IsToBeMade script p (with-lease x p kind first) call
     so-far =
         record { there = made.there; due = made.due; alive = made.alive; lives = made.lives; may = made.may }
@@ -194,6 +199,7 @@ module _ (script : Script) (pids : ℕ → ℕ) (born : ℕ → Bool) (name : Na
       differ e = false≢true (sym (ap is_leased e))
   only-leased q false there = none-sent q (subst (λ ss. Contains ss IsSentThere) (append-nil (x.ranges q)) there)
 
+  -- all holds of an unused name whose number is given out
   pub name-given-out : NameHolds script pids born name (given-out x node)
   name-given-out =
       record {
@@ -377,8 +383,10 @@ module _ (script : Script) (w : World) (b : Beside) (holds : Holds script w [] b
       and-false : (t : Bool) → (t && false) ≡ false
       and-false true = refl
       and-false false = refl
+
       tail-same : (y z : Frame) (ys zs : List Frame) → y ∷ ys ≡ z ∷ zs → ys ≡ zs
       tail-same y z ys zs e = cc
+
       away : (to ≢ 1) ⊎ (sender ≢ q) → (nat_eq to 1 && nat_eq sender q) ≡ false
           → filter (is_about q to sender) (changes.left to sender) ≡ []
       away e none =
@@ -387,6 +395,7 @@ module _ (script : Script) (w : World) (b : Beside) (holds : Holds script w [] b
           ∙ there.in_streams to sender
           ∙ ap (λ y. only_if (is_in_stream y q to sender) (frame_at y (asked_of x call))) is-ask.place_is
           ∙ ap (λ t. only_if t frame) none
+
       at-head : filter (is_about q 1 q) (changes.left 1 q) ≡ []
       at-head =
           tail-same frame frame (filter (is_about q 1 q) (changes.left 1 q)) (filter (is_about q 1 q) rest)
@@ -433,7 +442,8 @@ module _ (script : Script) (w : World) (b : Beside) (holds : Holds script w [] b
       }
 
   more : IsMore (is_born_in w) (is_born_in next)
-  more = move-born script w next [] [] b b.deed calls-now 1 after.node takes after.sends q h.low h.high holds changes move
+  more = move-born script w next [] [] b b.deed calls-now 1 after.node takes after.sends q h.low h.high holds changes
+      move
 
   -- the call
 
@@ -502,7 +512,8 @@ module _ (script : Script) (w : World) (b : Beside) (holds : Holds script w [] b
         held_is = refl;
         begins_is = λ holds_it comes. refl;
         hand_is = refl;
-        steps_are = λ y. steps-still script w next [] [] b b.deed calls-now 1 after.node takes after.sends q h.low h.high
+        steps_are = λ y. steps-still script w next [] [] b b.deed calls-now 1 after.node takes after.sends q h.low
+            h.high
             holds changes move y (left-alone y 1) m;
         ranges_are = λ y. ranges-still script w next [] [] b b.deed calls-now 1 after.node takes after.sends q h.low
             h.high holds changes move y (left-alone y 1) m;

@@ -10,3 +10,4 @@ pub mod Answers
 pub mod LeaseAsks
 pub mod Births
 pub mod CallFrames
+pub mod Opening
