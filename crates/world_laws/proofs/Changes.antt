@@ -1,4 +1,5 @@
--- What a node's turn changes in a world: the node's own state; a frame is gone from the head of a stream to it; and what
+-- What a node's turn changes in a world: the node's own state; a frame is gone from the head of a stream to it; and
+-- what
 -- it sent stands at the ends of the streams from it. In the middle of an event it is the same.
 use Rattle.std.proofs.Common.{◌≡◌, ◌≢◌, ◌⊎◌, ℕ, ◌+◌, ◌-◌, ◌<◌, ◌≤◌, Bool, true, false, ◌&&◌, List, [], ◌∷◌, ◌++◌, length, filter, flat_map, nat_eq, Contains, refl, ap, sym, subst, ◌∙◌, inl, inr, arith, append_assoc, append-nil}
 use Rattle.std.specs.List.{AllByRecursion}
@@ -16,13 +17,16 @@ use Rattle.world_laws.proofs.Played.{flat_map-append}
 
 -- ---- frames that a node takes and sends, each with the node at the other end
 
+-- these frames, or none
 abbrev pub frames_if : Bool → List Frame → List Frame
 frames_if true fs = fs
 frames_if false fs = []
 
+-- what a node took out of the stream to a node from a node
 abbrev pub taken : ℕ → List (ℕ × Frame) → ℕ → ℕ → List Frame
 taken p takes to sender = frames_if (nat_eq to p) (sent_to sender takes)
 
+-- what it put into it
 abbrev pub sent : ℕ → List (ℕ × Frame) → ℕ → ℕ → List Frame
 sent p sends to sender = frames_if (nat_eq sender p) (sent_to to sends)
 
@@ -44,9 +48,11 @@ pub record IsListMap {A : Type 0} (f : List Frame → List A) : Type 0 where
   pub of_none : f [] ≡ []
   pub of_both : (xs ys : List Frame) → f (xs ++ ys) ≡ f xs ++ f ys
 
+-- filters, and maps to lists, go over streams piece by piece
 pub filter-is-list-map : (test : Frame → Bool) → IsListMap (λ fs. filter test fs)
 filter-is-list-map test = record { of_none = refl; of_both = λ xs ys. filter-append test xs ys }
 
+-- so does a map to lists
 pub flat_map-is-list-map : {A : Type 0} (g : Frame → List A) → IsListMap (λ fs. flat_map g fs)
 flat_map-is-list-map g = record { of_none = refl; of_both = λ xs ys. flat_map-append g xs ys }
 
@@ -86,6 +92,7 @@ nothing-taken f m p takes none to sender =
       | inr d ↦ ap (λ b. f to sender (frames_if b (sent_to sender takes))) (ne_eqb to p d) ∙ g.of_none
     ]
 
+-- nothing is made of what was sent
 pub nothing-sent : {A : Type 0} (f : ℕ → ℕ → List Frame → List A)
     → ((to sender : ℕ) → IsListMap (f to sender)) → (p : ℕ) (sends : List (ℕ × Frame))
     → MakesNothing (λ to. f to p) sends → (to sender : ℕ) → f to sender (sent p sends to sender) ≡ []
@@ -110,6 +117,7 @@ module _ (script : Script) (p : ℕ) (w w' : World) (n : Node) (takes sends : Li
       let g : IsListMap (f to sender) = m to sender
       in ap (f to sender) (c.before to sender) ∙ g.of_both (taken p takes to sender) (c.left to sender)
 
+  -- afterwards it is what stayed, and then what was sent
   pub made-after : {A : Type 0} (f : ℕ → ℕ → List Frame → List A) → ((to sender : ℕ) → IsListMap (f to sender))
       → (to sender : ℕ)
       → f to sender (frames_to w' to sender)

@@ -25,14 +25,17 @@ use Rattle.world_laws.proofs.Sends.{frame_if, sent_to}
 
 -- ---- lists of frames
 
+-- what follows from a fact of each holds of each
 pub all-weaker : {A : Type 0} {P Q : A → Type 0} → ((x : A) → P x → Q x) → (xs : List A) → AllByRecursion P xs
     → AllByRecursion Q xs
 all-weaker g [] all = tt
 all-weaker g (x ∷ xs) all = (g x all.0, all-weaker g xs all.1)
 
+-- nothing is in an empty stream
 pub contains-none : (frame : Frame) → Contains [] frame → ⊥
 contains-none frame there = omega (arith, there.1)
 
+-- in a stream of one frame is that one
 pub contains-one : (f g : Frame) → Contains (f ∷ []) g → f ≡ g
 contains-one f g there =
     elim (Contains-push_cases [] f g there) [ inl none ↦ absurd (contains-none g none) | inr e ↦ e ]
@@ -97,9 +100,11 @@ is-no-checkpoint : (name : Name) (frame : Frame) → concerns name frame ≡ fal
 is-no-checkpoint name (frames.Checkpoint pid parent deed vars) h = h
 is-no-checkpoint name frame h = refl
 
+-- a frame that is not about a name brings no deed of it
 pub no-deed : (name : Name) (frame : Frame) → concerns name frame ≡ false → filter (brings name) (frame ∷ []) ≡ []
 no-deed name frame h = dropped (brings name) frame (brings-none name frame h)
 
+-- nor a Checkpoint
 pub no-checkpoint : (name : Name) (frame : Frame) → concerns name frame ≡ false
     → filter (is_checkpoint_of name) (frame ∷ []) ≡ []
 no-checkpoint name frame h = dropped (is_checkpoint_of name) frame (is-no-checkpoint name frame h)
@@ -113,7 +118,8 @@ exit-steps a b h g = rw (h, g) refl
 
 no-steps-of : (call : ℕ → CallPlace) (name : Name) (frame : Frame) → concerns name frame ≡ false
     → steps_of call name frame ≡ []
-no-steps-of call name (frames.Forward asked) h = ap (λ b. steps_if b IsNeeded) (none-of-both (is_call_on name asked) _ h)
+no-steps-of call name (frames.Forward asked) h = ap (λ b. steps_if b IsNeeded) (none-of-both
+    (is_call_on name asked) _ h)
 no-steps-of call name (frames.Checkpoint pid parent deed vars) h = ap (λ b. steps_if b Comes) h
 no-steps-of call name (frames.Recall other) h = ap (λ b. steps_if b Goes) h
 no-steps-of call name (frames.Grant deed) h = ap (λ b. steps_if b Comes) h
@@ -127,6 +133,7 @@ no-steps-of call name frame h = refl
 just-one : {A : Type 0} (g : Frame → List A) (frame : Frame) → g frame ≡ [] → flat_map g (frame ∷ []) ≡ []
 just-one g frame h = ap (λ xs. xs ++ []) h
 
+-- it is nothing in the play
 pub no-steps : (call : ℕ → CallPlace) (name : Name) (frame : Frame) → concerns name frame ≡ false
     → plays call name (frame ∷ []) ≡ []
 no-steps call name frame h = just-one (steps_of call name) frame (no-steps-of call name frame h)
@@ -138,6 +145,7 @@ no-ranges-of call name (frames.Forward asked) h =
 no-ranges-of call name (frames.Lease kind first) h = ap (λ b. range_steps_if b IsLeased) h
 no-ranges-of call name frame h = refl
 
+-- nor a call sent by range, nor a lease with its number
 pub no-ranges : (call : ℕ → CallPlace) (name : Name) (frame : Frame) → concerns name frame ≡ false
     → flat_map (range_steps_of call name) (frame ∷ []) ≡ []
 no-ranges call name frame h = just-one (range_steps_of call name) frame (no-ranges-of call name frame h)
@@ -146,6 +154,7 @@ no-places-of : (name : Name) (frame : Frame) → concerns name frame ≡ false �
 no-places-of name (frames.Placed other node) h = ap (λ b. if b then node ∷ [] else []) h
 no-places-of name frame h = refl
 
+-- it tells no place of it
 pub no-places : (name : Name) (frame : Frame) → concerns name frame ≡ false → placed_in name (frame ∷ []) ≡ []
 no-places name frame h = just-one (placed_by name) frame (no-places-of name frame h)
 
@@ -155,12 +164,14 @@ no-news-of name made (frames.Bounce asked) h = ap (λ b. news_if b NeedsPlace) h
 no-news-of name made (frames.Leaving pid parent parent_node) h = absurd (false≢true (sym h))
 no-news-of name made frame h = refl
 
+-- and needs none
 pub no-news : (name : Name) (made : Bool) (frame : Frame) → concerns name frame ≡ false
     → news name made (frame ∷ []) ≡ []
 no-news name made frame h = just-one (news_of name made) frame (no-news-of name made frame h)
 
 -- ---- calls
 
+-- a frame of another call is left out
 pub not-about : (x to sender : ℕ) (frame : Frame) → is_about x to sender frame ≡ false
     → filter (is_about x to sender) (frame ∷ []) ≡ []
 not-about x to sender frame h = dropped (is_about x to sender) frame h
@@ -215,6 +226,7 @@ plays-of-others call changed x same name to sender (f ∷ fs) h =
     in ap (λ xs. xs ++ plays changed name fs) (steps-of-others call changed x same name to sender f d.first)
     ∙ ap (λ xs. steps_of call name f ++ xs) (plays-of-others call changed x same name to sender fs d.rest)
 
+-- the same for calls sent by range
 pub ranges-of-all-others : (call changed : ℕ → CallPlace) (x : ℕ) → IsSameBut x call changed → (name : Name)
     (to sender : ℕ) (fs : List Frame)
     → filter (is_about x to sender) fs ≡ []
@@ -237,17 +249,21 @@ is_plain (frames.Left parcel) = false
 is_plain (frames.ExitTo parcel) = false
 is_plain frame = true
 
+-- nothing of an end in any of them
 abbrev pub ArePlain : List (ℕ × Frame) → Type 0
 ArePlain pairs = AllByRecursion (λ s. is_plain s.1 ≡ true) pairs
 
+-- so there is no Leaving among them
 pub no-leaving : (frame : Frame) → is_plain frame ≡ true → filter is_leaving_frame (frame ∷ []) ≡ []
 no-leaving (frames.Leaving pid parent parent_node) h = absurd (false≢true h)
 no-leaving frame h = refl
 
+-- no RecallAll
 pub no-recall-all : (frame : Frame) → is_plain frame ≡ true → filter is_recall_all (frame ∷ []) ≡ []
 no-recall-all frames.RecallAll h = absurd (false≢true h)
 no-recall-all frame h = refl
 
+-- no Left
 pub no-left : (frame : Frame) → is_plain frame ≡ true → filter is_left_frame (frame ∷ []) ≡ []
 no-left (frames.Left parcel) h = absurd (false≢true h)
 no-left frame h = refl
@@ -256,6 +272,7 @@ no-left frame h = refl
 abbrev pub BringNoBirth : List (ℕ × Frame) → Type 0
 BringNoBirth pairs = AllByRecursion (λ s. is_checkpoint_frame s.1 ≡ false) pairs
 
+-- no Checkpoint
 pub no-birth : (frame : Frame) → is_checkpoint_frame frame ≡ false → filter is_checkpoint_frame (frame ∷ []) ≡ []
 no-birth frame h = dropped is_checkpoint_frame frame h
 
@@ -263,11 +280,14 @@ no-birth frame h = dropped is_checkpoint_frame frame h
 abbrev pub BringNoLease : List (ℕ × Frame) → Type 0
 BringNoLease pairs = (kind : Kind) → AllByRecursion (λ s. lease_in kind s.1 ≡ []) pairs
 
+-- no Lease of the kind
 pub no-lease : (kind : Kind) (frame : Frame) → lease_in kind frame ≡ [] → flat_map (lease_in kind) (frame ∷ []) ≡ []
 no-lease kind frame h = just-one (lease_in kind) frame h
 
+-- no parcel to the leader
 pub no-parcel-left : (frame : Frame) (parcel : Parcel) → is_plain frame ≡ true → frame ≢ frames.Left parcel
 no-parcel-left frame parcel h e = false≢true (subst (λ f. is_plain f ≡ true) e h)
 
+-- no parcel from it
 pub no-parcel-sent : (frame : Frame) (parcel : Parcel) → is_plain frame ≡ true → frame ≢ frames.ExitTo parcel
 no-parcel-sent frame parcel h e = false≢true (subst (λ f. is_plain f ≡ true) e h)

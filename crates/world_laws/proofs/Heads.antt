@@ -16,14 +16,17 @@ use Rattle.world_laws.proofs.Steps.{Heads, frames-low, taken-here, taken-not-to,
 
 module _ (script : Script) (w : World) (p q : ℕ) (frame : Frame) (rest : List Frame)
     (h : Heads script w p q frame rest) where
+  -- the stream as sights show it
   pub head-is : frames_to w p q ≡ frame ∷ rest
   head-is = frames-low w p q h.low h.low_from ∙ h.head
 
+  -- its frame is on its way
   pub head-there : Contains (frames_to w p q) frame
   head-there =
       subst (λ fs. Contains fs frame) (sym head-is)
       (Contains-append_left (frame ∷ []) rest frame (Contains-push [] frame))
 
+  -- so it may be there
   pub head-may-be : (born : ℕ → Bool) → FramesFit script born (frames_to w) → MayBe script born p q frame
   head-may-be born fit = fit.may_be p q frame head-there
 

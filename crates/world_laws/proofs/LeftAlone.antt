@@ -108,6 +108,7 @@ module _ (script : Script) (p : ℕ) (w w' : World) (n : Node) (takes sends : Li
       → (to sender : ℕ) → f to sender (frames_to w' to sender) ≡ f to sender (frames_to w to sender)
   same-made = made-same script p w w' n takes sends entries c
 
+  -- a name that no frame is about is seen the same
   pub name-left-alone : (hand hand' : List Held) (b b' : Beside) (name : Name)
       → LeavesName w w' hand hand' b b' p n c.left name → AreNotAbout name takes → AreNotAbout name sends
       → SameName (name_sight script w hand b name) (name_sight script w' hand' b' name)
@@ -140,6 +141,7 @@ module _ (script : Script) (p : ℕ) (w w' : World) (n : Node) (takes sends : Li
       held-same : (h : ℕ) → held_at w' name h ≡ held_at w name h
       held-same h =
           read-same script p w w' n takes sends entries c (λ (m : Node). get_named m.deeds name) l.held_is h
+
       comes-same : (h : ℕ) → comes_to script w' name h ≡ comes_to script w name h
       comes-same h =
           ap (λ fs. not (nat_eq (forker script h) 1) && has_any fs)
@@ -147,6 +149,7 @@ module _ (script : Script) (p : ℕ) (w w' : World) (n : Node) (takes sends : Li
           (λ t s. filter-is-list-map (is_checkpoint_of name))
           (all-weaker (λ s. no-checkpoint name s.1) takes none_taken)
           (all-weaker (λ s. no-checkpoint name s.1) sends none_sent) h (forker script h))
+
       begins-same : (h : ℕ)
           → begin (stage_of w' h) (is_some (held_at w' name h)) (comes_to script w' name h)
           ≡ begin (stage_of w h) (is_some (held_at w name h)) (comes_to script w name h)
@@ -156,6 +159,7 @@ module _ (script : Script) (p : ℕ) (w w' : World) (n : Node) (takes sends : Li
           (λ (m : Node). begin m.stage (is_some (get_named m.deeds name)) (comes_to script w name h))
           (ap (λ o. begin n.stage (is_some o) (comes_to script w name h)) l.held_is
           ∙ l.begins_is (is_some (held_at w name p)) (comes_to script w name h)) h
+
       steps-same : (h : ℕ) → plays b'.call name (frames_to w' h 1) ≡ plays b.call name (frames_to w h 1)
       steps-same h =
           only-stayed script p w w' n takes sends entries c (λ t s fs. plays b'.call name fs)
@@ -165,6 +169,7 @@ module _ (script : Script) (p : ℕ) (w w' : World) (n : Node) (takes sends : Li
           ∙ stayed script p w w' n takes sends entries c (λ t s fs. plays b.call name fs)
           (λ t s. flat_map-is-list-map _)
           (all-weaker (λ s. no-steps b.call name s.1) takes none_taken) h 1
+
       ranges-same : (h : ℕ)
           → flat_map (range_steps_of b'.call name) (frames_to w' h 1)
           ≡ flat_map (range_steps_of b.call name) (frames_to w h 1)
@@ -176,6 +181,7 @@ module _ (script : Script) (p : ℕ) (w w' : World) (n : Node) (takes sends : Li
           ∙ stayed script p w w' n takes sends entries c (λ t s fs. flat_map (range_steps_of b.call name) fs)
           (λ t s. flat_map-is-list-map _)
           (all-weaker (λ s. no-ranges b.call name s.1) takes none_taken) h 1
+
       news-same : (q : ℕ)
           → news name (is_used_name b'.kernel name && is_maker (maker (directory_of w') name) q) (frames_to w' 1 q)
           ≡ news name (is_used_name b.kernel name && is_maker (maker (directory_of w) name) q) (frames_to w 1 q)
@@ -191,6 +197,7 @@ module _ (script : Script) (p : ℕ) (w w' : World) (n : Node) (takes sends : Li
 
   -- ---- calls
 
+  -- a call that no frame is about is seen the same
   pub call-left-alone : (hand hand' : List Held) (b b' : Beside) (x : ℕ)
       → LeavesCall w w' hand hand' b b' p n x
       → AllByRecursion (λ s. is_about x p s.0 s.1 ≡ false) takes
@@ -217,6 +224,7 @@ module _ (script : Script) (p : ℕ) (w w' : World) (n : Node) (takes sends : Li
     where
       with-node : (m : Node) → SameCaller (node_of w p) m → (q : Node) → q ≡ m → SameCaller (node_of w p) q
       with-node m s q e = subst (λ (z : Node). SameCaller (node_of w p) z) (sym e) s
+
       itself : (m q : Node) → q ≡ m → SameCaller m q
       itself m q e =
           record {
@@ -226,6 +234,7 @@ module _ (script : Script) (p : ℕ) (w w' : World) (n : Node) (takes sends : Li
             caller = ap (λ (z : Node). z.caller) e;
             leases = ap (λ (z : Node). z.leases) e;
           }
+
       caller-same : SameCaller (node_of w x) (node_of w' x)
       caller-same =
           elim (cases_eq x p) [
@@ -237,6 +246,7 @@ module _ (script : Script) (p : ℕ) (w w' : World) (n : Node) (takes sends : Li
 
   -- ---- ways, parcels, kinds and families
 
+  -- so is a way, where nothing of an end was taken or sent
   pub way-left-alone : (x : ℕ) → (x ≡ p → n.stage ≡ stage_of w p)
       → get (directory_of w').partings x ≡ get (directory_of w).partings x
       → ArePlain takes → ArePlain sends → SameWay (way_sight w x) (way_sight w' x)
@@ -277,9 +287,11 @@ module _ (script : Script) (p : ℕ) (w w' : World) (n : Node) (takes sends : Li
         | inr new ↦
             elim (cases_eq sender p) [
               | inl e ↦
-                  inr
-                  (e, sent-is P sends all to frame
-                  (subst (λ b. Contains (frames_if b (sent_to to sends)) frame) (eq-eqb sender p e) new))
+                  inr (
+                    e,
+                    sent-is P sends all to frame
+                        (subst (λ b. Contains (frames_if b (sent_to to sends)) frame) (eq-eqb sender p e) new),
+                  )
               | inr d ↦
                   absurd
                   (contains-none frame
@@ -287,6 +299,7 @@ module _ (script : Script) (p : ℕ) (w w' : World) (n : Node) (takes sends : Li
             ]
       ]
 
+  -- then each parcel was there before
   pub parcel-was-there : (hand : List Held) (parcel : Parcel) → ArePlain sends
       → ((pid : ℕ) → Contains (held_for (directory_of w') (Proc pid)) (Ending parcel)
       → Contains (held_for (directory_of w) (Proc pid)) (Ending parcel))
@@ -326,10 +339,12 @@ module _ (script : Script) (p : ℕ) (w w' : World) (n : Node) (takes sends : Li
           subst (λ y. (stage_of w' y ≡ Left) × (under_way_of w' y ≡ under_way_of w y)) (sym e)
           (let new = still (subst (λ y. stage_of w y ≡ Left) e is_left)
           in (ap (λ (m : Node). m.stage) c.here ∙ new.0, ap (λ (m : Node). m.caller.under_way) c.here ∙ new.1))
-      stays-left x is_left (inr d) =
-          (ap (λ (m : Node). m.stage) (c.others x d) ∙ is_left,
-          ap (λ (m : Node). m.caller.under_way) (c.others x d))
+      stays-left x is_left (inr d) = (
+        ap (λ (m : Node). m.stage) (c.others x d) ∙ is_left,
+        ap (λ (m : Node). m.caller.under_way) (c.others x d),
+      )
 
+  -- a kind is seen the same where no numbers were taken or sent
   pub kind-left-alone : (k k' : Kernel) (kind : Kind)
       → ((number : ℕ) → is_used (used_of k' kind) number ≡ is_used (used_of k kind) number)
       → for_kind n.leases kind ≡ lease_at w kind p
@@ -348,6 +363,7 @@ module _ (script : Script) (p : ℕ) (w w' : World) (n : Node) (takes sends : Li
         ranges = sym ranges;
       }
 
+  -- a family stays where no Checkpoint was taken or sent, and deeds of processes are where they were
   pub family-left-alone : (pids : ℕ → ℕ) (places : Places) (k : Kernel) (deed deed' : ℕ → DeedPlace) (x : ℕ)
       → ((pid : ℕ) → deed' pid ≡ deed pid) → (x ≡ p → n.stage ≡ stage_of w p) → BringNoBirth takes → BringNoBirth sends
       → FamilyHolds script pids places k deed (checkpoints_to script w x) (stage_of w x) x
@@ -370,6 +386,7 @@ module _ (script : Script) (p : ℕ) (w w' : World) (n : Node) (takes sends : Li
 
   -- ---- nodes and frames
 
+  -- any other node is as it was
   pub other-node-stays : (pids : ℕ → ℕ) (born more : ℕ → Bool) (x : ℕ) → x ≢ p → IsMore born more
       → NodeHolds script pids born x (node_of w x) → NodeHolds script pids more x (node_of w' x)
   other-node-stays pids born more x d m h =
@@ -385,11 +402,11 @@ module _ (script : Script) (p : ℕ) (w w' : World) (n : Node) (takes sends : Li
       record {
         may_be = λ to sender frame there. elim (was-there (λ t f. MayBe script (is_born_in w') t p f) may to
             sender frame there) [
-          | inl was ↦
-              may-be-born script (is_born_in w) (is_born_in w') to sender frame more
-              (old.may_be to sender frame was)
-          | inr new ↦ subst (λ s. MayBe script (is_born_in w') to s frame) (sym new.0) new.1
-        ];
+              | inl was ↦
+                  may-be-born script (is_born_in w) (is_born_in w') to sender frame more
+                  (old.may_be to sender frame was)
+              | inr new ↦ subst (λ s. MayBe script (is_born_in w') to s frame) (sym new.0) new.1
+            ];
         none_to_itself = λ x. c.after x x
             ∙ ap (λ fs. fs ++ sent p sends x x) (none-left x)
             ∙ none-sent-to x (cases_eq x p);
@@ -401,12 +418,15 @@ module _ (script : Script) (p : ℕ) (w w' : World) (n : Node) (takes sends : Li
         where
           not-empty : {A : Type 0} (x : A) (xs : List A) → x ∷ xs ≡ [] → ⊥
           not-empty x xs h = cc
+
       none-left : (x : ℕ) → c.left x x ≡ []
       none-left x = back (taken p takes x x) (c.left x x) (sym (c.before x x) ∙ old.none_to_itself x)
+
       not-to : (pairs : List (ℕ × Frame)) → AllByRecursion (λ s. s.0 ≢ p) pairs → sent_to p pairs ≡ []
       not-to [] all = refl
       not-to (s ∷ pairs) all =
           ap (λ b. frame_if b s.1 ++ sent_to p pairs) (ne_eqb p s.0 (λ e. all.0 (sym e))) ∙ not-to pairs all.1
+
       none-sent-to : (x : ℕ) → (x ≡ p) ⊎ (x ≢ p) → sent p sends x x ≡ []
       none-sent-to x (inl e) =
           ap (λ b. frames_if b (sent_to x sends)) (eq-eqb x p e)
@@ -415,6 +435,7 @@ module _ (script : Script) (p : ℕ) (w w' : World) (n : Node) (takes sends : Li
 
   -- ---- ranges
 
+  -- there are as few ranges as before where none was given out
   pub few-still : (call call' : ℕ → CallPlace) (kind : Kind) → entries ≡ []
       → for_kind (directory_of w').ranges kind ≡ for_kind (directory_of w).ranges kind
       → ((x : ℕ) → has_lease kind (call' x) ≡ has_lease kind (call x))

@@ -27,6 +27,7 @@ cut-at (y ∷ xs) (suc i) x h =
     let next : suc (i + 1) ≡ suc i + 1 = omega arith
     in cut-at xs i x h ∙ ap (λ k. x ∷ drop k (y ∷ xs)) next
 
+-- past the end no line is left
 pub past-end : {A : Type 0} (xs : List A) (i : ℕ) → slice_get xs i ≡ None → drop i xs ≡ []
 past-end [] zero h = refl
 past-end [] (suc i) h = refl
@@ -39,6 +40,7 @@ tries-next xs i x h =
     sum_by_more (λ (line : Line). line.tries) xs i x (slice_get_within xs i x h)
     ∙ ap (λ (z : Line). sum_by (λ line. line.tries) (take i xs) + z.tries) (get_or_from_slice_get xs i x x h)
 
+-- what holds of each line holds of the one at a place
 pub all-at : {A : Type 0} (P : A → Type 0) (xs : List A) (i : ℕ) (x : A) → AllByRecursion P xs → slice_get xs i ≡ Some x
     → P x
 all-at P [] i x all h = absurd (none-is-some x h)
@@ -52,6 +54,7 @@ due-at-line script p c call h = by-line (slice_get (lines_of script p) c.line) r
   where
     nothing-due : (place : Place) → place.left ≡ [] → (other : Call) → due place ≡ Some other → ⊥
     nothing-due place e other g = none-is-some other (sym (ap (call_due place) e) ∙ g)
+
     by-line : (o : Option Line) → slice_get (lines_of script p) c.line ≡ o
         → (line : Line) × (slice_get (lines_of script p) c.line ≡ Some line)
     by-line (Some line) e = (line, e)
@@ -65,12 +68,12 @@ due-at-line script p c call h = by-line (slice_get (lines_of script p) c.line) r
 
 -- the caller afterwards
 pub record IsAnswered (script : Script) (p : ℕ) (c : Caller) (call : Call) (reply : Reply) (next : Caller) : Type 0
-    where
-  pub free : next.under_way ≡ None
-  pub ticket_is : next.ticket ≡ c.ticket
-  pub place_is : caller_place script p next ≡ place_after (caller_place script p c) call (Some reply)
-  pub more_tries : tries_made script p c + 1 ≤ tries_made script p next
-  pub left : HasTryLeft script p next
+  where
+    pub free : next.under_way ≡ None
+    pub ticket_is : next.ticket ≡ c.ticket
+    pub place_is : caller_place script p next ≡ place_after (caller_place script p c) call (Some reply)
+    pub more_tries : tries_made script p c + 1 ≤ tries_made script p next
+    pub left : HasTryLeft script p next
 
 abbrev again : Caller → Caller
 again c = record (end_call c) { tried = c.tried + 1 }
@@ -100,7 +103,8 @@ module _ (script : Script) (p : ℕ) (tries : HasTries script) (c : Caller) (cal
             set_variable c.vars line.set (value_in (Some reply));
       })
   place-by t e =
-      ap (λ lines. after_line (caller_place script p c) call (Some reply) lines) (cut-at (lines_of script p) c.line line at)
+      ap (λ lines. after_line (caller_place script p c) call (Some reply) lines) (cut-at
+      (lines_of script p) c.line line at)
       ∙ ap (λ u. if u then record (caller_place script p c) { tried = c.tried + 1 }
       else record {
         left = drop (c.line + 1) (lines_of script p);

@@ -32,6 +32,7 @@ play-goes Has last ss h = (refl, h)
 play-goes Lacks last ss h = absurd (none-is-not last (sym (play-none ss) ∙ h))
 play-goes Done last ss h = absurd (none-is-not last (sym (play-none ss) ∙ h))
 
+-- a deed that comes was not there
 pub play-comes : (hold last : Hold) (ss : List PlayStep) → play hold (Comes ∷ ss) ≡ Some last
     → (hold ≡ Lacks) × (play Has ss ≡ Some last)
 play-comes Lacks last ss h = (refl, h)
@@ -54,6 +55,7 @@ begins-as : (b : Bool) → (if b then Has else Lacks) ≡ Has → b ≡ true
 begins-as true h = refl
 begins-as false h = absurd (false≢true (ap is_has h))
 
+-- the node has handed over all
 abbrev pub has_left : Stage → Bool
 has_left Left = true
 has_left stage = false
@@ -75,6 +77,7 @@ abbrev is_done : Hold → Bool
 is_done Done = true
 is_done hold = false
 
+-- where a play begins without the deed, it is not here and does not come
 pub begin-lacks : (stage : Stage) (holds comes : Bool) → begin stage holds comes ≡ Lacks
     → (has_left stage ≡ false) × ((holds || comes) ≡ false)
 begin-lacks Unborn holds comes h = (refl, lacks-as (holds || comes) h)
@@ -92,6 +95,7 @@ begins-with Leaving holds comes l h = ap (λ b. if b then Has else Lacks) h
 begins-with Over holds comes l h = ap (λ b. if b then Has else Lacks) h
 begins-with Left holds comes l h = absurd (false≢true (sym l))
 
+-- and without it where it is not
 pub begins-without : (stage : Stage) (holds comes : Bool) → has_left stage ≡ false → (holds || comes) ≡ false
     → begin stage holds comes ≡ Lacks
 begins-without Unborn holds comes l h = ap (λ b. if b then Has else Lacks) h
@@ -133,6 +137,7 @@ held-there (InExitTo of to) body h v g = absurd (none-is-not v g)
 pub held-elsewhere : (node h : ℕ) (body : Body) → h ≢ node → held_as (InTable node) body h ≡ None
 held-elsewhere node h body d = ap (λ t. if t then Some body else None) (ne_eqb node h (λ e. d (sym e)))
 
+-- it is held in its own table
 pub held-here : (node : ℕ) (body : Body) → held_as (InTable node) body node ≡ Some body
 held-here node body = ap (λ t. if t then Some body else None) (eq-eqb node node refl)
 
@@ -162,6 +167,7 @@ none-of-fewer few many less (x ∷ xs) all = by-test (none-of-fewer few many les
     not-few : (t : Bool) → few x ≡ t → many x ≡ false → few x ≡ false
     not-few true e m = absurd (false≢true (sym m ∙ less x e))
     not-few false e m = e
+
     by-test : (AllByRecursion (λ y. few y ≡ false) (filter many xs) → filter few xs ≡ []) → (m : Bool) → many x ≡ m
         → AllByRecursion (λ x. few x ≡ false) (cond m (x ∷ filter many xs) (filter many xs))
         → cond (few x) (x ∷ filter few xs) (filter few xs) ≡ []
@@ -178,7 +184,8 @@ one-if-all : {A : Type 0} (t : Bool) (P : A → Type 0) (Q : A → Type 0) (xs :
 one-if-all true P Q xs h g = subst (λ ys. AllByRecursion Q ys) (sym h.only) (g h.one h.holds, tt)
 one-if-all false P Q xs h g = subst (λ ys. AllByRecursion Q ys) (sym h) tt
 
-is-grant : (name : Name) (deed : PackedDeed) (frame : Frame) → frame ≡ frames.Grant deed → is_checkpoint_of name frame ≡ false
+is-grant : (name : Name) (deed : PackedDeed) (frame : Frame) → frame ≡ frames.Grant deed
+    → is_checkpoint_of name frame ≡ false
 is-grant name deed frame e = ap (is_checkpoint_of name) e
 
 is-given-back : (name : Name) (deed : PackedDeed) (frame : Frame) → frame ≡ frames.GiveBack deed

@@ -44,6 +44,7 @@ maker-of-next ranges node =
     in number-there (ranges ++ node ∷ []) (length ranges * 8 + 1) (omega arith)
     ∙ ap (slice_get (ranges ++ node ∷ [])) place ∙ get-last ranges node
 
+-- it begins a range of that node
 pub range-of-next : (ranges : List ℕ) (node : ℕ) → IsRangeOf (ranges ++ node ∷ []) (upcoming_in ranges) node
 range-of-next ranges node =
     record { index = length ranges; first_is = refl; maker = maker-of-next ranges node }
@@ -54,16 +55,20 @@ pub maker-stays : (ranges : List ℕ) (node x maker : ℕ) → maker_in ranges x
 maker-stays ranges node x maker h =
     elim (cases_eq x 0) [
       | inl nought ↦
-          absurd (none-is-some maker (sym (ap (λ t. if t then None else slice_get ranges ((x - 1) / 8)) (eq-eqb x 0 nought)) ∙ h))
+          absurd (none-is-some maker (sym (ap (λ t. if t then None else slice_get ranges ((x - 1) / 8))
+          (eq-eqb x 0 nought)) ∙ h))
       | inr some ↦
-          let there : slice_get ranges ((x - 1) / 8) ≡ Some maker = sym (number-there ranges x (omega (arith, some))) ∙ h
+          let there : slice_get ranges ((x - 1) / 8) ≡ Some maker = sym (number-there ranges x (omega
+          (arith, some))) ∙ h
           in number-there (ranges ++ node ∷ []) x (omega (arith, some))
           ∙ get-in-front ranges (node ∷ []) ((x - 1) / 8)
           (slice_get_within ranges ((x - 1) / 8) maker there)
           ∙ there
     ]
 
-in-lease-again : (x first count : ℕ) → first ≤ x → x < first + count → list_any (nat_eq x) (range_with_len first count) ≡ true
+-- a number within a range is one of its numbers
+pub in-lease-again : (x first count : ℕ) → first ≤ x → x < first + count
+    → list_any (nat_eq x) (range_with_len first count) ≡ true
 in-lease-again x first zero low high = absurd (omega (arith, low, high))
 in-lease-again x first (suc count) low high =
     elim (cases_eq x first) [
@@ -146,6 +151,7 @@ or-false : (t : Bool) → (t || false) ≡ t
 or-false true = refl
 or-false false = refl
 
+-- all still holds of the kind with one more range on its way
 pub kind-leased : (born : ℕ → Bool) (x : KindSight) (node : ℕ) → KindHolds born x → born node ≡ true
     → x.coming node ≡ [] → KindHolds born (leased x node)
 kind-leased born x node k is_born none =
@@ -167,6 +173,7 @@ kind-leased born x node k is_born none =
         → list_any (is_in_lease number) (cond t (upcoming_in x.ranges ∷ []) []) ≡ false
     none-of number away true = or-false (is_in_lease number (upcoming_in x.ranges)) ∙ away
     none-of number away false = refl
+
     free-same : (number h : ℕ) → is_in_lease number (upcoming_in x.ranges) ≡ false
         → is_still_free (leased x node) number h ≡ is_still_free x number h
     free-same number h away =
@@ -174,13 +181,16 @@ kind-leased born x node k is_born none =
         (list_any-append (is_in_lease number) (x.coming h) (cond (nat_eq h node) (upcoming_in x.ranges ∷ []) [])
         ∙ ap (λ t. list_any (is_in_lease number) (x.coming h) || t) (none-of number away (nat_eq h node))
         ∙ or-false (list_any (is_in_lease number) (x.coming h)))
+
     given-same : (number : ℕ) (made_by : Option ℕ) → is_in_lease number (upcoming_in x.ranges) ≡ false
         → is_given (leased x node) number made_by ≡ is_given x number made_by
     given-same number None away = refl
     given-same number (Some h) away = ap not (free-same number h away)
+
     or-true : (a b : Bool) → b ≡ true → (a || b) ≡ true
     or-true true b e = refl
     or-true false b e = e
+
     new-free : (number : ℕ) → is_in_lease number (upcoming_in x.ranges) ≡ true
         → is_still_free (leased x node) number node ≡ true
     new-free number inside =
@@ -190,6 +200,7 @@ kind-leased born x node k is_born none =
         ∙ or-true (list_any (is_in_lease number) (x.coming node)) _
         (ap (λ t. list_any (is_in_lease number) (cond t (upcoming_in x.ranges ∷ []) [])) (eq-eqb node node refl)
         ∙ ap (λ t. t || false) inside))
+
     past-all : (number h : ℕ) → maker_in x.ranges number ≡ Some h
         → is_in_lease number (upcoming_in x.ranges) ≡ true → ⊥
     past-all number h e inside =
@@ -199,11 +210,13 @@ kind-leased born x node k is_born none =
         sym (number-there x.ranges number (omega (arith, low))) ∙ e
         in let within = slice_get_within x.ranges ((number - 1) / 8) h there
         in omega (arith, low, within)
+
     not-given : (number : ℕ) (made_by : Option ℕ) → maker_in x.ranges number ≡ made_by
         → is_in_lease number (upcoming_in x.ranges) ≡ true → x.used number ≡ false
     not-given number None e inside = k.used number ∙ ap (is_given x number) e
     not-given number (Some h) e inside =
         absurd (past-all number h e inside)
+
     used-now : (number : ℕ) (t : Bool) → is_in_lease number (upcoming_in x.ranges) ≡ t
         → x.used number ≡ is_given (leased x node) number (maker_in (x.ranges ++ node ∷ []) number)
     used-now number true inside =
@@ -215,6 +228,7 @@ kind-leased born x node k is_born none =
     used-now number false away =
         k.used number ∙ sym (given-same number (maker_in x.ranges number) away)
         ∙ ap (is_given (leased x node) number) (sym (maker-elsewhere x.ranges node number away))
+
     coming-by : (h first : ℕ) (t : Bool) → nat_eq h node ≡ t
         → Contains (x.coming h ++ cond t (upcoming_in x.ranges ∷ []) []) first
         → IsRangeOf (x.ranges ++ node ∷ []) first h
@@ -228,15 +242,18 @@ kind-leased born x node k is_born none =
     coming-by h first false e there =
         range-stays x.ranges node first h
         (k.coming h first (subst (λ ys. Contains ys first) (append-nil (x.coming h)) there))
+
     coming-now : (h first : ℕ) → Contains (x.coming h ++ cond (nat_eq h node) (upcoming_in x.ranges ∷ []) []) first
         → IsRangeOf (x.ranges ++ node ∷ []) first h
     coming-now h first there = coming-by h first (nat_eq h node) refl there
+
     one-by : (h : ℕ) (t : Bool) → nat_eq h node ≡ t
         → length (x.coming h ++ cond t (upcoming_in x.ranges ∷ []) []) ≤ 1
     one-by h true e =
         subst (λ ys. length (ys ++ upcoming_in x.ranges ∷ []) ≤ 1)
         (sym (ap x.coming (eqb-true h node e) ∙ none)) (omega arith)
     one-by h false e = subst (λ ys. length ys ≤ 1) (sym (append-nil (x.coming h))) (k.one_coming h)
+
     one-now : (h : ℕ) → length (x.coming h ++ cond (nat_eq h node) (upcoming_in x.ranges ∷ []) []) ≤ 1
     one-now h = one-by h (nat_eq h node) refl
 
@@ -252,9 +269,11 @@ no-lease-about kind node (f ∷ fs) h =
   where
     is-not-empty : (f : Frame) (fs : List Frame) → f ∷ fs ≡ [] → ⊥
     is-not-empty f fs h = cc
+
     drops : (t : Bool) (f : Frame) (fs : List Frame) → cond t (f ∷ fs) fs ≡ [] → (t ≡ false) × (fs ≡ [])
     drops true f fs h = absurd (is-not-empty f fs h)
     drops false f fs h = (refl, h)
+
     not-leased : (f : Frame) → is_about node node 1 f ≡ false → lease_in kind f ≡ []
     not-leased (frames.Lease other first) g = absurd (false≢true (sym g ∙ eq-eqb node node refl))
     not-leased f g = refl

@@ -10,6 +10,7 @@ or-cases : (a b : Bool) → (a || b) ≡ true → (a ≡ true) ⊎ (b ≡ true)
 or-cases true b h = inl refl
 or-cases false b h = inr h
 
+-- the numbers of a range are within it
 pub in-range : (first count x : ℕ) → list_any (nat_eq x) (range_with_len first count) ≡ true
     → (first ≤ x) × (x < first + count)
 in-range first zero x h = absurd (false≢true h)
@@ -50,8 +51,11 @@ maker-in-range ranges first node x r h =
     ∙ ap (λ i. slice_get ranges i) same ∙ sym (number-there first (omega (arith, start))) ∙ r.maker
   where
     number-there : (y : ℕ) → 1 ≤ y → maker_in ranges y ≡ slice_get ranges ((y - 1) / 8)
-    number-there y low = ap (λ t. if t then None else slice_get ranges ((y - 1) / 8)) (ne_eqb y 0 (λ e. omega (arith, e, low)))
+    number-there y low =
+        let some : y ≢ 0 = λ e. omega (arith, e, low)
+        in ap (λ t. if t then None else slice_get ranges ((y - 1) / 8)) (ne_eqb y 0 some)
 
+-- so have those of its rest
 pub maker-of-rest : (ranges numbers : List ℕ) (node x : ℕ) → IsRestOf ranges numbers node
     → list_any (nat_eq x) numbers ≡ true → maker_in ranges x ≡ Some node
 maker-of-rest ranges numbers node x r h =
@@ -68,14 +72,17 @@ used-is-taken born x k number h low used = by-test (list_any (nat_eq number) (x.
   where
     none-there : x.leases h ≡ [] → list_any (nat_eq number) (x.leases h) ≡ true → ⊥
     none-there e t = false≢true (ap (λ ns. list_any (nat_eq number) ns) (sym e) ∙ t)
+
     not-both : (a b : Bool) → a ≡ true → not (a || b) ≡ true → ⊥
     not-both true b e g = false≢true g
     not-both false b e g = false≢true e
+
     in-lease : IsRestOf x.ranges (x.leases h) h → list_any (nat_eq number) (x.leases h) ≡ true → ⊥
     in-lease r t =
         not-both (list_any (nat_eq number) (x.leases h)) (list_any (is_in_lease number) (x.coming h)) t
         (ap (is_given x number) (sym (maker-of-rest x.ranges (x.leases h) h number r t))
         ∙ sym (k.used number) ∙ used)
+
     by-test : (t : Bool) → list_any (nat_eq number) (x.leases h) ≡ t → list_any (nat_eq number) (x.leases h) ≡ false
     by-test false e = e
     by-test true e =

@@ -12,6 +12,7 @@ abbrev pub frame_if : Bool → Frame → List Frame
 frame_if true frame = frame ∷ []
 frame_if false frame = []
 
+-- of the frames sent, those to a node
 abbrev pub sent_to : ℕ → List (ℕ × Frame) → List Frame
 sent_to to sends = flat_map (λ s. frame_if (nat_eq to s.0) s.1) sends
 
@@ -20,9 +21,11 @@ pub record IsToNode (n : ℕ) (s : ℕ × Frame) : Type 0 where
   pub low : 1 ≤ s.0
   pub high : s.0 ≤ n
 
+-- so is each of them
 abbrev pub AreToNodes : ℕ → List (ℕ × Frame) → Type 0
 AreToNodes n sends = AllByRecursion (IsToNode n) sends
 
+-- there is still a stream for each pair
 pub square-sent : (n p : ℕ) (ss : Streams) (sends : List (ℕ × Frame)) → Square n ss → AreToNodes n sends
     → Square n (with_all_sent p ss sends)
 square-sent n p ss [] s all = s

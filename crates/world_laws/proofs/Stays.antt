@@ -135,6 +135,7 @@ between-born p born more IsInHand m h = tt
 between-born p born more (InAnswer sender reply) m h = (m sender h.0, h.1)
 between-born p born more Ends m h = tt
 
+-- a call stays where it is when more nodes are born
 pub has-call-born : (script : Script) (p : ℕ) (born more : ℕ → Bool) (x : CallSight) (call : Call) → IsMore born more
     → HasCall script p born x call → HasCall script p more x call
 has-call-born script p born more x call m h =
@@ -233,6 +234,7 @@ kind-stays born more x y m s h =
 
 -- ---- nodes and frames
 
+-- a node holds what it held when more nodes are born
 pub node-born : (script : Script) (pids : ℕ → ℕ) (born more : ℕ → Bool) (p : ℕ) (n : Node) → IsMore born more
     → NodeHolds script pids born p n → NodeHolds script pids more p n
 node-born script pids born more p n m h =
@@ -248,6 +250,7 @@ node-born script pids born more p n m h =
           in (m owner old.0, old.1);
     }
 
+-- a frame may be where it was when more nodes are born
 pub may-be-born : (script : Script) (born more : ℕ → Bool) (to sender : ℕ) (frame : Frame) → IsMore born more
     → MayBe script born to sender frame → MayBe script more to sender frame
 may-be-born script born more to sender (frames.Ask ticket pid call) m h = h

@@ -36,6 +36,7 @@ pub record Heads (script : Script) (w : World) (p q : ℕ) (frame : Frame) (rest
   pub high_from : q ≤ node_count script
   pub head : stream w p q ≡ frame ∷ rest
 
+-- the world without that frame
 abbrev pub world_without : World → ℕ → ℕ → List Frame → World
 world_without w p q rest = record w { streams = with_stream w.streams p q rest }
 
@@ -82,6 +83,7 @@ take-steps script w p q frame rest s shape h rule =
     ∙ ap (after_turn (world_without w p q rest) p)
     (ap (λ x. take_turn x (node_of w p) q frame) shape.of_script ∙ ap (option_and_then sends_frames) rule ∙ sends-all s)
 
+-- a node that starts a call: the world's step
 pub run-steps : (script : Script) (w : World) (p : ℕ) (s : Step)
     → IsShaped script w → 1 ≤ p → p ≤ node_count script → run script (node_of w p) ≡ Some s
     → step w (events.Run p) ≡ Some (world_after w p s)
@@ -92,6 +94,7 @@ run-steps script w p s shape low high rule =
 
 -- ---- what is on its way
 
+-- the stream of two nodes
 pub frames-low : (w : World) (to sender : ℕ) → 1 ≤ to → 1 ≤ sender → frames_to w to sender ≡ stream w to sender
 frames-low w to sender low low_from =
     rw (lt-ltb 0 to (omega arith), lt-ltb 0 sender (omega arith)) refl
@@ -112,12 +115,15 @@ low-cases : (x : ℕ) → (1 ≤ x) ⊎ (x < 1)
 low-cases zero = inr (omega arith)
 low-cases (suc x) = inl (omega arith)
 
+-- a shaped world has a stream for each pair
 pub square-of : (script : Script) (w : World) → IsShaped script w → Square (node_count script) w.streams
 square-of script w s = record { rows = s.rows; row = s.row }
 
+-- the frame was in its own stream
 pub taken-here : (p q : ℕ) (frame : Frame) → taken p ((q, frame) ∷ []) p q ≡ frame ∷ []
 taken-here p q frame = rw (eq-eqb p p refl, eq-eqb q q refl) refl
 
+-- and in none to another node
 pub taken-not-to : (p to sender : ℕ) (takes : List (ℕ × Frame)) → to ≢ p → taken p takes to sender ≡ []
 taken-not-to p to sender takes d = ap (λ b. frames_if b (sent_to sender takes)) (ne_eqb to p d)
 
@@ -125,6 +131,7 @@ frames-of-none : (b : Bool) → frames_if b [] ≡ []
 frames-of-none true = refl
 frames-of-none false = refl
 
+-- nor from another
 pub taken-not-from : (p to q sender : ℕ) (frame : Frame) → sender ≢ q → taken p ((q, frame) ∷ []) to sender ≡ []
 taken-not-from p to q sender frame d =
     ap (λ b. frames_if (nat_eq to p) (frame_if b frame ++ [])) (ne_eqb sender q d) ∙ frames-of-none (nat_eq to p)
@@ -210,6 +217,7 @@ node-elsewhere v p s low x d =
 -- ---- what it changes
 
 module _ (script : Script) (w : World) (shape : IsShaped script w) where
+  -- what a node changes that starts a call
   pub changes-by-run : (p : ℕ) (s : Step) → 1 ≤ p → p ≤ node_count script → AreToNodes (node_count script) s.sends
       → Changes script p w (world_after w p s) s.node [] s.sends s.entries
   changes-by-run p s low high to_nodes =
@@ -224,6 +232,7 @@ module _ (script : Script) (w : World) (shape : IsShaped script w) where
         after = sends-behind (node_count script) w p s square to_nodes low high;
       }
 
+  -- what a node changes that takes a frame
   pub changes-by-take : (p q : ℕ) (frame : Frame) (rest : List Frame) (s : Step) → Heads script w p q frame rest
       → AreToNodes (node_count script) s.sends
       → Changes script p w (world_after (world_without w p q rest) p s) s.node ((q, frame) ∷ []) s.sends s.entries
@@ -231,7 +240,8 @@ module _ (script : Script) (w : World) (shape : IsShaped script w) where
       let square : Square (node_count script) (with_stream w.streams p q rest) =
       square-with (node_count script) w.streams p q rest (square-of script w shape) h.low h.high
       in record {
-        shape = shaped-after script (world_without w p q rest) p s shape.of_script shape.nodes square to_nodes shape.tries;
+        shape = shaped-after script
+            (world_without w p q rest) p s shape.of_script shape.nodes square to_nodes shape.tries;
         here = node-after (world_without w p q rest) p s h.low (subst (λ n. p ≤ n) (sym shape.nodes) h.high);
         others = λ x d. node-elsewhere (world_without w p q rest) p s h.low x d;
         journal = refl;
@@ -254,6 +264,7 @@ module _ (script : Script) (w : World) (shape : IsShaped script w) where
           (frames-low (world_without w p q rest) p q h.low h.low_from
           ∙ stream-same (node_count script) w.streams p q rest (square-of script w shape) h.low h.high h.low_from
           h.high_from))))
+
       others-were : (to sender : ℕ) → 1 ≤ to → 1 ≤ sender → (to ≡ p → sender ≢ q)
           → taken p ((q, frame) ∷ []) to sender ≡ []
           → frames_to w to sender
@@ -264,6 +275,7 @@ module _ (script : Script) (w : World) (shape : IsShaped script w) where
           ∙ frames-low (world_without w p q rest) to sender low_to low_from
           ∙ stream-other (node_count script) w.streams p q to sender rest (square-of script w shape) h.low h.high
           h.low_from low_to low_from d)
+
       was : (to sender : ℕ) → (1 ≤ to) ⊎ (to < 1) → (1 ≤ sender) ⊎ (sender < 1)
           → frames_to w to sender
           ≡ taken p ((q, frame) ∷ []) to sender ++ frames_to (world_without w p q rest) to sender

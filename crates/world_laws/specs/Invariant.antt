@@ -88,7 +88,8 @@ pub record Holds (script : Script) (w : World) (hand : List Held) (b : Beside) :
   pub frames_fit : FramesFit script (is_born_in w) (frames_to w)
   pub names : (name : Name) → NameHolds script b.pids (is_born_in w) name (name_sight script w hand b name)
   pub calls : (p : ℕ) → 1 ≤ p → p ≤ node_count script → CallHolds script p (is_born_in w) (call_sight w hand b p)
-  pub ways : (c : ℕ) → 2 ≤ c → c ≤ node_count script → Way script b.pids c (knows_parent script w b.pids c) (way_sight w c)
+  pub ways : (c : ℕ) → 2 ≤ c → c ≤ node_count script
+      → Way script b.pids c (knows_parent script w b.pids c) (way_sight w c)
   pub parcels : (parcel : Parcel) → IsParcelIn w hand parcel
       → HasSender script b.pids (stage_of w) (under_way_of w) parcel
   pub kinds : (kind : Kind) → KindHolds (is_born_in w) (kind_sight w b.kernel kind)

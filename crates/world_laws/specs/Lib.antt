@@ -8,3 +8,4 @@ pub mod Ranges
 pub mod Families
 pub mod Invariant
 pub mod Deeds
+pub mod Runnable

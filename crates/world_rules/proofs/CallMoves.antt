@@ -34,7 +34,8 @@ use Rattle.world_laws.proofs.Changes.{Changes, read-same, still-born}
 use Rattle.world_laws.proofs.Frames.{ArePlain, BringNoBirth, all-weaker, IsSameBut, plays-of-others, ranges-of-all-others}
 use Rattle.world_laws.proofs.LeftAlone.{SameCaller, LeavesCall, call-left-alone, way-left-alone, parcel-was-there, sender-stays, family-left-alone, other-node-stays, frames-still-fit}
 
--- the directory has the same nodes that leave; what is known is known; and of what it holds only the call's item changes
+-- the directory has the same nodes that leave; what is known is known; and of what it holds only the call's item
+-- changes
 pub record SameButCall (x : ℕ) (d d' : Directory) : Type 0 where
   pub partings_are : (y : ℕ) → get d'.partings y ≡ get d.partings y
   pub known_still : (name : Name) → is_known d name ≡ true → is_known d' name ≡ true
@@ -198,6 +199,7 @@ module _ (script : Script) (w w' : World) (hand hand' : List Held) (b : Beside) 
       → plays call name (c.left to 1) ≡ plays b.call name (c.left to 1)
   steps-still to none name = plays-of-others b.call call x q.calls name to 1 (c.left to 1) none
 
+  -- nor which calls were sent by range
   pub ranges-still : (to : ℕ) → filter (is_about x to 1) (c.left to 1) ≡ [] → (name : Name)
       → flat_map (range_steps_of call name) (c.left to 1) ≡ flat_map (range_steps_of b.call name) (c.left to 1)
   ranges-still to none name = ranges-of-all-others b.call call x q.calls name to 1 (c.left to 1) none

@@ -56,6 +56,7 @@ rest-same x y xs ys h = cc
 not-none : {A : Type 0} (x : A) (xs : List A) → x ∷ xs ≡ [] → ⊥
 not-none x xs h = cc
 
+-- then it is the one
 pub is-alone : {A : Type 0} (t : Bool) (P : A → Type 0) (x : A) (xs ys : List A) → ys ≡ x ∷ xs → OneIf t P ys
     → IsAlone t P x xs
 is-alone true P x xs ys e h =
@@ -88,6 +89,7 @@ and-first : (a b : Bool) → (a && b) ≡ true → a ≡ true
 and-first true b h = refl
 and-first false b h = absurd (false≢true h)
 
+-- a Grant says that the deed is in it
 pub granted : (forks_it : ℕ → ℕ) (pids : ℕ → ℕ) (name : Name) (body : Body) (deed : DeedPlace) (to sender : ℕ)
     (packed : PackedDeed) (rest fs : List Frame)
     → fs ≡ frames.Grant packed ∷ rest
@@ -112,7 +114,8 @@ granted forks_it pids name body (InGrant node) to sender packed rest fs e h =
       alone = one.alone;
     }
 granted forks_it pids name body (InCheckpoint c) to sender packed rest fs e h =
-    let one : IsAlone (nat_eq to c && nat_eq sender (forks_it c)) (IsCheckpointOf name body) (frames.Grant packed) rest =
+    let one : IsAlone (nat_eq to c && nat_eq sender (forks_it c)) (IsCheckpointOf name body)
+    (frames.Grant packed) rest =
     is-alone (nat_eq to c && nat_eq sender (forks_it c)) (IsCheckpointOf name body) (frames.Grant packed) rest fs e h
     in let is : IsCheckpointOf name body (frames.Grant packed) = one.holds
     in absurd (no-grant (frames.Checkpoint is.pid is.parent (pack name body) is.vars) packed refl is.is)
@@ -157,6 +160,7 @@ module _ (script : Script) (pids : ℕ → ℕ) (born : ℕ → Bool) (name : Na
     where
       not-unmade : InGrant p ≡ Unmade → ⊥
       not-unmade e = cc
+
       by-test : (t : Bool) → x.used ≡ t → x.used ≡ true
       by-test true e = e
       by-test false e = absurd (not-unmade (sym deed ∙ h.made.1 e))
@@ -176,6 +180,7 @@ module _ (script : Script) (pids : ℕ → ℕ) (born : ℕ → Bool) (name : Na
       (λ e. subst (λ y. PlaysTo Has rest (is_there y (belief_of x))) (sym (eqb-true q p e))
       (plays-on (subst (λ y. 2 ≤ y) (eqb-true q p e) low))) (λ e. h.plays q low)
 
+  -- all holds of the name with its deed in the table
   pub name-arrived : NameHolds script pids born name (arrived x p rest)
   name-arrived =
       record {
@@ -430,6 +435,7 @@ module _ (script : Script) (w : World) (b : Beside) (holds : Holds script w [] b
       and-false : (t : Bool) → (t && false) ≡ false
       and-false true = refl
       and-false false = refl
+
       away : (to ≢ p) ⊎ (sender ≢ 1) → (nat_eq to p && nat_eq sender 1) ≡ false
           → filter (brings name) (changes.left to sender) ≡ []
       away d none =
@@ -438,6 +444,7 @@ module _ (script : Script) (w : World) (b : Beside) (holds : Holds script w [] b
           ∙ subst (λ t. OneIf t (IsBringer b.pids name x.body (InGrant p)) (x.brought to sender)) none
           (subst (λ y. OneIf (is_stream_of (forker script) y to sender) (IsBringer b.pids name x.body y)
           (x.brought to sender)) is-granted.deed_is (known.streams to sender))
+
       at-head : filter (brings name) (changes.left p 1) ≡ []
       at-head =
           rest-same (frames.Grant packed) (frames.Grant packed) (filter (brings name) (changes.left p 1))

@@ -6,3 +6,8 @@ pub mod Placings
 pub mod Suggestions
 pub mod Grants
 pub mod CallMoves
+pub mod Answers
+pub mod LeaseAsks
+pub mod Births
+pub mod CallFrames
+pub mod Opening

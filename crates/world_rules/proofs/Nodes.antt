@@ -23,17 +23,20 @@ processes-without deeds (Proc pid) object = absurd (false≢true object)
 processes-without deeds (Msg id) object = refl
 processes-without deeds (Sem id) object = refl
 
+-- so does one that comes
 pub processes-with : (deeds : Deeds) (name : Name) (body : Body) → is_object name ≡ true
     → (put_named deeds name body).processes ≡ deeds.processes
 processes-with deeds (Proc pid) body object = absurd (false≢true object)
 processes-with deeds (Msg id) body object = refl
 processes-with deeds (Sem id) body object = refl
 
+-- a queue or set is no process
 pub object-is-no-process : (name : Name) (pid : ℕ) → is_object name ≡ true → is_same_name name (Proc pid) ≡ false
 object-is-no-process (Proc other) pid object = absurd (false≢true object)
 object-is-no-process (Msg id) pid object = refl
 object-is-no-process (Sem id) pid object = refl
 
+-- who is not unborn is born
 pub born-stage : (stage : Stage) → not (is_unborn stage) ≡ true → is_born_stage stage ≡ true
 born-stage Unborn h = absurd (false≢true h)
 born-stage Living h = refl
@@ -46,6 +49,7 @@ row-stays : (deeds deeds' : Deeds) (pid : ℕ) → deeds'.processes ≡ deeds.pr
 row-stays deeds deeds' pid e h =
     record { row = h.row; here = ap (λ (m : Numbered Body). get m pid) e ∙ h.here }
 
+-- what a node holds by its stage stays with the same processes
 pub holds-stay : (p : ℕ) (n m : Node) (stage : Stage) → is_born_stage stage ≡ true → has_left stage ≡ false
     → m.pid ≡ n.pid
     → m.deeds.processes ≡ n.deeds.processes → HoldsIn p n stage → HoldsIn p m stage
@@ -101,5 +105,6 @@ node-with-directory script pids born p n d e h =
       owners = h.owners;
     }
 
+-- both hold
 pub and-true : (a b : Bool) → a ≡ true → b ≡ true → (a && b) ≡ true
 and-true a b h g = rw (h, g) refl

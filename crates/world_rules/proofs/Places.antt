@@ -28,15 +28,36 @@ directory-leaves d d' name s e =
 
 leading-with : (d : Directory) (name : Name) (place : Place) → IsLeading d → IsLeading (with_place d name place)
 leading-with d (Proc pid) place l =
-    record { stays = l.stays; processes = rising-put d.places.processes pid place l.processes; queues = l.queues; sets = l.sets }
+    record {
+      stays = l.stays;
+      processes = rising-put d.places.processes pid place l.processes;
+      queues = l.queues;
+      sets
+          = l.sets;
+    }
 leading-with d (Msg id) place l =
-    record { stays = l.stays; processes = l.processes; queues = rising-put d.places.queues id place l.queues; sets = l.sets }
+    record {
+      stays = l.stays;
+      processes = l.processes;
+      queues = rising-put d.places.queues id place l.queues;
+      sets =
+          l.sets;
+    }
 leading-with d (Sem id) place l =
-    record { stays = l.stays; processes = l.processes; queues = l.queues; sets = rising-put d.places.sets id place l.sets }
+    record {
+      stays = l.stays;
+      processes = l.processes;
+      queues = l.queues;
+      sets = rising-put d.places.sets id place
+          l.sets;
+    }
 
-pub place-with-same : (d : Directory) (name : Name) (place : Place) → place_of (with_place d name place) name ≡ Some place
+-- the name has the place
+pub place-with-same : (d : Directory) (name : Name) (place : Place)
+    → place_of (with_place d name place) name ≡ Some place
 place-with-same d name place = get-put-same-name d.places name place
 
+-- and the others have theirs
 pub place-with-other : (d : Directory) (name : Name) (place : Place) (other : Name) → other ≢ name
     → place_of (with_place d name place) other ≡ place_of d other
 place-with-other d name place other e = get-put-other-name d.places name place other e
@@ -67,4 +88,11 @@ with-place-keeps d name place l held =
 -- and the directory itself
 pub itself-keeps : (d : Directory) → IsLeading d → SameButPlaces d d
 itself-keeps d l =
-    record { partings_are = λ x. refl; ranges_are = λ kind. refl; known_still = λ m h. h; held_is = λ m. refl; leads = l }
+    record {
+      partings_are = λ x. refl;
+      ranges_are = λ kind. refl;
+      known_still = λ m h. h;
+      held_is = λ m. refl;
+      leads =
+          l;
+    }

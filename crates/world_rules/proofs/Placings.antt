@@ -66,6 +66,7 @@ known-finds : (known : Bool) (ns : List News) → known ≡ true
 known-finds true ns h = refl
 known-finds false ns h = absurd (false≢true h)
 
+-- all holds of the name that is known now
 pub name-placed : (script : Script) (pids : ℕ → ℕ) (born : ℕ → Bool) (name : Name) (x : NameSight)
     (place : Option Place) (tells : ℕ → List ℕ) (needs : ℕ → List News) → IsPlaced x place tells
     → NameHolds script pids born name x → NameHolds script pids born name (known-at x place tells needs)

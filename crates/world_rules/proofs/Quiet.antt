@@ -141,7 +141,8 @@ module _ (script : Script) (w w' : World) (hand : List Held) (b : Beside) (deed 
       }
 
   -- All holds after it, where it holds for the names.
-  pub quiet-keeps : ((name : Name) → NameHolds script b.pids (is_born_in w') name (name_sight script w' hand after name))
+  pub quiet-keeps : ((name : Name)
+      → NameHolds script b.pids (is_born_in w') name (name_sight script w' hand after name))
       → Holds script w' hand after
   quiet-keeps names =
       record {
@@ -162,20 +163,24 @@ module _ (script : Script) (w w' : World) (hand : List Held) (b : Beside) (deed 
             (way-left-alone script p w w' n takes sends [] c x (λ e. same-caller.stage) (directory.partings_are x)
             q.plain_taken q.plain_sent) (holds.ways x low_x high_x);
         parcels = λ parcel there. sender-stays script p w w' n takes sends [] c b.pids parcel
-            (λ left. (same-caller.stage ∙ left,
-            ap (λ (m : Caller). m.under_way) same-caller.caller))
+            (λ left. (
+              same-caller.stage ∙ left,
+              ap (λ (m : Caller). m.under_way) same-caller.caller,
+            ))
             (holds.parcels parcel
             (parcel-was-there script p w w' n takes sends [] c hand parcel q.plain_sent
             (λ pid. subst (λ items. Contains items (Ending parcel)) (directory.held_is (Proc pid))) there));
         kinds = λ kind. kind-stays (is_born_in w) (is_born_in w') (kind_sight w b.kernel kind)
             (kind_sight w' b.kernel kind) quiet-born
             (kind-left-alone script p w w' n takes sends [] c b.kernel b.kernel kind (λ number. refl)
-            (ap (λ m. for_kind m kind) same-caller.leases) (directory.ranges_are kind) (q.no_lease_taken kind) (q.no_lease_sent kind))
+            (ap (λ m. for_kind m kind) same-caller.leases) (directory.ranges_are kind) (q.no_lease_taken kind)
+            (q.no_lease_sent kind))
             (holds.kinds kind);
         few = λ kind. few-still script p w w' n takes sends [] c b.call b.call kind refl (directory.ranges_are kind)
             (λ x. refl) (holds.few kind);
         keys = quiet-keys;
         families = λ x forked. family-left-alone script p w w' n takes sends [] c b.pids b.places b.kernel
-            (process_deed b.deed) (process_deed deed) x q.deeds (λ e. same-caller.stage) q.no_birth_taken q.no_birth_sent
+            (process_deed b.deed) (process_deed deed) x q.deeds
+            (λ e. same-caller.stage) q.no_birth_taken q.no_birth_sent
             (holds.families x forked);
       }

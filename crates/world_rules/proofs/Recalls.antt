@@ -83,6 +83,7 @@ module _ (script : Script) (pids : ℕ → ℕ) (born : ℕ → Bool) (name : Na
       in-table : InTable p ≡ Unmade → ⊥
       in-table e = cc
 
+  -- all holds of the name with its deed on the way back
   pub name-recalled : NameHolds script pids born name (recalled x p (frames.GiveBack (pack name x.body)) rest)
   name-recalled =
       record {
@@ -340,7 +341,8 @@ module _ (script : Script) (w : World) (b : Beside) (holds : Holds script w [] b
       ∙ kept-of-sent (brings name) (frames.GiveBack (pack name body)) brings-it (nat_eq to 1) (nat_eq sender p)
       ∙ ap (λ v. cond (nat_eq to 1 && nat_eq sender p) (frames.GiveBack (pack name v) ∷ []) []) at-table.body_is)
 
-  sight-now : SameName (recalled x p (frames.GiveBack (pack name x.body)) rest-steps) (name_sight script next [] moved name)
+  sight-now : SameName (recalled x p (frames.GiveBack (pack name x.body)) rest-steps)
+      (name_sight script next [] moved name)
   sight-now =
       record {
         place = ap (λ y. place_of y name) (sym same-there);

@@ -47,7 +47,8 @@ born-in-range script w s x born =
           absurd
           (false≢true
           (ap (λ (m : Node). is_born_stage m.stage)
-          (sym (ap (λ t. unwrap_or (if t then node_at w x else None) (unborn_node x)) (le-ltb 0 x (omega (arith, zero)))))
+          (sym (ap (λ t. unwrap_or (if t then node_at w x else None) (unborn_node x)) (le-ltb 0 x (omega
+          (arith, zero)))))
           ∙ born))
       | inr some ↦
           elim (cases_lt (node_count script) x) [
@@ -120,6 +121,7 @@ module _ (script : Script) (pids : ℕ → ℕ) (born : ℕ → Bool) (name : Na
             (plays-elsewhere q low_q d)
       ]
 
+  -- all holds of the name that is asked back
   pub name-asked-back : NameHolds script pids born name (asked-back x owner to)
   name-asked-back =
       record {
@@ -286,7 +288,8 @@ module _ (script : Script) (w : World) (b : Beside) (holds : Holds script w [] b
               (refl, tt) y 1);
           placed = λ y. sym (made-same script 1 w next after.node takes after.sends [] changes
               (λ t s fs. placed_in name fs) (λ t s. flat_map-is-list-map _) (refl, tt) (refl, tt) 1 y);
-          news = λ y. ap (λ ranges. news name (x.used && is_maker (maker_in ranges (number_of name)) y) (frames_to w 1 y))
+          news = λ y. ap (λ ranges. news name (x.used && is_maker (maker_in ranges (number_of name)) y)
+              (frames_to w 1 y))
               (sym (same.ranges_are (kind_of name)))
               ∙ sym (made-same script 1 w next after.node takes after.sends [] changes
               (λ t s fs. news name (x.used && is_maker (maker (directory_of next) name) s) fs)
@@ -364,7 +367,8 @@ module _ (script : Script) (w : World) (b : Beside) (holds : Holds script w [] b
           caller = record { number = refl; pid = refl; stage = refl; caller = refl; leases = refl };
           queue_keys = refl;
           set_keys = refl;
-          directory = subst (λ (y : Directory). SameButPlaces d y) (sym late-directory-now) (itself-keeps d holds.leading);
+          directory = subst (λ (y : Directory). SameButPlaces d y) (sym late-directory-now)
+              (itself-keeps d holds.leading);
           node = node-holds;
           deeds = λ pid. refl;
           plain_taken = (refl, tt);
@@ -394,7 +398,8 @@ module _ (script : Script) (w : World) (b : Beside) (holds : Holds script w [] b
         }
 
     late-more : IsMore (is_born_in w) (is_born_in late-next)
-    late-more = quiet-born script w late-next [] b b.deed 1 late-after.node takes [] h.low h.high holds late-changes late-quiet
+    late-more =
+        quiet-born script w late-next [] b b.deed 1 late-after.node takes [] h.low h.high holds late-changes late-quiet
 
     late-keeps : KeepsAs script w (events.Take 1 q) b
     late-keeps =
@@ -402,9 +407,11 @@ module _ (script : Script) (w : World) (b : Beside) (holds : Holds script w [] b
           next = late-next;
           is_step = take-steps script w 1 q (frames.Suggest name to) rest late-after holds.shape h
               (rule-by ∙ ap (λ t. Some (if t then recall_from (step_to n) name (Some to) q else step_to n)) late);
-          holds = quiet-keeps script w late-next [] b b.deed 1 late-after.node takes [] h.low h.high holds late-changes late-quiet
+          holds = quiet-keeps script w late-next [] b b.deed 1 late-after.node takes [] h.low h.high holds
+              late-changes late-quiet
               (λ m. name-stays script b.pids (is_born_in w) (is_born_in late-next) m _ _ late-more
-              (name-left-alone script 1 w late-next late-after.node takes [] [] late-changes [] [] b b m (late-others m) (refl, tt) tt)
+              (name-left-alone script 1 w late-next late-after.node takes [] [] late-changes [] [] b b m
+              (late-others m) (refl, tt) tt)
               (holds.names m));
         }
 
