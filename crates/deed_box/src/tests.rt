@@ -104,6 +104,11 @@ fn refusal(answer: Result<(), (UnpackFault, PackedDeeds)>) -> Option<(UnpackFaul
     }
 }
 
+/// Packs all tallies, which go with any name.
+fn pack_tallies(deeds: &mut Deeds<Tally>) -> Result<PackedDeeds, Memory> {
+    deeds.pack_all()
+}
+
 #[test]
 fn deeds_travel_packed(rt: HostRuntime) -> Result<(), Fail> {
     let alloc = rt.alloc();
@@ -113,7 +118,7 @@ fn deeds_travel_packed(rt: HostRuntime) -> Result<(), Fail> {
         None
     );
     assert_eq!(rt; deeds.get(Name::Proc(Pid(2))).ok_or("process 2")?.count, 9);
-    let packed = deeds.pack_all()?;
+    let packed = pack_tallies(&mut deeds)?;
     let [queue, process] = packed.as_slice() else {
         panic!(rt; "not two deeds");
     };

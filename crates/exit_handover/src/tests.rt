@@ -6,7 +6,7 @@ ghost use Rattle.deed_box.specs.Packing.{names_of};
 use crate::{Stage, begin, give_all};
 use deed_box::{Deeds, Shared};
 use pico_base::{Bytes, Call, Id, Memory, Name, Node, Pid, UnpackFault};
-use rpc_frame::{Frame, PackedDeed, PackedDeeds};
+use rpc_frame::{Frame, Frames, PackedDeed, PackedDeeds};
 use std::alloc::Global;
 use std::test::Fail;
 
@@ -84,6 +84,11 @@ fn brought(alloc: Global, frame: &Frame) -> Result<Vec<(Name, Option<u8>)>, Memo
     Ok(names)
 }
 
+/// Hands over all tallies, which go with any name, at the end of process 2.
+fn give_tallies(alloc: Global, deeds: &mut Deeds<Tally>) -> Result<Frames, Memory> {
+    give_all(alloc, deeds, Pid(2), Pid(1), Call::Exit { status: 7 })
+}
+
 #[test]
 fn all_deeds_are_given(rt: HostRuntime) -> Result<(), Fail> {
     let alloc = rt.alloc();
@@ -91,8 +96,7 @@ fn all_deeds_are_given(rt: HostRuntime) -> Result<(), Fail> {
     if deeds.put_packed(deeds_of_all_kinds(alloc)?).is_err() {
         panic!(rt; "not put");
     }
-    let call = Call::Exit { status: 7 };
-    let frames = give_all(alloc, &mut deeds, Pid(2), Pid(1), call)?;
+    let frames = give_tallies(alloc, &mut deeds)?;
     let mut given = Vec::new(alloc);
     for frame in frames.as_slice() {
         given.append(&mut brought(alloc, frame)?)?;

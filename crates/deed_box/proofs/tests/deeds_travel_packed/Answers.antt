@@ -1,12 +1,14 @@
-use Rattle.std.proofs.Common.{List, [], ◌∷◌, true, refl}
+use Rattle.std.proofs.Common.{◌≡◌, List, [], ◌∷◌, refl, sym, subst}
+use Rattle.std.specs.List.{IsDistinct}
 use Rattle.pico_base.specs.declared.numbers.Name.{Name}
-use Rattle.deed_box.specs.Packing.{AllFit}
+use Rattle.pico_base.specs.declared.numbers.Name.TheVariants.{Proc, Msg}
+use Rattle.node_model.specs.Kinds.{is_same_name}
 use Rattle.deed_box.proofs.tests.deeds_travel_packed.Goals as goal
 
--- a tally goes with any name
-all-fit : {B : Type 0} (deeds : List (Name × B)) → AllFit (λ tally name. true) deeds
-all-fit [] = tt
-all-fit (deed ∷ deeds) = (refl, all-fit deeds)
+distinct : IsDistinct is_same_name (Msg 3 ∷ Proc 2 ∷ [])
+unfolding IsDistinct
+distinct = ((refl, tt), (tt, tt))
 
-pub pack_all-requires : goal.pack_all-requires
-pack_all-requires c = all-fit _
+pub put_packed-requires-clause-distinct : goal.put_packed-requires-clause-distinct
+put_packed-requires-clause-distinct g c =
+    subst (λ (names : List Name). IsDistinct is_same_name names) (sym c.in_ok-queue_and_process.ensures) distinct
