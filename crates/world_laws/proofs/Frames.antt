@@ -19,7 +19,7 @@ use Rattle.world_laws.specs.Callers.{is_about}
 use Rattle.world_laws.specs.Ways.{is_leaving_frame, is_recall_all, is_left_frame}
 use Rattle.world_laws.specs.Ranges.{lease_in}
 use Rattle.world_laws.specs.Families.{is_checkpoint_frame}
-use Rattle.world_laws.proofs.Sends.{frame_if, sent_to}
+use Rattle.world_laws.proofs.Sends.{frame_if, frames_with}
 
 -- ---- lists of frames
 
@@ -40,10 +40,10 @@ contains-one f g there =
 
 -- what is on its way to a node from what was sent was sent to it
 pub sent-is : (P : ℕ → Frame → Type 0) (pairs : List (ℕ × Frame)) → AllByRecursion (λ s. P s.0 s.1) pairs → (x : ℕ)
-    (frame : Frame) → Contains (sent_to x pairs) frame → P x frame
+    (frame : Frame) → Contains (frames_with x pairs) frame → P x frame
 sent-is P [] all x frame there = absurd (contains-none frame there)
 sent-is P (s ∷ pairs) all x frame there =
-    elim (Contains-append_cases (frame_if (nat_eq x s.0) s.1) (sent_to x pairs) frame there) [
+    elim (Contains-append_cases (frame_if (nat_eq x s.0) s.1) (frames_with x pairs) frame there) [
       | inl first ↦
           elim (cases_eq x s.0) [
             | inl e ↦

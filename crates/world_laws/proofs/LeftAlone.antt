@@ -34,7 +34,7 @@ use Rattle.world_laws.specs.Ways.{way_sight, is_leaving_frame, is_recall_all, is
 use Rattle.world_laws.specs.Ranges.{kind_sight, lease_in, lease_at, has_lease, leases_on_way, FewRanges, one_for}
 use Rattle.world_laws.specs.Families.{NodeHolds, FamilyHolds, checkpoints_to, is_checkpoint_frame}
 use Rattle.world_laws.specs.Invariant.{MayBe, FramesFit}
-use Rattle.world_laws.proofs.Sends.{frame_if, sent_to}
+use Rattle.world_laws.proofs.Sends.{frame_if, frames_with}
 use Rattle.world_laws.proofs.Stays.{IsMore, SameName, SameCall, SameWay, SameKind, node-born, may-be-born}
 use Rattle.world_laws.proofs.Changes.{Changes, frames_if, taken, sent, IsListMap, filter-is-list-map, flat_map-is-list-map, stayed, only-stayed, made-same, read-same}
 use Rattle.world_laws.proofs.Frames.{all-weaker, contains-none, sent-is, concerns, no-deed, no-checkpoint, no-steps, no-ranges, no-places, no-news, not-about, is_plain, ArePlain, BringNoBirth, no-leaving, no-recall-all, no-left, no-birth, no-lease}
@@ -287,12 +287,12 @@ module _ (script : Script) (p : ℕ) (w w' : World) (n : Node) (takes sends : Li
                   inr (
                     e,
                     sent-is P sends all to frame
-                        (subst (λ b. Contains (frames_if b (sent_to to sends)) frame) (eq-eqb sender p e) new),
+                        (subst (λ b. Contains (frames_if b (frames_with to sends)) frame) (eq-eqb sender p e) new),
                   )
               | inr d ↦
                   absurd
                   (contains-none frame
-                  (subst (λ b. Contains (frames_if b (sent_to to sends)) frame) (ne_eqb sender p d) new))
+                  (subst (λ b. Contains (frames_if b (frames_with to sends)) frame) (ne_eqb sender p d) new))
             ]
       ]
 
@@ -419,16 +419,16 @@ module _ (script : Script) (p : ℕ) (w w' : World) (n : Node) (takes sends : Li
       none-left : (x : ℕ) → c.left x x ≡ []
       none-left x = back (taken p takes x x) (c.left x x) (sym (c.before x x) ∙ old.none_to_itself x)
 
-      not-to : (pairs : List (ℕ × Frame)) → AllByRecursion (λ s. s.0 ≢ p) pairs → sent_to p pairs ≡ []
+      not-to : (pairs : List (ℕ × Frame)) → AllByRecursion (λ s. s.0 ≢ p) pairs → frames_with p pairs ≡ []
       not-to [] all = refl
       not-to (s ∷ pairs) all =
-          ap (λ b. frame_if b s.1 ++ sent_to p pairs) (ne_eqb p s.0 (λ e. all.0 (sym e))) ∙ not-to pairs all.1
+          ap (λ b. frame_if b s.1 ++ frames_with p pairs) (ne_eqb p s.0 (λ e. all.0 (sym e))) ∙ not-to pairs all.1
 
       none-sent-to : (x : ℕ) → (x ≡ p) ⊎ (x ≢ p) → sent p sends x x ≡ []
       none-sent-to x (inl e) =
-          ap (λ b. frames_if b (sent_to x sends)) (eq-eqb x p e)
-          ∙ subst (λ y. sent_to y sends ≡ []) (sym e) (not-to sends others)
-      none-sent-to x (inr d) = ap (λ b. frames_if b (sent_to x sends)) (ne_eqb x p d)
+          ap (λ b. frames_if b (frames_with x sends)) (eq-eqb x p e)
+          ∙ subst (λ y. frames_with y sends ≡ []) (sym e) (not-to sends others)
+      none-sent-to x (inr d) = ap (λ b. frames_if b (frames_with x sends)) (ne_eqb x p d)
 
   -- ---- ranges
 
