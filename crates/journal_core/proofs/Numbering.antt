@@ -21,7 +21,8 @@ number_of_each table n (s ∷ ss) h (suc k) d below =
 
 -- seats that are so, one by one, are numbered
 pub numbered_by_each : (table : TableId) (n : ℕ) (seats : List Seated)
-    → ((k : ℕ) (d : Seated) → k < length seats → ((get_or seats k d).lock ≡ table) × ((get_or seats k d).number ≡ n + k))
+    → ((k : ℕ) (d : Seated) → k < length seats
+    → ((get_or seats k d).lock ≡ table) × ((get_or seats k d).number ≡ n + k))
     → AreNumbered table n seats
 numbered_by_each table n [] each = tt
 numbered_by_each table n (s ∷ ss) each =

@@ -217,7 +217,8 @@ each_joined book views place v other w fits at there one next =
       seen = theirs.seen;
     } in
     each_set after (set views place both) other spent_view
-    (fits_fresh after other 0 0 (λ low. absurd (omega arith)) (λ low. absurd (omega arith)) (λ is. absurd (omega arith)))
+    (fits_fresh after other 0 0 (λ low. absurd (omega arith)) (λ low. absurd (omega arith)) (λ is. absurd
+    (omega arith)))
     (λ j u else e.
     each_set_but after views place both other (fits_gathering book place v w one share mine)
     (λ i x away off x_at.
