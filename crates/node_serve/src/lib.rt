@@ -4,6 +4,7 @@
 mod body;
 mod carrying;
 mod ending;
+mod laws;
 mod packing;
 mod queues;
 mod rows;
@@ -14,6 +15,7 @@ mod unpacking;
 
 pub use body::{Body, Row};
 pub use ending::{ServeFault, commit_exit};
+pub use laws::{read_bodies_are_spelled, spelled_bodies_are_read};
 pub use serving::{Served, serve};
 
 #[cfg(test)]
