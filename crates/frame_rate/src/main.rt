@@ -1,5 +1,5 @@
-//! Passes so many frames of one size through encoding, a stream and a joiner, and says how many came out. bench/frames.py
-//! times it.
+//! Passes so many frames of one size through encoding, a stream and a joiner, and says how many came out.
+//! bench/frames.py times it.
 #![tactic(auto)]
 
 ghost use Rattle.std.specs.Prelude.{◌≤◌, IfSome};
