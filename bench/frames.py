@@ -12,7 +12,7 @@ import time
 TOP = pathlib.Path(__file__).resolve().parent.parent
 PROGRAM = TOP / "crates/frame_rate/out/frame_rate"
 HEAD = 14  # the bytes of a frame beside its body
-FRAMES = 100_000
+FRAMES = 500_000
 
 
 def seconds(frames: int, size: int) -> float:
