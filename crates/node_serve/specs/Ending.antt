@@ -1,18 +1,28 @@
 -- A process ends where its parent's deed is (POSIX.1-2017: _Exit).
-use Rattle.std.specs.Prelude.{◌≡◌, ℕ, Bool, List, fold, if◌then◌else◌, Option, Some, None, is_some}
+use Rattle.std.specs.Prelude.{◌≡◌, ℕ, Bool, true, false, ◌&&◌, nat_eq, nat_lt, List, [], ◌∷◌, fold, map, if◌then◌else◌, Option, Some, None, is_some}
+use Rattle.std.specs.List.{list_all, list_any}
+use Rattle.std.specs.Option.{option_map}
 use Rattle.pico_base.specs.declared.numbers.Name.{Name}
 use Rattle.pico_base.specs.declared.numbers.Name.TheVariants.{Proc}
 use Rattle.pico_base.specs.declared.reply.Ending.{Ending as Ends}
+use Rattle.pico_base.specs.declared.reply.Outcome.{Outcome}
 use Rattle.rpc_frame.specs.declared.deed.Parcel.{Parcel}
+use Rattle.number_maps.specs.Maps.{Numbered}
 use Rattle.kernel_model.specs.Row.{ignores_children, lists, with_ended_child}
+use Rattle.kernel_model.specs.Kernel.{Kernel}
+use Rattle.kernel_model.specs.Transition.{successor, transition}
+use Rattle.kernel_model.specs.Valid.{IsValid}
+use Rattle.serve_laws.specs.Ends.{AgreesOnEnd, IsEnded}
 use Rattle.deed_box.specs.Packing.{ArePackedDeeds, names_of}
-use Rattle.node_model.specs.Kinds.{Named, get_named, put_named, put_all}
+use Rattle.node_model.specs.Kinds.{Named, get_named, is_same_name, number_of, put_named, put_all}
 use Rattle.node_model.specs.Bodies as model
-use Rattle.node_model.specs.Bodies.{free_to_act}
-use Rattle.node_model.specs.Parcels.{ending_of}
+use Rattle.node_model.specs.Bodies.{free_to_act, is_over_body}
+use Rattle.node_model.specs.Parcels as definition
+use Rattle.node_model.specs.Parcels.{ending_of, fitting_bodies, has_own_row, lets_end}
+use Rattle.node_model.specs.Spelling.{read_deed}
 use Rattle.node_serve.specs.declared.body.Body.{Body}
 use Rattle.node_serve.specs.declared.body.Body.TheVariants.{Gone}
-use Rattle.node_serve.specs.Bodies.{body_of}
+use Rattle.node_serve.specs.Bodies.{bodies_of, body_of}
 use Rattle.node_serve.specs.Spelled.{IsSpelled, suits}
 
 -- The parent that lists the child no longer does; it keeps the ending, unless it ignores its children, and CHLD is
@@ -40,29 +50,87 @@ replace_held bodies name body = if is_some (get_named bodies name) then put_name
 abbrev pub gone_held : Named Body → Name → Named Body
 gone_held bodies name = replace_held bodies name Gone
 
--- The parent, if its deed is held, has noted the end, and this becomes of the child.
+-- the parent's deed is held, and it lists the child
+abbrev pub lists_child : ℕ → Option model.Body → Bool
+lists_child child (Some (model.Living row)) = lists row.family child
+lists_child child body = false
+
+abbrev pub keeps : Named Body → ℕ → ℕ → Bool
+keeps bodies parent child = lists_child child (option_map body_of (get_named bodies (Proc parent)))
+
+-- The parent has noted the end, and this becomes of the child.
 pub record Notes (old : Named Body) (parent child : ℕ) (ending : Ends) (new : Named Body) (kept : Body) : Type 0 where
   pub was : Body
   pub left : Body
   pub there : get_named old (Proc parent) ≡ Some was
   pub notes : body_of left ≡ parent_after (body_of was) child ending
-  pub keeps : body_of kept ≡ child_after (body_of was) child ending
+  pub turns : body_of kept ≡ child_after (body_of was) child ending
   pub after : new ≡ put_named old (Proc parent) left
 
-abbrev pub NotesEnd : Named Body → ℕ → ℕ → Ends → Named Body → Option Body → Type 0
-NotesEnd old parent child ending new None = (get_named old (Proc parent) ≡ None) × (new ≡ old)
-NotesEnd old parent child ending new (Some kept) = Notes old parent child ending new kept
-
-abbrev pub or_gone : Option Body → Body
-or_gone None = Gone
-or_gone (Some body) = body
+-- Where nobody lists the child nothing is noted, and the child is gone.
+pub record NotesEnd (old : Named Body) (parent child : ℕ) (ending : Ends) (new : Named Body)
+    (kept : Body) : Type 0 where
+  pub noted : keeps old parent child ≡ true → Notes old parent child ending new kept
+  pub unchanged : keeps old parent child ≡ false → new ≡ old
+  pub gone : keeps old parent child ≡ false → kept ≡ Gone
 
 -- The parcel's deeds are held here. The parent has noted the end, all processes of the parcel are gone, and the one
 -- that ends is kept for the parent, or gone.
-pub record Commits (old : Named Body) (parcel : Parcel) (new : Named Body) : Type 0 where
+pub record Takes (old : Named Body) (parcel : Parcel) (new : Named Body) : Type 0 where
   pub deeds : List (Name × Body)
   pub packed : ArePackedDeeds suits IsSpelled deeds parcel.deeds
   pub noted : Named Body
-  pub kept : Option Body
+  pub kept : Body
   pub notes : NotesEnd (put_all old deeds) parcel.parent parcel.pid (ending_of parcel.call) noted kept
-  pub after : new ≡ replace_held (fold gone_held noted (names_of parcel.deeds)) (Proc parcel.pid) (or_gone kept)
+  pub after : new ≡ replace_held (fold gone_held noted (names_of parcel.deeds)) (Proc parcel.pid) kept
+
+-- ---- what is asked of a parcel and of who takes it
+
+-- a parent that lives lists the process; it may also have ended or be gone
+abbrev pub lets : ℕ → Option Body → Bool
+lets child None = false
+lets child (Some body) = lets_end child (body_of body)
+
+abbrev pub rise : List ℕ → Bool
+rise [] = true
+rise (n ∷ []) = true
+rise (n ∷ m ∷ ns) = nat_lt n m && rise (m ∷ ns)
+
+-- a process's own body says that it lives and may end by the parcel's call; any other that it has ended or is gone
+abbrev pub may_be : Parcel → ℕ → model.Body → Bool
+may_be parcel pid body = if nat_eq pid parcel.pid then has_own_row parcel.call (Some body) else is_over_body body
+
+-- a deed that can't be read may be any process's
+abbrev pub may_be_read : Parcel → Name → Option model.Body → Bool
+may_be_read parcel (Proc pid) (Some body) = may_be parcel pid body
+may_be_read parcel (Proc pid) None = true
+may_be_read parcel name body = false
+
+-- The parcel fits, as far as its bodies can be read: it has deeds of processes by rising number, the own one among
+-- them.
+abbrev pub fits_as_read : Parcel → Bool
+fits_as_read parcel =
+    rise (map (λ deed. number_of deed.name) parcel.deeds)
+    && (list_any (is_same_name (Proc parcel.pid)) (names_of parcel.deeds)
+    && list_all (λ deed. may_be_read parcel deed.name (read_deed deed)) parcel.deeds)
+
+-- ---- what it comes to
+
+-- The parcel fits the deeds, and they are as the definition of an exit that is carried out leaves them.
+pub record Commits (old : Named Body) (parcel : Parcel) (new : Named Body) : Type 0 where
+  pub bodies : Numbered model.Body
+  pub parent : model.Body
+  pub changes : List (Name × model.Body)
+  pub fits : fitting_bodies (bodies_of old) parcel ≡ Some bodies
+  pub held : get_named (bodies_of old) (Proc parcel.parent) ≡ Some parent
+  pub commits : definition.commit_exit parcel bodies parent ≡ Some changes
+  pub after : bodies_of new ≡ put_all (bodies_of old) changes
+
+-- On each valid kernel that agrees with the deeds and the parcel on what the end looks at and changes, and has a
+-- transition for it, the outcome and the bodies are the transition's.
+pub record EndsAsInKernels (old : Named Body) (parcel : Parcel) (new : Named Body) (outcome : Outcome) : Type 0 where
+  pub ends : (bodies : Numbered model.Body) (k next : Kernel) (n : ℕ) (reached : Outcome)
+      → fitting_bodies (bodies_of old) parcel ≡ Some bodies → IsValid k
+      → (agrees : AgreesOnEnd k (bodies_of old) parcel bodies)
+      → transition k parcel.pid parcel.call n ≡ Some (successor next reached)
+      → IsEnded k (bodies_of old) parcel bodies agrees.row (bodies_of new) next reached × (outcome ≡ reached)

@@ -14,8 +14,7 @@ pub struct Row {
 }
 
 /// What a deed carries: the state of a process, a message queue or a semaphore set. A process lives, has ended and
-/// isn't
-/// waited for yet, or is gone. A queue or a set that was removed is never found again.
+/// isn't waited for yet, or is gone. A queue or a set that was removed is never found again.
 #[derive(Debug, Drop)]
 pub enum Body {
     Living(Row),

@@ -1,14 +1,15 @@
 //! A process ends where its parent's deed is.
-ghost use Rattle.std.specs.Prelude.{◌≡◌, IfOk, IfErr, IsTrue, OnErr, OnOk, fold};
+ghost use Rattle.std.specs.Prelude.{◌≡◌, IfOk, IfErr, IsTrue, OnErr, OnOk, Some, fold};
 ghost use Rattle.std.specs.List.{IsDistinct};
 ghost use Rattle.kernel_model.specs.Row.{ignores_children, lists, with_ended_child};
 ghost use Rattle.node_model.specs.Bodies.{free_to_act};
-ghost use Rattle.node_model.specs.Kinds.{is_same_name};
+ghost use Rattle.node_model.specs.Kinds.{get_named, is_same_name};
+ghost use Rattle.pico_base.specs.declared.numbers.Name.TheVariants.{Proc};
 ghost use Rattle.node_model.specs.Parcels.{ending_of};
 ghost use Rattle.deed_box.specs.Deeds.{AreAbsent};
 ghost use Rattle.deed_box.specs.Packing.{SomeIsNoDeed, names_of};
 ghost use Rattle.node_serve.specs.Bodies.{body_of, row_of};
-ghost use Rattle.node_serve.specs.Ending.{Commits, NotesEnd, child_after, gone_held, kept_as, or_gone, parent_after, replace_held};
+ghost use Rattle.node_serve.specs.Ending.{Commits, EndsAsInKernels, NotesEnd, Takes, child_after, fits_as_read, gone_held, keeps, kept_as, lets, lists_child, parent_after, replace_held};
 ghost use Rattle.node_serve.specs.Spelled.{IsSpelled, suits};
 ghost use Rattle.pico_base.specs.declared.fault.UnpackFault.TheVariants.{NotABody};
 ghost use Rattle.node_serve.specs.declared.ending.ServeFault.TheVariants.{NotABody as NoBody};
@@ -109,27 +110,49 @@ fn bury_all(deeds: &mut Deeds<Body>, names: &[Name])
     }
 }
 
-/// The parent, where its deed is held, notes that a child has ended. What becomes of the child.
-fn note_end(deeds: &mut Deeds<Body>, parent: Pid, child: Pid, ending: Ending) -> Option<Body>
-    ensures { NotesEnd deeds.old.bodies parent child ending deeds.new.bodies result }
+/// Whether the body is a living process's that lists the child.
+fn lists(body: &Body, child: Pid) -> bool
+    ensures { result ≡ lists_child child (Some (body_of body.now)) }
 {
-    match deeds.get_mut(Name::Proc(parent)) {
-        Some(body) => Some(end_child(body, child, ending)),
-        None => None,
+    match body {
+        Body::Living(row) => row.family.lists(child),
+        _ => false,
     }
 }
 
-/// Ends the process of a parcel where its parent's deed is. The parent notes the end; all processes of the parcel are
-/// gone, but for the one that ends where its parent keeps its ending. A refusal changes no deed and hands the parcel
-/// back; NotABody comes exactly where a deed of the parcel spells no body that goes with its name.
-pub fn commit_exit(
+/// Whether the parent's deed is held, and the parent lists the child.
+fn keeps(deeds: &Deeds<Body>, parent: Pid, child: Pid) -> bool
+    ensures { result ≡ keeps deeds.now.bodies parent child }
+{
+    match deeds.get(Name::Proc(parent)) {
+        Some(body) => lists(body, child),
+        None => false,
+    }
+}
+
+/// A parent that is held and lists the child notes its end. What becomes of the child.
+fn note_end(deeds: &mut Deeds<Body>, parent: Pid, child: Pid, ending: Ending) -> Body
+    ensures { NotesEnd deeds.old.bodies parent child ending deeds.new.bodies result }
+{
+    if !keeps(deeds, parent, child) {
+        return Body::Gone;
+    }
+    match deeds.get_mut(Name::Proc(parent)) {
+        Some(body) => end_child(body, child, ending),
+        None => Body::Gone,
+    }
+}
+
+/// Takes the deeds of a parcel where its process's parent is, and ends the process. A refusal changes no deed and hands
+/// the parcel back.
+fn take_parcel(
     alloc: Global,
     deeds: &mut Deeds<Body>,
     parcel: Parcel,
 ) -> Result<Outcome, (ServeFault, Parcel)>
     requires distinct { IsDistinct is_same_name (names_of parcel.deeds) }
     requires absent { AreAbsent deeds.old.bodies (names_of parcel.deeds) }
-    ensures ok { OnOk result (Commits deeds.old.bodies parcel deeds.new.bodies) }
+    ensures ok { OnOk result (Takes deeds.old.bodies parcel deeds.new.bodies) }
     ensures outcome { IfOk result (λ outcome. outcome ≡ reply_alone Ended) }
     ensures not_a_body { IfErr result (λ back. back.0 ≡ NoBody → SomeIsNoDeed suits IsSpelled parcel.deeds) }
     ensures err { OnErr result (deeds.new.bodies ≡ deeds.old.bodies) }
@@ -156,16 +179,29 @@ pub fn commit_exit(
     }
     let kept = note_end(deeds, parent, pid, ending_of(&call));
     bury_all(deeds, names.as_slice());
-    replace(deeds, Name::Proc(pid), or_gone(kept));
+    replace(deeds, Name::Proc(pid), kept);
     Ok(Outcome::reply(alloc, Reply::Ended))
 }
 
-/// What becomes of a child: where its parent's deed isn't held, it is gone.
-fn or_gone(kept: Option<Body>) -> Body
-    ensures { result ≡ or_gone kept }
+/// Ends the process of a parcel where its parent's deed is. The parent notes the end, if it lives; all processes of the
+/// parcel are gone, but for the one that ends where its parent keeps its ending. `ok` says so by the definition of an
+/// exit that is carried out, and `kernel` by the transition of any valid kernel that agrees with the deeds and the
+/// parcel. A refusal changes no deed and hands the parcel back; NotABody comes exactly where a deed of the parcel
+/// spells no body that goes with its name.
+pub fn commit_exit(
+    alloc: Global,
+    deeds: &mut Deeds<Body>,
+    parcel: Parcel,
+) -> Result<Outcome, (ServeFault, Parcel)>
+    requires parent { IsTrue (lets parcel.pid (get_named deeds.old.bodies (Proc parcel.parent))) }
+    requires absent { AreAbsent deeds.old.bodies (names_of parcel.deeds) }
+    requires fits { IsTrue (fits_as_read parcel) }
+    ensures ok { OnOk result (Commits deeds.old.bodies parcel deeds.new.bodies) }
+    ensures kernel { IfOk result (EndsAsInKernels deeds.old.bodies parcel deeds.new.bodies) }
+    ensures outcome { IfOk result (λ outcome. outcome ≡ reply_alone Ended) }
+    ensures not_a_body { IfErr result (λ back. back.0 ≡ NoBody → SomeIsNoDeed suits IsSpelled parcel.deeds) }
+    ensures err { OnErr result (deeds.new.bodies ≡ deeds.old.bodies) }
+    ensures back { IfErr result (λ back. back.1 ≡ parcel) }
 {
-    match kept {
-        Some(body) => body,
-        None => Body::Gone,
-    }
+    take_parcel(alloc, deeds, parcel)
 }

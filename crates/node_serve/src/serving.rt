@@ -3,7 +3,7 @@ ghost use Rattle.std.specs.Prelude.{◌≡◌, ◌<◌, IfOk, OnErr, IsTrue};
 ghost use Rattle.node_model.specs.Kinds.{put_named};
 ghost use Rattle.std.specs.List.{list_any};
 ghost use Rattle.node_model.specs.Serving.{has_read, name_for, takes_away};
-ghost use Rattle.node_serve.specs.Serving.{AreSame, Serves, ServesName};
+ghost use Rattle.node_serve.specs.Serving.{AreSame, Serves, ServesAsDefined, ServesAsTheKernel, ServesName};
 ghost use Rattle.node_model.specs.Carrying.{is_served};
 
 use crate::Body;
@@ -16,8 +16,7 @@ use std::alloc::Global;
 #[derive(Debug, Drop)]
 pub enum Served {
     /// The call was carried out. `reads` says whether it was a receive that gave a message, or a `semop` that took from
-    /// a
-    /// semaphore.
+    /// a semaphore.
     Did { outcome: Outcome, reads: bool },
     /// The deed of the call's name isn't here.
     NotHeld,
@@ -87,11 +86,8 @@ fn on_held(
     }
 }
 
-/// Carries a call out on the deed of its name. NotHeld comes exactly where that isn't here, and then nothing has
-/// changed.
-/// A removal makes the body Removed; a child that `waitpid` found is gone; all other bodies stay. A refusal for want of
-/// memory changes no body.
-pub fn serve(
+/// Carries a call out on the deed of its name, where that is here.
+fn carry_out(
     alloc: Global,
     deeds: &mut Deeds<Body>,
     caller: Pid,
@@ -116,4 +112,23 @@ pub fn serve(
         outcome: Outcome::reply(alloc, reply),
         reads,
     })
+}
+
+/// Carries a call out on the deed of its name. NotHeld comes exactly where that isn't here, and then nothing has
+/// changed. A removal makes the body Removed; a child that `waitpid` found is gone; all other bodies stay. `defined`
+/// says the same by the definition of a served call, and `kernel` by the transition of any valid kernel that agrees
+/// with the deeds on the call's name. A refusal for want of memory changes no body.
+pub fn serve(
+    alloc: Global,
+    deeds: &mut Deeds<Body>,
+    caller: Pid,
+    call: &Call,
+) -> Result<Served, Memory>
+    requires { IsTrue (is_served call.now) }
+    ensures ok { IfOk result (Serves deeds.old.bodies caller call.now deeds.new.bodies) }
+    ensures defined { IfOk result (ServesAsDefined deeds.old.bodies caller call.now deeds.new.bodies) }
+    ensures kernel { IfOk result (ServesAsTheKernel deeds.old.bodies caller call.now deeds.new.bodies) }
+    ensures err { OnErr result (AreSame deeds.old.bodies deeds.new.bodies) }
+{
+    carry_out(alloc, deeds, caller, call)
 }

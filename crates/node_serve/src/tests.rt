@@ -1,11 +1,21 @@
 //! Calls on bodies, and bodies as bytes.
+ghost use Rattle.std.specs.Prelude.{◌≡◌, ◌≤◌, ◌∷◌, [], Some, IfOk, IsTrue};
+ghost use Rattle.pico_base.specs.declared.numbers.Name.TheVariants.{Proc};
+ghost use Rattle.deed_box.specs.Packing.{names_of};
+ghost use Rattle.node_model.specs.Bodies.{is_living_body};
+ghost use Rattle.node_serve.specs.Bodies.{body_of};
+ghost use Rattle.node_serve.specs.Ending.{fits_as_read, lets};
+ghost use Rattle.node_serve.specs.Spelled.{suits};
+
 use crate::carrying::on_body;
-use crate::{Body, Row};
-use deed_box::Shared;
+use crate::{Body, Row, commit_exit};
+use deed_box::{Deed, Deeds, Shared};
 use fork_wait::Family;
 use pico_base::{
-    Act, Bytes, Call, Errno, How, Id, Name, Pid, Reply, Sig, SigArg, SigSet, UnpackFault,
+    Act, Bytes, Call, Ending, Errno, How, Id, Memory, Name, Outcome, Pid, Reply, Sig, SigArg,
+    SigSet, UnpackFault,
 };
+use rpc_frame::{PackedDeeds, Parcel};
 use signal_state::Signals;
 use std::alloc::Global;
 use std::process::Abort;
@@ -120,5 +130,78 @@ fn carries_out_a_queue_s_calls(rt: HostRuntime) -> Result<(), Fail> {
         Body::unpack(alloc, Name::Proc(Pid(1)), &[6]).err(),
         Some(UnpackFault::NotABody)
     );
+    Ok(())
+}
+
+/// What process 2 hands over to process 1 at its end: its own deed, and those of three children that have ended.
+fn parcel_of(alloc: Global, own: &Body) -> Result<Parcel, Memory>
+    requires { IsTrue (is_living_body (body_of own.now)) }
+    ensures fits { IfOk result (λ parcel. IsTrue (fits_as_read parcel)) }
+    ensures names { IfOk result
+        (λ parcel. names_of parcel.deeds ≡ Proc 2 ∷ Proc 3 ∷ Proc 4 ∷ Proc 5 ∷ []) }
+    ensures process { IfOk result (λ parcel. parcel.pid ≡ 2) }
+    ensures parent { IfOk result (λ parcel. parcel.parent ≡ 1) }
+{
+    let mut deeds = Vec::new(alloc);
+    deeds.push(Deed::create_packed(alloc, Name::Proc(Pid(2)), own)?)?;
+    let first = Body::Ended(Ending::Exited(1));
+    deeds.push(Deed::create_packed(alloc, Name::Proc(Pid(3)), &first)?)?;
+    let second = Body::Ended(Ending::Killed(Sig::Term));
+    deeds.push(Deed::create_packed(alloc, Name::Proc(Pid(4)), &second)?)?;
+    deeds.push(Deed::create_packed(alloc, Name::Proc(Pid(5)), &Body::Gone)?)?;
+    Ok(Parcel {
+        pid: Pid(2),
+        parent: Pid(1),
+        call: Call::Exit { status: 263 },
+        deeds: PackedDeeds::from_vec(deeds),
+    })
+}
+
+/// A living process with new signals and this child.
+fn process_with(alloc: Global, child: Pid) -> Result<Body, Memory>
+    requires { 1 ≤ child }
+    ensures lives { IfOk result (λ body. IsTrue (is_living_body (body_of body))) }
+    ensures suits { IfOk result (λ body. IsTrue (suits body (Proc 1))) }
+    ensures lets { IfOk result (λ body. IsTrue (lets child (Some body))) }
+{
+    let mut family = Family::new(alloc)?;
+    family.add(child);
+    Ok(Body::Living(Row {
+        signals: Signals::new(),
+        family,
+    }))
+}
+
+#[test]
+fn a_process_ends_under_its_parent(rt: HostRuntime) -> Result<(), Fail> {
+    let alloc = rt.alloc();
+    let own = process_with(alloc, Pid(6))?;
+    let parcel = parcel_of(alloc, &own)?;
+    let parent = process_with(alloc, Pid(2))?;
+    let mut deeds: Deeds<Body> = Deeds::new(alloc)?;
+    deeds.reserve(1)?;
+    match deeds.put(Deed::create(Name::Proc(Pid(1)), parent)) {
+        Ok(()) => {}
+        Err(_) => unreachable!(),
+    }
+    let Ok(outcome) = commit_exit(alloc, &mut deeds, parcel) else {
+        panic!(rt; "refused");
+    };
+    assert_eq!(rt; outcome, Outcome::reply(alloc, Reply::Ended));
+    for (pid, bytes) in [(2, [2, 0, 7].as_slice()), (3, &[3]), (4, &[3]), (5, &[3])] {
+        let body = deeds.get(Name::Proc(Pid(pid))).ok_or("no deed")?;
+        assert_eq!(rt; body.pack(alloc)?.as_slice(), bytes);
+    }
+    let wait = Call::WaitPid {
+        child: None,
+        nohang: true,
+    };
+    let found = Reply::Child {
+        pid: Pid(2),
+        ending: Ending::Exited(7),
+    };
+    let name = Name::Proc(Pid(1));
+    let body = deeds.get_mut(name).ok_or("no parent")?;
+    assert_eq!(rt; on_body(alloc, body, name, Pid(1), &wait)?, found);
     Ok(())
 }

@@ -3,3 +3,13 @@ pub mod Played
 pub mod Streams
 pub mod Sends
 pub mod Stays
+pub mod Changes
+pub mod Frames
+pub mod LeftAlone
+pub mod Steps
+pub mod NameFacts
+pub mod Heads
+pub mod Middles
+pub mod Numbers
+pub mod Lines
+pub mod NewRanges

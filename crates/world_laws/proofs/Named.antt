@@ -13,6 +13,7 @@ same-kind (Proc n) = refl
 same-kind (Msg n) = refl
 same-kind (Sem n) = refl
 
+-- names of two kinds are two
 pub other-kind : (a b : Name) → is_same_kind (kind_of a) (kind_of b) ≡ false → a ≢ b
 other-kind a b h e = false≢true (sym h ∙ subst (λ c. is_same_kind (kind_of a) (kind_of c) ≡ true) e (same-kind a))
 
@@ -28,6 +29,7 @@ name-cases (Msg m) (Sem n) = inr (other-kind _ _ refl)
 name-cases (Sem m) (Proc n) = inr (other-kind _ _ refl)
 name-cases (Sem m) (Msg n) = inr (other-kind _ _ refl)
 
+-- one name passes the test
 pub same-name : (a b : Name) → a ≡ b → is_same_name a b ≡ true
 same-name a b e = subst (λ c. is_same_name a c ≡ true) e (itself a)
   where
@@ -36,6 +38,7 @@ same-name a b e = subst (λ c. is_same_name a c ≡ true) e (itself a)
     itself (Msg n) = eq-eqb n n refl
     itself (Sem n) = eq-eqb n n refl
 
+-- what passes the test is one name
 pub same-name-is : (a b : Name) → is_same_name a b ≡ true → a ≡ b
 same-name-is (Proc m) (Proc n) h = ap Proc (eqb-true m n h)
 same-name-is (Msg m) (Msg n) h = ap Msg (eqb-true m n h)
@@ -47,6 +50,7 @@ same-name-is (Msg m) (Sem n) h = absurd (false≢true h)
 same-name-is (Sem m) (Proc n) h = absurd (false≢true h)
 same-name-is (Sem m) (Msg n) h = absurd (false≢true h)
 
+-- two names fail it
 pub other-name : (a b : Name) → a ≢ b → is_same_name a b ≡ false
 other-name a b d = by-test (is_same_name a b) refl
   where
@@ -62,6 +66,7 @@ get-put-same-name m (Proc n) v = get-put-same m.processes n v
 get-put-same-name m (Msg n) v = get-put-same m.queues n v
 get-put-same-name m (Sem n) v = get-put-same m.sets n v
 
+-- the others stay
 pub get-put-other-name : {V : Type 0} (m : Named V) (a : Name) (v : V) (b : Name) → b ≢ a
     → get_named (put_named m a v) b ≡ get_named m b
 get-put-other-name m (Proc n) v (Proc q) d = get-put-other m.processes n v q (λ e. d (ap Proc e))
@@ -80,6 +85,7 @@ get-without-same-name m (Proc n) = get-without-same m.processes n
 get-without-same-name m (Msg n) = get-without-same m.queues n
 get-without-same-name m (Sem n) = get-without-same m.sets n
 
+-- the others stay
 pub get-without-other-name : {V : Type 0} (m : Named V) (a b : Name) → b ≢ a
     → get_named (without_named m a) b ≡ get_named m b
 get-without-other-name m (Proc n) (Proc q) d = get-without-other m.processes n q (λ e. d (ap Proc e))

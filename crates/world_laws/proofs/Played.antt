@@ -34,5 +34,6 @@ found-with-tells false [] h = refl
 found-with-tells false (Tells ∷ ns) h = refl
 found-with-tells false (NeedsPlace ∷ ns) h = h
 
+-- where the place is known all is found
 pub found-behind : (ns : List News) (n : News) → finds_place true (ns ++ n ∷ []) ≡ true
 found-behind ns n = refl

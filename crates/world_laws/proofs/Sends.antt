@@ -1,6 +1,5 @@
 -- What the streams are after a node has sent frames: those to a receiver are at the end of its stream, in order, and
--- all
--- other streams stay.
+-- all other streams stay.
 use Rattle.std.proofs.Common.{◌≡◌, ◌≢◌, ℕ, ◌≤◌, Bool, true, false, List, [], ◌∷◌, ◌++◌, refl, ap, sym, subst, ◌∙◌, inl, inr, arith, nat_eq, append_assoc, append-nil}
 use Rattle.std.specs.List.{flat_map, AllByRecursion}
 use Rattle.std.proofs.lemmas.Bool.{cases_eq, eq-eqb, ne_eqb}
@@ -13,6 +12,7 @@ abbrev pub frame_if : Bool → Frame → List Frame
 frame_if true frame = frame ∷ []
 frame_if false frame = []
 
+-- of the frames sent, those to a node
 abbrev pub sent_to : ℕ → List (ℕ × Frame) → List Frame
 sent_to to sends = flat_map (λ s. frame_if (nat_eq s.0 to) s.1) sends
 
@@ -21,9 +21,11 @@ pub record IsToNode (n : ℕ) (s : ℕ × Frame) : Type 0 where
   pub low : 1 ≤ s.0
   pub high : s.0 ≤ n
 
+-- so is each of them
 abbrev pub AreToNodes : ℕ → List (ℕ × Frame) → Type 0
 AreToNodes n sends = AllByRecursion (IsToNode n) sends
 
+-- there is still a stream for each pair
 pub square-sent : (n p : ℕ) (ss : Streams) (sends : List (ℕ × Frame)) → Square n ss → AreToNodes n sends
     → Square n (with_all_sent p ss sends)
 square-sent n p ss [] s all = s
@@ -77,3 +79,21 @@ none-sent n p ss (send ∷ sends) to q s all low low_to low_q other =
     in none-sent n p (with_sent p ss send) sends to q square all.1 low low_to low_q other
     ∙ stream-other n ss send.0 p to q (stream_in ss send.0 p ++ send.1 ∷ []) s first.low first.high low low_to low_q
     (λ e. other)
+
+-- the same, with the node that is asked for in front: of the frames that a node took or sent, those from or to a node
+abbrev pub frames_with : ℕ → List (ℕ × Frame) → List Frame
+frames_with other pairs = flat_map (λ s. frame_if (nat_eq other s.0) s.1) pairs
+
+eq-turned : (a b : ℕ) → nat_eq a b ≡ nat_eq b a
+eq-turned a b =
+    elim (cases_eq a b) [
+      | inl e ↦ eq-eqb a b e ∙ sym (eq-eqb b a (sym e))
+      | inr d ↦ ne_eqb a b d ∙ sym (ne_eqb b a (λ e. d (sym e)))
+    ]
+
+-- what is sent to a node, either way
+pub sent-is-with : (to : ℕ) (sends : List (ℕ × Frame)) → sent_to to sends ≡ frames_with to sends
+sent-is-with to [] = refl
+sent-is-with to (s ∷ sends) =
+    ap (λ b. frame_if b s.1 ++ sent_to to sends) (eq-turned s.0 to)
+    ∙ ap (λ fs. frame_if (nat_eq to s.0) s.1 ++ fs) (sent-is-with to sends)

@@ -11,6 +11,7 @@ pub record Square (n : ℕ) (ss : Streams) : Type 0 where
   pub rows : length ss ≡ n
   pub row : (i : ℕ) → i < n → length (get_or ss i []) ≡ n
 
+-- one changed stream leaves a stream for each pair
 pub square-with : (n : ℕ) (ss : Streams) (p q : ℕ) (fs : List Frame) → Square n ss → 1 ≤ p → p ≤ n
     → Square n (with_stream ss p q fs)
 square-with n ss p q fs s low high =
@@ -24,6 +25,7 @@ square-with n ss p q fs s low high =
       ];
     }
 
+-- the stream that was changed
 pub stream-same : (n : ℕ) (ss : Streams) (p q : ℕ) (fs : List Frame) → Square n ss → 1 ≤ p → p ≤ n → 1 ≤ q → q ≤ n
     → stream_in (with_stream ss p q fs) p q ≡ fs
 stream-same n ss p q fs s low high low_q high_q =
@@ -37,6 +39,7 @@ pub stream-row : (n : ℕ) (ss : Streams) (p q r t : ℕ) (fs : List Frame) → 
     → stream_in (with_stream ss p q fs) r t ≡ stream_in ss r t
 stream-row n ss p q r t fs other = ap (λ row. get_or row (t - 1) []) (get_or-set_other ss (p - 1) (r - 1) _ [] other)
 
+-- from another node
 pub stream-column : (n : ℕ) (ss : Streams) (p q t : ℕ) (fs : List Frame) → Square n ss → 1 ≤ p → p ≤ n → t - 1 ≢ q - 1
     → stream_in (with_stream ss p q fs) p t ≡ stream_in ss p t
 stream-column n ss p q t fs s low high other =
@@ -44,6 +47,7 @@ stream-column n ss p q t fs s low high other =
     (get_or-set_same ss (p - 1) _ [] (subst (λ x. p - 1 < x) (sym s.rows) (omega arith)))
     ∙ get_or-set_other (get_or ss (p - 1) []) (q - 1) (t - 1) fs [] other
 
+-- any other stream stays
 pub stream-other : (n : ℕ) (ss : Streams) (p q r t : ℕ) (fs : List Frame) → Square n ss → 1 ≤ p → p ≤ n → 1 ≤ q → 1 ≤ r
     → 1 ≤ t
     → (r ≡ p → t ≢ q) → stream_in (with_stream ss p q fs) r t ≡ stream_in ss r t

@@ -1,12 +1,13 @@
 -- What holds of one node's call: it is in one place, is the call due there, and may be made.
-use Rattle.std.specs.Prelude.{◌≡◌, ◌≢◌, ◌⊎◌, ◌≤◌, ℕ, ◌+◌, Bool, true, false, ◌&&◌, nat_eq, List, [], ◌∷◌, Option, Some, None, take, sum_by}
-use Rattle.std.specs.List.{filter}
+use Rattle.std.specs.Prelude.{◌≡◌, ◌≢◌, ◌⊎◌, ◌≤◌, ℕ, ◌+◌, Bool, true, false, ◌&&◌, nat_eq, List, [], ◌∷◌, Option, Some, None, take, slice_get, sum_by}
+use Rattle.std.specs.List.{filter, AllByRecursion}
 use Rattle.pico_base.specs.declared.call.Call.{Call}
 use Rattle.pico_base.specs.declared.call.Home.{Home}
 use Rattle.pico_base.specs.declared.call.Home.TheVariants as homes
 use Rattle.pico_base.specs.declared.numbers.Kind.{Kind}
 use Rattle.pico_base.specs.declared.numbers.Name.{Name}
 use Rattle.pico_base.specs.declared.reply.Reply.{Reply}
+use Rattle.pico_base.specs.declared.script.Line.{Line}
 use Rattle.pico_base.specs.declared.script.Script.{Script}
 use Rattle.pico_base.specs.Home.{home_of}
 use Rattle.rpc_frame.specs.declared.asked.Asked.{Asked}
@@ -21,13 +22,13 @@ use Rattle.node_model.specs.declared.held.Held.{Held}
 use Rattle.node_model.specs.declared.held.Held.TheVariants.{Request, Ending}
 use Rattle.node_model.specs.Kinds.{for_kind, is_same_name}
 use Rattle.node_model.specs.Directory.{held_for}
-use Rattle.node_model.specs.Leases.{takes_number}
+use Rattle.node_model.specs.Leases.{Leases, takes_number}
 use Rattle.node_model.specs.Caller.{Caller, caller_place, lines_of}
-use Rattle.world_model.specs.Node.{Node, Stage, Unborn, Living, Leaving, Left, Over, asked_here}
+use Rattle.world_model.specs.Node.{Node, Stage, Unborn, Living, Leaving, Left, Over}
 use Rattle.world_model.specs.Calls.{is_on_name, is_on_name_or_removal, is_for_others}
-use Rattle.world_model.specs.World.{World, stream}
+use Rattle.world_model.specs.World.{World}
 use Rattle.world_laws.specs.Places.{CallPlace, Idle, AsksLease, HasLease, InAsk, InRequest, InNotOwner, SentByPlace, SentByRange, InBounce, IsHeld, IsInHand, InAnswer, Ends, Beside}
-use Rattle.world_laws.specs.Sights.{node_of, directory_of, is_born_in}
+use Rattle.world_laws.specs.Sights.{node_of, frames_to, directory_of}
 
 -- ---- what there is to see of a node's call
 
@@ -48,28 +49,40 @@ is_item_about p (Request asked) = nat_eq asked.caller p
 is_item_about p (Ending parcel) = false
 
 pub record CallSight : Type 0 where
-  pub node : Node
+  -- what the node has of it
+  pub number : ℕ
+  pub pid : ℕ
+  pub stage : Stage
+  pub caller : Caller
+  pub leases : Leases
   -- its process in the history and in the kernel
   pub place : Option Place
   pub alive : Option Alive
   pub call : CallPlace
-  pub born : ℕ → Bool
   pub frames_about : ℕ → ℕ → List Frame
   pub held : Name → List Held
   pub hand : List Held
 
 abbrev pub call_sight : World → List Held → Beside → ℕ → CallSight
 call_sight w hand b p =
-    record {
-      node = node_of w p;
+    let n : Node = node_of w p
+    in record {
+      number = n.number;
+      pid = n.pid;
+      stage = n.stage;
+      caller = n.caller;
+      leases = n.leases;
       place = get b.places (b.pids p);
       alive = living_at b.kernel (b.pids p);
       call = b.call p;
-      born = is_born_in w;
-      frames_about = λ to sender. filter (is_about p to sender) (stream w to sender);
+      frames_about = λ to sender. filter (is_about p to sender) (frames_to w to sender);
       held = λ name. filter (is_item_about p) (held_for (directory_of w) name);
       hand = filter (is_item_about p) hand;
     }
+
+-- the call, as others are asked for it
+abbrev pub asked_of : CallSight → Call → Asked
+asked_of x call = record { caller = x.number; ticket = x.caller.ticket; pid = x.pid; call = call }
 
 -- ---- where it is
 
@@ -112,13 +125,13 @@ is_in_hand place = false
 
 -- the call is in its place, and nowhere else
 pub record IsJustThere (p : ℕ) (x : CallSight) (asked : Asked) : Type 0 where
-  pub in_streams : (to sender : ℕ) → 1 ≤ to → 1 ≤ sender
+  pub in_streams : (to sender : ℕ)
       → x.frames_about to sender ≡ only_if (is_in_stream x.call p to sender) (frame_at x.call asked)
   pub held_for_names : (name : Name) → x.held name ≡ only_if (is_held_at x.call name) (Request asked)
   pub in_hand : x.hand ≡ only_if (is_in_hand x.call) (Request asked)
 
 pub record IsNowhere (x : CallSight) : Type 0 where
-  pub in_streams : (to sender : ℕ) → 1 ≤ to → 1 ≤ sender → x.frames_about to sender ≡ []
+  pub in_streams : (to sender : ℕ) → x.frames_about to sender ≡ []
   pub held_for_names : (name : Name) → x.held name ≡ []
   pub in_hand : x.hand ≡ []
 
@@ -150,10 +163,10 @@ may_be_in Ends homes.Parent call = true
 may_be_in Ends home call = false
 
 -- a number is asked for and comes where none of the kind is left
-abbrev pub lease_is_over : CallPlace → Node → Type 0
-lease_is_over (AsksLease kind) n = for_kind n.leases kind ≡ []
-lease_is_over (HasLease kind first) n = for_kind n.leases kind ≡ []
-lease_is_over place n = Unit {0}
+abbrev pub lease_is_over : CallPlace → Leases → Type 0
+lease_is_over (AsksLease kind) leases = for_kind leases kind ≡ []
+lease_is_over (HasLease kind first) leases = for_kind leases kind ≡ []
+lease_is_over place leases = Unit {0}
 
 -- who asks is another node than the leader, and who is asked, or answers, is born
 abbrev pub IsBetween : ℕ → (ℕ → Bool) → CallPlace → Type 0
@@ -174,18 +187,26 @@ IsBetween p born place = Unit {0}
 abbrev pub tries_made : Script → ℕ → Caller → ℕ
 tries_made script p c = sum_by (λ line. line.tries) (take c.line (lines_of script p)) + c.tried
 
+-- the line reached may be tried once more
+abbrev pub HasTryLeft : Script → ℕ → Caller → Type 0
+HasTryLeft script p c = (line : Line) → slice_get (lines_of script p) c.line ≡ Some line → c.tried + 1 ≤ line.tries
+
+-- each line of the script is tried once at least
+abbrev pub HasTries : Script → Type 0
+HasTries script = (p : ℕ) → AllByRecursion (λ line. 1 ≤ line.tries) (lines_of script p)
+
 -- not carried out: the history is at the node's place, where the call is due, and its process may make it
 pub record IsToBeMade (script : Script) (p : ℕ) (x : CallSight) (call : Call) : Type 0 where
-  pub there : x.place ≡ Some (caller_place script p x.node.caller)
-  pub due : IsDue (caller_place script p x.node.caller) call
+  pub there : x.place ≡ Some (caller_place script p x.caller)
+  pub due : IsDue (caller_place script p x.caller) call
   pub alive : Alive
   pub lives : x.alive ≡ Some alive
   pub may : may_make alive call ≡ true
 
 -- carried out, with this reply: the history is where the node will be
 pub record IsMade (script : Script) (p : ℕ) (x : CallSight) (call : Call) (reply : Reply) : Type 0 where
-  pub there : x.place ≡ Some (place_after (caller_place script p x.node.caller) call (Some reply))
-  pub due : IsDue (caller_place script p x.node.caller) call
+  pub there : x.place ≡ Some (place_after (caller_place script p x.caller) call (Some reply))
+  pub due : IsDue (caller_place script p x.caller) call
   pub alive : Alive
   pub lives : x.alive ≡ Some alive
 
@@ -196,25 +217,34 @@ pub record HasEnded (x : CallSight) : Type 0 where
   pub over : last.left ≡ []
   pub dead : x.alive ≡ None
 
+-- a node has a call under way while its process makes calls, and once it leaves
+abbrev pub is_at_work : Stage → Bool
+is_at_work Unborn = false
+is_at_work Over = false
+is_at_work stage = true
+
 abbrev pub IsSoFar : Script → ℕ → CallSight → Call → CallPlace → Type 0
 IsSoFar script p x call (InAnswer h reply) = IsMade script p x call reply
 IsSoFar script p x call Ends = IsToBeMade script p x call ⊎ HasEnded x
 IsSoFar script p x call place = IsToBeMade script p x call
 
-pub record HasCall (script : Script) (p : ℕ) (x : CallSight) (call : Call) : Type 0 where
-  pub just_there : IsJustThere p x (asked_here x.node call)
-  pub home : may_be_in x.call (home_of x.node.pid call) call ≡ true
-  pub used_up : lease_is_over x.call x.node
-  pub between : IsBetween p x.born x.call
+pub record HasCall (script : Script) (p : ℕ) (born : ℕ → Bool) (x : CallSight) (call : Call) : Type 0 where
+  pub just_there : IsJustThere p x (asked_of x call)
+  pub home : may_be_in x.call (home_of x.pid call) call ≡ true
+  pub used_up : lease_is_over x.call x.leases
+  pub between : IsBetween p born x.call
   pub so_far : IsSoFar script p x call x.call
-  pub tickets : x.node.caller.ticket ≤ tries_made script p x.node.caller + 1
+  pub at_work : is_at_work x.stage ≡ true
+  pub tickets : x.caller.ticket ≤ tries_made script p x.caller + 1
+  pub try_left : HasTryLeft script p x.caller
 
 -- no call is under way: the process may go on, or it has ended, or it isn't there yet
 pub record IsFree (script : Script) (p : ℕ) (x : CallSight) : Type 0 where
-  pub there : x.place ≡ Some (caller_place script p x.node.caller)
+  pub there : x.place ≡ Some (caller_place script p x.caller)
   pub alive : Alive
   pub lives : x.alive ≡ Some alive
-  pub tickets : x.node.caller.ticket ≤ tries_made script p x.node.caller
+  pub tickets : x.caller.ticket ≤ tries_made script p x.caller
+  pub try_left : HasTryLeft script p x.caller
 
 abbrev pub FreeIn : Script → ℕ → CallSight → Stage → Type 0
 FreeIn script p x Unborn = Unit {0}
@@ -226,7 +256,7 @@ FreeIn script p x Over = HasEnded x
 pub record HasNoCall (script : Script) (p : ℕ) (x : CallSight) : Type 0 where
   pub nowhere : IsNowhere x
   pub idle : x.call ≡ Idle
-  pub free : FreeIn script p x x.node.stage
+  pub free : FreeIn script p x x.stage
 
 -- a call that ends its process is under way exactly where the process leaves or has left
 abbrev pub is_end_place : CallPlace → Bool
@@ -238,10 +268,10 @@ is_end_stage Leaving = true
 is_end_stage Left = true
 is_end_stage stage = false
 
-abbrev pub HasCallOrNone : Script → ℕ → CallSight → Option Call → Type 0
-HasCallOrNone script p x None = HasNoCall script p x
-HasCallOrNone script p x (Some call) = HasCall script p x call
+abbrev pub HasCallOrNone : Script → ℕ → (ℕ → Bool) → CallSight → Option Call → Type 0
+HasCallOrNone script p born x None = HasNoCall script p x
+HasCallOrNone script p born x (Some call) = HasCall script p born x call
 
-pub record CallHolds (script : Script) (p : ℕ) (x : CallSight) : Type 0 where
-  pub call : HasCallOrNone script p x x.node.caller.under_way
-  pub ends : is_end_place x.call ≡ is_end_stage x.node.stage
+pub record CallHolds (script : Script) (p : ℕ) (born : ℕ → Bool) (x : CallSight) : Type 0 where
+  pub call : HasCallOrNone script p born x x.caller.under_way
+  pub ends : is_end_place x.call ≡ is_end_stage x.stage

@@ -1,29 +1,31 @@
 -- What holds in every world that a run leads to, and in the middle of an event, while the leader has calls and parcels
 -- in
 -- hand.
-use Rattle.std.specs.Prelude.{◌≡◌, ◌≢◌, ◌≤◌, ◌<◌, ℕ, List, [], length, get_or, Contains}
+use Rattle.std.specs.Prelude.{◌≡◌, ◌≢◌, ◌≤◌, ◌<◌, ℕ, Bool, List, [], length, get_or, Contains}
 use Rattle.pico_base.specs.declared.numbers.Kind.{Kind}
 use Rattle.pico_base.specs.declared.numbers.Name.{Name}
 use Rattle.pico_base.specs.declared.script.Script.{Script}
 use Rattle.rpc_frame.specs.declared.deed.Parcel.{Parcel}
 use Rattle.rpc_frame.specs.declared.frame.Frame.{Frame}
 use Rattle.rpc_frame.specs.declared.frame.Frame.TheVariants as frames
-use Rattle.kernel_model.specs.Kernel.{opening}
+use Rattle.pico_base.specs.declared.numbers.Name.TheVariants.{Proc}
+use Rattle.pico_base.specs.declared.reply.Entry.{Entry}
+use Rattle.kernel_model.specs.Kernel.{Kernel, opening}
 use Rattle.kernel_model.specs.History.{Replays}
-use Rattle.kernel_model.specs.Fitting.{FitsFrom, opening_places}
+use Rattle.kernel_model.specs.Fitting.{Places, FitsFrom, opening_places}
 use Rattle.number_maps.specs.Rising.{IsRising}
 use Rattle.node_model.specs.declared.held.Held.{Held}
 use Rattle.node_model.specs.Kinds.{is_object}
 use Rattle.node_model.specs.Directory.{Directory, stays}
 use Rattle.world_model.specs.Node.{Node}
-use Rattle.world_model.specs.World.{World, stream, node_count}
-use Rattle.world_laws.specs.Places.{Beside}
-use Rattle.world_laws.specs.Sights.{node_of, directory_of, is_born_in}
+use Rattle.world_model.specs.World.{World, node_count}
+use Rattle.world_laws.specs.Places.{DeedPlace, Beside}
+use Rattle.world_laws.specs.Sights.{node_of, frames_to, directory_of, stage_of, is_born_in}
 use Rattle.world_laws.specs.Names.{NameHolds, name_sight, forker}
-use Rattle.world_laws.specs.Callers.{CallHolds, call_sight}
-use Rattle.world_laws.specs.Ways.{Way, way_sight, IsParcelIn, HasSender}
-use Rattle.world_laws.specs.Ranges.{KindHolds, FewRanges, KeysHold}
-use Rattle.world_laws.specs.Families.{NodeHolds, PidsHold, FamilyHolds}
+use Rattle.world_laws.specs.Callers.{CallHolds, call_sight, HasTries}
+use Rattle.world_laws.specs.Ways.{Way, way_sight, knows_parent, under_way_of, IsParcelIn, HasSender}
+use Rattle.world_laws.specs.Ranges.{KindHolds, kind_sight, FewRanges, KeysHold}
+use Rattle.world_laws.specs.Families.{NodeHolds, PidsHold, FamilyHolds, checkpoints_to}
 use Rattle.std.specs.Prelude.{true}
 
 -- a node for each block, and a stream for each pair of nodes
@@ -32,6 +34,7 @@ pub record IsShaped (script : Script) (w : World) : Type 0 where
   pub nodes : length w.nodes ≡ node_count script
   pub rows : length w.streams ≡ node_count script
   pub row : (p : ℕ) → p < node_count script → length (get_or w.streams p []) ≡ node_count script
+  pub tries : HasTries script
 
 -- the leader stays, and it knows each name once
 pub record IsLeading (d : Directory) : Type 0 where
@@ -41,49 +44,59 @@ pub record IsLeading (d : Directory) : Type 0 where
   pub sets : IsRising d.places.sets
 
 -- the journal is legal and leads to the kernel, and it fits the script so far
-pub record IsHistory (script : Script) (w : World) (b : Beside) : Type 0 where
-  pub legal : Replays opening w.journal b.kernel
-  pub fits : FitsFrom script (opening_places script) w.journal b.places
-  pub ordered : IsRising b.places
+pub record IsHistory (script : Script) (journal : List Entry) (k : Kernel) (places : Places) : Type 0 where
+  pub legal : Replays opening journal k
+  pub fits : FitsFrom script (opening_places script) journal places
+  pub ordered : IsRising places
 
 -- Who sends which frames to whom. Nobody sends itself any.
-abbrev pub MayBe : Script → World → ℕ → ℕ → Frame → Type 0
-MayBe script w to sender (frames.Ask ticket pid call) = to ≡ 1
-MayBe script w to sender (frames.Request ticket pid call) = is_born_in w to ≡ true
-MayBe script w to sender (frames.Forward asked) = sender ≡ 1
-MayBe script w to sender (frames.Bounce asked) = to ≡ 1
-MayBe script w to sender (frames.Answer ticket reply) = is_born_in w sender ≡ true
-MayBe script w to sender (frames.NotOwner ticket) = is_born_in w sender ≡ true
-MayBe script w to sender (frames.LeaseAsk kind) = to ≡ 1
-MayBe script w to sender (frames.Lease kind first) = sender ≡ 1
-MayBe script w to sender (frames.Placed name node) = to ≡ 1
-MayBe script w to sender (frames.Checkpoint pid parent deed vars) = sender ≡ forker script to
-MayBe script w to sender (frames.Suggest name node) = (to ≡ 1) × (is_object name ≡ true) × (is_born_in w node ≡ true)
-MayBe script w to sender (frames.Recall name) = (sender ≡ 1) × (is_object name ≡ true)
-MayBe script w to sender (frames.GiveBack deed) = to ≡ 1
-MayBe script w to sender (frames.Grant deed) = (sender ≡ 1) × (is_born_in w to ≡ true)
-MayBe script w to sender (frames.Leaving pid parent parent_node) = to ≡ 1
-MayBe script w to sender frames.RecallAll = sender ≡ 1
-MayBe script w to sender (frames.Left parcel) = to ≡ 1
-MayBe script w to sender (frames.ExitTo parcel) = sender ≡ 1
+abbrev pub MayBe : Script → (ℕ → Bool) → ℕ → ℕ → Frame → Type 0
+MayBe script born to sender (frames.Ask ticket pid call) = to ≡ 1
+MayBe script born to sender (frames.Request ticket pid call) = born to ≡ true
+MayBe script born to sender (frames.Forward asked) = sender ≡ 1
+MayBe script born to sender (frames.Bounce asked) = to ≡ 1
+MayBe script born to sender (frames.Answer ticket reply) = born sender ≡ true
+MayBe script born to sender (frames.NotOwner ticket) = born sender ≡ true
+MayBe script born to sender (frames.LeaseAsk kind) = to ≡ 1
+MayBe script born to sender (frames.Lease kind first) = sender ≡ 1
+MayBe script born to sender (frames.Placed name node) = to ≡ 1
+MayBe script born to sender (frames.Checkpoint pid parent deed vars) = sender ≡ forker script to
+MayBe script born to sender (frames.Suggest name node) = (to ≡ 1) × (is_object name ≡ true) × (born node ≡ true)
+MayBe script born to sender (frames.Recall name) = (sender ≡ 1) × (is_object name ≡ true)
+MayBe script born to sender (frames.GiveBack deed) = to ≡ 1
+MayBe script born to sender (frames.Grant deed) = (sender ≡ 1) × (born to ≡ true)
+MayBe script born to sender (frames.Leaving pid parent parent_node) = to ≡ 1
+MayBe script born to sender frames.RecallAll = sender ≡ 1
+MayBe script born to sender (frames.Left parcel) = to ≡ 1
+MayBe script born to sender (frames.ExitTo parcel) = sender ≡ 1
 
+-- nobody sends itself any
+pub record FramesFit (script : Script) (born : ℕ → Bool) (there : ℕ → ℕ → List Frame) : Type 0 where
+  pub may_be : (to sender : ℕ) (frame : Frame) → Contains (there to sender) frame → MayBe script born to sender frame
+  pub none_to_itself : (p : ℕ) → there p p ≡ []
+
+abbrev pub process_deed : (Name → DeedPlace) → ℕ → DeedPlace
+process_deed deed pid = deed (Proc pid)
+
+-- Each field stands on what it looks at alone, so that it stays where that stays.
 pub record Holds (script : Script) (w : World) (hand : List Held) (b : Beside) : Type 0 where
   pub shape : IsShaped script w
-  pub history : IsHistory script w b
+  pub history : IsHistory script w.journal b.kernel b.places
   pub leading : IsLeading (directory_of w)
-  pub pids : PidsHold script b
-  pub nodes : (p : ℕ) → 1 ≤ p → p ≤ node_count script → NodeHolds script w b p (node_of w p)
-  pub frames_there : (to sender : ℕ) (frame : Frame) → 1 ≤ to → 1 ≤ sender → Contains (stream w to sender) frame
-      → MayBe script w to sender frame
-  pub none_to_itself : (p : ℕ) → 1 ≤ p → stream w p p ≡ []
-  pub names : (name : Name) → NameHolds script b.pids name (name_sight script w hand b name)
-  pub calls : (p : ℕ) → 1 ≤ p → p ≤ node_count script → CallHolds script p (call_sight w hand b p)
-  pub ways : (c : ℕ) → 2 ≤ c → c ≤ node_count script → Way script b c (way_sight script w b c)
-  pub parcels : (parcel : Parcel) → IsParcelIn w hand parcel → HasSender script w b parcel
-  pub kinds : (kind : Kind) → KindHolds w b.kernel kind
-  pub few : (kind : Kind) → FewRanges w kind
+  pub pids : PidsHold script b.pids b.places b.kernel
+  pub nodes : (p : ℕ) → 1 ≤ p → p ≤ node_count script → NodeHolds script b.pids (is_born_in w) p (node_of w p)
+  pub frames_fit : FramesFit script (is_born_in w) (frames_to w)
+  pub names : (name : Name) → NameHolds script b.pids (is_born_in w) name (name_sight script w hand b name)
+  pub calls : (p : ℕ) → 1 ≤ p → p ≤ node_count script → CallHolds script p (is_born_in w) (call_sight w hand b p)
+  pub ways : (c : ℕ) → 2 ≤ c → c ≤ node_count script
+      → Way script b.pids c (knows_parent script w b.pids c) (way_sight w c)
+  pub parcels : (parcel : Parcel) → IsParcelIn w hand parcel
+      → HasSender script b.pids (stage_of w) (under_way_of w) parcel
+  pub kinds : (kind : Kind) → KindHolds (is_born_in w) (kind_sight w b.kernel kind)
+  pub few : (kind : Kind) → FewRanges script w b.call kind
   pub keys : let n : Node = node_of w 1 in KeysHold n.leader b.kernel
-  pub families : (c : ℕ) → b.pids c ≢ 0 → FamilyHolds script w b c
+  pub families : (c : ℕ) → b.pids c ≢ 0
+      → FamilyHolds script b.pids b.places b.kernel (process_deed b.deed) (checkpoints_to script w c) (stage_of w c) c
 
 -- something stands beside the world with which it holds
 pub record HasInvariant (script : Script) (w : World) : Type 0 where

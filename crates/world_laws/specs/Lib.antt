@@ -7,3 +7,5 @@ pub mod Ways
 pub mod Ranges
 pub mod Families
 pub mod Invariant
+pub mod Deeds
+pub mod Runnable

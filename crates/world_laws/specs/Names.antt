@@ -1,5 +1,5 @@
 -- What holds of one name: where its deed is, what the leader believes, and what is on its way.
-use Rattle.std.specs.Prelude.{◌≡◌, ◌↔◌, ◌≤◌, ℕ, Bool, true, false, not, ◌&&◌, nat_eq, List, [], ◌∷◌, if◌then◌else◌, Option, Some, None, is_some, Contains}
+use Rattle.std.specs.Prelude.{◌≡◌, ◌≢◌, ◌↔◌, ◌≤◌, ℕ, Bool, true, false, not, ◌&&◌, nat_eq, List, [], ◌∷◌, if◌then◌else◌, Option, Some, None, is_some, Contains}
 use Rattle.std.specs.List.{filter, list_any, flat_map, AllByRecursion}
 use Rattle.pico_base.specs.declared.numbers.Kind.{Kind}
 use Rattle.pico_base.specs.declared.numbers.Name.{Name}
@@ -18,10 +18,10 @@ use Rattle.node_model.specs.Bodies.{Body, body_in}
 use Rattle.node_model.specs.Spelling.{pack}
 use Rattle.world_model.specs.Node.{Node}
 use Rattle.world_model.specs.Lives.{is_forked_by}
-use Rattle.world_model.specs.World.{World, stream, numbers, node_count}
+use Rattle.world_model.specs.World.{World, numbers, node_count}
 use Rattle.world_model.specs.Census.{brings}
 use Rattle.world_laws.specs.Places.{DeedPlace, Unmade, InTable, InCheckpoint, InGrant, InGiveBack, InLeft, InKept, InHand, InExitTo, CallPlace, SentByRange, Beside}
-use Rattle.world_laws.specs.Sights.{node_of, directory_of, stage_of, is_born_in, is_used_name}
+use Rattle.world_laws.specs.Sights.{node_of, frames_to, directory_of, stage_of, is_used_name}
 use Rattle.world_laws.specs.Plays.{Hold, PlayStep, play, plays, begin, brings_checkpoint, Belief, Nowhere, believed, is_there, is_has, placed_in, News, news, finds_place, is_call_on}
 
 -- the node whose block forks a block, 0 for none
@@ -65,11 +65,10 @@ leases_first (IsSentThere ∷ IsSentThere ∷ rest) = leases_first (IsSentThere 
 leases_first (IsSentThere ∷ IsLeased ∷ rest) = false
 
 pub record NameSight : Type 0 where
-  -- the leader's place of it, who has its number's range, and which nodes stay and are born
+  -- the leader's place of it, who has its number's range, and which nodes stay
   pub place : Option Place
   pub maker : Option ℕ
   pub stays : ℕ → Bool
-  pub born : ℕ → Bool
   -- the kernel's part, and where the deed is
   pub used : Bool
   pub body : Body
@@ -98,7 +97,7 @@ is_maker None q = false
 is_maker (Some p) q = nat_eq p q
 
 abbrev pub comes_to : Script → World → Name → ℕ → Bool
-comes_to script w name h = not (nat_eq (forker script h) 1) && brings_checkpoint name (stream w h (forker script h))
+comes_to script w name h = not (nat_eq (forker script h) 1) && brings_checkpoint name (frames_to w h (forker script h))
 
 abbrev pub name_sight : Script → World → List Held → Beside → Name → NameSight
 name_sight script w hand b name =
@@ -107,19 +106,18 @@ name_sight script w hand b name =
       place = place_of d name;
       maker = maker d name;
       stays = stays d;
-      born = is_born_in w;
       used = is_used_name b.kernel name;
       body = body_in b.kernel name;
       deed = b.deed name;
       held = held_at w name;
-      brought = λ to «from». filter (brings name) (stream w to «from»);
+      brought = λ to «from». filter (brings name) (frames_to w to «from»);
       kept = λ pid. filter (is_parcel_with name) (held_for d (Proc pid));
       hand = filter (is_parcel_with name) hand;
       begins = λ h. begin (stage_of w h) (is_some (held_at w name h)) (comes_to script w name h);
-      steps = λ h. plays b.call name (stream w h 1);
-      ranges = λ h. flat_map (range_steps_of b.call name) (stream w h 1);
-      placed = λ q. placed_in name (stream w 1 q);
-      news = λ q. news name (is_used_name b.kernel name && is_maker (maker d name) q) (stream w 1 q);
+      steps = λ h. plays b.call name (frames_to w h 1);
+      ranges = λ h. flat_map (range_steps_of b.call name) (frames_to w h 1);
+      placed = λ q. placed_in name (frames_to w 1 q);
+      news = λ q. news name (is_used_name b.kernel name && is_maker (maker d name) q) (frames_to w 1 q);
     }
 
 -- ---- where the deed is
@@ -221,16 +219,18 @@ pub record PlaysTo (begins : Hold) (steps : List PlayStep) (has : Bool) : Type 0
   pub plays : play begins steps ≡ Some last
   pub agrees : is_has last ≡ has
 
--- a Placed is sent by the name's maker, and says its own node, or the node of the process that it forked
+-- a Placed is sent by the name's maker, which isn't the leader, and says its own node, or the node of the process that
+-- it forked
 abbrev pub SaysOf : (ℕ → ℕ) → Name → ℕ → ℕ → Type 0
 SaysOf pids (Proc pid) sender node = pids node ≡ pid
 SaysOf pids (Msg id) sender node = node ≡ sender
 SaysOf pids (Sem id) sender node = node ≡ sender
 
-pub record IsTold (pids : ℕ → ℕ) (name : Name) (x : NameSight) (sender node : ℕ) : Type 0 where
-  pub used : x.used ≡ true
-  pub maker : x.maker ≡ Some sender
+pub record IsTold (pids : ℕ → ℕ) (name : Name) (is_used : Bool) (made_by : Option ℕ) (sender node : ℕ) : Type 0 where
+  pub used : is_used ≡ true
+  pub maker : made_by ≡ Some sender
   pub says : SaysOf pids name sender node
+  pub other : node ≢ 1
 
 -- what is held for a name: calls on it, and the ends of its process's children
 abbrev pub IsItemFor : Name → Held → Type 0
@@ -249,21 +249,21 @@ maker_tells x (Some q) = x.placed q
 abbrev pub belief_of : NameSight → Belief
 belief_of x = believed x.place (maker_tells x x.maker)
 
-pub record HasMakerThatStays (x : NameSight) : Type 0 where
+pub record HasMakerThatStays (made_by : Option ℕ) (who_stays : ℕ → Bool) : Type 0 where
   pub node : ℕ
-  pub makes : x.maker ≡ Some node
-  pub stays : x.stays node ≡ true
+  pub makes : made_by ≡ Some node
+  pub stays : who_stays node ≡ true
 
-pub record IsBoundRightly (name : Name) (x : NameSight) (to : ℕ) : Type 0 where
+pub record IsBoundRightly (name : Name) (born : ℕ → Bool) (to : ℕ) : Type 0 where
   pub object : is_object name ≡ true
-  pub born : x.born to ≡ true
+  pub is_born : born to ≡ true
 
-pub record NameHolds (script : Script) (pids : ℕ → ℕ) (name : Name) (x : NameSight) : Type 0 where
+pub record NameHolds (script : Script) (pids : ℕ → ℕ) (born : ℕ → Bool) (name : Name) (x : NameSight) : Type 0 where
   -- its deed is in one place, with the kernel's part; nothing has the deed of an unused name
   pub made : (x.deed ≡ Unmade) ↔ (x.used ≡ false)
   pub place_fits : may_be_at (is_object name) x.deed ≡ true
   pub tables : (h : ℕ) → x.held h ≡ held_as x.deed x.body h
-  pub streams : (to sender : ℕ) → 1 ≤ to → 1 ≤ sender
+  pub streams : (to sender : ℕ)
       → OneIf (is_stream_of (forker script) x.deed to sender) (IsBringer pids name x.body x.deed) (x.brought to sender)
   pub kept : (pid : ℕ)
       → OneIf (is_kept_for (forker script) pids x.deed pid) (IsItemWith name x.body (pids (node_in x.deed)))
@@ -275,12 +275,12 @@ pub record NameHolds (script : Script) (pids : ℕ → ℕ) (name : Name) (x : N
   pub plays : (h : ℕ) → 2 ≤ h → PlaysTo (x.begins h) (x.steps h) (is_there h (belief_of x))
   pub leader : is_some (x.held 1) ≡ is_there 1 (belief_of x)
   -- a maker tells the place before anything else needs it
-  pub told : (sender node : ℕ) → Contains (x.placed sender) node → IsTold pids name x sender node
+  pub told : (sender node : ℕ) → Contains (x.placed sender) node → IsTold pids name x.used x.maker sender node
   pub found : (q : ℕ) → 2 ≤ q → finds_place (is_some x.place) (x.news q) ≡ true
-  pub unplaced : x.used ≡ true → x.place ≡ None → HasMakerThatStays x
+  pub unplaced : x.used ≡ true → x.place ≡ None → HasMakerThatStays x.maker x.stays
   -- a call goes by range to the maker, and no lease with the number stands behind it
   pub ranged : (h : ℕ) → Contains (x.ranges h) IsSentThere → x.maker ≡ Some h
   pub leased : (h : ℕ) → 2 ≤ h → leases_first (x.ranges h) ≡ true
   -- where it is bound for, and what is held for it
-  pub bound : (to : ℕ) → destination_of x.place ≡ Some to → IsBoundRightly name x to
+  pub bound : (to : ℕ) → destination_of x.place ≡ Some to → IsBoundRightly name born to
   pub items : AllByRecursion (IsItemFor name) (items_of x.place)

@@ -1,11 +1,12 @@
 -- Where a name's deed is, where a call under way is, and what stands beside a world: the kernel and the places of its
 -- journal, the number of each node's process, and these two. All but the kernel and the places can be read off the
 -- world; written beside it they spare every "exactly one".
-use Rattle.std.specs.Prelude.{ℕ}
+use Rattle.std.specs.Prelude.{ℕ, nat_eq, if◌then◌else◌}
 use Rattle.pico_base.specs.declared.numbers.Kind.{Kind}
 use Rattle.pico_base.specs.declared.numbers.Name.{Name}
 use Rattle.pico_base.specs.declared.reply.Reply.{Reply}
 use Rattle.kernel_model.specs.Kernel.{Kernel}
+use Rattle.node_model.specs.Kinds.{is_same_name}
 use Rattle.kernel_model.specs.Fitting.{Places}
 
 -- A deed is nowhere while nothing has the name's number; in a node's table; in a frame to or from a node; or in the
@@ -39,6 +40,13 @@ pub data CallPlace : Type 0 where
   IsInHand : CallPlace
   InAnswer : («from» : ℕ) (reply : Reply) → CallPlace
   Ends : CallPlace
+
+-- the deed, or the call, is in another place now
+abbrev pub deed_in : (Name → DeedPlace) → Name → DeedPlace → Name → DeedPlace
+deed_in deed name place other = if is_same_name name other then place else deed other
+
+abbrev pub call_in : (ℕ → CallPlace) → ℕ → CallPlace → ℕ → CallPlace
+call_in call p place other = if nat_eq p other then place else call other
 
 pub record Beside : Type 0 where
   pub kernel : Kernel

@@ -1,7 +1,7 @@
 -- The directory is what each owner will hold once it has taken all that is on its way to it from the leader. So what is
 -- on its way is played.
 use Rattle.std.specs.Prelude.{ℕ, Bool, true, false, ◌&&◌, ◌||◌, nat_eq, List, [], ◌∷◌, Option, Some, None, if◌then◌else◌}
-use Rattle.std.specs.List.{flat_map, list_any}
+use Rattle.std.specs.List.{flat_map, filter}
 use Rattle.pico_base.specs.declared.call.Home.{Home}
 use Rattle.pico_base.specs.declared.call.Home.TheVariants as homes
 use Rattle.pico_base.specs.declared.numbers.Name.{Name}
@@ -94,12 +94,16 @@ abbrev pub begin : Stage → Bool → Bool → Hold
 begin Left holds comes = Done
 begin stage holds comes = if holds || comes then Has else Lacks
 
+abbrev pub has_any : List Frame → Bool
+has_any [] = false
+has_any (f ∷ fs) = true
+
 abbrev pub is_checkpoint_of : Name → Frame → Bool
 is_checkpoint_of name (frames.Checkpoint pid parent deed vars) = is_same_name name deed.name
 is_checkpoint_of name frame = false
 
 abbrev pub brings_checkpoint : Name → List Frame → Bool
-brings_checkpoint name frames_there = list_any (is_checkpoint_of name) frames_there
+brings_checkpoint name frames_there = has_any (filter (is_checkpoint_of name) frames_there)
 
 -- ---- what the leader believes, and will once it has taken what a maker tells it
 

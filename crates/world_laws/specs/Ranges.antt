@@ -3,6 +3,7 @@ use Rattle.std.specs.Prelude.{◌≡◌, ◌⊎◌, ◌≤◌, ℕ, ◌+◌, ◌
 use Rattle.std.specs.List.{list_any, flat_map}
 use Rattle.std.specs.Option.{option_map}
 use Rattle.pico_base.specs.declared.numbers.Kind.{Kind}
+use Rattle.pico_base.specs.declared.script.Script.{Script}
 use Rattle.rpc_frame.specs.declared.frame.Frame.{Frame}
 use Rattle.rpc_frame.specs.declared.frame.Frame.TheVariants as frames
 use Rattle.key_table.specs.declared.Bound.{Bound}
@@ -14,8 +15,11 @@ use Rattle.node_model.specs.Kinds.{for_kind, is_same_kind}
 use Rattle.node_model.specs.Directory.{Directory, maker_in, range_size}
 use Rattle.node_model.specs.Leases.{lease_of}
 use Rattle.world_model.specs.Node.{Node, Leader}
-use Rattle.world_model.specs.World.{World, Streams, stream}
-use Rattle.world_laws.specs.Sights.{node_of, directory_of, is_born_in}
+use Rattle.world_model.specs.World.{World, numbers, node_count}
+use Rattle.world_laws.specs.Places.{CallPlace, HasLease}
+use Rattle.world_laws.specs.Sights.{node_of, frames_to, directory_of}
+
+-- ---- what there is to see of a kind
 
 -- the ranges of a kind on their way to a node, by their first numbers
 abbrev pub first_if : Bool → ℕ → List ℕ
@@ -26,30 +30,40 @@ abbrev pub lease_in : Kind → Frame → List ℕ
 lease_in kind (frames.Lease other first) = first_if (is_same_kind kind other) first
 lease_in kind frame = []
 
-abbrev pub leases_to : World → Kind → ℕ → List ℕ
-leases_to w kind h = flat_map (lease_in kind) (stream w h 1)
-
-abbrev pub is_in_lease : ℕ → ℕ → Bool
-is_in_lease number first = list_any (nat_eq number) (lease_of first)
-
--- a number that was given out to a node, but is still to be taken there, or on its way
 abbrev pub lease_at : World → Kind → ℕ → List ℕ
 lease_at w kind h =
     let n : Node = node_of w h
     in for_kind n.leases kind
 
-abbrev pub is_still_free : World → Kind → ℕ → ℕ → Bool
-is_still_free w kind number h =
-    list_any (nat_eq number) (lease_at w kind h) || list_any (is_in_lease number) (leases_to w kind h)
+-- the numbers that something has; the rest of each node's range, and those on their way to it; and who has which range
+pub record KindSight : Type 0 where
+  pub used : ℕ → Bool
+  pub leases : ℕ → List ℕ
+  pub coming : ℕ → List ℕ
+  pub ranges : List ℕ
 
-abbrev pub is_given : World → Kind → ℕ → Option ℕ → Bool
-is_given w kind number None = false
-is_given w kind number (Some h) = not (is_still_free w kind number h)
-
-abbrev pub ranges_of : World → Kind → List ℕ
-ranges_of w kind =
+abbrev pub kind_sight : World → Kernel → Kind → KindSight
+kind_sight w k kind =
     let d : Directory = directory_of w
-    in for_kind d.ranges kind
+    in record {
+      used = is_used (used_of k kind);
+      leases = lease_at w kind;
+      coming = λ h. flat_map (lease_in kind) (frames_to w h 1);
+      ranges = for_kind d.ranges kind;
+    }
+
+-- ---- what holds of it
+
+abbrev pub is_in_lease : ℕ → ℕ → Bool
+is_in_lease number first = list_any (nat_eq number) (lease_of first)
+
+-- a number that was given out to a node, but is still to be taken there, or on its way
+abbrev pub is_still_free : KindSight → ℕ → ℕ → Bool
+is_still_free x number h = list_any (nat_eq number) (x.leases h) || list_any (is_in_lease number) (x.coming h)
+
+abbrev pub is_given : KindSight → ℕ → Option ℕ → Bool
+is_given x number None = false
+is_given x number (Some h) = not (is_still_free x number h)
 
 -- the range that begins with a number is a node's
 pub record IsRangeOf (ranges : List ℕ) (first node : ℕ) : Type 0 where
@@ -64,22 +78,30 @@ pub record IsRestOf (ranges : List ℕ) (numbers : List ℕ) (node : ℕ) : Type
   pub taken : ℕ
   pub rest : numbers ≡ drop taken (lease_of first)
 
-pub record KindHolds (w : World) (k : Kernel) (kind : Kind) : Type 0 where
+pub record KindHolds (born : ℕ → Bool) (x : KindSight) : Type 0 where
   -- a number is used exactly where its range was given out and it is taken
-  pub used : (number : ℕ)
-      → is_used (used_of k kind) number ≡ is_given w kind number (maker_in (ranges_of w kind) number)
-  pub leases : (h : ℕ) → 1 ≤ h → (lease_at w kind h ≡ []) ⊎ IsRestOf (ranges_of w kind) (lease_at w kind h) h
-  pub coming : (h first : ℕ) → 1 ≤ h → Contains (leases_to w kind h) first → IsRangeOf (ranges_of w kind) first h
-  pub one_coming : (h : ℕ) → 1 ≤ h → length (leases_to w kind h) ≤ 1
-  pub born : (node : ℕ) → Contains (ranges_of w kind) node → is_born_in w node ≡ true
+  pub used : (number : ℕ) → x.used number ≡ is_given x number (maker_in x.ranges number)
+  pub leases : (h : ℕ) → 1 ≤ h → (x.leases h ≡ []) ⊎ IsRestOf x.ranges (x.leases h) h
+  pub coming : (h first : ℕ) → Contains (x.coming h) first → IsRangeOf x.ranges first h
+  pub one_coming : (h : ℕ) → length (x.coming h) ≤ 1
+  pub to_born : (node : ℕ) → Contains x.ranges node → born node ≡ true
 
 -- each range after the first was taken for a call that was carried out, or that its Lease is on its way for
-abbrev pub leases_under_way : Kind → Streams → ℕ
-leases_under_way kind streams =
-    sum_by (λ row. sum_by (λ frames_there. length (flat_map (lease_in kind) frames_there)) row) streams
+abbrev pub one_for : Bool → ℕ
+one_for true = 1
+one_for false = 0
 
-abbrev pub FewRanges : World → Kind → Type 0
-FewRanges w kind = length (ranges_of w kind) ≤ length w.journal + leases_under_way kind w.streams + 1
+abbrev pub has_lease : Kind → CallPlace → Bool
+has_lease kind (HasLease other first) = is_same_kind kind other
+has_lease kind place = false
+
+abbrev pub leases_on_way : Script → (ℕ → CallPlace) → Kind → ℕ
+leases_on_way script call kind = sum_by (λ p. one_for (has_lease kind (call p))) (numbers 1 (node_count script))
+
+abbrev pub FewRanges : Script → World → (ℕ → CallPlace) → Kind → Type 0
+FewRanges script w call kind =
+    let d : Directory = directory_of w
+    in length (for_kind d.ranges kind) ≤ length w.journal + leases_on_way script call kind + 1
 
 -- the leader's keys are the kernel's, with each set's size
 abbrev pub bound_queue : ℕ → Bound

@@ -1,0 +1,9 @@
+pub mod StageLemmas
+pub mod Kept
+pub mod Late
+pub mod Changes
+pub mod Totals
+pub mod Tables
+pub mod Landing
+pub mod RangeLemmas
+pub mod Routes

@@ -1,0 +1,21 @@
+use Rattle.std.proofs.Common.{ap, ◌∙◌}
+use Rattle.node_model.specs.Directory.{HasLeft, is_leaving, with_left}
+use Rattle.lease_leader.specs.Places.{directory_by}
+use Rattle.lease_leader.proofs.Changes.{has-left}
+use Rattle.lease_leader.proofs.Late.{AllAreLate-put}
+use Rattle.lease_leader.proofs.directory.Directory.left.Goals as goal
+
+pub invariant_of-self : goal.invariant_of-self
+invariant_of-self c = (
+  rw c.note_left.ensures
+      (AllAreLate-put c.self.inside.partings c.args.node HasLeft c.self.inside.spots c.self.invariant.0),
+  c.self.invariant.1,
+)
+
+pub returns : goal.returns
+returns c =
+    let d = c.self.inside in
+    ap (λ ps. directory_by ps d.spots d.ranges) c.note_left.ensures
+    ∙ has-left d.partings d.spots d.ranges c.args.node
+    (ap (λ e. is_leaving e c.args.node) c.self.view_is ∙ c.requires)
+    ∙ ap (λ e. with_left e c.args.node) c.self.view_is

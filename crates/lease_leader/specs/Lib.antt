@@ -1,0 +1,4 @@
+pub mod Apart
+pub mod Counting
+pub mod Places
+pub mod Stages

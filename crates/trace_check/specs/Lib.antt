@@ -1,0 +1,6 @@
+pub mod Cursors
+pub mod FirstFault
+pub mod Judging
+pub mod Refusal
+pub mod Standings
+pub mod Tally

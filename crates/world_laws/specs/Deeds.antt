@@ -1,0 +1,11 @@
+-- Deeds on their way are within the grammar: each body of a used name, packed, is read back.
+use Rattle.std.specs.Prelude.{◌≡◌, true, Some}
+use Rattle.pico_base.specs.declared.numbers.Name.{Name}
+use Rattle.kernel_model.specs.Kernel.{Kernel}
+use Rattle.node_model.specs.Bodies.{body_in}
+use Rattle.node_model.specs.Spelling.{pack, read_deed}
+use Rattle.world_laws.specs.Sights.{is_used_name}
+
+abbrev pub DeedsAreRead : Kernel → Type 0
+DeedsAreRead k =
+    (name : Name) → is_used_name k name ≡ true → read_deed (pack name (body_in k name)) ≡ Some (body_in k name)

@@ -1,0 +1,14 @@
+pub mod Quiet
+pub mod Nodes
+pub mod Recalls
+pub mod Places
+pub mod Placings
+pub mod Suggestions
+pub mod Grants
+pub mod CallMoves
+pub mod Answers
+pub mod LeaseAsks
+pub mod Births
+pub mod CallFrames
+pub mod Opening
+pub mod Enabled
