@@ -1,1 +1,2 @@
 pub mod HandMoves
+pub mod Forwards
