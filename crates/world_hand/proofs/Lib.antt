@@ -1,2 +1,3 @@
 pub mod HandMoves
 pub mod Forwards
+pub mod Holdings
