@@ -1,0 +1,3 @@
+pub mod HandMoves
+pub mod Forwards
+pub mod Holdings
