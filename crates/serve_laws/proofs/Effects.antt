@@ -57,6 +57,20 @@ first_there : (which : Option ℕ) (es : List EndedChild) (e : EndedChild) → f
 first_there which [] e h = absurd (cc)
 first_there which (x ∷ es) e h = first_by which x es e (matches which x.pid) (first_there which es e) h
 
+-- the process isn't one of its own ended children
+abbrev pub IsApart : ℕ → Alive → Type 0
+IsApart pid a =
+    (child : ℕ) (ending : Ending) → Contains a.row.family.ended (ended_child child ending) → pid ≢ child
+
+-- in a valid kernel none is
+pub valid-apart : (k : Kernel) (pid : ℕ) (a : Alive) → IsValid k → living_at k pid ≡ Some a → IsApart pid a
+valid-apart k pid a valid lives child ending among same =
+    let kept : get k.processes child ≡ Some (kernel.Ended ending) = (valid.alive pid a lives).ended child ending among
+    in let living : get k.processes pid ≡ Some (kernel.Living a) = same_living (get k.processes pid) a lives
+    in let both : Some (kernel.Living a) ≡ Some (kernel.Ended ending) =
+    sym living ∙ ap (get k.processes) same ∙ kept
+    in cc
+
 -- what a wait finds is one of the ended children
 found_there : (a : Alive) (which : Option ℕ) (child : ℕ) (ending : Ending)
     → wait a.row.family which ≡ Found child ending
@@ -76,23 +90,14 @@ found_there a which child ending h =
     by None true is found = absurd (cc)
     by None false is found = absurd (cc)
 
-wait_acts : (k : Kernel) (pid : ℕ) (a : Alive) (which : Option ℕ) (w : Waited) → IsValid k → living_at k pid ≡ Some a
+wait_acts : (k : Kernel) (pid : ℕ) (a : Alive) (which : Option ℕ) (w : Waited) → IsApart pid a
     → wait a.row.family which ≡ w → body_in k (Proc pid) ≡ Living a.row
     → Acts k (Proc pid) (in_body Living (reap a.row w)) (reap_child k pid a w)
-wait_acts k pid a which (Found child ending) valid lives is body =
-    child-found k pid child ending (parent_after_wait a child) apart
-  where
-    apart : pid ≢ child
-    apart same =
-        let kept : get k.processes child ≡ Some (kernel.Ended ending) =
-        (valid.alive pid a lives).ended child ending (found_there a which child ending is)
-        in let living : get k.processes pid ≡ Some (kernel.Living a) = same_living (get k.processes pid) a lives
-        in let both : Some (kernel.Living a) ≡ Some (kernel.Ended ending) =
-        sym living ∙ ap (get k.processes) same ∙ kept
-        in cc
-wait_acts k pid a which NotYet valid lives is body =
+wait_acts k pid a which (Found child ending) apart is body =
+    child-found k pid child ending (parent_after_wait a child) (apart child ending (found_there a which child ending is))
+wait_acts k pid a which NotYet apart is body =
     stays k (Proc pid) (Living a.row) (replies.Num 0) (λ other. refl) body
-wait_acts k pid a which NoChild valid lives is body =
+wait_acts k pid a which NoChild apart is body =
     stays k (Proc pid) (Living a.row) (replies.Fail Echild) (λ other. refl) body
 
 -- ---- kill
@@ -167,25 +172,34 @@ own : (k : Kernel) (pid : ℕ) (a : Alive) (call : Call) (e : Effect) → body_i
 unfolding Serves
 own k pid a call e is acts = subst (λ (b : Body). Acts k (Proc pid) (on_body (Proc pid) b pid call) e) (sym is) acts
 
-module _ (k : Kernel) (pid n : ℕ) (a : Alive) (valid : IsValid k) (lives : living_at k pid ≡ Some a) where
-  here : body_in k (Proc pid) ≡ Living a.row
-  here = ap process_body (same_living (get k.processes pid) a lives)
+module _ (k : Kernel) (pid n : ℕ) (a : Alive) where
+  -- the caller may make calls of its own
+  pub record MakesOwnCalls : Type 0 where
+    pub lives : living_at k pid ≡ Some a
+    pub apart : IsApart pid a
+
+  here : living_at k pid ≡ Some a → body_in k (Proc pid) ≡ Living a.row
+  here lives = ap process_body (same_living (get k.processes pid) a lives)
 
   kill_named : (target : ℕ) (sig : SigArg) (name : Name) (e : Effect) (b : Bool) → nat_eq target pid ≡ b
       → home_of pid (calls.Kill target sig) ≡ home_of_kill pid target
+      → (is_own pid (calls.Kill target sig) ≡ true → MakesOwnCalls)
       → name_in pid (if b then homes.Own else homes.At (Proc target)) ≡ Some name
       → Some (kill_at k pid target sig (get k.processes target)) ≡ Some e → Serves k pid (calls.Kill target sig) name e
   unfolding Serves
-  kill_named target sig name e true same home named eff =
+  kill_named target sig name e true same home makes named eff =
       let is : target ≡ pid = same_number target pid same
+      in let maker : MakesOwnCalls =
+      makes (ap is_own_home (home ∙ ap (λ (t : Bool). if t then homes.Own else homes.At (Proc target)) same))
+      in let alive : living_at k pid ≡ Some a = maker.lives
       in conclude k pid (calls.Kill target sig) (Proc pid) name
       (kill_at k pid target sig (get k.processes target)) e named eff
-      (own k pid a (calls.Kill target sig) (kill_at k pid target sig (get k.processes target)) here
+      (own k pid a (calls.Kill target sig) (kill_at k pid target sig (get k.processes target)) (here alive)
       (subst (λ (t : ℕ). Acts k (Proc pid) (in_body Living (signal a.row sig))
       (kill_at k pid t sig (get k.processes t))) (sym is)
       (subst (λ (o : Option Process). Acts k (Proc pid) (in_body Living (signal a.row sig)) (kill_at k pid pid sig o))
-      (sym (same_living (get k.processes pid) a lives)) (kill_self k pid a sig here))))
-  kill_named target sig name e false apart home named eff =
+      (sym (same_living (get k.processes pid) a alive)) (kill_self k pid a sig (here alive)))))
+  kill_named target sig name e false apart home makes named eff =
       conclude k pid (calls.Kill target sig) (Proc target) name
       (kill_at k pid target sig (get k.processes target)) e named eff
       (kill_other k pid target sig (calls.Kill target sig) (other_way target pid apart)
@@ -203,114 +217,122 @@ module _ (k : Kernel) (pid n : ℕ) (a : Alive) (valid : IsValid k) (lives : liv
       (at-set k id pid (calls.SemOp id steps) (λ s. change_set k id (op s pid steps))
       (λ s there. set-changes k id s (op s pid steps) there) (get k.sets id) refl)
 
-  pub effect-serves : (call : Call) (name : Name) (e : Effect) → is_served call ≡ true → name_for pid call ≡ Some name
+  own_lives : {b : Bool} → (b ≡ true → MakesOwnCalls) → b ≡ true → living_at k pid ≡ Some a
+  own_lives makes own = let maker : MakesOwnCalls = makes own in maker.lives
+
+  own_apart : {b : Bool} → (b ≡ true → MakesOwnCalls) → b ≡ true → IsApart pid a
+  own_apart makes own = let maker : MakesOwnCalls = makes own in maker.apart
+
+  -- the caller has to live for its own calls alone
+  pub effect-serves : (call : Call) (name : Name) (e : Effect) → is_served call ≡ true
+      → (is_own pid call ≡ true → MakesOwnCalls) → name_for pid call ≡ Some name
       → effect k pid a call n ≡ Some e → Serves k pid call name e
   unfolding Serves
-  effect-serves (calls.Fork block) name e s named eff = absurd (cc)
-  effect-serves (calls.Exit status) name e s named eff = absurd (cc)
-  effect-serves (calls.Killed sig) name e s named eff = absurd (cc)
-  effect-serves (calls.MsgGet key create excl) name e s named eff = absurd (cc)
-  effect-serves (calls.SemGet key count create excl) name e s named eff = absurd (cc)
-  effect-serves calls.GetPid name e s named eff =
+  effect-serves (calls.Fork block) name e s l named eff = absurd (cc)
+  effect-serves (calls.Exit status) name e s l named eff = absurd (cc)
+  effect-serves (calls.Killed sig) name e s l named eff = absurd (cc)
+  effect-serves (calls.MsgGet key create excl) name e s l named eff = absurd (cc)
+  effect-serves (calls.SemGet key count create excl) name e s l named eff = absurd (cc)
+  effect-serves calls.GetPid name e s l named eff =
       conclude k pid calls.GetPid (Proc pid) name _ e named eff
-      (own k pid a calls.GetPid (reply_with k pid) here
-      (stays k (Proc pid) (Living a.row) (replies.Num pid) (λ other. refl) here))
-  effect-serves (calls.Kill target Bad) name e s named eff =
+      (own k pid a calls.GetPid (reply_with k pid) (here (own_lives l refl))
+      (stays k (Proc pid) (Living a.row) (replies.Num pid) (λ other. refl) (here (own_lives l refl))))
+  effect-serves (calls.Kill target Bad) name e s l named eff =
       conclude k pid (calls.Kill target Bad) (Proc pid) name _ e named eff
-      (own k pid a (calls.Kill target Bad) (refuse k Einval) here
-      (stays k (Proc pid) (Living a.row) (replies.Fail Einval) (λ other. refl) here))
-  effect-serves (calls.Kill target Zero) name e s named eff =
-      kill_named target Zero name e (nat_eq target pid) refl refl named eff
-  effect-serves (calls.Kill target (Is g)) name e s named eff =
-      kill_named target (Is g) name e (nat_eq target pid) refl refl named eff
-  effect-serves (calls.SigAction sig action) name e s named eff =
+      (own k pid a (calls.Kill target Bad) (refuse k Einval) (here (own_lives l refl))
+      (stays k (Proc pid) (Living a.row) (replies.Fail Einval) (λ other. refl) (here (own_lives l refl))))
+  effect-serves (calls.Kill target Zero) name e s l named eff =
+      kill_named target Zero name e (nat_eq target pid) refl refl l named eff
+  effect-serves (calls.Kill target (Is g)) name e s l named eff =
+      kill_named target (Is g) name e (nat_eq target pid) refl refl l named eff
+  effect-serves (calls.SigAction sig action) name e s l named eff =
       conclude k pid (calls.SigAction sig action) (Proc pid) name _ e named eff
-      (own k pid a (calls.SigAction sig action) (action_effect k pid a (act_on a.row.signals sig action)) here
-      (own_acts k pid a (act_on a.row.signals sig action) here))
-  effect-serves (calls.SigProcMask how set) name e s named eff =
+      (own k pid a (calls.SigAction sig action) (action_effect k pid a (act_on a.row.signals sig action)) (here (own_lives l refl))
+      (own_acts k pid a (act_on a.row.signals sig action) (here (own_lives l refl))))
+  effect-serves (calls.SigProcMask how set) name e s l named eff =
       conclude k pid (calls.SigProcMask how set) (Proc pid) name _ e named eff
       (own k pid a (calls.SigProcMask how set)
       (record {
         kernel = with_signals k pid a (with_mask a.row.signals how set);
         reply =
             replies.Bits a.row.signals.mask;
-      }) here
+      }) (here (own_lives l refl))
       (process-changes k pid
       (record a { row = record { signals = with_mask a.row.signals how set; family = a.row.family } })
       (replies.Bits a.row.signals.mask) (λ other. refl)))
-  effect-serves calls.SigPending name e s named eff =
+  effect-serves calls.SigPending name e s l named eff =
       conclude k pid calls.SigPending (Proc pid) name _ e named eff
-      (own k pid a calls.SigPending (record { kernel = k; reply = replies.Bits a.row.signals.pending }) here
-      (stays k (Proc pid) (Living a.row) (replies.Bits a.row.signals.pending) (λ other. refl) here))
-  effect-serves (calls.Handled sig) name e s named eff =
+      (own k pid a calls.SigPending (record { kernel = k; reply = replies.Bits a.row.signals.pending }) (here (own_lives l refl))
+      (stays k (Proc pid) (Living a.row) (replies.Bits a.row.signals.pending) (λ other. refl) (here (own_lives l refl))))
+  effect-serves (calls.Handled sig) name e s l named eff =
       conclude k pid (calls.Handled sig) (Proc pid) name _ e named eff
-      (own k pid a (calls.Handled sig) (reply_with k (at a.row.signals.handled sig)) here
-      (stays k (Proc pid) (Living a.row) (replies.Num (at a.row.signals.handled sig)) (λ other. refl) here))
-  effect-serves (calls.WaitPid child true) name e s named eff =
+      (own k pid a (calls.Handled sig) (reply_with k (at a.row.signals.handled sig)) (here (own_lives l refl))
+      (stays k (Proc pid) (Living a.row) (replies.Num (at a.row.signals.handled sig)) (λ other. refl) (here (own_lives l refl))))
+  effect-serves (calls.WaitPid child true) name e s l named eff =
       conclude k pid (calls.WaitPid child true) (Proc pid) name _ e named eff
-      (own k pid a (calls.WaitPid child true) (reap_child k pid a (wait a.row.family child)) here
-      (wait_acts k pid a child (wait a.row.family child) valid lives refl here))
-  effect-serves (calls.WaitPid child false) name e s named eff = absurd (cc)
-  effect-serves (calls.MsgSnd id class text true) name e s named eff =
+      (own k pid a (calls.WaitPid child true) (reap_child k pid a (wait a.row.family child)) (here (own_lives l refl))
+      (wait_acts k pid a child (wait a.row.family child) (own_apart l refl) refl (here (own_lives l refl))))
+  effect-serves (calls.WaitPid child false) name e s l named eff = absurd (cc)
+  effect-serves (calls.MsgSnd id class text true) name e s l named eff =
       conclude k pid (calls.MsgSnd id class text true) (Msg id) name _ e named eff
       (at-queue k id pid (calls.MsgSnd id class text true) (λ q. change_queue k id (send q pid class text))
       (λ q there. queue-changes k id q (send q pid class text) there) (get k.queues id) refl)
-  effect-serves (calls.MsgSnd id class text false) name e s named eff = absurd (cc)
-  effect-serves (calls.MsgRcv id class size noerror true) name e s named eff =
+  effect-serves (calls.MsgSnd id class text false) name e s l named eff = absurd (cc)
+  effect-serves (calls.MsgRcv id class size noerror true) name e s l named eff =
       conclude k pid (calls.MsgRcv id class size noerror true) (Msg id) name _ e named eff
       (at-queue k id pid (calls.MsgRcv id class size noerror true)
       (λ q. receive_effect k id (receive q pid class size noerror))
       (λ q there. queue-receives k id q (receive q pid class size noerror) there) (get k.queues id) refl)
-  effect-serves (calls.MsgRcv id class size noerror false) name e s named eff = absurd (cc)
-  effect-serves (calls.MsgStat id) name e s named eff =
+  effect-serves (calls.MsgRcv id class size noerror false) name e s l named eff = absurd (cc)
+  effect-serves (calls.MsgStat id) name e s l named eff =
       conclude k pid (calls.MsgStat id) (Msg id) name _ e named eff
       (at-queue k id pid (calls.MsgStat id) (stat_effect k)
       (λ q there. stays k (Msg id) (AQueue q) (stat q) (λ other. refl) (ap queue_body there)) (get k.queues id) refl)
-  effect-serves (calls.MsgSet id qbytes) name e s named eff =
+  effect-serves (calls.MsgSet id qbytes) name e s l named eff =
       conclude k pid (calls.MsgSet id qbytes) (Msg id) name _ e named eff
       (at-queue k id pid (calls.MsgSet id qbytes) (λ q. change_queue k id (set_qbytes q qbytes))
       (λ q there. queue-changes k id q (set_qbytes q qbytes) there) (get k.queues id) refl)
-  effect-serves (calls.MsgRmid id) name e s named eff =
+  effect-serves (calls.MsgRmid id) name e s l named eff =
       conclude k pid (calls.MsgRmid id) (Msg id) name _ e named eff
       (at-queue k id pid (calls.MsgRmid id) (λ _. remove_queue k id) (λ q there. queue-removed k id)
       (get k.queues id) refl)
-  effect-serves (calls.SemOp id steps) name e s named eff =
+  effect-serves (calls.SemOp id steps) name e s l named eff =
       operates id steps name e (ready (list_any may_wait steps) s) named eff
     where
       ready : (b : Bool) → (true && not b) ≡ true → b ≡ false
       ready true h = absurd (cc)
       ready false h = refl
-  effect-serves (calls.SemGetVal id num) name e s named eff =
+  effect-serves (calls.SemGetVal id num) name e s l named eff =
       conclude k pid (calls.SemGetVal id num) (Sem id) name _ e named eff
       (at-set k id pid (calls.SemGetVal id num) (λ s. look_up k (value_at s num))
       (λ s there. set-looks k id s (value_at s num) there) (get k.sets id) refl)
-  effect-serves (calls.SemGetPid id num) name e s named eff =
+  effect-serves (calls.SemGetPid id num) name e s l named eff =
       conclude k pid (calls.SemGetPid id num) (Sem id) name _ e named eff
       (at-set k id pid (calls.SemGetPid id num) (λ s. look_up k (last_at s num))
       (λ s there. set-looks k id s (last_at s num) there) (get k.sets id) refl)
-  effect-serves (calls.SemGetNcnt id num) name e s named eff =
+  effect-serves (calls.SemGetNcnt id num) name e s l named eff =
       conclude k pid (calls.SemGetNcnt id num) (Sem id) name _ e named eff
       (at-set k id pid (calls.SemGetNcnt id num) (λ s. look_up k (waiting_at s num))
       (λ s there. set-looks k id s (waiting_at s num) there) (get k.sets id) refl)
-  effect-serves (calls.SemGetZcnt id num) name e s named eff =
+  effect-serves (calls.SemGetZcnt id num) name e s l named eff =
       conclude k pid (calls.SemGetZcnt id num) (Sem id) name _ e named eff
       (at-set k id pid (calls.SemGetZcnt id num) (λ s. look_up k (waiting_at s num))
       (λ s there. set-looks k id s (waiting_at s num) there) (get k.sets id) refl)
-  effect-serves (calls.SemSetVal id num value) name e s named eff =
+  effect-serves (calls.SemSetVal id num value) name e s l named eff =
       conclude k pid (calls.SemSetVal id num value) (Sem id) name _ e named eff
       (at-set k id pid (calls.SemSetVal id num value) (λ s. change_set k id (set_value s num value))
       (λ s there. set-changes k id s (set_value s num value) there)
       (get k.sets id) refl)
-  effect-serves (calls.SemGetAll id) name e s named eff =
+  effect-serves (calls.SemGetAll id) name e s l named eff =
       conclude k pid (calls.SemGetAll id) (Sem id) name _ e named eff
       (at-set k id pid (calls.SemGetAll id) (all_values k)
       (λ s there. stays k (Sem id) (ASet s) (replies.All (values_of s.semaphores)) (λ other. refl) (ap set_body there))
       (get k.sets id) refl)
-  effect-serves (calls.SemSetAll id values) name e s named eff =
+  effect-serves (calls.SemSetAll id values) name e s l named eff =
       conclude k pid (calls.SemSetAll id values) (Sem id) name _ e named eff
       (at-set k id pid (calls.SemSetAll id values) (λ s. change_set k id (set_all s values))
       (λ s there. set-changes k id s (set_all s values) there)
       (get k.sets id) refl)
-  effect-serves (calls.SemRmid id) name e s named eff =
+  effect-serves (calls.SemRmid id) name e s l named eff =
       conclude k pid (calls.SemRmid id) (Sem id) name _ e named eff
       (at-set k id pid (calls.SemRmid id) (λ _. remove_set k id) (λ s there. set-removed k id) (get k.sets id) refl)

@@ -1,3 +1,8 @@
+pub mod Committed
 pub mod Effects
+pub mod Ends
 pub mod Follow
+pub mod KernelEnds
+pub mod OnBody
+pub mod Puts
 pub mod Steps

@@ -18,7 +18,7 @@ use Rattle.node_model.specs.Serving.{name_for}
 use Rattle.node_model.specs.Carrying.{Done, is_served, on_body}
 use Rattle.serve_laws.specs.Laws.{Follows, IsServed, ServedCallsAreTheKernels, is_found}
 use Rattle.serve_laws.proofs.Follow.{same_living}
-use Rattle.serve_laws.proofs.Effects.{Serves, effect-serves}
+use Rattle.serve_laws.proofs.Effects.{Serves, effect-serves, valid-apart}
 
 same_number : (p q : ℕ) → nat_eq p q ≡ true → p ≡ q
 same_number p q h = grind arith
@@ -81,7 +81,8 @@ module _ (k : Kernel) (pid n : ℕ) (call : Call) (name : Name) (next : Kernel) 
         follows = follows_on k name (on_body name (body_in k name) pid call) e next
             (λ other. ap (λ (j : Kernel). body_in j other) (sym kernels)
             ∙ finished e.kernel pid (living_at e.kernel pid) refl other)
-            (effect-serves k pid n a valid lives call name e served named eff);
+            (effect-serves k pid n a call name e served
+            (λ _. record { lives = lives; apart = valid-apart k pid a valid lives }) named eff);
       }
 
   of_may : (a : Alive) (b : Bool) → living_at k pid ≡ Some a

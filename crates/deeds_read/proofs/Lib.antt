@@ -1,0 +1,4 @@
+pub mod Reading
+pub mod Small
+pub mod Families
+pub mod Within

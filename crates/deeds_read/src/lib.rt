@@ -1,0 +1,2 @@
+//! A deed's body, packed, is read back as it was. Nothing runs here.
+#![tactic(auto)]

@@ -1,0 +1,124 @@
+-- Names that are one or two, and what a map from names has after changes.
+use Rattle.std.proofs.Common.{◌≡◌, ◌≢◌, ◌⊎◌, Bool, true, false, ◌||◌, List, [], ◌∷◌, ◌++◌, Some, refl, ap, sym, subst, ◌∙◌, inl, inr}
+use Rattle.std.specs.List.{list_any}
+use Rattle.std.proofs.lemmas.Bool.{cases_Bool, eq-eqb, eqb-true, false≢true}
+use Rattle.std.proofs.lemmas.List.Sums.{fold-append}
+use Rattle.pico_base.specs.declared.numbers.Name.{Name}
+use Rattle.pico_base.specs.declared.numbers.Name.TheVariants.{Proc, Msg, Sem}
+use Rattle.number_maps.proofs.LookUps.{get-put-same, get-put-other}
+use Rattle.kernel_model.specs.Kernel.{Kernel}
+use Rattle.node_model.specs.Kinds.{Named, is_same_name, get_named, put_named, put_pair, put_all}
+use Rattle.node_model.specs.Bodies.{Deeds, body_in}
+use Rattle.node_model.specs.Serving.{parts_in}
+
+-- ---- names
+
+pub same-name : (a : Name) → is_same_name a a ≡ true
+same-name (Proc n) = eq-eqb n n refl
+same-name (Msg n) = eq-eqb n n refl
+same-name (Sem n) = eq-eqb n n refl
+
+pub same-name-is : (a b : Name) → is_same_name a b ≡ true → a ≡ b
+same-name-is (Proc m) (Proc n) h = ap Proc (eqb-true m n h)
+same-name-is (Msg m) (Msg n) h = ap Msg (eqb-true m n h)
+same-name-is (Sem m) (Sem n) h = ap Sem (eqb-true m n h)
+same-name-is (Proc m) (Msg n) h = absurd (false≢true h)
+same-name-is (Proc m) (Sem n) h = absurd (false≢true h)
+same-name-is (Msg m) (Proc n) h = absurd (false≢true h)
+same-name-is (Msg m) (Sem n) h = absurd (false≢true h)
+same-name-is (Sem m) (Proc n) h = absurd (false≢true h)
+same-name-is (Sem m) (Msg n) h = absurd (false≢true h)
+
+pub other-name-is : (a b : Name) → is_same_name a b ≡ false → b ≢ a
+other-name-is a b h e =
+    false≢true (sym h ∙ subst (λ (c : Name). is_same_name a c ≡ true) (sym e) (same-name a))
+
+pub other-name : (a b : Name) → b ≢ a → is_same_name a b ≡ false
+other-name a b d = by (is_same_name a b) refl
+  where
+    by : (t : Bool) → is_same_name a b ≡ t → is_same_name a b ≡ false
+    by true h = absurd (d (sym (same-name-is a b h)))
+    by false h = h
+
+-- two names are one, or they are two
+pub name-cases : (a b : Name) → (a ≡ b) ⊎ (a ≢ b)
+name-cases a b =
+    elim (cases_Bool (is_same_name b a)) [
+      | inl t ↦ inl (sym (same-name-is b a t))
+      | inr f ↦ inr (other-name-is b a f)
+    ]
+
+-- ---- maps from names
+
+pub get-put-same-name : {V : Type 0} (m : Named V) (a : Name) (v : V) → get_named (put_named m a v) a ≡ Some v
+get-put-same-name m (Proc n) v = get-put-same m.processes n v
+get-put-same-name m (Msg n) v = get-put-same m.queues n v
+get-put-same-name m (Sem n) v = get-put-same m.sets n v
+
+pub get-put-other-name : {V : Type 0} (m : Named V) (a : Name) (v : V) (b : Name) → b ≢ a
+    → get_named (put_named m a v) b ≡ get_named m b
+get-put-other-name m (Proc n) v (Proc q) d = get-put-other m.processes n v q (λ e. d (ap Proc e))
+get-put-other-name m (Msg n) v (Msg q) d = get-put-other m.queues n v q (λ e. d (ap Msg e))
+get-put-other-name m (Sem n) v (Sem q) d = get-put-other m.sets n v q (λ e. d (ap Sem e))
+get-put-other-name m (Proc n) v (Msg q) d = refl
+get-put-other-name m (Proc n) v (Sem q) d = refl
+get-put-other-name m (Msg n) v (Proc q) d = refl
+get-put-other-name m (Msg n) v (Sem q) d = refl
+get-put-other-name m (Sem n) v (Proc q) d = refl
+get-put-other-name m (Sem n) v (Msg q) d = refl
+
+pub put-all-append : {V : Type 0} (m : Named V) (xs ys : List (Name × V))
+    → put_all m (xs ++ ys) ≡ put_all (put_all m xs) ys
+put-all-append m xs ys = fold-append put_pair m xs ys
+
+-- ---- the names that are put with a kernel's bodies
+
+abbrev pub is_among : Name → List Name → Bool
+is_among name names = list_any (is_same_name name) names
+
+among-first : (name x : Name) (xs : List Name) → is_same_name name x ≡ true → is_among name (x ∷ xs) ≡ true
+among-first name x xs h = ap (λ (t : Bool). t || is_among name xs) h
+
+among-later : (name x : Name) (xs : List Name) → is_same_name name x ≡ false
+    → is_among name (x ∷ xs) ≡ is_among name xs
+among-later name x xs h = ap (λ (t : Bool). t || is_among name xs) h
+
+-- a name that isn't put keeps its value
+pub put-parts-kept : (k : Kernel) (names : List Name) (deeds : Deeds) (name : Name) → is_among name names ≡ false
+    → get_named (put_all deeds (parts_in k names)) name ≡ get_named deeds name
+put-parts-kept k [] deeds name h = refl
+put-parts-kept k (x ∷ xs) deeds name h =
+    elim (cases_Bool (is_same_name name x)) [
+      | inl t ↦ absurd (false≢true (sym h ∙ among-first name x xs t))
+      | inr f ↦
+          put-parts-kept k xs (put_named deeds x (body_in k x)) name (sym (among-later name x xs f) ∙ h)
+          ∙ get-put-other-name deeds x (body_in k x) name (λ e. other-name-is name x f (sym e))
+    ]
+
+parts-hold : (k : Kernel) (names : List Name) (deeds : Deeds) (name : Name)
+    → get_named deeds name ≡ Some (body_in k name)
+    → get_named (put_all deeds (parts_in k names)) name ≡ Some (body_in k name)
+parts-hold k [] deeds name h = h
+parts-hold k (x ∷ xs) deeds name h =
+    parts-hold k xs (put_named deeds x (body_in k x)) name
+    (elim (cases_Bool (is_same_name name x)) [
+      | inl t ↦
+          let same : name ≡ x = same-name-is name x t
+          in subst (λ (y : Name). get_named (put_named deeds x (body_in k x)) y ≡ Some (body_in k y)) (sym same)
+          (get-put-same-name deeds x (body_in k x))
+      | inr f ↦ get-put-other-name deeds x (body_in k x) name (λ e. other-name-is name x f (sym e)) ∙ h
+    ])
+
+-- a name that is put has the kernel's body
+pub put-parts : (k : Kernel) (names : List Name) (deeds : Deeds) (name : Name) → is_among name names ≡ true
+    → get_named (put_all deeds (parts_in k names)) name ≡ Some (body_in k name)
+put-parts k [] deeds name h = absurd (false≢true h)
+put-parts k (x ∷ xs) deeds name h =
+    elim (cases_Bool (is_same_name name x)) [
+      | inl t ↦
+          let same : name ≡ x = same-name-is name x t
+          in parts-hold k xs (put_named deeds x (body_in k x)) name
+          (subst (λ (y : Name). get_named (put_named deeds x (body_in k x)) y ≡ Some (body_in k y)) (sym same)
+          (get-put-same-name deeds x (body_in k x)))
+      | inr f ↦ put-parts k xs (put_named deeds x (body_in k x)) name (sym (among-later name x xs f) ∙ h)
+    ]
