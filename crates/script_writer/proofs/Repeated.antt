@@ -1,0 +1,70 @@
+-- Lists in which one line is repeated: what a test or a count of lines comes to.
+use Rattle.std.proofs.Common.{◌≡◌, ℕ, zero, suc, ◌+◌, ◌*◌, ◌≤◌, Bool, true, false, ◌&&◌, ◌||◌, not, List, [], ◌∷◌, ◌++◌, length, replicate, Option, Some, None, refl, sym, ap, ◌∙◌, append_assoc, arith}
+use Rattle.std.specs.Prelude.{sum_by}
+use Rattle.std.specs.List.{flat_map, list_all}
+use Rattle.std.proofs.lemmas.Bool.{and_parts, and_from}
+use Rattle.pico_base.specs.declared.script.Line.{Line}
+use Rattle.kernel_model.specs.Script.{fork_targets, is_exit, is_known, uses_known, begun_in, implied_exit, with_exit, ends_rightly}
+
+-- the blocks that a line forks
+abbrev pub targets : Line → List ℕ
+targets line = fork_targets line.call
+
+pub no_targets : (n : ℕ) (x : Line) (rest : List Line) → targets x ≡ []
+    → flat_map targets (replicate n x ++ rest) ≡ flat_map targets rest
+no_targets zero x rest e = refl
+no_targets (suc n) x rest e = rw e (no_targets n x rest e)
+
+pub all_repeated : (test : Line → Bool) (n : ℕ) (x : Line) (rest : List Line) → test x ≡ true
+    → list_all test rest ≡ true → list_all test (replicate n x ++ rest) ≡ true
+all_repeated test zero x rest e h = h
+all_repeated test (suc n) x rest e h = rw e (all_repeated test n x rest e h)
+
+-- a line that uses what is known and sets nothing
+pub record IsSteady (known : List ℕ) (x : Line) : Type 0 where
+  pub sets : x.set ≡ None
+  pub uses : is_known known x.from ≡ true
+  pub forks : targets x ≡ []
+
+pub uses_repeated : (known : List ℕ) (n : ℕ) (x : Line) (rest : List Line) → IsSteady known x
+    → uses_known known (replicate n x ++ rest) ≡ uses_known known rest
+uses_repeated known zero x rest h = refl
+uses_repeated known (suc n) x rest h = rw (h.uses, h.sets) (uses_repeated known n x rest h)
+
+pub begun_repeated : (known : List ℕ) (n : ℕ) (x : Line) (rest : List Line) → IsSteady known x
+    → begun_in known (replicate n x ++ rest) ≡ begun_in known rest
+begun_repeated known zero x rest h = refl
+begun_repeated known (suc n) x rest h = rw (h.sets, h.forks) (begun_repeated known n x rest h)
+
+-- how often the lines are tried
+abbrev pub tries_in : List Line → ℕ
+tries_in lines = sum_by (λ line. line.tries) lines
+
+pub tries_repeated : (n : ℕ) (x : Line) (rest : List Line) → x.tries ≡ 1
+    → tries_in (replicate n x ++ rest) ≡ n + tries_in rest
+tries_repeated zero x rest e = omega arith
+tries_repeated (suc n) x rest e =
+    let more : tries_in (replicate n x ++ rest) ≡ n + tries_in rest = tries_repeated n x rest e in
+    omega (arith, more, e)
+
+-- lines without exit
+abbrev pub stays : Line → Bool
+stays line = not (is_exit line.call)
+
+pub ends_rightly_without_exit : (lines : List Line) → list_all stays lines ≡ true → ends_rightly lines ≡ true
+ends_rightly_without_exit [] h = refl
+ends_rightly_without_exit (line ∷ lines) h =
+    let p = and_parts (stays line) (list_all stays lines) h in
+    rw p.0 (ends_rightly_without_exit lines p.1)
+
+not_exit : (b : Bool) → not b ≡ true → b ≡ false
+not_exit true h = sym h
+not_exit false h = refl
+
+-- the exit at their end is the implied one
+pub exit_follows : (lines : List Line) → list_all stays lines ≡ true → with_exit lines ≡ lines ++ implied_exit ∷ []
+exit_follows [] h = refl
+exit_follows (line ∷ lines) h =
+    let p = and_parts (stays line) (list_all stays lines) h in
+    let no : is_exit line.call ≡ false = not_exit (is_exit line.call) p.0 in
+    rw no (ap (λ (xs : List Line). line ∷ xs) (exit_follows lines p.1))

@@ -1,0 +1,7 @@
+use Rattle.std.proofs.Common.{◌≡◌, ◌++◌, replicate}
+use Rattle.script_writer.specs.Generated as spec
+use Rattle.script_writer.proofs.generate.push_sends.Given as goal
+
+-- the lines so far
+abbrev pub invariant-loop : goal.invariant-loop
+invariant-loop l = l.lines ≡ l.initial.lines ++ replicate l.index (spec.send l.queue)
