@@ -35,7 +35,7 @@ pub enum Request {
 // N, in its one spelling; 0 without the word.
 #[tactic(auto, unfolding(crate::specs::Words::number_of))]
 fn number_of(word: Option<&str>) -> Option<u32>
-    ensures { result ≡ spec.number_of (option_map (λ s. s.now) word) }
+    ensures { result ≡ spec.number_of (option_map (λ s. s.now) word.entry) }
 {
     match word {
         None => Some(0),
@@ -47,7 +47,7 @@ fn number_of(word: Option<&str>) -> Option<u32>
 }
 
 fn options_of(seed: Option<&str>, steps: bool) -> Option<Options>
-    ensures { result ≡ spec.options_of (option_map (λ s. s.now) seed) steps }
+    ensures { result ≡ spec.options_of (option_map (λ s. s.now) seed.entry) steps }
 {
     let seed = number_of(seed)?;
     Some(Options { seed, steps })
@@ -56,7 +56,7 @@ fn options_of(seed: Option<&str>, steps: bool) -> Option<Options>
 // What the words for MODE and N, and whether `--steps` is there, ask for.
 #[tactic(auto, unfolding(crate::specs::Words::meant))]
 fn meant(seed: Option<&str>, steps: bool, mode: &str) -> Option<Request>
-    ensures { result ≡ spec.meant (option_map (λ s. s.now) seed) steps mode.now }
+    ensures { result ≡ spec.meant (option_map (λ s. s.now) seed.entry) steps mode.now }
 {
     if mode == "sim" {
         let options = options_of(seed, steps)?;
@@ -72,7 +72,7 @@ fn meant(seed: Option<&str>, steps: bool, mode: &str) -> Option<Request>
 }
 
 // The command: MODE, `--seed N` and `--steps`, with no option for help or the version.
-fn command(alloc: Global) -> Result<Command<'static>, Memory>
+fn command<'a>(alloc: Global) -> Result<Command<'a>, Memory>
     ensures { IfOk result (λ command. app_of command ≡ spec.command) }
 {
     let mode = Arg::new(alloc, "mode").required(true);

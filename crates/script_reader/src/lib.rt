@@ -16,6 +16,7 @@ mod words;
 
 pub use fault::{ScriptFault, ScriptStop};
 pub use script::{read_runnable, read_script};
+pub use words::{next_line, next_word};
 
 #[cfg(test)]
 mod tests;

@@ -1,6 +1,6 @@
 //! Lines and words.
 
-ghost use Rattle.std.specs.Prelude.{◌≡◌, ◌<◌, ◌≤◌, ◌==◌, not, position, [], ◌∷◌, IfOk, IfSome, MatchOption, length};
+ghost use Rattle.std.specs.Prelude.{◌≡◌, ◌<◌, ◌≤◌, ◌+◌, ◌==◌, not, drop, position, [], ◌∷◌, IfOk, IfSome, MatchOption, length};
 ghost use Rattle.std.specs.List.{position_or_len};
 ghost use Rattle.script_reader.specs.Words.{lines_of, is_blank as is_blank_of, rest_length, words_of, pieces as pieces_of, texts};
 
@@ -15,10 +15,12 @@ fn line_end(bytes: &[u8]) -> Option<usize>
     bytes.iter().position(|b| *b == b'\n')
 }
 
-/// The first line without its line feed, and what follows it.
-pub(crate) fn next_line(bytes: &[u8]) -> Option<(&[u8], &[u8])>
+/// The first line of a text without its line feed, and what follows that; none where there is no byte. The last line
+/// may lack its line feed.
+pub fn next_line(bytes: &[u8]) -> Option<(&[u8], &[u8])>
     ensures lines { MatchOption result (lines_of bytes.now ≡ [])
         (λ x. lines_of bytes.now ≡ x.0.now ∷ lines_of x.1.now) }
+    ensures behind { IfSome result (λ x. x.1.now ≡ drop (length x.0.now + 1) bytes.now) }
     ensures shorter { IfSome result (λ x. length x.1.now < length bytes.now) }
 {
     match line_end(bytes) {
@@ -96,8 +98,8 @@ fn rest_len(first: u8, bytes: &[u8]) -> usize
     }
 }
 
-/// The first word, and what follows it.
-pub(crate) fn next_word(bytes: &[u8]) -> Option<(&[u8], &[u8])>
+/// The first word of a line, and what follows it; none where there are only blanks.
+pub fn next_word(bytes: &[u8]) -> Option<(&[u8], &[u8])>
     ensures words { MatchOption result (words_of bytes.now ≡ [])
         (λ x. words_of bytes.now ≡ x.0.now ∷ words_of x.1.now) }
     ensures shorter { IfSome result (λ x. length x.1.now < length bytes.now) }

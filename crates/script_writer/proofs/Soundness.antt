@@ -2,7 +2,7 @@
 use Rattle.std.proofs.Common.{◌≡◌, ℕ, zero, suc, ◌+◌, ◌*◌, ◌%◌, ◌≤◌, Bool, true, false, ◌&&◌, ◌||◌, not, cond, ltb, leb, eqb, List, [], ◌∷◌, ◌++◌, map, length, replicate, Option, Some, None, Result, refl, sym, ap, ap₂, ◌∙◌, subst, append_assoc, arith}
 use Rattle.std.specs.Prelude.{nat_eq, nat_lt, nat_le, sum_by, count_by, codes, IfOk}
 use Rattle.std.specs.List.{flat_map, list_all, list_any, enumerate_from}
-use Rattle.std.proofs.lemmas.Bool.{and_parts, and_from, eqb-refl, le-leb}
+use Rattle.std.proofs.lemmas.Bool.{and_parts, and_from, eq-eqb, le-leb}
 use Rattle.std.proofs.lemmas.List.{length-map, append-nil}
 use Rattle.std.proofs.lemmas.List.Folds.{list_all-append, list_all-map}
 use Rattle.std.proofs.lemmas.List.Sums.{sum_by-append}
@@ -130,7 +130,7 @@ module _ (m : ℕ) where
 
   steady_send : (q : ℕ) (known : List ℕ) → IsSteady (q ∷ known) (send q)
   steady_send q known =
-      let same : eqb q q ≡ true = eqb-refl q in
+      let same : eqb q q ≡ true = eq-eqb q q refl in
       record { sets = refl; uses = rw same refl; forks = refl }
 
   main_uses : (known : List ℕ) (ks : List ℕ) → uses_known known (flat_map (lines_for m) ks) ≡ true

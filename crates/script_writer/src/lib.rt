@@ -1,9 +1,9 @@
 //! Writes scripts: generated ones, and a script's text.
 #![tactic(auto)]
 
-mod generate;
+mod generator;
 
-pub use generate::generate;
+pub use generator::generate;
 
 #[cfg(test)]
 mod tests;

@@ -1,6 +1,6 @@
 use Rattle.std.proofs.Common.{◌≡◌, ◌++◌, replicate}
 use Rattle.script_writer.specs.Generated as spec
-use Rattle.script_writer.proofs.generate.push_receives.Given as goal
+use Rattle.script_writer.proofs.generator.push_receives.Given as goal
 
 -- the lines so far
 abbrev pub invariant-loop : goal.invariant-loop

@@ -1,6 +1,6 @@
 use Rattle.std.proofs.Common.{◌≡◌, ◌∷◌, map}
 use Rattle.script_writer.specs.Generated as spec
-use Rattle.script_writer.proofs.generate.script_with.Given as goal
+use Rattle.script_writer.proofs.generator.script_with.Given as goal
 
 -- the blocks so far
 abbrev pub invariant-loop-before : goal.invariant-loop-before

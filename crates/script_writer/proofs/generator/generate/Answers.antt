@@ -1,0 +1,5 @@
+use Rattle.script_writer.proofs.Soundness.{given_runnable}
+use Rattle.script_writer.proofs.generator.generate.Goals as goal
+
+pub returns-clause-runnable : goal.returns-clause-runnable
+returns-clause-runnable c = given_runnable c.args.number c.script_with.result c.script_with.ensures
