@@ -91,7 +91,7 @@ fn entry(alloc: Global, script: &Script, bytes: &[u8]) -> Result<Option<Entry>, 
 }
 
 /// Whether the printed line is this one and a line feed.
-pub(crate) fn is_line(printed: &[u8], line: &[u8]) -> bool
+pub fn is_line(printed: &[u8], line: &[u8]) -> bool
     ensures { result ≡ reading.is_line printed.now line.now }
 {
     match strip_front(printed, line) {
@@ -100,11 +100,10 @@ pub(crate) fn is_line(printed: &[u8], line: &[u8]) -> bool
     }
 }
 
-/// The entry whose text the line is, without its line feed. The line is printed again into `scratch`, so that it is
-/// read
-/// exactly where the trace text prints it.
+/// The entry whose text the line is, without its line feed; none where it is no line of a trace of this script. The
+/// line is printed again into `scratch`, so that it is read exactly where the trace text prints it.
 #[tactic(auto, unfolding(crate::specs::Reading::entry_in))]
-pub(crate) fn entry_in(
+pub fn entry_in(
     alloc: Global,
     script: &Script,
     line: &[u8],

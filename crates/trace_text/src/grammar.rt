@@ -139,8 +139,8 @@ fn are_long(values: &[u32]) -> bool
     has_some(values.len()) && all_are_long(values)
 }
 
-/// Whether the call's arguments are in their ranges.
-fn is_call(script: &Script, call: &Call) -> bool
+/// Whether the call's arguments are in the ranges of a trace's line.
+pub fn is_call(script: &Script, call: &Call) -> bool
     ensures { result ≡ grammar.is_call script.now call.now }
 {
     match call {
@@ -194,8 +194,8 @@ fn is_ending(ending: Ending) -> bool
     }
 }
 
-/// Whether the reply's numbers are in their ranges.
-fn is_reply(reply: &Reply) -> bool
+/// Whether the reply's numbers are in the ranges of a trace's line.
+pub fn is_reply(reply: &Reply) -> bool
     ensures { result ≡ grammar.is_reply reply.now }
 {
     match reply {

@@ -12,9 +12,14 @@ mod steps;
 mod text;
 mod verbs;
 
+pub use entries::{entry_in, is_line};
 pub use fault::CheckFault;
-pub use print::{write_totals, write_trace};
-pub use read::read_trace;
+pub use grammar::{is_call, is_reply};
+pub use print::{
+    push_call, push_entries_total, push_not_ready_total, push_processes_total, push_refused_total,
+    push_reply, write_totals, write_trace,
+};
+pub use read::{MAX_TRACE, begins_like_totals, fits, next_line, read_trace};
 pub use steps::write_steps;
 pub use text::{push, push_byte, push_number};
 

@@ -444,8 +444,8 @@ fn push_sigprocmask(alloc: Global, out: &mut Vec<u8>, how: How, set: SigSet) -> 
     push_set(alloc, out, set)
 }
 
-// A call as a script would have it, with actual numbers.
-fn push_call(alloc: Global, out: &mut Vec<u8>, script: &Script, call: &Call) -> Result<(), Memory>
+/// Adds a call as a script would have it, with actual numbers.
+pub fn push_call(alloc: Global, out: &mut Vec<u8>, script: &Script, call: &Call) -> Result<(), Memory>
     ensures { OnOk result (out.new.items ≡ out.old.items ++ trace.call_text script.now call.now) }
 {
     match call {
@@ -516,7 +516,8 @@ fn push_all(out: &mut Vec<u8>, values: &[u32]) -> Result<(), Memory>
     push_values(out, values)
 }
 
-fn push_reply(alloc: Global, out: &mut Vec<u8>, reply: &Reply) -> Result<(), Memory>
+/// Adds a reply as a trace has it.
+pub fn push_reply(alloc: Global, out: &mut Vec<u8>, reply: &Reply) -> Result<(), Memory>
     ensures { OnOk result (out.new.items ≡ out.old.items ++ trace.reply_text reply.now) }
 {
     match reply {
@@ -712,29 +713,33 @@ fn tally_of(journal: &[Entry]) -> Result<Tally, Memory>
     })
 }
 
+/// Adds the first part of the totals: the entries.
 #[tactic(auto, unfolding(kernel_model::specs::Trace::entries_total))]
-fn push_entries_total(out: &mut Vec<u8>, count: u64) -> Result<(), Memory>
+pub fn push_entries_total(out: &mut Vec<u8>, count: u64) -> Result<(), Memory>
     ensures { OnOk result (out.new.items ≡ out.old.items ++ trace.entries_total count) }
 {
     push_labelled(out, b"totals entries ", count)
 }
 
+/// Adds the second part of the totals: the processes.
 #[tactic(auto, unfolding(kernel_model::specs::Trace::processes_total))]
-fn push_processes_total(out: &mut Vec<u8>, count: u64) -> Result<(), Memory>
+pub fn push_processes_total(out: &mut Vec<u8>, count: u64) -> Result<(), Memory>
     ensures { OnOk result (out.new.items ≡ out.old.items ++ trace.processes_total count) }
 {
     push_labelled(out, b" processes ", count)
 }
 
+/// Adds the third part of the totals: the replies that nothing was ready.
 #[tactic(auto, unfolding(kernel_model::specs::Trace::not_ready_total))]
-fn push_not_ready_total(out: &mut Vec<u8>, count: u64) -> Result<(), Memory>
+pub fn push_not_ready_total(out: &mut Vec<u8>, count: u64) -> Result<(), Memory>
     ensures { OnOk result (out.new.items ≡ out.old.items ++ trace.not_ready_total count) }
 {
     push_labelled(out, b" notready ", count)
 }
 
+/// Adds the last part of the totals: the other refusals.
 #[tactic(auto, unfolding(kernel_model::specs::Trace::refused_total))]
-fn push_refused_total(out: &mut Vec<u8>, count: u64) -> Result<(), Memory>
+pub fn push_refused_total(out: &mut Vec<u8>, count: u64) -> Result<(), Memory>
     ensures { OnOk result (out.new.items ≡ out.old.items ++ trace.refused_total count) }
 {
     push_labelled(out, b" refused ", count)

@@ -13,7 +13,7 @@ use pico_base::{Entries, Entry, Memory, Script};
 use std::alloc::Global;
 
 /// The most bytes of a trace.
-const MAX_TRACE: usize = 67_108_864;
+pub const MAX_TRACE: usize = 67_108_864;
 
 /// The most bytes of a line, without its line feed.
 const MAX_LINE: usize = 65_536;
@@ -25,8 +25,8 @@ fn line_end(bytes: &[u8]) -> Option<usize>
     bytes.iter().position(|b| *b == b'\n')
 }
 
-/// The first line without its line feed, and what follows that.
-fn next_line(bytes: &[u8]) -> Option<(&[u8], &[u8])>
+/// The first line without its line feed, and what follows that; none where no line feed comes any more.
+pub fn next_line(bytes: &[u8]) -> Option<(&[u8], &[u8])>
     ensures { option_map (λ x. (x.0.now, x.1.now)) result ≡ spec.next_line bytes.now }
 {
     let at = line_end(bytes)?;
@@ -34,14 +34,14 @@ fn next_line(bytes: &[u8]) -> Option<(&[u8], &[u8])>
 }
 
 /// Whether a line with its line feed is within its limit, and within what is left of the trace's.
-fn fits(left: usize, line: &[u8]) -> bool
+pub fn fits(left: usize, line: &[u8]) -> bool
     ensures { result ≡ spec.fits left line.now }
 {
     line.len() <= MAX_LINE && line.len() < left
 }
 
 /// Whether the line begins as the totals do.
-fn begins_like_totals(line: &[u8]) -> bool
+pub fn begins_like_totals(line: &[u8]) -> bool
     ensures { result ≡ spec.begins_like_totals line.now }
 {
     match line {
@@ -105,8 +105,7 @@ pub(crate) fn read(
 
 /// The entries of the history whose text these bytes are: lines in the grammar of a trace, each of at most 65,536 bytes
 /// without its line feed, and the totals, in at most 67,108,864 bytes. `NotATrace` comes exactly where they are none,
-/// with
-/// the line at which the first fault stands, counted from `first_line`.
+/// with the line at which the first fault stands, counted from `first_line`.
 pub fn read_trace(
     alloc: Global,
     script: &Script,

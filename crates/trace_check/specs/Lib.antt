@@ -1,0 +1,4 @@
+pub mod FirstFault
+pub mod Refusal
+pub mod Tally
+pub mod Cursors

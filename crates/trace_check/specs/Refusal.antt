@@ -1,0 +1,44 @@
+-- The line that says why a trace isn't legal.
+use Rattle.std.specs.Prelude.{ℕ, List, [], ◌∷◌, ◌++◌, codes, Option, Some, None}
+use Rattle.std.specs.Fmt.{decimal}
+use Rattle.pico_base.specs.declared.call.Call.{Call}
+use Rattle.pico_base.specs.declared.reply.Reply.{Reply}
+use Rattle.pico_base.specs.declared.script.Script.{Script}
+use Rattle.kernel_model.specs.Trace.{call_text, reply_text}
+use Rattle.trace_text.specs.declared.fault.CheckFault.{CheckFault}
+use Rattle.trace_text.specs.declared.fault.CheckFault.TheVariants.{Memory, NotATrace, Illegal, NotTheScript}
+
+-- a call, or a word where there is none
+abbrev pub call_or : Script → List ℕ → Option Call → List ℕ
+call_or script word None = word
+call_or script word (Some call) = call_text script call
+
+-- the kernel's reply, or `none` where it has no transition
+abbrev pub reply_or_none : Option Reply → List ℕ
+reply_or_none None = codes "none"
+reply_or_none (Some reply) = reply_text reply
+
+unfoldable pub not_legal : ℕ → List ℕ
+not_legal line = codes "not legal: line " ++ decimal line ++ codes ": "
+
+-- what the lines are of: want of memory is no refusal
+abbrev pub IsRefusal : CheckFault → Type 0
+IsRefusal Memory = ⊥
+IsRefusal _ = Unit {0}
+
+-- which call was due, and which was found
+abbrev pub calls_text : Script → Option Call → Option Call → List ℕ
+calls_text script due found =
+    codes "due " ++ call_or script (codes "nothing") due ++ codes " found " ++ call_or script (codes "totals") found
+    ++ 10 ∷ []
+
+-- what the kernel replies, and what the trace has
+abbrev pub replies_text : Option Reply → Reply → List ℕ
+replies_text kernel trace =
+    codes "kernel " ++ reply_or_none kernel ++ codes " trace " ++ reply_text trace ++ 10 ∷ []
+
+abbrev pub refusal_text : Script → CheckFault → List ℕ
+refusal_text script Memory = []
+refusal_text script (NotATrace line) = not_legal line ++ codes "not a trace\n"
+refusal_text script (NotTheScript line due found) = not_legal line ++ calls_text script due found
+refusal_text script (Illegal line kernel trace) = not_legal line ++ replies_text kernel trace
