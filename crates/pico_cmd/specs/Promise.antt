@@ -155,9 +155,9 @@ Cause (Generate options) bytes s = CauseOfGen s
 
 -- each cause of a status for what the words ask for and the bytes that the source tells, and what follows from it
 abbrev pub EachCause : Option Request → Option (List ℕ) → (Status → Type 0) → Type 0
-EachCause None left then = Unit {0}
-EachCause (Some (Generate options)) left then = (s : Status) → CauseOfGen s → then s
-EachCause (Some request) left then = IfSome left (λ bytes. (s : Status) → Cause request bytes s → then s)
+EachCause None left follows = Unit {0}
+EachCause (Some (Generate options)) left follows = (s : Status) → CauseOfGen s → follows s
+EachCause (Some request) left follows = IfSome left (λ bytes. (s : Status) → Cause request bytes s → follows s)
 
 -- ---- what is written
 

@@ -4,9 +4,9 @@ ghost use Rattle.std.specs.Prelude.{◌≡◌, ◌≤◌, ◌+◌, ◌++◌, ◌
 ghost use Rattle.machine_model.specs.Built.{IsRunnable};
 ghost use Rattle.script_writer.specs.Generated as spec;
 
+use itoa::Buffer;
 use pico_base::{Block, Blocks, Bytes, Call, Id, Line, Lines, Memory, Node, Script, Var};
 use std::alloc::Global;
-use trace_text::push_number;
 
 // The variable whose queue is main's.
 const MAIN_QUEUE: Var = Var(111 * 18);
@@ -150,7 +150,7 @@ fn worker_name(alloc: Global, k: u8) -> Result<Bytes, Memory>
 {
     let mut name = Vec::new(alloc);
     name.push(b'w')?;
-    push_number(&mut name, u64::from(k))?;
+    name.extend_from_slice(Buffer::new().format(k).as_bytes())?;
     Ok(Bytes::from_vec(name))
 }
 
