@@ -3,8 +3,12 @@ use Rattle.std.proofs.Common.{◌≡◌, ℕ, zero, suc, ◌+◌, ◌*◌, ◌�
 use Rattle.std.specs.Prelude.{sum_by}
 use Rattle.std.specs.List.{flat_map, list_all}
 use Rattle.std.proofs.lemmas.Bool.{and_parts, and_from}
+use Rattle.std.proofs.lemmas.List.Sums.{sum_by-append}
+use Rattle.std.proofs.lemmas.List.Folds.{sum_by-replicate}
+use Rattle.pico_base.specs.declared.call.Call.{Call}
 use Rattle.pico_base.specs.declared.script.Line.{Line}
 use Rattle.kernel_model.specs.Script.{fork_targets, is_exit, is_known, uses_known, begun_in, implied_exit, with_exit, ends_rightly}
+use Rattle.script_writer.specs.Generated.{line}
 
 -- the blocks that a line forks
 abbrev pub targets : Line → List ℕ
@@ -20,32 +24,36 @@ pub all_repeated : (test : Line → Bool) (n : ℕ) (x : Line) (rest : List Line
 all_repeated test zero x rest e h = h
 all_repeated test (suc n) x rest e h = rw e (all_repeated test n x rest e h)
 
--- a line that uses what is known and sets nothing
-pub record IsSteady (known : List ℕ) (x : Line) : Type 0 where
-  pub sets : x.set ≡ None
-  pub uses : is_known known x.from ≡ true
-  pub forks : targets x ≡ []
+-- a call that names what is known and forks nothing
+pub record IsSteady (known : List ℕ) (from : Option ℕ) (call : Call) : Type 0 where
+  pub uses : is_known known from ≡ true
+  pub forks : fork_targets call ≡ []
 
-pub uses_repeated : (known : List ℕ) (n : ℕ) (x : Line) (rest : List Line) → IsSteady known x
-    → uses_known known (replicate n x ++ rest) ≡ uses_known known rest
-uses_repeated known zero x rest h = refl
-uses_repeated known (suc n) x rest h = rw (h.uses, h.sets) (uses_repeated known n x rest h)
+pub uses_repeated : (known : List ℕ) (n : ℕ) (from : Option ℕ) (call : Call) (rest : List Line)
+    → IsSteady known from call
+    → uses_known known (replicate n (line None from call) ++ rest) ≡ uses_known known rest
+uses_repeated known zero from call rest h = refl
+uses_repeated known (suc n) from call rest h = rw h.uses (uses_repeated known n from call rest h)
 
-pub begun_repeated : (known : List ℕ) (n : ℕ) (x : Line) (rest : List Line) → IsSteady known x
-    → begun_in known (replicate n x ++ rest) ≡ begun_in known rest
-begun_repeated known zero x rest h = refl
-begun_repeated known (suc n) x rest h = rw (h.sets, h.forks) (begun_repeated known n x rest h)
+pub begun_repeated : (known : List ℕ) (n : ℕ) (from : Option ℕ) (call : Call) (rest : List Line)
+    → IsSteady known from call
+    → begun_in known (replicate n (line None from call) ++ rest) ≡ begun_in known rest
+begun_repeated known zero from call rest h = refl
+begun_repeated known (suc n) from call rest h = rw h.forks (begun_repeated known n from call rest h)
 
 -- how often the lines are tried
 abbrev pub tries_in : List Line → ℕ
-tries_in lines = sum_by (λ line. line.tries) lines
+tries_in lines = sum_by (λ (x : Line). x.tries) lines
 
 pub tries_repeated : (n : ℕ) (x : Line) (rest : List Line) → x.tries ≡ 1
     → tries_in (replicate n x ++ rest) ≡ n + tries_in rest
-tries_repeated zero x rest e = omega arith
-tries_repeated (suc n) x rest e =
-    let more : tries_in (replicate n x ++ rest) ≡ n + tries_in rest = tries_repeated n x rest e in
-    omega (arith, more, e)
+tries_repeated n x rest e =
+    let f : Line → ℕ = λ (y : Line). y.tries in
+    let both : sum_by f (replicate n x ++ rest) ≡ sum_by f (replicate n x) + sum_by f rest =
+    sum_by-append f (replicate n x) rest in
+    let same : sum_by f (replicate n x) ≡ n * 1 = sum_by-replicate f n x ∙ ap (λ (k : ℕ). n * k) e in
+    let one : n * 1 ≡ n = omega arith in
+    both ∙ ap (λ (k : ℕ). k + sum_by f rest) (same ∙ one)
 
 -- lines without exit
 abbrev pub stays : Line → Bool

@@ -1,11 +1,14 @@
 -- A generated script is sound, and today's machine can run it.
 use Rattle.std.proofs.Common.{◌≡◌, ℕ, zero, suc, ◌+◌, ◌*◌, ◌%◌, ◌≤◌, Bool, true, false, ◌&&◌, ◌||◌, not, cond, ltb, leb, eqb, List, [], ◌∷◌, ◌++◌, map, length, replicate, Option, Some, None, Result, refl, sym, ap, ap₂, ◌∙◌, subst, append_assoc, arith}
-use Rattle.std.specs.Prelude.{nat_eq, nat_lt, nat_le, sum_by, count_by, codes, IfOk}
+use Rattle.std.specs.Prelude.{nat_eq, nat_lt, nat_le, sum_by, count_by, codes, pos, IfOk}
 use Rattle.std.specs.List.{flat_map, list_all, list_any, enumerate_from}
 use Rattle.std.proofs.lemmas.Bool.{and_parts, and_from, eq-eqb, le-leb}
 use Rattle.std.proofs.lemmas.List.{length-map, append-nil}
 use Rattle.std.proofs.lemmas.List.Folds.{list_all-append, list_all-map}
-use Rattle.std.proofs.lemmas.List.Sums.{sum_by-append}
+use Rattle.std.specs.Fmt.{digits}
+use Rattle.std.proofs.lemmas.List.Sums.{sum_by-append, sum_by-cons}
+use Rattle.pico_base.specs.declared.call.Call.{Call}
+use Rattle.pico_base.specs.declared.call.Call.TheVariants as calls
 use Rattle.std.proofs.lemmas.Grind.{flat_map-append}
 use Rattle.std.proofs.lemmas.Result.{IfOk-weaker}
 use Rattle.pico_base.specs.declared.script.Line.{Line}
@@ -128,10 +131,16 @@ module _ (m : ℕ) where
 
   -- ---- variables
 
-  steady_send : (q : ℕ) (known : List ℕ) → IsSteady (q ∷ known) (send q)
+  abbrev sending : Call
+  sending = calls.MsgSnd 0 (pos 1) (codes "x") true
+
+  abbrev receiving : Call
+  receiving = calls.MsgRcv 0 (pos 0) 8 false true
+
+  steady_send : (q : ℕ) (known : List ℕ) → IsSteady (q ∷ known) (Some q) sending
   steady_send q known =
       let same : eqb q q ≡ true = eq-eqb q q refl in
-      record { sets = refl; uses = rw same refl; forks = refl }
+      record { uses = rw same refl; forks = refl }
 
   main_uses : (known : List ℕ) (ks : List ℕ) → uses_known known (flat_map (lines_for m) ks) ≡ true
   main_uses known [] = refl
@@ -139,7 +148,7 @@ module _ (m : ℕ) where
       let q : ℕ = worker_queue k in
       let rest : List Line = flat_map (lines_for m) ks in
       ap (uses_known (q ∷ known)) (append_assoc (replicate m (send q)) (fork k ∷ []) rest)
-      ∙ uses_repeated (q ∷ known) m (send q) (fork k ∷ rest) (steady_send q known)
+      ∙ uses_repeated (q ∷ known) m (Some q) sending (fork k ∷ rest) (steady_send q known)
       ∙ main_uses (q ∷ known) ks
 
   -- each worker begins with its queue and all that was known before
@@ -153,7 +162,7 @@ module _ (m : ℕ) where
       let q : ℕ = worker_queue k in
       let rest : List Line = flat_map (lines_for m) ks in
       ap (begun_in (q ∷ known)) (append_assoc (replicate m (send q)) (fork k ∷ []) rest)
-      ∙ begun_repeated (q ∷ known) m (send q) (fork k ∷ rest) (steady_send q known)
+      ∙ begun_repeated (q ∷ known) m (Some q) sending (fork k ∷ rest) (steady_send q known)
       ∙ ap (λ (b : List (ℕ × List ℕ)). (k + 1, q ∷ known) ∷ b) (main_begins (q ∷ known) ks)
 
   -- the worker of a block with this number knows its queue and main's
@@ -169,11 +178,11 @@ module _ (m : ℕ) where
       let q : ℕ = worker_queue k in
       let p = and_parts (knows begun (i, k)) (list_all (knows begun) (enumerate_from (i + 1) ks)) h in
       let a = and_parts (is_known known (Some q)) (is_known known (Some main_queue)) p.0 in
-      let steady : IsSteady known (receive q) = record { sets = refl; uses = a.0; forks = refl } in
+      let steady : IsSteady known (Some q) receiving = record { uses = a.0; forks = refl } in
       let uses : uses_known known (spec.worker_lines m k) ≡ true =
-      uses_repeated known m (receive q) (send main_queue ∷ []) steady ∙ and_from _ _ a.1 refl in
+      uses_repeated known m (Some q) receiving (send main_queue ∷ []) steady ∙ and_from _ _ a.1 refl in
       let none : begun_in known (spec.worker_lines m k) ≡ [] =
-      begun_repeated known m (receive q) (send main_queue ∷ []) steady in
+      begun_repeated known m (Some q) receiving (send main_queue ∷ []) steady in
       let same : begun ++ begun_in known (spec.worker_lines m k) ≡ begun =
       ap (λ (b : List (ℕ × List ℕ)). begun ++ b) none ∙ append-nil begun in
       and_from _ _ uses
@@ -191,44 +200,62 @@ module _ (m : ℕ) where
 
   -- ---- counts of calls
 
+  abbrev tries : Line → ℕ
+  tries x = x.tries
+
   calls_without_exit : (b : Block) → list_all stays b.lines ≡ true → calls_in b ≡ tries_in b.lines + 1
   calls_without_exit b h =
-      ap tries_in (exit_follows b.lines h) ∙ sum_by-append (λ (line : Line). line.tries) b.lines _
+      ap tries_in (exit_follows b.lines h) ∙ sum_by-append tries b.lines _
+
+  few_more : (all first rest sent n : ℕ) → all ≡ first + rest → first ≡ 1 + sent → sent ≡ m + 1 → rest ≤ 302 * n
+      → m ≤ 300 → all ≤ 302 * suc n
+  few_more all first rest sent n a b c d few = omega arith
 
   main_tries : m ≤ 300 → (ks : List ℕ) → tries_in (flat_map (lines_for m) ks) ≤ 302 * length ks
   main_tries few [] = omega arith
   main_tries few (k ∷ ks) =
       let q : ℕ = worker_queue k in
       let rest : List Line = flat_map (lines_for m) ks in
-      let here : tries_in (lines_for m k) ≡ 1 + (m + 1) =
-      ap (λ n. 1 + n) (tries_repeated m (send q) (fork k ∷ []) refl) in
-      let both : tries_in (lines_for m k ++ rest) ≡ tries_in (lines_for m k) + tries_in rest =
-      sum_by-append (λ (line : Line). line.tries) (lines_for m k) rest in
+      let sent : tries_in (replicate m (send q) ++ fork k ∷ []) ≡ m + 1 = tries_repeated m (send q) (fork k ∷ []) refl in
+      let here : tries_in (lines_for m k) ≡ 1 + tries_in (replicate m (send q) ++ fork k ∷ []) =
+      sum_by-cons tries (make q) (replicate m (send q) ++ fork k ∷ []) in
+      let both : tries_in (flat_map (lines_for m) (k ∷ ks)) ≡ tries_in (lines_for m k) + tries_in rest =
+      sum_by-append tries (lines_for m k) rest in
       let more : tries_in rest ≤ 302 * length ks = main_tries few ks in
-      omega (arith, here, both, more, few)
+      let count : length (k ∷ ks) ≡ suc (length ks) = refl in
+      few_more (tries_in (flat_map (lines_for m) (k ∷ ks))) (tries_in (lines_for m k)) (tries_in rest)
+      (tries_in (replicate m (send q) ++ fork k ∷ [])) (length ks) both here sent more few
 
   worker_calls : m ≤ 300 → (ks : List ℕ) → list_all (λ (b : Block). list_all stays b.lines) (map (worker m) ks) ≡ true
       → sum_by calls_in (map (worker m) ks) ≤ 302 * length ks
   worker_calls few [] h = omega arith
   worker_calls few (k ∷ ks) h =
       let p = and_parts (list_all stays (spec.worker_lines m k)) _ h in
-      let tries : tries_in (spec.worker_lines m k) ≡ m + 1 =
+      let sent : tries_in (spec.worker_lines m k) ≡ m + 1 =
       tries_repeated m (receive (worker_queue k)) (send main_queue ∷ []) refl in
       let here : calls_in (worker m k) ≡ tries_in (spec.worker_lines m k) + 1 = calls_without_exit (worker m k) p.0 in
-      let more : sum_by calls_in (map (worker m) ks) ≤ 302 * length ks = worker_calls few ks p.1 in
-      omega (arith, tries, here, more, few)
+      let turned : calls_in (worker m k) ≡ 1 + tries_in (spec.worker_lines m k) = omega (arith, here) in
+      let both : sum_by calls_in (map (worker m) (k ∷ ks)) ≡ calls_in (worker m k) + sum_by calls_in (map (worker m) ks) =
+      sum_by-cons calls_in (worker m k) (map (worker m) ks) in
+      few_more (sum_by calls_in (map (worker m) (k ∷ ks))) (calls_in (worker m k)) (sum_by calls_in (map (worker m) ks))
+      (tries_in (spec.worker_lines m k)) (length ks) both turned sent (worker_calls few ks p.1) few
+
+  calls_within : (all first rest lines most w n : ℕ) → all ≡ first + rest → first ≡ lines + 1 → lines ≡ 1 + most
+      → most ≤ 302 * n → rest ≤ 302 * n → n ≡ w → w ≤ 31 → all ≤ 20000
+  calls_within all first rest lines most w n a b c d e f small = omega arith
 
   few_calls : (w : ℕ) → m ≤ 300 → w ≤ 31
       → list_all (λ (b : Block). list_all stays b.lines) (script_with m w).blocks ≡ true
       → sum_by calls_in (script_with m w).blocks ≤ 20000
   few_calls w few small h =
       let p = and_parts (list_all stays (spec.main_lines m w)) _ h in
-      let size : length (upto w) ≡ w = length-upto w in
-      let here : calls_in (spec.main m w) ≡ tries_in (spec.main_lines m w) + 1 =
-      calls_without_exit (spec.main m w) p.0 in
-      let tries : tries_in (flat_map (lines_for m) (upto w)) ≤ 302 * length (upto w) = main_tries few (upto w) in
-      let more : sum_by calls_in (map (worker m) (upto w)) ≤ 302 * length (upto w) = worker_calls few (upto w) p.1 in
-      omega (arith, size, here, tries, more, small)
+      let first : Block = spec.main m w in
+      let others : List Block = map (worker m) (upto w) in
+      calls_within (sum_by calls_in (first ∷ others)) (calls_in first) (sum_by calls_in others)
+      (tries_in (spec.main_lines m w)) (tries_in (flat_map (lines_for m) (upto w))) w (length (upto w))
+      (sum_by-cons calls_in first others) (calls_without_exit first p.0)
+      (sum_by-cons tries (make main_queue) (flat_map (lines_for m) (upto w)))
+      (main_tries few (upto w)) (worker_calls few (upto w) p.1) (length-upto w) small
 
   -- ---- the machine has a rule for each line
 
@@ -260,6 +287,7 @@ module _ (m : ℕ) where
   does_not_wait line = not (is_waiting line.call)
 
   sound_table : list_all is_sound_for (upto 31) ≡ true
+  unfolding digits
   sound_table = refl
 
   line_table : list_all (lines_pass is_line) (upto 31) ≡ true
