@@ -1,7 +1,7 @@
 -- Going over lines up to the first line `trace`.
 use Rattle.std.proofs.Common.{◌≡◌, ℕ, zero, suc, ◌+◌, ◌-◌, ◌<◌, ◌≤◌, Bool, true, false, List, [], ◌∷◌, length, take, drop, Option, Some, None, refl, sym, ap, ◌∙◌, subst, arith}
 use Rattle.std.specs.Prelude.{option_map, sum_by}
-use Rattle.std.proofs.lemmas.List.Sums.{sum_by-take-drop}
+use Rattle.std.proofs.lemmas.List.Sums.{sum_by-cons, sum_by-take-drop}
 use Rattle.script_reader.specs.Words.{lines_of}
 use Rattle.check_input.specs.Parts.{is_marker, place_in, marker_place, size_of, first_length, script_of, trace_of, first_line_of, marker_length}
 
@@ -34,16 +34,17 @@ size_more k bytes line lines e =
     let one : sum_by f (take k all) + sum_by f (drop k all) ≡ sum_by f all = sum_by-take-drop f all k in
     let two : sum_by f (take (k + 1) all) + sum_by f (drop (k + 1) all) ≡ sum_by f all =
     sum_by-take-drop f all (k + 1) in
-    let here : sum_by f (drop k all) ≡ (length line + 1) + sum_by f lines = ap (sum_by f) (sym e) in
+    let here : sum_by f (drop k all) ≡ (length line + 1) + sum_by f lines =
+    ap (sum_by f) (sym e) ∙ sum_by-cons f line lines in
     let behind : sum_by f (drop (k + 1) all) ≡ sum_by f lines = ap (sum_by f) (drop_behind k all line lines e) in
     omega (arith, one, two, here, behind)
 
 
 -- behind so many lines and bytes, none of the lines the line `trace`
 pub record IsAt (bytes : List ℕ) (before size : ℕ) (rest : List ℕ) : Type 0 where
-  pub size : size ≡ size_of before bytes
-  pub rest : rest ≡ drop size bytes
-  pub lines : lines_of rest ≡ drop before (lines_of bytes)
+  pub size_is : size ≡ size_of before bytes
+  pub rest_is : rest ≡ drop size bytes
+  pub lines_left : lines_of rest ≡ drop before (lines_of bytes)
   pub place : marker_place bytes ≡ option_map (λ j. before + j) (place_in (lines_of rest))
   pub count : before + length (lines_of rest) ≡ length (lines_of bytes)
   pub few : before + length rest ≤ length bytes
@@ -57,9 +58,9 @@ from_zero (Some k) =
 pub at_start : (bytes : List ℕ) → IsAt bytes 0 0 bytes
 unfolding size_of marker_place
 at_start bytes = record {
-  size = refl;
-  rest = refl;
-  lines = refl;
+  size_is = refl;
+  rest_is = refl;
+  lines_left = refl;
   place = from_zero (place_in (lines_of bytes));
   count = omega arith;
   few = omega arith;
@@ -76,13 +77,13 @@ module _ (bytes : List ℕ) (before size : ℕ) (rest line after : List ℕ) (h 
     (lines : lines_of rest ≡ line ∷ lines_of after) (behind : after ≡ drop (length line + 1) rest) where
 
   here : line ∷ lines_of after ≡ drop before (lines_of bytes)
-  here = sym lines ∙ h.lines
+  here = sym lines ∙ h.lines_left
 
   next_size : size_of (before + 1) bytes ≡ size + (length line + 1)
-  next_size = size_more before bytes line (lines_of after) here ∙ ap (λ (n : ℕ). n + (length line + 1)) (sym h.size)
+  next_size = size_more before bytes line (lines_of after) here ∙ ap (λ (n : ℕ). n + (length line + 1)) (sym h.size_is)
 
   next_rest : after ≡ drop (size + (length line + 1)) bytes
-  next_rest = behind ∙ ap (drop (length line + 1)) h.rest ∙ drop_sum size (length line + 1) bytes
+  next_rest = behind ∙ ap (drop (length line + 1)) h.rest_is ∙ drop_sum size (length line + 1) bytes
 
   -- behind one line more
   pub at_next : length after < length rest → is_marker line ≡ false
@@ -94,9 +95,9 @@ module _ (bytes : List ℕ) (before size : ℕ) (rest line after : List ℕ) (h 
       let count : before + length (lines_of rest) ≡ length (lines_of bytes) = h.count in
       let few : before + length rest ≤ length bytes = h.few in
       record {
-        size = sym next_size;
-        rest = next_rest;
-        lines = sym (drop_behind before (lines_of bytes) line (lines_of after) here);
+        size_is = sym next_size;
+        rest_is = next_rest;
+        lines_left = sym (drop_behind before (lines_of bytes) line (lines_of after) here);
         place =
             h.place ∙ ap (λ (o : Option ℕ). option_map (λ j. before + j) o) place
             ∙ one_more before (place_in (lines_of after));
@@ -112,7 +113,7 @@ module _ (bytes : List ℕ) (before size : ℕ) (rest line after : List ℕ) (h 
       h.place ∙ ap (λ (o : Option ℕ). option_map (λ j. before + j) o) place ∙ ap (λ (n : ℕ). Some n) e
 
   pub marked_script : is_marker line ≡ true → take size bytes ≡ script_of bytes
-  marked_script yes = rw (at_marker yes) (ap (λ (n : ℕ). take n bytes) h.size)
+  marked_script yes = rw (at_marker yes) (ap (λ (n : ℕ). take n bytes) h.size_is)
 
   pub marked_trace : is_marker line ≡ true → after ≡ trace_of bytes
   marked_trace yes = rw (at_marker yes) (next_rest ∙ ap (λ (n : ℕ). drop n bytes) (sym next_size))

@@ -54,13 +54,13 @@ fn with_long_marker(line: u32, read: Result<Script, ScriptStop>) -> Result<Scrip
 impl<'a> Parts<'a> {
     /// The parts of a text.
     pub fn of(bytes: &'a [u8]) -> Parts<'a>
-        requires { length bytes.entry.now ≤ 2147483646 }
-        ensures script { result.script.now ≡ spec.script_of bytes.entry.now }
-        ensures marker { result.marker ≡ spec.marker_length bytes.entry.now }
-        ensures trace { result.trace.now ≡ spec.trace_of bytes.entry.now }
-        ensures first_line { result.first_line ≡ spec.first_line_of bytes.entry.now }
+        requires { length bytes.now ≤ 2147483646 }
+        ensures script { result.script.now ≡ spec.script_of bytes.now }
+        ensures marker { result.marker ≡ spec.marker_length bytes.now }
+        ensures trace { result.trace.now ≡ spec.trace_of bytes.now }
+        ensures first_line { result.first_line ≡ spec.first_line_of bytes.now }
         ensures some { 1 ≤ result.first_line }
-        ensures small { result.first_line ≤ length bytes.entry.now + 2 }
+        ensures small { result.first_line ≤ length bytes.now + 2 }
     {
         let mut rest = bytes;
         let mut size: usize = 0;

@@ -13,8 +13,10 @@ use Rattle.pico_cmd.specs.declared.status.Status.TheVariants as status
 use Rattle.pico_words.specs.declared.words.Options.{Options}
 use Rattle.pico_words.specs.declared.words.Request.{Request}
 use Rattle.pico_words.specs.declared.words.Request.TheVariants.{Simulate, Check, Generate}
-use Rattle.pico_cmd.specs.Stop.{AreBytesUpTo, left_behind}
-use Rattle.pico_cmd.specs.Promise.{Simulates, Judges, AnswersTold, Allows, CauseOfSim, CauseOfCheck, CauseOfGen, EachCause, IsWritten, Wrote, WroteFront}
+use Rattle.pico_cmd.specs.Stop.{AreBytesUpTo, left_behind, most_read}
+use Rattle.script_writer.specs.Generated.{generated}
+use Rattle.pico_cmd.specs.Run.{IsTotalsOfRun}
+use Rattle.pico_cmd.specs.Promise.{Answers, Simulates, Judges, AnswersTold, Allows, CauseOfSim, CauseOfCheck, CauseOfGen, EachCause, IsWritten, Wrote, WroteFront}
 
 -- More bytes than a script has are judged by their front: their fault is that of its size, at the same line.
 front_outcome : (bytes left : List ℕ) → 1048576 < length left → bytes ≡ take 1048577 left
@@ -200,3 +202,30 @@ gen_cause got e status.NotLegal c = absurd c
 pub gen_causes : (o : Options) (told : Option (List ℕ)) (got : Status) → got ≡ status.Done
     → EachCause (Some (Generate o)) told (λ s. got ≡ s)
 gen_causes o told got e = λ s c. gen_cause got e s c
+
+-- the totals of a generated script are told, whatever the source tells
+pub told_totals : (o : Options) (told : Option (List ℕ)) (s : Status) (text : List ℕ)
+    → IsTotalsOfRun (generated o.seed) o.steps text → s ≡ status.Done → AnswersTold (Generate o) told s text
+told_totals o None s text h e =
+    record { bytes = []; told = tt; answers = subst (λ (x : Status). Answers (Generate o) [] x text) (sym e) h }
+told_totals o (Some left) s text h e =
+    record { bytes = left; told = refl; answers = subst (λ (x : Status). Answers (Generate o) left x text) (sym e) h }
+
+-- what is left of the source, where a status is told
+
+pub rest_told : (asked : Option Request) (old new : Option (List ℕ)) (A B : Type 0)
+    → IfSome asked (λ request. new ≡ left_behind (most_read request) old)
+    → IfSome asked (λ request. A → B → new ≡ left_behind (most_read request) old)
+rest_told None old new A B h = tt
+rest_told (Some request) old new A B h = λ a b. h
+
+pub rest_memory : (asked : Option Request) (old new : Option (List ℕ)) (A : Type 0)
+    → IfSome asked (λ request. A → (status.Memory ≡ status.Memory → ⊥) → new ≡ left_behind (most_read request) old)
+rest_memory None old new A = tt
+rest_memory (Some request) old new A = λ a b. absurd (b refl)
+
+pub rest_read_fault : (asked : Option Request) (old new : Option (List ℕ)) (B : Type 0)
+    → IfSome asked
+    (λ request. (status.ReadFault ≡ status.ReadFault → ⊥) → B → new ≡ left_behind (most_read request) old)
+rest_read_fault None old new B = tt
+rest_read_fault (Some request) old new B = λ a b. absurd (a refl)

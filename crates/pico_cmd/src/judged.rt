@@ -1,9 +1,9 @@
 //! The answer to a script and a trace.
-ghost use Rattle.std.specs.Prelude.{◌≡◌, ◌≤◌, ◌<◌, ◌^◌, ℕ, List, length, IfOk, Ok, Err};
+ghost use Rattle.std.specs.Prelude.{◌≡◌, ◌≤◌, ◌<◌, ◌^◌, ℕ, List, length, IfOk, OnOk, Ok, Err};
 ghost use Rattle.pico_base.specs.declared.reply.Entry.{Entry as EntryValue};
 ghost use Rattle.kernel_model.specs.Script.{IsSoundScript};
 ghost use Rattle.trace_check.specs.FirstFault.{CountsLegal, IsLegalTrace, verdict_of};
-ghost use Rattle.trace_check.specs.Refusal.{IsRefusal};
+ghost use Rattle.trace_check.specs.Refusal.{IsRefusal, refusal_text};
 ghost use Rattle.trace_text.specs.declared.fault.CheckFault.{CheckFault as FaultValue};
 ghost use Rattle.pico_cmd.specs.Promise.{Judges, JudgesTrace, CauseOfCheck, legal_text};
 ghost use Rattle.pico_cmd.specs.declared.status.Status.{Status as StatusValue};
@@ -29,6 +29,17 @@ fn text_of_legal(alloc: Global, legal: Legal) -> Result<Bytes, Memory>
     Ok(Bytes::from_vec(out))
 }
 
+// The line for a trace's first fault. Want of memory is none.
+fn text_of_refusal(alloc: Global, script: &Script, fault: CheckFault) -> Result<Bytes, Memory>
+    ensures refusal { OnOk result (IsRefusal fault) }
+    ensures text { IfOk result (λ text. text ≡ refusal_text script.now fault) }
+{
+    match fault {
+        CheckFault::Memory => Err(Memory),
+        other => write_refusal(alloc, script, &other),
+    }
+}
+
 // The answer to a trace of a script.
 fn answer_to_trace(
     alloc: Global,
@@ -51,10 +62,9 @@ fn answer_to_trace(
             status: Status::Done,
             text: text_of_legal(alloc, legal)?,
         }),
-        Err(CheckFault::Memory) => Err(Memory),
         Err(fault) => Ok(Answer {
             status: Status::NotLegal,
-            text: write_refusal(alloc, script, &fault)?,
+            text: text_of_refusal(alloc, script, fault)?,
         }),
     }
 }

@@ -104,9 +104,11 @@ fn check<S: Source>(alloc: Global, source: &mut S) -> Result<Answer, Stop>
 fn totals(alloc: Global, options: Options) -> Result<Answer, Memory>
     ensures answer { (left : Option (List ℕ)) → IfOk result
         (λ answer. AnswersTold (Request.Generate options) left answer.status answer.text) }
-    ensures status { IfOk result (λ answer. answer.status ≡ Status.Done) }
+    ensures causes { (left : Option (List ℕ)) → EachCause (Some (Request.Generate options)) left
+        (λ s. IfOk result (λ answer. answer.status ≡ s)) }
 {
-    answer_to_number(alloc, options)
+    let answer = answer_to_number(alloc, options)?;
+    Ok(answer)
 }
 
 // The answer to what is asked for, and to the bytes where they are wanted.
@@ -130,6 +132,27 @@ fn answer_for<S: Source>(
     }
 }
 
+// The answer to what is asked for, where something is.
+fn answer_asked<S: Source>(
+    alloc: Global,
+    asked: Option<Request>,
+    source: &mut S,
+) -> Result<Answer, Stop>
+    ensures answer { IfOk result (λ answer. Allows asked (S.left source.old) answer.status answer.text) }
+    ensures usage { asked ≡ None → IfOk result (λ answer. answer.status ≡ Status.Usage) }
+    ensures causes { EachCause asked (S.left source.old) (λ s. IfOk result (λ answer. answer.status ≡ s)) }
+    ensures rest { IfSome asked (λ request.
+        OnOk result (S.left source.new ≡ left_behind (most_read request) (S.left source.old))) }
+    ensures stop { IfErr result (IsStop (S.faults source.old) (S.faults source.new)) }
+    ensures read { IfErr result (IsReadFault (Reads asked)) }
+    ensures untouched { (Reads asked → ⊥) → source.new ≡ source.old }
+{
+    match asked {
+        Some(request) => answer_for(alloc, request, source),
+        None => Ok(usage(alloc)?),
+    }
+}
+
 // The answer to the words and the bytes.
 fn answer<S: Source>(alloc: Global, words: &[String], source: &mut S) -> Result<Answer, Stop>
     ensures answer { IfOk result
@@ -144,10 +167,8 @@ fn answer<S: Source>(alloc: Global, words: &[String], source: &mut S) -> Result<
     ensures read { IfErr result (IsReadFault (Reads (request_in (map string_bytes words.now)))) }
     ensures untouched { (Reads (request_in (map string_bytes words.now)) → ⊥) → source.new ≡ source.old }
 {
-    match request_of(alloc, words)? {
-        Some(request) => answer_for(alloc, request, source),
-        None => Ok(usage(alloc)?),
-    }
+    let asked = request_of(alloc, words)?;
+    answer_asked(alloc, asked, source)
 }
 
 // Writes an answer, and gives its status or that the write failed.

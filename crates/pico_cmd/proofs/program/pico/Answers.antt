@@ -1,4 +1,4 @@
-use Rattle.pico_cmd.proofs.Promises.{wrote, wrote_front}
+use Rattle.pico_cmd.proofs.Promises.{wrote, wrote_front, rest_told, rest_memory, rest_read_fault}
 use Rattle.pico_cmd.proofs.Causes.{exactly_written, exactly_memory, exactly_read_fault, complete_written, complete_memory}
 use Rattle.pico_words.specs.Words.{request_in}
 use Rattle.std.proofs.Common.{map}
@@ -34,3 +34,29 @@ pub returns-in-Ok-clause-complete : goal.returns-in-Ok-clause-complete
 returns-in-Ok-clause-complete g c no_read_fault no_write_fault =
     complete_written (request_in (map string_bytes c.args.words.now)) (g.S.Source.left c.args.source.now) _ _ _ _ _ _
     c.in-Ok.ensures.causes c.write_answer-status.ensures no_write_fault
+
+pub returns-in-Ok-clause-rest : goal.returns-in-Ok-clause-rest
+returns-in-Ok-clause-rest g c =
+    rest_told (request_in (map string_bytes c.args.words.now)) _ _ _ _ c.in-Ok.ensures.rest
+
+pub returns-in-Err-Memory-clause-rest : goal.returns-in-Err-Memory-clause-rest
+returns-in-Err-Memory-clause-rest g c = rest_memory (request_in (map string_bytes c.args.words.now)) _ _ _
+
+pub returns-in-Err-ReadFault-clause-rest : goal.returns-in-Err-ReadFault-clause-rest
+returns-in-Err-ReadFault-clause-rest g c = rest_read_fault (request_in (map string_bytes c.args.words.now)) _ _ _
+
+pub returns-in-Err-Memory-clause-exactly : goal.returns-in-Err-Memory-clause-exactly
+returns-in-Err-Memory-clause-exactly g c =
+    exactly_memory (request_in (map string_bytes c.args.words.now)) (g.S.Source.left c.args.source.now)
+
+pub returns-in-Err-ReadFault-clause-exactly : goal.returns-in-Err-ReadFault-clause-exactly
+returns-in-Err-ReadFault-clause-exactly g c =
+    exactly_read_fault (request_in (map string_bytes c.args.words.now)) (g.S.Source.left c.args.source.now)
+
+pub returns-in-Err-Memory-clause-complete : goal.returns-in-Err-Memory-clause-complete
+returns-in-Err-Memory-clause-complete g c no_read_fault no_write_fault =
+    complete_memory (request_in (map string_bytes c.args.words.now)) (g.S.Source.left c.args.source.now)
+
+pub returns-in-Err-ReadFault-clause-complete : goal.returns-in-Err-ReadFault-clause-complete
+returns-in-Err-ReadFault-clause-complete g c no_read_fault no_write_fault =
+    absurd (no_read_fault c.in-Err-ReadFault.ensures.read c.in-Err-ReadFault.ensures.stop)

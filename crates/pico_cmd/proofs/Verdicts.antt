@@ -12,7 +12,9 @@ use Rattle.script_reader.specs.declared.fault.ScriptStop.TheVariants.{At}
 use Rattle.script_reader.specs.Fault.{Gives}
 use Rattle.check_input.specs.Parts.{script_of, trace_of, first_line_of, marker_length, script_with, checked_script}
 use Rattle.trace_text.specs.declared.fault.CheckFault.{CheckFault}
-use Rattle.trace_check.specs.FirstFault.{IsLegalTrace, verdict_of}
+use Rattle.trace_text.specs.declared.fault.CheckFault.TheVariants.{Memory, NotATrace, Illegal, NotTheScript}
+use Rattle.trace_check.specs.declared.check.Legal.{Legal}
+use Rattle.trace_check.specs.FirstFault.{GivesFault, IsLegalTrace, verdict_of}
 use Rattle.trace_check.specs.Refusal.{IsRefusal}
 use Rattle.pico_cmd.specs.declared.status.Status.{Status}
 use Rattle.pico_cmd.specs.declared.status.Status.TheVariants as status
@@ -88,3 +90,25 @@ causes_fault bytes line fault e status.Usage c = absurd c
 causes_fault bytes line fault e status.Memory c = absurd c
 causes_fault bytes line fault e status.ReadFault c = absurd c
 causes_fault bytes line fault e status.WriteFault c = absurd c
+
+-- ---- refusals
+
+pub refusal_unless_memory : (f : CheckFault) → (f ≡ Memory → ⊥) → IsRefusal f
+refusal_unless_memory Memory h = h refl
+refusal_unless_memory (NotATrace line) h = tt
+refusal_unless_memory (Illegal line kernel trace) h = tt
+refusal_unless_memory (NotTheScript line due found) h = tt
+
+pub refused_first : (f : CheckFault) (v : Result Legal CheckFault) → IsRefusal f → GivesFault f v → v ≡ Err f
+refused_first Memory v r h = absurd r
+refused_first (NotATrace line) v r h = h
+refused_first (Illegal line kernel trace) v r h = h
+refused_first (NotTheScript line due found) v r h = h
+
+-- what is refused isn't want of memory
+pub refused_not_memory : {T : Type 0} (f : CheckFault) → IsRefusal f
+    → (let r : Result T CheckFault = Err f in r ≡ Err Memory) → ⊥
+refused_not_memory Memory r e = r
+refused_not_memory (NotATrace line) r e = cc
+refused_not_memory (Illegal line kernel trace) r e = cc
+refused_not_memory (NotTheScript line due found) r e = cc
