@@ -10,7 +10,6 @@ use Rattle.script_reader.specs.declared.fault.ScriptStop.TheVariants.{Memory, At
 use Rattle.script_reader.specs.Fault.{Gives}
 use Rattle.check_input.specs.Parts.{with_long_marker}
 
-
 abbrev earlier : ℕ → ℕ → ScriptFault → Bool → Result Script ScriptStop
 earlier line l fault b = cond b (Err (At l fault)) (Err (At line LineTooLong))
 

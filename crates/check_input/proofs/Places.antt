@@ -24,7 +24,6 @@ drop_behind k xs x ys e =
     let n : k + 1 ≡ suc k = omega arith in
     ap (λ (m : ℕ). drop m xs) n ∙ drop_next k xs ∙ ap (drop 1) (sym e)
 
-
 size_more : (k : ℕ) (bytes line : List ℕ) (lines : List (List ℕ)) → line ∷ lines ≡ drop k (lines_of bytes)
     → size_of (k + 1) bytes ≡ size_of k bytes + (length line + 1)
 unfolding size_of
@@ -38,7 +37,6 @@ size_more k bytes line lines e =
     ap (sum_by f) (sym e) ∙ sum_by-cons f line lines in
     let behind : sum_by f (drop (k + 1) all) ≡ sum_by f lines = ap (sum_by f) (drop_behind k all line lines e) in
     omega (arith, one, two, here, behind)
-
 
 -- behind so many lines and bytes, none of the lines the line `trace`
 pub record IsAt (bytes : List ℕ) (before size : ℕ) (rest : List ℕ) : Type 0 where
@@ -75,7 +73,6 @@ one_more k (Some n) =
 
 module _ (bytes : List ℕ) (before size : ℕ) (rest line after : List ℕ) (h : IsAt bytes before size rest)
     (lines : lines_of rest ≡ line ∷ lines_of after) (behind : after ≡ drop (length line + 1) rest) where
-
   here : line ∷ lines_of after ≡ drop before (lines_of bytes)
   here = sym lines ∙ h.lines_left
 
@@ -126,7 +123,6 @@ module _ (bytes : List ℕ) (before size : ℕ) (rest line after : List ℕ) (h 
 
 module _ (bytes : List ℕ) (before size : ℕ) (rest : List ℕ) (h : IsAt bytes before size rest)
     (end : lines_of rest ≡ []) where
-
   -- at the end
   pub none_marked : marker_place bytes ≡ None
   none_marked = h.place ∙ ap (λ (xs : List (List ℕ)). option_map (λ j. before + j) (place_in xs)) end

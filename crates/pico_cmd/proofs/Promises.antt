@@ -4,7 +4,7 @@ use Rattle.std.proofs.lemmas.Bool.{lt-ltb}
 use Rattle.std.proofs.lemmas.List.{drop_all, take_all, take-take}
 use Rattle.std.proofs.Math.Seq.{drop-append_seam}
 use Rattle.host_iface.specs.Told.{led_by}
-use Rattle.std.specs.Prelude.{IfSome, is_some, nat_lt, true}
+use Rattle.std.specs.Prelude.{IfErr, IfSome, is_some, nat_lt, true, Result, Ok, Err}
 use Rattle.pico_base.specs.declared.script.Script.{Script}
 use Rattle.script_reader.specs.declared.fault.ScriptFault.{ScriptFault}
 use Rattle.script_reader.specs.Fault.{ReadsRunnable, IsFirstFaultOfRunnable, outcome}
@@ -13,7 +13,9 @@ use Rattle.pico_cmd.specs.declared.status.Status.TheVariants as status
 use Rattle.pico_words.specs.declared.words.Options.{Options}
 use Rattle.pico_words.specs.declared.words.Request.{Request}
 use Rattle.pico_words.specs.declared.words.Request.TheVariants.{Simulate, Check, Generate}
-use Rattle.pico_cmd.specs.Stop.{AreBytesUpTo, left_behind, most_read}
+use Rattle.pico_cmd.specs.declared.program.Stop.{Stop}
+use Rattle.pico_cmd.specs.declared.program.Stop.TheVariants.{Memory, ReadFault}
+use Rattle.pico_cmd.specs.Stop.{AreBytesUpTo, IsReadFault, left_behind, most_read}
 use Rattle.script_writer.specs.Generated.{generated}
 use Rattle.pico_cmd.specs.Run.{IsTotalsOfRun}
 use Rattle.pico_cmd.specs.Promise.{Answers, Simulates, Judges, AnswersTold, Allows, CauseOfSim, CauseOfCheck, CauseOfGen, EachCause, IsWritten, Wrote, WroteFront}
@@ -72,6 +74,12 @@ Simulates-left o bytes left status.NotLegal text r a = a
 front_left : (bytes left : List ℕ) → AreBytesUpTo 68161537 bytes left → take 68161538 left ≡ bytes
 front_left bytes left (inl same) = take_all 68161538 left (omega (arith, same.1)) ∙ sym same.0
 front_left bytes left (inr long) = sym long.1
+
+-- where the source is read, a read may have failed
+pub read_told : {T : Type 0} (r : Result T Stop) → IfErr r (IsReadFault (Unit {0}))
+read_told (Ok x) = tt
+read_told (Err Memory) = tt
+read_told (Err ReadFault) = tt
 
 -- What is left behind what was read.
 

@@ -189,8 +189,8 @@ fn write_answer<K: Sink>(sink: &mut K, answer: Answer) -> Status
 /// - `sim`, with `--seed N` and `--steps` if wanted: the source is a script. Its processes run as picoprocesses, one
 ///   event at a time, by the schedule of number N, which is 0 where none is given. The trace is written, and with
 ///   `--steps` the events behind it.
-/// - `check`: the source is a script, a line `trace` and a trace. It is written that the trace is legal, with the number
-///   of its entries, or what its first fault is.
+/// - `check`: the source is a script, a line `trace` and a trace. It is written that the trace is legal, with the
+///   number of its entries, or what its first fault is.
 /// - `gen`, with the same options as `sim`: the generated script of number N runs by schedule 0. The totals line of its
 ///   trace is written, and with `--steps` the events behind it. Nothing is read.
 pub fn pico<R, S: Source, K: Sink, G: Gate>(

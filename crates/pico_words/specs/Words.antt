@@ -80,7 +80,9 @@ is_true text = option_map_or (λ bytes. bytes_eq bytes (codes "true")) text fals
 
 -- what is meant by what the command found: a word for MODE, perhaps one for N, and whether `--steps` is there
 abbrev pub found : List Row → Option Request
-found rows = first_of (codes "mode") rows >>= meant (first_of (codes "seed") rows) (is_true (first_of (codes "steps") rows))
+found rows =
+    first_of (codes "mode") rows
+    >>= meant (first_of (codes "seed") rows) (is_true (first_of (codes "steps") rows))
 
 -- What the words ask for; none where they aren't in order.
 unfoldable pub request_in : List (List ℕ) → Option Request

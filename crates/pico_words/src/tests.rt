@@ -1,3 +1,4 @@
+//! Words in order and out of order.
 use crate::{Options, Request, request_of};
 use std::test::Fail;
 

@@ -24,7 +24,6 @@ use Rattle.script_writer.proofs.Tables.{all_pass, length-upto}
 use Rattle.script_writer.proofs.Repeated.{targets, no_targets, all_repeated, IsSteady, uses_repeated, begun_repeated, tries_in, tries_repeated, stays, ends_rightly_without_exit, exit_follows}
 
 module _ (m : ℕ) where
-
   -- ---- tests of lines
 
   -- the lines for worker k pass
@@ -120,7 +119,8 @@ module _ (m : ℕ) where
 
   forks_are : (w : ℕ) → forks_of (script_with m w) ≡ forks w
   forks_are w =
-      ap₂ (λ (a : List ℕ) (b : List Fork). map (fork_from 1) a ++ b) (main_forks (upto w)) (workers_fork_none 2 (upto w))
+      ap₂ (λ (a : List ℕ) (b : List Fork). map (fork_from 1) a ++ b) (main_forks (upto w))
+      (workers_fork_none 2 (upto w))
       ∙ append-nil (forks w)
 
   numbers_only : (p : ℕ → Bool) (i : ℕ) (ks : List ℕ)
@@ -216,7 +216,8 @@ module _ (m : ℕ) where
   main_tries few (k ∷ ks) =
       let q : ℕ = worker_queue k in
       let rest : List Line = flat_map (lines_for m) ks in
-      let sent : tries_in (replicate m (send q) ++ fork k ∷ []) ≡ m + 1 = tries_repeated m (send q) (fork k ∷ []) refl in
+      let sent : tries_in (replicate m (send q) ++ fork k ∷ []) ≡ m + 1 =
+      tries_repeated m (send q) (fork k ∷ []) refl in
       let here : tries_in (lines_for m k) ≡ 1 + tries_in (replicate m (send q) ++ fork k ∷ []) =
       sum_by-cons tries (make q) (replicate m (send q) ++ fork k ∷ []) in
       let both : tries_in (flat_map (lines_for m) (k ∷ ks)) ≡ tries_in (lines_for m k) + tries_in rest =
@@ -235,7 +236,8 @@ module _ (m : ℕ) where
       tries_repeated m (receive (worker_queue k)) (send main_queue ∷ []) refl in
       let here : calls_in (worker m k) ≡ tries_in (spec.worker_lines m k) + 1 = calls_without_exit (worker m k) p.0 in
       let turned : calls_in (worker m k) ≡ 1 + tries_in (spec.worker_lines m k) = omega (arith, here) in
-      let both : sum_by calls_in (map (worker m) (k ∷ ks)) ≡ calls_in (worker m k) + sum_by calls_in (map (worker m) ks) =
+      let both : sum_by calls_in (map (worker m) (k ∷ ks))
+      ≡ calls_in (worker m k) + sum_by calls_in (map (worker m) ks) =
       sum_by-cons calls_in (worker m k) (map (worker m) ks) in
       few_more (sum_by calls_in (map (worker m) (k ∷ ks))) (calls_in (worker m k)) (sum_by calls_in (map (worker m) ks))
       (tries_in (spec.worker_lines m k)) (length ks) both turned sent (worker_calls few ks p.1) few
@@ -307,7 +309,8 @@ module _ (m : ℕ) where
       let s : Script = script_with m w in
       let tests = all_pass is_sound_for 31 w sound_table some small in
       let a = and_parts (list_all (λ k. is_name (worker_name k)) (upto w)) _ tests in
-      let b = and_parts (not (list_any (λ k. is_same (codes "main") (worker_name k)) (upto w)) && differ (upto w)) _ a.1 in
+      let b = and_parts (not (list_any (λ k. is_same (codes "main") (worker_name k)) (upto w)) && differ (upto w)) _ a.1
+      in
       let c = and_parts (forward (suc w) (forks w)) _ b.1 in
       let d = and_parts (list_all (λ (b : ℕ × ℕ). once (forks w) b.0) (enumerate_from 2 (upto w))) _ c.1 in
       let size : length s.blocks ≡ suc w = ap suc (length-map (upto w) (worker m) ∙ length-upto w) in

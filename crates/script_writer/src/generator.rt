@@ -75,13 +75,7 @@ fn fork(k: u8) -> Line
     requires { k ≤ 31 }
     ensures { result ≡ spec.fork k }
 {
-    line(
-        None,
-        None,
-        Call::Fork {
-            block: Node(k + 1),
-        },
-    )
+    line(None, None, Call::Fork { block: Node(k + 1) })
 }
 
 fn push_sends(alloc: Global, lines: &mut Lines, queue: Var, messages: u32) -> Result<(), Memory>
@@ -177,8 +171,8 @@ fn script_with(alloc: Global, messages: u32, workers: u8) -> Result<Script, Memo
 }
 
 /// The generated script of this number. It has 2 + N mod 31 blocks: `main` and workers `w1`, `w2` and so on. Main
-/// makes the queue `s`; then for each worker k in order it makes the queue `qk`, sends 10 + N mod 291 messages to it and
-/// forks the worker, which receives them all and then sends one message to the queue `s`.
+/// makes the queue `s`; then for each worker k in order it makes the queue `qk`, sends 10 + N mod 291 messages to it
+/// and forks the worker, which receives them all and then sends one message to the queue `s`.
 #[tactic(auto, unfolding(crate::specs::Generated::generated))]
 pub fn generate(alloc: Global, number: u32) -> Result<Script, Memory>
     ensures script { IfOk result (λ script. script ≡ spec.generated number) }

@@ -1,3 +1,4 @@
+//! A few generated scripts, and how many blocks they have.
 use crate::generate;
 use std::test::Fail;
 

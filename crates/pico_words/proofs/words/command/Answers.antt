@@ -23,7 +23,7 @@ returns c =
     let second : app_of c.disable_help_flag.result ≡ on_top no_help (on_top no_name (new_app (codes "pico"))) =
     ap app_of_fields c.disable_help_flag.ensures ∙ ap (on_top no_help) first in
     let third : app_of c.disable_version_flag-bare.result
-        ≡ on_top no_version (on_top no_help (on_top no_name (new_app (codes "pico")))) =
+    ≡ on_top no_version (on_top no_help (on_top no_name (new_app (codes "pico")))) =
     ap app_of_fields c.disable_version_flag-bare.ensures ∙ ap (on_top no_version) second in
     c.in_ok-arg-3.ensures.shape (search rules)
     ∙ ap₂ with_rule (c.in_ok-arg-2.ensures.shape (search rules)
