@@ -85,9 +85,9 @@ module _ (bytes : List ℕ) (before size : ℕ) (rest line after : List ℕ) (h 
   -- behind one line more
   pub at_next : length after < length rest → is_marker line ≡ false
       → IsAt bytes (before + 1) (size + (length line + 1)) after
-  at_next shorter no =
+  at_next shorter other =
       let place : place_in (lines_of rest) ≡ option_map (λ j. j + 1) (place_in (lines_of after)) =
-      ap place_in lines ∙ rw no refl in
+      ap place_in lines ∙ rw other refl in
       let size_here : length (lines_of rest) ≡ suc (length (lines_of after)) = ap length lines in
       let count : before + length (lines_of rest) ≡ length (lines_of bytes) = h.count in
       let few : before + length rest ≤ length bytes = h.few in
@@ -104,22 +104,22 @@ module _ (bytes : List ℕ) (before size : ℕ) (rest line after : List ℕ) (h 
 
   -- at the line `trace`
   pub at_marker : is_marker line ≡ true → marker_place bytes ≡ Some before
-  at_marker yes =
-      let place : place_in (lines_of rest) ≡ Some 0 = ap place_in lines ∙ rw yes refl in
+  at_marker found =
+      let place : place_in (lines_of rest) ≡ Some 0 = ap place_in lines ∙ rw found refl in
       let e : before + 0 ≡ before = omega arith in
       h.place ∙ ap (λ (o : Option ℕ). option_map (λ j. before + j) o) place ∙ ap (λ (n : ℕ). Some n) e
 
   pub marked_script : is_marker line ≡ true → take size bytes ≡ script_of bytes
-  marked_script yes = rw (at_marker yes) (ap (λ (n : ℕ). take n bytes) h.size_is)
+  marked_script found = rw (at_marker found) (ap (λ (n : ℕ). take n bytes) h.size_is)
 
   pub marked_trace : is_marker line ≡ true → after ≡ trace_of bytes
-  marked_trace yes = rw (at_marker yes) (next_rest ∙ ap (λ (n : ℕ). drop n bytes) (sym next_size))
+  marked_trace found = rw (at_marker found) (next_rest ∙ ap (λ (n : ℕ). drop n bytes) (sym next_size))
 
   pub marked_length : is_marker line ≡ true → Some (length line) ≡ marker_length bytes
-  marked_length yes = rw (at_marker yes) (ap (λ (xs : List (List ℕ)). Some (first_length xs)) here)
+  marked_length found = rw (at_marker found) (ap (λ (xs : List (List ℕ)). Some (first_length xs)) here)
 
   pub marked_first : is_marker line ≡ true → before + 2 ≡ first_line_of bytes
-  marked_first yes = rw (at_marker yes) refl
+  marked_first found = rw (at_marker found) refl
 
 module _ (bytes : List ℕ) (before size : ℕ) (rest : List ℕ) (h : IsAt bytes before size rest)
     (end : lines_of rest ≡ []) where
