@@ -6,12 +6,15 @@ use Rattle.std.proofs.lemmas.List.{take_at, drop_at, take-append-drop, length-ap
 use Rattle.std.proofs.lemmas.Nat.{be_bytes_2, be_bytes_4, from_be_bytes-to_be_bytes_2, from_be_bytes-to_be_bytes_4}
 use Rattle.body_fields.specs.Fields.{◌>>=◌, byte_at, byte_upto, number_at, number_upto}
 
+-- each number is a byte
 abbrev pub IsBytes : List ℕ → Type 0
 IsBytes bytes = (i : ℕ) → get_or bytes i 0 < 256
 
+-- what is left of bytes are bytes
 pub IsBytes-drop : (n : ℕ) (bytes : List ℕ) → IsBytes bytes → IsBytes (drop n bytes)
 IsBytes-drop n bytes h i = rw get_or-drop (h (n + i))
 
+-- what stands behind the first byte are bytes
 pub IsBytes-rest : (b : ℕ) (bytes : List ℕ) → IsBytes (b ∷ bytes) → IsBytes bytes
 IsBytes-rest b bytes h i = h (suc i)
 
@@ -33,10 +36,12 @@ pub guard_some : {A : Type 0} (b : Bool) (x y : A) → cond b None (Some x) ≡ 
 guard_some true x y e = absurd cc
 guard_some false x y e = (refl, cc)
 
+-- where a reader under a test gave a value, the test held and that is the value
 pub guard_ended : {A : Type 0} (b : Bool) (x y : A) → cond b (Some x) None ≡ Some y → (b ≡ true) × (x ≡ y)
 guard_ended true x y e = (refl, cc)
 guard_ended false x y e = absurd cc
 
+-- where a reader under a test gave a value, the test held and the rest gave it
 pub guard_then : {A : Type 0} (b : Bool) (o : Option A) (y : A) → cond b o None ≡ Some y → (b ≡ true) × (o ≡ Some y)
 guard_then true o y e = (refl, e)
 guard_then false o y e = absurd cc
@@ -44,6 +49,7 @@ guard_then false o y e = absurd cc
 abbrev done : {A : Type 0} → A → Option A
 done x = Some x
 
+-- a reader gives one value
 pub some_is : {A : Type 0} (x y : A) → done x ≡ done y → x ≡ y
 some_is x y e = cc
 
@@ -52,6 +58,7 @@ pub record Takes (bytes text rest : List ℕ) : Type 0 where
   pub parts : bytes ≡ text ++ rest
   pub rest_fits : IsBytes rest
 
+-- two parts taken one after the other are one part
 pub Takes-then : (a x b y c : List ℕ) → Takes a x b → Takes b y c → Takes a (x ++ y) c
 Takes-then a x b y c p q =
     record { parts = p.parts ∙ ap (λ (t : List ℕ). x ++ t) q.parts ∙ sym (append_assoc x y c); rest_fits = q.rest_fits }
@@ -63,6 +70,7 @@ pub record IsWide (w : Width) (limit : ℕ) : Type 0 where
   pub again : (n : ℕ) → n < limit → from_be_bytes w (to_be_bytes w n) ≡ n
   pub below : (bytes : List ℕ) → IsBytes bytes → from_be_bytes w bytes < limit
 
+-- a number of 16 bits is below 2 ^ 16
 pub wide16 : IsWide w16 (2 ^ 16)
 wide16 = record {
   len = λ n. refl;
@@ -71,6 +79,7 @@ wide16 = record {
   below = λ bytes fits. omega (arith, fits 0, fits 1);
 }
 
+-- a number of 32 bits is below 2 ^ 32
 pub wide32 : IsWide w32 (2 ^ 32)
 wide32 = record {
   len = λ n. refl;
@@ -79,6 +88,7 @@ wide32 = record {
   below = λ bytes fits. omega (arith, fits 0, fits 1, fits 2, fits 3);
 }
 
+-- a number that was read is what its bytes spell, and fits its width
 pub number_takes : (w : Width) (limit : ℕ) (wide : IsWide w limit) (bytes : List ℕ) (n : ℕ × List ℕ) → IsBytes bytes
     → number_at w bytes ≡ Some n → Takes bytes (to_be_bytes w n.0) n.1 × (n.0 < limit)
 number_takes w limit wide bytes n fits e =
@@ -96,6 +106,7 @@ number_takes w limit wide bytes n fits e =
       wide.below front (IsBytes-take (byte_len w) bytes fits),
     )
 
+-- a number is read back from what spells it
 pub number_again : (w : Width) (limit : ℕ) (wide : IsWide w limit) (n : ℕ) (rest : List ℕ) → n < limit
     → number_at w (to_be_bytes w n ++ rest) ≡ Some (n, rest)
 number_again w limit wide n rest lt =
@@ -109,6 +120,7 @@ number_again w limit wide n rest lt =
       wide.again n lt,
     ) refl
 
+-- the same of a number with a limit
 pub number_upto_takes : (w : Width) (limit : ℕ) (wide : IsWide w limit) (most : ℕ) (bytes : List ℕ) (n : ℕ × List ℕ)
     → IsBytes bytes → number_upto w most bytes ≡ Some n → Takes bytes (to_be_bytes w n.0) n.1 × (n.0 ≤ most)
 unfolding number_upto
@@ -118,6 +130,7 @@ number_upto_takes w limit wide most bytes n fits e =
     let t = number_takes w limit wide bytes a.0 fits a.1 in
     subst (λ (x : ℕ × List ℕ). Takes bytes (to_be_bytes w x.0) x.1 × (x.0 ≤ most)) g.1 (t.0, ltb-false _ _ g.0)
 
+-- a number within its limit is read back
 pub number_upto_again : (w : Width) (limit : ℕ) (wide : IsWide w limit) (most n : ℕ) (rest : List ℕ) → n < limit
     → n ≤ most → number_upto w most (to_be_bytes w n ++ rest) ≡ Some (n, rest)
 unfolding number_upto
@@ -125,12 +138,14 @@ number_upto_again w limit wide most n rest lt le =
     let low : ltb most n ≡ false = le-ltb _ _ le in
     rw (number_again w limit wide n rest lt, low) refl
 
+-- a byte that was read is the first one
 pub byte_takes : (bytes : List ℕ) (b : ℕ × List ℕ) → IsBytes bytes → byte_at bytes ≡ Some b → Takes bytes (b.0 ∷ []) b.1
 byte_takes [] b fits e = absurd cc
 byte_takes (x ∷ xs) b fits e =
     subst (λ (p : ℕ × List ℕ). Takes (x ∷ xs) (p.0 ∷ []) p.1) (some_is (x, xs) b e)
     (record { parts = refl; rest_fits = IsBytes-rest x xs fits })
 
+-- the same of a byte with a limit
 pub byte_upto_takes : (most : ℕ) (bytes : List ℕ) (b : ℕ × List ℕ) → IsBytes bytes → byte_upto most bytes ≡ Some b
     → Takes bytes (b.0 ∷ []) b.1 × (b.0 ≤ most)
 unfolding byte_upto
@@ -140,6 +155,7 @@ byte_upto_takes most bytes b fits e =
     subst (λ (x : ℕ × List ℕ). Takes bytes (x.0 ∷ []) x.1 × (x.0 ≤ most)) g.1
     (byte_takes bytes a.0 fits a.1, ltb-false _ _ g.0)
 
+-- a byte within its limit is read back
 pub byte_upto_again : (most b : ℕ) (rest : List ℕ) → b ≤ most → byte_upto most (b ∷ rest) ≡ Some (b, rest)
 unfolding byte_upto
 byte_upto_again most b rest le =

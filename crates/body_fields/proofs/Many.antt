@@ -9,11 +9,13 @@ use Rattle.body_fields.proofs.Fields.{IsBytes, bind_some, some_is, Takes, Takes-
 abbrev pub with_front : {A : Type 0} → List A → Option (List A × List ℕ) → Option (List A × List ℕ)
 with_front front read = read >>= λ x. Some (front ++ x.0, x.1)
 
+-- what is read next goes behind what was read before
 pub regroup : {A : Type 0} (front : List A) (n : A) (read : Option (List A × List ℕ))
     → with_front front (read >>= λ x. Some (n ∷ x.0, x.1)) ≡ with_front (front ++ n ∷ []) read
 regroup {A} front n (Some x) = ap (λ (ns : List A). Some (ns, x.1)) (simp append_assoc)
 regroup front n None = refl
 
+-- nothing was read before
 pub nothing_before : {A : Type 0} (read : Option (List A × List ℕ)) → with_front [] read ≡ read
 nothing_before (Some x) = refl
 nothing_before None = refl

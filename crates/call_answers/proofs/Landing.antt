@@ -39,6 +39,7 @@ module _ {V : Type 0} where
   clauses-land {U} step m es id v w (Err e) reply rising there ok bad same written is =
       step-lands {U = U} step m es id v w (Err e) reply rising there (bad, same) written is
 
+-- a receive that gave a message leaves its number with the queue that it left
 pub received-lands : (step : Queue → Result Received Errno) (m es : Numbered Queue) (id : ℕ) (v w : Queue)
     (message : QueueMessage) (reply : Reply)
     → IsRising m → get m id ≡ Some v → step v ≡ Ok (record { queue = w; message = message })
@@ -46,18 +47,21 @@ pub received-lands : (step : Queue → Result Received Errno) (m es : Numbered Q
 received-lands step m es id v w message reply rising there ok written is =
     rw (there, ok) (written ∙ set_value-put m id w v rising there, is)
 
+-- a receive that was refused leaves all as it was
 pub refused-lands : (step : Queue → Result Received Errno) (m es : Numbered Queue) (id : ℕ) (v w : Queue) (e : Errno)
     → get m id ≡ Some v → step v ≡ Err e → w ≡ v → es ≡ set_value (is_at (nat_cmp id)) m w
     → Receives step m id es (Fail e)
 refused-lands step m es id v w e there bad same written =
     rw (there, bad) (same-lands m es id v w there same written, refl)
 
+-- a send leaves its number with the queue that it left
 pub sent-lands : (step : Queue → Result Queue Errno) (m es : Numbered Queue) (id : ℕ) (v w : Queue) → IsRising m
     → get m id ≡ Some v
     → step v ≡ Ok w → es ≡ set_value (is_at (nat_cmp id)) m w → Changes step m id es (Num 0)
 sent-lands step m es id v w rising there ok written =
     rw (there, ok) (written ∙ set_value-put m id w v rising there, refl)
 
+-- a send that was refused leaves all as it was
 pub unsent-lands : (step : Queue → Result Queue Errno) (m es : Numbered Queue) (id : ℕ) (v w : Queue) (e : Errno)
     → get m id ≡ Some v → step v ≡ Err e → w ≡ v → es ≡ set_value (is_at (nat_cmp id)) m w
     → Changes step m id es (Fail e)

@@ -105,6 +105,7 @@ child_again child rest small =
 
 -- ---- the whole family
 
+-- it is a u32
 abbrev pub Small : ℕ → Type 0
 Small n = n < 2 ^ 32
 
@@ -116,6 +117,7 @@ Small-split (x ∷ xs) es h =
     let more = Small-split xs es h.1 in
     ((h.0, more.0), more.1)
 
+-- so are those of two lists together
 pub Small-join : (xs : List ℕ) (es : List (EndedChild)) → AllByRecursion Small xs
     → AllByRecursion (λ (e : EndedChild). Small e.pid) es → AllByRecursion Small (xs ++ map (λ e. e.pid) es)
 Small-join [] [] p q = tt
@@ -197,6 +199,7 @@ bytes_again bytes f spelled has =
     let few = few-children f has.sound in
     ap family_at spelled ∙ family_again f few.0 few.1 (recursion_from_All Small (children f) has.numbers)
 
+-- what is read as a family is what its bytes spell
 pub are-found : (bytes : List ℕ) (f : Family) → IsBytes bytes → family_at bytes ≡ Some f → AreChildren (children f)
     → (bytes ≡ family_bytes f) × HasBytes f
 are-found bytes f fits e sound =
@@ -207,6 +210,7 @@ are-found bytes f fits e sound =
 pub unread : (bytes : List ℕ) → family_at bytes ≡ None → (f : Family) → bytes ≡ family_bytes f → HasBytes f → ⊥
 unread bytes e f spelled has = refused (family_at bytes) f e (bytes_again bytes f spelled has)
 
+-- bytes with a number twice spell no family
 pub unsound : (bytes : List ℕ) (read : Family) → family_at bytes ≡ Some read → (AreChildren (children read) → ⊥)
     → (f : Family) → bytes ≡ family_bytes f → HasBytes f → ⊥
 unsound bytes read e not f spelled has =

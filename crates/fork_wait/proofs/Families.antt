@@ -278,6 +278,7 @@ list_any-children c [] es = sym (list_any-pids c es)
 list_any-children c (x ∷ xs) es =
     or_after (nat_eq c x) _ _ ∙ ap (λ (t : Bool). nat_eq c x || t) (list_any-children c xs es)
 
+-- ended children differ where the first isn't among the rest, and these differ
 pub differ-ended : (first : EndedChild) (es rest : List EndedChild) (there r : Bool) → es ≡ first ∷ rest
     → there ≡ list_any (λ e. nat_eq first.pid e.pid) rest → r ≡ are_different (map (λ e. e.pid) rest)
     → (not there && r) ≡ are_different (map (λ e. e.pid) es)

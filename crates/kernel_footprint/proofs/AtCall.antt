@@ -8,6 +8,7 @@ use Rattle.kernel_model.specs.Valid.{IsValid}
 use Rattle.kernel_footprint.proofs.Stepped.{AlikeSteps}
 use Rattle.kernel_model.specs.Footprint.{footprint, AgreeOn, used_for}
 
+-- the footprint's law at one call: kernels that agree on its footprint have the same effect there
 abbrev pub LawAt : Kernel → Kernel → ℕ → Call → ℕ → Type 0
 LawAt j k pid call n =
     IsValid j → IsValid k

@@ -13,6 +13,7 @@ pub data Change {X : Type 0} (touched : Bool) (j k to_j to_k : X) : Type 0 where
   Stays : to_j ≡ j → to_k ≡ k → Change touched j k to_j to_k
   Same : touched ≡ true → to_j ≡ to_k → Change touched j k to_j to_k
 
+-- at each number: touched in both alike, or as it was in each
 abbrev pub Changes : {V : Type 0} → (ℕ → Bool) → Numbered V → Numbered V → Numbered V → Numbered V → Type 0
 Changes touched j k to_j to_k = (p : ℕ) → Change (touched p) (get j p) (get k p) (get to_j p) (get to_k p)
 
@@ -21,21 +22,26 @@ pub change-move : {X : Type 0} (t : Bool) (j k a b c d : X) → Change t j k a b
 change-move t j k a b c d (Stays x y) p q = Stays (p ∙ x) (q ∙ y)
 change-move t j k a b c d (Same h x) p q = Same h (p ∙ x ∙ sym q)
 
+-- what agreed before agrees afterwards
 pub change-agree : {X : Type 0} (t : Bool) (j k a b : X) → Change t j k a b → j ≡ k → a ≡ b
 change-agree t j k a b (Stays x y) h = x ∙ h ∙ sym y
 change-agree t j k a b (Same s x) h = x
 
+-- what isn't touched is as it was in the first kernel
 pub change-first : {X : Type 0} (t : Bool) (j k a b : X) → Change t j k a b → t ≡ false → a ≡ j
 change-first t j k a b (Stays x y) h = x
 change-first t j k a b (Same s x) h = absurd (false≢true (sym h ∙ s))
 
+-- and in the second
 pub change-second : {X : Type 0} (t : Bool) (j k a b : X) → Change t j k a b → t ≡ false → b ≡ k
 change-second t j k a b (Stays x y) h = y
 change-second t j k a b (Same s x) h = absurd (false≢true (sym h ∙ s))
 
+-- no change
 pub changes-none : {V : Type 0} (touched : ℕ → Bool) (j k : Numbered V) → Changes touched j k j k
 changes-none touched j k = λ p. Stays refl refl
 
+-- the same value at a touched number
 pub changes-put : {V : Type 0} (touched : ℕ → Bool) (j k a b : Numbered V) (n : ℕ) (v : V) → touched n ≡ true
     → Changes touched j k a b → Changes touched j k (put a n v) (put b n v)
 changes-put touched j k a b n v t c = λ p.
@@ -47,6 +53,7 @@ changes-put touched j k a b n v t c = λ p.
           (get-put-other b n v p h)
     ]
 
+-- nothing at a touched number
 pub changes-without : {V : Type 0} (touched : ℕ → Bool) (j k a b : Numbered V) (n : ℕ) → touched n ≡ true
     → Changes touched j k a b → Changes touched j k (without a n) (without b n)
 changes-without touched j k a b n t c = λ p.
@@ -58,25 +65,32 @@ changes-without touched j k a b n t c = λ p.
           (get-without-other b n p h)
     ]
 
+-- the part says who is the process's parent
 abbrev pub is_parent : ℕ → Part → Bool
 is_parent pid (ParentOf p) = nat_eq pid p
 is_parent pid part = false
 
+-- the parts have the process whole
 abbrev pub has_whole : List Part → ℕ → Bool
 has_whole parts p = list_any (is_whole p) parts
 
+-- the parts have the queue
 abbrev pub has_queue : List Part → ℕ → Bool
 has_queue parts p = list_any (is_queue p) parts
 
+-- the parts have the set
 abbrev pub has_set : List Part → ℕ → Bool
 has_set parts p = list_any (is_set p) parts
 
+-- the parts have what the queue's key is bound to
 abbrev pub has_queue_keys : List Part → ℕ → Bool
 has_queue_keys parts p = list_any is_queue_keys parts
 
+-- the parts have what the set's key is bound to
 abbrev pub has_set_keys : List Part → ℕ → Bool
 has_set_keys parts p = list_any is_set_keys parts
 
+-- the parts say who the process's parent is
 abbrev pub has_parent : List Part → ℕ → Bool
 has_parent parts p = list_any (is_parent p) parts
 
@@ -94,6 +108,7 @@ pub record SameEffect (parts : List Part) (j k : Kernel) (e f : Effect) : Type 0
   pub set_keys : Changes (has_set_keys parts) j.set_keys k.set_keys e.kernel.set_keys f.kernel.set_keys
   pub parents : (p : ℕ) → has_parent parts p ≡ true → IsOrphan e.kernel p × IsOrphan f.kernel p
 
+-- no effect in both kernels, or effects with one reply that change these parts alike
 abbrev pub SameEffects : List Part → Kernel → Kernel → Option Effect → Option Effect → Type 0
 SameEffects parts j k None None = Unit {0}
 SameEffects parts j k (Some e) (Some f) = SameEffect parts j k e f

@@ -303,9 +303,11 @@ end-law j k pid n call ending vj vk h is =
     (subst (λ e. SameEffects parts j k (Some (end_process j pid a ending)) e) (sym (is k a))
     (end-alike j k pid n a ending vj vk x same)))
 
+-- the footprint's law at `exit`
 pub exit-law : (j k : Kernel) (pid n status : ℕ) → LawAt j k pid (calls.Exit status) n
 exit-law j k pid n status vj vk h uj uk =
     end-law j k pid n (calls.Exit status) (endings.Exited (status % 256)) vj vk h (λ i a. refl)
 
+-- the footprint's law at the end by a signal
 pub killed-law : (j k : Kernel) (pid n : ℕ) (sig : Sig) → LawAt j k pid (calls.Killed sig) n
 killed-law j k pid n sig vj vk h uj uk = end-law j k pid n (calls.Killed sig) (endings.Killed sig) vj vk h (λ i a. refl)

@@ -61,6 +61,7 @@ with-growth parts call n j k (Some x) (Some y) s f g =
       used_of_second = g y refl;
     }
 
+-- the footprint's law, at every call
 pub the_law : FootprintLaw
 the_law j k pid call n vj vk h uj uk =
     with-growth (footprint j pid call n) call n j k (transition j pid call n) (transition k pid call n)

@@ -79,6 +79,7 @@ first-unlisted child (Living a) h = h a refl
 first-unlisted child (Ended ending) h = refl
 first-unlisted child Gone h = refl
 
+-- a child that no living process lists has no parent
 pub orphan-from_unlisted : (child : ℕ) (ps : Numbered Process) → IsRising ps
     → ((p : ℕ) (a : Alive) → living_in ps p ≡ Some a → lists a.row.family child ≡ false) → parent_in child ps ≡ None
 orphan-from_unlisted child [] r h = refl
@@ -109,6 +110,7 @@ parent-cases child pid (Living a) rest r h =
 parent-cases child pid (Ended ending) rest r h = inr h
 parent-cases child pid Gone rest r h = inr h
 
+-- a child's parent lives and lists it
 pub parent-is : (child : ℕ) (ps : Numbered Process) (r : Parent) → IsRising ps → parent_in child ps ≡ Some r
     → IsParentIn child ps r
 parent-is child [] r s h = cc
@@ -117,5 +119,10 @@ parent-is child (e ∷ es) r s h =
       | inl w ↦ (ap (option_and_then alive_in) (get-first e es r.pid w.0) ∙ w.1, w.2)
       | inr w ↦
           let i = parent-is child es r (rising-rest e es s) w
-          in (ap (option_and_then alive_in) (get-later e es r.pid (rest-apart e es r.pid r.alive (above-first e es s) i.0)) ∙ i.0, i.1)
+          in (
+            ap (option_and_then alive_in)
+                (get-later e es r.pid (rest-apart e es r.pid r.alive (above-first e es s) i.0))
+                ∙ i.0,
+            i.1,
+          )
     ]

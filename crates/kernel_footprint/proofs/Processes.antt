@@ -117,15 +117,18 @@ own-steps : (j k : Kernel) (pid : ℕ) (call : Call) (n : ℕ) → AgreeOn (own 
     → AlikeSteps (own pid) j k (transition j pid call n) (transition k pid call n)
 own-steps j k pid call n h s = whole-steps (own pid) n j k pid call h (own-here pid) h.1.0 (λ a x y. s a)
 
+-- the footprint's law at `getpid`
 pub getpid-law : (j k : Kernel) (pid n : ℕ) → LawAt j k pid calls.GetPid n
 getpid-law j k pid n vj vk h uj uk =
     own-steps j k pid calls.GetPid n h (λ a. unchanged (own pid) j k (λ p. refl) (Num pid))
 
+-- the footprint's law at `sigaction`
 pub action-law : (j k : Kernel) (pid n : ℕ) (sig : SigArg) (act : Act) → LawAt j k pid (calls.SigAction sig act) n
 action-law j k pid n sig act vj vk h uj uk =
     own-steps j k pid (calls.SigAction sig act) n h
     (λ a. acted-alike (own pid) n j k (λ p. refl) pid a (act_on a.row.signals sig act) (own-here pid))
 
+-- the footprint's law at `sigprocmask`
 pub mask-law : (j k : Kernel) (pid n : ℕ) (how : How) (set : PerSignal Bool)
     → LawAt j k pid (calls.SigProcMask how set) n
 mask-law j k pid n how set vj vk h uj uk =
@@ -134,10 +137,12 @@ mask-law j k pid n how set vj vk h uj uk =
     (record a { row = record { signals = with_mask a.row.signals how set; family = a.row.family } })
     (Bits a.row.signals.mask) (own-here pid))
 
+-- the footprint's law at `sigpending`
 pub pending-law : (j k : Kernel) (pid n : ℕ) → LawAt j k pid calls.SigPending n
 pending-law j k pid n vj vk h uj uk =
     own-steps j k pid calls.SigPending n h (λ a. unchanged (own pid) j k (λ p. refl) (Bits a.row.signals.pending))
 
+-- the footprint's law at `handled`
 pub handled-law : (j k : Kernel) (pid n : ℕ) (sig : Sig) → LawAt j k pid (calls.Handled sig) n
 handled-law j k pid n sig vj vk h uj uk =
     own-steps j k pid (calls.Handled sig) n h
@@ -179,6 +184,7 @@ kill-by : (j k : Kernel) (pid n target : ℕ) (sig : SigArg) (b : Bool) → nat_
 kill-by j k pid n target sig true e vj vk h = kill-own j k pid n target sig e h
 kill-by j k pid n target sig false e vj vk h = kill-other j k pid n target sig e vj vk h
 
+-- the footprint's law at `kill`
 pub kill-law : (j k : Kernel) (pid n target : ℕ) (sig : SigArg) → LawAt j k pid (calls.Kill target sig) n
 kill-law j k pid n target Bad vj vk h uj uk =
     own-steps j k pid (calls.Kill target Bad) n h (λ a. unchanged (own pid) j k (λ p. refl) (Fail Einval))
@@ -187,6 +193,7 @@ kill-law j k pid n target (Is g) vj vk h uj uk = kill-by j k pid n target (Is g)
 
 -- fork
 
+-- the footprint's law at `fork`
 pub fork-law : (j k : Kernel) (pid n block : ℕ) → LawAt j k pid (calls.Fork block) n
 fork-law j k pid n block vj vk h uj uk =
     let parts = MayDo pid ∷ Whole pid ∷ Whole n ∷ []
@@ -219,6 +226,7 @@ parentless : (p : ℕ) (es : List EndedChild) → list_any (is_parent p) (map (�
 parentless p [] = refl
 parentless p (e ∷ es) = parentless p es
 
+-- the parts of ended children name no parent
 pub ended-childless : (p : ℕ) (o : Option Alive) → list_any (is_parent p) (parts_of_ended o) ≡ false
 ended-childless p None = refl
 ended-childless p (Some a) = parentless p a.row.family.ended
@@ -235,6 +243,7 @@ wait-effects j k pid n child true a lives =
     (first-listed child a.row.family.ended e h)))
 wait-effects j k pid n child false a lives = tt
 
+-- the footprint's law at `waitpid`
 pub wait-law : (j k : Kernel) (pid n : ℕ) (child : Option ℕ) (nohang : Bool)
     → LawAt j k pid (calls.WaitPid child nohang) n
 wait-law j k pid n child nohang vj vk h uj uk =

@@ -99,6 +99,7 @@ send-effects j k pid n id class text true h a b =
     (λ q. changed-alike (at_queue pid id) n j k (λ p. refl) id (send q pid class text) (queue-here pid id))
 send-effects j k pid n id class text false h a b = tt
 
+-- the footprint's law at `msgsnd`
 pub send-law : (j k : Kernel) (pid n id : ℕ) (class : ℤ) (text : List ℕ) (nowait : Bool)
     → LawAt j k pid (calls.MsgSnd id class text nowait) n
 send-law j k pid n id class text nowait vj vk h uj uk =
@@ -114,18 +115,21 @@ receive-effects j k pid n id class size noerror true h a b =
     (λ q. received-alike (at_queue pid id) n j k (λ p. refl) id (receive q pid class size noerror) (queue-here pid id))
 receive-effects j k pid n id class size noerror false h a b = tt
 
+-- the footprint's law at `msgrcv`
 pub receive-law : (j k : Kernel) (pid n id : ℕ) (class : ℤ) (size : ℕ) (noerror nowait : Bool)
     → LawAt j k pid (calls.MsgRcv id class size noerror nowait) n
 receive-law j k pid n id class size noerror nowait vj vk h uj uk =
     queue-steps j k pid (calls.MsgRcv id class size noerror nowait) n id vj vk h (λ a b e. ap (λ x. not (is_spent x)) e)
     (receive-effects j k pid n id class size noerror nowait h)
 
+-- the footprint's law at `msgctl` with IPC_STAT
 pub stat-law : (j k : Kernel) (pid n id : ℕ) → LawAt j k pid (calls.MsgStat id) n
 stat-law j k pid n id vj vk h uj uk =
     queue-steps j k pid (calls.MsgStat id) n id vj vk h (λ a b e. ap (λ x. not (is_spent x)) e)
     (λ a b. named-alike (at_queue pid id) j k (λ p. refl) (get j.queues id) (get k.queues id) _ _ h.1.0
     (λ q. unchanged (at_queue pid id) j k (λ p. refl) (stat q)))
 
+-- the footprint's law at `msgctl` with IPC_SET
 pub set_bytes-law : (j k : Kernel) (pid n id qbytes : ℕ) → LawAt j k pid (calls.MsgSet id qbytes) n
 set_bytes-law j k pid n id qbytes vj vk h uj uk =
     queue-steps j k pid (calls.MsgSet id qbytes) n id vj vk h (λ a b e. ap (λ x. not (is_spent x)) e)
@@ -137,6 +141,7 @@ set_bytes-law j k pid n id qbytes vj vk h uj uk =
 abbrev queue_and_keys : ℕ → ℕ → List Part
 queue_and_keys pid id = MayDo pid ∷ QueueAt id ∷ QueueKeys ∷ []
 
+-- the footprint's law at `msgctl` with IPC_RMID
 pub remove_queue-law : (j k : Kernel) (pid n id : ℕ) → LawAt j k pid (calls.MsgRmid id) n
 remove_queue-law j k pid n id vj vk h uj uk =
     let parts = queue_and_keys pid id
@@ -154,6 +159,7 @@ remove_queue-law j k pid n id vj vk h uj uk =
 
 -- A get, at the caller or at the keys.
 
+-- the footprint's law at `msgget`
 pub get_queue-law : (j k : Kernel) (pid n : ℕ) (key : Option ℕ) (create excl : Bool)
     → LawAt j k pid (calls.MsgGet key create excl) n
 get_queue-law j k pid n None create excl vj vk h uj uk =

@@ -110,42 +110,50 @@ operated-if : (j k : Kernel) (pid n id : ℕ) (steps : List SemStep) (b : Bool) 
 operated-if j k pid n id steps true h = tt
 operated-if j k pid n id steps false h = set-alike j k pid n id (λ set. op set pid steps) h
 
+-- the footprint's law at `semop`
 pub operate-law : (j k : Kernel) (pid n id : ℕ) (steps : List SemStep) → LawAt j k pid (calls.SemOp id steps) n
 operate-law j k pid n id steps vj vk h uj uk =
     set-steps j k pid (calls.SemOp id steps) n id vj vk h (λ a b e. ap (λ x. not (is_spent x)) e)
     (λ a b. operated-if j k pid n id steps (list_any may_wait steps) h)
 
+-- the footprint's law at `semctl` with GETVAL
 pub get_value-law : (j k : Kernel) (pid n id num : ℕ) → LawAt j k pid (calls.SemGetVal id num) n
 get_value-law j k pid n id num vj vk h uj uk =
     set-steps j k pid (calls.SemGetVal id num) n id vj vk h (λ a b e. ap (λ x. not (is_spent x)) e)
     (λ a b. look-alike j k pid n id (λ s. value_at s num) h)
 
+-- the footprint's law at `semctl` with GETPID
 pub get_last-law : (j k : Kernel) (pid n id num : ℕ) → LawAt j k pid (calls.SemGetPid id num) n
 get_last-law j k pid n id num vj vk h uj uk =
     set-steps j k pid (calls.SemGetPid id num) n id vj vk h (λ a b e. ap (λ x. not (is_spent x)) e)
     (λ a b. look-alike j k pid n id (λ s. last_at s num) h)
 
+-- the footprint's law at `semctl` with GETNCNT
 pub get_ncnt-law : (j k : Kernel) (pid n id num : ℕ) → LawAt j k pid (calls.SemGetNcnt id num) n
 get_ncnt-law j k pid n id num vj vk h uj uk =
     set-steps j k pid (calls.SemGetNcnt id num) n id vj vk h (λ a b e. ap (λ x. not (is_spent x)) e)
     (λ a b. look-alike j k pid n id (λ s. waiting_at s num) h)
 
+-- the footprint's law at `semctl` with GETZCNT
 pub get_zcnt-law : (j k : Kernel) (pid n id num : ℕ) → LawAt j k pid (calls.SemGetZcnt id num) n
 get_zcnt-law j k pid n id num vj vk h uj uk =
     set-steps j k pid (calls.SemGetZcnt id num) n id vj vk h (λ a b e. ap (λ x. not (is_spent x)) e)
     (λ a b. look-alike j k pid n id (λ s. waiting_at s num) h)
 
+-- the footprint's law at `semctl` with SETVAL
 pub set_value-law : (j k : Kernel) (pid n id num value : ℕ) → LawAt j k pid (calls.SemSetVal id num value) n
 set_value-law j k pid n id num value vj vk h uj uk =
     set-steps j k pid (calls.SemSetVal id num value) n id vj vk h (λ a b e. ap (λ x. not (is_spent x)) e)
     (λ a b. set-alike j k pid n id (λ s. set_value s num value) h)
 
+-- the footprint's law at `semctl` with GETALL
 pub get_all-law : (j k : Kernel) (pid n id : ℕ) → LawAt j k pid (calls.SemGetAll id) n
 get_all-law j k pid n id vj vk h uj uk =
     set-steps j k pid (calls.SemGetAll id) n id vj vk h (λ a b e. ap (λ x. not (is_spent x)) e)
     (λ a b. named-alike (at_set pid id) j k (λ p. refl) (get j.sets id) (get k.sets id) _ _ h.1.0
     (λ s. unchanged (at_set pid id) j k (λ p. refl) (All (values_of s.semaphores))))
 
+-- the footprint's law at `semctl` with SETALL
 pub set_all-law : (j k : Kernel) (pid n id : ℕ) (values : List ℕ) → LawAt j k pid (calls.SemSetAll id values) n
 set_all-law j k pid n id values vj vk h uj uk =
     set-steps j k pid (calls.SemSetAll id values) n id vj vk h (λ a b e. ap (λ x. not (is_spent x)) e)
@@ -156,6 +164,7 @@ set_all-law j k pid n id values vj vk h uj uk =
 abbrev set_and_keys : ℕ → ℕ → List Part
 set_and_keys pid id = MayDo pid ∷ SetAt id ∷ SetKeys ∷ []
 
+-- the footprint's law at `semctl` with IPC_RMID
 pub remove_set-law : (j k : Kernel) (pid n id : ℕ) → LawAt j k pid (calls.SemRmid id) n
 remove_set-law j k pid n id vj vk h uj uk =
     let parts = set_and_keys pid id
@@ -200,6 +209,7 @@ get_bound-law j k pid n key count create excl (Some id) vj vk e h uj uk =
     (get_set_at k key count create excl n o)) (sym e ∙ h.1.0 key)
     (bound-if parts n j k (λ p. refl) id count (create && excl) h.1.1.1.0)))
 
+-- the footprint's law at `semget`
 pub get_set-law : (j k : Kernel) (pid n : ℕ) (key : Option ℕ) (count : ℕ) (create excl : Bool)
     → LawAt j k pid (calls.SemGet key count create excl) n
 get_set-law j k pid n None count create excl vj vk h uj uk =

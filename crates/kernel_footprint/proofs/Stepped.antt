@@ -14,9 +14,11 @@ use Rattle.kernel_model.specs.Footprint.{Part, MayDo, Whole, ParentOf, QueueAt, 
 use Rattle.number_maps.proofs.Order.{eq-same}
 use Rattle.kernel_footprint.proofs.Change.{Change, Stays, Same, Changes, change-agree, change-first, change-second, is_parent, has_whole, has_queue, has_set, has_queue_keys, has_set_keys, has_parent}
 
+-- the parts have what the process may still do
 abbrev pub has_allowance : List Part → ℕ → Bool
 has_allowance parts p = list_any (is_allowance p) parts
 
+-- what a process that lives may still do
 abbrev pub allowance_in : Option Process → Option Allowance
 allowance_in o = option_map (λ a. a.allowance) (option_and_then alive_in o)
 
@@ -29,6 +31,7 @@ pub data Moved (whole allowed : Bool) (j k to_j to_k : Option Process) : Type 0 
       → option_map bare to_j ≡ option_map bare j
       → option_map bare to_k ≡ option_map bare k → Moved whole allowed j k to_j to_k
 
+-- a change of a process, but for what it may still do
 pub moved-from_change : (whole allowed : Bool) (j k to_j to_k : Option Process) → Change whole j k to_j to_k
     → Moved whole allowed j k to_j to_k
 moved-from_change whole allowed j k to_j to_k (Stays x y) = Kept x y
@@ -145,11 +148,13 @@ pub record AlikeStep (parts : List Part) (j k : Kernel) (to_j to_k : Successor) 
   pub rest_of_first : RestStays parts j to_j.kernel
   pub rest_of_second : RestStays parts k to_k.kernel
 
+-- no step of both kernels, or steps alike on these parts
 abbrev pub AlikeSteps : List Part → Kernel → Kernel → Option Successor → Option Successor → Type 0
 AlikeSteps parts j k None None = Unit {0}
 AlikeSteps parts j k (Some to_j) (Some to_k) = AlikeStep parts j k to_j to_k
 AlikeSteps parts j k _ _ = ⊥
 
+-- steps that touch the same parts alike are alike
 pub step-from : (parts : List Part) (reply : Reply) (j k to_j to_k : Kernel) → AgreeOn parts j k
     → Stepped parts j k to_j to_k
     → AlikeStep parts j k (successor to_j (reply_alone reply)) (successor to_k (reply_alone reply))

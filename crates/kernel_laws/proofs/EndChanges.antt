@@ -75,6 +75,7 @@ pub record Cleared (f m : Map) (es : List EndedChild) : Type 0 where
   pub ended_back : (q : ℕ) (d : Ending) → m q ≡ Some (Ended d) → (f q ≡ Some (Ended d)) × (Among es q → ⊥)
   pub ended_on : (q : ℕ) (d : Ending) → f q ≡ Some (Ended d) → (Among es q → ⊥) → m q ≡ Some (Ended d)
 
+-- when the ended children of a process are forgotten, they are Gone and all else stays
 pub cleared : (ps : Numbered Process) (pid : ℕ) (a : Alive) → Families (get ps) → get ps pid ≡ Some (Living a)
     → Cleared (get ps) (get (bury_all ps a.row.family)) a.row.family.ended
 cleared ps pid a fam l =
@@ -124,11 +125,13 @@ parent-if child n a ps pa above ih true e h =
     (get-first (n, Living a) ps n refl, e)
 parent-if child n a ps pa above ih false e h = first-parent child (n, Living a) ps pa above ih h
 
+-- a child's parent lives and lists it
 pub parent-is : (child : ℕ) (ps : Numbered Process) → IsRising ps → (pa : Parent) → parent_in child ps ≡ Some pa
     → (get ps pa.pid ≡ Some (Living pa.alive)) × (lists pa.alive.row.family child ≡ true)
 parent-is child [] r pa h = not_some pa h
 parent-is child ((n, Living a) ∷ ps) r pa h =
-    parent-if child n a ps pa (above-first (n, Living a) ps r) (parent-is child ps (rising-rest (n, Living a) ps r)) (lists a.row.family child) refl h
+    parent-if child n a ps pa (above-first (n, Living a) ps r)
+    (parent-is child ps (rising-rest (n, Living a) ps r)) (lists a.row.family child) refl h
 parent-is child ((n, Ended e) ∷ ps) r pa h =
     first-parent child (n, Ended e) ps pa (above-first (n, Ended e) ps r)
     (parent-is child ps (rising-rest (n, Ended e) ps r)) h
@@ -152,6 +155,7 @@ orphan-if : (child n : ℕ) (a : Alive) (ps : Numbered Process) (listed : Bool) 
 orphan-if child n a ps true e h = not_none (record { pid = n; alive = a }) h
 orphan-if child n a ps false e h = (e, h)
 
+-- a child without a parent is listed by no living process
 pub orphan : (child : ℕ) (ps : Numbered Process) → parent_in child ps ≡ None
     → (p : ℕ) (x : Alive) → get ps p ≡ Some (Living x) → lists x.row.family child ≡ false
 orphan child [] h p x l = not_some (Living x) l
@@ -189,6 +193,7 @@ put-alive : (m g : Map) (pid : ℕ) → Put m g pid Gone → (p : ℕ) (x : Aliv
 put-alive m g pid t p x h =
     let ne = different g p pid (Living x) Gone h t.here (living-gone x) in (ne, sym (t.other p ne) ∙ h)
 
+-- the end of a process that nobody lists, number by number
 pub over-alone : (f m g : Map) (pid : ℕ) (a : Alive) → Families f → f pid ≡ Some (Living a)
     → Cleared f m a.row.family.ended → Put m g pid Gone
     → ((p : ℕ) (x : Alive) → f p ≡ Some (Living x) → lists x.row.family pid ≡ false) → Over f g pid pid
@@ -367,6 +372,7 @@ end-ended f m g pid a keeper old new ending ignored e c d h =
       | Elsewhere first last was ↦ inr (own-keeps f m pid a e.lives e.clear c d was)
     ]
 
+-- the end of a process with a parent, number by number
 pub over-end : (f m g : Map) (pid : ℕ) (a : Alive) (keeper : ℕ) (old new : Alive) (ending : Ending) (ignored : Bool)
     → Families f
     → End f m g pid a keeper old new ending ignored → Over f g pid keeper

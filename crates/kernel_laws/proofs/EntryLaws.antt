@@ -114,6 +114,7 @@ none-lists k h pid a l =
     false_from_ne_true (lists a.row.family pid)
     (λ t. h.families.alone pid (record { alive = a; there = from-living k.processes pid a l; listed = t }))
 
+-- every entry leads from a valid kernel to a valid one
 pub entries_keep_validity_lemma : EntriesKeepValidity
 entries_keep_validity_lemma k next pid call n outcome v alone t =
     let s = step k pid call n next outcome t

@@ -7,6 +7,7 @@ use Rattle.kernel_model.specs.Row.{Alive, lists, ended_child}
 use Rattle.kernel_model.specs.Kernel.{Process, Living, Ended, Gone}
 use Rattle.kernel_laws.proofs.Plain.{from_some, not_some}
 
+-- processes by number, as a function
 abbrev pub Map : Type 0
 Map = ℕ → Option Process
 
@@ -36,15 +37,19 @@ pub record Families (f : Map) : Type 0 where
 pub living-ended : {B : Type 0} (a : Alive) (e : Ending) → Living a ≡ Ended e → B
 living-ended a e h = cc
 
+-- a process that lives isn't Gone
 pub living-gone : {B : Type 0} (a : Alive) → Living a ≡ Gone → B
 living-gone a h = cc
 
+-- a process that has ended and is kept isn't Gone
 pub ended-gone : {B : Type 0} (e : Ending) → Ended e ≡ Gone → B
 ended-gone e h = cc
 
+-- a living process is one
 pub same-alive : (a b : Alive) → Living a ≡ Living b → a ≡ b
 same-alive a b h = cc
 
+-- an ending is one
 pub same-ending : (d e : Ending) → Ended d ≡ Ended e → d ≡ e
 same-ending d e h = cc
 
@@ -61,6 +66,7 @@ pub record Kept (f g : Map) (N : ℕ → Type 0) : Type 0 where
   pub ended_back : (c : ℕ) (e : Ending) → g c ≡ Some (Ended e) → (f c ≡ Some (Ended e)) × N c
   pub ended_on : (c : ℕ) (e : Ending) → f c ≡ Some (Ended e) → N c → g c ≡ Some (Ended e)
 
+-- families stay in order where no one is born and no one ends
 pub families-kept : (f g : Map) (N : ℕ → Type 0) → Families f → Kept f g N → Families g
 families-kept f g N h k =
     record {
@@ -106,6 +112,7 @@ born-one_parent f g pid n h b p q c l m =
           ]
     ]
 
+-- families stay in order at a fork
 pub families-born : (f g : Map) (pid n : ℕ) → Families f → Born f g pid n → Families g
 families-born f g pid n h b =
     record {
@@ -168,6 +175,7 @@ over-kept f g pid keeper h o c e l =
           in (w.0, o.keeps_on w.0 c e w.1 (λ same. old.1 (subst (λ (x : ℕ). KeepsEnded f x c e) same w.1)))
     ]
 
+-- families stay in order at an end
 pub families-over : (f g : Map) (pid keeper : ℕ) → Families f → Over f g pid keeper → Families g
 families-over f g pid keeper h o =
     record {

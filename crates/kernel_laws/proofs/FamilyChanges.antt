@@ -16,6 +16,7 @@ pub record Put (f g : Map) (k : ℕ) (v : Process) : Type 0 where
   pub here : g k ≡ Some v
   pub other : (q : ℕ) → q ≢ k → g q ≡ f q
 
+-- a table with one value put, as a function
 pub put-is : (ps : Numbered Process) (k : ℕ) (v : Process) → Put (get ps) (get (put ps k v)) k v
 put-is ps k v = record { here = get-put-same ps k v; other = get-put-other ps k v }
 
@@ -36,6 +37,7 @@ pub record Two (f g : Map) (k : ℕ) (u : Process) (l : ℕ) (v : Process) : Typ
   pub last : g l ≡ Some v
   pub other : (q : ℕ) → q ≢ k → q ≢ l → g q ≡ f q
 
+-- two values put one after the other
 pub two-puts : (f m g : Map) (k l : ℕ) (u v : Process) → k ≢ l → Put f m k u → Put m g l v → Two f g k u l v
 two-puts f m g k l u v ne p r =
     record { first = r.other k ne ∙ p.here; last = r.here; other = λ q a b. r.other q b ∙ p.other q a }
@@ -46,6 +48,7 @@ pub data From (f : Map) (k : ℕ) (u : Process) (l : ℕ) (v : Process) (q : ℕ
   AtLast : (same : q ≡ l) (is : v ≡ w) → From f k u l v q w
   Elsewhere : (first : q ≢ k) (last : q ≢ l) (was : f q ≡ Some w) → From f k u l v q w
 
+-- where a value after two puts comes from
 pub from : (f g : Map) (k : ℕ) (u : Process) (l : ℕ) (v : Process) → Two f g k u l v → (q : ℕ) (w : Process)
     → g q ≡ Some w → From f k u l v q w
 from f g k u l v t q w h =
@@ -64,6 +67,7 @@ different f q k w v h g absent same = absent (at-once (f q) w v h (ap f same ∙
 
 -- 1. a living process with the same family
 
+-- of every number
 abbrev pub Each : ℕ → Type 0
 Each c = Unit {0}
 
@@ -124,6 +128,7 @@ same-lives : (f g : Map) (pid : ℕ) (a b : Alive) → Put f g pid (Living b) �
 same-lives f g pid a b t l e c h =
     let w = same-alive-on f g pid a b t l e c h.alive h.there in record { alive = w.0; there = w.1 }
 
+-- another value with the same family
 pub kept-same : (f g : Map) (pid : ℕ) (a b : Alive) → Put f g pid (Living b) → f pid ≡ Some (Living a)
     → b.row.family ≡ a.row.family → Kept f g Each
 kept-same f g pid a b t l e =
@@ -234,6 +239,7 @@ born-ended f g pid n child parent t c d h =
       | Elsewhere first last was ↦ was
     ]
 
+-- a child and its parent put into the table are a fork
 pub born-is : (f g : Map) (pid n : ℕ) (a child parent : Alive) → Two f g n (Living child) pid (Living parent)
     → f pid ≡ Some (Living a) → f n ≡ None
     → child.row.family ≡ no_family → parent.row.family ≡ with_child a.row.family n → Born f g pid n
@@ -254,6 +260,7 @@ born-is f g pid n a child parent t l absent none more =
 
 -- 3. a child is reaped
 
+-- of every other number
 abbrev pub Not : ℕ → ℕ → Type 0
 Not child c = c ≢ child
 
@@ -361,6 +368,7 @@ reap-ended f g pid child a b ending r c d h =
       | Elsewhere first last was ↦ (was, last)
     ]
 
+-- a child that was waited for falls away, and all else stays
 pub kept-reap : (f g : Map) (pid child : ℕ) (a b : Alive) (ending : Ending) → Families f → Reap f g pid child a b ending
     → Contains a.row.family.ended (ended_child child ending)
     → Kept f g (Not child)

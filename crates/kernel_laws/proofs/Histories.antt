@@ -14,6 +14,7 @@ pub record Kept (P : Kernel → Type 0) : Type 0 where
       (s : Step k pid call n next outcome) → P k → Moves P k pid s.alive n
   pub finishes : (pid : ℕ) → Finishes P pid
 
+-- what each entry keeps a history keeps
 pub kept-along : (P : Kernel → Type 0) → Kept P → (entries : List Entry) (k last : Kernel) → Replays k entries last
     → P k → P last
 kept-along P h [] k last r p = subst P r p
@@ -31,6 +32,7 @@ pub record KeptBy (P : Kernel → Type 0) (Q : ℕ → Kernel → Type 0) : Type
       → Moves (Q pid) k pid s.alive n
   pub finishes : (pid : ℕ) (k : Kernel) → Q pid k → P (finish_call k pid (living_at k pid))
 
+-- the same with what holds in the middle of an entry
 pub kept-by-along : (P : Kernel → Type 0) (Q : ℕ → Kernel → Type 0) → KeptBy P Q
     → (entries : List Entry) (k last : Kernel) → Replays k entries last → P k → P last
 kept-by-along P Q h [] k last r p = subst P r p

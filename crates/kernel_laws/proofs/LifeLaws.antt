@@ -179,6 +179,7 @@ goes-kept pid p =
           };
     }
 
+-- a process lives, then has ended, then is Gone
 pub lives_go_one_way_lemma : LivesGoOneWay
 lives_go_one_way_lemma k last entries r h pid p l =
     let start : Both Settled (GoesIn pid p) k =

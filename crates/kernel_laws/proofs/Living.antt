@@ -21,6 +21,7 @@ pub record Weak (caller p : ℕ) (a : Alive) : Type 0 where
   pub free : a.row.signals.doom ≡ None → a.allowance ≡ Free
   pub undoomed : p ≢ caller → a.allowance ≡ Free → a.row.signals.doom ≡ None
 
+-- what holds of a living process holds in the middle of a call
 pub weak : (caller p : ℕ) (a : Alive) → Strong a → Weak caller p a
 weak caller p a s = record { sound = s.sound; free = s.free; undoomed = λ ne. s.undoomed }
 
@@ -62,15 +63,19 @@ strong-family : (a : Alive) (f : Family) → Strong a
     → Strong (record a { row = record { signals = a.row.signals; family = f } })
 strong-family a f h = record { sound = h.sound; free = h.free; undoomed = h.undoomed }
 
+-- a new process is sound
 pub strong-child : (a : Alive) → Strong a → Strong (new_child a)
 strong-child a h = record { sound = sound-inherited a.row.signals h.sound; free = λ d. refl; undoomed = λ e. refl }
 
+-- so is its parent
 pub strong-forking : (a : Alive) (n : ℕ) → Strong a → Strong (parent_after_fork a n)
 strong-forking a n h = strong-family a (with_child a.row.family n) h
 
+-- so is a process that has waited for a child
 pub strong-reaping : (a : Alive) (n : ℕ) → Strong a → Strong (parent_after_wait a n)
 strong-reaping a n h = strong-family a (without_ended n a.row.family) h
 
+-- so is one whose child has ended
 pub strong-ended_child : (a : Alive) (child : ℕ) (ending : Ending) → Strong a → Strong (with_ended_child a child ending)
 strong-ended_child a child ending h =
     let ignored = ignores_children a.row
@@ -79,6 +84,7 @@ strong-ended_child a child ending h =
     in let s = strong-family a f h
     in by_test Strong ignored next (raise_by_other next Chld) (λ t. s) (λ t. strong-raised next Chld s)
 
+-- the family of a process whose child has ended
 pub family-ended_child : (a : Alive) (child : ℕ) (ending : Ending)
     → (with_ended_child a child ending).row.family ≡ family_after_end a.row.family child ending (ignores_children a.row)
 family-ended_child a child ending =
@@ -100,8 +106,10 @@ pub strong-spent : (caller p : ℕ) (a : Alive) → Weak caller p a → is_some 
 strong-spent caller p a h d =
     record { sound = h.sound; free = λ e. not_true (sym (ap is_some e) ∙ d); undoomed = λ e. spent-free e }
 
+-- a process that isn't doomed in the middle of a call is sound
 pub strong-undoomed : (caller p : ℕ) (a : Alive) → Weak caller p a → is_some a.row.signals.doom ≡ false → Strong a
 strong-undoomed caller p a h d = record { sound = h.sound; free = h.free; undoomed = λ e. no-doom a.row.signals.doom d }
 
+-- so is one that isn't the caller
 pub strong-other : (caller p : ℕ) (a : Alive) → Weak caller p a → p ≢ caller → Strong a
 strong-other caller p a h ne = record { sound = h.sound; free = h.free; undoomed = h.undoomed ne }

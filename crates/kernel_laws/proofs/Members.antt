@@ -8,9 +8,11 @@ use Rattle.pico_base.specs.declared.reply.Ending.{Ending}
 use Rattle.kernel_model.specs.Row.{Family, lists, with_child, others, family_after_end, first_ended_child, matches, without_ended, wait, Found, wait_result, EndedChild, ended_child}
 use Rattle.kernel_laws.proofs.Plain.{from_some, not_some, not_true}
 
+-- a list has its first element
 pub contains-first : {X : Type 0} (x : X) (xs : List X) → Contains (x ∷ xs) x
 contains-first x xs = (zero, omega arith, refl)
 
+-- and those of its rest
 pub contains-later : {X : Type 0} (x : X) (xs : List X) (y : X) → Contains xs y → Contains (x ∷ xs) y
 contains-later x xs y h = let l : h.0 < length xs = h.1 in (suc h.0, omega arith, h.2)
 
@@ -19,9 +21,11 @@ contains-at : {X : Type 0} (x : X) (xs : List X) (y : X) (k : ℕ) → k < lengt
 contains-at x xs y zero l e = inl e
 contains-at x xs y (suc k) l e = let m : k < length xs = omega arith in inr (k, m, e)
 
+-- and no others
 pub contains-cases : {X : Type 0} (x : X) (xs : List X) (y : X) → Contains (x ∷ xs) y → (x ≡ y) ⊎ Contains xs y
 contains-cases x xs y h = contains-at x xs y h.0 h.1 h.2
 
+-- an empty list has nothing
 pub contains-none : {X : Type 0} (y : X) → Contains [] y → ⊥
 contains-none y h = let l : h.0 < 0 = h.1 in absurd (omega arith)
 
@@ -97,10 +101,12 @@ any-others n (x ∷ ns) m h =
 pub lists-child : (f : Family) (n c : ℕ) → lists (with_child f n) c ≡ true → (lists f c ≡ true) ⊎ (c ≡ n)
 lists-child f n c h = any-push n f.living c h
 
+-- a family after a child's end lists the others
 pub lists-end : (f : Family) (n : ℕ) (e : Ending) (ignored : Bool) (c : ℕ)
     → lists (family_after_end f n e ignored) c ≡ true → (lists f c ≡ true) × (c ≢ n)
 lists-end f n e ignored c h = any-others n f.living c h
 
+-- an ended child was there before, or is the one that ended and is kept
 pub ended-end : (f : Family) (n : ℕ) (e : Ending) (ignored : Bool) (c : ℕ) (d : Ending)
     → Contains (family_after_end f n e ignored).ended (ended_child c d)
     → Contains f.ended (ended_child c d) ⊎ ((n ≡ c) × (e ≡ d) × (ignored ≡ false))
@@ -111,11 +117,13 @@ ended-end f n e false c d h =
       | inr new ↦ inr (ap (λ (x : EndedChild). x.pid) new, ap (λ (x : EndedChild). x.ending) new, refl)
     ]
 
+-- ended children stay when another ends
 pub ended-stays : (f : Family) (n : ℕ) (e : Ending) (ignored : Bool) (x : EndedChild) → Contains f.ended x
     → Contains (family_after_end f n e ignored).ended x
 ended-stays f n e true x h = h
 ended-stays f n e false x h = Contains-append_left f.ended (ended_child n e ∷ []) x h
 
+-- a child whose end is kept is among the ended
 pub ended-new : (f : Family) (n : ℕ) (e : Ending) → Contains (family_after_end f n e false).ended (ended_child n e)
 ended-new f n e = Contains-push f.ended (ended_child n e)
 
@@ -126,6 +134,7 @@ without-back f n c e h =
     let b = contains-filtered (λ (x : EndedChild). not (nat_eq n x.pid)) f.ended (ended_child c e) h
     in (b.0, λ same. not_true {B = ⊥} (sym (not-true (nat_eq n c) b.1) ∙ eq-eqb n c (sym same)))
 
+-- other ended children stay when one is waited for
 pub without-on : (f : Family) (n c : ℕ) (e : Ending) → Contains f.ended (ended_child c e) → c ≢ n
     → Contains (without_ended n f).ended (ended_child c e)
 without-on f n c e h ne =
@@ -159,6 +168,7 @@ found-is None false child ending h = cc
 found-is (Some e) living child ending h =
     let a : e.pid ≡ child = cc in let b : e.ending ≡ ending = cc in ap Some (pair-is e child ending a b)
 
+-- a child that `waitpid` finds is among the ended
 pub found-contained : (f : Family) (which : Option ℕ) (child : ℕ) (ending : Ending) → wait f which ≡ Found child ending
     → Contains f.ended (ended_child child ending)
 found-contained f which child ending h =

@@ -325,12 +325,14 @@ after-finished : (P : Kernel → Type 0) (pid : ℕ) → Finishes P pid → (k :
 after-finished P pid f k h None l = h
 after-finished P pid f k h (Some a) l = after-doom P pid f k a h l (is_some a.row.signals.doom) refl
 
+-- what every move keeps holds after a call
 pub after-call : (P : Kernel → Type 0) (k : Kernel) (pid : ℕ) (call : Call) (n : ℕ) (next : Kernel) (outcome : Outcome)
     → (s : Step k pid call n next outcome)
     → Moves P k pid s.alive n → P s.result.kernel
 after-call P k pid call n next outcome s m =
     let Q : Option Effect → Type 0 = λ o. Of (After P) o in subst Q s.gives (after-effect P k pid s.alive call n m)
 
+-- what every move keeps, and the end of a call gives back, holds after a step
 pub after-step : (P : Kernel → Type 0) (k : Kernel) (pid : ℕ) (call : Call) (n : ℕ) (next : Kernel) (outcome : Outcome)
     → (s : Step k pid call n next outcome)
     → Moves P k pid s.alive n → Finishes P pid → P next

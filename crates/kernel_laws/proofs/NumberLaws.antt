@@ -103,6 +103,7 @@ grows-kept first = record {
       λ pid k a g l d. g;
 }
 
+-- a used number stays used
 pub used_numbers_stay_lemma : UsedNumbersStay
 used_numbers_stay_lemma k last entries r n =
     let g : Grows k last =
@@ -208,12 +209,14 @@ gone_set-kept gone = record {
       λ pid k a g l d. g;
 }
 
+-- a queue that was removed doesn't come back
 pub removed_queues_stay_removed_lemma : RemovedQueuesStayRemoved
 removed_queues_stay_removed_lemma first second third p id there gone =
     let t = kept-along Queues queues-kept p.to_first opening first p.opens queues-opening
     in let u = (used_numbers_stay_lemma first second p.to_second p.goes id).queues (t.used_at id there)
     in (kept-along (GoneQueue id) (gone_queue-kept id) p.to_third second third p.ends (u, gone)).1
 
+-- nor does a set
 pub removed_sets_stay_removed_lemma : RemovedSetsStayRemoved
 removed_sets_stay_removed_lemma first second third p id there gone =
     let t = kept-along Sets sets-kept p.to_first opening first p.opens sets-opening
@@ -260,6 +263,7 @@ gone_set-finished gone k pid (Some a) g =
 reply-is : (r s : Effect) (own : Option Reply) → r ≡ s → Some r.reply ≡ own → Some s.reply ≡ own
 reply-is r s own e h = subst (λ (x : Effect). Some x.reply ≡ own) e h
 
+-- a successful IPC_RMID removes the queue
 pub queue_removals_last_lemma : QueueRemovalsLast
 queue_removals_last_lemma k next last pid id n outcome entries r t is h =
     let s = step k pid (MsgRmid id) n next outcome t
@@ -275,6 +279,7 @@ queue_removals_last_lemma k next last pid id n outcome entries r t is h =
     subst (GoneQueue id) s.leads (gone_queue-finished id s.result.kernel pid (living_at s.result.kernel pid) after)
     in (kept-along (GoneQueue id) (gone_queue-kept id) entries next last h there).1
 
+-- a successful IPC_RMID removes the set
 pub set_removals_last_lemma : SetRemovalsLast
 set_removals_last_lemma k next last pid id n outcome entries r t is h =
     let s = step k pid (SemRmid id) n next outcome t

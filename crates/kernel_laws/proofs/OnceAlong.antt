@@ -147,6 +147,7 @@ once-kept =
 once-opening : OnceIn opening
 once-opening p a l = subst (λ (x : Alive). ListsOnce x.row.family) (first-living p a l) once-none
 
+-- no process lists a child twice
 pub children_are_listed_once_lemma : ChildrenAreListedOnce
 children_are_listed_once_lemma k r pid a l =
     let start : Both Settled OnceIn opening = record { order = settled-opening; other = once-opening }

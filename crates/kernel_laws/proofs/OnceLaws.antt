@@ -83,9 +83,11 @@ among-numbers n (x ∷ xs) h =
       | inr r ↦ let i = among-numbers n xs r in (i.0, contains-later x xs (ended_child n i.0) i.1)
     ]
 
+-- no children are listed once
 pub once-none : ListsOnce no_family
 once-none = record { living = nothing-twice nat_eq; ended = nothing-twice nat_eq }
 
+-- a new child is listed once
 pub once-child : (f : Family) (n : ℕ) → ListsOnce f → lists f n ≡ false → ListsOnce (with_child f n)
 once-child f n h new = record { living = IsDistinct-push nat_eq_equiv f.living n h.living new; ended = h.ended }
 
@@ -99,6 +101,7 @@ ended-once f n e false h absent =
     in subst (λ (ys : List ℕ). IsDistinct nat_eq ys) (sym (numbers-push f.ended n e))
     (IsDistinct-push nat_eq_equiv (map (λ x. x.pid) f.ended) n h.ended new)
 
+-- a child that ends is listed once
 pub once-end : (f : Family) (n : ℕ) (e : Ending) (ignored : Bool) → ListsOnce f
     → ((d : Ending) → Contains f.ended (ended_child n d) → ⊥) → ListsOnce (family_after_end f n e ignored)
 once-end f n e ignored h absent =
@@ -108,5 +111,6 @@ once-end f n e ignored h absent =
           ended-once f n e ignored h absent;
     }
 
+-- children that are left are listed once
 pub once-without : (f : Family) (n : ℕ) → ListsOnce f → ListsOnce (without_ended n f)
 once-without f n h = record { living = h.living; ended = distinct-numbers (λ e. not (nat_eq n e.pid)) f.ended h.ended }

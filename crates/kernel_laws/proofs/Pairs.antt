@@ -8,6 +8,7 @@ pub record Both (S G : Kernel → Type 0) (k : Kernel) : Type 0 where
   pub order : S k
   pub other : G k
 
+-- two facts that every move keeps are kept together
 pub both-moves : (S G : Kernel → Type 0) (k : Kernel) (caller : ℕ) (a : Alive) (n : ℕ) → Moves S k caller a n
     → Moves G k caller a n → Moves (Both S G) k caller a n
 both-moves S G k caller a n s g =

@@ -27,6 +27,7 @@ pub record People (A : ℕ → Alive → Type 0) (ps : Numbered Process) (used :
   pub body : Body A ps used
   pub families : Families (get ps)
 
+-- what holds of each living process holds of each after one was put
 pub each-put : (A : ℕ → Alive → Type 0) (ps : Numbered Process) (k : ℕ) (v : Process)
     → ((p : ℕ) (x : Alive) → get ps p ≡ Some (Living x) → A p x)
     → ((x : Alive) → v ≡ Living x → A k x) → (p : ℕ) (x : Alive) → get (put ps k v) p ≡ Some (Living x) → A p x
@@ -95,6 +96,7 @@ body-buried A (e ∷ es) ps used b h =
     (body-put A ps used b e.pid Gone (h e.pid e.ending (contains-first e es)) (λ x g. living-gone x (sym g)))
     (λ q d c. there-put ps e.pid Gone q (h q d (contains-later e es (ended_child q d) c)))
 
+-- a number that was there is there when ended children are forgotten
 pub buried-there : (es : List EndedChild) (ps : Numbered Process) (k : ℕ) → is_some (get ps k) ≡ true
     → is_some (get (fold bury ps es) k) ≡ true
 buried-there [] ps k h = h
@@ -111,9 +113,11 @@ living-found o a (Some (Living x)) e h = e ∙ ap (λ (y : Alive). Some (Living 
 living-found o a (Some (Ended d)) e h = not_some a h
 living-found o a (Some Gone) e h = not_some a h
 
+-- a living process, by what the table has at its number
 pub from-living : (ps : Numbered Process) (p : ℕ) (a : Alive) → living_in ps p ≡ Some a → get ps p ≡ Some (Living a)
 from-living ps p a h = living-found (get ps p) a (get ps p) refl h
 
+-- and back
 pub to-living : (ps : Numbered Process) (p : ℕ) (a : Alive) → get ps p ≡ Some (Living a) → living_in ps p ≡ Some a
 to-living ps p a h = ap living_of h
 

@@ -2,24 +2,31 @@
 use Rattle.std.proofs.Common.{◌≡◌, Bool, true, false, Option, Some, None, Result, Ok, Err, refl}
 use Rattle.std.specs.Prelude.{if◌then◌else◌}
 
+-- a value that is there is one
 pub from_some : {A : Type 0} (a b : A) → Some a ≡ Some b → a ≡ b
 from_some a b h = cc
 
+-- nothing isn't something
 pub not_some : {A B : Type 0} (a : A) → None ≡ Some a → B
 not_some a h = cc
 
+-- something isn't nothing
 pub not_none : {A B : Type 0} (a : A) → Some a ≡ None → B
 not_none a h = cc
 
+-- false isn't true
 pub not_true : {B : Type 0} → false ≡ true → B
 not_true h = cc
 
+-- true isn't false
 pub not_false : {B : Type 0} → true ≡ false → B
 not_false h = cc
 
+-- a result is one
 pub from_ok : {A E : Type 0} (a b : A) → (let x : Result A E = Ok a in let y : Result A E = Ok b in x ≡ y) → a ≡ b
 from_ok a b h = cc
 
+-- an error isn't a result
 pub not_ok : {A E B : Type 0} (e : E) (a : A) → (let x : Result A E = Err e in let y : Result A E = Ok a in x ≡ y) → B
 not_ok e a h = cc
 
@@ -28,6 +35,7 @@ abbrev pub Of : {A : Type 0} → (A → Type 0) → Option A → Type 0
 Of P None = Unit {0}
 Of P (Some a) = P a
 
+-- what holds of both branches holds of the choice
 pub of_choice : {A : Type 0} (P : A → Type 0) (b : Bool) (x y : Option A) → Of P x → Of P y → Of P (if b then x else y)
 of_choice P true x y h g = h
 of_choice P false x y h g = g

@@ -25,9 +25,11 @@ use Rattle.kernel_laws.proofs.Histories.{KeptBy}
 abbrev pub IsStrong : ℕ → Alive → Type 0
 IsStrong p a = Strong a
 
+-- families and used numbers of the processes are in order
 abbrev pub Settled : Kernel → Type 0
 Settled k = People IsStrong k.processes k.used_processes
 
+-- the same in the middle of a call of this process
 abbrev pub Midway : ℕ → Kernel → Type 0
 Midway caller k = People (Weak caller) k.processes k.used_processes
 
@@ -308,6 +310,7 @@ finish : (k : Kernel) (pid : ℕ) → Midway pid k → (found : Option Alive) �
 finish k pid h None e = strengthen k.processes k.used_processes pid h (λ x l. absurd (not-living k.processes pid x e l))
 finish k pid h (Some a) e = finish-doom k pid a h (from-living k.processes pid a e) (is_some a.row.signals.doom) refl
 
+-- every entry keeps processes in order
 pub people-kept : KeptBy Settled Midway
 people-kept =
     record {

@@ -113,6 +113,7 @@ pub record QueueRule (P : Queue → Type 0) : Type 0 where
       → receive q pid class size noerror ≡ Ok r → P r.queue
   pub limited : (q : Queue) (qbytes : ℕ) (next : Queue) → P q → set_qbytes q qbytes ≡ Ok next → P next
 
+-- every move keeps what each change of a queue keeps
 pub queues-moves : (P : Queue → Type 0) → QueueRule P → (k : Kernel) (pid : ℕ) (a : Alive) (n : ℕ) → QueueTable P k
     → Moves (QueueTable P) k pid a n
 queues-moves P rule k pid a n t =
@@ -154,12 +155,15 @@ within-rule =
       limited = within-limited;
     }
 
+-- each queue is within its limits
 abbrev pub Queues : Kernel → Type 0
 Queues k = QueueTable IsQueueWithinLimits k
 
+-- the opening kernel has no queue
 pub queues-opening : Queues opening
 queues-opening = table-empty IsQueueWithinLimits
 
+-- every entry keeps queues within their limits
 pub queues-kept : Kept Queues
 queues-kept =
     record {
@@ -167,5 +171,6 @@ queues-kept =
       finishes = λ pid k a t l d. t;
     }
 
+-- queues are within their limits
 pub queues_are_within_limits_lemma : QueuesAreWithinLimits
 queues_are_within_limits_lemma k r id q l = (kept-along Queues queues-kept r.0 opening k r.1 queues-opening).each id q l

@@ -205,6 +205,7 @@ to_next k pid a result next same lives leads =
 fail_is : (r : Reply) (o : Option Reply) (e : Errno) → Some r ≡ o → o ≡ Some (replies.Fail e) → is_fail r ≡ true
 fail_is r o e h g = let f : r ≡ replies.Fail e = from_some r (replies.Fail e) (h ∙ g) in ap is_fail f
 
+-- a call that is refused by an error changes nothing but what the caller may still do
 pub refusals_change_nothing_lemma : RefusalsChangeNothing
 refusals_change_nothing_lemma k pid call n next outcome error h fails =
     let s = step k pid call n next outcome h

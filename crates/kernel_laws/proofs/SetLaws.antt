@@ -223,6 +223,7 @@ pub record SetRule (P : SemaphoreSet → Type 0) : Type 0 where
   pub filled : (set : SemaphoreSet) (values : List ℕ) (next : SemaphoreSet) → P set → set_all set values ≡ Ok next
       → P next
 
+-- every move keeps what each change of a set keeps
 pub sets-moves : (P : SemaphoreSet → Type 0) → SetRule P → (k : Kernel) (pid : ℕ) (a : Alive) (n : ℕ) → SetTable P k
     → Moves (SetTable P) k pid a n
 sets-moves P rule k pid a n t =
@@ -265,12 +266,15 @@ within-rule =
           (list_any (nat_lt 32767) values) refl h;
     }
 
+-- each set is within its limits
 abbrev pub Sets : Kernel → Type 0
 Sets k = SetTable IsSetWithinLimits k
 
+-- the opening kernel has no set
 pub sets-opening : Sets opening
 sets-opening = table-empty IsSetWithinLimits
 
+-- every entry keeps sets within their limits
 pub sets-kept : Kept Sets
 sets-kept =
     record {
@@ -278,5 +282,6 @@ sets-kept =
       finishes = λ pid k a t l d. t;
     }
 
+-- sets are within their limits
 pub sets_are_within_limits_lemma : SetsAreWithinLimits
 sets_are_within_limits_lemma k r id set l = (kept-along Sets sets-kept r.0 opening k r.1 sets-opening).each id set l

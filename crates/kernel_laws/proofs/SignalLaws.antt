@@ -109,9 +109,11 @@ parts s h = record { kept = h.kept; unmasked = h.unmasked; kill_default = h.kill
 whole : (s : Signals) → Sound s.actions s.mask s.pending → AreSoundSignals s
 whole s h = record { kept = h.kept; unmasked = h.unmasked; kill_default = h.kill_default }
 
+-- a new process's signals are sound
 pub sound-new : AreSoundSignals new_signals
 sound-new = record { kept = λ g h. not_true (sym (nothing g) ∙ h); unmasked = refl; kill_default = refl }
 
+-- so are those that a child inherits
 pub sound-inherited : (s : Signals) → AreSoundSignals s → AreSoundSignals (inherit s)
 sound-inherited s h =
     record { kept = λ g p. not_true (sym (nothing g) ∙ p); unmasked = h.unmasked; kill_default = h.kill_default }
@@ -141,6 +143,7 @@ sound-pended : (s : Signals) (g : Sig) → AreSoundSignals s → discards (at s.
 sound-pended s g h d =
     record { kept = kept-pended s.actions s.pending g d h.kept; unmasked = h.unmasked; kill_default = h.kill_default }
 
+-- a raised signal keeps them sound
 pub sound-raise : (s : Signals) (g : Sig) → AreSoundSignals s → AreSoundSignals (raise s g)
 sound-raise s g h =
     by_test AreSoundSignals (is_some s.doom) s
@@ -180,6 +183,7 @@ kept-acted actions pending g act k h p =
           ∙ k h (sym (at-put-other pending g h (at pending g && not (discards act g)) apart) ∙ p)
     ]
 
+-- another action keeps them sound
 pub sound-action : (s : Signals) (g : Sig) (act : Act) → is_kill g ≡ false → AreSoundSignals s
     → AreSoundSignals (with_action s g act)
 sound-action s g act n h =
@@ -224,6 +228,7 @@ sound-masked : (s : Signals) (how : How) (set : PerSignal Bool) → AreSoundSign
     → AreSoundSignals (record s { mask = new_mask how s.mask set })
 sound-masked s how set h = record { kept = h.kept; unmasked = refl; kill_default = h.kill_default }
 
+-- another mask keeps them sound
 pub sound-mask : (s : Signals) (how : How) (set : PerSignal Bool) → AreSoundSignals s
     → AreSoundSignals (with_mask s how set)
 sound-mask s how set h =
@@ -233,6 +238,7 @@ sound-mask s how set h =
 abbrev pub Stays : Signals → Signals → Type 0
 Stays s next = next.doom ≡ None → s.doom ≡ None
 
+-- no doom is there where none is said to be
 pub no-doom : (o : Option Sig) → is_some o ≡ false → o ≡ None
 no-doom None h = refl
 no-doom (Some g) h = not_true (sym h)
@@ -240,6 +246,7 @@ no-doom (Some g) h = not_true (sym h)
 pub doom-is : (o : Option Sig) → o ≡ None → is_some o ≡ false
 doom-is o h = ap is_some h
 
+-- a raised signal takes no doom away
 pub raise-stays : (s : Signals) (g : Sig) → Stays s (raise s g)
 raise-stays s g =
     by_test (Stays s) (is_some s.doom) s
@@ -262,5 +269,6 @@ delivered-stays : (gs : List Sig) (s : Signals) → Stays s (fold deliver s gs)
 delivered-stays [] s h = h
 delivered-stays (g ∷ gs) s h = deliver-stays s g (delivered-stays gs (deliver s g) h)
 
+-- nor does another mask
 pub mask-stays : (s : Signals) (how : How) (set : PerSignal Bool) → Stays s (with_mask s how set)
 mask-stays s how set h = delivered-stays all_signals (record s { mask = new_mask how s.mask set }) h

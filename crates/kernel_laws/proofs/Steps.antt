@@ -47,6 +47,7 @@ from_living : (k : Kernel) (pid : ℕ) (call : Call) (n : ℕ) (next : Kernel) (
 from_living k pid call n next outcome None l h = not_some (successor next outcome) h
 from_living k pid call n next outcome (Some a) l h = from_may k pid call n next outcome a l (may_make a call) h
 
+-- a transition, part by part
 pub step : (k : Kernel) (pid : ℕ) (call : Call) (n : ℕ) (next : Kernel) (outcome : Outcome)
     → transition k pid call n ≡ Some (successor next outcome)
     → Step k pid call n next outcome

@@ -23,6 +23,7 @@ pub record Table {V : Type 0} (P : V → Type 0) (things : Numbered V) (keys : N
   pub apart : (key other id : ℕ) → get keys key ≡ Some id → get keys other ≡ Some id → key ≡ other
   pub each : (n : ℕ) (v : V) → get things n ≡ Some v → P v
 
+-- an empty table is in order
 pub table-empty : {V : Type 0} (P : V → Type 0) → Table P [] [] []
 table-empty {V} P =
     record {
@@ -34,6 +35,7 @@ table-empty {V} P =
       each = λ n v h. not_some v h;
     }
 
+-- its keys lead to what is there, each to its own
 pub table-keys : {V : Type 0} (P : V → Type 0) (things : Numbered V) (keys : Numbered ℕ) (used : List ℕ)
     → Table P things keys used → AreKeys keys things
 table-keys P things keys used t = record { ordered = t.keys_rise; lead = t.lead; apart = t.apart }
@@ -76,6 +78,7 @@ table-change P things keys used t id v there p =
       each = each-put P things id v p t.each;
     }
 
+-- a number that may be given out isn't used
 pub fresh-unused : (used : List ℕ) (n : ℕ) → is_fresh used n ≡ true → is_used used n ≡ false
 fresh-unused used n h = not-true (is_used used n) (and_parts (is_positive_u32 n) (not (is_used used n)) h).1
 
@@ -151,6 +154,7 @@ apart-bind P things keys used t n key f one other id g h =
           ]
     ]
 
+-- a new thing with a key keeps a table in order
 pub table-bind : {V : Type 0} (P : V → Type 0) (things : Numbered V) (keys : Numbered ℕ) (used : List ℕ)
     → Table P things keys used → (n key : ℕ) (v : V)
     → is_used used n ≡ false → P v → Table P (put things n v) (put keys key n) (used_with used n)

@@ -18,7 +18,8 @@ get-unbound (e ∷ m) id key i r h =
       | inl bound ↦
           let below = get-unbound m id key i (rising-rest e m r)
           (ap (λ s. get s key) (sym (filter-dropped p e m (not_from_true (nat_eq e.1 id) (eq-eqb e.1 id bound)))) ∙ h)
-          in let ne : key ≢ e.0 = λ same. not_some i (sym (ap (λ q. get m q) same ∙ get-above e.0 m (above-first e m r)) ∙ below.0)
+          in let ne : key ≢ e.0 =
+          λ same. not_some i (sym (ap (λ q. get m q) same ∙ get-above e.0 m (above-first e m r)) ∙ below.0)
           in (get-later e m key ne ∙ below.0, below.1)
       | inr free ↦
           let kept : get (e ∷ unbind m id) key ≡ Some i =

@@ -43,6 +43,7 @@ first-alone p x h =
       | inr ne ↦ not_some x (sym (get-later (1, Living first) [] p ne) ∙ h)
     ]
 
+-- process 1 alone lives at the start
 pub first-living : (p : ℕ) (x : Alive) → get start p ≡ Some (Living x) → first ≡ x
 first-living p x h = same-alive first x (first-alone p (Living x) h).1
 
@@ -89,6 +90,7 @@ first-settled =
       families = first-families;
     }
 
+-- the opening kernel is in order
 pub settled-opening : Settled opening
 settled-opening = first-settled
 
@@ -109,6 +111,7 @@ alive-valid k h pid a l =
       ended = λ child ending c. h.families.ended pid child ending (record { alive = a; there = there; kept = c });
     }
 
+-- a kernel whose parts are in order is valid
 pub valid-from : (P : Queue → Type 0) (R : SemaphoreSet → Type 0) (k : Kernel) → Settled k → QueueTable P k
     → SetTable R k → IsValid k
 valid-from P R k h q s =
@@ -141,12 +144,14 @@ valid-from P R k h q s =
           };
     }
 
+-- what a legal history leads to is valid
 pub reachable_kernels_are_valid_lemma : ReachableKernelsAreValid
 reachable_kernels_are_valid_lemma k r =
     valid-from IsQueueWithinLimits IsSetWithinLimits k (settled k r)
     (kept-along Queues queues-kept r.0 opening k r.1 queues-opening)
     (kept-along Sets sets-kept r.0 opening k r.1 sets-opening)
 
+-- signals are sound in it
 pub signals_are_sound_lemma : SignalsAreSound
 signals_are_sound_lemma k r pid a l = ((reachable_kernels_are_valid_lemma k r).alive pid a l).signals
 
@@ -171,6 +176,7 @@ parent-of k h child pid a l listed (Some p) e =
     (record { alive = p.alive; there = w.0; listed = w.1 })
     in ap Some (parent-same k.processes child pid a p same l w.0)
 
+-- no child has two parents in it
 pub children_have_one_parent_lemma : ChildrenHaveOneParent
 children_have_one_parent_lemma k r child =
     let h = settled k r

@@ -73,6 +73,7 @@ runs owner (n ∷ reads) node never other =
     kept (in_a_row n reads + 1) now below ∙ same_reader n node reads)
     (eqb_tells n owner)
 
+-- a fourth read in a row moves the name
 pub fourth_moves : FourthMoves
 fourth_moves owner node reads never other =
     let run : run_with (watching_reads owner reads) node ≡ in_a_row node (node ∷ reads) =

@@ -28,12 +28,14 @@ anyway (Some x) Q h = h
 Carried : Kernel → Kernel → ℕ → ℕ → Result Reply CallFault → Call → Type 0
 Carried k next pid n r call = IfSome (living_at k pid) (λ a. Answers (effect k pid a call n) r k next)
 
+-- the answer to `semop` is the effect of the call
 pub semop-carried : (k next : Kernel) (pid n id : ℕ) (steps : List SemStep) (call : Call) (r : Result Reply CallFault)
     → call ≡ calls.SemOp id steps → Answers (operate k pid id steps) r k next
     → IfSome (living_at k pid) (λ a. Answers (effect k pid a call n) r k next)
 unfolding Carried
 semop-carried k next pid n id steps call r is h = subst (Carried k next pid n r) (sym is) (anyway (living_at k pid) _ h)
 
+-- so is that to `msgrcv`
 pub msgrcv-carried : (k next : Kernel) (pid n id : ℕ) (class : ℤ) (size : ℕ) (noerror nowait : Bool) (call : Call)
     (reply : Reply)
     → call ≡ calls.MsgRcv id class size noerror nowait → nowait ≡ true
@@ -48,6 +50,7 @@ msgrcv-carried k next pid n id class size noerror nowait call reply is at_once h
 made : Kernel → Reply → Option Effect
 made m r = Some (record { kernel = m; reply = r })
 
+-- so is that to `sigprocmask`
 pub mask-carried : (k next : Kernel) (pid n : ℕ) (how : How) (set : PerSignal Bool) (call : Call) (reply : Reply)
     → call ≡ calls.SigProcMask how set
     → IfSome (living_at k pid) (λ a. next ≡ with_signals k pid a (with_mask a.row.signals how set))

@@ -17,6 +17,7 @@ pub there-same : (ms ns : Numbered Process) (n : ℕ) → keys_of ns ≡ keys_of
 there-same ms ns n same there =
     sym (is_used-keys ns n) ∙ ap (λ (ks : List ℕ). is_used ks n) same ∙ is_used-keys ms n ∙ there
 
+-- a process that has ended doesn't live
 pub kept-dead : (ignored : Bool) (ending : Ending) → alive_in (process_after_end ignored ending) ≡ None
 kept-dead true ending = refl
 kept-dead false ending = refl
@@ -39,6 +40,7 @@ module _ (ps : Numbered Process) (pid parent : ℕ) (v : Process) (apart : nat_e
       at None g = tt
       at (Some a) g = g
 
+-- the parent still lives and lists the child that ended
 pub left-under : (ps ns : Numbered Process) (pid parent : ℕ) (ending : Ending) → nat_eq parent pid ≡ false
     → lists_there ps parent pid ≡ true
     → IfLiving (put ps pid (process_after_end (ignores_there ps parent) ending)) parent

@@ -27,6 +27,7 @@ found-kept which (e ∷ es) = at (matches which e.pid) (first_ended_child which 
     at false None rec = tt
     at false (Some x) rec = rw rec (or-true (nat_eq x.pid e.pid))
 
+-- a child that `waitpid` finds is in the table
 pub found-there : (ps : Numbered Process) (parents : Numbered ℕ) (pid : ℕ) (a : Alive) (which : Option ℕ)
     → IsTable ps parents
     → living_in ps pid ≡ Some a
@@ -46,6 +47,7 @@ kept-at [] k d inside = absurd (omega arith)
 kept-at (e ∷ es) zero d inside = rw (eq-same e.pid)
 kept-at (e ∷ es) (suc k) d inside = rw (kept-at es k d (omega arith)) (or-true (nat_eq (get_or es k d).pid e.pid))
 
+-- each ended child that is kept is in the table and doesn't live
 pub all-kept : (ps : Numbered Process) (parents : Numbered ℕ) (pid : ℕ) (a : Alive) → IsTable ps parents
     → living_in ps pid ≡ Some a
     → All (λ e. (is_some (get ps e.pid) ≡ true) × (living_in ps e.pid ≡ None)) a.row.family.ended
@@ -95,6 +97,7 @@ parent-after ps es child (Some p) dead h =
     let l = parent-there ps p child h.0
     in ap (option_map (as_parent p)) (buried-lives es ps p l.0 dead l.1 ∙ sym l.1)
 
+-- forgetting ended children leaves the parent of a child as it was
 pub listed-after : (ps : Numbered Process) (es : List EndedChild) (child : ℕ) (parent : Option ℕ)
     → All (λ e. living_in ps e.pid ≡ None) es
     → IfSome parent (λ p. (lists_there ps p child ≡ true) × (nat_eq p child ≡ false))

@@ -17,6 +17,7 @@ fewer : (b any : Bool) (x : ℕ) (xs ys : List ℕ) → length xs ≤ length ys 
 fewer true any x xs ys h g i = omega arith
 fewer false any x xs ys h g i = let less : length xs + 1 ≤ length ys = g i in omega arith
 
+-- without a child that is there fewer are left
 pub fewer-others : (child : ℕ) (xs : List ℕ) → list_any (nat_eq child) xs ≡ true
     → length (others child xs) + 1 ≤ length xs
 fewer-others child [] h = absurd (cc)

@@ -7,6 +7,7 @@ use Rattle.kernel_model.specs.Numbers.{is_positive_u32, number_end}
 use Rattle.kernel_model.specs.Effect.{is_fresh}
 use Rattle.number_maps.proofs.Changes.{is_used-keys}
 
+-- a positive u32 may be given out where nothing stands at it
 pub fresh-is : {V : Type 0} (m : Numbered V) (n : ℕ) → 0 < n → n < 2 ^ 32
     → not (is_some (get m n)) ≡ is_fresh (keys_of m) n
 fresh-is m n above below =
@@ -14,6 +15,7 @@ fresh-is m n above below =
     in let fits : nat_lt n number_end ≡ true = lt-ltb n number_end below
     in rw (some, fits, is_used-keys m n)
 
+-- nothing stands at a number that may be given out
 pub fresh-none : {V : Type 0} (m : Numbered V) (n : ℕ) → is_fresh (keys_of m) n ≡ true → get m n ≡ None
 fresh-none {V} m n fresh = at (get m n) refl (unused (is_positive_u32 n) (is_used (keys_of m) n) fresh)
   where

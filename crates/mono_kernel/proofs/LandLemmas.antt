@@ -23,6 +23,7 @@ lands ps es pid f (Living a) w rising there is written =
 lands ps es pid f (Ended ending) w rising there is written = rw there tt
 lands ps es pid f Gone w rising there is written = rw there tt
 
+-- a change in place is a change of the table
 pub change-lands : (ps es : Numbered Process) (pid : ℕ) (change : Change) (v w : Process) → IsRising ps
     → get ps pid ≡ Some v
     → w ≡ on_living change v → es ≡ set_value (is_at (nat_cmp pid)) ps w
@@ -30,6 +31,7 @@ pub change-lands : (ps es : Numbered Process) (pid : ℕ) (change : Change) (v w
 change-lands ps es pid change v w rising there is written =
     lands ps es pid (after_change change) v w rising there (λ a living. is ∙ ap (on_living change) living) written
 
+-- so is a new child
 pub child-lands : (ps es : Numbered Process) (pid child : ℕ) (v w : Process) → IsRising ps → get ps pid ≡ Some v
     → w ≡ with_child_there child v → es ≡ set_value (is_at (nat_cmp pid)) ps w
     → IfLiving ps pid (λ a. es ≡ put ps pid (Living (parent_after_fork a child)))
@@ -44,6 +46,7 @@ can-there ps pid change (Living a) there can = rw there at can
 can-there ps pid change (Ended ending) there can = tt
 can-there ps pid change Gone there can = tt
 
+-- a value written again changes nothing
 pub unchanged-lands : (ps es : Numbered Process) (pid : ℕ) (v w : Process) → get ps pid ≡ Some v → w ≡ v
     → es ≡ set_value (is_at (nat_cmp pid)) ps w → es ≡ ps
 unchanged-lands ps es pid v w there is written =

@@ -84,6 +84,7 @@ noted : (ps : Numbered Process) (parents : Numbered ℕ) (child q : ℕ) → IsT
     → get parents child ≡ Some q
 noted ps parents child q t l = t.parent q child l.0 (living-get ps q l.0 l.1) l.2
 
+-- a child with no noted parent has none
 pub parent_in-none : (ps : Numbered Process) (parents : Numbered ℕ) (child : ℕ) → IsTable ps parents
     → get parents child ≡ None
     → parent_in child ps ≡ None
@@ -98,6 +99,7 @@ listing ps p child h = at (living_in ps p) refl h
     at None is g = absurd (cc)
     at (Some a) is g = (a, get-living ps p a is, g)
 
+-- a noted parent that lives and lists the child is its parent
 pub parent_in-one : (ps : Numbered Process) (parents : Numbered ℕ) (child p : ℕ) → IsTable ps parents
     → get parents child ≡ Some p
     → lists_there ps p child ≡ true → parent_in child ps ≡ parent_at ps (Some p)
@@ -107,6 +109,7 @@ parent_in-one ps parents child p t here h =
     (λ q other. let there : get parents child ≡ Some q = noted ps parents child q t other in cc)
     ∙ sym (ap (option_map (as_parent p)) (living-get ps p l.0 l.1))
 
+-- the same by number
 pub parent_number-one : (ps : Numbered Process) (parents : Numbered ℕ) (child p : ℕ) → IsTable ps parents
     → get parents child ≡ Some p
     → lists_there ps p child ≡ true → parent_number ps child ≡ Some p
@@ -115,6 +118,7 @@ parent_number-one ps parents child p t here h =
     in rw (parent_in-one ps parents child p t here h)
     (ap (λ (o : Option Alive). option_map (λ x. x.pid) (option_map (as_parent p) o)) (living-get ps p l.0 l.1))
 
+-- a noted parent that doesn't list the child isn't, and there is no other
 pub parent_in-stale : (ps : Numbered Process) (parents : Numbered ℕ) (child p : ℕ) → IsTable ps parents
     → get parents child ≡ Some p
     → lists_there ps p child ≡ false → parent_in child ps ≡ None

@@ -25,6 +25,7 @@ write-next (x ∷ xs) (v ∷ vs) (suc i) s inside some is =
     in let more : i < length vs = omega arith
     in ap (λ (ys : List Semaphore). record x { value = v } ∷ ys) (write-next xs vs i s left more is)
 
+-- one more value is written
 pub write-step : (S : List Semaphore) (V : List ℕ) (ys : List Semaphore) (i : ℕ) (s t : Semaphore) → i < length V
     → length V ≡ length S
     → ys ≡ take i (with_values S V) ++ drop i S → t ≡ s → s ≡ get_or ys i s
@@ -33,6 +34,7 @@ write-step S V ys i s t some alike is same read =
     let inside : i < length S = omega arith
     in rw (add-one, same, is) (write-next S V i s inside some (rw (← is) read))
 
+-- one more semaphore is marked with the caller
 pub mark-step : (S : List Semaphore) (pid : ℕ) (steps : List SemStep) (i n : ℕ) (d : SemStep) (ys : List Semaphore)
     (s t : Semaphore)
     → i < length steps → n ≡ (get_or steps i d).num → n < length ys → ys ≡ fold (mark pid) S (take i steps) → t ≡ s

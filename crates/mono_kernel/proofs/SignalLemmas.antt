@@ -9,6 +9,7 @@ use Rattle.mono_kernel.specs.declared.process.Change.TheVariants.{Signals as Set
 use Rattle.mono_kernel.specs.Process.{after_change}
 use Rattle.mono_kernel.specs.Answers.{signalled_kernel}
 
+-- signals changed in place are signals of the kernel
 pub signals-land : (k next : Kernel) (pid : ℕ) (b : Alive) (f : Signals → Signals) (s : Signals)
     → living_at k pid ≡ Some b → s ≡ f b.row.signals
     → IfSome (living_at k pid) (λ a. next ≡ with_alive k pid (after_change (SetSignals s) a))
@@ -19,6 +20,7 @@ signals-land k next pid b f s here is landed =
     here_at : next ≡ with_alive k pid (after_change (SetSignals s) b) → next ≡ with_signals k pid b s
     here_at h = h
 
+-- a signal to oneself is raised, and not counted against what one may still do
 pub own-signal : (k next : Kernel) (caller pid : ℕ) (g : Sig) (o : Option Alive) → caller ≡ pid
     → IfSome o (λ a. next ≡ with_signals k pid a (raise a.row.signals g))
     → IfSome o (λ a. next ≡ signalled_kernel k caller pid a g)

@@ -17,9 +17,11 @@ use Rattle.number_maps.proofs.Order.{same-from-nat_eq}
 
 -- look-ups after a change at a number
 
+-- who lives at a number after a value was put there
 pub living-put_same : (ps : Numbered Process) (k : ℕ) (v : Process) → living_in (put ps k v) k ≡ alive_in v
 living-put_same ps k v = ap (option_and_then alive_in) (get-put-same ps k v)
 
+-- and at another
 pub living-put_other : (ps : Numbered Process) (k q : ℕ) (v : Process) → nat_eq q k ≡ false
     → living_in (put ps k v) q ≡ living_in ps q
 living-put_other ps k q v apart = ap (option_and_then alive_in) (get-put-apart ps k q v apart)
@@ -162,8 +164,10 @@ plain-keeps (Reap c) a plain child h =
     kept-filter (λ e. nat_eq child e.pid) (λ e. not (nat_eq c e.pid)) a.row.family.ended h
 plain-keeps Spend a plain child h = h
 
+-- a change that moves no child keeps the table in order
 pub IsTable-plain : (ps ns : Numbered Process) (parents : Numbered ℕ) (pid : ℕ) (change : Change) → IsTable ps parents
-    → IsSome (living_in ps pid) → IsPlain change → IfLiving ps pid (λ a. ns ≡ put ps pid (Living (after_change change a)))
+    → IsSome (living_in ps pid) → IsPlain change
+    → IfLiving ps pid (λ a. ns ≡ put ps pid (Living (after_change change a)))
     → IsRising ns → IsTable ns parents
 IsTable-plain ps ns parents pid change t lives plain is rising = at (living_in ps pid) refl lives is
   where
@@ -214,6 +218,7 @@ ended-keeps a c ending child h = at (ignores_children a.row) refl
     at true is = inl (rw is at h)
     at false is = last a.row.family.ended (rw is at h)
 
+-- so does a child's end
 pub IsTable-ended_child : (ps ns : Numbered Process) (parents : Numbered ℕ) (pid c : ℕ) (ending : Ending)
     → IsTable ps parents
     → IsSome (living_in ps pid) → IfLiving ps pid (λ a. lists a.row.family c ≡ true) → living_in ps c ≡ None
@@ -240,6 +245,7 @@ IsTable-ended_child ps ns parents pid c ending t lives listed ended is rising =
 
 -- a new process
 
+-- a parent noted for a number that isn't there does no harm
 pub IsTable-stale : (ps : Numbered Process) (parents : Numbered ℕ) (n pid : ℕ) → IsTable ps parents → get ps n ≡ None
     → IsTable ps (put parents n pid)
 IsTable-stale ps parents n pid t fresh =
@@ -398,6 +404,7 @@ module _ (ps : Numbered Process) (parents : Numbered ℕ) (n pid : ℕ) (a : Ali
         kept = λ p child c lives it. (fits p child c lives).2 it;
       })
 
+-- a process that lives is in the table
 pub there-alive : (ps : Numbered Process) (p : ℕ) → IsSome (living_in ps p) → is_some (get ps p) ≡ true
 there-alive ps p some = at (living_in ps p) refl some
   where

@@ -19,6 +19,7 @@ go_on-stops i values num e (To value) rest h = absurd (cc)
 go_on-stops i values num e Waits rest h = cc
 go_on-stops i values num e TooHigh rest h = cc
 
+-- an operation that can go on leaves the rest to be tried
 pub try-goes : (i : ℕ) (values : List ℕ) (steps : List SemStep) (d : SemStep) (n x v : ℕ) → i < length steps
     → n ≡ (get_or steps i d).num → n < length values → x ≡ get_or values n x
     → answer_of (move_by (get_or steps i d).add x) ≡ Ok v
@@ -28,6 +29,7 @@ try-goes i values steps d n x v inside is_num within read h =
     in rw (front, ← is_num, slice_get_read values (length values) n x refl within read)
     (go_on-goes i values n v (move_by (get_or steps i d).add x) (λ next. try_from (i + 1) next (drop (i + 1) steps)) h)
 
+-- one that can't ends the trial
 pub try-stops : (i : ℕ) (values : List ℕ) (steps : List SemStep) (d : SemStep) (n x : ℕ) (e : Errno) → i < length steps
     → n ≡ (get_or steps i d).num → n < length values → x ≡ get_or values n x
     → answer_of (move_by (get_or steps i d).add x) ≡ Err e

@@ -30,24 +30,24 @@ impl Model for Names {
 }
 
 /// Binds a key, if there is one.
-fn bind(keys: &mut BTreeMap<Key, Id>, key: Option<Key>, id: Id) -> Result<(), Memory>
-    ensures ok { OnOk result (keys.new.entries ≡ keys_with keys.old.entries key id) }
+fn bind(keys: &mut BTreeMap<Key, Id>, key: &Option<Key>, id: &Id) -> Result<(), Memory>
+    ensures ok { OnOk result (keys.new.entries ≡ keys_with keys.old.entries key.now id.now) }
     ensures err { OnErr result (keys.new.entries ≡ keys.old.entries) }
     ensures rising { IsRising keys.old.entries → IsRising keys.new.entries }
 {
     if let Some(key) = key {
-        keys.insert(key, id)?;
+        keys.insert(*key, *id)?;
     }
     Ok(())
 }
 
 /// Notes the way back to a key, if there is one.
-fn note_way(key_of: &mut BTreeMap<Id, Key>, key: Option<Key>, id: Id) -> Result<(), Memory>
-    ensures ok { OnOk result (key_of.new.entries ≡ ways_with key_of.old.entries key id) }
+fn note_way(key_of: &mut BTreeMap<Id, Key>, key: &Option<Key>, id: &Id) -> Result<(), Memory>
+    ensures ok { OnOk result (key_of.new.entries ≡ ways_with key_of.old.entries key.now id.now) }
     ensures err { OnErr result (key_of.new.entries ≡ key_of.old.entries) }
 {
     if let Some(key) = key {
-        key_of.insert(id, key)?;
+        key_of.insert(*id, *key)?;
     }
     Ok(())
 }
@@ -86,12 +86,12 @@ fn key_leading_to(keys: &BTreeMap<Key, Id>, key_of: &BTreeMap<Id, Key>, id: Id) 
 }
 
 /// Frees a key, if there is one, that was bound just before.
-fn free(keys: &mut BTreeMap<Key, Id>, key: Option<Key>)
-    ensures { (before : Numbered ℕ) (id : ℕ) → keys.old.entries ≡ keys_with before key id
-        → bound_to before key ≡ None → keys.new.entries ≡ before }
+fn free(keys: &mut BTreeMap<Key, Id>, key: &Option<Key>)
+    ensures { (before : Numbered ℕ) (id : ℕ) → keys.old.entries ≡ keys_with before key.now id
+        → bound_to before key.now ≡ None → keys.new.entries ≡ before }
 {
     if let Some(key) = key {
-        keys.remove(&key);
+        keys.remove(key);
     }
 }
 
@@ -100,28 +100,28 @@ fn give_out<T: Drop>(
     used: &mut BTreeSet<Id>,
     keys: &mut BTreeMap<Key, Id>,
     things: &mut BTreeMap<Id, T>,
-    id: Id,
-    key: Option<Key>,
+    id: &Id,
+    key: &Option<Key>,
     thing: T,
 ) -> Result<(), Memory>
-    requires fresh { is_used used.old.keys id ≡ false }
-    requires unbound { bound_to keys.old.entries key ≡ None }
-    ensures used { MatchResult result (λ _. used.new.keys ≡ used_with used.old.keys id)
+    requires fresh { is_used used.old.keys id.now ≡ false }
+    requires unbound { bound_to keys.old.entries key.now ≡ None }
+    ensures used { MatchResult result (λ _. used.new.keys ≡ used_with used.old.keys id.now)
         (λ _. used.new.keys ≡ used.old.keys) }
-    ensures keys { MatchResult result (λ _. keys.new.entries ≡ keys_with keys.old.entries key id)
+    ensures keys { MatchResult result (λ _. keys.new.entries ≡ keys_with keys.old.entries key.now id.now)
         (λ _. keys.new.entries ≡ keys.old.entries) }
-    ensures things { MatchResult result (λ _. things.new.entries ≡ put things.old.entries id thing)
+    ensures things { MatchResult result (λ _. things.new.entries ≡ put things.old.entries id.now thing)
         (λ _. things.new.entries ≡ things.old.entries) }
     ensures rising { IsRising keys.old.entries → IsRising keys.new.entries }
 {
-    used.insert(id)?;
+    used.insert(*id)?;
     if let Err(memory) = bind(keys, key, id) {
-        used.remove(&id);
+        used.remove(id);
         return Err(memory);
     }
-    if things.insert(id, thing).is_err() {
+    if things.insert(*id, thing).is_err() {
         free(keys, key);
-        used.remove(&id);
+        used.remove(id);
         return Err(Memory);
     }
     Ok(())
@@ -147,10 +147,10 @@ impl Names {
     }
 
     /// Whether the identifier was given out.
-    pub(crate) fn is_used(&self, id: Id) -> bool
-        ensures { result ≡ is_used self.now.used id }
+    pub(crate) fn is_used(&self, id: &Id) -> bool
+        ensures { result ≡ is_used self.now.used id.now }
     {
-        self.used.contains(&id)
+        self.used.contains(id)
     }
 
     /// Gives out an identifier for a new thing, and binds the key, if there is one, to it. A refusal
@@ -158,14 +158,14 @@ impl Names {
     pub(crate) fn add<T: Drop>(
         &mut self,
         things: &mut BTreeMap<Id, T>,
-        id: Id,
-        key: Option<Key>,
+        id: &Id,
+        key: &Option<Key>,
         thing: T,
     ) -> Result<(), Memory>
-        requires fresh { is_used self.old.used id ≡ false }
-        requires unbound { bound_to self.old.keys key ≡ None }
-        ensures named { OnOk result (self.new ≡ with_name self.old id key) }
-        ensures added { OnOk result (things.new.entries ≡ put things.old.entries id thing) }
+        requires fresh { is_used self.old.used id.now ≡ false }
+        requires unbound { bound_to self.old.keys key.now ≡ None }
+        ensures named { OnOk result (self.new ≡ with_name self.old id.now key.now) }
+        ensures added { OnOk result (things.new.entries ≡ put things.old.entries id.now thing) }
         ensures err { OnErr result (self.new ≡ self.old) }
         ensures unchanged { OnErr result (things.new.entries ≡ things.old.entries) }
     {

@@ -9,6 +9,7 @@ use Rattle.number_maps.proofs.Order.{cmp-equal, cmp-less, cmp-greater, at-same, 
 pub get-first : {V : Type 0} (e : ℕ × V) (m : Numbered V) (q : ℕ) → q ≡ e.0 → get (e ∷ m) q ≡ Some e.1
 get-first e m q h = rw (at-same q e.0 h) refl
 
+-- at another number than the first a map has what its rest has
 pub get-later : {V : Type 0} (e : ℕ × V) (m : Numbered V) (q : ℕ) → q ≢ e.0 → get (e ∷ m) q ≡ get m q
 get-later e m q h = rw (at-other q e.0 h) refl
 
@@ -16,9 +17,11 @@ get-later e m q h = rw (at-other q e.0 h) refl
 pub put-less : {V : Type 0} (e : ℕ × V) (m : Numbered V) (k : ℕ) (v : V) → k < e.0 → put (e ∷ m) k v ≡ (k, v) ∷ e ∷ m
 put-less e m k v h = rw (cmp-less k e.0 h) refl
 
+-- a value put at the first number replaces the first
 pub put-equal : {V : Type 0} (e : ℕ × V) (m : Numbered V) (k : ℕ) (v : V) → k ≡ e.0 → put (e ∷ m) k v ≡ (e.0, v) ∷ m
 put-equal e m k v h = rw (cmp-equal k e.0 h) refl
 
+-- a value put at a higher number goes into the rest
 pub put-greater : {V : Type 0} (e : ℕ × V) (m : Numbered V) (k : ℕ) (v : V) → e.0 < k → put (e ∷ m) k v ≡ e ∷ put m k v
 put-greater e m k v h = rw (cmp-greater k e.0 h) refl
 
@@ -44,6 +47,7 @@ get-ap e m n q h =
       | inr ne ↦ get-later e m q ne ∙ (h ∙ sym (get-later e n q ne))
     ]
 
+-- `put` changes nothing at other numbers
 pub get-put-other : {V : Type 0} (m : Numbered V) (k : ℕ) (v : V) (q : ℕ) → q ≢ k → get (put m k v) q ≡ get m q
 get-put-other [] k v q ne = get-later (k, v) [] q ne
 get-put-other (e ∷ m) k v q ne =
@@ -62,9 +66,11 @@ get-put-other (e ∷ m) k v q ne =
 pub filter-kept : {X : Type 0} (p : X → Bool) (x : X) (xs : List X) → p x ≡ true → filter p (x ∷ xs) ≡ x ∷ filter p xs
 filter-kept p x xs h = rw h refl
 
+-- a first element that the test refuses falls away
 pub filter-dropped : {X : Type 0} (p : X → Bool) (x : X) (xs : List X) → p x ≡ false → filter p (x ∷ xs) ≡ filter p xs
 filter-dropped p x xs h = rw h refl
 
+-- nothing stands at a number that was taken out
 pub get-without-same : {V : Type 0} (m : Numbered V) (k : ℕ) → get (without m k) k ≡ None
 get-without-same [] k = refl
 get-without-same {V} (e ∷ m) k =
@@ -77,6 +83,7 @@ get-without-same {V} (e ∷ m) k =
           ∙ (get-later e (without m k) k ne ∙ get-without-same m k)
     ]
 
+-- and at others what stood there
 pub get-without-other : {V : Type 0} (m : Numbered V) (k q : ℕ) → q ≢ k → get (without m k) q ≡ get m q
 get-without-other [] k q ne = refl
 get-without-other {V} (e ∷ m) k q ne =

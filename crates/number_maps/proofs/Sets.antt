@@ -13,6 +13,7 @@ use Rattle.number_maps.proofs.Order.{cmp-equal, cmp-less, cmp-greater, cmp-same,
 pub used-first : (x : ℕ) (u : List ℕ) (q : ℕ) → q ≡ x → is_used (x ∷ u) q ≡ true
 used-first x u q h = rw (eq-eqb q x h) refl
 
+-- another number than the first is used where the rest has it
 pub used-later : (x : ℕ) (u : List ℕ) (q : ℕ) → q ≢ x → is_used (x ∷ u) q ≡ is_used u q
 used-later x u q h = rw (ne_eqb q x h) refl
 
@@ -25,6 +26,7 @@ with-equal x u n h = rw (cmp-equal n x h) refl
 with-greater : (x : ℕ) (u : List ℕ) (n : ℕ) → x < n → used_with (x ∷ u) n ≡ x ∷ used_with u n
 with-greater x u n h = rw (cmp-greater n x h) refl
 
+-- a number that was added is used
 pub used-with-same : (u : List ℕ) (n : ℕ) → is_used (used_with u n) n ≡ true
 used-with-same [] n = used-first n [] n refl
 used-with-same (x ∷ u) n =
@@ -47,6 +49,7 @@ used-ap x u v q h =
       | inr ne ↦ used-later x u q ne ∙ (h ∙ sym (used-later x v q ne))
     ]
 
+-- adding a number changes nothing at others
 pub used-with-other : (u : List ℕ) (n q : ℕ) → q ≢ n → is_used (used_with u n) q ≡ is_used u q
 used-with-other [] n q ne = used-later n [] q ne
 used-with-other (x ∷ u) n q ne =
@@ -68,6 +71,7 @@ used-stays u n q h =
       | inr ne ↦ used-with-other u n q ne ∙ h
     ]
 
+-- a number is used afterwards where it was added or used before
 pub used-with : (used : List ℕ) (n q : ℕ) → (nat_eq q n ≡ true) ⊎ (is_used used q ≡ true)
     → is_used (used_with used n) q ≡ true
 used-with used n q (inl same) =
@@ -89,6 +93,7 @@ taken_back n x xs rest Equal h new rec =
 taken_back n x xs rest Greater h new rec =
     let later : is_used xs n ≡ false = rw (greater-apart n x h) at new in rw (h, rec later)
 
+-- a new number that is taken out again leaves the set as it was
 pub remove-used : (used : List ℕ) (n : ℕ) → is_used used n ≡ false
     → remove_key (is_at (nat_cmp n)) (used_with used n) ≡ used
 remove-used [] n new = rw (cmp-same n)

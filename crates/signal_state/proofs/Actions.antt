@@ -43,6 +43,7 @@ stays-kept pending false stays = refl
 stays-kept true true stays = sym stays
 stays-kept false true stays = absurd (false≢true stays)
 
+-- another action keeps what holds of signals
 pub with_action-held : (s : Signals) (g : Sig) (act : Act) → is_kill g ≡ false → IsHeld s → IsHeld (with_action s g act)
 with_action-held s g act other held =
     record {

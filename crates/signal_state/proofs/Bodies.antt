@@ -21,6 +21,7 @@ act-again Dfl = refl
 act-again Ign = refl
 act-again Catch = refl
 
+-- a doom is read back from its byte
 pub doom-again : (doom : Option Sig) → doom_from (doom_byte doom) ≡ doom
 doom-again None = refl
 doom-again (Some Hup) = refl
@@ -58,10 +59,12 @@ set-again m acc (g ∷ gs) =
 set_small : (m : PerSignal Bool) → set_number m < 2 ^ 16
 set_small m = omega (arith, bits_small (map (at m) all_signals))
 
+-- signals are spelled by 55 bytes
 pub signal_bytes-length : (s : Signals) → length (signal_bytes s) ≡ 55
 unfolding signal_bytes
 signal_bytes-length s = refl
 
+-- the actions are read back
 pub actions-again : (s : Signals) → actions_from (signal_bytes s) ≡ s.actions
 unfolding signal_bytes
 actions-again s =
@@ -78,6 +81,7 @@ actions-again s =
       chld = act-again s.actions.chld i;
     }
 
+-- the mask is read back
 pub mask-again : (s : Signals) → set_at (signal_bytes s) 10 ≡ s.mask
 unfolding signal_bytes
 mask-again s =
@@ -85,6 +89,7 @@ mask-again s =
     (from_be_bytes-to_be_bytes_2 (set_number s.mask) (set_small s.mask))
     ∙ set-again s.mask (everywhere false) all_signals
 
+-- the pending set is read back
 pub pending-again : (s : Signals) → set_at (signal_bytes s) 12 ≡ s.pending
 unfolding signal_bytes
 pending-again s =
@@ -92,6 +97,7 @@ pending-again s =
     (from_be_bytes-to_be_bytes_2 (set_number s.pending) (set_small s.pending))
     ∙ set-again s.pending (everywhere false) all_signals
 
+-- the counts of handled signals are read back
 pub counts-again : (s : Signals) → ((g : Sig) → at s.handled g < 2 ^ 32) → counts_from (signal_bytes s) ≡ s.handled
 unfolding signal_bytes
 counts-again s small =
@@ -108,6 +114,7 @@ counts-again s small =
       chld = from_be_bytes-to_be_bytes_4 s.handled.chld (small Chld) i;
     }
 
+-- the last byte is the doom's
 pub last-again : (s : Signals) → get_or (signal_bytes s) 54 0 ≡ doom_byte s.doom
 unfolding signal_bytes
 last-again s = refl
@@ -117,6 +124,7 @@ kept-test : (pending discarded : Bool) → (pending ≡ true → discarded ≡ f
 kept-test false discarded h = refl
 kept-test true discarded h = ap not (h refl)
 
+-- what holds of signals, part by part
 pub held-parts : (s : Signals) → IsHeld s → AreHeld s.actions s.mask s.pending
 held-parts s held =
     record {
@@ -132,6 +140,7 @@ list_all-at p [] i d within h = absurd (omega arith)
 list_all-at p (g ∷ gs) zero d within h = (and_parts (p g) (list_all p gs) h).0
 list_all-at p (g ∷ gs) (suc i) d within h = list_all-at p gs i d (omega arith) (and_parts (p g) (list_all p gs) h).1
 
+-- what all ten signals pass each signal passes
 pub each-signal : (p : Sig → Bool) → list_all p all_signals ≡ true → (g : Sig) → p g ≡ true
 each-signal p h Hup = list_all-at p all_signals 0 Hup (omega arith) h
 each-signal p h Int = list_all-at p all_signals 1 Int (omega arith) h
@@ -144,6 +153,7 @@ each-signal p h Alrm = list_all-at p all_signals 7 Alrm (omega arith) h
 each-signal p h Term = list_all-at p all_signals 8 Term (omega arith) h
 each-signal p h Chld = list_all-at p all_signals 9 Chld (omega arith) h
 
+-- and back
 pub all_signals-pass : (p : Sig → Bool) → ((g : Sig) → p g ≡ true) → list_all p all_signals ≡ true
 all_signals-pass p h = rw (h Hup, h Int, h Quit, h Kill, h Usr1, h Usr2, h Pipe, h Alrm, h Term, h Chld) refl
 

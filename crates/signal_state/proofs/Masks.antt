@@ -5,6 +5,7 @@ use Rattle.pico_base.specs.declared.signal.PerSignal.{PerSignal}
 use Rattle.kernel_model.specs.Signals.{Signals, deliver, new_mask, with_mask}
 use Rattle.pico_base.specs.Signal.{all_signals}
 
+-- a new mask, and then each signal that it lets through, is `sigprocmask`
 pub mask-then-deliver : (s after : Signals) (how : How) (set mask : PerSignal Bool) → mask ≡ new_mask how s.mask set
     → after ≡ fold deliver (record s { mask = mask }) all_signals → after ≡ with_mask s how set
 mask-then-deliver s after how set mask e h =

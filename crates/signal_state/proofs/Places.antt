@@ -50,6 +50,7 @@ pub two-read : (bytes : List ℕ) (place : ℕ) (n : ℕ × List ℕ) → place 
 two-read bytes place n within read =
     number-of w16 bytes place n within read ∙ ap (from_be_bytes w16) (two-at bytes place within)
 
+-- a number of four bytes is the count at its place
 pub four-read : (bytes : List ℕ) (place : ℕ) (n : ℕ × List ℕ) → place + 4 ≤ length bytes
     → number_at w32 (drop place bytes) ≡ Some n → n.0 ≡ count_at bytes place
 four-read bytes place n within read =

@@ -128,11 +128,13 @@ queue_again q (code ∷ bytes) is =
 pub no_queue : (bytes : List ℕ) → queue_at bytes ≡ None → (q : Queue) → IsBodyOf q bytes → ⊥
 no_queue bytes e q is = refused (queue_at bytes) q e (queue_again q bytes is)
 
+-- bytes are the body of one queue
 pub one_queue : (bytes : List ℕ) (p q : Queue) → IsBodyOf p bytes → IsBodyOf q bytes → p ≡ q
 one_queue bytes p q is is' = some_is p q (sym (queue_again p bytes is) ∙ queue_again q bytes is')
 
 -- ---- the fields, as the code reads them
 
+-- fields that were all read are the body's
 pub fields_read : (bytes : List ℕ) (a b c d : ℕ × List ℕ) (room : ℕ) → number_upto w32 max_queue_bytes bytes ≡ Some a
     → number_at w32 a.1 ≡ Some b → number_at w32 b.1 ≡ Some c → number_upto w16 max_messages c.1 ≡ Some d
     → Measures (messages_at d.0 max_queue_bytes d.1) room [] → HasFields a.0 b.0 c.0 d.0 room d.1 (fields_at bytes)
@@ -141,6 +143,7 @@ fields_read bytes a b c d room qbytes sender receiver count measured =
     let read = measured.are_read in
     record { measured = measured; is_read = rw (qbytes, sender, receiver, count, read) refl }
 
+-- bytes left behind the fields make it no body
 pub fields_unread : (bytes : List ℕ) (a b c d : ℕ × List ℕ) (room : ℕ) (rest : List ℕ)
     → number_upto w32 max_queue_bytes bytes ≡ Some a → number_at w32 a.1 ≡ Some b → number_at w32 b.1 ≡ Some c
     → number_upto w16 max_messages c.1 ≡ Some d
@@ -150,6 +153,7 @@ fields_unread bytes a b c d room rest qbytes sender receiver count measured more
     let read = measured.are_read in
     rw (qbytes, sender, receiver, count, read, more) refl
 
+-- what was read field by field is the queue of these bytes
 pub is_unpacked : {X : Type 0} (qbytes sender receiver count room : X → ℕ) (messages : X → List ℕ) (bytes : List ℕ)
     (r : Option X) → IsBytes bytes
     → MatchOption r (queue_at bytes ≡ None)

@@ -10,6 +10,7 @@ use Rattle.body_fields.proofs.Many.{with_front, regroup, nothing_before}
 use Rattle.sysv_msg.specs.Reading.{message_at, messages_at}
 use Rattle.sysv_msg.specs.Measured.{Measures}
 
+-- one more message was read
 pub goes_on : (front : List Message) (count i room : ℕ) (bytes : List ℕ) (m : Message) (after : List ℕ)
     (total : Option (List Message × List ℕ)) → i < count → message_at room bytes ≡ Some (m, after)
     → with_front front (messages_at (count - i) room bytes) ≡ total
@@ -22,6 +23,7 @@ goes_on front count i room bytes m after total lt h so_far =
     rw (k, h) (regroup front m (messages_at (count - (i + 1)) (room - length m.text) after)) in
     sym one ∙ so_far
 
+-- a message that can't be read ends the reading
 pub ends : (front : List Message) (count i room : ℕ) (bytes : List ℕ) (total : Option (List Message × List ℕ))
     → i < count → message_at room bytes ≡ None
     → with_front front (messages_at (count - i) room bytes) ≡ total → total ≡ None
@@ -31,6 +33,7 @@ ends front count i room bytes total lt h so_far =
     let one : with_front front (messages_at (count - i) room bytes) ≡ None = rw (k, h) refl in
     sym so_far ∙ one
 
+-- all messages were read
 pub is_done : (front : List Message) (count i room : ℕ) (bytes : List ℕ) (total : Option (List Message × List ℕ))
     → count ≤ i → with_front front (messages_at (count - i) room bytes) ≡ total → total ≡ Some (front, bytes)
 unfolding messages_at
@@ -56,6 +59,7 @@ begins count bytes =
     let k : count - 0 ≡ count = omega arith in
     rw k record { front = []; others = nothing_before (messages_at count max_queue_bytes bytes); fit = refl }
 
+-- the room that is left after one more message
 pub has_read_more : (count i room : ℕ) (bytes : List ℕ) (m : Message) (after : List ℕ)
     (total : Option (List Message × List ℕ)) → i < count → message_at room bytes ≡ Some (m, after)
     → length m.text ≤ room
@@ -67,6 +71,7 @@ has_read_more count i room bytes m after total lt h within read =
       fit = room_left read.front m room max_queue_bytes within read.fit;
     }
 
+-- the room that is left at the end
 pub measured : (count i room : ℕ) (bytes : List ℕ) (total : Option (List Message × List ℕ)) → count ≤ i
     → HasRead total (count - i) room bytes → Measures total room bytes
 measured count i room bytes total le read =

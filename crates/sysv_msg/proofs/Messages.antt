@@ -113,6 +113,7 @@ message_again room m rest sendable within =
       text_again (min max_text room) m.text rest le (omega arith),
     ) refl
 
+-- messages that were read are what their bytes spell, as many as were asked for, and within the room
 pub messages_take : (n room : ℕ) (bytes : List ℕ) (x : List Message × List ℕ) → IsBytes bytes
     → messages_at n room bytes ≡ Some x
     → Takes bytes (flat_map message_field x.0) x.1 × (length x.0 ≡ n) × (bytes_of x.0 ≤ room)
@@ -138,6 +139,7 @@ messages_take (suc n) room bytes x fits e =
     × (bytes_of y.0 ≤ room) × AllByRecursion IsSendable y.0) (some_is made x b.2)
     (rw flat_map-cons both, ap suc second.1, sum, (first.1, second.3))
 
+-- messages within the room are read back
 pub messages_again : (ms : List Message) (room : ℕ) (rest : List ℕ) → AllByRecursion IsSendable ms → bytes_of ms ≤ room
     → messages_at (length ms) room (flat_map message_field ms ++ rest) ≡ Some (ms, rest)
 unfolding messages_at

@@ -9,10 +9,12 @@ use Rattle.pico_base.specs.declared.reply.Errno.TheVariants.{E2big}
 use Rattle.kernel_model.specs.Queue.{Message, Queue, select, receive, bytes_of}
 use Rattle.sysv_msg.specs.Limits.{IsSendable, IsWithinLimits}
 
+-- a queue by its fields
 abbrev pub queue_of : List Message → ℕ → ℕ → ℕ → Queue
 queue_of messages qbytes sender receiver =
     record { messages = messages; qbytes = qbytes; last_sender = sender; last_receiver = receiver }
 
+-- a message that fits, or may be cut, is received
 pub receive_taken : (q : Queue) (pid : ℕ) (class : ℤ) (size : ℕ) (noerror : Bool) (place : ℕ) (m : Message)
     (rest : List Message)
     → Some place ≡ select q.messages class → place < length q.messages → m ≡ get_or q.messages place m
@@ -28,6 +30,7 @@ receive_taken q pid class size noerror place m rest selected within is fits left
     slice_get_read q.messages (length q.messages) place m refl within is in
     rw (← selected, there, fits, left) refl
 
+-- one that is too long, and may not be cut, is refused
 pub receive_refused : (q : Queue) (pid : ℕ) (class : ℤ) (size : ℕ) (noerror : Bool) (place : ℕ) (m : Message)
     → Some place ≡ select q.messages class → place < length q.messages → m ≡ get_or q.messages place m
     → (nat_le (length m.text) size || noerror) ≡ false
@@ -50,6 +53,7 @@ bytes_removed ms place m within is =
     let sum = sum_by-remove (λ (m : Message). length m.text) ms place m within in
     subst (λ (x : Message). bytes_of (remove ms place) + length x.text ≡ bytes_of ms) (sym is) sum
 
+-- a queue without one of its messages is within its limits
 pub within_removed : (q : Queue) (place pid bytes : ℕ) (m : Message) (rest : List Message)
     → place < length q.messages → m ≡ get_or q.messages place m → rest ≡ remove q.messages place
     → bytes ≡ bytes_of q.messages → IsWithinLimits q

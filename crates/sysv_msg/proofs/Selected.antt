@@ -4,6 +4,7 @@ use Rattle.std.proofs.lemmas.Int.{ints}
 use Rattle.std.proofs.lemmas.Bool.Decides.{nat_tests}
 use Rattle.kernel_model.specs.Queue.{Message, first_of, select}
 
+-- a positive type selects the first message of that type
 pub select-positive : (ms : List Message) (class : ℤ) → pos 0 <ℤ class → first_of class ms ≡ select ms class
 select-positive ms (pos zero) h = absurd (omega (arith, ints))
 select-positive ms (pos (suc n)) h = refl

@@ -151,6 +151,7 @@ set_again set bytes is = ap set_at is.spelled ∙ counted_again set.semaphores i
 pub no_set : (bytes : List ℕ) → set_at bytes ≡ None → (set : SemaphoreSet) → IsBodyOf set bytes → ⊥
 no_set bytes e set is = refused (set_at bytes) set e (set_again set bytes is)
 
+-- bytes are the body of one set
 pub one_set : (bytes : List ℕ) (a b : SemaphoreSet) → IsBodyOf a bytes → IsBodyOf b bytes → a ≡ b
 one_set bytes a b is is' = some_is a b (sym (set_again a bytes is) ∙ set_again b bytes is')
 

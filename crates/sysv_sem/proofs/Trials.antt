@@ -35,6 +35,7 @@ stops i values num TooHigh rest e h = ap (λ (x : Errno). Err x) (same_error Era
 read_at : (values : List ℕ) (num : ℕ) → num < length values → slice_get values num ≡ Some (get_or values num 0)
 read_at values num inside = slice_get-get_or values num 0 inside
 
+-- an operation that can go on leaves the rest to be tried
 pub tried_more : (values : List ℕ) (steps : List SemStep) (i : ℕ) (d : SemStep) (next : ℕ) → i < length steps
     → (get_or steps i d).num < length values
     → Ok next ≡ answer_of (move_by (get_or steps i d).add (get_or values (get_or steps i d).num 0))
@@ -46,6 +47,7 @@ tried_more values steps i d next within inside moved =
     let to = moves_to (move_by step.add (get_or values step.num 0)) next (sym moved) in
     rw (split, read_at values step.num inside, to) refl
 
+-- one that can't ends the trial
 pub tried_stops : (values : List ℕ) (steps : List SemStep) (i : ℕ) (d : SemStep) (e : Errno) → i < length steps
     → (get_or steps i d).num < length values
     → Err e ≡ answer_of (move_by (get_or steps i d).add (get_or values (get_or steps i d).num 0))

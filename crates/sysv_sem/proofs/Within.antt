@@ -207,6 +207,7 @@ rejoined size xs ys len = take_at xs (drop (length xs) ys) size len
 abbrev whole : {X : Type 0} → ℕ → List X → List X → List X
 whole size xs ys = take size (xs ++ drop (length xs) ys)
 
+-- a set after `semop` is within its limits
 pub set_after_op : {E : Type 0} (r : Result E Errno) (old new : List Semaphore) (pid : ℕ) (steps : List SemStep)
     (scratch trial : List ℕ) (size room : ℕ)
     → IfOk r (λ _. op (set_of old) pid steps ≡ Ok (set_of new)) → OnErr r (new ≡ old) → length old ≡ size
@@ -218,6 +219,7 @@ set_after_op r old new pid steps scratch trial size room done same size_is room_
     rw (rejoined size new old (omega arith), rejoined room trial scratch (omega arith))
     (omega arith, kept_by_op r old new pid steps done same h.1)
 
+-- a set after SETALL is within its limits
 pub set_after_set_all : {E : Type 0} (r : Result E Errno) (old new : List Semaphore) (values scratch : List ℕ)
     (size : ℕ)
     → IfOk r (λ _. set_all (set_of old) values ≡ Ok (set_of new)) → OnErr r (new ≡ old) → length old ≡ size

@@ -16,17 +16,17 @@ use pico_base::{Bytes, Errno, Id, Key, Memory, Pid, Reply};
 /// The calls on message queues.
 impl Kernel {
     /// Whether a queue may take this number.
-    fn is_new_queue(&self, id: Id) -> bool
-        ensures { result ≡ is_fresh self.now.used_queues id }
+    fn is_new_queue(&self, id: &Id) -> bool
+        ensures { result ≡ is_fresh self.now.used_queues id.now }
     {
         id.0 > 0 && !self.queue_names.is_used(id)
     }
 
     /// A new queue, with a key if there is one. NotAllowed where the number is 0 or used.
-    fn new_queue(&mut self, key: Option<Key>, chosen: Id) -> Result<Reply, CallFault>
-        requires { bound_to self.old.queue_keys key ≡ None }
-        ensures { Answers (new_queue self.old (keys_with self.old.queue_keys key chosen) chosen) result self.old
-            self.new }
+    fn new_queue(&mut self, key: &Option<Key>, chosen: &Id) -> Result<Reply, CallFault>
+        requires { bound_to self.old.queue_keys key.now ≡ None }
+        ensures { Answers (new_queue self.old (keys_with self.old.queue_keys key.now chosen.now) chosen.now) result
+            self.old self.new }
     {
         if !self.is_new_queue(chosen) {
             return Err(CallFault::NotAllowed);
@@ -48,7 +48,7 @@ impl Kernel {
         ensures { Answers (get_queue self.old key create excl chosen) result self.old self.new }
     {
         let Some(key) = key else {
-            return self.new_queue(None, Id(chosen));
+            return self.new_queue(&None, &Id(chosen));
         };
         if let Some(id) = self.queue_names.find(key) {
             return Ok(if create && excl {
@@ -60,7 +60,7 @@ impl Kernel {
         if !create {
             return Ok(Reply::Fail(Errno::Enoent));
         }
-        self.new_queue(Some(key), Id(chosen))
+        self.new_queue(&Some(key), &Id(chosen))
     }
 
     /// msgsnd: EINVAL or EAGAIN.

@@ -36,18 +36,19 @@ fn waits(steps: &[SemStep]) -> bool
 /// The calls on semaphore sets.
 impl Kernel {
     /// Whether a set may take this number.
-    fn is_new_set(&self, id: Id) -> bool
-        ensures { result ≡ is_fresh self.now.used_sets id }
+    fn is_new_set(&self, id: &Id) -> bool
+        ensures { result ≡ is_fresh self.now.used_sets id.now }
     {
         id.0 > 0 && !self.set_names.is_used(id)
     }
 
     /// A new set, with a key if there is one: EINVAL for a bad number of semaphores. NotAllowed where
     /// the number is 0 or used.
-    fn new_set(&mut self, key: Option<Key>, count: u32, chosen: Id) -> Result<Reply, CallFault>
-        requires { bound_to self.old.set_keys key ≡ None }
-        ensures { Answers (new_set_of self.old (keys_with self.old.set_keys key chosen) chosen (new_set count)) result
-            self.old self.new }
+    fn new_set(&mut self, key: &Option<Key>, count: u32, chosen: &Id) -> Result<Reply, CallFault>
+        requires { bound_to self.old.set_keys key.now ≡ None }
+        ensures { Answers
+            (new_set_of self.old (keys_with self.old.set_keys key.now chosen.now) chosen.now (new_set count))
+            result self.old self.new }
     {
         if is_bad_size(count) {
             return Ok(Reply::Fail(Errno::Einval));
@@ -94,7 +95,7 @@ impl Kernel {
         ensures { Answers (get_set self.old key count create excl chosen) result self.old self.new }
     {
         let Some(key) = key else {
-            return self.new_set(None, count, Id(chosen));
+            return self.new_set(&None, count, &Id(chosen));
         };
         if let Some(id) = self.set_names.find(key) {
             return Ok(if create && excl {
@@ -106,7 +107,7 @@ impl Kernel {
         if !create {
             return Ok(Reply::Fail(Errno::Enoent));
         }
-        self.new_set(Some(key), count, Id(chosen))
+        self.new_set(&Some(key), count, &Id(chosen))
     }
 
     /// semop: EINVAL, E2BIG, EFBIG, EAGAIN or ERANGE. NotAllowed where an operation may have to wait.

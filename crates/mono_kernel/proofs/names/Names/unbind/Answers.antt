@@ -2,6 +2,7 @@ use Rattle.std.proofs.Common.{◌∙◌, ℕ, List, sym, ap}
 use Rattle.number_maps.specs.Maps.{Numbered}
 use Rattle.mono_kernel.specs.Names.{NameTable}
 use Rattle.mono_kernel.proofs.KeyLemmas.{unbound-none, unbound-one}
+use Rattle.mono_kernel.proofs.NameLemmas.{HasWayBack-removed}
 use Rattle.mono_kernel.proofs.names.Names.unbind.Goals as goal
 
 with_keys : List ℕ → Numbered ℕ → NameTable
@@ -22,3 +23,8 @@ returns-in_default c =
     rw (← c.self.view_is)
     (ap (with_keys c.self.inside.used.keys)
     (sym (unbound-none c.self.inside.keys.entries c.args.id c.self.invariant.rising c.in_default.ensures)))
+
+pub invariant_of-self : goal.invariant_of-self
+invariant_of-self c =
+    HasWayBack-removed c.self.inside.keys.entries c.self.inside.key_of.entries _ c.self.inside.used.keys c.in-Some.key
+    c.self.invariant c.remove.ensures.entries

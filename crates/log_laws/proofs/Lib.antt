@@ -1,0 +1,5 @@
+pub mod Lists
+pub mod Halfway
+pub mod Turns
+pub mod Whole
+pub mod Journals

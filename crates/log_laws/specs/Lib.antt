@@ -1,0 +1,4 @@
+pub mod Logs
+pub mod Merge
+pub mod Journal
+pub mod Laws

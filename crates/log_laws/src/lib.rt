@@ -1,0 +1,18 @@
+//! The law of merged logs: what nodes did each by itself, in threads of their own say, is one run of the machine. No
+//! call runs here.
+#![tactic(auto)]
+
+ghost use Rattle.log_laws.specs.Laws.{ConsistentLogsAreRuns, OneJournal};
+
+/// Where each node's log is the machine's, its stamps rise, and each frame was taken in the order of sending and later
+/// than it was sent, the turns of all logs by stamp and node are one run of the machine from the opening world: each
+/// event is enabled when it comes.
+pub fn consistent_logs_are_runs()
+    ensures { ConsistentLogsAreRuns }
+{}
+
+/// Where the nodes share a journal in which stamps don't fall and events of different nodes have different stamps, its
+/// entries are those of that run, in its order.
+pub fn one_journal()
+    ensures { OneJournal }
+{}
