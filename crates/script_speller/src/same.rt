@@ -6,6 +6,12 @@ use pico_base::{Block, Call, Line, Memory, Script};
 use std::alloc::Global;
 use trace_text::{is_call, push_call};
 
+fn are_same_bytes(bytes: &[u8], others: &[u8]) -> bool
+    ensures { result ≡ true → bytes.now ≡ others.now }
+{
+    bytes == others
+}
+
 // Whether two calls of a script are the same: both are in the grammar of a trace, and have the same text there.
 fn is_same_call(
     alloc: Global,
@@ -16,14 +22,17 @@ fn is_same_call(
     requires { IsSoundScript script.now }
     ensures { IfOk result (λ is. is ≡ true → call.now ≡ other.now) }
 {
-    if !is_call(script, call) || !is_call(script, other) {
+    if !is_call(script, call) {
+        return Ok(false);
+    }
+    if !is_call(script, other) {
         return Ok(false);
     }
     let mut first = Vec::new(alloc);
     let mut second = Vec::new(alloc);
     push_call(alloc, &mut first, script, call)?;
     push_call(alloc, &mut second, script, other)?;
-    Ok(first.as_slice() == second.as_slice())
+    Ok(are_same_bytes(&first, &second))
 }
 
 fn is_same_line(
@@ -71,7 +80,7 @@ fn is_same_block(
     requires { IsSoundScript script.now }
     ensures { IfOk result (λ is. is ≡ true → block.now ≡ other.now) }
 {
-    let is_named_so = block.name.as_slice() == other.name.as_slice();
+    let is_named_so = are_same_bytes(block.name.as_slice(), other.name.as_slice());
     let are_same = are_same_lines(alloc, script, block.lines.as_slice(), other.lines.as_slice())?;
     Ok(is_named_so && are_same)
 }

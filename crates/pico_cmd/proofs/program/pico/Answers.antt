@@ -59,4 +59,6 @@ returns-in-Err-Memory-clause-complete g c no_read_fault no_write_fault =
 
 pub returns-in-Err-ReadFault-clause-complete : goal.returns-in-Err-ReadFault-clause-complete
 returns-in-Err-ReadFault-clause-complete g c no_read_fault no_write_fault =
-    absurd (no_read_fault c.in-Err-ReadFault.ensures.read c.in-Err-ReadFault.ensures.stop)
+    absurd
+    (no_read_fault (rw c.in-Err-ReadFault.field-0-is at c.in-Err-ReadFault.ensures.read)
+    (rw c.in-Err-ReadFault.field-0-is at c.in-Err-ReadFault.ensures.stop))
