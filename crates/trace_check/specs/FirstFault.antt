@@ -8,12 +8,12 @@ use Rattle.pico_base.specs.declared.reply.Reply.{Reply}
 use Rattle.pico_base.specs.declared.reply.Entry.{Entry}
 use Rattle.pico_base.specs.declared.script.Script.{Script}
 use Rattle.pico_base.specs.declared.signal.Sig.{Sig}
-use Rattle.number_maps.specs.Maps.{get}
+use Rattle.number_maps.specs.Maps.{get, put}
 use Rattle.kernel_model.specs.Row.{Alive}
 use Rattle.kernel_model.specs.Kernel.{Kernel, opening, living_at}
 use Rattle.kernel_model.specs.Transition.{Successor, transition, is_spent}
 use Rattle.kernel_model.specs.History.{IsLegal, number_in}
-use Rattle.kernel_model.specs.Fitting.{Place, Places, FitsWhole, due, is_killed, opening_places, places_after}
+use Rattle.kernel_model.specs.Fitting.{Place, Places, FitsWhole, due, is_killed, move_on, opening_places, places_after_fork}
 use Rattle.kernel_model.specs.Trace.{call_text, reply_text, totals_line}
 use Rattle.trace_text.specs.Grammar.{is_call, is_reply}
 use Rattle.trace_text.specs.Reading.{has_ended, is_line, entry_in}
@@ -80,28 +80,33 @@ abbrev pub or_fault : {A B : Type 0} → Result A CheckFault → (A → Result B
 or_fault (Err fault) next = Err fault
 or_fault (Ok x) next = next x
 
-abbrev pub places_with : Script → Places → Entry → Option Place → Places
-places_with script places e None = places
-places_with script places e (Some place) = places_after script places e place
+abbrev pub places_with : Script → Places → ℕ → Call → Reply → Option Place → Places
+places_with script places pid call reply None = places
+places_with script places pid call reply (Some place) =
+    places_after_fork script (put places pid (move_on place call (Some reply))) place call (Some reply)
 
-abbrev pub with_entry : Script → Progress → Entry → Kernel → Progress
-with_entry script so_far e kernel =
+abbrev pub with_call : Script → Progress → ℕ → Call → Reply → Kernel → Progress
+with_call script so_far pid call reply kernel =
     record {
       kernel = kernel;
-      places = places_with script so_far.places e (get so_far.places e.pid);
+      places = places_with script so_far.places pid call reply (get so_far.places pid);
     }
 
--- an entry with this reply, by the script and then by the kernel
-abbrev pub judge_call : Script → ℕ → Progress → Entry → Option Reply → Result Progress CheckFault
-judge_call script line so_far e None = Err (NotATrace line)
-judge_call script line so_far e (Some reply) =
-    if may_stand script (doom_at so_far e.pid) (due_at so_far e.pid) e.call
-    then or_fault (judge_reply line reply (transition so_far.kernel e.pid e.call (number_in (Some reply))))
-      (λ kernel. Ok (with_entry script so_far e kernel))
-    else Err (NotTheScript line (due_at so_far e.pid) (Some e.call))
+-- a call with its reply, by the script and then by the kernel
+abbrev pub judge_made : Script → ℕ → Progress → ℕ → Call → Reply → Result Progress CheckFault
+judge_made script line so_far pid call reply =
+    if may_stand script (doom_at so_far pid) (due_at so_far pid) call
+    then or_fault (judge_reply line reply (transition so_far.kernel pid call (number_in (Some reply))))
+    (λ kernel. Ok (with_call script so_far pid call reply kernel))
+    else Err (NotTheScript line (due_at so_far pid) (Some call))
+
+-- an entry in the grammar has a reply
+abbrev pub judge_own : Script → ℕ → Progress → Entry → Option Reply → Result Progress CheckFault
+judge_own script line so_far e None = Err (NotATrace line)
+judge_own script line so_far e (Some reply) = judge_made script line so_far e.pid e.call reply
 
 abbrev pub judge_entry : Script → ℕ → Progress → Entry → Result Progress CheckFault
-judge_entry script line so_far e = judge_call script line so_far e e.outcome.own
+judge_entry script line so_far e = judge_own script line so_far e e.outcome.own
 
 -- the process of the smallest number that has not ended
 abbrev pub first_unended : Places → Option ℕ
@@ -121,7 +126,7 @@ judge_line script line left done so_far text after next =
     if is_line (totals_line done) text
     then judge_totals line (length done) so_far after (first_unended so_far.places)
     else option_map_or (λ e. or_fault (judge_entry script line so_far e) (next e)) (entry_in script text)
-      (Err (NotATrace line))
+    (Err (NotATrace line))
 
 -- At most so many lines, from this one on, where so many bytes may still come, behind those of the entries done.
 unfoldable pub judge_from : Script → ℕ → ℕ → ℕ → List Entry → Progress → List ℕ → Result Legal CheckFault
@@ -137,13 +142,14 @@ judge_from script (suc most) line left done so_far bytes =
 abbrev pub verdict_of : Script → List ℕ → ℕ → Result Legal CheckFault
 verdict_of script bytes first = judge_from script (length bytes) first max_trace [] (opening_progress script) bytes
 
--- the answer is the verdict, unless memory ran out
-abbrev pub GivesFault : CheckFault → Result Legal CheckFault → Type 0
+-- the fault is that of the verdict, unless memory ran out
+abbrev pub GivesFault : {A : Type 0} → CheckFault → Result A CheckFault → Type 0
 GivesFault Memory verdict = Unit {0}
 GivesFault (NotATrace line) verdict = verdict ≡ Err (NotATrace line)
 GivesFault (Illegal line kernel trace) verdict = verdict ≡ Err (Illegal line kernel trace)
 GivesFault (NotTheScript line due found) verdict = verdict ≡ Err (NotTheScript line due found)
 
+-- the answer is the verdict, unless memory ran out
 abbrev pub Gives : Result Legal CheckFault → Result Legal CheckFault → Type 0
 Gives (Ok legal) verdict = verdict ≡ Ok legal
 Gives (Err fault) verdict = GivesFault fault verdict

@@ -1,4 +1,6 @@
-pub mod FirstFault
-pub mod Refusal
-pub mod Tally
 pub mod Cursors
+pub mod FirstFault
+pub mod Judging
+pub mod Refusal
+pub mod Standings
+pub mod Tally

@@ -17,12 +17,7 @@ pub struct Legal {
 }
 
 /// Judges the lines in order, up to the first fault.
-fn judge(
-    alloc: Global,
-    script: &Script,
-    bytes: &[u8],
-    first_line: u32,
-) -> Result<Legal, CheckFault>
+fn judge(alloc: Global, script: &Script, bytes: &[u8], first_line: u32) -> Result<Legal, CheckFault>
     requires sound { IsSoundScript script.now }
     requires first { first_line < 2 ^ 31 }
     ensures { Gives result (verdict_of script.now bytes.now first_line) }
@@ -40,12 +35,15 @@ fn judge(
             return Err(CheckFault::NotATrace { line });
         }
         if judge.is_totals(text, &mut scratch)? {
-            return judge.totals(script, line, !after.is_empty());
+            return judge.totals(script, line, after);
         }
         let Some(entry) = entry_in(alloc, script, text, &mut scratch)? else {
             return Err(CheckFault::NotATrace { line });
         };
-        judge.entry(script, line, entry)?;
+        match judge.entry(script, line, entry) {
+            Ok(()) => (),
+            Err(fault) => return Err(fault),
+        }
         left -= text.len() + 1;
         line += 1;
         rest = after;
@@ -57,8 +55,8 @@ fn judge(
 /// bytes are the text, with any nodes, of a history that is legal and fits the script whole, within the limits of a
 /// trace. Else the first fault comes, in the order of the lines and, on one line, in this order:
 ///
-/// 1. `NotATrace`: the line is none of a trace, or has other totals; or a line follows the totals; or a limit is passed;
-///    or the bytes end before the totals, at the line behind the last one.
+/// 1. `NotATrace`: the line is none of a trace, or has other totals; or a line follows the totals; or a limit is
+///    passed; or the bytes end before the totals, at the line behind the last one.
 /// 2. `NotTheScript`: the process was not forked, or has ended, or another call is due; or, at the totals, a process
 ///    has not ended, of which that of the smallest number is named. A process that was doomed, and has had the entry
 ///    that it may still have, has its end due. In place of the script's call the end by any signal may stand.

@@ -57,7 +57,12 @@ impl Cursor {
     }
 
     /// The process has made this call, and has this reply.
-    pub(crate) fn goes_on(&mut self, script: &Script, call: Call, reply: &Reply) -> Result<(), Memory>
+    pub(crate) fn goes_on(
+        &mut self,
+        script: &Script,
+        call: Call,
+        reply: &Reply,
+    ) -> Result<(), Memory>
         requires sound { IsSoundScript script.now }
         requires idle { IsIdle self.old }
         requires due { IsTrue (is_some (due (place_of script.now self.old))) }

@@ -1,11 +1,11 @@
 //! Which call of a process is due, and what may stand in its place.
-ghost use Rattle.std.specs.Prelude.{◌≡◌, IfOk, Some, is_some};
-ghost use Rattle.number_maps.specs.Maps.{get};
+ghost use Rattle.std.specs.Prelude.{◌≡◌, IfOk};
 ghost use Rattle.kernel_model.specs.Kernel.{living_at};
 ghost use Rattle.kernel_model.specs.Script.{IsSoundScript};
 ghost use Rattle.kernel_model.specs.Fitting.{is_killed};
 ghost use Rattle.trace_check.specs.Cursors.{due_in, first_unended_of};
 ghost use Rattle.trace_check.specs.FirstFault.{last_doom, may_stand};
+ghost use Rattle.trace_check.specs.Standings.{doom_in};
 
 use crate::cursor::Cursor;
 use crate::same::{Texts, is_same_call};
@@ -17,14 +17,21 @@ use std::collections::BTreeMap;
 /// Process 1 and the forked processes, by number.
 pub(crate) type Cursors = BTreeMap<Pid, Cursor>;
 
+/// The signal that ends a process of this standing which may have no further entry before its end.
+fn doom_in(standing: Standing) -> Option<Sig>
+    ensures { result ≡ doom_in standing }
+{
+    match standing {
+        Standing::Doomed { sig, more } if more == 0 => Some(sig),
+        _ => None,
+    }
+}
+
 /// The signal that ends a process which may have no further entry before its end.
 pub(crate) fn last_doom(kernel: &Kernel, pid: Pid) -> Option<Sig>
     ensures { result ≡ last_doom (living_at kernel.now pid) }
 {
-    match kernel.standing(pid) {
-        Standing::Doomed { sig, more: 0 } => Some(sig),
-        _ => None,
-    }
+    doom_in(kernel.standing(pid))
 }
 
 /// What the next call of a process must be, where this signal ends it next.

@@ -38,12 +38,12 @@ ended-empty (b ∷ bytes) h = absurd (cc)
 
 -- which line comes next, and what it leads to
 pub record Rests (script : Script) (left : ℕ) (done : List Entry) (bytes : List ℕ) (h : List Entry) : Type 0 where
-  more : List Entry
-  is : h ≡ done ++ more
-  text : bytes ≡ flat_map (entry_line script) more ++ totals_line h
-  lines : list_all (has_line script) more ≡ true
-  within : length bytes ≤ left
-  short : length (totals_line h) ≤ 65537
+  pub more : List Entry
+  pub is : h ≡ done ++ more
+  pub text : bytes ≡ flat_map (entry_line script) more ++ totals_line h
+  pub lines : list_all (has_line script) more ≡ true
+  pub within : length bytes ≤ left
+  pub short : length (totals_line h) ≤ 65537
 
 module _ (script : Script) where
   pub takes : (n line left : ℕ) (done : List Entry) (bytes : List ℕ) (h : List Entry)

@@ -445,7 +445,12 @@ fn push_sigprocmask(alloc: Global, out: &mut Vec<u8>, how: How, set: SigSet) -> 
 }
 
 /// Adds a call as a script would have it, with actual numbers.
-pub fn push_call(alloc: Global, out: &mut Vec<u8>, script: &Script, call: &Call) -> Result<(), Memory>
+pub fn push_call(
+    alloc: Global,
+    out: &mut Vec<u8>,
+    script: &Script,
+    call: &Call,
+) -> Result<(), Memory>
     ensures { OnOk result (out.new.items ≡ out.old.items ++ trace.call_text script.now call.now) }
 {
     match call {

@@ -1,0 +1,12 @@
+pub mod Cases
+pub mod Completes
+pub mod CursorLaws
+pub mod DueLaws
+pub mod Entries
+pub mod Follows
+pub mod JudgeLaws
+pub mod Kernels
+pub mod PlaceLaws
+pub mod SameTexts
+pub mod StandingLaws
+pub mod TallyLaws

@@ -1,0 +1,96 @@
+-- What has the same text in the grammar of a trace is the same.
+use Rattle.std.proofs.Common.{◌≡◌, ◌∙◌, ℕ, true, nat_eq, List, [], ◌∷◌, ◌++◌, Some, refl, sym, ap}
+use Rattle.std.specs.Prelude.{bytes_eq, if◌then◌else◌}
+use Rattle.std.proofs.lemmas.Bool.{and_parts, and_from}
+use Rattle.std.proofs.lemmas.Option.{same_Some}
+use Rattle.std.proofs.lemmas.Slice.Eq.{bytes_eq-Decides}
+use Rattle.pico_base.specs.Signal.{signal_number}
+use Rattle.pico_base.specs.declared.call.Call.{Call}
+use Rattle.pico_base.specs.declared.reply.Reply.{Reply}
+use Rattle.pico_base.specs.declared.script.Script.{Script}
+use Rattle.pico_base.specs.declared.signal.Sig.{Sig}
+use Rattle.pico_base.specs.declared.signal.Sig.TheVariants.{Hup, Int, Quit, Kill, Usr1, Usr2, Pipe, Alrm, Term, Chld}
+use Rattle.kernel_model.specs.Script.{IsSoundScript}
+use Rattle.kernel_model.specs.Trace.{call_text, reply_text}
+use Rattle.trace_text.specs.Grammar.{is_call, is_reply}
+use Rattle.trace_text.specs.Reading.{call_at, reply_at}
+use Rattle.trace_text.proofs.CallText.{call-again}
+use Rattle.trace_text.proofs.ReplyLaws.{reply-again}
+use Rattle.trace_check.specs.FirstFault.{is_same_call, is_same_reply}
+
+-- what follows a call in a line, and what follows a reply
+after_call : List ℕ
+after_call = 32 ∷ 61 ∷ []
+
+after_reply : List ℕ
+after_reply = 32 ∷ 98 ∷ []
+
+-- a call that has the text of one in the grammar is that call
+pub same-call : (script : Script) (call other : Call) → IsSoundScript script → is_call script other ≡ true
+    → is_same_call script call other ≡ true → call ≡ other
+unfolding after_call
+same-call script call other sound there same =
+    let p = and_parts (is_call script call) (bytes_eq (call_text script call) (call_text script other)) same in
+    let text : call_text script call ≡ call_text script other =
+    (bytes_eq-Decides (call_text script call) (call_text script other)).0 p.1 in
+    let read : Some (call, after_call) ≡ Some (other, after_call) =
+    sym (call-again script call [] sound p.0)
+    ∙ ap (λ (t : List ℕ). call_at script (t ++ after_call)) text
+    ∙ call-again script other [] sound there in
+    ap (λ (x : Call × List ℕ). x.0) (same_Some (call, after_call) (other, after_call) read)
+
+-- each call in the grammar is the same as itself
+pub call-itself : (script : Script) (call : Call) → is_call script call ≡ true → is_same_call script call call ≡ true
+call-itself script call there =
+    and_from (is_call script call) (bytes_eq (call_text script call) (call_text script call)) there
+    ((bytes_eq-Decides (call_text script call) (call_text script call)).1 refl)
+
+-- a reply that has the text of one in the grammar is that reply
+pub same-reply : (reply other : Reply) → is_reply other ≡ true → is_same_reply (Some reply) other ≡ true
+    → reply ≡ other
+unfolding after_reply
+same-reply reply other there same =
+    let p = and_parts (is_reply reply) (bytes_eq (reply_text reply) (reply_text other)) same in
+    let text : reply_text reply ≡ reply_text other =
+    (bytes_eq-Decides (reply_text reply) (reply_text other)).0 p.1 in
+    let read : Some (reply, after_reply) ≡ Some (other, after_reply) =
+    sym (reply-again [] reply p.0)
+    ∙ ap (λ (t : List ℕ). reply_at (t ++ after_reply)) text
+    ∙ reply-again [] other there in
+    ap (λ (x : Reply × List ℕ). x.0) (same_Some (reply, after_reply) (other, after_reply) read)
+
+-- each reply in the grammar is the same as itself
+pub reply-itself : (reply : Reply) → is_reply reply ≡ true → is_same_reply (Some reply) reply ≡ true
+reply-itself reply there =
+    and_from (is_reply reply) (bytes_eq (reply_text reply) (reply_text reply)) there
+    ((bytes_eq-Decides (reply_text reply) (reply_text reply)).1 refl)
+
+-- the signal of a number
+numbered : ℕ → Sig
+numbered n =
+    if nat_eq n 1 then Hup else
+    if nat_eq n 2 then Int else
+    if nat_eq n 3 then Quit else
+    if nat_eq n 4 then Kill else
+    if nat_eq n 5 then Usr1 else
+    if nat_eq n 6 then Usr2 else
+    if nat_eq n 7 then Pipe else
+    if nat_eq n 8 then Alrm else
+    if nat_eq n 9 then Term else Chld
+
+numbered-is : (g : Sig) → numbered (signal_number g) ≡ g
+unfolding numbered
+numbered-is Hup = refl
+numbered-is Int = refl
+numbered-is Quit = refl
+numbered-is Kill = refl
+numbered-is Usr1 = refl
+numbered-is Usr2 = refl
+numbered-is Pipe = refl
+numbered-is Alrm = refl
+numbered-is Term = refl
+numbered-is Chld = refl
+
+-- no two signals have the same number
+pub same-signal : (g h : Sig) → signal_number g ≡ signal_number h → g ≡ h
+same-signal g h same = sym (numbered-is g) ∙ ap numbered same ∙ numbered-is h
