@@ -35,7 +35,6 @@ same_script a b r e f = same_Some a b (ap result_ok (sym e ∙ f))
 
 module _ (bytes : List ℕ) (script : Script) (trace : List ℕ) (first : ℕ) (reads : checked_script bytes ≡ Ok script)
     (trace_is : trace ≡ trace_of bytes) (first_is : first ≡ first_line_of bytes) where
-
   judges_there : (s : Status) (text : List ℕ) → JudgesTrace script trace first s text
       → JudgesTrace script (trace_of bytes) (first_line_of bytes) s text
   judges_there s text h =

@@ -112,11 +112,7 @@ fn totals(alloc: Global, options: Options) -> Result<Answer, Memory>
 }
 
 // The answer to what is asked for, and to the bytes where they are wanted.
-fn answer_for<S: Source>(
-    alloc: Global,
-    request: Request,
-    source: &mut S,
-) -> Result<Answer, Stop>
+fn answer_for<S: Source>(alloc: Global, request: Request, source: &mut S) -> Result<Answer, Stop>
     ensures answer { IfOk result (λ answer. AnswersTold request (S.left source.old) answer.status answer.text) }
     ensures causes { EachCause (Some request) (S.left source.old)
         (λ s. IfOk result (λ answer. answer.status ≡ s)) }
