@@ -42,8 +42,8 @@ returns-in_ok-text_of_fault-in-Err-At-clause-answer c =
       line = c.in-Err-At.line;
       fault = c.in-Err-At.fault;
       first =
-          gives_checked c.args.bytes.now p.script.now p.marker p.first_line (Err (At c.in-Err-At.line c.in-Err-At.fault))
-          e.script e.marker e.first_line (rw c.in-Err-At.field-0-is at c.in-Err-At.ensures.gives);
+          gives_checked c.args.bytes.now p.script.now p.marker p.first_line
+          (Err (At c.in-Err-At.line c.in-Err-At.fault)) e.script e.marker e.first_line (rw c.in-Err-At.field-0-is at c.in-Err-At.ensures.gives);
       is_text = c.in_ok-text_of_fault-in-Err-At.ensures;
     }
 

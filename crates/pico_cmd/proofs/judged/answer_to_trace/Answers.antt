@@ -4,7 +4,11 @@ use Rattle.pico_cmd.proofs.judged.answer_to_trace.Goals as goal
 
 pub returns-in_ok-text_of_legal-in-Ok-clause-answer : goal.returns-in_ok-text_of_legal-in-Ok-clause-answer
 returns-in_ok-text_of_legal-in-Ok-clause-answer c =
-    record { entries = c.in-Ok.legal.entries; legal = c.in-Ok.ensures.legal; is_text = c.in_ok-text_of_legal-in-Ok.ensures }
+    record {
+      entries = c.in-Ok.legal.entries;
+      legal = c.in-Ok.ensures.legal;
+      is_text = c.in_ok-text_of_legal-in-Ok.ensures;
+    }
 
 pub returns-in_ok-text_of_legal-in-Ok-clause-refused : goal.returns-in_ok-text_of_legal-in-Ok-clause-refused
 returns-in_ok-text_of_legal-in-Ok-clause-refused c fault is refusal = absurd (let e = c.in-Ok.ensures.gives in cc)
