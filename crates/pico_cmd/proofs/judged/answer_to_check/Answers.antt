@@ -38,12 +38,14 @@ pub returns-in_ok-text_of_fault-in-Err-At-clause-answer : goal.returns-in_ok-tex
 returns-in_ok-text_of_fault-in-Err-At-clause-answer c =
     let p = c.of-parts.result in
     let e = c.of-parts.ensures in
+    let read : checked_script c.args.bytes.now ≡ Err (At c.in-Err-At.line c.in-Err-At.fault) =
+    gives_checked c.args.bytes.now p.script.now p.marker p.first_line
+    (Err (At c.in-Err-At.line c.in-Err-At.fault)) e.script e.marker e.first_line
+    (rw c.in-Err-At.field-0-is at c.in-Err-At.ensures.gives) in
     record {
       line = c.in-Err-At.line;
       fault = c.in-Err-At.fault;
-      first =
-          gives_checked c.args.bytes.now p.script.now p.marker p.first_line
-          (Err (At c.in-Err-At.line c.in-Err-At.fault)) e.script e.marker e.first_line (rw c.in-Err-At.field-0-is at c.in-Err-At.ensures.gives);
+      first = read;
       is_text = c.in_ok-text_of_fault-in-Err-At.ensures;
     }
 
