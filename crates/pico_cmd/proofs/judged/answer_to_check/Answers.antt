@@ -46,7 +46,7 @@ returns-in_ok-text_of_fault-in-Err-At-clause-answer c =
       line = c.in-Err-At.line;
       fault = c.in-Err-At.fault;
       first = read;
-      is_text = c.in_ok-text_of_fault-in-Err-At.ensures;
+      is_text = rw c.in-Err-At.field-0-is at c.in_ok-text_of_fault-in-Err-At.ensures;
     }
 
 pub returns-in_ok-text_of_fault-in-Err-At-clause-causes : goal.returns-in_ok-text_of_fault-in-Err-At-clause-causes
