@@ -1,13 +1,14 @@
 -- What a run ends in, and its text.
-use Rattle.std.proofs.Common.{◌≡◌, List, [], ◌∷◌, ◌++◌, ℕ, Option, Some, None, Result, Ok, Err, sym, ap, ◌∙◌}
+use Rattle.std.proofs.Common.{◌≡◌, List, [], ◌∷◌, ◌++◌, ℕ, Bool, Option, Some, None, Result, Ok, Err, sym, ap, subst, ◌∙◌}
 use Rattle.std.specs.Prelude.{IfOk, IfSome}
 use Rattle.pico_base.specs.declared.script.Event.{Event}
 use Rattle.pico_base.specs.declared.script.Script.{Script}
-use Rattle.kernel_model.specs.Trace.{trace_text}
+use Rattle.kernel_model.specs.Trace.{totals_line, trace_text}
 use Rattle.machine_model.specs.World.{World, opening_world}
 use Rattle.machine_model.specs.Run.{Runs}
-use Rattle.pico_cmd.specs.declared.words.Options.{Options}
-use Rattle.pico_cmd.specs.Run.{IsRunTo, IsTextOfRun, steps_if}
+use Rattle.pico_words.specs.declared.words.Options.{Options}
+use Rattle.script_writer.specs.Generated.{generated}
+use Rattle.pico_cmd.specs.Run.{IsRunTo, IsTextOfRun, IsTotalsOfRun, steps_if}
 use Rattle.pico_cmd.proofs.Runs.{step_script}
 
 -- a run keeps the script
@@ -31,3 +32,23 @@ text_told script options es (Some last) (Ok text) run told =
       is_text = told ∙ ap (λ (s : Script). trace_text s last.journal ++ steps_if options.steps es)
           (runs_keep (opening_world script) last es run.run);
     }
+
+-- and so are its totals
+totals_of : {E : Type 0} (script : Script) (steps : Bool) (es : List Event) (world : Option World)
+    (r : Result (List ℕ) E)
+    → IsRunTo script 0 es world
+    → IfOk r (λ text. IfSome world (λ last. text ≡ totals_line last.journal ++ steps_if steps es))
+    → IfOk r (IsTotalsOfRun script steps)
+totals_of script steps es None r run told = absurd run
+totals_of script steps es (Some last) (Err e) run told = tt
+totals_of script steps es (Some last) (Ok text) run told =
+    record { events = es; last = last; run = run; is_text = told }
+
+-- of a generated script
+pub totals_told : {E : Type 0} (script : Script) (number : ℕ) (steps : Bool) (es : List Event) (world : Option World)
+    (r : Result (List ℕ) E)
+    → script ≡ generated number → IsRunTo script 0 es world
+    → IfOk r (λ text. IfSome world (λ last. text ≡ totals_line last.journal ++ steps_if steps es))
+    → IfOk r (IsTotalsOfRun (generated number) steps)
+totals_told script number steps es world r same run told =
+    subst (λ (s : Script). IfOk r (IsTotalsOfRun s steps)) same (totals_of script steps es world r run told)

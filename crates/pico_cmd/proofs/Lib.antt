@@ -1,5 +1,6 @@
+pub mod Causes
 pub mod Chosen
 pub mod Ends
 pub mod Promises
 pub mod Runs
-pub mod Spelled
+pub mod Verdicts

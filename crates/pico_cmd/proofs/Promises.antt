@@ -1,18 +1,24 @@
 -- From the bytes that are read to the bytes that were left, and from an answer to what is promised of it.
 use Rattle.std.proofs.Common.{refl, ◌≡◌, ℕ, ◌+◌, ◌<◌, ◌≤◌, List, [], ◌++◌, length, drop, take, Option, Some, None, ap, sym, subst, ◌∙◌, arith, inl, inr, ◌⊎◌, length-take}
 use Rattle.std.proofs.lemmas.Bool.{lt-ltb}
-use Rattle.std.proofs.lemmas.List.{drop_all, take-take}
+use Rattle.std.proofs.lemmas.List.{drop_all, take_all, take-take}
 use Rattle.std.proofs.Math.Seq.{drop-append_seam}
 use Rattle.host_iface.specs.Told.{led_by}
-use Rattle.std.specs.Prelude.{IfSome, is_some, nat_lt, true}
+use Rattle.std.specs.Prelude.{IfErr, IfSome, is_some, nat_lt, true, Result, Ok, Err}
 use Rattle.pico_base.specs.declared.script.Script.{Script}
 use Rattle.script_reader.specs.declared.fault.ScriptFault.{ScriptFault}
 use Rattle.script_reader.specs.Fault.{ReadsRunnable, IsFirstFaultOfRunnable, outcome}
 use Rattle.pico_cmd.specs.declared.status.Status.{Status}
 use Rattle.pico_cmd.specs.declared.status.Status.TheVariants as status
-use Rattle.pico_cmd.specs.declared.words.Options.{Options}
-use Rattle.pico_cmd.specs.Stop.{AreScriptBytes, left_behind}
-use Rattle.pico_cmd.specs.Promise.{Answers, AnswersTold, Allows, IsTraceOf, IsOrStops, IsWritten, Wrote, WroteFront}
+use Rattle.pico_words.specs.declared.words.Options.{Options}
+use Rattle.pico_words.specs.declared.words.Request.{Request}
+use Rattle.pico_words.specs.declared.words.Request.TheVariants.{Simulate, Check, Generate}
+use Rattle.pico_cmd.specs.declared.program.Stop.{Stop}
+use Rattle.pico_cmd.specs.declared.program.Stop.TheVariants.{Memory, ReadFault}
+use Rattle.pico_cmd.specs.Stop.{AreBytesUpTo, IsReadFault, left_behind, most_read}
+use Rattle.script_writer.specs.Generated.{generated}
+use Rattle.pico_cmd.specs.Run.{IsTotalsOfRun}
+use Rattle.pico_cmd.specs.Promise.{Answers, Simulates, Judges, AnswersTold, Allows, CauseOfSim, CauseOfCheck, CauseOfGen, EachCause, IsWritten, Wrote, WroteFront}
 
 -- More bytes than a script has are judged by their front: their fault is that of its size, at the same line.
 front_outcome : (bytes left : List ℕ) → 1048576 < length left → bytes ≡ take 1048577 left
@@ -27,134 +33,207 @@ front_outcome bytes left long e =
     in rw (is_long, read, front) refl
 
 -- what was read is judged as what was left
-outcome_left : (bytes left : List ℕ) → AreScriptBytes bytes left → outcome true bytes ≡ outcome true left
+outcome_left : (bytes left : List ℕ) → AreBytesUpTo 1048576 bytes left → outcome true bytes ≡ outcome true left
 outcome_left bytes left (inl same) = ap (outcome true) same.0
 outcome_left bytes left (inr long) = front_outcome bytes left long.0 long.1
 
 -- the fault of what was read is that of what was left
-fault_left : (bytes left : List ℕ) (line : ℕ) (fault : ScriptFault) → AreScriptBytes bytes left
+fault_left : (bytes left : List ℕ) (line : ℕ) (fault : ScriptFault) → AreBytesUpTo 1048576 bytes left
     → IsFirstFaultOfRunnable bytes line fault → IsFirstFaultOfRunnable left line fault
 fault_left bytes left line fault r f = sym (outcome_left bytes left r) ∙ f
 
 -- and the other way round
-pub fault_read : (bytes left : List ℕ) (line : ℕ) (fault : ScriptFault) → AreScriptBytes bytes left
+pub fault_read : (bytes left : List ℕ) (line : ℕ) (fault : ScriptFault) → AreBytesUpTo 1048576 bytes left
     → IsFirstFaultOfRunnable left line fault → IsFirstFaultOfRunnable bytes line fault
 fault_read bytes left line fault r f = outcome_left bytes left r ∙ f
 
 -- a script that was left is read
-pub script_read : (bytes left : List ℕ) (script : Script) → AreScriptBytes bytes left → ReadsRunnable left script
+pub script_read : (bytes left : List ℕ) (script : Script) → AreBytesUpTo 1048576 bytes left → ReadsRunnable left script
     → ReadsRunnable bytes script
 script_read bytes left script r f = outcome_left bytes left r ∙ f
 
 -- what goes with the bytes that were read goes with those that were left
-pub Answers-left : (o : Options) (bytes left : List ℕ) (s : Status) (text : List ℕ) → AreScriptBytes bytes left
-    → Answers o bytes s text → Answers o left s text
-Answers-left o bytes left status.Done text r a =
+pub Simulates-left : (o : Options) (bytes left : List ℕ) (s : Status) (text : List ℕ)
+    → AreBytesUpTo 1048576 bytes left → Simulates o bytes s text → Simulates o left s text
+Simulates-left o bytes left status.Done text r a =
     record { script = a.script; reads = sym (outcome_left bytes left r) ∙ a.reads; run = a.run }
-Answers-left o bytes left status.BadScript text r a =
+Simulates-left o bytes left status.BadScript text r a =
     record {
       line = a.line;
       fault = a.fault;
       first = fault_left bytes left a.line a.fault r a.first;
-      is_text =
-          a.is_text;
+      is_text = a.is_text;
     }
-Answers-left o bytes left status.Usage text r a = a
-Answers-left o bytes left status.Memory text r a = a
-Answers-left o bytes left status.ReadFault text r a = a
-Answers-left o bytes left status.WriteFault text r a = a
+Simulates-left o bytes left status.Usage text r a = a
+Simulates-left o bytes left status.Memory text r a = a
+Simulates-left o bytes left status.ReadFault text r a = a
+Simulates-left o bytes left status.WriteFault text r a = a
+Simulates-left o bytes left status.NotLegal text r a = a
+
+-- what `check` reads is the front of what was left
+front_left : (bytes left : List ℕ) → AreBytesUpTo 68161537 bytes left → take 68161538 left ≡ bytes
+front_left bytes left (inl same) = take_all 68161538 left (omega (arith, same.1)) ∙ sym same.0
+front_left bytes left (inr long) = sym long.1
+
+-- where the source is read, a read may have failed
+pub read_told : {T : Type 0} (r : Result T Stop) → IfErr r (IsReadFault (Unit {0}))
+read_told (Ok x) = tt
+read_told (Err Memory) = tt
+read_told (Err ReadFault) = tt
 
 -- What is left behind what was read.
 
-pub left_at_end : (old new : Option (List ℕ)) (bytes : List ℕ) → IfSome old (λ left. bytes ≡ left)
+pub left_at_end : (limit : ℕ) (old new : Option (List ℕ)) (bytes : List ℕ) → IfSome old (λ left. bytes ≡ left)
     → IfSome new (λ left. left ≡ [])
-    → length bytes ≤ 1048576 → is_some new ≡ is_some old → new ≡ left_behind old
-left_at_end None None bytes whole end within told = refl
-left_at_end None (Some n) bytes whole end within told = absurd (let f : ⊥ = cc in f)
-left_at_end (Some l) None bytes whole end within told = absurd (let f : ⊥ = cc in f)
-left_at_end (Some l) (Some n) bytes whole end within told =
-    ap Some (end ∙ sym (drop_all 1048577 l (omega (arith, within, ap length whole))))
+    → length bytes ≤ limit → is_some new ≡ is_some old → new ≡ left_behind (limit + 1) old
+left_at_end limit None None bytes whole end within told = refl
+left_at_end limit None (Some n) bytes whole end within told = absurd (let f : ⊥ = cc in f)
+left_at_end limit (Some l) None bytes whole end within told = absurd (let f : ⊥ = cc in f)
+left_at_end limit (Some l) (Some n) bytes whole end within told =
+    ap Some (end ∙ sym (drop_all (limit + 1) l (omega (arith, within, ap length whole))))
 
-pub left_past_limit : (old new : Option (List ℕ)) (read : List ℕ) → old ≡ led_by read new → length read ≡ 1048577
-    → new ≡ left_behind old
-left_past_limit old None read led is = sym (ap left_behind led)
-left_past_limit old (Some n) read led is =
-    sym (ap left_behind led ∙ ap Some (ap (λ (k : ℕ). drop k (read ++ n)) (sym is) ∙ drop-append_seam read n))
+pub left_past_limit : (limit : ℕ) (old new : Option (List ℕ)) (read : List ℕ) → old ≡ led_by read new
+    → length read ≡ limit + 1 → new ≡ left_behind (limit + 1) old
+left_past_limit limit old None read led is = sym (ap (left_behind (limit + 1)) led)
+left_past_limit limit old (Some n) read led is =
+    sym (ap (left_behind (limit + 1)) led
+    ∙ ap Some (ap (λ (k : ℕ). drop k (read ++ n)) (sym is) ∙ drop-append_seam read n))
+
+-- nothing is read
+pub untouched_left : (old : Option (List ℕ)) → old ≡ left_behind 0 old
+untouched_left None = refl
+untouched_left (Some left) = refl
 
 -- an answer that was written whole
-pub wrote : (words : List (List ℕ)) (left : Option (List ℕ)) (s : Status) (text : List ℕ) (old new : Option (List ℕ))
-    (cause : Type 0) (r wanted : Status)
-    → Allows words left s text → IsWritten s text old new cause r → r ≡ wanted → (wanted ≡ status.WriteFault → ⊥)
-    → Wrote words left wanted old new
-wrote words left s text old new cause r wanted a (inl w) e n =
+pub wrote : (asked : Option Request) (left : Option (List ℕ)) (s : Status) (text : List ℕ)
+    (old new : Option (List ℕ)) (cause : Type 0) (r wanted : Status)
+    → Allows asked left s text → IsWritten s text old new cause r → r ≡ wanted → (wanted ≡ status.WriteFault → ⊥)
+    → Wrote asked left wanted old new
+wrote asked left s text old new cause r wanted a (inl w) e n =
     record {
       text = text;
-      allowed = subst (λ (x : Status). Allows words left x text) (sym w.status ∙ e) a;
-      taken =
-          w.taken;
+      allowed = subst (λ (x : Status). Allows asked left x text) (sym w.status ∙ e) a;
+      taken = w.taken;
     }
-wrote words left s text old new cause r wanted a (inr c) e n = absurd (n (sym e ∙ c.status))
+wrote asked left s text old new cause r wanted a (inr c) e n = absurd (n (sym e ∙ c.status))
+
+-- no text goes with a write that failed
+none_cut : (asked : Option Request) (left : Option (List ℕ)) (text : List ℕ)
+    → Allows asked left status.WriteFault text → ⊥
+none_cut None left text a = a
+none_cut (Some (Simulate o)) left text a = a.answers
+none_cut (Some Check) left text a = a.answers.judges
+none_cut (Some (Generate o)) left text a = a.answers
 
 -- and one of which a front was taken
-pub wrote_front : (words : List (List ℕ)) (left : Option (List ℕ)) (s : Status) (text : List ℕ)
+pub wrote_front : (asked : Option Request) (left : Option (List ℕ)) (s : Status) (text : List ℕ)
     (old new : Option (List ℕ)) (cause : Type 0) (r : Status)
-    → Allows words left s text → IsWritten s text old new cause r → r ≡ status.WriteFault
-    → WroteFront words left old new
-wrote_front words left s text old new cause r a (inl w) e =
-    absurd (subst (λ (x : Status). Allows words left x text) (sym w.status ∙ e) a)
-wrote_front words left s text old new cause r a (inr c) e =
+    → Allows asked left s text → IsWritten s text old new cause r → r ≡ status.WriteFault
+    → WroteFront asked left old new
+wrote_front asked left s text old new cause r a (inl w) e =
+    absurd (none_cut asked left text (subst (λ (x : Status). Allows asked left x text) (sym w.status ∙ e) a))
+wrote_front asked left s text old new cause r a (inr c) e =
     record { replaced = s; text = text; count = c.count; allowed = a; within = c.within; taken = c.taken }
 
 -- The same where the source may tell nothing.
 
 pub told_answer : (o : Options) (told : Option (List ℕ)) (bytes read : List ℕ) (s : Status) (text : List ℕ)
-    → IfSome told (AreScriptBytes bytes)
-    → read ≡ bytes → Answers o read s text → AnswersTold o told s text
+    → IfSome told (AreBytesUpTo 1048576 bytes)
+    → read ≡ bytes → Simulates o read s text → AnswersTold (Simulate o) told s text
 told_answer o None bytes read s text r e a = record { bytes = read; told = tt; answers = a }
 told_answer o (Some left) bytes read s text r e a =
     record {
       bytes = left;
       told = refl;
       answers =
-          Answers-left o bytes left s text r (subst (λ (b : List ℕ). Answers o b s text) e a);
+          Simulates-left o bytes left s text r (subst (λ (b : List ℕ). Simulates o b s text) e a);
     }
 
-pub told_done : (told : Option (List ℕ)) (bytes read : List ℕ) (s : Status) → IfSome told (AreScriptBytes bytes)
-    → read ≡ bytes → ((script : Script) → ReadsRunnable read script → s ≡ status.Done)
-    → IfSome told (λ left. (script : Script) → ReadsRunnable left script → s ≡ status.Done)
-told_done None bytes read s r e a = tt
-told_done (Some left) bytes read s r e a =
-    λ script reads. a script
-    (subst (λ (b : List ℕ). ReadsRunnable b script) (sym e) (script_read bytes left script r reads))
+pub told_verdict : (told : Option (List ℕ)) (bytes read : List ℕ) (s : Status) (text : List ℕ)
+    → IfSome told (AreBytesUpTo 68161537 bytes) → length bytes ≤ 68161538
+    → read ≡ bytes → Judges read s text → AnswersTold Check told s text
+told_verdict None bytes read s text r few e a =
+    record {
+      bytes = bytes;
+      told = tt;
+      answers =
+          subst (λ (b : List ℕ). Judges b s text) (e ∙ sym (take_all 68161538 bytes few)) a;
+    }
+told_verdict (Some left) bytes read s text r few e a =
+    record {
+      bytes = left;
+      told = refl;
+      answers =
+          subst (λ (b : List ℕ). Judges b s text) (e ∙ sym (front_left bytes left r)) a;
+    }
 
-pub told_fault : (told : Option (List ℕ)) (bytes read : List ℕ) (s : Status) → IfSome told (AreScriptBytes bytes)
-    → read ≡ bytes → ((line : ℕ) (fault : ScriptFault) → IsFirstFaultOfRunnable read line fault → s ≡ status.BadScript)
-    → IfSome told (λ left. (line : ℕ) (fault : ScriptFault) → IsFirstFaultOfRunnable left line fault
-    → s ≡ status.BadScript)
-told_fault None bytes read s r e a = tt
-told_fault (Some left) bytes read s r e a =
-    λ line fault first. a line fault
-    (subst (λ (b : List ℕ). IsFirstFaultOfRunnable b line fault) (sym e) (fault_read bytes left line fault r first))
+-- The causes of an answer, by the bytes that were left.
 
--- From the status of the answer to the status that is told.
+sim_cause : (bytes read left : List ℕ) (got : Status) → AreBytesUpTo 1048576 bytes left → read ≡ bytes
+    → ((script : Script) → ReadsRunnable read script → got ≡ status.Done)
+    → ((line : ℕ) (fault : ScriptFault) → IsFirstFaultOfRunnable read line fault → got ≡ status.BadScript)
+    → (s : Status) → CauseOfSim left s → got ≡ s
+sim_cause bytes read left got r e done bad status.Done c =
+    done c.0 (subst (λ (b : List ℕ). ReadsRunnable b c.0) (sym e) (script_read bytes left c.0 r c.1))
+sim_cause bytes read left got r e done bad status.BadScript c =
+    bad c.0 c.1 (subst (λ (b : List ℕ). IsFirstFaultOfRunnable b c.0 c.1) (sym e) (fault_read bytes left c.0 c.1 r c.2))
+sim_cause bytes read left got r e done bad status.Usage c = absurd c
+sim_cause bytes read left got r e done bad status.Memory c = absurd c
+sim_cause bytes read left got r e done bad status.ReadFault c = absurd c
+sim_cause bytes read left got r e done bad status.WriteFault c = absurd c
+sim_cause bytes read left got r e done bad status.NotLegal c = absurd c
 
-pub told_fault_written : (told : Option (List ℕ)) (s : Status) (text : List ℕ) (old new : Option (List ℕ))
-    (cause : Type 0) (r : Status)
-    → IfSome told (λ left. (line : ℕ) (fault : ScriptFault) → IsFirstFaultOfRunnable left line fault
-    → s ≡ status.BadScript)
-    → IsWritten s text old new cause r
-    → IfSome told (λ left. (line : ℕ) (fault : ScriptFault) → IsFirstFaultOfRunnable left line fault
-    → IsOrStops r status.BadScript)
-told_fault_written None s text old new cause r h w = tt
-told_fault_written (Some left) s text old new cause r h (inl w) =
-    λ line fault first. inl (inl (w.status ∙ h line fault first))
-told_fault_written (Some left) s text old new cause r h (inr c) = λ line fault first. inl (inr (inr c.status))
+pub sim_causes : (o : Options) (told : Option (List ℕ)) (bytes read : List ℕ) (got : Status)
+    → IfSome told (AreBytesUpTo 1048576 bytes) → read ≡ bytes
+    → ((script : Script) → ReadsRunnable read script → got ≡ status.Done)
+    → ((line : ℕ) (fault : ScriptFault) → IsFirstFaultOfRunnable read line fault → got ≡ status.BadScript)
+    → EachCause (Some (Simulate o)) told (λ s. got ≡ s)
+sim_causes o None bytes read got r e done bad = tt
+sim_causes o (Some left) bytes read got r e done bad = λ s c. sim_cause bytes read left got r e done bad s c
 
-pub told_done_written : (told : Option (List ℕ)) (s : Status) (text : List ℕ) (old new : Option (List ℕ))
-    (cause : Type 0) (r : Status)
-    → IfSome told (λ left. (script : Script) → ReadsRunnable left script → s ≡ status.Done)
-    → IsWritten s text old new cause r → (cause → ⊥)
-    → IfSome told (λ left. (script : Script) → ReadsRunnable left script → (r ≡ status.Done) ⊎ (r ≡ status.Memory))
-told_done_written None s text old new cause r h w n = tt
-told_done_written (Some left) s text old new cause r h (inl w) n = λ script reads. inl (w.status ∙ h script reads)
-told_done_written (Some left) s text old new cause r h (inr c) n = absurd (n c.cause_is)
+pub check_causes : (told : Option (List ℕ)) (bytes read : List ℕ) (got : Status)
+    → IfSome told (AreBytesUpTo 68161537 bytes) → read ≡ bytes
+    → ((s : Status) → CauseOfCheck read s → got ≡ s) → EachCause (Some Check) told (λ s. got ≡ s)
+check_causes None bytes read got r e causes = tt
+check_causes (Some left) bytes read got r e causes =
+    λ s c. causes s (subst (λ (b : List ℕ). CauseOfCheck b s) (front_left bytes left r ∙ sym e) c)
+
+gen_cause : (got : Status) → got ≡ status.Done → (s : Status) → CauseOfGen s → got ≡ s
+gen_cause got e status.Done c = e
+gen_cause got e status.BadScript c = absurd c
+gen_cause got e status.Usage c = absurd c
+gen_cause got e status.Memory c = absurd c
+gen_cause got e status.ReadFault c = absurd c
+gen_cause got e status.WriteFault c = absurd c
+gen_cause got e status.NotLegal c = absurd c
+
+pub gen_causes : (o : Options) (told : Option (List ℕ)) (got : Status) → got ≡ status.Done
+    → EachCause (Some (Generate o)) told (λ s. got ≡ s)
+gen_causes o told got e = λ s c. gen_cause got e s c
+
+-- the totals of a generated script are told, whatever the source tells
+pub told_totals : (o : Options) (told : Option (List ℕ)) (s : Status) (text : List ℕ)
+    → IsTotalsOfRun (generated o.seed) o.steps text → s ≡ status.Done → AnswersTold (Generate o) told s text
+told_totals o None s text h e =
+    record { bytes = []; told = tt; answers = subst (λ (x : Status). Answers (Generate o) [] x text) (sym e) h }
+told_totals o (Some left) s text h e =
+    record { bytes = left; told = refl; answers = subst (λ (x : Status). Answers (Generate o) left x text) (sym e) h }
+
+-- what is left of the source, where a status is told
+
+pub rest_told : (asked : Option Request) (old new : Option (List ℕ)) (A B : Type 0)
+    → IfSome asked (λ request. new ≡ left_behind (most_read request) old)
+    → IfSome asked (λ request. A → B → new ≡ left_behind (most_read request) old)
+rest_told None old new A B h = tt
+rest_told (Some request) old new A B h = λ a b. h
+
+pub rest_memory : (asked : Option Request) (old new : Option (List ℕ)) (A : Type 0)
+    → IfSome asked (λ request. A → (status.Memory ≡ status.Memory → ⊥) → new ≡ left_behind (most_read request) old)
+rest_memory None old new A = tt
+rest_memory (Some request) old new A = λ a b. absurd (b refl)
+
+pub rest_read_fault : (asked : Option Request) (old new : Option (List ℕ)) (B : Type 0)
+    → IfSome asked
+    (λ request. (status.ReadFault ≡ status.ReadFault → ⊥) → B → new ≡ left_behind (most_read request) old)
+rest_read_fault None old new B = tt
+rest_read_fault (Some request) old new B = λ a b. absurd (a refl)

@@ -1,21 +1,35 @@
 -- What the program promises: when each status comes, and what is written with it.
-use Rattle.std.specs.Prelude.{◌≡◌, ◌⊎◌, ◌≤◌, ℕ, List, [], ◌∷◌, ◌++◌, length, take, codes, Option, IfSome}
+use Rattle.std.specs.Prelude.{◌≡◌, ◌⊎◌, ◌≤◌, ℕ, List, [], ◌∷◌, ◌++◌, length, take, codes, Option, Some, None, IfSome, Ok, Err}
 use Rattle.std.specs.Fmt.{decimal}
 use Rattle.pico_base.specs.declared.script.Script.{Script}
 use Rattle.host_iface.specs.Told.{followed_by}
+use Rattle.pico_base.specs.declared.reply.Entry.{Entry}
 use Rattle.script_reader.specs.declared.fault.ScriptFault.{ScriptFault}
+use Rattle.script_reader.specs.declared.fault.ScriptStop.TheVariants.{At}
 use Rattle.script_reader.specs.Fault.{ReadsRunnable, IsFirstFaultOfRunnable, name_of}
 use Rattle.pico_cmd.specs.declared.status.Status.{Status}
 use Rattle.pico_cmd.specs.declared.status.Status.TheVariants as status
-use Rattle.pico_cmd.specs.declared.words.Options.{Options}
-use Rattle.pico_cmd.specs.Run.{IsTextOfRun}
-use Rattle.pico_cmd.specs.Words.{Asks, IsInOrder}
+use Rattle.script_writer.specs.Generated.{generated}
+use Rattle.check_input.specs.Parts.{checked_script, trace_of, first_line_of}
+use Rattle.trace_text.specs.declared.fault.CheckFault.{CheckFault}
+use Rattle.trace_check.specs.FirstFault.{CountsLegal, IsLegalTrace, verdict_of}
+use Rattle.trace_check.specs.Refusal.{IsRefusal, refusal_text}
+use Rattle.pico_words.specs.declared.words.Options.{Options}
+use Rattle.pico_words.specs.declared.words.Request.{Request}
+use Rattle.pico_words.specs.declared.words.Request.TheVariants.{Simulate, Check, Generate}
+use Rattle.pico_cmd.specs.Run.{IsTextOfRun, IsTotalsOfRun}
+use Rattle.pico_cmd.specs.Stop.{most_read}
 
 unfoldable pub usage_text : List ℕ
 usage_text = codes "usage: pico run|sim|check|gen [--seed N] [--steps]\n"
 
 abbrev pub fault_text : ℕ → ScriptFault → List ℕ
 fault_text line fault = codes "fault: line " ++ decimal line ++ codes ": " ++ name_of fault ++ 10 ∷ []
+
+unfoldable pub legal_text : ℕ → List ℕ
+legal_text entries = codes "legal entries " ++ decimal entries ++ 10 ∷ []
+
+-- ---- `sim`
 
 -- the bytes are a script, and the text is that of its run by the schedule that is asked for
 pub record IsTraceOf (options : Options) (bytes text : List ℕ) : Type 0 where
@@ -31,43 +45,135 @@ pub record IsFaultOf (bytes text : List ℕ) : Type 0 where
   pub is_text : text ≡ fault_text line fault
 
 -- what goes with a status for these options and bytes
-abbrev pub Answers : Options → List ℕ → Status → List ℕ → Type 0
-Answers options bytes status.Done text = IsTraceOf options bytes text
-Answers options bytes status.BadScript text = IsFaultOf bytes text
-Answers options bytes _ text = ⊥
+abbrev pub Simulates : Options → List ℕ → Status → List ℕ → Type 0
+Simulates options bytes status.Done text = IsTraceOf options bytes text
+Simulates options bytes status.BadScript text = IsFaultOf bytes text
+Simulates options bytes _ text = ⊥
+
+-- ---- `check`
+
+-- the trace is the text of a legal history that fits the script whole, and the text counts its entries
+pub record IsLegalOf (script : Script) (trace text : List ℕ) : Type 0 where
+  pub entries : ℕ
+  pub legal : CountsLegal script trace entries
+  pub is_text : text ≡ legal_text entries
+
+-- the text is that of the trace's first fault
+pub record IsRefusalOf (script : Script) (trace : List ℕ) (first_line : ℕ) (text : List ℕ) : Type 0 where
+  pub fault : CheckFault
+  pub is_refusal : IsRefusal fault
+  pub first : verdict_of script trace first_line ≡ Err fault
+  pub is_text : text ≡ refusal_text script fault
+
+-- what goes with a status for this script, and this trace from this line on
+abbrev pub JudgesTrace : Script → List ℕ → ℕ → Status → List ℕ → Type 0
+JudgesTrace script trace first_line status.Done text = IsLegalOf script trace text
+JudgesTrace script trace first_line status.NotLegal text = IsRefusalOf script trace first_line text
+JudgesTrace script trace first_line _ text = ⊥
+
+-- the bytes begin with this script, and their trace has the status
+pub record JudgesBytes (bytes : List ℕ) (s : Status) (text : List ℕ) : Type 0 where
+  pub script : Script
+  pub reads : checked_script bytes ≡ Ok script
+  pub judges : JudgesTrace script (trace_of bytes) (first_line_of bytes) s text
+
+-- the text names the first fault of the script that the bytes begin with
+pub record IsCheckFaultOf (bytes text : List ℕ) : Type 0 where
+  pub line : ℕ
+  pub fault : ScriptFault
+  pub first : checked_script bytes ≡ Err (At line fault)
+  pub is_text : text ≡ fault_text line fault
+
+-- what goes with a status for these bytes
+abbrev pub Judges : List ℕ → Status → List ℕ → Type 0
+Judges bytes status.BadScript text = IsCheckFaultOf bytes text
+Judges bytes s text = JudgesBytes bytes s text
+
+-- ---- each mode
+
+-- What goes with a status for what is asked for and the bytes that the source had. `check` rests on as many of them as
+-- it reads.
+abbrev pub Answers : Request → List ℕ → Status → List ℕ → Type 0
+Answers (Simulate options) bytes s text = Simulates options bytes s text
+Answers Check bytes s text = Judges (take (most_read Check) bytes) s text
+Answers (Generate options) bytes status.Done text = IsTotalsOfRun (generated options.seed) options.steps text
+Answers (Generate options) bytes _ text = ⊥
 
 -- the same for bytes that are those that the source had left where it tells them
-pub record AnswersTold (options : Options) (left : Option (List ℕ)) (s : Status) (text : List ℕ) : Type 0 where
+pub record AnswersTold (request : Request) (left : Option (List ℕ)) (s : Status) (text : List ℕ) : Type 0 where
   pub bytes : List ℕ
   pub told : IfSome left (λ bytes_left. bytes_left ≡ bytes)
-  pub answers : Answers options bytes s text
+  pub answers : Answers request bytes s text
 
--- and for the options that the words ask for
-pub record AnswersAsked (words : List (List ℕ)) (left : Option (List ℕ)) (s : Status) (text : List ℕ) : Type 0 where
-  pub options : Options
-  pub asks : Asks words options
-  pub answers : AnswersTold options left s text
+-- The text that goes with a status, by what the words ask for and by the source: the usage line where they aren't in
+-- order. With a status that writes nothing no text goes.
+abbrev pub Allows : Option Request → Option (List ℕ) → Status → List ℕ → Type 0
+Allows None left status.Usage text = text ≡ usage_text
+Allows None left _ text = ⊥
+Allows (Some request) left s text = AnswersTold request left s text
 
--- The text that goes with a status, by the words and the source. With a status that writes nothing no text goes.
-abbrev pub Allows : List (List ℕ) → Option (List ℕ) → Status → List ℕ → Type 0
-Allows words left status.Done text = AnswersAsked words left status.Done text
-Allows words left status.BadScript text = AnswersAsked words left status.BadScript text
-Allows words left status.Usage text = (IsInOrder words → ⊥) × (text ≡ usage_text)
-Allows words left _ text = ⊥
+-- ---- causes
+
+-- what makes `sim` end so
+abbrev pub CauseOfSim : List ℕ → Status → Type 0
+CauseOfSim bytes status.Done = (script : Script) × ReadsRunnable bytes script
+CauseOfSim bytes status.BadScript = (line : ℕ) × (fault : ScriptFault) × IsFirstFaultOfRunnable bytes line fault
+CauseOfSim bytes _ = ⊥
+
+-- the bytes begin with a script, and then have a trace that is legal
+pub record HasLegalTrace (bytes : List ℕ) : Type 0 where
+  pub script : Script
+  pub reads : checked_script bytes ≡ Ok script
+  pub history : List Entry
+  pub legal : IsLegalTrace script (trace_of bytes) history
+
+-- or one that has a fault
+pub record HasRefusedTrace (bytes : List ℕ) : Type 0 where
+  pub script : Script
+  pub reads : checked_script bytes ≡ Ok script
+  pub fault : CheckFault
+  pub is_refusal : IsRefusal fault
+  pub first : verdict_of script (trace_of bytes) (first_line_of bytes) ≡ Err fault
+
+-- what makes `check` end so
+abbrev pub CauseOfCheck : List ℕ → Status → Type 0
+CauseOfCheck bytes status.Done = HasLegalTrace bytes
+CauseOfCheck bytes status.BadScript = (line : ℕ) × (fault : ScriptFault) × (checked_script bytes ≡ Err (At line fault))
+CauseOfCheck bytes status.NotLegal = HasRefusedTrace bytes
+CauseOfCheck bytes _ = ⊥
+
+-- `gen` is always done
+abbrev pub CauseOfGen : Status → Type 0
+CauseOfGen status.Done = Unit {0}
+CauseOfGen _ = ⊥
+
+-- what makes the answer have a status, but for want of memory and for reads and writes that fail
+abbrev pub Cause : Request → List ℕ → Status → Type 0
+Cause (Simulate options) bytes s = CauseOfSim bytes s
+Cause Check bytes s = CauseOfCheck (take (most_read Check) bytes) s
+Cause (Generate options) bytes s = CauseOfGen s
+
+-- each cause of a status for what the words ask for and the bytes that the source tells, and what follows from it
+abbrev pub EachCause : Option Request → Option (List ℕ) → (Status → Type 0) → Type 0
+EachCause None left follows = Unit {0}
+EachCause (Some (Generate options)) left follows = (s : Status) → CauseOfGen s → follows s
+EachCause (Some request) left follows = IfSome left (λ bytes. (s : Status) → Cause request bytes s → follows s)
+
+-- ---- what is written
 
 -- the sink took exactly a text that goes with the status
-pub record Wrote (words : List (List ℕ)) (left : Option (List ℕ)) (s : Status)
+pub record Wrote (asked : Option Request) (left : Option (List ℕ)) (s : Status)
     (old new : Option (List ℕ)) : Type 0 where
   pub text : List ℕ
-  pub allowed : Allows words left s text
+  pub allowed : Allows asked left s text
   pub taken : new ≡ followed_by old text
 
 -- the sink took a front of a text that goes with some status
-pub record WroteFront (words : List (List ℕ)) (left : Option (List ℕ)) (old new : Option (List ℕ)) : Type 0 where
+pub record WroteFront (asked : Option Request) (left : Option (List ℕ)) (old new : Option (List ℕ)) : Type 0 where
   pub replaced : Status
   pub text : List ℕ
   pub count : ℕ
-  pub allowed : Allows words left replaced text
+  pub allowed : Allows asked left replaced text
   pub within : count ≤ length text
   pub taken : new ≡ followed_by old (take count text)
 

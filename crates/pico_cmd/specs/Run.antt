@@ -5,14 +5,14 @@ use Rattle.pico_base.specs.declared.script.Script.{Script}
 use Rattle.pico_base.specs.declared.script.Event.{Event}
 use Rattle.kernel_model.specs.History.{IsLegal}
 use Rattle.kernel_model.specs.Fitting.{FitsWhole}
-use Rattle.kernel_model.specs.Trace.{trace_text}
+use Rattle.kernel_model.specs.Trace.{totals_line, trace_text}
 use Rattle.machine_model.specs.World.{World, opening_world, node_count}
 use Rattle.machine_model.specs.Run.{IsRunOf, IsAtRest}
 use Rattle.machine_model.specs.Schedule.{Follows, schedule_of}
 use Rattle.machine_model.specs.Owners.{owners}
 use Rattle.machine_model.specs.Weights.{calls_of}
 use Rattle.trace_text.specs.Steps.{steps_text}
-use Rattle.pico_cmd.specs.declared.words.Options.{Options}
+use Rattle.pico_words.specs.declared.words.Options.{Options}
 
 -- The run of a script's picoprocesses that the schedule of this number takes, and the world that it ends in.
 pub record IsScheduledRun (script : Script) (seed : ℕ) (events : List Event) (last : World) : Type 0 where
@@ -45,3 +45,10 @@ pub record IsTextOfRun (script : Script) (options : Options) (text : List ℕ) :
   pub last : World
   pub run : IsScheduledRun script options.seed events last
   pub is_text : text ≡ trace_text script last.journal ++ steps_if options.steps events
+
+-- the totals of a run by schedule 0, and its events where they are wanted
+pub record IsTotalsOfRun (script : Script) (steps : Bool) (text : List ℕ) : Type 0 where
+  pub events : List Event
+  pub last : World
+  pub run : IsScheduledRun script 0 events last
+  pub is_text : text ≡ totals_line last.journal ++ steps_if steps events

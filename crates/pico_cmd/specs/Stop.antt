@@ -1,6 +1,8 @@
 -- Why there is no answer to write, and which bytes are read.
-use Rattle.std.specs.Prelude.{◌≡◌, ◌⊎◌, ◌≤◌, ◌<◌, ℕ, List, length, take, drop, Option, Some, None}
+use Rattle.std.specs.Prelude.{◌≡◌, ◌⊎◌, ◌≤◌, ◌<◌, ◌+◌, ℕ, List, length, take, drop, Option, Some, None}
 use Rattle.host_iface.specs.Faults.{HasRisen}
+use Rattle.pico_words.specs.declared.words.Request.{Request}
+use Rattle.pico_words.specs.declared.words.Request.TheVariants.{Simulate, Check, Generate}
 use Rattle.pico_cmd.specs.declared.program.Stop.{Stop}
 use Rattle.pico_cmd.specs.declared.program.Stop.TheVariants.{Memory, ReadFault}
 
@@ -15,13 +17,26 @@ abbrev pub IsReadFault : Type 0 → Stop → Type 0
 IsReadFault cause Memory = Unit {0}
 IsReadFault cause ReadFault = cause
 
--- all that was left, or one byte more than the greatest script has
-abbrev pub AreScriptBytes : List ℕ → List ℕ → Type 0
-AreScriptBytes bytes left =
-    ((bytes ≡ left) × (length left ≤ 1048576)) ⊎ ((1048576 < length left) × (bytes ≡ take 1048577 left))
+-- all that was left, or one byte more than the limit
+abbrev pub AreBytesUpTo : ℕ → List ℕ → List ℕ → Type 0
+AreBytesUpTo limit bytes left =
+    ((bytes ≡ left) × (length left ≤ limit)) ⊎ ((limit < length left) × (bytes ≡ take (limit + 1) left))
 
--- What is left behind these bytes, where the source tells it: none where there were at most 1,048,576, and else those
--- behind the first 1,048,577.
-abbrev pub left_behind : Option (List ℕ) → Option (List ℕ)
-left_behind None = None
-left_behind (Some left) = Some (drop 1048577 left)
+-- What is left behind the first so many bytes, where the source tells it.
+abbrev pub left_behind : ℕ → Option (List ℕ) → Option (List ℕ)
+left_behind most None = None
+left_behind most (Some left) = Some (drop most left)
+
+-- How many bytes of the source are read at most: one more than the greatest script, and for `check` one more than the
+-- greatest script, the longest line `trace` and the greatest trace. For a generated script nothing is read.
+abbrev pub most_read : Request → ℕ
+most_read (Simulate options) = 1048577
+most_read Check = 68161538
+most_read (Generate options) = 0
+
+-- whether the source is read
+abbrev pub Reads : Option Request → Type 0
+Reads (Some (Simulate options)) = Unit {0}
+Reads (Some Check) = Unit {0}
+Reads (Some (Generate options)) = ⊥
+Reads None = ⊥

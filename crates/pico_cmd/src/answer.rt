@@ -6,12 +6,12 @@ ghost use Rattle.machine_model.specs.Built.{IsRunnable};
 ghost use Rattle.script_reader.specs.declared.fault.ScriptFault.{ScriptFault as FaultValue};
 ghost use Rattle.script_reader.specs.Fault.{ReadsRunnable, IsFirstFaultOfRunnable};
 ghost use Rattle.pico_cmd.specs.Run.{IsRunTo, IsTextOfRun, steps_if};
-ghost use Rattle.pico_cmd.specs.Promise.{Answers, fault_text};
+ghost use Rattle.pico_cmd.specs.Promise.{Simulates, fault_text};
 
 use crate::run::{Run, run_script};
 use crate::status::Status;
-use crate::words::Options;
-use pico_base::{Bytes, Memory, Script};
+use pico_base::{Bytes, Event, Memory, Script};
+use pico_words::Options;
 use script_reader::{ScriptFault, ScriptStop, read_runnable};
 use std::alloc::Global;
 use trace_text::{push, push_byte, push_number, write_steps, write_trace};
@@ -24,7 +24,7 @@ pub struct Answer {
 }
 
 // The line that names a script's fault.
-fn text_of_fault(alloc: Global, line: u32, fault: ScriptFault) -> Result<Bytes, Memory>
+pub fn text_of_fault(alloc: Global, line: u32, fault: ScriptFault) -> Result<Bytes, Memory>
     ensures { IfOk result (λ text. text ≡ fault_text line fault) }
 {
     let mut out = Vec::new(alloc);
@@ -36,6 +36,23 @@ fn text_of_fault(alloc: Global, line: u32, fault: ScriptFault) -> Result<Bytes, 
     Ok(Bytes::from_vec(out))
 }
 
+// A text, and the events behind it where they are wanted.
+pub fn with_steps(
+    alloc: Global,
+    text: Bytes,
+    steps: bool,
+    events: &[Event],
+) -> Result<Bytes, Memory>
+    ensures { IfOk result (λ whole. whole ≡ text ++ steps_if steps events.now) }
+{
+    if !steps {
+        return Ok(text);
+    }
+    let mut whole = text.into_vec();
+    push(&mut whole, write_steps(alloc, events)?.as_slice())?;
+    Ok(Bytes::from_vec(whole))
+}
+
 // The text of a run: its trace, and its events where they are wanted.
 fn text_of(alloc: Global, run: &Run, steps: bool) -> Result<Bytes, Memory>
     requires { IsSome run.now.world }
@@ -43,12 +60,7 @@ fn text_of(alloc: Global, run: &Run, steps: bool) -> Result<Bytes, Memory>
         text ≡ trace_text last.script last.journal ++ steps_if steps run.now.events.items)) }
 {
     let trace = write_trace(alloc, run.world.script(), run.world.journal())?;
-    if !steps {
-        return Ok(trace);
-    }
-    let mut text = trace.into_vec();
-    push(&mut text, write_steps(alloc, &run.events)?.as_slice())?;
-    Ok(Bytes::from_vec(text))
+    with_steps(alloc, trace, steps, &run.events)
 }
 
 // The text of a script's run by the schedule that is asked for.
@@ -63,7 +75,7 @@ fn text_of_run(alloc: Global, script: Script, options: Options) -> Result<Bytes,
 /// The answer to these bytes: the trace of the script that they are, and its events where they are wanted, or their
 /// first fault.
 pub fn answer_to(alloc: Global, bytes: &[u8], options: Options) -> Result<Answer, Memory>
-    ensures answer { IfOk result (λ answer. Answers options bytes.now answer.status answer.text) }
+    ensures answer { IfOk result (λ answer. Simulates options bytes.now answer.status answer.text) }
     ensures status { IfOk result (λ answer. (answer.status ≡ Status.Done) ⊎ (answer.status ≡ Status.BadScript)) }
     ensures done { (script : ScriptValue) → ReadsRunnable bytes.now script
         → IfOk result (λ answer. answer.status ≡ Status.Done) }

@@ -1,13 +1,15 @@
-//! The program `pico`: it runs a script of processes and writes a trace, which is one history of a single POSIX kernel.
+//! The program `pico`: it runs a script of processes and writes a trace, which is one history of a single POSIX kernel;
+//! it judges a trace; and it runs generated scripts.
 #![tactic(auto)]
 
 mod answer;
+mod generated;
+mod judged;
 mod laws;
 mod program;
 mod run;
 mod schedule;
 mod status;
-mod words;
 
 use host_iface::{OpenGate, StdSink, StdSource};
 pub use program::{Ran, pico};
@@ -48,7 +50,7 @@ fn reason(status: Status) -> Option<&'static str> {
         Status::Memory => Some("pico: memory ran out; nothing is written"),
         Status::ReadFault => Some("pico: reading standard input failed; nothing is written"),
         Status::WriteFault => Some("pico: writing to standard output failed"),
-        Status::Done | Status::BadScript | Status::Usage => None,
+        Status::Done | Status::BadScript | Status::Usage | Status::NotLegal => None,
     }
 }
 

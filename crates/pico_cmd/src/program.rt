@@ -1,24 +1,26 @@
 //! The program, from words and bytes to bytes.
-ghost use Rattle.std.specs.Prelude.{◌≡◌, ◌⊎◌, ℕ, map, string_bytes, IfOk, OnOk, IfSome, IfErr};
-ghost use Rattle.pico_base.specs.declared.script.Script.{Script as ScriptValue};
-ghost use Rattle.script_reader.specs.declared.fault.ScriptFault.{ScriptFault as FaultValue};
-ghost use Rattle.script_reader.specs.Fault.{ReadsRunnable, IsFirstFaultOfRunnable};
+ghost use Rattle.std.specs.Prelude.{◌≡◌, ◌⊎◌, ◌≤◌, ◌+◌, ℕ, List, Option, Some, None, length, map, string_bytes, IfOk, OnOk, IfSome, IfErr};
 ghost use Rattle.host_iface.specs.Faults.{HasRisen};
 ghost use Rattle.host_iface.specs.Told.{followed_by};
-ghost use Rattle.pico_cmd.specs.Promise.{Allows, AnswersTold, Wrote, WroteFront, IsOrFails, IsOrStops, IsWritten, usage_text};
-ghost use Rattle.pico_cmd.specs.Words.{IsInOrder};
+ghost use Rattle.pico_words.specs.Words.{request_in};
+ghost use Rattle.pico_cmd.specs.Promise.{Allows, AnswersTold, EachCause, Wrote, WroteFront, IsOrFails, IsOrStops, IsWritten, usage_text};
 ghost use Rattle.pico_cmd.specs.declared.program.Stop.TheVariants.{Memory as OutOfMemory};
-ghost use Rattle.pico_cmd.specs.Stop.{IsReadFault, IsStop, AreScriptBytes, left_behind};
+ghost use Rattle.pico_cmd.specs.Stop.{IsReadFault, IsStop, AreBytesUpTo, Reads, left_behind, most_read};
 
 use crate::answer::{Answer, answer_to};
+use crate::generated::answer_to_number;
+use crate::judged::answer_to_check;
 use crate::status::Status;
-use crate::words::{Options, options_of};
 use host_iface::{Gate, ReadStop, Sink, Source, read_all, write_all};
 use pico_base::{Bytes, Memory};
+use pico_words::{Options, Request, request_of};
 use std::alloc::Global;
 
 // The greatest script, in bytes.
 const MAX_SCRIPT: usize = 1048576;
+
+// The greatest script, the longest line `trace` with its line feed, and the greatest trace.
+const MAX_CHECKED: usize = 68161537;
 
 /// What a run of the program leaves.
 #[derive(Clone, Copy, Debug, PartialEq, Eq)]
@@ -53,14 +55,16 @@ fn usage(alloc: Global) -> Result<Answer, Memory>
     })
 }
 
-// The bytes of the source, one past the greatest script at most.
-fn script_bytes<S: Source>(alloc: Global, source: &mut S) -> Result<Bytes, Stop>
-    ensures bytes { IfOk result (λ bytes. IfSome (S.left source.old) (AreScriptBytes bytes)) }
-    ensures rest { OnOk result (S.left source.new ≡ left_behind (S.left source.old)) }
+// The bytes of the source, one past the limit at most.
+fn bytes_up_to<S: Source>(alloc: Global, source: &mut S, limit: usize) -> Result<Bytes, Stop>
+    requires { limit ≤ 68161537 }
+    ensures bytes { IfOk result (λ bytes. IfSome (S.left source.old) (AreBytesUpTo limit bytes)) }
+    ensures few { IfOk result (λ bytes. length bytes ≤ limit + 1) }
+    ensures rest { OnOk result (S.left source.new ≡ left_behind (limit + 1) (S.left source.old)) }
     ensures calm { OnOk result (S.faults source.new ≡ S.faults source.old) }
     ensures stop { IfErr result (IsStop (S.faults source.old) (S.faults source.new)) }
 {
-    match read_all(alloc, source, MAX_SCRIPT) {
+    match read_all(alloc, source, limit) {
         Ok(bytes) => Ok(bytes),
         Err(ReadStop::TooLong { read }) => Ok(read),
         Err(ReadStop::Memory) => Err(Stop::Memory),
@@ -68,43 +72,99 @@ fn script_bytes<S: Source>(alloc: Global, source: &mut S) -> Result<Bytes, Stop>
     }
 }
 
-// The answer to the bytes of the source.
+// The answer to a script.
 fn simulate<S: Source>(alloc: Global, options: Options, source: &mut S) -> Result<Answer, Stop>
-    ensures answer { IfOk result (λ answer. AnswersTold options (S.left source.old) answer.status answer.text) }
-    ensures status { IfOk result (λ answer. (answer.status ≡ Status.Done) ⊎ (answer.status ≡ Status.BadScript)) }
-    ensures done { IfSome (S.left source.old) (λ bytes. (script : ScriptValue) → ReadsRunnable bytes script
-        → IfOk result (λ answer. answer.status ≡ Status.Done)) }
-    ensures fault { IfSome (S.left source.old) (λ bytes. (line : ℕ) (fault : FaultValue)
-        → IsFirstFaultOfRunnable bytes line fault → IfOk result (λ answer. answer.status ≡ Status.BadScript)) }
-    ensures rest { OnOk result (S.left source.new ≡ left_behind (S.left source.old)) }
+    ensures answer { IfOk result
+        (λ answer. AnswersTold (Request.Simulate options) (S.left source.old) answer.status answer.text) }
+    ensures causes { EachCause (Some (Request.Simulate options)) (S.left source.old)
+        (λ s. IfOk result (λ answer. answer.status ≡ s)) }
+    ensures rest { OnOk result (S.left source.new ≡ left_behind 1048577 (S.left source.old)) }
     ensures calm { OnOk result (S.faults source.new ≡ S.faults source.old) }
     ensures stop { IfErr result (IsStop (S.faults source.old) (S.faults source.new)) }
 {
-    let bytes = script_bytes(alloc, source)?;
+    let bytes = bytes_up_to(alloc, source, MAX_SCRIPT)?;
     Ok(answer_to(alloc, bytes.as_slice(), options)?)
+}
+
+// The answer to a script and a trace.
+fn check<S: Source>(alloc: Global, source: &mut S) -> Result<Answer, Stop>
+    ensures answer { IfOk result
+        (λ answer. AnswersTold Request.Check (S.left source.old) answer.status answer.text) }
+    ensures causes { EachCause (Some Request.Check) (S.left source.old)
+        (λ s. IfOk result (λ answer. answer.status ≡ s)) }
+    ensures rest { OnOk result (S.left source.new ≡ left_behind 68161538 (S.left source.old)) }
+    ensures calm { OnOk result (S.faults source.new ≡ S.faults source.old) }
+    ensures stop { IfErr result (IsStop (S.faults source.old) (S.faults source.new)) }
+{
+    let bytes = bytes_up_to(alloc, source, MAX_CHECKED)?;
+    Ok(answer_to_check(alloc, bytes.as_slice())?)
+}
+
+// The answer to a generated script's number.
+fn totals(alloc: Global, options: Options) -> Result<Answer, Memory>
+    ensures answer { (left : Option (List ℕ)) → IfOk result
+        (λ answer. AnswersTold (Request.Generate options) left answer.status answer.text) }
+    ensures causes { (left : Option (List ℕ)) → EachCause (Some (Request.Generate options)) left
+        (λ s. IfOk result (λ answer. answer.status ≡ s)) }
+{
+    let answer = answer_to_number(alloc, options)?;
+    Ok(answer)
+}
+
+// The answer to what is asked for, and to the bytes where they are wanted.
+fn answer_for<S: Source>(alloc: Global, request: Request, source: &mut S) -> Result<Answer, Stop>
+    ensures answer { IfOk result (λ answer. AnswersTold request (S.left source.old) answer.status answer.text) }
+    ensures causes { EachCause (Some request) (S.left source.old)
+        (λ s. IfOk result (λ answer. answer.status ≡ s)) }
+    ensures rest { OnOk result (S.left source.new ≡ left_behind (most_read request) (S.left source.old)) }
+    ensures stop { IfErr result (IsStop (S.faults source.old) (S.faults source.new)) }
+    ensures read { IfErr result (IsReadFault (Reads (Some request))) }
+    ensures untouched { (Reads (Some request) → ⊥) → source.new ≡ source.old }
+{
+    match request {
+        Request::Simulate(options) => simulate(alloc, options, source),
+        Request::Check => check(alloc, source),
+        Request::Generate(options) => Ok(totals(alloc, options)?),
+    }
+}
+
+// The answer to what is asked for, where something is.
+fn answer_asked<S: Source>(
+    alloc: Global,
+    asked: Option<Request>,
+    source: &mut S,
+) -> Result<Answer, Stop>
+    ensures answer { IfOk result (λ answer. Allows asked (S.left source.old) answer.status answer.text) }
+    ensures usage { asked ≡ None → IfOk result (λ answer. answer.status ≡ Status.Usage) }
+    ensures causes { EachCause asked (S.left source.old) (λ s. IfOk result (λ answer. answer.status ≡ s)) }
+    ensures rest { IfSome asked (λ request.
+        OnOk result (S.left source.new ≡ left_behind (most_read request) (S.left source.old))) }
+    ensures stop { IfErr result (IsStop (S.faults source.old) (S.faults source.new)) }
+    ensures read { IfErr result (IsReadFault (Reads asked)) }
+    ensures untouched { (Reads asked → ⊥) → source.new ≡ source.old }
+{
+    match asked {
+        Some(request) => answer_for(alloc, request, source),
+        None => Ok(usage(alloc)?),
+    }
 }
 
 // The answer to the words and the bytes.
 fn answer<S: Source>(alloc: Global, words: &[String], source: &mut S) -> Result<Answer, Stop>
     ensures answer { IfOk result
-        (λ answer. Allows (map string_bytes words.now) (S.left source.old) answer.status answer.text) }
-    ensures usage { (IsInOrder (map string_bytes words.now) → ⊥)
+        (λ answer. Allows (request_in (map string_bytes words.now)) (S.left source.old) answer.status answer.text) }
+    ensures usage { request_in (map string_bytes words.now) ≡ None
         → IfOk result (λ answer. answer.status ≡ Status.Usage) }
-    ensures done { IsInOrder (map string_bytes words.now) → IfSome (S.left source.old) (λ bytes.
-        (script : ScriptValue) → ReadsRunnable bytes script → IfOk result (λ answer. answer.status ≡ Status.Done)) }
-    ensures fault { IsInOrder (map string_bytes words.now) → IfSome (S.left source.old) (λ bytes.
-        (line : ℕ) (fault : FaultValue) → IsFirstFaultOfRunnable bytes line fault
-        → IfOk result (λ answer. answer.status ≡ Status.BadScript)) }
-    ensures rest { IsInOrder (map string_bytes words.now)
-        → OnOk result (S.left source.new ≡ left_behind (S.left source.old)) }
+    ensures causes { EachCause (request_in (map string_bytes words.now)) (S.left source.old)
+        (λ s. IfOk result (λ answer. answer.status ≡ s)) }
+    ensures rest { IfSome (request_in (map string_bytes words.now)) (λ request.
+        OnOk result (S.left source.new ≡ left_behind (most_read request) (S.left source.old))) }
     ensures stop { IfErr result (IsStop (S.faults source.old) (S.faults source.new)) }
-    ensures read { IfErr result (IsReadFault (IsInOrder (map string_bytes words.now))) }
-    ensures words_first { (IsInOrder (map string_bytes words.now) → ⊥) → source.new ≡ source.old }
+    ensures read { IfErr result (IsReadFault (Reads (request_in (map string_bytes words.now)))) }
+    ensures untouched { (Reads (request_in (map string_bytes words.now)) → ⊥) → source.new ≡ source.old }
 {
-    match options_of(words) {
-        Some(options) => simulate(alloc, options, source),
-        None => Ok(usage(alloc)?),
-    }
+    let asked = request_of(alloc, words)?;
+    answer_asked(alloc, asked, source)
 }
 
 // Writes an answer, and gives its status or that the write failed.
@@ -120,10 +180,15 @@ fn write_answer<K: Sink>(sink: &mut K, answer: Answer) -> Status
 
 /// Runs the program: it looks at the words, reads the source to its end, does the job, and writes the whole answer.
 ///
-/// The words are those behind the program's name. They are in order where they are `sim`, then `--seed N` if wanted,
-/// with N from 0 to 2147483646 in decimal digits without a sign or a leading zero, and then `--steps` if wanted. The
-/// script's processes then run as picoprocesses, one event at a time, by the schedule of number N, which is 0 where
-/// none is given. The trace is written, and with `--steps` the events behind it.
+/// The words are those behind the program's name: a mode and its options, before it or behind it.
+///
+/// - `sim`, with `--seed N` and `--steps` if wanted: the source is a script. Its processes run as picoprocesses, one
+///   event at a time, by the schedule of number N, which is 0 where none is given. The trace is written, and with
+///   `--steps` the events behind it.
+/// - `check`: the source is a script, a line `trace` and a trace. It is written that the trace is legal, with the
+///   number of its entries, or what its first fault is.
+/// - `gen`, with the same options as `sim`: the generated script of number N runs by schedule 0. The totals line of its
+///   trace is written, and with `--steps` the events behind it. Nothing is read.
 pub fn pico<R, S: Source, K: Sink, G: Gate>(
     _rt: &R,
     alloc: Global,
@@ -133,44 +198,53 @@ pub fn pico<R, S: Source, K: Sink, G: Gate>(
     _gate: &G,
 ) -> Ran
     // What is written with each status: the trace of a run of the script's processes, which is one history of a single
-    // POSIX kernel, the script's first fault, or the usage line; and nothing where memory or the source failed.
+    // POSIX kernel, or that a trace is legal, or the totals of a generated script's run; the script's first fault; the
+    // trace's first fault; or the usage line. Nothing is written where memory or the source failed.
     ensures done { result.status ≡ Status.Done →
-        Wrote (map string_bytes words.now) (S.left source.old) Status.Done (K.taken sink.old) (K.taken sink.new) }
+        Wrote (request_in (map string_bytes words.now)) (S.left source.old) Status.Done
+        (K.taken sink.old) (K.taken sink.new) }
     ensures bad_script { result.status ≡ Status.BadScript →
-        Wrote (map string_bytes words.now) (S.left source.old) Status.BadScript (K.taken sink.old) (K.taken sink.new) }
+        Wrote (request_in (map string_bytes words.now)) (S.left source.old) Status.BadScript
+        (K.taken sink.old) (K.taken sink.new) }
+    ensures not_legal { result.status ≡ Status.NotLegal →
+        Wrote (request_in (map string_bytes words.now)) (S.left source.old) Status.NotLegal
+        (K.taken sink.old) (K.taken sink.new) }
     ensures usage { result.status ≡ Status.Usage →
-        Wrote (map string_bytes words.now) (S.left source.old) Status.Usage (K.taken sink.old) (K.taken sink.new) }
+        Wrote (request_in (map string_bytes words.now)) (S.left source.old) Status.Usage
+        (K.taken sink.old) (K.taken sink.new) }
     ensures memory { result.status ≡ Status.Memory → sink.new ≡ sink.old }
     ensures read_fault { result.status ≡ Status.ReadFault → sink.new ≡ sink.old }
 
-    // Want of memory isn't told for a read that failed. The words are looked at before the source.
+    // Want of memory isn't told for a read that failed. Where the words aren't in order, and for a generated script,
+    // nothing is read.
     ensures memory_calm { result.status ≡ Status.Memory → S.faults source.new ≡ S.faults source.old }
-    ensures words_first { (IsInOrder (map string_bytes words.now) → ⊥) → source.new ≡ source.old }
+    ensures untouched { (Reads (request_in (map string_bytes words.now)) → ⊥) → source.new ≡ source.old }
 
     // The causes of the faults of reading and writing. A write that fails leaves a front of what was to be written.
     ensures read_cause { result.status ≡ Status.ReadFault →
-        IsInOrder (map string_bytes words.now) × HasRisen (S.faults source.old) (S.faults source.new) }
+        Reads (request_in (map string_bytes words.now)) × HasRisen (S.faults source.old) (S.faults source.new) }
     ensures write_cause { result.status ≡ Status.WriteFault → HasRisen (K.faults sink.old) (K.faults sink.new) }
     ensures write_front { result.status ≡ Status.WriteFault →
-        WroteFront (map string_bytes words.now) (S.left source.old) (K.taken sink.old) (K.taken sink.new) }
+        WroteFront (request_in (map string_bytes words.now)) (S.left source.old)
+        (K.taken sink.old) (K.taken sink.new) }
 
-    // The source is read to its end, or one byte past the greatest script.
-    ensures rest { IsInOrder (map string_bytes words.now) → (result.status ≡ Status.ReadFault → ⊥)
-        → (result.status ≡ Status.Memory → ⊥)
-        → S.left source.new ≡ left_behind (S.left source.old) }
+    // The source is read to its end, or one byte past the mode's limit.
+    ensures rest { IfSome (request_in (map string_bytes words.now)) (λ request.
+        (result.status ≡ Status.ReadFault → ⊥) → (result.status ≡ Status.Memory → ⊥)
+        → S.left source.new ≡ left_behind (most_read request) (S.left source.old)) }
 
-    // Words out of order give the usage line, and a script with a fault its fault.
-    ensures usage_exactly { (IsInOrder (map string_bytes words.now) → ⊥) → IsOrFails result.status Status.Usage }
-    ensures fault_exactly { IsInOrder (map string_bytes words.now) → IfSome (S.left source.old) (λ bytes.
-        (line : ℕ) (fault : FaultValue) → IsFirstFaultOfRunnable bytes line fault
-        → IsOrStops result.status Status.BadScript) }
+    // Words out of order give the usage line, a script with a fault its fault, and a trace with a fault its fault.
+    ensures usage_exactly { request_in (map string_bytes words.now) ≡ None → IsOrFails result.status Status.Usage }
+    ensures exactly { EachCause (request_in (map string_bytes words.now)) (S.left source.old)
+        (IsOrStops result.status) }
 
-    // A script without a fault is run, unless memory runs out or a count of faults rises.
-    ensures complete { IsInOrder (map string_bytes words.now)
-        → (HasRisen (S.faults source.old) (S.faults source.new) → ⊥)
+    // Where no count of faults rises, the answer is the one that there is a cause for, unless memory runs out: a script
+    // without a fault is run, a legal trace is legal, and a generated script is run.
+    ensures complete { (Reads (request_in (map string_bytes words.now))
+        → HasRisen (S.faults source.old) (S.faults source.new) → ⊥)
         → (HasRisen (K.faults sink.old) (K.faults sink.new) → ⊥)
-        → IfSome (S.left source.old) (λ bytes. (script : ScriptValue) → ReadsRunnable bytes script
-        → (result.status ≡ Status.Done) ⊎ (result.status ≡ Status.Memory)) }
+        → EachCause (request_in (map string_bytes words.now)) (S.left source.old)
+        (λ s. (result.status ≡ s) ⊎ (result.status ≡ Status.Memory)) }
 {
     let status = match answer(alloc, words, source) {
         Ok(answer) => write_answer(sink, answer),

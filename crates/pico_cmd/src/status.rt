@@ -17,10 +17,12 @@ pub enum Status {
     ReadFault,
     /// A write to the sink failed; a front of the text is written.
     WriteFault,
+    /// The trace isn't that of a legal history; its first fault is written.
+    NotLegal,
 }
 
 impl Status {
-    /// The exit status of the process: 0 for Done, and 1 to 5 for the others in order.
+    /// The exit status of the process: 0 for Done, 1 to 5 for the next ones in order, and 7 for NotLegal.
     pub fn code(self) -> u8
         ensures { result ≡ code_of self }
     {
@@ -31,6 +33,7 @@ impl Status {
             Status::Memory => 3,
             Status::ReadFault => 4,
             Status::WriteFault => 5,
+            Status::NotLegal => 7,
         }
     }
 }

@@ -1,4 +1,4 @@
-use Rattle.pico_cmd.proofs.Promises.{told_answer, told_done, told_fault}
+use Rattle.pico_cmd.proofs.Promises.{told_answer, sim_causes}
 use Rattle.pico_cmd.proofs.program.simulate.Goals as goal
 
 pub returns-clause-answer : goal.returns-clause-answer
@@ -6,12 +6,7 @@ returns-clause-answer g c =
     told_answer _ (g.S.Source.left c.args.source.now) _ _ _ _ c.in_ok-bytes.ensures.bytes c.as_slice.ensures
     c.in_ok-answer_to.ensures.answer
 
-pub returns-clause-done : goal.returns-clause-done
-returns-clause-done g c =
-    told_done (g.S.Source.left c.args.source.now) _ _ _ c.in_ok-bytes.ensures.bytes c.as_slice.ensures
-    c.in_ok-answer_to.ensures.done
-
-pub returns-clause-fault : goal.returns-clause-fault
-returns-clause-fault g c =
-    told_fault (g.S.Source.left c.args.source.now) _ _ _ c.in_ok-bytes.ensures.bytes c.as_slice.ensures
-    c.in_ok-answer_to.ensures.fault
+pub returns-clause-causes : goal.returns-clause-causes
+returns-clause-causes g c =
+    sim_causes c.args.options (g.S.Source.left c.args.source.now) _ _ _ c.in_ok-bytes.ensures.bytes c.as_slice.ensures
+    c.in_ok-answer_to.ensures.done c.in_ok-answer_to.ensures.fault

@@ -1,0 +1,23 @@
+use Rattle.pico_cmd.proofs.Promises.{read_told, untouched_left}
+use Rattle.pico_cmd.proofs.program.answer_for.Goals as goal
+
+pub returns-in-Simulate-clause-read : goal.returns-in-Simulate-clause-read
+returns-in-Simulate-clause-read g c = rw c.in-Simulate.is (read_told c.simulate.result)
+
+pub returns-in-Check-clause-read : goal.returns-in-Check-clause-read
+returns-in-Check-clause-read g c = rw c.in-Check.is (read_told c.check.result)
+
+pub returns-in-Simulate-clause-untouched : goal.returns-in-Simulate-clause-untouched
+returns-in-Simulate-clause-untouched g c unread = absurd (unread (rw c.in-Simulate.is tt))
+
+pub returns-in-Check-clause-untouched : goal.returns-in-Check-clause-untouched
+returns-in-Check-clause-untouched g c unread = absurd (unread (rw c.in-Check.is tt))
+
+pub returns-in_ok-totals-in-Generate-clause-rest : goal.returns-in_ok-totals-in-Generate-clause-rest
+returns-in_ok-totals-in-Generate-clause-rest g c =
+    rw c.in-Generate.is (untouched_left (g.S.Source.left c.args.source.now))
+
+pub returns-in_ok-totals-in-Generate-clause-causes : goal.returns-in_ok-totals-in-Generate-clause-causes
+returns-in_ok-totals-in-Generate-clause-causes g c =
+    rw c.in-Generate.is
+    (c.in_ok-totals-in-Generate.ensures.causes (g.S.Source.left c.args.source.now))
