@@ -1,3 +1,5 @@
 pub mod HandMoves
 pub mod Forwards
 pub mod Holdings
+pub mod Owners
+pub mod Routes
