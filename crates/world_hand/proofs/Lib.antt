@@ -3,3 +3,4 @@ pub mod Forwards
 pub mod Holdings
 pub mod Owners
 pub mod Routes
+pub mod Takings
