@@ -4,3 +4,4 @@ pub mod Holdings
 pub mod Owners
 pub mod Routes
 pub mod Takings
+pub mod Asks
