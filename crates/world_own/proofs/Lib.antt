@@ -1,3 +1,4 @@
 pub mod Entries
 pub mod Others
 pub mod EntryMoves
+pub mod Served
