@@ -1,18 +1,18 @@
 -- What a node's turn changes in a world: the node's own state; a frame is gone from the head of a stream to it; and
 -- what
 -- it sent stands at the ends of the streams from it. In the middle of an event it is the same.
-use Rattle.std.proofs.Common.{◌≡◌, ◌≢◌, ◌⊎◌, ℕ, ◌+◌, ◌-◌, ◌<◌, ◌≤◌, Bool, true, false, ◌&&◌, List, [], ◌∷◌, ◌++◌, length, filter, flat_map, nat_eq, Contains, refl, ap, sym, subst, ◌∙◌, inl, inr, arith, append_assoc, append-nil}
+use Rattle.std.proofs.Common.{◌≡◌, ◌≢◌, ℕ, Bool, true, false, List, [], ◌∷◌, ◌++◌, filter, flat_map, nat_eq, refl, ap, sym, subst, ◌∙◌, inl, inr, append-nil}
 use Rattle.std.specs.List.{AllByRecursion}
-use Rattle.std.proofs.lemmas.Bool.{cases_eq, eq-eqb, ne_eqb, lt-ltb, le-ltb, ltb-true}
-use Rattle.std.proofs.lemmas.List.Elements.{filter-append, Contains-append_cases, Contains-append_left, Contains-append_right}
+use Rattle.std.proofs.lemmas.Bool.{cases_eq, eq-eqb, ne_eqb}
+use Rattle.std.proofs.lemmas.List.Elements.{filter-append}
 use Rattle.pico_base.specs.declared.script.Script.{Script}
 use Rattle.pico_base.specs.declared.reply.Entry.{Entry}
 use Rattle.rpc_frame.specs.declared.frame.Frame.{Frame}
-use Rattle.world_model.specs.Node.{Node, Stage}
-use Rattle.world_model.specs.World.{World, stream, node_count, is_number}
+use Rattle.world_model.specs.Node.{Node}
+use Rattle.world_model.specs.World.{World}
 use Rattle.world_laws.specs.Sights.{node_of, frames_to, directory_of, stage_of, is_born_stage, is_born_in}
 use Rattle.world_laws.specs.Invariant.{IsShaped}
-use Rattle.world_laws.proofs.Sends.{frame_if, sent_to}
+use Rattle.world_laws.proofs.Sends.{frame_if, frames_with}
 use Rattle.world_laws.proofs.Played.{flat_map-append}
 
 -- ---- frames that a node takes and sends, each with the node at the other end
@@ -24,11 +24,11 @@ frames_if false fs = []
 
 -- what a node took out of the stream to a node from a node
 abbrev pub taken : ℕ → List (ℕ × Frame) → ℕ → ℕ → List Frame
-taken p takes to sender = frames_if (nat_eq to p) (sent_to sender takes)
+taken p takes to sender = frames_if (nat_eq to p) (frames_with sender takes)
 
 -- what it put into it
 abbrev pub sent : ℕ → List (ℕ × Frame) → ℕ → ℕ → List Frame
-sent p sends to sender = frames_if (nat_eq sender p) (sent_to to sends)
+sent p sends to sender = frames_if (nat_eq sender p) (frames_with to sends)
 
 -- Node p is now as n, it took these frames and sent those, and made these entries.
 pub record Changes (script : Script) (p : ℕ) (w w' : World) (n : Node) (takes sends : List (ℕ × Frame))
@@ -61,7 +61,7 @@ abbrev pub MakesNothing : {A : Type 0} → (ℕ → List Frame → List A) → L
 MakesNothing f pairs = AllByRecursion (λ s. f s.0 (s.1 ∷ []) ≡ []) pairs
 
 of-pairs : {A : Type 0} (f : ℕ → List Frame → List A) → ((x : ℕ) → IsListMap (f x)) → (pairs : List (ℕ × Frame))
-    → MakesNothing f pairs → (x : ℕ) → f x (sent_to x pairs) ≡ []
+    → MakesNothing f pairs → (x : ℕ) → f x (frames_with x pairs) ≡ []
 of-pairs f m [] none x =
     let g : IsListMap (f x) = m x
     in g.of_none
@@ -69,12 +69,12 @@ of-pairs f m (s ∷ pairs) none x =
     let g : IsListMap (f x) = m x
     in elim (cases_eq x s.0) [
       | inl e ↦
-          ap (λ b. f x (frame_if b s.1 ++ sent_to x pairs)) (eq-eqb x s.0 e)
-          ∙ g.of_both (s.1 ∷ []) (sent_to x pairs)
-          ∙ ap (λ fs. fs ++ f x (sent_to x pairs)) (subst (λ y. f y (s.1 ∷ []) ≡ []) (sym e) none.0)
+          ap (λ b. f x (frame_if b s.1 ++ frames_with x pairs)) (eq-eqb x s.0 e)
+          ∙ g.of_both (s.1 ∷ []) (frames_with x pairs)
+          ∙ ap (λ fs. fs ++ f x (frames_with x pairs)) (subst (λ y. f y (s.1 ∷ []) ≡ []) (sym e) none.0)
           ∙ of-pairs f m pairs none.1 x
       | inr d ↦
-          ap (λ b. f x (frame_if b s.1 ++ sent_to x pairs)) (ne_eqb x s.0 d)
+          ap (λ b. f x (frame_if b s.1 ++ frames_with x pairs)) (ne_eqb x s.0 d)
           ∙ of-pairs f m pairs none.1 x
     ]
 
@@ -86,10 +86,10 @@ nothing-taken f m p takes none to sender =
     let g : IsListMap (f to sender) = m to sender
     in elim (cases_eq to p) [
       | inl e ↦
-          ap (λ b. f to sender (frames_if b (sent_to sender takes))) (eq-eqb to p e)
-          ∙ subst (λ t. f t sender (sent_to sender takes) ≡ []) (sym e)
+          ap (λ b. f to sender (frames_if b (frames_with sender takes))) (eq-eqb to p e)
+          ∙ subst (λ t. f t sender (frames_with sender takes) ≡ []) (sym e)
           (of-pairs (f p) (λ x. m p x) takes none sender)
-      | inr d ↦ ap (λ b. f to sender (frames_if b (sent_to sender takes))) (ne_eqb to p d) ∙ g.of_none
+      | inr d ↦ ap (λ b. f to sender (frames_if b (frames_with sender takes))) (ne_eqb to p d) ∙ g.of_none
     ]
 
 -- nothing is made of what was sent
@@ -100,10 +100,10 @@ nothing-sent f m p sends none to sender =
     let g : IsListMap (f to sender) = m to sender
     in elim (cases_eq sender p) [
       | inl e ↦
-          ap (λ b. f to sender (frames_if b (sent_to to sends))) (eq-eqb sender p e)
-          ∙ subst (λ s. f to s (sent_to to sends) ≡ []) (sym e)
+          ap (λ b. f to sender (frames_if b (frames_with to sends))) (eq-eqb sender p e)
+          ∙ subst (λ s. f to s (frames_with to sends) ≡ []) (sym e)
           (of-pairs (λ x. f x p) (λ x. m x p) sends none to)
-      | inr d ↦ ap (λ b. f to sender (frames_if b (sent_to to sends))) (ne_eqb sender p d) ∙ g.of_none
+      | inr d ↦ ap (λ b. f to sender (frames_if b (frames_with to sends))) (ne_eqb sender p d) ∙ g.of_none
     ]
 
 module _ (script : Script) (p : ℕ) (w w' : World) (n : Node) (takes sends : List (ℕ × Frame)) (entries : List Entry)

@@ -3,11 +3,9 @@ use Rattle.std.proofs.Common.{◌≡◌, ◌≢◌, ℕ, Bool, true, false, ◌|
 use Rattle.std.specs.List.{AllByRecursion}
 use Rattle.std.proofs.lemmas.Bool.{cases_eq, eq-eqb, ne_eqb, false≢true}
 use Rattle.std.proofs.lemmas.List.Elements.{Contains-append_cases, Contains-push_cases}
-use Rattle.pico_base.specs.declared.call.Home.{Home}
 use Rattle.pico_base.specs.declared.numbers.Kind.{Kind}
 use Rattle.pico_base.specs.declared.numbers.Name.{Name}
 use Rattle.pico_base.specs.declared.numbers.Name.TheVariants.{Proc}
-use Rattle.rpc_frame.specs.declared.asked.Asked.{Asked}
 use Rattle.rpc_frame.specs.declared.deed.Parcel.{Parcel}
 use Rattle.rpc_frame.specs.declared.frame.Frame.{Frame}
 use Rattle.rpc_frame.specs.declared.frame.Frame.TheVariants as frames
@@ -21,7 +19,7 @@ use Rattle.world_laws.specs.Callers.{is_about}
 use Rattle.world_laws.specs.Ways.{is_leaving_frame, is_recall_all, is_left_frame}
 use Rattle.world_laws.specs.Ranges.{lease_in}
 use Rattle.world_laws.specs.Families.{is_checkpoint_frame}
-use Rattle.world_laws.proofs.Sends.{frame_if, sent_to}
+use Rattle.world_laws.proofs.Sends.{frame_if, frames_with}
 
 -- ---- lists of frames
 
@@ -42,10 +40,10 @@ contains-one f g there =
 
 -- what is on its way to a node from what was sent was sent to it
 pub sent-is : (P : ℕ → Frame → Type 0) (pairs : List (ℕ × Frame)) → AllByRecursion (λ s. P s.0 s.1) pairs → (x : ℕ)
-    (frame : Frame) → Contains (sent_to x pairs) frame → P x frame
+    (frame : Frame) → Contains (frames_with x pairs) frame → P x frame
 sent-is P [] all x frame there = absurd (contains-none frame there)
 sent-is P (s ∷ pairs) all x frame there =
-    elim (Contains-append_cases (frame_if (nat_eq x s.0) s.1) (sent_to x pairs) frame there) [
+    elim (Contains-append_cases (frame_if (nat_eq x s.0) s.1) (frames_with x pairs) frame there) [
       | inl first ↦
           elim (cases_eq x s.0) [
             | inl e ↦

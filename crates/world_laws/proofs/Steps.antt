@@ -1,6 +1,6 @@
 -- A node's turn as a step of the world, and what it changes there.
-use Rattle.std.proofs.Common.{◌≡◌, ◌≢◌, ◌⊎◌, ℕ, zero, suc, ◌+◌, ◌-◌, ◌<◌, ◌≤◌, Bool, true, false, ◌&&◌, if◌then◌else◌, List, [], ◌∷◌, ◌++◌, length, set, slice_get, get_or, nat_eq, nat_lt, Option, Some, None, unwrap_or, option_and_then, refl, ap, sym, subst, ◌∙◌, inl, inr, arith, append-nil}
-use Rattle.std.specs.List.{AllByRecursion, list_all}
+use Rattle.std.proofs.Common.{◌≡◌, ◌≢◌, ◌⊎◌, ℕ, zero, suc, ◌-◌, ◌<◌, ◌≤◌, Bool, true, false, ◌&&◌, if◌then◌else◌, List, [], ◌∷◌, ◌++◌, length, set, slice_get, get_or, nat_eq, Some, None, unwrap_or, option_and_then, refl, ap, sym, subst, ◌∙◌, inl, inr, arith, append-nil}
+use Rattle.std.specs.List.{list_all}
 use Rattle.std.proofs.lemmas.Bool.{cases_eq, eq-eqb, ne_eqb, lt-ltb, le-ltb}
 use Rattle.std.proofs.lemmas.List.{length-set}
 use Rattle.std.proofs.lemmas.Option.{slice_get-get_or}
@@ -8,18 +8,18 @@ use Rattle.pico_base.specs.declared.script.Script.{Script}
 use Rattle.pico_base.specs.declared.script.Event.{Event}
 use Rattle.pico_base.specs.declared.script.Event.TheVariants as events
 use Rattle.rpc_frame.specs.declared.frame.Frame.{Frame}
-use Rattle.world_model.specs.Node.{Node, unborn_node}
+use Rattle.world_model.specs.Node.{unborn_node}
 use Rattle.world_model.specs.Step.{Step}
 use Rattle.world_model.specs.Grammar.{is_sent_frame}
 use Rattle.world_model.specs.Turn.{take_frame, take_turn, sends_frames, run_turn}
 use Rattle.world_model.specs.Starting.{run}
-use Rattle.world_model.specs.World.{World, Streams, node_at, stream, stream_in, with_stream, with_all_sent, node_count, world_after, after_turn, takes_at, runs_at, step, is_number}
+use Rattle.world_model.specs.World.{World, node_at, stream, stream_in, with_stream, with_all_sent, node_count, world_after, after_turn, takes_at, runs_at, step, is_number}
 use Rattle.world_laws.specs.Places.{Beside}
 use Rattle.world_laws.specs.Sights.{node_of, frames_to}
 use Rattle.world_laws.specs.Callers.{HasTries}
 use Rattle.world_laws.specs.Invariant.{IsShaped, Holds}
 use Rattle.world_laws.proofs.Streams.{Square, square-with, stream-same, stream-other}
-use Rattle.world_laws.proofs.Sends.{AreToNodes, IsToNode, frame_if, sent_to, square-sent, all-sent, none-sent}
+use Rattle.world_laws.proofs.Sends.{AreToNodes, IsToNode, frame_if, frames_with, sent-is-with, square-sent, all-sent, none-sent}
 use Rattle.world_laws.proofs.Changes.{Changes, frames_if, taken, sent}
 
 -- an event has a step, and the invariant holds after it, with this beside the world
@@ -125,7 +125,7 @@ taken-here p q frame = rw (eq-eqb p p refl, eq-eqb q q refl) refl
 
 -- and in none to another node
 pub taken-not-to : (p to sender : ℕ) (takes : List (ℕ × Frame)) → to ≢ p → taken p takes to sender ≡ []
-taken-not-to p to sender takes d = ap (λ b. frames_if b (sent_to sender takes)) (ne_eqb to p d)
+taken-not-to p to sender takes d = ap (λ b. frames_if b (frames_with sender takes)) (ne_eqb to p d)
 
 frames-of-none : (b : Bool) → frames_if b [] ≡ []
 frames-of-none true = refl
@@ -136,12 +136,12 @@ pub taken-not-from : (p to q sender : ℕ) (frame : Frame) → sender ≢ q → 
 taken-not-from p to q sender frame d =
     ap (λ b. frames_if (nat_eq to p) (frame_if b frame ++ [])) (ne_eqb sender q d) ∙ frames-of-none (nat_eq to p)
 
-sent-to-none : (n : ℕ) (sends : List (ℕ × Frame)) → AreToNodes n sends → (to : ℕ) → to < 1 → sent_to to sends ≡ []
+sent-to-none : (n : ℕ) (sends : List (ℕ × Frame)) → AreToNodes n sends → (to : ℕ) → to < 1 → frames_with to sends ≡ []
 sent-to-none n [] all to none = refl
 sent-to-none n (s ∷ sends) all to none =
     let first : IsToNode n s = all.0
     in let low : 1 ≤ s.0 = first.low
-    in ap (λ b. frame_if b s.1 ++ sent_to to sends) (ne_eqb to s.0 (λ e. omega (arith, e, low, none)))
+    in ap (λ b. frame_if b s.1 ++ frames_with to sends) (ne_eqb to s.0 (λ e. omega (arith, e, low, none)))
     ∙ sent-to-none n sends all.1 to none
 
 -- what is on its way from a node that has sent
@@ -160,7 +160,7 @@ sends-behind n v p s square to_nodes low high to sender =
             | inr none ↦
                 no-frames-from (world_after v p s) to sender none
                 ∙ sym (ap (λ fs. fs ++ sent p s.sends to sender) (no-frames-from v to sender none)
-                ∙ ap (λ b. frames_if b (sent_to to s.sends)) (ne_eqb sender p (λ e. omega (arith, e, low, none))))
+                ∙ ap (λ b. frames_if b (frames_with to s.sends)) (ne_eqb sender p (λ e. omega (arith, e, low, none))))
             | inl low_from ↦
                 frames-low (world_after v p s) to sender low_to low_from
                 ∙ in-range low_to low_from (cases_eq sender p)
@@ -175,10 +175,11 @@ sends-behind n v p s square to_nodes low high to sender =
         subst (λ x. stream_in (with_all_sent p v.streams s.sends) to x
         ≡ stream_in v.streams to x ++ sent p s.sends to x) (sym e)
         (all-sent n p v.streams s.sends to square to_nodes low high low_to
-        ∙ ap (λ b. stream_in v.streams to p ++ frames_if b (sent_to to s.sends)) (sym (eq-eqb p p refl)))
+        ∙ ap (λ fs. stream_in v.streams to p ++ fs) (sent-is-with to s.sends)
+        ∙ ap (λ b. stream_in v.streams to p ++ frames_if b (frames_with to s.sends)) (sym (eq-eqb p p refl)))
     in-range low_to low_from (inr d) =
         none-sent n p v.streams s.sends to sender square to_nodes low low_to low_from d
-        ∙ sym (ap (λ b. stream_in v.streams to sender ++ frames_if b (sent_to to s.sends)) (ne_eqb sender p d)
+        ∙ sym (ap (λ b. stream_in v.streams to sender ++ frames_if b (frames_with to s.sends)) (ne_eqb sender p d)
         ∙ append-nil (stream_in v.streams to sender))
 
 shaped-after : (script : Script) (v : World) (p : ℕ) (s : Step) → v.script ≡ script

@@ -11,3 +11,4 @@ pub mod LeaseAsks
 pub mod Births
 pub mod CallFrames
 pub mod Opening
+pub mod Enabled

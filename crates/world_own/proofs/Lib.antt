@@ -1,0 +1,4 @@
+pub mod Entries
+pub mod Others
+pub mod EntryMoves
+pub mod Served
