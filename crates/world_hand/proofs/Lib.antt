@@ -5,3 +5,4 @@ pub mod Owners
 pub mod Routes
 pub mod Takings
 pub mod Asks
+pub mod Nobody
