@@ -6,3 +6,4 @@ pub mod Routes
 pub mod Takings
 pub mod Asks
 pub mod Nobody
+pub mod NobodyRoutes

@@ -84,7 +84,8 @@ removal-of-object pid call name e = sym (ap removes e) ∙ may-remove pid call
 abbrev pub IsOn : Name → Home → Type 0
 IsOn name home = (home ≡ homes.At name) ⊎ (home ≡ homes.Removal name)
 
-is-home-on : (name : Name) (home : Home) → IsOn name home → is_home_on name home ≡ true
+-- such a call is on it
+pub is-home-on : (name : Name) (home : Home) → IsOn name home → is_home_on name home ≡ true
 is-home-on name home (inl e) = ap (is_home_on name) e ∙ same-name name name refl
 is-home-on name home (inr e) = ap (is_home_on name) e ∙ same-name name name refl
 
@@ -98,7 +99,7 @@ may-go-by-range name home call h (inl e) = ap (λ z. may_be_in (SentByRange h) z
 may-go-by-range name home call h (inr e) = ap (λ z. may_be_in (SentByRange h) z call) e
 
 -- at no node
-abbrev is_elsewhere : Route → Bool
+abbrev pub is_elsewhere : Route → Bool
 is_elsewhere (routes.At node) = false
 is_elsewhere r = true
 
@@ -132,21 +133,24 @@ module _ (script : Script) (v : World) (s : Step) (asked : Asked) (rest : List H
   changes-now t sends grows to_nodes =
       changes-further script v 1 s t sends [] holds.shape (omega arith) high-one to_nodes grows
 
-  here : node_of w 1 ≡ s.node
-  here =
+  -- the world shows the node of the step
+  pub leader-here : node_of w 1 ≡ s.node
+  leader-here =
       let c : Changes script 1 w w s.node [] [] [] =
       changes-now s [] (record { sends_are = sym (append-nil s.sends); entries_are = sym (append-nil s.entries) }) tt
       in c.here
 
-  number : s.node.number ≡ 1
-  number =
+  -- which is node 1
+  pub leader-number : s.node.number ≡ 1
+  leader-number =
       let n : NodeHolds script b.pids (is_born_in w) 1 (node_of w 1) = holds.nodes 1 (omega arith) high-one
-      in sym (ap (λ (m : Node). m.number) here) ∙ n.number
+      in sym (ap (λ (m : Node). m.number) leader-here) ∙ n.number
 
   directory : s.node.leader.directory ≡ d
-  directory = sym (ap (λ (m : Node). m.leader.directory) here)
+  directory = sym (ap (λ (m : Node). m.leader.directory) leader-here)
 
-  routed-elsewhere : (name : Name) (r : Route) → is_elsewhere r ≡ true → IsOn name home → route d name ≡ r
+  -- where the route isn't a node's it is the same for a removal
+  pub routed-elsewhere : (name : Name) (r : Route) → is_elsewhere r ≡ true → IsOn name home → route d name ≡ r
       → route_call script s asked ≡ routing.route_by script s name asked r
   routed-elsewhere name r away (inl e) g =
       ap (route_home script s asked) e
@@ -168,7 +172,7 @@ module _ (script : Script) (v : World) (s : Step) (asked : Asked) (rest : List H
         → Changes script 1 w (world_after v 1 sent_on) (node_of w 1) [] ((h, frames.Forward asked) ∷ []) []
     forward-changes low_to high_to =
         subst (λ (m : Node). Changes script 1 w (world_after v 1 sent_on) m [] ((h, frames.Forward asked) ∷ []) [])
-        (sym here)
+        (sym leader-here)
         (changes-now sent_on ((h, frames.Forward asked) ∷ [])
         (record { sends_are = refl; entries_are = sym (append-nil s.entries) })
         (record { low = low_to; high = high_to }, tt))
@@ -185,7 +189,7 @@ module _ (script : Script) (v : World) (s : Step) (asked : Asked) (rest : List H
             ∙ ap (λ o. routing.route_by script s name asked (route_by o (maker_stays d (maker d name)) (maker d name)))
             place
             ∙ ap (λ t. if t then serve_asked script s name asked else Some (forward s h asked))
-            (ne_eqb h s.node.number (λ e. other (e ∙ number)));
+            (ne_eqb h s.node.number (λ e. other (e ∙ leader-number)));
         holds = forward-keeps script w asked rest b holds low high name (is-home-on name home (inl on)) true h low_owner
             (ap (λ z. may_be_in (SentByPlace h) z asked.call) on) place (world_after v 1 (forward s h asked))
             (forward-changes true h low_to
@@ -237,7 +241,7 @@ module _ (script : Script) (v : World) (s : Step) (asked : Asked) (rest : List H
 
       node-is : after.node ≡ with_directory (node_of w 1) (with_place d name (Coming to (items ++ Request asked ∷ [])))
       node-is =
-          ap (λ (m : Node). with_directory m (hold m.leader.directory name (Request asked))) (sym here)
+          ap (λ (m : Node). with_directory m (hold m.leader.directory name (Request asked))) (sym leader-here)
           ∙ ap (λ o. with_directory (node_of w 1) (hold_at d name (Request asked) o)) place
 
   -- A removal of a queue or a set that another node owns: its deed is asked for, and the call is held until it has come.
@@ -250,7 +254,7 @@ module _ (script : Script) (v : World) (s : Step) (asked : Asked) (rest : List H
             ∙ ap (λ y. remove_by script s name asked (route y name)) directory
             ∙ ap (λ o. remove_by script s name asked (route_by o (maker_stays d (maker d name)) (maker d name))) place
             ∙ ap (λ t. if t then option_map (unbind_name name) (serve_asked script s name asked) else Some after)
-            (ne_eqb h s.node.number (λ e. other (e ∙ number)));
+            (ne_eqb h s.node.number (λ e. other (e ∙ leader-number)));
         holds = holding-keeps script w asked rest b holds low high name (is-home-on name home (inr on))
             (may-be-held name home asked.call (inr on)) (Some h) None []
             (record { low = low_owner; place_is = place; to_nobody = refl; none_held = refl })
@@ -277,6 +281,6 @@ module _ (script : Script) (v : World) (s : Step) (asked : Asked) (rest : List H
           (with_place (with_place d name (Coming None [])) name (Coming None (Request asked ∷ [])))
       node-is =
           ap (λ (m : Node). with_directory m (hold (recall m.leader.directory name None) name (Request asked)))
-          (sym here)
+          (sym leader-here)
           ∙ ap (λ o. with_directory (node_of w 1) (hold_at (recall d name None) name (Request asked) o))
           (place-with-same d name (Coming None []))
