@@ -3,3 +3,4 @@ pub mod Others
 pub mod EntryMoves
 pub mod Served
 pub mod Rebodied
+pub mod Runs
