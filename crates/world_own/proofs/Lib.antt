@@ -2,3 +2,5 @@ pub mod Entries
 pub mod Others
 pub mod EntryMoves
 pub mod Served
+pub mod Rebodied
+pub mod Runs
