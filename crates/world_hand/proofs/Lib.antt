@@ -5,5 +5,6 @@ pub mod Owners
 pub mod Routes
 pub mod Takings
 pub mod Asks
+pub mod Answering
 pub mod Nobody
 pub mod NobodyRoutes

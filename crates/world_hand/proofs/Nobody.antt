@@ -1,5 +1,4 @@
--- A call in hand on a name that nothing has, of another node: it is refused, as in the kernel, and the reply is on its
--- way.
+-- A call in hand, of another node, that changes nothing: the entry is made, and the reply is on its way.
 use Rattle.std.proofs.Common.{◌≡◌, ◌≢◌, ◌⊎◌, ℕ, ◌≤◌, Bool, true, false, ◌&&◌, not, cond, if◌then◌else◌, List, [], ◌∷◌, ◌++◌, filter, flat_map, nat_eq, Contains, Option, Some, None, is_some, refl, ap, sym, subst, ◌∙◌, inl, inr, arith, append-nil}
 use Rattle.std.specs.List.{AllByRecursion, list_any}
 use Rattle.std.proofs.lemmas.Bool.{cases_eq, eq-eqb, ne_eqb, false≢true}
@@ -64,28 +63,9 @@ use Rattle.world_rules.proofs.Nodes.{leader-stage}
 use Rattle.world_own.proofs.Entries.{EntryLeaves}
 use Rattle.world_own.proofs.EntryMoves.{IsEntryMove, entry-keeps, entry-born, few-after, steps-still, ranges-still}
 use Rattle.world_own.proofs.Served.{served-no-fork, served-not-killed}
-use Rattle.world_hand.proofs.HandMoves.{IsFirst, first, in-no-stream, held-for-none, in-hand-for-others, placed_at}
+use Rattle.world_hand.proofs.Answering.{IsPlainCall, LeaderAnswers, answered-keeps, due-in-hand, may-make-in-hand, name-not-served, place-in-hand}
 
 -- ---- an entry that changes nothing
-
--- a call that forks nothing and ends nobody
-pub record IsPlainCall (call : Call) : Type 0 where
-  pub no_fork : is_fork call ≡ false
-  pub no_exit : is_exit call ≡ false
-  pub not_killed : is_killed call ≡ false
-
-served-no-exit : (call : Call) → is_served call ≡ true → is_exit call ≡ false
-served-no-exit (calls.Exit status) h = absurd (false≢true h)
-served-no-exit call h = refl
-
--- a served one
-pub served-plain : (call : Call) → is_served call ≡ true → IsPlainCall call
-served-plain call h =
-    record {
-      no_fork = served-no-fork call h;
-      no_exit = served-no-exit call h;
-      not_killed = served-not-killed call h;
-    }
 
 -- What a due call leaves that changes no body: the caller's place moves on, and that is all.
 pub unchanged-leaves : (k : Kernel) (pid : ℕ) (call : Call) (reply : Reply) (m : MayMake k pid call)
@@ -132,306 +112,60 @@ unchanged-leaves k pid call reply m l plain script places node p caller there is
     due-itself (inl h) = h
     due-itself (inr h) = absurd (false≢true (sym plain.not_killed ∙ h.0))
 
--- ---- the caller
-
--- who has a call under way is born
-pub at-work-born : (stage : Stage) → is_at_work stage ≡ true → is_born_stage stage ≡ true
-at-work-born Unborn h = absurd (false≢true h)
-at-work-born Living h = refl
-at-work-born Leaving h = refl
-at-work-born Left h = refl
-at-work-born Over h = refl
-
-pub born-there : (script : Script) (pids : ℕ → ℕ) (p pid parent parent_node : ℕ) (stage : Stage)
-    → is_at_work stage ≡ true → BornIn script pids p pid parent parent_node stage
-    → IsBorn script pids p pid parent parent_node
-born-there script pids p pid parent parent_node Unborn work h = absurd (false≢true work)
-born-there script pids p pid parent parent_node Living work h = h
-born-there script pids p pid parent parent_node Leaving work h = h
-born-there script pids p pid parent parent_node Left work h = h
-born-there script pids p pid parent parent_node Over work h = absurd (false≢true work)
-
--- it is carried out, and its reply is on its way
-abbrev pub answered_at : CallSight → ℕ → ℕ → Reply → Place → Alive → Asked → CallSight
-answered_at x p node reply place alive asked =
-    record (placed_at x p (InAnswer node reply) asked) { place = Some place; alive = Some alive }
-
-sent-answer : (p to sender ticket : ℕ) (reply : Reply) (t s : Bool) → nat_eq to p ≡ t
-    → filter (is_about p to sender) (frames_if s (frame_if t (frames.Answer ticket reply) ++ []))
-    ≡ only_if (t && s) (frames.Answer ticket reply)
-sent-answer p to sender ticket reply true true e = ap (λ u. cond u (frames.Answer ticket reply ∷ []) []) e
-sent-answer p to sender ticket reply true false e = refl
-sent-answer p to sender ticket reply false true e = refl
-sent-answer p to sender ticket reply false false e = refl
+-- ---- the answer
 
 module _ (script : Script) (w : World) (asked : Asked) (rest : List Held) (b : Beside)
     (holds : Holds script w (Request asked ∷ rest) b) (low : 1 ≤ asked.caller)
-    (high : asked.caller ≤ node_count script) where
-  abbrev p : ℕ
-  p = asked.caller
+    (high : asked.caller ≤ node_count script) (reply : Reply)
+    (l : LeavesAll b.kernel asked.pid asked.call reply) (plain : IsPlainCall asked.call) (other : asked.caller ≢ 1)
+    (node : ℕ) (w' : World)
+    (c : Changes script 1 w w' (node_of w 1) [] ((asked.caller, frames.Answer asked.ticket reply) ∷ [])
+    (entry_of node asked.pid asked.call reply ∷ [])) where
+  abbrev n : Node
+  n = node_of w 1
 
-  abbrev hand : List Held
-  hand = Request asked ∷ rest
+  abbrev caller : Caller
+  caller = (node_of w asked.caller).caller
 
-  abbrev x : CallSight
-  x = call_sight w hand b p
+  abbrev place : Place
+  place = caller_place script asked.caller caller
 
-  is-first : IsFirst script p (is_born_in w) x asked (filter (is_item_about p) rest)
-  is-first = first script w asked rest b holds low high
+  abbrev moved : Beside
+  moved =
+      record b {
+        kernel = l.next;
+        places = places_after script b.places (entry_of node asked.pid asked.call reply) place;
+        call = call_in b.call asked.caller (InAnswer 1 reply);
+      }
 
-  has : HasCall script p (is_born_in w) x is-first.call
-  has = is-first.has
+  leaves : EntryLeaves b.kernel b.places asked.pid l.next
+      (places_after script b.places (entry_of node asked.pid asked.call reply) place)
+  leaves =
+      unchanged-leaves b.kernel asked.pid asked.call reply
+      (may-make-in-hand script w asked rest b holds low high) l plain script b.places node asked.caller caller
+      (place-in-hand script w asked rest b holds low high) (due-in-hand script w asked rest b holds low high)
 
-  to-be-made : IsToBeMade script p x is-first.call
-  to-be-made = subst (λ z. IsSoFar script p x is-first.call z) is-first.place_is has.so_far
+  keys-now : KeysHold n.leader l.next
+  keys-now =
+      let k : KeysHold n.leader b.kernel = holds.keys
+      in let kept : HasKeys n.leader.queue_keys n.leader.set_keys l.next =
+      keys-kept n.leader.queue_keys n.leader.set_keys b.kernel l.next l.keys
+      (record { queues = k.queues; sets = k.sets })
+      in record { queues = kept.queues; sets = kept.sets }
 
-  call-is : asked.call ≡ is-first.call
-  call-is = ap (λ (a : Asked). a.call) is-first.asked_is
+  answers : LeaderAnswers script w b l.next n
+  answers =
+      record {
+        caller = record { number = refl; pid = refl; stage = refl; caller = refl; leases = refl };
+        directory = refl;
+        keys = keys-now;
+        node = holds.nodes 1 (omega arith) (omega (arith, low, high));
+        awaited = λ q to e. l.bodies (Proc q);
+      }
 
-  node-holds : NodeHolds script b.pids (is_born_in w) p (node_of w p)
-  node-holds = holds.nodes p low high
-
-  born : IsBorn script b.pids p (node_of w p).pid (node_of w p).parent (node_of w p).parent_node
-  born = born-there script b.pids p _ _ _ x.stage has.at_work node-holds.birth
-
-  -- the call is of the caller's process
-  pub pid-in-hand : asked.pid ≡ b.pids p
-  pid-in-hand = ap (λ (a : Asked). a.pid) is-first.asked_is ∙ born.pid_is
-
-  -- which was forked
-  pub caller-forked : b.pids p ≢ 0
-  caller-forked = born.forked
-
-  -- and whose node is born
-  pub caller-born : is_born_in w p ≡ true
-  caller-born = at-work-born x.stage has.at_work
-
-  -- its history is at the caller's place
-  pub place-in-hand : get b.places asked.pid ≡ Some (caller_place script p x.caller)
-  place-in-hand = ap (get b.places) pid-in-hand ∙ to-be-made.there
-
-  -- where the call is due
-  pub due-in-hand : IsDue (caller_place script p x.caller) asked.call
-  due-in-hand = subst (λ c. IsDue (caller_place script p x.caller) c) (sym call-is) to-be-made.due
-
-  has-history : HasHistory script w.journal b.kernel b.places
-  has-history =
-      let h : IsHistory script w.journal b.kernel b.places = holds.history
-      in record { legal = h.legal; fits = h.fits; ordered = h.ordered }
-
-  -- and its process may make it
-  pub may-make-in-hand : MayMake b.kernel asked.pid asked.call
-  may-make-in-hand =
-      may-make-from script w.journal b.kernel b.places asked.pid asked.call to-be-made.alive has-history
-      (ap (living_at b.kernel) pid-in-hand ∙ to-be-made.lives)
-      (ap (may_make to-be-made.alive) call-is ∙ to-be-made.may)
-
-  module _ (reply : Reply) (l : LeavesAll b.kernel asked.pid asked.call reply) (plain : IsPlainCall asked.call)
-      (other : p ≢ 1) (node : ℕ) (w' : World)
-      (c : Changes script 1 w w' (node_of w 1) [] ((p, frames.Answer asked.ticket reply) ∷ [])
-      (entry_of node asked.pid asked.call reply ∷ [])) where
-    abbrev n : Node
-    n = node_of w 1
-
-    abbrev sends : List (ℕ × Frame)
-    sends = (p, frames.Answer asked.ticket reply) ∷ []
-
-    abbrev entry : Entry
-    entry = entry_of node asked.pid asked.call reply
-
-    abbrev place : Place
-    place = caller_place script p x.caller
-
-    abbrev places-now : Places
-    places-now = places_after script b.places entry place
-
-    abbrev calls-now : ℕ → CallPlace
-    calls-now = call_in b.call p (InAnswer 1 reply)
-
-    abbrev moved : Beside
-    moved = record b { kernel = l.next; places = places-now; call = calls-now }
-
-    high-one : 1 ≤ node_count script
-    high-one = omega (arith, low, high)
-
-    by-pid : EntryLeaves b.kernel b.places asked.pid l.next places-now
-    by-pid =
-        unchanged-leaves b.kernel asked.pid asked.call reply may-make-in-hand l plain script b.places node p x.caller
-        place-in-hand due-in-hand
-
-    entry-leaves : EntryLeaves b.kernel b.places (b.pids p) l.next places-now
-    entry-leaves = subst (λ q. EntryLeaves b.kernel b.places q l.next places-now) pid-in-hand by-pid
-
-    history-now : IsHistory script w'.journal l.next places-now
-    history-now =
-        let h : HasHistory script (w.journal ++ entry ∷ []) l.next places-now =
-        history-goes-on script w.journal b.kernel b.places node asked.pid asked.call reply place l.next has-history
-        place-in-hand due-in-hand l.enters.makes
-        in subst (λ j. IsHistory script j l.next places-now) (sym c.journal)
-        (record { legal = h.legal; fits = h.fits; ordered = h.ordered })
-
-    keys-now : KeysHold (node_of w' 1).leader l.next
-    keys-now =
-        let k : KeysHold n.leader b.kernel = holds.keys
-        in let kept : HasKeys n.leader.queue_keys n.leader.set_keys l.next =
-        keys-kept n.leader.queue_keys n.leader.set_keys b.kernel l.next l.keys
-        (record { queues = k.queues; sets = k.sets })
-        in subst (λ (y : Leader). KeysHold y l.next) (sym (ap (λ (m : Node). m.leader) c.here))
-        (record { queues = kept.queues; sets = kept.sets })
-
-    same-directory-now : directory_of w' ≡ directory_of w
-    same-directory-now = ap (λ (m : Node). m.leader.directory) c.here
-
-    leader-holds : NodeHolds script b.pids (is_born_in w) 1 n
-    leader-holds = holds.nodes 1 (omega arith) high-one
-
-    leader-born : is_born_in w 1 ≡ true
-    leader-born = (leader-stage script b.pids (is_born_in w) 1 n refl leader-holds).0
-
-    move : IsEntryMove script w w' hand rest b l.next places-now b.deed calls-now 1 n [] sends p
-    move =
-        record {
-          entry = entry-leaves;
-          history = history-now;
-          keys = keys-now;
-          forked = caller-forked;
-          born = caller-born;
-          awaited = λ q to e. l.bodies (Proc q);
-          stage = refl;
-          under_way = λ left. refl;
-          own = λ d. record { number = refl; pid = refl; stage = refl; caller = refl; leases = refl };
-          directory = same-but-call p (directory_of w) (directory_of w') same-directory-now holds.leading;
-          node = leader-holds;
-          deeds = λ pid. refl;
-          calls = λ y d. ap (λ t. if t then InAnswer 1 reply else b.call y) (ne_eqb p y (λ e. d (sym e)));
-          hand_of_others = λ y d. sym (ap (λ t. cond t (Request asked ∷ filter (is_item_about y) rest)
-              (filter (is_item_about y) rest)) (ne_eqb p y (λ e. d (sym e))));
-          parcels_at_hand = λ parcel at. Contains-append_right (Request asked ∷ []) rest (Ending parcel) at;
-          plain_taken = tt;
-          plain_sent = (refl, tt);
-          no_birth_taken = tt;
-          no_birth_sent = (refl, tt);
-          of_no_other = λ y d. tt;
-          sent_of_no_other = λ y d. (ne_eqb p y (λ e. d (sym e)), tt);
-          may_be_sent = (leader-born, tt);
-          to_others = (other, tt);
-        }
-
-    more : IsMore (is_born_in w) (is_born_in w')
-    more =
-        entry-born script w w' hand rest b l.next places-now b.deed calls-now 1 n [] sends (entry ∷ []) p (omega arith)
-        high-one holds c move
-
-    left-alone : (to sender : ℕ) → filter (is_about p to sender) (c.left to sender) ≡ []
-    left-alone to sender =
-        stayed script 1 w w' n [] sends (entry ∷ []) c (λ t s fs. filter (is_about p t s) fs)
-        (λ t s. filter-is-list-map (is_about p t s)) tt to sender
-        ∙ in-no-stream script w asked rest b holds low high to sender
-
-    read : {A : Type 0} (f : Node → A) → f (node_of w p) ≡ f (node_of w' p)
-    read f = sym (read-same script 1 w w' n [] sends (entry ∷ []) c f refl p)
-
-    abbrev it : Asked
-    it = asked_of x is-first.call
-
-    abbrev y : CallSight
-    y = answered_at x p 1 reply (place_after place is-first.call (Some reply)) entry-leaves.lives.alive it
-
-    sight-now : SameCall y (call_sight w' rest moved p)
-    sight-now =
-        record {
-          number = read (λ (m : Node). m.number);
-          pid = read (λ (m : Node). m.pid);
-          stage = read (λ (m : Node). m.stage);
-          caller = read (λ (m : Node). m.caller);
-          leases = read (λ (m : Node). m.leases);
-          place = sym (ap (get places-now) (sym pid-in-hand)
-              ∙ place-moves script b.places node asked.pid asked.call reply place plain.no_fork
-              ∙ ap Some (moved-is place asked.call (Some reply) plain.not_killed)
-              ∙ ap (λ k. Some (place_after place k (Some reply))) call-is);
-          alive = sym entry-leaves.lives.lives;
-          call = sym (ap (λ t. if t then InAnswer 1 reply else b.call p) (eq-eqb p p refl));
-          frames_about = λ to sender. ap (λ (a : Asked). only_if (nat_eq to p && nat_eq sender 1)
-              (frames.Answer a.ticket reply)) (sym is-first.asked_is)
-              ∙ sym (made-after script 1 w w' n [] sends (entry ∷ []) c (λ t s fs. filter (is_about p t s) fs)
-              (λ t s. filter-is-list-map (is_about p t s)) to sender
-              ∙ ap (λ fs. fs ++ filter (is_about p to sender) (sent 1 sends to sender)) (left-alone to sender)
-              ∙ sent-answer p to sender asked.ticket reply (nat_eq to p) (nat_eq sender 1) refl);
-          held = λ name. sym (ap (λ d. filter (is_item_about p) (held_for d name)) same-directory-now
-              ∙ held-for-none script w asked rest b holds low high name);
-          hand = sym is-first.alone;
-        }
-
-    call-holds : CallHolds script p (is_born_in w) x
-    call-holds = holds.calls p low high
-
-    call-answered : CallHolds script p (is_born_in w) y
-    call-answered =
-        record {
-          call = subst (λ o. HasCallOrNone script p (is_born_in w) y o) (sym is-first.is)
-              (record {
-                just_there = record {
-                  in_streams = λ to sender. refl;
-                  held_for_names = λ name. refl;
-                  in_hand = refl;
-                };
-                home = subst (λ (a : Asked). is_for_others (home_of a.pid a.call) ≡ true) is-first.asked_is
-                    (in-hand-for-others script w asked rest b holds low high);
-                used_up = tt;
-                between = (leader-born, λ e. other (sym e));
-                so_far = record {
-                  there = refl;
-                  due = to-be-made.due;
-                  alive = entry-leaves.lives.alive;
-                  lives = refl;
-                };
-                at_work = has.at_work;
-                tickets = has.tickets;
-                try_left = has.try_left;
-              });
-          ends = sym (ap is_end_place is-first.place_is) ∙ call-holds.ends;
-        }
-
-    lease-same : (kind : Kind) (q : ℕ) → has_lease kind (calls-now q) ≡ has_lease kind (b.call q)
-    lease-same kind q =
-        elim (cases_eq p q) [
-          | inl e ↦
-              ap (λ t. has_lease kind (if t then InAnswer 1 reply else b.call q)) (eq-eqb p q e)
-              ∙ sym (subst (λ z. has_lease kind (b.call z) ≡ false) e (ap (has_lease kind) is-first.place_is))
-          | inr d ↦ ap (λ t. has_lease kind (if t then InAnswer 1 reply else b.call q)) (ne_eqb p q d)
-        ]
-
-    ranges-same : (kind : Kind) → for_kind (directory_of w').ranges kind ≡ for_kind (directory_of w).ranges kind
-    ranges-same kind = ap (λ (d : Directory). for_kind d.ranges kind) same-directory-now
-
-    names : (m : Name) → NameHolds script b.pids (is_born_in w') m (name_sight script w' rest moved m)
-    names m =
-        name-stays script b.pids (is_born_in w) (is_born_in w') m _ _ more
-        (name-left-alone script 1 w w' n [] sends (entry ∷ []) c hand rest b moved m
-        (record {
-          directory = same-directory (directory_of w) (directory_of w') same-directory-now m;
-          used_is = used-kept b.kernel asked.pid asked.call reply l.next l.enters m;
-          body_is = l.bodies m;
-          deed_is = refl;
-          held_is = refl;
-          begins_is = λ holds_it comes. refl;
-          hand_is = refl;
-          steps_are = λ q. steps-still script w w' hand rest b l.next places-now b.deed calls-now 1 n [] sends
-              (entry ∷ []) p (omega arith) high-one holds c move q (left-alone q 1) m;
-          ranges_are = λ q. ranges-still script w w' hand rest b l.next places-now b.deed calls-now 1 n [] sends
-              (entry ∷ []) p (omega arith) high-one holds c move q (left-alone q 1) m;
-        }) tt (refl, tt)) (holds.names m)
-
-    -- The reply is on its way, and nothing but the caller's place in the history has moved.
-    pub unchanged-answered : Holds script w' rest moved
-    unchanged-answered =
-        entry-keeps script w w' hand rest b l.next places-now b.deed calls-now 1 n [] sends (entry ∷ []) p (omega arith)
-        high-one holds c move
-        (call-stays script p (is_born_in w) (is_born_in w') _ _ more sight-now call-answered)
-        names
-        (λ kind. kind-stays (is_born_in w) (is_born_in w') _ _ more
-        (kind-left-alone script 1 w w' n [] sends (entry ∷ []) c b.kernel l.next kind
-        (λ number. ap (λ used. is_used used number) (l.enters.used kind)) refl (ranges-same kind) tt (refl, tt))
-        (holds.kinds kind))
-        (λ kind. few-after script w w' hand rest b l.next places-now b.deed calls-now 1 n [] sends (entry ∷ []) p
-        (omega arith) high-one holds c move kind (ranges-same kind) (lease-same kind))
+  -- The reply is on its way, and nothing but the caller's place in the history has moved.
+  pub unchanged-answered : Holds script w' rest moved
+  unchanged-answered =
+      answered-keeps script w asked rest b holds low high reply l.next l.enters node leaves plain other n answers w' c
+      (λ m. name-not-served script w asked rest b holds low high reply l.next l.enters node leaves plain other n answers
+      w' c m (l.bodies m) refl)

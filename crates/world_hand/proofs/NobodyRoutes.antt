@@ -38,7 +38,8 @@ use Rattle.world_laws.specs.Invariant.{Holds}
 use Rattle.world_laws.proofs.Changes.{Changes}
 use Rattle.world_laws.proofs.Middles.{changes-further}
 use Rattle.world_hand.proofs.Asks.{NeverWaits}
-use Rattle.world_hand.proofs.Nobody.{IsPlainCall, served-plain, due-in-hand, may-make-in-hand, unchanged-answered}
+use Rattle.world_hand.proofs.Answering.{due-in-hand, may-make-in-hand, served-plain}
+use Rattle.world_hand.proofs.Nobody.{unchanged-answered}
 use Rattle.world_hand.proofs.Routes.{RouteKeeps, IsOn, leader-here, leader-number, routed-elsewhere}
 
 -- ---- calls on a name are served
