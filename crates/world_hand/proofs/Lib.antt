@@ -8,3 +8,4 @@ pub mod Asks
 pub mod Answering
 pub mod Nobody
 pub mod NobodyRoutes
+pub mod Served
