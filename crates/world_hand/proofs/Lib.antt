@@ -9,3 +9,4 @@ pub mod Answering
 pub mod Nobody
 pub mod NobodyRoutes
 pub mod Served
+pub mod ServedRoutes
