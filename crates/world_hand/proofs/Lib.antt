@@ -10,3 +10,4 @@ pub mod Nobody
 pub mod NobodyRoutes
 pub mod Served
 pub mod ServedRoutes
+pub mod Grantings
