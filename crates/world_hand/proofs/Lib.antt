@@ -11,3 +11,4 @@ pub mod NobodyRoutes
 pub mod Served
 pub mod ServedRoutes
 pub mod Grantings
+pub mod Noted
