@@ -12,3 +12,4 @@ pub mod Served
 pub mod ServedRoutes
 pub mod Grantings
 pub mod Noted
+pub mod ReadRoutes

@@ -135,19 +135,34 @@ module _ (script : Script) (v : World) (s : Step) (asked : Asked) (rest : List H
       ∙ ap (option_map (serve_asked_with script s name asked)) serves-so
       ∙ ap (λ done. Some (if has_read asked.call reply_of then note_read done name asked.caller else done)) carried-out
 
-  -- In the middle, before that, all holds.
-  pub served-middle : Holds script (world_after v 1 served_step) rest served_beside
-  unfolding served-here
-  served-middle =
-      served-keeps script w asked rest b holds low high other name on served place no-queue no-set s.node.number
-      (world_after v 1 served_step)
-      (subst (λ (m : Node). Changes script 1 w (world_after v 1 served_step) m []
+  -- what serving changes
+  pub served-changes : Changes script 1 w (world_after v 1 served_step)
+      (record (node_of w 1) { deeds = served_deeds (node_of w 1).deeds name served-here.left reply_of }) []
+      ((asked.caller, frames.Answer asked.ticket reply_of) ∷ [])
+      (entry_of s.node.number asked.pid asked.call reply_of ∷ [])
+  served-changes =
+      subst (λ (m : Node). Changes script 1 w (world_after v 1 served_step) m []
       ((asked.caller, frames.Answer asked.ticket reply_of) ∷ [])
       (entry_of s.node.number asked.pid asked.call reply_of ∷ []))
       (ap (λ (m : Node). record m { deeds = served_deeds m.deeds name served-here.left reply_of }) (sym here))
       (changes-further script v 1 s served_step ((asked.caller, frames.Answer asked.ticket reply_of) ∷ [])
       (entry_of s.node.number asked.pid asked.call reply_of ∷ []) holds.shape (omega arith) (omega (arith, low, high))
-      (record { low = low; high = high }, tt) (record { sends_are = refl; entries_are = refl })))
+      (record { low = low; high = high }, tt) (record { sends_are = refl; entries_are = refl }))
+
+  -- the directory is the same
+  pub served-same-directory : directory_of (world_after v 1 served_step) ≡ d
+  served-same-directory = ap (λ (m : Node). m.leader.directory) served-changes.here
+
+  -- and the caller's node is
+  pub served-same-caller : node_of (world_after v 1 served_step) asked.caller ≡ node_of w asked.caller
+  served-same-caller = served-changes.others asked.caller other
+
+  -- In the middle, before that, all holds.
+  pub served-middle : Holds script (world_after v 1 served_step) rest served_beside
+  unfolding served-here
+  served-middle =
+      served-keeps script w asked rest b holds low high other name on served place no-queue no-set s.node.number
+      (world_after v 1 served_step) served-changes
 
   -- A call that hasn't read is served, and the reply is on its way.
   pub route-to-leader : has_read asked.call reply_of ≡ false → RouteKeeps script v s asked rest served_beside
