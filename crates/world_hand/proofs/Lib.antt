@@ -13,3 +13,4 @@ pub mod ServedRoutes
 pub mod Grantings
 pub mod Noted
 pub mod ReadRoutes
+pub mod HandRoutes
