@@ -1,32 +1,25 @@
 -- A call in hand of another node is carried out at the leader: the entry is made, and the reply is on its way.
-use Rattle.std.proofs.Common.{◌≡◌, ◌≢◌, ◌⊎◌, ℕ, ◌≤◌, Bool, true, false, ◌&&◌, not, cond, if◌then◌else◌, List, [], ◌∷◌, ◌++◌, filter, flat_map, nat_eq, Contains, Option, Some, None, is_some, refl, ap, sym, subst, ◌∙◌, inl, inr, arith, append-nil}
-use Rattle.std.specs.List.{AllByRecursion, list_any}
+use Rattle.std.proofs.Common.{◌≡◌, ◌≢◌, ℕ, ◌≤◌, Bool, true, false, ◌&&◌, cond, if◌then◌else◌, List, [], ◌∷◌, ◌++◌, filter, flat_map, nat_eq, Some, None, refl, ap, sym, subst, ◌∙◌, inl, inr, arith}
 use Rattle.std.proofs.lemmas.Bool.{cases_eq, eq-eqb, ne_eqb, false≢true}
 use Rattle.std.proofs.lemmas.List.Elements.{Contains-append_right}
 use Rattle.pico_base.specs.declared.call.Call.{Call}
 use Rattle.pico_base.specs.declared.call.Call.TheVariants as calls
-use Rattle.pico_base.specs.declared.call.Home.{Home}
-use Rattle.pico_base.specs.declared.call.Home.TheVariants as homes
 use Rattle.pico_base.specs.declared.numbers.Kind.{Kind}
 use Rattle.pico_base.specs.declared.numbers.Name.{Name}
 use Rattle.pico_base.specs.declared.numbers.Name.TheVariants.{Proc}
 use Rattle.pico_base.specs.declared.reply.Entry.{Entry}
 use Rattle.pico_base.specs.declared.reply.Reply.{Reply}
-use Rattle.pico_base.specs.declared.reply.Reply.TheVariants as replies
 use Rattle.pico_base.specs.declared.script.Script.{Script}
 use Rattle.pico_base.specs.Home.{home_of}
 use Rattle.rpc_frame.specs.declared.asked.Asked.{Asked}
-use Rattle.rpc_frame.specs.declared.deed.Parcel.{Parcel}
 use Rattle.rpc_frame.specs.declared.frame.Frame.{Frame}
 use Rattle.rpc_frame.specs.declared.frame.Frame.TheVariants as frames
 use Rattle.number_maps.specs.Maps.{get, is_used}
 use Rattle.kernel_model.specs.Script.{is_exit, is_fork}
-use Rattle.kernel_model.specs.Waiting.{is_waiting}
 use Rattle.kernel_model.specs.Row.{Alive}
 use Rattle.kernel_model.specs.Kernel.{Kernel, living_at}
-use Rattle.kernel_model.specs.Fitting.{IsDue, Place, Places, due, is_killed, move_on, place_after, places_after}
+use Rattle.kernel_model.specs.Fitting.{IsDue, Place, Places, is_killed, place_after, places_after}
 use Rattle.kernel_model.specs.Transition.{may_make}
-use Rattle.kernel_model.specs.Footprint.{used_of}
 use Rattle.node_model.specs.declared.held.Held.{Held}
 use Rattle.node_model.specs.declared.held.Held.TheVariants.{Request, Ending}
 use Rattle.node_model.specs.Kinds.{for_kind, get_named}
@@ -34,31 +27,24 @@ use Rattle.node_model.specs.Directory.{Directory, held_for}
 use Rattle.node_model.specs.Bodies.{body_in}
 use Rattle.node_model.specs.Caller.{Caller, caller_place}
 use Rattle.node_model.specs.Carrying.{is_served}
-use Rattle.node_model.specs.Serving.{name_for, no_such_name}
 use Rattle.world_model.specs.Node.{Node, Stage, Unborn, Living, Leaving, Left, Over, Leader}
 use Rattle.world_model.specs.Calls.{is_for_others}
 use Rattle.world_model.specs.World.{World, node_count}
-use Rattle.kernel_moves.specs.Entering.{Enters, HasHistory, HasKeys, IsKin, LeavesOthers, MayMake, Same, entry_of}
-use Rattle.kernel_moves.proofs.Fresh.{LeavesAll, nobody}
-use Rattle.kernel_moves.proofs.History.{history-goes-on, may-make-from, moved-is, place-moves, places-stay}
-use Rattle.kernel_moves.proofs.Keys.{keys-kept}
-use Rattle.kernel_moves.proofs.Kin.{kin-same}
-use Rattle.kernel_moves.proofs.Listed.{ListsOne, listed-same}
-use Rattle.kernel_moves.proofs.Numbers.{process-there, used-kept}
-use Rattle.kernel_moves.proofs.Others.{Lived, goes}
-use Rattle.kernel_moves.proofs.Places.{goes-on, left-shrinks}
-use Rattle.world_laws.specs.Places.{CallPlace, InTable, InCheckpoint, IsInHand, InAnswer, Beside, call_in}
-use Rattle.world_laws.specs.Sights.{node_of, frames_to, directory_of, stage_of, is_born_in, is_born_stage, is_used_name}
+use Rattle.kernel_moves.specs.Entering.{Enters, HasHistory, MayMake, entry_of}
+use Rattle.kernel_moves.proofs.History.{history-goes-on, may-make-from, moved-is, place-moves}
+use Rattle.kernel_moves.proofs.Numbers.{used-kept}
+use Rattle.world_laws.specs.Places.{CallPlace, InTable, InCheckpoint, InAnswer, Beside, call_in}
+use Rattle.world_laws.specs.Sights.{node_of, directory_of, is_born_in, is_born_stage}
 use Rattle.world_laws.specs.Plays.{plays, begin}
 use Rattle.world_laws.specs.Names.{NameHolds, name_sight, held_at, range_steps_of}
-use Rattle.world_laws.specs.Callers.{CallSight, call_sight, CallHolds, HasCall, HasCallOrNone, IsToBeMade, IsMade, IsSoFar, asked_of, only_if, is_in_stream, frame_at, is_held_at, is_about, is_item_about, is_at_work, is_end_place}
-use Rattle.world_laws.specs.Ranges.{kind_sight, has_lease, KeysHold}
+use Rattle.world_laws.specs.Callers.{CallSight, call_sight, CallHolds, HasCall, HasCallOrNone, IsToBeMade, IsSoFar, asked_of, only_if, is_about, is_item_about, is_at_work, is_end_place}
+use Rattle.world_laws.specs.Ranges.{has_lease, KeysHold}
 use Rattle.world_laws.specs.Families.{NodeHolds, BornIn, IsBorn}
 use Rattle.world_laws.specs.Invariant.{Holds, IsHistory}
 use Rattle.world_laws.proofs.Stays.{IsMore, SameCall, call-stays, name-stays, kind-stays}
 use Rattle.world_laws.proofs.Sends.{frame_if}
-use Rattle.world_laws.proofs.Changes.{Changes, frames_if, sent, filter-is-list-map, stayed, made-after, read-same}
-use Rattle.world_laws.proofs.LeftAlone.{SameCaller, LeavesName, same-directory, name-left-alone, kind-left-alone}
+use Rattle.world_laws.proofs.Changes.{Changes, frames_if, sent, filter-is-list-map, stayed, made-after}
+use Rattle.world_laws.proofs.LeftAlone.{SameCaller, same-directory, name-left-alone, kind-left-alone}
 use Rattle.world_rules.proofs.CallMoves.{same-but-call}
 use Rattle.world_rules.proofs.Nodes.{leader-stage}
 use Rattle.world_own.proofs.Entries.{EntryLeaves}

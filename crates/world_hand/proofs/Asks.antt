@@ -1,6 +1,6 @@
 -- A node asks the leader to have its call carried out: the call is in the leader's hand, and is routed.
-use Rattle.std.proofs.Common.{◌≡◌, ◌≢◌, ◌⊎◌, ℕ, ◌≤◌, Bool, true, false, ◌&&◌, not, cond, if◌then◌else◌, List, [], ◌∷◌, filter, nat_eq, Option, Some, None, refl, ap, sym, subst, ◌∙◌, inl, inr, arith}
-use Rattle.std.proofs.lemmas.Bool.{cases_eq, eq-eqb, ne_eqb, false≢true}
+use Rattle.std.proofs.Common.{◌≡◌, ◌≢◌, ℕ, Bool, true, false, ◌&&◌, not, cond, if◌then◌else◌, List, [], ◌∷◌, filter, nat_eq, None, refl, ap, sym, subst, ◌∙◌}
+use Rattle.std.proofs.lemmas.Bool.{eq-eqb, ne_eqb}
 use Rattle.pico_base.specs.declared.call.Call.{Call}
 use Rattle.pico_base.specs.declared.script.Script.{Script}
 use Rattle.pico_base.specs.declared.script.Event.TheVariants as events
@@ -10,16 +10,15 @@ use Rattle.rpc_frame.specs.declared.frame.Frame.{Frame}
 use Rattle.rpc_frame.specs.declared.frame.Frame.TheVariants as frames
 use Rattle.kernel_model.specs.Waiting.{is_waiting}
 use Rattle.kernel_model.specs.Fitting.{IsDue}
-use Rattle.node_model.specs.declared.held.Held.{Held}
 use Rattle.node_model.specs.declared.held.Held.TheVariants.{Request}
 use Rattle.node_model.specs.Caller.{Caller, caller_place}
 use Rattle.world_model.specs.Node.{Node, is_leader}
-use Rattle.world_model.specs.Step.{Step, step_to}
-use Rattle.world_model.specs.Calls.{take_ask, is_to_leader, asks_as, is_for_others}
+use Rattle.world_model.specs.Step.{step_to}
+use Rattle.world_model.specs.Calls.{take_ask, is_for_others}
 use Rattle.world_model.specs.Routing.{route_call}
-use Rattle.world_model.specs.World.{World, node_count, world_after}
-use Rattle.world_laws.specs.Places.{CallPlace, InAsk, IsInHand, Beside, call_in}
-use Rattle.world_laws.specs.Sights.{node_of, frames_to, is_born_in}
+use Rattle.world_model.specs.World.{World, world_after}
+use Rattle.world_laws.specs.Places.{IsInHand, Beside, call_in}
+use Rattle.world_laws.specs.Sights.{node_of, is_born_in}
 use Rattle.world_laws.specs.Callers.{CallSight, call_sight, CallHolds, HasCall, IsToBeMade, IsJustThere, IsSoFar, asked_of, only_if, is_in_stream, frame_at, is_held_at, is_about, is_end_place, may_be_in}
 use Rattle.world_laws.specs.Ranges.{has_lease}
 use Rattle.world_laws.specs.Families.{NodeHolds}

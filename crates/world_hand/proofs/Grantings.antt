@@ -1,6 +1,6 @@
 -- The leader sends the deed of a queue or set that it holds to a node that is born and stays. The node has it once it has
 -- taken what is on its way there.
-use Rattle.std.proofs.Common.{◌≡◌, ◌≢◌, ◌⊎◌, ℕ, ◌≤◌, Bool, true, false, ◌&&◌, ◌||◌, not, cond, if◌then◌else◌, List, [], ◌∷◌, ◌++◌, filter, flat_map, nat_eq, Option, Some, None, is_some, is_none, refl, ap, sym, subst, ◌∙◌, inl, inr, arith, append-nil}
+use Rattle.std.proofs.Common.{◌≡◌, ◌≢◌, ℕ, ◌≤◌, Bool, true, false, ◌&&◌, ◌||◌, not, cond, if◌then◌else◌, List, [], ◌∷◌, ◌++◌, filter, flat_map, nat_eq, Option, Some, None, is_some, is_none, refl, ap, sym, subst, ◌∙◌, inl, inr, arith, append-nil}
 use Rattle.std.specs.List.{AllByRecursion}
 use Rattle.std.proofs.lemmas.Bool.{cases_eq, eq-eqb, ne_eqb, false≢true}
 use Rattle.pico_base.specs.declared.numbers.Name.{Name}
@@ -11,11 +11,11 @@ use Rattle.rpc_frame.specs.declared.frame.Frame.TheVariants as frames
 use Rattle.number_maps.specs.Maps.{get}
 use Rattle.node_model.specs.declared.held.Held.{Held}
 use Rattle.node_model.specs.Kinds.{is_object, is_same_name, kind_of, number_of, get_named, without_named}
-use Rattle.node_model.specs.Bodies.{Body, body_in}
-use Rattle.node_model.specs.Directory.{Directory, Parting, Place, At, place_of, with_place, arrive, held_for, items_of, destination_of, has_deed_of, is_parcel_with, maker, maker_in, stays}
+use Rattle.node_model.specs.Bodies.{body_in}
+use Rattle.node_model.specs.Directory.{Directory, Parting, Place, At, place_of, with_place, arrive, items_of, has_deed_of, is_parcel_with, maker, maker_in, stays}
 use Rattle.node_model.specs.Spelling.{pack}
 use Rattle.node_model.specs.Watches.{Watches}
-use Rattle.world_model.specs.Node.{Node, Stage, Unborn, Living, Leaving, Left, Over}
+use Rattle.world_model.specs.Node.{Node, Stage, Left}
 use Rattle.world_model.specs.Step.{with_directory}
 use Rattle.world_model.specs.Census.{brings}
 use Rattle.world_model.specs.World.{World, node_count}
@@ -23,16 +23,16 @@ use Rattle.world_laws.specs.Places.{CallPlace, DeedPlace, Unmade, InTable, InGra
 use Rattle.world_laws.specs.Sights.{node_of, frames_to, directory_of, stage_of, is_born_in, is_born_stage}
 use Rattle.world_laws.specs.Plays.{Hold, Has, Lacks, Done, PlayStep, Comes, Goes, AllGo, IsNeeded, play, play_on, plays, steps_of, steps_if, begin, has_any, is_checkpoint_of, is_has, is_there, believed, placed_in, news}
 use Rattle.world_laws.specs.Names.{NameSight, name_sight, NameHolds, PlaysTo, OneIf, IsBringer, IsItemWith, held_as, held_at, comes_to, is_stream_of, is_kept_for, is_hand_place, node_in, belief_of, maker_tells, range_steps_of, forker, is_maker}
-use Rattle.world_laws.specs.Ways.{WaySight, Way, way_sight, is_recall_all, Shows, here, tells, collected, over, gone}
+use Rattle.world_laws.specs.Ways.{WaySight, Way, way_sight, is_recall_all, here, tells, collected, over, gone}
 use Rattle.world_laws.specs.Families.{NodeHolds}
 use Rattle.world_laws.specs.Invariant.{Holds}
 use Rattle.world_laws.proofs.Named.{name-cases, same-name, other-name, get-without-same-name, get-without-other-name}
 use Rattle.world_laws.proofs.Played.{play-append, play-none}
 use Rattle.world_laws.proofs.Sends.{frame_if}
 use Rattle.world_laws.proofs.Stays.{IsMore, SameName, name-stays}
-use Rattle.world_laws.proofs.Changes.{Changes, sent, filter-is-list-map, flat_map-is-list-map, made-after, made-same, stayed, read-same}
-use Rattle.world_laws.proofs.LeftAlone.{SameCaller, LeavesName, name-left-alone}
-use Rattle.world_laws.proofs.NameFacts.{has_left, held-elsewhere, one-if-sent, begin-has}
+use Rattle.world_laws.proofs.Changes.{Changes, sent, filter-is-list-map, flat_map-is-list-map, made-after, made-same, stayed}
+use Rattle.world_laws.proofs.LeftAlone.{LeavesName, name-left-alone}
+use Rattle.world_laws.proofs.NameFacts.{has_left, held-elsewhere, one-if-sent}
 use Rattle.world_laws.proofs.Heads.{kept-of-sent}
 use Rattle.world_rules.proofs.Quiet.{IsQuiet, SameButPlaces, quiet-keeps, quiet-born}
 use Rattle.world_rules.proofs.Nodes.{leader-stage, node-with-directory, node-with-objects, object-is-no-process, processes-without}

@@ -1,68 +1,36 @@
 -- A call in hand, of another node, that changes nothing: the entry is made, and the reply is on its way.
-use Rattle.std.proofs.Common.{◌≡◌, ◌≢◌, ◌⊎◌, ℕ, ◌≤◌, Bool, true, false, ◌&&◌, not, cond, if◌then◌else◌, List, [], ◌∷◌, ◌++◌, filter, flat_map, nat_eq, Contains, Option, Some, None, is_some, refl, ap, sym, subst, ◌∙◌, inl, inr, arith, append-nil}
-use Rattle.std.specs.List.{AllByRecursion, list_any}
-use Rattle.std.proofs.lemmas.Bool.{cases_eq, eq-eqb, ne_eqb, false≢true}
-use Rattle.std.proofs.lemmas.List.Elements.{Contains-append_right}
+use Rattle.std.proofs.Common.{◌≡◌, ◌≢◌, ℕ, ◌≤◌, true, List, [], ◌∷◌, Some, is_some, refl, ap, sym, ◌∙◌, inl, inr, arith}
+use Rattle.std.specs.List.{list_any}
+use Rattle.std.proofs.lemmas.Bool.{false≢true}
 use Rattle.pico_base.specs.declared.call.Call.{Call}
-use Rattle.pico_base.specs.declared.call.Call.TheVariants as calls
-use Rattle.pico_base.specs.declared.call.Home.{Home}
-use Rattle.pico_base.specs.declared.call.Home.TheVariants as homes
-use Rattle.pico_base.specs.declared.numbers.Kind.{Kind}
-use Rattle.pico_base.specs.declared.numbers.Name.{Name}
 use Rattle.pico_base.specs.declared.numbers.Name.TheVariants.{Proc}
-use Rattle.pico_base.specs.declared.reply.Entry.{Entry}
 use Rattle.pico_base.specs.declared.reply.Reply.{Reply}
-use Rattle.pico_base.specs.declared.reply.Reply.TheVariants as replies
 use Rattle.pico_base.specs.declared.script.Script.{Script}
-use Rattle.pico_base.specs.Home.{home_of}
 use Rattle.rpc_frame.specs.declared.asked.Asked.{Asked}
-use Rattle.rpc_frame.specs.declared.deed.Parcel.{Parcel}
-use Rattle.rpc_frame.specs.declared.frame.Frame.{Frame}
 use Rattle.rpc_frame.specs.declared.frame.Frame.TheVariants as frames
-use Rattle.number_maps.specs.Maps.{get, is_used}
-use Rattle.kernel_model.specs.Script.{is_exit, is_fork}
-use Rattle.kernel_model.specs.Waiting.{is_waiting}
-use Rattle.kernel_model.specs.Row.{Alive}
-use Rattle.kernel_model.specs.Kernel.{Kernel, living_at}
-use Rattle.kernel_model.specs.Fitting.{IsDue, Place, Places, due, is_killed, move_on, place_after, places_after}
-use Rattle.kernel_model.specs.Transition.{may_make}
-use Rattle.kernel_model.specs.Footprint.{used_of}
+use Rattle.number_maps.specs.Maps.{get}
+use Rattle.kernel_model.specs.Kernel.{Kernel}
+use Rattle.kernel_model.specs.Fitting.{IsDue, Place, Places, due, move_on, place_after, places_after}
 use Rattle.node_model.specs.declared.held.Held.{Held}
-use Rattle.node_model.specs.declared.held.Held.TheVariants.{Request, Ending}
-use Rattle.node_model.specs.Kinds.{for_kind, get_named}
-use Rattle.node_model.specs.Directory.{Directory, held_for}
+use Rattle.node_model.specs.declared.held.Held.TheVariants.{Request}
 use Rattle.node_model.specs.Caller.{Caller, caller_place}
-use Rattle.node_model.specs.Carrying.{is_served}
-use Rattle.node_model.specs.Serving.{name_for, no_such_name}
-use Rattle.world_model.specs.Node.{Node, Stage, Unborn, Living, Leaving, Left, Over, Leader}
-use Rattle.world_model.specs.Calls.{is_for_others}
+use Rattle.world_model.specs.Node.{Node}
 use Rattle.world_model.specs.World.{World, node_count}
-use Rattle.kernel_moves.specs.Entering.{HasHistory, HasKeys, IsKin, LeavesOthers, MayMake, Same, entry_of}
-use Rattle.kernel_moves.proofs.Fresh.{LeavesAll, nobody}
-use Rattle.kernel_moves.proofs.History.{history-goes-on, may-make-from, moved-is, place-moves, places-stay}
+use Rattle.kernel_moves.specs.Entering.{HasKeys, LeavesOthers, MayMake, Same, entry_of}
+use Rattle.kernel_moves.proofs.Fresh.{LeavesAll}
+use Rattle.kernel_moves.proofs.History.{moved-is, place-moves, places-stay}
 use Rattle.kernel_moves.proofs.Keys.{keys-kept}
 use Rattle.kernel_moves.proofs.Kin.{kin-same}
-use Rattle.kernel_moves.proofs.Listed.{ListsOne, listed-same}
+use Rattle.kernel_moves.proofs.Listed.{listed-same}
 use Rattle.kernel_moves.proofs.Numbers.{process-there, used-kept}
-use Rattle.kernel_moves.proofs.Others.{Lived, goes}
+use Rattle.kernel_moves.proofs.Others.{goes}
 use Rattle.kernel_moves.proofs.Places.{goes-on, left-shrinks}
-use Rattle.world_laws.specs.Places.{CallPlace, IsInHand, InAnswer, Beside, call_in}
-use Rattle.world_laws.specs.Sights.{node_of, frames_to, directory_of, stage_of, is_born_in, is_born_stage, is_used_name}
-use Rattle.world_laws.specs.Plays.{plays, begin}
-use Rattle.world_laws.specs.Names.{NameHolds, name_sight, range_steps_of}
-use Rattle.world_laws.specs.Callers.{CallSight, call_sight, CallHolds, HasCall, HasCallOrNone, IsToBeMade, IsMade, IsSoFar, asked_of, only_if, is_in_stream, frame_at, is_held_at, is_about, is_item_about, is_at_work, is_end_place}
-use Rattle.world_laws.specs.Ranges.{kind_sight, has_lease, KeysHold}
-use Rattle.world_laws.specs.Families.{NodeHolds, BornIn, IsBorn}
-use Rattle.world_laws.specs.Invariant.{Holds, IsHistory}
-use Rattle.world_laws.proofs.Stays.{IsMore, SameCall, call-stays, name-stays, kind-stays}
-use Rattle.world_laws.proofs.Sends.{frame_if}
-use Rattle.world_laws.proofs.Changes.{Changes, frames_if, sent, filter-is-list-map, stayed, made-after, read-same}
-use Rattle.world_laws.proofs.LeftAlone.{SameCaller, LeavesName, same-directory, name-left-alone, kind-left-alone}
-use Rattle.world_rules.proofs.CallMoves.{same-but-call}
-use Rattle.world_rules.proofs.Nodes.{leader-stage}
+use Rattle.world_laws.specs.Places.{InAnswer, Beside, call_in}
+use Rattle.world_laws.specs.Sights.{node_of}
+use Rattle.world_laws.specs.Ranges.{KeysHold}
+use Rattle.world_laws.specs.Invariant.{Holds}
+use Rattle.world_laws.proofs.Changes.{Changes}
 use Rattle.world_own.proofs.Entries.{EntryLeaves}
-use Rattle.world_own.proofs.EntryMoves.{IsEntryMove, entry-keeps, entry-born, few-after, steps-still, ranges-still}
-use Rattle.world_own.proofs.Served.{served-no-fork, served-not-killed}
 use Rattle.world_hand.proofs.Answering.{IsPlainCall, LeaderAnswers, answered-keeps, due-in-hand, may-make-in-hand, name-not-served, place-in-hand}
 
 -- ---- an entry that changes nothing

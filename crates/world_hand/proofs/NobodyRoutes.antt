@@ -1,25 +1,23 @@
 -- The leader routes a call of another node on a name that nothing has.
-use Rattle.std.proofs.Common.{◌≡◌, ◌≢◌, ◌⊎◌, ℕ, ◌≤◌, Bool, true, false, ◌&&◌, not, if◌then◌else◌, List, [], ◌∷◌, ◌++◌, nat_eq, Option, Some, None, is_some, refl, ap, sym, subst, ◌∙◌, inl, inr, arith, append-nil}
-use Rattle.std.proofs.lemmas.Bool.{cases_eq, eq-eqb, ne_eqb, false≢true}
+use Rattle.std.proofs.Common.{◌≡◌, ◌≢◌, ℕ, ◌≤◌, Bool, true, false, ◌&&◌, not, if◌then◌else◌, List, [], ◌∷◌, nat_eq, Option, Some, None, refl, ap, sym, subst, ◌∙◌, inl, inr, arith}
+use Rattle.std.proofs.lemmas.Bool.{cases_eq, ne_eqb, false≢true}
 use Rattle.pico_base.specs.declared.call.Call.{Call}
 use Rattle.pico_base.specs.declared.call.Call.TheVariants as calls
 use Rattle.pico_base.specs.declared.call.Home.{Home}
 use Rattle.pico_base.specs.declared.call.Home.TheVariants as homes
 use Rattle.pico_base.specs.declared.numbers.Name.{Name}
-use Rattle.pico_base.specs.declared.reply.Entry.{Entry}
 use Rattle.pico_base.specs.declared.reply.Reply.{Reply}
 use Rattle.pico_base.specs.declared.reply.Reply.TheVariants as replies
 use Rattle.pico_base.specs.declared.script.Script.{Script}
-use Rattle.pico_base.specs.Home.{home_of, home_of_kill, home_of_get}
+use Rattle.pico_base.specs.Home.{home_of, home_of_get}
 use Rattle.rpc_frame.specs.declared.asked.Asked.{Asked}
-use Rattle.rpc_frame.specs.declared.frame.Frame.{Frame}
 use Rattle.rpc_frame.specs.declared.frame.Frame.TheVariants as frames
 use Rattle.kernel_model.specs.Waiting.{is_waiting}
 use Rattle.node_model.specs.declared.held.Held.{Held}
 use Rattle.node_model.specs.declared.held.Held.TheVariants.{Request}
 use Rattle.node_model.specs.declared.route.Route.{Route}
 use Rattle.node_model.specs.declared.route.Route.TheVariants as routes
-use Rattle.node_model.specs.Directory.{Directory, place_of, maker, maker_stays, stays, route, route_by}
+use Rattle.node_model.specs.Directory.{Directory, place_of, maker, maker_stays, route, route_by}
 use Rattle.node_model.specs.Carrying.{is_served, makes_or_ends}
 use Rattle.node_model.specs.Serving.{name_for, name_in, no_such_name}
 use Rattle.world_model.specs.Node.{Node, under_way_as}
@@ -29,11 +27,10 @@ use Rattle.kernel_moves.specs.Entering.{entry_of}
 use Rattle.kernel_moves.proofs.Fresh.{LeavesAll, nobody}
 use Rattle.kernel_model.specs.Fitting.{places_after}
 use Rattle.node_model.specs.Caller.{Caller, caller_place}
-use Rattle.world_laws.specs.Places.{CallPlace, InAnswer, Beside, call_in}
-use Rattle.world_laws.specs.Sights.{node_of, frames_to, directory_of, is_born_in, is_used_name}
-use Rattle.world_laws.specs.Plays.{Nowhere, believed, placed_in, told}
+use Rattle.world_laws.specs.Places.{InAnswer, Beside, call_in}
+use Rattle.world_laws.specs.Sights.{node_of, directory_of, is_born_in, is_used_name}
+use Rattle.world_laws.specs.Plays.{believed, placed_in, told}
 use Rattle.world_laws.specs.Names.{NameSight, name_sight, NameHolds, HasMakerThatStays, belief_of, maker_tells, is_nowhere}
-use Rattle.world_laws.specs.Callers.{call_sight}
 use Rattle.world_laws.specs.Invariant.{Holds}
 use Rattle.world_laws.proofs.Changes.{Changes}
 use Rattle.world_laws.proofs.Middles.{changes-further}

@@ -1,15 +1,14 @@
 -- The leader notes who read a queue or set that it holds, and sends its deed there where it is time.
-use Rattle.std.proofs.Common.{◌≡◌, ◌≢◌, ◌⊎◌, ℕ, ◌≤◌, Bool, true, false, ◌==◌, if◌then◌else◌, List, [], ◌∷◌, ◌++◌, nat_eq, Option, Some, None, refl, ap, sym, subst, ◌∙◌, arith, append-nil}
+use Rattle.std.proofs.Common.{◌≡◌, ◌≢◌, ℕ, ◌≤◌, Bool, true, false, ◌==◌, if◌then◌else◌, List, [], ◌∷◌, Some, None, refl, ap, sym, subst, ◌∙◌, arith, append-nil}
 use Rattle.std.proofs.lemmas.Bool.{eq-eqb}
 use Rattle.pico_base.specs.declared.numbers.Name.{Name}
 use Rattle.pico_base.specs.declared.script.Script.{Script}
-use Rattle.rpc_frame.specs.declared.frame.Frame.{Frame}
 use Rattle.rpc_frame.specs.declared.frame.Frame.TheVariants as frames
 use Rattle.migrate.specs.Watching.{run_with}
 use Rattle.node_model.specs.declared.held.Held.{Held}
-use Rattle.node_model.specs.Kinds.{for_kind, get_named, is_object, without_named}
-use Rattle.node_model.specs.Bodies.{Body, body_in}
-use Rattle.node_model.specs.Directory.{Directory, At, arrive, place_of, stays}
+use Rattle.node_model.specs.Kinds.{get_named, is_object, without_named}
+use Rattle.node_model.specs.Bodies.{body_in}
+use Rattle.node_model.specs.Directory.{At, arrive, place_of, stays}
 use Rattle.node_model.specs.Spelling.{pack}
 use Rattle.node_model.specs.Watches.{Watches, unwatch, watch_over, with_read}
 use Rattle.world_model.specs.Node.{Node, is_leader}

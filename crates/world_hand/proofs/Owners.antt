@@ -1,21 +1,20 @@
 -- Who owns a name, or has the range of its number, is a node of the script.
-use Rattle.std.proofs.Common.{◌≡◌, ◌≢◌, ◌⊎◌, ℕ, ◌-◌, ◌/◌, ◌<◌, ◌≤◌, Bool, true, false, ◌&&◌, ◌||◌, not, if◌then◌else◌, List, [], ◌∷◌, length, slice_get, get_or, nat_eq, Contains, Option, Some, None, is_some, unwrap_or, refl, ap, sym, subst, ◌∙◌, inl, inr, arith}
-use Rattle.std.proofs.lemmas.Bool.{cases_lt, cases_eq, eq-eqb, false≢true}
+use Rattle.std.proofs.Common.{◌≡◌, ℕ, ◌-◌, ◌/◌, ◌<◌, ◌≤◌, Bool, true, false, ◌&&◌, ◌||◌, not, if◌then◌else◌, List, [], slice_get, get_or, nat_eq, Contains, Some, None, is_some, unwrap_or, refl, ap, sym, subst, ◌∙◌, inl, inr, arith}
+use Rattle.std.proofs.lemmas.Bool.{cases_lt, eq-eqb, false≢true}
 use Rattle.std.proofs.lemmas.List.{get_or_past}
 use Rattle.std.proofs.lemmas.Option.{slice_get_past, slice_get_within, get_or_from_slice_get}
 use Rattle.pico_base.specs.declared.numbers.Name.{Name}
 use Rattle.pico_base.specs.declared.numbers.Name.TheVariants.{Proc, Msg, Sem}
 use Rattle.pico_base.specs.declared.script.Script.{Script}
-use Rattle.rpc_frame.specs.declared.frame.Frame.{Frame}
 use Rattle.node_model.specs.declared.held.Held.{Held}
 use Rattle.node_model.specs.Kinds.{get_named, kind_of, number_of, for_kind}
 use Rattle.node_model.specs.Directory.{At, place_of, maker, maker_in, range_size}
 use Rattle.world_model.specs.Node.{Node, unborn_node}
 use Rattle.world_model.specs.World.{World, node_count, node_at, is_number, stream}
 use Rattle.world_laws.specs.Places.{Beside}
-use Rattle.world_laws.specs.Sights.{node_of, frames_to, directory_of, stage_of, is_born_in}
+use Rattle.world_laws.specs.Sights.{node_of, frames_to, directory_of, is_born_in}
 use Rattle.world_laws.specs.Plays.{Hold, Has, Lacks, begin, brings_checkpoint, play, plays, is_has, is_there, believed}
-use Rattle.world_laws.specs.Names.{NameSight, name_sight, NameHolds, PlaysTo, held_at, comes_to, belief_of, maker_tells, forker}
+use Rattle.world_laws.specs.Names.{NameSight, name_sight, NameHolds, PlaysTo, comes_to, belief_of, maker_tells, forker}
 use Rattle.world_laws.specs.Invariant.{Holds, IsShaped}
 use Rattle.world_laws.specs.Ranges.{kind_sight, KindHolds}
 use Rattle.world_rules.proofs.Suggestions.{born-in-range}

@@ -1,43 +1,32 @@
 -- The leader routes a call of another node on a name that it holds, whether that has read or not; and what is left of
 -- the hand's routes for such calls.
-use Rattle.std.proofs.Common.{◌≡◌, ◌≢◌, ◌⊎◌, ℕ, ◌≤◌, Bool, true, false, ◌&&◌, not, if◌then◌else◌, List, [], ◌∷◌, nat_eq, Option, Some, None, refl, ap, sym, subst, ◌∙◌, inl, inr, arith}
-use Rattle.std.proofs.lemmas.Bool.{cases_eq, eq-eqb, ne_eqb, false≢true}
+use Rattle.std.proofs.Common.{◌≡◌, ◌≢◌, ℕ, ◌≤◌, Bool, true, false, if◌then◌else◌, List, ◌∷◌, Some, refl, ap, sym, ◌∙◌}
+use Rattle.std.proofs.lemmas.Bool.{false≢true}
 use Rattle.pico_base.specs.declared.call.Call.{Call}
 use Rattle.pico_base.specs.declared.call.Call.TheVariants as calls
 use Rattle.pico_base.specs.declared.call.Home.{Home}
 use Rattle.pico_base.specs.declared.call.Home.TheVariants as homes
 use Rattle.pico_base.specs.declared.numbers.Name.{Name}
 use Rattle.pico_base.specs.declared.reply.Reply.{Reply}
-use Rattle.pico_base.specs.declared.reply.Reply.TheVariants as replies
 use Rattle.pico_base.specs.declared.script.Script.{Script}
-use Rattle.pico_base.specs.declared.script.Event.TheVariants as events
-use Rattle.pico_base.specs.Home.{home_of, home_of_kill, home_of_get}
+use Rattle.pico_base.specs.Home.{home_of}
 use Rattle.rpc_frame.specs.declared.asked.Asked.{Asked}
-use Rattle.rpc_frame.specs.declared.frame.Frame.{Frame}
-use Rattle.rpc_frame.specs.declared.frame.Frame.TheVariants as frames
 use Rattle.node_model.specs.declared.held.Held.{Held}
 use Rattle.node_model.specs.declared.held.Held.TheVariants.{Request}
-use Rattle.node_model.specs.declared.route.Route.TheVariants as routes
 use Rattle.node_model.specs.Kinds.{is_object}
-use Rattle.node_model.specs.Directory.{Directory, Place, At, Coming, maker, maker_stays, place_of, route, route_by, stays}
+use Rattle.node_model.specs.Directory.{Directory, At, place_of}
 use Rattle.node_model.specs.Serving.{has_read}
 use Rattle.world_model.specs.Node.{Node}
-use Rattle.world_model.specs.Calls.{is_for_others}
-use Rattle.world_model.specs.Step.{Step, step_to}
+use Rattle.world_model.specs.Step.{Step}
 use Rattle.world_model.specs.Serving.{note_read}
-use Rattle.world_model.specs.Routing.{route_call}
 use Rattle.world_model.specs.World.{World, node_count, world_after}
 use Rattle.world_laws.specs.Places.{Beside}
-use Rattle.world_laws.specs.Sights.{node_of, directory_of, is_born_in, is_born_stage}
+use Rattle.world_laws.specs.Sights.{directory_of, is_born_stage}
 use Rattle.world_laws.specs.Invariant.{Holds}
-use Rattle.world_laws.proofs.Changes.{Changes}
-use Rattle.world_laws.proofs.Steps.{KeepsAs, Heads, world_without}
 use Rattle.world_hand.proofs.Answering.{caller-born}
 use Rattle.world_hand.proofs.Asks.{NeverWaits}
-use Rattle.world_hand.proofs.HandMoves.{in-hand-for-others}
-use Rattle.world_hand.proofs.NobodyRoutes.{route-to-nobody}
 use Rattle.world_hand.proofs.Noted.{HoldsAfter, read-noted-keeps}
-use Rattle.world_hand.proofs.Routes.{IsOn, RouteKeeps, route-by-range, route-to-held, route-to-owner, route-to-recall}
+use Rattle.world_hand.proofs.Routes.{RouteKeeps}
 use Rattle.world_hand.proofs.ServedRoutes.{reply_of, route-to-leader, served_beside, served_step, served-middle, served-route, served-same-caller, served-same-directory}
 
 -- the call has a route that keeps all, with something beside the world

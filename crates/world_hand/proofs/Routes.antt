@@ -1,14 +1,13 @@
 -- The leader routes the first call of its hand, in the middle of an event: one lemma for each way that it goes and makes
 -- no entry.
-use Rattle.std.proofs.Common.{◌≡◌, ◌≢◌, ◌⊎◌, ℕ, ◌≤◌, Bool, true, false, ◌&&◌, not, if◌then◌else◌, List, [], ◌∷◌, ◌++◌, nat_eq, ◌==◌, Option, Some, None, is_some, option_map, refl, ap, sym, subst, ◌∙◌, inl, inr, arith, append-nil}
-use Rattle.std.proofs.lemmas.Bool.{eq-eqb, ne_eqb, false≢true}
+use Rattle.std.proofs.Common.{◌≡◌, ◌≢◌, ◌⊎◌, ℕ, ◌≤◌, Bool, true, false, ◌&&◌, not, if◌then◌else◌, List, [], ◌∷◌, ◌++◌, nat_eq, ◌==◌, Option, Some, None, option_map, refl, ap, sym, subst, ◌∙◌, inl, inr, arith, append-nil}
+use Rattle.std.proofs.lemmas.Bool.{ne_eqb, false≢true}
 use Rattle.pico_base.specs.declared.call.Call.{Call}
 use Rattle.pico_base.specs.declared.call.Call.TheVariants as calls
 use Rattle.pico_base.specs.declared.call.Home.{Home}
 use Rattle.pico_base.specs.declared.call.Home.TheVariants as homes
 use Rattle.pico_base.specs.declared.numbers.Name.{Name}
 use Rattle.pico_base.specs.declared.numbers.Name.TheVariants.{Proc}
-use Rattle.pico_base.specs.declared.reply.Entry.{Entry}
 use Rattle.pico_base.specs.declared.script.Script.{Script}
 use Rattle.pico_base.specs.declared.signal.SigArg.TheVariants.{Zero, Is, Bad}
 use Rattle.pico_base.specs.Home.{home_of, home_of_kill, home_of_get}
@@ -19,18 +18,18 @@ use Rattle.node_model.specs.declared.held.Held.{Held}
 use Rattle.node_model.specs.declared.held.Held.TheVariants.{Request}
 use Rattle.node_model.specs.declared.route.Route.{Route}
 use Rattle.node_model.specs.declared.route.Route.TheVariants as routes
-use Rattle.node_model.specs.Kinds.{is_same_name, is_object}
-use Rattle.node_model.specs.Directory.{Directory, Place, At, Coming, place_of, with_place, recall, hold, hold_at, maker, maker_stays, stays, route, route_by}
+use Rattle.node_model.specs.Kinds.{is_object}
+use Rattle.node_model.specs.Directory.{Directory, At, Coming, place_of, with_place, recall, hold, hold_at, maker, maker_stays, stays, route, route_by}
 use Rattle.world_model.specs.Node.{Node}
-use Rattle.world_model.specs.Step.{Step, send, with_node, with_directory}
+use Rattle.world_model.specs.Step.{Step, with_directory}
 use Rattle.world_model.specs.Serving.{serve_asked}
 use Rattle.world_model.specs.Routing.{route_call, route_home, remove_by, forward, hold_item, recall_and_hold, unbind_name}
 use Rattle.world_model.specs.Routing as routing
 use Rattle.world_model.specs.World.{World, node_count, world_after}
 use Rattle.world_laws.specs.Places.{CallPlace, SentByPlace, SentByRange, IsHeld, Beside, call_in}
 use Rattle.world_laws.specs.Sights.{node_of, directory_of, is_born_in}
-use Rattle.world_laws.specs.Plays.{is_home_on, is_call_on}
-use Rattle.world_laws.specs.Callers.{is_on, may_be_in}
+use Rattle.world_laws.specs.Plays.{is_home_on}
+use Rattle.world_laws.specs.Callers.{may_be_in}
 use Rattle.world_laws.specs.Families.{NodeHolds}
 use Rattle.world_laws.specs.Invariant.{Holds}
 use Rattle.world_laws.proofs.Named.{same-name}
@@ -39,8 +38,8 @@ use Rattle.world_laws.proofs.Changes.{Changes}
 use Rattle.world_laws.proofs.Middles.{GrowsBy, changes-further}
 use Rattle.world_rules.proofs.Places.{place-with-same}
 use Rattle.world_hand.proofs.Owners.{owner-in-range, maker-in-range}
-use Rattle.world_hand.proofs.Forwards.{sent_as, forward-keeps}
-use Rattle.world_hand.proofs.Holdings.{HoldsAlso, IsHeldFor, IsAskedBack, held-also, held-first, recall_to, holding-keeps}
+use Rattle.world_hand.proofs.Forwards.{forward-keeps}
+use Rattle.world_hand.proofs.Holdings.{held-also, held-first, holding-keeps}
 
 -- In the middle of an event of the leader the call has a route, and the invariant holds after it, with the rest in hand
 -- and with this beside the world.

@@ -1,8 +1,7 @@
 -- The leader holds the name of a call in hand, of another node, and serves it: the name has the kernel's body
 -- afterwards, and the reply is on its way.
-use Rattle.std.proofs.Common.{◌≡◌, ◌≢◌, ◌⊎◌, ℕ, ◌≤◌, Bool, true, false, ◌&&◌, not, if◌then◌else◌, List, [], ◌∷◌, ◌++◌, nat_eq, ◌==◌, Option, Some, None, is_some, refl, ap, sym, subst, ◌∙◌, inl, inr, arith}
-use Rattle.std.specs.Option.{option_and_then}
-use Rattle.std.proofs.lemmas.Bool.{cases_eq, eq-eqb, ne_eqb, false≢true}
+use Rattle.std.proofs.Common.{◌≡◌, ◌≢◌, ℕ, ◌≤◌, Bool, true, false, List, [], ◌∷◌, Option, Some, None, is_some, refl, ap, sym, ◌∙◌, inl, inr, arith}
+use Rattle.std.proofs.lemmas.Bool.{cases_eq, false≢true}
 use Rattle.pico_base.specs.declared.call.Call.{Call}
 use Rattle.pico_base.specs.declared.call.Call.TheVariants as calls
 use Rattle.pico_base.specs.declared.call.Home.{Home}
@@ -11,9 +10,8 @@ use Rattle.pico_base.specs.declared.numbers.Name.{Name}
 use Rattle.pico_base.specs.declared.numbers.Name.TheVariants.{Proc}
 use Rattle.pico_base.specs.declared.reply.Reply.{Reply}
 use Rattle.pico_base.specs.declared.script.Script.{Script}
-use Rattle.pico_base.specs.Home.{home_of, home_of_kill, home_of_get}
+use Rattle.pico_base.specs.Home.{home_of}
 use Rattle.rpc_frame.specs.declared.asked.Asked.{Asked}
-use Rattle.rpc_frame.specs.declared.frame.Frame.{Frame}
 use Rattle.rpc_frame.specs.declared.frame.Frame.TheVariants as frames
 use Rattle.number_maps.specs.Maps.{get}
 use Rattle.kernel_model.specs.Row.{Alive, Row}
@@ -31,27 +29,26 @@ use Rattle.node_model.specs.Serving.{name_for, name_in}
 use Rattle.world_model.specs.Node.{Node, Stage, Unborn, Living, Leaving, Left, Over}
 use Rattle.world_model.specs.World.{World, node_count}
 use Rattle.serve_laws.specs.Laws.{is_found}
-use Rattle.kernel_moves.specs.Entering.{HasKeys, KeepsKeys, MayMake, entry_of, removed_queue, removed_set, unless_removed}
+use Rattle.kernel_moves.specs.Entering.{HasKeys, MayMake, entry_of, removed_queue, removed_set, unless_removed}
 use Rattle.kernel_moves.proofs.Bodies.{body-living, living-body}
 use Rattle.kernel_moves.proofs.Holding.{ServesHere, served_deeds, serves-here}
 use Rattle.kernel_moves.proofs.Keys.{keys-kept}
 use Rattle.kernel_moves.proofs.Others.{others-lived, others-still-may}
 use Rattle.kernel_moves.proofs.Replies.{body-none, finds, none-found}
 use Rattle.kernel_moves.proofs.Served.{Carried, carried-rest, carried-size}
-use Rattle.world_laws.specs.Places.{CallPlace, DeedPlace, InTable, InCheckpoint, InAnswer, Beside, call_in}
+use Rattle.world_laws.specs.Places.{InTable, InCheckpoint, InAnswer, Beside, call_in}
 use Rattle.world_laws.specs.Sights.{node_of, directory_of, is_born_in}
 use Rattle.world_laws.specs.Plays.{is_there, believed}
-use Rattle.world_laws.specs.Names.{NameHolds, NameSight, name_sight, belief_of, maker_tells}
+use Rattle.world_laws.specs.Names.{NameHolds, NameSight, name_sight, maker_tells}
 use Rattle.world_laws.specs.Ranges.{KeysHold}
 use Rattle.world_laws.specs.Families.{NodeHolds, HoldsIn, HoldsRow, is_first_stage}
 use Rattle.world_laws.specs.Invariant.{Holds}
 use Rattle.world_laws.proofs.Changes.{Changes}
 use Rattle.world_laws.proofs.Named.{name-cases}
 use Rattle.world_laws.proofs.NameFacts.{IsHeldAt, held-there}
-use Rattle.world_rules.proofs.Nodes.{leader-stage}
 use Rattle.world_own.proofs.Entries.{EntryLeaves, there-same}
 use Rattle.world_own.proofs.Served.{served-leaves}
-use Rattle.world_hand.proofs.Answering.{IsPlainCall, LeaderAnswers, answered-keeps, due-in-hand, may-make-in-hand, name-not-served, name-served, place-in-hand, served-plain}
+use Rattle.world_hand.proofs.Answering.{LeaderAnswers, answered-keeps, due-in-hand, may-make-in-hand, name-not-served, name-served, place-in-hand, served-plain}
 
 -- ---- what the leader holds
 

@@ -1,5 +1,5 @@
 -- The leader routes a call of another node on a name that it holds: it serves the call, and then notes who read.
-use Rattle.std.proofs.Common.{◌≡◌, ◌≢◌, ◌⊎◌, ℕ, ◌≤◌, Bool, true, false, if◌then◌else◌, List, [], ◌∷◌, ◌++◌, nat_eq, Option, Some, None, option_map, refl, ap, sym, subst, ◌∙◌, inl, inr, arith}
+use Rattle.std.proofs.Common.{◌≡◌, ◌≢◌, ℕ, ◌≤◌, Bool, true, false, if◌then◌else◌, List, [], ◌∷◌, Some, None, option_map, refl, ap, sym, subst, ◌∙◌, inl, arith}
 use Rattle.std.proofs.lemmas.Bool.{eq-eqb, ne_eqb, false≢true}
 use Rattle.pico_base.specs.declared.call.Call.{Call}
 use Rattle.pico_base.specs.declared.call.Call.TheVariants as calls
@@ -8,9 +8,8 @@ use Rattle.pico_base.specs.declared.call.Home.TheVariants as homes
 use Rattle.pico_base.specs.declared.numbers.Name.{Name}
 use Rattle.pico_base.specs.declared.reply.Reply.{Reply}
 use Rattle.pico_base.specs.declared.script.Script.{Script}
-use Rattle.pico_base.specs.Home.{home_of, home_of_kill, home_of_get}
+use Rattle.pico_base.specs.Home.{home_of}
 use Rattle.rpc_frame.specs.declared.asked.Asked.{Asked}
-use Rattle.rpc_frame.specs.declared.frame.Frame.{Frame}
 use Rattle.rpc_frame.specs.declared.frame.Frame.TheVariants as frames
 use Rattle.kernel_model.specs.Fitting.{places_after}
 use Rattle.node_model.specs.declared.held.Held.{Held}
@@ -18,7 +17,7 @@ use Rattle.node_model.specs.declared.held.Held.TheVariants.{Request}
 use Rattle.node_model.specs.Directory.{Directory, At, place_of, maker, maker_stays, route, route_by}
 use Rattle.node_model.specs.Caller.{Caller, caller_place}
 use Rattle.node_model.specs.Carrying.{is_served}
-use Rattle.node_model.specs.Serving.{Served, has_read, serve}
+use Rattle.node_model.specs.Serving.{has_read, serve}
 use Rattle.world_model.specs.Node.{Node, under_way_as}
 use Rattle.world_model.specs.Step.{Step, send, enter, carry_out, reply_here, with_deeds}
 use Rattle.world_model.specs.Serving.{note_read, serve_asked, serve_asked_with}
@@ -37,7 +36,7 @@ use Rattle.world_hand.proofs.Answering.{due-in-hand}
 use Rattle.world_hand.proofs.Asks.{NeverWaits}
 use Rattle.world_hand.proofs.NobodyRoutes.{on-name-served}
 use Rattle.world_hand.proofs.Routes.{RouteKeeps, leader-here, leader-number}
-use Rattle.world_hand.proofs.Served.{carries, serves, served-keeps}
+use Rattle.world_hand.proofs.Served.{serves, served-keeps}
 
 -- ---- calls on a name that it keeps
 

@@ -1,6 +1,5 @@
 -- The leader takes a frame with a call, and the call is in its hand now.
-use Rattle.std.proofs.Common.{◌≡◌, ◌≢◌, ◌⊎◌, ℕ, ◌≤◌, Bool, true, false, ◌&&◌, cond, if◌then◌else◌, List, [], ◌∷◌, ◌++◌, filter, flat_map, nat_eq, Contains, Option, Some, None, refl, ap, sym, subst, ◌∙◌, inl, inr, arith}
-use Rattle.std.specs.List.{AllByRecursion}
+use Rattle.std.proofs.Common.{◌≡◌, ◌≢◌, ◌⊎◌, ℕ, ◌≤◌, Bool, true, false, ◌&&◌, cond, if◌then◌else◌, List, [], ◌∷◌, ◌++◌, filter, nat_eq, Contains, Some, refl, ap, sym, subst, ◌∙◌, inl, inr, arith}
 use Rattle.std.proofs.lemmas.Bool.{cases_eq, eq-eqb, ne_eqb, false≢true}
 use Rattle.std.proofs.lemmas.List.Elements.{Contains-push_cases}
 use Rattle.pico_base.specs.declared.call.Call.{Call}
@@ -17,21 +16,21 @@ use Rattle.node_model.specs.Kinds.{for_kind, get_named}
 use Rattle.node_model.specs.Caller.{Caller}
 use Rattle.node_model.specs.Directory.{Directory, held_for, is_parcel}
 use Rattle.world_model.specs.Node.{Node}
-use Rattle.world_model.specs.Step.{Step, step_to}
+use Rattle.world_model.specs.Step.{step_to}
 use Rattle.world_model.specs.Calls.{is_for_others}
 use Rattle.world_model.specs.World.{World, node_count, world_after}
 use Rattle.world_laws.specs.Places.{CallPlace, IsInHand, Beside, call_in}
 use Rattle.world_laws.specs.Sights.{node_of, frames_to, directory_of, is_born_in}
-use Rattle.world_laws.specs.Plays.{plays, begin}
-use Rattle.world_laws.specs.Names.{NameHolds, name_sight, range_steps_of}
-use Rattle.world_laws.specs.Callers.{CallSight, call_sight, CallHolds, HasCall, HasCallOrNone, IsToBeMade, IsJustThere, IsSoFar, asked_of, only_if, is_in_stream, frame_at, is_held_at, is_about, is_item_about, is_end_place}
+use Rattle.world_laws.specs.Plays.{begin}
+use Rattle.world_laws.specs.Names.{NameHolds, name_sight}
+use Rattle.world_laws.specs.Callers.{CallSight, call_sight, CallHolds, HasCall, HasCallOrNone, IsToBeMade, IsJustThere, asked_of, only_if, is_in_stream, frame_at, is_held_at, is_about, is_item_about, is_end_place}
 use Rattle.world_laws.specs.Ranges.{lease_in, has_lease}
 use Rattle.world_laws.specs.Families.{NodeHolds, is_checkpoint_frame}
 use Rattle.world_laws.specs.Invariant.{Holds}
 use Rattle.world_laws.proofs.Stays.{IsMore, SameCall, call-stays, name-stays, kind-stays}
 use Rattle.world_laws.proofs.Changes.{Changes, filter-is-list-map, only-stayed, read-same}
 use Rattle.world_laws.proofs.Frames.{concerns, is_plain}
-use Rattle.world_laws.proofs.LeftAlone.{SameCaller, LeavesName, same-directory, name-left-alone, kind-left-alone, few-still}
+use Rattle.world_laws.proofs.LeftAlone.{SameCaller, same-directory, name-left-alone, kind-left-alone, few-still}
 use Rattle.world_laws.proofs.Steps.{Heads, world_without, changes-by-take}
 use Rattle.world_laws.proofs.Heads.{rest-stays, others-stay}
 use Rattle.world_rules.proofs.CallMoves.{IsCallMove, same-but-call, call-move-keeps, move-born, steps-still, ranges-still}
