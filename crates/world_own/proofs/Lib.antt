@@ -1,2 +1,6 @@
 pub mod Entries
 pub mod Others
+pub mod EntryMoves
+pub mod Served
+pub mod Rebodied
+pub mod Runs
