@@ -1,6 +1,6 @@
 -- The family of a process of a reachable kernel has bytes, where its children are among 31 processes.
-use Rattle.std.proofs.Common.{◌≡◌, ◌≢◌, ◌∙◌, ◌⊎◌, ℕ, ◌<◌, ◌≤◌, ◌^◌, Bool, true, false, not, ◌&&◌, ◌||◌, nat_eq, nat_lt, List, [], ◌∷◌, ◌++◌, length, map, Option, Some, None, refl, sym, ap, subst, inl, inr, arith}
-use Rattle.std.specs.Prelude.{is_some, Contains, All}
+use Rattle.std.proofs.Common.{◌≡◌, ◌∙◌, ℕ, ◌<◌, ◌≤◌, ◌^◌, Bool, true, false, not, ◌&&◌, ◌||◌, nat_eq, nat_lt, List, [], ◌∷◌, ◌++◌, length, map, Option, Some, None, refl, sym, ap, subst, inl, inr, arith}
+use Rattle.std.specs.Prelude.{is_some, Contains}
 use Rattle.std.specs.List.{IsDistinct, AllByRecursion, list_any}
 use Rattle.std.specs.Cmp.{nat_eq_equiv}
 use Rattle.std.specs.Option.{option_and_then}
@@ -10,10 +10,10 @@ use Rattle.std.proofs.lemmas.List.Folds.{list_any-append}
 use Rattle.std.proofs.lemmas.Map.Keys.{IsDistinct-cons, IsDistinct-head, IsDistinct-tail}
 use Rattle.std.proofs.lemmas.Map.Made.{length-le_from_is_member}
 use Rattle.pico_base.specs.declared.reply.Ending.{Ending}
-use Rattle.number_maps.specs.Maps.{Numbered, get, is_used, used_with}
+use Rattle.number_maps.specs.Maps.{get, is_used, used_with}
 use Rattle.number_maps.proofs.Sets.{used-with-other}
 use Rattle.kernel_model.specs.Numbers.{is_positive_u32, is_u32, number_end}
-use Rattle.kernel_model.specs.Row.{Alive, EndedChild, Family, ended_child, lists}
+use Rattle.kernel_model.specs.Row.{Alive, EndedChild, Family, ended_child}
 use Rattle.kernel_model.specs.Kernel.{Kernel, Process, alive_in, living_at, opening}
 use Rattle.kernel_model.specs.Kernel as kernel
 use Rattle.kernel_model.specs.Effect.{is_fresh}
@@ -24,7 +24,7 @@ use Rattle.kernel_laws.proofs.Histories.{Kept, kept-along}
 use Rattle.kernel_laws.proofs.Members.{contains-first, contains-later}
 use Rattle.kernel_laws.proofs.OnceAlong.{children_are_listed_once_lemma}
 use Rattle.kernel_laws.proofs.ValidLaws.{reachable_kernels_are_valid_lemma}
-use Rattle.fork_wait.specs.Children.{AreChildren, are_different, children}
+use Rattle.fork_wait.specs.Children.{are_different, children}
 use Rattle.fork_wait.specs.Spelling.{HasBytes as HasFamilyBytes}
 
 -- ---- the numbers that processes have

@@ -64,7 +64,8 @@ unfolding read_signals
 signals-again s has =
     ap (signals_if (signal_bytes s)) (fields-are s has)
     ∙ ap (λ (t : Bool). if t then Some s else None)
-    (both (bytes_eq (signal_bytes s) (signal_bytes s)) (are_signals s) (same-bytes (signal_bytes s)) (signals-are s has))
+    (both (bytes_eq (signal_bytes s) (signal_bytes s)) (are_signals s) (same-bytes (signal_bytes s))
+    (signals-are s has))
 
 -- ---- families
 

@@ -1,6 +1,6 @@
 -- What calls leave of bodies stays small enough to have bytes.
-use Rattle.std.proofs.Common.{◌≡◌, ◌∙◌, ℕ, ◌+◌, ◌<◌, ◌^◌, min, Bool, true, false, not, ◌&&◌, ◌||◌, nat_eq, nat_le, nat_lt, List, [], ◌∷◌, ◌++◌, length, take, drop, suc, Option, Some, None, Result, Ok, Err, refl, sym, ap, subst, arith}
-use Rattle.std.specs.Prelude.{if◌then◌else◌, is_some, fold, slice_get, slice_set, remove, All}
+use Rattle.std.proofs.Common.{◌≡◌, ◌∙◌, ℕ, ◌<◌, ◌^◌, Bool, true, false, not, ◌&&◌, ◌||◌, nat_eq, nat_le, nat_lt, List, [], ◌∷◌, ◌++◌, length, take, drop, suc, Option, Some, None, Result, Ok, Err, refl, subst, arith}
+use Rattle.std.specs.Prelude.{if◌then◌else◌, is_some, fold, slice_get, remove, All}
 use Rattle.std.specs.List.{list_any}
 use Rattle.std.proofs.lemmas.List.Elements.{All-append, All-cons, All-drop, All-get_or, All-head, All-nil, All-push, All-replicate, All-set, All-tail, All-take}
 use Rattle.std.proofs.lemmas.Option.{slice_get_within, get_or_from_slice_get}
@@ -24,11 +24,11 @@ use Rattle.pico_base.specs.Signal.{all_signals, at, everywhere, put_at}
 use Rattle.kernel_model.specs.Signals.{Signals, act_on, arrive, arrive_by, count_up, deliver, discards, doom_by, inherit, is_kill, new_mask, new_signals, raise, with_action, with_mask}
 use Rattle.kernel_model.specs.Queue.{Message, Queue, Received, empty_queue, has_room, is_sendable, max_queue_bytes, receive, receive_at, receive_from, select, send, set_qbytes, take_message}
 use Rattle.kernel_model.specs.Row.{Alive, Row, Waited, Found, NotYet, NoChild, family_after_end, ignores_children, raise_by_other, wait, with_ended_child}
-use Rattle.kernel_model.specs.SemaphoreSet.{Semaphore, SemaphoreSet, Tried, Done as Tries, StopsAt, OutOfRange, mark, mark_at, max_operations, max_value, new_semaphore, new_set, is_bad_count, op, op_after_trial, set_all, set_of, set_value, set_value_at, try_ops, value_at, last_at, waiting_at, values_of, with_last, with_values}
+use Rattle.kernel_model.specs.SemaphoreSet.{Semaphore, SemaphoreSet, Tried, Done as Tries, StopsAt, OutOfRange, mark, mark_at, max_operations, max_value, new_semaphore, new_set, is_bad_count, op, op_after_trial, set_all, set_value, set_value_at, try_ops, value_at, last_at, waiting_at, values_of, with_last, with_values}
 use Rattle.kernel_laws.proofs.Plain.{by_test}
 use Rattle.signal_state.proofs.Bodies.{at-small}
 use Rattle.node_model.specs.Bodies.{Body, Living, Ended, Gone, AQueue, ASet, Removed}
-use Rattle.node_model.specs.Carrying.{Done, act, change, is_own, is_removal, look, on_body, on_queue, on_row, on_set, reap, signal, take_message as takes_message}
+use Rattle.node_model.specs.Carrying.{Done, act, change, is_removal, look, on_body, on_queue, on_row, on_set, reap, signal, take_message as takes_message}
 use Rattle.deeds_read.specs.Small.{AreSmallSignals, HasSmallLast, HasSmallType, IsSmall, IsSmallCall, IsSmallQueue, IsSmallSet}
 
 -- ---- signals
@@ -59,16 +59,36 @@ kill-cleared m Chld h = h
 
 small-put : (m : PerSignal ℕ) (g : Sig) (v : ℕ) → v < 2 ^ 32 → ((h : Sig) → at m h < 2 ^ 32) → (h : Sig)
     → at (put_at m g v) h < 2 ^ 32
-small-put m Hup v small all = at-small (put_at m Hup v) (2 ^ 32) small (all Int) (all Quit) (all Kill) (all Usr1) (all Usr2) (all Pipe) (all Alrm) (all Term) (all Chld)
-small-put m Int v small all = at-small (put_at m Int v) (2 ^ 32) (all Hup) small (all Quit) (all Kill) (all Usr1) (all Usr2) (all Pipe) (all Alrm) (all Term) (all Chld)
-small-put m Quit v small all = at-small (put_at m Quit v) (2 ^ 32) (all Hup) (all Int) small (all Kill) (all Usr1) (all Usr2) (all Pipe) (all Alrm) (all Term) (all Chld)
-small-put m Kill v small all = at-small (put_at m Kill v) (2 ^ 32) (all Hup) (all Int) (all Quit) small (all Usr1) (all Usr2) (all Pipe) (all Alrm) (all Term) (all Chld)
-small-put m Usr1 v small all = at-small (put_at m Usr1 v) (2 ^ 32) (all Hup) (all Int) (all Quit) (all Kill) small (all Usr2) (all Pipe) (all Alrm) (all Term) (all Chld)
-small-put m Usr2 v small all = at-small (put_at m Usr2 v) (2 ^ 32) (all Hup) (all Int) (all Quit) (all Kill) (all Usr1) small (all Pipe) (all Alrm) (all Term) (all Chld)
-small-put m Pipe v small all = at-small (put_at m Pipe v) (2 ^ 32) (all Hup) (all Int) (all Quit) (all Kill) (all Usr1) (all Usr2) small (all Alrm) (all Term) (all Chld)
-small-put m Alrm v small all = at-small (put_at m Alrm v) (2 ^ 32) (all Hup) (all Int) (all Quit) (all Kill) (all Usr1) (all Usr2) (all Pipe) small (all Term) (all Chld)
-small-put m Term v small all = at-small (put_at m Term v) (2 ^ 32) (all Hup) (all Int) (all Quit) (all Kill) (all Usr1) (all Usr2) (all Pipe) (all Alrm) small (all Chld)
-small-put m Chld v small all = at-small (put_at m Chld v) (2 ^ 32) (all Hup) (all Int) (all Quit) (all Kill) (all Usr1) (all Usr2) (all Pipe) (all Alrm) (all Term) small
+small-put m Hup v small all =
+    at-small (put_at m Hup v) (2 ^ 32) small (all Int) (all Quit) (all Kill) (all Usr1) (all Usr2)
+    (all Pipe) (all Alrm) (all Term) (all Chld)
+small-put m Int v small all =
+    at-small (put_at m Int v) (2 ^ 32) (all Hup) small (all Quit) (all Kill) (all Usr1) (all Usr2)
+    (all Pipe) (all Alrm) (all Term) (all Chld)
+small-put m Quit v small all =
+    at-small (put_at m Quit v) (2 ^ 32) (all Hup) (all Int) small (all Kill) (all Usr1) (all Usr2)
+    (all Pipe) (all Alrm) (all Term) (all Chld)
+small-put m Kill v small all =
+    at-small (put_at m Kill v) (2 ^ 32) (all Hup) (all Int) (all Quit) small (all Usr1) (all Usr2)
+    (all Pipe) (all Alrm) (all Term) (all Chld)
+small-put m Usr1 v small all =
+    at-small (put_at m Usr1 v) (2 ^ 32) (all Hup) (all Int) (all Quit) (all Kill) small (all Usr2)
+    (all Pipe) (all Alrm) (all Term) (all Chld)
+small-put m Usr2 v small all =
+    at-small (put_at m Usr2 v) (2 ^ 32) (all Hup) (all Int) (all Quit) (all Kill) (all Usr1) small
+    (all Pipe) (all Alrm) (all Term) (all Chld)
+small-put m Pipe v small all =
+    at-small (put_at m Pipe v) (2 ^ 32) (all Hup) (all Int) (all Quit) (all Kill) (all Usr1) (all Usr2)
+    small (all Alrm) (all Term) (all Chld)
+small-put m Alrm v small all =
+    at-small (put_at m Alrm v) (2 ^ 32) (all Hup) (all Int) (all Quit) (all Kill) (all Usr1) (all Usr2)
+    (all Pipe) small (all Term) (all Chld)
+small-put m Term v small all =
+    at-small (put_at m Term v) (2 ^ 32) (all Hup) (all Int) (all Quit) (all Kill) (all Usr1) (all Usr2)
+    (all Pipe) (all Alrm) small (all Chld)
+small-put m Chld v small all =
+    at-small (put_at m Chld v) (2 ^ 32) (all Hup) (all Int) (all Quit) (all Kill) (all Usr1) (all Usr2)
+    (all Pipe) (all Alrm) (all Term) small
 
 counted : (n : ℕ) → count_up n < 2 ^ 32
 counted n = omega arith
@@ -130,7 +150,8 @@ small-fold : (gs : List Sig) (s : Signals) → AreSmallSignals s → AreSmallSig
 small-fold [] s h = h
 small-fold (g ∷ gs) s h = small-fold gs (deliver s g) (small-delivered s g h)
 
-small-mask : (s : Signals) (how : How) (set : PerSignal Bool) → AreSmallSignals s → AreSmallSignals (with_mask s how set)
+small-mask : (s : Signals) (how : How) (set : PerSignal Bool) → AreSmallSignals s
+    → AreSmallSignals (with_mask s how set)
 small-mask s how set h =
     small-fold all_signals (record s { mask = new_mask how s.mask set })
     (record { no_kill = h.no_kill; counts = h.counts })

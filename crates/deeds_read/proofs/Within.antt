@@ -9,7 +9,7 @@ use Rattle.number_maps.specs.Maps.{get}
 use Rattle.kernel_model.specs.Kernel.{Kernel, Process, living_at}
 use Rattle.kernel_model.specs.Kernel as kernel
 use Rattle.kernel_model.specs.Queue.{Message, Queue}
-use Rattle.kernel_model.specs.Row.{Alive, Row}
+use Rattle.kernel_model.specs.Row.{Row}
 use Rattle.kernel_model.specs.SemaphoreSet.{Semaphore, SemaphoreSet}
 use Rattle.kernel_laws.specs.Reachable.{IsReachableKernel}
 use Rattle.kernel_laws.specs.Queues.{IsMessage, IsQueueWithinLimits}
@@ -20,9 +20,9 @@ use Rattle.kernel_laws.proofs.SetLaws.{sets_are_within_limits_lemma}
 use Rattle.kernel_laws.proofs.ValidLaws.{signals_are_sound_lemma}
 use Rattle.fork_wait.specs.Spelling.{HasBytes as HasFamilyBytes}
 use Rattle.sysv_msg.specs.Limits.{IsSendable}
-use Rattle.node_model.specs.Bodies.{Body, Living, Ended, Gone, AQueue, ASet, Removed, body_in, process_body, queue_body, set_body}
+use Rattle.node_model.specs.Bodies.{Living, body_in, process_body, queue_body, set_body}
 use Rattle.node_model.specs.Spelling.{pack, read_deed}
-use Rattle.deeds_read.specs.Small.{HasSmallLast, HasSmallType, IsSmall, IsSmallQueue, IsSmallSet}
+use Rattle.deeds_read.specs.Small.{HasSmallLast, HasSmallType, IsSmall}
 use Rattle.deeds_read.specs.Spelled.{HasBytes}
 use Rattle.deeds_read.proofs.Reading.{deed-again}
 

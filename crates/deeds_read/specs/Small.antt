@@ -1,5 +1,5 @@
 -- What a body has to be beyond what the kernel's laws say of it, so that it has bytes.
-use Rattle.std.specs.Prelude.{◌≡◌, ℕ, ◌<◌, ◌^◌, Bool, false, All, FitsSigned}
+use Rattle.std.specs.Prelude.{◌≡◌, ◌<◌, ◌^◌, false, All, FitsSigned}
 use Rattle.std.specs.Int.{w32}
 use Rattle.pico_base.specs.declared.call.Call.{Call}
 use Rattle.pico_base.specs.declared.call.Call.TheVariants as calls
@@ -8,7 +8,7 @@ use Rattle.pico_base.specs.Signal.{at}
 use Rattle.kernel_model.specs.Queue.{Message, Queue}
 use Rattle.kernel_model.specs.SemaphoreSet.{Semaphore, SemaphoreSet}
 use Rattle.kernel_model.specs.Signals.{Signals}
-use Rattle.node_model.specs.Bodies.{Body, Living, Ended, Gone, AQueue, ASet, Removed}
+use Rattle.node_model.specs.Bodies.{Body, Living, AQueue, ASet}
 
 -- KILL is never pending, since it ends the process at once, and each count has four bytes
 pub record AreSmallSignals (s : Signals) : Type 0 where

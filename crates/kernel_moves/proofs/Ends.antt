@@ -116,8 +116,8 @@ may-end : (call : Call) (row : Row) (o : Option Body) → o ≡ Some (Living row
     → may_end_with row call ≡ true
 may-end call row o is h = sym (ap (has_own_row call) is) ∙ h
 
--- The bodies after the end of a process with this row: it is gone or kept for its parent, which notes the end; its ended
--- children are gone; and all else stays.
+-- The bodies after the end of a process with this row: it is gone or kept for its parent, which notes the end; its
+-- ended children are gone; and all else stays.
 pub record EndBodies (k next : Kernel) (pid parent : ℕ) (row : Row) (body : Body) (ending : Ending) : Type 0 where
   pub own : body_in next (Proc pid) ≡ kept_by body ending
   pub its : body_in next (Proc parent) ≡ left_by body pid ending
@@ -175,15 +175,16 @@ parent-apart k deeds parcel bodies row parent m same =
     held-not-brought deeds bodies parcel.parent (Living row) parent (fits-parts deeds parcel bodies m.fits).absent
     (ap (get bodies) same ∙ m.brought) m.held
 
-same-row-of : (k : Kernel) (pid : ℕ) (call : Call) (row : Row) (m : MayMake k pid call) → body_in k (Proc pid) ≡ Living row
+same-row-of : (k : Kernel) (pid : ℕ) (call : Call) (row : Row) (m : MayMake k pid call)
+    → body_in k (Proc pid) ≡ Living row
     → m.alive.row ≡ row
 same-row-of k pid call row m own = same (sym (living-body k pid m.alive m.lives) ∙ own)
   where
     same : {r s : Row} → Living r ≡ Living s → r ≡ s
     same h = cc
 
--- The exit is carried out, and is the kernel's: the process is gone or kept, its parent notes it, and its ended children
--- are gone; the deeds held afterwards have the next kernel's bodies.
+-- The exit is carried out, and is the kernel's: the process is gone or kept, its parent notes it, and its ended
+-- children are gone; the deeds held afterwards have the next kernel's bodies.
 pub record EndsHere (k : Kernel) (deeds : Deeds) (parcel : Parcel) (bodies : Numbered Body) (row : Row)
     (parent : Body) : Type 0 where
   pub next : Kernel
@@ -229,7 +230,8 @@ ends-here k deeds parcel bodies row parent m may =
             like.bodies (Proc q)
             ∙ h.others q (ne_eqb q parcel.pid ne) (ne_eqb q parcel.parent np)
             (ap (λ (r : Row). is_among r.family.ended q) rows ∙ is);
-        objects = λ name object. like.bodies name ∙ end-objects k parcel.pid m.alive (ending_of parcel.call) name object;
+        objects = λ name object. like.bodies name
+            ∙ end-objects k parcel.pid m.alive (ending_of parcel.call) name object;
         apart = apart;
         not_among = among;
       };

@@ -87,7 +87,8 @@ pub lists-end-on : (f : Family) (n : ℕ) (e : Ending) (ignored : Bool) (c : ℕ
     → lists (family_after_end f n e ignored) c ≡ true
 lists-end-on f n e ignored c apart h = any-others-on n f.living c apart h
 
-pub lists-end-not : (f : Family) (n : ℕ) (e : Ending) (ignored : Bool) → lists (family_after_end f n e ignored) n ≡ false
+pub lists-end-not : (f : Family) (n : ℕ) (e : Ending) (ignored : Bool)
+    → lists (family_after_end f n e ignored) n ≡ false
 lists-end-not f n e ignored = by (lists (family_after_end f n e ignored) n) refl
   where
     by : (t : Bool) → lists (family_after_end f n e ignored) n ≡ t → lists (family_after_end f n e ignored) n ≡ false

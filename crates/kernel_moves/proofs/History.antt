@@ -1,5 +1,5 @@
--- One more entry in the history: it stays legal and fits the script, and the caller's place alone moves; a fork gives the
--- new process its place.
+-- One more entry in the history: it stays legal and fits the script, and the caller's place alone moves; a fork gives
+-- the new process its place.
 use Rattle.std.proofs.Common.{◌≡◌, ◌≢◌, ℕ, true, false, List, [], ◌∷◌, ◌++◌, Option, Some, None, refl, ap, sym, subst, ◌∙◌}
 use Rattle.std.proofs.lemmas.Bool.{false≢true}
 use Rattle.pico_base.specs.declared.call.Call.{Call}

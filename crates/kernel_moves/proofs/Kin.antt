@@ -129,7 +129,8 @@ living-kind p pid call row left reply is answer none =
     (row-family row pid call ∙ ap (λ (r : Reply). family_after r row.family) (sym answer)
     ∙ family-kept reply row.family none)
 
-kind-by : (p : ℕ) (pid : ℕ) (call : Call) (body left : Body) (reply : Reply) → left ≡ (on_body (Proc p) body pid call).left
+kind-by : (p : ℕ) (pid : ℕ) (call : Call) (body left : Body) (reply : Reply)
+    → left ≡ (on_body (Proc p) body pid call).left
     → reply ≡ (on_body (Proc p) body pid call).reply → finds reply ≡ false → SameKind body left
 kind-by p pid call (Living row) left reply is answer none = living-kind p pid call row left reply is answer none
 kind-by p pid call (Ended e) left reply is answer none = Same is

@@ -1,7 +1,7 @@
 -- From a call's effect to its entry: after the effect only what the caller may still do can be another one.
 use Rattle.std.proofs.Common.{◌≡◌, ℕ, Bool, true, false, Option, Some, None, refl, ap, sym, ◌∙◌, inl, inr}
-use Rattle.std.specs.Prelude.{is_some, if◌then◌else◌}
-use Rattle.std.specs.Option.{option_map, option_map_or}
+use Rattle.std.specs.Prelude.{is_some, if◌then◌else◌, length}
+use Rattle.std.specs.Option.{option_map_or}
 use Rattle.std.proofs.lemmas.Bool.{cases_eq}
 use Rattle.pico_base.specs.declared.call.Call.{Call}
 use Rattle.pico_base.specs.declared.numbers.Kind.{Kind}
@@ -103,7 +103,8 @@ enters-by k pid call e made m gives used =
 
 -- what an effect leaves of the keys, its entry leaves
 pub size-is : (j k : Kernel) (id : ℕ) → j.sets ≡ k.sets → set_size j id ≡ set_size k id
-size-is j k id same = ap (λ sets. option_map_or (λ set. Rattle.std.specs.Prelude.length set.semaphores) (get sets id) 0) same
+size-is j k id same =
+    ap (λ sets. option_map_or (λ set. length set.semaphores) (get sets id) 0) same
 
 pub keys-finished : (k j : Kernel) (pid : ℕ) → KeepsKeys k j → KeepsKeys k (finished j pid)
 keys-finished k j pid h =

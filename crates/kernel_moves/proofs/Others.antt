@@ -1,5 +1,5 @@
--- What an entry leaves of the processes that didn't make it: who lives lives on, and may do what it might before; who has
--- ended stays so, or is gone; and the kernel stays valid.
+-- What an entry leaves of the processes that didn't make it: who lives lives on, and may do what it might before; who
+-- has ended stays so, or is gone; and the kernel stays valid.
 use Rattle.std.proofs.Common.{◌≡◌, ◌≢◌, ℕ, Bool, true, false, not, List, [], ◌∷◌, Option, Some, None, refl, ap, sym, subst, ◌∙◌, inl, inr}
 use Rattle.std.specs.Prelude.{is_some, fold, Contains}
 use Rattle.std.specs.Option.{option_and_then}

@@ -1,5 +1,5 @@
--- Where a process is in its block: a reply moves the node's place as it moves the history's, a call that ends a process is
--- its last one and any other isn't, and the call that is due may be made.
+-- Where a process is in its block: a reply moves the node's place as it moves the history's, a call that ends a
+-- process is its last one and any other isn't, and the call that is due may be made.
 use Rattle.std.proofs.Common.{◌≡◌, ◌⊎◌, ℕ, zero, suc, ◌+◌, Bool, true, false, not, ◌&&◌, nat_lt, List, [], ◌∷◌, drop, Option, Some, None, refl, ap, sym, subst, ◌∙◌, inl, inr, arith}
 use Rattle.std.specs.Prelude.{if◌then◌else◌, is_some, slice_get}
 use Rattle.std.specs.List.{list_all, list_any}
@@ -217,7 +217,8 @@ after-by : (place : Place) (call : Call) (reply : Reply) (line : Line) (rest : L
     else record { left = rest; tried = 0; vars = set_variable place.vars line.set (value_in (Some reply)) }).left
     ≡ line ∷ rest)
     ⊎ ((if again then record place { tried = place.tried + 1 }
-    else record { left = rest; tried = 0; vars = set_variable place.vars line.set (value_in (Some reply)) }).left ≡ rest)
+    else record { left = rest; tried = 0; vars = set_variable place.vars line.set (value_in (Some reply)) }).left
+    ≡ rest)
 after-by place call reply line rest true is = inl is
 after-by place call reply line rest false is = inr refl
 
@@ -269,7 +270,8 @@ exit-ends script p c status h =
     in passes place (calls.Exit status) replies.Ended d.line d.rest d.left refl ∙ last-exit d.line d.rest ends exits
 
 -- and so is the end by a signal
-pub killed-ends : (place : Place) (sig : Sig) (reply : Option Reply) → (move_on place (calls.Killed sig) reply).left ≡ []
+pub killed-ends : (place : Place) (sig : Sig) (reply : Option Reply)
+    → (move_on place (calls.Killed sig) reply).left ≡ []
 killed-ends place sig reply = refl
 
 -- a call that ends its process is its last one

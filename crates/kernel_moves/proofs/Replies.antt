@@ -160,7 +160,8 @@ signal-family row Zero = refl
 signal-family row Bad = refl
 signal-family row (Is g) = refl
 
-act-family : (row : Row) (r : Result Signals Errno) → (act row r).left.family ≡ family_after (act row r).reply row.family
+act-family : (row : Row) (r : Result Signals Errno)
+    → (act row r).left.family ≡ family_after (act row r).reply row.family
 act-family row (Ok s) = refl
 act-family row (Err e) = refl
 

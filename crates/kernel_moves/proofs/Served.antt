@@ -1,5 +1,5 @@
--- A call is served on the body of its name, as the kernel's transition does it: what the kernel has afterwards, and what
--- the node that serves it holds.
+-- A call is served on the body of its name, as the kernel's transition does it: what the kernel has afterwards, and
+-- what the node that serves it holds.
 use Rattle.std.proofs.Common.{◌≡◌, ◌≢◌, ◌⊎◌, ℕ, Bool, true, false, not, Option, Some, None, refl, ap, sym, subst, ◌∙◌, inl, inr, nat_eq}
 use Rattle.std.specs.Prelude.{if◌then◌else◌, is_some, Contains}
 use Rattle.std.specs.Option.{option_and_then}

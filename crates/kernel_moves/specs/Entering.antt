@@ -79,8 +79,8 @@ pub record IsAsFree (a b : Alive) : Type 0 where
   pub unspent : is_spent a.allowance ≡ false → is_spent b.allowance ≡ false
   pub doomed : (sig : Sig) → is_doomed_by a.row.signals.doom sig ≡ true → is_doomed_by b.row.signals.doom sig ≡ true
 
--- what a process is after an entry of another: it lives on and may do what it might, or it has ended and stays so, or is
--- gone. A number that leads to no process may then lead to one
+-- what a process is after an entry of another: it lives on and may do what it might, or it has ended and stays so, or
+-- is gone. A number that leads to no process may then lead to one
 abbrev pub TurnsTo : Option Process → Option Process → Type 0
 TurnsTo None after = Unit {0}
 TurnsTo (Some (kernel.Living a)) after = (b : Alive) × (after ≡ Some (kernel.Living b)) × IsAsFree a b

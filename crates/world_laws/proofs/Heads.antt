@@ -1,17 +1,15 @@
 -- The frame at the head of a stream: what it may be, and what of its stream stays once it is taken.
-use Rattle.std.proofs.Common.{◌≡◌, ◌≢◌, ◌⊎◌, ℕ, ◌≤◌, Bool, true, false, ◌&&◌, cond, List, [], ◌∷◌, ◌++◌, filter, nat_eq, Contains, refl, ap, sym, subst, ◌∙◌, inl, inr, arith, append-nil}
-use Rattle.std.specs.List.{AllByRecursion}
-use Rattle.std.proofs.lemmas.Bool.{cases_eq, eq-eqb, ne_eqb, false≢true}
+use Rattle.std.proofs.Common.{◌≡◌, ◌≢◌, ◌⊎◌, ℕ, Bool, true, false, ◌&&◌, cond, List, [], ◌∷◌, ◌++◌, filter, Contains, refl, ap, sym, subst, ◌∙◌, inl, inr}
 use Rattle.std.proofs.lemmas.List.Elements.{Contains-append_left, Contains-push}
 use Rattle.pico_base.specs.declared.reply.Entry.{Entry}
 use Rattle.pico_base.specs.declared.script.Script.{Script}
 use Rattle.rpc_frame.specs.declared.frame.Frame.{Frame}
 use Rattle.world_model.specs.Node.{Node}
-use Rattle.world_model.specs.World.{World, node_count}
+use Rattle.world_model.specs.World.{World}
 use Rattle.world_laws.specs.Sights.{frames_to}
 use Rattle.world_laws.specs.Invariant.{MayBe, FramesFit}
-use Rattle.world_laws.proofs.Sends.{frame_if, sent_to}
-use Rattle.world_laws.proofs.Changes.{Changes, frames_if, taken, sent, IsListMap, MakesNothing, made-before, made-after}
+use Rattle.world_laws.proofs.Sends.{frame_if}
+use Rattle.world_laws.proofs.Changes.{Changes, frames_if, taken, IsListMap, made-before}
 use Rattle.world_laws.proofs.Steps.{Heads, frames-low, taken-here, taken-not-to, taken-not-from}
 
 module _ (script : Script) (w : World) (p q : ℕ) (frame : Frame) (rest : List Frame)

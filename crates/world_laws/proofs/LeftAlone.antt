@@ -1,10 +1,9 @@
 -- What a node's turn doesn't concern stays as it was: each lemma says for one part of the invariant what a rule has to
 -- show of the frames taken and sent, of the node, of the directory, and of what stands beside the world.
-use Rattle.std.proofs.Common.{◌≡◌, ◌≢◌, ◌⊎◌, ℕ, ◌+◌, ◌≤◌, Bool, true, false, ◌&&◌, not, List, [], ◌∷◌, ◌++◌, length, filter, flat_map, sum_by, nat_eq, Contains, Option, Some, None, is_some, refl, ap, sym, subst, ◌∙◌, inl, inr, arith, append-nil}
+use Rattle.std.proofs.Common.{◌≡◌, ◌≢◌, ◌⊎◌, ℕ, ◌+◌, ◌≤◌, Bool, true, false, ◌&&◌, not, List, [], ◌∷◌, ◌++◌, length, filter, flat_map, sum_by, nat_eq, Contains, is_some, refl, ap, sym, subst, ◌∙◌, inl, inr, append-nil}
 use Rattle.std.specs.List.{AllByRecursion}
 use Rattle.std.proofs.lemmas.Bool.{cases_eq, eq-eqb, ne_eqb, false≢true}
 use Rattle.std.proofs.lemmas.List.Elements.{Contains-append_cases, Contains-append_right}
-use Rattle.pico_base.specs.declared.call.Call.{Call}
 use Rattle.pico_base.specs.declared.numbers.Kind.{Kind}
 use Rattle.pico_base.specs.declared.numbers.Name.{Name}
 use Rattle.pico_base.specs.declared.numbers.Name.TheVariants.{Proc}
@@ -15,32 +14,30 @@ use Rattle.rpc_frame.specs.declared.frame.Frame.{Frame}
 use Rattle.rpc_frame.specs.declared.frame.Frame.TheVariants as frames
 use Rattle.number_maps.specs.Maps.{get}
 use Rattle.kernel_model.specs.Kernel.{Kernel, living_at}
-use Rattle.kernel_model.specs.Fitting.{Place, Places}
+use Rattle.kernel_model.specs.Fitting.{Places}
 use Rattle.kernel_model.specs.Footprint.{used_of}
 use Rattle.number_maps.specs.Maps.{is_used}
 use Rattle.node_model.specs.declared.held.Held.{Held}
 use Rattle.node_model.specs.declared.held.Held.TheVariants.{Ending}
 use Rattle.node_model.specs.Kinds.{get_named, for_kind}
-use Rattle.node_model.specs.Directory.{Directory, place_of, maker, stays, held_for, is_known, is_parcel_with}
-use Rattle.node_model.specs.Leases.{Leases}
-use Rattle.node_model.specs.Caller.{Caller}
+use Rattle.node_model.specs.Directory.{Directory, place_of, maker, stays, held_for, is_parcel_with}
 use Rattle.node_model.specs.Bodies.{body_in}
-use Rattle.world_model.specs.Node.{Node, Stage, Left}
+use Rattle.world_model.specs.Node.{Node, Left}
 use Rattle.world_model.specs.Census.{brings}
 use Rattle.world_model.specs.World.{World, numbers, node_count}
 use Rattle.world_laws.specs.Places.{CallPlace, DeedPlace, Beside}
-use Rattle.world_laws.specs.Sights.{node_of, frames_to, directory_of, stage_of, is_born_stage, is_born_in, is_used_name}
-use Rattle.world_laws.specs.Plays.{Hold, begin, has_any, is_checkpoint_of, plays, placed_in, news}
-use Rattle.world_laws.specs.Names.{NameSight, name_sight, held_at, comes_to, is_maker, range_steps_of, forker}
-use Rattle.world_laws.specs.Callers.{CallSight, call_sight, is_about, is_item_about}
-use Rattle.world_laws.specs.Ways.{WaySight, way_sight, knows_parent, is_leaving_frame, is_recall_all, is_left_frame, under_way_of, IsParcelIn, left as left_in, sent as sent_in, kept as kept_in, at_hand, HasSender}
-use Rattle.world_laws.specs.Ranges.{KindSight, kind_sight, lease_in, lease_at, has_lease, leases_on_way, FewRanges, one_for}
+use Rattle.world_laws.specs.Sights.{node_of, frames_to, directory_of, stage_of, is_born_in, is_used_name}
+use Rattle.world_laws.specs.Plays.{begin, has_any, is_checkpoint_of, plays, placed_in, news}
+use Rattle.world_laws.specs.Names.{name_sight, held_at, comes_to, is_maker, range_steps_of, forker}
+use Rattle.world_laws.specs.Callers.{call_sight, is_about, is_item_about}
+use Rattle.world_laws.specs.Ways.{way_sight, is_leaving_frame, is_recall_all, is_left_frame, under_way_of, IsParcelIn, left as left_in, sent as sent_in, kept as kept_in, at_hand, HasSender}
+use Rattle.world_laws.specs.Ranges.{kind_sight, lease_in, lease_at, has_lease, leases_on_way, FewRanges, one_for}
 use Rattle.world_laws.specs.Families.{NodeHolds, FamilyHolds, checkpoints_to, is_checkpoint_frame}
 use Rattle.world_laws.specs.Invariant.{MayBe, FramesFit}
 use Rattle.world_laws.proofs.Sends.{frame_if, sent_to}
 use Rattle.world_laws.proofs.Stays.{IsMore, SameName, SameCall, SameWay, SameKind, node-born, may-be-born}
-use Rattle.world_laws.proofs.Changes.{Changes, frames_if, taken, sent, IsListMap, filter-is-list-map, flat_map-is-list-map, made-before, made-after, stayed, only-stayed, made-same, read-same}
-use Rattle.world_laws.proofs.Frames.{all-weaker, contains-none, sent-is, concerns, no-deed, no-checkpoint, no-steps, no-ranges, no-places, no-news, not-about, is_plain, ArePlain, BringNoBirth, no-leaving, no-recall-all, no-left, no-birth, no-lease, no-parcel-left, no-parcel-sent}
+use Rattle.world_laws.proofs.Changes.{Changes, frames_if, taken, sent, IsListMap, filter-is-list-map, flat_map-is-list-map, stayed, only-stayed, made-same, read-same}
+use Rattle.world_laws.proofs.Frames.{all-weaker, contains-none, sent-is, concerns, no-deed, no-checkpoint, no-steps, no-ranges, no-places, no-news, not-about, is_plain, ArePlain, BringNoBirth, no-leaving, no-recall-all, no-left, no-birth, no-lease}
 
 -- ---- what a rule shows of the rest
 

@@ -1,24 +1,22 @@
 -- What follows of one name: where it is held, what a frame at the head of its play found, and what brings it.
-use Rattle.std.proofs.Common.{◌≡◌, ◌≢◌, ◌⊎◌, ℕ, ◌≤◌, Bool, true, false, ◌&&◌, ◌||◌, not, cond, if◌then◌else◌, List, [], ◌∷◌, ◌++◌, filter, nat_eq, Option, Some, None, is_some, refl, ap, sym, subst, ◌∙◌, inl, inr, arith}
-use Rattle.std.proofs.lemmas.Bool.{cases_eq, eqb-true, eq-eqb, ne_eqb, false≢true}
+use Rattle.std.proofs.Common.{◌≡◌, ◌≢◌, ℕ, Bool, true, false, ◌&&◌, ◌||◌, not, cond, if◌then◌else◌, List, [], ◌∷◌, filter, nat_eq, Some, None, is_some, refl, ap, sym, subst, ◌∙◌}
+use Rattle.std.proofs.lemmas.Bool.{eqb-true, eq-eqb, ne_eqb, false≢true}
 use Rattle.std.specs.List.{AllByRecursion}
 use Rattle.pico_base.specs.declared.numbers.Name.{Name}
 use Rattle.pico_base.specs.declared.numbers.Name.TheVariants.{Proc, Msg, Sem}
 use Rattle.rpc_frame.specs.declared.deed.PackedDeed.{PackedDeed}
 use Rattle.rpc_frame.specs.declared.frame.Frame.{Frame}
 use Rattle.rpc_frame.specs.declared.frame.Frame.TheVariants as frames
-use Rattle.node_model.specs.Kinds.{is_object, get_named}
+use Rattle.node_model.specs.Kinds.{get_named}
 use Rattle.node_model.specs.Bodies.{Body}
 use Rattle.node_model.specs.Spelling.{pack}
 use Rattle.world_model.specs.Node.{Node, Stage, Unborn, Living, Leaving, Left, Over, is_unborn, unborn_node}
 use Rattle.world_model.specs.Census.{brings}
 use Rattle.world_laws.specs.Places.{DeedPlace, Unmade, InTable, InCheckpoint, InGrant, InGiveBack, InLeft, InKept, InHand, InExitTo}
-use Rattle.world_laws.specs.Plays.{Hold, Has, Lacks, Done, PlayStep, Comes, Goes, AllGo, IsNeeded, play_step, play_on, play, begin, has_any, is_checkpoint_of, is_has}
-use Rattle.world_laws.specs.Names.{OneIf, OnlyOne, IsBringer, is_stream_of, held_as, may_be_at, PlaysTo}
-use Rattle.world_laws.specs.Families.{HoldsIn, HoldsRow}
+use Rattle.world_laws.specs.Plays.{Hold, Has, Lacks, Done, PlayStep, Comes, Goes, IsNeeded, play, begin, is_checkpoint_of, is_has}
+use Rattle.world_laws.specs.Names.{OneIf, IsBringer, is_stream_of, held_as, may_be_at, PlaysTo}
+use Rattle.world_laws.specs.Families.{HoldsIn}
 use Rattle.world_laws.proofs.Played.{play-none}
-use Rattle.world_laws.proofs.Sends.{frame_if}
-use Rattle.world_laws.proofs.Changes.{frames_if}
 
 -- ---- plays
 

@@ -1,10 +1,10 @@
 -- Who has the range of a number, and that a number in use is in nobody's lease.
-use Rattle.std.proofs.Common.{◌≡◌, ◌≢◌, ◌⊎◌, ℕ, zero, suc, ◌+◌, ◌-◌, ◌*◌, ◌/◌, ◌<◌, ◌≤◌, Bool, true, false, ◌||◌, not, if◌then◌else◌, List, [], ◌∷◌, drop, slice_get, nat_eq, Option, Some, None, refl, ap, sym, subst, ◌∙◌, inl, inr, arith}
+use Rattle.std.proofs.Common.{◌≡◌, ◌≢◌, ◌⊎◌, ℕ, zero, suc, ◌+◌, ◌-◌, ◌*◌, ◌/◌, ◌<◌, ◌≤◌, Bool, true, false, ◌||◌, not, if◌then◌else◌, List, [], ◌∷◌, drop, slice_get, nat_eq, Some, None, refl, ap, sym, subst, ◌∙◌, inl, inr, arith}
 use Rattle.std.specs.List.{list_any, range_with_len}
-use Rattle.std.proofs.lemmas.Bool.{cases_eq, eqb-true, eq-eqb, ne_eqb, false≢true}
-use Rattle.node_model.specs.Directory.{maker_in, range_size}
+use Rattle.std.proofs.lemmas.Bool.{eqb-true, ne_eqb, false≢true}
+use Rattle.node_model.specs.Directory.{maker_in}
 use Rattle.node_model.specs.Leases.{lease_of}
-use Rattle.world_laws.specs.Ranges.{KindSight, KindHolds, IsRangeOf, IsRestOf, is_given, is_still_free, is_in_lease}
+use Rattle.world_laws.specs.Ranges.{KindSight, KindHolds, IsRangeOf, IsRestOf, is_given, is_in_lease}
 
 or-cases : (a b : Bool) → (a || b) ≡ true → (a ≡ true) ⊎ (b ≡ true)
 or-cases true b h = inl refl

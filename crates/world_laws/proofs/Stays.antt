@@ -1,8 +1,7 @@
 -- What is seen the same keeps what holds of it; and what holds stays where more nodes are born, and more names known.
-use Rattle.std.proofs.Common.{◌≡◌, ℕ, Bool, true, List, Option, Some, None, refl, subst, sym, arith}
+use Rattle.std.proofs.Common.{◌≡◌, ℕ, Bool, true, Option, Some, None, subst}
 use Rattle.pico_base.specs.declared.call.Call.{Call}
 use Rattle.pico_base.specs.declared.numbers.Name.{Name}
-use Rattle.pico_base.specs.declared.numbers.Kind.{Kind}
 use Rattle.pico_base.specs.declared.script.Script.{Script}
 use Rattle.rpc_frame.specs.declared.frame.Frame.{Frame}
 use Rattle.rpc_frame.specs.declared.frame.Frame.TheVariants as frames
@@ -10,7 +9,7 @@ use Rattle.world_model.specs.Node.{Node}
 use Rattle.world_laws.specs.Places.{CallPlace, Idle, AsksLease, HasLease, InAsk, InRequest, InNotOwner, SentByPlace, SentByRange, InBounce, IsHeld, IsInHand, InAnswer, Ends}
 use Rattle.world_laws.specs.Names.{NameSight, NameHolds, IsBoundRightly}
 use Rattle.world_laws.specs.Callers.{CallSight, CallHolds, HasCall, HasCallOrNone, IsBetween}
-use Rattle.world_laws.specs.Ways.{WaySight, Way, IsCollected, HandsOver, IsGone, here, tells, collected, over, gone}
+use Rattle.world_laws.specs.Ways.{WaySight, Way, here, tells, collected, over, gone}
 use Rattle.world_laws.specs.Ranges.{KindSight, KindHolds}
 use Rattle.world_laws.specs.Families.{NodeHolds}
 use Rattle.world_laws.specs.Invariant.{MayBe}

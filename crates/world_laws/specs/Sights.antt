@@ -1,5 +1,5 @@
 -- What there is to see in a world, by node and by stream. A number that is no node's shows an unborn node.
-use Rattle.std.specs.Prelude.{ℕ, Bool, true, false, ◌&&◌, List, [], if◌then◌else◌, Option, None}
+use Rattle.std.specs.Prelude.{ℕ, Bool, true, false, ◌&&◌, List, [], if◌then◌else◌, None}
 use Rattle.std.specs.Option.{unwrap_or}
 use Rattle.pico_base.specs.declared.numbers.Name.{Name}
 use Rattle.number_maps.specs.Maps.{is_used}

@@ -1,6 +1,5 @@
 -- A node takes the reply to its call.
-use Rattle.std.proofs.Common.{◌≡◌, ◌≢◌, ◌⊎◌, ℕ, ◌+◌, ◌≤◌, Bool, true, false, ◌&&◌, not, cond, if◌then◌else◌, List, [], ◌∷◌, ◌++◌, take, slice_get, filter, flat_map, nat_eq, Contains, All, Option, Some, None, option_and_then, refl, ap, sym, subst, ◌∙◌, inl, inr, arith}
-use Rattle.std.specs.List.{AllByRecursion}
+use Rattle.std.proofs.Common.{◌≡◌, ◌≢◌, ◌⊎◌, ℕ, ◌≤◌, Bool, true, false, ◌&&◌, not, cond, if◌then◌else◌, List, [], ◌∷◌, ◌++◌, slice_get, filter, nat_eq, Contains, All, Option, Some, None, option_and_then, refl, ap, sym, subst, ◌∙◌, inl, inr, arith}
 use Rattle.std.proofs.lemmas.Bool.{cases_eq, eqb-true, eq-eqb, ne_eqb, false≢true}
 use Rattle.std.proofs.lemmas.List.Elements.{All-cons, All-filter, All-take, All-weaker, All-contains, All-contains_itself}
 use Rattle.pico_base.specs.declared.call.Call.{Call}
@@ -8,7 +7,6 @@ use Rattle.pico_base.specs.declared.call.Home.{Home}
 use Rattle.pico_base.specs.declared.call.Home.TheVariants as homes
 use Rattle.pico_base.specs.declared.numbers.Kind.{Kind}
 use Rattle.pico_base.specs.declared.numbers.Name.{Name}
-use Rattle.pico_base.specs.declared.numbers.Name.TheVariants.{Proc}
 use Rattle.pico_base.specs.declared.reply.Reply.{Reply}
 use Rattle.pico_base.specs.declared.script.Line.{Line}
 use Rattle.pico_base.specs.declared.script.Script.{Script}
@@ -17,24 +15,21 @@ use Rattle.pico_base.specs.Home.{home_of}
 use Rattle.rpc_frame.specs.declared.asked.Asked.{Asked}
 use Rattle.rpc_frame.specs.declared.frame.Frame.{Frame}
 use Rattle.rpc_frame.specs.declared.frame.Frame.TheVariants as frames
-use Rattle.node_model.specs.declared.held.Held.{Held}
 use Rattle.node_model.specs.declared.held.Held.TheVariants.{Request}
 use Rattle.node_model.specs.Kinds.{for_kind, is_same_name}
 use Rattle.node_model.specs.Directory.{Directory, held_for}
 use Rattle.node_model.specs.Cache.{Cache, learn, forget, max_cached}
-use Rattle.node_model.specs.Caller.{Caller, caller_place, lines_of, answer_call}
+use Rattle.node_model.specs.Caller.{Caller, lines_of, answer_call}
 use Rattle.world_model.specs.Node.{Node, Stage, Unborn, Living, Leaving, Left, Over, under_way_as}
 use Rattle.world_model.specs.Step.{Step, step_to}
 use Rattle.world_model.specs.Calls.{take_answer, answered_by, end_with_reply, with_learnt, is_for_others}
-use Rattle.world_model.specs.World.{World, node_count, world_after}
-use Rattle.world_laws.specs.Places.{DeedPlace, CallPlace, Idle, AsksLease, HasLease, InAsk, InRequest, InNotOwner, SentByPlace, SentByRange, InBounce, IsHeld, IsInHand, InAnswer, Ends, Beside, call_in}
-use Rattle.world_laws.specs.Sights.{node_of, frames_to, directory_of, stage_of, is_born_in, is_born_stage}
-use Rattle.world_laws.specs.Plays.{plays}
-use Rattle.world_laws.specs.Names.{NameHolds, name_sight, range_steps_of}
-use Rattle.world_laws.specs.Callers.{CallSight, call_sight, CallHolds, HasCall, HasNoCall, HasCallOrNone, IsFree, FreeIn, IsMade, IsJustThere, IsNowhere, asked_of, only_if, is_in_stream, frame_at, is_held_at, is_about, is_item_about, is_at_work, is_end_stage, is_end_place, may_be_in, IsSoFar, tries_made, HasTryLeft}
-use Rattle.world_laws.specs.Ranges.{kind_sight, has_lease}
+use Rattle.world_model.specs.World.{World, world_after}
+use Rattle.world_laws.specs.Places.{CallPlace, Idle, AsksLease, HasLease, InAsk, InRequest, InNotOwner, SentByPlace, SentByRange, InBounce, IsHeld, IsInHand, InAnswer, Ends, Beside, call_in}
+use Rattle.world_laws.specs.Sights.{node_of, directory_of, is_born_in, is_born_stage}
+use Rattle.world_laws.specs.Callers.{CallSight, call_sight, CallHolds, HasCall, HasCallOrNone, IsFree, FreeIn, IsMade, IsJustThere, IsNowhere, asked_of, only_if, is_in_stream, frame_at, is_held_at, is_about, is_item_about, is_at_work, is_end_stage, is_end_place, may_be_in, IsSoFar, tries_made}
+use Rattle.world_laws.specs.Ranges.{has_lease}
 use Rattle.world_laws.specs.Families.{NodeHolds}
-use Rattle.world_laws.specs.Invariant.{Holds, MayBe}
+use Rattle.world_laws.specs.Invariant.{Holds}
 use Rattle.world_laws.proofs.Stays.{IsMore, SameCall, call-stays, name-stays, kind-stays}
 use Rattle.world_laws.proofs.Changes.{Changes, filter-is-list-map, only-stayed, read-same}
 use Rattle.world_laws.proofs.LeftAlone.{LeavesName, same-directory, name-left-alone, kind-left-alone, few-still}

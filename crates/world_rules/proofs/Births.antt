@@ -1,6 +1,5 @@
 -- A node is born: it takes the Checkpoint of the process that its block is forked as.
-use Rattle.std.proofs.Common.{◌≡◌, ◌≢◌, ◌⊎◌, ℕ, ◌+◌, ◌≤◌, Bool, true, false, ◌&&◌, ◌||◌, not, cond, if◌then◌else◌, List, [], ◌∷◌, ◌++◌, drop, slice_get, filter, flat_map, nat_eq, Contains, Option, Some, None, is_some, is_none, option_and_then, refl, ap, sym, subst, ◌∙◌, inl, inr, arith, append-nil}
-use Rattle.std.specs.List.{AllByRecursion}
+use Rattle.std.proofs.Common.{◌≡◌, ◌≢◌, ◌⊎◌, ℕ, ◌≤◌, Bool, true, false, ◌&&◌, ◌||◌, not, cond, if◌then◌else◌, List, [], ◌∷◌, ◌++◌, drop, filter, flat_map, nat_eq, Contains, Option, Some, None, is_some, option_and_then, refl, ap, sym, subst, ◌∙◌, inl, inr, arith, append-nil}
 use Rattle.std.proofs.lemmas.Bool.{cases_eq, eqb-true, eq-eqb, ne_eqb, false≢true}
 use Rattle.pico_base.specs.declared.numbers.Kind.{Kind}
 use Rattle.pico_base.specs.declared.numbers.Name.{Name}
@@ -12,17 +11,16 @@ use Rattle.pico_base.specs.declared.script.Event.TheVariants as events
 use Rattle.rpc_frame.specs.declared.deed.PackedDeed.{PackedDeed}
 use Rattle.rpc_frame.specs.declared.frame.Frame.{Frame}
 use Rattle.rpc_frame.specs.declared.frame.Frame.TheVariants as frames
-use Rattle.number_maps.specs.Maps.{Numbered, get, is_used}
+use Rattle.number_maps.specs.Maps.{get}
 use Rattle.kernel_model.specs.Row.{Row, Alive}
 use Rattle.kernel_model.specs.Kernel.{Kernel, Process, living_at, alive_in}
 use Rattle.kernel_model.specs.Kernel as kernel
 use Rattle.kernel_model.specs.Script.{Vars}
-use Rattle.kernel_model.specs.Fitting.{Place, block_place, block_at, with_exit}
+use Rattle.kernel_model.specs.Fitting.{block_place, block_at, with_exit}
 use Rattle.kernel_model.specs.Valid.{IsValid}
 use Rattle.kernel_laws.proofs.ValidLaws.{reachable_kernels_are_valid_lemma}
-use Rattle.node_model.specs.declared.held.Held.{Held}
 use Rattle.node_model.specs.declared.held.Held.TheVariants.{Ending}
-use Rattle.node_model.specs.Kinds.{is_object, is_same_name, kind_of, number_of, for_kind, get_named, put_named, none_named}
+use Rattle.node_model.specs.Kinds.{is_object, number_of, for_kind, get_named, put_named, none_named}
 use Rattle.node_model.specs.Directory.{Directory, is_known, place_of, maker, stays, held_for, is_parcel_with}
 use Rattle.node_model.specs.Bodies.{Body, Living as LivingBody, process_body, body_in}
 use Rattle.node_model.specs.Caller.{Caller, new_caller, caller_place, lines_of, lines_in}
@@ -32,23 +30,22 @@ use Rattle.world_model.specs.Step.{Step, step_to}
 use Rattle.world_model.specs.Lives.{take_checkpoint, be_born, born_with, is_forked_by, is_of_process, is_new_row}
 use Rattle.world_model.specs.Census.{brings}
 use Rattle.world_model.specs.World.{World, node_count, numbers, world_after}
-use Rattle.world_laws.specs.Places.{DeedPlace, Unmade, InTable, InCheckpoint, InGrant, InGiveBack, InLeft, InKept, InHand, InExitTo, CallPlace, Idle, Beside, deed_in}
-use Rattle.world_laws.specs.Sights.{node_of, frames_to, directory_of, stage_of, is_born_in, is_born_stage, is_used_name}
+use Rattle.world_laws.specs.Places.{DeedPlace, Unmade, InTable, InCheckpoint, InGrant, InGiveBack, InLeft, InKept, InHand, InExitTo, Beside, deed_in}
+use Rattle.world_laws.specs.Sights.{node_of, frames_to, directory_of, stage_of, is_born_in, is_used_name}
 use Rattle.world_laws.specs.Deeds.{DeedsAreRead}
-use Rattle.world_laws.specs.Plays.{steps_if, Hold, Has, Lacks, PlayStep, Comes, plays, play, begin, is_there, is_checkpoint_of, has_any, placed_in, news}
+use Rattle.world_laws.specs.Plays.{steps_if, Has, PlayStep, Comes, plays, play, begin, is_there, is_checkpoint_of, has_any, placed_in, news}
 use Rattle.world_laws.specs.Names.{NameSight, name_sight, NameHolds, held_at, held_as, comes_to, may_be_at, is_stream_of, is_kept_for, is_hand_place, node_in, IsBringer, IsItemWith, IsCheckpointOf, IsLeftOf, IsExitOf, OneIf, PlaysTo, belief_of, range_steps_of, forker, first_that, is_maker}
-use Rattle.world_laws.specs.Callers.{CallSight, call_sight, CallHolds, HasNoCall, HasCallOrNone, HasCall, IsFree, IsNowhere, is_about, is_item_about, tries_made, HasTryLeft, is_end_place, is_end_stage}
-use Rattle.world_laws.specs.Ways.{is_leaving_frame, is_recall_all, is_left_frame, WaySight, way_sight, Way, IsHere, knows_parent, under_way_of, here, tells, collected, over, gone, IsParcelIn, TellsEnd, IsCollected, HandsOver, IsGone}
-use Rattle.world_laws.specs.Ranges.{kind_sight, KeysHold, has_lease}
-use Rattle.world_laws.specs.Families.{IsChildAs, NodeHolds, HoldsIn, HoldsRow, IsBorn, FamilyHolds, IsWhereFor, IsItsOwn, RestsBelow, IsWithParent, IsNewAt, IsAwaited, IsCheckpointFor, CheckpointIn, checkpoints_to, is_checkpoint_frame, is_first_stage}
-use Rattle.world_laws.specs.Invariant.{Holds, IsLeading, MayBe, IsHistory, FramesFit, process_deed}
-use Rattle.world_laws.proofs.Named.{name-cases, same-name, same-name-is, other-name, get-put-same-name, get-put-other-name}
-use Rattle.world_laws.proofs.Stays.{IsMore, SameName, SameCall, SameWay, name-stays, call-stays, way-stays, kind-stays, node-born}
-use Rattle.world_laws.proofs.Changes.{Changes, filter-is-list-map, flat_map-is-list-map, made-same, only-stayed, read-same, still-born, directory-same}
-use Rattle.world_laws.proofs.Frames.{concerns}
-use Rattle.world_laws.proofs.LeftAlone.{SameCaller, LeavesName, LeavesCall, same-directory, name-left-alone, call-left-alone, way-left-alone, parcel-was-there, sender-stays, kind-left-alone, family-left-alone, other-node-stays, frames-still-fit, few-still}
+use Rattle.world_laws.specs.Callers.{CallSight, call_sight, CallHolds, HasNoCall, HasCallOrNone, IsNowhere, is_about, is_item_about, is_end_place}
+use Rattle.world_laws.specs.Ways.{is_leaving_frame, is_recall_all, is_left_frame, WaySight, way_sight, Way, IsHere, knows_parent, here, tells, collected, over, gone}
+use Rattle.world_laws.specs.Ranges.{KeysHold}
+use Rattle.world_laws.specs.Families.{IsChildAs, NodeHolds, HoldsIn, FamilyHolds, IsWhereFor, RestsBelow, IsWithParent, IsNewAt, IsAwaited, IsCheckpointFor, CheckpointIn, checkpoints_to, is_checkpoint_frame, is_first_stage}
+use Rattle.world_laws.specs.Invariant.{Holds, IsLeading, IsHistory, process_deed}
+use Rattle.world_laws.proofs.Named.{name-cases, same-name, other-name, get-put-same-name, get-put-other-name}
+use Rattle.world_laws.proofs.Stays.{IsMore, SameName, SameCall, SameWay, name-stays, call-stays, way-stays, kind-stays}
+use Rattle.world_laws.proofs.Changes.{Changes, filter-is-list-map, flat_map-is-list-map, made-same, only-stayed, still-born, directory-same}
+use Rattle.world_laws.proofs.LeftAlone.{LeavesName, LeavesCall, same-directory, name-left-alone, call-left-alone, parcel-was-there, sender-stays, kind-left-alone, other-node-stays, frames-still-fit, few-still}
 use Rattle.world_laws.proofs.Steps.{KeepsAs, Heads, world_without, take-steps, changes-by-take}
-use Rattle.world_laws.proofs.NameFacts.{play-comes, begin-has, begins-with, has_left, plays-by}
+use Rattle.world_laws.proofs.NameFacts.{play-comes, begins-with, has_left, plays-by}
 use Rattle.world_laws.proofs.Lines.{all-at}
 use Rattle.world_laws.proofs.Heads.{head-is, head-may-be, head-from-another, rest-stays, others-stay}
 use Rattle.world_rules.proofs.Grants.{IsAlone, is-alone}

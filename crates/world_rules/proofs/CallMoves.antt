@@ -1,24 +1,19 @@
 -- An event that moves one node's call, carries out none, and brings no process to life or to its end. What is left to
 -- show is that call, the names, the numbers that may be new, and the node at work.
-use Rattle.std.proofs.Common.{◌≡◌, ◌≢◌, ◌⊎◌, ℕ, ◌+◌, ◌≤◌, Bool, true, false, List, [], ◌∷◌, ◌++◌, Option, Some, None, Contains, filter, flat_map, nat_eq, if◌then◌else◌, refl, ap, sym, subst, ◌∙◌, inl, inr, arith, append-nil}
+use Rattle.std.proofs.Common.{◌≡◌, ◌≢◌, ℕ, ◌≤◌, true, false, List, [], Contains, filter, flat_map, refl, ap, sym, subst, ◌∙◌, inl, inr, append-nil}
 use Rattle.std.specs.List.{AllByRecursion}
-use Rattle.std.proofs.lemmas.Bool.{cases_eq, eq-eqb, ne_eqb}
+use Rattle.std.proofs.lemmas.Bool.{cases_eq}
 use Rattle.pico_base.specs.declared.numbers.Kind.{Kind}
 use Rattle.pico_base.specs.declared.numbers.Name.{Name}
 use Rattle.pico_base.specs.declared.numbers.Name.TheVariants.{Proc}
-use Rattle.pico_base.specs.declared.reply.Entry.{Entry}
 use Rattle.pico_base.specs.declared.script.Script.{Script}
 use Rattle.rpc_frame.specs.declared.deed.Parcel.{Parcel}
 use Rattle.rpc_frame.specs.declared.frame.Frame.{Frame}
 use Rattle.number_maps.specs.Maps.{get}
-use Rattle.kernel_model.specs.Kernel.{Kernel}
-use Rattle.kernel_model.specs.Fitting.{Places}
 use Rattle.node_model.specs.declared.held.Held.{Held}
 use Rattle.node_model.specs.declared.held.Held.TheVariants.{Ending}
-use Rattle.node_model.specs.Kinds.{for_kind}
-use Rattle.node_model.specs.Caller.{Caller}
 use Rattle.node_model.specs.Directory.{Directory, held_for, is_known}
-use Rattle.world_model.specs.Node.{Node, Leader, Left}
+use Rattle.world_model.specs.Node.{Node, Left}
 use Rattle.world_model.specs.World.{World, node_count}
 use Rattle.world_laws.specs.Places.{DeedPlace, CallPlace, Beside}
 use Rattle.world_laws.specs.Sights.{node_of, frames_to, directory_of, stage_of, is_born_in, is_born_stage}
@@ -27,7 +22,7 @@ use Rattle.world_laws.specs.Names.{NameHolds, name_sight, forker, range_steps_of
 use Rattle.world_laws.specs.Callers.{CallHolds, call_sight, is_about, is_item_about}
 use Rattle.world_laws.specs.Ways.{way_sight, knows_parent, under_way_of, IsParcelIn, left as left_in, sent as sent_in, kept as kept_in, at_hand}
 use Rattle.world_laws.specs.Ranges.{KindHolds, kind_sight, FewRanges, KeysHold}
-use Rattle.world_laws.specs.Families.{NodeHolds, checkpoints_to}
+use Rattle.world_laws.specs.Families.{NodeHolds}
 use Rattle.world_laws.specs.Invariant.{Holds, IsHistory, IsLeading, MayBe, FramesFit, process_deed}
 use Rattle.world_laws.proofs.Stays.{IsMore, node-born, may-be-born, call-stays, way-stays}
 use Rattle.world_laws.proofs.Changes.{Changes, read-same, still-born}

@@ -1,6 +1,5 @@
 -- A node takes the deed of a queue or set that the leader sends it.
-use Rattle.std.proofs.Common.{◌≡◌, ◌≢◌, ◌⊎◌, ℕ, ◌≤◌, Bool, true, false, ◌&&◌, ◌||◌, not, cond, if◌then◌else◌, List, [], ◌∷◌, ◌++◌, filter, flat_map, nat_eq, Option, Some, None, is_some, option_map, refl, ap, sym, subst, ◌∙◌, inl, inr, arith}
-use Rattle.std.specs.List.{AllByRecursion}
+use Rattle.std.proofs.Common.{◌≡◌, ◌≢◌, ◌⊎◌, ℕ, ◌≤◌, Bool, true, false, ◌&&◌, ◌||◌, not, cond, if◌then◌else◌, List, [], ◌∷◌, ◌++◌, filter, flat_map, nat_eq, Some, None, is_some, option_map, refl, ap, sym, subst, ◌∙◌, inl, inr, arith}
 use Rattle.std.proofs.lemmas.Bool.{cases_eq, eqb-true, eq-eqb, ne_eqb, false≢true}
 use Rattle.pico_base.specs.declared.numbers.Name.{Name}
 use Rattle.pico_base.specs.declared.numbers.Name.TheVariants.{Proc}
@@ -9,29 +8,28 @@ use Rattle.pico_base.specs.declared.script.Event.TheVariants as events
 use Rattle.rpc_frame.specs.declared.deed.PackedDeed.{PackedDeed}
 use Rattle.rpc_frame.specs.declared.frame.Frame.{Frame}
 use Rattle.rpc_frame.specs.declared.frame.Frame.TheVariants as frames
-use Rattle.node_model.specs.Kinds.{is_object, is_same_name, kind_of, number_of, get_named, put_named}
-use Rattle.node_model.specs.Directory.{Directory, place_of, maker, stays, held_for, is_parcel_with}
+use Rattle.node_model.specs.Kinds.{is_object, kind_of, number_of, get_named, put_named}
+use Rattle.node_model.specs.Directory.{place_of, maker, stays, held_for, is_parcel_with}
 use Rattle.node_model.specs.Leases.{leases_hold}
 use Rattle.node_model.specs.Bodies.{Body}
 use Rattle.node_model.specs.Spelling.{pack, read_deed}
 use Rattle.world_model.specs.Node.{Node, Stage, Unborn, Living, Leaving, Left, Over, is_born, is_leader, is_unborn, holds as holds_deed}
 use Rattle.world_model.specs.Step.{Step}
-use Rattle.world_model.specs.Moves.{take_grant, receive_deed, is_new_here}
+use Rattle.world_model.specs.Moves.{take_grant, receive_deed}
 use Rattle.world_model.specs.Census.{brings}
-use Rattle.world_model.specs.World.{World, node_count, world_after}
+use Rattle.world_model.specs.World.{World, world_after}
 use Rattle.world_laws.specs.Places.{DeedPlace, Unmade, InTable, InCheckpoint, InGrant, InGiveBack, InLeft, InKept, InHand, InExitTo, Beside, deed_in}
 use Rattle.world_laws.specs.Sights.{node_of, frames_to, directory_of, stage_of, is_born_in, is_born_stage}
 use Rattle.world_laws.specs.Deeds.{DeedsAreRead}
-use Rattle.world_laws.specs.Plays.{steps_if, Hold, Has, Lacks, PlayStep, Comes, plays, play, begin, is_there, is_checkpoint_of, has_any, placed_in, news}
-use Rattle.world_laws.specs.Names.{NameSight, name_sight, NameHolds, held_at, held_as, comes_to, may_be_at, is_stream_of, is_kept_for, is_hand_place, node_in, IsBringer, IsItemWith, IsCheckpointOf, IsLeftOf, IsExitOf, OneIf, OnlyOne, PlaysTo, belief_of, range_steps_of, forker, is_maker}
+use Rattle.world_laws.specs.Plays.{steps_if, Has, Lacks, PlayStep, Comes, plays, play, begin, is_there, is_checkpoint_of, has_any, placed_in, news}
+use Rattle.world_laws.specs.Names.{NameSight, name_sight, NameHolds, held_at, held_as, comes_to, may_be_at, is_stream_of, is_kept_for, is_hand_place, node_in, IsBringer, IsItemWith, IsCheckpointOf, IsLeftOf, IsExitOf, OneIf, PlaysTo, belief_of, range_steps_of, forker, is_maker}
 use Rattle.world_laws.specs.Ranges.{kind_sight}
 use Rattle.world_laws.specs.Families.{NodeHolds}
 use Rattle.world_laws.specs.Invariant.{Holds, MayBe}
 use Rattle.world_laws.proofs.Named.{name-cases, same-name, other-name, get-put-same-name, get-put-other-name}
 use Rattle.world_laws.proofs.Stays.{IsMore, SameName, name-stays}
 use Rattle.world_laws.proofs.Changes.{Changes, filter-is-list-map, flat_map-is-list-map, made-same, only-stayed, directory-same}
-use Rattle.world_laws.proofs.Frames.{concerns}
-use Rattle.world_laws.proofs.LeftAlone.{SameCaller, LeavesName, same-directory, name-left-alone}
+use Rattle.world_laws.proofs.LeftAlone.{LeavesName, same-directory, name-left-alone}
 use Rattle.world_laws.proofs.Steps.{KeepsAs, Heads, world_without, take-steps, changes-by-take}
 use Rattle.world_laws.proofs.NameFacts.{play-comes, begin-lacks, begins-with, has_left, plays-by}
 use Rattle.world_laws.proofs.Numbers.{used-is-taken}

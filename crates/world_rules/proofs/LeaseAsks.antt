@@ -1,7 +1,7 @@
 -- The leader gives a node that asks for numbers the next range of the kind.
-use Rattle.std.proofs.Common.{◌≡◌, ◌≢◌, ◌⊎◌, ◌↔◌, ℕ, ◌+◌, ◌*◌, ◌≤◌, Bool, true, false, ◌&&◌, ◌||◌, not, cond, if◌then◌else◌, List, [], ◌∷◌, ◌++◌, length, filter, flat_map, sum_by, nat_eq, Contains, Option, Some, None, is_some, is_none, refl, ap, sym, subst, ◌∙◌, inl, inr, arith, append-nil, length-append}
-use Rattle.std.specs.List.{AllByRecursion, list_any}
-use Rattle.std.proofs.lemmas.Bool.{cases_eq, eqb-true, eq-eqb, ne_eqb, false≢true}
+use Rattle.std.proofs.Common.{◌≡◌, ◌≢◌, ◌⊎◌, ℕ, ◌+◌, ◌≤◌, Bool, true, false, ◌&&◌, not, cond, if◌then◌else◌, List, [], ◌∷◌, ◌++◌, length, filter, flat_map, nat_eq, Contains, Some, None, is_some, refl, ap, sym, subst, ◌∙◌, inl, inr, arith, append-nil, length-append}
+use Rattle.std.specs.List.{list_any}
+use Rattle.std.proofs.lemmas.Bool.{cases_eq, eq-eqb, ne_eqb, false≢true}
 use Rattle.std.proofs.lemmas.List.Elements.{Contains-push_cases, Contains-push, Contains-append_left, Contains-append_right}
 use Rattle.pico_base.specs.declared.call.Call.{Call}
 use Rattle.pico_base.specs.declared.numbers.Kind.{Kind}
@@ -14,34 +14,32 @@ use Rattle.pico_base.specs.Home.{home_of}
 use Rattle.rpc_frame.specs.declared.asked.Asked.{Asked}
 use Rattle.rpc_frame.specs.declared.frame.Frame.{Frame}
 use Rattle.rpc_frame.specs.declared.frame.Frame.TheVariants as frames
-use Rattle.kernel_model.specs.Footprint.{used_of}
-use Rattle.node_model.specs.declared.held.Held.{Held}
 use Rattle.node_model.specs.declared.held.Held.TheVariants.{Request}
-use Rattle.node_model.specs.Kinds.{for_kind, with_kind, kind_of, number_of, is_same_kind, get_named}
-use Rattle.node_model.specs.Directory.{Directory, Place, place_of, held_for, is_known, maker, maker_in, stays, has_more, upcoming, with_range, is_parcel_with}
+use Rattle.node_model.specs.Kinds.{for_kind, kind_of, number_of, is_same_kind, get_named}
+use Rattle.node_model.specs.Directory.{Directory, place_of, held_for, maker, maker_in, stays, has_more, upcoming, with_range, is_parcel_with}
 use Rattle.node_model.specs.Leases.{lease_of}
 use Rattle.world_model.specs.Node.{Node, Stage, Unborn, Living, Leaving, Left, Over, is_leader}
 use Rattle.world_model.specs.Step.{Step, step_to, with_directory, send}
 use Rattle.world_model.specs.Ranges.{take_lease_ask}
 use Rattle.world_model.specs.Census.{brings}
-use Rattle.world_model.specs.World.{World, node_count, numbers, world_after}
-use Rattle.world_laws.specs.Places.{DeedPlace, Unmade, CallPlace, Idle, AsksLease, HasLease, InAsk, InRequest, InNotOwner, SentByPlace, SentByRange, InBounce, IsHeld, IsInHand, InAnswer, Ends, Beside, call_in}
+use Rattle.world_model.specs.World.{World, node_count, world_after}
+use Rattle.world_laws.specs.Places.{CallPlace, Idle, AsksLease, HasLease, InAsk, InRequest, InNotOwner, SentByPlace, SentByRange, InBounce, IsHeld, IsInHand, InAnswer, Ends, Beside, call_in}
 use Rattle.world_laws.specs.Sights.{node_of, frames_to, directory_of, stage_of, is_born_in, is_born_stage, is_used_name}
-use Rattle.world_laws.specs.Plays.{plays, begin, Belief, believed, told, is_there, is_checkpoint_of, has_any, placed_in, news}
+use Rattle.world_laws.specs.Plays.{plays, begin, believed, is_there, is_checkpoint_of, has_any, placed_in, news}
 use Rattle.world_laws.specs.Names.{NameSight, name_sight, NameHolds, IsTold, PlaysTo, belief_of, maker_tells, held_at, comes_to, is_maker, range_steps_of, range_steps_if, leases_name, leases_first, RangeStep, IsLeased, IsSentThere, forker}
-use Rattle.world_laws.specs.Callers.{CallSight, call_sight, CallHolds, HasCall, HasCallOrNone, IsJustThere, IsToBeMade, IsSoFar, IsBetween, asked_of, only_if, is_in_stream, frame_at, is_held_at, is_in_hand, is_about, is_item_about, is_at_work, is_end_stage, is_end_place, may_be_in, lease_is_over}
-use Rattle.world_laws.specs.Ranges.{kind_sight, KindSight, KindHolds, has_lease, leases_on_way, FewRanges, lease_in, first_if, one_for, is_given}
+use Rattle.world_laws.specs.Callers.{CallSight, call_sight, CallHolds, HasCall, HasCallOrNone, IsJustThere, IsToBeMade, IsSoFar, IsBetween, asked_of, only_if, is_in_stream, frame_at, is_held_at, is_in_hand, is_about, is_item_about, is_at_work, is_end_place, may_be_in, lease_is_over}
+use Rattle.world_laws.specs.Ranges.{kind_sight, KindHolds, has_lease, leases_on_way, FewRanges, lease_in, first_if, one_for, is_given}
 use Rattle.world_laws.specs.Families.{NodeHolds}
-use Rattle.world_laws.specs.Invariant.{Holds, MayBe, IsLeading}
+use Rattle.world_laws.specs.Invariant.{Holds, IsLeading}
 use Rattle.world_laws.proofs.Stays.{IsMore, SameCall, SameName, SameKind, call-stays, name-stays, kind-stays}
 use Rattle.world_laws.proofs.Changes.{Changes, frames_if, sent, filter-is-list-map, flat_map-is-list-map, made-after, made-same, stayed, only-stayed, read-same}
 use Rattle.world_laws.proofs.Sends.{frame_if}
 use Rattle.world_laws.proofs.LeftAlone.{LeavesName, DirectoryLeaves, name-left-alone, kind-left-alone, few-still}
 use Rattle.world_laws.proofs.Steps.{KeepsAs, Heads, world_without, take-steps, changes-by-take}
-use Rattle.world_laws.proofs.Heads.{head-is, head-may-be, head-from-another, rest-stays, others-stay, kept-of-sent}
+use Rattle.world_laws.proofs.Heads.{head-is, head-from-another, rest-stays, others-stay}
 use Rattle.world_laws.proofs.Numbers.{maker-in-range}
-use Rattle.world_laws.proofs.NewRanges.{unmade-next, range-of-next, upcoming_in, maker-elsewhere, leased, kind-leased, no-lease-about, sum-more}
-use Rattle.world_rules.proofs.Nodes.{node-with-directory, and-true}
+use Rattle.world_laws.proofs.NewRanges.{unmade-next, range-of-next, maker-elsewhere, leased, kind-leased, no-lease-about, sum-more}
+use Rattle.world_rules.proofs.Nodes.{node-with-directory}
 use Rattle.world_rules.proofs.CallMoves.{IsCallMove, SameButCall, call-move-keeps, move-born, steps-still, ranges-still}
 use Rattle.world_rules.proofs.Answers.{IsOnly, only-one, Found, find}
 

@@ -1,15 +1,14 @@
 -- What holds of a node whose deeds of queues and sets are other ones.
-use Rattle.std.proofs.Common.{◌≡◌, ◌≢◌, ℕ, Bool, true, false, not, ◌&&◌, Some, refl, ap, sym, subst, ◌∙◌, Contains}
+use Rattle.std.proofs.Common.{◌≡◌, ℕ, Bool, true, false, not, ◌&&◌, refl, ap, sym, subst, ◌∙◌}
 use Rattle.std.proofs.lemmas.Bool.{false≢true}
 use Rattle.pico_base.specs.declared.numbers.Name.{Name}
 use Rattle.pico_base.specs.declared.numbers.Name.TheVariants.{Proc, Msg, Sem}
 use Rattle.pico_base.specs.declared.script.Script.{Script}
 use Rattle.number_maps.specs.Maps.{Numbered, get}
-use Rattle.kernel_model.specs.Row.{Row}
-use Rattle.node_model.specs.Kinds.{is_object, is_same_name, get_named, put_named, without_named, none_named}
-use Rattle.node_model.specs.Bodies.{Body, Living as LivingBody, Deeds}
+use Rattle.node_model.specs.Kinds.{is_object, is_same_name, put_named, without_named}
+use Rattle.node_model.specs.Bodies.{Body, Deeds}
 use Rattle.node_model.specs.Watches.{Watches}
-use Rattle.world_model.specs.Node.{Node, Stage, Unborn, Living, Leaving, Left, Over, is_unborn, unborn_node}
+use Rattle.world_model.specs.Node.{Node, Stage, Unborn, Living, Leaving, Left, Over, is_unborn}
 use Rattle.node_model.specs.Directory.{Directory}
 use Rattle.world_model.specs.Step.{with_directory}
 use Rattle.world_laws.specs.Sights.{is_born_stage}

@@ -1,8 +1,8 @@
 -- The opening world: node 1 is born with process 1, and there is nothing else.
-use Rattle.std.proofs.Common.{◌≡◌, ◌≢◌, ◌⊎◌, ℕ, zero, suc, ◌+◌, ◌-◌, ◌/◌, ◌<◌, ◌≤◌, Bool, true, false, ◌&&◌, ◌||◌, not, if◌then◌else◌, List, [], ◌∷◌, length, map, replicate, slice_get, get_or, filter, flat_map, nat_eq, Contains, Option, Some, None, is_some, is_none, unwrap_or, refl, ap, sym, subst, ◌∙◌, inl, inr, arith}
-use Rattle.std.specs.List.{AllByRecursion, list_any, range_with_len}
-use Rattle.std.proofs.lemmas.Bool.{cases_eq, cases_lt, eqb-true, eq-eqb, ne_eqb, lt-ltb, le-ltb, false≢true}
-use Rattle.std.proofs.lemmas.Option.{slice_get_within, slice_get_past}
+use Rattle.std.proofs.Common.{◌≡◌, ◌≢◌, ◌⊎◌, ℕ, zero, suc, ◌+◌, ◌-◌, ◌/◌, ◌<◌, ◌≤◌, Bool, true, false, ◌&&◌, ◌||◌, not, if◌then◌else◌, List, [], ◌∷◌, length, map, replicate, slice_get, get_or, filter, flat_map, nat_eq, Contains, Option, Some, None, is_some, unwrap_or, refl, ap, sym, subst, ◌∙◌, inl, inr, arith}
+use Rattle.std.specs.List.{list_any, range_with_len}
+use Rattle.std.proofs.lemmas.Bool.{cases_eq, cases_lt, ne_eqb, lt-ltb, le-ltb, false≢true}
+use Rattle.std.proofs.lemmas.Option.{slice_get_past}
 use Rattle.pico_base.specs.declared.numbers.Kind.{Kind}
 use Rattle.pico_base.specs.declared.numbers.Kind.TheVariants as kinds
 use Rattle.pico_base.specs.declared.numbers.Name.{Name}
@@ -13,8 +13,7 @@ use Rattle.pico_base.specs.declared.script.Script.{Script}
 use Rattle.rpc_frame.specs.declared.deed.Parcel.{Parcel}
 use Rattle.rpc_frame.specs.declared.frame.Frame.{Frame}
 use Rattle.rpc_frame.specs.declared.frame.Frame.TheVariants as frames
-use Rattle.number_maps.specs.Maps.{Numbered, get, is_used}
-use Rattle.number_maps.specs.Rising.{IsRising}
+use Rattle.number_maps.specs.Maps.{get, is_used}
 use Rattle.number_maps.proofs.Rising.{rising-nothing, rising-put}
 use Rattle.number_maps.proofs.LookUps.{get-first, get-later}
 use Rattle.std.proofs.lemmas.List.Elements.{Contains-push_cases}
@@ -26,29 +25,28 @@ use Rattle.kernel_model.specs.Footprint.{used_of}
 use Rattle.kernel_model.specs.Fitting.{Place, block_place, block_at, opening_places, with_exit}
 use Rattle.node_model.specs.declared.held.Held.{Held}
 use Rattle.node_model.specs.declared.held.Held.TheVariants.{Ending}
-use Rattle.node_model.specs.Kinds.{get_named, put_named, none_named, is_same_name, kind_of, number_of, for_kind}
-use Rattle.node_model.specs.Directory.{Directory, Place as NamePlace, At, opening_directory, place_of, maker, maker_in, stays, held_for, items_of, destination_of, is_parcel_with}
+use Rattle.node_model.specs.Kinds.{get_named, none_named, is_same_name, number_of, for_kind}
+use Rattle.node_model.specs.Directory.{Directory, Place as NamePlace, At, opening_directory, place_of, maker, maker_in, stays, held_for, items_of, is_parcel_with}
 use Rattle.node_model.specs.Bodies.{Body, Living as LivingBody, body_in}
-use Rattle.node_model.specs.Caller.{Caller, new_caller, caller_place, lines_of, lines_in}
-use Rattle.node_model.specs.Leases.{leader_leases, no_leases}
+use Rattle.node_model.specs.Caller.{lines_of, lines_in}
+use Rattle.node_model.specs.Leases.{leader_leases}
 use Rattle.world_model.specs.Node.{Node, Stage, Unborn, Living, Leaving, Left, Over, unborn_node, first_node, opening_node}
 use Rattle.world_model.specs.Lives.{names_block}
 use Rattle.world_model.specs.Census.{brings}
-use Rattle.world_model.specs.World.{World, Streams, opening_world, numbers, node_count, node_at, stream, stream_in, is_number}
-use Rattle.world_laws.specs.Places.{DeedPlace, Unmade, InTable, CallPlace, Idle, Beside}
+use Rattle.world_model.specs.World.{World, opening_world, numbers, node_count, node_at, is_number}
+use Rattle.world_laws.specs.Places.{DeedPlace, Unmade, InTable, Idle, Beside}
 use Rattle.world_laws.specs.Sights.{node_of, frames_to, directory_of, stage_of, is_born_in, is_born_stage, is_used_name}
-use Rattle.world_laws.specs.Plays.{told, Hold, Has, Lacks, begin, is_there, is_has, is_checkpoint_of, has_any, plays, placed_in, news}
-use Rattle.world_laws.specs.Names.{RangeStep, maker_tells, belief_of, NameSight, name_sight, NameHolds, PlaysTo, held_at, held_as, comes_to, range_steps_of, forker, is_maker}
-use Rattle.world_laws.specs.Callers.{CallSight, call_sight, CallHolds, IsNowhere, is_about, is_item_about, HasTries}
-use Rattle.world_laws.specs.Ways.{WaySight, way_sight, Way, IsHere, here, knows_parent, is_leaving_frame, is_recall_all, is_left_frame, IsParcelIn, left, sent, kept, at_hand, HasSender, under_way_of}
+use Rattle.world_laws.specs.Plays.{told, Has, Lacks, begin, is_there, is_has, is_checkpoint_of, has_any, plays, placed_in, news}
+use Rattle.world_laws.specs.Names.{RangeStep, maker_tells, belief_of, NameSight, name_sight, NameHolds, held_at, held_as, comes_to, range_steps_of, forker, is_maker}
+use Rattle.world_laws.specs.Callers.{CallSight, call_sight, CallHolds, IsNowhere, is_about, is_item_about}
+use Rattle.world_laws.specs.Ways.{way_sight, Way, here, knows_parent, is_leaving_frame, is_recall_all, is_left_frame, IsParcelIn, left, sent, kept, at_hand}
 use Rattle.world_laws.specs.Ranges.{KindSight, kind_sight, KindHolds, IsRestOf, is_given, lease_at, lease_in, FewRanges, leases_on_way, KeysHold}
-use Rattle.world_laws.specs.Families.{NodeHolds, HoldsRow, PidsHold, FamilyHolds, ListsChild, checkpoints_to}
-use Rattle.world_laws.specs.Invariant.{Holds, IsShaped, IsHistory, IsLeading, FramesFit, HasInvariant, process_deed}
+use Rattle.world_laws.specs.Families.{NodeHolds, PidsHold, FamilyHolds, ListsChild, checkpoints_to}
+use Rattle.world_laws.specs.Invariant.{Holds, IsShaped, IsLeading, process_deed}
 use Rattle.world_laws.specs.Runnable.{IsRunnable}
-use Rattle.world_laws.proofs.Named.{name-cases, same-name, other-name, get-put-same-name, get-put-other-name}
+use Rattle.world_laws.proofs.Named.{name-cases, other-name, get-put-same-name, get-put-other-name}
 use Rattle.world_laws.proofs.NewRanges.{in-lease-again}
 use Rattle.world_laws.proofs.Stays.{SameName, name-stays, SameCall, call-stays, SameKind, kind-stays}
-use Rattle.world_laws.proofs.Numbers.{in-range}
 use Rattle.world_laws.proofs.Lines.{all-at}
 use Rattle.world_rules.proofs.Births.{first-lines}
 

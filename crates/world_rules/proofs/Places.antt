@@ -1,15 +1,10 @@
 -- The leader's directory with another place of one name, for which it holds what it held.
-use Rattle.std.proofs.Common.{◌≡◌, ◌≢◌, ◌⊎◌, ℕ, Bool, true, false, not, is_none, List, [], ◌∷◌, filter, Option, Some, None, refl, ap, sym, subst, ◌∙◌, inl, inr}
-use Rattle.pico_base.specs.declared.numbers.Kind.{Kind}
-use Rattle.pico_base.specs.declared.numbers.Kind.TheVariants as kinds
+use Rattle.std.proofs.Common.{◌≡◌, ◌≢◌, true, not, is_none, filter, Some, refl, ap, sym, subst, ◌∙◌, inl, inr}
 use Rattle.pico_base.specs.declared.numbers.Name.{Name}
 use Rattle.pico_base.specs.declared.numbers.Name.TheVariants.{Proc, Msg, Sem}
-use Rattle.number_maps.specs.Maps.{Numbered, get}
-use Rattle.number_maps.specs.Rising.{IsRising}
 use Rattle.number_maps.proofs.Rising.{rising-put}
-use Rattle.node_model.specs.declared.held.Held.{Held}
-use Rattle.node_model.specs.Kinds.{for_kind, kind_of, number_of, get_named, put_named}
-use Rattle.node_model.specs.Directory.{Directory, Place, At, Coming, place_of, with_place, is_known, held_for, items_of, maker, maker_in, stays, is_parcel_with}
+use Rattle.node_model.specs.Kinds.{kind_of, number_of}
+use Rattle.node_model.specs.Directory.{Directory, Place, place_of, with_place, is_known, held_for, items_of, maker_in, is_parcel_with}
 use Rattle.world_laws.specs.Invariant.{IsLeading}
 use Rattle.world_laws.proofs.Named.{name-cases, get-put-same-name, get-put-other-name}
 use Rattle.world_laws.proofs.LeftAlone.{DirectoryLeaves}

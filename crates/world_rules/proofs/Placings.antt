@@ -1,7 +1,7 @@
 -- The leader is told where a new name is: it knows it from then on as it believed it.
 use Rattle.std.proofs.Common.{◌≡◌, ◌≢◌, ◌⊎◌, ℕ, ◌≤◌, Bool, true, false, ◌&&◌, not, if◌then◌else◌, List, [], ◌∷◌, ◌++◌, length, filter, flat_map, nat_eq, nat_le, Contains, Option, Some, None, is_some, is_none, refl, ap, sym, subst, ◌∙◌, inl, inr, arith}
 use Rattle.std.specs.List.{AllByRecursion}
-use Rattle.std.proofs.lemmas.Bool.{cases_eq, eqb-true, eq-eqb, ne_eqb, le-leb, false≢true}
+use Rattle.std.proofs.lemmas.Bool.{eq-eqb, ne_eqb, le-leb, false≢true}
 use Rattle.std.proofs.lemmas.List.Elements.{Contains-append_left, Contains-append_right, Contains-push}
 use Rattle.pico_base.specs.declared.numbers.Name.{Name}
 use Rattle.pico_base.specs.declared.numbers.Name.TheVariants.{Proc, Msg, Sem}
@@ -9,31 +9,28 @@ use Rattle.pico_base.specs.declared.script.Script.{Script}
 use Rattle.pico_base.specs.declared.script.Event.TheVariants as events
 use Rattle.rpc_frame.specs.declared.frame.Frame.{Frame}
 use Rattle.rpc_frame.specs.declared.frame.Frame.TheVariants as frames
-use Rattle.node_model.specs.declared.held.Held.{Held}
-use Rattle.node_model.specs.Kinds.{is_same_name, kind_of, number_of, get_named}
-use Rattle.node_model.specs.Directory.{Directory, Place, At, Coming, place_of, place_name, with_place, is_known, items_of, destination_of, held_for, maker, maker_in, stays, is_parcel_with}
+use Rattle.node_model.specs.Kinds.{kind_of, number_of, get_named}
+use Rattle.node_model.specs.Directory.{Directory, Place, At, Coming, place_of, place_name, with_place, items_of, destination_of, maker, maker_in, is_parcel_with}
 use Rattle.node_model.specs.Leases.{leases_hold}
 use Rattle.world_model.specs.Node.{Node, is_leader, is_node}
 use Rattle.world_model.specs.Step.{Step, step_to, with_directory}
 use Rattle.world_model.specs.Ranges.{take_placed}
-use Rattle.world_model.specs.Calls.{is_to_leader}
 use Rattle.world_model.specs.Census.{brings}
 use Rattle.world_model.specs.World.{World, node_count, world_after}
-use Rattle.world_laws.specs.Places.{DeedPlace, Beside}
+use Rattle.world_laws.specs.Places.{Beside}
 use Rattle.world_laws.specs.Sights.{is_used_name, node_of, frames_to, directory_of, stage_of, is_born_in}
-use Rattle.world_laws.specs.Plays.{finds_place, Belief, Somewhere, believed, told, is_there, is_checkpoint_of, has_any, placed_in, news, News, plays, begin}
+use Rattle.world_laws.specs.Plays.{finds_place, Somewhere, believed, told, is_there, is_checkpoint_of, has_any, placed_in, news, News, plays, begin}
 use Rattle.world_laws.specs.Names.{PlaysTo, NameSight, name_sight, NameHolds, IsTold, IsItemFor, held_at, comes_to, belief_of, maker_tells, is_nowhere, range_steps_of, forker, is_maker, SaysOf}
-use Rattle.world_laws.specs.Ranges.{kind_sight, KindHolds}
+use Rattle.world_laws.specs.Ranges.{kind_sight}
 use Rattle.world_laws.specs.Families.{NodeHolds}
-use Rattle.world_laws.specs.Invariant.{Holds, MayBe}
+use Rattle.world_laws.specs.Invariant.{Holds}
 use Rattle.world_laws.proofs.Named.{name-cases, same-name, other-name}
 use Rattle.world_laws.proofs.Stays.{IsMore, SameName, name-stays}
 use Rattle.world_laws.proofs.Changes.{Changes, taken, made-before, filter-is-list-map, flat_map-is-list-map, made-same, only-stayed, read-same}
-use Rattle.world_laws.proofs.Frames.{concerns}
-use Rattle.world_laws.proofs.LeftAlone.{SameCaller, LeavesName, DirectoryLeaves, name-left-alone}
+use Rattle.world_laws.proofs.LeftAlone.{LeavesName, DirectoryLeaves, name-left-alone}
 use Rattle.world_laws.proofs.Steps.{KeepsAs, Heads, world_without, take-steps, changes-by-take}
 use Rattle.world_laws.proofs.Numbers.{used-is-taken, zero-is-unused}
-use Rattle.world_laws.proofs.Heads.{head-is, head-may-be, head-from-another, rest-stays, others-stay}
+use Rattle.world_laws.proofs.Heads.{head-is, head-may-be, head-from-another}
 use Rattle.world_rules.proofs.Quiet.{IsQuiet, SameButPlaces, quiet-keeps, quiet-born}
 use Rattle.world_rules.proofs.Nodes.{node-with-directory, and-true}
 use Rattle.world_rules.proofs.Places.{directory-leaves, place-with-same, place-with-other, with-place-keeps, itself-keeps}

@@ -1,32 +1,28 @@
 -- An event that carries out no call, moves none, and brings no process to life or to its end. It moves deeds of queues
 -- and sets, or tells the leader where a name is. What is left to show is the names, and the node at work.
-use Rattle.std.proofs.Common.{◌≡◌, ◌≢◌, ◌⊎◌, ℕ, ◌+◌, ◌≤◌, Bool, true, false, List, [], ◌∷◌, ◌++◌, Option, Some, None, Contains, filter, refl, ap, sym, subst, ◌∙◌, inl, inr, arith, append-nil}
+use Rattle.std.proofs.Common.{◌≡◌, ◌≢◌, ℕ, ◌≤◌, true, false, List, [], Contains, filter, refl, ap, sym, subst, ◌∙◌, inl, inr, append-nil}
 use Rattle.std.specs.List.{AllByRecursion}
 use Rattle.std.proofs.lemmas.Bool.{cases_eq}
 use Rattle.pico_base.specs.declared.numbers.Kind.{Kind}
 use Rattle.pico_base.specs.declared.numbers.Name.{Name}
 use Rattle.pico_base.specs.declared.numbers.Name.TheVariants.{Proc}
-use Rattle.pico_base.specs.declared.reply.Entry.{Entry}
 use Rattle.pico_base.specs.declared.script.Script.{Script}
-use Rattle.rpc_frame.specs.declared.deed.Parcel.{Parcel}
 use Rattle.rpc_frame.specs.declared.frame.Frame.{Frame}
 use Rattle.number_maps.specs.Maps.{get}
-use Rattle.kernel_model.specs.Kernel.{Kernel}
-use Rattle.kernel_model.specs.Fitting.{Places}
 use Rattle.node_model.specs.declared.held.Held.{Held}
 use Rattle.node_model.specs.declared.held.Held.TheVariants.{Ending}
 use Rattle.node_model.specs.Caller.{Caller}
 use Rattle.node_model.specs.Kinds.{for_kind}
 use Rattle.node_model.specs.Directory.{Directory, held_for, is_known}
-use Rattle.world_model.specs.Node.{Node, Leader, Left}
+use Rattle.world_model.specs.Node.{Node}
 use Rattle.world_model.specs.World.{World, node_count}
 use Rattle.world_laws.specs.Places.{DeedPlace, Beside}
-use Rattle.world_laws.specs.Sights.{node_of, frames_to, directory_of, stage_of, is_born_in, is_born_stage}
+use Rattle.world_laws.specs.Sights.{node_of, frames_to, directory_of, is_born_in, is_born_stage}
 use Rattle.world_laws.specs.Names.{NameHolds, name_sight, forker}
 use Rattle.world_laws.specs.Callers.{call_sight, is_about, is_item_about}
-use Rattle.world_laws.specs.Ways.{way_sight, knows_parent, under_way_of, IsParcelIn}
+use Rattle.world_laws.specs.Ways.{way_sight, knows_parent}
 use Rattle.world_laws.specs.Ranges.{kind_sight, KeysHold}
-use Rattle.world_laws.specs.Families.{NodeHolds, checkpoints_to}
+use Rattle.world_laws.specs.Families.{NodeHolds}
 use Rattle.world_laws.specs.Invariant.{Holds, IsHistory, IsLeading, MayBe, FramesFit, process_deed}
 use Rattle.world_laws.proofs.Stays.{IsMore, node-born, may-be-born, call-stays, way-stays, kind-stays}
 use Rattle.world_laws.proofs.Changes.{Changes, read-same, still-born}

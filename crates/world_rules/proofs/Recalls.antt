@@ -1,36 +1,31 @@
 -- A node is asked for a queue or set that it holds: the deed goes back to the leader.
-use Rattle.std.proofs.Common.{◌≡◌, ◌≢◌, ◌⊎◌, ℕ, ◌≤◌, Bool, true, false, ◌&&◌, ◌||◌, not, cond, if◌then◌else◌, List, [], ◌∷◌, ◌++◌, filter, flat_map, nat_eq, Option, Some, None, is_some, option_map, refl, ap, sym, subst, ◌∙◌, inl, inr, arith, append-nil}
-use Rattle.std.specs.List.{AllByRecursion}
+use Rattle.std.proofs.Common.{◌≡◌, ◌≢◌, ℕ, ◌≤◌, Bool, true, false, ◌&&◌, ◌||◌, not, cond, if◌then◌else◌, List, [], ◌∷◌, ◌++◌, filter, flat_map, nat_eq, Option, Some, None, is_some, option_map, refl, ap, sym, subst, ◌∙◌, inl, inr, arith}
 use Rattle.std.proofs.lemmas.Bool.{cases_eq, eqb-true, eq-eqb, ne_eqb, false≢true}
 use Rattle.pico_base.specs.declared.numbers.Name.{Name}
-use Rattle.pico_base.specs.declared.numbers.Name.TheVariants.{Proc, Msg, Sem}
+use Rattle.pico_base.specs.declared.numbers.Name.TheVariants.{Proc}
 use Rattle.pico_base.specs.declared.script.Script.{Script}
 use Rattle.pico_base.specs.declared.script.Event.TheVariants as events
 use Rattle.rpc_frame.specs.declared.frame.Frame.{Frame}
 use Rattle.rpc_frame.specs.declared.frame.Frame.TheVariants as frames
-use Rattle.node_model.specs.Kinds.{is_object, is_same_name, get_named, without_named}
-use Rattle.node_model.specs.Directory.{Directory, place_of, maker, stays, held_for, is_parcel_with}
+use Rattle.node_model.specs.Kinds.{is_object, get_named, without_named}
+use Rattle.node_model.specs.Directory.{place_of, maker, stays, held_for, is_parcel_with}
 use Rattle.node_model.specs.Bodies.{Body}
 use Rattle.node_model.specs.Spelling.{pack}
-use Rattle.world_model.specs.Node.{Node, Stage, is_born, is_leader}
+use Rattle.world_model.specs.Node.{Node, is_born, is_leader}
 use Rattle.world_model.specs.Step.{Step}
-use Rattle.world_model.specs.Serving.{without_deed}
 use Rattle.world_model.specs.Moves.{give_back, take_recall}
-use Rattle.world_model.specs.Calls.{is_from_leader}
 use Rattle.world_model.specs.Census.{brings}
-use Rattle.world_model.specs.World.{World, node_count, world_after}
-use Rattle.world_laws.specs.Places.{DeedPlace, InTable, InGiveBack, Beside, deed_in, Unmade}
+use Rattle.world_model.specs.World.{World, world_after}
+use Rattle.world_laws.specs.Places.{InTable, InGiveBack, Beside, deed_in, Unmade}
 use Rattle.world_laws.specs.Sights.{node_of, frames_to, directory_of, stage_of, is_born_in}
-use Rattle.world_laws.specs.Plays.{steps_if, Hold, Has, Lacks, PlayStep, Goes, plays, play, begin, is_there, is_checkpoint_of, has_any, placed_in, news}
+use Rattle.world_laws.specs.Plays.{steps_if, Has, Lacks, PlayStep, Goes, plays, play, begin, is_there, is_checkpoint_of, has_any, placed_in, news}
 use Rattle.world_laws.specs.Names.{may_be_at, NameSight, name_sight, NameHolds, held_at, held_as, comes_to, is_stream_of, is_kept_for, is_hand_place, node_in, IsBringer, IsItemWith, OneIf, PlaysTo, belief_of, range_steps_of, forker, is_maker}
-use Rattle.world_laws.specs.Families.{NodeHolds, HoldsIn}
+use Rattle.world_laws.specs.Families.{NodeHolds}
 use Rattle.world_laws.specs.Invariant.{Holds, MayBe}
 use Rattle.world_laws.proofs.Named.{name-cases, same-name, other-name, get-without-same-name, get-without-other-name}
-use Rattle.world_laws.proofs.Sends.{AreToNodes}
 use Rattle.world_laws.proofs.Stays.{IsMore, SameName, name-stays}
-use Rattle.world_laws.proofs.Changes.{Changes, sent, filter-is-list-map, flat_map-is-list-map, made-after, made-same, only-stayed, stayed, read-same, still-born, directory-same}
-use Rattle.world_laws.proofs.Frames.{concerns}
-use Rattle.world_laws.proofs.LeftAlone.{SameCaller, LeavesName, same-directory, name-left-alone}
+use Rattle.world_laws.proofs.Changes.{Changes, sent, filter-is-list-map, flat_map-is-list-map, made-after, made-same, only-stayed, stayed, directory-same}
+use Rattle.world_laws.proofs.LeftAlone.{LeavesName, same-directory, name-left-alone}
 use Rattle.world_laws.proofs.Steps.{KeepsAs, Heads, world_without, take-steps, changes-by-take}
 use Rattle.world_laws.proofs.NameFacts.{play-goes, begin-has, begins-without, has_left, IsHeldAt, held-there, held-elsewhere, holder-is-born, no-checkpoint-of-object, one-if-sent, plays-by}
 use Rattle.world_laws.proofs.Heads.{head-is, head-may-be, head-from-another, rest-stays, others-stay, kept-of-sent}

@@ -1,28 +1,26 @@
 -- The leader is told that a queue or set would be better at another node: it asks the owner for it, if it is still
 -- there and the other node stays.
-use Rattle.std.proofs.Common.{◌≡◌, ◌≢◌, ◌⊎◌, ℕ, ◌-◌, ◌<◌, ◌≤◌, Bool, true, false, ◌&&◌, not, if◌then◌else◌, List, [], ◌∷◌, ◌++◌, length, slice_get, filter, flat_map, nat_eq, nat_le, Contains, Option, Some, None, is_some, is_none, unwrap_or, refl, ap, sym, subst, ◌∙◌, inl, inr, arith, append-nil}
-use Rattle.std.specs.List.{AllByRecursion}
+use Rattle.std.proofs.Common.{◌≡◌, ◌≢◌, ℕ, ◌-◌, ◌<◌, ◌≤◌, Bool, true, false, ◌&&◌, not, if◌then◌else◌, List, [], ◌∷◌, ◌++◌, length, filter, flat_map, nat_eq, nat_le, Option, Some, None, is_some, is_none, unwrap_or, refl, ap, sym, subst, ◌∙◌, inl, inr, arith, append-nil}
 use Rattle.std.proofs.lemmas.Bool.{cases_eq, cases_lt, eqb-true, eq-eqb, ne_eqb, le-leb, le-ltb, false≢true}
 use Rattle.std.proofs.lemmas.Option.{slice_get_past}
 use Rattle.pico_base.specs.declared.numbers.Name.{Name}
-use Rattle.pico_base.specs.declared.numbers.Name.TheVariants.{Proc, Msg, Sem}
+use Rattle.pico_base.specs.declared.numbers.Name.TheVariants.{Proc}
 use Rattle.pico_base.specs.declared.script.Script.{Script}
 use Rattle.pico_base.specs.declared.script.Event.TheVariants as events
 use Rattle.rpc_frame.specs.declared.frame.Frame.{Frame}
 use Rattle.rpc_frame.specs.declared.frame.Frame.TheVariants as frames
-use Rattle.node_model.specs.Kinds.{is_object, is_same_name, kind_of, number_of, get_named}
-use Rattle.node_model.specs.Directory.{Directory, Place, At, Coming, place_of, with_place, recall, items_of, destination_of, held_for, maker, maker_in, stays, is_parcel_with}
+use Rattle.node_model.specs.Kinds.{is_object, kind_of, number_of, get_named}
+use Rattle.node_model.specs.Directory.{Directory, Place, At, Coming, place_of, with_place, items_of, maker, maker_in, stays, is_parcel_with}
 use Rattle.world_model.specs.Node.{Node, is_leader, is_node, unborn_node}
-use Rattle.world_model.specs.Step.{Step, step_to, with_directory}
+use Rattle.world_model.specs.Step.{Step, step_to}
 use Rattle.world_model.specs.Moves.{take_suggest, suggest, is_at}
 use Rattle.world_model.specs.Routing.{recall_from}
-use Rattle.world_model.specs.Calls.{is_to_leader}
 use Rattle.world_model.specs.Census.{brings}
 use Rattle.world_model.specs.World.{World, node_count, world_after, node_at, is_number}
-use Rattle.world_laws.specs.Places.{DeedPlace, Beside}
+use Rattle.world_laws.specs.Places.{Beside}
 use Rattle.world_laws.specs.Sights.{node_of, frames_to, directory_of, stage_of, is_born_in, is_born_stage}
-use Rattle.world_laws.specs.Plays.{Hold, Has, Lacks, Done, Belief, Somewhere, OnTheWay, believed, is_there, is_has, is_checkpoint_of, has_any, placed_in, news, plays, play, play_on, PlayStep, Goes, steps_if, begin}
-use Rattle.world_laws.specs.Names.{NameSight, name_sight, NameHolds, PlaysTo, IsItemFor, held_at, comes_to, belief_of, maker_tells, range_steps_of, forker, is_maker}
+use Rattle.world_laws.specs.Plays.{Hold, Has, Lacks, Done, Somewhere, believed, is_there, is_has, is_checkpoint_of, has_any, placed_in, news, plays, play_on, Goes, steps_if, begin}
+use Rattle.world_laws.specs.Names.{NameSight, name_sight, NameHolds, PlaysTo, held_at, comes_to, belief_of, maker_tells, range_steps_of, forker, is_maker}
 use Rattle.world_laws.specs.Families.{NodeHolds}
 use Rattle.world_laws.specs.Invariant.{Holds, MayBe, IsShaped}
 use Rattle.world_laws.proofs.Named.{name-cases, same-name, other-name}
@@ -30,10 +28,9 @@ use Rattle.world_laws.proofs.Played.{play-append}
 use Rattle.world_laws.proofs.Sends.{frame_if}
 use Rattle.world_laws.proofs.Stays.{IsMore, SameName, name-stays}
 use Rattle.world_laws.proofs.Changes.{Changes, sent, filter-is-list-map, flat_map-is-list-map, made-after, made-same, stayed, read-same}
-use Rattle.world_laws.proofs.Frames.{concerns}
-use Rattle.world_laws.proofs.LeftAlone.{SameCaller, LeavesName, DirectoryLeaves, same-directory, name-left-alone}
+use Rattle.world_laws.proofs.LeftAlone.{LeavesName, same-directory, name-left-alone}
 use Rattle.world_laws.proofs.Steps.{KeepsAs, Heads, world_without, take-steps, changes-by-take}
-use Rattle.world_laws.proofs.Heads.{head-is, head-may-be, head-from-another, rest-stays, others-stay}
+use Rattle.world_laws.proofs.Heads.{head-may-be, head-from-another}
 use Rattle.world_rules.proofs.Quiet.{IsQuiet, SameButPlaces, quiet-keeps, quiet-born}
 use Rattle.world_rules.proofs.Nodes.{node-with-directory, and-true}
 use Rattle.world_rules.proofs.Places.{directory-leaves, place-with-same, place-with-other, with-place-keeps, itself-keeps}
