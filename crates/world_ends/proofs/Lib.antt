@@ -1,3 +1,5 @@
 pub mod Given
 pub mod Handed
 pub mod RecallAlls
+pub mod Directories
+pub mod Asked
