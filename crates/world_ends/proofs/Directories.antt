@@ -1,6 +1,6 @@
 -- The leader's directory when a node leaves: the node's process and its parent are known from then on, and all that was
 -- at the node is on its way.
-use Rattle.std.proofs.Common.{◌≡◌, ◌≢◌, ℕ, Bool, true, false, not, if◌then◌else◌, List, [], ◌∷◌, map, nat_eq, Option, Some, None, is_none, is_some, option_map, refl, ap, sym, subst, ◌∙◌, inl, inr}
+use Rattle.std.proofs.Common.{◌≡◌, ◌≢◌, ℕ, Bool, true, false, not, if◌then◌else◌, List, [], ◌∷◌, nat_eq, Option, Some, None, is_none, is_some, option_map, refl, ap, sym, subst, ◌∙◌, inl, inr}
 use Rattle.std.specs.List.Sorted.{IsStrictlySortedBy}
 use Rattle.std.specs.Ordering.{nat_cmp}
 use Rattle.std.proofs.lemmas.Bool.{cases_eq, eq-eqb, ne_eqb}
@@ -10,7 +10,7 @@ use Rattle.pico_base.specs.declared.numbers.Name.TheVariants.{Proc, Msg, Sem}
 use Rattle.number_maps.specs.Maps.{Numbered, get}
 use Rattle.number_maps.specs.Rising.{IsRising}
 use Rattle.number_maps.proofs.LookUps.{get-first, get-later, get-put-same, get-put-other}
-use Rattle.node_model.specs.Directory.{Directory, Place, At, Coming, IsLeaving, place_of, place_name, with_place, with_leaving, place_without, places_without, items_of, destination_of, stays, is_known, held_for}
+use Rattle.node_model.specs.Directory.{Directory, Place, At, Coming, IsLeaving, place_of, place_name, with_place, with_leaving, place_without, places_without, items_of, destination_of, stays, is_known}
 use Rattle.world_laws.specs.Plays.{Belief, believed, is_there, told}
 use Rattle.world_laws.specs.Names.{is_nowhere}
 use Rattle.world_laws.specs.Invariant.{IsLeading}

@@ -51,7 +51,7 @@ use Rattle.world_laws.proofs.Changes.{Changes, sent, filter-is-list-map, flat_ma
 use Rattle.world_laws.proofs.LeftAlone.{LeavesCall, call-left-alone, was-there, sender-stays, kind-left-alone, other-node-stays, frames-still-fit, few-still}
 use Rattle.world_laws.proofs.Steps.{KeepsAs, Heads, world_without, take-steps, changes-by-take}
 use Rattle.world_laws.proofs.NameFacts.{held-elsewhere, IsHeldAt, held-there}
-use Rattle.world_laws.proofs.Heads.{head-is, head-from-another, rest-stays, others-stay}
+use Rattle.world_laws.proofs.Heads.{head-is, head-may-be, head-from-another, rest-stays, others-stay}
 use Rattle.world_ends.proofs.Given.{AreRising, to_leader, fold-sends, kept-of-all-sent, all-given, frame_of, gives-name, gives-left, packed-there, all-of-map}
 use Rattle.world_ends.proofs.Handed.{handed_to, is_in_table, handed, in-table-is, not-in-table, left_by, name-left-by, handed_over, name-handed-over, brings-handed, where-handed, parent-handed, checkpoint-handed, fresh-handed, awaited-handed, not-awaited}
 
@@ -878,3 +878,16 @@ module _ (script : Script) (w : World) (b : Beside) (holds : Holds script w [] b
           families = families-now;
         };
       }
+
+-- whoever is asked, and by whomever
+pub any-recall-all-keeps : (script : Script) (w : World) (b : Beside) → Holds script w [] b → (p q : ℕ)
+    (rest : List Frame) → Heads script w p q frames.RecallAll rest → AreRising (deeds_at w p)
+    → KeepsAs script w (events.Take p q) (record b { deed = λ name. handed p (is_object name) (b.deed name) })
+any-recall-all-keeps script w b holds p q rest h rises =
+    let by-leader : q ≡ 1 =
+    head-may-be script w p q frames.RecallAll rest h (is_born_in w) holds.frames_fit
+    in subst
+    (λ s. KeepsAs script w (events.Take p s) (record b { deed = λ name. handed p (is_object name) (b.deed name) }))
+    (sym by-leader)
+    (recall-all-keeps script w b holds p rest
+    (subst (λ s. Heads script w p s frames.RecallAll rest) by-leader h) rises)
