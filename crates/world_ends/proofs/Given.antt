@@ -126,7 +126,8 @@ gives-none name other apart (e ∷ m) =
     filter-dropped (brings other) (give_back (pack (name e.0) e.1)) (map give_back (pack_all name m)) (apart e.0)
     ∙ gives-none name other apart m
 
-packed-has : (pid : ℕ) (m : Numbered Body)
+-- its parcel has the deed of each process that it has
+pub packed-has : (pid : ℕ) (m : Numbered Body)
     → list_any (λ deed. is_same_name (Proc pid) deed.name) (pack_all Proc m) ≡ is_some (get m pid)
 packed-has pid [] = refl
 packed-has pid (e ∷ m) =
@@ -240,15 +241,15 @@ packed-there pid (e ∷ m) body there =
     some-same e = cc
 
 -- what holds of each body that a map leads to holds of all in it
-pub all-of-map : (P : ℕ × Body → Type 0) (m : Numbered Body) → IsRising m
-    → ((k : ℕ) (body : Body) → get m k ≡ Some body → P (k, body)) → AllByRecursion P m
+pub all-of-map : {V : Type 0} (P : ℕ × V → Type 0) (m : Numbered V) → IsRising m
+    → ((k : ℕ) (body : V) → get m k ≡ Some body → P (k, body)) → AllByRecursion P m
 all-of-map P [] rises f = tt
-all-of-map P (e ∷ m) rises f = (
+all-of-map {V} P (e ∷ m) rises f = (
   f e.0 e.1 (get-first e m e.0 refl),
   all-of-map P m (rising-rest e m rises)
       (λ k body there. f k body (get-later e m k (λ g. not-first k body there g) ∙ there)),
 )
   where
-    not-first : (k : ℕ) (body : Body) → get m k ≡ Some body → k ≢ e.0
+    not-first : (k : ℕ) (body : V) → get m k ≡ Some body → k ≢ e.0
     not-first k body there g =
         false≢true (ap is_some (sym (get-above e.0 m (above-first e m rises)) ∙ ap (get m) (sym g) ∙ there))

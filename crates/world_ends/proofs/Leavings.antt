@@ -84,7 +84,8 @@ module _ (script : Script) (w : World) (b : Beside) (holds : Holds script w [] b
     pub sender : ℕ
     pub says : IsTold b.pids name (sight name).used (sight name).maker sender node
 
-  told-first : (name : Name) (node : ℕ) (more : List ℕ) (m : Option ℕ) → (sight name).maker ≡ m
+  -- who is told of first
+  pub told-first : (name : Name) (node : ℕ) (more : List ℕ) (m : Option ℕ) → (sight name).maker ≡ m
       → maker_tells (sight name) m ≡ node ∷ more → IsToldOf name node
   told-first name node more None e ts = absurd (is-not-empty node more (sym ts))
   told-first name node more (Some q) e ts =

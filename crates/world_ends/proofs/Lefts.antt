@@ -289,7 +289,8 @@ module _ (script : Script) (w : World) (b : Beside) (holds : Holds script w [] b
       rest-stays script 1 c w middle after.node frame [] [] changes (λ t s fs. filter is_left_frame fs)
       (λ t s. filter-is-list-map is_left_frame)
 
-  way-was : HandsOver (knows_parent script w b.pids c) (way_sight w c)
+  -- the node has handed over all
+  pub way-was : HandsOver (knows_parent script w b.pids c) (way_sight w c)
   way-was = by-way (holds.ways c low-node h.high_from)
     where
       none-there : filter is_left_frame (frames_to w 1 c) ≡ [] → ⊥
@@ -344,7 +345,8 @@ module _ (script : Script) (w : World) (b : Beside) (holds : Holds script w [] b
         (brought-first ∙ ap (λ t. cond t (frame ∷ []) [] ++ filter (brings name) (changes.left 1 c)) e)
         (known.streams 1 c)
 
-    is-brought : has_deed_of name parcel ≡ true → IsBroughtHere b.pids name x.body x.deed c parcel
+    -- a name with a deed in the parcel was on its way in it
+    pub is-brought : has_deed_of name parcel ≡ true → IsBroughtHere b.pids name x.body x.deed c parcel
     is-brought e =
         let first = first-of e
         in brought-here (forker script) b.pids name x.body c parcel x.deed first.counts first.is

@@ -5,3 +5,5 @@ pub mod Directories
 pub mod Asked
 pub mod Leavings
 pub mod Lefts
+pub mod Taken
+pub mod Releases

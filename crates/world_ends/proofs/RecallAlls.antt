@@ -119,7 +119,8 @@ or-true : (t : Bool) → (t || true) ≡ true
 or-true true = refl
 or-true false = refl
 
-over-or-own : (k : ℕ) (o : Option Process) (pid : ℕ) → ((row : Row) → process_body o ≡ LivingBody row → k ≡ pid)
+-- a process that doesn't live is over, and one that lives is the node's own
+pub over-or-own : (k : ℕ) (o : Option Process) (pid : ℕ) → ((row : Row) → process_body o ≡ LivingBody row → k ≡ pid)
     → is_over_but_for pid (k, process_body o) ≡ true
 over-or-own k None pid own = or-true (nat_eq k pid)
 over-or-own k (Some (kernel.Living alive)) pid own = ap (λ t. t || false) (eq-eqb k pid (own alive.row refl))
