@@ -21,7 +21,7 @@ use Rattle.kernel_moves.specs.Entering.{HasRow}
 use Rattle.kernel_moves.proofs.Bodies.{body-living}
 use Rattle.node_model.specs.declared.held.Held.{Held}
 use Rattle.node_model.specs.declared.held.Held.TheVariants.{Ending}
-use Rattle.node_model.specs.Kinds.{get_named}
+use Rattle.node_model.specs.Kinds.{get_named, is_same_name, kind_of}
 use Rattle.node_model.specs.Directory.{Directory, Place, At, Coming, place_of, with_left, is_leaving, is_leaving_as, is_coming, is_coming_to, is_in_parcel, is_parcel_with, is_known, has_deed_of, held_for, items_of}
 use Rattle.node_model.specs.Bodies.{Body, Living as LivingBody, body_in, process_body}
 use Rattle.node_model.specs.Spelling.{pack, read_deed}
@@ -29,18 +29,21 @@ use Rattle.node_model.specs.Parcels.{pack_all, read_deeds, fits_bodies, fits_if,
 use Rattle.world_model.specs.Node.{Node, Left, is_leader}
 use Rattle.world_model.specs.Step.{Step, step_to, with_directory}
 use Rattle.world_model.specs.Routing.{names_in, release}
-use Rattle.world_model.specs.Lives.{is_free_to_end, may_take, end_released, take_left}
+use Rattle.world_model.specs.Lives.{is_end, is_free_to_end, may_take, end_released, take_left}
 use Rattle.world_model.specs.Census.{brings}
 use Rattle.world_model.specs.World.{World}
 use Rattle.world_laws.specs.Places.{DeedPlace, Unmade, InLeft, Beside}
 use Rattle.world_laws.specs.Sights.{node_of, frames_to, directory_of, stage_of, is_used_name, is_born_in}
 use Rattle.world_laws.specs.Plays.{Belief, Somewhere, believed, told, is_there, plays, begin, is_has, is_checkpoint_of, has_any, brings_checkpoint}
 use Rattle.world_laws.specs.Names.{NameSight, name_sight, NameHolds, HasDeed, IsTold, OneIf, IsBringer, IsItemWith, held_at, held_as, comes_to, is_stream_of, is_kept_for, node_in, SaysOf, forker, belief_of, maker_tells, is_nowhere, PlaysTo}
-use Rattle.world_laws.specs.Callers.{CallSight, call_sight, HasCall, IsSoFar, IsToBeMade, HasEnded}
+use Rattle.world_laws.specs.Callers.{CallSight, call_sight, HasCall, IsSoFar, IsToBeMade, HasEnded, is_end_stage, may_be_in}
 use Rattle.world_laws.specs.Ways.{way_sight, knows_parent, HandsOver, IsParcelOf, left as left_in, under_way_of, HasSender}
 use Rattle.world_laws.specs.Families.{NodeHolds, BornIn, IsBorn, FamilyHolds, IsWhereFor, checkpoints_to}
 use Rattle.world_laws.specs.Invariant.{Holds, process_deed}
 use Rattle.world_laws.specs.Deeds.{DeedsAreRead}
+use Rattle.world_laws.specs.Ranges.{kind_sight}
+use Rattle.world_laws.proofs.Numbers.{zero-is-unused}
+use Rattle.pico_base.specs.Home.{home_of}
 use Rattle.world_laws.proofs.Steps.{Heads}
 use Rattle.world_laws.proofs.Heads.{head-there}
 use Rattle.world_ends.proofs.Given.{all-of-map, packed-has}
@@ -68,7 +71,8 @@ module _ (script : Script) (w : World) (b : Beside) (holds : Holds script w [] b
   known : NameHolds script b.pids (is_born_in w) name x
   known = holds.names name
 
-  none-held : (q : ℕ) → held_at w name q ≡ None
+  -- no node has it
+  pub none-held : (q : ℕ) → held_at w name q ≡ None
   none-held q = known.tables q ∙ ap (λ z. held_as z x.body q) deed
 
   -- no frame to a node but the leader brings it
@@ -169,3 +173,252 @@ module _ (script : Script) (w : World) (b : Beside) (holds : Holds script w [] b
       (ap (λ o. filter (is_parcel_with name) (items_of o)) (sym there)
       ∙ subst (λ z. OneIf (is_kept_for (forker script) b.pids z pid) (IsItemWith name x.body (b.pids (node_in z)))
       (x.kept pid)) deed (known.kept pid))))
+
+-- ---- the rule of a Left
+
+module _ (script : Script) (w : World) (b : Beside) (holds : Holds script w [] b)
+    (at_nodes : KnowsNodes (directory_of w)) (reads : DeedsAreRead b.kernel) (c : ℕ) (parcel : Parcel)
+    (rest : List Frame) (h : Heads script w 1 c (frames.Left parcel) rest) where
+  abbrev n : Node
+  n = node_of w 1
+
+  abbrev d : Directory
+  d = directory_of w
+
+  handed : HandsOver (knows_parent script w b.pids c) (way_sight w c)
+  handed = way-was script w b holds c parcel rest h
+
+  -- the node whose parcel it is
+  pub sender : HasSender script b.pids (stage_of w) (under_way_of w) parcel
+  sender = holds.parcels parcel (left_in c (head-there script w 1 c (frames.Left parcel) rest h))
+
+  -- and what that says
+  pub its : IsParcelOf script b.pids sender.node sender.call parcel
+  its = sender.is_of
+
+  abbrev bodies : Numbered Body
+  bodies = its.bodies
+
+  abbrev part : ℕ → Body
+  part k = body_in b.kernel (Proc k)
+
+  -- each deed of the parcel
+
+  brought : (k : ℕ) (v : Body) → get bodies k ≡ Some v
+      → IsBroughtHere b.pids (Proc k) (part k) (b.deed (Proc k)) c parcel
+  brought k v there =
+      is-brought script w b holds c parcel rest h (Proc k)
+      (ap (λ ds. list_any (λ deed. is_same_name (Proc k) deed.name) ds) its.packed
+      ∙ packed-has k bodies ∙ ap is_some there)
+
+  read-there : (k : ℕ) (v : Body) → get bodies k ≡ Some v → read_deed (pack (Proc k) v) ≡ Some (part k)
+  read-there k v there =
+      let at = brought k v there
+      in let has = at.has
+      in ap read_deed
+      (packed-same k v (part k) bodies its.ordered there
+      (subst (λ ds. Contains ds (pack (Proc k) (part k))) its.packed has.there))
+      ∙ reads (Proc k) (on-its-way-is-used script w b holds at_nodes (Proc k) c at.deed_is)
+
+  all-read : read_deeds parcel.deeds ≡ Some (each_with part bodies)
+  all-read =
+      ap read_deeds its.packed
+      ∙ read-packed part bodies
+      (all-of-map (λ e. read_deed (pack (Proc e.0) e.1) ≡ Some (part e.0)) bodies its.ordered read-there)
+
+  -- the node that it is of
+
+  stage-left : stage_of w c ≡ Left
+  stage-left = handed.stage
+
+  birth : IsBorn script b.pids c (node_of w c).pid (node_of w c).parent (node_of w c).parent_node
+  birth =
+      let node : NodeHolds script b.pids (is_born_in w) c (node_of w c) = holds.nodes c h.low_from h.high_from
+      in subst
+      (λ s. BornIn script b.pids c (node_of w c).pid (node_of w c).parent (node_of w c).parent_node s) stage-left
+      node.birth
+
+  own-brought : IsBroughtHere b.pids (Proc (b.pids sender.node)) (part (b.pids sender.node))
+      (b.deed (Proc (b.pids sender.node))) c parcel
+  own-brought = brought (b.pids sender.node) (LivingBody its.row) its.own
+
+  pid-is : parcel.pid ≡ b.pids c
+  pid-is = let has = own-brought.has in has.of_process
+
+  node-is : sender.node ≡ c
+  node-is =
+      let pids = holds.pids
+      in sym (pids.apart c sender.node birth.forked (sym pid-is ∙ its.pid))
+
+  -- its process's own row
+
+  record OwnLives : Type 0 where
+    alive : Alive
+    there : get b.kernel.processes (b.pids c) ≡ Some (kernel.Living alive)
+
+  own-family : FamilyHolds script b.pids b.places b.kernel (process_deed b.deed) (checkpoints_to script w c)
+      (stage_of w c) c
+  own-family = holds.families c birth.forked
+
+  own-deed : b.deed (Proc (b.pids c)) ≡ InLeft c
+  own-deed = subst (λ q. b.deed (Proc (b.pids q)) ≡ InLeft c) node-is own-brought.deed_is
+
+  own-lives : OwnLives
+  own-lives =
+      by-process own-family.process own-family.is
+      (subst (λ z. IsWhereFor c z own-family.process) own-deed own-family.where_it_is)
+    where
+      by-process : (v : Process) → get b.kernel.processes (b.pids c) ≡ Some v → IsWhereFor c (InLeft c) v → OwnLives
+      by-process (kernel.Living alive) is at = record { alive = alive; there = is }
+      by-process (kernel.Ended ending) is at = absurd (omega (arith, at))
+      by-process kernel.Gone is at = absurd (omega (arith, at))
+
+  ends : EndsBy script c (is_born_in w) (call_sight w [] b c)
+  ends =
+      ends-by script c (is_born_in w) (call_sight w [] b c) (holds.calls c h.low_from h.high_from)
+      (ap is_end_stage stage-left)
+
+  some-same : {A : Type 0} {u v : A} → Some u ≡ Some v → u ≡ v
+  some-same e = cc
+
+  call-is : parcel.call ≡ ends.call
+  call-is =
+      its.call_is
+      ∙ some-same (sym sender.ends_by ∙ ap (under_way_of w) node-is ∙ ends.is)
+
+  allowed : may_end_with own-lives.alive.row parcel.call ≡ true
+  allowed = subst (λ e. may_end_with own-lives.alive.row e ≡ true) (sym call-is) (by-cases so-far)
+    where
+      lives : living_at b.kernel (b.pids c) ≡ Some own-lives.alive
+      lives = ap (option_and_then alive_in) own-lives.there
+
+      has : HasCall script c (is_born_in w) (call_sight w [] b c) ends.call
+      has = ends.has
+
+      is-an-end : is_end ends.call ≡ true
+      is-an-end =
+          ends-by-end (node_of w c).pid ends.call
+          (subst (λ z. may_be_in z (home_of (node_of w c).pid ends.call) ends.call ≡ true) ends.place has.home)
+
+      so-far : IsToBeMade script c (call_sight w [] b c) ends.call ⊎ HasEnded (call_sight w [] b c)
+      so-far = subst (λ z. IsSoFar script c (call_sight w [] b c) ends.call z) ends.place has.so_far
+
+      by-cases : IsToBeMade script c (call_sight w [] b c) ends.call ⊎ HasEnded (call_sight w [] b c)
+          → may_end_with own-lives.alive.row ends.call ≡ true
+      by-cases (inl made) =
+          subst (λ (a : Alive). may_end_with a.row ends.call ≡ true) (some-same (sym made.lives ∙ lives))
+          (end-is-allowed made.alive ends.call is-an-end made.may)
+      by-cases (inr ended) = absurd (false≢true (ap is_some (sym ended.dead ∙ lives)))
+
+  -- what is read fits
+
+  own-row : has_own_row parcel.call (get (each_with part bodies) parcel.pid) ≡ true
+  own-row =
+      ap (has_own_row parcel.call)
+      (ap (get (each_with part bodies)) its.pid
+      ∙ each-gets part bodies (b.pids sender.node) (LivingBody its.row) its.own
+      ∙ ap (λ q. Some (part (b.pids q))) node-is
+      ∙ ap (λ o. Some (process_body o)) own-lives.there)
+      ∙ allowed
+
+  -- a process of the parcel that lives is the node's own
+  living-own : (k : ℕ) (v : Body) → get bodies k ≡ Some v → (row : Row) → part k ≡ LivingBody row → k ≡ parcel.pid
+  living-own k v there row lives =
+      let at = brought k v there
+      in let alive : HasRow b.kernel k row = body-living b.kernel k row lives
+      in let is = from-living b.kernel.processes k alive.alive alive.lives
+      in let pids = holds.pids
+      in let of = pids.there k (kernel.Living alive.alive) is
+      in same-node of.0 of.1 (λ z. of.2 (sym of.1 ∙ z))
+      (subst (λ q. b.deed (Proc q) ≡ InLeft c) (sym of.1) at.deed_is)
+      (ap (get b.kernel.processes) of.1 ∙ is)
+    where
+      same-node : (g : ℕ) → b.pids g ≡ k → b.pids g ≢ 0 → b.deed (Proc (b.pids g)) ≡ InLeft c
+          → {a : Alive} → get b.kernel.processes (b.pids g) ≡ Some (kernel.Living a) → k ≡ parcel.pid
+      same-node g e forked left {a} is =
+          let family : FamilyHolds script b.pids b.places b.kernel (process_deed b.deed) (checkpoints_to script w g)
+          (stage_of w g) g = holds.families g forked
+          in let own : c ≡ g =
+          subst (λ z. IsWhereFor g z (kernel.Living a)) left
+          (subst (λ v. IsWhereFor g (b.deed (Proc (b.pids g))) v) (some-same (sym family.is ∙ is))
+          family.where_it_is)
+          in sym e ∙ ap b.pids (sym own) ∙ sym pid-is
+
+  all-over : list_all (is_over_but_for parcel.pid) (each_with part bodies) ≡ true
+  all-over =
+      each-passes part (is_over_but_for parcel.pid) bodies
+      (all-of-map (λ e. is_over_but_for parcel.pid (e.0, part e.0) ≡ true) bodies its.ordered
+      (λ k v there. over-or-own k (get b.kernel.processes k) parcel.pid (living-own k v there)))
+
+  none-here : list_all (is_held_none n.deeds) (each_with part bodies) ≡ true
+  none-here =
+      each-passes part (is_held_none n.deeds) bodies
+      (all-of-map (λ e. is_held_none n.deeds (e.0, part e.0) ≡ true) bodies its.ordered
+      (λ k v there.
+      let at = brought k v there
+      in ap is_none (none-held script w b holds at_nodes (Proc k) c at.deed_is 1)))
+
+  four-true : (p q r s : Bool) → p ≡ true → q ≡ true → r ≡ true → s ≡ true → (p && (q && (r && s))) ≡ true
+  four-true p q r s e1 e2 e3 e4 = rw (e1, e2, e3, e4) refl
+
+  fits : fits_bodies n.deeds parcel (each_with part bodies) ≡ true
+  fits =
+      four-true (are_rising (each_with part bodies))
+      (has_own_row parcel.call (get (each_with part bodies) parcel.pid))
+      (list_all (is_over_but_for parcel.pid) (each_with part bodies))
+      (list_all (is_held_none n.deeds) (each_with part bodies))
+      (each-rises part bodies its.ordered) own-row all-over none-here
+
+  -- The bodies of the parcel are what the kernel has of its processes.
+  pub parcel-fits : fitting_bodies n.deeds parcel ≡ Some (each_with part bodies)
+  parcel-fits =
+      ap (option_and_then (fits_if n.deeds parcel)) all-read
+      ∙ ap (λ t. if t then Some (each_with part bodies) else None) fits
+
+  -- it may be taken
+
+  free : (k : ℕ) (v : Body) → get bodies k ≡ Some v → is_free_to_end d (Proc k) ≡ true
+  free k v there =
+      let at = brought k v there
+      in ap (λ t. t && not (is_in_parcel d (Proc k)))
+      (is-awaited script w b holds at_nodes (Proc k) c at.deed_is k refl not-zero)
+      ∙ ap not (in-no-parcel script w b holds at_nodes (Proc k) c at.deed_is)
+    where
+      not-zero : k ≢ 0
+      not-zero z =
+          let at = brought k v there
+          in false≢true
+          (sym (ap (λ q. is_used_name b.kernel (Proc q)) z
+          ∙ zero-is-unused (is_born_in w) (kind_sight w b.kernel (kind_of (Proc 0))) (holds.kinds (kind_of (Proc 0))))
+          ∙ on-its-way-is-used script w b holds at_nodes (Proc k) c at.deed_is)
+
+  all-free : list_all (is_free_to_end d) (names_in parcel) ≡ true
+  all-free =
+      ap (λ ds. list_all (is_free_to_end d) (map (λ deed. deed.name) ds)) its.packed
+      ∙ names-pass (is_free_to_end d) bodies
+      (all-of-map (λ e. is_free_to_end d (Proc e.0) ≡ true) bodies its.ordered free)
+
+  parent-known : is_known d (Proc parcel.parent) ≡ true
+  parent-known =
+      ap (λ q. is_known d (Proc q)) (its.parent ∙ ap (λ q. b.pids (forker script q)) node-is) ∙ handed.parent
+
+  three-true : (p q r : Bool) → p ≡ true → q ≡ true → r ≡ true → (p && (q && r)) ≡ true
+  three-true p q r e1 e2 e3 = rw (e1, e2, e3) refl
+
+  taken-true : may_take n c parcel ≡ true
+  taken-true =
+      three-true (is_leaving d c) (list_all (is_free_to_end d) (names_in parcel)) (is_known d (Proc parcel.parent))
+      (let shown = handed.shows in ap is_leaving_as shown.has_parting) all-free parent-known
+
+  -- The rule is to release the parcel from the hand.
+  pub left-releases : take_left script n c parcel
+      ≡ release script (Ending parcel ∷ []) (step_to (with_directory n (with_left d c)))
+  left-releases =
+      let node : NodeHolds script b.pids (is_born_in w) 1 n = holds.nodes 1 h.low h.high
+      in ap (λ t. if t && may_take n c parcel
+      then option_and_then (end_released script n c parcel) (fitting_bodies n.deeds parcel)
+      else None) (eq-eqb n.number 1 node.number)
+      ∙ ap (λ t. if t
+      then option_and_then (end_released script n c parcel) (fitting_bodies n.deeds parcel)
+      else None) taken-true
+      ∙ ap (option_and_then (end_released script n c parcel)) parcel-fits
