@@ -1,6 +1,6 @@
 -- The leader's directory when a node leaves: the node's process and its parent are known from then on, and all that was
 -- at the node is on its way.
-use Rattle.std.proofs.Common.{◌≡◌, ◌≢◌, ℕ, Bool, true, false, not, if◌then◌else◌, List, [], ◌∷◌, nat_eq, Option, Some, None, is_none, is_some, option_map, refl, ap, sym, subst, ◌∙◌, inl, inr}
+use Rattle.std.proofs.Common.{◌≡◌, ◌≢◌, ◌≤◌, ℕ, Bool, true, false, not, if◌then◌else◌, List, [], ◌∷◌, nat_eq, Option, Some, None, is_none, is_some, option_map, refl, ap, sym, subst, ◌∙◌, inl, inr}
 use Rattle.std.specs.List.Sorted.{IsStrictlySortedBy}
 use Rattle.std.specs.Ordering.{nat_cmp}
 use Rattle.std.proofs.lemmas.Bool.{cases_eq, eq-eqb, ne_eqb}
@@ -198,3 +198,21 @@ pub there-without : (h node : ℕ) (o : Option Place) (tells : List ℕ)
 there-without h node None tells none = if-there h node (told tells) (none refl)
 there-without h node (Some (Coming to items)) tells none = if-false (nat_eq h node)
 there-without h node (Some (At owner)) tells none = was-at h node owner tells
+
+-- ---- nodes
+
+-- where the leader knows a name at a node, that is one
+abbrev pub KnowsNodes : Directory → Type 0
+KnowsNodes d = (name : Name) (node : ℕ) → place_of d name ≡ Some (At node) → 1 ≤ node
+
+-- a name that is still at a node was there
+pub at-without : (c node : ℕ) (o : Option Place) → option_map (place_without c) o ≡ Some (At node)
+    → o ≡ Some (At node)
+at-without c node None e = absurd (cc)
+at-without c node (Some (Coming to items)) e = absurd (cc)
+at-without c node (Some (At owner)) e = by-test (nat_eq owner c) e
+  where
+    by-test : (t : Bool) → Some (if t then Coming None [] else At owner) ≡ Some (At node)
+        → Some (At owner) ≡ Some (At node)
+    by-test true g = absurd (cc)
+    by-test false g = g

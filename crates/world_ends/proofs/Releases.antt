@@ -1,13 +1,12 @@
 -- A parcel that has come to the leader is taken: the rule of a Left is to release it from the leader's hand, in a world in
 -- which all holds with the parcel in hand.
-use Rattle.std.proofs.Common.{◌≡◌, ◌≢◌, ◌⊎◌, ℕ, ◌<◌, ◌≤◌, Bool, true, false, ◌&&◌, ◌||◌, not, if◌then◌else◌, List, [], ◌∷◌, ◌++◌, map, filter, nat_eq, Option, Some, None, is_none, is_some, option_and_then, Contains, refl, ap, sym, subst, ◌∙◌, inl, inr, arith}
-use Rattle.std.specs.List.{AllByRecursion, list_any, list_all}
+use Rattle.std.proofs.Common.{◌≡◌, ◌≢◌, ◌⊎◌, ℕ, ◌≤◌, Bool, true, false, ◌&&◌, not, if◌then◌else◌, List, [], ◌∷◌, map, filter, nat_eq, Option, Some, None, is_none, is_some, option_and_then, Contains, refl, ap, sym, subst, ◌∙◌, inl, inr, arith}
+use Rattle.std.specs.List.{list_any, list_all}
 use Rattle.std.proofs.lemmas.Bool.{cases_eq, eq-eqb, ne_eqb, false≢true}
-use Rattle.std.proofs.lemmas.List.Elements.{Contains-append_left, Contains-push}
-use Rattle.pico_base.specs.declared.call.Call.{Call}
 use Rattle.pico_base.specs.declared.numbers.Name.{Name}
-use Rattle.pico_base.specs.declared.numbers.Name.TheVariants.{Proc, Msg, Sem}
+use Rattle.pico_base.specs.declared.numbers.Name.TheVariants.{Proc}
 use Rattle.pico_base.specs.declared.script.Script.{Script}
+use Rattle.pico_base.specs.declared.script.Event.TheVariants as events
 use Rattle.rpc_frame.specs.declared.deed.Parcel.{Parcel}
 use Rattle.rpc_frame.specs.declared.frame.Frame.{Frame}
 use Rattle.rpc_frame.specs.declared.frame.Frame.TheVariants as frames
@@ -16,27 +15,25 @@ use Rattle.kernel_laws.proofs.People.{from-living}
 use Rattle.kernel_model.specs.Row.{Alive, Row}
 use Rattle.kernel_model.specs.Kernel.{Process, living_at, alive_in}
 use Rattle.kernel_model.specs.Kernel as kernel
-use Rattle.kernel_model.specs.Transition.{may_make}
 use Rattle.kernel_moves.specs.Entering.{HasRow}
 use Rattle.kernel_moves.proofs.Bodies.{body-living}
-use Rattle.node_model.specs.declared.held.Held.{Held}
 use Rattle.node_model.specs.declared.held.Held.TheVariants.{Ending}
-use Rattle.node_model.specs.Kinds.{get_named, is_same_name, kind_of}
-use Rattle.node_model.specs.Directory.{Directory, Place, At, Coming, place_of, with_left, is_leaving, is_leaving_as, is_coming, is_coming_to, is_in_parcel, is_parcel_with, is_known, has_deed_of, held_for, items_of}
+use Rattle.node_model.specs.Kinds.{is_same_name, kind_of}
+use Rattle.node_model.specs.Directory.{Directory, Place, At, Coming, place_of, with_left, is_leaving, is_leaving_as, is_coming, is_coming_to, is_in_parcel, is_parcel_with, is_known, items_of}
 use Rattle.node_model.specs.Bodies.{Body, Living as LivingBody, body_in, process_body}
 use Rattle.node_model.specs.Spelling.{pack, read_deed}
-use Rattle.node_model.specs.Parcels.{pack_all, read_deeds, fits_bodies, fits_if, fitting_bodies, has_own_row, may_end_with, is_over_but_for, is_held_none, are_rising}
-use Rattle.world_model.specs.Node.{Node, Left, is_leader}
+use Rattle.node_model.specs.Parcels.{read_deeds, fits_bodies, fits_if, fitting_bodies, has_own_row, may_end_with, is_over_but_for, is_held_none, are_rising}
+use Rattle.world_model.specs.Node.{Node, Left}
 use Rattle.world_model.specs.Step.{Step, step_to, with_directory}
 use Rattle.world_model.specs.Routing.{names_in, release}
 use Rattle.world_model.specs.Lives.{is_end, is_free_to_end, may_take, end_released, take_left}
 use Rattle.world_model.specs.Census.{brings}
-use Rattle.world_model.specs.World.{World}
-use Rattle.world_laws.specs.Places.{DeedPlace, Unmade, InLeft, Beside}
+use Rattle.world_model.specs.World.{World, world_after, step}
+use Rattle.world_laws.specs.Places.{Unmade, InLeft, Beside}
 use Rattle.world_laws.specs.Sights.{node_of, frames_to, directory_of, stage_of, is_used_name, is_born_in}
-use Rattle.world_laws.specs.Plays.{Belief, Somewhere, believed, told, is_there, plays, begin, is_has, is_checkpoint_of, has_any, brings_checkpoint}
-use Rattle.world_laws.specs.Names.{NameSight, name_sight, NameHolds, HasDeed, IsTold, OneIf, IsBringer, IsItemWith, held_at, held_as, comes_to, is_stream_of, is_kept_for, node_in, SaysOf, forker, belief_of, maker_tells, is_nowhere, PlaysTo}
-use Rattle.world_laws.specs.Callers.{CallSight, call_sight, HasCall, IsSoFar, IsToBeMade, HasEnded, is_end_stage, may_be_in}
+use Rattle.world_laws.specs.Plays.{believed, told, is_there, begin, is_has, is_checkpoint_of, has_any}
+use Rattle.world_laws.specs.Names.{NameSight, name_sight, NameHolds, OneIf, IsBringer, IsItemWith, held_at, held_as, comes_to, is_stream_of, is_kept_for, node_in, SaysOf, forker, belief_of, maker_tells, is_nowhere, PlaysTo}
+use Rattle.world_laws.specs.Callers.{call_sight, HasCall, IsSoFar, IsToBeMade, HasEnded, is_end_stage, may_be_in}
 use Rattle.world_laws.specs.Ways.{way_sight, knows_parent, HandsOver, IsParcelOf, left as left_in, under_way_of, HasSender}
 use Rattle.world_laws.specs.Families.{NodeHolds, BornIn, IsBorn, FamilyHolds, IsWhereFor, checkpoints_to}
 use Rattle.world_laws.specs.Invariant.{Holds, process_deed}
@@ -44,17 +41,14 @@ use Rattle.world_laws.specs.Deeds.{DeedsAreRead}
 use Rattle.world_laws.specs.Ranges.{kind_sight}
 use Rattle.world_laws.proofs.Numbers.{zero-is-unused}
 use Rattle.pico_base.specs.Home.{home_of}
-use Rattle.world_laws.proofs.Steps.{Heads}
+use Rattle.world_laws.proofs.Steps.{Heads, world_without, take-steps}
 use Rattle.world_laws.proofs.Heads.{head-there}
+use Rattle.world_ends.proofs.Directories.{KnowsNodes}
 use Rattle.world_ends.proofs.Given.{all-of-map, packed-has}
 use Rattle.world_ends.proofs.RecallAlls.{EndsBy, ends-by, ends-by-end, end-is-allowed, over-or-own}
 use Rattle.world_ends.proofs.Leavings.{IsToldOf, told-first}
 use Rattle.world_ends.proofs.Lefts.{IsBroughtHere, is-brought, way-was}
-use Rattle.world_ends.proofs.Taken.{any-none, all-pass, none-kept, fewer-none, packed-same, each_with, read-packed, each-gets, each-rises, each-passes, names-pass, play-without, plays-without, begin-without}
-
--- where the leader knows a name at a node, that is one
-abbrev pub KnowsNodes : Directory → Type 0
-KnowsNodes d = (name : Name) (node : ℕ) → place_of d name ≡ Some (At node) → 1 ≤ node
+use Rattle.world_ends.proofs.Taken.{any-none, none-kept, fewer-none, packed-same, each_with, read-packed, each-gets, each-rises, each-passes, names-pass, play-without, plays-without, begin-without}
 
 checkpoints-bring : (name : Name) (frame : Frame) → is_checkpoint_of name frame ≡ true → brings name frame ≡ true
 checkpoints-bring name (frames.Checkpoint pid parent deed vars) h = h
@@ -422,3 +416,9 @@ module _ (script : Script) (w : World) (b : Beside) (holds : Holds script w [] b
       then option_and_then (end_released script n c parcel) (fitting_bodies n.deeds parcel)
       else None) taken-true
       ∙ ap (option_and_then (end_released script n c parcel)) parcel-fits
+
+  -- What the release comes to is the world's step.
+  pub left-steps : (s : Step)
+      → release script (Ending parcel ∷ []) (step_to (with_directory n (with_left d c))) ≡ Some s
+      → step w (events.Take 1 c) ≡ Some (world_after (world_without w 1 c rest) 1 s)
+  left-steps s e = take-steps script w 1 c (frames.Left parcel) rest s holds.shape h (left-releases ∙ e)

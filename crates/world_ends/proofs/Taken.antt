@@ -1,15 +1,12 @@
 -- A parcel that has come to the leader can be taken: it is read as what the kernel has of its processes, and each of them
 -- is on its way and in no other parcel. Two things are taken here that the invariant doesn't say yet: bodies on their way
 -- are read back, and the leader knows names at nodes alone.
-use Rattle.std.proofs.Common.{◌≡◌, ◌≢◌, ◌⊎◌, ℕ, ◌<◌, ◌≤◌, Bool, true, false, ◌&&◌, ◌||◌, not, cond, if◌then◌else◌, List, [], ◌∷◌, ◌++◌, map, filter, flat_map, nat_eq, nat_lt, Option, Some, None, is_none, is_some, option_map, option_and_then, Contains, refl, ap, sym, subst, ◌∙◌, inl, inr, arith}
+use Rattle.std.proofs.Common.{◌≡◌, ◌⊎◌, ℕ, Bool, true, false, ◌&&◌, ◌||◌, cond, if◌then◌else◌, List, [], ◌∷◌, ◌++◌, map, filter, Some, None, is_some, option_map, option_and_then, Contains, refl, ap, sym, subst, ◌∙◌, inl, inr, arith}
 use Rattle.std.specs.List.{AllByRecursion, list_any, list_all}
-use Rattle.std.proofs.lemmas.Bool.{cases_eq, eq-eqb, ne_eqb, lt-ltb, false≢true}
+use Rattle.std.proofs.lemmas.Bool.{cases_eq, lt-ltb, false≢true}
 use Rattle.std.proofs.lemmas.List.Elements.{Contains-append_cases, Contains-push_cases}
-use Rattle.pico_base.specs.declared.call.Call.{Call}
 use Rattle.pico_base.specs.declared.numbers.Name.{Name}
 use Rattle.pico_base.specs.declared.numbers.Name.TheVariants.{Proc}
-use Rattle.pico_base.specs.declared.script.Script.{Script}
-use Rattle.rpc_frame.specs.declared.deed.Parcel.{Parcel}
 use Rattle.rpc_frame.specs.declared.frame.Frame.{Frame}
 use Rattle.rpc_frame.specs.declared.frame.Frame.TheVariants as frames
 use Rattle.number_maps.specs.Maps.{Numbered, get}
@@ -23,8 +20,8 @@ use Rattle.node_model.specs.Parcels.{pack_all, read_deeds, with_body, are_rising
 use Rattle.world_model.specs.Node.{Stage, Unborn, Living, Leaving, Left, Over}
 use Rattle.world_model.specs.Census.{brings}
 use Rattle.world_laws.specs.Places.{CallPlace}
-use Rattle.world_laws.specs.Plays.{Hold, Has, Lacks, Done, PlayStep, Comes, Goes, AllGo, IsNeeded, play, play_on, steps_if, steps_of, plays, begin, is_has}
-use Rattle.world_laws.proofs.Played.{play-none, flat_map-append}
+use Rattle.world_laws.specs.Plays.{Hold, Has, Lacks, Done, PlayStep, Comes, Goes, AllGo, IsNeeded, play, steps_if, steps_of, plays, begin, is_has}
+use Rattle.world_laws.proofs.Played.{play-none}
 
 -- ---- lists
 
