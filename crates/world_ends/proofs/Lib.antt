@@ -7,3 +7,4 @@ pub mod Leavings
 pub mod Lefts
 pub mod Taken
 pub mod Releases
+pub mod Keeping

@@ -226,7 +226,8 @@ steps-without call name frames.RecallAll h = (refl, tt)
 steps-without call name (frames.Forward asked) h = none-comes-if _ IsNeeded refl
 steps-without call name frame h = tt
 
-both-all : {A : Type 0} (P : A → Type 0) (xs ys : List A) → AllByRecursion P xs → AllByRecursion P ys
+-- what holds of all of both
+pub both-all : {A : Type 0} (P : A → Type 0) (xs ys : List A) → AllByRecursion P xs → AllByRecursion P ys
     → AllByRecursion P (xs ++ ys)
 both-all P [] ys a b = b
 both-all P (x ∷ xs) ys a b = (a.0, both-all P xs ys a.1 b)
