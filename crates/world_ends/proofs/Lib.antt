@@ -8,3 +8,4 @@ pub mod Lefts
 pub mod Taken
 pub mod Releases
 pub mod Keeping
+pub mod KeptItems

@@ -37,9 +37,10 @@ pub all-pass : {A : Type 0} (test : A → Bool) (xs : List A) → AllByRecursion
 all-pass test [] all = refl
 all-pass test (x ∷ xs) all = ap (λ t. t && list_all test xs) all.0 ∙ all-pass test xs all.1
 
-record DropsFirst {A : Type 0} (test : A → Bool) (x : A) (xs : List A) : Type 0 where
-  first : test x ≡ false
-  rest : filter test xs ≡ []
+-- the first is dropped, and so are the others
+pub record DropsFirst {A : Type 0} (test : A → Bool) (x : A) (xs : List A) : Type 0 where
+  pub first : test x ≡ false
+  pub rest : filter test xs ≡ []
 
 drops-by : {A : Type 0} (b : Bool) (x : A) (xs : List A) → cond b (x ∷ xs) xs ≡ [] → (b ≡ false) × (xs ≡ [])
 drops-by true x xs h = absurd (not-empty h)
@@ -48,7 +49,8 @@ drops-by true x xs h = absurd (not-empty h)
     not-empty e = cc
 drops-by false x xs h = (refl, h)
 
-drops-first : {A : Type 0} (test : A → Bool) (x : A) (xs : List A) → filter test (x ∷ xs) ≡ []
+-- where a filter keeps nothing
+pub drops-first : {A : Type 0} (test : A → Bool) (x : A) (xs : List A) → filter test (x ∷ xs) ≡ []
     → DropsFirst test x xs
 drops-first test x xs h =
     let both = drops-by (test x) x (filter test xs) h
