@@ -4,3 +4,4 @@ pub mod EntryMoves
 pub mod Served
 pub mod Rebodied
 pub mod Runs
+pub mod OwnCalls
