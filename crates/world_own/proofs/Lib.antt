@@ -5,3 +5,4 @@ pub mod Served
 pub mod Rebodied
 pub mod Runs
 pub mod OwnCalls
+pub mod Outs
