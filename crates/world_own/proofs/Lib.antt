@@ -6,3 +6,4 @@ pub mod Rebodied
 pub mod Runs
 pub mod OwnCalls
 pub mod Outs
+pub mod Asks
