@@ -1,8 +1,7 @@
 -- A node other than the leader starts a call that it doesn't carry out itself: it asks for numbers where it has none left,
 -- asks the leader, or asks the owner that its cache names.
-use Rattle.std.proofs.Common.{◌≡◌, ◌≢◌, ℕ, ◌+◌, ◌≤◌, Bool, true, false, ◌&&◌, not, if◌then◌else◌, List, [], ◌∷◌, nat_eq, Contains, Option, Some, None, Result, Ok, Err, refl, ap, sym, subst, ◌∙◌, inl, inr, arith}
-use Rattle.std.proofs.Common.{◌⊎◌}
-use Rattle.std.proofs.lemmas.Bool.{cases_eq, eq-eqb, ne_eqb, false≢true}
+use Rattle.std.proofs.Common.{◌≡◌, ◌≢◌, ℕ, ◌+◌, ◌≤◌, Bool, true, false, ◌&&◌, not, if◌then◌else◌, List, [], ◌∷◌, Contains, Option, Some, None, Ok, refl, ap, sym, ◌∙◌, arith}
+use Rattle.std.proofs.lemmas.Bool.{eq-eqb, ne_eqb, false≢true}
 use Rattle.pico_base.specs.declared.call.Call.{Call}
 use Rattle.pico_base.specs.declared.call.Call.TheVariants as calls
 use Rattle.pico_base.specs.declared.call.Home.{Home}
@@ -10,14 +9,13 @@ use Rattle.pico_base.specs.declared.call.Home.TheVariants as homes
 use Rattle.pico_base.specs.declared.numbers.Kind.{Kind}
 use Rattle.pico_base.specs.declared.numbers.Kind.TheVariants as kinds
 use Rattle.pico_base.specs.declared.numbers.Name.{Name}
-use Rattle.pico_base.specs.declared.reply.Errno.{Errno}
 use Rattle.pico_base.specs.declared.script.Event.TheVariants as events
 use Rattle.pico_base.specs.declared.script.Script.{Script}
 use Rattle.pico_base.specs.Home.{home_of}
-use Rattle.rpc_frame.specs.declared.frame.Frame.{Frame}
 use Rattle.rpc_frame.specs.declared.frame.Frame.TheVariants as frames
 use Rattle.kernel_model.specs.SemaphoreSet.{SemaphoreSet, new_set}
 use Rattle.kernel_model.specs.Script.{IsSoundScript}
+use Rattle.node_model.specs.Cache.{Cache}
 use Rattle.node_model.specs.Caller.{start_call}
 use Rattle.node_model.specs.Kinds.{for_kind}
 use Rattle.node_model.specs.Leases.{is_used_up, takes_number}
@@ -28,7 +26,7 @@ use Rattle.world_model.specs.Routing.{route_call}
 use Rattle.world_model.specs.Starting.{ask, run, start_by, start_making, start_own, start_set}
 use Rattle.world_model.specs.Step.{Step, send, step_to}
 use Rattle.world_model.specs.World.{World, node_count}
-use Rattle.world_laws.specs.Places.{Beside, CallPlace, AsksLease, InAsk, call_in}
+use Rattle.world_laws.specs.Places.{Beside, AsksLease, InAsk, call_in}
 use Rattle.world_laws.specs.Sights.{node_of, is_born_in}
 use Rattle.world_laws.specs.Callers.{may_be_in}
 use Rattle.world_laws.specs.Families.{NodeHolds}
@@ -82,7 +80,7 @@ module _ (script : Script) (sound : IsSoundScript script) (w : World) (b : Besid
   node-holds : NodeHolds script b.pids (is_born_in w) p n
   node-holds = holds.nodes p low high
 
-  no-leader : is_leader n ≡ false
+  pub no-leader : is_leader n ≡ false
   no-leader = ne_eqb n.number 1 (λ e. other (sym node-holds.number ∙ e))
 
   some-node : 1 ≤ node_count script
@@ -137,9 +135,11 @@ module _ (script : Script) (sound : IsSoundScript script) (w : World) (b : Besid
 
   -- ---- the leader is asked
 
-  asks-leader : is_for_others (home_of n.pid call) ≡ true
-      → GoesOut script w p call InAsk 1 (frames.Ask (n.caller.ticket + 1) n.pid call) n.cache
-  asks-leader home =
+  pub asks-leader : (cache : Cache)
+      → ((name : Name) (owner : ℕ) → Contains cache (name, owner) → (is_born_in w owner ≡ true) × (owner ≢ p))
+      → is_for_others (home_of n.pid call) ≡ true
+      → GoesOut script w p call InAsk 1 (frames.Ask (n.caller.ticket + 1) n.pid call) cache
+  asks-leader cache owners home =
       record {
         low = omega arith;
         high = some-node;
@@ -161,19 +161,19 @@ module _ (script : Script) (sound : IsSoundScript script) (w : World) (b : Besid
         used_up = tt;
         between = other;
         to_be_made = λ x made. made;
-        owners = node-holds.owners;
+        owners = owners;
       }
 
-  ask-is : ask script (step_to started) call
+  pub ask-is : ask script (step_to started) call
       ≡ Some (send (step_to started) 1 (frames.Ask (n.caller.ticket + 1) n.pid call))
   ask-is =
       ap (λ t. if t then route_call script (step_to started) (asked_now n call)
       else Some (send (step_to started) 1 (frames.Ask (n.caller.ticket + 1) n.pid call))) no-leader
 
-  keys-or-removal : (home : Home) → home_of n.pid call ≡ home
-      → ((row-step : Option Step) → start_by script (step_to started) call s.row home ≡ row-step
-      → run script n ≡ row-step)
-  keys-or-removal home is row-step by =
+  pub by-home : (home : Home) → home_of n.pid call ≡ home
+      → ((result : Option Step) → start_by script (step_to started) call s.row home ≡ result
+      → run script n ≡ result)
+  by-home home is result by =
       run-is script sound w b holds p low high can s ∙ ap (start_by script (step_to started) call s.row) is ∙ by
 
   -- The node asks the leader to carry out a call on a key, or a removal.
@@ -181,10 +181,10 @@ module _ (script : Script) (sound : IsSoundScript script) (w : World) (b : Besid
       → KeepsAs script w (events.Run p) (record b { call = call_in b.call p InAsk })
   keys-asked is =
       out-keeps script w b holds p low high s InAsk 1 (frames.Ask (n.caller.ticket + 1) n.pid call) n.cache
-      (asks-leader (ap is_for_others is)) (keys-or-removal homes.Keys is _ ask-is)
+      (asks-leader n.cache node-holds.owners (ap is_for_others is)) (by-home homes.Keys is _ ask-is)
 
   pub removal-asked : (name : Name) → home_of n.pid call ≡ homes.Removal name
       → KeepsAs script w (events.Run p) (record b { call = call_in b.call p InAsk })
   removal-asked name is =
       out-keeps script w b holds p low high s InAsk 1 (frames.Ask (n.caller.ticket + 1) n.pid call) n.cache
-      (asks-leader (ap is_for_others is)) (keys-or-removal (homes.Removal name) is _ ask-is)
+      (asks-leader n.cache node-holds.owners (ap is_for_others is)) (by-home (homes.Removal name) is _ ask-is)

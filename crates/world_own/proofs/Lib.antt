@@ -7,3 +7,4 @@ pub mod Runs
 pub mod OwnCalls
 pub mod Outs
 pub mod Asks
+pub mod Requests
