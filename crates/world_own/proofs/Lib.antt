@@ -8,3 +8,5 @@ pub mod OwnCalls
 pub mod Outs
 pub mod Asks
 pub mod Requests
+pub mod Answered
+pub mod Refused
