@@ -10,3 +10,5 @@ pub mod Asks
 pub mod Requests
 pub mod Answered
 pub mod Refused
+pub mod NewNames
+pub mod NewNumbers
