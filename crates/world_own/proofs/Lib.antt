@@ -12,3 +12,4 @@ pub mod Answered
 pub mod Refused
 pub mod NewNames
 pub mod NewNumbers
+pub mod Objects
