@@ -1,6 +1,6 @@
 -- An event that carries out one call: it makes an entry and moves that call, and brings no process to life or to its
 -- end. What is left to show is that call, the names, the numbers that may be new, the keys, and the node at work.
-use Rattle.std.proofs.Common.{◌≡◌, ◌≢◌, ℕ, ◌+◌, ◌≤◌, Bool, true, false, List, [], ◌++◌, length, sum_by, Contains, filter, flat_map, refl, ap, sym, subst, ◌∙◌, inl, inr, arith}
+use Rattle.std.proofs.Common.{◌≡◌, ◌≢◌, ℕ, ◌+◌, ◌≤◌, true, false, List, [], length, sum_by, Contains, filter, flat_map, refl, ap, sym, subst, ◌∙◌, inl, inr, arith}
 use Rattle.std.specs.List.{AllByRecursion}
 use Rattle.std.proofs.lemmas.Bool.{cases_eq, false≢true}
 use Rattle.std.proofs.lemmas.List.{length-append}
@@ -11,13 +11,11 @@ use Rattle.pico_base.specs.declared.reply.Entry.{Entry}
 use Rattle.pico_base.specs.declared.script.Script.{Script}
 use Rattle.rpc_frame.specs.declared.deed.Parcel.{Parcel}
 use Rattle.rpc_frame.specs.declared.frame.Frame.{Frame}
-use Rattle.number_maps.specs.Maps.{get}
 use Rattle.kernel_model.specs.Kernel.{Kernel, living_at}
 use Rattle.kernel_model.specs.Fitting.{Places}
 use Rattle.node_model.specs.declared.held.Held.{Held}
 use Rattle.node_model.specs.declared.held.Held.TheVariants.{Ending}
 use Rattle.node_model.specs.Kinds.{for_kind}
-use Rattle.node_model.specs.Directory.{Directory, held_for, is_known}
 use Rattle.node_model.specs.Bodies.{body_in}
 use Rattle.world_model.specs.Node.{Node, Stage, Unborn, Left}
 use Rattle.world_model.specs.World.{World, numbers, node_count}
@@ -29,7 +27,7 @@ use Rattle.world_laws.specs.Callers.{CallHolds, call_sight, is_about, is_item_ab
 use Rattle.world_laws.specs.Ways.{way_sight, knows_parent, under_way_of, IsParcelIn, left as left_in, sent as sent_in, kept as kept_in, at_hand}
 use Rattle.world_laws.specs.Ranges.{KindHolds, kind_sight, FewRanges, KeysHold, has_lease, leases_on_way, one_for}
 use Rattle.world_laws.specs.Families.{NodeHolds, FamilyHolds, IsAwaited, checkpoints_to}
-use Rattle.world_laws.specs.Invariant.{Holds, IsHistory, IsLeading, MayBe, FramesFit, process_deed}
+use Rattle.world_laws.specs.Invariant.{Holds, IsHistory, MayBe, FramesFit, process_deed}
 use Rattle.world_laws.proofs.Stays.{IsMore, node-born, may-be-born, call-stays, way-stays}
 use Rattle.world_laws.proofs.Changes.{Changes, still-born}
 use Rattle.world_laws.proofs.Frames.{ArePlain, BringNoBirth, all-weaker, IsSameBut, plays-of-others, ranges-of-all-others}

@@ -4,3 +4,12 @@ pub mod EntryMoves
 pub mod Served
 pub mod Rebodied
 pub mod Runs
+pub mod OwnCalls
+pub mod Outs
+pub mod Asks
+pub mod Requests
+pub mod Answered
+pub mod Refused
+pub mod NewNames
+pub mod NewNumbers
+pub mod Objects

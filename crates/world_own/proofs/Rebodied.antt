@@ -1,23 +1,21 @@
 -- A name whose deed is in the table of a node, and has another body after an entry.
-use Rattle.std.proofs.Common.{◌≡◌, ◌≢◌, ℕ, Bool, true, false, ◌&&◌, not, if◌then◌else◌, List, filter, flat_map, nat_eq, Option, Some, None, is_some, refl, ap, sym, subst, ◌∙◌, inl, inr}
-use Rattle.std.specs.List.{AllByRecursion}
+use Rattle.std.proofs.Common.{◌≡◌, ℕ, Bool, true, false, ◌&&◌, not, if◌then◌else◌, List, filter, flat_map, nat_eq, Some, None, is_some, refl, ap, sym, subst, ◌∙◌, inl, inr}
 use Rattle.std.proofs.lemmas.Bool.{cases_eq}
 use Rattle.pico_base.specs.declared.numbers.Name.{Name}
-use Rattle.pico_base.specs.declared.numbers.Name.TheVariants.{Proc}
 use Rattle.pico_base.specs.declared.reply.Entry.{Entry}
 use Rattle.pico_base.specs.declared.script.Script.{Script}
 use Rattle.rpc_frame.specs.declared.frame.Frame.{Frame}
 use Rattle.node_model.specs.declared.held.Held.{Held}
 use Rattle.node_model.specs.Kinds.{get_named}
-use Rattle.node_model.specs.Directory.{Directory, maker, is_parcel_with, held_for}
+use Rattle.node_model.specs.Directory.{maker, is_parcel_with}
 use Rattle.node_model.specs.Bodies.{Body, body_in}
 use Rattle.world_model.specs.Census.{brings}
 use Rattle.world_model.specs.Node.{Node}
 use Rattle.world_model.specs.World.{World}
 use Rattle.world_laws.specs.Places.{DeedPlace, InTable, Beside}
-use Rattle.world_laws.specs.Sights.{node_of, frames_to, directory_of, stage_of, is_used_name}
+use Rattle.world_laws.specs.Sights.{frames_to, directory_of, stage_of, is_used_name}
 use Rattle.world_laws.specs.Plays.{begin, has_any, is_checkpoint_of, plays, placed_in, news}
-use Rattle.world_laws.specs.Names.{NameHolds, NameSight, OneIf, IsBringer, IsItemWith, name_sight, held_as, held_at, is_stream_of, is_kept_for, is_hand_place, node_in, belief_of, comes_to, is_maker, range_steps_of, forker}
+use Rattle.world_laws.specs.Names.{NameHolds, NameSight, OneIf, IsBringer, IsItemWith, name_sight, held_as, held_at, is_stream_of, is_kept_for, is_hand_place, node_in, comes_to, is_maker, range_steps_of, forker}
 use Rattle.world_laws.proofs.Changes.{Changes, filter-is-list-map, flat_map-is-list-map, made-same, only-stayed, read-same, stayed}
 use Rattle.world_laws.proofs.Frames.{all-weaker, no-checkpoint, no-deed, no-news, no-places, no-ranges, no-steps}
 use Rattle.world_laws.proofs.LeftAlone.{AreNotAbout, DirectoryLeaves}

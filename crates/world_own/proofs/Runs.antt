@@ -1,5 +1,5 @@
 -- A node that can run: its process lives, no call of it is under way, and some call is due, which it may make.
-use Rattle.std.proofs.Common.{◌≡◌, ◌≢◌, ℕ, zero, suc, ◌+◌, ◌-◌, ◌≤◌, ◌<◌, Bool, true, false, ◌&&◌, not, if◌then◌else◌, List, [], ◌∷◌, take, drop, slice_get, get_or, sum_by, Option, Some, None, is_some, refl, ap, sym, subst, ◌∙◌, inl, inr, arith}
+use Rattle.std.proofs.Common.{◌≡◌, ℕ, ◌+◌, ◌-◌, ◌≤◌, Bool, true, false, ◌&&◌, not, if◌then◌else◌, List, [], slice_get, get_or, sum_by, Option, Some, None, is_some, refl, ap, sym, subst, ◌∙◌, arith}
 use Rattle.std.specs.Option.{option_and_then}
 use Rattle.std.proofs.lemmas.Bool.{false≢true, leb-true, lt-ltb}
 use Rattle.std.proofs.lemmas.Option.{slice_get_within, get_or_from_slice_get}
@@ -12,9 +12,8 @@ use Rattle.pico_base.specs.declared.script.Line.{Line}
 use Rattle.pico_base.specs.declared.script.Script.{Script}
 use Rattle.pico_base.specs.declared.signal.Sig.{Sig}
 use Rattle.pico_base.specs.Home.{home_of}
-use Rattle.number_maps.specs.Maps.{get}
-use Rattle.kernel_model.specs.Fitting.{Place, IsDue, due, block_at}
-use Rattle.kernel_model.specs.Kernel.{Kernel, living_at}
+use Rattle.kernel_model.specs.Fitting.{IsDue, block_at}
+use Rattle.kernel_model.specs.Kernel.{living_at}
 use Rattle.kernel_model.specs.Numbers.{is_u32, number_end}
 use Rattle.kernel_model.specs.Row.{Alive, Row}
 use Rattle.kernel_model.specs.Script.{IsSoundScript, calls_in, max_calls}
@@ -33,7 +32,7 @@ use Rattle.world_model.specs.Step.{step_to}
 use Rattle.world_model.specs.World.{World, node_count}
 use Rattle.world_laws.specs.Places.{Beside, Idle, InTable}
 use Rattle.world_laws.specs.Sights.{node_of, is_born_in}
-use Rattle.world_laws.specs.Names.{NameHolds, held_as, name_sight}
+use Rattle.world_laws.specs.Names.{NameHolds, name_sight}
 use Rattle.world_laws.specs.Callers.{CallHolds, FreeIn, HasCallOrNone, HasNoCall, HasTryLeft, IsFree, IsNowhere, call_sight, tries_made}
 use Rattle.world_laws.specs.Families.{BornIn, HoldsIn, HoldsRow, IsBorn, NodeHolds}
 use Rattle.world_laws.specs.Invariant.{Holds}

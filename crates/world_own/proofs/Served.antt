@@ -1,6 +1,6 @@
 -- What a call that is served leaves, in the words of the invariant: of the kernel and the places, and of the bodies of
 -- processes whose Checkpoints are on their way.
-use Rattle.std.proofs.Common.{◌≡◌, ◌≢◌, ◌⊎◌, ℕ, Bool, true, false, List, [], Option, Some, None, is_some, refl, ap, sym, subst, ◌∙◌, inl, inr}
+use Rattle.std.proofs.Common.{◌≡◌, ℕ, Bool, true, false, Some, is_some, refl, ap, sym, subst, ◌∙◌, inl, inr}
 use Rattle.std.specs.List.{list_any}
 use Rattle.std.proofs.lemmas.Bool.{cases_eq, eqb-true, false≢true}
 use Rattle.pico_base.specs.declared.call.Call.{Call}
@@ -10,13 +10,11 @@ use Rattle.pico_base.specs.declared.numbers.Name.TheVariants.{Proc, Msg, Sem}
 use Rattle.pico_base.specs.declared.reply.Ending.{Ending}
 use Rattle.pico_base.specs.declared.reply.Reply.{Reply}
 use Rattle.pico_base.specs.declared.reply.Reply.TheVariants as replies
-use Rattle.pico_base.specs.declared.script.Line.{Line}
 use Rattle.pico_base.specs.declared.script.Script.{Script}
 use Rattle.number_maps.specs.Maps.{get}
 use Rattle.kernel_model.specs.Script.{is_exit, is_fork}
 use Rattle.kernel_model.specs.Row.{Row}
 use Rattle.kernel_model.specs.Kernel.{Kernel}
-use Rattle.kernel_model.specs.Kernel as kernel
 use Rattle.kernel_model.specs.Fitting.{IsDue, Place, Places, due, is_killed, move_on, place_after, places_after}
 use Rattle.node_model.specs.Bodies.{Gone, Living, body_in}
 use Rattle.node_model.specs.Caller.{Caller, caller_place}
@@ -31,7 +29,7 @@ use Rattle.kernel_moves.proofs.Listed.{ListsOne, listed-found, listed-same}
 use Rattle.kernel_moves.proofs.Numbers.{process-there, used-kept}
 use Rattle.kernel_moves.proofs.Others.{goes}
 use Rattle.kernel_moves.proofs.Places.{goes-on, left-shrinks}
-use Rattle.kernel_moves.proofs.Replies.{finds, none-found}
+use Rattle.kernel_moves.proofs.Replies.{finds}
 use Rattle.kernel_moves.proofs.Served.{Carried}
 use Rattle.world_own.proofs.Entries.{EntryLeaves}
 
@@ -49,10 +47,10 @@ served-not-killed (calls.Killed sig) h = absurd (false≢true h)
 served-not-killed call h = refl
 
 -- the child that a reply finds
-record FindsOne (reply : Reply) : Type 0 where
-  child : ℕ
-  ending : Ending
-  is : reply ≡ replies.Child child ending
+pub record FindsOne (reply : Reply) : Type 0 where
+  pub child : ℕ
+  pub ending : Ending
+  pub is : reply ≡ replies.Child child ending
 
 finds-one : (reply : Reply) → finds reply ≡ true → FindsOne reply
 finds-one (replies.Child child ending) h = record { child = child; ending = ending; is = refl }
@@ -64,6 +62,11 @@ pub found-is : (child : ℕ) (ending : Ending) (m : Name) → is_found (replies.
 found-is child ending (Proc p) h = ap Proc (sym (eqb-true child p h))
 found-is child ending (Msg id) h = absurd (false≢true h)
 found-is child ending (Sem id) h = absurd (false≢true h)
+
+-- a name that was found is the child's of such a reply
+pub found-one : (reply : Reply) (m : Name) → is_found reply m ≡ true → FindsOne reply
+found-one (replies.Child child ending) m h = record { child = child; ending = ending; is = refl }
+found-one reply m h = absurd (false≢true h)
 
 gone-living : (r : Row) → Gone ≡ Living r → ⊥
 gone-living r h = cc
@@ -155,21 +158,10 @@ module _ (k : Kernel) (pid : ℕ) (call : Call) (name : Name) (m : MayMake k pid
             (ap (λ (x : Place). list_any test x.left) moved ∙ h);
       }
 
-  -- a process that neither is the call's name nor was found has the body that it had
-  pub served-rest : (m : Name) → m ≢ name → ((ending : Ending) (child : ℕ) → c.reply ≡ replies.Child child ending
-      → m ≢ Proc child) → body_in c.next m ≡ body_in k m
-  served-rest other apart away = c.follows.others other apart (not-found (finds c.reply) refl)
-    where
-      not-found : (t : Bool) → finds c.reply ≡ t → is_found c.reply other ≡ false
-      not-found false none = none-found c.reply none other
-      not-found true some = by-test (is_found c.reply other) refl
-        where
-          f : FindsOne c.reply
-          f = finds-one c.reply some
-
-          by-test : (t : Bool) → is_found c.reply other ≡ t → is_found c.reply other ≡ false
-          by-test false e = e
-          by-test true e =
-              absurd
-              (away f.ending f.child f.is
-              (found-is f.child f.ending other (ap (λ (r : Reply). is_found r other) (sym f.is) ∙ e)))
+  -- where its process is in the history then
+  pub served-place : (script : Script) (places : Places) (node : ℕ) (place : Place)
+      → get (places_after script places (entry_of node pid call c.reply) place) pid
+      ≡ Some (place_after place call (Some c.reply))
+  served-place script places node place =
+      place-moves script places node pid call c.reply place (served-no-fork call served)
+      ∙ ap Some (moved-is place call (Some c.reply) (served-not-killed call served))
