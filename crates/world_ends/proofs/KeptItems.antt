@@ -1,5 +1,5 @@
 -- The leader holds a parcel in its hand for the parent, whose deed is awaited.
-use Rattle.std.proofs.Common.{◌≡◌, ◌≢◌, ℕ, ◌≤◌, Bool, true, false, ◌&&◌, not, cond, if◌then◌else◌, List, [], ◌∷◌, ◌++◌, filter, nat_eq, Option, Some, None, is_none, is_some, Contains, refl, ap, sym, subst, ◌∙◌, inl, inr, arith, append-nil}
+use Rattle.std.proofs.Common.{◌≡◌, ◌≢◌, ℕ, ◌≤◌, Bool, true, false, ◌&&◌, not, cond, if◌then◌else◌, List, [], ◌∷◌, ◌++◌, filter, flat_map, nat_eq, Option, Some, None, is_none, is_some, Contains, refl, ap, sym, subst, ◌∙◌, inl, inr, arith, append-nil}
 use Rattle.std.specs.List.{list_any}
 use Rattle.std.proofs.lemmas.Bool.{cases_eq, eq-eqb, ne_eqb, false≢true}
 use Rattle.std.proofs.lemmas.List.Elements.{filter-append, Contains-append_left, Contains-append_right, Contains-push, Contains-push_cases}
@@ -9,8 +9,8 @@ use Rattle.pico_base.specs.declared.script.Script.{Script}
 use Rattle.rpc_frame.specs.declared.deed.Parcel.{Parcel}
 use Rattle.node_model.specs.declared.held.Held.{Held}
 use Rattle.node_model.specs.declared.held.Held.TheVariants.{Ending}
-use Rattle.node_model.specs.Kinds.{kind_of, is_same_name}
-use Rattle.node_model.specs.Directory.{Directory, Coming, place_of, with_place, hold, hold_at, has_deed_of, is_parcel_with, held_for, items_of}
+use Rattle.node_model.specs.Kinds.{kind_of, is_same_name, get_named}
+use Rattle.node_model.specs.Directory.{Directory, Coming, place_of, with_place, hold, hold_at, has_deed_of, is_parcel_with, held_for, items_of, maker, stays}
 use Rattle.node_model.specs.Bodies.{Living as LivingBody}
 use Rattle.number_maps.specs.Maps.{get}
 use Rattle.pico_base.specs.declared.call.Call.{Call}
@@ -19,7 +19,11 @@ use Rattle.world_model.specs.Step.{with_directory}
 use Rattle.world_model.specs.World.{World}
 use Rattle.world_laws.specs.Places.{DeedPlace, Unmade, InHand, InKept, Beside}
 use Rattle.world_laws.specs.Sights.{node_of, frames_to, directory_of, stage_of, is_used_name, is_born_in}
-use Rattle.world_laws.specs.Names.{NameSight, name_sight, NameHolds, HasDeed, OneIf, OnlyOne, IsItemWith, is_hand_place, node_in}
+use Rattle.world_laws.specs.Names.{NameSight, name_sight, NameHolds, HasDeed, OneIf, OnlyOne, IsItemWith, is_hand_place, node_in, comes_to, held_at, forker, is_maker, range_steps_of}
+use Rattle.world_laws.specs.Plays.{plays, begin, is_checkpoint_of, has_any, placed_in, news}
+use Rattle.world_model.specs.Census.{brings}
+use Rattle.rpc_frame.specs.declared.frame.Frame.{Frame}
+use Rattle.world_laws.proofs.Stays.{IsMore, SameName, name-stays}
 use Rattle.world_laws.specs.Ways.{IsParcelOf, IsParcelIn, at_hand, under_way_of, HasSender}
 use Rattle.world_laws.specs.Invariant.{Holds}
 use Rattle.world_ends.proofs.Given.{packed-has}
@@ -27,9 +31,9 @@ use Rattle.world_ends.proofs.Taken.{DropsFirst, drops-first}
 use Rattle.world_laws.specs.Ranges.{kind_sight}
 use Rattle.world_laws.proofs.Numbers.{zero-is-unused}
 use Rattle.world_laws.proofs.Named.{name-cases}
-use Rattle.world_laws.proofs.Changes.{Changes}
+use Rattle.world_laws.proofs.Changes.{Changes, IsListMap, filter-is-list-map, flat_map-is-list-map, made-same, still-born, read-same}
 use Rattle.world_rules.proofs.Places.{place-with-same, place-with-other}
-use Rattle.world_ends.proofs.Keeping.{name-with-item, IsKeptNow, in-hand-is}
+use Rattle.world_ends.proofs.Keeping.{name-with-item, IsKeptNow, name-kept, in-hand-is}
 
 -- ---- lists
 
@@ -195,6 +199,16 @@ module _ (script : Script) (w : World) (items : List Held) (parcel : Parcel) (b 
   abbrev moved : Beside
   moved = record b { deed = deeds-now }
 
+  abbrev after : Node
+  after = with_directory (node_of w 1) (hold (directory_of w) (Proc parcel.parent) (Ending parcel))
+
+  more : IsMore (is_born_in w) (is_born_in w')
+  more = still-born script 1 w w' after [] [] [] changes (λ g. g)
+
+  nothing-more : (t : Bool) (is : List Held) → is ++ cond t [] [] ≡ is
+  nothing-more true is = append-nil is
+  nothing-more false is = append-nil is
+
   held-at-parent : held_for d (Proc parcel.parent) ≡ kept_items
   held-at-parent = ap items_of place
 
@@ -271,3 +285,82 @@ module _ (script : Script) (w : World) (items : List Held) (parcel : Parcel) (b 
         same-node g deed has =
             let pids = holds.pids
             in sym (pids.apart c g sender-forked (sym its.pid ∙ has.of_process))
+
+    none-taken-sent : {A : Type 0} (g : ℕ → ℕ → List Frame → List A)
+        → ((t s : ℕ) → IsListMap (g t s)) → (t s : ℕ) → g t s (frames_to w t s) ≡ g t s (frames_to w' t s)
+    none-taken-sent g m t s =
+        sym (made-same script 1 w w' after [] [] [] changes g m tt tt t s)
+
+    begins-now : (q : ℕ)
+        → x.begins q ≡ begin (stage_of w' q) (is_some (held_at w' name q)) (comes_to script w' name q)
+    begins-now q =
+        ap (λ fs. begin (stage_of w q) (is_some (held_at w name q)) (not (nat_eq (forker script q) 1) && has_any fs))
+        (none-taken-sent (λ t s fs. filter (is_checkpoint_of name) fs)
+        (λ t s. filter-is-list-map (is_checkpoint_of name)) q (forker script q))
+        ∙ sym (read-same script 1 w w' after [] [] [] changes
+        (λ (m : Node). begin m.stage (is_some (get_named m.deeds name)) (comes_to script w' name q)) refl q)
+
+    -- what is seen of it, where this is its deed's place, and these are in hand and held
+    sight-with : (y : NameSight) → y ≡ record x { place = place_of d2 name; deed = deeds-now name;
+        hand = filter (is_parcel_with name) items;
+        kept = λ pid. filter (is_parcel_with name) (held_for d2 (Proc pid)) }
+        → SameName y (name_sight script w' items moved name)
+    sight-with y e =
+        subst (λ (z : NameSight). SameName z (name_sight script w' items moved name)) (sym e)
+        (record {
+          place = ap (λ z. place_of z name) (sym directory-now);
+          maker = ap (λ z. maker z name) (sym directory-now);
+          stays = λ q. ap (λ z. stays z q) (sym directory-now);
+          used = refl;
+          body = refl;
+          deed = refl;
+          held = λ q. sym (read-same script 1 w w' after [] [] [] changes
+              (λ (m : Node). get_named m.deeds name) refl q);
+          brought = none-taken-sent (λ t s fs. filter (brings name) fs) (λ t s. filter-is-list-map (brings name));
+          kept = λ pid. ap (λ z. filter (is_parcel_with name) (held_for z (Proc pid))) (sym directory-now);
+          hand = refl;
+          begins = begins-now;
+          steps = λ q. none-taken-sent (λ t s fs. plays b.call name fs) (λ t s. flat_map-is-list-map _) q 1;
+          ranges = λ q. none-taken-sent (λ t s fs. flat_map (range_steps_of b.call name) fs)
+              (λ t s. flat_map-is-list-map _) q 1;
+          placed = λ q. none-taken-sent (λ t s fs. placed_in name fs) (λ t s. flat_map-is-list-map _) 1 q;
+          news = λ q. ap (λ z. news name (x.used && is_maker (maker z name) q) (frames_to w 1 q)) (sym directory-now)
+              ∙ none-taken-sent
+              (λ t s fs. news name (x.used && is_maker (maker (directory_of w') name) s) fs)
+              (λ t s. flat_map-is-list-map _) 1 q;
+        })
+
+    names : NameHolds script b.pids (is_born_in w') name (name_sight script w' items moved name)
+    names = by-test (has_deed_of name parcel) refl
+      where
+        by-test : (t : Bool) → has_deed_of name parcel ≡ t
+            → NameHolds script b.pids (is_born_in w') name (name_sight script w' items moved name)
+        by-test true e =
+            name-stays script b.pids (is_born_in w) (is_born_in w') name _ _ more
+            (sight-with _ (λ i. record x {
+              place = place_of d2 name;
+              deed = (sym (ap (λ t. if t then InKept c else b.deed name) e)) i;
+              hand = filter (is_parcel_with name) items;
+              kept = λ pid. filter (is_parcel_with name) (held_for d2 (Proc pid));
+            }))
+            (name-kept script b.pids (is_born_in w) name (record x { place = place_of d2 name }) c parcel
+            (filter (is_parcel_with name) items) (λ pid. filter (is_parcel_with name) (held_for d2 (Proc pid)))
+            (is-kept e) held-first)
+        by-test false e =
+            name-stays script b.pids (is_born_in w) (is_born_in w') name _ _ more
+            (sight-with (record x { place = place_of d2 name }) (λ i. record x {
+              place = place_of d2 name;
+              deed = (sym (ap (λ t. if t then InKept c else b.deed name) e)) i;
+              hand = (ap (λ t. cond t (item ∷ filter (is_parcel_with name) items)
+                  (filter (is_parcel_with name) items)) e) i;
+              kept = λ pid. (sym (kept-now pid
+                  ∙ ap (λ t. x.kept pid ++ cond (nat_eq parcel.parent pid) (cond t (item ∷ []) []) []) e
+                  ∙ nothing-more (nat_eq parcel.parent pid) (x.kept pid))) i;
+            }))
+            held-first
+
+  -- ---- the families
+
+  in-hand-cases : (k : ℕ) → b.pids k ≢ 0 → has_deed_of (Proc (b.pids k)) parcel ≡ true
+      → b.deed (Proc (b.pids k)) ≡ InHand c
+  in-hand-cases k forked e = let kept = is-kept (Proc (b.pids k)) e in kept.was
