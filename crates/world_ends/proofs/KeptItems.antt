@@ -1,5 +1,5 @@
 -- The leader holds a parcel in its hand for the parent, whose deed is awaited.
-use Rattle.std.proofs.Common.{◌≡◌, ◌≢◌, ℕ, ◌≤◌, Bool, true, false, ◌&&◌, not, cond, if◌then◌else◌, List, [], ◌∷◌, ◌++◌, filter, flat_map, nat_eq, Option, Some, None, is_none, is_some, Contains, refl, ap, sym, subst, ◌∙◌, inl, inr, arith, append-nil}
+use Rattle.std.proofs.Common.{◌≡◌, ◌≢◌, ℕ, ◌≤◌, Bool, true, false, ◌&&◌, not, cond, if◌then◌else◌, List, [], ◌∷◌, ◌++◌, filter, flat_map, nat_eq, Option, Some, is_none, is_some, Contains, refl, ap, sym, subst, ◌∙◌, inl, inr, append-nil}
 use Rattle.std.specs.List.{list_any}
 use Rattle.std.proofs.lemmas.Bool.{cases_eq, eq-eqb, ne_eqb, false≢true}
 use Rattle.std.proofs.lemmas.List.Elements.{filter-append, Contains-append_left, Contains-append_right, Contains-push, Contains-push_cases}
@@ -11,7 +11,6 @@ use Rattle.node_model.specs.declared.held.Held.{Held}
 use Rattle.node_model.specs.declared.held.Held.TheVariants.{Ending}
 use Rattle.node_model.specs.Kinds.{kind_of, is_same_name, get_named, for_kind}
 use Rattle.node_model.specs.Directory.{Directory, Coming, place_of, with_place, hold, hold_at, has_deed_of, is_parcel_with, held_for, items_of, maker, stays, is_known}
-use Rattle.node_model.specs.Bodies.{Living as LivingBody}
 use Rattle.number_maps.specs.Maps.{get}
 use Rattle.pico_base.specs.declared.call.Call.{Call}
 use Rattle.world_model.specs.Node.{Node, Stage}
@@ -310,9 +309,12 @@ module _ (script : Script) (w : World) (items : List Held) (parcel : Parcel) (b 
         (λ (m : Node). begin m.stage (is_some (get_named m.deeds name)) (comes_to script w' name q)) refl q)
 
     -- what is seen of it, where this is its deed's place, and these are in hand and held
-    sight-with : (y : NameSight) → y ≡ record x { place = place_of d2 name; deed = deeds-now name;
-        hand = filter (is_parcel_with name) items;
-        kept = λ pid. filter (is_parcel_with name) (held_for d2 (Proc pid)) }
+    sight-with : (y : NameSight) → y ≡ record x {
+      place = place_of d2 name;
+      deed = deeds-now name;
+      hand = filter (is_parcel_with name) items;
+      kept = λ pid. filter (is_parcel_with name) (held_for d2 (Proc pid));
+    }
         → SameName y (name_sight script w' items moved name)
     sight-with y e =
         subst (λ (z : NameSight). SameName z (name_sight script w' items moved name)) (sym e)
