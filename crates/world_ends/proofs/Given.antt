@@ -1,7 +1,7 @@
 -- What a node gives when it hands over all: a GiveBack for each queue and set, and its processes in a parcel. All of it
 -- goes to the leader.
 use Rattle.std.proofs.Common.{◌≡◌, ◌≢◌, ℕ, Bool, true, false, ◌&&◌, ◌||◌, cond, List, [], ◌∷◌, ◌++◌, map, fold, filter, nat_eq, Option, Some, None, is_some, Contains, refl, ap, sym, subst, ◌∙◌, inl, inr, append-nil, append_assoc}
-use Rattle.std.specs.List.{AllByRecursion, list_any}
+use Rattle.std.specs.List.{AllByRecursion, list_any, flat_map}
 use Rattle.std.proofs.lemmas.Bool.{cases_eq, eq-eqb, ne_eqb, false≢true}
 use Rattle.std.proofs.lemmas.List.{map-append}
 use Rattle.std.proofs.lemmas.List.Elements.{filter-append, Contains-append_left, Contains-append_right, Contains-push}
@@ -24,7 +24,7 @@ use Rattle.world_model.specs.Step.{Step}
 use Rattle.world_model.specs.Lives.{send_to_leader}
 use Rattle.world_model.specs.Census.{brings}
 use Rattle.world_laws.specs.Ways.{is_left_frame}
-use Rattle.world_laws.proofs.Sends.{frame_if, sent_to}
+use Rattle.world_laws.proofs.Sends.{frame_if}
 use Rattle.world_laws.proofs.Changes.{frames_if, sent}
 
 -- what a node holds stands by rising number, so each name once
@@ -45,14 +45,18 @@ fold-sends s (f ∷ fs) =
     fold-sends (send_to_leader s f) fs
     ∙ (λ i. record { node = s.node; entries = s.entries; sends = append_assoc s.sends ((1, f) ∷ []) (to_leader fs) i })
 
-sent-to-leader : (fs : List Frame) → sent_to 1 (to_leader fs) ≡ fs
+-- of frames with their receivers, those to a node
+abbrev those_to : ℕ → List (ℕ × Frame) → List Frame
+those_to to sends = flat_map (λ s. frame_if (nat_eq to s.0) s.1) sends
+
+sent-to-leader : (fs : List Frame) → those_to 1 (to_leader fs) ≡ fs
 sent-to-leader [] = refl
 sent-to-leader (f ∷ fs) = ap (λ gs. f ∷ gs) (sent-to-leader fs)
 
-sent-to-others : (to : ℕ) (fs : List Frame) → to ≢ 1 → sent_to to (to_leader fs) ≡ []
+sent-to-others : (to : ℕ) (fs : List Frame) → to ≢ 1 → those_to to (to_leader fs) ≡ []
 sent-to-others to [] d = refl
 sent-to-others to (f ∷ fs) d =
-    ap (λ b. frame_if b f ++ sent_to to (to_leader fs)) (ne_eqb to 1 d) ∙ sent-to-others to fs d
+    ap (λ b. frame_if b f ++ those_to to (to_leader fs)) (ne_eqb to 1 d) ∙ sent-to-others to fs d
 
 -- what a filter keeps of them is in the stream to the leader from their node
 pub kept-of-all-sent : (test : Frame → Bool) (p : ℕ) (fs : List Frame) (to sender : ℕ)
@@ -61,7 +65,7 @@ kept-of-all-sent test p fs to sender =
     elim (cases_eq to 1) [
       | inl e ↦
           ap (λ ys. filter test (frames_if (nat_eq sender p) ys))
-          (ap (λ y. sent_to y (to_leader fs)) e ∙ sent-to-leader fs)
+          (ap (λ y. those_to y (to_leader fs)) e ∙ sent-to-leader fs)
           ∙ one-stream (nat_eq sender p)
           ∙ ap (λ t. cond (t && nat_eq sender p) (filter test fs) []) (sym (eq-eqb to 1 e))
       | inr d ↦

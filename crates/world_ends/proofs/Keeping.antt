@@ -1,5 +1,5 @@
 -- A parcel in the leader's hand whose parent's deed is awaited is held for the parent: what holds of each name.
-use Rattle.std.proofs.Common.{◌≡◌, ◌≢◌, ℕ, ◌≤◌, Bool, true, false, ◌&&◌, cond, if◌then◌else◌, List, [], ◌∷◌, ◌++◌, filter, nat_eq, Option, Some, None, is_some, refl, ap, sym, subst, ◌∙◌}
+use Rattle.std.proofs.Common.{◌≡◌, ℕ, Bool, true, false, cond, List, [], ◌∷◌, ◌++◌, nat_eq, Option, Some, is_some, refl, ap, sym, subst, ◌∙◌}
 use Rattle.std.specs.List.{AllByRecursion}
 use Rattle.std.proofs.lemmas.Bool.{false≢true}
 use Rattle.pico_base.specs.declared.numbers.Name.{Name}
@@ -9,10 +9,10 @@ use Rattle.node_model.specs.declared.held.Held.{Held}
 use Rattle.node_model.specs.declared.held.Held.TheVariants.{Ending}
 use Rattle.node_model.specs.Kinds.{is_object}
 use Rattle.node_model.specs.Bodies.{Body}
-use Rattle.node_model.specs.Directory.{Place, Coming, destination_of, items_of}
-use Rattle.world_laws.specs.Places.{DeedPlace, Unmade, InTable, InCheckpoint, InGrant, InGiveBack, InLeft, InKept, InHand, InExitTo}
+use Rattle.node_model.specs.Directory.{Coming, destination_of, items_of}
+use Rattle.world_laws.specs.Places.{DeedPlace, Unmade, InKept, InHand}
 use Rattle.world_laws.specs.Plays.{OnTheWay, believed, is_there}
-use Rattle.world_laws.specs.Names.{NameSight, NameHolds, PlaysTo, IsItemFor, HasDeed, OneIf, OnlyOne, IsBringer, IsItemWith, held_as, is_stream_of, is_hand_place, is_kept_for, node_in, may_be_at, belief_of, maker_tells, forker}
+use Rattle.world_laws.specs.Names.{NameSight, NameHolds, PlaysTo, IsItemFor, HasDeed, OneIf, IsBringer, IsItemWith, held_as, is_stream_of, is_hand_place, is_kept_for, node_in, may_be_at, belief_of, maker_tells, forker}
 use Rattle.world_ends.proofs.Taken.{both-all}
 
 -- ---- one more item is held
