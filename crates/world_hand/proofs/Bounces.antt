@@ -1,7 +1,6 @@
 -- A call comes back to the leader from a node that it was sent to: it is in the leader's hand, and is routed again.
-use Rattle.std.proofs.Common.{◌≡◌, ◌≢◌, ◌⊎◌, ℕ, ◌≤◌, Bool, true, false, ◌&&◌, not, cond, if◌then◌else◌, List, [], ◌∷◌, ◌++◌, filter, nat_eq, Option, Some, None, is_some, refl, ap, sym, subst, ◌∙◌, inl, inr, arith}
-use Rattle.std.proofs.lemmas.Bool.{cases_eq, eq-eqb, ne_eqb, false≢true}
-use Rattle.pico_base.specs.declared.call.Call.{Call}
+use Rattle.std.proofs.Common.{◌≡◌, ◌≢◌, ℕ, ◌≤◌, Bool, true, false, ◌&&◌, cond, List, [], ◌∷◌, ◌++◌, filter, is_some, refl, ap, sym, subst, ◌∙◌, arith}
+use Rattle.std.proofs.lemmas.Bool.{eq-eqb, ne_eqb, false≢true}
 use Rattle.pico_base.specs.declared.call.Home.{Home}
 use Rattle.pico_base.specs.declared.call.Home.TheVariants as homes
 use Rattle.pico_base.specs.declared.numbers.Name.{Name}
@@ -10,25 +9,24 @@ use Rattle.pico_base.specs.Home.{home_of}
 use Rattle.rpc_frame.specs.declared.asked.Asked.{Asked}
 use Rattle.rpc_frame.specs.declared.frame.Frame.{Frame}
 use Rattle.rpc_frame.specs.declared.frame.Frame.TheVariants as frames
-use Rattle.node_model.specs.declared.held.Held.{Held}
 use Rattle.node_model.specs.declared.held.Held.TheVariants.{Request}
 use Rattle.node_model.specs.Directory.{maker, place_of}
 use Rattle.world_model.specs.Node.{Node}
-use Rattle.world_model.specs.Step.{Step, step_to}
+use Rattle.world_model.specs.Step.{step_to}
 use Rattle.world_model.specs.Calls.{is_for_others, is_on_name_or_removal}
 use Rattle.world_model.specs.World.{World, node_count, world_after}
-use Rattle.world_laws.specs.Places.{CallPlace, InBounce, IsInHand, Beside, call_in}
-use Rattle.world_laws.specs.Sights.{node_of, frames_to, directory_of, is_born_in, is_used_name}
+use Rattle.world_laws.specs.Places.{IsInHand, Beside, call_in}
+use Rattle.world_laws.specs.Sights.{node_of, directory_of, is_born_in, is_used_name}
 use Rattle.world_laws.specs.Plays.{News, NeedsPlace, finds_place, is_call_on, news, news_if}
-use Rattle.world_laws.specs.Names.{NameSight, name_sight, NameHolds, is_maker}
-use Rattle.world_laws.specs.Callers.{CallSight, call_sight, CallHolds, HasCall, IsToBeMade, IsJustThere, IsSoFar, asked_of, only_if, is_in_stream, frame_at, is_held_at, is_about, is_end_place, may_be_in}
+use Rattle.world_laws.specs.Names.{name_sight, NameHolds, is_maker}
+use Rattle.world_laws.specs.Callers.{CallSight, call_sight, CallHolds, HasCall, IsJustThere, IsSoFar, asked_of, only_if, is_in_stream, frame_at, is_held_at, is_about, is_end_place, may_be_in}
 use Rattle.world_laws.specs.Ranges.{has_lease}
 use Rattle.world_laws.specs.Invariant.{Holds}
 use Rattle.world_laws.proofs.Steps.{Heads, world_without}
 use Rattle.world_laws.proofs.Heads.{head-is, head-from-another}
 use Rattle.world_rules.proofs.Answers.{Found, find}
 use Rattle.world_rules.proofs.CallFrames.{IsBounceOf, bounce-of}
-use Rattle.world_hand.proofs.Takings.{BringsNews, IsTakenUp, IsSameLeader, name-news-taken, name-not-taken, taken-keeps}
+use Rattle.world_hand.proofs.Takings.{IsTakenUp, IsSameLeader, name-news-taken, name-not-taken, taken-keeps}
 
 for-others-too : (home : Home) → is_on_name_or_removal home ≡ true → is_for_others home ≡ true
 for-others-too (homes.At name) h = refl

@@ -296,7 +296,8 @@ module _ (script : Script) (w : World) (b : Beside) (holds : Holds script w [] b
       → NameHolds script b.pids (is_born_in next) m (name_sight script next hand moved m)
   name-news-taken m known k =
       name-stays script b.pids (is_born_in w) (is_born_in next) m
-      (record (name_sight script w [] b m) { news = (name_sight script next hand moved m).news }) (name_sight script next hand moved m) more
+      (record (name_sight script w [] b m) { news = (name_sight script next hand moved m).news })
+      (name_sight script next hand moved m) more
       (record {
         place = sym (ap (λ d. place_of d m) same-directory-now);
         maker = sym (ap (λ d. maker d m) same-directory-now);
