@@ -1,6 +1,6 @@
 -- A call comes back to the leader from a node that it was sent to: it is in the leader's hand, and is routed again.
-use Rattle.std.proofs.Common.{◌≡◌, ◌≢◌, ℕ, ◌≤◌, Bool, true, false, ◌&&◌, cond, List, [], ◌∷◌, ◌++◌, filter, is_some, refl, ap, sym, subst, ◌∙◌, arith}
-use Rattle.std.proofs.lemmas.Bool.{eq-eqb, ne_eqb, false≢true}
+use Rattle.std.proofs.Common.{◌≡◌, ◌≢◌, ◌⊎◌, ℕ, ◌≤◌, Bool, true, false, ◌&&◌, not, cond, if◌then◌else◌, List, [], ◌∷◌, ◌++◌, length, filter, nat_eq, nat_le, Option, Some, None, is_some, refl, ap, sym, subst, ◌∙◌, inl, inr, arith}
+use Rattle.std.proofs.lemmas.Bool.{eq-eqb, false≢true, le-leb, ne_eqb}
 use Rattle.pico_base.specs.declared.call.Home.{Home}
 use Rattle.pico_base.specs.declared.call.Home.TheVariants as homes
 use Rattle.pico_base.specs.declared.numbers.Name.{Name}
@@ -11,22 +11,29 @@ use Rattle.rpc_frame.specs.declared.frame.Frame.{Frame}
 use Rattle.rpc_frame.specs.declared.frame.Frame.TheVariants as frames
 use Rattle.node_model.specs.declared.held.Held.TheVariants.{Request}
 use Rattle.node_model.specs.Directory.{maker, place_of}
-use Rattle.world_model.specs.Node.{Node}
+use Rattle.world_model.specs.Node.{Node, is_leader, is_node}
 use Rattle.world_model.specs.Step.{step_to}
-use Rattle.world_model.specs.Calls.{is_for_others, is_on_name_or_removal}
+use Rattle.world_model.specs.Calls.{is_for_others, is_on_name_or_removal, take_bounce}
 use Rattle.world_model.specs.World.{World, node_count, world_after}
 use Rattle.world_laws.specs.Places.{IsInHand, Beside, call_in}
 use Rattle.world_laws.specs.Sights.{node_of, directory_of, is_born_in, is_used_name}
 use Rattle.world_laws.specs.Plays.{News, NeedsPlace, finds_place, is_call_on, news, news_if}
 use Rattle.world_laws.specs.Names.{name_sight, NameHolds, is_maker}
-use Rattle.world_laws.specs.Callers.{CallSight, call_sight, CallHolds, HasCall, IsJustThere, IsSoFar, asked_of, only_if, is_in_stream, frame_at, is_held_at, is_about, is_end_place, may_be_in}
+use Rattle.world_laws.specs.Callers.{CallSight, call_sight, CallHolds, HasCall, IsToBeMade, IsJustThere, IsSoFar, asked_of, only_if, is_in_stream, frame_at, is_held_at, is_about, is_end_place, may_be_in}
 use Rattle.world_laws.specs.Ranges.{has_lease}
 use Rattle.world_laws.specs.Invariant.{Holds}
-use Rattle.world_laws.proofs.Steps.{Heads, world_without}
+use Rattle.world_laws.proofs.Steps.{Heads, KeepsAs, take-steps, world_without}
 use Rattle.world_laws.proofs.Heads.{head-is, head-from-another}
 use Rattle.world_rules.proofs.Answers.{Found, find}
 use Rattle.world_rules.proofs.CallFrames.{IsBounceOf, bounce-of}
 use Rattle.world_hand.proofs.Takings.{IsTakenUp, IsSameLeader, name-news-taken, name-not-taken, taken-keeps}
+use Rattle.world_model.specs.Routing.{route_call}
+use Rattle.kernel_model.specs.Waiting.{is_waiting}
+use Rattle.world_laws.specs.Families.{NodeHolds}
+use Rattle.world_rules.proofs.Nodes.{and-true}
+use Rattle.world_hand.proofs.Asks.{NeverWaits}
+use Rattle.world_hand.proofs.Routes.{RouteKeeps}
+use Rattle.pico_base.specs.declared.script.Event.TheVariants as events
 
 for-others-too : (home : Home) → is_on_name_or_removal home ≡ true → is_for_others home ≡ true
 for-others-too (homes.At name) h = refl
@@ -38,6 +45,10 @@ for-others-too homes.Parent h = absurd (false≢true h)
 known-first : (known : Bool) (ns : List News) → finds_place known (NeedsPlace ∷ ns) ≡ true → known ≡ true
 known-first true ns h = refl
 known-first false ns h = absurd (false≢true h)
+
+all-true : (leads from is_node on waits : Bool) → leads ≡ true → from ≡ false → is_node ≡ true → on ≡ true
+    → waits ≡ false → ((leads && not from) && (is_node && (on && not waits))) ≡ true
+all-true leads from is_node on waits a c d e f = rw (a, c, d, e, f) refl
 
 -- the caller is a node of the script
 module _ (script : Script) (w : World) (b : Beside) (holds : Holds script w [] b) (q : ℕ) (asked : Asked)
@@ -93,6 +104,14 @@ module _ (script : Script) (w : World) (b : Beside) (holds : Holds script w [] b
       subst (λ (a : Asked). is_for_others (home_of a.pid a.call) ≡ true) (sym is-bounce.asked_is)
       (for-others-too (home_of x.pid found.call)
       (sym (ap (λ y. may_be_in y (home_of x.pid found.call) found.call) is-bounce.place_is) ∙ has.home))
+
+  on-name-too : is_on_name_or_removal (home_of asked.pid asked.call) ≡ true
+  on-name-too =
+      subst (λ (a : Asked). is_on_name_or_removal (home_of a.pid a.call) ≡ true) (sym is-bounce.asked_is)
+      (sym (ap (λ y. may_be_in y (home_of x.pid found.call) found.call) is-bounce.place_is) ∙ has.home)
+
+  to-be-made : IsToBeMade script p x found.call
+  to-be-made = subst (λ y. IsSoFar script p x found.call y) is-bounce.place_is has.so_far
 
   taken-up : IsTakenUp script w b q frame asked
   taken-up =
@@ -151,3 +170,26 @@ module _ (script : Script) (w : World) (b : Beside) (holds : Holds script w [] b
           name-news-taken script w b holds q frame rest h asked taken-up n same-leader m (bounced-known m e)
           (record { no_deed = refl; no_checkpoint = refl; no_steps = refl; no_ranges = refl; no_place = refl })
       by-test m false e = name-not-taken script w b holds q frame rest h asked taken-up n same-leader m e
+
+  -- The rule applies, and routes it.
+  pub bounce-is-routed : NeverWaits script → take_bounce script n q asked ≡ route_call script (step_to n) asked
+  bounce-is-routed never =
+      let m : NodeHolds script b.pids (is_born_in w) 1 n = holds.nodes 1 h.low h.high
+      in let made : IsToBeMade script p x found.call = to-be-made
+      in ap (λ t. if t then route_call script (step_to n) asked else None)
+      (all-true (is_leader n) (nat_eq q 1) (is_node script asked.caller)
+      (is_on_name_or_removal (home_of asked.pid asked.call)) (is_waiting asked.call) (eq-eqb n.number 1 m.number)
+      (ne_eqb q 1 other)
+      (and-true (nat_le 1 p) (nat_le p (length script.blocks)) (le-leb 1 p low) (le-leb p (length script.blocks) high))
+      on-name-too
+      (ap (λ (a : Asked). is_waiting a.call) is-bounce.asked_is ∙ never p x.caller found.call made.due))
+
+  -- So a Bounce has a step wherever its call has a route, and keeps what the route keeps.
+  pub bounce-keeps : NeverWaits script → (b' : Beside) → RouteKeeps script v (step_to n) asked [] b'
+      → KeepsAs script w (events.Take 1 q) b'
+  bounce-keeps never b' r =
+      record {
+        next = world_after v 1 r.next;
+        is_step = take-steps script w 1 q frame rest r.next holds.shape h (bounce-is-routed never ∙ r.is_route);
+        holds = r.holds;
+      }
