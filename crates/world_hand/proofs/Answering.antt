@@ -405,7 +405,8 @@ module _ (script : Script) (w : World) (asked : Asked) (rest : List Held) (b : B
         names
         (λ kind. kind-stays (is_born_in w) (is_born_in w') _ _ more
         (kind-left-alone script 1 w w' n [] sends (entry ∷ []) c b.kernel next kind
-        (λ number. ap (λ used. is_used used number) (enters.used kind)) (ap (λ z. for_kind z kind) same-caller.leases) (ranges-same kind) tt (refl, tt))
+        (λ number. ap (λ used. is_used used number) (enters.used kind)) (ap (λ z. for_kind z kind) same-caller.leases)
+        (ranges-same kind) tt (refl, tt))
         (holds.kinds kind))
         (λ kind. few-after script w w' hand rest b next places-now b.deed calls-now 1 n [] sends (entry ∷ []) p
         (omega arith) high-one holds c move kind (ranges-same kind) (lease-same kind))

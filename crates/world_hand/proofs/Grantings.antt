@@ -1,5 +1,5 @@
--- The leader sends the deed of a queue or set that it holds to a node that is born and stays. The node has it once it has
--- taken what is on its way there.
+-- The leader sends the deed of a queue or set that it holds to a node that is born and stays. The node has it once it
+-- has taken what is on its way there.
 use Rattle.std.proofs.Common.{◌≡◌, ◌≢◌, ℕ, ◌≤◌, Bool, true, false, ◌&&◌, ◌||◌, not, cond, if◌then◌else◌, List, [], ◌∷◌, ◌++◌, filter, flat_map, nat_eq, Option, Some, None, is_some, is_none, refl, ap, sym, subst, ◌∙◌, inl, inr, arith, append-nil}
 use Rattle.std.specs.List.{AllByRecursion}
 use Rattle.std.proofs.lemmas.Bool.{cases_eq, eq-eqb, ne_eqb, false≢true}

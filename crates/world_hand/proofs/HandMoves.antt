@@ -185,7 +185,8 @@ pub record DirectoryRoutes (x : ℕ) (d d' : Directory) : Type 0 where
       → filter (is_parcel_with name) (held_for d' (Proc pid)) ≡ filter (is_parcel_with name) (held_for d (Proc pid))
 
 -- a name whose place is the same is left alone
-pub route-leaves : (x : ℕ) (d d' : Directory) (name : Name) → DirectoryRoutes x d d' → place_of d' name ≡ place_of d name
+pub route-leaves : (x : ℕ) (d d' : Directory) (name : Name) → DirectoryRoutes x d d'
+    → place_of d' name ≡ place_of d name
     → DirectoryLeaves d d' name
 route-leaves x d d' name r e =
     let same : SameButCall x d d' = r.same
@@ -339,10 +340,12 @@ module _ (script : Script) (w : World) (asked : Asked) (rest : List Held) (b : B
         (λ t s. filter-is-list-map (is_about asked.caller t s)) tt to sender
         ∙ in-no-stream to sender
 
-    read : {A : Type 0} (f : Node → A) → f n ≡ f (node_of w 1) → f (node_of w asked.caller) ≡ f (node_of w' asked.caller)
+    read : {A : Type 0} (f : Node → A) → f n ≡ f (node_of w 1)
+        → f (node_of w asked.caller) ≡ f (node_of w' asked.caller)
     read f same = sym (read-same script 1 w w' n [] sends [] c f same asked.caller)
 
-    sight-now : SameCall (placed_at x asked.caller place (asked_of x first.call)) (call_sight w' rest moved asked.caller)
+    sight-now : SameCall (placed_at x asked.caller place (asked_of x first.call))
+        (call_sight w' rest moved asked.caller)
     sight-now =
         record {
           number = read (λ (m : Node). m.number) same-caller.number;
@@ -456,7 +459,8 @@ module _ (script : Script) (w : World) (asked : Asked) (rest : List Held) (b : B
           (λ t q. flat_map-is-list-map _) y 1
           ∙ ap (λ ss. ss ++ plays calls-now name (sent 1 sends y 1))
           (plays-still name y
-          ∙ stayed script 1 w w' n [] sends [] c (λ t q fs. plays b.call name fs) (λ t q. flat_map-is-list-map _) tt y 1)
+          ∙ stayed script 1 w w' n [] sends [] c (λ t q fs. plays b.call name fs)
+          (λ t q. flat_map-is-list-map _) tt y 1)
           ∙ ap (λ ss. s.steps y ++ ss) (is_steps y))
 
       ranges-same : (y : ℕ) → s.ranges y ++ ranges y ≡ flat_map (range_steps_of calls-now name) (frames_to w' y 1)

@@ -25,6 +25,7 @@ use Rattle.world_laws.specs.Invariant.{Holds}
 use Rattle.world_laws.proofs.Steps.{KeepsAs, Heads, world_without}
 use Rattle.world_laws.proofs.Heads.{head-from-another}
 use Rattle.world_hand.proofs.Asks.{NeverWaits, ask-in-hand, ask-keeps}
+use Rattle.world_hand.proofs.Bounces.{bounce-in-hand, bounce-keeps}
 use Rattle.world_hand.proofs.HandMoves.{in-hand-for-others}
 use Rattle.world_hand.proofs.NobodyRoutes.{route-to-nobody}
 use Rattle.world_hand.proofs.ReadRoutes.{HasRoute, route-to-leader-too}
@@ -145,4 +146,20 @@ ask-has-step script w b holds q ticket pid call rest h never left =
     in record {
       beside = r.beside;
       keeps = ask-keeps script w b holds q ticket pid call rest h never r.beside r.keeps;
+    }
+
+-- So has a Bounce of another node's call.
+pub bounce-has-step : (script : Script) (w : World) (b : Beside) (holds : Holds script w [] b) (q : ℕ) (asked : Asked)
+    (rest : List Frame) → Heads script w 1 q (frames.Bounce asked) rest → (low : 1 ≤ asked.caller)
+    (high : asked.caller ≤ node_count script) → asked.caller ≢ 1 → NeverWaits script
+    → RoutesLeft script (world_without w 1 q rest) (step_to (node_of w 1)) asked []
+    → KeepsSo script w q
+bounce-has-step script w b holds q asked rest h low high other never left =
+    let r : HasRoute script (world_without w 1 q rest) (step_to (node_of w 1)) asked [] =
+    hand-has-route script (world_without w 1 q rest) (step_to (node_of w 1)) asked []
+    (record b { call = call_in b.call asked.caller IsInHand }) (bounce-in-hand script w b holds q asked rest h low high)
+    low high other never left
+    in record {
+      beside = r.beside;
+      keeps = bounce-keeps script w b holds q asked rest h low high never r.beside r.keeps;
     }

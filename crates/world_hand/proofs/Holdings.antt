@@ -1,5 +1,5 @@
--- The leader holds the first call of its hand for a name that is on its way; and for a removal it asks the owner for the
--- deed first.
+-- The leader holds the first call of its hand for a name that is on its way; and for a removal it asks the owner for
+-- the deed first.
 use Rattle.std.proofs.Common.{◌≡◌, ◌≢◌, ℕ, ◌≤◌, Bool, true, false, not, List, [], ◌∷◌, ◌++◌, filter, flat_map, nat_eq, Contains, cond, Option, Some, None, is_some, is_none, refl, ap, sym, subst, ◌∙◌, inl, inr, arith, append-nil}
 use Rattle.std.specs.List.{AllByRecursion}
 use Rattle.std.proofs.lemmas.Bool.{cases_eq, eq-eqb, ne_eqb, false≢true}

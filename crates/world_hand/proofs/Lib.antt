@@ -14,3 +14,4 @@ pub mod Grantings
 pub mod Noted
 pub mod ReadRoutes
 pub mod HandRoutes
+pub mod Bounces

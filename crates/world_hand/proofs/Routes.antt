@@ -1,5 +1,5 @@
--- The leader routes the first call of its hand, in the middle of an event: one lemma for each way that it goes and makes
--- no entry.
+-- The leader routes the first call of its hand, in the middle of an event: one lemma for each way that it goes where
+-- no entry is made.
 use Rattle.std.proofs.Common.{◌≡◌, ◌≢◌, ◌⊎◌, ℕ, ◌≤◌, Bool, true, false, ◌&&◌, not, if◌then◌else◌, List, [], ◌∷◌, ◌++◌, nat_eq, ◌==◌, Option, Some, None, option_map, refl, ap, sym, subst, ◌∙◌, inl, inr, arith, append-nil}
 use Rattle.std.proofs.lemmas.Bool.{ne_eqb, false≢true}
 use Rattle.pico_base.specs.declared.call.Call.{Call}
@@ -243,7 +243,7 @@ module _ (script : Script) (v : World) (s : Step) (asked : Asked) (rest : List H
           ap (λ (m : Node). with_directory m (hold m.leader.directory name (Request asked))) (sym leader-here)
           ∙ ap (λ o. with_directory (node_of w 1) (hold_at d name (Request asked) o)) place
 
-  -- A removal of a queue or a set that another node owns: its deed is asked for, and the call is held until it has come.
+  -- A removal of a queue or a set that another node owns: its deed is asked for, and the call is held until that comes.
   pub route-to-recall : (name : Name) (h : ℕ) → home ≡ homes.Removal name → place_of d name ≡ Some (At h) → 1 ≤ h
       → h ≢ 1 → RouteKeeps script v s asked rest (placed (IsHeld name))
   route-to-recall name h on place low_to other =

@@ -89,7 +89,8 @@ module _ (script : Script) (v : World) (s : Step) (asked : Asked) (rest : List H
   -- the step with the reply on its way
   abbrev pub served_step : Step
   served_step =
-      send (enter (with_deeds s (served_deeds s.node.deeds name served-here.left reply_of)) asked.pid asked.call reply_of)
+      send
+      (enter (with_deeds s (served_deeds s.node.deeds name served-here.left reply_of)) asked.pid asked.call reply_of)
       asked.caller (frames.Answer asked.ticket reply_of)
 
   -- what stands beside the world then
@@ -112,7 +113,8 @@ module _ (script : Script) (v : World) (s : Step) (asked : Asked) (rest : List H
       ≡ Some (served_as name (record { left = served-here.left; reply = reply_of }))
   serves-so = ap (λ (m : Node). serve m.deeds asked.pid asked.call) (sym here) ∙ served-here.serves
 
-  carried-out : carry_out script (with_deeds s (served_deeds s.node.deeds name served-here.left reply_of)) asked reply_of
+  carried-out : carry_out script (with_deeds s (served_deeds s.node.deeds name served-here.left reply_of)) asked
+      reply_of
       ≡ served_step
   carried-out =
       ap (λ t. if t

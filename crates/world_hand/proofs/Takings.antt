@@ -1,5 +1,5 @@
 -- The leader takes a frame with a call, and the call is in its hand now.
-use Rattle.std.proofs.Common.{◌≡◌, ◌≢◌, ◌⊎◌, ℕ, ◌≤◌, Bool, true, false, ◌&&◌, cond, if◌then◌else◌, List, [], ◌∷◌, ◌++◌, filter, nat_eq, Contains, Some, refl, ap, sym, subst, ◌∙◌, inl, inr, arith}
+use Rattle.std.proofs.Common.{◌≡◌, ◌≢◌, ◌⊎◌, ℕ, ◌≤◌, Bool, true, false, ◌&&◌, not, cond, if◌then◌else◌, List, [], ◌∷◌, ◌++◌, filter, flat_map, nat_eq, Contains, is_some, Some, refl, ap, sym, subst, ◌∙◌, inl, inr, arith}
 use Rattle.std.proofs.lemmas.Bool.{cases_eq, eq-eqb, ne_eqb, false≢true}
 use Rattle.std.proofs.lemmas.List.Elements.{Contains-push_cases}
 use Rattle.pico_base.specs.declared.call.Call.{Call}
@@ -14,21 +14,23 @@ use Rattle.node_model.specs.declared.held.Held.{Held}
 use Rattle.node_model.specs.declared.held.Held.TheVariants.{Request, Ending}
 use Rattle.node_model.specs.Kinds.{for_kind, get_named}
 use Rattle.node_model.specs.Caller.{Caller}
-use Rattle.node_model.specs.Directory.{Directory, held_for, is_parcel}
+use Rattle.pico_base.specs.declared.numbers.Name.TheVariants.{Proc}
+use Rattle.node_model.specs.Directory.{Directory, held_for, is_parcel, is_parcel_with, maker, place_of, stays}
+use Rattle.world_model.specs.Census.{brings}
 use Rattle.world_model.specs.Node.{Node}
 use Rattle.world_model.specs.Step.{step_to}
 use Rattle.world_model.specs.Calls.{is_for_others}
 use Rattle.world_model.specs.World.{World, node_count, world_after}
 use Rattle.world_laws.specs.Places.{CallPlace, IsInHand, Beside, call_in}
-use Rattle.world_laws.specs.Sights.{node_of, frames_to, directory_of, is_born_in}
-use Rattle.world_laws.specs.Plays.{begin}
-use Rattle.world_laws.specs.Names.{NameHolds, name_sight}
+use Rattle.world_laws.specs.Sights.{node_of, frames_to, directory_of, stage_of, is_born_in}
+use Rattle.world_laws.specs.Plays.{begin, finds_place, has_any, is_checkpoint_of, placed_in, plays}
+use Rattle.world_laws.specs.Names.{NameHolds, comes_to, forker, held_at, name_sight, range_steps_of}
 use Rattle.world_laws.specs.Callers.{CallSight, call_sight, CallHolds, HasCall, HasCallOrNone, IsToBeMade, IsJustThere, asked_of, only_if, is_in_stream, frame_at, is_held_at, is_about, is_item_about, is_end_place}
 use Rattle.world_laws.specs.Ranges.{lease_in, has_lease}
 use Rattle.world_laws.specs.Families.{NodeHolds, is_checkpoint_frame}
 use Rattle.world_laws.specs.Invariant.{Holds}
 use Rattle.world_laws.proofs.Stays.{IsMore, SameCall, call-stays, name-stays, kind-stays}
-use Rattle.world_laws.proofs.Changes.{Changes, filter-is-list-map, only-stayed, read-same}
+use Rattle.world_laws.proofs.Changes.{Changes, filter-is-list-map, flat_map-is-list-map, made-same, only-stayed, read-same, stayed}
 use Rattle.world_laws.proofs.Frames.{concerns, is_plain}
 use Rattle.world_laws.proofs.LeftAlone.{SameCaller, same-directory, name-left-alone, kind-left-alone, few-still}
 use Rattle.world_laws.proofs.Steps.{Heads, world_without, changes-by-take}
@@ -59,6 +61,14 @@ pub record IsTakenUp (script : Script) (w : World) (b : Beside) (q : ℕ) (frame
   pub plain : is_plain frame ≡ true
   pub no_birth : is_checkpoint_frame frame ≡ false
   pub brings_no_lease : (kind : Kind) → lease_in kind frame ≡ []
+
+-- a frame that is nothing for the name but news
+pub record BringsNews (call : ℕ → CallPlace) (name : Name) (frame : Frame) : Type 0 where
+  pub no_deed : filter (brings name) (frame ∷ []) ≡ []
+  pub no_checkpoint : filter (is_checkpoint_of name) (frame ∷ []) ≡ []
+  pub no_steps : plays call name (frame ∷ []) ≡ []
+  pub no_ranges : flat_map (range_steps_of call name) (frame ∷ []) ≡ []
+  pub no_place : placed_in name (frame ∷ []) ≡ []
 
 -- the leader is as it was but for its cache
 pub record IsSameLeader (script : Script) (w : World) (b : Beside) (n : Node) : Type 0 where
@@ -280,6 +290,81 @@ module _ (script : Script) (w : World) (b : Beside) (holds : Holds script w [] b
         ranges_are = λ y. ranges-still script w next [] hand b b.deed calls-now 1 n takes [] p h.low h.high holds
             changes move y (left-alone y 1) m;
       }) (away, tt) tt) (holds.names m)
+
+  -- A name that the frame brings news of and nothing else, and that is known, keeps all that holds of it.
+  pub name-news-taken : (m : Name) → is_some (place_of (directory_of w) m) ≡ true → BringsNews b.call m frame
+      → NameHolds script b.pids (is_born_in next) m (name_sight script next hand moved m)
+  name-news-taken m known k =
+      name-stays script b.pids (is_born_in w) (is_born_in next) m
+      (record (name_sight script w [] b m) { news = (name_sight script next hand moved m).news })
+      (name_sight script next hand moved m) more
+      (record {
+        place = sym (ap (λ d. place_of d m) same-directory-now);
+        maker = sym (ap (λ d. maker d m) same-directory-now);
+        stays = λ y. sym (ap (λ d. stays d y) same-directory-now);
+        used = refl;
+        body = refl;
+        deed = refl;
+        held = λ y. sym (read-same script 1 w next n takes [] [] changes (λ (z : Node). get_named z.deeds m)
+            (ap (λ deeds. get_named deeds m) same.deeds) y);
+        brought = λ t s. sym (made-same script 1 w next n takes [] [] changes (λ t s fs. filter (brings m) fs)
+            (λ t s. filter-is-list-map (brings m)) (k.no_deed, tt) tt t s);
+        kept = λ pid. sym (ap (λ d. filter (is_parcel_with m) (held_for d (Proc pid))) same-directory-now);
+        hand = refl;
+        begins = begins-same;
+        steps = λ y. sym (only-stayed script 1 w next n takes [] [] changes (λ t s fs. plays calls-now m fs)
+            (λ t s. flat_map-is-list-map _) tt y 1
+            ∙ steps-still script w next [] hand b b.deed calls-now 1 n takes [] p h.low h.high holds changes move y
+            (left-alone y 1) m
+            ∙ stayed script 1 w next n takes [] [] changes (λ t s fs. plays b.call m fs)
+            (λ t s. flat_map-is-list-map _) (k.no_steps, tt) y 1);
+        ranges = λ y. sym (only-stayed script 1 w next n takes [] [] changes
+            (λ t s fs. flat_map (range_steps_of calls-now m) fs) (λ t s. flat_map-is-list-map _) tt y 1
+            ∙ ranges-still script w next [] hand b b.deed calls-now 1 n takes [] p h.low h.high holds changes move y
+            (left-alone y 1) m
+            ∙ stayed script 1 w next n takes [] [] changes (λ t s fs. flat_map (range_steps_of b.call m) fs)
+            (λ t s. flat_map-is-list-map _) (k.no_ranges, tt) y 1);
+        placed = λ y. sym (made-same script 1 w next n takes [] [] changes (λ t s fs. placed_in m fs)
+            (λ t s. flat_map-is-list-map _) (k.no_place, tt) tt 1 y);
+        news = λ y. refl;
+      })
+      (record {
+        made = old.made;
+        place_fits = old.place_fits;
+        tables = old.tables;
+        streams = old.streams;
+        kept = old.kept;
+        in_hand = old.in_hand;
+        known = old.known;
+        believed = old.believed;
+        plays = old.plays;
+        leader = old.leader;
+        told = old.told;
+        found = λ y low_y. ap (λ t. finds_place t ((name_sight script next hand moved m).news y)) known;
+        unplaced = old.unplaced;
+        ranged = old.ranged;
+        leased = old.leased;
+        bound = old.bound;
+        items = old.items;
+      })
+    where
+      old : NameHolds script b.pids (is_born_in w) m (name_sight script w [] b m)
+      old = holds.names m
+
+      comes-same : (y : ℕ) → comes_to script next m y ≡ comes_to script w m y
+      comes-same y =
+          ap (λ fs. not (nat_eq (forker script y) 1) && has_any fs)
+          (made-same script 1 w next n takes [] [] changes (λ t s fs. filter (is_checkpoint_of m) fs)
+          (λ t s. filter-is-list-map (is_checkpoint_of m)) (k.no_checkpoint, tt) tt y (forker script y))
+
+      begins-same : (y : ℕ) → begin (stage_of w y) (is_some (held_at w m y)) (comes_to script w m y)
+          ≡ begin (stage_of next y) (is_some (held_at next m y)) (comes_to script next m y)
+      begins-same y =
+          ap (begin (stage_of w y) (is_some (held_at w m y))) (sym (comes-same y))
+          ∙ sym (read-same script 1 w next n takes [] [] changes
+          (λ (z : Node). begin z.stage (is_some (get_named z.deeds m)) (comes_to script next m y))
+          (ap (λ stage. begin stage (is_some (get_named n.deeds m)) (comes_to script next m y)) same-caller.stage
+          ∙ ap (λ deeds. begin (stage_of w 1) (is_some (get_named deeds m)) (comes_to script next m y)) same.deeds) y)
 
   -- All holds with the call in hand, where it holds for the names.
   pub taken-keeps : ((m : Name) → NameHolds script b.pids (is_born_in next) m (name_sight script next hand moved m))
