@@ -380,7 +380,7 @@ module _ (script : Script) (sound : IsSoundScript script) (w : World) (b : Besid
   abbrev deed-now : Name → DeedPlace
   deed-now = deed_in b.deed name (InTable p)
 
-  abbrev moved : Beside
+  abbrev pub moved : Beside
   moved = record b { kernel = made.next; places = places-now; deed = deed-now }
 
   changes : Changes script p w next after-node [] sends (entry ∷ [])
