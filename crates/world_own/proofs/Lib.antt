@@ -13,3 +13,4 @@ pub mod Refused
 pub mod NewNames
 pub mod NewNumbers
 pub mod Objects
+pub mod Made

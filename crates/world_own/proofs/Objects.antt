@@ -84,7 +84,10 @@ use Rattle.std.proofs.lemmas.Bool.{ne_eqb, eqb-true}
 use Rattle.node_model.specs.Kinds.{kind_of, number_of, is_object, is_same_name, put_named, with_kind}
 use Rattle.node_model.specs.Directory.{maker, is_parcel_with, place_name, stays}
 use Rattle.node_model.specs.Leases.{is_used_up}
-use Rattle.std.proofs.Common.{zero, suc, is_none, append-nil}
+use Rattle.std.proofs.Common.{zero, suc, is_none, append-nil, ◌||◌}
+use Rattle.pico_base.specs.declared.numbers.Kind.TheVariants as kinds
+use Rattle.node_model.specs.Kinds.{PerKind, is_same_kind}
+use Rattle.world_laws.specs.Ranges.{lease_at}
 use Rattle.node_model.specs.Directory.{place_of}
 use Rattle.world_laws.proofs.NameFacts.{held-here, held-elsewhere}
 use Rattle.world_laws.proofs.Named.{name-cases}
@@ -225,6 +228,39 @@ here-way script pids p knows x e (gone h) = absurd (differ (sym e ∙ h.stage))
     differ : Living ≡ Left → ⊥
     differ h = cc
 
+kind-itself : (kind : Kind) → is_same_kind kind kind ≡ true
+kind-itself kinds.Proc = refl
+kind-itself kinds.Msg = refl
+kind-itself kinds.Sem = refl
+
+kind-is : (a c : Kind) → is_same_kind a c ≡ true → a ≡ c
+kind-is kinds.Proc kinds.Proc h = refl
+kind-is kinds.Msg kinds.Msg h = refl
+kind-is kinds.Sem kinds.Sem h = refl
+kind-is kinds.Proc kinds.Msg h = absurd (false≢true h)
+kind-is kinds.Proc kinds.Sem h = absurd (false≢true h)
+kind-is kinds.Msg kinds.Proc h = absurd (false≢true h)
+kind-is kinds.Msg kinds.Sem h = absurd (false≢true h)
+kind-is kinds.Sem kinds.Proc h = absurd (false≢true h)
+kind-is kinds.Sem kinds.Msg h = absurd (false≢true h)
+
+for-with : (m : Leases) (kind : Kind) (ns : List ℕ) → for_kind (with_kind m kind ns) kind ≡ ns
+for-with m kinds.Proc ns = refl
+for-with m kinds.Msg ns = refl
+for-with m kinds.Sem ns = refl
+
+for-other : (m : Leases) (kind y : Kind) (ns : List ℕ) → is_same_kind kind y ≡ false
+    → for_kind (with_kind m kind ns) y ≡ for_kind m y
+for-other m kinds.Proc kinds.Msg ns h = refl
+for-other m kinds.Proc kinds.Sem ns h = refl
+for-other m kinds.Msg kinds.Proc ns h = refl
+for-other m kinds.Msg kinds.Sem ns h = refl
+for-other m kinds.Sem kinds.Proc ns h = refl
+for-other m kinds.Sem kinds.Msg ns h = refl
+for-other m kinds.Proc kinds.Proc ns h = absurd (false≢true (sym h))
+for-other m kinds.Msg kinds.Msg ns h = absurd (false≢true (sym h))
+for-other m kinds.Sem kinds.Sem ns h = absurd (false≢true (sym h))
+
 two-or-more : (q : ℕ) → 1 ≤ q → q ≢ 1 → 2 ≤ q
 two-or-more zero h d = absurd (omega (arith, h))
 two-or-more (suc zero) h d = absurd (d refl)
@@ -344,7 +380,7 @@ module _ (script : Script) (sound : IsSoundScript script) (w : World) (b : Besid
   abbrev deed-now : Name → DeedPlace
   deed-now = deed_in b.deed name (InTable p)
 
-  abbrev moved : Beside
+  abbrev pub moved : Beside
   moved = record b { kernel = made.next; places = places-now; deed = deed-now }
 
   changes : Changes script p w next after-node [] sends (entry ∷ [])
@@ -720,3 +756,63 @@ module _ (script : Script) (sound : IsSoundScript script) (w : World) (b : Besid
             subst (λ y. NameHolds script b.pids (is_born_in next) y (name_sight script next [] moved y)) e name-now
         | inr d ↦ other-name-now m d
       ]
+
+  -- ---- the numbers
+
+  kind-same : is_same_kind (kind_of name) kind ≡ true
+  kind-same = ap (λ y. is_same_kind y kind) g.kind_is ∙ kind-itself kind
+
+  kind-taken-now : SameKind (taken-at (kind_sight w k kind) p number numbers) (kind_sight next made.next kind)
+  kind-taken-now =
+      record {
+        used = λ m. sym (used-at k pid call reply (Some name) made.next enters kind m
+            ∙ ap (λ t. (t && nat_eq m (number_of name)) || is_used (used_of k kind) m) kind-same
+            ∙ ap (λ y. nat_eq m y || is_used (used_of k kind) m) g.number_is);
+        leases = λ q. leases-at q (cases_eq q p);
+        coming = λ q. sym (made-same script p w next after-node [] sends (entry ∷ []) changes
+            (λ t y fs. flat_map (lease_in kind) fs) (λ t y. flat_map-is-list-map (lease_in kind)) tt (refl, tt) q 1);
+        ranges = sym (ap (λ (d : Directory). for_kind d.ranges kind) same-there);
+      }
+    where
+      leases-at : (q : ℕ) → (q ≡ p) ⊎ (q ≢ p)
+          → (if nat_eq q p then numbers else lease_at w kind q) ≡ lease_at next kind q
+      leases-at q (inl e) =
+          subst (λ y. (if nat_eq y p then numbers else lease_at w kind y) ≡ lease_at next kind y) (sym e)
+          (ap (λ t. if t then numbers else lease_at w kind p) (eq-eqb p p refl)
+          ∙ sym (ap (λ (m : Node). for_kind m.leases kind) changes.here ∙ for-with n.leases kind numbers))
+      leases-at q (inr d) =
+          ap (λ t. if t then numbers else lease_at w kind q) (ne_eqb q p d)
+          ∙ sym (ap (λ (m : Node). for_kind m.leases kind) (changes.others q d))
+
+  numbers-now : (y : Kind) → KindHolds (is_born_in next) (kind_sight next made.next y)
+  numbers-now y = by-test (is_same_kind kind y) refl
+    where
+      by-test : (t : Bool) → is_same_kind kind y ≡ t → KindHolds (is_born_in next) (kind_sight next made.next y)
+      by-test true e =
+          subst (λ z. KindHolds (is_born_in next) (kind_sight next made.next z)) (kind-is kind y e)
+          (kind-stays (is_born_in w) (is_born_in next) _ _ more kind-taken-now
+          (kind-taken (is_born_in w) (kind_sight w k kind) (holds.kinds kind) p low number numbers lease
+          (none-coming kind)))
+      by-test false e =
+          kind-stays (is_born_in w) (is_born_in next) _ _ more
+          (kind-left-alone script p w next after-node [] sends (entry ∷ []) changes k made.next y
+          (λ m. used-at k pid call reply (Some name) made.next enters y m
+          ∙ ap (λ z. (is_same_kind z y && nat_eq m (number_of name)) || is_used (used_of k y) m) g.kind_is
+          ∙ ap (λ t. (t && nat_eq m (number_of name)) || is_used (used_of k y) m) e)
+          (for-other n.leases kind y numbers e)
+          (ap (λ (d : Directory). for_kind d.ranges y) same-there) tt (refl, tt)) (holds.kinds y)
+
+  few-now : (y : Kind) → FewRanges script next b.call y
+  few-now y =
+      few-after script w next [] [] b made.next places-now deed-now b.call p after-node [] sends (entry ∷ []) p low high
+      holds changes move y (ap (λ (d : Directory). for_kind d.ranges y) same-there) (λ q. refl)
+
+  -- The queue or set is there, held by the node that made it, which tells the leader.
+  pub object-made : KeepsAs script w (events.Run p) moved
+  object-made =
+      record {
+        next = next;
+        is_step = run-steps script w p after holds.shape low high rule;
+        holds = entry-keeps script w next [] [] b made.next places-now deed-now b.call p after-node [] sends
+            (entry ∷ []) p low high holds changes move call-now names-now numbers-now few-now;
+      }
