@@ -1,0 +1,4 @@
+pub mod Filters
+pub mod Sorts
+pub mod Orders
+pub mod Merges
