@@ -4,3 +4,4 @@ pub mod Turns
 pub mod Whole
 pub mod Journals
 pub mod Merged
+pub mod MayMerge

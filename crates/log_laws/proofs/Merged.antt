@@ -1,13 +1,14 @@
 -- What `stamp_merge` says of its answer is what the law of merged logs asks of a merge.
-use Rattle.std.proofs.Common.{◌≡◌, ◌≢◌, ℕ, List, [], ◌∷◌, map, cond, All, refl, ap, sym, ◌∙◌, inl, inr, arith}
+use Rattle.std.proofs.Common.{◌≡◌, ℕ, List, [], ◌∷◌, map, All, refl, ap, sym, ◌∙◌, inl, inr, arith}
 use Rattle.std.specs.List.{AllByRecursion}
 use Rattle.std.specs.List.Sorted.{IsPermutation}
-use Rattle.std.proofs.lemmas.Bool.{cases_eq, eq-eqb, ne_eqb}
+use Rattle.std.proofs.lemmas.Bool.{cases_eq}
 use Rattle.std.proofs.lemmas.List.Elements.{All-nil, All-cons, All-head, All-tail}
 use Rattle.std.proofs.lemmas.List.Sorted.{All-permutation}
 use Rattle.pico_base.specs.declared.script.Script.{Script}
 use Rattle.stamp_merge.specs.declared.Stamped.{Stamped}
 use Rattle.stamp_merge.specs.Merge as stamps
+use Rattle.stamp_merge.proofs.Merges.{own-item, others-item}
 use Rattle.log_laws.specs.Logs.{IsNode, Logged, Log}
 use Rattle.log_laws.specs.Merge.{NodeTurn, IsBefore, AreInOrder, log_of}
 use Rattle.log_laws.specs.Merged.{item_of, turn_of, IsItem, MergesAreMerges}
@@ -29,16 +30,6 @@ all-moved P xs ys moved h = from-all P ys (All-permutation P xs ys moved (to-all
 
 -- ---- one node's turns
 
-own-item : (e : Stamped Logged) (items : List (Stamped Logged)) (p : ℕ) → e.node ≡ p
-    → stamps.items_of p (e ∷ items) ≡ e ∷ stamps.items_of p items
-own-item e items p h =
-    ap (λ b. cond b (e ∷ stamps.items_of p items) (stamps.items_of p items)) (eq-eqb e.node p h)
-
-other-item : (e : Stamped Logged) (items : List (Stamped Logged)) (p : ℕ) → e.node ≢ p
-    → stamps.items_of p (e ∷ items) ≡ stamps.items_of p items
-other-item e items p h =
-    ap (λ b. cond b (e ∷ stamps.items_of p items) (stamps.items_of p items)) (ne_eqb e.node p h)
-
 turns-of : (p : ℕ) (items : List (Stamped Logged))
     → log_of p (map turn_of items) ≡ map (λ (e : Stamped Logged). e.item) (stamps.items_of p items)
 turns-of p [] = refl
@@ -51,7 +42,7 @@ turns-of p (e ∷ items) =
       | inr d ↦
           log-of-other (turn_of e) (map turn_of items) p d
           ∙ turns-of p items
-          ∙ sym (ap (map (λ (f : Stamped Logged). f.item)) (other-item e items p d))
+          ∙ sym (ap (map (λ (f : Stamped Logged). f.item)) (others-item e items p d))
     ]
 
 turns-back : (p : ℕ) (log : Log) → map (λ (e : Stamped Logged). e.item) (map (item_of p) log) ≡ log

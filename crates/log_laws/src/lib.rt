@@ -3,7 +3,7 @@
 #![tactic(auto)]
 
 ghost use Rattle.log_laws.specs.Laws.{ConsistentLogsAreRuns, OneJournal};
-ghost use Rattle.log_laws.specs.Merged.{MergesAreMerges};
+ghost use Rattle.log_laws.specs.Merged.{MergesAreMerges, LogsMayMerge};
 
 /// Where each node's log is the machine's, its stamps rise, and each frame was taken in the order of sending and later
 /// than it was sent, the turns of all logs by stamp and node are one run of the machine from the opening world: each
@@ -22,4 +22,9 @@ pub fn one_journal()
 /// are one run of the machine.
 pub fn merges_are_merges()
     ensures { MergesAreMerges }
+{}
+
+/// The logs of a script's nodes are what `stamp_merge` asks for where the stamps of each rise.
+pub fn logs_may_merge()
+    ensures { LogsMayMerge }
 {}

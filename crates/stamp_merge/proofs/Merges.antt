@@ -13,23 +13,28 @@ use Rattle.stamp_merge.proofs.Orders.{dont-fall-from-rise, dont-fall-from-none, 
 
 -- ---- one node's items
 
-own-item : {T : Type 0} (e : Stamped T) (es : List (Stamped T)) (p : ℕ) → e.node ≡ p
+-- the first item is the node's
+pub own-item : {T : Type 0} (e : Stamped T) (es : List (Stamped T)) (p : ℕ) → e.node ≡ p
     → items_of p (e ∷ es) ≡ e ∷ items_of p es
 own-item e es p h = filter-yes (λ f. nat_eq f.node p) e es (eq-eqb e.node p h)
 
-others-item : {T : Type 0} (e : Stamped T) (es : List (Stamped T)) (p : ℕ) → e.node ≢ p
+-- it is another's
+pub others-item : {T : Type 0} (e : Stamped T) (es : List (Stamped T)) (p : ℕ) → e.node ≢ p
     → items_of p (e ∷ es) ≡ items_of p es
 others-item e es p h = filter-no (λ f. nat_eq f.node p) e es (ne_eqb e.node p h)
 
-all-own : {T : Type 0} (p : ℕ) (es : List (Stamped T)) → AllByRecursion (λ e. e.node ≡ p) es → items_of p es ≡ es
+-- all are the node's
+pub all-own : {T : Type 0} (p : ℕ) (es : List (Stamped T)) → AllByRecursion (λ e. e.node ≡ p) es → items_of p es ≡ es
 all-own {T} p es h =
     filter-all (λ f. nat_eq f.node p) es (all-map (λ (e : Stamped T) s. eq-eqb e.node p s) es h)
 
-none-own : {T : Type 0} (p : ℕ) (es : List (Stamped T)) → AllByRecursion (λ e. e.node ≢ p) es → items_of p es ≡ []
+-- none is
+pub none-own : {T : Type 0} (p : ℕ) (es : List (Stamped T)) → AllByRecursion (λ e. e.node ≢ p) es → items_of p es ≡ []
 none-own {T} p es h =
     filter-none (λ f. nat_eq f.node p) es (all-map (λ (e : Stamped T) s. ne_eqb e.node p s) es h)
 
-of-append : {T : Type 0} (p : ℕ) (xs ys : List (Stamped T)) → items_of p (xs ++ ys) ≡ items_of p xs ++ items_of p ys
+-- one list behind another
+pub of-append : {T : Type 0} (p : ℕ) (xs ys : List (Stamped T)) → items_of p (xs ++ ys) ≡ items_of p xs ++ items_of p ys
 of-append p xs ys = filter-append (λ f. nat_eq f.node p) xs ys
 
 -- ---- each log is the part of its node in all items
