@@ -3,3 +3,5 @@ pub mod Halfway
 pub mod Turns
 pub mod Whole
 pub mod Journals
+pub mod Merged
+pub mod MayMerge

@@ -2,3 +2,4 @@ pub mod Logs
 pub mod Merge
 pub mod Journal
 pub mod Laws
+pub mod Merged

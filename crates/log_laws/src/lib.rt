@@ -3,6 +3,7 @@
 #![tactic(auto)]
 
 ghost use Rattle.log_laws.specs.Laws.{ConsistentLogsAreRuns, OneJournal};
+ghost use Rattle.log_laws.specs.Merged.{MergesAreMerges, LogsMayMerge};
 
 /// Where each node's log is the machine's, its stamps rise, and each frame was taken in the order of sending and later
 /// than it was sent, the turns of all logs by stamp and node are one run of the machine from the opening world: each
@@ -15,4 +16,15 @@ pub fn consistent_logs_are_runs()
 /// entries are those of that run, in its order.
 pub fn one_journal()
     ensures { OneJournal }
+{}
+
+/// What `stamp_merge` gives of the nodes' logs is the merge of which these laws speak: its items' turns, in its order,
+/// are one run of the machine.
+pub fn merges_are_merges()
+    ensures { MergesAreMerges }
+{}
+
+/// The logs of a script's nodes are what `stamp_merge` asks for where the stamps of each rise.
+pub fn logs_may_merge()
+    ensures { LogsMayMerge }
 {}

@@ -2,3 +2,4 @@ pub mod Filters
 pub mod Sorts
 pub mod Orders
 pub mod Merges
+pub mod Example

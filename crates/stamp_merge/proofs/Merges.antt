@@ -3,6 +3,8 @@ use Rattle.std.proofs.Common.{◌≡◌, ◌≢◌, ℕ, ◌<◌, ◌≤◌, Lis
 use Rattle.std.specs.List.{AllByRecursion}
 use Rattle.std.proofs.lemmas.Bool.{cases_eq, eq-eqb, ne_eqb}
 use Rattle.std.proofs.lemmas.List.Elements.{filter-append}
+use Rattle.std.specs.List.Sorted.{IsPermutation}
+use Rattle.std.proofs.lemmas.List.Sorted.{length_permutation}
 use Rattle.stamp_merge.specs.declared.Stamped.{Stamped}
 use Rattle.stamp_merge.specs.Merge.{StampsRise, IsOfOneNode, ShareNoNode, HaveOwnNodes, all_items, items_of, IsBefore, AreInOrder, IsPartOf, IsMerge}
 use Rattle.stamp_merge.specs.Sorted.{IsNotAfter, NoneFalls, IsSortOf}
@@ -11,23 +13,28 @@ use Rattle.stamp_merge.proofs.Orders.{dont-fall-from-rise, dont-fall-from-none, 
 
 -- ---- one node's items
 
-own-item : {T : Type 0} (e : Stamped T) (es : List (Stamped T)) (p : ℕ) → e.node ≡ p
+-- the first item is the node's
+pub own-item : {T : Type 0} (e : Stamped T) (es : List (Stamped T)) (p : ℕ) → e.node ≡ p
     → items_of p (e ∷ es) ≡ e ∷ items_of p es
 own-item e es p h = filter-yes (λ f. nat_eq f.node p) e es (eq-eqb e.node p h)
 
-others-item : {T : Type 0} (e : Stamped T) (es : List (Stamped T)) (p : ℕ) → e.node ≢ p
+-- it is another's
+pub others-item : {T : Type 0} (e : Stamped T) (es : List (Stamped T)) (p : ℕ) → e.node ≢ p
     → items_of p (e ∷ es) ≡ items_of p es
 others-item e es p h = filter-no (λ f. nat_eq f.node p) e es (ne_eqb e.node p h)
 
-all-own : {T : Type 0} (p : ℕ) (es : List (Stamped T)) → AllByRecursion (λ e. e.node ≡ p) es → items_of p es ≡ es
+-- all are the node's
+pub all-own : {T : Type 0} (p : ℕ) (es : List (Stamped T)) → AllByRecursion (λ e. e.node ≡ p) es → items_of p es ≡ es
 all-own {T} p es h =
     filter-all (λ f. nat_eq f.node p) es (all-map (λ (e : Stamped T) s. eq-eqb e.node p s) es h)
 
-none-own : {T : Type 0} (p : ℕ) (es : List (Stamped T)) → AllByRecursion (λ e. e.node ≢ p) es → items_of p es ≡ []
+-- none is
+pub none-own : {T : Type 0} (p : ℕ) (es : List (Stamped T)) → AllByRecursion (λ e. e.node ≢ p) es → items_of p es ≡ []
 none-own {T} p es h =
     filter-none (λ f. nat_eq f.node p) es (all-map (λ (e : Stamped T) s. ne_eqb e.node p s) es h)
 
-of-append : {T : Type 0} (p : ℕ) (xs ys : List (Stamped T)) → items_of p (xs ++ ys) ≡ items_of p xs ++ items_of p ys
+-- one list behind another
+pub of-append : {T : Type 0} (p : ℕ) (xs ys : List (Stamped T)) → items_of p (xs ++ ys) ≡ items_of p xs ++ items_of p ys
 of-append p xs ys = filter-append (λ f. nat_eq f.node p) xs ys
 
 -- ---- each log is the part of its node in all items
@@ -153,6 +160,13 @@ in-order (x ∷ zs) h rise = (
       rest-rises x zs e.node (rise e)),
 )
 
+-- so are those of a node without items
+any-part : {T : Type 0} (xs zs : List (Stamped T)) → IsPermutation xs zs
+    → ((e : Stamped T) → items_of e.node zs ≡ items_of e.node xs) → (p : ℕ) → items_of p zs ≡ items_of p xs
+any-part [] [] moved same p = refl
+any-part [] (z ∷ zs) moved same p = let none = length_permutation [] (z ∷ zs) moved in absurd (omega arith)
+any-part (x ∷ xs) zs moved same p = same (record { stamp = 0; node = p; item = x.item })
+
 -- the sorted items of the logs are their merge
 pub merge-from-sort : {T : Type 0} (logs : List (List (Stamped T))) (merged : List (Stamped T))
     → AllByRecursion StampsRise logs → HaveOwnNodes logs → IsSortOf (all_items logs) merged → IsMerge logs merged
@@ -162,5 +176,6 @@ merge-from-sort {T} logs merged rise own sorted =
       in_order = in-order merged sorted.none_falls (λ e. subst StampsRise (sym (same e)) (node-rises e.node logs rise own));
       each = all-map (λ (log : List (Stamped T)) part. all-map (λ (e : Stamped T) is. same e ∙ is) log part) logs
           (each-part logs own);
+      parts = any-part (all_items logs) merged sorted.all same;
       all = sorted.all;
     }

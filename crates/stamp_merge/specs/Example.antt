@@ -8,12 +8,20 @@ use Rattle.stamp_merge.specs.Merge.{items_of}
 abbrev pub at : ℕ → ℕ → ℕ → Stamped ℕ
 at stamp node item = record { stamp = stamp; node = node; item = item }
 
--- node 2 has items at the stamps 1 and 3, node 1 at 3 and 4: at stamp 3 node 1 comes first
-abbrev merged : List (Stamped ℕ)
+abbrev pub of_node_1 : List (Stamped ℕ)
+of_node_1 = at 3 1 71 ∷ at 4 1 73 ∷ []
+
+abbrev pub of_node_2 : List (Stamped ℕ)
+of_node_2 = at 1 2 70 ∷ at 3 2 72 ∷ []
+
+-- at stamp 3 both have an item: that of node 1 comes first
+abbrev pub merged : List (Stamped ℕ)
 merged = at 1 2 70 ∷ at 3 1 71 ∷ at 3 2 72 ∷ at 4 1 73 ∷ []
 
-of_node_1 : items_of 1 merged ≡ at 3 1 71 ∷ at 4 1 73 ∷ []
-of_node_1 = refl
+-- each log is the part of its node
+parts : (items_of 1 merged ≡ of_node_1) × (items_of 2 merged ≡ of_node_2)
+parts = (refl, refl)
 
-of_node_2 : items_of 2 merged ≡ at 1 2 70 ∷ at 3 2 72 ∷ []
-of_node_2 = refl
+-- node 3 has no log, and no part
+no_others : items_of 3 merged ≡ []
+no_others = refl

@@ -49,9 +49,10 @@ AreInOrder (e ∷ items) = AllByRecursion (IsBefore e) items × AreInOrder items
 abbrev pub IsPartOf : {T : Type 0} → List (Stamped T) → List (Stamped T) → Type 0
 IsPartOf merged log = AllByRecursion (λ e. items_of e.node merged ≡ log) log
 
--- the items are in order; each log is the part of its node; the items of the logs are there, each as often as in them,
--- and no others
+-- the items are in order; each log is the part of its node, and a node without a log has none; the items of the logs
+-- are there, each as often as in them, and no others
 pub record IsMerge {T : Type 0} (logs : List (List (Stamped T))) (merged : List (Stamped T)) : Type 0 where
   pub in_order : AreInOrder merged
   pub each : AllByRecursion (IsPartOf merged) logs
+  pub parts : (node : ℕ) → items_of node merged ≡ items_of node (all_items logs)
   pub all : IsPermutation (all_items logs) merged

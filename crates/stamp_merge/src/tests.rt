@@ -11,10 +11,11 @@ use std::test::*;
 fn item(stamp: u64, node: Node) -> Stamped<u8>
     ensures { result ≡ at stamp node node }
 {
+    let digit = node.0;
     Stamped {
         stamp,
         node,
-        item: node.0,
+        item: digit,
     }
 }
 
