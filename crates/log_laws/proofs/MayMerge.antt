@@ -38,7 +38,8 @@ share-none : (p q : ℕ) (log other : Log) → q ≢ p → stamps.ShareNoNode (m
 share-none p q [] other d = tt
 share-none p q (t ∷ log) other d = (items-other p q other d, share-none p q log other d)
 
-items-are : (script : Script) (p : ℕ) (log : Log) → IsNode script p → AllByRecursion (IsItem script) (map (item_of p) log)
+items-are : (script : Script) (p : ℕ) (log : Log) → IsNode script p
+    → AllByRecursion (IsItem script) (map (item_of p) log)
 items-are script p [] is = tt
 items-are script p (t ∷ log) is = (record { node = is; stamp = refl }, items-are script p log is)
 
@@ -90,7 +91,8 @@ own-first node count logs =
     let rest = stamps.all_items (logs_from (suc node) count logs)
     in let log = map (item_of node) (logs node)
     in of-append node log rest
-    ∙ ap (λ (es : List (Stamped Logged)). es ++ stamps.items_of node rest) (all-own node log (items-own node (logs node)))
+    ∙ ap (λ (es : List (Stamped Logged)). es ++ stamps.items_of node rest) (all-own node log (items-own node
+    (logs node)))
     ∙ ap (λ (es : List (Stamped Logged)). log ++ es) (none-later node (suc node) count logs (omega arith))
     ∙ append-nil log
 

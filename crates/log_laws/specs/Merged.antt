@@ -1,4 +1,5 @@
--- The logs of the machine's turns, as `stamp_merge` takes logs, and its answer, as the law of merged logs takes a merge.
+-- The logs of the machine's turns, as `stamp_merge` takes logs, and its answer, as the law of merged logs takes a
+-- merge.
 use Rattle.std.specs.Prelude.{◌≡◌, ℕ, zero, suc, List, [], ◌∷◌, map}
 use Rattle.std.specs.List.{AllByRecursion}
 use Rattle.pico_base.specs.declared.script.Script.{Script}

@@ -193,19 +193,22 @@ gives-name deeds pid parent call rises (Proc id) o there =
     parts-of (brings (Proc id)) (pack_all Msg deeds.queues) (pack_all Sem deeds.sets) (parcel_of deeds pid parent call)
     ∙ (λ i. gives-none Msg (Proc id) (λ k. refl) deeds.queues i
     ++ (gives-none Sem (Proc id) (λ k. refl) deeds.sets i
-    ++ cond ((packed-has id deeds.processes ∙ ap is_some there) i) (frames.Left (parcel_of deeds pid parent call) ∷ []) []))
+    ++ cond ((packed-has id deeds.processes
+    ∙ ap is_some there) i) (frames.Left (parcel_of deeds pid parent call) ∷ []) []))
     ∙ proc-given id (parcel_of deeds pid parent call) o
 gives-name deeds pid parent call rises (Msg id) o there =
     parts-of (brings (Msg id)) (pack_all Msg deeds.queues) (pack_all Sem deeds.sets) (parcel_of deeds pid parent call)
     ∙ (λ i. gives-one Msg id (λ k. refl) deeds.queues rises.queues o there i
     ++ (gives-none Sem (Msg id) (λ k. refl) deeds.sets i
-    ++ cond (packed-lacks (Msg id) (λ k. refl) deeds.processes i) (frames.Left (parcel_of deeds pid parent call) ∷ []) []))
+    ++ cond (packed-lacks (Msg id) (λ k. refl) deeds.processes i) (frames.Left
+    (parcel_of deeds pid parent call) ∷ []) []))
     ∙ msg-given id (parcel_of deeds pid parent call) o
 gives-name deeds pid parent call rises (Sem id) o there =
     parts-of (brings (Sem id)) (pack_all Msg deeds.queues) (pack_all Sem deeds.sets) (parcel_of deeds pid parent call)
     ∙ (λ i. gives-none Msg (Sem id) (λ k. refl) deeds.queues i
     ++ (gives-one Sem id (λ k. refl) deeds.sets rises.sets o there i
-    ++ cond (packed-lacks (Sem id) (λ k. refl) deeds.processes i) (frames.Left (parcel_of deeds pid parent call) ∷ []) []))
+    ++ cond (packed-lacks (Sem id) (λ k. refl) deeds.processes i) (frames.Left
+    (parcel_of deeds pid parent call) ∷ []) []))
     ∙ sem-given id (parcel_of deeds pid parent call) o
 
 no-left-back : (packs : List PackedDeed) → filter is_left_frame (map give_back packs) ≡ []

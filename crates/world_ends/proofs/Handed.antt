@@ -47,7 +47,8 @@ not-in-table p place body h = refl
 -- ---- plays
 
 -- all go, whatever was there
-pub play-all-go : (hold last : Hold) (ss : List PlayStep) → play hold (AllGo ∷ ss) ≡ Some last → play Done ss ≡ Some last
+pub play-all-go : (hold last : Hold) (ss : List PlayStep) → play hold (AllGo ∷ ss) ≡ Some last
+    → play Done ss ≡ Some last
 play-all-go Has last ss h = h
 play-all-go Lacks last ss h = h
 play-all-go Done last ss h = h

@@ -111,7 +111,8 @@ module _ (script : Script) (w : World) (items : List Held) (parcel : Parcel) (b 
       let known : NameHolds script b.pids (is_born_in w) name (sight name) = holds.names name
       in in-hand-is b.pids name (sight name).body (b.deed name) parcel (filter (is_parcel_with name) items)
       (subst
-      (λ xs. OneIf (is_hand_place (b.deed name)) (IsItemWith name (sight name).body (b.pids (node_in (b.deed name)))) xs)
+      (λ xs. OneIf (is_hand_place (b.deed name)) (IsItemWith name (sight name).body (b.pids (node_in
+      (b.deed name)))) xs)
       (ap (λ t. cond t (Ending parcel ∷ filter (is_parcel_with name) items) (filter (is_parcel_with name) items)) e)
       known.in_hand)
 
@@ -137,7 +138,8 @@ module _ (script : Script) (w : World) (items : List Held) (parcel : Parcel) (b 
 
       only-one : OnlyOne (IsItemWith name (sight name).body (b.pids c)) (sight name).hand
       only-one =
-          subst (λ z. OneIf (is_hand_place z) (IsItemWith name (sight name).body (b.pids (node_in z))) (sight name).hand)
+          subst (λ z. OneIf (is_hand_place z) (IsItemWith name (sight name).body (b.pids (node_in z)))
+          (sight name).hand)
           deed known.in_hand
 
       not-there : has_deed_of name parcel ≡ false → IsItemWith name (sight name).body (b.pids c) only-one.one → ⊥
@@ -188,7 +190,8 @@ module _ (script : Script) (w : World) (items : List Held) (parcel : Parcel) (b 
       (has-its-own script b.pids (stage_of w) (under_way_of w) parcel sender)
       in unused-is-unmade (first.0) (first.1)
     where
-      own : NameHolds script b.pids (is_born_in w) (Proc parcel.pid) (name_sight script w (item ∷ items) b (Proc parcel.pid))
+      own : NameHolds script b.pids (is_born_in w) (Proc parcel.pid) (name_sight script w (item ∷ items) b
+          (Proc parcel.pid))
       own = holds.names (Proc parcel.pid)
 
       not-unmade : (g : ℕ) → InHand g ≡ Unmade → ⊥
@@ -508,7 +511,8 @@ module _ (script : Script) (w : World) (items : List Held) (parcel : Parcel) (b 
       elim (name-cases (Proc pid) (Proc parcel.parent)) [
         | inr u ↦
             kept_in pid
-            (subst (λ is. Contains is (Ending q)) (ap (λ z. held_for z (Proc pid)) directory-now ∙ held-now (Proc pid) u)
+            (subst (λ is. Contains is (Ending q)) (ap (λ z. held_for z (Proc pid)) directory-now
+            ∙ held-now (Proc pid) u)
             there)
         | inl e ↦
             elim (Contains-push_cases kept_items item (Ending q)

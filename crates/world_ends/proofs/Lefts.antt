@@ -119,7 +119,12 @@ record IsFirst {A : Type 0} (t : Bool) (P : A → Type 0) (x : A) (xs : List A) 
 one-first : {A : Type 0} (t : Bool) (P : A → Type 0) (x : A) (xs ys : List A) → ys ≡ x ∷ xs → OneIf t P ys
     → IsFirst t P x xs
 one-first true P x xs ys e o =
-    record { counts = refl; alone = rest-same (sym e ∙ o.only); is = subst P (sym (first-same (sym e ∙ o.only))) o.holds }
+    record {
+      counts = refl;
+      alone = rest-same (sym e ∙ o.only);
+      is = subst P (sym (first-same (sym e
+          ∙ o.only))) o.holds;
+    }
   where
     first-same : x ∷ xs ≡ o.one ∷ [] → x ≡ o.one
     first-same g = cc
@@ -191,7 +196,8 @@ no-left-kept test (f ∷ fs) q none e = by-left (no-left-kept test fs q) (is_lef
         (sym (ap (λ b. cond b (f ∷ filter is_left_frame fs) (filter is_left_frame fs)) g) ∙ none)
     by-left later false g =
         by-test
-        (later (sym (ap (λ b. cond b (f ∷ filter is_left_frame fs) (filter is_left_frame fs)) g) ∙ none)) g (test f) refl
+        (later (sym (ap (λ b. cond b (f ∷ filter is_left_frame fs) (filter is_left_frame fs)) g)
+        ∙ none)) g (test f) refl
 
 -- ---- the name
 

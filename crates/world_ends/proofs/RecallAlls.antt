@@ -1,4 +1,5 @@
--- A node whose process ends is asked for all that it holds: each queue and set goes back to the leader, and its processes
+-- A node whose process ends is asked for all that it holds: each queue and set goes back to the leader, and its
+-- processes
 -- go there in a parcel, with the call that ends its own.
 use Rattle.std.proofs.Common.{◌≡◌, ◌≢◌, ◌⊎◌, ℕ, ◌≤◌, Bool, true, false, ◌&&◌, ◌||◌, not, cond, if◌then◌else◌, List, [], ◌∷◌, ◌++◌, fold, filter, flat_map, nat_eq, Option, Some, None, is_some, option_and_then, Contains, refl, ap, sym, subst, ◌∙◌, inl, inr, arith, append-nil}
 use Rattle.std.specs.List.{AllByRecursion}
@@ -343,7 +344,8 @@ module _ (script : Script) (w : World) (b : Beside) (holds : Holds script w [] b
         elim (cases_eq q p) [
           | inl e ↦
               ap (λ t. if t then Done else x.begins q) (eq-eqb q p e)
-              ∙ subst (λ y. Done ≡ begin (stage_of next y) (is_some (held_at next name y)) (comes_to script next name y))
+              ∙ subst (λ y. Done ≡ begin (stage_of next y) (is_some (held_at next name y))
+              (comes_to script next name y))
               (sym e)
               (sym (ap (λ s. begin s (is_some (held_at next name p)) (comes_to script next name p)) stage-now))
           | inr d ↦

@@ -1,4 +1,5 @@
--- A parcel that has come to the leader is taken: the rule of a Left is to release it from the leader's hand, in a world in
+-- A parcel that has come to the leader is taken: the rule of a Left is to release it from the leader's hand, in a world
+-- in
 -- which all holds with the parcel in hand.
 use Rattle.std.proofs.Common.{◌≡◌, ◌≢◌, ◌⊎◌, ℕ, ◌≤◌, Bool, true, false, ◌&&◌, not, if◌then◌else◌, List, [], ◌∷◌, map, filter, nat_eq, Option, Some, None, is_none, is_some, option_and_then, Contains, refl, ap, sym, subst, ◌∙◌, inl, inr, arith}
 use Rattle.std.specs.List.{list_any, list_all}

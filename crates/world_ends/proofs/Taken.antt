@@ -1,5 +1,7 @@
--- A parcel that has come to the leader can be taken: it is read as what the kernel has of its processes, and each of them
--- is on its way and in no other parcel. Two things are taken here that the invariant doesn't say yet: bodies on their way
+-- A parcel that has come to the leader can be taken: it is read as what the kernel has of its processes, and each of
+-- them
+-- is on its way and in no other parcel. Two things are taken here that the invariant doesn't say yet: bodies on their
+-- way
 -- are read back, and the leader knows names at nodes alone.
 use Rattle.std.proofs.Common.{◌≡◌, ◌⊎◌, ℕ, Bool, true, false, ◌&&◌, ◌||◌, cond, if◌then◌else◌, List, [], ◌∷◌, ◌++◌, map, filter, Some, None, is_some, option_map, option_and_then, Contains, refl, ap, sym, subst, ◌∙◌, inl, inr, arith}
 use Rattle.std.specs.List.{AllByRecursion, list_any, list_all}
@@ -221,7 +223,8 @@ steps-without call name (frames.Grant deed) h =
 steps-without call name (frames.Checkpoint pid parent deed vars) h =
     subst (λ t. AllByRecursion (λ s. is_comes s ≡ false) (steps_if t Comes)) (sym h) tt
 steps-without call name (frames.ExitTo parcel) h =
-    subst (λ t. AllByRecursion (λ s. is_comes s ≡ false) (if t then Comes ∷ [] else steps_if (is_same_name name (Proc parcel.parent)) IsNeeded))
+    subst (λ t. AllByRecursion (λ s. is_comes s ≡ false) (if t then Comes ∷ [] else steps_if (is_same_name name
+    (Proc parcel.parent)) IsNeeded))
     (sym h) (none-comes-if (is_same_name name (Proc parcel.parent)) IsNeeded refl)
 steps-without call name (frames.Recall other) h = none-comes-if _ Goes refl
 steps-without call name frames.RecallAll h = (refl, tt)

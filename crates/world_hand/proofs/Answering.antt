@@ -184,7 +184,6 @@ module _ (script : Script) (w : World) (asked : Asked) (rest : List Held) (b : B
       (plain : IsPlainCall asked.call) (other : p ≢ 1) (n : Node) (a : LeaderAnswers script w b next n) (w' : World)
       (c : Changes script 1 w w' n [] ((p, frames.Answer asked.ticket reply) ∷ [])
       (entry_of node asked.pid asked.call reply ∷ [])) where
-
     abbrev sends : List (ℕ × Frame)
     sends = (p, frames.Answer asked.ticket reply) ∷ []
 

@@ -63,7 +63,6 @@ use Rattle.world_own.proofs.Rebodied.{name-rebodied, name-seen-rebodied}
 use Rattle.world_own.proofs.Runs.{Starts, run-is}
 use Rattle.world_own.proofs.Served.{FindsOne, found-is, found-one, served-leaves, served-place}
 
-
 module _ (script : Script) (w : World) (b : Beside) (holds : Holds script w [] b) (p : ℕ) (low : 1 ≤ p)
     (high : p ≤ node_count script) (s : Starts script w b p) (reply : Reply) (alive : Alive) (leases : Leases) where
   abbrev n : Node

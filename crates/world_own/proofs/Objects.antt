@@ -202,7 +202,8 @@ pub record MakesOne (script : Script) (k : Kernel) (pid : ℕ) (call : Call) (ki
   pub kind_is : kind_of name ≡ kind
   pub number_is : number_of name ≡ number
   pub object : is_object name ≡ true
-  pub with_number : (step : Step) → make_with script step call number ≡ Some (make_object script step call name body number)
+  pub with_number : (step : Step)
+      → make_with script step call number ≡ Some (make_object script step call name body number)
   pub makes : MakesPrivate k pid call name body
   pub no_fork : is_fork call ≡ false
   pub no_exit : is_exit call ≡ false
@@ -491,7 +492,8 @@ module _ (script : Script) (sound : IsSoundScript script) (w : World) (b : Besid
         alive = sym made.caller.lives;
         call = refl;
         frames_about = λ to sender. sym (made-same script p w next after-node [] sends (entry ∷ []) changes
-            (λ t q fs. filter (is_about p t q) fs) (λ t q. filter-is-list-map (is_about p t q)) tt (refl, tt) to sender);
+            (λ t q fs. filter (is_about p t q) fs) (λ t q. filter-is-list-map (is_about p t q)) tt
+            (refl, tt) to sender);
         held = λ m. sym (ap (λ (d : Directory). filter (is_item_about p) (held_for d m)) same-there);
         hand = refl;
       }

@@ -326,11 +326,13 @@ module _ (script : Script) (sound : IsSoundScript script) (w : World) (b : Besid
       record {
         next = next;
         is_step = run-steps script w p after holds.shape low high rule;
-        holds = entry-keeps script w next [] [] b refused.next places-now b.deed b.call p after-node [] [] (entry ∷ []) p
+        holds = entry-keeps script w next [] [] b refused.next places-now b.deed b.call p after-node [] []
+            (entry ∷ []) p
             low high holds changes move
             (call-stays script p (is_born_in w) (is_born_in next) _ _ more sight-now call-ended)
             (λ m. name-stays script b.pids (is_born_in w) (is_born_in next) m _ _ more
-            (name-left-alone script p w next after-node [] [] (entry ∷ []) changes [] [] b moved m (leaves-name m) tt tt)
+            (name-left-alone script p w next after-node [] [] (entry ∷ []) changes [] [] b moved m
+            (leaves-name m) tt tt)
             (holds.names m))
             (λ kind. kind-stays (is_born_in w) (is_born_in next) _ _ more
             (kind-left-alone script p w next after-node [] [] (entry ∷ []) changes k refused.next kind

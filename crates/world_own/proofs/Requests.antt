@@ -1,4 +1,5 @@
--- A node other than the leader starts a call on a name whose deed it doesn't hold: it asks the owner that its cache names,
+-- A node other than the leader starts a call on a name whose deed it doesn't hold: it asks the owner that its cache
+-- names,
 -- or the leader.
 use Rattle.std.proofs.Common.{◌≡◌, ◌≢◌, ℕ, ◌+◌, ◌≤◌, true, false, not, if◌then◌else◌, [], Contains, Option, Some, None, refl, ap, sym, ◌∙◌}
 use Rattle.std.proofs.lemmas.Bool.{eq-eqb, ne_eqb}
