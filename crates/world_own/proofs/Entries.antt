@@ -105,22 +105,22 @@ module _ (k next : Kernel) (places after : Places) (pid : ℕ) (l : EntryLeaves 
         nodes = h.nodes;
         forked = h.forked;
         placed = λ q place there. elim (own-or-other q place there) [
-              | inl old ↦ h.placed q place old
-              | inr own ↦ h.placed q l.was (ap (get places) own.0 ∙ l.place_was)
-            ];
+          | inl old ↦ h.placed q place old
+          | inr own ↦ h.placed q l.was (ap (get places) own.0 ∙ l.place_was)
+        ];
         there = λ q process is. old-process q (get k.processes q) refl (sym (there-same q) ∙ ap is_some is);
         has_place = λ c forked. has-place c forked (cases_eq (pids c) pid);
         ahead = λ p c place there forked names. elim (own-or-other (pids p) place there) [
-              | inl old ↦ h.ahead p c place old forked names
-              | inr own ↦
-                  h.ahead p c l.was (ap (get places) own.0 ∙ l.place_was) forked
-                  (l.shrinks (λ line. names_block c line.call)
-                  (subst (λ (x : Place). list_any (λ line. names_block c line.call) x.left ≡ true) own.1 names))
-            ];
+          | inl old ↦ h.ahead p c place old forked names
+          | inr own ↦
+              h.ahead p c l.was (ap (get places) own.0 ∙ l.place_was) forked
+              (l.shrinks (λ line. names_block c line.call)
+              (subst (λ (x : Place). list_any (λ line. names_block c line.call) x.left ≡ true) own.1 names))
+        ];
         alive = λ c a place lives there. elim (own-or-other (pids c) place there) [
-              | inl old ↦ alive-before c a place lives old (cases_eq (pids c) pid) there
-              | inr own ↦ λ none. l.more_left (ap (λ (x : Place). x.left) (sym own.1) ∙ none)
-            ];
+          | inl old ↦ alive-before c a place lives old (cases_eq (pids c) pid) there
+          | inr own ↦ λ none. l.more_left (ap (λ (x : Place). x.left) (sym own.1) ∙ none)
+        ];
         dead = λ c place forked dead there. dead-before c place forked dead there (cases_eq (pids c) pid);
       }
     where

@@ -36,8 +36,8 @@ use Rattle.world_rules.proofs.CallMoves.{SameButCall}
 use Rattle.world_own.proofs.Entries.{EntryLeaves, others-go-on, pids-after}
 use Rattle.world_own.proofs.Others.{call-goes-on, family-after}
 
--- What a rule shows of such an event at node p, with the call of node x: the entry, and what it leaves of the kernel and
--- of the places.
+-- What a rule shows of such an event at node p, with the call of node x: the entry, and what it leaves of the kernel
+-- and of the places.
 pub record IsEntryMove (script : Script) (w w' : World) (hand hand' : List Held) (b : Beside) (next : Kernel)
     (places : Places) (deed : Name → DeedPlace) (call : ℕ → CallPlace) (p : ℕ) (n : Node)
     (takes sends : List (ℕ × Frame)) (x : ℕ) : Type 0 where
@@ -157,9 +157,12 @@ module _ (script : Script) (w w' : World) (hand hand' : List Held) (b : Beside) 
       (process_deed deed) y q.deeds (λ e. q.stage) q.no_birth_taken q.no_birth_sent
       (family-after script b.pids b.kernel next b.places places (b.pids x) entry (process_deed b.deed)
       (checkpoints_to script w y) (stage_of w y) y
-      (λ to e. (q.awaited (b.pids y) to e, λ same. unborn-not (stage_of w x) q.born
-      (ap (stage_of w) (holds.pids.apart x y q.forked (sym same))
-      ∙ subst (λ (d : DeedPlace). IsAwaited (stage_of w y) d) e old.awaited))) old)
+      (λ to e. (
+        q.awaited (b.pids y) to e,
+        λ same. unborn-not (stage_of w x) q.born
+            (ap (stage_of w) (holds.pids.apart x y q.forked (sym same))
+            ∙ subst (λ (d : DeedPlace). IsAwaited (stage_of w y) d) e old.awaited),
+      )) old)
 
   -- All holds after it, where it holds for the call, the names and the numbers.
   pub entry-keeps : CallHolds script x (is_born_in w') (call_sight w' hand' after x)
@@ -208,7 +211,7 @@ module _ (script : Script) (w w' : World) (hand hand' : List Held) (b : Beside) 
       → ((y : ℕ) → has_lease kind (call y) ≡ has_lease kind (b.call y)) → FewRanges script w' call kind
   few-after kind ranges same =
       let old : length (for_kind (directory_of w).ranges kind)
-          ≤ length w.journal + leases_on_way script b.call kind + 1 = holds.few kind
+      ≤ length w.journal + leases_on_way script b.call kind + 1 = holds.few kind
       in let longer : length w'.journal ≡ length w.journal + length entries =
       ap length c.journal ∙ length-append w.journal entries
       in let many : length (for_kind (directory_of w').ranges kind) ≡ length (for_kind (directory_of w).ranges kind) =
