@@ -14,3 +14,4 @@ pub mod NewNames
 pub mod NewNumbers
 pub mod Objects
 pub mod Made
+pub mod OwnCases
