@@ -1,6 +1,6 @@
 -- Each call of a process on itself, at a node other than the leader: it is carried out, it is refused, or it needs a
 -- number, which the node has or asks for. A fork with a number that is left is the one case that isn't here.
-use Rattle.std.proofs.Common.{◌≡◌, ◌≢◌, ℕ, ◌≤◌, Bool, true, false, not, ◌&&◌, List, [], ◌∷◌, length, Option, Some, None, Result, Ok, Err, refl, ap, sym, subst, ◌∙◌}
+use Rattle.std.proofs.Common.{◌≡◌, ◌≢◌, ℕ, ◌≤◌, Bool, true, false, not, ◌&&◌, List, [], ◌∷◌, length, Some, None, Result, Ok, Err, refl, ap, sym, subst}
 use Rattle.std.proofs.lemmas.Bool.{false≢true}
 use Rattle.pico_base.specs.declared.call.Call.{Call}
 use Rattle.pico_base.specs.declared.call.Call.TheVariants as calls
@@ -23,7 +23,7 @@ use Rattle.world_laws.specs.Places.{Beside}
 use Rattle.world_laws.specs.Sights.{directory_of, node_of}
 use Rattle.world_laws.specs.Invariant.{Holds}
 use Rattle.world_laws.proofs.Steps.{KeepsAs}
-use Rattle.world_own.proofs.Asks.{Takes, lease-ask-starts, queue-takes, set-takes}
+use Rattle.world_own.proofs.Asks.{Takes, fork-takes, lease-ask-starts, queue-takes, set-takes}
 use Rattle.world_own.proofs.Made.{queue-made, set-made}
 use Rattle.world_own.proofs.OwnCalls.{own-call-keeps}
 use Rattle.world_own.proofs.Refused.{refused-keeps}
@@ -32,7 +32,7 @@ use Rattle.world_own.proofs.Runs.{Starts}
 -- what a call of one's own is
 data OwnCase (call : Call) : Type 0 where
   serves : is_served call ≡ true → OwnCase call
-  forks : is_fork call ≡ true → OwnCase call
+  forks : (block : ℕ) → call ≡ calls.Fork block → OwnCase call
   makes-queue : (create excl : Bool) → call ≡ calls.MsgGet None create excl → OwnCase call
   makes-set : (count : ℕ) (create excl : Bool) (set : SemaphoreSet) → call ≡ calls.SemGet None count create excl
       → new_set count ≡ Ok set → OwnCase call
@@ -51,7 +51,7 @@ set-case count create excl (Ok set) is = makes-set count create excl set refl is
 set-case count create excl (Err error) is = is-refused count create excl error refl is
 
 own-case : (pid : ℕ) (call : Call) → is_own pid call ≡ true → is_waiting call ≡ false → OwnCase call
-own-case pid (calls.Fork block) own h = forks refl
+own-case pid (calls.Fork block) own h = forks block refl
 own-case pid (calls.MsgGet None create excl) own h = makes-queue create excl refl
 own-case pid (calls.MsgGet (Some key) create excl) own h = absurd (false≢true own)
 own-case pid (calls.SemGet None count create excl) own h = set-case count create excl (new_set count) refl
@@ -98,14 +98,16 @@ module _ (script : Script) (sound : IsSoundScript script) (w : World) (b : Besid
             count create excl set refl is sized;
       }
 
-  -- A node other than the leader starts any call of its process on itself but a fork.
-  pub own-starts : is_own (node_of w p).pid s.call ≡ true → is_fork s.call ≡ false → Keeps script w (events.Run p)
-  own-starts own no_fork = by-case (own-case (node_of w p).pid s.call own s.due_now.not_waiting)
+  -- A node other than the leader starts any call of its process on itself, but a fork where a number is left.
+  pub own-starts : is_own (node_of w p).pid s.call ≡ true
+      → (is_fork s.call ≡ true → for_kind (node_of w p).leases kinds.Proc ≡ []) → Keeps script w (events.Run p)
+  own-starts own none_left = by-case (own-case (node_of w p).pid s.call own s.due_now.not_waiting)
     where
       by-case : OwnCase s.call → Keeps script w (events.Run p)
       by-case (serves served) =
           record { beside = _; keeps = own-call-keeps script sound w b holds p low high can s own served }
-      by-case (forks is) = absurd (false≢true (sym no_fork ∙ is))
+      by-case (forks block is) =
+          asks kinds.Proc (subst (λ y. Takes kinds.Proc y) (sym is) (fork-takes block)) (none_left (ap is_fork is))
       by-case (makes-queue create excl is) =
           queue create excl is (for_kind (node_of w p).leases kinds.Msg) refl
       by-case (makes-set count create excl set is sized) =
