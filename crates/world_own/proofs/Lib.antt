@@ -15,3 +15,4 @@ pub mod NewNumbers
 pub mod Objects
 pub mod Made
 pub mod OwnCases
+pub mod Enabled
