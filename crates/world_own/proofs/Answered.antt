@@ -1,67 +1,20 @@
 -- Where a node's call is carried out at once: the caller afterwards, with no call under way.
-use Rattle.std.proofs.Common.{◌≡◌, ◌≢◌, ℕ, ◌+◌, ◌≤◌, Bool, true, false, if◌then◌else◌, [], ◌∷◌, filter, nat_eq, Option, Some, None, refl, ap, sym, subst, ◌∙◌, inl, inr, arith}
-use Rattle.std.specs.Option.{option_map}
-use Rattle.std.proofs.lemmas.Bool.{cases_eq, eq-eqb, false≢true}
+use Rattle.std.proofs.Common.{◌≡◌, ℕ, ◌+◌, ◌≤◌, [], Option, Some, refl, ap, sym, subst, arith}
 use Rattle.pico_base.specs.declared.call.Call.{Call}
-use Rattle.pico_base.specs.declared.call.Call.TheVariants as calls
-use Rattle.pico_base.specs.declared.call.Home.{Home}
-use Rattle.pico_base.specs.declared.call.Home.TheVariants as homes
-use Rattle.pico_base.specs.declared.numbers.Kind.{Kind}
-use Rattle.pico_base.specs.declared.numbers.Name.{Name}
-use Rattle.pico_base.specs.declared.numbers.Name.TheVariants.{Proc, Sem}
-use Rattle.pico_base.specs.declared.reply.Ending.{Ending}
-use Rattle.pico_base.specs.declared.reply.Entry.{Entry}
 use Rattle.pico_base.specs.declared.reply.Reply.{Reply}
-use Rattle.pico_base.specs.declared.script.Event.TheVariants as events
 use Rattle.pico_base.specs.declared.script.Script.{Script}
-use Rattle.pico_base.specs.Home.{home_of}
-use Rattle.rpc_frame.specs.declared.frame.Frame.TheVariants as frames
-use Rattle.number_maps.specs.Maps.{get, is_used}
-use Rattle.kernel_model.specs.Fitting.{Place, Places, place_after, places_after}
-use Rattle.kernel_model.specs.Kernel.{Kernel, Process, living_at}
-use Rattle.kernel_model.specs.Kernel as kernel
+use Rattle.kernel_model.specs.Fitting.{Place, place_after}
 use Rattle.kernel_model.specs.Row.{Alive}
 use Rattle.node_model.specs.Leases.{Leases}
-use Rattle.kernel_model.specs.Script.{IsSoundScript}
-use Rattle.serve_laws.specs.Laws.{is_found}
-use Rattle.serve_laws.specs.Served.{served_as}
-use Rattle.kernel_moves.specs.Entering.{HasHistory, HasKeys, KeepsKeys, entry_of, removed_queue, removed_set, unless_removed}
-use Rattle.kernel_moves.proofs.Bodies.{living-body}
-use Rattle.kernel_moves.proofs.History.{history-goes-on}
-use Rattle.kernel_moves.proofs.Holding.{ServesHere, served_deeds, serves-here}
-use Rattle.kernel_moves.proofs.Keys.{keys-kept, size-same}
-use Rattle.kernel_moves.proofs.Numbers.{used-kept}
-use Rattle.kernel_moves.proofs.Replies.{set-not-found}
-use Rattle.kernel_moves.proofs.Served.{Carried, FindsChild, carried-finds}
-use Rattle.node_model.specs.Bodies.{Body, Deeds, Gone, Living as LivingBody, body_in}
 use Rattle.node_model.specs.Caller.{Caller, answer_call, caller_place, start_call}
-use Rattle.node_model.specs.Carrying.{is_own, is_own_home, is_served}
-use Rattle.node_model.specs.Directory.{Directory, held_for}
-use Rattle.node_model.specs.Kinds.{for_kind, get_named}
-use Rattle.node_model.specs.Serving.{name_for, name_in, serve}
-use Rattle.world_model.specs.Node.{Node, Leader, Stage, Living, Left, can_run}
-use Rattle.world_model.specs.Starting.{act, carry_out_own, run, start_by, start_own}
-use Rattle.world_model.specs.Step.{Step, reply_here, step_to}
-use Rattle.world_model.specs.World.{World, node_count, world_after}
-use Rattle.world_laws.specs.Places.{Beside, DeedPlace, InCheckpoint, InTable}
-use Rattle.world_laws.specs.Sights.{node_of, directory_of, is_born_in, is_born_stage, stage_of}
-use Rattle.world_laws.specs.Names.{NameHolds, forker, name_sight}
-use Rattle.world_laws.specs.Callers.{CallHolds, CallSight, FreeIn, HasCallOrNone, IsFree, call_sight, is_about, is_item_about}
-use Rattle.world_laws.specs.Families.{FamilyHolds, HoldsIn, IsWithParent, NodeHolds, checkpoints_to}
-use Rattle.world_laws.specs.Invariant.{Holds, IsHistory, process_deed}
-use Rattle.world_laws.specs.Ranges.{KindHolds, FewRanges, KeysHold, kind_sight}
-use Rattle.world_laws.proofs.Changes.{Changes, filter-is-list-map, made-same, read-same}
-use Rattle.world_laws.proofs.LeftAlone.{LeavesName, kind-left-alone, name-left-alone, same-directory}
+use Rattle.world_model.specs.Node.{Node, Stage}
+use Rattle.world_model.specs.World.{World, node_count}
+use Rattle.world_laws.specs.Places.{Beside}
+use Rattle.world_laws.specs.Sights.{node_of, is_born_in}
+use Rattle.world_laws.specs.Callers.{CallHolds, CallSight, FreeIn, HasCallOrNone, IsFree, call_sight}
+use Rattle.world_laws.specs.Invariant.{Holds}
 use Rattle.world_laws.proofs.Lines.{IsAnswered, answered, due-at-line}
-use Rattle.world_laws.proofs.Named.{name-cases}
-use Rattle.world_laws.proofs.Stays.{IsMore, SameCall, call-stays, kind-stays, name-stays}
-use Rattle.world_laws.proofs.Steps.{KeepsAs, changes-by-run, run-steps}
-use Rattle.world_rules.proofs.CallMoves.{same-but-call}
-use Rattle.world_own.proofs.Entries.{EntryLeaves}
-use Rattle.world_own.proofs.EntryMoves.{IsEntryMove, entry-born, entry-keeps, few-after}
-use Rattle.world_own.proofs.Rebodied.{name-rebodied, name-seen-rebodied}
-use Rattle.world_own.proofs.Runs.{Starts, run-is}
-use Rattle.world_own.proofs.Served.{FindsOne, found-is, found-one, served-leaves, served-place}
+use Rattle.world_own.proofs.Runs.{Starts}
 
 module _ (script : Script) (w : World) (b : Beside) (holds : Holds script w [] b) (p : ℕ) (low : 1 ≤ p)
     (high : p ≤ node_count script) (s : Starts script w b p) (reply : Reply) (alive : Alive) (leases : Leases) where

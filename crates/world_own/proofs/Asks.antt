@@ -1,6 +1,5 @@
 -- A node other than the leader starts a call that it doesn't carry out itself: it asks for numbers where it has none
--- left,
--- asks the leader, or asks the owner that its cache names.
+-- left, or asks the leader.
 use Rattle.std.proofs.Common.{◌≡◌, ◌≢◌, ℕ, ◌+◌, ◌≤◌, Bool, true, false, ◌&&◌, not, if◌then◌else◌, List, [], ◌∷◌, Contains, Option, Some, None, Ok, refl, ap, sym, ◌∙◌, arith}
 use Rattle.std.proofs.lemmas.Bool.{eq-eqb, ne_eqb, false≢true}
 use Rattle.pico_base.specs.declared.call.Call.{Call}

@@ -37,8 +37,7 @@ use Rattle.world_own.proofs.Entries.{EntryLeaves, others-go-on, pids-after}
 use Rattle.world_own.proofs.Others.{call-goes-on, family-after}
 
 -- What a rule shows of such an event at node p, with the call of node x: the entry, and what it leaves of the kernel
--- and
--- of the places.
+-- and of the places.
 pub record IsEntryMove (script : Script) (w w' : World) (hand hand' : List Held) (b : Beside) (next : Kernel)
     (places : Places) (deed : Name → DeedPlace) (call : ℕ → CallPlace) (p : ℕ) (n : Node)
     (takes sends : List (ℕ × Frame)) (x : ℕ) : Type 0 where

@@ -14,3 +14,5 @@ pub mod NewNames
 pub mod NewNumbers
 pub mod Objects
 pub mod Made
+pub mod OwnCases
+pub mod Enabled

@@ -1,8 +1,7 @@
 -- A new queue or set: what holds of its name once it is in the table of the node that made it, and of its kind once the
 -- number is taken.
-use Rattle.std.proofs.Common.{◌≡◌, ◌≢◌, ◌⊎◌, ℕ, zero, suc, ◌+◌, ◌<◌, ◌≤◌, Bool, true, false, ◌||◌, not, cond, if◌then◌else◌, List, [], ◌∷◌, ◌++◌, drop, filter, flat_map, nat_eq, Contains, Option, Some, None, is_some, refl, ap, sym, subst, ◌∙◌, inl, inr, arith}
-use Rattle.std.specs.List.{list_any, range_with_len}
-use Rattle.std.proofs.lemmas.Bool.{cases_eq, eq-eqb, eqb-true, ne_eqb, false≢true}
+use Rattle.std.proofs.Common.{◌≡◌, ◌≢◌, ℕ, ◌≤◌, Bool, true, false, cond, if◌then◌else◌, List, [], ◌∷◌, ◌++◌, filter, nat_eq, Contains, Option, Some, None, is_some, refl, ap, sym, subst, ◌∙◌, inl, inr}
+use Rattle.std.proofs.lemmas.Bool.{eq-eqb, eqb-true, ne_eqb, false≢true}
 use Rattle.pico_base.specs.declared.numbers.Name.{Name}
 use Rattle.pico_base.specs.declared.numbers.Name.TheVariants.{Proc, Msg, Sem}
 use Rattle.pico_base.specs.declared.script.Script.{Script}
@@ -10,17 +9,14 @@ use Rattle.rpc_frame.specs.declared.frame.Frame.{Frame}
 use Rattle.rpc_frame.specs.declared.frame.Frame.TheVariants as frames
 use Rattle.kernel_laws.proofs.Members.{contains-cases, contains-first, contains-none}
 use Rattle.node_model.specs.Bodies.{Body}
-use Rattle.node_model.specs.Directory.{Place, has_deed_of, maker_in}
+use Rattle.node_model.specs.Directory.{has_deed_of}
 use Rattle.node_model.specs.Kinds.{is_object, is_same_name}
-use Rattle.node_model.specs.Leases.{lease_of}
 use Rattle.world_model.specs.Census.{brings}
 use Rattle.world_laws.specs.Places.{CallPlace, DeedPlace, Unmade, InTable}
-use Rattle.world_laws.specs.Plays.{Belief, Nowhere, Somewhere, Hold, Has, Lacks, PlayStep, Comes, Goes, IsNeeded, News, Tells, believed, finds_place, is_has, is_there, needs_deed, play, plays, steps_if, steps_of, told}
+use Rattle.world_laws.specs.Plays.{Nowhere, Somewhere, Hold, Has, Lacks, PlayStep, Comes, Goes, IsNeeded, Tells, believed, finds_place, is_has, is_there, needs_deed, play, plays, steps_if, steps_of, told}
 use Rattle.world_laws.specs.Names.{IsBringer, IsItemWith, IsTold, NameHolds, NameSight, OneIf, PlaysTo, SaysOf, belief_of, forker, held_as, is_hand_place, is_kept_for, is_nowhere, is_stream_of, maker_tells, node_in}
-use Rattle.world_laws.specs.Ranges.{IsRangeOf, IsRestOf, KindHolds, KindSight, is_given, is_in_lease}
 use Rattle.world_laws.specs.Ways.{is_recall_all}
 use Rattle.world_laws.proofs.NameFacts.{play-goes, play-needs, plays-by}
-use Rattle.world_laws.proofs.Numbers.{maker-of-rest}
 
 -- ---- nothing on the way is about a name that isn't there
 

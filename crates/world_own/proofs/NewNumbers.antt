@@ -1,7 +1,7 @@
 -- A number that a node takes from its lease: it was unused, and what holds of its kind once it is used.
 use Rattle.std.proofs.Common.{◌≡◌, ◌≢◌, ◌⊎◌, ℕ, zero, suc, ◌+◌, ◌<◌, ◌≤◌, Bool, true, false, ◌||◌, not, if◌then◌else◌, List, [], ◌∷◌, drop, nat_eq, Option, Some, None, refl, ap, sym, subst, ◌∙◌, inl, inr, arith}
 use Rattle.std.specs.List.{list_any, range_with_len}
-use Rattle.std.proofs.lemmas.Bool.{cases_eq, eq-eqb, eqb-true, ne_eqb, false≢true}
+use Rattle.std.proofs.lemmas.Bool.{cases_eq, eq-eqb, eqb-true, ne_eqb}
 use Rattle.node_model.specs.Directory.{maker_in}
 use Rattle.node_model.specs.Leases.{lease_of}
 use Rattle.world_laws.specs.Ranges.{IsRestOf, KindHolds, KindSight, is_given, is_in_lease}

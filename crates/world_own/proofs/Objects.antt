@@ -1,135 +1,70 @@
 -- A node other than the leader makes a queue or set without a key, with a number of its lease.
-use Rattle.std.proofs.Common.{◌≡◌, ◌≢◌, ℕ, ◌+◌, ◌≤◌, Bool, true, false, if◌then◌else◌, [], ◌∷◌, filter, nat_eq, Option, Some, None, refl, ap, sym, subst, ◌∙◌, inl, inr, arith}
-use Rattle.std.specs.Option.{option_map}
-use Rattle.std.proofs.lemmas.Bool.{cases_eq, eq-eqb, false≢true}
+use Rattle.std.proofs.Common.{◌≡◌, ◌≢◌, ℕ, ◌+◌, ◌≤◌, Bool, true, false, if◌then◌else◌, [], ◌∷◌, filter, nat_eq, Some, None, refl, ap, sym, subst, ◌∙◌, inl, inr, arith, is_some, not, flat_map, zero, suc, is_none, append-nil, ◌||◌, List, ◌++◌, ◌⊎◌, option_and_then, ◌&&◌}
+use Rattle.std.proofs.lemmas.Bool.{cases_eq, eq-eqb, false≢true, ne_eqb}
 use Rattle.pico_base.specs.declared.call.Call.{Call}
-use Rattle.pico_base.specs.declared.call.Call.TheVariants as calls
-use Rattle.pico_base.specs.declared.call.Home.{Home}
-use Rattle.pico_base.specs.declared.call.Home.TheVariants as homes
 use Rattle.pico_base.specs.declared.numbers.Kind.{Kind}
 use Rattle.pico_base.specs.declared.numbers.Name.{Name}
-use Rattle.pico_base.specs.declared.numbers.Name.TheVariants.{Proc, Sem}
-use Rattle.pico_base.specs.declared.reply.Ending.{Ending}
+use Rattle.pico_base.specs.declared.numbers.Name.TheVariants.{Proc}
 use Rattle.pico_base.specs.declared.reply.Entry.{Entry}
 use Rattle.pico_base.specs.declared.reply.Reply.{Reply}
 use Rattle.pico_base.specs.declared.script.Event.TheVariants as events
 use Rattle.pico_base.specs.declared.script.Script.{Script}
-use Rattle.pico_base.specs.Home.{home_of}
 use Rattle.rpc_frame.specs.declared.frame.Frame.{Frame}
 use Rattle.rpc_frame.specs.declared.frame.Frame.TheVariants as frames
 use Rattle.number_maps.specs.Maps.{get, is_used}
-use Rattle.kernel_model.specs.Fitting.{Place, Places, place_after, places_after}
-use Rattle.kernel_model.specs.Kernel.{Kernel, Process, living_at}
-use Rattle.kernel_model.specs.Kernel as kernel
-use Rattle.kernel_model.specs.Row.{Row}
-use Rattle.kernel_model.specs.Script.{IsSoundScript}
-use Rattle.serve_laws.specs.Laws.{is_found}
-use Rattle.serve_laws.specs.Served.{served_as}
-use Rattle.kernel_moves.specs.Entering.{HasHistory, HasKeys, KeepsKeys, entry_of, removed_queue, removed_set, unless_removed}
-use Rattle.kernel_moves.proofs.Bodies.{living-body}
-use Rattle.kernel_moves.proofs.History.{history-goes-on}
-use Rattle.kernel_moves.proofs.Holding.{ServesHere, served_deeds, serves-here}
-use Rattle.kernel_moves.proofs.Keys.{keys-kept, size-same}
-use Rattle.kernel_moves.proofs.Numbers.{used-kept}
-use Rattle.kernel_moves.proofs.Replies.{set-not-found}
-use Rattle.kernel_moves.proofs.Served.{Carried, FindsChild, carried-finds}
-use Rattle.node_model.specs.Bodies.{Body, Deeds, Gone, Living as LivingBody, body_in}
+use Rattle.kernel_model.specs.Fitting.{Place, Places, place_after, places_after, IsDue, due, is_killed, move_on}
+use Rattle.kernel_model.specs.Kernel.{Kernel}
+use Rattle.kernel_model.specs.Script.{IsSoundScript, is_exit, is_fork}
+use Rattle.kernel_moves.specs.Entering.{HasHistory, HasKeys, entry_of, LeavesOthers, MayMake, Same, Enters, Makes, is_used_as}
+use Rattle.kernel_moves.proofs.History.{history-goes-on, moved-is, place-moves, places-stay}
+use Rattle.kernel_moves.proofs.Keys.{keys-kept}
+use Rattle.node_model.specs.Bodies.{Body, Deeds, Living as LivingBody, body_in}
 use Rattle.node_model.specs.Caller.{Caller, answer_call, caller_place, start_call}
-use Rattle.node_model.specs.Carrying.{is_own, is_own_home, is_served}
-use Rattle.node_model.specs.Directory.{Directory, held_for}
-use Rattle.node_model.specs.Kinds.{for_kind, get_named}
-use Rattle.node_model.specs.Serving.{name_for, name_in, serve}
-use Rattle.world_model.specs.Node.{Node, Leader, Stage, Living, Left, can_run}
-use Rattle.world_model.specs.Starting.{act, carry_out_own, run, start_by, start_own}
-use Rattle.world_model.specs.Step.{Step, reply_here, step_to}
+use Rattle.node_model.specs.Directory.{Directory, held_for, maker, is_parcel_with, place_name, stays, place_of, maker_in}
+use Rattle.node_model.specs.Kinds.{for_kind, get_named, kind_of, number_of, is_object, is_same_name, put_named, with_kind, is_same_kind}
+use Rattle.world_model.specs.Node.{Node, Leader, Stage, Living, Left, can_run, Leaving, is_leader}
+use Rattle.world_model.specs.Starting.{run, start_by}
+use Rattle.world_model.specs.Step.{Step, reply_here, step_to, send, with_directory, with_node}
 use Rattle.world_model.specs.World.{World, node_count, world_after}
-use Rattle.world_laws.specs.Places.{Beside, DeedPlace, InCheckpoint, InTable}
-use Rattle.world_laws.specs.Sights.{node_of, directory_of, is_born_in, is_born_stage, stage_of}
-use Rattle.world_laws.specs.Names.{NameHolds, forker, name_sight}
-use Rattle.world_laws.specs.Callers.{CallHolds, CallSight, FreeIn, HasCallOrNone, IsFree, call_sight, is_about, is_item_about}
-use Rattle.world_laws.specs.Families.{FamilyHolds, HoldsIn, IsWithParent, NodeHolds, checkpoints_to}
-use Rattle.world_laws.specs.Invariant.{Holds, IsHistory, process_deed}
-use Rattle.world_laws.specs.Ranges.{KindHolds, FewRanges, KeysHold, kind_sight}
-use Rattle.world_laws.proofs.Changes.{Changes, filter-is-list-map, made-same, read-same}
+use Rattle.world_laws.specs.Places.{Beside, DeedPlace, InTable, Unmade, deed_in}
+use Rattle.world_laws.specs.Sights.{node_of, directory_of, is_born_in, is_born_stage, stage_of, frames_to, is_used_name}
+use Rattle.world_laws.specs.Names.{NameHolds, forker, name_sight, OneIf, IsBringer, is_stream_of, may_be_at, NameSight, comes_to, held_as, held_at, is_maker, range_steps_of}
+use Rattle.world_laws.specs.Callers.{CallHolds, call_sight, is_about, is_item_about}
+use Rattle.world_laws.specs.Families.{HoldsIn, NodeHolds}
+use Rattle.world_laws.specs.Invariant.{Holds, IsHistory}
+use Rattle.world_laws.specs.Ranges.{KindHolds, FewRanges, KeysHold, kind_sight, lease_at, lease_in}
+use Rattle.world_laws.proofs.Changes.{Changes, filter-is-list-map, made-same, read-same, frames_if, flat_map-is-list-map, made-after, stayed, sent}
 use Rattle.world_laws.proofs.LeftAlone.{LeavesName, kind-left-alone, name-left-alone, same-directory}
-use Rattle.world_laws.proofs.Lines.{IsAnswered, answered, due-at-line}
-use Rattle.world_laws.proofs.Named.{name-cases}
-use Rattle.world_laws.proofs.Stays.{IsMore, SameCall, call-stays, kind-stays, name-stays}
+use Rattle.world_laws.proofs.Named.{name-cases, get-put-same-name, get-put-other-name, other-name, same-name}
+use Rattle.world_laws.proofs.Stays.{IsMore, SameCall, call-stays, kind-stays, name-stays, SameKind, SameName}
 use Rattle.world_laws.proofs.Steps.{KeepsAs, changes-by-run, run-steps}
 use Rattle.world_rules.proofs.CallMoves.{same-but-call}
 use Rattle.world_own.proofs.Entries.{EntryLeaves}
 use Rattle.world_own.proofs.EntryMoves.{IsEntryMove, entry-born, entry-keeps, few-after}
-use Rattle.world_own.proofs.Rebodied.{name-rebodied, name-seen-rebodied}
 use Rattle.world_own.proofs.Runs.{Starts, run-is}
-use Rattle.world_own.proofs.Served.{FindsOne, found-is, found-one, served-leaves, served-place}
 use Rattle.std.specs.List.{list_any}
-use Rattle.std.proofs.Common.{Result, Err, is_some}
-use Rattle.pico_base.specs.declared.reply.Errno.{Errno}
 use Rattle.pico_base.specs.declared.reply.Reply.TheVariants as replies
-use Rattle.kernel_model.specs.SemaphoreSet.{new_set}
-use Rattle.kernel_model.specs.Script.{is_exit, is_fork}
-use Rattle.kernel_model.specs.Fitting.{IsDue, due, is_killed, move_on}
-use Rattle.kernel_moves.specs.Entering.{LeavesOthers, MayMake, Same}
-use Rattle.kernel_moves.proofs.Fresh.{LeavesAll, refuses-private-set}
-use Rattle.kernel_moves.proofs.History.{moved-is, place-moves, places-stay}
 use Rattle.kernel_moves.proofs.Kin.{kin-same}
 use Rattle.kernel_moves.proofs.Listed.{listed-same}
-use Rattle.kernel_moves.proofs.Numbers.{process-there}
-use Rattle.kernel_moves.proofs.Others.{goes}
+use Rattle.kernel_moves.proofs.Numbers.{process-there, used-at, used-made, used-others}
+use Rattle.kernel_moves.proofs.Others.{goes, Lived}
 use Rattle.kernel_moves.proofs.Places.{goes-on, left-shrinks}
-use Rattle.world_model.specs.Starting.{start_set}
 use Rattle.world_own.proofs.Answered.{call-answered}
-use Rattle.std.proofs.Common.{not, flat_map, if◌then◌else◌, cond}
-use Rattle.std.proofs.lemmas.Bool.{ne_eqb, eqb-true}
-use Rattle.node_model.specs.Kinds.{kind_of, number_of, is_object, is_same_name, put_named, with_kind}
-use Rattle.node_model.specs.Directory.{maker, is_parcel_with, place_name, stays}
-use Rattle.node_model.specs.Leases.{is_used_up}
-use Rattle.std.proofs.Common.{zero, suc, is_none, append-nil, ◌||◌}
+use Rattle.node_model.specs.Leases.{is_used_up, Leases}
 use Rattle.pico_base.specs.declared.numbers.Kind.TheVariants as kinds
-use Rattle.node_model.specs.Kinds.{PerKind, is_same_kind}
-use Rattle.world_laws.specs.Ranges.{lease_at}
-use Rattle.node_model.specs.Directory.{place_of}
-use Rattle.world_laws.proofs.NameFacts.{held-here, held-elsewhere}
-use Rattle.world_laws.proofs.Named.{name-cases}
-use Rattle.world_laws.proofs.Changes.{frames_if}
+use Rattle.world_laws.proofs.NameFacts.{held-here, held-elsewhere, no-checkpoint-of-object}
 use Rattle.world_laws.proofs.Sends.{frames_with}
-use Rattle.world_laws.specs.Names.{forker}
-use Rattle.world_own.proofs.NewNames.{not-known}
-use Rattle.node_model.specs.Directory.{maker_in}
-use Rattle.world_laws.specs.Sights.{frames_to, is_used_name}
-use Rattle.world_laws.specs.Names.{OneIf, IsBringer, is_stream_of, may_be_at}
+use Rattle.world_own.proofs.NewNames.{not-known, made-at, name-made, no-plays, none-tells}
 use Rattle.kernel_model.specs.Footprint.{used_of}
-use Rattle.world_laws.specs.Plays.{play}
-use Rattle.world_laws.specs.Ranges.{lease_in}
+use Rattle.world_laws.specs.Plays.{play, is_call_on, news_if, Has, Lacks, News, NeedsPlace, Tells, begin, has_any, is_checkpoint_of, finds_place, news, placed_in, plays}
 use Rattle.world_laws.proofs.NewRanges.{no-lease-about}
-use Rattle.world_own.proofs.NewNumbers.{taken-unused}
+use Rattle.world_own.proofs.NewNumbers.{taken-unused, kind-taken, taken-at, taken-maker}
 use Rattle.kernel_moves.proofs.Fresh.{MakesObject, MakesPrivate}
-use Rattle.kernel_moves.specs.Entering.{Enters}
-use Rattle.std.proofs.Common.{List, Contains, ◌++◌, ◌⊎◌, option_and_then, ◌&&◌}
-use Rattle.node_model.specs.Leases.{Leases}
-use Rattle.world_model.specs.Node.{Leaving}
-use Rattle.world_laws.specs.Ways.{WaySight, IsHere}
-use Rattle.world_laws.specs.Plays.{is_call_on, news_if}
-use Rattle.kernel_moves.proofs.Numbers.{used-at, used-made, used-others}
-use Rattle.kernel_moves.proofs.Others.{Lived}
-use Rattle.kernel_moves.specs.Entering.{Makes, is_used_as}
+use Rattle.world_laws.specs.Ways.{WaySight, IsHere, Way, way_sight, knows_parent, here, tells, collected, over, gone, is_leaving_frame}
 use Rattle.world_model.specs.Numbers.{make_object, make_taken, make_with, take_from, tell_place}
 use Rattle.world_model.specs.Census.{brings}
-use Rattle.world_model.specs.Node.{is_leader}
-use Rattle.world_model.specs.Starting.{start_making}
-use Rattle.world_model.specs.Step.{send, with_directory, with_node}
-use Rattle.world_laws.specs.Places.{Unmade, deed_in}
-use Rattle.world_laws.specs.Plays.{Has, Lacks, News, NeedsPlace, Tells, begin, has_any, is_checkpoint_of, finds_place, news, news_of, placed_in, plays}
-use Rattle.world_laws.specs.Names.{NameSight, comes_to, held_as, held_at, is_maker, range_steps_of}
-use Rattle.world_laws.specs.Ways.{Way, way_sight, knows_parent, here, tells, collected, over, gone, is_leaving_frame, is_recall_all}
-use Rattle.world_laws.proofs.Changes.{flat_map-is-list-map, made-after, stayed, sent}
-use Rattle.world_laws.proofs.NameFacts.{begins-without, no-checkpoint-of-object}
-use Rattle.world_laws.proofs.Named.{get-put-same-name, get-put-other-name, other-name, same-name}
-use Rattle.world_laws.proofs.Stays.{SameKind, SameName}
 use Rattle.world_rules.proofs.Nodes.{object-is-no-process}
 use Rattle.world_own.proofs.Asks.{Takes}
-use Rattle.world_own.proofs.NewNames.{made-at, name-made, no-plays, none-tells}
-use Rattle.world_own.proofs.NewNumbers.{kind-taken, taken-at, taken-maker}
 
 -- an entry that changes no process leaves the rest
 pub processes-stay-leaves : (k : Kernel) (pid : ℕ) (call : Call) (reply : Reply) (next : Kernel) → MayMake k pid call
@@ -202,8 +137,8 @@ pub record MakesOne (script : Script) (k : Kernel) (pid : ℕ) (call : Call) (ki
   pub kind_is : kind_of name ≡ kind
   pub number_is : number_of name ≡ number
   pub object : is_object name ≡ true
-  pub with_number : (step : Step)
-      → make_with script step call number ≡ Some (make_object script step call name body number)
+  pub with_number : (step : Step) → make_with script step call number
+      ≡ Some (make_object script step call name body number)
   pub makes : MakesPrivate k pid call name body
   pub no_fork : is_fork call ≡ false
   pub no_exit : is_exit call ≡ false
@@ -492,8 +427,8 @@ module _ (script : Script) (sound : IsSoundScript script) (w : World) (b : Besid
         alive = sym made.caller.lives;
         call = refl;
         frames_about = λ to sender. sym (made-same script p w next after-node [] sends (entry ∷ []) changes
-            (λ t q fs. filter (is_about p t q) fs) (λ t q. filter-is-list-map (is_about p t q)) tt
-            (refl, tt) to sender);
+            (λ t q fs. filter (is_about p t q) fs) (λ t q. filter-is-list-map (is_about p t q)) tt (refl, tt) to
+            sender);
         held = λ m. sym (ap (λ (d : Directory). filter (is_item_about p) (held_for d m)) same-there);
         hand = refl;
       }

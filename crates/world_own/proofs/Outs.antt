@@ -23,10 +23,9 @@ use Rattle.world_laws.specs.Places.{Beside, CallPlace, call_in}
 use Rattle.world_laws.specs.Sights.{node_of, directory_of, is_born_in}
 use Rattle.world_laws.specs.Names.{NameHolds, name_sight}
 use Rattle.world_laws.specs.Callers.{CallHolds, CallSight, HasCall, IsBetween, IsSoFar, IsToBeMade, asked_of, call_sight, frame_at, is_about, is_at_work, is_end_place, is_held_at, is_in_hand, is_in_stream, is_item_about, lease_is_over, may_be_in, only_if}
-use Rattle.world_laws.specs.Families.{HoldsIn, NodeHolds}
+use Rattle.world_laws.specs.Families.{HoldsIn, NodeHolds, is_checkpoint_frame}
 use Rattle.world_laws.specs.Invariant.{Holds, MayBe}
 use Rattle.world_laws.specs.Ranges.{FewRanges, KindHolds, has_lease, kind_sight, lease_in}
-use Rattle.world_laws.specs.Families.{is_checkpoint_frame}
 use Rattle.world_laws.proofs.Changes.{Changes, filter-is-list-map, frames_if, made-after, read-same, sent, stayed}
 use Rattle.world_laws.proofs.Frames.{concerns, is_plain}
 use Rattle.world_laws.proofs.LeftAlone.{LeavesName, few-still, kind-left-alone, name-left-alone, same-directory}

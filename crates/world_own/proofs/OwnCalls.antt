@@ -1,6 +1,6 @@
 -- A node carries out a call of its process on the process itself: getpid, the calls on signals, kill of oneself, and
 -- waitpid.
-use Rattle.std.proofs.Common.{◌≡◌, ◌≢◌, ℕ, ◌+◌, ◌≤◌, Bool, true, false, if◌then◌else◌, [], ◌∷◌, filter, nat_eq, Option, Some, None, refl, ap, sym, subst, ◌∙◌, inl, inr, arith}
+use Rattle.std.proofs.Common.{◌≡◌, ◌≢◌, ℕ, ◌+◌, ◌≤◌, Bool, true, false, if◌then◌else◌, [], ◌∷◌, filter, nat_eq, Some, None, refl, ap, sym, subst, ◌∙◌, inl, inr}
 use Rattle.std.specs.Option.{option_map}
 use Rattle.std.proofs.lemmas.Bool.{cases_eq, eq-eqb, false≢true}
 use Rattle.pico_base.specs.declared.call.Call.{Call}
@@ -46,17 +46,17 @@ use Rattle.world_model.specs.World.{World, node_count, world_after}
 use Rattle.world_laws.specs.Places.{Beside, DeedPlace, InCheckpoint, InTable}
 use Rattle.world_laws.specs.Sights.{node_of, directory_of, is_born_in, is_born_stage, stage_of}
 use Rattle.world_laws.specs.Names.{NameHolds, forker, name_sight}
-use Rattle.world_laws.specs.Callers.{CallHolds, CallSight, FreeIn, HasCallOrNone, IsFree, call_sight, is_about, is_item_about}
+use Rattle.world_laws.specs.Callers.{CallHolds, CallSight, call_sight, is_about, is_item_about}
 use Rattle.world_laws.specs.Families.{FamilyHolds, HoldsIn, IsWithParent, NodeHolds, checkpoints_to}
 use Rattle.world_laws.specs.Invariant.{Holds, IsHistory, process_deed}
 use Rattle.world_laws.specs.Ranges.{KindHolds, FewRanges, KeysHold, kind_sight}
 use Rattle.world_laws.proofs.Changes.{Changes, filter-is-list-map, made-same, read-same}
 use Rattle.world_laws.proofs.LeftAlone.{LeavesName, kind-left-alone, name-left-alone, same-directory}
-use Rattle.world_laws.proofs.Lines.{IsAnswered, answered, due-at-line}
 use Rattle.world_laws.proofs.Named.{name-cases}
 use Rattle.world_laws.proofs.Stays.{IsMore, SameCall, call-stays, kind-stays, name-stays}
 use Rattle.world_laws.proofs.Steps.{KeepsAs, changes-by-run, run-steps}
 use Rattle.world_rules.proofs.CallMoves.{same-but-call}
+use Rattle.world_own.proofs.Answered.{call-answered}
 use Rattle.world_own.proofs.Entries.{EntryLeaves}
 use Rattle.world_own.proofs.EntryMoves.{IsEntryMove, entry-born, entry-keeps, few-after}
 use Rattle.world_own.proofs.Rebodied.{name-rebodied, name-seen-rebodied}
@@ -376,12 +376,6 @@ module _ (script : Script) (sound : IsSoundScript script) (w : World) (b : Besid
 
   -- the call
 
-  is-answered : IsAnswered script p started call reply next-caller
-  is-answered =
-      let shape = holds.shape
-      in let line = due-at-line script p n.caller call s.due_now.due
-      in answered script p shape.tries started call reply line.0 line.1 s.free.try_left
-
   abbrev ended : CallSight
   ended =
       record x {
@@ -390,36 +384,8 @@ module _ (script : Script) (sound : IsSoundScript script) (w : World) (b : Besid
         alive = Some c.caller.alive;
       }
 
-  free-now : IsFree script p ended
-  free-now =
-      record {
-        there = ap Some (sym is-answered.place_is);
-        alive = c.caller.alive;
-        lives = refl;
-        tickets =
-            let few = s.free.tickets
-            in let many = is-answered.more_tries
-            in let ticket : next-caller.ticket ≡ n.caller.ticket + 1 = is-answered.ticket_is
-            in omega (arith, few, many, ticket);
-        try_left = is-answered.left;
-      }
-
   call-ended : CallHolds script p (is_born_in w) ended
-  call-ended =
-      let old : CallHolds script p (is_born_in w) x = holds.calls p low high
-      in record {
-        call = subst (λ (o : Option Call). HasCallOrNone script p (is_born_in w) ended o) (sym is-answered.free)
-            (record {
-              nowhere = record {
-                in_streams = s.nowhere.in_streams;
-                held_for_names = s.nowhere.held_for_names;
-                in_hand = s.nowhere.in_hand;
-              };
-              idle = s.idle;
-              free = subst (λ (stage : Stage). FreeIn script p ended stage) (sym s.stage) free-now;
-            });
-        ends = old.ends;
-      }
+  call-ended = call-answered script w b holds p low high s reply c.caller.alive n.leases
 
   sight-now : SameCall ended (call_sight next [] moved p)
   sight-now =

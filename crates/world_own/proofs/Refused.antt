@@ -1,16 +1,11 @@
 -- A node carries out a call of its process that is refused, and takes no number: a set of a size that there isn't. An
 -- entry that changes nothing.
-use Rattle.std.proofs.Common.{◌≡◌, ◌≢◌, ℕ, ◌+◌, ◌≤◌, Bool, true, false, if◌then◌else◌, [], ◌∷◌, filter, nat_eq, Option, Some, None, refl, ap, sym, subst, ◌∙◌, inl, inr, arith}
-use Rattle.std.specs.Option.{option_map}
-use Rattle.std.proofs.lemmas.Bool.{cases_eq, eq-eqb, false≢true}
+use Rattle.std.proofs.Common.{◌≡◌, ℕ, ◌+◌, ◌≤◌, Bool, true, false, if◌then◌else◌, [], ◌∷◌, filter, nat_eq, Some, None, refl, ap, sym, subst, ◌∙◌, inl, inr, Err, is_some}
+use Rattle.std.proofs.lemmas.Bool.{eq-eqb, false≢true}
 use Rattle.pico_base.specs.declared.call.Call.{Call}
 use Rattle.pico_base.specs.declared.call.Call.TheVariants as calls
-use Rattle.pico_base.specs.declared.call.Home.{Home}
-use Rattle.pico_base.specs.declared.call.Home.TheVariants as homes
-use Rattle.pico_base.specs.declared.numbers.Kind.{Kind}
 use Rattle.pico_base.specs.declared.numbers.Name.{Name}
-use Rattle.pico_base.specs.declared.numbers.Name.TheVariants.{Proc, Sem}
-use Rattle.pico_base.specs.declared.reply.Ending.{Ending}
+use Rattle.pico_base.specs.declared.numbers.Name.TheVariants.{Proc}
 use Rattle.pico_base.specs.declared.reply.Entry.{Entry}
 use Rattle.pico_base.specs.declared.reply.Reply.{Reply}
 use Rattle.pico_base.specs.declared.script.Event.TheVariants as events
@@ -18,66 +13,43 @@ use Rattle.pico_base.specs.declared.script.Script.{Script}
 use Rattle.pico_base.specs.Home.{home_of}
 use Rattle.rpc_frame.specs.declared.frame.Frame.TheVariants as frames
 use Rattle.number_maps.specs.Maps.{get, is_used}
-use Rattle.kernel_model.specs.Fitting.{Place, Places, place_after, places_after}
-use Rattle.kernel_model.specs.Kernel.{Kernel, Process, living_at}
-use Rattle.kernel_model.specs.Kernel as kernel
-use Rattle.kernel_model.specs.Row.{Row}
-use Rattle.kernel_model.specs.Script.{IsSoundScript}
-use Rattle.serve_laws.specs.Laws.{is_found}
-use Rattle.serve_laws.specs.Served.{served_as}
-use Rattle.kernel_moves.specs.Entering.{HasHistory, HasKeys, KeepsKeys, entry_of, removed_queue, removed_set, unless_removed}
-use Rattle.kernel_moves.proofs.Bodies.{living-body}
-use Rattle.kernel_moves.proofs.History.{history-goes-on}
-use Rattle.kernel_moves.proofs.Holding.{ServesHere, served_deeds, serves-here}
-use Rattle.kernel_moves.proofs.Keys.{keys-kept, size-same}
-use Rattle.kernel_moves.proofs.Numbers.{used-kept}
-use Rattle.kernel_moves.proofs.Replies.{set-not-found}
-use Rattle.kernel_moves.proofs.Served.{Carried, FindsChild, carried-finds}
-use Rattle.node_model.specs.Bodies.{Body, Deeds, Gone, Living as LivingBody, body_in}
+use Rattle.kernel_model.specs.Fitting.{Place, Places, place_after, places_after, IsDue, due, is_killed, move_on}
+use Rattle.kernel_model.specs.Kernel.{Kernel}
+use Rattle.kernel_model.specs.Script.{IsSoundScript, is_exit, is_fork}
+use Rattle.kernel_moves.specs.Entering.{HasHistory, HasKeys, entry_of, LeavesOthers, MayMake, Same}
+use Rattle.kernel_moves.proofs.History.{history-goes-on, moved-is, place-moves, places-stay}
+use Rattle.kernel_moves.proofs.Keys.{keys-kept}
+use Rattle.kernel_moves.proofs.Numbers.{used-kept, process-there}
 use Rattle.node_model.specs.Caller.{Caller, answer_call, caller_place, start_call}
-use Rattle.node_model.specs.Carrying.{is_own, is_own_home, is_served}
 use Rattle.node_model.specs.Directory.{Directory, held_for}
-use Rattle.node_model.specs.Kinds.{for_kind, get_named}
-use Rattle.node_model.specs.Serving.{name_for, name_in, serve}
+use Rattle.node_model.specs.Kinds.{for_kind}
 use Rattle.world_model.specs.Node.{Node, Leader, Stage, Living, Left, can_run}
-use Rattle.world_model.specs.Starting.{act, carry_out_own, run, start_by, start_own}
+use Rattle.world_model.specs.Starting.{run, start_by, start_set}
 use Rattle.world_model.specs.Step.{Step, reply_here, step_to}
 use Rattle.world_model.specs.World.{World, node_count, world_after}
-use Rattle.world_laws.specs.Places.{Beside, DeedPlace, InCheckpoint, InTable}
-use Rattle.world_laws.specs.Sights.{node_of, directory_of, is_born_in, is_born_stage, stage_of}
-use Rattle.world_laws.specs.Names.{NameHolds, forker, name_sight}
-use Rattle.world_laws.specs.Callers.{CallHolds, CallSight, FreeIn, HasCallOrNone, IsFree, call_sight, is_about, is_item_about}
-use Rattle.world_laws.specs.Families.{FamilyHolds, HoldsIn, IsWithParent, NodeHolds, checkpoints_to}
-use Rattle.world_laws.specs.Invariant.{Holds, IsHistory, process_deed}
-use Rattle.world_laws.specs.Ranges.{KindHolds, FewRanges, KeysHold, kind_sight}
+use Rattle.world_laws.specs.Places.{Beside}
+use Rattle.world_laws.specs.Sights.{node_of, directory_of, is_born_in, is_born_stage}
+use Rattle.world_laws.specs.Callers.{CallHolds, CallSight, call_sight, is_about, is_item_about}
+use Rattle.world_laws.specs.Families.{HoldsIn, NodeHolds}
+use Rattle.world_laws.specs.Invariant.{Holds, IsHistory}
+use Rattle.world_laws.specs.Ranges.{KeysHold}
 use Rattle.world_laws.proofs.Changes.{Changes, filter-is-list-map, made-same, read-same}
 use Rattle.world_laws.proofs.LeftAlone.{LeavesName, kind-left-alone, name-left-alone, same-directory}
-use Rattle.world_laws.proofs.Lines.{IsAnswered, answered, due-at-line}
-use Rattle.world_laws.proofs.Named.{name-cases}
 use Rattle.world_laws.proofs.Stays.{IsMore, SameCall, call-stays, kind-stays, name-stays}
 use Rattle.world_laws.proofs.Steps.{KeepsAs, changes-by-run, run-steps}
 use Rattle.world_rules.proofs.CallMoves.{same-but-call}
 use Rattle.world_own.proofs.Entries.{EntryLeaves}
 use Rattle.world_own.proofs.EntryMoves.{IsEntryMove, entry-born, entry-keeps, few-after}
-use Rattle.world_own.proofs.Rebodied.{name-rebodied, name-seen-rebodied}
 use Rattle.world_own.proofs.Runs.{Starts, run-is}
-use Rattle.world_own.proofs.Served.{FindsOne, found-is, found-one, served-leaves, served-place}
 use Rattle.std.specs.List.{list_any}
-use Rattle.std.proofs.Common.{Result, Err, is_some}
 use Rattle.pico_base.specs.declared.reply.Errno.{Errno}
 use Rattle.pico_base.specs.declared.reply.Reply.TheVariants as replies
 use Rattle.kernel_model.specs.SemaphoreSet.{new_set}
-use Rattle.kernel_model.specs.Script.{is_exit, is_fork}
-use Rattle.kernel_model.specs.Fitting.{IsDue, due, is_killed, move_on}
-use Rattle.kernel_moves.specs.Entering.{LeavesOthers, MayMake, Same}
 use Rattle.kernel_moves.proofs.Fresh.{LeavesAll, refuses-private-set}
-use Rattle.kernel_moves.proofs.History.{moved-is, place-moves, places-stay}
 use Rattle.kernel_moves.proofs.Kin.{kin-same}
 use Rattle.kernel_moves.proofs.Listed.{listed-same}
-use Rattle.kernel_moves.proofs.Numbers.{process-there}
 use Rattle.kernel_moves.proofs.Others.{goes}
 use Rattle.kernel_moves.proofs.Places.{goes-on, left-shrinks}
-use Rattle.world_model.specs.Starting.{start_set}
 use Rattle.world_own.proofs.Answered.{call-answered}
 
 -- such an entry leaves the rest
@@ -327,13 +299,11 @@ module _ (script : Script) (sound : IsSoundScript script) (w : World) (b : Besid
         next = next;
         is_step = run-steps script w p after holds.shape low high rule;
         holds = entry-keeps script w next [] [] b refused.next places-now b.deed b.call p after-node [] []
-            (entry ∷ []) p
-            low high holds changes move
+            (entry ∷ []) p low high holds changes move
             (call-stays script p (is_born_in w) (is_born_in next) _ _ more sight-now call-ended)
             (λ m. name-stays script b.pids (is_born_in w) (is_born_in next) m _ _ more
-            (name-left-alone script p w next after-node [] [] (entry ∷ []) changes [] [] b moved m
-            (leaves-name m) tt tt)
-            (holds.names m))
+            (name-left-alone script p w next after-node [] [] (entry ∷ []) changes [] [] b moved m (leaves-name m) tt
+            tt) (holds.names m))
             (λ kind. kind-stays (is_born_in w) (is_born_in next) _ _ more
             (kind-left-alone script p w next after-node [] [] (entry ∷ []) changes k refused.next kind
             (λ number. ap (λ used. is_used used number) (refused.enters.used kind)) refl

@@ -1,10 +1,8 @@
 -- A node other than the leader starts a call on a name whose deed it doesn't hold: it asks the owner that its cache
--- names,
--- or the leader.
-use Rattle.std.proofs.Common.{◌≡◌, ◌≢◌, ℕ, ◌+◌, ◌≤◌, true, false, not, if◌then◌else◌, [], Contains, Option, Some, None, refl, ap, sym, ◌∙◌}
+-- names, or the leader.
+use Rattle.std.proofs.Common.{◌≡◌, ◌≢◌, ℕ, ◌+◌, ◌≤◌, true, false, not, if◌then◌else◌, [], Contains, Option, Some, None, refl, ap, sym, ◌∙◌, All}
 use Rattle.std.proofs.lemmas.Bool.{eq-eqb, ne_eqb}
 use Rattle.std.proofs.lemmas.List.Elements.{All-cons, All-filter, All-weaker, All-contains, All-contains_itself}
-use Rattle.std.proofs.Common.{All}
 use Rattle.std.proofs.lemmas.Map.Views.{Contains-from_lookup}
 use Rattle.pico_base.specs.declared.call.Call.{Call}
 use Rattle.pico_base.specs.declared.call.Home.TheVariants as homes

@@ -88,8 +88,7 @@ next-ticket script p c call sound is_due left tickets =
 -- ---- the node
 
 -- What is known where node p can run: it is Living, and its process, of this row, is where the node says in its
--- history;
--- no call of it is anywhere; and this one is due.
+-- history; no call of it is anywhere; and this one is due.
 pub record Starts (script : Script) (w : World) (b : Beside) (p : ℕ) : Type 0 where
   pub stage : (node_of w p).stage ≡ Living
   pub no_call : (node_of w p).caller.under_way ≡ None
