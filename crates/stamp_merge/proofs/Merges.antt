@@ -63,7 +63,8 @@ first-part {T} (x ∷ xs) logs one others =
     all-map (λ (e : Stamped T) (s : e.node ≡ x.node).
     ap (λ p. items_of p (all_items ((x ∷ xs) ∷ logs))) s ∙ first-log x xs logs one others) (x ∷ xs) (refl, one)
 
-all-share : {T : Type 0} (other : List (Stamped T)) → AllByRecursion (λ f. AllByRecursion (λ (e : Stamped T). e.node ≢ f.node) []) other
+all-share : {T : Type 0} (other : List (Stamped T))
+    → AllByRecursion (λ f. AllByRecursion (λ (e : Stamped T). e.node ≢ f.node) []) other
 all-share [] = tt
 all-share (f ∷ other) = (tt, all-share other)
 
@@ -173,7 +174,8 @@ pub merge-from-sort : {T : Type 0} (logs : List (List (Stamped T))) (merged : Li
 merge-from-sort {T} logs merged rise own sorted =
     let same = same-part logs merged rise own sorted
     in record {
-      in_order = in-order merged sorted.none_falls (λ e. subst StampsRise (sym (same e)) (node-rises e.node logs rise own));
+      in_order = in-order merged sorted.none_falls (λ e.
+          subst StampsRise (sym (same e)) (node-rises e.node logs rise own));
       each = all-map (λ (log : List (Stamped T)) part. all-map (λ (e : Stamped T) is. same e ∙ is) log part) logs
           (each-part logs own);
       parts = any-part (all_items logs) merged sorted.all same;
