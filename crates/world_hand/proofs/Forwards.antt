@@ -1,5 +1,5 @@
 -- The leader sends the first call of its hand to the name's owner, or to the node that has the range of its number.
-use Rattle.std.proofs.Common.{◌≡◌, ◌≢◌, ◌⊎◌, ℕ, ◌≤◌, Bool, true, false, ◌&&◌, if◌then◌else◌, List, [], ◌∷◌, ◌++◌, filter, flat_map, nat_eq, Contains, cond, Option, Some, None, is_some, refl, ap, sym, subst, ◌∙◌, inl, inr, arith, append-nil}
+use Rattle.std.proofs.Common.{◌≡◌, ◌≢◌, ℕ, ◌≤◌, Bool, true, false, ◌&&◌, if◌then◌else◌, List, [], ◌∷◌, ◌++◌, filter, flat_map, nat_eq, Contains, cond, Some, refl, ap, sym, subst, ◌∙◌, inl, inr, arith, append-nil}
 use Rattle.std.proofs.lemmas.Bool.{cases_eq, eq-eqb, ne_eqb, false≢true}
 use Rattle.std.proofs.lemmas.List.Elements.{Contains-append_cases}
 use Rattle.pico_base.specs.declared.call.Home.{Home}
@@ -13,13 +13,13 @@ use Rattle.rpc_frame.specs.declared.frame.Frame.{Frame}
 use Rattle.rpc_frame.specs.declared.frame.Frame.TheVariants as frames
 use Rattle.node_model.specs.declared.held.Held.{Held}
 use Rattle.node_model.specs.declared.held.Held.TheVariants.{Request}
-use Rattle.node_model.specs.Kinds.{is_same_name, for_kind}
-use Rattle.node_model.specs.Directory.{Directory, Place, At, place_of, held_for, is_parcel_with}
+use Rattle.node_model.specs.Kinds.{for_kind}
+use Rattle.node_model.specs.Directory.{Directory, At, place_of, held_for, is_parcel_with}
 use Rattle.world_model.specs.Node.{Node}
 use Rattle.world_model.specs.World.{World, node_count}
 use Rattle.world_laws.specs.Places.{CallPlace, SentByPlace, SentByRange, Beside, call_in}
-use Rattle.world_laws.specs.Sights.{node_of, frames_to, directory_of, is_born_in}
-use Rattle.world_laws.specs.Plays.{Hold, Has, Lacks, Done, PlayStep, IsNeeded, steps_if, play, play_on, plays, is_there, is_has, is_home_on, is_call_on, is_sent_by_place, Somewhere, believed}
+use Rattle.world_laws.specs.Sights.{node_of, directory_of, is_born_in}
+use Rattle.world_laws.specs.Plays.{Hold, Has, Lacks, Done, PlayStep, IsNeeded, steps_if, play_on, plays, is_there, is_has, is_home_on, is_call_on, is_sent_by_place, believed}
 use Rattle.world_laws.specs.Names.{NameSight, name_sight, NameHolds, PlaysTo, RangeStep, IsSentThere, IsLeased, range_steps_of, range_steps_if, is_sent_by_range, leases_first, belief_of, maker_tells}
 use Rattle.world_laws.specs.Callers.{only_if, is_in_stream, frame_at, is_held_at, is_about, is_item_about, may_be_in, IsBetween}
 use Rattle.world_laws.specs.Invariant.{Holds, IsLeading}
@@ -27,10 +27,9 @@ use Rattle.world_laws.proofs.Named.{name-cases, same-name-is, other-name}
 use Rattle.world_laws.proofs.Played.{play-append}
 use Rattle.world_laws.proofs.Sends.{frame_if}
 use Rattle.world_laws.proofs.Stays.{name-stays}
-use Rattle.world_laws.proofs.Changes.{Changes, frames_if, sent}
-use Rattle.world_laws.proofs.LeftAlone.{SameCaller}
+use Rattle.world_laws.proofs.Changes.{Changes, frames_if}
 use Rattle.world_rules.proofs.CallMoves.{same-but-call}
-use Rattle.world_hand.proofs.HandMoves.{DirectoryRoutes, IsRouted, BringsNothing, is_routed, routed_sight, routed-keeps, routed-born, name-routed, name-not-routed, held-for-none}
+use Rattle.world_hand.proofs.HandMoves.{DirectoryRoutes, IsRouted, is_routed, routed_sight, routed-keeps, routed-born, name-routed, name-not-routed, held-for-none}
 
 -- ---- homes
 

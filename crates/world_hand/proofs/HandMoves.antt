@@ -1,43 +1,40 @@
 -- The first call of the leader's hand goes to another place, and none is carried out. What is left to show is where it
 -- is now, and the names.
-use Rattle.std.proofs.Common.{◌≡◌, ◌≢◌, ◌⊎◌, ℕ, ◌+◌, ◌≤◌, Bool, true, false, ◌&&◌, not, cond, if◌then◌else◌, List, [], ◌∷◌, ◌++◌, filter, flat_map, nat_eq, Contains, Option, Some, None, is_some, is_none, refl, ap, sym, subst, ◌∙◌, inl, inr, arith, append-nil}
+use Rattle.std.proofs.Common.{◌≡◌, ◌≢◌, ℕ, ◌≤◌, Bool, true, false, ◌&&◌, not, cond, if◌then◌else◌, List, [], ◌∷◌, ◌++◌, filter, flat_map, nat_eq, Option, Some, None, is_some, is_none, refl, ap, sym, subst, ◌∙◌, inl, inr, arith}
 use Rattle.std.specs.List.{AllByRecursion}
 use Rattle.std.proofs.lemmas.Bool.{cases_eq, eq-eqb, ne_eqb, false≢true}
-use Rattle.std.proofs.lemmas.List.Elements.{Contains-append_left, Contains-append_right}
+use Rattle.std.proofs.lemmas.List.Elements.{Contains-append_right}
 use Rattle.pico_base.specs.declared.call.Call.{Call}
-use Rattle.pico_base.specs.declared.call.Home.{Home}
 use Rattle.pico_base.specs.declared.numbers.Kind.{Kind}
 use Rattle.pico_base.specs.declared.numbers.Name.{Name}
 use Rattle.pico_base.specs.declared.numbers.Name.TheVariants.{Proc}
 use Rattle.pico_base.specs.declared.script.Script.{Script}
 use Rattle.pico_base.specs.Home.{home_of}
 use Rattle.rpc_frame.specs.declared.asked.Asked.{Asked}
-use Rattle.rpc_frame.specs.declared.deed.Parcel.{Parcel}
 use Rattle.rpc_frame.specs.declared.frame.Frame.{Frame}
-use Rattle.number_maps.specs.Maps.{get}
 use Rattle.node_model.specs.declared.held.Held.{Held}
 use Rattle.node_model.specs.declared.held.Held.TheVariants.{Request, Ending}
 use Rattle.node_model.specs.Kinds.{for_kind, kind_of, number_of, get_named}
 use Rattle.node_model.specs.Caller.{Caller}
 use Rattle.node_model.specs.Leases.{Leases}
-use Rattle.node_model.specs.Directory.{Directory, Place, place_of, held_for, is_known, maker, maker_in, stays, is_parcel_with}
-use Rattle.world_model.specs.Node.{Node, Leader}
+use Rattle.node_model.specs.Directory.{Directory, Place, place_of, held_for, maker, maker_in, stays, is_parcel_with}
+use Rattle.world_model.specs.Node.{Node}
 use Rattle.world_model.specs.Calls.{is_for_others}
 use Rattle.world_model.specs.Census.{brings}
 use Rattle.world_model.specs.World.{World, node_count}
-use Rattle.world_laws.specs.Places.{DeedPlace, CallPlace, Idle, AsksLease, HasLease, InAsk, InRequest, InNotOwner, SentByPlace, SentByRange, InBounce, IsHeld, IsInHand, InAnswer, Ends, Beside, call_in}
+use Rattle.world_laws.specs.Places.{CallPlace, AsksLease, HasLease, SentByPlace, SentByRange, IsHeld, IsInHand, InAnswer, Ends, Beside, call_in}
 use Rattle.world_laws.specs.Sights.{node_of, frames_to, directory_of, stage_of, is_born_in}
 use Rattle.world_laws.specs.Plays.{PlayStep, plays, begin, has_any, is_checkpoint_of, placed_in, news}
 use Rattle.world_laws.specs.Names.{NameSight, name_sight, NameHolds, RangeStep, range_steps_of, held_at, comes_to, forker, is_maker}
-use Rattle.world_laws.specs.Callers.{CallSight, call_sight, CallHolds, HasCall, HasNoCall, HasCallOrNone, IsToBeMade, IsJustThere, IsNowhere, IsBetween, asked_of, only_if, is_in_stream, frame_at, is_held_at, is_in_hand, is_about, is_item_about, is_end_place, is_end_stage, may_be_in, IsSoFar, lease_is_over}
-use Rattle.world_laws.specs.Ranges.{kind_sight, has_lease}
+use Rattle.world_laws.specs.Callers.{CallSight, call_sight, CallHolds, HasCall, HasCallOrNone, IsToBeMade, IsJustThere, IsNowhere, IsBetween, asked_of, only_if, is_in_stream, frame_at, is_held_at, is_in_hand, is_about, is_item_about, is_end_place, may_be_in, IsSoFar, lease_is_over}
+use Rattle.world_laws.specs.Ranges.{has_lease}
 use Rattle.world_laws.specs.Families.{NodeHolds}
 use Rattle.world_laws.specs.Invariant.{Holds, MayBe}
 use Rattle.world_laws.proofs.Stays.{IsMore, SameCall, SameName, call-stays, name-stays, kind-stays}
-use Rattle.world_laws.proofs.Changes.{Changes, sent, filter-is-list-map, flat_map-is-list-map, stayed, only-stayed, made-after, made-same, read-same}
+use Rattle.world_laws.proofs.Changes.{Changes, sent, filter-is-list-map, flat_map-is-list-map, stayed, made-after, made-same, read-same}
 use Rattle.world_laws.proofs.Frames.{ArePlain, BringNoBirth, BringNoLease}
-use Rattle.world_laws.proofs.LeftAlone.{SameCaller, LeavesName, DirectoryLeaves, AreNotAbout, name-left-alone, kind-left-alone, few-still}
-use Rattle.world_rules.proofs.CallMoves.{IsCallMove, SameButCall, same-but-call, call-move-keeps, move-born, steps-still, ranges-still}
+use Rattle.world_laws.proofs.LeftAlone.{SameCaller, DirectoryLeaves, AreNotAbout, name-left-alone, kind-left-alone, few-still}
+use Rattle.world_rules.proofs.CallMoves.{IsCallMove, SameButCall, call-move-keeps, move-born, steps-still, ranges-still}
 
 -- ---- the call that is first in hand
 
@@ -188,7 +185,8 @@ pub record DirectoryRoutes (x : ℕ) (d d' : Directory) : Type 0 where
       → filter (is_parcel_with name) (held_for d' (Proc pid)) ≡ filter (is_parcel_with name) (held_for d (Proc pid))
 
 -- a name whose place is the same is left alone
-pub route-leaves : (x : ℕ) (d d' : Directory) (name : Name) → DirectoryRoutes x d d' → place_of d' name ≡ place_of d name
+pub route-leaves : (x : ℕ) (d d' : Directory) (name : Name) → DirectoryRoutes x d d'
+    → place_of d' name ≡ place_of d name
     → DirectoryLeaves d d' name
 route-leaves x d d' name r e =
     let same : SameButCall x d d' = r.same
@@ -342,10 +340,12 @@ module _ (script : Script) (w : World) (asked : Asked) (rest : List Held) (b : B
         (λ t s. filter-is-list-map (is_about asked.caller t s)) tt to sender
         ∙ in-no-stream to sender
 
-    read : {A : Type 0} (f : Node → A) → f n ≡ f (node_of w 1) → f (node_of w asked.caller) ≡ f (node_of w' asked.caller)
+    read : {A : Type 0} (f : Node → A) → f n ≡ f (node_of w 1)
+        → f (node_of w asked.caller) ≡ f (node_of w' asked.caller)
     read f same = sym (read-same script 1 w w' n [] sends [] c f same asked.caller)
 
-    sight-now : SameCall (placed_at x asked.caller place (asked_of x first.call)) (call_sight w' rest moved asked.caller)
+    sight-now : SameCall (placed_at x asked.caller place (asked_of x first.call))
+        (call_sight w' rest moved asked.caller)
     sight-now =
         record {
           number = read (λ (m : Node). m.number) same-caller.number;
@@ -459,7 +459,8 @@ module _ (script : Script) (w : World) (asked : Asked) (rest : List Held) (b : B
           (λ t q. flat_map-is-list-map _) y 1
           ∙ ap (λ ss. ss ++ plays calls-now name (sent 1 sends y 1))
           (plays-still name y
-          ∙ stayed script 1 w w' n [] sends [] c (λ t q fs. plays b.call name fs) (λ t q. flat_map-is-list-map _) tt y 1)
+          ∙ stayed script 1 w w' n [] sends [] c (λ t q fs. plays b.call name fs)
+          (λ t q. flat_map-is-list-map _) tt y 1)
           ∙ ap (λ ss. s.steps y ++ ss) (is_steps y))
 
       ranges-same : (y : ℕ) → s.ranges y ++ ranges y ≡ flat_map (range_steps_of calls-now name) (frames_to w' y 1)

@@ -1,6 +1,6 @@
--- The leader holds the first call of its hand for a name that is on its way; and for a removal it asks the owner for the
--- deed first.
-use Rattle.std.proofs.Common.{◌≡◌, ◌≢◌, ◌⊎◌, ℕ, ◌≤◌, Bool, true, false, ◌&&◌, not, if◌then◌else◌, List, [], ◌∷◌, ◌++◌, filter, flat_map, nat_eq, Contains, cond, Option, Some, None, is_some, is_none, refl, ap, sym, subst, ◌∙◌, inl, inr, arith, append-nil}
+-- The leader holds the first call of its hand for a name that is on its way; and for a removal it asks the owner for
+-- the deed first.
+use Rattle.std.proofs.Common.{◌≡◌, ◌≢◌, ℕ, ◌≤◌, Bool, true, false, not, List, [], ◌∷◌, ◌++◌, filter, flat_map, nat_eq, Contains, cond, Option, Some, None, is_some, is_none, refl, ap, sym, subst, ◌∙◌, inl, inr, arith, append-nil}
 use Rattle.std.specs.List.{AllByRecursion}
 use Rattle.std.proofs.lemmas.Bool.{cases_eq, eq-eqb, ne_eqb, false≢true}
 use Rattle.std.proofs.lemmas.List.Elements.{filter-append, Contains-push_cases}
@@ -22,10 +22,10 @@ use Rattle.world_model.specs.Node.{Node}
 use Rattle.world_model.specs.Step.{with_directory}
 use Rattle.world_model.specs.World.{World, node_count}
 use Rattle.world_laws.specs.Places.{CallPlace, IsHeld, Beside, call_in}
-use Rattle.world_laws.specs.Sights.{node_of, frames_to, directory_of, is_born_in}
-use Rattle.world_laws.specs.Plays.{Hold, Has, Lacks, Done, PlayStep, Goes, steps_if, play, play_on, plays, is_there, is_has, is_call_on, Somewhere, OnTheWay, believed}
+use Rattle.world_laws.specs.Sights.{node_of, directory_of, is_born_in}
+use Rattle.world_laws.specs.Plays.{Hold, Has, Lacks, Done, PlayStep, Goes, steps_if, play_on, plays, is_there, is_has, is_call_on, believed}
 use Rattle.world_laws.specs.Names.{NameSight, name_sight, NameHolds, PlaysTo, RangeStep, IsSentThere, range_steps_of, leases_first, belief_of, maker_tells, IsItemFor, IsBoundRightly}
-use Rattle.world_laws.specs.Callers.{only_if, is_in_stream, frame_at, is_held_at, is_about, is_item_about, may_be_in}
+use Rattle.world_laws.specs.Callers.{only_if, is_held_at, is_about, is_item_about, may_be_in}
 use Rattle.world_laws.specs.Invariant.{Holds, IsLeading, MayBe}
 use Rattle.world_laws.proofs.Named.{name-cases, same-name, other-name}
 use Rattle.world_laws.proofs.Played.{play-append}
@@ -36,7 +36,7 @@ use Rattle.world_laws.proofs.Frames.{ArePlain, BringNoBirth, BringNoLease}
 use Rattle.world_laws.proofs.LeftAlone.{AreNotAbout}
 use Rattle.world_rules.proofs.Nodes.{node-with-directory}
 use Rattle.world_rules.proofs.Places.{place-with-same, place-with-other}
-use Rattle.world_hand.proofs.HandMoves.{DirectoryRoutes, IsRouted, BringsNothing, is_routed, routed_sight, routed-keeps, routed-born, name-routed, name-not-routed, held-for-none}
+use Rattle.world_hand.proofs.HandMoves.{DirectoryRoutes, IsRouted, BringsNothing, routed_sight, routed-keeps, routed-born, name-routed, name-not-routed, held-for-none}
 
 -- ---- the directory
 

@@ -1,3 +1,17 @@
 pub mod HandMoves
 pub mod Forwards
 pub mod Holdings
+pub mod Owners
+pub mod Routes
+pub mod Takings
+pub mod Asks
+pub mod Answering
+pub mod Nobody
+pub mod NobodyRoutes
+pub mod Served
+pub mod ServedRoutes
+pub mod Grantings
+pub mod Noted
+pub mod ReadRoutes
+pub mod HandRoutes
+pub mod Bounces

@@ -1,6 +1,6 @@
 -- What an entry of a process leaves of the parts of the invariant that look at the kernel and at the places of its
 -- history, where it makes no process and ends none: the numbers of processes, the families, and the calls of others.
-use Rattle.std.proofs.Common.{◌≡◌, ◌≢◌, ◌⊎◌, ℕ, Bool, true, false, List, [], ◌∷◌, Option, Some, None, is_some, Contains, refl, ap, sym, subst, ◌∙◌, inl, inr}
+use Rattle.std.proofs.Common.{◌≡◌, ◌≢◌, ◌⊎◌, ℕ, Bool, true, false, [], Option, Some, None, is_some, refl, ap, sym, subst, ◌∙◌, inl, inr}
 use Rattle.std.specs.List.{list_any}
 use Rattle.std.specs.Option.{option_and_then}
 use Rattle.std.proofs.lemmas.Bool.{cases_eq, false≢true}
@@ -8,26 +8,20 @@ use Rattle.pico_base.specs.declared.call.Call.{Call}
 use Rattle.pico_base.specs.declared.numbers.Name.TheVariants.{Proc}
 use Rattle.pico_base.specs.declared.script.Line.{Line}
 use Rattle.pico_base.specs.declared.script.Script.{Script}
-use Rattle.rpc_frame.specs.declared.frame.Frame.{Frame}
 use Rattle.number_maps.specs.Maps.{get}
-use Rattle.kernel_model.specs.Row.{Alive, Row}
+use Rattle.kernel_model.specs.Row.{Alive}
 use Rattle.kernel_model.specs.Kernel.{Kernel, Process, living_at}
 use Rattle.kernel_model.specs.Kernel as kernel
 use Rattle.kernel_model.specs.Fitting.{Place, Places}
 use Rattle.kernel_model.specs.Transition.{may_make}
 use Rattle.kernel_model.specs.Valid.{IsValid}
 use Rattle.kernel_laws.proofs.People.{from-living}
-use Rattle.kernel_moves.specs.Entering.{IsChildIn, IsKin, LeavesOthers, TurnsTo, is_used_as}
+use Rattle.kernel_moves.specs.Entering.{IsKin, LeavesOthers, is_used_as}
 use Rattle.kernel_moves.proofs.Listed.{ListsOne}
 use Rattle.kernel_moves.proofs.Numbers.{process-there}
 use Rattle.kernel_moves.proofs.Others.{Lived, others-lived, others-stay-dead, others-still-may}
-use Rattle.node_model.specs.Bodies.{body_in, process_body}
-use Rattle.world_model.specs.Lives.{is_new_row, names_block}
-use Rattle.world_model.specs.Node.{Stage, Unborn, Living, Leaving, Left, Over}
-use Rattle.world_laws.specs.Places.{CallPlace, DeedPlace, InCheckpoint, InAnswer, Ends}
-use Rattle.world_laws.specs.Names.{forker}
-use Rattle.world_laws.specs.Callers.{CallSight, CallHolds, FreeIn, HasCall, HasCallOrNone, HasEnded, HasNoCall, IsFree, IsMade, IsNowhere, IsSoFar, IsToBeMade}
-use Rattle.world_laws.specs.Families.{PidsHold, FamilyHolds, IsChildAs, IsWhereFor, IsWithParent, IsCheckpointFor, CheckpointIn, IsNewAt}
+use Rattle.world_model.specs.Lives.{names_block}
+use Rattle.world_laws.specs.Families.{PidsHold}
 
 -- ---- the entry
 
@@ -111,22 +105,22 @@ module _ (k next : Kernel) (places after : Places) (pid : ℕ) (l : EntryLeaves 
         nodes = h.nodes;
         forked = h.forked;
         placed = λ q place there. elim (own-or-other q place there) [
-              | inl old ↦ h.placed q place old
-              | inr own ↦ h.placed q l.was (ap (get places) own.0 ∙ l.place_was)
-            ];
+          | inl old ↦ h.placed q place old
+          | inr own ↦ h.placed q l.was (ap (get places) own.0 ∙ l.place_was)
+        ];
         there = λ q process is. old-process q (get k.processes q) refl (sym (there-same q) ∙ ap is_some is);
         has_place = λ c forked. has-place c forked (cases_eq (pids c) pid);
         ahead = λ p c place there forked names. elim (own-or-other (pids p) place there) [
-              | inl old ↦ h.ahead p c place old forked names
-              | inr own ↦
-                  h.ahead p c l.was (ap (get places) own.0 ∙ l.place_was) forked
-                  (l.shrinks (λ line. names_block c line.call)
-                  (subst (λ (x : Place). list_any (λ line. names_block c line.call) x.left ≡ true) own.1 names))
-            ];
+          | inl old ↦ h.ahead p c place old forked names
+          | inr own ↦
+              h.ahead p c l.was (ap (get places) own.0 ∙ l.place_was) forked
+              (l.shrinks (λ line. names_block c line.call)
+              (subst (λ (x : Place). list_any (λ line. names_block c line.call) x.left ≡ true) own.1 names))
+        ];
         alive = λ c a place lives there. elim (own-or-other (pids c) place there) [
-              | inl old ↦ alive-before c a place lives old (cases_eq (pids c) pid) there
-              | inr own ↦ λ none. l.more_left (ap (λ (x : Place). x.left) (sym own.1) ∙ none)
-            ];
+          | inl old ↦ alive-before c a place lives old (cases_eq (pids c) pid) there
+          | inr own ↦ λ none. l.more_left (ap (λ (x : Place). x.left) (sym own.1) ∙ none)
+        ];
         dead = λ c place forked dead there. dead-before c place forked dead there (cases_eq (pids c) pid);
       }
     where

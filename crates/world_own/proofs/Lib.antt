@@ -1,2 +1,16 @@
 pub mod Entries
 pub mod Others
+pub mod EntryMoves
+pub mod Served
+pub mod Rebodied
+pub mod Runs
+pub mod OwnCalls
+pub mod Outs
+pub mod Asks
+pub mod Requests
+pub mod Answered
+pub mod Refused
+pub mod NewNames
+pub mod NewNumbers
+pub mod Objects
+pub mod Made

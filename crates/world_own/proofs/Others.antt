@@ -1,5 +1,5 @@
 -- After an entry of a process: its family and those of the others, and the calls of the others.
-use Rattle.std.proofs.Common.{◌≡◌, ◌≢◌, ℕ, Bool, true, List, [], ◌∷◌, Option, Some, None, is_some, refl, ap, sym, subst, ◌∙◌, inl, inr}
+use Rattle.std.proofs.Common.{◌≡◌, ◌≢◌, ℕ, Bool, true, List, Option, Some, None, is_some, refl, ap, sym, subst, ◌∙◌, inl, inr}
 use Rattle.std.proofs.lemmas.Bool.{cases_eq, false≢true}
 use Rattle.pico_base.specs.declared.call.Call.{Call}
 use Rattle.pico_base.specs.declared.numbers.Name.TheVariants.{Proc}
@@ -7,7 +7,7 @@ use Rattle.pico_base.specs.declared.reply.Ending.{Ending}
 use Rattle.pico_base.specs.declared.script.Script.{Script}
 use Rattle.rpc_frame.specs.declared.frame.Frame.{Frame}
 use Rattle.number_maps.specs.Maps.{get}
-use Rattle.kernel_model.specs.Row.{Alive, Row}
+use Rattle.kernel_model.specs.Row.{Alive}
 use Rattle.kernel_model.specs.Kernel.{Kernel, Process, living_at}
 use Rattle.kernel_model.specs.Kernel as kernel
 use Rattle.kernel_model.specs.Fitting.{Places}
@@ -18,7 +18,7 @@ use Rattle.world_model.specs.Lives.{is_new_row}
 use Rattle.world_model.specs.Node.{Stage, Unborn, Living, Leaving, Left, Over}
 use Rattle.world_laws.specs.Places.{CallPlace, DeedPlace, InCheckpoint, InAnswer, Ends}
 use Rattle.world_laws.specs.Names.{forker}
-use Rattle.world_laws.specs.Callers.{CallSight, CallHolds, FreeIn, HasCall, HasCallOrNone, HasEnded, HasNoCall, IsFree, IsMade, IsNowhere, IsSoFar, IsToBeMade}
+use Rattle.world_laws.specs.Callers.{CallSight, CallHolds, FreeIn, HasCallOrNone, HasEnded, IsNowhere, IsSoFar, IsToBeMade}
 use Rattle.world_laws.specs.Families.{FamilyHolds, IsChildAs, IsWhereFor, IsWithParent, IsCheckpointFor, CheckpointIn, IsNewAt}
 use Rattle.world_own.proofs.Entries.{EntryLeaves, MayStill, StillLives, there-same}
 
