@@ -8,7 +8,9 @@ use Rattle.stamp_merge.specs.declared.Stamped.{Stamped}
 use Rattle.stamp_merge.specs.Merge as stamps
 use Rattle.stamp_merge.proofs.Merges.{all-own, none-own, of-append}
 use Rattle.log_laws.specs.Logs.{IsNode, Logged, Log, StampsRise}
-use Rattle.log_laws.specs.Merged.{item_of, IsItem, logs_from, LogsMayMerge}
+use Rattle.log_laws.specs.Merged.{item_of, turn_of, IsItem, logs_from, logs_of, LogsMayMerge, MergedLogsAreRuns}
+use Rattle.log_laws.proofs.Merged.{merges_are_merges_lemma}
+use Rattle.log_laws.proofs.Whole.{consistent_logs_are_runs_lemma}
 use Rattle.log_laws.proofs.Lists.{append-all}
 
 -- ---- one log
@@ -91,8 +93,8 @@ own-first node count logs =
     let rest = stamps.all_items (logs_from (suc node) count logs)
     in let log = map (item_of node) (logs node)
     in of-append node log rest
-    ∙ ap (λ (es : List (Stamped Logged)). es ++ stamps.items_of node rest) (all-own node log (items-own node
-    (logs node)))
+    ∙ ap (λ (es : List (Stamped Logged)). es ++ stamps.items_of node rest)
+    (all-own node log (items-own node (logs node)))
     ∙ ap (λ (es : List (Stamped Logged)). log ++ es) (none-later node (suc node) count logs (omega arith))
     ∙ append-nil log
 
@@ -141,3 +143,10 @@ logs_may_merge_lemma script logs rise = record {
     others = all-are script 1 (node_count script) logs (among-is script);
   };
 }
+
+-- and their merge is a run of the machine where they are consistent
+pub merged_logs_are_runs_lemma : MergedLogsAreRuns
+merged_logs_are_runs_lemma script logs last untaken merged consistent merge =
+    consistent_logs_are_runs_lemma script logs last untaken (map turn_of merged) consistent
+    (merges_are_merges_lemma script logs (logs_of script logs) merged
+    (logs_may_merge_lemma script logs consistent.rise).are merge)

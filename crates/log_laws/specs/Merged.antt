@@ -1,4 +1,4 @@
--- The logs of the machine's turns, as `stamp_merge` takes logs, and its answer, as the law of merged logs takes a
+-- The logs of the machine's turns, as `stamp_merge` takes logs, and its answer, as the laws of merged logs take a
 -- merge.
 use Rattle.std.specs.Prelude.{◌≡◌, ℕ, zero, suc, List, [], ◌∷◌, map}
 use Rattle.std.specs.List.{AllByRecursion}
@@ -6,9 +6,11 @@ use Rattle.pico_base.specs.declared.script.Script.{Script}
 use Rattle.stamp_merge.specs.declared.Stamped.{Stamped}
 use Rattle.stamp_merge.specs.Merge.{all_items, items_of}
 use Rattle.stamp_merge.specs.Merge as stamps
+use Rattle.world_model.specs.Node.{Node}
 use Rattle.world_model.specs.World.{node_count}
-use Rattle.log_laws.specs.Logs.{IsNode, Logged, Log, StampsRise}
+use Rattle.log_laws.specs.Logs.{IsNode, StampedFrame, Logged, Log, StampsRise, AreConsistent}
 use Rattle.log_laws.specs.Merge.{NodeTurn, IsMerge}
+use Rattle.log_laws.specs.Laws.{IsRunOfTurns}
 
 -- a turn as an item of its node's log
 abbrev pub item_of : ℕ → Logged → Stamped Logged
@@ -52,3 +54,10 @@ pub record MayMerge (script : Script) (logs : ℕ → Log) (items : List (List (
 abbrev pub LogsMayMerge : Type 0
 LogsMayMerge = (script : Script) (logs : ℕ → Log) → ((p : ℕ) → IsNode script p → StampsRise (logs p))
     → MayMerge script logs (logs_of script logs)
+
+-- `stamp_merge`'s merge of consistent logs is a run of the machine, which leads where the logs lead
+abbrev pub MergedLogsAreRuns : Type 0
+MergedLogsAreRuns =
+    (script : Script) (logs : ℕ → Log) (last : ℕ → Node) (untaken : ℕ → ℕ → List StampedFrame)
+    (merged : List (Stamped Logged)) → AreConsistent script logs last untaken
+    → stamps.IsMerge (logs_of script logs) merged → IsRunOfTurns script (map turn_of merged) last untaken

@@ -3,7 +3,7 @@
 #![tactic(auto)]
 
 ghost use Rattle.log_laws.specs.Laws.{ConsistentLogsAreRuns, OneJournal};
-ghost use Rattle.log_laws.specs.Merged.{MergesAreMerges, LogsMayMerge};
+ghost use Rattle.log_laws.specs.Merged.{MergesAreMerges, LogsMayMerge, MergedLogsAreRuns};
 
 /// Where each node's log is the machine's, its stamps rise, and each frame was taken in the order of sending and later
 /// than it was sent, the turns of all logs by stamp and node are one run of the machine from the opening world: each
@@ -27,4 +27,9 @@ pub fn merges_are_merges()
 /// The logs of a script's nodes are what `stamp_merge` asks for where the stamps of each rise.
 pub fn logs_may_merge()
     ensures { LogsMayMerge }
+{}
+
+/// So `stamp_merge`'s merge of the logs of a script's nodes is one run of the machine, where the logs are consistent.
+pub fn merged_logs_are_runs()
+    ensures { MergedLogsAreRuns }
 {}

@@ -174,8 +174,8 @@ pub merge-from-sort : {T : Type 0} (logs : List (List (Stamped T))) (merged : Li
 merge-from-sort {T} logs merged rise own sorted =
     let same = same-part logs merged rise own sorted
     in record {
-      in_order = in-order merged sorted.none_falls (λ e. subst StampsRise (sym (same e))
-          (node-rises e.node logs rise own));
+      in_order = in-order merged sorted.none_falls (λ e.
+          subst StampsRise (sym (same e)) (node-rises e.node logs rise own));
       each = all-map (λ (log : List (Stamped T)) part. all-map (λ (e : Stamped T) is. same e ∙ is) log part) logs
           (each-part logs own);
       parts = any-part (all_items logs) merged sorted.all same;
