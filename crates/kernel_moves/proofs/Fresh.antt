@@ -32,7 +32,7 @@ use Rattle.node_model.specs.Bodies.{Body, Living, Gone, AQueue, ASet, Removed, b
 use Rattle.node_model.specs.Carrying.{is_served, on_body}
 use Rattle.node_model.specs.Serving.{child_body, name_for, no_such_name, parent_body}
 use Rattle.serve_laws.specs.Laws.{is_found}
-use Rattle.kernel_moves.specs.Entering.{Enters, KeepsBodies, KeepsKeys, MayMake, is_used_as, removed_queue, removed_set, unless_removed, used_after}
+use Rattle.kernel_moves.specs.Entering.{Enters, KeepsBodies, KeepsKeys, MayMake, is_used_name, removed_queue, removed_set, unless_removed, used_after}
 use Rattle.kernel_moves.proofs.Bodies.{living-body, body-living}
 use Rattle.kernel_moves.proofs.Keys.{size-same}
 use Rattle.kernel_moves.proofs.Making.{finished, finished-is-like, enters-by, keys-finished, keys-same}
@@ -90,27 +90,27 @@ nothing_at (Proc pid) = Gone
 nothing_at (Msg id) = Removed
 nothing_at (Sem id) = Removed
 
-pub unused-body : (k : Kernel) (name : Name) → IsValid k → is_used_as k name ≡ false → body_in k name ≡ nothing_at name
+pub unused-body : (k : Kernel) (name : Name) → IsValid k → is_used_name k name ≡ false → body_in k name ≡ nothing_at name
 unused-body k (Proc n) valid unused = ap process_body (unused-process k n valid unused)
 unused-body k (Msg n) valid unused = ap queue_body (unused-queue k n valid unused)
 unused-body k (Sem n) valid unused = ap set_body (unused-set k n valid unused)
 
 nobody-queue-keys : (k : Kernel) (pid : ℕ) (call : Call) (name : Name) → IsValid k → name_for pid call ≡ Some name
-    → is_used_as k name ≡ false → (key : ℕ)
+    → is_used_name k name ≡ false → (key : ℕ)
     → unless_removed (removed_queue call) (get k.queue_keys key) ≡ get k.queue_keys key
 nobody-queue-keys k pid (calls.MsgRmid id) name valid named unused key =
     let is : name ≡ Msg id = some-is name (Msg id) (sym named)
     in let none : get k.queues id ≡ None =
-    unused-queue k id valid (ap (is_used_as k) (sym is) ∙ unused)
+    unused-queue k id valid (ap (is_used_name k) (sym is) ∙ unused)
     in sym (absent-other k.queue_keys k.queues id key valid.queue_keys none)
 nobody-queue-keys k pid call name valid named unused key = refl
 
 nobody-set-keys : (k : Kernel) (pid : ℕ) (call : Call) (name : Name) → IsValid k → name_for pid call ≡ Some name
-    → is_used_as k name ≡ false → (key : ℕ)
+    → is_used_name k name ≡ false → (key : ℕ)
     → unless_removed (removed_set call) (get k.set_keys key) ≡ get k.set_keys key
 nobody-set-keys k pid (calls.SemRmid id) name valid named unused key =
     let is : name ≡ Sem id = some-is name (Sem id) (sym named)
-    in let none : get k.sets id ≡ None = unused-set k id valid (ap (is_used_as k) (sym is) ∙ unused)
+    in let none : get k.sets id ≡ None = unused-set k id valid (ap (is_used_name k) (sym is) ∙ unused)
     in sym (absent-other k.set_keys k.sets id key valid.set_keys none)
 nobody-set-keys k pid call name valid named unused key = refl
 
@@ -123,7 +123,7 @@ on-nothing (Sem id) pid call = refl
 
 -- A call on a name whose number nothing has, or had, is refused, and changes nothing.
 pub nobody : (k : Kernel) (pid : ℕ) (call : Call) (name : Name) → MayMake k pid call → is_served call ≡ true
-    → name_for pid call ≡ Some name → is_used_as k name ≡ false
+    → name_for pid call ≡ Some name → is_used_name k name ≡ false
     → LeavesAll k pid call (replies.Fail (no_such_name name))
 nobody k pid call name m served named unused =
     let c : Carried k pid call name = carried k pid call name m served named

@@ -13,7 +13,7 @@ use Rattle.kernel_model.specs.Kernel.{Kernel}
 use Rattle.kernel_model.specs.Footprint.{used_of, grown_by}
 use Rattle.kernel_model.specs.Valid.{IsValid}
 use Rattle.node_model.specs.Kinds.{is_same_kind, kind_of, number_of}
-use Rattle.kernel_moves.specs.Entering.{Enters, is_used_as, used_after}
+use Rattle.kernel_moves.specs.Entering.{Enters, is_used_name, used_after}
 
 -- the number of this kind is that of what was made
 abbrev pub is_made : Option Name → Kind → ℕ → Bool
@@ -47,7 +47,7 @@ used-at k pid call reply made next e kind number =
 
 -- where nothing is made the same names are used
 pub used-kept : (k : Kernel) (pid : ℕ) (call : Call) (reply : Reply) (next : Kernel) → Enters k pid call reply None next
-    → (m : Name) → is_used_as next m ≡ is_used_as k m
+    → (m : Name) → is_used_name next m ≡ is_used_name k m
 used-kept k pid call reply next e m = ap (λ used. is_used used (number_of m)) (e.used (kind_of m))
 
 same-kind : (name : Name) → is_same_kind (kind_of name) (kind_of name) ≡ true
@@ -57,11 +57,11 @@ same-kind (Sem id) = refl
 
 -- what is made is used
 pub used-made : (k : Kernel) (pid : ℕ) (call : Call) (reply : Reply) (name : Name) (next : Kernel)
-    → Enters k pid call reply (Some name) next → is_used_as next name ≡ true
+    → Enters k pid call reply (Some name) next → is_used_name next name ≡ true
 used-made k pid call reply name next e =
     used-at k pid call reply (Some name) next e (kind_of name) (number_of name)
-    ∙ ap (λ (b : Bool). (b && nat_eq (number_of name) (number_of name)) || is_used_as k name) (same-kind name)
-    ∙ ap (λ (b : Bool). b || is_used_as k name) (eq-eqb (number_of name) (number_of name) refl)
+    ∙ ap (λ (b : Bool). (b && nat_eq (number_of name) (number_of name)) || is_used_name k name) (same-kind name)
+    ∙ ap (λ (b : Bool). b || is_used_name k name) (eq-eqb (number_of name) (number_of name) refl)
 
 other-made : (name m : Name) → m ≢ name → is_made (Some name) (kind_of m) (number_of m) ≡ false
 other-made (Proc p) (Proc q) d = ne_eqb q p (λ (e : q ≡ p). d (ap Proc e))
@@ -76,11 +76,11 @@ other-made (Sem p) (Msg q) d = refl
 
 -- and no other name than before
 pub used-others : (k : Kernel) (pid : ℕ) (call : Call) (reply : Reply) (name : Name) (next : Kernel)
-    → Enters k pid call reply (Some name) next → (m : Name) → m ≢ name → is_used_as next m ≡ is_used_as k m
+    → Enters k pid call reply (Some name) next → (m : Name) → m ≢ name → is_used_name next m ≡ is_used_name k m
 used-others k pid call reply name next e m other =
     used-at k pid call reply (Some name) next e (kind_of m) (number_of m)
-    ∙ ap (λ (b : Bool). b || is_used_as k m) (other-made name m other)
+    ∙ ap (λ (b : Bool). b || is_used_name k m) (other-made name m other)
 
 -- a number leads to a process exactly where it is used
-pub process-there : (k : Kernel) (p : ℕ) → IsValid k → is_some (get k.processes p) ≡ is_used_as k (Proc p)
+pub process-there : (k : Kernel) (p : ℕ) → IsValid k → is_some (get k.processes p) ≡ is_used_name k (Proc p)
 process-there k p valid = sym (valid.used_processes p)

@@ -61,8 +61,8 @@ pub record Enters (k : Kernel) (pid : ℕ) (call : Call) (reply : Reply) (made :
 -- ---- what it leaves
 
 -- something has, or had, the name's number
-abbrev pub is_used_as : Kernel → Name → Bool
-is_used_as k name = is_used (used_of k (kind_of name)) (number_of name)
+abbrev pub is_used_name : Kernel → Name → Bool
+is_used_name k name = is_used (used_of k (kind_of name)) (number_of name)
 
 -- each name's body is as before
 abbrev pub KeepsBodies : Kernel → Kernel → Type 0

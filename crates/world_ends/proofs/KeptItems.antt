@@ -7,6 +7,7 @@ use Rattle.pico_base.specs.declared.numbers.Name.{Name}
 use Rattle.pico_base.specs.declared.numbers.Name.TheVariants.{Proc}
 use Rattle.pico_base.specs.declared.script.Script.{Script}
 use Rattle.rpc_frame.specs.declared.deed.Parcel.{Parcel}
+use Rattle.kernel_moves.specs.Entering.{HasHistory, is_used_name}
 use Rattle.node_model.specs.declared.held.Held.{Held}
 use Rattle.node_model.specs.declared.held.Held.TheVariants.{Ending}
 use Rattle.node_model.specs.Kinds.{kind_of, is_same_name, get_named, for_kind}
@@ -26,14 +27,14 @@ use Rattle.world_laws.specs.Families.{NodeHolds, FamilyHolds, IsWhereFor, IsWith
 use Rattle.world_laws.proofs.LeftAlone.{LeavesCall, call-left-alone, way-left-alone, was-there, sender-stays, kind-left-alone, other-node-stays, frames-still-fit, few-still}
 use Rattle.world_rules.proofs.Nodes.{node-with-directory}
 use Rattle.world_laws.specs.Places.{DeedPlace, Unmade, InHand, InKept, Beside}
-use Rattle.world_laws.specs.Sights.{node_of, frames_to, directory_of, stage_of, is_used_name, is_born_in}
+use Rattle.world_laws.specs.Sights.{node_of, frames_to, directory_of, stage_of, is_born_in}
 use Rattle.world_laws.specs.Names.{NameSight, name_sight, NameHolds, HasDeed, OneIf, OnlyOne, IsItemWith, is_hand_place, node_in, comes_to, held_at, forker, is_maker, range_steps_of}
 use Rattle.world_laws.specs.Plays.{plays, begin, is_checkpoint_of, has_any, placed_in, news}
 use Rattle.world_model.specs.Census.{brings}
 use Rattle.rpc_frame.specs.declared.frame.Frame.{Frame}
 use Rattle.world_laws.proofs.Stays.{IsMore, SameName, name-stays, node-born, call-stays, way-stays, kind-stays}
 use Rattle.world_laws.specs.Ways.{way_sight, knows_parent, left as left_in, sent as sent_in, kept as kept_in, IsParcelOf, IsParcelIn, at_hand, under_way_of, HasSender}
-use Rattle.world_laws.specs.Invariant.{Holds, IsHistory, IsLeading, process_deed}
+use Rattle.world_laws.specs.Invariant.{Holds, IsLeading, process_deed}
 use Rattle.world_ends.proofs.Given.{packed-has}
 use Rattle.world_ends.proofs.Taken.{DropsFirst, drops-first}
 use Rattle.world_laws.specs.Ranges.{kind_sight, KeysHold}
@@ -581,7 +582,7 @@ module _ (script : Script) (w : World) (items : List Held) (parcel : Parcel) (b 
   parcel-held =
       record {
         shape = changes.shape;
-        history = subst (λ j. IsHistory script j b.kernel b.places) (sym (changes.journal ∙ append-nil w.journal))
+        history = subst (λ j. HasHistory script j b.kernel b.places) (sym (changes.journal ∙ append-nil w.journal))
             holds.history;
         leading = leading-now;
         pids = holds.pids;

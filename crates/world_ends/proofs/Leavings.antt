@@ -15,6 +15,7 @@ use Rattle.number_maps.specs.Maps.{get}
 use Rattle.number_maps.proofs.LookUps.{get-put-same, get-put-other}
 use Rattle.kernel_model.specs.Kernel.{Process}
 use Rattle.kernel_model.specs.Kernel as kernel
+use Rattle.kernel_moves.specs.Entering.{HasHistory, is_used_name}
 use Rattle.node_model.specs.declared.held.Held.TheVariants.{Ending}
 use Rattle.node_model.specs.Kinds.{kind_of, number_of, get_named, for_kind}
 use Rattle.node_model.specs.Directory.{Directory, Place, At, Parting, IsLeaving, place_of, place_name, with_leaving, place_without, items_of, destination_of, maker, maker_in, stays, is_known, held_for, is_parcel_with}
@@ -25,14 +26,14 @@ use Rattle.world_model.specs.Lives.{place_family, take_leaving}
 use Rattle.world_model.specs.Census.{brings}
 use Rattle.world_model.specs.World.{World, world_after, node_count}
 use Rattle.world_laws.specs.Places.{Unmade, Beside}
-use Rattle.world_laws.specs.Sights.{node_of, frames_to, directory_of, stage_of, is_used_name, is_born_in}
+use Rattle.world_laws.specs.Sights.{node_of, frames_to, directory_of, stage_of, is_born_in}
 use Rattle.world_laws.specs.Plays.{Somewhere, believed, told, is_there, plays, begin, is_checkpoint_of, has_any, placed_in, News, NeedsPlace, news_if, news, finds_place}
 use Rattle.world_laws.specs.Names.{NameSight, name_sight, NameHolds, IsTold, SaysOf, held_at, comes_to, range_steps_of, forker, is_maker, belief_of, maker_tells, is_nowhere}
 use Rattle.world_laws.specs.Callers.{call_sight, is_item_about}
 use Rattle.world_laws.specs.Ways.{Way, way_sight, knows_parent, Shows, TellsEnd, IsCollected, here, tells, collected, over, gone, is_leaving_frame, is_recall_all, is_left_frame, IsParcelIn, left as left_in, sent as sent_in, kept as kept_in, at_hand, under_way_of, HasSender}
 use Rattle.world_laws.specs.Ranges.{KeysHold, kind_sight}
 use Rattle.world_laws.specs.Families.{NodeHolds, BornIn, IsBorn, FamilyHolds, IsWhereFor, checkpoints_to}
-use Rattle.world_laws.specs.Invariant.{Holds, IsHistory, IsLeading, process_deed}
+use Rattle.world_laws.specs.Invariant.{Holds, IsLeading, process_deed}
 use Rattle.world_laws.proofs.Named.{name-cases}
 use Rattle.world_laws.proofs.Numbers.{used-is-taken}
 use Rattle.world_laws.proofs.Stays.{IsMore, SameName, name-stays, node-born, call-stays, SameWay, way-stays, kind-stays}
@@ -741,7 +742,7 @@ module _ (script : Script) (w : World) (b : Beside) (holds : Holds script w [] b
         is_step = take-steps script w 1 c frame rest after holds.shape h rule;
         holds = record {
           shape = changes.shape;
-          history = subst (λ j. IsHistory script j b.kernel b.places) (sym (changes.journal ∙ append-nil w.journal))
+          history = subst (λ j. HasHistory script j b.kernel b.places) (sym (changes.journal ∙ append-nil w.journal))
               holds.history;
           leading = leading-now;
           pids = holds.pids;

@@ -14,6 +14,7 @@ use Rattle.number_maps.proofs.LookUps.{get-put-same, get-put-other}
 use Rattle.kernel_model.specs.Fitting.{Places}
 use Rattle.kernel_model.specs.Kernel.{Process}
 use Rattle.kernel_model.specs.Kernel as kernel
+use Rattle.kernel_moves.specs.Entering.{HasHistory}
 use Rattle.node_model.specs.declared.held.Held.{Held}
 use Rattle.node_model.specs.declared.held.Held.TheVariants.{Ending}
 use Rattle.node_model.specs.Kinds.{is_object, get_named, for_kind}
@@ -31,7 +32,7 @@ use Rattle.world_laws.specs.Callers.{call_sight, is_item_about}
 use Rattle.world_laws.specs.Ways.{Way, way_sight, knows_parent, HandsOver, IsGone, here, tells, collected, over, gone, is_leaving_frame, is_recall_all, is_left_frame, IsParcelIn, left as left_in, sent as sent_in, kept as kept_in, at_hand, under_way_of, HasSender}
 use Rattle.world_laws.specs.Ranges.{KeysHold}
 use Rattle.world_laws.specs.Families.{NodeHolds, FamilyHolds, IsWhereFor, IsWithParent, CheckpointIn, IsNewAt, IsAwaited, checkpoints_to, is_checkpoint_frame}
-use Rattle.world_laws.specs.Invariant.{Holds, IsHistory, IsLeading, process_deed}
+use Rattle.world_laws.specs.Invariant.{Holds, IsLeading, process_deed}
 use Rattle.world_laws.proofs.Stays.{IsMore, SameName, name-stays, node-born, call-stays, SameWay, way-stays, kind-stays}
 use Rattle.world_laws.proofs.Changes.{Changes, filter-is-list-map, flat_map-is-list-map, made-same, only-stayed, still-born, read-same}
 use Rattle.world_laws.proofs.LeftAlone.{DirectoryLeaves, name-left-alone, LeavesCall, call-left-alone, was-there, sender-stays, kind-left-alone, other-node-stays, frames-still-fit, few-still}
@@ -688,7 +689,7 @@ module _ (script : Script) (w : World) (b : Beside) (holds : Holds script w [] b
   left-in-hand =
       record {
         shape = changes.shape;
-        history = subst (λ j. IsHistory script j b.kernel b.places) (sym (changes.journal ∙ append-nil w.journal))
+        history = subst (λ j. HasHistory script j b.kernel b.places) (sym (changes.journal ∙ append-nil w.journal))
             holds.history;
         leading = leading-now;
         pids = holds.pids;

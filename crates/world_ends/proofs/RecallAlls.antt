@@ -24,7 +24,7 @@ use Rattle.kernel_model.specs.Row.{Alive, Row}
 use Rattle.kernel_model.specs.Kernel.{Process}
 use Rattle.kernel_model.specs.Kernel as kernel
 use Rattle.kernel_model.specs.Transition.{may_make}
-use Rattle.kernel_moves.specs.Entering.{HasRow}
+use Rattle.kernel_moves.specs.Entering.{HasRow, HasHistory}
 use Rattle.kernel_moves.proofs.Bodies.{body-living}
 use Rattle.node_model.specs.declared.held.Held.TheVariants.{Ending}
 use Rattle.node_model.specs.Kinds.{is_object, get_named, none_named, for_kind}
@@ -45,7 +45,7 @@ use Rattle.world_laws.specs.Callers.{CallSight, CallHolds, call_sight, HasCall, 
 use Rattle.world_laws.specs.Ways.{Way, way_sight, knows_parent, Shows, IsCollected, HandsOver, here, tells, collected, over, gone, is_leaving_frame, is_recall_all, is_left_frame, IsParcelOf, IsParcelIn, left as left_in, sent as sent_in, kept as kept_in, at_hand, under_way_of, HasSender}
 use Rattle.world_laws.specs.Ranges.{KeysHold, lease_in}
 use Rattle.world_laws.specs.Families.{NodeHolds, HoldsIn, HoldsRow, BornIn, IsBorn, FamilyHolds, CheckpointIn, IsAwaited, checkpoints_to, is_checkpoint_frame}
-use Rattle.world_laws.specs.Invariant.{Holds, IsHistory, IsLeading, MayBe, process_deed}
+use Rattle.world_laws.specs.Invariant.{Holds, IsLeading, MayBe, process_deed}
 use Rattle.world_laws.proofs.Stays.{IsMore, SameName, name-stays, SameCall, call-stays, SameWay, way-stays, kind-stays}
 use Rattle.world_laws.proofs.Sends.{IsToNode}
 use Rattle.world_laws.proofs.Changes.{Changes, sent, filter-is-list-map, flat_map-is-list-map, made-after, made-same, only-stayed, stayed, directory-same, still-born}
@@ -862,7 +862,7 @@ module _ (script : Script) (w : World) (b : Beside) (holds : Holds script w [] b
         is_step = take-steps script w p 1 frames.RecallAll rest after holds.shape h rule;
         holds = record {
           shape = changes.shape;
-          history = subst (λ j. IsHistory script j b.kernel b.places) (sym (changes.journal ∙ append-nil w.journal))
+          history = subst (λ j. HasHistory script j b.kernel b.places) (sym (changes.journal ∙ append-nil w.journal))
               holds.history;
           leading = subst (λ (z : Directory). IsLeading z) (sym same-there) holds.leading;
           pids = holds.pids;

@@ -16,7 +16,7 @@ use Rattle.kernel_laws.proofs.People.{from-living}
 use Rattle.kernel_model.specs.Row.{Alive, Row}
 use Rattle.kernel_model.specs.Kernel.{Process, living_at, alive_in}
 use Rattle.kernel_model.specs.Kernel as kernel
-use Rattle.kernel_moves.specs.Entering.{HasRow}
+use Rattle.kernel_moves.specs.Entering.{HasRow, is_used_name}
 use Rattle.kernel_moves.proofs.Bodies.{body-living}
 use Rattle.node_model.specs.declared.held.Held.TheVariants.{Ending}
 use Rattle.node_model.specs.Kinds.{is_same_name, kind_of}
@@ -31,7 +31,7 @@ use Rattle.world_model.specs.Lives.{is_end, is_free_to_end, may_take, end_releas
 use Rattle.world_model.specs.Census.{brings}
 use Rattle.world_model.specs.World.{World, world_after, step}
 use Rattle.world_laws.specs.Places.{Unmade, InLeft, Beside}
-use Rattle.world_laws.specs.Sights.{node_of, frames_to, directory_of, stage_of, is_used_name, is_born_in}
+use Rattle.world_laws.specs.Sights.{node_of, frames_to, directory_of, stage_of, is_born_in}
 use Rattle.world_laws.specs.Plays.{believed, told, is_there, begin, is_has, is_checkpoint_of, has_any}
 use Rattle.world_laws.specs.Names.{NameSight, name_sight, NameHolds, OneIf, IsBringer, IsItemWith, held_at, held_as, comes_to, is_stream_of, is_kept_for, node_in, SaysOf, forker, belief_of, maker_tells, is_nowhere, PlaysTo}
 use Rattle.world_laws.specs.Callers.{call_sight, HasCall, IsSoFar, IsToBeMade, HasEnded, is_end_stage, may_be_in}

@@ -40,7 +40,7 @@ use Rattle.world_laws.specs.Names.{NameHolds, name_sight, held_at, range_steps_o
 use Rattle.world_laws.specs.Callers.{CallSight, call_sight, CallHolds, HasCall, HasCallOrNone, IsToBeMade, IsSoFar, asked_of, only_if, is_about, is_item_about, is_at_work, is_end_place}
 use Rattle.world_laws.specs.Ranges.{has_lease, KeysHold}
 use Rattle.world_laws.specs.Families.{NodeHolds, BornIn, IsBorn}
-use Rattle.world_laws.specs.Invariant.{Holds, IsHistory}
+use Rattle.world_laws.specs.Invariant.{Holds}
 use Rattle.world_laws.proofs.Stays.{IsMore, SameCall, call-stays, name-stays, kind-stays}
 use Rattle.world_laws.proofs.Sends.{frame_if}
 use Rattle.world_laws.proofs.Changes.{Changes, frames_if, sent, filter-is-list-map, stayed, made-after}
@@ -167,9 +167,7 @@ module _ (script : Script) (w : World) (asked : Asked) (rest : List Held) (b : B
 
   -- the history so far
   pub has-history : HasHistory script w.journal b.kernel b.places
-  has-history =
-      let h : IsHistory script w.journal b.kernel b.places = holds.history
-      in record { legal = h.legal; fits = h.fits; ordered = h.ordered }
+  has-history = holds.history
 
   -- and its process may make it
   pub may-make-in-hand : MayMake b.kernel asked.pid asked.call
@@ -208,13 +206,11 @@ module _ (script : Script) (w : World) (asked : Asked) (rest : List Held) (b : B
     entry-leaves : EntryLeaves b.kernel b.places (b.pids p) next places-now
     entry-leaves = subst (λ q. EntryLeaves b.kernel b.places q next places-now) pid-in-hand by-pid
 
-    history-now : IsHistory script w'.journal next places-now
+    history-now : HasHistory script w'.journal next places-now
     history-now =
-        let h : HasHistory script (w.journal ++ entry ∷ []) next places-now =
-        history-goes-on script w.journal b.kernel b.places node asked.pid asked.call reply place next has-history
-        place-in-hand due-in-hand enters.makes
-        in subst (λ j. IsHistory script j next places-now) (sym c.journal)
-        (record { legal = h.legal; fits = h.fits; ordered = h.ordered })
+        subst (λ j. HasHistory script j next places-now) (sym c.journal)
+        (history-goes-on script w.journal b.kernel b.places node asked.pid asked.call reply place next has-history
+        place-in-hand due-in-hand enters.makes)
 
     keys-now : KeysHold (node_of w' 1).leader next
     keys-now = subst (λ (y : Leader). KeysHold y next) (sym (ap (λ (m : Node). m.leader) c.here)) a.keys

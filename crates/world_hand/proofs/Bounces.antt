@@ -9,6 +9,7 @@ use Rattle.pico_base.specs.Home.{home_of}
 use Rattle.rpc_frame.specs.declared.asked.Asked.{Asked}
 use Rattle.rpc_frame.specs.declared.frame.Frame.{Frame}
 use Rattle.rpc_frame.specs.declared.frame.Frame.TheVariants as frames
+use Rattle.kernel_moves.specs.Entering.{is_used_name}
 use Rattle.node_model.specs.declared.held.Held.TheVariants.{Request}
 use Rattle.node_model.specs.Directory.{maker, place_of}
 use Rattle.world_model.specs.Node.{Node, is_leader, is_node}
@@ -16,7 +17,7 @@ use Rattle.world_model.specs.Step.{step_to}
 use Rattle.world_model.specs.Calls.{is_for_others, is_on_name_or_removal, take_bounce}
 use Rattle.world_model.specs.World.{World, node_count, world_after}
 use Rattle.world_laws.specs.Places.{IsInHand, Beside, call_in}
-use Rattle.world_laws.specs.Sights.{node_of, directory_of, is_born_in, is_used_name}
+use Rattle.world_laws.specs.Sights.{node_of, directory_of, is_born_in}
 use Rattle.world_laws.specs.Plays.{News, NeedsPlace, finds_place, is_call_on, news, news_if}
 use Rattle.world_laws.specs.Names.{name_sight, NameHolds, is_maker}
 use Rattle.world_laws.specs.Callers.{CallSight, call_sight, CallHolds, HasCall, IsToBeMade, IsJustThere, IsSoFar, asked_of, only_if, is_in_stream, frame_at, is_held_at, is_about, is_end_place, may_be_in}

@@ -115,11 +115,7 @@ module _ (script : Script) (w : World) (asked : Asked) (rest : List Held) (b : B
 
   keys-now : KeysHold n.leader l.next
   keys-now =
-      let k : KeysHold n.leader b.kernel = holds.keys
-      in let kept : HasKeys n.leader.queue_keys n.leader.set_keys l.next =
-      keys-kept n.leader.queue_keys n.leader.set_keys b.kernel l.next l.keys
-      (record { queues = k.queues; sets = k.sets })
-      in record { queues = kept.queues; sets = kept.sets }
+      keys-kept n.leader.queue_keys n.leader.set_keys b.kernel l.next l.keys holds.keys
 
   answers : LeaderAnswers script w b l.next n
   answers =

@@ -23,12 +23,12 @@ use Rattle.node_model.specs.Serving.{name_for, name_in, no_such_name}
 use Rattle.world_model.specs.Node.{Node, under_way_as}
 use Rattle.world_model.specs.Step.{Step, send, enter, carry_out, reply_here}
 use Rattle.world_model.specs.World.{World, node_count, world_after}
-use Rattle.kernel_moves.specs.Entering.{entry_of}
+use Rattle.kernel_moves.specs.Entering.{entry_of, is_used_name}
 use Rattle.kernel_moves.proofs.Fresh.{LeavesAll, nobody}
 use Rattle.kernel_model.specs.Fitting.{places_after}
 use Rattle.node_model.specs.Caller.{Caller, caller_place}
 use Rattle.world_laws.specs.Places.{InAnswer, Beside, call_in}
-use Rattle.world_laws.specs.Sights.{node_of, directory_of, is_born_in, is_used_name}
+use Rattle.world_laws.specs.Sights.{node_of, directory_of, is_born_in}
 use Rattle.world_laws.specs.Plays.{believed, placed_in, told}
 use Rattle.world_laws.specs.Names.{NameSight, name_sight, NameHolds, HasMakerThatStays, belief_of, maker_tells, is_nowhere}
 use Rattle.world_laws.specs.Invariant.{Holds}

@@ -168,19 +168,16 @@ module _ (script : Script) (w : World) (asked : Asked) (rest : List Held) (b : B
 
     keys-now : KeysHold n.leader next
     keys-now =
-        let k : KeysHold n.leader b.kernel = holds.keys
-        in let sets : (key : ℕ) → get next.set_keys key ≡ get b.kernel.set_keys key =
+        let sets : (key : ℕ) → get next.set_keys key ≡ get b.kernel.set_keys key =
         λ key. carries.set_keys key ∙ ap (λ o. unless_removed o (get b.kernel.set_keys key)) kept_sets
-        in let kept : HasKeys n.leader.queue_keys n.leader.set_keys next =
-        keys-kept n.leader.queue_keys n.leader.set_keys b.kernel next
+        in keys-kept n.leader.queue_keys n.leader.set_keys b.kernel next
         (record {
           queues = λ key. carries.queue_keys key ∙ ap (λ o. unless_removed o (get b.kernel.queue_keys key)) kept_queues;
           sets = sets;
           sizes = λ key id bound. carried-size b.kernel asked.pid asked.call name carries named key id
               (sets key ∙ bound);
         })
-        (record { queues = k.queues; sets = k.sets })
-        in record { queues = kept.queues; sets = kept.sets }
+        holds.keys
 
     -- who lives in the next kernel lived in this one
     lived-before : (p : ℕ) (a : Alive) → living_at next p ≡ Some a → (c : Alive) × (living_at b.kernel p ≡ Some c)

@@ -17,6 +17,7 @@ use Rattle.kernel_model.specs.Kernel.{Kernel, living_at}
 use Rattle.kernel_model.specs.Fitting.{Places}
 use Rattle.kernel_model.specs.Footprint.{used_of}
 use Rattle.number_maps.specs.Maps.{is_used}
+use Rattle.kernel_moves.specs.Entering.{is_used_name}
 use Rattle.node_model.specs.declared.held.Held.{Held}
 use Rattle.node_model.specs.declared.held.Held.TheVariants.{Ending}
 use Rattle.node_model.specs.Kinds.{get_named, for_kind}
@@ -26,7 +27,7 @@ use Rattle.world_model.specs.Node.{Node, Left}
 use Rattle.world_model.specs.Census.{brings}
 use Rattle.world_model.specs.World.{World, numbers, node_count}
 use Rattle.world_laws.specs.Places.{CallPlace, DeedPlace, Beside}
-use Rattle.world_laws.specs.Sights.{node_of, frames_to, directory_of, stage_of, is_born_in, is_used_name}
+use Rattle.world_laws.specs.Sights.{node_of, frames_to, directory_of, stage_of, is_born_in}
 use Rattle.world_laws.specs.Plays.{begin, has_any, is_checkpoint_of, plays, placed_in, news}
 use Rattle.world_laws.specs.Names.{name_sight, held_at, comes_to, is_maker, range_steps_of, forker}
 use Rattle.world_laws.specs.Callers.{call_sight, is_about, is_item_about}

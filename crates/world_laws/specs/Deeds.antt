@@ -2,9 +2,9 @@
 use Rattle.std.specs.Prelude.{◌≡◌, true, Some}
 use Rattle.pico_base.specs.declared.numbers.Name.{Name}
 use Rattle.kernel_model.specs.Kernel.{Kernel}
+use Rattle.kernel_moves.specs.Entering.{is_used_name}
 use Rattle.node_model.specs.Bodies.{body_in}
 use Rattle.node_model.specs.Spelling.{pack, read_deed}
-use Rattle.world_laws.specs.Sights.{is_used_name}
 
 abbrev pub DeedsAreRead : Kernel → Type 0
 DeedsAreRead k =

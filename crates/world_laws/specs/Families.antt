@@ -14,6 +14,7 @@ use Rattle.kernel_model.specs.Kernel as kernel
 use Rattle.kernel_model.specs.Valid.{ListsEnded}
 use Rattle.kernel_model.specs.Script.{Vars}
 use Rattle.kernel_model.specs.Fitting.{Place, Places, block_place, block_at}
+use Rattle.kernel_moves.specs.Entering.{IsChildIn}
 use Rattle.node_model.specs.Kinds.{none_named, get_named}
 use Rattle.node_model.specs.Bodies.{Living as LivingBody, Deeds}
 use Rattle.world_model.specs.Node.{Node, Stage, Unborn, Living, Leaving, Left, Over, unborn_node}
@@ -93,14 +94,6 @@ pub record PidsHold (script : Script) (pids : ℕ → ℕ) (places : Places) (k 
 abbrev pub ListsChild : Alive → ℕ → Type 0
 ListsChild a child = (lists a.row.family child ≡ true) ⊎ ListsEnded a child
 
--- by how the kernel has a process: a living parent lists it among the living, keeps its ending, or forgot it
-abbrev pub IsChildAs : Kernel → ℕ → ℕ → Process → Type 0
-IsChildAs k parent pid (kernel.Living alive) =
-    (a : Alive) → living_at k parent ≡ Some a → lists a.row.family pid ≡ true
-IsChildAs k parent pid (kernel.Ended ending) = (a : Alive) × (living_at k parent ≡ Some a) × ListsEnded a pid
-IsChildAs k parent pid kernel.Gone =
-    (a : Alive) → living_at k parent ≡ Some a → lists a.row.family pid ≡ false
-
 -- the deed of a process that is over rests at a smaller node, or at the leader, or is in the parcel of a smaller one's
 abbrev pub RestsBelow : ℕ → DeedPlace → Type 0
 RestsBelow c (InTable x) = (x < c) ⊎ (x ≡ 1)
@@ -164,7 +157,7 @@ pub record FamilyHolds (script : Script) (pids : ℕ → ℕ) (places : Places) 
     (checkpoints : List Frame) (stage : Stage) (c : ℕ) : Type 0 where
   pub process : Process
   pub is : get k.processes (pids c) ≡ Some process
-  pub child : c ≢ 1 → IsChildAs k (pids (forker script c)) (pids c) process
+  pub child : c ≢ 1 → IsChildIn k (pids (forker script c)) (pids c) process
   pub where_it_is : IsWhereFor c (deed (pids c)) process
   pub with_parent : IsWithParent deed (pids (forker script c)) (pids c) process
   pub checkpoint : CheckpointIn script pids places c checkpoints (deed (pids c))

@@ -1,6 +1,5 @@
 -- What holds in every world that a run leads to, and in the middle of an event, while the leader has calls and parcels
--- in
--- hand.
+-- in hand.
 use Rattle.std.specs.Prelude.{◌≡◌, ◌≢◌, ◌≤◌, ◌<◌, ℕ, Bool, List, [], length, get_or, Contains}
 use Rattle.pico_base.specs.declared.numbers.Kind.{Kind}
 use Rattle.pico_base.specs.declared.numbers.Name.{Name}
@@ -9,10 +8,7 @@ use Rattle.rpc_frame.specs.declared.deed.Parcel.{Parcel}
 use Rattle.rpc_frame.specs.declared.frame.Frame.{Frame}
 use Rattle.rpc_frame.specs.declared.frame.Frame.TheVariants as frames
 use Rattle.pico_base.specs.declared.numbers.Name.TheVariants.{Proc}
-use Rattle.pico_base.specs.declared.reply.Entry.{Entry}
-use Rattle.kernel_model.specs.Kernel.{Kernel, opening}
-use Rattle.kernel_model.specs.History.{Replays}
-use Rattle.kernel_model.specs.Fitting.{Places, FitsFrom, opening_places}
+use Rattle.kernel_moves.specs.Entering.{HasHistory}
 use Rattle.number_maps.specs.Rising.{IsRising}
 use Rattle.node_model.specs.declared.held.Held.{Held}
 use Rattle.node_model.specs.Kinds.{is_object}
@@ -42,12 +38,6 @@ pub record IsLeading (d : Directory) : Type 0 where
   pub processes : IsRising d.places.processes
   pub queues : IsRising d.places.queues
   pub sets : IsRising d.places.sets
-
--- the journal is legal and leads to the kernel, and it fits the script so far
-pub record IsHistory (script : Script) (journal : List Entry) (k : Kernel) (places : Places) : Type 0 where
-  pub legal : Replays opening journal k
-  pub fits : FitsFrom script (opening_places script) journal places
-  pub ordered : IsRising places
 
 -- Who sends which frames to whom. Nobody sends itself any.
 abbrev pub MayBe : Script → (ℕ → Bool) → ℕ → ℕ → Frame → Type 0
@@ -81,7 +71,7 @@ process_deed deed pid = deed (Proc pid)
 -- Each field stands on what it looks at alone, so that it stays where that stays.
 pub record Holds (script : Script) (w : World) (hand : List Held) (b : Beside) : Type 0 where
   pub shape : IsShaped script w
-  pub history : IsHistory script w.journal b.kernel b.places
+  pub history : HasHistory script w.journal b.kernel b.places
   pub leading : IsLeading (directory_of w)
   pub pids : PidsHold script b.pids b.places b.kernel
   pub nodes : (p : ℕ) → 1 ≤ p → p ≤ node_count script → NodeHolds script b.pids (is_born_in w) p (node_of w p)

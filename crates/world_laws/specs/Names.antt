@@ -9,6 +9,7 @@ use Rattle.rpc_frame.specs.declared.deed.Parcel.{Parcel}
 use Rattle.rpc_frame.specs.declared.frame.Frame.{Frame}
 use Rattle.rpc_frame.specs.declared.frame.Frame.TheVariants as frames
 use Rattle.kernel_model.specs.Script.{Vars}
+use Rattle.kernel_moves.specs.Entering.{is_used_name}
 use Rattle.node_model.specs.declared.held.Held.{Held}
 use Rattle.node_model.specs.declared.held.Held.TheVariants.{Request, Ending}
 use Rattle.node_model.specs.Kinds.{kind_of, number_of, is_same_kind, is_object, get_named}
@@ -21,7 +22,7 @@ use Rattle.world_model.specs.Lives.{is_forked_by}
 use Rattle.world_model.specs.World.{World, numbers, node_count}
 use Rattle.world_model.specs.Census.{brings}
 use Rattle.world_laws.specs.Places.{DeedPlace, Unmade, InTable, InCheckpoint, InGrant, InGiveBack, InLeft, InKept, InHand, InExitTo, CallPlace, SentByRange, Beside}
-use Rattle.world_laws.specs.Sights.{node_of, frames_to, directory_of, stage_of, is_used_name}
+use Rattle.world_laws.specs.Sights.{node_of, frames_to, directory_of, stage_of}
 use Rattle.world_laws.specs.Plays.{Hold, PlayStep, play, plays, begin, brings_checkpoint, Belief, Nowhere, believed, is_there, is_has, placed_in, News, news, finds_place, is_call_on}
 
 -- the node whose block forks a block, 0 for none

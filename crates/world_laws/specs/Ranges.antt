@@ -1,16 +1,14 @@
 -- What holds of the numbers of one kind.
 use Rattle.std.specs.Prelude.{◌≡◌, ◌⊎◌, ◌≤◌, ℕ, ◌+◌, ◌*◌, Bool, true, false, not, ◌||◌, nat_eq, List, [], ◌∷◌, length, drop, Option, Some, None, Contains, sum_by}
 use Rattle.std.specs.List.{list_any, flat_map}
-use Rattle.std.specs.Option.{option_map}
 use Rattle.pico_base.specs.declared.numbers.Kind.{Kind}
 use Rattle.pico_base.specs.declared.script.Script.{Script}
 use Rattle.rpc_frame.specs.declared.frame.Frame.{Frame}
 use Rattle.rpc_frame.specs.declared.frame.Frame.TheVariants as frames
-use Rattle.key_table.specs.declared.Bound.{Bound}
-use Rattle.number_maps.specs.Maps.{get, is_used}
+use Rattle.number_maps.specs.Maps.{is_used}
 use Rattle.kernel_model.specs.Kernel.{Kernel}
 use Rattle.kernel_model.specs.Footprint.{used_of}
-use Rattle.kernel_model.specs.SetCalls.{set_size}
+use Rattle.kernel_moves.specs.Entering.{HasKeys}
 use Rattle.node_model.specs.Kinds.{for_kind, is_same_kind}
 use Rattle.node_model.specs.Directory.{Directory, maker_in, range_size}
 use Rattle.node_model.specs.Leases.{lease_of}
@@ -104,12 +102,5 @@ FewRanges script w call kind =
     in length (for_kind d.ranges kind) ≤ length w.journal + leases_on_way script call kind + 1
 
 -- the leader's keys are the kernel's, with each set's size
-abbrev pub bound_queue : ℕ → Bound
-bound_queue id = record { id = id; count = 0 }
-
-abbrev pub bound_set : Kernel → ℕ → Bound
-bound_set k id = record { id = id; count = set_size k id }
-
-pub record KeysHold (l : Leader) (k : Kernel) : Type 0 where
-  pub queues : (key : ℕ) → get l.queue_keys key ≡ option_map bound_queue (get k.queue_keys key)
-  pub sets : (key : ℕ) → get l.set_keys key ≡ option_map (bound_set k) (get k.set_keys key)
+abbrev pub KeysHold : Leader → Kernel → Type 0
+KeysHold l k = HasKeys l.queue_keys l.set_keys k

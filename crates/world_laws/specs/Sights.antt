@@ -1,11 +1,6 @@
 -- What there is to see in a world, by node and by stream. A number that is no node's shows an unborn node.
 use Rattle.std.specs.Prelude.{ℕ, Bool, true, false, ◌&&◌, List, [], if◌then◌else◌, None}
 use Rattle.std.specs.Option.{unwrap_or}
-use Rattle.pico_base.specs.declared.numbers.Name.{Name}
-use Rattle.number_maps.specs.Maps.{is_used}
-use Rattle.kernel_model.specs.Kernel.{Kernel}
-use Rattle.kernel_model.specs.Footprint.{used_of}
-use Rattle.node_model.specs.Kinds.{kind_of, number_of}
 use Rattle.node_model.specs.Directory.{Directory}
 use Rattle.world_model.specs.Node.{Node, Stage, Unborn, unborn_node}
 use Rattle.rpc_frame.specs.declared.frame.Frame.{Frame}
@@ -34,7 +29,3 @@ is_born_stage _ = true
 
 abbrev pub is_born_in : World → ℕ → Bool
 is_born_in w p = is_born_stage (stage_of w p)
-
--- something has, or had, the name's number
-abbrev pub is_used_name : Kernel → Name → Bool
-is_used_name k name = is_used (used_of k (kind_of name)) (number_of name)

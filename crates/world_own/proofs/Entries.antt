@@ -16,7 +16,7 @@ use Rattle.kernel_model.specs.Fitting.{Place, Places}
 use Rattle.kernel_model.specs.Transition.{may_make}
 use Rattle.kernel_model.specs.Valid.{IsValid}
 use Rattle.kernel_laws.proofs.People.{from-living}
-use Rattle.kernel_moves.specs.Entering.{IsKin, LeavesOthers, is_used_as}
+use Rattle.kernel_moves.specs.Entering.{IsKin, LeavesOthers, is_used_name}
 use Rattle.kernel_moves.proofs.Listed.{ListsOne}
 use Rattle.kernel_moves.proofs.Numbers.{process-there}
 use Rattle.kernel_moves.proofs.Others.{Lived, others-lived, others-stay-dead, others-still-may}
@@ -32,7 +32,7 @@ pub record EntryLeaves (k : Kernel) (places : Places) (pid : ℕ) (next : Kernel
   pub others : LeavesOthers k pid next
   pub lived : Lived k pid
   pub lives : Lived next pid
-  pub processes : (q : ℕ) → is_used_as next (Proc q) ≡ is_used_as k (Proc q)
+  pub processes : (q : ℕ) → is_used_name next (Proc q) ≡ is_used_name k (Proc q)
   pub kin : (parent q : ℕ) → IsKin k parent q → IsKin next parent q
   pub listed : (q child : ℕ) → ListsOne next q child → ListsOne k q child
   pub was : Place

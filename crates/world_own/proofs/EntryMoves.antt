@@ -13,6 +13,7 @@ use Rattle.rpc_frame.specs.declared.deed.Parcel.{Parcel}
 use Rattle.rpc_frame.specs.declared.frame.Frame.{Frame}
 use Rattle.kernel_model.specs.Kernel.{Kernel, living_at}
 use Rattle.kernel_model.specs.Fitting.{Places}
+use Rattle.kernel_moves.specs.Entering.{HasHistory}
 use Rattle.node_model.specs.declared.held.Held.{Held}
 use Rattle.node_model.specs.declared.held.Held.TheVariants.{Ending}
 use Rattle.node_model.specs.Kinds.{for_kind}
@@ -27,7 +28,7 @@ use Rattle.world_laws.specs.Callers.{CallHolds, call_sight, is_about, is_item_ab
 use Rattle.world_laws.specs.Ways.{way_sight, knows_parent, under_way_of, IsParcelIn, left as left_in, sent as sent_in, kept as kept_in, at_hand}
 use Rattle.world_laws.specs.Ranges.{KindHolds, kind_sight, FewRanges, KeysHold, has_lease, leases_on_way, one_for}
 use Rattle.world_laws.specs.Families.{NodeHolds, FamilyHolds, IsAwaited, checkpoints_to}
-use Rattle.world_laws.specs.Invariant.{Holds, IsHistory, MayBe, FramesFit, process_deed}
+use Rattle.world_laws.specs.Invariant.{Holds, MayBe, FramesFit, process_deed}
 use Rattle.world_laws.proofs.Stays.{IsMore, node-born, may-be-born, call-stays, way-stays}
 use Rattle.world_laws.proofs.Changes.{Changes, still-born}
 use Rattle.world_laws.proofs.Frames.{ArePlain, BringNoBirth, all-weaker, IsSameBut, plays-of-others, ranges-of-all-others}
@@ -42,7 +43,7 @@ pub record IsEntryMove (script : Script) (w w' : World) (hand hand' : List Held)
     (places : Places) (deed : Name → DeedPlace) (call : ℕ → CallPlace) (p : ℕ) (n : Node)
     (takes sends : List (ℕ × Frame)) (x : ℕ) : Type 0 where
   pub entry : EntryLeaves b.kernel b.places (b.pids x) next places
-  pub history : IsHistory script w'.journal next places
+  pub history : HasHistory script w'.journal next places
   pub keys : KeysHold (node_of w' 1).leader next
   -- the caller's process was forked, and its node is born; processes whose Checkpoints are on their way keep their rows
   pub forked : b.pids x ≢ 0

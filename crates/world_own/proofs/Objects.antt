@@ -15,7 +15,7 @@ use Rattle.number_maps.specs.Maps.{get, is_used}
 use Rattle.kernel_model.specs.Fitting.{Place, Places, place_after, places_after, IsDue, due, is_killed, move_on}
 use Rattle.kernel_model.specs.Kernel.{Kernel}
 use Rattle.kernel_model.specs.Script.{IsSoundScript, is_exit, is_fork}
-use Rattle.kernel_moves.specs.Entering.{HasHistory, HasKeys, entry_of, LeavesOthers, MayMake, Same, Enters, Makes, is_used_as}
+use Rattle.kernel_moves.specs.Entering.{HasHistory, HasKeys, entry_of, LeavesOthers, MayMake, Same, Enters, Makes, is_used_name}
 use Rattle.kernel_moves.proofs.History.{history-goes-on, moved-is, place-moves, places-stay}
 use Rattle.kernel_moves.proofs.Keys.{keys-kept}
 use Rattle.node_model.specs.Bodies.{Body, Deeds, Living as LivingBody, body_in}
@@ -27,11 +27,11 @@ use Rattle.world_model.specs.Starting.{run, start_by}
 use Rattle.world_model.specs.Step.{Step, reply_here, step_to, send, with_directory, with_node}
 use Rattle.world_model.specs.World.{World, node_count, world_after}
 use Rattle.world_laws.specs.Places.{Beside, DeedPlace, InTable, Unmade, deed_in}
-use Rattle.world_laws.specs.Sights.{node_of, directory_of, is_born_in, is_born_stage, stage_of, frames_to, is_used_name}
+use Rattle.world_laws.specs.Sights.{node_of, directory_of, is_born_in, is_born_stage, stage_of, frames_to}
 use Rattle.world_laws.specs.Names.{NameHolds, forker, name_sight, OneIf, IsBringer, is_stream_of, may_be_at, NameSight, comes_to, held_as, held_at, is_maker, range_steps_of}
 use Rattle.world_laws.specs.Callers.{CallHolds, call_sight, is_about, is_item_about}
 use Rattle.world_laws.specs.Families.{HoldsIn, NodeHolds}
-use Rattle.world_laws.specs.Invariant.{Holds, IsHistory}
+use Rattle.world_laws.specs.Invariant.{Holds}
 use Rattle.world_laws.specs.Ranges.{KindHolds, FewRanges, KeysHold, kind_sight, lease_at, lease_in}
 use Rattle.world_laws.proofs.Changes.{Changes, filter-is-list-map, made-same, read-same, frames_if, flat_map-is-list-map, made-after, stayed, sent}
 use Rattle.world_laws.proofs.LeftAlone.{LeavesName, kind-left-alone, name-left-alone, same-directory}
@@ -68,7 +68,7 @@ use Rattle.world_own.proofs.Asks.{Takes}
 
 -- an entry that changes no process leaves the rest
 pub processes-stay-leaves : (k : Kernel) (pid : ℕ) (call : Call) (reply : Reply) (next : Kernel) → MayMake k pid call
-    → Makes k pid call reply next → Lived next pid → ((q : ℕ) → is_used_as next (Proc q) ≡ is_used_as k (Proc q))
+    → Makes k pid call reply next → Lived next pid → ((q : ℕ) → is_used_name next (Proc q) ≡ is_used_name k (Proc q))
     → ((q : ℕ) → body_in next (Proc q) ≡ body_in k (Proc q))
     → is_fork call ≡ false → is_exit call ≡ false → is_killed call ≡ false
     → (script : Script) (places : Places) (node p : ℕ) (caller : Caller)
@@ -356,18 +356,13 @@ module _ (script : Script) (sound : IsSoundScript script) (w : World) (b : Besid
       subst (λ (l : Leader). KeysHold l made.next)
       (sym (read-same script p w next after-node [] sends (entry ∷ []) changes (λ (m : Node). m.leader) refl 1))
       (let l : Leader = (node_of w 1).leader
-      in let old : HasKeys l.queue_keys l.set_keys k =
-      record { queues = holds.keys.queues; sets = holds.keys.sets }
-      in let kept = keys-kept l.queue_keys l.set_keys k made.next g.makes.keys old
-      in record { queues = kept.queues; sets = kept.sets })
+      in keys-kept l.queue_keys l.set_keys k made.next g.makes.keys holds.keys)
 
-  history-now : IsHistory script next.journal made.next places-now
+  history-now : HasHistory script next.journal made.next places-now
   history-now =
-      let old : HasHistory script w.journal k b.places =
-      record { legal = holds.history.legal; fits = holds.history.fits; ordered = holds.history.ordered }
-      in let more = history-goes-on script w.journal k b.places p pid call reply place made.next old s.free.there
+      history-goes-on script w.journal k b.places p pid call reply place made.next holds.history
+      s.free.there
       s.due_now.due enters.makes
-      in record { legal = more.legal; fits = more.fits; ordered = more.ordered }
 
   move : IsEntryMove script w next [] [] b made.next places-now deed-now b.call p after-node [] sends p
   move =

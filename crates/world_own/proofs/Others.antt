@@ -19,7 +19,7 @@ use Rattle.world_model.specs.Node.{Stage, Unborn, Living, Leaving, Left, Over}
 use Rattle.world_laws.specs.Places.{CallPlace, DeedPlace, InCheckpoint, InAnswer, Ends}
 use Rattle.world_laws.specs.Names.{forker}
 use Rattle.world_laws.specs.Callers.{CallSight, CallHolds, FreeIn, HasCallOrNone, HasEnded, IsNowhere, IsSoFar, IsToBeMade}
-use Rattle.world_laws.specs.Families.{FamilyHolds, IsChildAs, IsWhereFor, IsWithParent, IsCheckpointFor, CheckpointIn, IsNewAt}
+use Rattle.world_laws.specs.Families.{FamilyHolds, IsWhereFor, IsWithParent, IsCheckpointFor, CheckpointIn, IsNewAt}
 use Rattle.world_own.proofs.Entries.{EntryLeaves, MayStill, StillLives, there-same}
 
 some-same : {A : Type 0} (a c : A) → Some a ≡ Some c → a ≡ c
@@ -113,18 +113,6 @@ checkpoint-still script pids places after c checkpoints (InCheckpoint to) same h
     in (h.0, h.1, record { packed = is.packed; vars = is.vars; is = is.is; place = same to refl ∙ is.place })
 checkpoint-still script pids places after c checkpoints place same h = tt
 
-child-in : (k : Kernel) (parent pid : ℕ) (process : Process) → IsChildAs k parent pid process
-    → IsChildIn k parent pid process
-child-in k parent pid (kernel.Living a) h = h
-child-in k parent pid (kernel.Ended e) h = h
-child-in k parent pid kernel.Gone h = h
-
-child-as : (k : Kernel) (parent pid : ℕ) (process : Process) → IsChildIn k parent pid process
-    → IsChildAs k parent pid process
-child-as k parent pid (kernel.Living a) h = h
-child-as k parent pid (kernel.Ended e) h = h
-child-as k parent pid kernel.Gone h = h
-
 -- the number leads to a process
 record Leads (k : Kernel) (q : ℕ) : Type 0 where
   process : Process
@@ -182,18 +170,18 @@ module _ (script : Script) (pids : ℕ → ℕ) (k next : Kernel) (places after 
       on : GoesOn h.process now.process
       on = goes-on (pids c) h.process now.process h.is now.is
 
-      child-now : c ≢ 1 → IsChildAs next (pids (forker script c)) (pids c) now.process
+      child-now : c ≢ 1 → IsChildIn next (pids (forker script c)) (pids c) now.process
       child-now other =
           let kin : IsKin next (pids (forker script c)) (pids c) =
           l.kin (pids (forker script c)) (pids c)
           (record {
             process = h.process;
             is = h.is;
-            child = child-in k (pids (forker script c)) (pids c) h.process (h.child other);
+            child = h.child other;
           })
-          in subst (λ (x : Process). IsChildAs next (pids (forker script c)) (pids c) x)
+          in subst (λ (x : Process). IsChildIn next (pids (forker script c)) (pids c) x)
           (some-same kin.process now.process (sym kin.is ∙ now.is))
-          (child-as next (pids (forker script c)) (pids c) kin.process kin.child)
+          kin.child
 
 -- ---- calls of others
 

@@ -48,7 +48,7 @@ use Rattle.world_laws.specs.Sights.{node_of, directory_of, is_born_in, is_born_s
 use Rattle.world_laws.specs.Names.{NameHolds, forker, name_sight}
 use Rattle.world_laws.specs.Callers.{CallHolds, CallSight, call_sight, is_about, is_item_about}
 use Rattle.world_laws.specs.Families.{FamilyHolds, HoldsIn, IsWithParent, NodeHolds, checkpoints_to}
-use Rattle.world_laws.specs.Invariant.{Holds, IsHistory, process_deed}
+use Rattle.world_laws.specs.Invariant.{Holds, process_deed}
 use Rattle.world_laws.specs.Ranges.{KindHolds, FewRanges, KeysHold, kind_sight}
 use Rattle.world_laws.proofs.Changes.{Changes, filter-is-list-map, made-same, read-same}
 use Rattle.world_laws.proofs.LeftAlone.{LeavesName, kind-left-alone, name-left-alone, same-directory}
@@ -325,18 +325,13 @@ module _ (script : Script) (sound : IsSoundScript script) (w : World) (b : Besid
       subst (λ (l : Leader). KeysHold l c.next)
       (sym (read-same script p w next after-node [] [] (entry ∷ []) changes (λ (m : Node). m.leader) refl 1))
       (let l : Leader = (node_of w 1).leader
-      in let old : HasKeys l.queue_keys l.set_keys k =
-      record { queues = holds.keys.queues; sets = holds.keys.sets }
-      in let kept = keys-kept l.queue_keys l.set_keys k c.next keeps-keys old
-      in record { queues = kept.queues; sets = kept.sets })
+      in keys-kept l.queue_keys l.set_keys k c.next keeps-keys holds.keys)
 
-  history-now : IsHistory script next.journal c.next places-now
+  history-now : HasHistory script next.journal c.next places-now
   history-now =
-      let old : HasHistory script w.journal k b.places =
-      record { legal = holds.history.legal; fits = holds.history.fits; ordered = holds.history.ordered }
-      in let more = history-goes-on script w.journal k b.places p pid call reply place c.next old s.free.there
+      history-goes-on script w.journal k b.places p pid call reply place c.next holds.history
+      s.free.there
       s.due_now.due c.enters.makes
-      in record { legal = more.legal; fits = more.fits; ordered = more.ordered }
 
   move : IsEntryMove script w next [] [] b c.next places-now b.deed b.call p after-node [] [] p
   move =

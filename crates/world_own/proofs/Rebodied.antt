@@ -5,6 +5,7 @@ use Rattle.pico_base.specs.declared.numbers.Name.{Name}
 use Rattle.pico_base.specs.declared.reply.Entry.{Entry}
 use Rattle.pico_base.specs.declared.script.Script.{Script}
 use Rattle.rpc_frame.specs.declared.frame.Frame.{Frame}
+use Rattle.kernel_moves.specs.Entering.{is_used_name}
 use Rattle.node_model.specs.declared.held.Held.{Held}
 use Rattle.node_model.specs.Kinds.{get_named}
 use Rattle.node_model.specs.Directory.{maker, is_parcel_with}
@@ -13,7 +14,7 @@ use Rattle.world_model.specs.Census.{brings}
 use Rattle.world_model.specs.Node.{Node}
 use Rattle.world_model.specs.World.{World}
 use Rattle.world_laws.specs.Places.{DeedPlace, InTable, Beside}
-use Rattle.world_laws.specs.Sights.{frames_to, directory_of, stage_of, is_used_name}
+use Rattle.world_laws.specs.Sights.{frames_to, directory_of, stage_of}
 use Rattle.world_laws.specs.Plays.{begin, has_any, is_checkpoint_of, plays, placed_in, news}
 use Rattle.world_laws.specs.Names.{NameHolds, NameSight, OneIf, IsBringer, IsItemWith, name_sight, held_as, held_at, is_stream_of, is_kept_for, is_hand_place, node_in, comes_to, is_maker, range_steps_of, forker}
 use Rattle.world_laws.proofs.Changes.{Changes, filter-is-list-map, flat_map-is-list-map, made-same, only-stayed, read-same, stayed}

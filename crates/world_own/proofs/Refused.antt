@@ -31,7 +31,7 @@ use Rattle.world_laws.specs.Places.{Beside}
 use Rattle.world_laws.specs.Sights.{node_of, directory_of, is_born_in, is_born_stage}
 use Rattle.world_laws.specs.Callers.{CallHolds, CallSight, call_sight, is_about, is_item_about}
 use Rattle.world_laws.specs.Families.{HoldsIn, NodeHolds}
-use Rattle.world_laws.specs.Invariant.{Holds, IsHistory}
+use Rattle.world_laws.specs.Invariant.{Holds}
 use Rattle.world_laws.specs.Ranges.{KeysHold}
 use Rattle.world_laws.proofs.Changes.{Changes, filter-is-list-map, made-same, read-same}
 use Rattle.world_laws.proofs.LeftAlone.{LeavesName, kind-left-alone, name-left-alone, same-directory}
@@ -193,18 +193,13 @@ module _ (script : Script) (sound : IsSoundScript script) (w : World) (b : Besid
       subst (λ (l : Leader). KeysHold l refused.next)
       (sym (read-same script p w next after-node [] [] (entry ∷ []) changes (λ (m : Node). m.leader) refl 1))
       (let l : Leader = (node_of w 1).leader
-      in let old : HasKeys l.queue_keys l.set_keys k =
-      record { queues = holds.keys.queues; sets = holds.keys.sets }
-      in let kept = keys-kept l.queue_keys l.set_keys k refused.next refused.keys old
-      in record { queues = kept.queues; sets = kept.sets })
+      in keys-kept l.queue_keys l.set_keys k refused.next refused.keys holds.keys)
 
-  history-now : IsHistory script next.journal refused.next places-now
+  history-now : HasHistory script next.journal refused.next places-now
   history-now =
-      let old : HasHistory script w.journal k b.places =
-      record { legal = holds.history.legal; fits = holds.history.fits; ordered = holds.history.ordered }
-      in let more = history-goes-on script w.journal k b.places p pid call reply place refused.next old s.free.there
+      history-goes-on script w.journal k b.places p pid call reply place refused.next holds.history
+      s.free.there
       is-due refused.enters.makes
-      in record { legal = more.legal; fits = more.fits; ordered = more.ordered }
 
   move : IsEntryMove script w next [] [] b refused.next places-now b.deed b.call p after-node [] [] p
   move =

@@ -172,8 +172,7 @@ module _ (script : Script) (sound : IsSoundScript script) (w : World) (b : Besid
       (sym (own-name.tables p) ∙ held-own)
 
   history : HasHistory script w.journal b.kernel b.places
-  history =
-      record { legal = holds.history.legal; fits = holds.history.fits; ordered = holds.history.ordered }
+  history = holds.history
 
   row-is : is-free.alive.row ≡ holds-row.row
   row-is =

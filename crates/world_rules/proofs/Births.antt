@@ -19,6 +19,7 @@ use Rattle.kernel_model.specs.Script.{Vars}
 use Rattle.kernel_model.specs.Fitting.{block_place, block_at, with_exit}
 use Rattle.kernel_model.specs.Valid.{IsValid}
 use Rattle.kernel_laws.proofs.ValidLaws.{reachable_kernels_are_valid_lemma}
+use Rattle.kernel_moves.specs.Entering.{HasHistory, IsChildIn, is_used_name}
 use Rattle.node_model.specs.declared.held.Held.TheVariants.{Ending}
 use Rattle.node_model.specs.Kinds.{is_object, number_of, for_kind, get_named, put_named, none_named}
 use Rattle.node_model.specs.Directory.{Directory, is_known, place_of, maker, stays, held_for, is_parcel_with}
@@ -31,15 +32,15 @@ use Rattle.world_model.specs.Lives.{take_checkpoint, be_born, born_with, is_fork
 use Rattle.world_model.specs.Census.{brings}
 use Rattle.world_model.specs.World.{World, node_count, numbers, world_after}
 use Rattle.world_laws.specs.Places.{DeedPlace, Unmade, InTable, InCheckpoint, InGrant, InGiveBack, InLeft, InKept, InHand, InExitTo, Beside, deed_in}
-use Rattle.world_laws.specs.Sights.{node_of, frames_to, directory_of, stage_of, is_born_in, is_used_name}
+use Rattle.world_laws.specs.Sights.{node_of, frames_to, directory_of, stage_of, is_born_in}
 use Rattle.world_laws.specs.Deeds.{DeedsAreRead}
 use Rattle.world_laws.specs.Plays.{steps_if, Has, PlayStep, Comes, plays, play, begin, is_there, is_checkpoint_of, has_any, placed_in, news}
 use Rattle.world_laws.specs.Names.{NameSight, name_sight, NameHolds, held_at, held_as, comes_to, may_be_at, is_stream_of, is_kept_for, is_hand_place, node_in, IsBringer, IsItemWith, IsCheckpointOf, IsLeftOf, IsExitOf, OneIf, PlaysTo, belief_of, range_steps_of, forker, first_that, is_maker}
 use Rattle.world_laws.specs.Callers.{CallSight, call_sight, CallHolds, HasNoCall, HasCallOrNone, IsNowhere, is_about, is_item_about, is_end_place}
 use Rattle.world_laws.specs.Ways.{is_leaving_frame, is_recall_all, is_left_frame, WaySight, way_sight, Way, IsHere, knows_parent, here, tells, collected, over, gone}
 use Rattle.world_laws.specs.Ranges.{KeysHold}
-use Rattle.world_laws.specs.Families.{IsChildAs, NodeHolds, HoldsIn, FamilyHolds, IsWhereFor, RestsBelow, IsWithParent, IsNewAt, IsAwaited, IsCheckpointFor, CheckpointIn, checkpoints_to, is_checkpoint_frame, is_first_stage}
-use Rattle.world_laws.specs.Invariant.{Holds, IsLeading, IsHistory, process_deed}
+use Rattle.world_laws.specs.Families.{NodeHolds, HoldsIn, FamilyHolds, IsWhereFor, RestsBelow, IsWithParent, IsNewAt, IsAwaited, IsCheckpointFor, CheckpointIn, checkpoints_to, is_checkpoint_frame, is_first_stage}
+use Rattle.world_laws.specs.Invariant.{Holds, IsLeading, process_deed}
 use Rattle.world_laws.proofs.Named.{name-cases, same-name, other-name, get-put-same-name, get-put-other-name}
 use Rattle.world_laws.proofs.Stays.{IsMore, SameName, SameCall, SameWay, name-stays, call-stays, way-stays, kind-stays}
 use Rattle.world_laws.proofs.Changes.{Changes, filter-is-list-map, flat_map-is-list-map, made-same, only-stayed, still-born, directory-same}
@@ -922,7 +923,7 @@ module _ (script : Script) (w : World) (b : Beside) (holds : Holds script w [] b
       record {
         process = kernel.Living alive;
         is = process-is;
-        child = λ d. subst (λ v. IsChildAs b.kernel (b.pids (forker script p)) (b.pids p) v)
+        child = λ d. subst (λ v. IsChildIn b.kernel (b.pids (forker script p)) (b.pids p) v)
             living.1 (family.child d);
         where_it_is = subst (λ d. IsWhereFor p d (kernel.Living alive)) (sym place-here) refl;
         with_parent = tt;
@@ -1013,7 +1014,7 @@ module _ (script : Script) (w : World) (b : Beside) (holds : Holds script w [] b
         is_step = take-steps script w p q frame rest after holds.shape h rule;
         holds = record {
           shape = changes.shape;
-          history = subst (λ j. IsHistory script j b.kernel b.places) (sym (changes.journal ∙ append-nil w.journal))
+          history = subst (λ j. HasHistory script j b.kernel b.places) (sym (changes.journal ∙ append-nil w.journal))
               holds.history;
           leading = subst (λ (z : Directory). IsLeading z) (sym same-there) holds.leading;
           pids = holds.pids;

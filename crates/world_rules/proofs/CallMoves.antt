@@ -10,6 +10,7 @@ use Rattle.pico_base.specs.declared.script.Script.{Script}
 use Rattle.rpc_frame.specs.declared.deed.Parcel.{Parcel}
 use Rattle.rpc_frame.specs.declared.frame.Frame.{Frame}
 use Rattle.number_maps.specs.Maps.{get}
+use Rattle.kernel_moves.specs.Entering.{HasHistory}
 use Rattle.node_model.specs.declared.held.Held.{Held}
 use Rattle.node_model.specs.declared.held.Held.TheVariants.{Ending}
 use Rattle.node_model.specs.Directory.{Directory, held_for, is_known}
@@ -23,7 +24,7 @@ use Rattle.world_laws.specs.Callers.{CallHolds, call_sight, is_about, is_item_ab
 use Rattle.world_laws.specs.Ways.{way_sight, knows_parent, under_way_of, IsParcelIn, left as left_in, sent as sent_in, kept as kept_in, at_hand}
 use Rattle.world_laws.specs.Ranges.{KindHolds, kind_sight, FewRanges, KeysHold}
 use Rattle.world_laws.specs.Families.{NodeHolds}
-use Rattle.world_laws.specs.Invariant.{Holds, IsHistory, IsLeading, MayBe, FramesFit, process_deed}
+use Rattle.world_laws.specs.Invariant.{Holds, IsLeading, MayBe, FramesFit, process_deed}
 use Rattle.world_laws.proofs.Stays.{IsMore, node-born, may-be-born, call-stays, way-stays}
 use Rattle.world_laws.proofs.Changes.{Changes, read-same, still-born}
 use Rattle.world_laws.proofs.Frames.{ArePlain, BringNoBirth, all-weaker, IsSameBut, plays-of-others, ranges-of-all-others}
@@ -91,9 +92,9 @@ module _ (script : Script) (w w' : World) (hand hand' : List Held) (b : Beside) 
   pub move-born : IsMore (is_born_in w) (is_born_in w')
   move-born = still-born script p w w' n takes sends [] c (λ h. ap is_born_stage q.stage ∙ h)
 
-  move-history : IsHistory script w'.journal b.kernel b.places
+  move-history : HasHistory script w'.journal b.kernel b.places
   move-history =
-      subst (λ j. IsHistory script j b.kernel b.places) (sym (c.journal ∙ append-nil w.journal)) holds.history
+      subst (λ j. HasHistory script j b.kernel b.places) (sym (c.journal ∙ append-nil w.journal)) holds.history
 
   move-nodes : (y : ℕ) → 1 ≤ y → y ≤ node_count script
       → NodeHolds script b.pids (is_born_in w') y (node_of w' y)

@@ -14,6 +14,7 @@ use Rattle.pico_base.specs.Home.{home_of}
 use Rattle.rpc_frame.specs.declared.asked.Asked.{Asked}
 use Rattle.rpc_frame.specs.declared.frame.Frame.{Frame}
 use Rattle.rpc_frame.specs.declared.frame.Frame.TheVariants as frames
+use Rattle.kernel_moves.specs.Entering.{is_used_name}
 use Rattle.node_model.specs.declared.held.Held.TheVariants.{Request}
 use Rattle.node_model.specs.Kinds.{for_kind, kind_of, number_of, is_same_kind, get_named}
 use Rattle.node_model.specs.Directory.{Directory, place_of, held_for, maker, maker_in, stays, has_more, upcoming, with_range, is_parcel_with}
@@ -24,7 +25,7 @@ use Rattle.world_model.specs.Ranges.{take_lease_ask}
 use Rattle.world_model.specs.Census.{brings}
 use Rattle.world_model.specs.World.{World, node_count, world_after}
 use Rattle.world_laws.specs.Places.{CallPlace, Idle, AsksLease, HasLease, InAsk, InRequest, InNotOwner, SentByPlace, SentByRange, InBounce, IsHeld, IsInHand, InAnswer, Ends, Beside, call_in}
-use Rattle.world_laws.specs.Sights.{node_of, frames_to, directory_of, stage_of, is_born_in, is_born_stage, is_used_name}
+use Rattle.world_laws.specs.Sights.{node_of, frames_to, directory_of, stage_of, is_born_in, is_born_stage}
 use Rattle.world_laws.specs.Plays.{plays, begin, believed, is_there, is_checkpoint_of, has_any, placed_in, news}
 use Rattle.world_laws.specs.Names.{NameSight, name_sight, NameHolds, IsTold, PlaysTo, belief_of, maker_tells, held_at, comes_to, is_maker, range_steps_of, range_steps_if, leases_name, leases_first, RangeStep, IsLeased, IsSentThere, forker}
 use Rattle.world_laws.specs.Callers.{CallSight, call_sight, CallHolds, HasCall, HasCallOrNone, IsJustThere, IsToBeMade, IsSoFar, IsBetween, asked_of, only_if, is_in_stream, frame_at, is_held_at, is_in_hand, is_about, is_item_about, is_at_work, is_end_place, may_be_in, lease_is_over}

@@ -23,6 +23,7 @@ use Rattle.kernel_model.specs.Kernel.{Kernel, Process, opening, living_at}
 use Rattle.kernel_model.specs.Kernel as kernel
 use Rattle.kernel_model.specs.Footprint.{used_of}
 use Rattle.kernel_model.specs.Fitting.{Place, block_place, block_at, opening_places, with_exit}
+use Rattle.kernel_moves.specs.Entering.{is_used_name}
 use Rattle.node_model.specs.declared.held.Held.{Held}
 use Rattle.node_model.specs.declared.held.Held.TheVariants.{Ending}
 use Rattle.node_model.specs.Kinds.{get_named, none_named, is_same_name, number_of, for_kind}
@@ -35,7 +36,7 @@ use Rattle.world_model.specs.Lives.{names_block}
 use Rattle.world_model.specs.Census.{brings}
 use Rattle.world_model.specs.World.{World, opening_world, numbers, node_count, node_at, is_number}
 use Rattle.world_laws.specs.Places.{DeedPlace, Unmade, InTable, Idle, Beside}
-use Rattle.world_laws.specs.Sights.{node_of, frames_to, directory_of, stage_of, is_born_in, is_born_stage, is_used_name}
+use Rattle.world_laws.specs.Sights.{node_of, frames_to, directory_of, stage_of, is_born_in, is_born_stage}
 use Rattle.world_laws.specs.Plays.{told, Has, Lacks, begin, is_there, is_has, is_checkpoint_of, has_any, plays, placed_in, news}
 use Rattle.world_laws.specs.Names.{RangeStep, maker_tells, belief_of, NameSight, name_sight, NameHolds, held_at, held_as, comes_to, range_steps_of, forker, is_maker}
 use Rattle.world_laws.specs.Callers.{CallSight, call_sight, CallHolds, IsNowhere, is_about, is_item_about}

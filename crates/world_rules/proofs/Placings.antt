@@ -9,6 +9,7 @@ use Rattle.pico_base.specs.declared.script.Script.{Script}
 use Rattle.pico_base.specs.declared.script.Event.TheVariants as events
 use Rattle.rpc_frame.specs.declared.frame.Frame.{Frame}
 use Rattle.rpc_frame.specs.declared.frame.Frame.TheVariants as frames
+use Rattle.kernel_moves.specs.Entering.{is_used_name}
 use Rattle.node_model.specs.Kinds.{kind_of, number_of, get_named}
 use Rattle.node_model.specs.Directory.{Directory, Place, At, Coming, place_of, place_name, with_place, items_of, destination_of, maker, maker_in, is_parcel_with}
 use Rattle.node_model.specs.Leases.{leases_hold}
@@ -18,7 +19,7 @@ use Rattle.world_model.specs.Ranges.{take_placed}
 use Rattle.world_model.specs.Census.{brings}
 use Rattle.world_model.specs.World.{World, node_count, world_after}
 use Rattle.world_laws.specs.Places.{Beside}
-use Rattle.world_laws.specs.Sights.{is_used_name, node_of, frames_to, directory_of, stage_of, is_born_in}
+use Rattle.world_laws.specs.Sights.{node_of, frames_to, directory_of, stage_of, is_born_in}
 use Rattle.world_laws.specs.Plays.{finds_place, Somewhere, believed, told, is_there, is_checkpoint_of, has_any, placed_in, news, News, plays, begin}
 use Rattle.world_laws.specs.Names.{PlaysTo, NameSight, name_sight, NameHolds, IsTold, IsItemFor, held_at, comes_to, belief_of, maker_tells, is_nowhere, range_steps_of, forker, is_maker, SaysOf}
 use Rattle.world_laws.specs.Ranges.{kind_sight}

@@ -9,6 +9,7 @@ use Rattle.pico_base.specs.declared.numbers.Name.TheVariants.{Proc}
 use Rattle.pico_base.specs.declared.script.Script.{Script}
 use Rattle.rpc_frame.specs.declared.frame.Frame.{Frame}
 use Rattle.number_maps.specs.Maps.{get}
+use Rattle.kernel_moves.specs.Entering.{HasHistory}
 use Rattle.node_model.specs.declared.held.Held.{Held}
 use Rattle.node_model.specs.declared.held.Held.TheVariants.{Ending}
 use Rattle.node_model.specs.Caller.{Caller}
@@ -23,7 +24,7 @@ use Rattle.world_laws.specs.Callers.{call_sight, is_about, is_item_about}
 use Rattle.world_laws.specs.Ways.{way_sight, knows_parent}
 use Rattle.world_laws.specs.Ranges.{kind_sight, KeysHold}
 use Rattle.world_laws.specs.Families.{NodeHolds}
-use Rattle.world_laws.specs.Invariant.{Holds, IsHistory, IsLeading, MayBe, FramesFit, process_deed}
+use Rattle.world_laws.specs.Invariant.{Holds, IsLeading, MayBe, FramesFit, process_deed}
 use Rattle.world_laws.proofs.Stays.{IsMore, node-born, may-be-born, call-stays, way-stays, kind-stays}
 use Rattle.world_laws.proofs.Changes.{Changes, read-same, still-born}
 use Rattle.world_laws.proofs.Frames.{ArePlain, BringNoBirth, BringNoLease, all-weaker}
@@ -88,9 +89,9 @@ module _ (script : Script) (w w' : World) (hand : List Held) (b : Beside) (deed 
   quiet-born =
       still-born script p w w' n takes sends [] c (λ h. ap is_born_stage same-caller.stage ∙ h)
 
-  quiet-history : IsHistory script w'.journal b.kernel b.places
+  quiet-history : HasHistory script w'.journal b.kernel b.places
   quiet-history =
-      subst (λ j. IsHistory script j b.kernel b.places) (sym (c.journal ∙ append-nil w.journal)) holds.history
+      subst (λ j. HasHistory script j b.kernel b.places) (sym (c.journal ∙ append-nil w.journal)) holds.history
 
   quiet-nodes : (x : ℕ) → 1 ≤ x → x ≤ node_count script
       → NodeHolds script b.pids (is_born_in w') x (node_of w' x)
