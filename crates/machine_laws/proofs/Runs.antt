@@ -34,9 +34,9 @@ pub along : (script : Script) → IsRunnable script → (w last : World) (es : L
     → Runs w es last → HasInvariant script last
 along script r w last [] i h = subst (λ (x : World). HasInvariant script x) h i
 along script r w last (e ∷ es) i h =
-    let g = goes-from script r w i e h.0
-    in let same : g.next ≡ h.1 = some-is _ _ (sym g.is_step ∙ h.2)
-    in along script r h.1 last es (subst (λ (x : World). HasInvariant script x) same g.keeps) h.3
+    let g = goes-from script r w i e h.enabled
+    in let same : g.next ≡ h.next = some-is _ _ (sym g.is_step ∙ h.steps)
+    in along script r h.next last es (subst (λ (x : World). HasInvariant script x) same g.keeps) h.rest
 
 pub reaches : (script : Script) → IsRunnable script → (w : World) → IsReachableWorld script w → HasInvariant script w
 reaches script r w h = along script r (opening_world script) w h.0 (opening-holds script r) h.1

@@ -357,8 +357,8 @@ steps_lower_weights_lemma w next (events.Take p q) h = take-step w next p q _ _ 
 along : (w last : World) (es : List Event) → Runs w es last → length es + weight last ≤ weight w
 along w last [] h = let e = ap weight h in omega (arith, e)
 along w last (e ∷ es) h =
-    let low = steps_lower_weights_lemma w h.1 e h.2
-    in let rest = along h.1 last es h.3
+    let low = steps_lower_weights_lemma w h.next e h.steps
+    in let rest = along h.next last es h.rest
     in omega (arith, low, rest)
 
 -- ---- the opening world

@@ -4,9 +4,17 @@ use Rattle.pico_base.specs.declared.script.Script.{Script}
 use Rattle.pico_base.specs.declared.script.Event.{Event}
 use Rattle.machine_model.specs.World.{World, opening_world, step, is_enabled}
 
+-- an enabled event, and what holds of the world that it leads to
+pub record GoesOn (w : World) (e : Event) (Rest : World → Type 0) : Type 0 where
+  pub enabled : is_enabled w e ≡ true
+  pub next : World
+  pub steps : step w e ≡ Some next
+  pub rest : Rest next
+
+-- these events, one after another, lead from the first world to the last
 abbrev pub Runs : World → List Event → World → Type 0
 Runs w [] last = w ≡ last
-Runs w (e ∷ events) last = (is_enabled w e ≡ true) × (next : World) × (step w e ≡ Some next) × Runs next events last
+Runs w (e ∷ events) last = GoesOn w e (λ next. Runs next events last)
 
 -- these events lead from the opening world of the script to this one
 abbrev pub IsRunOf : Script → List Event → World → Type 0

@@ -48,9 +48,14 @@ abbrev pub schedule_after : Schedule → Event → Schedule
 schedule_after (InTurn last) e = InTurn (node_of e)
 schedule_after (Drawn x) e = Drawn (drawn x)
 
+-- an event that the schedule chooses, and what holds of the world that it leads to
+pub record Chooses (w : World) (schedule : Schedule) (e : Event) (Rest : World → Type 0) : Type 0 where
+  pub chosen : choice w schedule ≡ Some e
+  pub next : World
+  pub steps : step w e ≡ Some next
+  pub rest : Rest next
+
 -- the run that a schedule takes, to the world where it finds no event
 abbrev pub Follows : World → Schedule → List Event → World → Type 0
 Follows w schedule [] last = (choice w schedule ≡ None) × (w ≡ last)
-Follows w schedule (e ∷ es) last =
-    (choice w schedule ≡ Some e) × (next : World) × (step w e ≡ Some next)
-    × Follows next (schedule_after schedule e) es last
+Follows w schedule (e ∷ es) last = Chooses w schedule e (λ next. Follows next (schedule_after schedule e) es last)

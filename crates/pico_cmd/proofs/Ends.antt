@@ -14,7 +14,7 @@ use Rattle.pico_cmd.proofs.Runs.{step_script}
 -- a run keeps the script
 runs_keep : (w last : World) (es : List Event) → Runs w es last → last.script ≡ w.script
 runs_keep w last [] r = ap (λ (x : World). x.script) (sym r)
-runs_keep w last (e ∷ es) r = runs_keep r.1 last es r.3 ∙ step_script w e r.1 r.2
+runs_keep w last (e ∷ es) r = runs_keep r.next last es r.rest ∙ step_script w e r.next r.steps
 
 -- the text of a run is that of the script's
 pub text_told : {E : Type 0} (script : Script) (options : Options) (es : List Event) (world : Option World)

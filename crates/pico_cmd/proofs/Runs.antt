@@ -9,7 +9,7 @@ use Rattle.machine_model.specs.Node.{Node}
 use Rattle.machine_model.specs.Calls.{Step, run}
 use Rattle.machine_model.specs.Frames.{takes}
 use Rattle.machine_model.specs.World.{World, opening_world, size, node_count, step, is_enabled, node_at, stream, with_stream, world_after, after_turn, runs_at, takes_at}
-use Rattle.machine_model.specs.Schedule.{Schedule, InTurn, Drawn, Follows, choice, schedule_of, schedule_after, node_of}
+use Rattle.machine_model.specs.Schedule.{Schedule, InTurn, Drawn, Chooses, Follows, choice, schedule_of, schedule_after, node_of}
 use Rattle.machine_model.specs.Weights.{weight}
 use Rattle.machine_model.specs.Built.{IsRunnable}
 use Rattle.machine_model.specs.Run.{IsRunOf, IsAtRest}
@@ -44,8 +44,7 @@ step_script w (events.Take p from) next e = takes_script w p from (node_at w p) 
 -- these events are what the schedule takes from a world, and they lead to another world and schedule
 abbrev pub Takes : World → Schedule → List Event → World → Schedule → Type 0
 Takes w s [] now at = (w ≡ now) × (s ≡ at)
-Takes w s (e ∷ es) now at =
-    (choice w s ≡ Some e) × (next : World) × (step w e ≡ Some next) × Takes next (schedule_after s e) es now at
+Takes w s (e ∷ es) now at = Chooses w s e (λ next. Takes next (schedule_after s e) es now at)
 
 Takes-more : (w : World) (s : Schedule) (es : List Event) (now : World) (at : Schedule) (e : Event) (next : World)
     → Takes w s es now at → choice now at ≡ Some e → step now e ≡ Some next
@@ -53,9 +52,14 @@ Takes-more : (w : World) (s : Schedule) (es : List Event) (now : World) (at : Sc
 Takes-more w s [] now at e next t chosen stepped =
     subst (λ (x : World). Takes x s (e ∷ []) next (schedule_after at e)) (sym t.0)
     (subst (λ (y : Schedule). Takes now y (e ∷ []) next (schedule_after at e)) (sym t.1)
-    (chosen, next, stepped, (refl, refl)))
+    (record { chosen = chosen; next = next; steps = stepped; rest = (refl, refl) }))
 Takes-more w s (e1 ∷ es) now at e next t chosen stepped =
-    (t.0, t.1, t.2, Takes-more t.1 (schedule_after s e1) es now at e next t.3 chosen stepped)
+    record {
+      chosen = t.chosen;
+      next = t.next;
+      steps = t.steps;
+      rest = Takes-more t.next (schedule_after s e1) es now at e next t.rest chosen stepped;
+    }
 
 Takes-end : (w : World) (s : Schedule) (es : List Event) (now : World) (at : Schedule)
     → Takes w s es now at → choice now at ≡ None → Follows w s es now
@@ -63,7 +67,13 @@ Takes-end w s [] now at t none = (
   subst (λ (x : World). choice x s ≡ None) (sym t.0) (subst (λ (y : Schedule). choice now y ≡ None) (sym t.1) none),
   t.0,
 )
-Takes-end w s (e ∷ es) now at t none = (t.0, t.1, t.2, Takes-end t.1 (schedule_after s e) es now at t.3 none)
+Takes-end w s (e ∷ es) now at t none =
+    record {
+      chosen = t.chosen;
+      next = t.next;
+      steps = t.steps;
+      rest = Takes-end t.next (schedule_after s e) es now at t.rest none;
+    }
 
 -- the run so far
 pub record IsUnderWay (script : Script) (seed : ℕ) (taken : List Event) (world : Option World)

@@ -138,12 +138,13 @@ choice_enabled w (Drawn x) e found = found_enabled w (numbers 1 (size w)) (drawn
 
 pub schedules_are_runs_lemma : SchedulesAreRuns
 schedules_are_runs_lemma w last schedule [] follows = follows.1
-schedules_are_runs_lemma w last schedule (e ∷ es) follows = (
-  choice_enabled w schedule e follows.0,
-  follows.1,
-  follows.2,
-  schedules_are_runs_lemma follows.1 last (schedule_after schedule e) es follows.3,
-)
+schedules_are_runs_lemma w last schedule (e ∷ es) follows =
+    record {
+      enabled = choice_enabled w schedule e follows.chosen;
+      next = follows.next;
+      steps = follows.steps;
+      rest = schedules_are_runs_lemma follows.next last (schedule_after schedule e) es follows.rest;
+    }
 
 pub zero_is : (n : ℕ) → (IsTrue (nat_eq n 0) → n ≡ 0) × (n ≡ 0 → IsTrue (nat_eq n 0))
 zero_is n = (λ e. grind arith, λ e. grind arith)

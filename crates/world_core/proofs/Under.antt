@@ -40,7 +40,7 @@ pub IsUnder-enabled : (script : Script) (events : List Event) (i : ℕ) (world :
     → i < length events → e ≡ get_or events i e → IfSome world (λ w. is_enabled w e ≡ true)
 IsUnder-enabled script events i world e u lt read =
     let P : Option World → Type 0 = λ o. IfSome o (λ w. is_enabled w e ≡ true)
-    in subst P (sym u.is_now) (left_next script events i world e u lt read).0
+    in subst P (sym u.is_now) (left_next script events i world e u lt read).enabled
 
 pub IsUnder-next : (script : Script) (events : List Event) (i : ℕ) (world next : Option World) (e : Event)
     → IsUnder script events i world → i < length events → e ≡ get_or events i e → IsStepped world e next
@@ -49,7 +49,7 @@ IsUnder-next script events i world next e u lt read stepped =
     let left = left_next script events i world e u lt read in
     let same : stepped.0 ≡ u.now = (let a = stepped.2 in let b = u.is_now in cc) in
     let taken : step u.now e ≡ Some stepped.1 = ap (λ (w : World). step w e) (sym same) ∙ stepped.4 in
-    let there : left.1 ≡ stepped.1 = (let a = left.2 in cc) in
+    let there : left.next ≡ stepped.1 = (let a = left.steps in cc) in
     let more : take (i + 1) events ≡ take i events ++ e ∷ [] =
     take_more events i e lt ∙ ap (λ (x : Event). take i events ++ x ∷ []) (sym read) in
     record {
@@ -57,9 +57,9 @@ IsUnder-next script events i world next e u lt read stepped =
       is_now = stepped.3;
       so_far =
           subst (λ (es : List Event). Runs (opening_world script) es stepped.1) (sym more)
-          (Runs-more (take i events) (opening_world script) u.now stepped.1 e u.so_far left.0 taken);
+          (Runs-more (take i events) (opening_world script) u.now stepped.1 e u.so_far left.enabled taken);
       last = u.last;
-      left = subst (λ (w : World). Runs w (drop (i + 1) events) u.last) there left.3;
+      left = subst (λ (w : World). Runs w (drop (i + 1) events) u.last) there left.rest;
     }
 
 pub IsUnder-run : (script : Script) (events : List Event) (i : ℕ) (world : Option World) → IsUnder script events i world

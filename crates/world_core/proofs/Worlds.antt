@@ -123,8 +123,8 @@ kept-step w next (events.Take p from) e = kept-take w next p from (node_at w p) 
 pub kept-runs : (w last : World) (es : List Event) → Runs w es last → IsKept w last
 kept-runs w last [] runs = subst (λ (n : World). IsKept w n) runs (record { script = refl; shaped = λ s. s })
 kept-runs w last (e ∷ es) runs =
-    let first = kept-step w runs.1 e runs.2
-    in let rest = kept-runs runs.1 last es runs.3
+    let first = kept-step w runs.next e runs.steps
+    in let rest = kept-runs runs.next last es runs.rest
     in record { script = rest.script ∙ first.script; shaped = λ s. rest.shaped (first.shaped s) }
 
 pub reachable-script : (script : Script) (w : World) → IsReachableWorld script w → w.script ≡ script
@@ -138,9 +138,15 @@ reachable-shaped script w reached =
 pub Runs-more : (es : List Event) (w mid next : World) (e : Event)
     → Runs w es mid → is_enabled mid e ≡ true → step mid e ≡ Some next → Runs w (es ++ e ∷ []) next
 Runs-more [] w mid next e runs enabled taken =
-    subst (λ (m : World). Runs m (e ∷ []) next) (sym runs) (enabled, next, taken, refl)
+    subst (λ (m : World). Runs m (e ∷ []) next) (sym runs)
+    (record { enabled = enabled; next = next; steps = taken; rest = refl })
 Runs-more (first ∷ es) w mid next e runs enabled taken =
-    (runs.0, runs.1, runs.2, Runs-more es runs.1 mid next e runs.3 enabled taken)
+    record {
+      enabled = runs.enabled;
+      next = runs.next;
+      steps = runs.steps;
+      rest = Runs-more es runs.next mid next e runs.rest enabled taken;
+    }
 
 pub reachable-more : (script : Script) (w next : World) (e : Event)
     → IsReachableWorld script w → is_enabled w e ≡ true → step w e ≡ Some next → IsReachableWorld script next
