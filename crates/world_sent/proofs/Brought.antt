@@ -21,7 +21,8 @@ use Rattle.world_model.specs.Step.{step_to}
 use Rattle.world_model.specs.Calls.{is_for_others}
 use Rattle.world_model.specs.World.{World, node_count, world_after}
 use Rattle.world_laws.specs.Places.{CallPlace, IsInHand, Beside, call_in}
-use Rattle.world_laws.specs.Sights.{node_of, frames_to, directory_of, stage_of, is_born_in, is_used_name}
+use Rattle.kernel_moves.specs.Entering.{is_used_name}
+use Rattle.world_laws.specs.Sights.{node_of, frames_to, directory_of, stage_of, is_born_in}
 use Rattle.world_laws.specs.Plays.{begin, has_any, is_checkpoint_of, news, placed_in, plays}
 use Rattle.world_laws.specs.Names.{NameHolds, NameSight, comes_to, forker, held_at, is_maker, name_sight, range_steps_of}
 use Rattle.world_laws.specs.Callers.{CallSight, call_sight, CallHolds, HasCall, HasCallOrNone, IsToBeMade, IsJustThere, asked_of, only_if, is_in_stream, frame_at, is_held_at, is_about, is_item_about, is_end_place}
@@ -110,12 +111,13 @@ module _ (script : Script) (w : World) (b : Beside) (holds : Holds script w [] b
   abbrev hand : List Held
   hand = Request asked ∷ []
 
-  changes : Changes script p w next n takes [] []
-  changes = changes-by-take script w holds.shape p q frame rest (step_to n) h tt
+  -- what taking the frame changes
+  pub brought-changes : Changes script p w next n takes [] []
+  brought-changes = changes-by-take script w holds.shape p q frame rest (step_to n) h tt
 
   -- no node changes
   pub brought-nodes : (y : ℕ) → node_of next y ≡ node_of w y
-  brought-nodes y = read-same script p w next n takes [] [] changes (λ (m : Node). m) refl y
+  brought-nodes y = read-same script p w next n takes [] [] brought-changes (λ (m : Node). m) refl y
 
   -- nor does the directory
   pub brought-directory : directory_of next ≡ directory_of w
@@ -138,7 +140,7 @@ module _ (script : Script) (w : World) (b : Beside) (holds : Holds script w [] b
       ∙ u.there to sender
 
   -- the call was in this frame alone
-  left-alone : (to sender : ℕ) → filter (is_about caller to sender) (changes.left to sender) ≡ []
+  left-alone : (to sender : ℕ) → filter (is_about caller to sender) (brought-changes.left to sender) ≡ []
   left-alone to sender =
       elim (cases_eq to p) [
         | inr d ↦ away (inl d) (ap (λ t. t && nat_eq sender q) (ne_eqb to p d))
@@ -147,24 +149,24 @@ module _ (script : Script) (w : World) (b : Beside) (holds : Holds script w [] b
               | inr d ↦
                   away (inr d) (ap (λ t. nat_eq to p && t) (ne_eqb sender q d) ∙ and-false (nat_eq to p))
               | inl g ↦
-                  subst (λ y. filter (is_about caller y sender) (changes.left y sender) ≡ []) (sym e)
-                  (subst (λ z. filter (is_about caller p z) (changes.left p z) ≡ []) (sym g) at-head)
+                  subst (λ y. filter (is_about caller y sender) (brought-changes.left y sender) ≡ []) (sym e)
+                  (subst (λ z. filter (is_about caller p z) (brought-changes.left p z) ≡ []) (sym g) at-head)
             ]
       ]
     where
       away : (to ≢ p) ⊎ (sender ≢ q) → (nat_eq to p && nat_eq sender q) ≡ false
-          → filter (is_about caller to sender) (changes.left to sender) ≡ []
+          → filter (is_about caller to sender) (brought-changes.left to sender) ≡ []
       away d none =
-          others-stay script p q w next n frame [] [] changes (λ t s fs. filter (is_about caller t s) fs)
+          others-stay script p q w next n frame [] [] brought-changes (λ t s fs. filter (is_about caller t s) fs)
           (λ t s. filter-is-list-map (is_about caller t s)) to sender d
           ∙ about-was to sender
           ∙ ap (λ t. only_if t frame) none
 
-      at-head : filter (is_about caller p q) (changes.left p q) ≡ []
+      at-head : filter (is_about caller p q) (brought-changes.left p q) ≡ []
       at-head =
-          rest-same frame frame (filter (is_about caller p q) (changes.left p q)) []
-          (sym (ap (λ t. cond t (frame ∷ []) [] ++ filter (is_about caller p q) (changes.left p q)) u.about)
-          ∙ sym (rest-stays script p q w next n frame [] [] changes (λ t s fs. filter (is_about caller t s) fs)
+          rest-same frame frame (filter (is_about caller p q) (brought-changes.left p q)) []
+          (sym (ap (λ t. cond t (frame ∷ []) [] ++ filter (is_about caller p q) (brought-changes.left p q)) u.about)
+          ∙ sym (rest-stays script p q w next n frame [] [] brought-changes (λ t s fs. filter (is_about caller t s) fs)
           (λ t s. filter-is-list-map (is_about caller t s)))
           ∙ about-was p q
           ∙ ap (λ t. only_if (t && nat_eq q q) frame) (eq-eqb p p refl)
@@ -202,7 +204,7 @@ module _ (script : Script) (w : World) (b : Beside) (holds : Holds script w [] b
       }
 
   more : IsMore (is_born_in w) (is_born_in next)
-  more = move-born script w next [] hand b b.deed calls-now p n takes [] caller h.low h.high holds changes move
+  more = move-born script w next [] hand b b.deed calls-now p n takes [] caller h.low h.high holds brought-changes move
 
   read : {A : Type 0} (f : Node → A) → f (node_of w caller) ≡ f (node_of next caller)
   read f = sym (ap f (brought-nodes caller))
@@ -223,7 +225,7 @@ module _ (script : Script) (w : World) (b : Beside) (holds : Holds script w [] b
         place = refl;
         alive = refl;
         call = sym (ap (λ t. if t then IsInHand else b.call caller) (eq-eqb caller caller refl));
-        frames_about = λ to sender. sym (only-stayed script p w next n takes [] [] changes
+        frames_about = λ to sender. sym (only-stayed script p w next n takes [] [] brought-changes
             (λ t s fs. filter (is_about caller t s) fs) (λ t s. filter-is-list-map (is_about caller t s)) tt to sender
             ∙ left-alone to sender);
         held = λ name. sym (ap (λ d. filter (is_item_about caller) (held_for d name)) brought-directory
@@ -272,15 +274,15 @@ module _ (script : Script) (w : World) (b : Beside) (holds : Holds script w [] b
 
   -- ---- names
 
-  steps-left : (m : Name) (y : ℕ) → plays calls-now m (changes.left y 1) ≡ plays b.call m (changes.left y 1)
+  steps-left : (m : Name) (y : ℕ) → plays calls-now m (brought-changes.left y 1) ≡ plays b.call m (brought-changes.left y 1)
   steps-left m y =
-      steps-still script w next [] hand b b.deed calls-now p n takes [] caller h.low h.high holds changes move y
+      steps-still script w next [] hand b b.deed calls-now p n takes [] caller h.low h.high holds brought-changes move y
       (left-alone y 1) m
 
-  ranges-left : (m : Name) (y : ℕ) → flat_map (range_steps_of calls-now m) (changes.left y 1)
-      ≡ flat_map (range_steps_of b.call m) (changes.left y 1)
+  ranges-left : (m : Name) (y : ℕ) → flat_map (range_steps_of calls-now m) (brought-changes.left y 1)
+      ≡ flat_map (range_steps_of b.call m) (brought-changes.left y 1)
   ranges-left m y =
-      ranges-still script w next [] hand b b.deed calls-now p n takes [] caller h.low h.high holds changes move y
+      ranges-still script w next [] hand b b.deed calls-now p n takes [] caller h.low h.high holds brought-changes move y
       (left-alone y 1) m
 
   -- A name that the frame isn't about keeps all that holds of it.
@@ -288,7 +290,7 @@ module _ (script : Script) (w : World) (b : Beside) (holds : Holds script w [] b
       → NameHolds script b.pids (is_born_in next) m (name_sight script next hand moved m)
   name-not-brought m away =
       name-stays script b.pids (is_born_in w) (is_born_in next) m _ _ more
-      (name-left-alone script p w next n takes [] [] changes [] hand b moved m
+      (name-left-alone script p w next n takes [] [] brought-changes [] hand b moved m
       (record {
         directory = same-directory (directory_of w) (directory_of next) brought-directory m;
         used_is = refl;
@@ -305,8 +307,8 @@ module _ (script : Script) (w : World) (b : Beside) (holds : Holds script w [] b
   abbrev pub left_sight : Name → NameSight
   left_sight m =
       record (name_sight script w [] b m) {
-        steps = λ y. plays b.call m (changes.left y 1);
-        ranges = λ y. flat_map (range_steps_of b.call m) (changes.left y 1);
+        steps = λ y. plays b.call m (brought-changes.left y 1);
+        ranges = λ y. flat_map (range_steps_of b.call m) (brought-changes.left y 1);
       }
 
   -- A name that the frame is only played for is seen with the rest of the play.
@@ -321,21 +323,21 @@ module _ (script : Script) (w : World) (b : Beside) (holds : Holds script w [] b
         body = refl;
         deed = refl;
         held = λ y. sym (ap (λ (z : Node). get_named z.deeds m) (brought-nodes y));
-        brought = λ t s. sym (made-same script p w next n takes [] [] changes (λ t s fs. filter (brings m) fs)
+        brought = λ t s. sym (made-same script p w next n takes [] [] brought-changes (λ t s fs. filter (brings m) fs)
             (λ t s. filter-is-list-map (brings m)) (none.no_deed, tt) tt t s);
         kept = λ pid. sym (ap (λ d. filter (is_parcel_with m) (held_for d (Proc pid))) brought-directory);
         hand = refl;
         begins = begins-same;
-        steps = λ y. sym (only-stayed script p w next n takes [] [] changes (λ t s fs. plays calls-now m fs)
+        steps = λ y. sym (only-stayed script p w next n takes [] [] brought-changes (λ t s fs. plays calls-now m fs)
             (λ t s. flat_map-is-list-map _) tt y 1 ∙ steps-left m y);
-        ranges = λ y. sym (only-stayed script p w next n takes [] [] changes
+        ranges = λ y. sym (only-stayed script p w next n takes [] [] brought-changes
             (λ t s fs. flat_map (range_steps_of calls-now m) fs) (λ t s. flat_map-is-list-map _) tt y 1
             ∙ ranges-left m y);
-        placed = λ y. sym (made-same script p w next n takes [] [] changes (λ t s fs. placed_in m fs)
+        placed = λ y. sym (made-same script p w next n takes [] [] brought-changes (λ t s fs. placed_in m fs)
             (λ t s. flat_map-is-list-map _) (none.no_place, tt) tt 1 y);
         news = λ y. sym (ap (λ d. news m (is_used_name b.kernel m && is_maker (maker d m) y) (frames_to next 1 y))
             brought-directory
-            ∙ made-same script p w next n takes [] [] changes
+            ∙ made-same script p w next n takes [] [] brought-changes
             (λ t s fs. news m (is_used_name b.kernel m && is_maker (maker (directory_of w) m) s) fs)
             (λ t s. flat_map-is-list-map _) (none.no_news _, tt) tt 1 y);
       }
@@ -343,7 +345,7 @@ module _ (script : Script) (w : World) (b : Beside) (holds : Holds script w [] b
       comes-same : (y : ℕ) → comes_to script next m y ≡ comes_to script w m y
       comes-same y =
           ap (λ fs. not (nat_eq (forker script y) 1) && has_any fs)
-          (made-same script p w next n takes [] [] changes (λ t s fs. filter (is_checkpoint_of m) fs)
+          (made-same script p w next n takes [] [] brought-changes (λ t s fs. filter (is_checkpoint_of m) fs)
           (λ t s. filter-is-list-map (is_checkpoint_of m)) (none.no_checkpoint, tt) tt y (forker script y))
 
       begins-same : (y : ℕ) → begin (stage_of w y) (is_some (held_at w m y)) (comes_to script w m y)
@@ -363,11 +365,11 @@ module _ (script : Script) (w : World) (b : Beside) (holds : Holds script w [] b
   pub brought-keeps : ((m : Name) → NameHolds script b.pids (is_born_in next) m (name_sight script next hand moved m))
       → Holds script next hand moved
   brought-keeps names =
-      call-move-keeps script w next [] hand b b.deed calls-now p n takes [] caller h.low h.high holds changes move
+      call-move-keeps script w next [] hand b b.deed calls-now p n takes [] caller h.low h.high holds brought-changes move
       call-now names
       (λ kind. kind-stays (is_born_in w) (is_born_in next) _ _ more
-      (kind-left-alone script p w next n takes [] [] changes b.kernel b.kernel kind (λ number. refl) refl
+      (kind-left-alone script p w next n takes [] [] brought-changes b.kernel b.kernel kind (λ number. refl) refl
       (ap (λ (d : Directory). for_kind d.ranges kind) brought-directory) (u.brings_no_lease kind, tt) tt)
       (holds.kinds kind))
-      (λ kind. few-still script p w next n takes [] [] changes b.call calls-now kind refl
+      (λ kind. few-still script p w next n takes [] [] brought-changes b.call calls-now kind refl
       (ap (λ (d : Directory). for_kind d.ranges kind) brought-directory) (lease-same kind) (holds.few kind))

@@ -1,1 +1,11 @@
 pub mod Brought
+pub mod Needed
+pub mod NoCheckpoint
+pub mod InHand
+pub mod Replied
+pub mod InAnswers
+pub mod EndedHere
+pub mod Serves
+pub mod Suggested
+pub mod ServeSteps
+pub mod Sent
