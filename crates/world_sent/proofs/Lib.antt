@@ -9,3 +9,8 @@ pub mod Serves
 pub mod Suggested
 pub mod ServeSteps
 pub mod Sent
+pub mod Bounced
+pub mod Unserved
+pub mod Unleased
+pub mod Forwarded
+pub mod Forwards

@@ -108,12 +108,6 @@ module _ (script : Script) (pids : ℕ → ℕ) (born : ℕ → Bool) (name : Na
       first-there : (rs : List RangeStep) → Contains (IsSentThere ∷ rs) IsSentThere
       first-there rs = Contains-append_left (IsSentThere ∷ []) rs IsSentThere (Contains-push [] IsSentThere)
 
-  -- and no such numbers are on their way there
-  pub none-leased : sent ≡ true → has_no_lease (ranges p) ≡ true
-  none-leased e =
-      none-leased-behind (ranges p) (ap (λ t. leases_first (range_steps_if t IsSentThere ++ ranges p)) (sym e)
-      ∙ leased-here)
-
   -- All holds of the name with what is left.
   pub name-head-taken : NameHolds script pids born name (record x { steps = steps; ranges = ranges })
   name-head-taken =
