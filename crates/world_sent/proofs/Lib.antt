@@ -14,3 +14,5 @@ pub mod Unserved
 pub mod Unleased
 pub mod Forwarded
 pub mod Forwards
+pub mod Requests
+pub mod NotOwners

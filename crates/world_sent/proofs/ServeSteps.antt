@@ -1,6 +1,6 @@
 -- A node serves a call in hand on a name that it holds, as a step: the entry and the reply, and where the call has read,
 -- that is noted.
-use Rattle.std.proofs.Common.{◌≡◌, ◌≢◌, ℕ, ◌≤◌, Bool, true, false, if◌then◌else◌, List, [], ◌∷◌, nat_eq, Option, Some, None, option_map, refl, ap, sym, subst, ◌∙◌, inl, inr}
+use Rattle.std.proofs.Common.{◌≡◌, ◌≢◌, ℕ, ◌≤◌, Bool, true, false, if◌then◌else◌, List, [], ◌∷◌, nat_eq, Option, Some, None, option_map, refl, ap, sym, subst, ◌∙◌, inl, inr, arith}
 use Rattle.std.proofs.lemmas.Bool.{cases_eq, eq-eqb, ne_eqb}
 use Rattle.pico_base.specs.declared.call.Call.{Call}
 use Rattle.pico_base.specs.declared.call.Home.TheVariants as homes
@@ -247,3 +247,18 @@ module _ (script : Script) (v : World) (p : ℕ) (n : Node) (asked : Asked) (nam
       noted-or-not (has_read asked.call s.reply) refl
       (λ e. read-suggested-keeps script v p s.done s.beside s.holds low high other s.node_born name asked.caller
       (reads-object asked.pid asked.call s.reply name on e) s.caller_born)
+
+-- The leader serves a call of another node, and the name moves to the reader where it is time.
+pub serves-and-grants : (script : Script) (v : World) (n : Node) (asked : Asked) (name : Name)
+    → (s : ServesInHand script v 1 n asked name) → 1 ≤ node_count script
+    → home_of asked.pid asked.call ≡ homes.At name → asked.caller ≢ 1
+    → place_of (directory_of (world_after v 1 (step_to n))) name ≡ Some (At 1)
+    → EndsIn script v 1 (serve_asked script (step_to n) name asked)
+serves-and-grants script v n asked name s high on other place =
+    noted-or-not script v 1 n asked name s (omega arith) high on (has_read asked.call s.reply) refl
+    (λ e.
+    let after : HoldsAfter script v (note_read s.done name asked.caller) [] =
+    read-noted-keeps script v s.done [] s.beside s.holds name asked.caller
+    (reads-object asked.pid asked.call s.reply name on e) s.caller_born other
+    (ap (λ d. place_of d name) s.directory_is ∙ place)
+    in record { beside = after.beside; holds = after.holds })
