@@ -276,3 +276,14 @@ module _ (script : Script) (w : World) (b : Beside) (holds : Holds script w [] b
   forward-taken =
       let sent = sent-by script w b holds p asked rest h low high
       in sent-step sent.0 sent.1
+
+-- So it is whoever it comes from, which is the leader.
+pub forward-taken-from : (script : Script) (w : World) (b : Beside) → Holds script w [] b → (p q : ℕ) (asked : Asked)
+    (rest : List Frame) → Heads script w p q (frames.Forward asked) rest → 1 ≤ asked.caller
+    → asked.caller ≤ node_count script → is_born (node_of w p) ≡ true → NeverWaits script → HasStep script w p q
+forward-taken-from script w b holds p q asked rest head low high born never =
+    subst (λ y. Heads script w p y (frames.Forward asked) rest → HasStep script w p y) (sym from_leader)
+    (λ first. forward-taken script w b holds p asked rest first low high born never) head
+  where
+    from_leader : MayBe script (is_born_in w) p q (frames.Forward asked)
+    from_leader = head-may-be script w p q (frames.Forward asked) rest head (is_born_in w) holds.frames_fit

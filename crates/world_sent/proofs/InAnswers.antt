@@ -71,97 +71,97 @@ module _ (script : Script) (w : World) (b : Beside) (p : ℕ) (asked : Asked) (g
       }
 
   module _ (w' : World) (c : Changes script p w w' n [] answers (entry_of node asked.pid asked.call e.reply ∷ []))
-      where
-    abbrev x : CallSight
-    x = call_sight w (Request asked ∷ []) b caller
+    where
+      abbrev x : CallSight
+      x = call_sight w (Request asked ∷ []) b caller
 
-    abbrev call : Call
-    call = (in-hand script w b p asked g).call
+      abbrev call : Call
+      call = (in-hand script w b p asked g).call
 
-    abbrev it : Asked
-    it = asked_of x call
+      abbrev it : Asked
+      it = asked_of x call
 
-    abbrev was : Place
-    was = caller_place script caller x.caller
+      abbrev was : Place
+      was = caller_place script caller x.caller
 
-    abbrev moved : Beside
-    moved =
-        record b {
-          kernel = e.next;
-          places = places_after script b.places (entry_of node asked.pid asked.call e.reply) was;
-          call = call_in b.call caller (InAnswer p e.reply);
-        }
+      abbrev moved : Beside
+      moved =
+          record b {
+            kernel = e.next;
+            places = places_after script b.places (entry_of node asked.pid asked.call e.reply) was;
+            call = call_in b.call caller (InAnswer p e.reply);
+          }
 
-    leaves : EntryLeaves b.kernel b.places (b.pids caller) e.next moved.places
-    leaves = entry-leaves script w b p asked g node e (InAnswer p e.reply) n answers a in-answer w' c
+      leaves : EntryLeaves b.kernel b.places (b.pids caller) e.next moved.places
+      leaves = entry-leaves script w b p asked g node e (InAnswer p e.reply) n answers a in-answer w' c
 
-    has : HasCall script caller (is_born_in w) x call
-    has = is-under-way script w b p asked g
+      has : HasCall script caller (is_born_in w) x call
+      has = is-under-way script w b p asked g
 
-    to-be-made : IsToBeMade script caller x call
-    to-be-made = not-made script w b p asked g
+      to-be-made : IsToBeMade script caller x call
+      to-be-made = not-made script w b p asked g
 
-    asked-is : asked ≡ it
-    asked-is = (in-hand script w b p asked g).asked_is
+      asked-is : asked ≡ it
+      asked-is = (in-hand script w b p asked g).asked_is
 
-    abbrev y : CallSight
-    y = answered_at x caller p e.reply (place_after was call (Some e.reply)) leaves.lives.alive it
+      abbrev y : CallSight
+      y = answered_at x caller p e.reply (place_after was call (Some e.reply)) leaves.lives.alive it
 
-    call-answered : CallHolds script caller (is_born_in w) y
-    call-answered =
-        record {
-          call = subst (λ o. HasCallOrNone script caller (is_born_in w) y o) (sym (in-hand script w b p asked g).is)
-              (record {
-                just_there = record {
-                  in_streams = λ to sender. refl;
-                  held_for_names = λ name. refl;
-                  in_hand = refl;
-                };
-                home = subst (λ (a : Asked). is_for_others (home_of a.pid a.call) ≡ true) asked-is
-                    (in-hand-for-others script w asked [] b g.holds g.low g.high);
-                used_up = tt;
-                between = (born, λ z. other (sym z));
-                so_far = record {
-                  there = refl;
-                  due = to-be-made.due;
-                  alive = leaves.lives.alive;
-                  lives = refl;
-                };
-                at_work = has.at_work;
-                tickets = has.tickets;
-                try_left = has.try_left;
-              });
-          ends = sym (caller-stays script w b p asked g);
-        }
+      call-answered : CallHolds script caller (is_born_in w) y
+      call-answered =
+          record {
+            call = subst (λ o. HasCallOrNone script caller (is_born_in w) y o) (sym (in-hand script w b p asked g).is)
+                (record {
+                  just_there = record {
+                    in_streams = λ to sender. refl;
+                    held_for_names = λ name. refl;
+                    in_hand = refl;
+                  };
+                  home = subst (λ (a : Asked). is_for_others (home_of a.pid a.call) ≡ true) asked-is
+                      (in-hand-for-others script w asked [] b g.holds g.low g.high);
+                  used_up = tt;
+                  between = (born, λ z. other (sym z));
+                  so_far = record {
+                    there = refl;
+                    due = to-be-made.due;
+                    alive = leaves.lives.alive;
+                    lives = refl;
+                  };
+                  at_work = has.at_work;
+                  tickets = has.tickets;
+                  try_left = has.try_left;
+                });
+            ends = sym (caller-stays script w b p asked g);
+          }
 
-    read : {A : Type 0} (f : Node → A) → f (node_of w caller) ≡ f (node_of w' caller)
-    read f = sym (ap f (c.others caller other))
+      read : {A : Type 0} (f : Node → A) → f (node_of w caller) ≡ f (node_of w' caller)
+      read f = sym (ap f (c.others caller other))
 
-    sight-now : SameCall y (call_sight w' [] moved caller)
-    sight-now =
-        record {
-          number = read (λ (m : Node). m.number);
-          pid = read (λ (m : Node). m.pid);
-          stage = read (λ (m : Node). m.stage);
-          caller = read (λ (m : Node). m.caller);
-          leases = read (λ (m : Node). m.leases);
-          place = sym (place-now script w b p asked g node e (InAnswer p e.reply) n answers a in-answer w' c);
-          alive = sym leaves.lives.lives;
-          call = sym (ap (λ t. if t then InAnswer p e.reply else b.call caller) (eq-eqb caller caller refl));
-          frames_about = λ to sender. ap (λ (z : Asked). only_if (nat_eq to caller && nat_eq sender p)
-              (frames.Answer z.ticket e.reply)) (sym asked-is)
-              ∙ sym (made-after script p w w' n [] answers (entry_of node asked.pid asked.call e.reply ∷ []) c
-              (λ t s fs. filter (is_about caller t s) fs) (λ t s. filter-is-list-map (is_about caller t s)) to sender
-              ∙ ap (λ fs. fs ++ filter (is_about caller to sender) (sent p answers to sender))
-              (none-left script w b p asked g node e (InAnswer p e.reply) n answers a in-answer w' c to sender)
-              ∙ sent-answer caller to sender asked.ticket e.reply (nat_eq to caller) (nat_eq sender p) refl);
-          held = λ name. sym (none-held script w b p asked g node e (InAnswer p e.reply) n answers a in-answer w' c name);
-          hand = refl;
-        }
+      sight-now : SameCall y (call_sight w' [] moved caller)
+      sight-now =
+          record {
+            number = read (λ (m : Node). m.number);
+            pid = read (λ (m : Node). m.pid);
+            stage = read (λ (m : Node). m.stage);
+            caller = read (λ (m : Node). m.caller);
+            leases = read (λ (m : Node). m.leases);
+            place = sym (place-now script w b p asked g node e (InAnswer p e.reply) n answers a in-answer w' c);
+            alive = sym leaves.lives.lives;
+            call = sym (ap (λ t. if t then InAnswer p e.reply else b.call caller) (eq-eqb caller caller refl));
+            frames_about = λ to sender. ap (λ (z : Asked). only_if (nat_eq to caller && nat_eq sender p)
+                (frames.Answer z.ticket e.reply)) (sym asked-is)
+                ∙ sym (made-after script p w w' n [] answers (entry_of node asked.pid asked.call e.reply ∷ []) c
+                (λ t s fs. filter (is_about caller t s) fs) (λ t s. filter-is-list-map (is_about caller t s)) to sender
+                ∙ ap (λ fs. fs ++ filter (is_about caller to sender) (sent p answers to sender))
+                (none-left script w b p asked g node e (InAnswer p e.reply) n answers a in-answer w' c to sender)
+                ∙ sent-answer caller to sender asked.ticket e.reply (nat_eq to caller) (nat_eq sender p) refl);
+            held = λ name. sym (none-held script w b p asked g node e (InAnswer p e.reply) n answers a in-answer w' c name);
+            hand = refl;
+          }
 
-    -- All holds of the call with its reply on the way.
-    pub call-in-answer : CallHolds script caller (is_born_in w') (call_sight w' [] moved caller)
-    call-in-answer =
-        call-stays script caller (is_born_in w) (is_born_in w') _ _
-        (replied-born script w b p asked g node e (InAnswer p e.reply) n answers a in-answer w' c) sight-now
-        call-answered
+      -- All holds of the call with its reply on the way.
+      pub call-in-answer : CallHolds script caller (is_born_in w') (call_sight w' [] moved caller)
+      call-in-answer =
+          call-stays script caller (is_born_in w) (is_born_in w') _ _
+          (replied-born script w b p asked g node e (InAnswer p e.reply) n answers a in-answer w' c) sight-now
+          call-answered

@@ -1,6 +1,7 @@
 pub mod Brought
 pub mod Needed
 pub mod NoCheckpoint
+pub mod SameNodes
 pub mod InHand
 pub mod Replied
 pub mod InAnswers

@@ -36,16 +36,9 @@ use Rattle.world_sent.proofs.Brought.{IsBrought, brought_world, brought-keeps, b
 use Rattle.world_sent.proofs.Forwards.{HasStep, has-step}
 use Rattle.world_sent.proofs.InHand.{HasInHand}
 use Rattle.world_sent.proofs.Requests.{IsAtName, at-name, for-others}
+use Rattle.world_sent.proofs.SameNodes.{node-with}
 use Rattle.world_sent.proofs.Sent.{GoesOn, name-not-sent, sent-keeps}
 use Rattle.world_sent.proofs.ServeSteps.{EndsIn, node-here}
-
-holds-with-cache : (p : ℕ) (n : Node) (cache : Cache) (stage : Stage) → is_born_stage stage ≡ true
-    → HoldsIn p n stage → HoldsIn p (record n { cache = cache }) stage
-holds-with-cache p n cache Unborn born h = absurd (false≢true born)
-holds-with-cache p n cache Living born h = h
-holds-with-cache p n cache Leaving born h = h
-holds-with-cache p n cache Left born h = h
-holds-with-cache p n cache Over born h = h
 
 module _ (script : Script) (w : World) (b : Beside) (holds : Holds script w [] b) (p q ticket : ℕ)
     (rest : List Frame) (h : Heads script w p q (frames.NotOwner ticket) rest) (other : p ≢ 1) where
@@ -215,16 +208,8 @@ module _ (script : Script) (w : World) (b : Beside) (holds : Holds script w [] b
         caller = record { number = refl; pid = refl; stage = refl; caller = refl; leases = refl };
         deeds = refl;
         leader = refl;
-        node = record {
-          number = node-was.number;
-          holds = holds-with-cache p m (forget m.cache name) m.stage born node-was.holds;
-          birth = node-was.birth;
-          first = node-was.first;
-          others = node-was.others;
-          rows = node-was.rows;
-          owners = λ other_name owner there. All-contains IsOwner (forget m.cache name) (other_name, owner) owners-now
-              there;
-        };
+        node = node-with script b.pids (is_born_in middle) p m (record m { cache = forget m.cache name }) born node-was
+            (λ y owner there. All-contains IsOwner (forget m.cache name) (y, owner) owners-now there);
       }
 
   changes : Changes script p middle (world_after v p after) (record m { cache = forget m.cache name }) []

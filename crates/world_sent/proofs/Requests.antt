@@ -299,47 +299,47 @@ none-there : (node : ℕ) → Contains [] node → ⊥
 none-there node there = omega (arith, there.1)
 
 module _ (script : Script) (w : World) (hand : List Held) (b : Beside) (holds : Holds script w hand b) (name : Name)
-    where
-  abbrev s : NameSight
-  s = name_sight script w hand b name
+  where
+    abbrev s : NameSight
+    s = name_sight script w hand b name
 
-  name-holds : NameHolds script b.pids (is_born_in w) name s
-  name-holds = holds.names name
+    name-holds : NameHolds script b.pids (is_born_in w) name s
+    name-holds = holds.names name
 
-  told-elsewhere : (made : Option ℕ) (node : ℕ) → Contains (maker_tells s made) node → node ≢ 1
-  told-elsewhere None node there = absurd (none-there node there)
-  told-elsewhere (Some q) node there = (name-holds.told q node there).other
+    told-elsewhere : (made : Option ℕ) (node : ℕ) → Contains (maker_tells s made) node → node ≢ 1
+    told-elsewhere None node there = absurd (none-there node there)
+    told-elsewhere (Some q) node there = (name-holds.told q node there).other
 
-  -- what the leader holds is at the leader
-  pub place-at-leader : b.deed name ≡ InTable 1 → place_of (directory_of w) name ≡ Some (At 1)
-  place-at-leader deed =
-      some-there (place_of (directory_of w) name) (maker_tells s s.maker)
-      (sym name-holds.leader
-      ∙ ap is_some (name-holds.tables 1 ∙ ap (λ d. held_as d s.body 1) deed ∙ held-here 1 s.body))
-      (told-elsewhere s.maker)
+    -- what the leader holds is at the leader
+    pub place-at-leader : b.deed name ≡ InTable 1 → place_of (directory_of w) name ≡ Some (At 1)
+    place-at-leader deed =
+        some-there (place_of (directory_of w) name) (maker_tells s s.maker)
+        (sym name-holds.leader
+        ∙ ap is_some (name-holds.tables 1 ∙ ap (λ d. held_as d s.body 1) deed ∙ held-here 1 s.body))
+        (told-elsewhere s.maker)
 
 module _ (script : Script) (w : World) (b : Beside) (holds_all : Holds script w [] b) (q ticket pid : ℕ) (call : Call)
     (rest : List Frame) (head : Heads script w 1 q (frames.Request ticket pid call) rest) (never : NeverWaits script)
-    where
-  leader-serves : b.deed (on script w b holds_all 1 q ticket pid call rest head).name ≡ InTable 1
-      → EndsIn script (world_without w 1 q rest) 1
-      (serve_asked script (step_to (node_of w 1)) (on script w b holds_all 1 q ticket pid call rest head).name
-      (record { caller = q; ticket = ticket; pid = pid; call = call }))
-  leader-serves deed =
-      serves-and-grants script (world_without w 1 q rest) (node_of w 1)
-      (record { caller = q; ticket = ticket; pid = pid; call = call })
-      (on script w b holds_all 1 q ticket pid call rest head).name
-      (serves-request script w b holds_all 1 q ticket pid call rest head never deed) head.high
-      (on script w b holds_all 1 q ticket pid call rest head).is
-      (other script w b holds_all 1 q ticket pid call rest head)
-      (ap (λ (z : Node). place_of z.leader.directory (on script w b holds_all 1 q ticket pid call rest head).name)
-      (nodes-same script w b holds_all 1 q ticket pid call rest head 1)
-      ∙ place-at-leader script w [] b holds_all (on script w b holds_all 1 q ticket pid call rest head).name deed)
+  where
+    leader-serves : b.deed (on script w b holds_all 1 q ticket pid call rest head).name ≡ InTable 1
+        → EndsIn script (world_without w 1 q rest) 1
+        (serve_asked script (step_to (node_of w 1)) (on script w b holds_all 1 q ticket pid call rest head).name
+        (record { caller = q; ticket = ticket; pid = pid; call = call }))
+    leader-serves deed =
+        serves-and-grants script (world_without w 1 q rest) (node_of w 1)
+        (record { caller = q; ticket = ticket; pid = pid; call = call })
+        (on script w b holds_all 1 q ticket pid call rest head).name
+        (serves-request script w b holds_all 1 q ticket pid call rest head never deed) head.high
+        (on script w b holds_all 1 q ticket pid call rest head).is
+        (other script w b holds_all 1 q ticket pid call rest head)
+        (ap (λ (z : Node). place_of z.leader.directory (on script w b holds_all 1 q ticket pid call rest head).name)
+        (nodes-same script w b holds_all 1 q ticket pid call rest head 1)
+        ∙ place-at-leader script w [] b holds_all (on script w b holds_all 1 q ticket pid call rest head).name deed)
 
-  -- Where the leader takes a Request, the event has a step, too.
-  pub request-taken-by-leader : HasStep script w 1 q
-  request-taken-by-leader =
-      taken-by script w b holds_all 1 q ticket pid call rest head never leader-serves
+    -- Where the leader takes a Request, the event has a step, too.
+    pub request-taken-by-leader : HasStep script w 1 q
+    request-taken-by-leader =
+        taken-by script w b holds_all 1 q ticket pid call rest head never leader-serves
 
 -- Where a node takes a Request, the event has a step, and all holds after it.
 pub request-taken-anywhere : (script : Script) (w : World) (b : Beside) → Holds script w [] b → (p q ticket pid : ℕ)

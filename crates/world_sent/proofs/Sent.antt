@@ -366,10 +366,10 @@ module _ (script : Script) (w : World) (b : Beside) (p : ℕ) (asked : Asked) (g
           news = λ y. refl;
         }
 
-    -- the news to the leader from each node: those of node p have the frame's behind them
     abbrev made : ℕ → Bool
     made y = is_used_name b.kernel m && is_maker (maker (directory_of w) m) y
 
+    -- the news to the leader from each node: what was there, and behind it the frame's
     pub news-now : (y : ℕ) → (name_sight script w' [] moved m).news y
         ≡ (name_sight script w hand b m).news y ++ news m (made y) (sent p sends 1 y)
     news-now y =

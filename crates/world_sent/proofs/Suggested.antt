@@ -25,6 +25,7 @@ use Rattle.world_laws.proofs.Frames.{ArePlain, BringNoBirth, BringNoLease}
 use Rattle.world_laws.proofs.LeftAlone.{AreNotAbout, name-left-alone, same-directory}
 use Rattle.world_laws.proofs.Middles.{GrowsBy, changes-further}
 use Rattle.world_laws.proofs.Sends.{AreToNodes}
+use Rattle.world_sent.proofs.SameNodes.{node-with}
 use Rattle.world_rules.proofs.Quiet.{IsQuiet, quiet-born, quiet-keeps, same-but-places}
 
 -- frames that are about no call and no name, no end and no birth, and bring no numbers
@@ -37,14 +38,6 @@ pub record AreSilent (script : Script) (w : World) (p : ℕ) (sends : List (ℕ 
   pub may_be : AllByRecursion (λ s. MayBe script (is_born_in w) s.0 p s.1) sends
   pub to_others : AllByRecursion (λ s. s.0 ≢ p) sends
   pub not_about : (name : Name) → AreNotAbout name sends
-
-holds-watched : (p : ℕ) (n : Node) (watches : Watches) (stage : Stage) → is_born_stage stage ≡ true → HoldsIn p n stage
-    → HoldsIn p (record n { watches = watches }) stage
-holds-watched p n watches Unborn born h = absurd (false≢true born)
-holds-watched p n watches Living born h = h
-holds-watched p n watches Leaving born h = h
-holds-watched p n watches Left born h = h
-holds-watched p n watches Over born h = h
 
 module _ (script : Script) (v : World) (p : ℕ) (s : Step) (b : Beside) (holds : Holds script (world_after v p s) [] b)
     (low : 1 ≤ p) (high : p ≤ node_count script) (other : p ≢ 1)
@@ -76,16 +69,7 @@ module _ (script : Script) (v : World) (p : ℕ) (s : Step) (b : Beside) (holds 
   n = record (node_of w p) { watches = read_now }
 
   node-now : NodeHolds script b.pids (is_born_in w) p n
-  node-now =
-      record {
-        number = node-was.number;
-        holds = holds-watched p (node_of w p) read_now (node_of w p).stage node_born node-was.holds;
-        birth = node-was.birth;
-        first = node-was.first;
-        others = node-was.others;
-        rows = node-was.rows;
-        owners = node-was.owners;
-      }
+  node-now = node-with script b.pids (is_born_in w) p (node_of w p) n node_born node-was node-was.owners
 
   module _ (sends : List (ℕ × Frame)) (silent : AreSilent script w p sends) (w' : World)
       (c : Changes script p w w' n [] sends []) where

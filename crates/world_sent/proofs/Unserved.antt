@@ -30,15 +30,8 @@ use Rattle.world_sent.proofs.InHand.{HasInHand}
 use Rattle.world_sent.proofs.Replied.{IsCarriedOut, IsNodeAfter, IsReplied, name-not-changed, replied-keeps}
 use Rattle.world_sent.proofs.InAnswers.{call-in-answer, in-answer}
 use Rattle.world_sent.proofs.EndedHere.{call-ended-here, ended-here}
+use Rattle.world_sent.proofs.SameNodes.{node-with}
 use Rattle.world_sent.proofs.ServeSteps.{EndsIn, node-here, number-here, own-answered, own-under-way}
-
-holds-with : (p : ℕ) (n : Node) (k : Caller) (stage : Stage) → is_born_stage stage ≡ true → HoldsIn p n stage
-    → HoldsIn p (record n { caller = k }) stage
-holds-with p n k Unborn born h = absurd (false≢true born)
-holds-with p n k Living born h = h
-holds-with p n k Leaving born h = h
-holds-with p n k Left born h = h
-holds-with p n k Over born h = h
 
 -- ---- the entry
 
@@ -79,15 +72,7 @@ module _ (script : Script) (w : World) (b : Beside) (p : ℕ) (asked : Asked) (g
         stage = refl;
         leases = refl;
         leader = refl;
-        node = record {
-          number = node-was.number;
-          holds = holds-with p n k n.stage born node-was.holds;
-          birth = node-was.birth;
-          first = node-was.first;
-          others = node-was.others;
-          rows = node-was.rows;
-          owners = node-was.owners;
-        };
+        node = node-with script b.pids (is_born_in w) p n (record n { caller = k }) born node-was node-was.owners;
         keys = keys-kept (node_of w 1).leader.queue_keys (node_of w 1).leader.set_keys b.kernel l.next l.keys holds.keys;
         awaited = λ q to e. l.bodies (Proc q);
       }
