@@ -1,6 +1,6 @@
--- A node sends a call back to the leader that it was sent by the range of a number: its name has gone, and is known to the
--- leader, or the leader is told of it first.
-use Rattle.std.proofs.Common.{◌≡◌, ◌≢◌, ◌⊎◌, ℕ, ◌≤◌, Bool, true, false, ◌&&◌, if◌then◌else◌, List, [], ◌∷◌, ◌++◌, nat_eq, Option, Some, None, is_some, refl, ap, sym, subst, ◌∙◌, inl, inr, append-nil}
+-- A node sends a call back to the leader that it was sent by the range of a number: its name has gone, and is known
+-- to the leader, or the leader is told of it first.
+use Rattle.std.proofs.Common.{◌≡◌, ◌≢◌, ◌⊎◌, ℕ, ◌≤◌, Bool, true, false, ◌&&◌, if◌then◌else◌, List, [], ◌∷◌, ◌++◌, Option, Some, None, is_some, refl, ap, sym, subst, ◌∙◌, inl, inr, append-nil}
 use Rattle.std.proofs.lemmas.Bool.{cases_eq, eq-eqb, ne_eqb, false≢true}
 use Rattle.pico_base.specs.declared.call.Home.{Home}
 use Rattle.pico_base.specs.declared.numbers.Name.{Name}
@@ -11,7 +11,7 @@ use Rattle.rpc_frame.specs.declared.frame.Frame.{Frame}
 use Rattle.rpc_frame.specs.declared.frame.Frame.TheVariants as frames
 use Rattle.node_model.specs.declared.held.Held.TheVariants.{Request}
 use Rattle.node_model.specs.Kinds.{is_same_name}
-use Rattle.node_model.specs.Directory.{Place, maker, place_of}
+use Rattle.node_model.specs.Directory.{Place, maker}
 use Rattle.kernel_moves.specs.Entering.{is_used_name}
 use Rattle.world_model.specs.Calls.{is_on_name_or_removal}
 use Rattle.world_model.specs.Node.{Node}

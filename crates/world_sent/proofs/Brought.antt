@@ -1,5 +1,5 @@
 -- A node takes a frame with a call, of another node or of its own: in the middle of the event the call is in hand.
-use Rattle.std.proofs.Common.{◌≡◌, ◌≢◌, ◌⊎◌, ℕ, ◌≤◌, Bool, true, false, ◌&&◌, not, cond, if◌then◌else◌, List, [], ◌∷◌, ◌++◌, filter, flat_map, nat_eq, Contains, is_some, Some, refl, ap, sym, subst, ◌∙◌, inl, inr, arith}
+use Rattle.std.proofs.Common.{◌≡◌, ◌≢◌, ◌⊎◌, ℕ, ◌≤◌, Bool, true, false, ◌&&◌, not, cond, if◌then◌else◌, List, [], ◌∷◌, ◌++◌, filter, flat_map, nat_eq, is_some, Some, refl, ap, sym, subst, ◌∙◌, inl, inr}
 use Rattle.std.proofs.lemmas.Bool.{cases_eq, eq-eqb, ne_eqb, false≢true}
 use Rattle.std.proofs.lemmas.List.Elements.{Contains-push_cases}
 use Rattle.pico_base.specs.declared.call.Call.{Call}
@@ -274,7 +274,8 @@ module _ (script : Script) (w : World) (b : Beside) (holds : Holds script w [] b
 
   -- ---- names
 
-  steps-left : (m : Name) (y : ℕ) → plays calls-now m (brought-changes.left y 1) ≡ plays b.call m (brought-changes.left y 1)
+  steps-left : (m : Name) (y : ℕ)
+      → plays calls-now m (brought-changes.left y 1) ≡ plays b.call m (brought-changes.left y 1)
   steps-left m y =
       steps-still script w next [] hand b b.deed calls-now p n takes [] caller h.low h.high holds brought-changes move y
       (left-alone y 1) m
@@ -282,8 +283,8 @@ module _ (script : Script) (w : World) (b : Beside) (holds : Holds script w [] b
   ranges-left : (m : Name) (y : ℕ) → flat_map (range_steps_of calls-now m) (brought-changes.left y 1)
       ≡ flat_map (range_steps_of b.call m) (brought-changes.left y 1)
   ranges-left m y =
-      ranges-still script w next [] hand b b.deed calls-now p n takes [] caller h.low h.high holds brought-changes move y
-      (left-alone y 1) m
+      ranges-still script w next [] hand b b.deed calls-now p n takes [] caller h.low h.high holds brought-changes
+      move y (left-alone y 1) m
 
   -- A name that the frame isn't about keeps all that holds of it.
   pub name-not-brought : (m : Name) → concerns m frame ≡ false
@@ -365,8 +366,8 @@ module _ (script : Script) (w : World) (b : Beside) (holds : Holds script w [] b
   pub brought-keeps : ((m : Name) → NameHolds script b.pids (is_born_in next) m (name_sight script next hand moved m))
       → Holds script next hand moved
   brought-keeps names =
-      call-move-keeps script w next [] hand b b.deed calls-now p n takes [] caller h.low h.high holds brought-changes move
-      call-now names
+      call-move-keeps script w next [] hand b b.deed calls-now p n takes [] caller h.low h.high holds brought-changes
+      move call-now names
       (λ kind. kind-stays (is_born_in w) (is_born_in next) _ _ more
       (kind-left-alone script p w next n takes [] [] brought-changes b.kernel b.kernel kind (λ number. refl) refl
       (ap (λ (d : Directory). for_kind d.ranges kind) brought-directory) (u.brings_no_lease kind, tt) tt)

@@ -1,6 +1,6 @@
--- A node other than the leader takes a Forward: its call is in hand. Sent by the name's place it finds the deed there; sent
--- by the range of the name's number it is at who has that range.
-use Rattle.std.proofs.Common.{◌≡◌, ◌≢◌, ◌⊎◌, ℕ, ◌≤◌, Bool, true, false, ◌&&◌, cond, List, [], ◌∷◌, ◌++◌, filter, flat_map, nat_eq, Some, refl, ap, sym, subst, ◌∙◌, inl, inr, arith, append-nil}
+-- A node other than the leader takes a Forward: its call is in hand. Sent by the name's place it finds the deed
+-- there; sent by the range of the name's number it is at who has that range.
+use Rattle.std.proofs.Common.{◌≡◌, ◌≢◌, ℕ, ◌≤◌, Bool, true, false, ◌&&◌, cond, List, [], ◌∷◌, ◌++◌, filter, flat_map, nat_eq, Some, refl, ap, sym, subst, ◌∙◌, inl, inr, arith, append-nil}
 use Rattle.std.proofs.lemmas.Bool.{eq-eqb, ne_eqb, false≢true}
 use Rattle.pico_base.specs.declared.call.Call.{Call}
 use Rattle.pico_base.specs.declared.call.Home.{Home}
@@ -16,12 +16,11 @@ use Rattle.kernel_model.specs.Waiting.{is_waiting}
 use Rattle.node_model.specs.declared.held.Held.TheVariants.{Request}
 use Rattle.node_model.specs.Directory.{maker}
 use Rattle.world_model.specs.Calls.{is_for_others, is_on_name, is_on_name_or_removal}
-use Rattle.world_model.specs.Node.{Node}
 use Rattle.world_model.specs.World.{World, node_count}
-use Rattle.world_laws.specs.Places.{CallPlace, InTable, IsInHand, Beside, call_in}
+use Rattle.world_laws.specs.Places.{InTable, IsInHand, Beside, call_in}
 use Rattle.world_laws.specs.Sights.{node_of, directory_of, frames_to, is_born_in}
-use Rattle.world_laws.specs.Plays.{Has, IsNeeded, PlayStep, is_call_on, is_sent_by_place, plays, steps_if}
-use Rattle.world_laws.specs.Names.{IsSentThere, NameHolds, NameSight, RangeStep, is_sent_by_range, leases_first, name_sight, range_steps_if, range_steps_of}
+use Rattle.world_laws.specs.Plays.{IsNeeded, PlayStep, is_call_on, is_sent_by_place, plays, steps_if}
+use Rattle.world_laws.specs.Names.{IsSentThere, NameHolds, RangeStep, is_sent_by_range, leases_first, name_sight, range_steps_if, range_steps_of}
 use Rattle.world_laws.specs.Callers.{CallHolds, CallSight, HasCall, IsJustThere, IsSoFar, IsToBeMade, asked_of, call_sight, frame_at, is_about, is_end_place, is_held_at, is_in_stream, may_be_in, only_if}
 use Rattle.world_laws.specs.Invariant.{Holds}
 use Rattle.world_laws.specs.Ranges.{has_lease}

@@ -1,6 +1,6 @@
--- A node other than the leader takes a call that the leader sent it: it serves the call where it holds the name, refuses it
--- where nothing has the number, and else sends it back.
-use Rattle.std.proofs.Common.{◌≡◌, ◌≢◌, ℕ, ◌≤◌, Bool, true, false, ◌&&◌, not, if◌then◌else◌, List, [], ◌∷◌, length, nat_eq, nat_le, Option, Some, None, is_some, refl, ap, sym, subst, ◌∙◌, inl, inr, arith}
+-- A node other than the leader takes a call that the leader sent it: it serves the call where it holds the name,
+-- refuses it where nothing has the number, and else sends it back.
+use Rattle.std.proofs.Common.{◌≡◌, ◌≢◌, ℕ, ◌≤◌, Bool, true, false, ◌&&◌, not, if◌then◌else◌, List, [], ◌∷◌, length, nat_le, Option, Some, None, is_some, refl, ap, sym, subst, ◌∙◌, inl, inr, arith}
 use Rattle.std.proofs.lemmas.Bool.{le-leb, ne_eqb, false≢true}
 use Rattle.pico_base.specs.declared.call.Home.{Home}
 use Rattle.pico_base.specs.declared.call.Home.TheVariants as homes
@@ -14,14 +14,14 @@ use Rattle.rpc_frame.specs.declared.frame.Frame.{Frame}
 use Rattle.rpc_frame.specs.declared.frame.Frame.TheVariants as frames
 use Rattle.kernel_model.specs.Waiting.{is_waiting}
 use Rattle.kernel_moves.specs.Entering.{is_used_name}
-use Rattle.kernel_moves.proofs.Fresh.{LeavesAll, nobody}
+use Rattle.kernel_moves.proofs.Fresh.{nobody}
 use Rattle.node_model.specs.Bodies.{body_in}
 use Rattle.node_model.specs.Carrying.{is_served}
 use Rattle.node_model.specs.Directory.{maker}
 use Rattle.node_model.specs.declared.held.Held.TheVariants.{Request}
 use Rattle.node_model.specs.Leases.{leases_hold}
 use Rattle.node_model.specs.Serving.{no_such_name}
-use Rattle.world_model.specs.Calls.{bounce, bounce_or_nobody, forwarded_by, is_from_leader, take_forward}
+use Rattle.world_model.specs.Calls.{bounce, bounce_or_nobody, forwarded_by, take_forward}
 use Rattle.world_model.specs.Node.{Node, holds as holds_deed, is_born, is_leader, is_node}
 use Rattle.world_model.specs.Serving.{serve_asked, serve_nobody}
 use Rattle.world_model.specs.Step.{Step, step_to}
@@ -197,7 +197,8 @@ module _ (script : Script) (w : World) (b : Beside) (holds : Holds script w [] b
             holds = record {
               beside = record moved { call = call_in moved.call asked.caller (InBounce p) };
               holds = bounced-keeps script middle moved p asked g other name on.on used
-                  (ap (λ (m : Node). maker m.leader.directory name) (nodes-same 1) ∙ made) (world_after v p (bounce n asked)) changes;
+                  (ap (λ (m : Node). maker m.leader.directory name) (nodes-same 1) ∙ made)
+                  (world_after v p (bounce n asked)) changes;
             };
           }
         where
@@ -213,7 +214,8 @@ module _ (script : Script) (w : World) (b : Beside) (holds : Holds script w [] b
               middle-holds.shape h.low h.high (record { low = omega arith; high = high-one }, tt)
               (record { sends_are = refl; entries_are = refl }))
 
-      refuses-it : is_used_name b.kernel name ≡ false → EndsIn script v p (Some (serve_nobody script (step_to n) name asked))
+      refuses-it : is_used_name b.kernel name ≡ false
+          → EndsIn script v p (Some (serve_nobody script (step_to n) name asked))
       refuses-it unused =
           refuses script v p n moved asked g born-still (replies.Fail (no_such_name name))
           (nobody b.kernel asked.pid asked.call name

@@ -1,33 +1,25 @@
 -- A call in hand is carried out at a node for another one: the reply is on its way in an Answer.
-use Rattle.std.proofs.Common.{◌≡◌, ◌≢◌, ℕ, ◌≤◌, Bool, true, false, ◌&&◌, cond, if◌then◌else◌, List, [], ◌∷◌, ◌++◌, filter, nat_eq, slice_get, Option, Some, None, refl, ap, sym, subst, ◌∙◌, arith, append-nil}
-use Rattle.std.proofs.lemmas.Bool.{eq-eqb, ne_eqb, false≢true}
+use Rattle.std.proofs.Common.{◌≡◌, ◌≢◌, ℕ, Bool, true, false, ◌&&◌, cond, if◌then◌else◌, List, [], ◌∷◌, ◌++◌, filter, nat_eq, Some, refl, ap, sym, subst, ◌∙◌}
+use Rattle.std.proofs.lemmas.Bool.{eq-eqb, ne_eqb}
 use Rattle.pico_base.specs.declared.call.Call.{Call}
-use Rattle.pico_base.specs.declared.numbers.Name.{Name}
-use Rattle.pico_base.specs.declared.reply.Entry.{Entry}
 use Rattle.pico_base.specs.declared.reply.Reply.{Reply}
-use Rattle.pico_base.specs.declared.script.Line.{Line}
 use Rattle.pico_base.specs.declared.script.Script.{Script}
 use Rattle.pico_base.specs.Home.{home_of}
 use Rattle.rpc_frame.specs.declared.asked.Asked.{Asked}
 use Rattle.rpc_frame.specs.declared.frame.Frame.{Frame}
 use Rattle.rpc_frame.specs.declared.frame.Frame.TheVariants as frames
-use Rattle.kernel_model.specs.Row.{Alive}
 use Rattle.kernel_model.specs.Fitting.{Place, place_after, places_after}
-use Rattle.node_model.specs.declared.held.Held.{Held}
 use Rattle.node_model.specs.declared.held.Held.TheVariants.{Request}
-use Rattle.node_model.specs.Caller.{Caller, answer_call, caller_place, lines_of}
+use Rattle.node_model.specs.Caller.{Caller, caller_place}
 use Rattle.world_model.specs.Calls.{is_for_others}
-use Rattle.world_model.specs.Node.{Node, Stage, Unborn, Living, Leaving, Left, Over}
-use Rattle.world_model.specs.World.{World, node_count}
+use Rattle.world_model.specs.Node.{Node}
+use Rattle.world_model.specs.World.{World}
 use Rattle.kernel_moves.specs.Entering.{entry_of}
-use Rattle.world_laws.specs.Places.{CallPlace, Idle, InAnswer, Beside, call_in}
-use Rattle.world_laws.specs.Sights.{node_of, is_born_in, stage_of}
-use Rattle.world_laws.specs.Callers.{CallSight, call_sight, CallHolds, FreeIn, HasCall, HasCallOrNone, IsFree, IsToBeMade, asked_of, only_if, is_about, is_at_work, is_end_stage, tries_made}
-use Rattle.world_laws.specs.Ways.{under_way_of}
-use Rattle.world_laws.specs.Invariant.{Holds}
+use Rattle.world_laws.specs.Places.{InAnswer, Beside, call_in}
+use Rattle.world_laws.specs.Sights.{node_of, is_born_in}
+use Rattle.world_laws.specs.Callers.{CallSight, call_sight, CallHolds, HasCall, HasCallOrNone, IsToBeMade, asked_of, only_if, is_about}
 use Rattle.world_laws.proofs.Changes.{Changes, filter-is-list-map, frames_if, made-after, sent}
 use Rattle.world_laws.proofs.LeftAlone.{SameCaller}
-use Rattle.world_laws.proofs.Lines.{IsAnswered, answered, due-at-line}
 use Rattle.world_laws.proofs.Sends.{frame_if}
 use Rattle.world_laws.proofs.Stays.{SameCall, call-stays}
 use Rattle.world_own.proofs.Entries.{EntryLeaves}
@@ -155,7 +147,8 @@ module _ (script : Script) (w : World) (b : Beside) (p : ℕ) (asked : Asked) (g
                 ∙ ap (λ fs. fs ++ filter (is_about caller to sender) (sent p answers to sender))
                 (none-left script w b p asked g node e (InAnswer p e.reply) n answers a in-answer w' c to sender)
                 ∙ sent-answer caller to sender asked.ticket e.reply (nat_eq to caller) (nat_eq sender p) refl);
-            held = λ name. sym (none-held script w b p asked g node e (InAnswer p e.reply) n answers a in-answer w' c name);
+            held = λ name. sym (none-held script w b p asked g node e (InAnswer p e.reply) n answers a in-answer w' c
+                name);
             hand = refl;
           }
 

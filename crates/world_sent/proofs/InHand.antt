@@ -1,5 +1,5 @@
 -- In the middle of an event of a node a call is in hand: what is known of it.
-use Rattle.std.proofs.Common.{◌≡◌, ℕ, ◌≤◌, false, [], ◌∷◌, refl, ap, sym, subst, ◌∙◌}
+use Rattle.std.proofs.Common.{◌≡◌, ℕ, ◌≤◌, false, [], ◌∷◌, ap, sym, subst, ◌∙◌}
 use Rattle.pico_base.specs.declared.script.Script.{Script}
 use Rattle.rpc_frame.specs.declared.asked.Asked.{Asked}
 use Rattle.node_model.specs.declared.held.Held.TheVariants.{Request}

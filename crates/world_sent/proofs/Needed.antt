@@ -1,14 +1,11 @@
--- A Forward at the head of the leader's stream to a node, for the name that its call is on: sent by the name's place it
--- finds the deed there; sent by the range of the number it is at the maker, and no such numbers stand behind it.
-use Rattle.std.proofs.Common.{◌≡◌, ◌≢◌, ℕ, ◌≤◌, Bool, true, false, ◌&&◌, cond, List, [], ◌∷◌, ◌++◌, flat_map, nat_eq, Contains, Some, refl, ap, sym, subst, ◌∙◌, inl, inr}
+-- A Forward at the head of the leader's stream to a node, for the name that its call is on: sent by the name's place
+-- it finds the deed there; sent by the range of the number it is at the maker, and no such numbers stand behind it.
+use Rattle.std.proofs.Common.{◌≡◌, ◌≢◌, ℕ, ◌≤◌, Bool, true, false, List, [], ◌∷◌, ◌++◌, Contains, Some, refl, ap, sym, subst, ◌∙◌, inl, inr}
 use Rattle.std.proofs.lemmas.Bool.{cases_eq, false≢true}
 use Rattle.std.proofs.lemmas.List.Elements.{Contains-append_left, Contains-append_right, Contains-push}
 use Rattle.pico_base.specs.declared.numbers.Name.{Name}
 use Rattle.pico_base.specs.declared.script.Script.{Script}
-use Rattle.rpc_frame.specs.declared.asked.Asked.{Asked}
-use Rattle.rpc_frame.specs.declared.frame.Frame.{Frame}
-use Rattle.rpc_frame.specs.declared.frame.Frame.TheVariants as frames
-use Rattle.world_laws.specs.Plays.{Hold, Has, PlayStep, IsNeeded, play, steps_if}
+use Rattle.world_laws.specs.Plays.{Has, PlayStep, IsNeeded, play, steps_if}
 use Rattle.world_laws.specs.Names.{NameHolds, NameSight, PlaysTo, RangeStep, IsLeased, IsSentThere, belief_of, leases_first, range_steps_if}
 use Rattle.world_laws.specs.Plays.{is_there}
 use Rattle.world_laws.proofs.NameFacts.{play-needs}
@@ -102,7 +99,8 @@ module _ (script : Script) (pids : ℕ → ℕ) (born : ℕ → Bool) (name : Na
   pub sent-to-maker : sent ≡ true → x.maker ≡ Some p
   sent-to-maker e =
       h.ranged p
-      (subst (λ rs. Contains rs IsSentThere) (sym (head.ranges_here ∙ ap (λ t. range_steps_if t IsSentThere ++ ranges p) e))
+      (subst (λ rs. Contains rs IsSentThere)
+      (sym (head.ranges_here ∙ ap (λ t. range_steps_if t IsSentThere ++ ranges p) e))
       (first-there (ranges p)))
     where
       first-there : (rs : List RangeStep) → Contains (IsSentThere ∷ rs) IsSentThere

@@ -1,5 +1,5 @@
--- No Checkpoint of a name is on its way to a node that is born: a play at it begins with the deed exactly where the node
--- holds that.
+-- No Checkpoint of a name is on its way to a node that is born: a play at it begins with the deed exactly where the
+-- node holds that.
 use Rattle.std.proofs.Common.{◌≡◌, ◌≢◌, ℕ, Bool, true, false, ◌&&◌, ◌||◌, not, cond, List, [], ◌∷◌, filter, nat_eq, Option, Some, None, is_some, refl, ap, sym, subst, ◌∙◌}
 use Rattle.std.specs.List.{AllByRecursion}
 use Rattle.std.proofs.lemmas.Bool.{eqb-true, false≢true}
@@ -23,7 +23,7 @@ use Rattle.world_model.specs.Node.{Stage, Unborn}
 use Rattle.world_model.specs.World.{World}
 use Rattle.world_laws.specs.Places.{DeedPlace, Unmade, InTable, InCheckpoint, InGrant, InGiveBack, InLeft, InKept, InHand, InExitTo, Beside}
 use Rattle.world_laws.specs.Sights.{frames_to, is_born_in, is_born_stage, stage_of}
-use Rattle.world_laws.specs.Plays.{Has, begin, brings_checkpoint, has_any, is_checkpoint_of}
+use Rattle.world_laws.specs.Plays.{Has, has_any, is_checkpoint_of}
 use Rattle.world_laws.specs.Names.{IsBringer, NameHolds, NameSight, OneIf, comes_to, forker, held_at, is_stream_of, may_be_at, name_sight}
 use Rattle.world_laws.specs.Families.{FamilyHolds, IsAwaited, IsWhereFor, checkpoints_to}
 use Rattle.world_laws.specs.Invariant.{Holds, process_deed}

@@ -1,10 +1,9 @@
--- A node other than the leader is told that the node that it asked doesn't own the name of its call: it asks the leader.
-use Rattle.std.proofs.Common.{◌≡◌, ◌≢◌, ℕ, ◌≤◌, Bool, true, false, ◌&&◌, not, cond, if◌then◌else◌, List, [], ◌∷◌, filter, nat_eq, Contains, Option, Some, None, option_and_then, refl, ap, sym, subst, ◌∙◌, All, arith}
-use Rattle.std.proofs.lemmas.Bool.{eq-eqb, ne_eqb, false≢true}
+-- A node other than the leader is told that the node that it asked doesn't own the name of its call: it asks the
+-- leader.
+use Rattle.std.proofs.Common.{◌≡◌, ◌≢◌, ℕ, true, false, ◌&&◌, not, cond, if◌then◌else◌, List, [], ◌∷◌, filter, nat_eq, Contains, Some, None, option_and_then, refl, ap, sym, subst, ◌∙◌, All, arith}
+use Rattle.std.proofs.lemmas.Bool.{eq-eqb, ne_eqb}
 use Rattle.std.proofs.lemmas.List.Elements.{All-contains, All-contains_itself, All-filter, All-weaker}
 use Rattle.pico_base.specs.declared.call.Call.{Call}
-use Rattle.pico_base.specs.declared.call.Home.{Home}
-use Rattle.pico_base.specs.declared.call.Home.TheVariants as homes
 use Rattle.pico_base.specs.declared.numbers.Name.{Name}
 use Rattle.pico_base.specs.declared.script.Script.{Script}
 use Rattle.pico_base.specs.Home.{home_of}
@@ -12,18 +11,18 @@ use Rattle.rpc_frame.specs.declared.asked.Asked.{Asked}
 use Rattle.rpc_frame.specs.declared.frame.Frame.{Frame}
 use Rattle.rpc_frame.specs.declared.frame.Frame.TheVariants as frames
 use Rattle.node_model.specs.declared.held.Held.TheVariants.{Request}
-use Rattle.node_model.specs.Cache.{Cache, forget}
+use Rattle.node_model.specs.Cache.{forget}
 use Rattle.node_model.specs.Kinds.{is_same_name}
 use Rattle.world_model.specs.Calls.{ask_after, is_on_name, take_not_owner, with_forgotten}
-use Rattle.world_model.specs.Node.{Node, Stage, Unborn, Living, Leaving, Left, Over, asked_here, is_leader, under_way_as}
+use Rattle.world_model.specs.Node.{Node, asked_here, under_way_as}
 use Rattle.world_model.specs.Routing.{route_call}
 use Rattle.world_model.specs.Step.{Step, send, step_to}
-use Rattle.world_model.specs.World.{World, node_count, world_after}
-use Rattle.world_laws.specs.Places.{InAsk, InNotOwner, IsInHand, Beside, call_in}
+use Rattle.world_model.specs.World.{World, world_after}
+use Rattle.world_laws.specs.Places.{InAsk, IsInHand, Beside, call_in}
 use Rattle.world_laws.specs.Sights.{node_of, is_born_in, is_born_stage}
 use Rattle.world_laws.specs.Callers.{CallHolds, CallSight, HasCall, IsJustThere, IsSoFar, IsToBeMade, asked_of, call_sight, frame_at, is_about, is_end_place, is_held_at, is_in_stream, may_be_in, only_if}
-use Rattle.world_laws.specs.Families.{HoldsIn, NodeHolds}
-use Rattle.world_laws.specs.Invariant.{HasInvariant, Holds}
+use Rattle.world_laws.specs.Families.{NodeHolds}
+use Rattle.world_laws.specs.Invariant.{Holds}
 use Rattle.world_laws.specs.Ranges.{has_lease}
 use Rattle.world_laws.proofs.Changes.{Changes}
 use Rattle.world_laws.proofs.Heads.{head-is}
@@ -38,7 +37,7 @@ use Rattle.world_sent.proofs.InHand.{HasInHand}
 use Rattle.world_sent.proofs.Requests.{IsAtName, at-name, for-others}
 use Rattle.world_sent.proofs.SameNodes.{node-with}
 use Rattle.world_sent.proofs.Sent.{GoesOn, name-not-sent, sent-keeps}
-use Rattle.world_sent.proofs.ServeSteps.{EndsIn, node-here}
+use Rattle.world_sent.proofs.ServeSteps.{node-here}
 
 module _ (script : Script) (w : World) (b : Beside) (holds : Holds script w [] b) (p q ticket : ℕ)
     (rest : List Frame) (h : Heads script w p q (frames.NotOwner ticket) rest) (other : p ≢ 1) where

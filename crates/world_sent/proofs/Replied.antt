@@ -1,58 +1,49 @@
 -- A call in hand is carried out at a node: the entry is made, and the reply is on its way to its caller, or ends the
 -- node's own call at once.
-use Rattle.std.proofs.Common.{◌≡◌, ◌≢◌, ℕ, ◌≤◌, Bool, true, false, ◌&&◌, cond, if◌then◌else◌, List, [], ◌∷◌, ◌++◌, filter, flat_map, nat_eq, Option, Some, None, refl, ap, sym, subst, ◌∙◌, inl, inr, arith}
-use Rattle.std.proofs.lemmas.Bool.{cases_eq, eq-eqb, ne_eqb, false≢true}
+use Rattle.std.proofs.Common.{◌≡◌, ◌≢◌, ℕ, false, cond, if◌then◌else◌, List, [], ◌∷◌, filter, flat_map, Some, None, refl, ap, sym, subst, ◌∙◌, inl, inr}
+use Rattle.std.proofs.lemmas.Bool.{cases_eq, eq-eqb, ne_eqb}
 use Rattle.std.proofs.lemmas.List.Elements.{Contains-append_right}
 use Rattle.std.specs.List.{AllByRecursion}
-use Rattle.pico_base.specs.declared.call.Call.{Call}
 use Rattle.pico_base.specs.declared.numbers.Kind.{Kind}
 use Rattle.pico_base.specs.declared.numbers.Name.{Name}
 use Rattle.pico_base.specs.declared.numbers.Name.TheVariants.{Proc}
 use Rattle.pico_base.specs.declared.reply.Entry.{Entry}
 use Rattle.pico_base.specs.declared.reply.Reply.{Reply}
 use Rattle.pico_base.specs.declared.script.Script.{Script}
-use Rattle.pico_base.specs.Home.{home_of}
 use Rattle.rpc_frame.specs.declared.asked.Asked.{Asked}
 use Rattle.rpc_frame.specs.declared.frame.Frame.{Frame}
-use Rattle.rpc_frame.specs.declared.frame.Frame.TheVariants as frames
 use Rattle.number_maps.specs.Maps.{get, is_used}
 use Rattle.kernel_model.specs.Kernel.{Kernel}
-use Rattle.kernel_model.specs.Row.{Alive}
 use Rattle.kernel_model.specs.Fitting.{Place, Places, place_after, places_after}
 use Rattle.node_model.specs.declared.held.Held.{Held}
 use Rattle.node_model.specs.declared.held.Held.TheVariants.{Request, Ending}
 use Rattle.node_model.specs.Kinds.{for_kind, get_named}
 use Rattle.node_model.specs.Directory.{Directory, held_for}
 use Rattle.node_model.specs.Bodies.{body_in}
-use Rattle.node_model.specs.Caller.{Caller, answer_call, caller_place}
-use Rattle.node_model.specs.Leases.{Leases}
-use Rattle.world_model.specs.Calls.{is_for_others}
-use Rattle.world_model.specs.Node.{Node, Stage, Unborn, Living, Leaving, Left, Over, Leader}
-use Rattle.world_model.specs.World.{World, node_count}
+use Rattle.node_model.specs.Caller.{Caller, caller_place}
+use Rattle.world_model.specs.Node.{Node, Left, Leader}
+use Rattle.world_model.specs.World.{World}
 use Rattle.kernel_moves.specs.Entering.{Enters, HasHistory, entry_of, is_used_name}
 use Rattle.kernel_moves.proofs.History.{history-goes-on, moved-is, place-moves}
 use Rattle.kernel_moves.proofs.Numbers.{used-kept}
-use Rattle.world_laws.specs.Places.{CallPlace, Idle, InTable, InCheckpoint, InAnswer, Beside, call_in}
-use Rattle.world_laws.specs.Sights.{node_of, directory_of, frames_to, stage_of, is_born_in}
+use Rattle.world_laws.specs.Places.{CallPlace, InTable, InCheckpoint, Beside, call_in}
+use Rattle.world_laws.specs.Sights.{node_of, directory_of, stage_of, is_born_in}
 use Rattle.world_laws.specs.Plays.{plays, begin}
 use Rattle.world_laws.specs.Names.{NameHolds, name_sight, held_at, range_steps_of}
-use Rattle.world_laws.specs.Callers.{CallSight, call_sight, CallHolds, FreeIn, HasCall, HasCallOrNone, IsFree, IsToBeMade, IsSoFar, asked_of, only_if, is_about, is_item_about, is_at_work, is_end_place, is_end_stage, tries_made}
+use Rattle.world_laws.specs.Callers.{CallSight, call_sight, CallHolds, is_about, is_item_about}
 use Rattle.world_laws.specs.Ranges.{has_lease, KeysHold}
 use Rattle.world_laws.specs.Ways.{under_way_of}
 use Rattle.world_laws.specs.Families.{NodeHolds}
 use Rattle.world_laws.specs.Invariant.{Holds, MayBe}
-use Rattle.world_laws.proofs.Changes.{Changes, filter-is-list-map, made-after, only-stayed, read-same, sent, stayed}
+use Rattle.world_laws.proofs.Changes.{Changes, filter-is-list-map, read-same, stayed}
 use Rattle.world_laws.proofs.Frames.{ArePlain, BringNoBirth, BringNoLease}
 use Rattle.world_laws.proofs.LeftAlone.{AreNotAbout, SameCaller, kind-left-alone, name-left-alone, same-directory}
-use Rattle.world_laws.proofs.Lines.{IsAnswered, answered, due-at-line}
-use Rattle.world_laws.proofs.Sends.{frame_if}
-use Rattle.world_laws.proofs.Changes.{frames_if}
-use Rattle.world_laws.proofs.Stays.{IsMore, SameCall, call-stays, kind-stays, name-stays}
+use Rattle.world_laws.proofs.Stays.{IsMore, kind-stays, name-stays}
 use Rattle.world_rules.proofs.CallMoves.{same-but-call}
 use Rattle.world_own.proofs.Entries.{EntryLeaves}
 use Rattle.world_own.proofs.EntryMoves.{IsEntryMove, entry-born, entry-keeps, few-after, ranges-still, steps-still}
 use Rattle.world_own.proofs.Rebodied.{name-rebodied, name-seen-rebodied}
-use Rattle.world_hand.proofs.Answering.{IsPlainCall, answered_at, caller-born, caller-forked, due-in-hand, has-history, pid-in-hand, place-in-hand}
+use Rattle.world_hand.proofs.Answering.{IsPlainCall, caller-born, caller-forked, due-in-hand, has-history, pid-in-hand, place-in-hand}
 use Rattle.world_hand.proofs.HandMoves.{held-for-none, in-no-stream}
 use Rattle.world_sent.proofs.InHand.{HasInHand, in-hand}
 
@@ -201,7 +192,8 @@ module _ (script : Script) (w : World) (b : Beside) (p : ℕ) (asked : Asked) (g
       ∙ held-for-none script w asked [] b holds g.low g.high name
 
   -- where its process is in the history
-  pub place-now : get places-now (b.pids caller) ≡ Some (place_after was (in-hand script w b p asked g).call (Some e.reply))
+  pub place-now : get places-now (b.pids caller)
+      ≡ Some (place_after was (in-hand script w b p asked g).call (Some e.reply))
   place-now =
       let plain : IsPlainCall asked.call = e.plain
       in ap (get places-now) (sym (pid-in-hand script w asked [] b holds g.low g.high))
@@ -215,7 +207,8 @@ module _ (script : Script) (w : World) (b : Beside) (p : ℕ) (asked : Asked) (g
         | inl same ↦
             ap (λ t. has_lease kind (if t then place else b.call q)) (eq-eqb caller q same)
             ∙ r.no_lease_place kind
-            ∙ sym (subst (λ z. has_lease kind (b.call z) ≡ false) same (ap (has_lease kind) (in-hand script w b p asked g).place_is))
+            ∙ sym (subst (λ z. has_lease kind (b.call z) ≡ false) same
+            (ap (has_lease kind) (in-hand script w b p asked g).place_is))
         | inr d ↦ ap (λ t. has_lease kind (if t then place else b.call q)) (ne_eqb caller q d)
       ]
 

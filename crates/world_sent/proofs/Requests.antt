@@ -1,6 +1,6 @@
--- A node takes a call that another node sent it as the owner of its name: it serves the call where it holds the name, and
--- else tells the caller that it doesn't own it.
-use Rattle.std.proofs.Common.{◌≡◌, ◌≢◌, ℕ, ◌≤◌, Bool, true, false, ◌&&◌, not, cond, if◌then◌else◌, List, [], ◌∷◌, filter, nat_eq, Option, Some, None, is_some, refl, ap, sym, subst, ◌∙◌, inl, inr, arith, Contains}
+-- A node takes a call that another node sent it as the owner of its name: it serves the call where it holds the name,
+-- and else tells the caller that it doesn't own it.
+use Rattle.std.proofs.Common.{◌≡◌, ◌≢◌, ℕ, Bool, true, false, ◌&&◌, not, cond, if◌then◌else◌, List, [], ◌∷◌, filter, nat_eq, Option, Some, None, is_some, refl, ap, sym, subst, ◌∙◌, inl, inr, arith, Contains}
 use Rattle.std.proofs.lemmas.Bool.{cases_eq, eqb-true, eq-eqb, ne_eqb, false≢true}
 use Rattle.std.proofs.lemmas.List.Elements.{Contains-append_left, Contains-push}
 use Rattle.pico_base.specs.declared.call.Call.{Call}
@@ -15,20 +15,19 @@ use Rattle.rpc_frame.specs.declared.frame.Frame.TheVariants as frames
 use Rattle.kernel_model.specs.Waiting.{is_waiting}
 use Rattle.node_model.specs.declared.held.Held.{Held}
 use Rattle.node_model.specs.declared.held.Held.TheVariants.{Request}
-use Rattle.node_model.specs.Carrying.{is_served}
 use Rattle.node_model.specs.Directory.{Place, At, Coming, place_of}
 use Rattle.world_model.specs.Calls.{is_for_others, is_on_name, requested_by, take_request}
 use Rattle.world_model.specs.Node.{Node, Stage, Unborn, Living, Leaving, Left, Over, holds as holds_deed, is_born, is_unborn}
 use Rattle.world_model.specs.Serving.{serve_asked}
 use Rattle.world_model.specs.Step.{Step, send, step_to}
-use Rattle.world_model.specs.World.{World, node_count, world_after}
-use Rattle.world_laws.specs.Places.{InNotOwner, InRequest, InTable, IsInHand, Beside, call_in}
+use Rattle.world_model.specs.World.{World, world_after}
+use Rattle.world_laws.specs.Places.{InNotOwner, InTable, IsInHand, Beside, call_in}
 use Rattle.world_laws.specs.Sights.{node_of, directory_of, is_born_in, is_born_stage}
 use Rattle.world_laws.specs.Plays.{believed, is_there}
 use Rattle.world_laws.specs.Names.{NameHolds, NameSight, held_as, maker_tells, name_sight}
-use Rattle.world_laws.specs.Callers.{CallHolds, CallSight, HasCall, IsBetween, IsJustThere, IsSoFar, IsToBeMade, asked_of, call_sight, frame_at, is_about, is_end_place, is_held_at, is_in_stream, may_be_in, only_if}
+use Rattle.world_laws.specs.Callers.{CallHolds, CallSight, HasCall, IsJustThere, IsSoFar, IsToBeMade, asked_of, call_sight, frame_at, is_about, is_end_place, is_held_at, is_in_stream, may_be_in, only_if}
 use Rattle.world_laws.specs.Families.{NodeHolds}
-use Rattle.world_laws.specs.Invariant.{HasInvariant, Holds, MayBe}
+use Rattle.world_laws.specs.Invariant.{Holds}
 use Rattle.world_laws.specs.Ranges.{has_lease}
 use Rattle.world_laws.proofs.Changes.{Changes}
 use Rattle.world_laws.proofs.Heads.{head-from-another, head-is, head-may-be}

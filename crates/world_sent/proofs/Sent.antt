@@ -1,6 +1,6 @@
--- A call in hand at a node goes on in a frame, and isn't carried out: it comes back to the leader, its caller is told that
--- the node isn't the owner, or the leader is asked.
-use Rattle.std.proofs.Common.{◌≡◌, ◌≢◌, ℕ, ◌≤◌, Bool, true, false, ◌&&◌, not, cond, if◌then◌else◌, List, [], ◌∷◌, ◌++◌, filter, flat_map, nat_eq, Option, Some, None, is_some, refl, ap, sym, subst, ◌∙◌, inl, inr, append-nil}
+-- A call in hand at a node goes on in a frame, and isn't carried out: it comes back to the leader, its caller is told
+-- that the node isn't the owner, or the leader is asked.
+use Rattle.std.proofs.Common.{◌≡◌, ◌≢◌, ℕ, ◌≤◌, Bool, true, false, ◌&&◌, not, cond, if◌then◌else◌, List, [], ◌∷◌, ◌++◌, filter, flat_map, nat_eq, is_some, refl, ap, sym, subst, ◌∙◌, inl, inr}
 use Rattle.std.proofs.lemmas.Bool.{cases_eq, eq-eqb, eqb-true, ne_eqb, false≢true}
 use Rattle.std.proofs.lemmas.List.Elements.{Contains-append_right}
 use Rattle.pico_base.specs.declared.call.Call.{Call}
@@ -19,11 +19,11 @@ use Rattle.node_model.specs.Directory.{Directory, held_for, is_parcel_with, make
 use Rattle.node_model.specs.Leases.{Leases}
 use Rattle.world_model.specs.Census.{brings}
 use Rattle.world_model.specs.Node.{Node, Leader}
-use Rattle.world_model.specs.World.{World, node_count}
+use Rattle.world_model.specs.World.{World}
 use Rattle.kernel_moves.specs.Entering.{is_used_name}
 use Rattle.world_laws.specs.Places.{CallPlace, InAsk, InBounce, InNotOwner, Beside, call_in}
 use Rattle.world_laws.specs.Sights.{node_of, frames_to, directory_of, stage_of, is_born_in}
-use Rattle.world_laws.specs.Plays.{News, NeedsPlace, begin, finds_place, has_any, is_checkpoint_of, news, news_if, placed_in, plays}
+use Rattle.world_laws.specs.Plays.{begin, finds_place, has_any, is_checkpoint_of, news, placed_in, plays}
 use Rattle.world_laws.specs.Names.{NameHolds, NameSight, comes_to, forker, held_at, is_maker, name_sight, range_steps_of}
 use Rattle.world_laws.specs.Callers.{CallHolds, CallSight, HasCall, HasCallOrNone, IsBetween, IsSoFar, IsToBeMade, asked_of, call_sight, frame_at, is_about, is_end_place, is_held_at, is_in_hand, is_in_stream, is_item_about, lease_is_over, may_be_in, only_if}
 use Rattle.world_laws.specs.Families.{NodeHolds, is_checkpoint_frame}

@@ -1,8 +1,7 @@
--- A node serves a call in hand on a name that it holds, as a step: the entry and the reply, and where the call has read,
--- that is noted.
-use Rattle.std.proofs.Common.{◌≡◌, ◌≢◌, ℕ, ◌≤◌, Bool, true, false, if◌then◌else◌, List, [], ◌∷◌, nat_eq, Option, Some, None, option_map, refl, ap, sym, subst, ◌∙◌, inl, inr, arith}
+-- A node serves a call in hand on a name that it holds, as a step: the entry and the reply, and where the call has
+-- read, that is noted.
+use Rattle.std.proofs.Common.{◌≡◌, ◌≢◌, ℕ, ◌≤◌, Bool, true, false, if◌then◌else◌, [], ◌∷◌, Option, Some, None, option_map, refl, ap, sym, subst, ◌∙◌, inl, inr, arith}
 use Rattle.std.proofs.lemmas.Bool.{cases_eq, eq-eqb, ne_eqb}
-use Rattle.pico_base.specs.declared.call.Call.{Call}
 use Rattle.pico_base.specs.declared.call.Home.TheVariants as homes
 use Rattle.pico_base.specs.declared.numbers.Name.{Name}
 use Rattle.pico_base.specs.declared.reply.Entry.{Entry}
@@ -10,7 +9,6 @@ use Rattle.pico_base.specs.declared.reply.Reply.{Reply}
 use Rattle.pico_base.specs.declared.script.Script.{Script}
 use Rattle.pico_base.specs.Home.{home_of}
 use Rattle.rpc_frame.specs.declared.asked.Asked.{Asked}
-use Rattle.rpc_frame.specs.declared.frame.Frame.{Frame}
 use Rattle.rpc_frame.specs.declared.frame.Frame.TheVariants as frames
 use Rattle.node_model.specs.declared.held.Held.TheVariants.{Request}
 use Rattle.node_model.specs.Bodies.{Deeds}
@@ -36,7 +34,7 @@ use Rattle.world_hand.proofs.HandMoves.{IsFirst}
 use Rattle.world_hand.proofs.Noted.{HoldsAfter, read-noted-keeps}
 use Rattle.world_hand.proofs.ReadRoutes.{reads-object}
 use Rattle.world_sent.proofs.InHand.{HasInHand, in-hand}
-use Rattle.world_sent.proofs.Serves.{after_node, deeds_now, holder-born, served_beside, served-answered, served-ended, serves}
+use Rattle.world_sent.proofs.Serves.{after_node, holder-born, served_beside, served-answered, served-ended, serves}
 use Rattle.world_sent.proofs.Suggested.{read-suggested-keeps}
 
 -- this comes to a step of node p after which all holds

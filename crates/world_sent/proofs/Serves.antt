@@ -1,6 +1,6 @@
--- A node holds the name of a call in hand, and serves it: the name has the kernel's body afterwards, and the reply is on
--- its way, or the node's own call is over.
-use Rattle.std.proofs.Common.{◌≡◌, ◌≢◌, ℕ, ◌≤◌, Bool, true, false, not, List, [], ◌∷◌, Option, Some, None, is_some, refl, ap, sym, subst, ◌∙◌, inl, inr, arith}
+-- A node holds the name of a call in hand, and serves it: the name has the kernel's body afterwards, and the reply is
+-- on its way, or the node's own call is over.
+use Rattle.std.proofs.Common.{◌≡◌, ◌≢◌, ℕ, Bool, true, false, List, [], ◌∷◌, Some, None, is_some, refl, ap, sym, ◌∙◌, inl, inr}
 use Rattle.std.proofs.lemmas.Bool.{cases_eq, false≢true}
 use Rattle.pico_base.specs.declared.call.Call.{Call}
 use Rattle.pico_base.specs.declared.call.Call.TheVariants as calls
@@ -25,8 +25,8 @@ use Rattle.node_model.specs.Bodies.{Body, Living as LivingBody, Deeds, body_in}
 use Rattle.node_model.specs.Caller.{Caller, answer_call, caller_place}
 use Rattle.node_model.specs.Carrying.{is_served}
 use Rattle.node_model.specs.Serving.{name_for, name_in}
-use Rattle.world_model.specs.Node.{Node, Stage, Unborn, Living, Leaving, Left, Over, is_unborn}
-use Rattle.world_model.specs.World.{World, node_count}
+use Rattle.world_model.specs.Node.{Node, Stage, Unborn, Living, Leaving, Left, Over}
+use Rattle.world_model.specs.World.{World}
 use Rattle.serve_laws.specs.Laws.{is_found}
 use Rattle.kernel_moves.specs.Entering.{MayMake, entry_of, removed_queue, removed_set, unless_removed}
 use Rattle.kernel_moves.proofs.Bodies.{body-living, living-body}
@@ -263,7 +263,8 @@ module _ (script : Script) (w : World) (b : Beside) (p : ℕ) (asked : Asked) (g
   holds-by k Unborn h =
       absurd (false≢true (holder-is-born p n name (body_in b.kernel name) Unborn h held))
   holds-by k Left h =
-      absurd (none-is-some (body_in b.kernel name) (sym (ap (λ deeds. get_named deeds name) h ∙ holds-nothing name) ∙ held))
+      absurd
+      (none-is-some (body_in b.kernel name) (sym (ap (λ deeds. get_named deeds name) h ∙ holds-nothing name) ∙ held))
 
   -- what the node is afterwards
   pub node-after : (k : Caller) → IsNodeAfter script w b next p (after_node k)

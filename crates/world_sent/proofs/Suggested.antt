@@ -1,7 +1,8 @@
--- A node that has carried out a call notes who read, and tells the leader where the name would be better at the reader.
+-- A node that has carried out a call notes who read, and tells the leader where the name would be better at the
+-- reader.
 use Rattle.std.proofs.Common.{◌≡◌, ◌≢◌, ℕ, ◌≤◌, Bool, true, false, ◌==◌, if◌then◌else◌, List, [], ◌∷◌, Some, None, refl, ap, sym, subst, ◌∙◌, arith, append-nil}
 use Rattle.std.specs.List.{AllByRecursion}
-use Rattle.std.proofs.lemmas.Bool.{ne_eqb, false≢true}
+use Rattle.std.proofs.lemmas.Bool.{ne_eqb}
 use Rattle.pico_base.specs.declared.numbers.Name.{Name}
 use Rattle.pico_base.specs.declared.script.Script.{Script}
 use Rattle.rpc_frame.specs.declared.frame.Frame.{Frame}
@@ -10,14 +11,14 @@ use Rattle.migrate.specs.Watching.{run_with}
 use Rattle.node_model.specs.Kinds.{is_object}
 use Rattle.node_model.specs.Directory.{stays}
 use Rattle.node_model.specs.Watches.{Watches, watch_over, with_read}
-use Rattle.world_model.specs.Node.{Node, Stage, Unborn, Living, Leaving, Left, Over, is_leader}
+use Rattle.world_model.specs.Node.{Node, is_leader}
 use Rattle.world_model.specs.Step.{Step, send, with_node}
 use Rattle.world_model.specs.Serving.{grant, move_to, note_read}
 use Rattle.world_model.specs.World.{World, node_count, world_after}
 use Rattle.world_laws.specs.Places.{Beside}
-use Rattle.world_laws.specs.Sights.{node_of, directory_of, is_born_in, is_born_stage}
+use Rattle.world_laws.specs.Sights.{node_of, directory_of, is_born_in}
 use Rattle.world_laws.specs.Callers.{is_about}
-use Rattle.world_laws.specs.Families.{HoldsIn, NodeHolds}
+use Rattle.world_laws.specs.Families.{NodeHolds}
 use Rattle.world_laws.specs.Invariant.{HasInvariant, Holds, MayBe}
 use Rattle.world_laws.proofs.Stays.{IsMore, name-stays}
 use Rattle.world_laws.proofs.Changes.{Changes, read-same}

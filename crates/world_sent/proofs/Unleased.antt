@@ -1,6 +1,6 @@
--- A call that was sent by the range of a number comes to the node that has the range: the number is still to be given out
--- there, and names nothing; or it names something.
-use Rattle.std.proofs.Common.{◌≡◌, ℕ, Bool, true, false, ◌&&◌, ◌||◌, not, List, [], ◌∷◌, ◌++◌, flat_map, nat_eq, Some, refl, ap, sym, ◌∙◌}
+-- A call that was sent by the range of a number comes to the node that has the range: the number is still to be given
+-- out there, and names nothing; or it names something.
+use Rattle.std.proofs.Common.{◌≡◌, ℕ, Bool, true, false, ◌&&◌, ◌||◌, not, List, [], ◌∷◌, ◌++◌, flat_map, nat_eq, Some, refl, ap, ◌∙◌}
 use Rattle.std.specs.List.{list_any}
 use Rattle.std.proofs.lemmas.Bool.{false≢true}
 use Rattle.pico_base.specs.declared.numbers.Kind.{Kind}
@@ -13,11 +13,10 @@ use Rattle.node_model.specs.declared.held.Held.{Held}
 use Rattle.node_model.specs.Kinds.{is_same_kind, kind_of, number_of}
 use Rattle.node_model.specs.Directory.{maker}
 use Rattle.node_model.specs.Leases.{lease_of, leases_hold}
-use Rattle.world_model.specs.Node.{Node}
 use Rattle.world_model.specs.World.{World}
 use Rattle.world_laws.specs.Places.{CallPlace, Beside}
 use Rattle.world_laws.specs.Sights.{directory_of, frames_to, is_born_in, node_of}
-use Rattle.world_laws.specs.Names.{IsLeased, IsSentThere, RangeStep, leases_name, range_steps_if, range_steps_of}
+use Rattle.world_laws.specs.Names.{IsLeased, IsSentThere, RangeStep, range_steps_if, range_steps_of}
 use Rattle.world_laws.specs.Ranges.{KindHolds, KindSight, first_if, is_given, is_in_lease, kind_sight, lease_in}
 use Rattle.world_laws.specs.Invariant.{Holds}
 use Rattle.world_sent.proofs.Needed.{has_no_lease}
@@ -33,7 +32,8 @@ module _ (call : ℕ → CallPlace) (name : Name) where
 
   -- a lease that isn't for the name doesn't have its number
   not-in-lease : (first : ℕ) (firsts : List ℕ) (rs : List RangeStep) (same has : Bool)
-      → has_no_lease (range_steps_if (same && has) IsLeased ++ rs) ≡ true → list_any (nat_eq number) (lease_of first) ≡ has
+      → has_no_lease (range_steps_if (same && has) IsLeased ++ rs) ≡ true
+      → list_any (nat_eq number) (lease_of first) ≡ has
       → (has_no_lease rs ≡ true → list_any (is_in_lease number) firsts ≡ false)
       → list_any (is_in_lease number) (first_if same first ++ firsts) ≡ false
   not-in-lease first firsts rs true true h e rest = absurd (false≢true h)

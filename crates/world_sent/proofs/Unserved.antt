@@ -1,25 +1,25 @@
--- A node carries out a call in hand on a number that names nothing: the kernel refuses it, and that changes nothing else.
-use Rattle.std.proofs.Common.{◌≡◌, ◌≢◌, ℕ, ◌≤◌, Bool, true, false, if◌then◌else◌, List, [], ◌∷◌, nat_eq, Some, refl, ap, sym, subst, ◌∙◌, inl, inr}
-use Rattle.std.proofs.lemmas.Bool.{cases_eq, eq-eqb, ne_eqb, false≢true}
+-- A node carries out a call in hand on a number that names nothing: the kernel refuses it, and that changes nothing
+-- else.
+use Rattle.std.proofs.Common.{◌≡◌, ◌≢◌, ℕ, true, if◌then◌else◌, [], ◌∷◌, Some, refl, ap, sym, subst, ◌∙◌, inl, inr}
+use Rattle.std.proofs.lemmas.Bool.{cases_eq, eq-eqb, ne_eqb}
 use Rattle.pico_base.specs.declared.numbers.Name.TheVariants.{Proc}
 use Rattle.pico_base.specs.declared.reply.Entry.{Entry}
 use Rattle.pico_base.specs.declared.reply.Reply.{Reply}
 use Rattle.pico_base.specs.declared.script.Script.{Script}
 use Rattle.rpc_frame.specs.declared.asked.Asked.{Asked}
-use Rattle.rpc_frame.specs.declared.frame.Frame.{Frame}
 use Rattle.rpc_frame.specs.declared.frame.Frame.TheVariants as frames
 use Rattle.kernel_model.specs.Fitting.{places_after}
 use Rattle.node_model.specs.declared.held.Held.TheVariants.{Request}
 use Rattle.node_model.specs.Caller.{Caller, answer_call, caller_place}
-use Rattle.world_model.specs.Node.{Node, Stage, Unborn, Living, Leaving, Left, Over, under_way_as}
+use Rattle.world_model.specs.Node.{Node, under_way_as}
 use Rattle.world_model.specs.Step.{Step, carry_out, enter, reply_here, send, step_to}
-use Rattle.world_model.specs.World.{World, node_count, world_after}
+use Rattle.world_model.specs.World.{World, world_after}
 use Rattle.kernel_moves.specs.Entering.{entry_of}
 use Rattle.kernel_moves.proofs.Fresh.{LeavesAll}
 use Rattle.kernel_moves.proofs.Keys.{keys-kept}
 use Rattle.world_laws.specs.Places.{CallPlace, Idle, InAnswer, Beside, call_in}
-use Rattle.world_laws.specs.Sights.{node_of, is_born_in, is_born_stage}
-use Rattle.world_laws.specs.Families.{HoldsIn, NodeHolds}
+use Rattle.world_laws.specs.Sights.{node_of, is_born_in}
+use Rattle.world_laws.specs.Families.{NodeHolds}
 use Rattle.world_laws.specs.Invariant.{Holds}
 use Rattle.world_laws.proofs.Changes.{Changes}
 use Rattle.world_laws.proofs.LeftAlone.{SameCaller}
@@ -73,7 +73,8 @@ module _ (script : Script) (w : World) (b : Beside) (p : ℕ) (asked : Asked) (g
         leases = refl;
         leader = refl;
         node = node-with script b.pids (is_born_in w) p n (record n { caller = k }) born node-was node-was.owners;
-        keys = keys-kept (node_of w 1).leader.queue_keys (node_of w 1).leader.set_keys b.kernel l.next l.keys holds.keys;
+        keys = keys-kept (node_of w 1).leader.queue_keys (node_of w 1).leader.set_keys b.kernel l.next l.keys
+            holds.keys;
         awaited = λ q to e. l.bodies (Proc q);
       }
 
@@ -120,8 +121,8 @@ module _ (script : Script) (w : World) (b : Beside) (p : ℕ) (asked : Asked) (g
       c
       (call-ended-here script w b p asked g node (refused_by node) own (record n { caller = k }) (node-after k) refl w'
       c)
-      (λ m. name-not-changed script w b p asked g node (refused_by node) Idle (record n { caller = k }) [] (node-after k)
-      ends w' c m (l.bodies m) refl)
+      (λ m. name-not-changed script w b p asked g node (refused_by node) Idle (record n { caller = k }) []
+      (node-after k) ends w' c m (l.bodies m) refl)
     where
       k : Caller
       k = answer_call script asked.caller caller asked.call reply
