@@ -1,0 +1,4 @@
+pub mod Parcels
+pub mod RoutedParcels
+pub mod EndedParcels
+pub mod Rounds
