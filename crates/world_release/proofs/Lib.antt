@@ -2,3 +2,4 @@ pub mod Parcels
 pub mod RoutedParcels
 pub mod EndedParcels
 pub mod Rounds
+pub mod Arrivals
