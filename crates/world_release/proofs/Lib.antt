@@ -3,3 +3,4 @@ pub mod RoutedParcels
 pub mod EndedParcels
 pub mod Rounds
 pub mod Arrivals
+pub mod TakenUp
