@@ -4,3 +4,5 @@ pub mod EndedParcels
 pub mod Rounds
 pub mod Arrivals
 pub mod TakenUp
+pub mod Home
+pub mod GivenBack
