@@ -280,3 +280,146 @@ module _ (script : Script) (w : World) (b : Beside) (holds : Holds script w [] b
             (λ t s fs. news name (x.used && is_maker (maker (directory_of kept_world) name) s) fs)
             (λ t s. flat_map-is-list-map _) (refl, tt) tt 1 y);
       }
+
+  names : (to : Option ℕ) (items : List Held) → place_of d name ≡ Some (Coming to items) → (m : Name)
+      → NameHolds script b.pids (is_born_in kept_world) m (name_sight script kept_world hand kept_beside m)
+  names to items place m =
+      elim (name-cases m name) [
+        | inl e ↦
+            subst (λ y. NameHolds script b.pids (is_born_in kept_world) y
+            (name_sight script kept_world hand kept_beside y)) (sym e)
+            (name-stays script b.pids (is_born_in w) (is_born_in kept_world) name _ _ more sight-now
+            (name-home script b.pids (is_born_in w) name x to items q first known place is-given-back.deed_is))
+        | inr g ↦
+            name-stays script b.pids (is_born_in w) (is_born_in kept_world) m _ _ more
+            (name-left-alone script 1 w kept_world after takes [] [] kept-changes [] hand b kept_beside m (others m g)
+            (other-name m name g, tt) tt) (holds.names m)
+      ]
+
+  -- ---- the calls
+
+  held-for-now : (y : ℕ) (m : Name)
+      → (if is_same_name name m then [] else filter (is_item_about y) (held_for d m))
+      ≡ filter (is_item_about y) (held_for (directory_of kept_world) m)
+  held-for-now y m =
+      elim (name-cases m name) [
+        | inl e ↦
+            subst (λ z. (if is_same_name name z then [] else filter (is_item_about y) (held_for d z))
+            ≡ filter (is_item_about y) (held_for (directory_of kept_world) z)) (sym e)
+            (ap (λ t. if t then [] else filter (is_item_about y) (held_for d name)) (same-name name name refl)
+            ∙ ap (filter (is_item_about y)) (sym held-none-now))
+        | inr g ↦
+            ap (λ t. if t then [] else filter (is_item_about y) (held_for d m)) (other-name name m (λ e. g (sym e)))
+            ∙ ap (filter (is_item_about y)) (sym (held-elsewhere m g))
+      ]
+
+  read : {A : Type 0} (f : Node → A) → f after ≡ f n → (y : ℕ) → f (node_of w y) ≡ f (node_of kept_world y)
+  read f e y = sym (read-same script 1 w kept_world after takes [] [] kept-changes f e y)
+
+  call-now : (y : ℕ) → SameCall (up_sight (call_sight w [] b y) name) (call_sight kept_world hand kept_beside y)
+  call-now y =
+      record {
+        number = read (λ (m : Node). m.number) refl y;
+        pid = read (λ (m : Node). m.pid) refl y;
+        stage = read (λ (m : Node). m.stage) refl y;
+        caller = read (λ (m : Node). m.caller) refl y;
+        leases = read (λ (m : Node). m.leases) refl y;
+        place = refl;
+        alive = refl;
+        call = refl;
+        frames_about = λ to sender. sym (made-same script 1 w kept_world after takes [] [] kept-changes
+            (λ t s fs. filter (is_about y t s) fs) (λ t s. filter-is-list-map (is_about y t s)) (refl, tt) tt to
+            sender);
+        held = held-for-now y;
+        hand = refl;
+      }
+
+  -- ---- all else
+
+  known-still : (m : Name) → is_known d m ≡ true → is_known (directory_of kept_world) m ≡ true
+  known-still m k =
+      elim (name-cases m name) [
+        | inl e ↦
+            subst (λ y. is_known (directory_of kept_world) y ≡ true) (sym e)
+            (ap (λ z. is_known z name) directory-now ∙ ap (λ o. not (is_none o)) (place-with-same d name (At 1)))
+        | inr g ↦
+            ap (λ z. is_known z m) directory-now
+            ∙ ap (λ o. not (is_none o)) (place-with-other d name (At 1) m g) ∙ k
+      ]
+
+  parcel-was : (parcel : Parcel) → IsParcelIn kept_world hand parcel → IsParcelIn kept_world [] parcel
+  parcel-was parcel (left_in y there) = left_in y there
+  parcel-was parcel (sent_in y there) = sent_in y there
+  parcel-was parcel (kept_in pid there) = kept_in pid there
+  parcel-was parcel (at_hand there) = absurd (no-parcel-there name hand parcel given-object items-for there)
+
+  nodes-now : (y : ℕ) → 1 ≤ y → y ≤ node_count script
+      → NodeHolds script b.pids (is_born_in kept_world) y (node_of kept_world y)
+  nodes-now y low high =
+      elim (cases_eq y 1) [
+        | inr g ↦
+            other-node-stays script 1 w kept_world after takes [] [] kept-changes b.pids (is_born_in w)
+            (is_born_in kept_world) y g more (holds.nodes y low high)
+        | inl e ↦
+            subst (λ z. NodeHolds script b.pids (is_born_in kept_world) z (node_of kept_world z)) (sym e)
+            (subst (λ (m : Node). NodeHolds script b.pids (is_born_in kept_world) 1 m) (sym kept-changes.here)
+            (node-born script b.pids (is_born_in w) (is_born_in kept_world) 1 after more
+            (node-with-directory script b.pids (is_born_in w) 1 _ (arrive d name 1) refl
+            (let stage = leader-stage script b.pids (is_born_in w) 1 n refl node-was
+            in node-with-objects script b.pids (is_born_in w) 1 n (put_named n.deeds name (body_in b.kernel name))
+            n.watches stage.0 stage.1 (processes-with n.deeds name (body_in b.kernel name) given-object) node-was))))
+      ]
+
+  leading-now : IsLeading (directory_of kept_world)
+  leading-now =
+      subst (λ (z : Directory). IsLeading z) (sym directory-now) (leading-with d name (At 1) holds.leading)
+
+  keys-now : KeysHold (node_of kept_world 1).leader b.kernel
+  keys-now =
+      let keys : KeysHold (node_of w 1).leader b.kernel = holds.keys
+      in record {
+        queues = λ key. ap (λ (m : Node). get m.leader.queue_keys key) kept-changes.here ∙ keys.queues key;
+        sets = λ key. ap (λ (m : Node). get m.leader.set_keys key) kept-changes.here ∙ keys.sets key;
+      }
+
+  ranges-same : (kind : Kind) → for_kind (directory_of kept_world).ranges kind ≡ for_kind d.ranges kind
+  ranges-same kind = ap (λ (z : Directory). for_kind z.ranges kind) directory-now
+
+  -- The deed is the leader's, and what was held for the name is in hand.
+  pub kept-in-hand : (to : Option ℕ) (items : List Held) → place_of d name ≡ Some (Coming to items)
+      → Holds script kept_world hand kept_beside
+  kept-in-hand to items place =
+      record {
+        shape = kept-changes.shape;
+        history = subst (λ j. HasHistory script j b.kernel b.places)
+            (sym (kept-changes.journal ∙ append-nil w.journal)) holds.history;
+        leading = leading-now;
+        pids = holds.pids;
+        nodes = nodes-now;
+        frames_fit = frames-still-fit script 1 w kept_world after takes [] [] kept-changes more holds.frames_fit tt tt;
+        names = names to items place;
+        calls = λ y low high. call-stays script y (is_born_in w) (is_born_in kept_world)
+            (up_sight (call_sight w [] b y) name) (call_sight kept_world hand kept_beside y) more (call-now y)
+            (call-up script y (is_born_in w) (call_sight w [] b y) name refl (holds.calls y low high));
+        ways = λ y low high. way-stays script b.pids y (knows_parent script w b.pids y)
+            (knows_parent script kept_world b.pids y) (way_sight w y) (way_sight kept_world y)
+            (known-still (Proc (b.pids (forker script y))))
+            (way-left-alone script 1 w kept_world after takes [] [] kept-changes y (λ e. refl)
+            (ap (λ (z : Directory). get z.partings y) directory-now) (refl, tt) tt) (holds.ways y low high);
+        parcels = λ parcel there. sender-stays script 1 w kept_world after takes [] [] kept-changes b.pids parcel
+            (λ left. (left, refl))
+            (holds.parcels parcel
+            (parcel-was-there script 1 w kept_world after takes [] [] kept-changes [] parcel tt
+            (λ pid. subst (λ is. Contains is (Ending parcel)) (held-elsewhere (Proc pid) (process-is-other pid)))
+            (parcel-was parcel there)));
+        kinds = λ kind. kind-stays (is_born_in w) (is_born_in kept_world) _ _ more
+            (kind-left-alone script 1 w kept_world after takes [] [] kept-changes b.kernel b.kernel kind
+            (λ number. refl) refl (ranges-same kind) (refl, tt) tt) (holds.kinds kind);
+        few = λ kind. few-still script 1 w kept_world after takes [] [] kept-changes b.call calls-now kind refl
+            (ranges-same kind) (λ y. read-up (has_lease kind) name (λ other. refl) (b.call y)) (holds.few kind);
+        keys = keys-now;
+        families = λ y forked. family-left-alone script 1 w kept_world after takes [] [] kept-changes b.pids b.places
+            b.kernel (process_deed b.deed) (process_deed deeds-now) y
+            (λ pid. ap (λ t. if t then InTable 1 else b.deed (Proc pid)) (object-is-no-process name pid given-object))
+            (λ e. refl) (refl, tt) tt (holds.families y forked);
+      }
