@@ -6,3 +6,5 @@ pub mod Arrivals
 pub mod TakenUp
 pub mod Home
 pub mod GivenBack
+pub mod Awaited
+pub mod SamePlaces
