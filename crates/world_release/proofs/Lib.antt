@@ -8,3 +8,4 @@ pub mod Home
 pub mod GivenBack
 pub mod Awaited
 pub mod SamePlaces
+pub mod GiveBacks
