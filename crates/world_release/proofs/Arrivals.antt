@@ -1,7 +1,7 @@
 -- The events that bring the leader one thing for its hand: a call that a node asks for, one that comes back, and the
 -- parcel of a node that has left. Where what is in hand goes on in every world on the way, the event has a step, and
 -- keeps all.
-use Rattle.std.proofs.Common.{◌≡◌, ℕ, ◌≤◌, List, [], ◌∷◌, Some, refl, ap, ◌∙◌}
+use Rattle.std.proofs.Common.{ℕ, ◌≤◌, List, [], ◌∷◌, ◌∙◌}
 use Rattle.pico_base.specs.declared.call.Call.{Call}
 use Rattle.pico_base.specs.declared.script.Script.{Script}
 use Rattle.pico_base.specs.declared.script.Event.{Event}
@@ -13,7 +13,6 @@ use Rattle.rpc_frame.specs.declared.frame.Frame.TheVariants as frames
 use Rattle.node_model.specs.declared.held.Held.{Held}
 use Rattle.node_model.specs.declared.held.Held.TheVariants.{Request, Ending}
 use Rattle.node_model.specs.Directory.{with_left}
-use Rattle.world_model.specs.Node.{Node}
 use Rattle.world_model.specs.Step.{Step, step_to, with_directory}
 use Rattle.world_model.specs.Routing.{release}
 use Rattle.world_model.specs.World.{World, node_count, world_after}

@@ -14,7 +14,7 @@ use Rattle.node_model.specs.Directory.{Place, At, Coming, place_of, is_coming, i
 use Rattle.world_model.specs.Node.{Node, holds as holds_deed}
 use Rattle.world_model.specs.Moves.{is_new_here}
 use Rattle.world_model.specs.Census.{brings}
-use Rattle.world_model.specs.World.{World, node_count}
+use Rattle.world_model.specs.World.{World}
 use Rattle.world_laws.specs.Places.{Unmade, InGiveBack, Beside}
 use Rattle.world_laws.specs.Sights.{node_of, frames_to, directory_of, stage_of, is_born_in}
 use Rattle.world_laws.specs.Plays.{believed, told, is_there, begin, is_has, is_checkpoint_of, has_any}

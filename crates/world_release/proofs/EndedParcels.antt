@@ -1,6 +1,6 @@
 -- A parcel in hand comes to its end: it is held, which is one more, or its names' items are released, which aren't held
 -- any more.
-use Rattle.std.proofs.Common.{◌≡◌, ℕ, ◌+◌, ◌≤◌, Bool, true, false, if◌then◌else◌, List, [], ◌∷◌, ◌++◌, map, nat_eq, Option, Some, None, option_map, refl, ap, sym, subst, ◌∙◌, arith}
+use Rattle.std.proofs.Common.{◌≡◌, ℕ, ◌+◌, ◌≤◌, Bool, true, false, if◌then◌else◌, List, [], ◌∷◌, ◌++◌, map, nat_eq, Option, Some, None, option_map, refl, ap, sym, subst, arith}
 use Rattle.pico_base.specs.declared.numbers.Name.{Name}
 use Rattle.pico_base.specs.declared.numbers.Name.TheVariants.{Proc}
 use Rattle.rpc_frame.specs.declared.deed.PackedDeed.{PackedDeed}
@@ -8,15 +8,13 @@ use Rattle.rpc_frame.specs.declared.deed.Parcel.{Parcel}
 use Rattle.rpc_frame.specs.declared.frame.Frame.TheVariants as frames
 use Rattle.number_maps.specs.Maps.{Numbered}
 use Rattle.number_maps.specs.Rising.{IsRising}
-use Rattle.node_model.specs.declared.held.Held.{Held}
 use Rattle.node_model.specs.declared.held.Held.TheVariants.{Ending}
 use Rattle.node_model.specs.Kinds.{get_named}
 use Rattle.node_model.specs.Bodies.{Body}
 use Rattle.node_model.specs.Directory.{Directory, Place, At, Coming, place_of, hold_at, items_of, parcels_held}
 use Rattle.node_model.specs.Parcels.{pack_all, commit_exit, fitting_bodies}
-use Rattle.world_model.specs.Node.{Node}
 use Rattle.world_model.specs.Step.{Step, send}
-use Rattle.world_model.specs.Routing.{AfterEnd, IsHeld, Releases, names_in, arrive_all, held_for_all, release_names, enter_exit, exit_with, exit_here, end_by, end_process, hold_item}
+use Rattle.world_model.specs.Routing.{AfterEnd, IsHeld, Releases, names_in, arrive_all, held_for_all, release_names, enter_exit, exit_with, exit_here, end_by, end_process}
 use Rattle.world_release.proofs.Parcels.{PlacesRise, parcels_among, among-both, among-behind-parcel, one-more-held, names_of, all-arrive}
 use Rattle.world_release.proofs.RoutedParcels.{directory_in}
 

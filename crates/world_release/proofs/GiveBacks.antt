@@ -1,7 +1,7 @@
 -- The deed of a queue or set comes back to the leader: it goes on to the node that it is bound for, or stays, and what
 -- was held for the name is released.
-use Rattle.std.proofs.Common.{◌≡◌, ◌≢◌, ℕ, ◌≤◌, Bool, true, false, ◌&&◌, not, if◌then◌else◌, List, [], ◌∷◌, nat_eq, Option, Some, None, option_and_then, is_some, refl, ap, sym, subst, ◌∙◌, inl, inr, arith, append-nil}
-use Rattle.std.proofs.lemmas.Bool.{cases_eq, eq-eqb, ne_eqb, false≢true}
+use Rattle.std.proofs.Common.{◌≡◌, ◌≢◌, ℕ, Bool, true, false, ◌&&◌, not, if◌then◌else◌, List, [], ◌∷◌, nat_eq, Option, Some, None, option_and_then, is_some, refl, ap, sym, subst, ◌∙◌}
+use Rattle.std.proofs.lemmas.Bool.{eq-eqb, false≢true}
 use Rattle.pico_base.specs.declared.numbers.Name.{Name}
 use Rattle.pico_base.specs.declared.script.Script.{Script}
 use Rattle.pico_base.specs.declared.script.Event.TheVariants as events
@@ -11,13 +11,13 @@ use Rattle.rpc_frame.specs.declared.frame.Frame.TheVariants as frames
 use Rattle.node_model.specs.declared.held.Held.{Held}
 use Rattle.node_model.specs.Kinds.{is_object, get_named, put_named, without_named}
 use Rattle.node_model.specs.Bodies.{Body, body_in}
-use Rattle.node_model.specs.Directory.{Directory, Place, At, Coming, place_of, arrive, held_for, bound_for, destination_of, is_coming, is_coming_to, stays}
+use Rattle.node_model.specs.Directory.{Directory, Place, At, Coming, place_of, arrive, held_for, bound_for, is_coming, is_coming_to, stays}
 use Rattle.node_model.specs.Spelling.{pack, read_deed}
 use Rattle.world_model.specs.Node.{Node, is_leader}
 use Rattle.world_model.specs.Step.{Step, with_directory}
 use Rattle.world_model.specs.Moves.{goes_on_to, pass_on, come_back, is_new_here, take_give_back}
 use Rattle.world_model.specs.Routing.{release}
-use Rattle.world_model.specs.World.{World, world_after, node_count}
+use Rattle.world_model.specs.World.{World, world_after}
 use Rattle.world_laws.specs.Places.{InGrant, Beside, deed_in}
 use Rattle.world_laws.specs.Sights.{node_of, directory_of, is_born_in}
 use Rattle.world_laws.specs.Deeds.{DeedsAreRead}
@@ -36,7 +36,7 @@ use Rattle.world_release.proofs.Rounds.{GoesWell, RoutesAll, EmptiesHand, releas
 use Rattle.world_release.proofs.Arrivals.{KeepsWell}
 use Rattle.world_release.proofs.SamePlaces.{without-put-name, put-twice-name}
 use Rattle.world_release.proofs.Awaited.{given-held-none, given-is-awaited, given-is-new, given-is-used}
-use Rattle.world_release.proofs.GivenBack.{given-object, is-given-back, kept_beside, kept_step, kept_world, kept-changes, kept-in-hand}
+use Rattle.world_release.proofs.GivenBack.{given-object, is-given-back, kept_beside, kept-changes, kept-in-hand}
 
 -- a name that is awaited, with what is held for it
 pub record IsComing (o : Option Place) : Type 0 where

@@ -1,6 +1,6 @@
 -- The leader takes the deed of a queue or set that comes back: in the middle of the event it has the deed, and what was
 -- held for the name is in its hand.
-use Rattle.std.proofs.Common.{◌≡◌, ◌≢◌, ◌⊎◌, ℕ, ◌≤◌, Bool, true, false, ◌&&◌, not, cond, if◌then◌else◌, List, [], ◌∷◌, ◌++◌, filter, flat_map, nat_eq, Option, Some, None, is_none, is_some, Contains, refl, ap, sym, subst, ◌∙◌, inl, inr, arith, append-nil}
+use Rattle.std.proofs.Common.{◌≡◌, ◌≢◌, ◌⊎◌, ℕ, ◌≤◌, Bool, true, false, ◌&&◌, not, cond, if◌then◌else◌, List, [], ◌∷◌, ◌++◌, filter, flat_map, nat_eq, Option, Some, None, is_none, is_some, Contains, refl, ap, sym, subst, ◌∙◌, inl, inr, append-nil}
 use Rattle.std.specs.List.{AllByRecursion}
 use Rattle.std.proofs.lemmas.Bool.{cases_eq, eq-eqb, ne_eqb, false≢true}
 use Rattle.pico_base.specs.declared.numbers.Kind.{Kind}
@@ -16,8 +16,8 @@ use Rattle.kernel_moves.specs.Entering.{HasHistory}
 use Rattle.node_model.specs.declared.held.Held.{Held}
 use Rattle.node_model.specs.declared.held.Held.TheVariants.{Ending}
 use Rattle.node_model.specs.Kinds.{is_object, is_same_name, get_named, put_named, for_kind}
-use Rattle.node_model.specs.Bodies.{Body, body_in}
-use Rattle.node_model.specs.Directory.{Directory, At, Coming, place_of, with_place, arrive, held_for, items_of, is_parcel_with, is_known, maker, stays}
+use Rattle.node_model.specs.Bodies.{body_in}
+use Rattle.node_model.specs.Directory.{Directory, At, Coming, place_of, arrive, held_for, items_of, is_parcel_with, is_known, maker, stays}
 use Rattle.world_model.specs.Node.{Node}
 use Rattle.world_model.specs.Step.{Step}
 use Rattle.world_model.specs.Moves.{pass_on}
@@ -28,7 +28,7 @@ use Rattle.world_laws.specs.Sights.{node_of, frames_to, directory_of, stage_of, 
 use Rattle.world_laws.specs.Plays.{Hold, plays, begin, has_any, is_checkpoint_of, is_sent_by_place, placed_in, news}
 use Rattle.world_laws.specs.Names.{NameSight, name_sight, NameHolds, IsBringer, IsItemFor, OneIf, held_as, held_at, comes_to, may_be_at, is_stream_of, is_sent_by_range, range_steps_of, forker, is_maker}
 use Rattle.world_laws.specs.Callers.{call_sight, is_about, is_item_about}
-use Rattle.world_laws.specs.Ways.{way_sight, knows_parent, under_way_of, HasSender, IsParcelIn, left as left_in, sent as sent_in, kept as kept_in, at_hand}
+use Rattle.world_laws.specs.Ways.{way_sight, knows_parent, IsParcelIn, left as left_in, sent as sent_in, kept as kept_in, at_hand}
 use Rattle.world_laws.specs.Ranges.{KeysHold, has_lease}
 use Rattle.world_laws.specs.Families.{NodeHolds}
 use Rattle.world_laws.specs.Invariant.{Holds, IsLeading, process_deed}
@@ -37,7 +37,7 @@ use Rattle.world_laws.proofs.Stays.{IsMore, SameName, SameCall, name-stays, node
 use Rattle.world_laws.proofs.Changes.{Changes, filter-is-list-map, flat_map-is-list-map, made-same, only-stayed, still-born, read-same}
 use Rattle.world_laws.proofs.LeftAlone.{DirectoryLeaves, LeavesName, name-left-alone, way-left-alone, parcel-was-there, sender-stays, kind-left-alone, family-left-alone, other-node-stays, frames-still-fit, few-still}
 use Rattle.world_laws.proofs.Steps.{Heads, world_without, changes-by-take}
-use Rattle.world_laws.proofs.Heads.{head-is, head-from-another, rest-stays, others-stay}
+use Rattle.world_laws.proofs.Heads.{head-is, rest-stays, others-stay}
 use Rattle.world_rules.proofs.Nodes.{leader-stage, node-with-directory, node-with-objects, object-is-no-process, processes-with}
 use Rattle.world_rules.proofs.Places.{place-with-same, place-with-other}
 use Rattle.world_hand.proofs.Holdings.{leading-with}

@@ -1,12 +1,11 @@
 -- The deed of a queue or set has come back to the leader, which keeps it: what the frame says, and what holds of the
 -- name afterwards.
-use Rattle.std.proofs.Common.{◌≡◌, ◌≢◌, ◌⊎◌, ℕ, ◌≤◌, Bool, true, false, ◌&&◌, if◌then◌else◌, List, [], ◌∷◌, ◌++◌, filter, nat_eq, Option, Some, None, is_some, Contains, refl, ap, sym, subst, ◌∙◌, inl, inr, arith}
+use Rattle.std.proofs.Common.{◌≡◌, ◌⊎◌, ℕ, ◌≤◌, Bool, true, false, ◌&&◌, if◌then◌else◌, List, [], ◌∷◌, filter, nat_eq, Option, Some, None, is_some, Contains, refl, ap, sym, subst, ◌∙◌, inl, inr, arith}
 use Rattle.std.specs.List.{AllByRecursion}
 use Rattle.std.proofs.lemmas.Bool.{eqb-true, ne_eqb, false≢true}
 use Rattle.std.proofs.lemmas.List.Elements.{Contains-append_cases, Contains-push_cases}
 use Rattle.pico_base.specs.declared.numbers.Name.{Name}
 use Rattle.pico_base.specs.declared.script.Script.{Script}
-use Rattle.rpc_frame.specs.declared.asked.Asked.{Asked}
 use Rattle.rpc_frame.specs.declared.deed.PackedDeed.{PackedDeed}
 use Rattle.rpc_frame.specs.declared.deed.Parcel.{Parcel}
 use Rattle.rpc_frame.specs.declared.frame.Frame.{Frame}
@@ -19,7 +18,7 @@ use Rattle.node_model.specs.Directory.{At, Coming, is_parcel_with}
 use Rattle.node_model.specs.Spelling.{pack}
 use Rattle.world_laws.specs.Places.{DeedPlace, Unmade, InTable, InCheckpoint, InGrant, InGiveBack, InLeft, InKept, InHand, InExitTo}
 use Rattle.world_laws.specs.Plays.{Hold, believed, is_there}
-use Rattle.world_laws.specs.Names.{NameSight, NameHolds, IsBringer, IsCheckpointOf, IsLeftOf, IsExitOf, IsItemWith, IsItemFor, OneIf, PlaysTo, belief_of, maker_tells, is_stream_of, is_kept_for, is_hand_place, node_in, forker}
+use Rattle.world_laws.specs.Names.{NameSight, NameHolds, IsBringer, IsCheckpointOf, IsLeftOf, IsExitOf, IsItemWith, IsItemFor, OneIf, PlaysTo, maker_tells, is_stream_of, is_kept_for, is_hand_place, node_in, forker}
 use Rattle.world_rules.proofs.Grants.{IsAlone, is-alone}
 
 -- ---- the frame

@@ -1,6 +1,6 @@
 -- How many parcels there are in the leader's hand and in what its directory holds: what another place of a name, or the
 -- arrival of many, changes.
-use Rattle.std.proofs.Common.{◌≡◌, ◌≢◌, ℕ, ◌+◌, ◌≤◌, ◌<◌, Bool, true, false, cond, List, [], ◌∷◌, ◌++◌, map, fold, flat_map, count_by, sum_by, Option, Some, None, refl, ap, sym, subst, ◌∙◌, inl, inr, arith}
+use Rattle.std.proofs.Common.{◌≡◌, ◌≢◌, ℕ, ◌+◌, ◌≤◌, ◌<◌, cond, List, [], ◌∷◌, ◌++◌, map, count_by, Option, Some, refl, ap, ◌∙◌, inl, inr, arith}
 use Rattle.std.specs.List.{AllByRecursion}
 use Rattle.std.proofs.lemmas.Bool.{cases_order}
 use Rattle.std.proofs.lemmas.List.Sums.{sum_by-cons, sum_by-append}
@@ -11,14 +11,14 @@ use Rattle.rpc_frame.specs.declared.deed.PackedDeed.{PackedDeed}
 use Rattle.rpc_frame.specs.declared.deed.Parcel.{Parcel}
 use Rattle.number_maps.specs.Maps.{Numbered, get, put}
 use Rattle.number_maps.specs.Rising.{IsRising}
-use Rattle.number_maps.proofs.LookUps.{get-first, get-later, put-less, put-equal, put-greater, get-put-other}
+use Rattle.number_maps.proofs.LookUps.{get-first, get-later, put-less, put-equal, put-greater}
 use Rattle.number_maps.proofs.Rising.{above-first, above-lower, rising-rest, rising-put, get-above}
 use Rattle.node_model.specs.declared.held.Held.{Held}
 use Rattle.node_model.specs.declared.held.Held.TheVariants.{Request, Ending}
 use Rattle.node_model.specs.Kinds.{number_of}
 use Rattle.node_model.specs.Bodies.{Body}
 use Rattle.node_model.specs.Parcels.{pack_all}
-use Rattle.node_model.specs.Directory.{Directory, Place, At, Coming, place_of, with_place, held_for, items_of, is_parcel, parcels_in, parcels_held}
+use Rattle.node_model.specs.Directory.{Directory, Place, At, with_place, held_for, items_of, is_parcel, parcels_in, parcels_held}
 use Rattle.world_model.specs.Routing.{arrive_all, held_for_all}
 use Rattle.world_rules.proofs.Places.{place-with-other}
 

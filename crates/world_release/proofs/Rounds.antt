@@ -1,16 +1,16 @@
 -- The leader's hand is emptied in the middle of an event: where each call first in it has a route, and each parcel comes
 -- to its end, in every world on the way, the release of what is in hand comes to a step, and all holds after it.
-use Rattle.std.proofs.Common.{◌≡◌, ◌≢◌, ℕ, zero, suc, ◌+◌, ◌≤◌, ◌<◌, List, [], ◌∷◌, ◌++◌, Option, Some, option_and_then, refl, ap, sym, subst, ◌∙◌, arith, append-nil}
+use Rattle.std.proofs.Common.{◌≡◌, ℕ, zero, suc, ◌+◌, ◌≤◌, ◌<◌, List, [], ◌∷◌, ◌++◌, Option, Some, option_and_then, refl, ap, sym, subst, ◌∙◌, arith, append-nil}
 use Rattle.std.proofs.lemmas.List.Elements.{Contains-append_left, Contains-push}
 use Rattle.pico_base.specs.declared.script.Script.{Script}
 use Rattle.rpc_frame.specs.declared.asked.Asked.{Asked}
 use Rattle.rpc_frame.specs.declared.deed.Parcel.{Parcel}
 use Rattle.node_model.specs.declared.held.Held.{Held}
 use Rattle.node_model.specs.declared.held.Held.TheVariants.{Request, Ending}
-use Rattle.node_model.specs.Directory.{Directory, parcels_held}
+use Rattle.node_model.specs.Directory.{parcels_held}
 use Rattle.world_model.specs.Node.{Node}
 use Rattle.world_model.specs.Step.{Step}
-use Rattle.world_model.specs.Routing.{AfterEnd, IsHeld, Releases, route_call, end_process, go_on_after, release_round, release_rounds, no_round, release}
+use Rattle.world_model.specs.Routing.{IsHeld, Releases, route_call, end_process, go_on_after, release_round, release_rounds, no_round, release}
 use Rattle.world_model.specs.World.{World, node_count, world_after}
 use Rattle.world_laws.specs.Places.{Beside}
 use Rattle.world_laws.specs.Sights.{node_of, directory_of, stage_of}
@@ -104,7 +104,7 @@ pub first-is-packed : (script : Script) (w : World) (parcel : Parcel) (rest : Li
     → Holds script w (Ending parcel ∷ rest) b → IsPacked parcel
 first-is-packed script w parcel rest b holds =
     let sender : HasSender script b.pids (stage_of w) (under_way_of w) parcel =
-    holds.parcels parcel 
+    holds.parcels parcel
     (at_hand (Contains-append_left (Ending parcel ∷ []) rest (Ending parcel) (Contains-push [] (Ending parcel))))
     in let its : IsParcelOf script b.pids sender.node sender.call parcel = sender.is_of
     in record { bodies = its.bodies; packed = its.packed; ordered = its.ordered }

@@ -1,5 +1,5 @@
 -- A call that is routed leaves no more parcels held than there were.
-use Rattle.std.proofs.Common.{◌≡◌, ℕ, ◌≤◌, Bool, true, false, ◌&&◌, not, if◌then◌else◌, List, [], ◌∷◌, ◌++◌, length, nat_eq, Option, Some, None, option_map, Result, Ok, Err, refl, ap, sym, subst, ◌∙◌, arith}
+use Rattle.std.proofs.Common.{◌≡◌, ℕ, ◌≤◌, Bool, true, false, ◌&&◌, not, if◌then◌else◌, List, [], ◌∷◌, ◌++◌, length, nat_eq, Option, Some, None, option_map, Result, Ok, Err, refl, ap, sym, subst, arith}
 use Rattle.pico_base.specs.declared.call.Call.{Call}
 use Rattle.pico_base.specs.declared.call.Call.TheVariants as calls
 use Rattle.pico_base.specs.declared.call.Home.{Home}
@@ -18,23 +18,22 @@ use Rattle.rpc_frame.specs.declared.frame.Frame.TheVariants as frames
 use Rattle.key_table.specs.KeyMap.{key_answer}
 use Rattle.key_table.specs.declared.KeyAnswer.{KeyAnswer}
 use Rattle.key_table.specs.declared.KeyAnswer.TheVariants as answers
-use Rattle.number_maps.specs.Maps.{Numbered, get}
+use Rattle.number_maps.specs.Maps.{get}
 use Rattle.kernel_model.specs.Queue.{empty_queue}
 use Rattle.kernel_model.specs.SemaphoreSet.{SemaphoreSet, new_set}
-use Rattle.node_model.specs.declared.held.Held.{Held}
 use Rattle.node_model.specs.declared.held.Held.TheVariants.{Request}
 use Rattle.node_model.specs.declared.route.Route.{Route}
 use Rattle.node_model.specs.declared.route.Route.TheVariants as routes
 use Rattle.node_model.specs.Kinds.{Named, get_named, for_kind, put_named, put_all}
 use Rattle.node_model.specs.Bodies.{Body, AQueue, ASet}
-use Rattle.node_model.specs.Directory.{Directory, Place, At, Coming, place_of, with_place, place_name, is_known, hold, hold_at, recall, held_for, items_of, parcels_in, parcels_held, route, stays, has_more, upcoming}
+use Rattle.node_model.specs.Directory.{Directory, Place, At, Coming, place_of, with_place, place_name, is_known, hold_at, recall, items_of, parcels_in, parcels_held, route, stays, has_more, upcoming}
 use Rattle.node_model.specs.Leases.{lease_of}
 use Rattle.node_model.specs.Serving.{Served, serve, has_read}
 use Rattle.node_model.specs.Watches.{with_read, moves_to}
 use Rattle.world_model.specs.Node.{Node, Leader, is_leader, under_way_as}
 use Rattle.world_model.specs.Step.{Step, with_node, with_deeds, with_directory, send, enter, reply_here, reply_to, carry_out}
 use Rattle.world_model.specs.Numbers.{Taken, take_first, take_from, take_from_next, take_number, with_next_range, knows_any}
-use Rattle.world_model.specs.Serving.{grant_held, grant, move_to, note_read, serve_asked, serve_asked_with, serve_nobody}
+use Rattle.world_model.specs.Serving.{grant_held, grant, move_to, note_read, serve_asked, serve_asked_with}
 use Rattle.world_model.specs.Routing.{bind, make_bound, make_queue, make_set, get_queue, get_set, create_set, get_by_key, hold_item, recall_and_hold, unbind_name, forward, route_by, remove_by, route_home, route_call}
 use Rattle.world_release.proofs.Parcels.{PlacesRise, parcels_among, among-both, no-more-held, with-place-rises}
 

@@ -1,11 +1,10 @@
 -- The calls that were held for a name are in the leader's hand: what holds of each node's call, and what that is for
 -- what is on its way.
-use Rattle.std.proofs.Common.{◌≡◌, ◌≢◌, ◌⊎◌, ℕ, Bool, true, false, ◌&&◌, if◌then◌else◌, List, [], ◌∷◌, ◌++◌, flat_map, Option, Some, None, refl, ap, sym, subst, ◌∙◌, inl, inr}
+use Rattle.std.proofs.Common.{◌≡◌, ℕ, Bool, true, false, ◌&&◌, if◌then◌else◌, List, [], ◌∷◌, ◌++◌, flat_map, Option, Some, None, refl, ap, sym, ◌∙◌, inl, inr}
 use Rattle.std.proofs.lemmas.Bool.{false≢true}
 use Rattle.pico_base.specs.declared.call.Call.{Call}
 use Rattle.pico_base.specs.declared.call.Home.{Home}
 use Rattle.pico_base.specs.declared.call.Home.TheVariants as homes
-use Rattle.pico_base.specs.declared.numbers.Kind.{Kind}
 use Rattle.pico_base.specs.declared.numbers.Name.{Name}
 use Rattle.pico_base.specs.declared.script.Script.{Script}
 use Rattle.pico_base.specs.Home.{home_of}
@@ -17,12 +16,11 @@ use Rattle.node_model.specs.declared.held.Held.TheVariants.{Request}
 use Rattle.node_model.specs.Kinds.{is_same_name}
 use Rattle.world_model.specs.Node.{Stage, Unborn, Living, Leaving, Left, Over}
 use Rattle.world_model.specs.Calls.{is_for_others}
-use Rattle.world_laws.specs.Places.{CallPlace, Idle, IsHeld, IsInHand, InAnswer, Ends}
+use Rattle.world_laws.specs.Places.{CallPlace, IsHeld, IsInHand, InAnswer, Ends}
 use Rattle.world_laws.specs.Plays.{is_call_on, is_sent_by_place, steps_of, steps_if, IsNeeded, plays}
 use Rattle.world_laws.specs.Names.{is_sent_by_range, range_steps_of, range_steps_if, IsSentThere}
-use Rattle.world_laws.specs.Callers.{CallSight, CallHolds, HasCall, HasCallOrNone, HasNoCall, IsNowhere, IsJustThere, IsToBeMade, IsMade, HasEnded, IsFree, FreeIn, IsSoFar, IsBetween, asked_of, only_if, is_in_stream, frame_at, is_held_at, is_in_hand, is_on, is_end_place, is_end_stage, may_be_in, lease_is_over}
-use Rattle.world_laws.specs.Ranges.{has_lease}
-use Rattle.world_laws.proofs.Named.{same-name-is, same-name}
+use Rattle.world_laws.specs.Callers.{CallSight, CallHolds, HasCall, HasCallOrNone, IsNowhere, IsJustThere, IsToBeMade, HasEnded, FreeIn, IsSoFar, IsBetween, asked_of, only_if, is_in_stream, frame_at, is_held_at, is_in_hand, is_on, is_end_place, may_be_in, lease_is_over}
+use Rattle.world_laws.proofs.Named.{same-name-is}
 
 -- what was held for the name is in hand
 abbrev pub taken_up : Name → CallPlace → CallPlace
