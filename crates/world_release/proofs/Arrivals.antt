@@ -1,11 +1,9 @@
 -- The events that bring the leader one thing for its hand: a call that a node asks for, one that comes back, and the
 -- parcel of a node that has left. Where what is in hand goes on in every world on the way, the event has a step, and
 -- keeps all.
-use Rattle.std.proofs.Common.{ℕ, ◌≤◌, List, [], ◌∷◌, ◌∙◌}
+use Rattle.std.proofs.Common.{ℕ, ◌≤◌, List, [], ◌∷◌}
 use Rattle.pico_base.specs.declared.call.Call.{Call}
 use Rattle.pico_base.specs.declared.script.Script.{Script}
-use Rattle.pico_base.specs.declared.script.Event.{Event}
-use Rattle.pico_base.specs.declared.script.Event.TheVariants as events
 use Rattle.rpc_frame.specs.declared.asked.Asked.{Asked}
 use Rattle.rpc_frame.specs.declared.deed.Parcel.{Parcel}
 use Rattle.rpc_frame.specs.declared.frame.Frame.{Frame}
@@ -20,85 +18,63 @@ use Rattle.world_laws.specs.Places.{Beside, IsInHand, call_in}
 use Rattle.world_laws.specs.Sights.{node_of, directory_of}
 use Rattle.world_laws.specs.Deeds.{DeedsAreRead}
 use Rattle.world_laws.specs.Invariant.{Holds}
-use Rattle.world_laws.proofs.Steps.{KeepsAs, Heads, world_without, take-steps}
-use Rattle.world_hand.proofs.Asks.{NeverWaits, ask-in-hand, ask-is-routed}
-use Rattle.world_hand.proofs.Bounces.{bounce-in-hand, bounce-is-routed}
+use Rattle.world_laws.proofs.Steps.{Heads, world_without}
+use Rattle.world_hand.proofs.Asks.{NeverWaits, ask-in-hand, ask-keeps}
+use Rattle.world_hand.proofs.Bounces.{bounce-in-hand, bounce-keeps}
+use Rattle.world_hand.proofs.HandRoutes.{KeepsSo}
 use Rattle.world_hand.proofs.Noted.{HoldsAfter}
+use Rattle.world_hand.proofs.ReadRoutes.{HasRoute}
 use Rattle.world_ends.proofs.Directories.{KnowsNodes}
 use Rattle.world_ends.proofs.Lefts.{at_leader, left-in-hand}
 use Rattle.world_ends.proofs.Releases.{left-steps}
-use Rattle.world_release.proofs.Rounds.{GoesWell, RoutesWell, RoutesAll, EmptiesHand, release-empties}
+use Rattle.world_release.proofs.Rounds.{RoutesAll, EmptiesHand, release-empties}
 
--- the event has a step that keeps all, with something beside the world, and leads to a good world
-pub record KeepsWell (script : Script) (Good : World → List Held → Type 0) (w : World) (e : Event) : Type 0 where
-  pub beside : Beside
-  pub keeps : KeepsAs script w e beside
-  pub good : Good keeps.next []
-
-module _ (script : Script) (Good : World → List Held → Type 0) (all : RoutesAll script Good) (w : World) (b : Beside)
-    (holds : Holds script w [] b) (q : ℕ) (rest : List Frame) where
+module _ (script : Script) (Good : World → Step → List Held → Type 0) (all : RoutesAll script Good) (w : World)
+    (b : Beside) (holds : Holds script w [] b) (q : ℕ) (rest : List Frame) where
   abbrev v : World
   v = world_without w 1 q rest
 
   -- A node asks for a call.
   pub ask-goes-on : (ticket pid : ℕ) (call : Call) → Heads script w 1 q (frames.Ask ticket pid call) rest
       → NeverWaits script
-      → Good (world_after v 1 (step_to (node_of w 1)))
+      → Good v (step_to (node_of w 1))
       (Request (record { caller = q; ticket = ticket; pid = pid; call = call }) ∷ [])
-      → KeepsWell script Good w (events.Take 1 q)
+      → KeepsSo script w q
   ask-goes-on ticket pid call h never good =
       let asked : Asked = record { caller = q; ticket = ticket; pid = pid; call = call }
-      in let r : RoutesWell script Good v (step_to (node_of w 1)) asked [] =
-      all.calls v (step_to (node_of w 1)) asked [] (record b { call = call_in b.call q IsInHand })
+      in let has : HasRoute script v (step_to (node_of w 1)) asked [] =
+      all.routes v (step_to (node_of w 1)) asked [] (record b { call = call_in b.call q IsInHand })
       (ask-in-hand script w b holds q ticket pid call rest h) good
-      in let goes : GoesWell script Good v r.next [] = r.goes
-      in let after : HoldsAfter script v r.next [] = goes.after
       in record {
-        beside = after.beside;
-        keeps = record {
-          next = world_after v 1 r.next;
-          is_step = take-steps script w 1 q (frames.Ask ticket pid call) rest r.next holds.shape h
-              (ask-is-routed script w b holds q ticket pid call rest h never ∙ r.is_route);
-          holds = after.holds;
-        };
-        good = goes.good;
+        beside = has.beside;
+        keeps = ask-keeps script w b holds q ticket pid call rest h never has.beside has.keeps;
       }
 
   -- A call comes back that a node couldn't carry out.
   pub bounce-goes-on : (asked : Asked) → Heads script w 1 q (frames.Bounce asked) rest → 1 ≤ asked.caller
       → asked.caller ≤ node_count script → NeverWaits script
-      → Good (world_after v 1 (step_to (node_of w 1))) (Request asked ∷ [])
-      → KeepsWell script Good w (events.Take 1 q)
+      → Good v (step_to (node_of w 1)) (Request asked ∷ [])
+      → KeepsSo script w q
   bounce-goes-on asked h low high never good =
-      let r : RoutesWell script Good v (step_to (node_of w 1)) asked [] =
-      all.calls v (step_to (node_of w 1)) asked [] (record b { call = call_in b.call asked.caller IsInHand })
+      let has : HasRoute script v (step_to (node_of w 1)) asked [] =
+      all.routes v (step_to (node_of w 1)) asked [] (record b { call = call_in b.call asked.caller IsInHand })
       (bounce-in-hand script w b holds q asked rest h low high) good
-      in let goes : GoesWell script Good v r.next [] = r.goes
-      in let after : HoldsAfter script v r.next [] = goes.after
       in record {
-        beside = after.beside;
-        keeps = record {
-          next = world_after v 1 r.next;
-          is_step = take-steps script w 1 q (frames.Bounce asked) rest r.next holds.shape h
-              (bounce-is-routed script w b holds q asked rest h low high never ∙ r.is_route);
-          holds = after.holds;
-        };
-        good = goes.good;
+        beside = has.beside;
+        keeps = bounce-keeps script w b holds q asked rest h low high never has.beside has.keeps;
       }
 
   -- A node has handed over all, and its process's end goes to where the parent is.
   pub left-goes-on : (parcel : Parcel) → Heads script w 1 q (frames.Left parcel) rest → KnowsNodes (directory_of w)
       → DeedsAreRead b.kernel
-      → Good (world_after v 1 (step_to (with_directory (node_of w 1) (with_left (directory_of w) q))))
-      (Ending parcel ∷ [])
-      → KeepsWell script Good w (events.Take 1 q)
+      → Good v (step_to (with_directory (node_of w 1) (with_left (directory_of w) q))) (Ending parcel ∷ [])
+      → KeepsSo script w q
   left-goes-on parcel h at_nodes reads good =
       let taken : Step = step_to (with_directory (node_of w 1) (with_left (directory_of w) q))
       in let e : EmptiesHand script Good v (release script (Ending parcel ∷ []) taken) =
       release-empties script Good all v (Ending parcel ∷ []) taken
       (record b { deed = λ name. at_leader q (b.deed name) }) (left-in-hand script w b holds q parcel rest h) good
-      in let goes : GoesWell script Good v e.last [] = e.goes
-      in let after : HoldsAfter script v e.last [] = goes.after
+      in let after : HoldsAfter script v e.last [] = e.after
       in record {
         beside = after.beside;
         keeps = record {
@@ -106,5 +82,4 @@ module _ (script : Script) (Good : World → List Held → Type 0) (all : Routes
           is_step = left-steps script w b holds at_nodes reads q parcel rest h e.last e.is_last;
           holds = after.holds;
         };
-        good = goes.good;
       }

@@ -4,7 +4,6 @@ use Rattle.std.proofs.Common.{◌≡◌, ◌≢◌, ℕ, Bool, true, false, ◌&
 use Rattle.std.proofs.lemmas.Bool.{eq-eqb, false≢true}
 use Rattle.pico_base.specs.declared.numbers.Name.{Name}
 use Rattle.pico_base.specs.declared.script.Script.{Script}
-use Rattle.pico_base.specs.declared.script.Event.TheVariants as events
 use Rattle.rpc_frame.specs.declared.deed.PackedDeed.{PackedDeed}
 use Rattle.rpc_frame.specs.declared.frame.Frame.{Frame}
 use Rattle.rpc_frame.specs.declared.frame.Frame.TheVariants as frames
@@ -30,10 +29,10 @@ use Rattle.world_laws.proofs.Steps.{Heads, world_without, take-steps}
 use Rattle.world_rules.proofs.Places.{place-with-same}
 use Rattle.world_rules.proofs.Suggestions.{born-in-range}
 use Rattle.world_hand.proofs.Grantings.{grant-sent-keeps}
+use Rattle.world_hand.proofs.HandRoutes.{KeepsSo}
 use Rattle.world_hand.proofs.Noted.{HoldsAfter}
 use Rattle.world_ends.proofs.Directories.{KnowsNodes}
-use Rattle.world_release.proofs.Rounds.{GoesWell, RoutesAll, EmptiesHand, release-empties}
-use Rattle.world_release.proofs.Arrivals.{KeepsWell}
+use Rattle.world_release.proofs.Rounds.{RoutesAll, EmptiesHand, release-empties}
 use Rattle.world_release.proofs.SamePlaces.{without-put-name, put-twice-name}
 use Rattle.world_release.proofs.Awaited.{given-held-none, given-is-awaited, given-is-new, given-is-used}
 use Rattle.world_release.proofs.GivenBack.{given-object, is-given-back, kept_beside, kept-changes, kept-in-hand}
@@ -217,16 +216,15 @@ module _ (script : Script) (w : World) (b : Beside) (holds : Holds script w [] b
   give-back-in-hand = by-goal (goes_on_to d (bound_for d name)) refl
 
   -- The deed goes on or stays, and what was held for the name is released.
-  pub give-back-goes-on : (Good : World → List Held → Type 0) → RoutesAll script Good
-      → Good (world_after v 1 (pass_on n name body (goes_on_to d (bound_for d name)))) (held_for d name)
-      → KeepsWell script Good w (events.Take 1 q)
+  pub give-back-goes-on : (Good : World → Step → List Held → Type 0) → RoutesAll script Good
+      → Good v (pass_on n name body (goes_on_to d (bound_for d name))) (held_for d name)
+      → KeepsSo script w q
   give-back-goes-on Good all good =
       let taken : Step = pass_on n name body (goes_on_to d (bound_for d name))
       in let middle : HoldsAfter script v taken (held_for d name) = give-back-in-hand
       in let e : EmptiesHand script Good v (release script (held_for d name) taken) =
       release-empties script Good all v (held_for d name) taken middle.beside middle.holds good
-      in let goes : GoesWell script Good v e.last [] = e.goes
-      in let after : HoldsAfter script v e.last [] = goes.after
+      in let after : HoldsAfter script v e.last [] = e.after
       in record {
         beside = after.beside;
         keeps = record {
@@ -235,5 +233,4 @@ module _ (script : Script) (w : World) (b : Beside) (holds : Holds script w [] b
               (give-back-releases ∙ e.is_last);
           holds = after.holds;
         };
-        good = goes.good;
       }

@@ -174,5 +174,6 @@ name-home script pids born name x to items q first h place deed =
         subst (λ t. PlaysTo (if t then first else x.begins y) (x.steps y) (nat_eq 1 y))
         (sym (ne_eqb y 1 (λ e. omega (arith, e, low))))
         (subst (λ t. PlaysTo (x.begins y) (x.steps y) t)
-        (ap (λ o. is_there y (believed o (maker_tells x x.maker))) place ∙ sym (ne_eqb 1 y (λ e. omega (arith, e, low))))
+        (ap (λ o. is_there y (believed o (maker_tells x x.maker))) place
+        ∙ sym (ne_eqb 1 y (λ e. omega (arith, e, low))))
         (h.plays y low))

@@ -30,7 +30,8 @@ abbrev one_if : Held → ℕ
 one_if item = cond (is_parcel item) 1 0
 
 -- a call in front is no parcel
-pub among-behind-call : (asked : Asked) (items : List Held) → parcels_among (Request asked ∷ items) ≡ parcels_among items
+pub among-behind-call : (asked : Asked) (items : List Held)
+    → parcels_among (Request asked ∷ items) ≡ parcels_among items
 among-behind-call asked items = omega (arith, sum_by-cons one_if (Request asked) items)
 
 -- a parcel in front is one
@@ -97,7 +98,8 @@ abbrev pub PlacesRise : Directory → Type 0
 PlacesRise d = IsRising d.places.processes
 
 -- so they are after another place of a name
-pub with-place-rises : (d : Directory) (name : Name) (place : Place) → PlacesRise d → PlacesRise (with_place d name place)
+pub with-place-rises : (d : Directory) (name : Name) (place : Place) → PlacesRise d
+    → PlacesRise (with_place d name place)
 with-place-rises d (Proc pid) place r = rising-put d.places.processes pid place r
 with-place-rises d (Msg id) place r = r
 with-place-rises d (Sem id) place r = r

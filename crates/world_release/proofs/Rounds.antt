@@ -1,5 +1,5 @@
--- The leader's hand is emptied in the middle of an event: where each call first in it has a route, and each parcel comes
--- to its end, in every world on the way, the release of what is in hand comes to a step, and all holds after it.
+-- The leader's hand is emptied in the middle of an event: where each call first in it has a route, and each parcel
+-- comes to its end, at every step on the way, the release of what is in hand comes to a step, and all holds after it.
 use Rattle.std.proofs.Common.{◌≡◌, ℕ, zero, suc, ◌+◌, ◌≤◌, ◌<◌, List, [], ◌∷◌, ◌++◌, Option, Some, option_and_then, refl, ap, sym, subst, ◌∙◌, arith, append-nil}
 use Rattle.std.proofs.lemmas.List.Elements.{Contains-append_left, Contains-push}
 use Rattle.pico_base.specs.declared.script.Script.{Script}
@@ -26,53 +26,31 @@ use Rattle.world_release.proofs.Parcels.{PlacesRise, parcels_among, among-behind
 use Rattle.world_release.proofs.RoutedParcels.{directory_in, HoldsNoMore, route-holds-no-more}
 use Rattle.world_release.proofs.EndedParcels.{EndLeaves, IsPacked, end-leaves}
 
--- ---- what is taken of the worlds on the way
+-- ---- what is taken of the steps on the way
 
--- after a step all holds with this in hand, and the world is a good one
-pub record GoesWell (script : Script) (Good : World → List Held → Type 0) (v : World) (t : Step) (hand : List Held)
-    : Type 0 where
-  pub after : HoldsAfter script v t hand
-  pub good : Good (world_after v 1 t) hand
-
--- the call first in hand has a route that keeps all, to a good world
-pub record RoutesWell (script : Script) (Good : World → List Held → Type 0) (v : World) (s : Step) (asked : Asked)
-    (rest : List Held) : Type 0 where
-  pub next : Step
-  pub is_route : route_call script s asked ≡ Some next
-  pub goes : GoesWell script Good v next rest
-
--- the parcel first in hand comes to an end that keeps all: it is held, or it is gone and what waited for it is in hand
-pub data HasEnd (script : Script) (Good : World → List Held → Type 0) (v : World) (s : Step) (parcel : Parcel)
-    (rest : List Held) : Type 0 where
-  keeps_it : (next : Step) → end_process s parcel ≡ Some (IsHeld next) → GoesWell script Good v next rest
-      → HasEnd script Good v s parcel rest
+-- the parcel comes to an end that keeps all: it is held, or it is gone and what waited for it is in hand
+pub data HasEnd (script : Script) (v : World) (s : Step) (parcel : Parcel) (rest : List Held) : Type 0 where
+  keeps_it : (next : Step) → end_process s parcel ≡ Some (IsHeld next) → HoldsAfter script v next rest
+      → HasEnd script v s parcel rest
   frees : (next : Step) (items : List Held) → end_process s parcel ≡ Some (Releases next items)
-      → GoesWell script Good v next (items ++ rest) → HasEnd script Good v s parcel rest
+      → HoldsAfter script v next (items ++ rest) → HasEnd script v s parcel rest
 
--- In every good world in which all holds, what is first in hand goes on to such a world.
-pub record RoutesAll (script : Script) (Good : World → List Held → Type 0) : Type 0 where
-  pub calls : (v : World) (s : Step) (asked : Asked) (rest : List Held) (b : Beside)
-      → Holds script (world_after v 1 s) (Request asked ∷ rest) b → Good (world_after v 1 s) (Request asked ∷ rest)
-      → RoutesWell script Good v s asked rest
+-- A step from a world with this in hand is good by what its rules ask besides the invariant: as that numbers of nodes
+-- are those of nodes of the script. Then what is first in hand goes on, to a step that is good again.
+pub record RoutesAll (script : Script) (Good : World → Step → List Held → Type 0) : Type 0 where
+  pub routes : (v : World) (s : Step) (asked : Asked) (rest : List Held) (b : Beside)
+      → Holds script (world_after v 1 s) (Request asked ∷ rest) b → Good v s (Request asked ∷ rest)
+      → HasRoute script v s asked rest
   pub ends : (v : World) (s : Step) (parcel : Parcel) (rest : List Held) (b : Beside)
-      → Holds script (world_after v 1 s) (Ending parcel ∷ rest) b → Good (world_after v 1 s) (Ending parcel ∷ rest)
-      → HasEnd script Good v s parcel rest
-
--- a route that keeps all and leads to a good world is such a route
-pub goes-by-route : (script : Script) (Good : World → List Held → Type 0) (v : World) (s : Step) (asked : Asked)
-    (rest : List Held) → HasRoute script v s asked rest
-    → ((next : Step) → route_call script s asked ≡ Some next → Good (world_after v 1 next) rest)
-    → RoutesWell script Good v s asked rest
-goes-by-route script Good v s asked rest has good =
-    let keeps : RouteKeeps script v s asked rest has.beside = has.keeps
-    in record {
-      next = keeps.next;
-      is_route = keeps.is_route;
-      goes = record {
-        after = record { beside = has.beside; holds = keeps.holds };
-        good = good keeps.next keeps.is_route;
-      };
-    }
+      → Holds script (world_after v 1 s) (Ending parcel ∷ rest) b → Good v s (Ending parcel ∷ rest)
+      → HasEnd script v s parcel rest
+  pub good_routed : (v : World) (s next : Step) (asked : Asked) (rest : List Held) → Good v s (Request asked ∷ rest)
+      → route_call script s asked ≡ Some next → Good v next rest
+  pub good_held : (v : World) (s next : Step) (parcel : Parcel) (rest : List Held) → Good v s (Ending parcel ∷ rest)
+      → end_process s parcel ≡ Some (IsHeld next) → Good v next rest
+  pub good_released : (v : World) (s next : Step) (parcel : Parcel) (items rest : List Held)
+      → Good v s (Ending parcel ∷ rest) → end_process s parcel ≡ Some (Releases next items)
+      → Good v next (items ++ rest)
 
 -- ---- the leader in the middle of its event
 
@@ -111,92 +89,91 @@ first-is-packed script w parcel rest b holds =
 
 -- ---- a round
 
--- the rounds come to a step, after which nothing is in hand
-pub record EmptiesHand (script : Script) (Good : World → List Held → Type 0) (v : World) (came_to : Option Step) : Type 0
-  where
-    pub last : Step
-    pub is_last : came_to ≡ Some last
-    pub goes : GoesWell script Good v last []
+-- the rounds come to a step, after which all holds with nothing in hand
+pub record EmptiesHand (script : Script) (Good : World → Step → List Held → Type 0) (v : World)
+    (came_to : Option Step) : Type 0 where
+  pub last : Step
+  pub is_last : came_to ≡ Some last
+  pub after : HoldsAfter script v last []
+  pub good : Good v last []
 
 -- the parcels in hand and in the directory
 abbrev pub parcels_left : List Held → Step → ℕ
 parcels_left items s = parcels_among items + parcels_held (directory_in s)
 
-module _ (script : Script) (Good : World → List Held → Type 0) (all : RoutesAll script Good) (v : World) where
+module _ (script : Script) (Good : World → Step → List Held → Type 0) (all : RoutesAll script Good) (v : World) where
   -- with so many parcels at most the hand is emptied
   abbrev EmptiesWith : (List Held → Step → Option Step) → ℕ → Type 0
   EmptiesWith does limit =
       (items : List Held) (s : Step) (b : Beside) → Holds script (world_after v 1 s) items b
-      → Good (world_after v 1 s) items → parcels_left items s ≤ limit → EmptiesHand script Good v (does items s)
+      → Good v s items → parcels_left items s ≤ limit → EmptiesHand script Good v (does items s)
 
   -- and with fewer
   abbrev EmptiesBelow : (List Held → Step → Option Step) → ℕ → Type 0
   EmptiesBelow does limit =
       (items : List Held) (s : Step) (b : Beside) → Holds script (world_after v 1 s) items b
-      → Good (world_after v 1 s) items → parcels_left items s < limit → EmptiesHand script Good v (does items s)
+      → Good v s items → parcels_left items s < limit → EmptiesHand script Good v (does items s)
 
   -- a parcel has come to its end: the round goes on, or the next begins
-  by-end : (does : List Held → Step → Option Step) (limit : ℕ) (parcel : Parcel) (rest : List Held) (s : Step) (b : Beside)
-      → Holds script (world_after v 1 s) (Ending parcel ∷ rest) b
+  by-end : (does : List Held → Step → Option Step) (limit : ℕ) (parcel : Parcel) (rest : List Held) (s : Step)
+      (b : Beside) → Holds script (world_after v 1 s) (Ending parcel ∷ rest) b → Good v s (Ending parcel ∷ rest)
       → parcels_left (Ending parcel ∷ rest) s ≤ limit
       → EmptiesBelow does limit
-      → ((t : Step) (b' : Beside) → Holds script (world_after v 1 t) rest b' → Good (world_after v 1 t) rest
+      → ((t : Step) (b' : Beside) → Holds script (world_after v 1 t) rest b' → Good v t rest
       → parcels_left rest t ≤ limit → EmptiesHand script Good v (release_round script does rest t))
-      → HasEnd script Good v s parcel rest
+      → HasEnd script v s parcel rest
       → EmptiesHand script Good v (release_round script does (Ending parcel ∷ rest) s)
-  by-end does limit parcel rest s b holds few below later (keeps_it next is goes) =
-      let after : HoldsAfter script v next rest = goes.after
-      in let left : EndLeaves s (Some (IsHeld next)) =
+  by-end does limit parcel rest s b holds good few below later (keeps_it next is after) =
+      let left : EndLeaves s (Some (IsHeld next)) =
       subst (EndLeaves s) is
       (end-leaves s parcel (first-is-packed script (world_after v 1 s) parcel rest b holds)
       (places-rise script v s (Ending parcel ∷ rest) b holds))
       in let e : EmptiesHand script Good v (release_round script does rest next) =
-      later next after.beside after.holds goes.good (omega (arith, few, left, among-behind-parcel parcel rest))
+      later next after.beside after.holds (all.good_held v s next parcel rest good is)
+      (omega (arith, few, left, among-behind-parcel parcel rest))
       in record {
         last = e.last;
         is_last = ap (option_and_then (go_on_after does (release_round script does rest) rest)) is ∙ e.is_last;
-        goes = e.goes;
+        after = e.after;
+        good = e.good;
       }
-  by-end does limit parcel rest s b holds few below later (frees next items is goes) =
-      let after : HoldsAfter script v next (items ++ rest) = goes.after
-      in let left : EndLeaves s (Some (Releases next items)) =
+  by-end does limit parcel rest s b holds good few below later (frees next items is after) =
+      let left : EndLeaves s (Some (Releases next items)) =
       subst (EndLeaves s) is
       (end-leaves s parcel (first-is-packed script (world_after v 1 s) parcel rest b holds)
       (places-rise script v s (Ending parcel ∷ rest) b holds))
       in let e : EmptiesHand script Good v (does (items ++ rest) next) =
-      below (items ++ rest) next after.beside after.holds goes.good
+      below (items ++ rest) next after.beside after.holds (all.good_released v s next parcel items rest good is)
       (omega (arith, few, left, among-behind-parcel parcel rest, among-both items rest))
       in record {
         last = e.last;
         is_last = ap (option_and_then (go_on_after does (release_round script does rest) rest)) is ∙ e.is_last;
-        goes = e.goes;
+        after = e.after;
+        good = e.good;
       }
 
   -- a round empties the hand where those after it do with fewer parcels
   round-does : (does : List Held → Step → Option Step) (limit : ℕ) → EmptiesBelow does limit
       → EmptiesWith (release_round script does) limit
   round-does does limit below [] s b holds good few =
-      record {
-        last = s;
-        is_last = refl;
-        goes = record { after = record { beside = b; holds = holds }; good = good };
-      }
+      record { last = s; is_last = refl; after = record { beside = b; holds = holds }; good = good }
   round-does does limit below (Request asked ∷ rest) s b holds good few =
-      let r : RoutesWell script Good v s asked rest = all.calls v s asked rest b holds good
-      in let goes : GoesWell script Good v r.next rest = r.goes
-      in let after : HoldsAfter script v r.next rest = goes.after
+      let has : HasRoute script v s asked rest = all.routes v s asked rest b holds good
+      in let r : RouteKeeps script v s asked rest has.beside = has.keeps
       in let no_more : HoldsNoMore s r.next =
       route-holds-no-more script s r.next asked (places-rise script v s (Request asked ∷ rest) b holds) r.is_route
       in let e : EmptiesHand script Good v (release_round script does rest r.next) =
-      round-does does limit below rest r.next after.beside after.holds goes.good
+      round-does does limit below rest r.next has.beside r.holds
+      (all.good_routed v s r.next asked rest good r.is_route)
       (omega (arith, few, no_more, among-behind-call asked rest))
       in record {
         last = e.last;
         is_last = ap (option_and_then (release_round script does rest)) r.is_route ∙ e.is_last;
-        goes = e.goes;
+        after = e.after;
+        good = e.good;
       }
   round-does does limit below (Ending parcel ∷ rest) s b holds good few =
-      by-end does limit parcel rest s b holds few below (λ t b'. round-does does limit below rest t b')
+      by-end does limit parcel rest s b holds good few below (λ t b'. round-does does limit below rest t b')
       (all.ends v s parcel rest b holds good)
 
   -- so many rounds do for so many parcels
@@ -208,6 +185,6 @@ module _ (script : Script) (Good : World → List Held → Type 0) (all : Routes
 
   -- What is in hand is released: it comes to a step, and all holds after it with nothing in hand.
   pub release-empties : (items : List Held) (s : Step) (b : Beside) → Holds script (world_after v 1 s) items b
-      → Good (world_after v 1 s) items → EmptiesHand script Good v (release script items s)
+      → Good v s items → EmptiesHand script Good v (release script items s)
   release-empties items s b holds good =
       rounds-do (parcels_left items s) items s b holds good (omega arith)

@@ -116,7 +116,8 @@ read-no-more s name reader r =
 -- ---- a call is served
 
 abbrev done_with : Script → Step → Asked → Served → Step
-done_with script s asked served = carry_out script (with_deeds s (put_all s.node.deeds served.changes)) asked served.reply
+done_with script s asked served =
+    carry_out script (with_deeds s (put_all s.node.deeds served.changes)) asked served.reply
 
 done-same : (script : Script) (s : Step) (asked : Asked) (served : Served)
     → directory_in (done_with script s asked served) ≡ directory_in s
@@ -153,7 +154,8 @@ unbind-same (Proc pid) t = refl
 unbind-same (Msg id) t = refl
 unbind-same (Sem id) t = refl
 
-unbind-no-more : (s : Step) (name : Name) (o : Option Step) → NoMoreIn s o → NoMoreIn s (option_map (unbind_name name) o)
+unbind-no-more : (s : Step) (name : Name) (o : Option Step) → NoMoreIn s o
+    → NoMoreIn s (option_map (unbind_name name) o)
 unbind-no-more s name None h = tt
 unbind-no-more s name (Some t) h = omega (arith, ap parcels_held (unbind-same name t), h)
 
