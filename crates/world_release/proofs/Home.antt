@@ -34,9 +34,6 @@ abbrev is_give_back : Frame → Bool
 is_give_back (frames.GiveBack deed) = true
 is_give_back frame = false
 
-no-give-back : (frame : Frame) (deed : PackedDeed) → is_give_back frame ≡ false → frames.GiveBack deed ≡ frame → ⊥
-no-give-back frame deed h e = false≢true (sym h ∙ ap is_give_back (sym e))
-
 give-backs-same : (a b : PackedDeed) → frames.GiveBack a ≡ frames.GiveBack b → a ≡ b
 give-backs-same a b h = cc
 
@@ -46,6 +43,13 @@ not-none x xs h = cc
 and-second : (a b : Bool) → (a && b) ≡ true → b ≡ true
 and-second true b h = h
 and-second false b h = absurd (false≢true h)
+
+-- what stands alone where the deed is of another kind is no GiveBack
+no-other : (t : Bool) (P : Frame → Type 0) → ((f : Frame) → P f → is_give_back f ≡ false) → (packed : PackedDeed)
+    (rest fs : List Frame) → fs ≡ frames.GiveBack packed ∷ rest → OneIf t P fs → ⊥
+no-other t P differs packed rest fs e h =
+    let one : IsAlone t P (frames.GiveBack packed) rest = is-alone t P (frames.GiveBack packed) rest fs e h
+    in false≢true (sym (differs (frames.GiveBack packed) one.holds))
 
 -- a GiveBack says that the deed is in it
 pub given-back : (forks_it : ℕ → ℕ) (pids : ℕ → ℕ) (name : Name) (body : Body) (deed : DeedPlace) (to sender : ℕ)
@@ -72,27 +76,13 @@ given-back forks_it pids name body (InGiveBack node) to sender packed rest fs e 
       alone = one.alone;
     }
 given-back forks_it pids name body (InGrant node) to sender packed rest fs e h =
-    let one : IsAlone (nat_eq to node && nat_eq sender 1) (λ f. f ≡ frames.Grant (pack name body))
-    (frames.GiveBack packed) rest =
-    is-alone (nat_eq to node && nat_eq sender 1) (λ f. f ≡ frames.Grant (pack name body)) (frames.GiveBack packed) rest
-    fs e h
-    in absurd (no-give-back (frames.Grant (pack name body)) packed refl one.holds)
+    absurd (no-other _ (λ f. f ≡ frames.Grant (pack name body)) (λ f is. ap is_give_back is) packed rest fs e h)
 given-back forks_it pids name body (InCheckpoint c) to sender packed rest fs e h =
-    let one : IsAlone (nat_eq to c && nat_eq sender (forks_it c)) (IsCheckpointOf name body)
-    (frames.GiveBack packed) rest =
-    is-alone (nat_eq to c && nat_eq sender (forks_it c)) (IsCheckpointOf name body) (frames.GiveBack packed) rest fs e h
-    in let is : IsCheckpointOf name body (frames.GiveBack packed) = one.holds
-    in absurd (no-give-back (frames.Checkpoint is.pid is.parent (pack name body) is.vars) packed refl is.is)
+    absurd (no-other _ (IsCheckpointOf name body) (λ f is. ap is_give_back is.is) packed rest fs e h)
 given-back forks_it pids name body (InLeft c) to sender packed rest fs e h =
-    let one : IsAlone (nat_eq to 1 && nat_eq sender c) (IsLeftOf name body (pids c)) (frames.GiveBack packed) rest =
-    is-alone (nat_eq to 1 && nat_eq sender c) (IsLeftOf name body (pids c)) (frames.GiveBack packed) rest fs e h
-    in let is : IsLeftOf name body (pids c) (frames.GiveBack packed) = one.holds
-    in absurd (no-give-back (frames.Left is.parcel) packed refl is.is)
+    absurd (no-other _ (IsLeftOf name body (pids c)) (λ f is. ap is_give_back is.is) packed rest fs e h)
 given-back forks_it pids name body (InExitTo c node) to sender packed rest fs e h =
-    let one : IsAlone (nat_eq to node && nat_eq sender 1) (IsExitOf name body (pids c)) (frames.GiveBack packed) rest =
-    is-alone (nat_eq to node && nat_eq sender 1) (IsExitOf name body (pids c)) (frames.GiveBack packed) rest fs e h
-    in let is : IsExitOf name body (pids c) (frames.GiveBack packed) = one.holds
-    in absurd (no-give-back (frames.ExitTo is.parcel) packed refl is.is)
+    absurd (no-other _ (IsExitOf name body (pids c)) (λ f is. ap is_give_back is.is) packed rest fs e h)
 
 -- ---- what is held for a queue or set is no parcel
 
