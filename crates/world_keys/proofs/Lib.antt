@@ -1,0 +1,3 @@
+pub mod Refills
+pub mod AtLeader
+pub mod Taking
