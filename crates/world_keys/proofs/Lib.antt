@@ -1,3 +1,6 @@
 pub mod Refills
 pub mod AtLeader
 pub mod Taking
+pub mod NewPlaces
+pub mod MadeHere
+pub mod MadeNames
