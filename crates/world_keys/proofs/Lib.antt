@@ -4,3 +4,4 @@ pub mod Taking
 pub mod NewPlaces
 pub mod MadeHere
 pub mod MadeNames
+pub mod MadeNumbers

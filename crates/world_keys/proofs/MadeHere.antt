@@ -66,12 +66,14 @@ pub record MakesOf (w : World) (b : Beside) (pid : ℕ) (call : Call) (kind : Ki
   pub object : is_object name ≡ true
   pub made : MakesObject b.kernel pid call name body
 
-kind-itself : (kind : Kind) → is_same_kind kind kind ≡ true
+-- a kind is itself
+pub kind-itself : (kind : Kind) → is_same_kind kind kind ≡ true
 kind-itself kinds.Proc = refl
 kind-itself kinds.Msg = refl
 kind-itself kinds.Sem = refl
 
-kind-is : (a c : Kind) → is_same_kind a c ≡ true → a ≡ c
+-- kinds that pass the test are one
+pub kind-is : (a c : Kind) → is_same_kind a c ≡ true → a ≡ c
 kind-is kinds.Proc kinds.Proc h = refl
 kind-is kinds.Msg kinds.Msg h = refl
 kind-is kinds.Sem kinds.Sem h = refl
@@ -82,12 +84,14 @@ kind-is kinds.Msg kinds.Sem h = absurd (false≢true h)
 kind-is kinds.Sem kinds.Proc h = absurd (false≢true h)
 kind-is kinds.Sem kinds.Msg h = absurd (false≢true h)
 
-for-with : (m : Leases) (kind : Kind) (ns : List ℕ) → for_kind (with_kind m kind ns) kind ≡ ns
+-- a kind has what it was given, and the others what they had
+pub for-with : (m : Leases) (kind : Kind) (ns : List ℕ) → for_kind (with_kind m kind ns) kind ≡ ns
 for-with m kinds.Proc ns = refl
 for-with m kinds.Msg ns = refl
 for-with m kinds.Sem ns = refl
 
-for-other : (m : Leases) (kind y : Kind) (ns : List ℕ) → is_same_kind kind y ≡ false
+-- the others have what they had
+pub for-other : (m : Leases) (kind y : Kind) (ns : List ℕ) → is_same_kind kind y ≡ false
     → for_kind (with_kind m kind ns) y ≡ for_kind m y
 for-other m kinds.Proc kinds.Msg ns h = refl
 for-other m kinds.Proc kinds.Sem ns h = refl

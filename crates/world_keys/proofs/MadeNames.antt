@@ -1,5 +1,5 @@
 -- The leader has made a queue or a set, whoever asked for it: all holds of each name afterwards.
-use Rattle.std.proofs.Common.{◌≡◌, ◌≢◌, ◌⊎◌, ℕ, ◌≤◌, Bool, true, false, ◌&&◌, ◌||◌, not, if◌then◌else◌, List, [], ◌∷◌, filter, flat_map, nat_eq, Option, Some, None, is_none, is_some, refl, ap, sym, subst, ◌∙◌, inl, inr}
+use Rattle.std.proofs.Common.{◌≡◌, ◌≢◌, ◌⊎◌, ℕ, ◌≤◌, Bool, true, false, ◌&&◌, ◌||◌, not, if◌then◌else◌, List, [], ◌∷◌, filter, flat_map, nat_eq, Option, Some, None, is_none, is_some, refl, ap, sym, subst, ◌∙◌, inl, inr, arith}
 use Rattle.std.specs.List.{AllByRecursion}
 use Rattle.std.proofs.lemmas.Bool.{cases_eq, eq-eqb, ne_eqb}
 use Rattle.pico_base.specs.declared.call.Call.{Call}
@@ -173,3 +173,172 @@ module _ (script : Script) (w w' : World) (hand hand' : List Held) (b : Beside) 
 
   stays-same : (y : ℕ) → stays (directory_of w') y ≡ stays d y
   stays-same y = ap (λ z. stays z y) directory-is ∙ ap is_none (knows.partings_are y)
+
+  -- ---- any other name
+
+  abbrev other_sight : Name → NameSight
+  other_sight y = made_by (x y) (maker (directory_of w') y)
+
+  used-other : (y : Name) → y ≢ name → is_used_name made.next y ≡ is_used_name k y
+  used-other y other = used-others k pid call (replies.Num (number_of name)) name made.next made.enters y other
+
+  held-other : (y : Name) → y ≢ name → (h : ℕ) → held_at w' y h ≡ held_at w y h
+  held-other y other h =
+      read-same script 1 w w' after [] sends entries c (λ (z : Node). get_named z.deeds y)
+      (get-put-other-name n.deeds name body y other) h
+
+  begins-other : (y : Name) → y ≢ name → (h : ℕ)
+      → begin (stage_of w' h) (is_some (held_at w' y h)) (comes_to script w' y h)
+      ≡ begin (stage_of w h) (is_some (held_at w y h)) (comes_to script w y h)
+  begins-other y other h =
+      ap (begin (stage_of w' h) (is_some (held_at w' y h))) (comes-same y h)
+      ∙ read-same script 1 w w' after [] sends entries c
+      (λ (z : Node). begin z.stage (is_some (get_named z.deeds y)) (comes_to script w y h))
+      (ap (λ o. begin n.stage (is_some o) (comes_to script w y h)) (get-put-other-name n.deeds name body y other)) h
+
+  -- a Leaving counts for it where it did
+  flag-other : (y : Name) → y ≢ name → (q : ℕ)
+      → (is_used_name made.next y && is_maker (maker (directory_of w') y) q)
+      ≡ (is_used_name k y && is_maker (maker d y) q)
+  flag-other y other q =
+      ap (λ u. u && is_maker (maker (directory_of w') y) q) (used-other y other)
+      ∙ elim (maker-cases y) [
+        | inl same ↦ ap (λ o. is_used_name k y && is_maker o q) same
+        | inr given ↦
+            ap (λ u. u && is_maker (maker (directory_of w') y) q) given.unused
+            ∙ sym (ap (λ u. u && is_maker (maker d y) q) given.unused)
+      ]
+
+  other-seen : (y : Name) → y ≢ name → SameName (other_sight y) (name_sight script w' hand' made_beside y)
+  other-seen y other =
+      record {
+        place = sym (ap (λ z. place_of z y) directory-is ∙ knows.others y other);
+        maker = refl;
+        stays = λ q. sym (stays-same q);
+        used = sym (used-other y other);
+        body = sym (made.rest y other);
+        deed = sym (ap (λ t. if t then InTable 1 else b.deed y) (other-name name y (λ e. other (sym e))));
+        held = λ h. sym (held-other y other h);
+        brought = λ to sender. sym (brought-same y to sender);
+        kept = λ p. sym (kept-same y p);
+        hand = sym (l.hand_is y);
+        begins = λ h. sym (begins-other y other h);
+        steps = λ h. sym (steps-same y h);
+        ranges = λ h. sym (ranges-same y h);
+        placed = λ q. sym (placed-same y q);
+        news = λ q. ap (λ u. news y u (frames_to w 1 q)) (sym (flag-other y other q))
+            ∙ sym (news-same y (is_used_name made.next y && is_maker (maker (directory_of w') y) q) q);
+      }
+
+  -- ---- its own
+
+  name-unused : is_used_name k name ≡ false
+  name-unused = unused script w hand b holds some_node pid call kind name body m
+
+  used-now : is_used_name made.next name ≡ true
+  used-now = used-made k pid call (replies.Num (number_of name)) name made.next made.enters
+
+  made-here : maker (directory_of w') name ≡ Some 1
+  made-here =
+      ap (λ z. maker z name) directory-is ∙ same-ranges name
+      ∙ ap (λ y. maker_in (for_kind t.directory.ranges y) (number_of name)) m.kind_is
+      ∙ ap (maker_in (for_kind t.directory.ranges kind)) m.number_is ∙ t.made_here
+
+  deed-none : b.deed name ≡ Unmade
+  deed-none = deed-was script b.pids (is_born_in w) name (x name) (holds.names name) body name-unused
+
+  held-none : (q : ℕ) → held_at w name q ≡ None
+  held-none q =
+      let known : NameHolds script b.pids (is_born_in w) name (x name) = holds.names name
+      in known.tables q ∙ ap (λ (y : DeedPlace). held_as y (body_in k name) q) deed-none
+
+  held-now : (q : ℕ) → held_as (InTable 1) body q ≡ held_at w' name q
+  held-now q =
+      elim (cases_eq q 1) [
+        | inl e ↦
+            subst (λ y. held_as (InTable 1) body y ≡ held_at w' name y) (sym e)
+            (held-here 1 body
+            ∙ sym (ap (λ (z : Node). get_named z.deeds name) c.here ∙ get-put-same-name n.deeds name body))
+        | inr e ↦
+            held-elsewhere 1 q body e
+            ∙ sym (ap (λ (z : Node). get_named z.deeds name) (c.others q e) ∙ held-none q)
+      ]
+
+  begins-here : begin (stage_of w' 1) (is_some (held_at w' name 1)) (comes_to script w' name 1) ≡ Has
+  begins-here =
+      ap (λ o. begin (stage_of w' 1) (is_some o) (comes_to script w' name 1)) (sym (held-now 1) ∙ held-here 1 body)
+      ∙ ap (λ (z : Node). begin z.stage true (comes_to script w' name 1)) c.here
+      ∙ begins-with n.stage true (comes_to script w' name 1)
+      ((leader-stage script b.pids (is_born_in w) 1 n refl (holds.nodes 1 (omega arith) some_node)).1) refl
+
+  begins-now : (q : ℕ) → (if nat_eq q 1 then Has else (x name).begins q)
+      ≡ begin (stage_of w' q) (is_some (held_at w' name q)) (comes_to script w' name q)
+  begins-now q =
+      elim (cases_eq q 1) [
+        | inl e ↦
+            ap (λ t. if t then Has else (x name).begins q) (eq-eqb q 1 e)
+            ∙ subst (λ y. Has ≡ begin (stage_of w' y) (is_some (held_at w' name y)) (comes_to script w' name y))
+            (sym e) (sym begins-here)
+        | inr e ↦
+            ap (λ t. if t then Has else (x name).begins q) (ne_eqb q 1 e)
+            ∙ ap (begin (stage_of w q) (is_some (held_at w name q))) (sym (comes-same name q))
+            ∙ sym (ap (λ (z : Node). begin z.stage (is_some (get_named z.deeds name)) (comes_to script w' name q))
+            (c.others q e))
+      ]
+
+  flag-now : (q : ℕ) → q ≢ 1 → (is_used_name made.next name && is_maker (maker (directory_of w') name) q) ≡ false
+  flag-now q other =
+      ap (λ u. u && is_maker (maker (directory_of w') name) q) used-now
+      ∙ ap (λ o. is_maker o q) made-here ∙ ne_eqb 1 q (λ e. other (sym e))
+
+  news-now : (q : ℕ) → (x name).news q
+      ≡ news name (is_used_name made.next name && is_maker (maker (directory_of w') name) q) (frames_to w' 1 q)
+  news-now q =
+      elim (cases_eq q 1) [
+        | inl e ↦
+            subst (λ y. (x name).news y
+            ≡ news name (is_used_name made.next name && is_maker (maker (directory_of w') name) y) (frames_to w' 1 y))
+            (sym e)
+            (ap (news name (is_used_name k name && is_maker (maker d name) 1)) (none-to-itself)
+            ∙ sym (news-same name (is_used_name made.next name && is_maker (maker (directory_of w') name) 1) 1
+            ∙ ap (news name (is_used_name made.next name && is_maker (maker (directory_of w') name) 1))
+            none-to-itself))
+        | inr e ↦
+            ap (λ u. news name (u && is_maker (maker d name) q) (frames_to w 1 q)) name-unused
+            ∙ sym (ap (λ u. news name u (frames_to w' 1 q)) (flag-now q e) ∙ news-same name false q)
+      ]
+    where
+      none-to-itself : frames_to w 1 1 ≡ []
+      none-to-itself = let fit = holds.frames_fit in fit.none_to_itself 1
+
+  own-seen : SameName (at_leader (other_sight name) body) (name_sight script w' hand' made_beside name)
+  own-seen =
+      record {
+        place = sym (ap (λ z. place_of z name) directory-is ∙ knows.place_is);
+        maker = refl;
+        stays = λ q. sym (stays-same q);
+        used = sym used-now;
+        body = sym made.there;
+        deed = sym (ap (λ t. if t then InTable 1 else b.deed name) (same-name name name refl));
+        held = held-now;
+        brought = λ to sender. sym (brought-same name to sender);
+        kept = λ p. sym (kept-same name p);
+        hand = sym (l.hand_is name);
+        begins = begins-now;
+        steps = λ h. sym (steps-same name h);
+        ranges = λ h. sym (ranges-same name h);
+        placed = λ q. sym (placed-same name q);
+        news = news-now;
+      }
+
+  -- All holds of each name.
+  pub made-names : (y : Name) → NameHolds script b.pids (is_born_in w') y (name_sight script w' hand' made_beside y)
+  made-names y =
+      elim (name-cases y name) [
+        | inl e ↦
+            subst (λ z. NameHolds script b.pids (is_born_in w') z (name_sight script w' hand' made_beside z)) (sym e)
+            (name-stays script b.pids (is_born_in w) (is_born_in w') name _ _ more own-seen
+            (name-at-leader script b.pids (is_born_in w) name (other_sight name) (maker-now name) body name-unused))
+        | inr other ↦
+            name-stays script b.pids (is_born_in w) (is_born_in w') y _ _ more (other-seen y other) (maker-now y)
+      ]
