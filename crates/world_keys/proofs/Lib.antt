@@ -5,3 +5,5 @@ pub mod NewPlaces
 pub mod MadeHere
 pub mod MadeNames
 pub mod MadeNumbers
+pub mod OtherLeases
+pub mod MadeForOther
