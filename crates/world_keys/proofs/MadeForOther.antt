@@ -31,7 +31,7 @@ use Rattle.node_model.specs.Caller.{Caller, caller_place}
 use Rattle.node_model.specs.Directory.{Directory, held_for, place_name}
 use Rattle.node_model.specs.Leases.{Leases}
 use Rattle.world_model.specs.Calls.{is_for_others}
-use Rattle.world_model.specs.Node.{Node, Stage, Unborn}
+use Rattle.world_model.specs.Node.{Leader, Node, Stage, Unborn}
 use Rattle.world_model.specs.World.{World, node_count}
 use Rattle.world_laws.specs.Places.{AsksLease, Beside, CallPlace, DeedPlace, HasLease, InAnswer, InCheckpoint, InTable, call_in, deed_in}
 use Rattle.world_laws.specs.Sights.{directory_of, frames_to, is_born_in, is_born_stage, node_of, stage_of}
@@ -285,4 +285,158 @@ module _ (script : Script) (w : World) (asked : Asked) (rest : List Held) (b : B
               try_left = has.try_left;
             });
         ends = sym (ap is_end_place is-first.place_is) ∙ before.ends;
+      }
+
+  -- ---- calls of others
+
+  -- before, with the next kernel
+  abbrev between : Beside
+  between = record b { kernel = made.next }
+
+  goes-on : (z : ℕ) → 1 ≤ z → z ≤ node_count script → z ≢ p
+      → CallHolds script z (is_born_in w) (call_sight w hand between z)
+  goes-on z low_z high_z away =
+      call-goes-on script z (is_born_in w) (call_sight w hand b z) (living_at made.next (b.pids z))
+      (others-go-on k made.next b.places places-now (b.pids p) leaves (b.pids z) (other-process z away))
+      (holds.calls z low_z high_z)
+
+  hand-of-others : (z : ℕ) → z ≢ p → filter (is_item_about z) rest ≡ filter (is_item_about z) hand
+  hand-of-others z away =
+      sym (ap (λ t. cond t (Request asked ∷ filter (is_item_about z) rest) (filter (is_item_about z) rest))
+      (ne_eqb p z (λ e. away (sym e))))
+
+  call-of-others : (z : ℕ) → z ≢ p → calls-now z ≡ b.call z
+  call-of-others z away = ap (λ t. if t then InAnswer 1 reply else b.call z) (ne_eqb p z (λ e. away (sym e)))
+
+  call-elsewhere : (z : ℕ) → z ≢ p → z ≢ 1 → LeavesCall w w' hand rest between moved 1 after z
+  call-elsewhere z away not_first =
+      record {
+        own = λ e. absurd (not_first e);
+        place_is = leaves.places_stay (b.pids z) (other-process z away);
+        alive_is = refl;
+        call_is = call-of-others z away;
+        held_is = same-but-call.held_of_others z away;
+        hand_is = hand-of-others z away;
+      }
+
+  first-seen : SameCall (record (call_sight w hand between 1) { leases = after.leases }) (call_sight w' rest moved 1)
+  first-seen =
+      record {
+        number = sym (ap (λ (z : Node). z.number) c.here);
+        pid = sym (ap (λ (z : Node). z.pid) c.here);
+        stage = sym (ap (λ (z : Node). z.stage) c.here);
+        caller = sym (ap (λ (z : Node). z.caller) c.here);
+        leases = sym (ap (λ (z : Node). z.leases) c.here);
+        place = sym (leaves.places_stay (b.pids 1) (other-process 1 (λ e. other (sym e))));
+        alive = refl;
+        call = sym (call-of-others 1 (λ e. other (sym e)));
+        frames_about = λ to sender. sym (made-same script 1 w w' after [] sends (entry ∷ []) c
+            (λ t s fs. filter (is_about 1 t s) fs) (λ t s. filter-is-list-map (is_about 1 t s)) tt
+            (ap (λ t. cond t (frames.Answer asked.ticket reply ∷ []) []) (ne_eqb p 1 other), tt) to sender);
+        held = λ z. sym (same-but-call.held_of_others 1 (λ e. other (sym e)) z);
+        hand = sym (hand-of-others 1 (λ e. other (sym e)));
+      }
+
+  calls-hold : (z : ℕ) → 1 ≤ z → z ≤ node_count script → CallHolds script z (is_born_in w') (call_sight w' rest moved z)
+  calls-hold z low_z high_z =
+      elim (cases_eq z p) [
+        | inl e ↦
+            subst (λ q. CallHolds script q (is_born_in w') (call_sight w' rest moved q)) (sym e)
+            (call-stays script p (is_born_in w) (is_born_in w') _ _ more sight-now call-answered)
+        | inr away ↦
+            elim (cases_eq z 1) [
+              | inl e ↦
+                  subst (λ q. CallHolds script q (is_born_in w') (call_sight w' rest moved q)) (sym e)
+                  (call-stays script 1 (is_born_in w) (is_born_in w') _ _ more first-seen
+                  (other-leases script (is_born_in w) (call_sight w hand between 1) after.leases
+                  (goes-on 1 (omega arith) high-one (λ g. other (sym g)))))
+              | inr not_first ↦
+                  call-stays script z (is_born_in w) (is_born_in w') _ _ more
+                  (call-left-alone script 1 w w' after [] sends (entry ∷ []) c hand rest between moved z
+                  (call-elsewhere z away not_first) tt (ne_eqb p z (λ e. away (sym e)), tt))
+                  (goes-on z low_z high_z away)
+            ]
+      ]
+
+  -- ---- names, ways and families
+
+  same-calls : IsSameBut p b.call calls-now
+  same-calls z away = call-of-others z away
+
+  leaves-frames : LeavesFrames hand rest b calls-now c.left
+  leaves-frames =
+      record {
+        hand_is = λ z. refl;
+        steps_are = λ z h. plays-of-others b.call calls-now p same-calls z h 1 (c.left h 1) (left-alone h 1);
+        ranges_are = λ z h. ranges-of-all-others b.call calls-now p same-calls z h 1 (c.left h 1) (left-alone h 1);
+      }
+
+  lease-same : (y : Kind) (q : ℕ) → has_lease y (calls-now q) ≡ has_lease y (b.call q)
+  lease-same y q =
+      elim (cases_eq p q) [
+        | inl e ↦
+            ap (λ t. has_lease y (if t then InAnswer 1 reply else b.call q)) (eq-eqb p q e)
+            ∙ sym (subst (λ z. has_lease y (b.call z) ≡ false) e (ap (has_lease y) is-first.place_is))
+        | inr away ↦ ap (λ t. has_lease y (if t then InAnswer 1 reply else b.call q)) (ne_eqb p q away)
+      ]
+
+  was-in : (parcel : Parcel) → IsParcelIn w' rest parcel → IsParcelIn w' hand parcel
+  was-in parcel (left_in z there) = left_in z there
+  was-in parcel (sent_in z there) = sent_in z there
+  was-in parcel (kept_in q there) = kept_in q there
+  was-in parcel (at_hand there) = at_hand (Contains-append_right (Request asked ∷ []) rest (Ending parcel) there)
+
+  deeds-same : (q : ℕ) → deed_in b.deed name (InTable 1) (Proc q) ≡ b.deed (Proc q)
+  deeds-same q = ap (λ t. if t then InTable 1 else b.deed (Proc q)) (object-is-no-process name q m.object)
+
+  unborn-not : (stage : Stage) → is_born_stage stage ≡ true → stage ≡ Unborn → ⊥
+  unborn-not stage born e = false≢true (sym (ap is_born_stage e) ∙ born)
+
+  families-now : (z : ℕ) → b.pids z ≢ 0
+      → FamilyHolds script b.pids places-now made.next (process_deed (deed_in b.deed name (InTable 1)))
+      (checkpoints_to script w' z) (stage_of w' z) z
+  families-now z forked_z =
+      let old : FamilyHolds script b.pids b.places k (process_deed b.deed) (checkpoints_to script w z) (stage_of w z)
+      z = holds.families z forked_z
+      in family-left-alone script 1 w w' after [] sends (entry ∷ []) c b.pids places-now made.next
+      (process_deed b.deed) (process_deed (deed_in b.deed name (InTable 1))) z deeds-same (λ e. refl) tt (refl, tt)
+      (family-after script b.pids k made.next b.places places-now (b.pids p) leaves (process_deed b.deed)
+      (checkpoints_to script w z) (stage_of w z) z
+      (λ to e. (
+        made.rest (Proc (b.pids z)) (no-process (b.pids z)),
+        λ same. unborn-not (stage_of w p) (caller-born script w asked rest b holds low high)
+            (ap (stage_of w) (holds.pids.apart p z forked (sym same))
+            ∙ subst (λ (g : DeedPlace). IsAwaited (stage_of w z) g) e old.awaited),
+      )) old)
+
+  -- What was made is at the leader, which knows it, and the reply is on its way.
+  pub made-keeps : Holds script w' rest moved
+  made-keeps =
+      record {
+        shape = c.shape;
+        history = history-now;
+        leading = same-but-call.leads;
+        pids = pids-after k made.next b.places places-now (b.pids p) leaves script b.pids holds.pids;
+        nodes = nodes-now;
+        frames_fit = frames-now;
+        names = made-names script w w' hand rest b holds high-one asked.pid asked.call kind name body m n.caller keys
+            places-now calls-now sends (entry ∷ []) c more leaves-frames (λ z. (refl, tt));
+        calls = calls-hold;
+        ways = λ z low_z high_z. way-stays script b.pids z (knows_parent script w b.pids z)
+            (knows_parent script w' b.pids z) (way_sight w z) (way_sight w' z)
+            (same-but-call.known_still (Proc (b.pids (forker script z))))
+            (way-left-alone script 1 w w' after [] sends (entry ∷ []) c z (λ e. refl) (same-but-call.partings_are z) tt
+            (refl, tt)) (holds.ways z low_z high_z);
+        parcels = λ parcel there. sender-stays script 1 w w' after [] sends (entry ∷ []) c b.pids parcel
+            (λ left. (left, refl))
+            (holds.parcels parcel
+            (parcel-was-there script 1 w w' after [] sends (entry ∷ []) c hand parcel (refl, tt)
+            (λ q. same-but-call.parcels_were q parcel) (was-in parcel there)));
+        kinds = made-kinds script w w' hand b holds high-one asked.pid asked.call kind name body m n.caller keys
+            calls-now sends entry c more (λ z. (refl, tt));
+        few = λ z. made-few script w w' hand b holds high-one asked.pid asked.call kind name body m n.caller keys
+            calls-now sends entry c more (λ q. (refl, tt)) z (lease-same z);
+        keys = subst (λ (l : Leader). HasKeys l.queue_keys l.set_keys made.next)
+            (sym (ap (λ (z : Node). z.leader) c.here)) has_keys;
+        families = families-now;
       }
