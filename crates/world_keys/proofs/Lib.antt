@@ -7,3 +7,5 @@ pub mod MadeNames
 pub mod MadeNumbers
 pub mod OtherLeases
 pub mod MadeForOther
+pub mod KeyOutcomes
+pub mod KeyRoutes
