@@ -9,3 +9,6 @@ pub mod OtherLeases
 pub mod MadeForOther
 pub mod KeyOutcomes
 pub mod KeyRoutes
+pub mod Removals
+pub mod RemovalRoutes
+pub mod OtherRoutes
