@@ -1,0 +1,2 @@
+pub mod AnsweredHere
+pub mod KeptHere
