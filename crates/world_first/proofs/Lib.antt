@@ -1,2 +1,5 @@
 pub mod AnsweredHere
 pub mod KeptHere
+pub mod ServedHere
+pub mod UnchangedHere
+pub mod OwnServes
