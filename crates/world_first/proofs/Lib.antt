@@ -3,3 +3,6 @@ pub mod KeptHere
 pub mod ServedHere
 pub mod UnchangedHere
 pub mod OwnServes
+pub mod AnyRoutes
+pub mod OwnRoutes
+pub mod Starts

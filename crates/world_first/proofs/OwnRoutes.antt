@@ -1,0 +1,131 @@
+-- The leader routes a call of node 1's own process, in the middle of an event: on a name that nothing has, on a name that
+-- it holds, and elsewhere as any other call.
+use Rattle.std.proofs.Common.{◌≡◌, ℕ, ◌≤◌, Bool, true, if◌then◌else◌, List, ◌∷◌, Option, Some, None, refl, ap, sym, ◌∙◌, inl, arith}
+use Rattle.std.proofs.lemmas.Bool.{eq-eqb}
+use Rattle.pico_base.specs.declared.call.Call.{Call}
+use Rattle.pico_base.specs.declared.call.Home.TheVariants as homes
+use Rattle.pico_base.specs.declared.numbers.Name.{Name}
+use Rattle.pico_base.specs.declared.reply.Reply.{Reply}
+use Rattle.pico_base.specs.declared.reply.Reply.TheVariants as replies
+use Rattle.pico_base.specs.declared.script.Script.{Script}
+use Rattle.pico_base.specs.Home.{home_of}
+use Rattle.rpc_frame.specs.declared.asked.Asked.{Asked}
+use Rattle.node_model.specs.declared.held.Held.{Held}
+use Rattle.node_model.specs.declared.held.Held.TheVariants.{Request}
+use Rattle.node_model.specs.declared.route.Route.TheVariants as routes
+use Rattle.node_model.specs.Carrying.{is_served}
+use Rattle.node_model.specs.Directory.{Directory, At, maker, maker_stays, place_of, route, route_by}
+use Rattle.node_model.specs.Serving.{has_read, no_such_name}
+use Rattle.world_model.specs.Node.{Node}
+use Rattle.world_model.specs.Step.{Step}
+use Rattle.world_model.specs.Serving.{serve_asked}
+use Rattle.world_model.specs.Routing.{forward, route_home}
+use Rattle.world_model.specs.Routing as routing
+use Rattle.world_model.specs.World.{World, node_count, world_after}
+use Rattle.kernel_moves.proofs.Fresh.{LeavesAll, nobody}
+use Rattle.world_laws.specs.Places.{Beside}
+use Rattle.world_laws.specs.Sights.{node_of, directory_of}
+use Rattle.world_laws.specs.Invariant.{Holds}
+use Rattle.world_hand.proofs.Answering.{due-in-hand, may-make-in-hand, served-plain}
+use Rattle.world_hand.proofs.Asks.{NeverWaits}
+use Rattle.world_hand.proofs.HandRoutes.{RoutesLeft}
+use Rattle.world_hand.proofs.NobodyRoutes.{name-for-on, nobody-unused, on-name-served}
+use Rattle.world_hand.proofs.ReadRoutes.{HasRoute}
+use Rattle.world_hand.proofs.Routes.{IsOn, routed-elsewhere}
+use Rattle.world_hand.proofs.Served.{IsAtLeader, at-leader}
+use Rattle.world_first.specs.Watching.{WatchesAsOwner}
+use Rattle.world_first.proofs.AnsweredHere.{own_asked}
+use Rattle.world_first.proofs.AnyRoutes.{RoutesHere, any-has-route}
+use Rattle.world_first.proofs.OwnServes.{noted_if, own_served_beside, own_served_reply, own_served_step, own-serve-rule, own-served-holds}
+use Rattle.world_first.proofs.UnchangedHere.{after_unchanged, carried-out-here, gone_on, own-node-here, own-node-number, own-unchanged-keeps, own-under-way-as}
+
+module _ (script : Script) (v : World) (s : Step) (ticket pid : ℕ) (call : Call) (rest : List Held) (b : Beside)
+    (holds : Holds script (world_after v 1 s) (Request (own_asked ticket pid call) ∷ rest) b)
+    (high : 1 ≤ node_count script) (never : NeverWaits script) where
+  abbrev w : World
+  w = world_after v 1 s
+
+  abbrev n : Node
+  n = node_of w 1
+
+  abbrev d : Directory
+  d = directory_of w
+
+  abbrev asked : Asked
+  asked = own_asked ticket pid call
+
+  low : 1 ≤ 1
+  low = omega arith
+
+  here : n ≡ s.node
+  here = own-node-here script v s ticket pid call rest b holds high
+
+  number : s.node.number ≡ 1
+  number = own-node-number script v s ticket pid call rest b holds high
+
+  -- ---- nobody
+
+  module _ (name : Name) (on : IsOn name (home_of pid call)) (place : place_of d name ≡ None)
+      (nowhere : route d name ≡ routes.Nobody) where
+    abbrev refusal : Reply
+    refusal = replies.Fail (no_such_name name)
+
+    is-served : is_served call ≡ true
+    is-served = on-name-served pid call name on (never 1 n.caller call (due-in-hand script w asked rest b holds low high))
+
+    refused : LeavesAll b.kernel pid call refusal
+    refused =
+        nobody b.kernel pid call name (may-make-in-hand script w asked rest b holds low high) is-served
+        (name-for-on pid call name on) (nobody-unused script w (Request asked ∷ rest) b holds name place nowhere)
+
+    -- A call on a number that names nothing is refused, and the process goes on.
+    pub route-own-to-nobody : HasRoute script v s asked rest
+    route-own-to-nobody =
+        record {
+          beside = after_unchanged script v s ticket pid call rest b holds high refusal refused
+              (served-plain call is-served);
+          keeps = record {
+            next = gone_on script s pid call refusal;
+            is_route = routed-elsewhere script v s asked rest b holds low high name routes.Nobody refl on nowhere
+                ∙ ap Some (carried-out-here script s ticket pid call refusal number
+                (own-under-way-as script v s ticket pid call rest b holds high));
+            holds = own-unchanged-keeps script v s ticket pid call rest b holds high refusal refused
+                (served-plain call is-served);
+          };
+        }
+
+  module _ (watches : WatchesAsOwner n) where
+    -- A call on a name that the leader holds is served at once, and the process goes on.
+    pub route-own-to-leader : (name : Name) → home_of pid call ≡ homes.At name → place_of d name ≡ Some (At 1)
+        → HasRoute script v s asked rest
+    route-own-to-leader name on place =
+        let at : IsAtLeader w b name = at-leader script w (Request asked ∷ rest) b name holds place
+        in let reply : Reply = own_served_reply script v s ticket pid call rest b holds high never watches name on at
+        in record {
+          beside = own_served_beside script v s ticket pid call rest b holds high never watches name on at;
+          keeps = record {
+            next = own_served_step script v s ticket pid call rest b holds high never watches name on at
+                (noted_if (has_read call reply) s.node name);
+            is_route = ap (route_home script s asked) on
+                ∙ ap (λ (m : Node). routing.route_by script s name asked (route m.leader.directory name)) (sym here)
+                ∙ ap (λ o. routing.route_by script s name asked
+                (route_by o (maker_stays d (maker d name)) (maker d name))) place
+                ∙ ap (λ t. if t then serve_asked script s name asked else Some (forward s 1 asked))
+                (eq-eqb 1 s.node.number (sym number))
+                ∙ own-serve-rule script v s ticket pid call rest b holds high never watches name on at;
+            holds = own-served-holds script v s ticket pid call rest b holds high never watches name on at
+                (noted_if (has_read call reply) s.node name);
+          };
+        }
+
+    -- The call has a route, which keeps all, where it has one on a key and as a removal at the leader.
+    pub own-has-route : RoutesLeft script v s asked rest → HasRoute script v s asked rest
+    own-has-route left =
+        any-has-route script v s asked rest b holds low high
+        (record {
+          nodes = left.nodes;
+          nobody = route-own-to-nobody;
+          served = route-own-to-leader;
+          removed = left.removal_here;
+          keys = left.keys;
+        })
