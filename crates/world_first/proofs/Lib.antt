@@ -6,3 +6,4 @@ pub mod OwnServes
 pub mod AnyRoutes
 pub mod OwnRoutes
 pub mod Starts
+pub mod OwnStarts

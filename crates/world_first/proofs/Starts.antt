@@ -81,6 +81,10 @@ module _ (script : Script) (w : World) (b : Beside) (holds : Holds script w [] b
   changes : Changes script 1 w next started_node [] [] []
   changes = changes-by-run script w holds.shape 1 (step_to started_node) low high tt
 
+  -- it is node 1 now
+  pub started-here : node_of next 1 ≡ started_node
+  started-here = changes.here
+
   same-there : directory_of next ≡ directory_of w
   same-there = ap (λ (m : Node). m.leader.directory) changes.here
 
