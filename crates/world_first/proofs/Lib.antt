@@ -7,3 +7,4 @@ pub mod AnyRoutes
 pub mod OwnRoutes
 pub mod Starts
 pub mod OwnStarts
+pub mod NotOwners
