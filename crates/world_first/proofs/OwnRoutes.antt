@@ -16,6 +16,7 @@ use Rattle.node_model.specs.declared.route.Route.TheVariants as routes
 use Rattle.node_model.specs.Carrying.{is_served}
 use Rattle.node_model.specs.Directory.{Directory, At, maker, maker_stays, place_of, route, route_by}
 use Rattle.node_model.specs.Serving.{has_read, no_such_name}
+use Rattle.node_model.specs.Watches.{Watches}
 use Rattle.world_model.specs.Node.{Node}
 use Rattle.world_model.specs.Step.{Step}
 use Rattle.world_model.specs.Serving.{serve_asked}
@@ -36,7 +37,7 @@ use Rattle.world_hand.proofs.Served.{IsAtLeader, at-leader}
 use Rattle.world_first.specs.Watching.{WatchesAsOwner}
 use Rattle.world_first.proofs.AnsweredHere.{own_asked}
 use Rattle.world_first.proofs.AnyRoutes.{RoutesHere, any-has-route}
-use Rattle.world_first.proofs.OwnServes.{noted_if, own_served_beside, own_served_reply, own_served_step, own-serve-rule, own-served-holds}
+use Rattle.world_first.proofs.OwnServes.{noted_if, own_served_beside, own_served_reply, own_served_step, own-is-served, own-keys-stay, own-serve-rule, own-served-holds}
 use Rattle.world_first.proofs.UnchangedHere.{after_unchanged, carried-out-here, gone_on, own-node-here, own-node-number, own-unchanged-keeps, own-under-way-as}
 
 module _ (script : Script) (v : World) (s : Step) (ticket pid : ℕ) (call : Call) (rest : List Held) (b : Beside)
@@ -100,21 +101,25 @@ module _ (script : Script) (v : World) (s : Step) (ticket pid : ℕ) (call : Cal
         → HasRoute script v s asked rest
     route-own-to-leader name on place =
         let at : IsAtLeader w b name = at-leader script w (Request asked ∷ rest) b name holds place
-        in let reply : Reply = own_served_reply script v s ticket pid call rest b holds high never watches name on at
+        in let reply : Reply =
+        own_served_reply script v s ticket pid call rest b holds high never watches name (inl on) at
+        in let noted : Watches = noted_if (has_read call reply) s.node name
         in record {
-          beside = own_served_beside script v s ticket pid call rest b holds high never watches name on at;
+          beside = own_served_beside script v s ticket pid call rest b holds high never watches name (inl on) at;
           keeps = record {
-            next = own_served_step script v s ticket pid call rest b holds high never watches name on at
-                (noted_if (has_read call reply) s.node name);
+            next = own_served_step script v s ticket pid call rest b holds high never watches name (inl on) at noted
+                (λ l. l);
             is_route = ap (route_home script s asked) on
                 ∙ ap (λ (m : Node). routing.route_by script s name asked (route m.leader.directory name)) (sym here)
                 ∙ ap (λ o. routing.route_by script s name asked
                 (route_by o (maker_stays d (maker d name)) (maker d name))) place
                 ∙ ap (λ t. if t then serve_asked script s name asked else Some (forward s 1 asked))
                 (eq-eqb 1 s.node.number (sym number))
-                ∙ own-serve-rule script v s ticket pid call rest b holds high never watches name on at;
-            holds = own-served-holds script v s ticket pid call rest b holds high never watches name on at
-                (noted_if (has_read call reply) s.node name);
+                ∙ own-serve-rule script v s ticket pid call rest b holds high never watches name (inl on) at;
+            holds = own-served-holds script v s ticket pid call rest b holds high never watches name (inl on) at noted
+                (λ l. l) refl
+                (own-keys-stay script w ticket pid call rest b holds high name (inl on)
+                (own-is-served script v s ticket pid call rest b holds high never watches name (inl on) at) at on);
           };
         }
 

@@ -16,9 +16,11 @@ use Rattle.rpc_frame.specs.declared.frame.Frame.TheVariants as frames
 use Rattle.kernel_model.specs.Script.{IsSoundScript}
 use Rattle.node_model.specs.Bodies.{Body, body_in}
 use Rattle.node_model.specs.Cache.{Cache, forget, look, look_by, owner_in}
+use Rattle.node_model.specs.declared.held.Held.TheVariants.{Request}
 use Rattle.node_model.specs.Caller.{start_call}
 use Rattle.node_model.specs.Kinds.{get_named, is_same_name}
 use Rattle.node_model.specs.Serving.{has_read}
+use Rattle.node_model.specs.Watches.{Watches}
 use Rattle.world_model.specs.Calls.{is_for_others}
 use Rattle.world_model.specs.Node.{Node, asked_here, can_run, holds as node_holds, is_leader}
 use Rattle.world_model.specs.Routing.{route_call}
@@ -45,7 +47,7 @@ use Rattle.world_hand.proofs.ReadRoutes.{HasRoute}
 use Rattle.world_hand.proofs.Served.{IsAtLeader}
 use Rattle.world_first.specs.Watching.{WatchesAsOwner}
 use Rattle.world_first.proofs.OwnRoutes.{own-has-route}
-use Rattle.world_first.proofs.OwnServes.{noted_if, own_served_beside, own_served_reply, own_served_step, own-serve-rule, own-served-holds}
+use Rattle.world_first.proofs.OwnServes.{noted_if, own_served_beside, own_served_reply, own_served_step, own-is-served, own-keys-stay, own-serve-rule, own-served-holds}
 use Rattle.world_first.proofs.Starts.{HasOwners, start-in-hand, started_asked, started_beside, started_node, started-asked-here, started-here}
 
 -- ---- the cache
@@ -168,44 +170,60 @@ module _ (script : Script) (sound : IsSoundScript script) (w : World) (b : Besid
         else request script (step_to (started looked-at)) call (owner_in n.cache name)) e
 
     -- it holds the name
-    served-there : node_holds n name ≡ true → Keeps script w (events.Run 1)
-    served-there held =
-        let at : IsAtLeader w b name = held-at-leader script w b name holds held
-        in let at-next : IsAtLeader (world_after w 1 (step_to (started n.cache)))
-        (started_beside script w b holds high s n.cache node-was.owners others) name =
-        record {
-          deed_is = at.deed_is;
-          held = ap (λ (m : Node). get_named m.deeds name)
-              (started-here script w b holds high s n.cache node-was.owners others) ∙ at.held;
-        }
-        in let in-hand = start-in-hand script w b holds high s n.cache node-was.owners others
-        in let watching = watches-now n.cache node-was.owners others
-        in let reply : Reply =
-        own_served_reply script w (step_to (started n.cache)) (n.caller.ticket + 1) n.pid call []
-        (started_beside script w b holds high s n.cache node-was.owners others) in-hand high never watching name is
-        at-next
-        in let after : Step =
-        own_served_step script w (step_to (started n.cache)) (n.caller.ticket + 1) n.pid call []
-        (started_beside script w b holds high s n.cache node-was.owners others) in-hand high never watching name is
-        at-next (noted_if (has_read call reply) (started n.cache) name)
-        in record {
-          beside = own_served_beside script w (step_to (started n.cache)) (n.caller.ticket + 1) n.pid call []
-              (started_beside script w b holds high s n.cache node-was.owners others) in-hand high never watching name
-              is at-next;
-          keeps = record {
-            next = world_after w 1 after;
-            is_step = run-steps script w 1 after holds.shape low high
-                (rule-at true held
-                ∙ ap (serve_asked script (step_to (started n.cache)) name)
-                (started-asked-here script w b holds high s n.cache node-was.owners others)
-                ∙ own-serve-rule script w (step_to (started n.cache)) (n.caller.ticket + 1) n.pid call []
-                (started_beside script w b holds high s n.cache node-was.owners others) in-hand high never watching
-                name is at-next);
-            holds = own-served-holds script w (step_to (started n.cache)) (n.caller.ticket + 1) n.pid call []
-                (started_beside script w b holds high s n.cache node-was.owners others) in-hand high never watching
-                name is at-next (noted_if (has_read call reply) (started n.cache) name);
-          };
-        }
+    module _ (held : node_holds n name ≡ true) where
+      abbrev in-hand : Beside
+      in-hand = started_beside script w b holds high s n.cache node-was.owners others
+
+      holds-in-hand : Holds script (world_after w 1 (step_to (started n.cache)))
+          (Request (started_asked script w b holds high s n.cache node-was.owners others) ∷ []) in-hand
+      holds-in-hand = start-in-hand script w b holds high s n.cache node-was.owners others
+
+      watching : WatchesAsOwner (node_of (world_after w 1 (step_to (started n.cache))) 1)
+      watching = watches-now n.cache node-was.owners others
+
+      at-next : IsAtLeader (world_after w 1 (step_to (started n.cache))) in-hand name
+      at-next =
+          let at : IsAtLeader w b name = held-at-leader script w b name holds held
+          in record {
+            deed_is = at.deed_is;
+            held = ap (λ (m : Node). get_named m.deeds name)
+                (started-here script w b holds high s n.cache node-was.owners others) ∙ at.held;
+          }
+
+      abbrev noted : Watches
+      noted =
+          noted_if (has_read call (own_served_reply script w (step_to (started n.cache)) (n.caller.ticket + 1) n.pid
+          call [] in-hand holds-in-hand high never watching name (inl is) at-next)) (started n.cache) name
+
+      abbrev after : Step
+      after =
+          own_served_step script w (step_to (started n.cache)) (n.caller.ticket + 1) n.pid call [] in-hand
+          holds-in-hand high never watching name (inl is) at-next noted (λ l. l)
+
+      served-rule : run script n ≡ Some after
+      served-rule =
+          rule-at true held
+          ∙ ap (serve_asked script (step_to (started n.cache)) name)
+          (started-asked-here script w b holds high s n.cache node-was.owners others)
+          ∙ own-serve-rule script w (step_to (started n.cache)) (n.caller.ticket + 1) n.pid call [] in-hand
+          holds-in-hand high never watching name (inl is) at-next
+
+      served-there : Keeps script w (events.Run 1)
+      served-there =
+          record {
+            beside = own_served_beside script w (step_to (started n.cache)) (n.caller.ticket + 1) n.pid call [] in-hand
+                holds-in-hand high never watching name (inl is) at-next;
+            keeps = record {
+              next = world_after w 1 after;
+              is_step = run-steps script w 1 after holds.shape low high served-rule;
+              holds = own-served-holds script w (step_to (started n.cache)) (n.caller.ticket + 1) n.pid call [] in-hand
+                  holds-in-hand high never watching name (inl is) at-next noted (λ l. l) refl
+                  (own-keys-stay script (world_after w 1 (step_to (started n.cache))) (n.caller.ticket + 1) n.pid call
+                  [] in-hand holds-in-hand high name (inl is)
+                  (own-is-served script w (step_to (started n.cache)) (n.caller.ticket + 1) n.pid call [] in-hand
+                  holds-in-hand high never watching name (inl is) at-next) at-next is);
+            };
+          }
 
     -- its cache afterwards
 
