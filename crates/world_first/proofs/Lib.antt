@@ -8,3 +8,4 @@ pub mod OwnRoutes
 pub mod Starts
 pub mod OwnStarts
 pub mod NotOwners
+pub mod OwnRemovals

@@ -26,14 +26,15 @@ use Rattle.node_model.specs.Watches.{Watches}
 use Rattle.world_model.specs.Node.{Node, Leader, Stage, Living}
 use Rattle.world_model.specs.World.{World, node_count}
 use Rattle.number_maps.specs.Maps.{get}
+use Rattle.number_maps.specs.Rising.{IsRising}
 use Rattle.serve_laws.specs.Laws.{is_found}
 use Rattle.serve_laws.specs.Served.{served_as}
-use Rattle.kernel_moves.specs.Entering.{HasKeys, MayMake, entry_of, removed_queue, removed_set, unless_removed}
+use Rattle.kernel_moves.specs.Entering.{HasKeys, MayMake, entry_of, removed_queue, removed_set, unless_removed, without_keys_of}
 use Rattle.kernel_moves.proofs.Bodies.{body-living, living-body}
 use Rattle.kernel_moves.proofs.Holding.{ServesHere, served_deeds, serves-here}
 use Rattle.kernel_moves.proofs.Others.{others-lived, others-still-may}
 use Rattle.kernel_moves.proofs.Replies.{body-none, finds, none-found}
-use Rattle.kernel_moves.proofs.Keys.{keys-kept}
+use Rattle.kernel_moves.proofs.Keys.{keys-kept, keys-unbound}
 use Rattle.kernel_moves.proofs.Served.{Carried, carried-rest, carried-size}
 use Rattle.world_laws.specs.Places.{Idle, InTable, InCheckpoint, Beside, call_in}
 use Rattle.world_laws.specs.Sights.{node_of, is_born_in}
@@ -138,6 +139,16 @@ module _ (script : Script) (w : World) (ticket pid : ℕ) (call : Call) (rest : 
       })
       (record { queues = k.queues; sets = k.sets })
       in record { queues = kept.queues; sets = kept.sets }
+
+  -- and where something may be removed, those are left that lead to something else
+  pub own-keys-unbound : IsRising n.leader.queue_keys → IsRising n.leader.set_keys
+      → HasKeys (without_keys_of (removed_queue call) n.leader.queue_keys)
+      (without_keys_of (removed_set call) n.leader.set_keys) own_next
+  own-keys-unbound queues sets =
+      let k : KeysHold n.leader b.kernel = holds.keys
+      in keys-unbound n.leader.queue_keys n.leader.set_keys (removed_queue call) (removed_set call) b.kernel next queues
+      sets (record { queues = k.queues; sets = k.sets }) own_carries.queue_keys own_carries.set_keys
+      (carried-size b.kernel pid call name own_carries named)
 
   finds-none : finds own_reply ≡ false
   finds-none =
