@@ -1,0 +1,9 @@
+pub mod Refills
+pub mod AtLeader
+pub mod Taking
+pub mod NewPlaces
+pub mod MadeHere
+pub mod MadeNames
+pub mod MadeNumbers
+pub mod OtherLeases
+pub mod MadeForOther
