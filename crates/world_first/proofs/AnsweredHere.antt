@@ -293,8 +293,9 @@ module _ (script : Script) (w : World) (ticket pid : ℕ) (call : Call) (rest : 
         ranges-still script w w' hand rest b next places-now deed calls-now 1 n [] [] (entry ∷ []) 1 one-low high holds
         c move q (left-alone q 1) m
 
-    lease-same : (kind : Kind) (q : ℕ) → has_lease kind (calls-now q) ≡ has_lease kind (b.call q)
-    lease-same kind q =
+    -- who gets numbers is the same
+    pub own-lease-same : (kind : Kind) (q : ℕ) → has_lease kind (calls-now q) ≡ has_lease kind (b.call q)
+    own-lease-same kind q =
         elim (cases_eq 1 q) [
           | inl e ↦
               ap (λ t. has_lease kind (if t then Idle else b.call q)) (eq-eqb 1 q e)
@@ -307,4 +308,4 @@ module _ (script : Script) (w : World) (ticket pid : ℕ) (call : Call) (rest : 
         → FewRanges script w' calls-now kind
     own-few kind ranges =
         few-after script w w' hand rest b next places-now deed calls-now 1 n [] [] (entry ∷ []) 1 one-low high holds c
-        move kind ranges (lease-same kind)
+        move kind ranges (own-lease-same kind)

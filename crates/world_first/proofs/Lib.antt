@@ -9,3 +9,4 @@ pub mod Starts
 pub mod OwnStarts
 pub mod NotOwners
 pub mod OwnRemovals
+pub mod OwnMakes
