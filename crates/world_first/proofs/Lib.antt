@@ -10,3 +10,7 @@ pub mod OwnStarts
 pub mod NotOwners
 pub mod OwnRemovals
 pub mod OwnMakes
+pub mod OwnMakeRoutes
+pub mod OwnQueues
+pub mod OwnSets
+pub mod OwnKeys

@@ -38,7 +38,7 @@ use Rattle.world_first.specs.Watching.{WatchesAsOwner}
 use Rattle.world_first.proofs.AnsweredHere.{own_asked}
 use Rattle.world_first.proofs.AnyRoutes.{RoutesHere, any-has-route}
 use Rattle.world_first.proofs.OwnServes.{noted_if, own_served_beside, own_served_reply, own_served_step, own-is-served, own-keys-stay, own-serve-rule, own-served-holds}
-use Rattle.world_first.proofs.UnchangedHere.{after_unchanged, carried-out-here, gone_on, own-node-here, own-node-number, own-unchanged-keeps, own-under-way-as}
+use Rattle.world_first.proofs.UnchangedHere.{own-node-here, own-node-number, own-unchanged-route}
 
 module _ (script : Script) (v : World) (s : Step) (ticket pid : ℕ) (call : Call) (rest : List Held) (b : Beside)
     (holds : Holds script (world_after v 1 s) (Request (own_asked ticket pid call) ∷ rest) b)
@@ -82,18 +82,8 @@ module _ (script : Script) (v : World) (s : Step) (ticket pid : ℕ) (call : Cal
     -- A call on a number that names nothing is refused, and the process goes on.
     pub route-own-to-nobody : HasRoute script v s asked rest
     route-own-to-nobody =
-        record {
-          beside = after_unchanged script v s ticket pid call rest b holds high refusal refused
-              (served-plain call is-served);
-          keeps = record {
-            next = gone_on script s pid call refusal;
-            is_route = routed-elsewhere script v s asked rest b holds low high name routes.Nobody refl on nowhere
-                ∙ ap Some (carried-out-here script s ticket pid call refusal number
-                (own-under-way-as script v s ticket pid call rest b holds high));
-            holds = own-unchanged-keeps script v s ticket pid call rest b holds high refusal refused
-                (served-plain call is-served);
-          };
-        }
+        own-unchanged-route script v s ticket pid call rest b holds high refusal refused (served-plain call is-served)
+        (routed-elsewhere script v s asked rest b holds low high name routes.Nobody refl on nowhere)
 
   module _ (watches : WatchesAsOwner n) where
     -- A call on a name that the leader holds is served at once, and the process goes on.

@@ -13,6 +13,7 @@ use Rattle.node_model.specs.declared.held.Held.TheVariants.{Request}
 use Rattle.node_model.specs.Caller.{Caller, answer_call, caller_place}
 use Rattle.world_model.specs.Node.{Node, Leader, Stage, Living, under_way_as}
 use Rattle.world_model.specs.Step.{Step, carry_out, enter, reply_here, send, with_node}
+use Rattle.world_model.specs.Routing.{route_call}
 use Rattle.world_model.specs.World.{World, node_count, world_after}
 use Rattle.kernel_moves.specs.Entering.{HasKeys, entry_of}
 use Rattle.kernel_moves.proofs.Fresh.{LeavesAll}
@@ -27,6 +28,7 @@ use Rattle.world_laws.proofs.Middles.{changes-further}
 use Rattle.world_own.proofs.Entries.{EntryLeaves}
 use Rattle.world_hand.proofs.Answering.{IsPlainCall, due-in-hand, may-make-in-hand, place-in-hand}
 use Rattle.world_hand.proofs.Nobody.{unchanged-leaves}
+use Rattle.world_hand.proofs.ReadRoutes.{HasRoute}
 use Rattle.world_hand.proofs.Routes.{leader-here, leader-number}
 use Rattle.world_first.proofs.AnsweredHere.{own_asked, own-living, own-ticket, own-under-way}
 use Rattle.world_first.proofs.KeptHere.{KeepsRest, own-kept, own-name-kept}
@@ -162,3 +164,18 @@ module _ (script : Script) (v : World) (s : Step) (ticket pid : ℕ) (call : Cal
         keeps-rest (world_after v 1 (gone_on script s pid call reply)) changes
         (λ m. own-name-kept script w ticket pid call rest b holds high reply l.next l.enters s.node.number leaves plain
         after_node keeps-rest (world_after v 1 (gone_on script s pid call reply)) changes m (l.bodies m) refl)
+
+    -- So it has a route where the leader carries it out with this reply.
+    pub own-unchanged-route : route_call script s (own_asked ticket pid call)
+        ≡ Some (carry_out script s (own_asked ticket pid call) reply)
+        → HasRoute script v s (own_asked ticket pid call) rest
+    own-unchanged-route rule =
+        record {
+          beside = after_unchanged;
+          keeps = record {
+            next = gone_on script s pid call reply;
+            is_route = rule
+                ∙ ap Some (carried-out-here script s ticket pid call reply own-node-number own-under-way-as);
+            holds = own-unchanged-keeps;
+          };
+        }
