@@ -33,10 +33,10 @@ use Rattle.world_laws.proofs.Steps.{Heads, KeepsAs, take-steps, world_without}
 use Rattle.world_rules.proofs.Answers.{Found, find}
 use Rattle.world_rules.proofs.CallFrames.{IsNotOwnerOf, not-owner-of}
 use Rattle.world_hand.proofs.Asks.{NeverWaits}
-use Rattle.world_hand.proofs.HandRoutes.{KeepsSo, RoutesLeft}
+use Rattle.world_hand.proofs.HandRoutes.{KeepsSo}
 use Rattle.world_hand.proofs.ReadRoutes.{HasRoute}
 use Rattle.world_hand.proofs.Takings.{IsSameLeader, IsTakenUp, name-not-taken, taken-keeps}
-use Rattle.world_first.specs.Watching.{WatchesAsOwner}
+use Rattle.world_first.specs.Ready.{IsReady}
 use Rattle.world_first.proofs.AnsweredHere.{living-at-work, own_asked}
 use Rattle.world_first.proofs.OwnRoutes.{own-has-route}
 use Rattle.world_first.proofs.UnchangedHere.{own-node-here}
@@ -171,9 +171,11 @@ module _ (script : Script) (w : World) (b : Beside) (holds : Holds script w [] b
         };
       }
 
-  -- The call is in the leader's hand.
-  not-owner-in-hand : Holds script (world_after v 1 (step_to after)) (Request asked ∷ [])
-      (record b { call = call_in b.call 1 IsInHand })
+  abbrev in-hand : Beside
+  in-hand = record b { call = call_in b.call 1 IsInHand }
+
+  -- the call is in the leader's hand
+  not-owner-in-hand : Holds script (world_after v 1 (step_to after)) (Request asked ∷ []) in-hand
   not-owner-in-hand =
       taken-keeps script w b holds q frame rest h asked taken-up after same-leader
       (λ m. name-not-taken script w b holds q frame rest h asked taken-up after same-leader m refl)
@@ -192,7 +194,7 @@ module _ (script : Script) (w : World) (b : Beside) (holds : Holds script w [] b
       (eq-eqb ticket n.caller.ticket is-not-owner.ticket_is)
       ∙ found.is
 
-  -- The rule applies, and routes it.
+  -- the rule applies, and routes it
   not-owner-is-routed : take_not_owner script n ticket ≡ route_call script (step_to after) asked
   not-owner-is-routed =
       ap (option_and_then (λ c. ask_after script n c (home_of n.pid c))) under-way
@@ -201,32 +203,19 @@ module _ (script : Script) (w : World) (b : Beside) (holds : Holds script w [] b
       else Some (send (step_to after) 1 (frames.Ask n.caller.ticket n.pid call))) (eq-eqb n.number 1 node-was.number)
       ∙ ap (route_call script (step_to after)) asked-here-is
 
-  no-keys : home_of n.pid call ≡ homes.Keys → ⊥
-  no-keys e = at-or-keys (sym on-name.1 ∙ e)
-    where
-      at-or-keys : homes.At name ≡ homes.Keys → ⊥
-      at-or-keys g = cc
-
-  no-removal : (m : Name) → home_of n.pid call ≡ homes.Removal m → ⊥
-  no-removal m e = at-or-removal (sym on-name.1 ∙ e)
-    where
-      at-or-removal : homes.At name ≡ homes.Removal m → ⊥
-      at-or-removal g = cc
-
   -- So a NotOwner has a step at node 1, and keeps all.
-  pub not-owner-has-step : NeverWaits script → WatchesAsOwner n
-      → ((m : Name) (node : ℕ) → place_of (directory_of w) m ≡ Some (At node) → 1 ≤ node)
-      → KeepsSo script w q
-  not-owner-has-step never watches nodes =
+  pub not-owner-has-step : NeverWaits script → IsReady n → KeepsSo script w q
+  not-owner-has-step never ready =
       let r : HasRoute script v (step_to after) asked [] =
-      own-has-route script v (step_to after) ticket n.pid call [] (record b { call = call_in b.call 1 IsInHand })
-      not-owner-in-hand h.high never (subst (λ (m : Node). WatchesAsOwner m) (sym here) watches)
+      own-has-route script v (step_to after) ticket n.pid call [] in-hand not-owner-in-hand h.high never
+      (subst (λ (m : Node). IsReady m) (sym here)
       (record {
-        nodes = λ m node place. nodes m node
-            (ap (λ (y : Node). place_of y.leader.directory m) (sym here) ∙ place);
-        keys = λ e. absurd (no-keys e);
-        removal_here = λ m e place. absurd (no-removal m e);
-      })
+        watches = ready.watches;
+        queues = ready.queues;
+        sets = ready.sets;
+        nodes = ready.nodes;
+        numbers = ready.numbers;
+      }))
       in record {
         beside = r.beside;
         keeps = record {
@@ -238,6 +227,4 @@ module _ (script : Script) (w : World) (b : Beside) (holds : Holds script w [] b
       }
     where
       here : node_of (world_after v 1 (step_to after)) 1 ≡ after
-      here =
-          own-node-here script v (step_to after) ticket n.pid call [] (record b { call = call_in b.call 1 IsInHand })
-          not-owner-in-hand h.high
+      here = own-node-here script v (step_to after) ticket n.pid call [] in-hand not-owner-in-hand h.high

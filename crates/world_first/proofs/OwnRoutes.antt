@@ -1,6 +1,6 @@
 -- The leader routes a call of node 1's own process, in the middle of an event: on a name that nothing has, on a name that
 -- it holds, and elsewhere as any other call.
-use Rattle.std.proofs.Common.{◌≡◌, ℕ, ◌≤◌, Bool, true, if◌then◌else◌, List, ◌∷◌, Option, Some, None, refl, ap, sym, ◌∙◌, inl, arith}
+use Rattle.std.proofs.Common.{◌≡◌, ℕ, ◌≤◌, Bool, true, if◌then◌else◌, List, ◌∷◌, Option, Some, None, refl, ap, sym, subst, ◌∙◌, inl, arith}
 use Rattle.std.proofs.lemmas.Bool.{eq-eqb}
 use Rattle.pico_base.specs.declared.call.Call.{Call}
 use Rattle.pico_base.specs.declared.call.Home.TheVariants as homes
@@ -29,14 +29,16 @@ use Rattle.world_laws.specs.Sights.{node_of, directory_of}
 use Rattle.world_laws.specs.Invariant.{Holds}
 use Rattle.world_hand.proofs.Answering.{due-in-hand, may-make-in-hand, served-plain}
 use Rattle.world_hand.proofs.Asks.{NeverWaits}
-use Rattle.world_hand.proofs.HandRoutes.{RoutesLeft}
 use Rattle.world_hand.proofs.NobodyRoutes.{name-for-on, nobody-unused, on-name-served}
 use Rattle.world_hand.proofs.ReadRoutes.{HasRoute}
 use Rattle.world_hand.proofs.Routes.{IsOn, routed-elsewhere}
 use Rattle.world_hand.proofs.Served.{IsAtLeader, at-leader}
+use Rattle.world_first.specs.Ready.{IsReady}
 use Rattle.world_first.specs.Watching.{WatchesAsOwner}
 use Rattle.world_first.proofs.AnsweredHere.{own_asked}
 use Rattle.world_first.proofs.AnyRoutes.{RoutesHere, any-has-route}
+use Rattle.world_first.proofs.OwnKeys.{route-own-key}
+use Rattle.world_first.proofs.OwnRemovals.{route-own-removal}
 use Rattle.world_first.proofs.OwnServes.{noted_if, own_served_beside, own_served_reply, own_served_step, own-is-served, own-keys-stay, own-serve-rule, own-served-holds}
 use Rattle.world_first.proofs.UnchangedHere.{own-node-here, own-node-number, own-unchanged-route}
 
@@ -113,14 +115,27 @@ module _ (script : Script) (v : World) (s : Step) (ticket pid : ℕ) (call : Cal
           };
         }
 
-    -- The call has a route, which keeps all, where it has one on a key and as a removal at the leader.
-    pub own-has-route : RoutesLeft script v s asked rest → HasRoute script v s asked rest
-    own-has-route left =
-        any-has-route script v s asked rest b holds low high
-        (record {
-          nodes = left.nodes;
-          nobody = route-own-to-nobody;
-          served = route-own-to-leader;
-          removed = left.removal_here;
-          keys = left.keys;
-        })
+  -- The call has a route, which keeps all.
+  pub own-has-route : IsReady n → HasRoute script v s asked rest
+  own-has-route ready =
+      any-has-route script v s asked rest b holds low high
+      (record {
+        nodes = ready.nodes;
+        nobody = route-own-to-nobody;
+        served = route-own-to-leader ready.watches;
+        removed = route-own-removal script v s ticket pid call rest b holds high never ready.watches ready.queues
+            ready.sets;
+        keys = route-own-key script v s ticket pid call rest b holds high ready.numbers;
+      })
+
+-- So has any call in hand that is node 1's.
+pub first-has-route : (script : Script) (v : World) (s : Step) (asked : Asked) (rest : List Held) (b : Beside)
+    → Holds script (world_after v 1 s) (Request asked ∷ rest) b → 1 ≤ node_count script → asked.caller ≡ 1
+    → NeverWaits script → IsReady (node_of (world_after v 1 s) 1) → HasRoute script v s asked rest
+first-has-route script v s asked rest b holds high is never ready =
+    subst (λ (a : Asked). HasRoute script v s a rest) (sym same)
+    (own-has-route script v s asked.ticket asked.pid asked.call rest b
+    (subst (λ (a : Asked). Holds script (world_after v 1 s) (Request a ∷ rest) b) same holds) high never ready)
+  where
+    same : asked ≡ own_asked asked.ticket asked.pid asked.call
+    same = λ i. record { caller = is i; ticket = asked.ticket; pid = asked.pid; call = asked.call }

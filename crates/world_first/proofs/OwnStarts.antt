@@ -42,9 +42,9 @@ use Rattle.world_own.proofs.Outs.{out-keeps}
 use Rattle.world_own.proofs.OwnCases.{Keeps}
 use Rattle.world_own.proofs.Runs.{Starts, run-is}
 use Rattle.world_hand.proofs.Asks.{NeverWaits}
-use Rattle.world_hand.proofs.HandRoutes.{RoutesLeft}
 use Rattle.world_hand.proofs.ReadRoutes.{HasRoute}
 use Rattle.world_hand.proofs.Served.{IsAtLeader}
+use Rattle.world_first.specs.Ready.{IsReady}
 use Rattle.world_first.specs.Watching.{WatchesAsOwner}
 use Rattle.world_first.proofs.OwnRoutes.{own-has-route}
 use Rattle.world_first.proofs.OwnServes.{noted_if, own_served_beside, own_served_reply, own_served_step, own-is-served, own-keys-stay, own-serve-rule, own-served-holds}
@@ -80,7 +80,7 @@ held-at-leader script w b name holds h = by-deed (get_named (node_of w 1).deeds 
 
 module _ (script : Script) (sound : IsSoundScript script) (w : World) (b : Beside) (holds : Holds script w [] b)
     (high : 1 ≤ node_count script) (can : can_run (node_of w 1) ≡ true) (s : Starts script w b 1)
-    (never : NeverWaits script) (watches : WatchesAsOwner (node_of w 1)) where
+    (never : NeverWaits script) (ready : IsReady (node_of w 1)) where
   abbrev n : Node
   n = node_of w 1
 
@@ -104,12 +104,6 @@ module _ (script : Script) (sound : IsSoundScript script) (w : World) (b : Besid
 
   -- ---- routed by the leader
 
-  -- what is left to show of a call that is routed with this cache
-  abbrev pub StartLeft : Cache → Type 0
-  StartLeft cache =
-      RoutesLeft script w (step_to (record n { caller = start_call n.caller s.call; cache = cache }))
-      (record { caller = 1; ticket = n.caller.ticket + 1; pid = n.pid; call = s.call }) []
-
   module _ (cache : Cache) (owners : HasOwners w cache) (others : is_for_others (home_of n.pid call) ≡ true) where
     asks-itself : ask script (step_to (started cache)) call
         ≡ route_call script (step_to (started cache)) (started_asked script w b holds high s cache owners others)
@@ -119,18 +113,25 @@ module _ (script : Script) (sound : IsSoundScript script) (w : World) (b : Besid
         (eq-eqb n.number 1 node-was.number)
         ∙ ap (route_call script (step_to (started cache))) (started-asked-here script w b holds high s cache owners others)
 
-    watches-now : WatchesAsOwner (node_of (world_after w 1 (step_to (started cache))) 1)
-    watches-now =
-        subst (λ (m : Node). WatchesAsOwner m) (sym (started-here script w b holds high s cache owners others)) watches
+    ready-now : IsReady (node_of (world_after w 1 (step_to (started cache))) 1)
+    ready-now =
+        subst (λ (m : Node). IsReady m) (sym (started-here script w b holds high s cache owners others))
+        (record {
+          watches = ready.watches;
+          queues = ready.queues;
+          sets = ready.sets;
+          nodes = ready.nodes;
+          numbers = ready.numbers;
+        })
 
     -- the call is in hand, and has a route
-    routed : StartLeft cache → run script n ≡ ask script (step_to (started cache)) call → Keeps script w (events.Run 1)
-    routed left rule =
+    routed : run script n ≡ ask script (step_to (started cache)) call → Keeps script w (events.Run 1)
+    routed rule =
         let r : HasRoute script w (step_to (started cache)) (started_asked script w b holds high s cache owners others) []
         =
         own-has-route script w (step_to (started cache)) (n.caller.ticket + 1) n.pid call []
         (started_beside script w b holds high s cache owners others)
-        (start-in-hand script w b holds high s cache owners others) high never watches-now left
+        (start-in-hand script w b holds high s cache owners others) high never ready-now
         in record {
           beside = r.beside;
           keeps = record {
@@ -141,15 +142,12 @@ module _ (script : Script) (sound : IsSoundScript script) (w : World) (b : Besid
         }
 
   -- Node 1 starts a call on a key.
-  pub own-keys-start : home_of n.pid call ≡ homes.Keys → StartLeft n.cache → Keeps script w (events.Run 1)
-  own-keys-start is left =
-      routed n.cache node-was.owners (ap is_for_others is) left (rule-by homes.Keys is)
+  pub own-key-starts : home_of n.pid call ≡ homes.Keys → Keeps script w (events.Run 1)
+  own-key-starts is = routed n.cache node-was.owners (ap is_for_others is) (rule-by homes.Keys is)
 
   -- Node 1 starts a removal.
-  pub own-removal-starts : (name : Name) → home_of n.pid call ≡ homes.Removal name → StartLeft n.cache
-      → Keeps script w (events.Run 1)
-  own-removal-starts name is left =
-      routed n.cache node-was.owners (ap is_for_others is) left (rule-by (homes.Removal name) is)
+  pub own-removal-starts : (name : Name) → home_of n.pid call ≡ homes.Removal name → Keeps script w (events.Run 1)
+  own-removal-starts name is = routed n.cache node-was.owners (ap is_for_others is) (rule-by (homes.Removal name) is)
 
   -- ---- on a name
 
@@ -179,7 +177,7 @@ module _ (script : Script) (sound : IsSoundScript script) (w : World) (b : Besid
       holds-in-hand = start-in-hand script w b holds high s n.cache node-was.owners others
 
       watching : WatchesAsOwner (node_of (world_after w 1 (step_to (started n.cache))) 1)
-      watching = watches-now n.cache node-was.owners others
+      watching = let now = ready-now n.cache node-was.owners others in now.watches
 
       at-next : IsAtLeader (world_after w 1 (step_to (started n.cache))) in-hand name
       at-next =
@@ -280,17 +278,27 @@ module _ (script : Script) (sound : IsSoundScript script) (w : World) (b : Besid
         within : (1 ≤ owner) × (owner ≤ node_count script)
         within = born-in-range script w holds.shape owner its.0
 
-    by-owner : node_holds n name ≡ false → (o : Option ℕ) → owner_in n.cache name ≡ o → StartLeft looked-at
-        → Keeps script w (events.Run 1)
-    by-owner elsewhere (Some owner) found left = asked-owner elsewhere owner found
-    by-owner elsewhere None found left =
-        routed looked-at owners-now others left
+    by-owner : node_holds n name ≡ false → (o : Option ℕ) → owner_in n.cache name ≡ o → Keeps script w (events.Run 1)
+    by-owner elsewhere (Some owner) found = asked-owner elsewhere owner found
+    by-owner elsewhere None found =
+        routed looked-at owners-now others
         (rule-at false elsewhere ∙ ap (request script (step_to (started looked-at)) call) found)
 
+    by-held : (t : Bool) → node_holds n name ≡ t → Keeps script w (events.Run 1)
+    by-held true e = served-there e
+    by-held false e = by-owner e (owner_in n.cache name) refl
+
     -- Node 1 starts a call on a name.
-    pub own-at-starts : StartLeft (look n.cache name) → Keeps script w (events.Run 1)
-    own-at-starts left = by-held (node_holds n name) refl
-      where
-        by-held : (t : Bool) → node_holds n name ≡ t → Keeps script w (events.Run 1)
-        by-held true e = served-there e
-        by-held false e = by-owner e (owner_in n.cache name) refl left
+    pub own-at-starts : Keeps script w (events.Run 1)
+    own-at-starts = by-held (node_holds n name) refl
+
+  -- Node 1 starts any call that others may carry out: it is served at once, goes to the owner of the cache, or is routed.
+  pub first-starts : is_for_others (home_of n.pid call) ≡ true → Keeps script w (events.Run 1)
+  first-starts others = by-home (home_of n.pid call) refl others
+    where
+      by-home : (home : Home) → home_of n.pid call ≡ home → is_for_others home ≡ true → Keeps script w (events.Run 1)
+      by-home (homes.At name) is h = own-at-starts name is
+      by-home (homes.Removal name) is h = own-removal-starts name is
+      by-home homes.Keys is h = own-key-starts is
+      by-home homes.Own is h = absurd (false≢true h)
+      by-home homes.Parent is h = absurd (false≢true h)
