@@ -14,3 +14,4 @@ pub mod OwnRoutes
 pub mod Starts
 pub mod OwnStarts
 pub mod NotOwners
+pub mod WithoutNumber
