@@ -1,6 +1,6 @@
 -- A call in hand of node 1's own process is carried out at the leader: the entry is made, and the process goes on with
 -- the reply.
-use Rattle.std.proofs.Common.{◌≡◌, ◌≢◌, ℕ, ◌+◌, ◌≤◌, Bool, true, false, cond, if◌then◌else◌, List, [], ◌∷◌, ◌++◌, filter, flat_map, nat_eq, Option, Some, None, refl, ap, sym, subst, ◌∙◌, inl, inr, arith}
+use Rattle.std.proofs.Common.{◌≡◌, ℕ, ◌≤◌, true, false, cond, if◌then◌else◌, List, [], ◌∷◌, filter, flat_map, Option, Some, refl, ap, sym, subst, ◌∙◌, inl, inr, arith}
 use Rattle.std.proofs.lemmas.Bool.{cases_eq, eq-eqb, ne_eqb, false≢true}
 use Rattle.std.proofs.lemmas.List.Elements.{Contains-append_right}
 use Rattle.pico_base.specs.declared.call.Call.{Call}
@@ -11,38 +11,34 @@ use Rattle.pico_base.specs.declared.reply.Entry.{Entry}
 use Rattle.pico_base.specs.declared.reply.Reply.{Reply}
 use Rattle.pico_base.specs.declared.script.Script.{Script}
 use Rattle.rpc_frame.specs.declared.asked.Asked.{Asked}
-use Rattle.number_maps.specs.Maps.{get, is_used}
+use Rattle.number_maps.specs.Maps.{get}
 use Rattle.kernel_model.specs.Kernel.{Kernel}
-use Rattle.kernel_model.specs.Fitting.{IsDue, Place, Places, place_after, places_after}
+use Rattle.kernel_model.specs.Fitting.{Place, Places, place_after, places_after}
 use Rattle.node_model.specs.declared.held.Held.{Held}
 use Rattle.node_model.specs.declared.held.Held.TheVariants.{Request, Ending}
-use Rattle.node_model.specs.Kinds.{for_kind, get_named}
-use Rattle.node_model.specs.Directory.{Directory, held_for}
+use Rattle.node_model.specs.Kinds.{for_kind}
+use Rattle.node_model.specs.Directory.{held_for}
 use Rattle.node_model.specs.Bodies.{body_in}
 use Rattle.node_model.specs.Caller.{Caller, answer_call, caller_place}
-use Rattle.node_model.specs.Leases.{Leases}
 use Rattle.world_model.specs.Node.{Node, Leader, Stage, Unborn, Living, Leaving, Left, Over}
 use Rattle.world_model.specs.World.{World, node_count}
-use Rattle.kernel_moves.specs.Entering.{Enters, HasHistory, Makes, entry_of}
+use Rattle.kernel_moves.specs.Entering.{HasHistory, Makes, entry_of}
 use Rattle.kernel_moves.proofs.History.{history-goes-on, moved-is, place-moves}
-use Rattle.kernel_moves.proofs.Numbers.{used-kept}
-use Rattle.world_laws.specs.Places.{CallPlace, DeedPlace, Idle, InCheckpoint, InTable, Beside, call_in}
+use Rattle.world_laws.specs.Places.{CallPlace, DeedPlace, Idle, InCheckpoint, Beside, call_in}
 use Rattle.world_laws.specs.Sights.{node_of, directory_of, is_born_in}
-use Rattle.world_laws.specs.Plays.{plays, begin}
-use Rattle.world_laws.specs.Names.{NameHolds, name_sight, held_at, range_steps_of}
-use Rattle.world_laws.specs.Callers.{CallSight, call_sight, CallHolds, FreeIn, HasCall, HasCallOrNone, IsFree, IsToBeMade, IsSoFar, is_about, is_item_about, is_at_work, is_end_place}
+use Rattle.world_laws.specs.Plays.{plays}
+use Rattle.world_laws.specs.Names.{NameHolds, name_sight, range_steps_of}
+use Rattle.world_laws.specs.Callers.{CallSight, call_sight, CallHolds, FreeIn, HasCall, HasCallOrNone, IsFree, is_about, is_item_about, is_at_work, is_end_place}
 use Rattle.world_laws.specs.Ranges.{FewRanges, KindHolds, KeysHold, has_lease, kind_sight}
 use Rattle.world_laws.specs.Families.{NodeHolds, is_first_stage}
 use Rattle.world_laws.specs.Invariant.{Holds}
 use Rattle.world_laws.proofs.Lines.{IsAnswered, answered, due-at-line}
-use Rattle.world_laws.proofs.Stays.{IsMore, SameCall, call-stays, name-stays, kind-stays}
+use Rattle.world_laws.proofs.Stays.{IsMore, SameCall, call-stays}
 use Rattle.world_laws.proofs.Changes.{Changes, filter-is-list-map, only-stayed, stayed}
-use Rattle.world_laws.proofs.LeftAlone.{same-directory, name-left-alone, kind-left-alone}
-use Rattle.world_rules.proofs.CallMoves.{SameButCall, same-but-call}
+use Rattle.world_rules.proofs.CallMoves.{SameButCall}
 use Rattle.world_own.proofs.Entries.{EntryLeaves}
 use Rattle.world_own.proofs.EntryMoves.{IsEntryMove, entry-keeps, entry-born, few-after, steps-still, ranges-still}
-use Rattle.world_own.proofs.Rebodied.{name-rebodied, name-seen-rebodied}
-use Rattle.world_hand.proofs.Answering.{IsPlainCall, caller-born, caller-forked, due-in-hand, has-history, pid-in-hand, place-in-hand}
+use Rattle.world_hand.proofs.Answering.{IsPlainCall, caller-born, caller-forked, due-in-hand, pid-in-hand, place-in-hand}
 use Rattle.world_hand.proofs.HandMoves.{IsFirst, first, in-no-stream, held-for-none}
 
 -- a call of node 1's process, as it is asked for
@@ -272,7 +268,8 @@ module _ (script : Script) (w : World) (ticket pid : ℕ) (call : Call) (rest : 
     -- ---- the whole
 
     -- All holds with the process going on, where it holds for the names and the numbers.
-    pub own-answered-keeps : ((m : Name) → NameHolds script b.pids (is_born_in w') m (name_sight script w' rest after_own m))
+    pub own-answered-keeps : ((m : Name)
+        → NameHolds script b.pids (is_born_in w') m (name_sight script w' rest after_own m))
         → ((kind : Kind) → KindHolds (is_born_in w') (kind_sight w' next kind))
         → ((kind : Kind) → FewRanges script w' calls-now kind)
         → Holds script w' rest after_own

@@ -1,48 +1,39 @@
 -- The same where the call makes nothing: the leader keeps its numbers and its directory.
-use Rattle.std.proofs.Common.{◌≡◌, ◌≢◌, ℕ, ◌+◌, ◌≤◌, Bool, true, false, cond, if◌then◌else◌, List, [], ◌∷◌, ◌++◌, filter, flat_map, nat_eq, Option, Some, None, refl, ap, sym, subst, ◌∙◌, inl, inr, arith}
-use Rattle.std.proofs.lemmas.Bool.{cases_eq, eq-eqb, ne_eqb, false≢true}
-use Rattle.std.proofs.lemmas.List.Elements.{Contains-append_right}
+use Rattle.std.proofs.Common.{◌≡◌, ℕ, ◌≤◌, List, [], ◌∷◌, filter, flat_map, Some, None, refl, ap, ◌∙◌}
 use Rattle.pico_base.specs.declared.call.Call.{Call}
-use Rattle.pico_base.specs.declared.numbers.Kind.{Kind}
 use Rattle.pico_base.specs.declared.numbers.Name.{Name}
 use Rattle.pico_base.specs.declared.numbers.Name.TheVariants.{Proc}
 use Rattle.pico_base.specs.declared.reply.Entry.{Entry}
 use Rattle.pico_base.specs.declared.reply.Reply.{Reply}
 use Rattle.pico_base.specs.declared.script.Script.{Script}
-use Rattle.rpc_frame.specs.declared.asked.Asked.{Asked}
-use Rattle.number_maps.specs.Maps.{get, is_used}
+use Rattle.number_maps.specs.Maps.{is_used}
 use Rattle.kernel_model.specs.Kernel.{Kernel}
-use Rattle.kernel_model.specs.Fitting.{IsDue, Place, Places, place_after, places_after}
+use Rattle.kernel_model.specs.Fitting.{places_after}
 use Rattle.node_model.specs.declared.held.Held.{Held}
-use Rattle.node_model.specs.declared.held.Held.TheVariants.{Request, Ending}
+use Rattle.node_model.specs.declared.held.Held.TheVariants.{Request}
 use Rattle.node_model.specs.Kinds.{for_kind, get_named}
 use Rattle.node_model.specs.Directory.{Directory, held_for}
 use Rattle.node_model.specs.Bodies.{body_in}
-use Rattle.node_model.specs.Caller.{Caller, answer_call, caller_place}
-use Rattle.node_model.specs.Leases.{Leases}
-use Rattle.world_model.specs.Node.{Node, Leader, Stage, Unborn, Living, Leaving, Left, Over}
+use Rattle.node_model.specs.Caller.{answer_call, caller_place}
+use Rattle.world_model.specs.Node.{Node}
 use Rattle.world_model.specs.World.{World, node_count}
-use Rattle.kernel_moves.specs.Entering.{Enters, HasHistory, Makes, entry_of}
-use Rattle.kernel_moves.proofs.History.{history-goes-on, moved-is, place-moves}
+use Rattle.kernel_moves.specs.Entering.{Enters, entry_of}
 use Rattle.kernel_moves.proofs.Numbers.{used-kept}
-use Rattle.world_laws.specs.Places.{CallPlace, DeedPlace, Idle, InCheckpoint, InTable, Beside, call_in}
+use Rattle.world_laws.specs.Places.{Idle, InCheckpoint, InTable, Beside, call_in}
 use Rattle.world_laws.specs.Sights.{node_of, directory_of, is_born_in}
 use Rattle.world_laws.specs.Plays.{plays, begin}
 use Rattle.world_laws.specs.Names.{NameHolds, name_sight, held_at, range_steps_of}
-use Rattle.world_laws.specs.Callers.{CallSight, call_sight, CallHolds, FreeIn, HasCall, HasCallOrNone, IsFree, IsToBeMade, IsSoFar, is_about, is_item_about, is_at_work, is_end_place}
-use Rattle.world_laws.specs.Ranges.{FewRanges, KindHolds, KeysHold, has_lease, kind_sight}
-use Rattle.world_laws.specs.Families.{NodeHolds, is_first_stage}
+use Rattle.world_laws.specs.Callers.{is_item_about}
+use Rattle.world_laws.specs.Ranges.{KeysHold}
+use Rattle.world_laws.specs.Families.{NodeHolds}
 use Rattle.world_laws.specs.Invariant.{Holds}
-use Rattle.world_laws.proofs.Lines.{IsAnswered, answered, due-at-line}
-use Rattle.world_laws.proofs.Stays.{IsMore, SameCall, call-stays, name-stays, kind-stays}
-use Rattle.world_laws.proofs.Changes.{Changes, filter-is-list-map, only-stayed, stayed}
+use Rattle.world_laws.proofs.Stays.{IsMore, name-stays, kind-stays}
+use Rattle.world_laws.proofs.Changes.{Changes}
 use Rattle.world_laws.proofs.LeftAlone.{same-directory, name-left-alone, kind-left-alone}
-use Rattle.world_rules.proofs.CallMoves.{SameButCall, same-but-call}
+use Rattle.world_rules.proofs.CallMoves.{same-but-call}
 use Rattle.world_own.proofs.Entries.{EntryLeaves}
-use Rattle.world_own.proofs.EntryMoves.{IsEntryMove, entry-keeps, entry-born, few-after, steps-still, ranges-still}
 use Rattle.world_own.proofs.Rebodied.{name-rebodied, name-seen-rebodied}
-use Rattle.world_hand.proofs.Answering.{IsPlainCall, caller-born, caller-forked, due-in-hand, has-history, pid-in-hand, place-in-hand}
-use Rattle.world_hand.proofs.HandMoves.{IsFirst, first, in-no-stream, held-for-none}
+use Rattle.world_hand.proofs.Answering.{IsPlainCall}
 use Rattle.world_first.proofs.AnsweredHere.{GoesOn, own_asked, own-answered-keeps, own-born, own-few, own-ranges, own-steps}
 
 -- the leader, where it keeps its numbers and its directory
@@ -99,7 +90,9 @@ module _ (script : Script) (w : World) (ticket pid : ℕ) (call : Call) (rest : 
       }
 
   more : IsMore (is_born_in w) (is_born_in w')
-  more = own-born script w ticket pid call rest b holds high reply next enters.makes node by-pid plain b.deed n w' goes-on c
+  more =
+      own-born script w ticket pid call rest b holds high reply next enters.makes node by-pid plain b.deed n w' goes-on
+      c
 
   steps-now : (m : Name) (q : ℕ) → plays (call_in b.call 1 Idle) m (c.left q 1) ≡ plays b.call m (c.left q 1)
   steps-now =
@@ -110,8 +103,8 @@ module _ (script : Script) (w : World) (ticket pid : ℕ) (call : Call) (rest : 
       → flat_map (range_steps_of (call_in b.call 1 Idle) m) (c.left q 1)
       ≡ flat_map (range_steps_of b.call m) (c.left q 1)
   ranges-now =
-      own-ranges script w ticket pid call rest b holds high reply next enters.makes node by-pid plain b.deed n w' goes-on
-      c
+      own-ranges script w ticket pid call rest b holds high reply next enters.makes node by-pid plain b.deed n w'
+      goes-on c
 
   -- A name whose body is the same, and which the leader holds as before, keeps all that holds of it.
   pub own-name-kept : (m : Name) → body_in next m ≡ body_in b.kernel m → get_named n.deeds m ≡ held_at w m 1
@@ -155,8 +148,8 @@ module _ (script : Script) (w : World) (ticket pid : ℕ) (call : Call) (rest : 
   pub own-kept : ((m : Name) → NameHolds script b.pids (is_born_in w') m (name_sight script w' rest after_kept m))
       → Holds script w' rest after_kept
   own-kept names =
-      own-answered-keeps script w ticket pid call rest b holds high reply next enters.makes node by-pid plain b.deed n w'
-      goes-on c names
+      own-answered-keeps script w ticket pid call rest b holds high reply next enters.makes node by-pid plain b.deed n
+      w' goes-on c names
       (λ kind. kind-stays (is_born_in w) (is_born_in w') _ _ more
       (kind-left-alone script 1 w w' n [] [] (entry ∷ []) c b.kernel next kind
       (λ number. ap (λ used. is_used used number) (enters.used kind)) (ap (λ z. for_kind z kind) k.leases)

@@ -1,5 +1,5 @@
 -- Node 1 takes the word that its cache was out of date: its process's call is in the leader's hand, and is routed.
-use Rattle.std.proofs.Common.{◌≡◌, ◌≢◌, ℕ, ◌≤◌, Bool, true, false, ◌&&◌, not, if◌then◌else◌, List, [], ◌∷◌, filter, nat_eq, Contains, Option, Some, None, refl, ap, sym, subst, ◌∙◌}
+use Rattle.std.proofs.Common.{◌≡◌, ◌≢◌, ℕ, true, false, not, if◌then◌else◌, List, [], ◌∷◌, filter, Contains, Some, None, refl, ap, sym, subst, ◌∙◌}
 use Rattle.std.specs.Option.{option_and_then}
 use Rattle.std.proofs.lemmas.Bool.{eq-eqb, ne_eqb, false≢true}
 use Rattle.std.proofs.lemmas.List.Elements.{All-filter, All-weaker, All-contains, All-contains_itself}
@@ -7,7 +7,6 @@ use Rattle.pico_base.specs.declared.call.Call.{Call}
 use Rattle.pico_base.specs.declared.call.Home.{Home}
 use Rattle.pico_base.specs.declared.call.Home.TheVariants as homes
 use Rattle.pico_base.specs.declared.numbers.Name.{Name}
-use Rattle.pico_base.specs.declared.script.Event.TheVariants as events
 use Rattle.pico_base.specs.declared.script.Script.{Script}
 use Rattle.pico_base.specs.Home.{home_of}
 use Rattle.rpc_frame.specs.declared.asked.Asked.{Asked}
@@ -15,21 +14,20 @@ use Rattle.rpc_frame.specs.declared.frame.Frame.{Frame}
 use Rattle.rpc_frame.specs.declared.frame.Frame.TheVariants as frames
 use Rattle.node_model.specs.declared.held.Held.TheVariants.{Request}
 use Rattle.node_model.specs.Cache.{forget}
-use Rattle.node_model.specs.Directory.{At, place_of}
 use Rattle.node_model.specs.Kinds.{is_same_name}
 use Rattle.world_model.specs.Calls.{ask_after, is_for_others, is_on_name, take_not_owner, with_forgotten}
 use Rattle.world_model.specs.Node.{Node, Stage, Living, asked_here, under_way_as}
 use Rattle.world_model.specs.Routing.{route_call}
-use Rattle.world_model.specs.Step.{Step, send, step_to}
+use Rattle.world_model.specs.Step.{send, step_to}
 use Rattle.world_model.specs.World.{World, world_after}
 use Rattle.world_laws.specs.Places.{Beside, IsInHand, call_in}
-use Rattle.world_laws.specs.Sights.{directory_of, is_born_in, node_of}
+use Rattle.world_laws.specs.Sights.{is_born_in, node_of}
 use Rattle.world_laws.specs.Callers.{CallHolds, CallSight, HasCall, IsJustThere, IsSoFar, IsToBeMade, asked_of, call_sight, frame_at, is_about, is_end_place, is_held_at, is_in_stream, may_be_in, only_if}
 use Rattle.world_laws.specs.Families.{HoldsIn, NodeHolds}
 use Rattle.world_laws.specs.Invariant.{Holds}
 use Rattle.world_laws.specs.Ranges.{has_lease}
 use Rattle.world_laws.proofs.Heads.{head-is}
-use Rattle.world_laws.proofs.Steps.{Heads, KeepsAs, take-steps, world_without}
+use Rattle.world_laws.proofs.Steps.{Heads, take-steps, world_without}
 use Rattle.world_rules.proofs.Answers.{Found, find}
 use Rattle.world_rules.proofs.CallFrames.{IsNotOwnerOf, not-owner-of}
 use Rattle.world_hand.proofs.Asks.{NeverWaits}

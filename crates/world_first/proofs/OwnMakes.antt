@@ -1,5 +1,5 @@
 -- A call in hand of node 1's own process makes a queue or a set at the leader, and the process goes on.
-use Rattle.std.proofs.Common.{◌≡◌, ◌≢◌, ℕ, ◌≤◌, true, false, if◌then◌else◌, List, [], ◌∷◌, ◌++◌, filter, Option, Some, None, refl, ap, sym, subst, ◌∙◌, arith, append-nil}
+use Rattle.std.proofs.Common.{◌≡◌, ◌≢◌, ℕ, ◌≤◌, if◌then◌else◌, List, [], ◌∷◌, filter, refl, ap, sym, subst, ◌∙◌, arith}
 use Rattle.std.proofs.lemmas.Bool.{false≢true}
 use Rattle.pico_base.specs.declared.call.Call.{Call}
 use Rattle.pico_base.specs.declared.numbers.Kind.{Kind}
@@ -145,8 +145,8 @@ module _ (script : Script) (w : World) (ticket pid : ℕ) (call : Call) (rest : 
     -- What was made is at the leader, which knows it, and the process goes on.
     pub own-made-keeps : Holds script w' rest own_made_beside
     own-made-keeps =
-        own-answered-keeps script w ticket pid call rest b holds high reply made.next made.enters.makes node by-pid plain
-        (deed_in b.deed name (InTable 1)) own_made_node w' goes-on c
+        own-answered-keeps script w ticket pid call rest b holds high reply made.next made.enters.makes node by-pid
+        plain (deed_in b.deed name (InTable 1)) own_made_node w' goes-on c
         (made-names script w w' hand rest b holds high pid call kind name body m caller-now keys places-now calls-now []
         (entry ∷ []) c more leaves-frames (λ z. tt))
         (made-kinds script w w' hand b holds high pid call kind name body m caller-now keys calls-now [] entry c more

@@ -1,6 +1,6 @@
--- The leader routes a call of node 1's own process, in the middle of an event: on a name that nothing has, on a name that
--- it holds, and elsewhere as any other call.
-use Rattle.std.proofs.Common.{◌≡◌, ℕ, ◌≤◌, Bool, true, if◌then◌else◌, List, ◌∷◌, Option, Some, None, refl, ap, sym, subst, ◌∙◌, inl, arith}
+-- The leader routes a call of node 1's own process, in the middle of an event: on a name that nothing has, on a name
+-- that it holds, on a key, as a removal, and elsewhere as any other call.
+use Rattle.std.proofs.Common.{◌≡◌, ℕ, ◌≤◌, true, if◌then◌else◌, List, ◌∷◌, Some, None, refl, ap, sym, subst, ◌∙◌, inl, arith}
 use Rattle.std.proofs.lemmas.Bool.{eq-eqb}
 use Rattle.pico_base.specs.declared.call.Call.{Call}
 use Rattle.pico_base.specs.declared.call.Home.TheVariants as homes
@@ -36,7 +36,7 @@ use Rattle.world_hand.proofs.Served.{IsAtLeader, at-leader}
 use Rattle.world_first.specs.Ready.{IsReady}
 use Rattle.world_first.specs.Watching.{WatchesAsOwner}
 use Rattle.world_first.proofs.AnsweredHere.{own_asked}
-use Rattle.world_first.proofs.AnyRoutes.{RoutesHere, any-has-route}
+use Rattle.world_first.proofs.AnyRoutes.{any-has-route}
 use Rattle.world_first.proofs.OwnKeys.{route-own-key}
 use Rattle.world_first.proofs.OwnRemovals.{route-own-removal}
 use Rattle.world_first.proofs.OwnServes.{noted_if, own_served_beside, own_served_reply, own_served_step, own-is-served, own-keys-stay, own-serve-rule, own-served-holds}
@@ -74,7 +74,9 @@ module _ (script : Script) (v : World) (s : Step) (ticket pid : ℕ) (call : Cal
     refusal = replies.Fail (no_such_name name)
 
     is-served : is_served call ≡ true
-    is-served = on-name-served pid call name on (never 1 n.caller call (due-in-hand script w asked rest b holds low high))
+    is-served =
+        on-name-served pid call name on
+        (never 1 n.caller call (due-in-hand script w asked rest b holds low high))
 
     refused : LeavesAll b.kernel pid call refusal
     refused =

@@ -1,6 +1,6 @@
 -- The leader serves a call of its own process on a name that it holds, in the middle of an event, and notes the read,
 -- which moves nothing.
-use Rattle.std.proofs.Common.{◌≡◌, ◌≢◌, ◌⊎◌, ℕ, ◌+◌, ◌≤◌, Bool, true, false, ◌==◌, if◌then◌else◌, List, [], ◌∷◌, ◌++◌, Option, Some, None, option_map, refl, ap, sym, subst, ◌∙◌, inl, inr, arith, append-nil}
+use Rattle.std.proofs.Common.{◌≡◌, ℕ, ◌+◌, ◌≤◌, Bool, true, false, ◌==◌, if◌then◌else◌, List, [], ◌∷◌, ◌++◌, Some, None, option_map, refl, ap, sym, subst, ◌∙◌, arith, append-nil}
 use Rattle.std.proofs.lemmas.Bool.{eq-eqb, false≢true}
 use Rattle.pico_base.specs.declared.call.Call.{Call}
 use Rattle.pico_base.specs.declared.call.Call.TheVariants as calls
@@ -11,28 +11,23 @@ use Rattle.pico_base.specs.declared.reply.Entry.{Entry}
 use Rattle.pico_base.specs.declared.reply.Reply.{Reply}
 use Rattle.pico_base.specs.declared.script.Script.{Script}
 use Rattle.pico_base.specs.Home.{home_of}
-use Rattle.number_maps.specs.Maps.{get}
-use Rattle.migrate.specs.Watching.{Watching, run_of, run_with}
+use Rattle.migrate.specs.Watching.{Watching, run_of}
 use Rattle.node_model.specs.declared.held.Held.{Held}
 use Rattle.node_model.specs.declared.held.Held.TheVariants.{Request}
 use Rattle.kernel_model.specs.Fitting.{places_after}
 use Rattle.node_model.specs.Bodies.{Body}
 use Rattle.node_model.specs.Caller.{answer_call, caller_place}
 use Rattle.node_model.specs.Carrying.{is_served}
-use Rattle.node_model.specs.Directory.{Directory, At, maker, maker_stays, place_of, route, route_by}
+use Rattle.node_model.specs.Directory.{Directory}
 use Rattle.node_model.specs.Serving.{has_read, serve}
 use Rattle.node_model.specs.Watches.{Watches, moves_to, watch_over, with_read}
 use Rattle.world_model.specs.Node.{Node, Leader}
 use Rattle.world_model.specs.Step.{Step, carry_out, with_deeds}
 use Rattle.world_model.specs.Serving.{move_to, note_read, serve_asked, serve_asked_with}
-use Rattle.world_model.specs.Routing.{forward, route_call, route_home}
-use Rattle.world_model.specs.Routing as routing
 use Rattle.world_model.specs.World.{World, node_count, world_after}
 use Rattle.serve_laws.specs.Served.{served_as}
-use Rattle.kernel_moves.specs.Entering.{HasKeys, entry_of, removed_queue, removed_set, unless_removed}
+use Rattle.kernel_moves.specs.Entering.{entry_of, removed_queue, removed_set}
 use Rattle.kernel_moves.proofs.Holding.{ServesHere, served_deeds}
-use Rattle.kernel_moves.proofs.Keys.{keys-kept}
-use Rattle.kernel_moves.proofs.Served.{carried-size}
 use Rattle.world_laws.specs.Places.{Beside, Idle, call_in}
 use Rattle.world_laws.specs.Sights.{node_of, directory_of}
 use Rattle.world_laws.specs.Ranges.{KeysHold}
@@ -41,14 +36,13 @@ use Rattle.world_laws.proofs.Changes.{Changes}
 use Rattle.world_laws.proofs.Middles.{changes-further}
 use Rattle.world_hand.proofs.Answering.{due-in-hand}
 use Rattle.world_hand.proofs.Asks.{NeverWaits}
-use Rattle.world_hand.proofs.NobodyRoutes.{on-name-served, name-for-on}
-use Rattle.world_hand.proofs.Served.{IsAtLeader, at-leader}
+use Rattle.world_hand.proofs.NobodyRoutes.{on-name-served}
+use Rattle.world_hand.proofs.Served.{IsAtLeader}
 use Rattle.world_hand.proofs.Routes.{IsOn}
-use Rattle.world_hand.proofs.ReadRoutes.{HasRoute}
 use Rattle.world_first.specs.Watching.{WatchesAsOwner}
 use Rattle.world_first.proofs.AnsweredHere.{own_asked}
 use Rattle.world_first.proofs.ServedHere.{own_next, own_node, own_reply, own-keys, own-serve-is-so, own-served-keeps, own-serves}
-use Rattle.world_first.proofs.UnchangedHere.{carried-out-here, gone_on, own-node-here, own-node-number, own-under-way-as}
+use Rattle.world_first.proofs.UnchangedHere.{carried-out-here, own-node-here, own-node-number, own-under-way-as}
 
 -- ---- a read of one's own
 
@@ -212,7 +206,7 @@ pub own-keys-stay : (script : Script) (w : World) (ticket pid : ℕ) (call : Cal
     (name : Name) (on : IsOn name (home_of pid call)) (served : is_served call ≡ true) (at : IsAtLeader w b name)
     → home_of pid call ≡ homes.At name
     → let n : Node = node_of w 1
-      in KeysHold n.leader (own_next script w ticket pid call rest b holds high name on served at)
+    in KeysHold n.leader (own_next script w ticket pid call rest b holds high name on served at)
 own-keys-stay script w ticket pid call rest b holds high name on served at home =
     own-keys script w ticket pid call rest b holds high name on served at
     (keeps-queue pid call (ap is_at_home home)) (keeps-set pid call (ap is_at_home home))

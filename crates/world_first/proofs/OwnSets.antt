@@ -1,40 +1,30 @@
--- The leader gets a semaphore set by a key for its own process, in the middle of an event: that is refused, finds the one
--- that the key leads to, or makes a new one.
-use Rattle.std.proofs.Common.{◌≡◌, ℕ, ◌≤◌, Bool, true, false, if◌then◌else◌, List, ◌∷◌, length, ◌==◌, Option, Some, None, Result, Ok, Err, option_map, refl, ap, sym, ◌∙◌, arith}
-use Rattle.std.proofs.lemmas.Bool.{false≢true}
+-- The leader gets a semaphore set by a key for its own process, in the middle of an event: that is refused, finds the
+-- one that the key leads to, or makes a new one.
+use Rattle.std.proofs.Common.{◌≡◌, ℕ, ◌≤◌, Bool, List, ◌∷◌, length, Some, Result, Ok, Err, option_map, refl, ap, sym, ◌∙◌, arith}
 use Rattle.pico_base.specs.declared.call.Call.{Call}
 use Rattle.pico_base.specs.declared.call.Call.TheVariants as calls
-use Rattle.pico_base.specs.declared.call.Home.{Home}
-use Rattle.pico_base.specs.declared.call.Home.TheVariants as homes
-use Rattle.pico_base.specs.declared.numbers.Kind.{Kind}
 use Rattle.pico_base.specs.declared.numbers.Kind.TheVariants as kinds
-use Rattle.pico_base.specs.declared.numbers.Name.TheVariants.{Proc, Msg, Sem}
+use Rattle.pico_base.specs.declared.numbers.Name.TheVariants.{Sem}
 use Rattle.pico_base.specs.declared.reply.Errno.{Errno}
 use Rattle.pico_base.specs.declared.reply.Reply.TheVariants as replies
 use Rattle.pico_base.specs.declared.script.Script.{Script}
-use Rattle.pico_base.specs.declared.signal.SigArg.TheVariants.{Zero, Is, Bad}
-use Rattle.pico_base.specs.Home.{home_of, home_of_kill}
 use Rattle.rpc_frame.specs.declared.asked.Asked.{Asked}
 use Rattle.key_table.specs.KeyMap.{key_answer}
-use Rattle.key_table.specs.declared.Bound.{Bound}
 use Rattle.key_table.specs.declared.KeyAnswer.{KeyAnswer}
 use Rattle.key_table.specs.declared.KeyAnswer.TheVariants as answers
-use Rattle.number_maps.specs.Maps.{Numbered, get, put}
-use Rattle.kernel_model.specs.Queue.{empty_queue}
+use Rattle.number_maps.specs.Maps.{get, put}
 use Rattle.kernel_model.specs.SemaphoreSet.{SemaphoreSet, new_set}
 use Rattle.kernel_moves.specs.Entering.{HasKeys, MayMake, bound_to}
-use Rattle.kernel_moves.proofs.Keyed.{MakesBound, finds-queue, finds-set, found_set, makes-keyed-queue, makes-keyed-set, refuses-queue, refuses-set, refuses-size}
+use Rattle.kernel_moves.proofs.Keyed.{MakesBound, finds-set, found_set, makes-keyed-set, refuses-set, refuses-size}
 use Rattle.node_model.specs.declared.held.Held.{Held}
 use Rattle.node_model.specs.declared.held.Held.TheVariants.{Request}
-use Rattle.node_model.specs.Bodies.{AQueue, ASet}
-use Rattle.node_model.specs.Directory.{has_more}
+use Rattle.node_model.specs.Bodies.{ASet}
 use Rattle.world_model.specs.Node.{Leader, Node}
-use Rattle.world_model.specs.Numbers.{take_number}
 use Rattle.world_model.specs.Step.{Step}
-use Rattle.world_model.specs.Routing.{create_set, get_queue, get_set, make_queue, make_set, route_call}
+use Rattle.world_model.specs.Routing.{create_set, get_set, make_set, route_call}
 use Rattle.world_model.specs.World.{World, node_count, world_after}
 use Rattle.world_laws.specs.Places.{Beside}
-use Rattle.world_laws.specs.Sights.{directory_of, node_of}
+use Rattle.world_laws.specs.Sights.{node_of}
 use Rattle.world_laws.specs.Invariant.{Holds}
 use Rattle.world_hand.proofs.Answering.{IsPlainCall, may-make-in-hand}
 use Rattle.world_hand.proofs.ReadRoutes.{HasRoute}

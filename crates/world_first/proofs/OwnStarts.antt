@@ -1,6 +1,6 @@
--- Node 1 starts a call of its process that isn't on the process itself: it is served where node 1 holds the name, goes to
--- the owner of its cache, or is routed by the leader.
-use Rattle.std.proofs.Common.{◌≡◌, ◌≢◌, ℕ, ◌+◌, ◌≤◌, Bool, true, false, not, if◌then◌else◌, List, [], ◌∷◌, Contains, Option, Some, None, is_some, refl, ap, sym, subst, ◌∙◌, inl, arith, All}
+-- Node 1 starts a call of its process that isn't on the process itself: it is served where node 1 holds the name, goes
+-- to the owner of its cache, or is routed by the leader.
+use Rattle.std.proofs.Common.{◌≡◌, ◌≢◌, ℕ, ◌+◌, ◌≤◌, Bool, true, false, not, if◌then◌else◌, [], ◌∷◌, Contains, Option, Some, None, is_some, refl, ap, sym, subst, ◌∙◌, inl, arith, All}
 use Rattle.std.proofs.lemmas.Bool.{eq-eqb, false≢true, ne_eqb}
 use Rattle.std.proofs.lemmas.List.Elements.{All-cons, All-filter, All-weaker, All-contains, All-contains_itself}
 use Rattle.std.proofs.lemmas.Map.Views.{Contains-from_lookup}
@@ -8,7 +8,6 @@ use Rattle.pico_base.specs.declared.call.Call.{Call}
 use Rattle.pico_base.specs.declared.call.Home.{Home}
 use Rattle.pico_base.specs.declared.call.Home.TheVariants as homes
 use Rattle.pico_base.specs.declared.numbers.Name.{Name}
-use Rattle.pico_base.specs.declared.reply.Reply.{Reply}
 use Rattle.pico_base.specs.declared.script.Event.TheVariants as events
 use Rattle.pico_base.specs.declared.script.Script.{Script}
 use Rattle.pico_base.specs.Home.{home_of}
@@ -22,7 +21,7 @@ use Rattle.node_model.specs.Kinds.{get_named, is_same_name}
 use Rattle.node_model.specs.Serving.{has_read}
 use Rattle.node_model.specs.Watches.{Watches}
 use Rattle.world_model.specs.Calls.{is_for_others}
-use Rattle.world_model.specs.Node.{Node, asked_here, can_run, holds as node_holds, is_leader}
+use Rattle.world_model.specs.Node.{Node, asked_here, can_run, holds as node_holds}
 use Rattle.world_model.specs.Routing.{route_call}
 use Rattle.world_model.specs.Serving.{serve_asked}
 use Rattle.world_model.specs.Starting.{ask, request, run, start_by}
@@ -36,7 +35,7 @@ use Rattle.world_laws.specs.Families.{NodeHolds}
 use Rattle.world_laws.specs.Invariant.{Holds}
 use Rattle.world_laws.proofs.NameFacts.{IsHeldAt, held-there}
 use Rattle.world_laws.proofs.Named.{same-name-is}
-use Rattle.world_laws.proofs.Steps.{KeepsAs, run-steps}
+use Rattle.world_laws.proofs.Steps.{run-steps}
 use Rattle.world_rules.proofs.Suggestions.{born-in-range}
 use Rattle.world_own.proofs.Outs.{out-keeps}
 use Rattle.world_own.proofs.OwnCases.{Keeps}
@@ -48,7 +47,7 @@ use Rattle.world_first.specs.Ready.{IsReady}
 use Rattle.world_first.specs.Watching.{WatchesAsOwner}
 use Rattle.world_first.proofs.OwnRoutes.{own-has-route}
 use Rattle.world_first.proofs.OwnServes.{noted_if, own_served_beside, own_served_reply, own_served_step, own-is-served, own-keys-stay, own-serve-rule, own-served-holds}
-use Rattle.world_first.proofs.Starts.{HasOwners, start-in-hand, started_asked, started_beside, started_node, started-asked-here, started-here}
+use Rattle.world_first.proofs.Starts.{HasOwners, start-in-hand, started_asked, started_beside, started-asked-here, started-here}
 
 -- ---- the cache
 
@@ -111,7 +110,8 @@ module _ (script : Script) (sound : IsSoundScript script) (w : World) (b : Besid
         ap (λ t. if t then route_call script (step_to (started cache)) (asked_here (started cache) call)
         else Some (send (step_to (started cache)) 1 (frames.Ask (n.caller.ticket + 1) n.pid call)))
         (eq-eqb n.number 1 node-was.number)
-        ∙ ap (route_call script (step_to (started cache))) (started-asked-here script w b holds high s cache owners others)
+        ∙ ap (route_call script (step_to (started cache)))
+        (started-asked-here script w b holds high s cache owners others)
 
     ready-now : IsReady (node_of (world_after w 1 (step_to (started cache))) 1)
     ready-now =
@@ -127,8 +127,8 @@ module _ (script : Script) (sound : IsSoundScript script) (w : World) (b : Besid
     -- the call is in hand, and has a route
     routed : run script n ≡ ask script (step_to (started cache)) call → Keeps script w (events.Run 1)
     routed rule =
-        let r : HasRoute script w (step_to (started cache)) (started_asked script w b holds high s cache owners others) []
-        =
+        let r : HasRoute script w (step_to (started cache))
+        (started_asked script w b holds high s cache owners others) [] =
         own-has-route script w (step_to (started cache)) (n.caller.ticket + 1) n.pid call []
         (started_beside script w b holds high s cache owners others)
         (start-in-hand script w b holds high s cache owners others) high never ready-now
@@ -292,7 +292,7 @@ module _ (script : Script) (sound : IsSoundScript script) (w : World) (b : Besid
     pub own-at-starts : Keeps script w (events.Run 1)
     own-at-starts = by-held (node_holds n name) refl
 
-  -- Node 1 starts any call that others may carry out: it is served at once, goes to the owner of the cache, or is routed.
+  -- Node 1 starts any call that others may carry out: it is served at once, goes to the cache's owner, or is routed.
   pub first-starts : is_for_others (home_of n.pid call) ≡ true → Keeps script w (events.Run 1)
   first-starts others = by-home (home_of n.pid call) refl others
     where

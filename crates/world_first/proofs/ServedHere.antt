@@ -1,6 +1,6 @@
 -- The leader holds the name of its own process's call in hand, and serves it: the name has the kernel's body
 -- afterwards, and the process goes on with the reply.
-use Rattle.std.proofs.Common.{◌≡◌, ◌≢◌, ◌⊎◌, ℕ, ◌≤◌, Bool, true, false, List, [], ◌∷◌, Some, None, is_some, refl, ap, sym, subst, ◌∙◌, inl, inr, arith}
+use Rattle.std.proofs.Common.{◌≡◌, ◌≢◌, ℕ, ◌≤◌, Bool, true, false, List, [], ◌∷◌, Some, None, is_some, refl, ap, sym, subst, ◌∙◌, inl, inr, arith}
 use Rattle.std.proofs.lemmas.Bool.{cases_eq}
 use Rattle.pico_base.specs.declared.call.Call.{Call}
 use Rattle.pico_base.specs.declared.call.Call.TheVariants as calls
@@ -19,7 +19,7 @@ use Rattle.node_model.specs.declared.held.Held.{Held}
 use Rattle.node_model.specs.declared.held.Held.TheVariants.{Request}
 use Rattle.node_model.specs.Kinds.{get_named}
 use Rattle.node_model.specs.Bodies.{Body, Living as LivingBody, Deeds, body_in}
-use Rattle.node_model.specs.Caller.{Caller, answer_call, caller_place}
+use Rattle.node_model.specs.Caller.{answer_call, caller_place}
 use Rattle.node_model.specs.Carrying.{is_served}
 use Rattle.node_model.specs.Serving.{name_for, serve}
 use Rattle.node_model.specs.Watches.{Watches}
@@ -211,22 +211,24 @@ module _ (script : Script) (w : World) (ticket pid : ℕ) (call : Call) (rest : 
     living : n.stage ≡ Living
     living = own-living script w ticket pid call rest b holds high
 
+    -- a process of that name had a row before
+    row-was : (p : ℕ) (row : Row) → Proc p ≡ name → get_named own_deeds (Proc p) ≡ Some (LivingBody row)
+        → (r : Row) × (get_named n.deeds (Proc p) ≡ Some (LivingBody r))
+    row-was p row e there =
+        let here : Some (body_in next (Proc p)) ≡ get_named own_deeds (Proc p) =
+        ap (λ m. Some (body_in next m)) e ∙ sym own-serves.here ∙ ap (get_named own_deeds) (sym e)
+        in let row_now = body-living next p row (some-body _ _ (here ∙ there))
+        in let before = lived-before p row_now.alive row_now.lives
+        in let held : get_named n.deeds (Proc p) ≡ Some (body_in b.kernel (Proc p)) =
+        ap (get_named n.deeds) e ∙ at.held ∙ ap (λ m. Some (body_in b.kernel m)) (sym e)
+        in (before.0.row, held ∙ ap Some (living-body b.kernel p before.0 before.1))
+
     row-before : (p : ℕ) (row : Row) → get_named own_deeds (Proc p) ≡ Some (LivingBody row)
         → (r : Row) × (get_named n.deeds (Proc p) ≡ Some (LivingBody r))
     row-before p row there =
         elim (name-cases (Proc p) name) [
           | inr d ↦ (row, sym (held-elsewhere (Proc p) d) ∙ there)
-          | inl e ↦
-              let now : body_in next (Proc p) ≡ LivingBody row =
-              some-body _ _ (ap (λ m. Some (body_in next m)) e ∙ sym own-serves.here
-              ∙ ap (get_named own_deeds) (sym e) ∙ there)
-              in let row_now = body-living next p row now
-              in let before = lived-before p row_now.alive row_now.lives
-              in (
-                before.0.row,
-                ap (get_named n.deeds) e ∙ at.held ∙ ap (λ m. Some (body_in b.kernel m)) (sym e)
-                    ∙ ap Some (living-body b.kernel p before.0 before.1),
-              )
+          | inl e ↦ row-was p row e there
         ]
 
     row-after : HoldsRow n.deeds n.pid → HoldsRow own_deeds n.pid

@@ -1,8 +1,7 @@
 -- Node 1 starts a call of its process that the leader routes: the call is in the leader's hand.
-use Rattle.std.proofs.Common.{◌≡◌, ◌≢◌, ℕ, ◌+◌, ◌≤◌, Bool, true, false, cond, if◌then◌else◌, List, [], ◌∷◌, ◌++◌, filter, nat_eq, Contains, Some, refl, ap, sym, subst, ◌∙◌, inl, inr, arith}
+use Rattle.std.proofs.Common.{◌≡◌, ◌≢◌, ℕ, ◌+◌, ◌≤◌, true, false, cond, if◌then◌else◌, List, [], ◌∷◌, filter, Contains, refl, ap, sym, subst, ◌∙◌, inl, inr, arith}
 use Rattle.std.proofs.lemmas.Bool.{cases_eq, eq-eqb, ne_eqb, false≢true}
 use Rattle.std.proofs.lemmas.List.Elements.{Contains-push_cases}
-use Rattle.pico_base.specs.declared.call.Call.{Call}
 use Rattle.pico_base.specs.declared.numbers.Kind.{Kind}
 use Rattle.pico_base.specs.declared.numbers.Name.{Name}
 use Rattle.pico_base.specs.declared.script.Script.{Script}
@@ -17,16 +16,16 @@ use Rattle.node_model.specs.Directory.{Directory, held_for, is_parcel}
 use Rattle.node_model.specs.Kinds.{for_kind}
 use Rattle.world_model.specs.Calls.{is_for_others}
 use Rattle.world_model.specs.Node.{Node, Stage, Living, Left, asked_here}
-use Rattle.world_model.specs.Step.{Step, step_to}
+use Rattle.world_model.specs.Step.{step_to}
 use Rattle.world_model.specs.World.{World, node_count, world_after}
 use Rattle.world_laws.specs.Places.{Beside, CallPlace, IsInHand, call_in}
 use Rattle.world_laws.specs.Sights.{node_of, directory_of, is_born_in}
 use Rattle.world_laws.specs.Names.{NameHolds, name_sight}
-use Rattle.world_laws.specs.Callers.{CallHolds, CallSight, HasCall, IsToBeMade, asked_of, call_sight, is_about, is_at_work, is_end_place, is_item_about}
+use Rattle.world_laws.specs.Callers.{CallHolds, CallSight, HasCall, call_sight, is_about, is_at_work, is_end_place, is_item_about}
 use Rattle.world_laws.specs.Families.{HoldsIn, NodeHolds}
 use Rattle.world_laws.specs.Invariant.{Holds}
-use Rattle.world_laws.specs.Ranges.{FewRanges, KindHolds, has_lease, kind_sight}
-use Rattle.world_laws.proofs.Changes.{Changes, filter-is-list-map, only-stayed, read-same, stayed}
+use Rattle.world_laws.specs.Ranges.{KindHolds, has_lease, kind_sight}
+use Rattle.world_laws.proofs.Changes.{Changes, filter-is-list-map, only-stayed, stayed}
 use Rattle.world_laws.proofs.LeftAlone.{few-still, kind-left-alone, name-left-alone, same-directory}
 use Rattle.world_laws.proofs.Stays.{IsMore, SameCall, call-stays, kind-stays, name-stays}
 use Rattle.world_laws.proofs.Steps.{changes-by-run}

@@ -1,6 +1,6 @@
 -- A call in hand of node 1's own process that changes nothing: the entry is made, and the process goes on with the
 -- reply.
-use Rattle.std.proofs.Common.{◌≡◌, ℕ, ◌≤◌, List, [], ◌∷◌, Some, refl, ap, sym, subst, ◌∙◌, arith, append-nil, nat_eq, true, false, None, Option, if◌then◌else◌}
+use Rattle.std.proofs.Common.{◌≡◌, ℕ, ◌≤◌, List, [], ◌∷◌, Some, refl, ap, sym, subst, ◌∙◌, arith, append-nil, true, false, None, if◌then◌else◌}
 use Rattle.std.proofs.lemmas.Bool.{eq-eqb}
 use Rattle.pico_base.specs.declared.call.Call.{Call}
 use Rattle.pico_base.specs.declared.numbers.Name.TheVariants.{Proc}
@@ -10,8 +10,8 @@ use Rattle.rpc_frame.specs.declared.frame.Frame.TheVariants as frames
 use Rattle.kernel_model.specs.Fitting.{Place, places_after}
 use Rattle.node_model.specs.declared.held.Held.{Held}
 use Rattle.node_model.specs.declared.held.Held.TheVariants.{Request}
-use Rattle.node_model.specs.Caller.{Caller, answer_call, caller_place}
-use Rattle.world_model.specs.Node.{Node, Leader, Stage, Living, under_way_as}
+use Rattle.node_model.specs.Caller.{answer_call, caller_place}
+use Rattle.world_model.specs.Node.{Node, Stage, Living, under_way_as}
 use Rattle.world_model.specs.Step.{Step, carry_out, enter, reply_here, send, with_node}
 use Rattle.world_model.specs.Routing.{route_call}
 use Rattle.world_model.specs.World.{World, node_count, world_after}
@@ -21,7 +21,7 @@ use Rattle.kernel_moves.proofs.Keys.{keys-kept}
 use Rattle.world_laws.specs.Places.{Idle, Beside, call_in}
 use Rattle.world_laws.specs.Sights.{node_of, is_born_in}
 use Rattle.world_laws.specs.Ranges.{KeysHold}
-use Rattle.world_laws.specs.Families.{NodeHolds, HoldsIn, HoldsRow}
+use Rattle.world_laws.specs.Families.{NodeHolds, HoldsIn}
 use Rattle.world_laws.specs.Invariant.{Holds}
 use Rattle.world_laws.proofs.Changes.{Changes}
 use Rattle.world_laws.proofs.Middles.{changes-further}

@@ -7,7 +7,8 @@ use Rattle.node_model.specs.Directory.{At, has_more, place_of}
 use Rattle.world_model.specs.Node.{Node}
 use Rattle.world_first.specs.Watching.{WatchesAsOwner}
 
--- its watches are its own, its key tables are by rising number, its directory names nodes, and each kind has numbers left
+-- its watches are its own, its key tables are by rising number, its directory names nodes, and each kind has numbers
+-- left
 pub record IsReady (n : Node) : Type 0 where
   pub watches : WatchesAsOwner n
   pub queues : IsRising n.leader.queue_keys
