@@ -3,3 +3,5 @@ pub mod Totals
 pub mod Costs
 pub mod Spending
 pub mod Blocks
+pub mod Journals
+pub mod Ranges
