@@ -5,3 +5,4 @@ pub mod Spending
 pub mod Blocks
 pub mod Journals
 pub mod Ranges
+pub mod SmallBodies
