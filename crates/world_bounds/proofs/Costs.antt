@@ -36,7 +36,7 @@ cost script = cost_to script (suc (node_count script))
 
 -- ---- where lines fork to
 
-abbrev TargetsAre : (ℕ → Type 0) → List Line → Type 0
+abbrev pub TargetsAre : (ℕ → Type 0) → List Line → Type 0
 TargetsAre P lines = AllByRecursion (λ line. AllByRecursion P (fork_targets line.call)) lines
 
 same-total : (P : ℕ → Type 0) (f g : ℕ → ℕ) → ((x : ℕ) → P x → f x ≡ g x) → (xs : List ℕ) → AllByRecursion P xs
@@ -83,7 +83,7 @@ module _ (script : Script) where
   count = node_count script
 
   -- behind this block, and of the script
-  abbrev IsBehind : ℕ → ℕ → Type 0
+  abbrev pub IsBehind : ℕ → ℕ → Type 0
   IsBehind k block = (k < block) × (block ≤ count)
 
   behind-all : (k : ℕ) (tos : List ℕ) → list_all (goes_forward script) (forks_in k tos) ≡ true
@@ -99,7 +99,7 @@ module _ (script : Script) where
   in-front P [] ys all = (tt, all)
   in-front P (x ∷ xs) ys all = let rest = in-front P xs ys all.1 in ((all.0, rest.0), rest.1)
 
-  targets-of-tos : (P : ℕ → Type 0) (lines : List Line) → AllByRecursion P (tos_of lines) → TargetsAre P lines
+  pub targets-of-tos : (P : ℕ → Type 0) (lines : List Line) → AllByRecursion P (tos_of lines) → TargetsAre P lines
   targets-of-tos P [] all = tt
   targets-of-tos P (line ∷ lines) all =
       let parts = in-front P (fork_targets line.call) (tos_of lines) all
@@ -113,7 +113,7 @@ module _ (script : Script) where
       (list_all (goes_forward script) (forks_from (k + 1) blocks))
       (sym (list_all-append (goes_forward script) (forks_in k (tos_of b.lines)) (forks_from (k + 1) blocks)) ∙ h)
 
-  forward-from : (k : ℕ) (blocks : List Block) → list_all (goes_forward script) (forks_from k blocks) ≡ true
+  pub forward-from : (k : ℕ) (blocks : List Block) → list_all (goes_forward script) (forks_from k blocks) ≡ true
       → (i : ℕ) (block : Block) → slice_get blocks i ≡ Some block → AllByRecursion (IsBehind (k + i)) (tos_of block.lines)
   forward-from k [] h i block is = absurd (cc)
   forward-from k (b ∷ blocks) h zero block is =

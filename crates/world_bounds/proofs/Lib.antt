@@ -6,3 +6,4 @@ pub mod Blocks
 pub mod Journals
 pub mod Ranges
 pub mod SmallBodies
+pub mod Scripts
