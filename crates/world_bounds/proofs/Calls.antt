@@ -20,7 +20,7 @@ use Rattle.world_hand.proofs.Asks.{NeverWaits}
 
 -- ---- none waits
 
-killed-never-waits : (call : Call) → is_killed call ≡ true → is_waiting call ≡ false
+pub killed-never-waits : (call : Call) → is_killed call ≡ true → is_waiting call ≡ false
 killed-never-waits (calls.Killed sig) h = refl
 killed-never-waits call h = absurd (false≢true h)
 
@@ -42,7 +42,7 @@ type-fits (negsuc m) h =
     (and_parts (int_le (negsuc 2147483646) (negsuc m)) (int_le (negsuc m) (pos 2147483647)) h).0
     in fits_signed_from_abs w32 (negsuc m) (omega (arith, low))
 
-small-in-range : (call : Call) → is_in_range call ≡ true → IsSmallCall call
+pub small-in-range : (call : Call) → is_in_range call ≡ true → IsSmallCall call
 small-in-range (calls.MsgSnd id class text nowait) h =
     type-fits class (and_parts (is_type class) _ (and_parts _ _ h).1).0
 small-in-range call h = tt
@@ -51,7 +51,7 @@ small-target : (call : Call) (n : ℕ) → IsSmallCall call → IsSmallCall (wit
 small-target (calls.MsgSnd id class text nowait) n h = h
 small-target call n h = tt
 
--- The call of a line in range is small, whatever its variables are.
-small-from : (call : Call) (vars : Vars) (o : Option ℕ) → IsSmallCall call → IsSmallCall (call_from call vars o)
+-- whatever the variables are
+pub small-from : (call : Call) (vars : Vars) (o : Option ℕ) → IsSmallCall call → IsSmallCall (call_from call vars o)
 small-from call vars None h = h
 small-from call vars (Some v) h = small-target call (value_of vars v) h

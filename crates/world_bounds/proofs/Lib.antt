@@ -7,3 +7,4 @@ pub mod Journals
 pub mod Ranges
 pub mod SmallBodies
 pub mod Scripts
+pub mod Smalls
