@@ -8,3 +8,4 @@ pub mod Ranges
 pub mod SmallBodies
 pub mod Scripts
 pub mod Smalls
+pub mod Deeds
