@@ -9,3 +9,7 @@ pub mod SmallBodies
 pub mod Scripts
 pub mod Smalls
 pub mod Deeds
+pub mod Parts
+pub mod StepParts
+pub mod NewNames
+pub mod Routed
