@@ -13,3 +13,5 @@ pub mod Parts
 pub mod StepParts
 pub mod NewNames
 pub mod Routed
+pub mod Released
+pub mod Started
