@@ -15,3 +15,4 @@ pub mod NewNames
 pub mod Routed
 pub mod Released
 pub mod Started
+pub mod Turns

@@ -49,7 +49,7 @@ pub answered-none : (script : Script) (block : ℕ) (c : Caller) (call : Call) (
     → (answer_call script block c call reply).under_way ≡ None
 answered-none script block c call reply = answered-at c call reply (slice_get (lines_of script block) c.line)
 
-none-forks : (o : Option Call) (block : ℕ) → o ≡ None → o ≡ Some (calls.Fork block) → ⊥
+pub none-forks : (o : Option Call) (block : ℕ) → o ≡ None → o ≡ Some (calls.Fork block) → ⊥
 none-forks o block none some = let apart : None ≡ Some (calls.Fork block) = sym none ∙ some in absurd (cc)
 
 module _ (script : Script) where
