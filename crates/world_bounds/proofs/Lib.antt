@@ -16,3 +16,4 @@ pub mod Routed
 pub mod Released
 pub mod Started
 pub mod Turns
+pub mod Worlds
