@@ -17,3 +17,4 @@ pub mod Released
 pub mod Started
 pub mod Turns
 pub mod Worlds
+pub mod Runs
