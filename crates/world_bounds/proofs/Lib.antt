@@ -18,3 +18,4 @@ pub mod Started
 pub mod Turns
 pub mod Worlds
 pub mod Runs
+pub mod Ready
