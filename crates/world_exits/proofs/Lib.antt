@@ -1,3 +1,5 @@
 pub mod Arrivals
 pub mod Released
 pub mod Parcels
+pub mod Hands
+pub mod Onward
