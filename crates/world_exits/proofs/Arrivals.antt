@@ -69,7 +69,8 @@ pub record Arrives (d d' : Directory) (names : List Name) (node : ℕ) : Type 0 
   pub ranges_are : d'.ranges ≡ d.ranges
   pub leads : IsLeading d'
 
-either-way : {A : Type 0} (t : Bool) (x : A) → (if t then x else x) ≡ x
+-- whatever the test says
+pub either-way : {A : Type 0} (t : Bool) (x : A) → (if t then x else x) ≡ x
 either-way true x = refl
 either-way false x = refl
 

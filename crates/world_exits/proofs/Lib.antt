@@ -3,3 +3,4 @@ pub mod Released
 pub mod Parcels
 pub mod Hands
 pub mod Onward
+pub mod SentOn
