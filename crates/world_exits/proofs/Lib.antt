@@ -4,3 +4,5 @@ pub mod Parcels
 pub mod Hands
 pub mod Onward
 pub mod SentOn
+pub mod DeedMoves
+pub mod SentAll
