@@ -6,3 +6,4 @@ pub mod Onward
 pub mod SentOn
 pub mod DeedMoves
 pub mod SentAll
+pub mod EndKeeps
