@@ -7,3 +7,4 @@ pub mod SentOn
 pub mod DeedMoves
 pub mod SentAll
 pub mod EndKeeps
+pub mod EndLeaves
