@@ -8,3 +8,4 @@ pub mod DeedMoves
 pub mod SentAll
 pub mod EndKeeps
 pub mod EndLeaves
+pub mod Exits

@@ -19,7 +19,7 @@ use Rattle.kernel_moves.specs.Entering.{HasRow, is_used_name}
 use Rattle.kernel_moves.proofs.Bodies.{body-living}
 use Rattle.node_model.specs.declared.held.Held.{Held}
 use Rattle.node_model.specs.declared.held.Held.TheVariants.{Ending}
-use Rattle.node_model.specs.Kinds.{is_same_name, kind_of, number_of}
+use Rattle.node_model.specs.Kinds.{is_same_name, is_object, kind_of}
 use Rattle.node_model.specs.Directory.{has_deed_of, is_parcel_with}
 use Rattle.node_model.specs.Bodies.{Body, Living as LivingBody, Deeds, body_in, process_body}
 use Rattle.node_model.specs.Spelling.{pack, read_deed}
@@ -29,7 +29,7 @@ use Rattle.world_model.specs.Lives.{is_end}
 use Rattle.world_model.specs.World.{World, node_count}
 use Rattle.world_laws.specs.Places.{DeedPlace, Unmade, InCheckpoint, InHand, InExitTo, Ends, Beside}
 use Rattle.world_laws.specs.Sights.{node_of, frames_to, stage_of, is_born_in}
-use Rattle.world_laws.specs.Names.{NameHolds, name_sight, HasDeed, held_as}
+use Rattle.world_laws.specs.Names.{NameHolds, name_sight, HasDeed, held_as, may_be_at}
 use Rattle.world_laws.specs.Callers.{call_sight, HasCall, IsSoFar, IsToBeMade, HasEnded, is_end_stage, may_be_in}
 use Rattle.world_laws.specs.Ways.{IsParcelOf, at_hand, under_way_of, HasSender}
 use Rattle.world_laws.specs.Ranges.{kind_sight}
@@ -51,16 +51,31 @@ pub record IsOnItsWay (c : ℕ) (place : DeedPlace) : Type 0 where
   pub made : place ≢ Unmade
   pub in_no_table : (body : Body) (h : ℕ) → held_as place body h ≡ None
   pub comes_not : (to : ℕ) → place ≢ InCheckpoint to
+  pub no_object : may_be_at true place ≡ false
 
 -- in the leader's hand
 pub in-hand-on-way : (c : ℕ) → IsOnItsWay c (InHand c)
 in-hand-on-way c =
-    record { own = λ k h. h; below = λ k h. h; made = λ e. cc; in_no_table = λ body h. refl; comes_not = λ to e. cc }
+    record {
+      own = λ k h. h;
+      below = λ k h. h;
+      made = λ e. cc;
+      in_no_table = λ body h. refl;
+      comes_not = λ to e. cc;
+      no_object = refl;
+    }
 
 -- or on its way to a node
 pub sent-on-way : (c x : ℕ) → IsOnItsWay c (InExitTo c x)
 sent-on-way c x =
-    record { own = λ k h. h; below = λ k h. h; made = λ e. cc; in_no_table = λ body h. refl; comes_not = λ to e. cc }
+    record {
+      own = λ k h. h;
+      below = λ k h. h;
+      made = λ e. cc;
+      in_no_table = λ body h. refl;
+      comes_not = λ to e. cc;
+      no_object = refl;
+    }
 
 -- The parcel of node c, whose process ends with this call: the deeds of its names are at this place, and no others.
 pub record HasParcel (script : Script) (w : World) (b : Beside) (parcel : Parcel) (c : ℕ) (call : Call)
@@ -172,12 +187,26 @@ module _ (script : Script) (w : World) (hand : List Held) (b : Beside) (holds : 
   has-body k =
       ap (λ ds. list_any (λ deed. is_same_name (Proc k) deed.name) ds) is_of.packed ∙ packed-has k bodies
 
-  in-parcel : (k : ℕ) (v : Body) → get bodies k ≡ Some v → has_deed_of (Proc k) parcel ≡ true
+  -- so of each
+  pub in-parcel : (k : ℕ) (v : Body) → get bodies k ≡ Some v → has_deed_of (Proc k) parcel ≡ true
   in-parcel k v there = has-body k ∙ ap is_some there
 
   -- a name with a deed in it has a number
   pub in-parcel-made : (name : Name) → has_deed_of name parcel ≡ true → b.deed name ≢ Unmade
   in-parcel-made name e z = on_way.made (sym (parcel_is.deeds name e) ∙ z)
+
+  -- it has none of a queue or a set
+  pub no-object-in : (name : Name) → is_object name ≡ true → has_deed_of name parcel ≡ false
+  no-object-in name object = by-test (has_deed_of name parcel) refl
+    where
+      by-test : (t : Bool) → has_deed_of name parcel ≡ t → has_deed_of name parcel ≡ false
+      by-test false e = e
+      by-test true e =
+          let known : NameHolds script b.pids (is_born_in w) name (name_sight script w hand b name) = holds.names name
+          in absurd (false≢true
+          (sym on_way.no_object
+          ∙ ap (may_be_at true) (sym (parcel_is.deeds name e))
+          ∙ ap (λ o. may_be_at o (b.deed name)) (sym object) ∙ known.place_fits))
 
   -- it has its own process's
   pub own-in-parcel : has_deed_of (Proc (b.pids c)) parcel ≡ true
@@ -258,10 +287,33 @@ module _ (script : Script) (w : World) (hand : List Held) (b : Beside) (holds : 
       subst (λ (a : Alive). may_end_with a.row call ≡ true) (some-same (sym end-to-be-made.lives ∙ own-living))
       (end-is-allowed end-to-be-made.alive call is-an-end end-to-be-made.may)
 
+  -- a process of the parcel that lives is the node's own
+  pub living-own : (k : ℕ) (v : Body) → get bodies k ≡ Some v → (row : Row) → part k ≡ LivingBody row → k ≡ parcel.pid
+  living-own k v there row lives =
+      let alive : HasRow b.kernel k row = body-living b.kernel k row lives
+      in let is = from-living b.kernel.processes k alive.alive alive.lives
+      in let pids = holds.pids
+      in let of = pids.there k (kernel.Living alive.alive) is
+      in same-node of.0 of.1 (λ z. of.2 (sym of.1 ∙ z))
+      (subst (λ q. b.deed (Proc q) ≡ place) (sym of.1) (parcel_is.deeds (Proc k) (in-parcel k v there)))
+      (ap (get b.kernel.processes) of.1 ∙ is)
+    where
+      same-node : (g : ℕ) → b.pids g ≡ k → b.pids g ≢ 0 → b.deed (Proc (b.pids g)) ≡ place
+          → {a : Alive} → get b.kernel.processes (b.pids g) ≡ Some (kernel.Living a) → k ≡ parcel.pid
+      same-node g e forked at {a} is =
+          let family : FamilyHolds script b.pids b.places b.kernel (process_deed b.deed) (checkpoints_to script w g)
+          (stage_of w g) g = holds.families g forked
+          in let own : c ≡ g =
+          on_way.own g
+          (subst (λ z. IsWhereFor g z (kernel.Living a)) at
+          (subst (λ v. IsWhereFor g (b.deed (Proc (b.pids g))) v) (some-same (sym family.is ∙ is))
+          family.where_it_is))
+          in sym e ∙ ap b.pids (sym own) ∙ sym is_of.pid
+
   -- ---- it is read, and fits
 
   module _ (reads : DeedsAreRead b.kernel) (deeds : Deeds)
-      (none_here : (name : Name) → has_deed_of name parcel ≡ true → get deeds.processes (number_of name) ≡ None) where
+      (none_here : (k : ℕ) → has_deed_of (Proc k) parcel ≡ true → get deeds.processes k ≡ None) where
     read-there : (k : ℕ) (v : Body) → get bodies k ≡ Some v → read_deed (pack (Proc k) v) ≡ Some (part k)
     read-there k v there =
         let e = in-parcel k v there
@@ -285,29 +337,6 @@ module _ (script : Script) (w : World) (hand : List Held) (b : Beside) (holds : 
         ∙ ap Some own-part)
         ∙ ap (may_end_with own-lives.alive.row) is_of.call_is ∙ allowed
 
-    -- a process of the parcel that lives is the node's own
-    living-own : (k : ℕ) (v : Body) → get bodies k ≡ Some v → (row : Row) → part k ≡ LivingBody row → k ≡ parcel.pid
-    living-own k v there row lives =
-        let alive : HasRow b.kernel k row = body-living b.kernel k row lives
-        in let is = from-living b.kernel.processes k alive.alive alive.lives
-        in let pids = holds.pids
-        in let of = pids.there k (kernel.Living alive.alive) is
-        in same-node of.0 of.1 (λ z. of.2 (sym of.1 ∙ z))
-        (subst (λ q. b.deed (Proc q) ≡ place) (sym of.1) (parcel_is.deeds (Proc k) (in-parcel k v there)))
-        (ap (get b.kernel.processes) of.1 ∙ is)
-      where
-        same-node : (g : ℕ) → b.pids g ≡ k → b.pids g ≢ 0 → b.deed (Proc (b.pids g)) ≡ place
-            → {a : Alive} → get b.kernel.processes (b.pids g) ≡ Some (kernel.Living a) → k ≡ parcel.pid
-        same-node g e forked at {a} is =
-            let family : FamilyHolds script b.pids b.places b.kernel (process_deed b.deed) (checkpoints_to script w g)
-            (stage_of w g) g = holds.families g forked
-            in let own : c ≡ g =
-            on_way.own g
-            (subst (λ z. IsWhereFor g z (kernel.Living a)) at
-            (subst (λ v. IsWhereFor g (b.deed (Proc (b.pids g))) v) (some-same (sym family.is ∙ is))
-            family.where_it_is))
-            in sym e ∙ ap b.pids (sym own) ∙ sym is_of.pid
-
     all-over : list_all (is_over_but_for parcel.pid) (each_with part bodies) ≡ true
     all-over =
         each-passes part (is_over_but_for parcel.pid) bodies
@@ -318,7 +347,7 @@ module _ (script : Script) (w : World) (hand : List Held) (b : Beside) (holds : 
     none-held =
         each-passes part (is_held_none deeds) bodies
         (all-of-map (λ e. is_held_none deeds (e.0, part e.0) ≡ true) bodies is_of.ordered
-        (λ k v there. ap is_none (none_here (Proc k) (in-parcel k v there))))
+        (λ k v there. ap is_none (none_here k (in-parcel k v there))))
 
     -- It fits the deeds of a node that has none of its names.
     pub parcel-fits : fits_bodies deeds parcel (each_with part bodies) ≡ true
