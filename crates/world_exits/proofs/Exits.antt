@@ -92,7 +92,8 @@ module _ (script : Script) (w : World) (hand : List Held) (b : Beside) (holds : 
   on_way : IsOnItsWay c place
   on_way = parcel_is.on_way
 
-  pid-is : parcel.pid ≡ b.pids c
+  -- its number is that of the node's process
+  pub pid-is : parcel.pid ≡ b.pids c
   pid-is = let p = parcel_is.is_of in p.pid
 
   abbrev lives : OwnLives script w hand b holds parcel c call place parcel_is
@@ -109,12 +110,14 @@ module _ (script : Script) (w : World) (hand : List Held) (b : Beside) (holds : 
 
   -- ---- what the node has
 
-  none-here : (q : ℕ) → has_deed_of (Proc q) parcel ≡ true → get deeds.processes q ≡ None
+  -- none of the parcel's names
+  pub none-here : (q : ℕ) → has_deed_of (Proc q) parcel ≡ true → get deeds.processes q ≡ None
   none-here q e =
       let n = known (Proc q)
       in n.tables x ∙ ap (λ d. held_as d (of q) x) (parcel_is.deeds (Proc q) e) ∙ on_way.in_no_table (of q) x
 
-  parent-here : get_named deeds (Proc parcel.parent) ≡ Some parent_body
+  -- but the parent's
+  pub parent-here : get_named deeds (Proc parcel.parent) ≡ Some parent_body
   parent-here =
       let n = known (Proc parcel.parent)
       in n.tables x ∙ ap (λ d. held_as d parent_body x) parent_at ∙ held-here x parent_body
@@ -131,7 +134,8 @@ module _ (script : Script) (w : World) (hand : List Held) (b : Beside) (holds : 
 
   -- ---- the process
 
-  not-first : c ≢ 1
+  -- its node isn't the leader
+  pub not-first : c ≢ 1
   not-first e =
       let node : NodeHolds script b.pids (is_born_in w) 1 (node_of w 1) =
       holds.nodes 1 (omega arith)
@@ -140,7 +144,8 @@ module _ (script : Script) (w : World) (hand : List Held) (b : Beside) (holds : 
       (sym (ap is_first_stage parcel_is.stage)
       ∙ ap (λ y. is_first_stage (stage_of w y)) e ∙ node.first refl)
 
-  parent-is : parcel.parent ≡ b.pids (forker script c)
+  -- its parent is the process of the node that forked it
+  pub parent-is : parcel.parent ≡ b.pids (forker script c)
   parent-is = let p = parcel_is.is_of in p.parent
 
   abbrev family : FamilyHolds script b.pids b.places k (process_deed b.deed) (checkpoints_to script w c)
@@ -160,12 +165,13 @@ module _ (script : Script) (w : World) (hand : List Held) (b : Beside) (holds : 
       (subst (λ z. MayMake k (b.pids c) z) (sym call-is)
       (may-make-from script w.journal k b.places (b.pids c) call made.alive holds.history made.lives made.may))
 
-  own-row : body_in k (Proc parcel.pid) ≡ LivingBody end_row
+  -- it has this row
+  pub own-row : body_in k (Proc parcel.pid) ≡ LivingBody end_row
   own-row =
       ap (λ q. body_in k (Proc q)) pid-is ∙ own-part script w hand b holds parcel c call place parcel_is
 
   -- a process of the parcel is read as the kernel's part
-  gets : (q : ℕ) → has_deed_of (Proc q) parcel ≡ true → get (each_with of its) q ≡ Some (of q)
+  pub gets : (q : ℕ) → has_deed_of (Proc q) parcel ≡ true → get (each_with of its) q ≡ Some (of q)
   gets q e = by-body (get its q) refl
       (sym (has-body script w hand b holds parcel c call place parcel_is q) ∙ e)
     where
@@ -175,7 +181,7 @@ module _ (script : Script) (w : World) (hand : List Held) (b : Beside) (holds : 
       by-body None g h = absurd (false≢true (sym (ap is_some g) ∙ h))
 
   -- its ended children are in its parcel
-  child-in : (child : ℕ) (ending : Ending) → Contains end_row.family.ended (ended_child child ending)
+  pub child-in : (child : ℕ) (ending : Ending) → Contains end_row.family.ended (ended_child child ending)
       → (has_deed_of (Proc child) parcel ≡ true) × (get k.processes child ≡ Some (kernel.Ended ending))
   child-in child ending listed =
       let living = own-living script w hand b holds parcel c call place parcel_is

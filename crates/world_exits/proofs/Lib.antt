@@ -9,3 +9,4 @@ pub mod SentAll
 pub mod EndKeeps
 pub mod EndLeaves
 pub mod Exits
+pub mod ExitDeeds
