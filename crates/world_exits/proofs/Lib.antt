@@ -10,3 +10,4 @@ pub mod EndKeeps
 pub mod EndLeaves
 pub mod Exits
 pub mod ExitDeeds
+pub mod ExitMoves
