@@ -11,3 +11,4 @@ pub mod EndLeaves
 pub mod Exits
 pub mod ExitDeeds
 pub mod ExitMoves
+pub mod LeaderExits
