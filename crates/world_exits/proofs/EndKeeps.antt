@@ -1,10 +1,11 @@
 -- The leader ends the process of the first parcel of its hand, in the middle of an event: where the parent's deed is at
--- another node, the parcel goes there.
+-- another node the parcel goes there, and where it is at the leader the exit is carried out.
 use Rattle.std.proofs.Common.{◌≡◌, ◌≢◌, ℕ, ◌≤◌, Bool, List, [], ◌∷◌, ◌++◌, nat_eq, if◌then◌else◌, Some, option_map, refl, ap, sym, subst, ◌∙◌, arith, append-nil}
-use Rattle.std.proofs.lemmas.Bool.{ne_eqb}
+use Rattle.std.proofs.lemmas.Bool.{eq-eqb, ne_eqb}
 use Rattle.pico_base.specs.declared.numbers.Name.{Name}
 use Rattle.pico_base.specs.declared.numbers.Name.TheVariants.{Proc}
 use Rattle.pico_base.specs.declared.reply.Entry.{Entry}
+use Rattle.pico_base.specs.declared.reply.Reply.TheVariants as replies
 use Rattle.pico_base.specs.declared.script.Script.{Script}
 use Rattle.rpc_frame.specs.declared.deed.Parcel.{Parcel}
 use Rattle.rpc_frame.specs.declared.frame.Frame.{Frame}
@@ -13,19 +14,24 @@ use Rattle.node_model.specs.declared.held.Held.{Held}
 use Rattle.node_model.specs.declared.held.Held.TheVariants.{Ending}
 use Rattle.node_model.specs.Directory.{Directory, At, place_of}
 use Rattle.world_model.specs.Node.{Node}
-use Rattle.world_model.specs.Step.{Step, with_node, with_directory, send}
+use Rattle.world_model.specs.Step.{Step, with_node, with_deeds, with_directory, send, enter, entry_by}
 use Rattle.world_model.specs.Routing.{Releases, names_in, held_for_all, arrive_all, release_names, exit_here, end_by, end_process}
 use Rattle.world_model.specs.World.{World, node_count, world_after}
-use Rattle.world_laws.specs.Places.{Beside}
-use Rattle.world_laws.specs.Sights.{node_of, directory_of, is_born_in}
+use Rattle.world_laws.specs.Places.{InHand, Beside}
+use Rattle.world_laws.specs.Sights.{node_of, directory_of, stage_of, is_born_in}
 use Rattle.world_laws.specs.Families.{NodeHolds}
 use Rattle.world_laws.specs.Invariant.{Holds}
+use Rattle.world_laws.specs.Deeds.{DeedsAreRead}
+use Rattle.world_laws.specs.Ways.{under_way_of, HasSender}
 use Rattle.world_laws.proofs.Changes.{Changes}
 use Rattle.world_laws.proofs.Sends.{AreToNodes}
 use Rattle.world_laws.proofs.Middles.{GrowsBy, changes-further}
 use Rattle.world_hand.proofs.Owners.{owner-in-range}
 use Rattle.world_exits.proofs.Arrivals.{Arrives, all-arrive}
-use Rattle.world_exits.proofs.Hands.{hand_then}
+use Rattle.node_model.specs.Bodies.{Deeds}
+use Rattle.world_exits.proofs.Parcels.{hand-sender}
+use Rattle.world_exits.proofs.Exits.{deeds_then, exits}
+use Rattle.world_exits.proofs.LeaderExits.{leader_parcel, parent-at-leader, leader_entry, leader_beside, exit-at-leader}
 use Rattle.world_exits.proofs.SentOn.{sent_beside}
 use Rattle.world_exits.proofs.SentAll.{parcel-sent-on}
 
@@ -130,4 +136,71 @@ module _ (script : Script) (v : World) (s : Step) (parcel : Parcel) (rest : List
               (sym leader-directory)
               (parcel-sent-on script w rest parcel b holds x place two directory_then arrives
               (world_after v 1 sent_on) sent-changes);
+        }
+
+  -- ---- at the leader
+
+  module _ (reads : DeedsAreRead b.kernel) (place : place_of d (Proc parcel.parent) ≡ Some (At 1)) where
+    abbrev sender : HasSender script b.pids (stage_of w) (under_way_of w) parcel
+    sender = hand-sender script w rest parcel b holds
+
+    abbrev held_then : Deeds
+    held_then =
+        deeds_then script w (Ending parcel ∷ rest) b holds parcel sender.node sender.call (InHand sender.node)
+        (leader_parcel script w rest parcel b holds reads some_node place) reads 1
+        (parent-at-leader script w rest parcel b holds reads some_node place)
+
+    abbrev exited : Step
+    exited = enter (with_deeds s held_then) parcel.pid parcel.call replies.Ended
+
+    abbrev carried_out : Step
+    carried_out =
+        with_node exited
+        (with_directory exited.node (arrive_all exited.node.leader.directory names 1))
+
+    -- the parcel's names are at the leader then
+    pub arrive-here : Arrives d (arrive_all d names 1) names 1
+    arrive-here = all-arrive d names 1 holds.leading
+
+    -- and this is all that the leader's step changes
+    pub exit-changes : Changes script 1 w (world_after v 1 carried_out)
+        (with_directory (record (node_of w 1) { deeds = held_then }) (arrive_all d names 1)) [] []
+        (leader_entry script w rest parcel b holds reads some_node place ∷ [])
+    exit-changes =
+        subst (λ (m : Node). Changes script 1 w (world_after v 1 carried_out)
+        (with_directory (record m { deeds = held_then }) (arrive_all m.leader.directory names 1)) [] []
+        (leader_entry script w rest parcel b holds reads some_node place ∷ [])) (sym leader-here)
+        (changes-now carried_out [] (leader_entry script w rest parcel b holds reads some_node place ∷ [])
+        (record {
+          sends_are = sym (append-nil s.sends);
+          entries_are = ap (λ q. s.entries ++ entry_by q parcel.pid parcel.call replies.Ended ∷ []) leader-number;
+        }) tt)
+
+    -- what is beside the world then
+    abbrev pub beside_exited : Beside
+    beside_exited =
+        leader_beside script w rest parcel b holds reads some_node place (arrive_all d names 1) arrive-here
+        (world_after v 1 carried_out) exit-changes
+
+    -- The exit is carried out, and what was held for the parcel's names comes into the hand.
+    pub end-carried-out : EndKeeps script v s parcel rest beside_exited
+    end-carried-out =
+        record {
+          next = carried_out;
+          items = held_for_all s.node.leader.directory names;
+          is_end = ap (λ z. end_by s parcel (place_of z (Proc parcel.parent))) leader-directory
+              ∙ ap (end_by s parcel) place
+              ∙ ap (λ t. if t
+              then option_map (release_names parcel 1) (exit_here s parcel)
+              else Some (release_names parcel 1 (send s 1 (frames.ExitTo parcel))))
+              (eq-eqb 1 s.node.number (sym leader-number))
+              ∙ ap (option_map (release_names parcel 1))
+              (exits script w (Ending parcel ∷ rest) b holds parcel sender.node sender.call (InHand sender.node)
+              (leader_parcel script w rest parcel b holds reads some_node place) reads 1
+              (parent-at-leader script w rest parcel b holds reads some_node place) s
+              (sym (ap (λ (m : Node). m.deeds) leader-here)));
+          holds = subst (λ z. Holds script (world_after v 1 carried_out) (held_for_all z names ++ rest) beside_exited)
+              (sym leader-directory)
+              (exit-at-leader script w rest parcel b holds reads some_node place (arrive_all d names 1) arrive-here
+              (world_after v 1 carried_out) exit-changes);
         }

@@ -6,9 +6,9 @@ pub mod Onward
 pub mod SentOn
 pub mod DeedMoves
 pub mod SentAll
-pub mod EndKeeps
 pub mod EndLeaves
 pub mod Exits
 pub mod ExitDeeds
 pub mod ExitMoves
 pub mod LeaderExits
+pub mod EndKeeps
