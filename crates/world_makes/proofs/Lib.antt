@@ -1,1 +1,6 @@
 pub mod Forkers
+pub mod Sources
+pub mod Directories
+pub mod NewOnes
+pub mod Ready
+pub mod Counts
