@@ -4,3 +4,5 @@ pub mod Directories
 pub mod NewOnes
 pub mod Ready
 pub mod Counts
+pub mod CallsOver
+pub mod Told
