@@ -5,4 +5,7 @@ pub mod NewOnes
 pub mod Ready
 pub mod Counts
 pub mod CallsOver
+pub mod Lacking
 pub mod Told
+pub mod Taken
+pub mod NewObjects
