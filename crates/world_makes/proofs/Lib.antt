@@ -9,3 +9,5 @@ pub mod Lacking
 pub mod Told
 pub mod Taken
 pub mod NewObjects
+pub mod FromLease
+pub mod FromNext
