@@ -11,3 +11,4 @@ pub mod Taken
 pub mod NewObjects
 pub mod FromLease
 pub mod FromNext
+pub mod FromFrame
