@@ -12,3 +12,5 @@ pub mod NewObjects
 pub mod FromLease
 pub mod FromNext
 pub mod FromFrame
+pub mod Handed
+pub mod WithinLines
