@@ -1,5 +1,5 @@
 -- Which block forks which: a sound script forks a block only from one before it, and from one alone.
-use Rattle.std.proofs.Common.{◌≡◌, ℕ, zero, suc, ◌+◌, ◌-◌, ◌<◌, ◌≤◌, Bool, true, false, not, ◌||◌, ◌&&◌, if◌then◌else◌, nat_eq, nat_lt, nat_le, List, [], ◌∷◌, ◌++◌, length, map, drop, slice_get, Option, Some, None, refl, ap, sym, subst, ◌∙◌, inl, inr, arith}
+use Rattle.std.proofs.Common.{◌≡◌, ◌≢◌, ℕ, zero, suc, ◌+◌, ◌-◌, ◌<◌, ◌≤◌, Bool, true, false, not, ◌||◌, ◌&&◌, if◌then◌else◌, nat_eq, nat_lt, nat_le, List, [], ◌∷◌, ◌++◌, length, map, drop, slice_get, Option, Some, None, refl, ap, sym, subst, ◌∙◌, inl, inr, arith}
 use Rattle.std.specs.List.{list_all, list_any, flat_map, enumerate_from}
 use Rattle.std.proofs.lemmas.Bool.{cases_eq, eqb-true, ltb-true, leb-true, or_cases, or_left, or_right, false≢true}
 use Rattle.std.proofs.lemmas.List.Folds.{list_all-append}
@@ -212,11 +212,10 @@ pub record IsForkedFrom (script : Script) (p block : ℕ) : Type 0 where
   pub before : p < block
   pub forker_is : forker script block ≡ p
 
-pub forked-from : (script : Script) → IsSoundScript script → (p block : ℕ) → 1 ≤ p
-    → list_any (names_in_line block) (lines_of script p) ≡ true → IsForkedFrom script p block
-forked-from script sound p block low_p h =
-    let has : Has script p block = has-lines script p block h
-    in let of : Block = has.of
+from-has : (script : Script) → IsSoundScript script → (p block : ℕ) → 1 ≤ p → Has script p block
+    → IsForkedFrom script p block
+from-has script sound p block low_p has =
+    let of : Block = has.of
     in let numbered : 1 + (p - 1) ≡ p = omega (arith, low_p)
     in let forward : goes_forward script (fork_from p block) ≡ true =
     all-forward (goes_forward script) p block of.lines
@@ -236,3 +235,28 @@ forked-from script sound p block low_p h =
           (from-beginning script sound q block (has-forks script q block is))
           (from-beginning script sound p block has));
     }
+
+-- so it is where a line of it does
+pub forked-from : (script : Script) → IsSoundScript script → (p block : ℕ) → 1 ≤ p
+    → list_any (names_in_line block) (lines_of script p) ≡ true → IsForkedFrom script p block
+forked-from script sound p block low_p h = from-has script sound p block low_p (has-lines script p block h)
+
+first-that-tests : (test : ℕ → Bool) (ns : List ℕ) → first_that test ns ≢ 0 → test (first_that test ns) ≡ true
+first-that-tests test [] d = absurd (d refl)
+first-that-tests test (n ∷ ns) d = by-test (first-that-tests test ns) (test n) refl d
+  where
+    by-test : (first_that test ns ≢ 0 → test (first_that test ns) ≡ true) → (t : Bool) → test n ≡ t
+        → (if t then n else first_that test ns) ≢ 0 → test (if t then n else first_that test ns) ≡ true
+    by-test later true e d = e
+    by-test later false e d = later d
+
+-- nobody forks the first block
+pub first-not-forked : (script : Script) → IsSoundScript script → (q : ℕ) → 1 ≤ q → forker script 1 ≡ q → ⊥
+first-not-forked script sound q low is =
+    let some : forker script 1 ≢ 0 = λ none. omega (arith, low, is, none)
+    in let forks : is_forked_by script q 1 ≡ true =
+    subst (λ r. is_forked_by script r 1 ≡ true) is
+    (first-that-tests (λ r. is_forked_by script r 1) (numbers 1 (node_count script)) some)
+    in let from : IsForkedFrom script q 1 = from-has script sound q 1 low (has-forks script q 1 forks)
+    in let later = from.low
+    in omega (arith, later)

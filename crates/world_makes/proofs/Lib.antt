@@ -14,3 +14,5 @@ pub mod FromNext
 pub mod FromFrame
 pub mod Handed
 pub mod WithinLines
+pub mod Unforked
+pub mod ForkKin
