@@ -1,8 +1,9 @@
 -- What a fork leaves: one more node's process has a number, and a place in the history where its block begins; and it is
 -- a child of the one that forked it.
-use Rattle.std.proofs.Common.{◌≡◌, ◌≢◌, ◌⊎◌, ℕ, ◌<◌, ◌≤◌, Bool, true, false, if◌then◌else◌, List, [], ◌∷◌, nat_eq, Option, Some, None, is_some, option_and_then, refl, ap, sym, subst, ◌∙◌, inl, inr, arith}
+use Rattle.std.proofs.Common.{◌≡◌, ◌≢◌, ◌⊎◌, ℕ, ◌<◌, ◌≤◌, Bool, true, false, if◌then◌else◌, List, [], ◌∷◌, nat_eq, get_or, ◌-◌, Option, Some, None, is_some, option_and_then, refl, ap, sym, subst, ◌∙◌, inl, inr, arith}
 use Rattle.std.specs.List.{list_any}
 use Rattle.std.proofs.lemmas.Bool.{cases_eq, eq-eqb, ne_eqb, false≢true}
+use Rattle.std.proofs.lemmas.Option.{slice_get-get_or}
 use Rattle.pico_base.specs.declared.numbers.Name.TheVariants.{Proc}
 use Rattle.pico_base.specs.declared.script.Block.{Block}
 use Rattle.pico_base.specs.declared.script.Line.{Line}
@@ -14,7 +15,7 @@ use Rattle.kernel_model.specs.Fitting.{Place, Places, block_at, block_place}
 use Rattle.kernel_model.specs.Kernel.{Kernel, Process, living_at}
 use Rattle.kernel_model.specs.Kernel as kernel
 use Rattle.kernel_model.specs.Row.{Alive, Row}
-use Rattle.kernel_model.specs.Script.{Vars, is_exit, with_exit}
+use Rattle.kernel_model.specs.Script.{Vars, implied_exit, is_exit, with_exit}
 use Rattle.kernel_model.specs.Valid.{IsValid}
 use Rattle.kernel_laws.proofs.People.{from-living}
 use Rattle.kernel_moves.specs.Entering.{IsChildIn, IsKin, LeavesOthers, Same, TurnsTo, is_used_name}
@@ -221,16 +222,194 @@ module _ (script : Script) (k : Kernel) (places : Places) (pids : ℕ → ℕ) (
             in let forked : pids q ≢ 0 = λ none. some (is ∙ none)
             in by-place forked (place-cases (pids q) place (ap (get after) (sym is) ∙ there))
 
+    not-none : (x : Line) (xs : List Line) → x ∷ xs ≡ [] → ⊥
+    not-none x xs e = cc
+
     exit-there : (lines : List Line) → with_exit lines ≡ [] → ⊥
-    exit-there [] e = not-none _ _ e
-      where
-        not-none : (x : Line) (xs : List Line) → x ∷ xs ≡ [] → ⊥
-        not-none x xs e = cc
+    exit-there [] e = not-none implied_exit [] e
     exit-there (line ∷ lines) e = by-test (is_exit line.call) e
       where
-        not-none : (x : Line) (xs : List Line) → x ∷ xs ≡ [] → ⊥
-        not-none x xs e = cc
-
         by-test : (t : Bool) → (if t then line ∷ [] else line ∷ with_exit lines) ≡ [] → ⊥
         by-test true e = not-none line [] e
         by-test false e = not-none line (with_exit lines) e
+
+    -- the new process has its block to do
+    child-more : (block_place (block_at script block) vars).left ≢ []
+    child-more e =
+        let low = l.from_here.low
+        in let high = l.from_here.high
+        in let some : block_at script block ≡ Some (get_or script.blocks (block - 1) no-block) =
+        slice_get-get_or script.blocks (block - 1) no-block (omega (arith, low, high))
+        in exit-there (get_or script.blocks (block - 1) no-block).lines
+        (sym (ap lines_in some) ∙ sym (block-lines (block_at script block) vars) ∙ e)
+      where
+        no-block : Block
+        no-block = record { name = []; lines = [] }
+
+    alive-now : (c : ℕ) (a : Alive) (place : Place) → living_at next (now c) ≡ Some a
+        → get after (now c) ≡ Some place → place.left ≢ []
+    alive-now c a place lives there = by-node (cases_eq c block)
+      where
+        left-of : (q : Place) → place ≡ q → q.left ≢ [] → place.left ≢ []
+        left-of q same more none = more (ap (λ (x : Place). x.left) (sym same) ∙ none)
+
+        before : (q : ℕ) → pids c ≡ q → living_at next q ≡ Some a
+            → (q ≡ child) ⊎ ((q ≡ pids p) × (place ≡ l.now)) ⊎ ((q ≢ pids p) × (get places q ≡ Some place))
+            → place.left ≢ []
+        before q is living (inl new) = absurd (apart-child c (is ∙ new))
+        before q is living (inr (inl own)) = left-of l.now own.1 l.more_left
+        before q is living (inr (inr old)) =
+            let was = others-lived k (pids p) next q a l.others old.0
+            (sym (there-same q (λ new. apart-child c (is ∙ new)))
+            ∙ ap is_some (from-living next.processes q a living)) living
+            in h.alive c was.alive place (ap (living_at k) is ∙ was.lives) (ap (get places) is ∙ old.1)
+
+        by-node : (c ≡ block) ⊎ (c ≢ block) → place.left ≢ []
+        by-node (inl e) =
+            left-of (block_place (block_at script block) vars)
+            (same-in-some place (block_place (block_at script block) vars)
+            (sym there ∙ ap (λ z. get after (now z)) e ∙ ap (get after) now-there ∙ l.begins)) child-more
+        by-node (inr d) =
+            let is : now c ≡ pids c = with-pid-other pids block child c d
+            in before (pids c) refl (ap (living_at next) (sym is) ∙ lives)
+            (place-cases (pids c) place (ap (get after) (sym is) ∙ there))
+
+    dead-now : (c : ℕ) (place : Place) → now c ≢ 0 → living_at next (now c) ≡ None → get after (now c) ≡ Some place
+        → place.left ≡ []
+    dead-now c place some dead there = by-node (cases_eq c block)
+      where
+        was-dead : (q : ℕ) → q ≢ pids p → q ≢ child → (o : Option Alive) → living_at k q ≡ o → living_at next q ≡ None
+            → living_at k q ≡ None
+        was-dead q other new None is none = is
+        was-dead q other new (Some a) is none =
+            let lives : StillLives (living_at k q) (living_at next q) = others-go-on q other new
+            in let m : MayStill (living_at next q) a = lives.lives a is
+            in absurd (none-is-some m.alive (sym none ∙ m.lives))
+
+        before : (q : ℕ) → pids c ≡ q → q ≢ 0 → living_at next q ≡ None
+            → (q ≡ child) ⊎ ((q ≡ pids p) × (place ≡ l.now)) ⊎ ((q ≢ pids p) × (get places q ≡ Some place))
+            → place.left ≡ []
+        before q is forked none (inl new) = absurd (apart-child c (is ∙ new))
+        before q is forked none (inr (inl own)) =
+            absurd (none-is-some l.lives.alive (sym none ∙ ap (living_at next) own.0 ∙ l.lives.lives))
+        before q is forked none (inr (inr old)) =
+            h.dead c place (λ zero. forked (sym is ∙ zero))
+            (ap (living_at k) is
+            ∙ was-dead q old.0 (λ new. apart-child c (is ∙ new)) (living_at k q) refl none)
+            (ap (get places) is ∙ old.1)
+
+        by-node : (c ≡ block) ⊎ (c ≢ block) → place.left ≡ []
+        by-node (inl e) =
+            absurd
+            (none-is-some l.child_lives.alive
+            (sym dead ∙ ap (λ z. living_at next (now z)) e ∙ ap (living_at next) now-there ∙ l.child_lives.lives))
+        by-node (inr d) =
+            let is : now c ≡ pids c = with-pid-other pids block child c d
+            in before (pids c) refl (λ zero. some (is ∙ zero)) (ap (living_at next) (sym is) ∙ dead)
+            (place-cases (pids c) place (ap (get after) (sym is) ∙ there))
+
+    apart-now : (c d : ℕ) → now c ≢ 0 → now c ≡ now d → c ≡ d
+    apart-now c d some same = by-nodes (cases_eq c block) (cases_eq d block)
+      where
+        by-nodes : (c ≡ block) ⊎ (c ≢ block) → (d ≡ block) ⊎ (d ≢ block) → c ≡ d
+        by-nodes (inl e) (inl g) = e ∙ sym g
+        by-nodes (inl e) (inr g) =
+            absurd
+            (apart-child d
+            (sym (with-pid-other pids block child d g) ∙ sym same ∙ ap now e ∙ now-there))
+        by-nodes (inr e) (inl g) =
+            absurd
+            (apart-child c
+            (sym (with-pid-other pids block child c e) ∙ same ∙ ap now g ∙ now-there))
+        by-nodes (inr e) (inr g) =
+            h.apart c d (λ none. some (with-pid-other pids block child c e ∙ none))
+            (sym (with-pid-other pids block child c e) ∙ same ∙ with-pid-other pids block child d g)
+
+    nodes-now : (c : ℕ) → now c ≢ 0 → (1 ≤ c) × (c ≤ node_count script)
+    nodes-now c some =
+        elim (cases_eq c block) [
+          | inl e ↦
+              let low = l.from_here.low
+              in let high = l.from_here.high
+              in (omega (arith, low, e), omega (arith, high, e))
+          | inr d ↦ h.nodes c (λ none. some (with-pid-other pids block child c d ∙ none))
+        ]
+
+    forked-now : (c : ℕ) → now c ≢ 0 → c ≢ 1 → (now (forker script c) ≢ 0) × (forker script c < c)
+    forked-now c some later =
+        elim (cases_eq c block) [
+          | inl e ↦
+              subst (λ z. (now (forker script z) ≢ 0) × (forker script z < z)) (sym e)
+              (
+                λ none. l.forked (sym now-parent-of-child ∙ none),
+                subst (λ f. f < block) (sym l.from_here.forker_is) l.from_here.before,
+              )
+          | inr d ↦
+              let forked : pids c ≢ 0 = λ none. some (with-pid-other pids block child c d ∙ none)
+              in let old = h.forked c forked later
+              in (λ none. old.0 (sym (now-parent c forked) ∙ none), old.1)
+        ]
+
+    node-of-place : (q : ℕ) (place : Place) → get after q ≡ Some place → (c : ℕ) × (now c ≡ q) × (q ≢ 0)
+    node-of-place q place there =
+        elim (place-cases q place there) [
+          | inl new ↦ (block, now-there ∙ sym new, λ none. l.some_child (sym new ∙ none))
+          | inr old ↦
+              elim old [
+                | inl own ↦ (p, now-other p l.forked ∙ sym own.0, λ none. l.forked (sym own.0 ∙ none))
+                | inr was ↦
+                    let it = h.placed q place was.1
+                    in (it.0, now-other it.0 (λ none. it.2 (sym it.1 ∙ none)) ∙ it.1, it.2)
+              ]
+        ]
+
+    node-of-process : (q : ℕ) (process : Process) → get next.processes q ≡ Some process
+        → (c : ℕ) × (now c ≡ q) × (q ≢ 0)
+    node-of-process q process is =
+        elim (cases_eq q child) [
+          | inl new ↦ (block, now-there ∙ sym new, λ none. l.some_child (sym new ∙ none))
+          | inr d ↦ old-process (get k.processes q) refl (sym (there-same q d) ∙ ap is_some is)
+        ]
+      where
+        old-process : (o : Option Process) → get k.processes q ≡ o → is_some (get k.processes q) ≡ true
+            → (c : ℕ) × (now c ≡ q) × (q ≢ 0)
+        old-process (Some v) e some =
+            let it = h.there q v e
+            in (it.0, now-other it.0 (λ none. it.2 (sym it.1 ∙ none)) ∙ it.1, it.2)
+        old-process None e some = absurd (false≢true (sym (ap is_some e) ∙ some))
+
+    place-now : (c : ℕ) → now c ≢ 0 → (place : Place) × (get after (now c) ≡ Some place)
+    place-now c some =
+        elim (cases_eq c block) [
+          | inl e ↦
+              (
+                block_place (block_at script block) vars,
+                ap (λ z. get after (now z)) e ∙ ap (get after) now-there ∙ l.begins,
+              )
+          | inr d ↦
+              let is : now c ≡ pids c = with-pid-other pids block child c d
+              in by-process is (λ none. some (is ∙ none)) (cases_eq (pids c) (pids p))
+        ]
+      where
+        by-process : now c ≡ pids c → pids c ≢ 0 → (pids c ≡ pids p) ⊎ (pids c ≢ pids p)
+            → (place : Place) × (get after (now c) ≡ Some place)
+        by-process is forked (inl e) = (l.now, ap (get after) (is ∙ e) ∙ l.place_is)
+        by-process is forked (inr d) =
+            let old = h.has_place c forked
+            in (old.0, ap (get after) is ∙ l.places_stay (pids c) d (apart-child c) ∙ old.1)
+
+    -- the numbers of processes hold with the new one
+    pub pids-forked : PidsHold script now after next
+    pids-forked =
+        record {
+          first = with-pid-other pids block child 1 (let low = l.from_here.low in λ e. omega (arith, low, e)) ∙ h.first;
+          apart = apart-now;
+          nodes = nodes-now;
+          forked = forked-now;
+          placed = node-of-place;
+          there = node-of-process;
+          has_place = place-now;
+          ahead = λ q c place there some names. ahead-now q c place there some names;
+          alive = alive-now;
+          dead = dead-now;
+        }
