@@ -60,6 +60,7 @@ pub record ForkLeaves (script : Script) (k : Kernel) (places : Places) (pids : �
   pub lived : Lived k (pids p)
   pub is_there : (c : ℕ) → pids c ≢ 0 → (v : Process) × (get k.processes (pids c) ≡ Some v)
   pub parents : (c : ℕ) → pids c ≢ 0 → forker script c ≢ block
+  pub apart : (c d : ℕ) → pids c ≢ 0 → pids c ≡ pids d → c ≡ d
   -- the entry
   pub others : LeavesOthers k (pids p) next
   pub lives : Lived next (pids p)
@@ -117,12 +118,13 @@ module _ (script : Script) (k : Kernel) (places : Places) (pids : ℕ → ℕ) (
   pub now-there : now block ≡ child
   now-there = with-pid-there pids block child
 
-  now-parent-of-child : now (forker script block) ≡ pids p
+  -- its parent is the one that forked it
+  pub now-parent-of-child : now (forker script block) ≡ pids p
   now-parent-of-child =
       ap now l.from_here.forker_is ∙ now-other p l.forked
 
   -- as many processes are there, and the new one
-  there-same : (q : ℕ) → q ≢ child → is_some (get next.processes q) ≡ is_some (get k.processes q)
+  pub there-same : (q : ℕ) → q ≢ child → is_some (get next.processes q) ≡ is_some (get k.processes q)
   there-same q d = process-there next q l.others.valid ∙ l.used q d ∙ sym (process-there k q l.valid)
 
   -- the others go on as before

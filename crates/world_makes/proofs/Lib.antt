@@ -16,3 +16,4 @@ pub mod Handed
 pub mod WithinLines
 pub mod Unforked
 pub mod ForkKin
+pub mod ForkFamilies
