@@ -17,3 +17,5 @@ pub mod WithinLines
 pub mod Unforked
 pub mod ForkKin
 pub mod ForkFamilies
+pub mod Forked
+pub mod MorePids
