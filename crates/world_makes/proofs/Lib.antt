@@ -19,3 +19,4 @@ pub mod ForkKin
 pub mod ForkFamilies
 pub mod Forked
 pub mod MorePids
+pub mod NewForks

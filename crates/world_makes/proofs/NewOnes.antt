@@ -208,15 +208,10 @@ parcel_of place = None
 
 -- numbers that are there stay
 pub record AreMore (script : Script) (pids now : ℕ → ℕ) (name : Name) (x : NameSight) : Type 0 where
-  pub told : (sender node : ℕ) → Contains (x.placed sender) node → now node ≡ pids node
+  pub told : (sender node : ℕ) → Contains (x.placed sender) node → SaysOf pids name sender node
+      → SaysOf now name sender node
   pub own : (c : ℕ) → parcel_of x.deed ≡ Some c → now c ≡ pids c
   pub parent : (c : ℕ) → parcel_of x.deed ≡ Some c → now (forker script c) ≡ pids (forker script c)
-
-says-still : (pids now : ℕ → ℕ) (name : Name) (sender node : ℕ) → now node ≡ pids node → SaysOf pids name sender node
-    → SaysOf now name sender node
-says-still pids now (Proc pid) sender node same h = same ∙ h
-says-still pids now (Msg id) sender node same h = h
-says-still pids now (Sem id) sender node same h = h
 
 module _ (script : Script) (pids now : ℕ → ℕ) (born : ℕ → Bool) (name : Name) (x : NameSight)
     (h : NameHolds script pids born name x) (m : AreMore script pids now name x) where
@@ -288,7 +283,7 @@ module _ (script : Script) (pids now : ℕ → ℕ) (born : ℕ → Bool) (name 
             in record {
               used = old.used;
               maker = old.maker;
-              says = says-still pids now name sender node (m.told sender node there) old.says;
+              says = m.told sender node there old.says;
               other = old.other;
             };
         found = h.found;

@@ -1,0 +1,295 @@
+-- A node's process forks, whatever the number's source: its row lists the child, whose deed goes to the block's node in a
+-- Checkpoint, and the child's place is told, or placed.
+use Rattle.std.proofs.Common.{◌≡◌, ◌≢◌, ◌⊎◌, ℕ, ◌+◌, ◌<◌, ◌≤◌, Bool, true, false, ◌&&◌, ◌||◌, cond, not, if◌then◌else◌, List, [], ◌∷◌, ◌++◌, filter, flat_map, nat_eq, Contains, Option, Some, None, is_none, is_some, option_map, refl, ap, sym, subst, ◌∙◌, inl, inr, arith, append-nil}
+use Rattle.std.specs.List.{AllByRecursion}
+use Rattle.std.proofs.lemmas.Bool.{cases_eq, eq-eqb, ne_eqb, false≢true}
+use Rattle.std.proofs.lemmas.List.Elements.{filter-append}
+use Rattle.pico_base.specs.declared.call.Call.{Call}
+use Rattle.pico_base.specs.declared.call.Call.TheVariants as calls
+use Rattle.pico_base.specs.declared.numbers.Kind.{Kind}
+use Rattle.pico_base.specs.declared.numbers.Kind.TheVariants as kinds
+use Rattle.pico_base.specs.declared.numbers.Name.{Name}
+use Rattle.pico_base.specs.declared.numbers.Name.TheVariants.{Proc, Msg, Sem}
+use Rattle.pico_base.specs.declared.reply.Entry.{Entry}
+use Rattle.pico_base.specs.declared.reply.Reply.{Reply}
+use Rattle.pico_base.specs.declared.reply.Reply.TheVariants as replies
+use Rattle.pico_base.specs.declared.script.Event.{Event}
+use Rattle.pico_base.specs.declared.script.Script.{Script}
+use Rattle.rpc_frame.specs.declared.deed.PackedDeed.{PackedDeed}
+use Rattle.rpc_frame.specs.declared.frame.Frame.{Frame}
+use Rattle.rpc_frame.specs.declared.frame.Frame.TheVariants as frames
+use Rattle.number_maps.specs.Maps.{get}
+use Rattle.kernel_model.specs.Fitting.{Place, Places, block_at, block_place, child_vars, place_after, places_after}
+use Rattle.kernel_model.specs.Kernel.{Kernel, living_at}
+use Rattle.kernel_model.specs.Row.{Row}
+use Rattle.kernel_model.specs.Script.{IsSoundScript, Vars}
+use Rattle.kernel_moves.specs.Entering.{entry_of, is_used_name}
+use Rattle.kernel_moves.proofs.Fresh.{Forks}
+use Rattle.kernel_moves.proofs.History.{ForkPlaces, fork-places}
+use Rattle.kernel_moves.proofs.Numbers.{used-made, used-others}
+use Rattle.node_model.specs.Bodies.{Body, Deeds, Living as LivingBody, body_in, row_of}
+use Rattle.node_model.specs.Caller.{answer_call, caller_place}
+use Rattle.node_model.specs.Directory.{Directory, held_for, is_known, is_parcel_with, maker, place_of}
+use Rattle.node_model.specs.Kinds.{for_kind, get_named, is_same_name, kind_of, number_of, put_named, with_kind}
+use Rattle.node_model.specs.Serving.{child_body, parent_body}
+use Rattle.node_model.specs.Spelling.{pack}
+use Rattle.world_model.specs.Census.{brings}
+use Rattle.world_model.specs.Node.{Node, Stage, Living, Left, Unborn, unborn_node}
+use Rattle.world_model.specs.Numbers.{fork_with, make_with, tell_place}
+use Rattle.world_model.specs.Step.{Step, send, step_to}
+use Rattle.world_model.specs.World.{World, node_count}
+use Rattle.world_laws.specs.Places.{Beside, CallPlace, DeedPlace, Idle, InCheckpoint, InTable, Unmade, deed_in}
+use Rattle.world_laws.specs.Sights.{directory_of, frames_to, is_born_in, is_born_stage, node_of, stage_of}
+use Rattle.world_laws.specs.Names.{NameHolds, NameSight, forker, held_as, held_at, name_sight}
+use Rattle.world_laws.specs.Families.{HoldsIn, IsBorn, NodeHolds}
+use Rattle.world_laws.specs.Invariant.{Holds}
+use Rattle.world_laws.proofs.Changes.{Changes}
+use Rattle.world_laws.proofs.Named.{get-put-other-name, get-put-same-name}
+use Rattle.world_laws.proofs.Sends.{AreToNodes}
+use Rattle.world_laws.proofs.Stays.{IsMore}
+use Rattle.world_laws.proofs.Changes.{still-born}
+use Rattle.world_makes.proofs.CallsOver.{carried-here}
+use Rattle.world_makes.proofs.Directories.{IsAfter, after-is, directory-now, place_if, placed_if, tell-is, tells_if}
+use Rattle.world_makes.proofs.ForkKin.{ForkLeaves, apart-child, now-other, now-parent, now-there, now-parent-of-child, with_pid}
+use Rattle.world_makes.proofs.Forked.{fork-entry, fork-kind, fork-leaves, own-row}
+use Rattle.world_makes.proofs.Forkers.{IsForkedFrom}
+use Rattle.world_makes.proofs.MorePids.{born-with}
+use Rattle.world_makes.proofs.Ready.{calls-now}
+use Rattle.world_makes.proofs.Sources.{Gives, Origin, Source, directory_by, ready_node, takes_by}
+use Rattle.world_makes.proofs.Taken.{name-maker, name-unknown, name-unused, some-node}
+use Rattle.world_makes.proofs.Unforked.{from-here, not-forked}
+
+module _ (script : Script) (sound : IsSoundScript script) (w : World) (b : Beside) (holds : Holds script w [] b) (p : ℕ)
+    (block : ℕ) (kind : Kind) (number : ℕ) (numbers : List ℕ) (o : Origin) (e : Event)
+    (s : Source script w b p (calls.Fork block) kind number numbers o e) where
+  abbrev pub n : Node
+  n = node_of w p
+
+  abbrev pub pid : ℕ
+  pid = b.pids p
+
+  abbrev pub call : Call
+  call = calls.Fork block
+
+  abbrev pub reply : Reply
+  reply = replies.Num number
+
+  abbrev pub name : Name
+  name = Proc number
+
+  abbrev pub place : Place
+  place = caller_place script p s.caller
+
+  node-holds : NodeHolds script b.pids (is_born_in w) p n
+  node-holds = holds.nodes p s.low s.high
+
+  -- ---- the step
+
+  abbrev pub packed : PackedDeed
+  packed = pack name (child_body s.row)
+
+  abbrev checkpoint-with : ℕ → ℕ → Frame
+  checkpoint-with q process =
+      frames.Checkpoint number process packed (child_vars (caller_place script q s.caller))
+
+  abbrev pub checkpoint : Frame
+  checkpoint = frames.Checkpoint number pid packed (child_vars place)
+
+  abbrev step-with : ℕ → ℕ → Step
+  step-with q process =
+      record {
+        node =
+            record n {
+              caller = answer_call script q s.caller call reply;
+              deeds = put_named n.deeds (Proc process) (parent_body s.row number);
+              leases = with_kind n.leases kind numbers;
+              leader =
+                  record n.leader {
+                    directory = placed_if (nat_eq p 1) (directory_by n.leader.directory kind o) name block;
+                  };
+            };
+        entries = entry_of q process call reply ∷ [];
+        sends = (block, checkpoint-with q process) ∷ tells_if (nat_eq p 1) name block;
+      }
+
+  abbrev pub after-node : Node
+  after-node =
+      record n {
+        caller = answer_call script p s.caller call reply;
+        deeds = put_named n.deeds (Proc pid) (parent_body s.row number);
+        leases = with_kind n.leases kind numbers;
+        leader =
+            record n.leader { directory = placed_if (nat_eq p 1) (directory_by n.leader.directory kind o) name block };
+      }
+
+  abbrev pub births : List (ℕ × Frame)
+  births = (block, checkpoint) ∷ []
+
+  abbrev pub sends : List (ℕ × Frame)
+  sends = births ++ tells_if (nat_eq p 1) name block
+
+  abbrev pub entries : List Entry
+  entries = entry_of p pid call reply ∷ []
+
+  abbrev pub after : Step
+  after = record { node = after-node; entries = entries; sends = sends }
+
+  abbrev ready : Node
+  ready = ready_node n s.caller kind numbers o
+
+  abbrev held : Step
+  held =
+      record {
+        node = record ready { deeds = put_named n.deeds (Proc n.pid) (parent_body s.row number) };
+        entries = [];
+        sends = [];
+      }
+
+  abbrev replied : Step
+  replied =
+      record {
+        node = record held.node { caller = answer_call script n.number s.caller call reply };
+        entries = entry_of n.number n.pid call reply ∷ [];
+        sends = [];
+      }
+
+  rule : make_with script (step_to ready) call number ≡ Some after
+  rule =
+      ap (λ body. option_map (fork_with script (step_to ready) call block number) (row_of body)) s.has_row
+      ∙ ap (λ st. Some (tell_place (send st block (checkpoint-with n.number n.pid)) name block))
+      (carried-here script held call reply s.under_way)
+      ∙ ap Some
+      (tell-is (send replied block (checkpoint-with n.number n.pid)) name block (nat_eq p 1)
+      (ap (λ q. nat_eq q 1) node-holds.number))
+      ∙ ap (λ q. Some (step-with q n.pid)) node-holds.number
+      ∙ ap (λ process. Some (step-with p process)) s.birth.pid_is
+
+  -- the block is one behind this node's
+  pub from : IsForkedFrom script p block
+  from = from-here script sound w b holds p block kind number numbers o e s
+
+  -- a fact of what is sent
+  pub of-sends : (P : ℕ × Frame → Type 0) → P (block, checkpoint) → (p ≢ 1 → P (1, frames.Placed name block))
+      → AllByRecursion P sends
+  of-sends P first h = (first, by-test (nat_eq p 1) refl)
+    where
+      by-test : (t : Bool) → nat_eq p 1 ≡ t → AllByRecursion P (tells_if t name block)
+      by-test true i = tt
+      by-test false i = (h (λ one. false≢true (sym i ∙ eq-eqb p 1 one)), tt)
+
+  to-nodes : AreToNodes (node_count script) sends
+  to-nodes =
+      of-sends _
+      (record { low = let low = from.low in omega (arith, low); high = from.high })
+      (λ other. record { low = omega arith; high = some-node script w b holds p call kind number numbers o e s })
+
+  pub given : Gives script w p e (takes_by kind o) after
+  given = s.gives after to-nodes rule
+
+  abbrev pub next : World
+  next = given.next
+
+  abbrev pub changes : Changes script p w next after-node (takes_by kind o) sends entries
+  changes = given.changes
+
+  -- ---- beside the world
+
+  pub forks : Forks b.kernel pid block number s.row
+  forks = fork-entry script sound w b holds p block kind number numbers o e s
+
+  abbrev pub places-now : Places
+  places-now = places_after script b.places (entry_of p pid call reply) place
+
+  abbrev pub pids-now : ℕ → ℕ
+  pids-now = with_pid b.pids block number
+
+  abbrev pub deed-now : Name → DeedPlace
+  deed-now = deed_in b.deed name (InCheckpoint block)
+
+  abbrev pub calls-after : ℕ → CallPlace
+  calls-after = calls-now script w b holds p call kind number numbers o e s next after-node sends entries changes
+
+  abbrev pub moved : Beside
+  moved =
+      record { kernel = forks.next; places = places-now; pids = pids-now; deed = deed-now; call = calls-after }
+
+  pub leaves : ForkLeaves script b.kernel b.places b.pids p block number s.row (child_vars place) forks.next places-now
+  unfolding forks
+  leaves = fork-leaves script sound w b holds p block kind number numbers o e s
+
+  -- ---- the name
+
+  kind-is : kinds.Proc ≡ kind
+  kind-is = fork-kind kind block s.takes.takes
+
+  pub unused : is_used_name b.kernel name ≡ false
+  unused = name-unused script w b holds p call kind number numbers o e s name kind-is refl
+
+  pub made : maker (directory_by (directory_of w) kind o) name ≡ Some p
+  made = name-maker script w b holds p call kind number numbers o e s name kind-is refl
+
+  directory-is : directory_of next ≡ placed_if (nat_eq p 1) (directory_by (directory_of w) kind o) name block
+  directory-is = directory-now script w next p kind o after-node sends entries name block changes s.at_leader refl
+
+  pub is-after : IsAfter (directory_of w) (directory_by (directory_of w) kind o) (directory_of next) name
+      (place_if (nat_eq p 1) block)
+  is-after =
+      subst (λ (d : Directory). IsAfter (directory_of w) (directory_by (directory_of w) kind o) d name
+      (place_if (nat_eq p 1) block)) (sym directory-is)
+      (after-is (directory_of w) kind o name block (nat_eq p 1)
+      (name-unknown script w b holds p call kind number numbers o e s name kind-is refl) holds.leading)
+
+  -- the same nodes are born
+  pub more : IsMore (is_born_in w) (is_born_in next)
+  more = still-born script p w next after-node (takes_by kind o) sends entries changes (λ h. h)
+
+  -- numbers that are there stay
+  pub now-same : (c : ℕ) → b.pids c ≢ 0 → pids-now c ≡ b.pids c
+  now-same c some = now-other script b.kernel b.places b.pids p block number s.row (child_vars place) forks.next
+      places-now leaves c some
+
+  pub parent-same : (c : ℕ) → b.pids c ≢ 0 → pids-now (forker script c) ≡ b.pids (forker script c)
+  parent-same c some = now-parent script b.kernel b.places b.pids p block number s.row (child_vars place) forks.next
+      places-now leaves c some
+
+  pub not-child : (c : ℕ) → b.pids c ≢ number
+  not-child c = apart-child script b.kernel b.places b.pids p block number s.row (child_vars place) forks.next places-now
+      leaves c
+
+  pub child-there : pids-now block ≡ number
+  child-there = now-there script b.kernel b.places b.pids p block number s.row (child_vars place) forks.next places-now
+      leaves
+
+  -- ---- the node
+
+  row-there : (pid : ℕ) → n.pid ≡ pid
+      → get_named (put_named n.deeds (Proc pid) (parent_body s.row number)) (Proc n.pid) ≡ Some (parent_body s.row number)
+  row-there pid is =
+      ap (λ q. get_named (put_named n.deeds (Proc pid) (parent_body s.row number)) (Proc q)) is
+      ∙ get-put-same-name n.deeds (Proc pid) (parent_body s.row number)
+
+  pub node-now : NodeHolds script pids-now (is_born_in w) p after-node
+  node-now =
+      record {
+        number = node-holds.number;
+        holds = subst (λ (stage : Stage). HoldsIn p after-node stage) (sym s.stage)
+            (record { row = _; here = row-there pid s.birth.pid_is });
+        birth = born-with script b.pids pids-now p n.pid n.parent n.parent_node n.stage (now-same p) (parent-same p)
+            node-holds.birth;
+        first = node-holds.first;
+        others = node-holds.others;
+        rows = λ q row there. row-is q row there (cases_eq q pid);
+        owners = node-holds.owners;
+      }
+    where
+      process-same : (a c : ℕ) → Proc a ≡ Proc c → a ≡ c
+      process-same a c h = cc
+
+      row-is : (q : ℕ) (row : Row)
+          → get_named (put_named n.deeds (Proc pid) (parent_body s.row number)) (Proc q) ≡ Some (LivingBody row)
+          → (q ≡ pid) ⊎ (q ≢ pid) → q ≡ n.pid
+      row-is q row there (inl same) = same ∙ sym s.birth.pid_is
+      row-is q row there (inr other) =
+          node-holds.rows q row
+          (sym (get-put-other-name n.deeds (Proc pid) (parent_body s.row number) (Proc q)
+          (λ same. other (process-same q pid same))) ∙ there)
