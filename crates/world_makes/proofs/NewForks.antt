@@ -2,7 +2,7 @@
 -- Checkpoint, and the child's place is told, or placed.
 use Rattle.std.proofs.Common.{◌≡◌, ◌≢◌, ◌⊎◌, ℕ, ◌+◌, ◌<◌, ◌≤◌, Bool, true, false, ◌&&◌, ◌||◌, cond, not, if◌then◌else◌, List, [], ◌∷◌, ◌++◌, filter, flat_map, nat_eq, Contains, Option, Some, None, is_none, is_some, option_map, refl, ap, sym, subst, ◌∙◌, inl, inr, arith, append-nil}
 use Rattle.std.specs.List.{AllByRecursion}
-use Rattle.std.proofs.lemmas.Bool.{cases_eq, eq-eqb, ne_eqb, false≢true}
+use Rattle.std.proofs.lemmas.Bool.{cases_eq, eq-eqb, eqb-true, ne_eqb, false≢true}
 use Rattle.std.proofs.lemmas.List.Elements.{filter-append}
 use Rattle.pico_base.specs.declared.call.Call.{Call}
 use Rattle.pico_base.specs.declared.call.Call.TheVariants as calls
@@ -40,12 +40,16 @@ use Rattle.world_model.specs.Step.{Step, send, step_to}
 use Rattle.world_model.specs.World.{World, node_count}
 use Rattle.world_laws.specs.Places.{Beside, CallPlace, DeedPlace, Idle, InCheckpoint, InTable, Unmade, deed_in}
 use Rattle.world_laws.specs.Sights.{directory_of, frames_to, is_born_in, is_born_stage, node_of, stage_of}
-use Rattle.world_laws.specs.Names.{NameHolds, NameSight, forker, held_as, held_at, name_sight}
+use Rattle.world_laws.specs.Names.{IsCheckpointOf, NameHolds, NameSight, OneIf, PlaysTo, comes_to, forker, held_as, held_at, name_sight}
 use Rattle.world_laws.specs.Families.{HoldsIn, IsBorn, NodeHolds}
 use Rattle.world_laws.specs.Invariant.{Holds}
-use Rattle.world_laws.proofs.Changes.{Changes}
-use Rattle.world_laws.proofs.Named.{get-put-other-name, get-put-same-name}
-use Rattle.world_laws.proofs.Sends.{AreToNodes}
+use Rattle.world_laws.proofs.Changes.{Changes, IsListMap, MakesNothing, filter-is-list-map, flat_map-is-list-map, frames_if, made-after, nothing-sent, read-same, sent}
+use Rattle.world_laws.proofs.Heads.{kept-of-sent}
+use Rattle.world_laws.proofs.NameFacts.{one-if-sent}
+use Rattle.world_laws.specs.Plays.{Comes, Has, Lacks, begin, has_any, is_checkpoint_of, play, plays, steps_if, steps_of}
+use Rattle.world_laws.specs.Ways.{IsHere, way_sight}
+use Rattle.world_laws.proofs.Named.{get-put-other-name, get-put-same-name, same-name}
+use Rattle.world_laws.proofs.Sends.{AreToNodes, frame_if}
 use Rattle.world_laws.proofs.Stays.{IsMore}
 use Rattle.world_laws.proofs.Changes.{still-born}
 use Rattle.world_makes.proofs.CallsOver.{carried-here}
@@ -54,10 +58,14 @@ use Rattle.world_makes.proofs.ForkKin.{ForkLeaves, apart-child, now-other, now-p
 use Rattle.world_makes.proofs.Forked.{fork-entry, fork-kind, fork-leaves, own-row}
 use Rattle.world_makes.proofs.Forkers.{IsForkedFrom}
 use Rattle.world_makes.proofs.MorePids.{born-with}
-use Rattle.world_makes.proofs.Ready.{calls-now}
+use Rattle.world_makes.proofs.FromLease.{frames-of-none}
+use Rattle.world_makes.proofs.Lacking.{no-checkpoint-brought, nothing-played}
+use Rattle.world_makes.proofs.NewOnes.{brought-nowhere, held-nowhere}
+use Rattle.world_makes.proofs.Ready.{calls-now, left-same, left-steps, name-is-ready, ready-name}
 use Rattle.world_makes.proofs.Sources.{Gives, Origin, Source, directory_by, ready_node, takes_by}
 use Rattle.world_makes.proofs.Taken.{name-maker, name-unknown, name-unused, some-node}
-use Rattle.world_makes.proofs.Unforked.{from-here, not-forked}
+use Rattle.world_makes.proofs.Told.{sent-append}
+use Rattle.world_makes.proofs.Unforked.{from-here, not-forked, unborn-here, unborn-stage}
 
 module _ (script : Script) (sound : IsSoundScript script) (w : World) (b : Beside) (holds : Holds script w [] b) (p : ℕ)
     (block : ℕ) (kind : Kind) (number : ℕ) (numbers : List ℕ) (o : Origin) (e : Event)
@@ -293,3 +301,228 @@ module _ (script : Script) (sound : IsSoundScript script) (w : World) (b : Besid
           node-holds.rows q row
           (sym (get-put-other-name n.deeds (Proc pid) (parent_body s.row number) (Proc q)
           (λ same. other (process-same q pid same))) ∙ there)
+
+  -- ---- what is on its way
+
+  abbrev tells : List (ℕ × Frame)
+  tells = tells_if (nat_eq p 1) name block
+
+  -- a fact of the frame that tells the child's place
+  of-tells : (P : ℕ × Frame → Type 0) → (p ≢ 1 → P (1, frames.Placed name block)) → AllByRecursion P tells
+  of-tells P h = by-test (nat_eq p 1) refl
+    where
+      by-test : (t : Bool) → nat_eq p 1 ≡ t → AllByRecursion P (tells_if t name block)
+      by-test true i = tt
+      by-test false i = (h (λ one. false≢true (sym i ∙ eq-eqb p 1 one)), tt)
+
+  -- what a list map that makes nothing of that frame makes of all
+  after-births : {A : Type 0} (f : ℕ → ℕ → List Frame → List A) → ((to sender : ℕ) → IsListMap (f to sender))
+      → ((first : ℕ) → f p 1 (frames.Lease kind first ∷ []) ≡ []) → MakesNothing (λ to. f to p) tells
+      → (to sender : ℕ)
+      → f to sender (frames_to next to sender)
+      ≡ f to sender (frames_to w to sender) ++ f to sender (sent p births to sender)
+  after-births f m none none_told to sender =
+      let g : IsListMap (f to sender) = m to sender
+      in made-after script p w next after-node (takes_by kind o) sends entries changes f m to sender
+      ∙ ap (λ ys. ys ++ f to sender (sent p sends to sender))
+      (left-same script w b holds p call kind number numbers o e s next after-node sends entries changes f m none to
+      sender)
+      ∙ ap (λ ys. f to sender (frames_to w to sender) ++ ys)
+      (ap (f to sender) (sent-append p births tells to sender)
+      ∙ g.of_both (sent p births to sender) (sent p tells to sender)
+      ∙ ap (λ ys. f to sender (sent p births to sender) ++ ys) (nothing-sent f m p tells none_told to sender)
+      ∙ append-nil (f to sender (sent p births to sender)))
+
+  births-elsewhere : {A : Type 0} (f : ℕ → ℕ → List Frame → List A) → ((to sender : ℕ) → IsListMap (f to sender))
+      → (to sender : ℕ) → to ≢ block → f to sender (sent p births to sender) ≡ []
+  births-elsewhere f m to sender d =
+      let g : IsListMap (f to sender) = m to sender
+      in ap (λ t. f to sender (frames_if (nat_eq sender p) (frame_if t checkpoint ++ []))) (ne_eqb to block d)
+      ∙ ap (f to sender) (frames-of-none (nat_eq sender p)) ∙ g.of_none
+
+  -- so elsewhere it is as it was
+  same-elsewhere : {A : Type 0} (f : ℕ → ℕ → List Frame → List A) → ((to sender : ℕ) → IsListMap (f to sender))
+      → ((first : ℕ) → f p 1 (frames.Lease kind first ∷ []) ≡ []) → MakesNothing (λ to. f to p) tells
+      → (to sender : ℕ) → to ≢ block → f to sender (frames_to next to sender) ≡ f to sender (frames_to w to sender)
+  same-elsewhere f m none none_told to sender d =
+      after-births f m none none_told to sender
+      ∙ ap (λ ys. f to sender (frames_to w to sender) ++ ys) (births-elsewhere f m to sender d)
+      ∙ append-nil (f to sender (frames_to w to sender))
+
+  -- ---- the new name
+
+  abbrev x : NameSight
+  x = ready-name script w b holds p call kind number numbers o e s next after-node sends entries changes name
+
+  known : NameHolds script b.pids (is_born_in w) name x
+  known = name-is-ready script w b holds p call kind number numbers o e s next after-node sends entries changes name
+
+  abbrev y : NameSight
+  y = name_sight script next [] moved name
+
+  process-same : (a c : ℕ) → Proc a ≡ Proc c → a ≡ c
+  process-same a c h = cc
+
+  not-parent : name ≢ Proc pid
+  not-parent same = forks.apart (process-same number pid same)
+
+  later : 2 ≤ block
+  later = from.low
+
+  deed-is : deed-now name ≡ InCheckpoint block
+  deed-is = ap (λ t. if t then InCheckpoint block else b.deed name) (same-name name name refl)
+
+  held-now : (q : ℕ) → held_at next name q ≡ None
+  held-now q =
+      read-same script p w next after-node (takes_by kind o) sends entries changes (λ (z : Node). get_named z.deeds name)
+      (get-put-other-name n.deeds (Proc pid) (parent_body s.row number) name not-parent) q
+      ∙ held-nowhere script b.pids (is_born_in w) name x known unused q
+
+  brings-now : (to sender : ℕ) → filter (brings name) (frames_to next to sender)
+      ≡ cond (nat_eq to block && nat_eq sender p) (checkpoint ∷ []) []
+  brings-now to sender =
+      after-births (λ t q fs. filter (brings name) fs) (λ t q. filter-is-list-map (brings name)) (λ first. refl)
+      (of-tells _ (λ other. refl)) to sender
+      ∙ ap (λ fs. fs ++ filter (brings name) (sent p births to sender))
+      (brought-nowhere script b.pids (is_born_in w) name x known unused to sender)
+      ∙ kept-of-sent (brings name) checkpoint (same-name name name refl) (nat_eq to block) (nat_eq sender p)
+
+  body-is : body_in forks.next name ≡ child_body s.row
+  body-is = forks.child_is
+
+  is-checkpoint : IsCheckpointOf name (body_in forks.next name) checkpoint
+  is-checkpoint =
+      record {
+        pid = number;
+        parent = pid;
+        vars = child_vars place;
+        is = ap (λ body. frames.Checkpoint number pid (pack name body) (child_vars place)) (sym body-is);
+      }
+
+  streams-now : (to sender : ℕ)
+      → OneIf (nat_eq to block && nat_eq sender (forker script block)) (IsCheckpointOf name (body_in forks.next name))
+      (y.brought to sender)
+  streams-now to sender =
+      subst (λ f. OneIf (nat_eq to block && nat_eq sender f) (IsCheckpointOf name (body_in forks.next name))
+      (y.brought to sender)) (sym from.forker_is)
+      (subst (λ fs. OneIf (nat_eq to block && nat_eq sender p) (IsCheckpointOf name (body_in forks.next name)) fs)
+      (sym (brings-now to sender))
+      (one-if-sent (nat_eq to block && nat_eq sender p) (IsCheckpointOf name (body_in forks.next name)) checkpoint
+      is-checkpoint))
+
+  no-checkpoints : (to sender : ℕ) → filter (is_checkpoint_of name) (frames_to w to sender) ≡ []
+  no-checkpoints to sender =
+      no-checkpoint-brought name (frames_to w to sender)
+      (brought-nowhere script b.pids (is_born_in w) name x known unused to sender)
+
+  comes-there : comes_to script next name block ≡ not (nat_eq p 1)
+  comes-there =
+      ap (λ f. not (nat_eq f 1) && has_any (filter (is_checkpoint_of name) (frames_to next block f))) from.forker_is
+      ∙ ap (λ fs. not (nat_eq p 1) && has_any fs)
+      (after-births (λ t q fs. filter (is_checkpoint_of name) fs) (λ t q. filter-is-list-map (is_checkpoint_of name))
+      (λ first. refl) (of-tells _ (λ other. refl)) block p
+      ∙ ap (λ fs. fs ++ filter (is_checkpoint_of name) (sent p births block p)) (no-checkpoints block p)
+      ∙ kept-of-sent (is_checkpoint_of name) checkpoint (same-name name name refl) (nat_eq block block) (nat_eq p p)
+      ∙ ap (λ t. cond (t && nat_eq p p) (checkpoint ∷ []) []) (eq-eqb block block refl)
+      ∙ ap (λ t. cond t (checkpoint ∷ []) []) (eq-eqb p p refl))
+      ∙ and-true-is (not (nat_eq p 1))
+    where
+      and-true-is : (t : Bool) → (t && true) ≡ t
+      and-true-is true = refl
+      and-true-is false = refl
+
+  comes-elsewhere : (q : ℕ) → q ≢ block → comes_to script next name q ≡ comes_to script w name q
+  comes-elsewhere q d =
+      ap (λ fs. not (nat_eq (forker script q) 1) && has_any fs)
+      (same-elsewhere (λ t z fs. filter (is_checkpoint_of name) fs) (λ t z. filter-is-list-map (is_checkpoint_of name))
+      (λ first. refl) (of-tells _ (λ other. refl)) q (forker script q) d)
+
+  stage-same : (q : ℕ) → stage_of next q ≡ stage_of w q
+  stage-same q =
+      read-same script p w next after-node (takes_by kind o) sends entries changes (λ (z : Node). z.stage) refl q
+
+  begins-elsewhere : (q : ℕ) → q ≢ block → y.begins q ≡ x.begins q
+  begins-elsewhere q d =
+      ap (begin (stage_of next q) (is_some (held_at next name q))) (comes-elsewhere q d)
+      ∙ ap (λ held_it. begin (stage_of next q) (is_some held_it) (comes_to script w name q))
+      (held-now q ∙ sym (held-nowhere script b.pids (is_born_in w) name x known unused q))
+      ∙ ap (λ stage. begin stage (is_some (held_at w name q)) (comes_to script w name q)) (stage-same q)
+
+  steps-elsewhere : (q : ℕ) → q ≢ block → y.steps q ≡ x.steps q
+  steps-elsewhere q d =
+      made-after script p w next after-node (takes_by kind o) sends entries changes
+      (λ t z fs. plays calls-after name fs) (λ t z. flat_map-is-list-map _) q 1
+      ∙ ap (λ ys. ys ++ plays calls-after name (sent p sends q 1))
+      (left-steps script w b holds p call kind number numbers o e s next after-node sends entries changes name q)
+      ∙ ap (λ ys. plays b.call name (frames_to w q 1) ++ ys) (nothing-played-there q d)
+      ∙ append-nil (plays b.call name (frames_to w q 1))
+    where
+      nothing-played-there : (q : ℕ) → q ≢ block → plays calls-after name (sent p sends q 1) ≡ []
+      nothing-played-there q d =
+          ap (plays calls-after name) (sent-append p births tells q 1)
+          ∙ (flat_map-is-list-map (steps_of calls-after name)).of_both (sent p births q 1) (sent p tells q 1)
+          ∙ ap (λ ys. ys ++ plays calls-after name (sent p tells q 1))
+          (births-elsewhere (λ t z fs. plays calls-after name fs) (λ t z. flat_map-is-list-map _) q 1 d)
+          ∙ nothing-sent (λ t z fs. plays calls-after name fs) (λ t z. flat_map-is-list-map _) p tells
+          (of-tells _ (λ other. refl)) q 1
+
+  unborn-way : IsHere (way_sight w block)
+  unborn-way =
+      unborn-here script w b holds block (let low = from.low in omega (arith, low)) from.high
+      (not-forked script sound w b holds p block kind number numbers o e s) from.low
+
+  stage-there : stage_of next block ≡ Unborn
+  stage-there =
+      stage-same block
+      ∙ unborn-stage script w b holds block (let low = from.low in omega (arith, low)) from.high
+      (not-forked script sound w b holds p block kind number numbers o e s)
+
+  begins-there : (t : Bool) → nat_eq p 1 ≡ t → y.begins block ≡ (if t then Lacks else Has)
+  begins-there t i =
+      ap (λ held_it. begin (stage_of next block) (is_some held_it) (comes_to script next name block)) (held-now block)
+      ∙ ap (begin (stage_of next block) false) (comes-there ∙ ap not i)
+      ∙ ap (λ stage. begin stage false (not t)) stage-there
+      ∙ by-test t
+    where
+      by-test : (t : Bool) → begin Unborn false (not t) ≡ (if t then Lacks else Has)
+      by-test true = refl
+      by-test false = refl
+
+  steps-there : (t : Bool) → nat_eq p 1 ≡ t → y.steps block ≡ (if t then Comes ∷ [] else [])
+  steps-there t i =
+      made-after script p w next after-node (takes_by kind o) sends entries changes
+      (λ a z fs. plays calls-after name fs) (λ a z. flat_map-is-list-map _) block 1
+      ∙ ap (λ ys. ys ++ plays calls-after name (sent p sends block 1))
+      (left-steps script w b holds p call kind number numbers o e s next after-node sends entries changes name block
+      ∙ nothing-played script w b holds name unused block unborn-way later)
+      ∙ ap (plays calls-after name) (sent-append p births tells block 1)
+      ∙ (flat_map-is-list-map (steps_of calls-after name)).of_both (sent p births block 1) (sent p tells block 1)
+      ∙ ap (λ ys. plays calls-after name (sent p births block 1) ++ ys)
+      (nothing-sent (λ a z fs. plays calls-after name fs) (λ a z. flat_map-is-list-map _) p tells
+      (of-tells _ (λ other. refl)) block 1)
+      ∙ append-nil (plays calls-after name (sent p births block 1))
+      ∙ ap (λ u. plays calls-after name (frames_if (nat_eq 1 p) (frame_if u checkpoint ++ [])))
+      (eq-eqb block block refl)
+      ∙ ap (λ u. plays calls-after name (frames_if u (checkpoint ∷ []))) (turned (nat_eq p 1) refl ∙ i)
+      ∙ by-test t
+    where
+      turned : (u : Bool) → nat_eq p 1 ≡ u → nat_eq 1 p ≡ nat_eq p 1
+      turned true g = eq-eqb 1 p (sym (eqb-true p 1 g)) ∙ sym g
+      turned false g = ne_eqb 1 p (λ same. false≢true (sym g ∙ eq-eqb p 1 (sym same))) ∙ sym g
+
+      by-test : (t : Bool) → plays calls-after name (frames_if t (checkpoint ∷ [])) ≡ (if t then Comes ∷ [] else [])
+      by-test true = ap (λ u. steps_if u Comes ++ []) (same-name name name refl)
+      by-test false = refl
+
+  there-now : PlaysTo (y.begins block) (y.steps block) true
+  there-now =
+      record {
+        last = Has;
+        plays = ap (λ z. play z (y.steps block)) (begins-there (nat_eq p 1) refl)
+            ∙ ap (play (if nat_eq p 1 then Lacks else Has)) (steps-there (nat_eq p 1) refl) ∙ by-test (nat_eq p 1);
+        agrees = refl;
+      }
+    where
+      by-test : (t : Bool) → play (if t then Lacks else Has) (if t then Comes ∷ [] else []) ≡ Some Has
+      by-test true = refl
+      by-test false = refl
