@@ -40,17 +40,20 @@ use Rattle.world_model.specs.Step.{Step, send, step_to}
 use Rattle.world_model.specs.World.{World, node_count}
 use Rattle.world_laws.specs.Places.{Beside, CallPlace, DeedPlace, Idle, InCheckpoint, InTable, Unmade, deed_in}
 use Rattle.world_laws.specs.Sights.{directory_of, frames_to, is_born_in, is_born_stage, node_of, stage_of}
-use Rattle.world_laws.specs.Names.{IsCheckpointOf, NameHolds, NameSight, OneIf, PlaysTo, comes_to, forker, held_as, held_at, name_sight}
+use Rattle.world_laws.specs.Names.{IsBringer, IsCheckpointOf, NameHolds, NameSight, OneIf, PlaysTo, SaysOf, comes_to, forker, held_as, held_at, is_hand_place, is_kept_for, is_stream_of, may_be_at, name_sight, range_steps_of}
+use Rattle.world_laws.specs.Ranges.{kind_sight}
 use Rattle.world_laws.specs.Families.{HoldsIn, IsBorn, NodeHolds}
 use Rattle.world_laws.specs.Invariant.{Holds}
 use Rattle.world_laws.proofs.Changes.{Changes, IsListMap, MakesNothing, filter-is-list-map, flat_map-is-list-map, frames_if, made-after, nothing-sent, read-same, sent}
 use Rattle.world_laws.proofs.Heads.{kept-of-sent}
-use Rattle.world_laws.proofs.NameFacts.{one-if-sent}
-use Rattle.world_laws.specs.Plays.{Comes, Has, Lacks, begin, has_any, is_checkpoint_of, play, plays, steps_if, steps_of}
+use Rattle.world_laws.proofs.NameFacts.{held-elsewhere, held-here, one-if-sent}
+use Rattle.world_laws.proofs.Numbers.{zero-is-unused}
+use Rattle.world_laws.specs.Plays.{Comes, Has, Lacks, begin, has_any, is_checkpoint_of, placed_in, play, plays, steps_if, steps_of}
 use Rattle.world_laws.specs.Ways.{IsHere, way_sight}
-use Rattle.world_laws.proofs.Named.{get-put-other-name, get-put-same-name, same-name}
+use Rattle.world_laws.proofs.Named.{get-put-other-name, get-put-same-name, name-cases, other-name, same-name}
 use Rattle.world_laws.proofs.Sends.{AreToNodes, frame_if}
-use Rattle.world_laws.proofs.Stays.{IsMore}
+use Rattle.world_laws.proofs.Stays.{IsMore, SameName, name-stays}
+use Rattle.world_own.proofs.Rebodied.{name-rebodied}
 use Rattle.world_laws.proofs.Changes.{still-born}
 use Rattle.world_makes.proofs.CallsOver.{carried-here}
 use Rattle.world_makes.proofs.Directories.{IsAfter, after-is, directory-now, place_if, placed_if, tell-is, tells_if}
@@ -60,11 +63,12 @@ use Rattle.world_makes.proofs.Forkers.{IsForkedFrom}
 use Rattle.world_makes.proofs.MorePids.{born-with}
 use Rattle.world_makes.proofs.FromLease.{frames-of-none}
 use Rattle.world_makes.proofs.Lacking.{no-checkpoint-brought, nothing-played}
-use Rattle.world_makes.proofs.NewOnes.{brought-nowhere, held-nowhere}
-use Rattle.world_makes.proofs.Ready.{calls-now, left-same, left-steps, name-is-ready, ready-name}
+use Rattle.world_makes.proofs.NewOnes.{AreMore, IsNew, brought-nowhere, held-nowhere, name-new, name-with-more}
+use Rattle.world_makes.proofs.Handed.{handed-has-left, left-is-forked}
+use Rattle.world_makes.proofs.Ready.{calls-now, left-same, left-steps, name-is-ready, other-seen, ready-name}
 use Rattle.world_makes.proofs.Sources.{Gives, Origin, Source, directory_by, ready_node, takes_by}
 use Rattle.world_makes.proofs.Taken.{name-maker, name-unknown, name-unused, some-node}
-use Rattle.world_makes.proofs.Told.{sent-append}
+use Rattle.world_makes.proofs.Told.{belief-now, bound-now, found-now, items-now, leased-now, ranged-now, sent-append, told-now, unplaced-now}
 use Rattle.world_makes.proofs.Unforked.{from-here, not-forked, unborn-here, unborn-stage}
 
 module _ (script : Script) (sound : IsSoundScript script) (w : World) (b : Beside) (holds : Holds script w [] b) (p : ℕ)
@@ -526,3 +530,172 @@ module _ (script : Script) (sound : IsSoundScript script) (w : World) (b : Besid
       by-test : (t : Bool) → play (if t then Lacks else Has) (if t then Comes ∷ [] else []) ≡ Some Has
       by-test true = refl
       by-test false = refl
+
+  used-now : is_used_name forks.next name ≡ true
+  used-now = used-made b.kernel pid call reply name forks.next forks.enters
+
+  none-placed : MakesNothing (λ to fs. placed_in name fs) births
+  none-placed = (refl, tt)
+
+  none-ranged : MakesNothing (λ to fs. flat_map (range_steps_of calls-after name) fs) sends
+  none-ranged = of-sends _ refl (λ other. refl)
+
+  is-new : IsNew script pids-now name x y block
+  is-new =
+      record {
+        used = used-now;
+        made = λ i. in-checkpoint-not (sym deed-is ∙ i);
+        place_fits = ap (may_be_at false) deed-is;
+        tables = λ q. held-now q ∙ ap (λ (d : DeedPlace). held_as d (body_in forks.next name) q) (sym deed-is);
+        streams = λ to sender. subst (λ (d : DeedPlace). OneIf (is_stream_of (forker script) d to sender)
+            (IsBringer pids-now name (body_in forks.next name) d) (y.brought to sender)) (sym deed-is)
+            (streams-now to sender);
+        not_kept = λ q. ap (λ (d : DeedPlace). is_kept_for (forker script) pids-now d q) deed-is;
+        not_in_hand = ap is_hand_place deed-is;
+        kept = λ q. ap (filter (is_parcel_with name)) (is-after.held (Proc q));
+        hand = refl;
+        belief = belief-now script w b holds p call kind number numbers o e s next after-node births entries name block
+            changes is-after unused made forks.next places-now pids-now deed-now used-now none-placed;
+        leader = ap is_some (held-now 1) ∙ sym (ne_eqb block 1 (λ one. omega (arith, later, one)));
+        there = λ low. there-now;
+        begins = begins-elsewhere;
+        steps = steps-elsewhere;
+        told = told-now script w b holds p call kind number numbers o e s next after-node births entries name block
+            changes is-after unused made forks.next places-now pids-now deed-now used-now none-placed child-there
+            (λ other one. omega (arith, later, one));
+        found = found-now script w b holds p call kind number numbers o e s next after-node births entries name block
+            changes is-after unused made forks.next places-now pids-now deed-now used-now none-placed
+            (λ flag. (refl, tt));
+        unplaced = unplaced-now script w b holds p call kind number numbers o e s next after-node births entries name
+            block changes is-after unused made forks.next places-now pids-now deed-now used-now none-placed;
+        ranged = ranged-now script w b holds p call kind number numbers o e s next after-node births entries name block
+            changes is-after unused made forks.next places-now pids-now deed-now used-now none-placed none-ranged;
+        leased = leased-now script w b holds p call kind number numbers o e s next after-node births entries name block
+            changes is-after unused made forks.next places-now pids-now deed-now used-now none-placed none-ranged;
+        bound = bound-now script w b holds p call kind number numbers o e s next after-node births entries name block
+            changes is-after unused made forks.next places-now pids-now deed-now used-now none-placed;
+        items = items-now script w b holds p call kind number numbers o e s next after-node births entries name block
+            changes is-after unused made forks.next places-now pids-now deed-now used-now none-placed;
+      }
+    where
+      in-checkpoint-not : InCheckpoint block ≡ Unmade → ⊥
+      in-checkpoint-not h = cc
+
+  new-name-now : NameHolds script pids-now (is_born_in next) name (name_sight script next [] moved name)
+  new-name-now =
+      name-new script b.pids pids-now (is_born_in w) (is_born_in next) name x y block known unused is-new
+
+  -- ---- other names
+
+  says-still : (m : Name) (sender node : ℕ) → is_used_name b.kernel m ≡ true → SaysOf b.pids m sender node
+      → SaysOf pids-now m sender node
+  says-still (Msg id) sender node used h = h
+  says-still (Sem id) sender node used h = h
+  says-still (Proc q) sender node used h =
+      elim (cases_eq (b.pids node) 0) [
+        | inr some ↦ now-same node some ∙ h
+        | inl none ↦
+            absurd
+            (false≢true
+            (sym (zero-is-unused (is_born_in w) (kind_sight w b.kernel kinds.Proc) (holds.kinds kinds.Proc))
+            ∙ ap (λ z. is_used_name b.kernel (Proc z)) (sym none ∙ h) ∙ used))
+      ]
+
+  abbrev ready-of : Name → NameSight
+  ready-of m = ready-name script w b holds p call kind number numbers o e s next after-node sends entries changes m
+
+  are-more : (m : Name) → AreMore script b.pids pids-now m (ready-of m)
+  are-more m =
+      let was : NameHolds script b.pids (is_born_in w) m (name_sight script w [] b m) = holds.names m
+      in record {
+        told = λ sender node there h. says-still m sender node (was.told sender node there).used h;
+        own = λ c is. now-same c (left-is-forked script w b holds c (handed-has-left script w b holds m c is));
+        parent = λ c is. parent-same c (left-is-forked script w b holds c (handed-has-left script w b holds m c is));
+      }
+
+  ready-more : (m : Name) → NameHolds script pids-now (is_born_in w) m (ready-of m)
+  ready-more m =
+      name-with-more script b.pids pids-now (is_born_in w) m (ready-of m)
+      (name-is-ready script w b holds p call kind number numbers o e s next after-node sends entries changes m)
+      (are-more m)
+
+  other-deed : (m : Name) → m ≢ name → deed-now m ≡ b.deed m
+  other-deed m d = ap (λ t. if t then InCheckpoint block else b.deed m) (other-name name m (λ same. d (sym same)))
+
+  seen-now : (m : Name) → m ≢ name → (body : Body) (held_by : ℕ → Option Body) → body ≡ body_in forks.next m
+      → ((q : ℕ) → held_by q ≡ held_at next m q) → ((q : ℕ) → is_some (held_by q) ≡ is_some (held_at w m q))
+      → SameName (record (ready-of m) { body = body; held = held_by }) (name_sight script next [] moved m)
+  seen-now m d body held_by is held_is still =
+      other-seen script w b holds p call kind number numbers o e s next after-node sends entries changes forks.next
+      places-now pids-now deed-now name (place_if (nat_eq p 1) block) m body held_by is-after d
+      (used-others b.kernel pid call reply name forks.next forks.enters m d) (other-deed m d) is held_is still refl
+      (of-sends _ (other-name m name d) (λ other. other-name m name d))
+
+  name-elsewhere : (m : Name) → m ≢ name → m ≢ Proc pid
+      → NameHolds script pids-now (is_born_in next) m (name_sight script next [] moved m)
+  name-elsewhere m d away =
+      name-stays script pids-now (is_born_in w) (is_born_in next) m _ _ more
+      (seen-now m d (body_in b.kernel m) (held_at w m) (sym (forks.rest m away d))
+      (λ q. sym (read-same script p w next after-node (takes_by kind o) sends entries changes
+      (λ (z : Node). get_named z.deeds m)
+      (get-put-other-name n.deeds (Proc pid) (parent_body s.row number) m away) q)) (λ q. refl)) (ready-more m)
+
+  -- the parent's name
+  parent-held : (q : ℕ) → held_as (InTable p) (body_in forks.next (Proc pid)) q ≡ held_at next (Proc pid) q
+  parent-held q =
+      elim (cases_eq q p) [
+        | inl i ↦
+            subst (λ z. held_as (InTable p) (body_in forks.next (Proc pid)) z ≡ held_at next (Proc pid) z) (sym i)
+            (held-here p (body_in forks.next (Proc pid)) ∙ ap Some forks.parent
+            ∙ sym (ap (λ (m : Node). get_named m.deeds (Proc pid)) changes.here
+            ∙ get-put-same-name n.deeds (Proc pid) (parent_body s.row number)))
+        | inr d ↦
+            held-elsewhere p q (body_in forks.next (Proc pid)) d
+            ∙ sym (ap (λ (m : Node). get_named m.deeds (Proc pid)) (changes.others q d) ∙ was-held q
+            ∙ held-elsewhere p q (body_in b.kernel (Proc pid)) d)
+      ]
+    where
+      was-held : (q : ℕ) → held_at w (Proc pid) q ≡ held_as (InTable p) (body_in b.kernel (Proc pid)) q
+      was-held q =
+          let was : NameHolds script b.pids (is_born_in w) (Proc pid) (name_sight script w [] b (Proc pid)) =
+          holds.names (Proc pid)
+          in was.tables q ∙ ap (λ (d : DeedPlace). held_as d (body_in b.kernel (Proc pid)) q) s.deed
+
+  parent-name-now : NameHolds script pids-now (is_born_in next) (Proc pid) (name_sight script next [] moved (Proc pid))
+  parent-name-now =
+      let m : Name = Proc pid
+      in let body : Body = body_in forks.next m
+      in name-stays script pids-now (is_born_in w) (is_born_in next) m _ _ more
+      (seen-now m (λ same. not-parent (sym same)) body (held_as (b.deed m) body) refl
+      (λ q. ap (λ (d : DeedPlace). held_as d body q) s.deed ∙ parent-held q) still)
+      (name-rebodied script pids-now (is_born_in w) m (ready-of m) p body s.deed (ready-more m))
+    where
+      same-some : (t : Bool) (a c : Body) → is_some (if t then Some a else None) ≡ is_some (if t then Some c else None)
+      same-some true a c = refl
+      same-some false a c = refl
+
+      still : (q : ℕ)
+          → is_some (held_as (b.deed (Proc pid)) (body_in forks.next (Proc pid)) q)
+          ≡ is_some (held_at w (Proc pid) q)
+      still q =
+          let was : NameHolds script b.pids (is_born_in w) (Proc pid) (name_sight script w [] b (Proc pid)) =
+          holds.names (Proc pid)
+          in ap (λ (d : DeedPlace). is_some (held_as d (body_in forks.next (Proc pid)) q)) s.deed
+          ∙ same-some (nat_eq p q) (body_in forks.next (Proc pid)) (body_in b.kernel (Proc pid))
+          ∙ sym (ap is_some (was.tables q)
+          ∙ ap (λ (d : DeedPlace). is_some (held_as d (body_in b.kernel (Proc pid)) q)) s.deed)
+
+  -- each name holds
+  pub names-now : (m : Name) → NameHolds script pids-now (is_born_in next) m (name_sight script next [] moved m)
+  names-now m =
+      elim (name-cases name m) [
+        | inl i ↦
+            subst (λ z. NameHolds script pids-now (is_born_in next) z (name_sight script next [] moved z)) i new-name-now
+        | inr d ↦
+            elim (name-cases (Proc pid) m) [
+              | inl i ↦
+                  subst (λ z. NameHolds script pids-now (is_born_in next) z (name_sight script next [] moved z)) i
+                  parent-name-now
+              | inr away ↦ name-elsewhere m (λ same. d (sym same)) (λ same. away (sym same))
+            ]
+      ]
