@@ -42,34 +42,43 @@ use Rattle.world_laws.specs.Places.{Beside, CallPlace, DeedPlace, Idle, InCheckp
 use Rattle.world_laws.specs.Sights.{directory_of, frames_to, is_born_in, is_born_stage, node_of, stage_of}
 use Rattle.world_laws.specs.Names.{IsBringer, IsCheckpointOf, NameHolds, NameSight, OneIf, PlaysTo, SaysOf, comes_to, forker, held_as, held_at, is_hand_place, is_kept_for, is_stream_of, may_be_at, name_sight, range_steps_of}
 use Rattle.world_laws.specs.Ranges.{kind_sight}
-use Rattle.world_laws.specs.Families.{HoldsIn, IsBorn, NodeHolds}
-use Rattle.world_laws.specs.Invariant.{Holds}
-use Rattle.world_laws.proofs.Changes.{Changes, IsListMap, MakesNothing, filter-is-list-map, flat_map-is-list-map, frames_if, made-after, nothing-sent, read-same, sent}
+use Rattle.world_laws.specs.Families.{FamilyHolds, HoldsIn, NodeHolds, checkpoints_to, is_checkpoint_frame}
+use Rattle.world_laws.specs.Invariant.{FramesFit, Holds, process_deed}
+use Rattle.rpc_frame.specs.declared.deed.Parcel.{Parcel}
+use Rattle.node_model.specs.declared.held.Held.TheVariants.{Ending}
+use Rattle.world_laws.specs.Callers.{CallHolds, CallSight, FreeIn, HasCallOrNone, call_sight, is_about, is_end_place, is_end_stage, is_item_about}
+use Rattle.world_laws.proofs.Frames.{all-weaker, not-about}
+use Rattle.world_laws.proofs.LeftAlone.{call-left-alone, frames-still-fit, other-node-stays, parcel-was-there, sender-stays, way-left-alone}
+use Rattle.world_laws.proofs.Changes.{Changes, IsListMap, MakesNothing, filter-is-list-map, flat_map-is-list-map, frames_if, made-after, made-same, nothing-sent, read-same, sent}
 use Rattle.world_laws.proofs.Heads.{kept-of-sent}
 use Rattle.world_laws.proofs.NameFacts.{held-elsewhere, held-here, one-if-sent}
 use Rattle.world_laws.proofs.Numbers.{zero-is-unused}
 use Rattle.world_laws.specs.Plays.{Comes, Has, Lacks, begin, has_any, is_checkpoint_of, placed_in, play, plays, steps_if, steps_of}
-use Rattle.world_laws.specs.Ways.{IsHere, way_sight}
+use Rattle.world_laws.specs.Ways.{HasSender, IsHere, IsParcelIn, Way, here, knows_parent, under_way_of, way_sight}
 use Rattle.world_laws.proofs.Named.{get-put-other-name, get-put-same-name, name-cases, other-name, same-name}
 use Rattle.world_laws.proofs.Sends.{AreToNodes, frame_if}
-use Rattle.world_laws.proofs.Stays.{IsMore, SameName, name-stays}
+use Rattle.world_laws.proofs.Stays.{IsMore, SameName, SameWay, call-stays, name-stays, node-born, way-stays}
+use Rattle.world_laws.proofs.Steps.{KeepsAs}
+use Rattle.world_own.proofs.Others.{call-goes-on}
 use Rattle.world_own.proofs.Rebodied.{name-rebodied}
 use Rattle.world_laws.proofs.Changes.{still-born}
 use Rattle.world_makes.proofs.CallsOver.{carried-here}
+use Rattle.world_makes.proofs.Counts.{few-now, kinds-now}
+use Rattle.world_makes.proofs.ForkFamilies.{family-new, family-still}
 use Rattle.world_makes.proofs.Directories.{IsAfter, after-is, directory-now, place_if, placed_if, tell-is, tells_if}
-use Rattle.world_makes.proofs.ForkKin.{ForkLeaves, apart-child, now-other, now-parent, now-there, now-parent-of-child, with_pid}
+use Rattle.world_makes.proofs.ForkKin.{ForkLeaves, apart-child, now-other, now-parent, now-there, others-go-on, pids-forked, with-pid-other, with_pid}
 use Rattle.world_makes.proofs.Forked.{fork-entry, fork-kind, fork-leaves, own-row}
 use Rattle.world_makes.proofs.Forkers.{IsForkedFrom}
-use Rattle.world_makes.proofs.MorePids.{born-with}
+use Rattle.world_makes.proofs.MorePids.{born-with, node-with, sender-with, way-with}
 use Rattle.world_makes.proofs.FromLease.{frames-of-none}
 use Rattle.world_makes.proofs.Lacking.{no-checkpoint-brought, nothing-played}
 use Rattle.world_makes.proofs.NewOnes.{AreMore, IsNew, brought-nowhere, held-nowhere, name-new, name-with-more}
 use Rattle.world_makes.proofs.Handed.{handed-has-left, left-is-forked}
-use Rattle.world_makes.proofs.Ready.{calls-now, left-same, left-steps, name-is-ready, other-seen, ready-name}
+use Rattle.world_makes.proofs.Ready.{calls-now, left-same, left-steps, name-is-ready, other-seen, others-same, ready-name}
 use Rattle.world_makes.proofs.Sources.{Gives, Origin, Source, directory_by, ready_node, takes_by}
-use Rattle.world_makes.proofs.Taken.{name-maker, name-unknown, name-unused, some-node}
+use Rattle.world_makes.proofs.Taken.{call-after, history-after, keys-after, name-maker, name-unknown, name-unused, some-node, taken-of-no-other, taken-plain}
 use Rattle.world_makes.proofs.Told.{belief-now, bound-now, found-now, items-now, leased-now, ranged-now, sent-append, told-now, unplaced-now}
-use Rattle.world_makes.proofs.Unforked.{from-here, not-forked, unborn-here, unborn-stage}
+use Rattle.world_makes.proofs.Unforked.{from-here, is-unborn, no-births, not-forked, unborn-call, unborn-here, unborn-stage}
 
 module _ (script : Script) (sound : IsSoundScript script) (w : World) (b : Beside) (holds : Holds script w [] b) (p : ℕ)
     (block : ℕ) (kind : Kind) (number : ℕ) (numbers : List ℕ) (o : Origin) (e : Event)
@@ -699,3 +708,232 @@ module _ (script : Script) (sound : IsSoundScript script) (w : World) (b : Besid
               | inr away ↦ name-elsewhere m (λ same. d (sym same)) (λ same. away (sym same))
             ]
       ]
+
+  -- ---- calls
+
+  calls-still : (c : ℕ) → c ≢ p → calls-after c ≡ b.call c
+  calls-still =
+      others-same script w b holds p call kind number numbers o e s next after-node sends entries changes
+
+  fork-moves : ForkPlaces script b.places pid block number place places-now
+  fork-moves = fork-places script b.places p pid block number place forks.apart
+
+  own-call-now : CallHolds script p (is_born_in next) (call_sight next [] moved p)
+  own-call-now =
+      call-after script w b holds p call kind number numbers o e s next after-node sends reply forks.next changes
+      (is_born_in next) places-now pids-now deed-now forks.caller.alive name (place_if (nat_eq p 1) block) is-after refl
+      s.stage (ap (get places-now) (now-same p s.birth.forked) ∙ fork-moves.parent)
+      (ap (living_at forks.next) (now-same p s.birth.forked) ∙ forks.caller.lives)
+      (of-sends _ refl (λ other. refl))
+
+  block-low : 1 ≤ block
+  block-low = omega (arith, later)
+
+  unforked : b.pids block ≡ 0
+  unforked = not-forked script sound w b holds p block kind number numbers o e s
+
+  block-apart : block ≢ p
+  block-apart same = let before = from.before in omega (arith, before, same)
+
+  -- the block's node has no call yet
+  block-call-now : CallHolds script block (is_born_in next) (call_sight next [] moved block)
+  block-call-now =
+      let was = unborn-call script w b holds block block-low from.high unforked
+      in let node : node_of next block ≡ unborn_node block =
+      changes.others block block-apart ∙ is-unborn script w b holds block block-low from.high unforked
+      in let v : CallSight = call_sight next [] moved block
+      in record {
+        call = subst (λ u. HasCallOrNone script block (is_born_in next) v u)
+            (sym (ap (λ (m : Node). m.caller.under_way) node))
+            (record {
+              nowhere = record {
+                in_streams = λ to sender. made-same script p w next after-node (takes_by kind o) sends entries changes
+                    (λ t q fs. filter (is_about block t q) fs) (λ t q. filter-is-list-map (is_about block t q))
+                    (all-weaker (λ t. not-about block p t.0 t.1) (takes_by kind o)
+                    (taken-of-no-other kind p o block block-apart))
+                    (of-sends _ refl (λ other. refl)) to sender
+                    ∙ was.nowhere.in_streams to sender;
+                held_for_names = λ m. ap (filter (is_item_about block)) (is-after.held m)
+                    ∙ was.nowhere.held_for_names m;
+                in_hand = refl;
+              };
+              idle = calls-still block block-apart ∙ was.idle;
+              free = subst (λ (st : Stage). FreeIn script block v st) (sym (ap (λ (m : Node). m.stage) node)) tt;
+            });
+        ends = ap is_end_place (calls-still block block-apart ∙ was.idle)
+            ∙ sym (ap (λ (m : Node). is_end_stage m.stage) node);
+      }
+
+  abbrev between : Beside
+  between = record b { kernel = forks.next }
+
+  other-call-now : (c : ℕ) → 1 ≤ c → c ≤ node_count script → c ≢ p → c ≢ block
+      → CallHolds script c (is_born_in next) (call_sight next [] moved c)
+  other-call-now c low high d away =
+      call-stays script c (is_born_in w) (is_born_in next) (call_sight w [] between c) (call_sight next [] moved c) more
+      (call-left-alone script p w next after-node (takes_by kind o) sends entries changes [] [] between moved c
+      (record {
+        own = λ same. absurd (d same);
+        place_is = ap (get places-now) number-same ∙ fork-moves.others (b.pids c) other-process (not-child c);
+        alive_is = ap (living_at forks.next) number-same;
+        call_is = calls-still c d;
+        held_is = λ m. ap (filter (is_item_about c)) (is-after.held m);
+        hand_is = refl;
+      }) (taken-of-no-other kind p o c d) (of-sends _ refl (λ other. refl)))
+      (call-goes-on script c (is_born_in w) (call_sight w [] b c) (living_at forks.next (b.pids c))
+      (others-go-on script b.kernel b.places b.pids p block number s.row (child_vars place) forks.next places-now leaves
+      (b.pids c) other-process (not-child c)) (holds.calls c low high))
+    where
+      number-same : pids-now c ≡ b.pids c
+      number-same = with-pid-other b.pids block number c away
+
+      other-process : b.pids c ≢ pid
+      other-process same = d (sym (holds.pids.apart p c s.birth.forked (sym same)))
+
+  calls-hold : (c : ℕ) → 1 ≤ c → c ≤ node_count script
+      → CallHolds script c (is_born_in next) (call_sight next [] moved c)
+  calls-hold c low high =
+      elim (cases_eq c p) [
+        | inl same ↦
+            subst (λ z. CallHolds script z (is_born_in next) (call_sight next [] moved z)) (sym same) own-call-now
+        | inr d ↦
+            elim (cases_eq c block) [
+              | inl same ↦
+                  subst (λ z. CallHolds script z (is_born_in next) (call_sight next [] moved z)) (sym same)
+                  block-call-now
+              | inr away ↦ other-call-now c low high d away
+            ]
+      ]
+
+  -- ---- nodes, frames, ways and parcels
+
+  nodes-hold : (c : ℕ) → 1 ≤ c → c ≤ node_count script → NodeHolds script pids-now (is_born_in next) c (node_of next c)
+  nodes-hold c low high =
+      elim (cases_eq c p) [
+        | inr d ↦
+            node-with script b.pids pids-now (is_born_in next) c (node_of next c) (now-same c) (parent-same c)
+            (other-node-stays script p w next after-node (takes_by kind o) sends entries changes b.pids (is_born_in w)
+            (is_born_in next) c d more (holds.nodes c low high))
+        | inl same ↦
+            subst (λ z. NodeHolds script pids-now (is_born_in next) z (node_of next z)) (sym same)
+            (subst (λ (m : Node). NodeHolds script pids-now (is_born_in next) p m) (sym changes.here)
+            (node-born script pids-now (is_born_in w) (is_born_in next) p after-node more node-now))
+      ]
+
+  frames-hold : FramesFit script (is_born_in next) (frames_to next)
+  frames-hold =
+      frames-still-fit script p w next after-node (takes_by kind o) sends entries changes more holds.frames_fit
+      (of-sends _ (sym from.forker_is) (λ other. refl)) (of-sends _ block-apart (λ other one. other (sym one)))
+
+  way-same : (c : ℕ) → SameWay (way_sight w c) (way_sight next c)
+  way-same c =
+      way-left-alone script p w next after-node (takes_by kind o) sends entries changes c (λ same. refl)
+      (is-after.partings c) (taken-plain kind o) (of-sends _ refl (λ other. refl))
+
+  ways-hold : (c : ℕ) → 2 ≤ c → c ≤ node_count script
+      → Way script pids-now c (knows_parent script next pids-now c) (way_sight next c)
+  ways-hold c low high =
+      elim (cases_eq (b.pids c) 0) [
+        | inl none ↦
+            way-stays script pids-now c (knows_parent script next pids-now c) (knows_parent script next pids-now c)
+            (way_sight w c) (way_sight next c) (λ h. h) (way-same c)
+            (here (unborn-here script w b holds c (omega (arith, low)) high none low))
+        | inr some ↦
+            way-stays script pids-now c (knows_parent script w b.pids c) (knows_parent script next pids-now c)
+            (way_sight w c) (way_sight next c)
+            (λ h. ap (λ q. is_known (directory_of next) (Proc q)) (parent-same c some)
+            ∙ is-after.known_still (Proc (b.pids (forker script c))) h)
+            (way-same c)
+            (way-with script b.pids pids-now c (knows_parent script w b.pids c) (way_sight w c) (now-same c some)
+            (parent-same c some) (holds.ways c low high))
+      ]
+
+  parcels-hold : (parcel : Parcel) → IsParcelIn next [] parcel
+      → HasSender script pids-now (stage_of next) (under_way_of next) parcel
+  parcels-hold parcel there =
+      sender-with script b.pids pids-now (stage_of next) (under_way_of next) parcel
+      (λ c left. now-same c (left-is-forked script w b holds c (sym (stage-same c) ∙ left)))
+      (λ c left. parent-same c (left-is-forked script w b holds c (sym (stage-same c) ∙ left)))
+      (sender-stays script p w next after-node (takes_by kind o) sends entries changes b.pids parcel
+      (λ left. absurd (left-not (sym s.stage ∙ left)))
+      (holds.parcels parcel
+      (parcel-was-there script p w next after-node (takes_by kind o) sends entries changes [] parcel
+      (of-sends _ refl (λ other. refl))
+      (λ q in_it. subst (λ items. Contains items (Ending parcel)) (is-after.held (Proc q)) in_it) there)))
+    where
+      left-not : Living ≡ Left → ⊥
+      left-not h = cc
+
+  -- ---- families
+
+  checkpoints-there : checkpoints_to script next block ≡ checkpoint ∷ []
+  checkpoints-there =
+      ap (λ f. filter is_checkpoint_frame (frames_to next block f)) from.forker_is
+      ∙ after-births (λ t q fs. filter is_checkpoint_frame fs) (λ t q. filter-is-list-map is_checkpoint_frame)
+      (λ first. refl) (of-tells _ (λ other. refl)) block p
+      ∙ ap (λ fs. fs ++ filter is_checkpoint_frame (sent p births block p))
+      (no-births script w b holds block block-low from.high unforked p)
+      ∙ kept-of-sent is_checkpoint_frame checkpoint refl (nat_eq block block) (nat_eq p p)
+      ∙ ap (λ t. cond (t && nat_eq p p) (checkpoint ∷ []) []) (eq-eqb block block refl)
+      ∙ ap (λ t. cond t (checkpoint ∷ []) []) (eq-eqb p p refl)
+
+  deeds-still : (q : ℕ) → q ≢ number → process_deed deed-now q ≡ process_deed b.deed q
+  deeds-still q d = other-deed (Proc q) (λ same. d (process-same q number same))
+
+  families-hold : (c : ℕ) → pids-now c ≢ 0
+      → FamilyHolds script pids-now places-now forks.next (process_deed deed-now) (checkpoints_to script next c)
+      (stage_of next c) c
+  families-hold c some =
+      elim (cases_eq c block) [
+        | inl same ↦
+            subst (λ z. FamilyHolds script pids-now places-now forks.next (process_deed deed-now)
+            (checkpoints_to script next z) (stage_of next z) z) (sym same)
+            (subst (λ fs. FamilyHolds script pids-now places-now forks.next (process_deed deed-now) fs
+            (stage_of next block) block) (sym checkpoints-there)
+            (subst (λ st. FamilyHolds script pids-now places-now forks.next (process_deed deed-now) (checkpoint ∷ []) st
+            block) (sym stage-there)
+            (family-new script b.kernel b.places b.pids p block number s.row (child_vars place) forks.next places-now
+            leaves (process_deed b.deed) (process_deed deed-now) s.deed deed-is deeds-still packed)))
+        | inr d ↦
+            let forked : b.pids c ≢ 0 = λ none. some (with-pid-other b.pids block number c d ∙ none)
+            in subst (λ fs. FamilyHolds script pids-now places-now forks.next (process_deed deed-now) fs
+            (stage_of next c) c)
+            (sym (same-elsewhere (λ t q fs. filter is_checkpoint_frame fs)
+            (λ t q. filter-is-list-map is_checkpoint_frame) (λ first. refl) (of-tells _ (λ other. refl)) c
+            (forker script c) d))
+            (subst (λ st. FamilyHolds script pids-now places-now forks.next (process_deed deed-now)
+            (checkpoints_to script w c) st c) (sym (stage-same c))
+            (family-still script b.kernel b.places b.pids p block number s.row (child_vars place) forks.next places-now
+            leaves (process_deed b.deed) (process_deed deed-now) s.deed deed-is deeds-still (checkpoints_to script w c)
+            (stage_of w c) c forked (holds.families c forked)))
+      ]
+
+  -- The child is on its way to its node, and its parent lists it.
+  pub fork-keeps : KeepsAs script w e moved
+  fork-keeps =
+      record {
+        next = next;
+        is_step = given.is_step;
+        holds = record {
+          shape = changes.shape;
+          history = history-after script w b holds p call kind number numbers o e s next after-node sends reply forks.next
+              changes forks.enters.makes;
+          leading = is-after.leads;
+          pids = pids-forked script b.kernel b.places b.pids p block number s.row (child_vars place) forks.next
+              places-now leaves holds.pids;
+          nodes = nodes-hold;
+          frames_fit = frames-hold;
+          names = names-now;
+          calls = calls-hold;
+          ways = ways-hold;
+          parcels = parcels-hold;
+          kinds = kinds-now script w b holds p call kind number numbers o e s next after-node sends
+              (entry_of p pid call reply) changes name forks.next reply forks.enters kind-is refl more refl
+              is-after.ranges (λ z. of-sends _ refl (λ other. refl));
+          few = few-now script w b holds p call kind number numbers o e s next after-node sends
+              (entry_of p pid call reply) changes is-after.ranges;
+          keys = keys-after script w b holds p call kind number numbers o e s next after-node sends reply forks.next
+              changes forks.keys refl refl;
+          families = families-hold;
+        };
+      }
