@@ -56,11 +56,7 @@ gone-as-gone (kernel.Living c) is = absurd (cc)
 gone-as-gone (kernel.Ended g) is = absurd (cc)
 gone-as-gone kernel.Gone is = tt
 
-<<<<<<< HEAD
 -- so is each process that didn't make the entry
-=======
--- who turns to this goes on so
->>>>>>> origin/h-makes
 pub turned-on : (before after : Process) → TurnsTo (Some before) (Some after) → GoesOn before after
 turned-on (kernel.Living a) after t = lives-as-living after t.0 t.1 a
 turned-on (kernel.Ended e) after (inl is) = ended-as-over after e e is
@@ -76,11 +72,7 @@ both-live kernel.Gone after a b is then = absurd (cc)
 
 -- ---- where its deed is
 
-<<<<<<< HEAD
 -- the deed is where it may be
-=======
--- its deed may be where it was
->>>>>>> origin/h-makes
 pub where-still : (c : ℕ) (place : DeedPlace) (before after : Process) → GoesOn before after → IsWhereFor c place before
     → IsWhereFor c place after
 where-still c place (kernel.Living a) (kernel.Living b) t h = h
@@ -93,11 +85,7 @@ where-still c place kernel.Gone (kernel.Living b) t h = absurd t
 where-still c place kernel.Gone (kernel.Ended f) t h = absurd t
 where-still c place kernel.Gone kernel.Gone t h = h
 
-<<<<<<< HEAD
 -- an ended process's is still where its parent's is
-=======
--- where its parent's is, where it was so
->>>>>>> origin/h-makes
 pub with-parent-still : (deed : ℕ → DeedPlace) (parent pid : ℕ) (before after : Process) → GoesOn before after
     → IsWithParent deed parent pid before → IsWithParent deed parent pid after
 with-parent-still deed parent pid before (kernel.Living b) t h = tt
@@ -109,11 +97,7 @@ with-parent-still deed parent pid kernel.Gone (kernel.Ended f) t h = absurd t
 rows-same : (a b : Alive) → LivingBody b.row ≡ LivingBody a.row → a.row ≡ b.row
 rows-same a b h = cc
 
-<<<<<<< HEAD
 -- who is new is so still, with the same row
-=======
--- a new process whose Checkpoint is on its way is new still
->>>>>>> origin/h-makes
 pub fresh-still : (place : DeedPlace) (before after : Process) → GoesOn before after
     → ((to : ℕ) → place ≡ InCheckpoint to → process_body (Some after) ≡ process_body (Some before))
     → IsNewAt before place → IsNewAt after place
@@ -125,11 +109,7 @@ fresh-still place before (kernel.Living b) t same h = tt
 fresh-still place before (kernel.Ended f) t same h = tt
 fresh-still place before kernel.Gone t same h = tt
 
-<<<<<<< HEAD
 -- a Checkpoint on its way brings the process that it brought
-=======
--- and that Checkpoint brings it to its place
->>>>>>> origin/h-makes
 pub checkpoint-still : (script : Script) (pids : ℕ → ℕ) (places after : Places) (c : ℕ) (checkpoints : List Frame)
     (place : DeedPlace)
     → ((to : ℕ) → place ≡ InCheckpoint to → get after (pids c) ≡ get places (pids c))
@@ -144,11 +124,7 @@ pub record Leads (k : Kernel) (q : ℕ) : Type 0 where
   pub process : Process
   pub is : get k.processes q ≡ Some process
 
-<<<<<<< HEAD
 -- where it is used
-=======
--- what is there the number leads to
->>>>>>> origin/h-makes
 pub leads-by : (k : Kernel) (q : ℕ) (o : Option Process) → get k.processes q ≡ o → is_some o ≡ true → Leads k q
 leads-by k q (Some process) is h = record { process = process; is = is }
 leads-by k q None is h = absurd (false≢true h)
