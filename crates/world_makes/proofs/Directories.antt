@@ -29,13 +29,15 @@ use Rattle.world_makes.proofs.Sources.{Comes, InLease, Next, Origin, directory_b
 
 -- ---- the step
 
--- what the leader has then, and what any other maker sends
+-- what the leader has then
 abbrev pub placed_if : Bool → Directory → Name → ℕ → Directory
 placed_if t d name at = if t then place_name d name at else d
 
+-- what any other maker sends
 abbrev pub tells_if : Bool → Name → ℕ → List (ℕ × Frame)
 tells_if t name at = if t then [] else (1, frames.Placed name at) ∷ []
 
+-- where the name is known then
 abbrev pub place_if : Bool → ℕ → Option Place
 place_if t at = if t then Some (At at) else None
 
@@ -127,6 +129,7 @@ placed-is d mid name at a =
       leads = still.leads;
     }
 
+-- in any case the directory is so afterwards
 pub after-is : (d : Directory) (kind : Kind) (o : Origin) (name : Name) (at : ℕ) (t : Bool) → place_of d name ≡ None
     → IsLeading d
     → IsAfter d (directory_by d kind o) (placed_if t (directory_by d kind o) name at) name (place_if t at)

@@ -87,8 +87,7 @@ module _ (script : Script) (k : Kernel) (places : Places) (pids : ℕ → ℕ) (
         where_it_is = subst (λ d. IsWhereFor block d (kernel.Living l.child_lives.alive)) (sym deed-is) refl;
         with_parent = tt;
         checkpoint = subst (λ d. CheckpointIn script now after block
-            (frames.Checkpoint child (pids p) packed vars ∷ []) d) (sym deed-is)
-            (
+            (frames.Checkpoint child (pids p) packed vars ∷ []) d) (sym deed-is) (
               frames.Checkpoint child (pids p) packed vars,
               refl,
               record {
@@ -191,13 +190,12 @@ module _ (script : Script) (k : Kernel) (places : Places) (pids : ℕ → ℕ) (
             elim (listed-fork k next (pids p) child other row l.fork.own l.fork.parent
             (subst (λ q. ListsOne next q other) e one)) [
               | inl was ↦ old (subst (λ q. ListsOne k q other) (sym e) was)
-              | inr new ↦
-                  (
-                    block,
-                    l.from_here.forker_is ∙ sym (l.apart c p forked e),
-                    now-there script k places pids p block child row vars next after l ∙ sym new,
-                    λ none. l.some_child (sym new ∙ none),
-                  )
+              | inr new ↦ (
+                block,
+                l.from_here.forker_is ∙ sym (l.apart c p forked e),
+                now-there script k places pids p block child row vars next after l ∙ sym new,
+                λ none. l.some_child (sym new ∙ none),
+              )
             ]
 
     -- the family of another holds

@@ -40,6 +40,7 @@ use Rattle.world_makes.proofs.WithinLines.{block-lines}
 abbrev pub with_pid : (ℕ → ℕ) → ℕ → ℕ → ℕ → ℕ
 with_pid pids block child c = if nat_eq c block then child else pids c
 
+-- the block's process has it
 pub with-pid-there : (pids : ℕ → ℕ) (block child : ℕ) → with_pid pids block child block ≡ child
 with-pid-there pids block child = ap (λ t. if t then child else pids block) (eq-eqb block block refl)
 
@@ -109,12 +110,15 @@ module _ (script : Script) (k : Kernel) (places : Places) (pids : ℕ → ℕ) (
   pub other-block : (c : ℕ) → pids c ≢ 0 → c ≢ block
   other-block c some same = some (ap pids same ∙ l.unforked)
 
+  -- so it has the number that it had
   pub now-other : (c : ℕ) → pids c ≢ 0 → now c ≡ pids c
   now-other c some = with-pid-other pids block child c (other-block c some)
 
+  -- and so has its parent
   pub now-parent : (c : ℕ) → pids c ≢ 0 → now (forker script c) ≡ pids (forker script c)
   now-parent c some = with-pid-other pids block child (forker script c) (l.parents c some)
 
+  -- the block's has the new one
   pub now-there : now block ≡ child
   now-there = with-pid-there pids block child
 
@@ -341,8 +345,7 @@ module _ (script : Script) (k : Kernel) (places : Places) (pids : ℕ → ℕ) (
     forked-now c some later =
         elim (cases_eq c block) [
           | inl e ↦
-              subst (λ z. (now (forker script z) ≢ 0) × (forker script z < z)) (sym e)
-              (
+              subst (λ z. (now (forker script z) ≢ 0) × (forker script z < z)) (sym e) (
                 λ none. l.forked (sym now-parent-of-child ∙ none),
                 subst (λ f. f < block) (sym l.from_here.forker_is) l.from_here.before,
               )
@@ -383,11 +386,10 @@ module _ (script : Script) (k : Kernel) (places : Places) (pids : ℕ → ℕ) (
     place-now : (c : ℕ) → now c ≢ 0 → (place : Place) × (get after (now c) ≡ Some place)
     place-now c some =
         elim (cases_eq c block) [
-          | inl e ↦
-              (
-                block_place (block_at script block) vars,
-                ap (λ z. get after (now z)) e ∙ ap (get after) now-there ∙ l.begins,
-              )
+          | inl e ↦ (
+            block_place (block_at script block) vars,
+            ap (λ z. get after (now z)) e ∙ ap (get after) now-there ∙ l.begins,
+          )
           | inr d ↦
               let is : now c ≡ pids c = with-pid-other pids block child c d
               in by-process is (λ none. some (is ∙ none)) (cases_eq (pids c) (pids p))

@@ -63,6 +63,7 @@ module _ (script : Script) (sound : IsSoundScript script) (w : World) (b : Besid
   abbrev pid : ℕ
   pid = b.pids p
 
+  -- where the history is
   abbrev pub fork-place : Place
   fork-place = caller_place script p s.caller
 

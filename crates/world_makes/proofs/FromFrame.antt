@@ -72,6 +72,7 @@ abbrev is_lease : Frame → Bool
 is_lease (frames.Lease kind first) = true
 is_lease frame = false
 
+-- the call is where its numbers are on their way, in this frame alone
 pub record IsLeaseOf (place : CallPlace) (kind : Kind) (first : ℕ) (fs : List Frame) : Type 0 where
   pub place_is : place ≡ HasLease kind first
   pub alone : fs ≡ []

@@ -53,6 +53,7 @@ kind-of-name kinds.Proc number = refl
 kind-of-name kinds.Msg number = refl
 kind-of-name kinds.Sem number = refl
 
+-- and this number
 pub number-of-name : (kind : Kind) (number : ℕ) → number_of (name_of kind number) ≡ number
 number-of-name kinds.Proc number = refl
 number-of-name kinds.Msg number = refl

@@ -45,6 +45,7 @@ module _ (script : Script) (w : World) (b : Beside) (holds : Holds script w [] b
   known : NameHolds script b.pids (is_born_in w) name x
   known = holds.names name
 
+  -- none comes to a node
   pub comes-none : (q : ℕ) → comes_to script w name q ≡ false
   comes-none q =
       ap (λ fs. not (nat_eq (forker script q) 1) && has_any fs)

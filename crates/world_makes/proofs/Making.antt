@@ -20,7 +20,7 @@ pub data Making (kind : Kind) (call : Call) : Type 0 where
 abbrev pub HasSize : Call → Type 0
 HasSize call =
     (count : ℕ) (create excl : Bool) → call ≡ calls.SemGet None count create excl
-        → (set : SemaphoreSet) × (new_set count ≡ Ok set)
+    → (set : SemaphoreSet) × (new_set count ≡ Ok set)
 
 -- a call that takes a number of a kind is one of these
 pub making-of : (kind : Kind) (call : Call) → takes_number kind call ≡ true → HasSize call → Making kind call

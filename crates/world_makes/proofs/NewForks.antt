@@ -83,22 +83,22 @@ use Rattle.world_makes.proofs.Unforked.{from-here, is-unborn, no-births, not-for
 module _ (script : Script) (sound : IsSoundScript script) (w : World) (b : Beside) (holds : Holds script w [] b) (p : ℕ)
     (block : ℕ) (kind : Kind) (number : ℕ) (numbers : List ℕ) (o : Origin) (e : Event)
     (s : Source script w b p (calls.Fork block) kind number numbers o e) where
-  abbrev pub n : Node
+  abbrev n : Node
   n = node_of w p
 
-  abbrev pub pid : ℕ
+  abbrev pid : ℕ
   pid = b.pids p
 
-  abbrev pub call : Call
+  abbrev call : Call
   call = calls.Fork block
 
-  abbrev pub reply : Reply
+  abbrev reply : Reply
   reply = replies.Num number
 
-  abbrev pub name : Name
+  abbrev name : Name
   name = Proc number
 
-  abbrev pub place : Place
+  abbrev place : Place
   place = caller_place script p s.caller
 
   node-holds : NodeHolds script b.pids (is_born_in w) p n
@@ -106,14 +106,14 @@ module _ (script : Script) (sound : IsSoundScript script) (w : World) (b : Besid
 
   -- ---- the step
 
-  abbrev pub packed : PackedDeed
+  abbrev packed : PackedDeed
   packed = pack name (child_body s.row)
 
   abbrev checkpoint-with : ℕ → ℕ → Frame
   checkpoint-with q process =
       frames.Checkpoint number process packed (child_vars (caller_place script q s.caller))
 
-  abbrev pub checkpoint : Frame
+  abbrev checkpoint : Frame
   checkpoint = frames.Checkpoint number pid packed (child_vars place)
 
   abbrev step-with : ℕ → ℕ → Step
@@ -133,7 +133,7 @@ module _ (script : Script) (sound : IsSoundScript script) (w : World) (b : Besid
         sends = (block, checkpoint-with q process) ∷ tells_if (nat_eq p 1) name block;
       }
 
-  abbrev pub after-node : Node
+  abbrev after-node : Node
   after-node =
       record n {
         caller = answer_call script p s.caller call reply;
@@ -143,16 +143,16 @@ module _ (script : Script) (sound : IsSoundScript script) (w : World) (b : Besid
             record n.leader { directory = placed_if (nat_eq p 1) (directory_by n.leader.directory kind o) name block };
       }
 
-  abbrev pub births : List (ℕ × Frame)
+  abbrev births : List (ℕ × Frame)
   births = (block, checkpoint) ∷ []
 
-  abbrev pub sends : List (ℕ × Frame)
+  abbrev sends : List (ℕ × Frame)
   sends = births ++ tells_if (nat_eq p 1) name block
 
-  abbrev pub entries : List Entry
+  abbrev entries : List Entry
   entries = entry_of p pid call reply ∷ []
 
-  abbrev pub after : Step
+  abbrev after : Step
   after = record { node = after-node; entries = entries; sends = sends }
 
   abbrev ready : Node
@@ -186,11 +186,11 @@ module _ (script : Script) (sound : IsSoundScript script) (w : World) (b : Besid
       ∙ ap (λ process. Some (step-with p process)) s.birth.pid_is
 
   -- the block is one behind this node's
-  pub from : IsForkedFrom script p block
+  from : IsForkedFrom script p block
   from = from-here script sound w b holds p block kind number numbers o e s
 
   -- a fact of what is sent
-  pub of-sends : (P : ℕ × Frame → Type 0) → P (block, checkpoint) → (p ≢ 1 → P (1, frames.Placed name block))
+  of-sends : (P : ℕ × Frame → Type 0) → P (block, checkpoint) → (p ≢ 1 → P (1, frames.Placed name block))
       → AllByRecursion P sends
   of-sends P first h = (first, by-test (nat_eq p 1) refl)
     where
@@ -204,13 +204,14 @@ module _ (script : Script) (sound : IsSoundScript script) (w : World) (b : Besid
       (record { low = let low = from.low in omega (arith, low); high = from.high })
       (λ other. record { low = omega arith; high = some-node script w b holds p call kind number numbers o e s })
 
+  -- which is the event's
   pub given : Gives script w p e (takes_by kind o) after
   given = s.gives after to-nodes rule
 
-  abbrev pub next : World
+  abbrev next : World
   next = given.next
 
-  abbrev pub changes : Changes script p w next after-node (takes_by kind o) sends entries
+  abbrev changes : Changes script p w next after-node (takes_by kind o) sends entries
   changes = given.changes
 
   -- ---- beside the world
@@ -218,23 +219,24 @@ module _ (script : Script) (sound : IsSoundScript script) (w : World) (b : Besid
   pub forks : Forks b.kernel pid block number s.row
   forks = fork-entry script sound w b holds p block kind number numbers o e s
 
-  abbrev pub places-now : Places
+  abbrev places-now : Places
   places-now = places_after script b.places (entry_of p pid call reply) place
 
-  abbrev pub pids-now : ℕ → ℕ
+  abbrev pids-now : ℕ → ℕ
   pids-now = with_pid b.pids block number
 
-  abbrev pub deed-now : Name → DeedPlace
+  abbrev deed-now : Name → DeedPlace
   deed-now = deed_in b.deed name (InCheckpoint block)
 
-  abbrev pub calls-after : ℕ → CallPlace
+  abbrev calls-after : ℕ → CallPlace
   calls-after = calls-now script w b holds p call kind number numbers o e s next after-node sends entries changes
 
+  -- what stands beside the world then
   abbrev pub moved : Beside
   moved =
       record { kernel = forks.next; places = places-now; pids = pids-now; deed = deed-now; call = calls-after }
 
-  pub leaves : ForkLeaves script b.kernel b.places b.pids p block number s.row (child_vars place) forks.next places-now
+  leaves : ForkLeaves script b.kernel b.places b.pids p block number s.row (child_vars place) forks.next places-now
   unfolding forks
   leaves = fork-leaves script sound w b holds p block kind number numbers o e s
 
@@ -243,16 +245,16 @@ module _ (script : Script) (sound : IsSoundScript script) (w : World) (b : Besid
   kind-is : kinds.Proc ≡ kind
   kind-is = fork-kind kind block s.takes.takes
 
-  pub unused : is_used_name b.kernel name ≡ false
+  unused : is_used_name b.kernel name ≡ false
   unused = name-unused script w b holds p call kind number numbers o e s name kind-is refl
 
-  pub made : maker (directory_by (directory_of w) kind o) name ≡ Some p
+  made : maker (directory_by (directory_of w) kind o) name ≡ Some p
   made = name-maker script w b holds p call kind number numbers o e s name kind-is refl
 
   directory-is : directory_of next ≡ placed_if (nat_eq p 1) (directory_by (directory_of w) kind o) name block
   directory-is = directory-now script w next p kind o after-node sends entries name block changes s.at_leader refl
 
-  pub is-after : IsAfter (directory_of w) (directory_by (directory_of w) kind o) (directory_of next) name
+  is-after : IsAfter (directory_of w) (directory_by (directory_of w) kind o) (directory_of next) name
       (place_if (nat_eq p 1) block)
   is-after =
       subst (λ (d : Directory). IsAfter (directory_of w) (directory_by (directory_of w) kind o) d name
@@ -261,23 +263,23 @@ module _ (script : Script) (sound : IsSoundScript script) (w : World) (b : Besid
       (name-unknown script w b holds p call kind number numbers o e s name kind-is refl) holds.leading)
 
   -- the same nodes are born
-  pub more : IsMore (is_born_in w) (is_born_in next)
+  more : IsMore (is_born_in w) (is_born_in next)
   more = still-born script p w next after-node (takes_by kind o) sends entries changes (λ h. h)
 
   -- numbers that are there stay
-  pub now-same : (c : ℕ) → b.pids c ≢ 0 → pids-now c ≡ b.pids c
+  now-same : (c : ℕ) → b.pids c ≢ 0 → pids-now c ≡ b.pids c
   now-same c some = now-other script b.kernel b.places b.pids p block number s.row (child_vars place) forks.next
       places-now leaves c some
 
-  pub parent-same : (c : ℕ) → b.pids c ≢ 0 → pids-now (forker script c) ≡ b.pids (forker script c)
+  parent-same : (c : ℕ) → b.pids c ≢ 0 → pids-now (forker script c) ≡ b.pids (forker script c)
   parent-same c some = now-parent script b.kernel b.places b.pids p block number s.row (child_vars place) forks.next
       places-now leaves c some
 
-  pub not-child : (c : ℕ) → b.pids c ≢ number
+  not-child : (c : ℕ) → b.pids c ≢ number
   not-child c = apart-child script b.kernel b.places b.pids p block number s.row (child_vars place) forks.next places-now
       leaves c
 
-  pub child-there : pids-now block ≡ number
+  child-there : pids-now block ≡ number
   child-there = now-there script b.kernel b.places b.pids p block number s.row (child_vars place) forks.next places-now
       leaves
 
@@ -289,7 +291,7 @@ module _ (script : Script) (sound : IsSoundScript script) (w : World) (b : Besid
       ap (λ q. get_named (put_named n.deeds (Proc pid) (parent_body s.row number)) (Proc q)) is
       ∙ get-put-same-name n.deeds (Proc pid) (parent_body s.row number)
 
-  pub node-now : NodeHolds script pids-now (is_born_in w) p after-node
+  node-now : NodeHolds script pids-now (is_born_in w) p after-node
   node-now =
       record {
         number = node-holds.number;
@@ -695,7 +697,7 @@ module _ (script : Script) (sound : IsSoundScript script) (w : World) (b : Besid
           ∙ ap (λ (d : DeedPlace). is_some (held_as d (body_in b.kernel (Proc pid)) q)) s.deed)
 
   -- each name holds
-  pub names-now : (m : Name) → NameHolds script pids-now (is_born_in next) m (name_sight script next [] moved m)
+  names-now : (m : Name) → NameHolds script pids-now (is_born_in next) m (name_sight script next [] moved m)
   names-now m =
       elim (name-cases name m) [
         | inl i ↦

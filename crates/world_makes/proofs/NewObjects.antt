@@ -143,6 +143,7 @@ module _ (script : Script) (w : World) (b : Beside) (holds : Holds script w [] b
       by-test false =
           (record { low = omega arith; high = some-node script w b holds p call kind number numbers o e s }, tt)
 
+  -- which is the event's
   pub given : Gives script w p e (takes_by kind o) after
   given = s.gives after to-nodes rule
 
@@ -161,6 +162,7 @@ module _ (script : Script) (w : World) (b : Beside) (holds : Holds script w [] b
   abbrev calls : ℕ → CallPlace
   calls = calls-now script w b holds p call kind number numbers o e s next after.node after.sends after.entries changes
 
+  -- what stands beside the world then
   abbrev pub moved : Beside
   moved = record { kernel = made.next; places = places-now; pids = b.pids; deed = deed-now; call = calls }
 

@@ -55,12 +55,13 @@ module _ (script : Script) (pids : ℕ → ℕ) (born : ℕ → Bool) (name : Na
       subst (λ (d : DeedPlace). OneIf (is_stream_of (forker script) d to sender)
       (IsBringer pids name x.body d) (x.brought to sender)) deed-nowhere (h.streams to sender)
 
-  -- nor is it held, or in hand
+  -- nor is it held
   pub kept-nowhere : (pid : ℕ) → x.kept pid ≡ []
   kept-nowhere pid =
       subst (λ (d : DeedPlace). OneIf (is_kept_for (forker script) pids d pid)
       (IsItemWith name x.body (pids (node_in d))) (x.kept pid)) deed-nowhere (h.kept pid)
 
+  -- nor in hand
   pub hand-nowhere : x.hand ≡ []
   hand-nowhere =
       subst (λ (d : DeedPlace). OneIf (is_hand_place d) (IsItemWith name x.body (pids (node_in d))) x.hand)

@@ -141,6 +141,7 @@ module _ (script : Script) (w : World) (b : Beside) (holds : Holds script w [] b
   abbrev pub calls-now : ℕ → CallPlace
   calls-now = call_in b.call p Idle
 
+  -- the calls of others are where they were
   pub others-same : IsSameBut p b.call calls-now
   others-same y d = ap (λ t. if t then Idle else b.call y) (ne_eqb p y (λ g. d (sym g)))
 
@@ -209,6 +210,7 @@ module _ (script : Script) (w : World) (b : Beside) (holds : Holds script w [] b
 
   -- ---- a name that no frame is about
 
+  -- it is seen with this body where it is held, and else as when its number is ready
   pub other-seen : (k : Kernel) (places : Places) (pids : ℕ → ℕ) (deed : Name → DeedPlace) (name : Name)
       (place : Option Place) (m : Name) (body : Body) (held : ℕ → Option Body)
       → IsAfter (directory_of w) (directory_by (directory_of w) kind o) (directory_of next) name place → m ≢ name

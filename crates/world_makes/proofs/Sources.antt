@@ -38,6 +38,7 @@ use Rattle.world_own.proofs.Asks.{Takes}
 
 -- ---- where it comes from
 
+-- left in the lease, brought by a frame, or the first of the next range
 pub data Origin : Type 0 where
   InLease : Origin
   Comes : (first : ℕ) → Origin

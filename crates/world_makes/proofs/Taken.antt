@@ -89,6 +89,7 @@ module _ (script : Script) (w : World) (b : Beside) (holds : Holds script w [] b
   number-positive =
       number-is-low (for_kind (directory_by (directory_of w) kind o).ranges kind) number p s.enough number-maker
 
+  -- there is a node
   pub some-node : 1 ≤ node_count script
   some-node = let low = s.low in let high = s.high in omega (arith, low, high)
 

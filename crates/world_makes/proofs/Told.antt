@@ -51,6 +51,7 @@ sent-append p xs ys to sender = by-test (nat_eq sender p)
 abbrev pub told_if : Bool → Bool → ℕ → List ℕ
 told_if t u at = if t then [] else (if u then at ∷ [] else [])
 
+-- and what that is for what needs the place
 abbrev pub news_told : Bool → Bool → List News
 news_told t u = if t then [] else (if u then Tells ∷ [] else [])
 
@@ -269,6 +270,7 @@ module _ (script : Script) (w : World) (b : Beside) (holds : Holds script w [] b
         by-test true = refl
         by-test false = refl
 
+    -- and no item waits
     pub items-now : items_of (place_of (directory_of next) name) ≡ []
     items-now = ap items_of a.itself ∙ by-test (nat_eq p 1)
       where

@@ -84,6 +84,7 @@ module _ (script : Script) (w : World) (b : Beside) (holds : Holds script w [] b
   pub is-unborn : node_of w c ≡ unborn_node c
   is-unborn = by-stage (stage_of w c) node-there.holds node-there.birth
 
+  -- that is its stage
   pub unborn-stage : stage_of w c ≡ Unborn
   unborn-stage = ap (λ (n : Node). n.stage) is-unborn
 
@@ -203,12 +204,15 @@ module _ (script : Script) (sound : IsSoundScript script) (w : World) (b : Besid
   pub fork-due : due place ≡ Some (calls.Fork block)
   fork-due = elim s.is_due [ inl is ↦ is | inr killed ↦ absurd (false≢true killed.0) ]
 
+  -- it is the first that is left
   pub fork-line : ForkPasses place block number
   fork-line = fork-passes place block number fork-due
 
+  -- and names the block
   pub names-line : names_in_line block fork-line.line ≡ true
   names-line = ap (names_block block) fork-line.call_is ∙ eq-eqb block block refl
 
+  -- so one of those left does
   pub names-left : list_any (names_in_line block) place.left ≡ true
   names-left =
       ap (list_any (names_in_line block)) fork-line.left
