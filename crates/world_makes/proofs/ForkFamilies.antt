@@ -1,5 +1,5 @@
--- After a fork each process's family holds: the new process is its parent's child, on its way to its node, and the others
--- are whose children they were.
+-- After a fork each process's family holds: the new process is its parent's child, on its way to its node, and the
+-- others are whose children they were.
 use Rattle.std.proofs.Common.{◌≡◌, ◌≢◌, ◌⊎◌, ℕ, Bool, true, false, List, [], ◌∷◌, Some, None, is_some, refl, ap, sym, subst, ◌∙◌, inl, inr}
 use Rattle.std.proofs.lemmas.Bool.{cases_eq}
 use Rattle.pico_base.specs.declared.numbers.Name.TheVariants.{Proc}

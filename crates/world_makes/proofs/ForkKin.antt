@@ -1,5 +1,5 @@
--- What a fork leaves: one more node's process has a number, and a place in the history where its block begins; and it is
--- a child of the one that forked it.
+-- What a fork leaves: one more node's process has a number, and a place in the history where its block begins; and
+-- it is a child of the one that forked it.
 use Rattle.std.proofs.Common.{◌≡◌, ◌≢◌, ◌⊎◌, ℕ, ◌<◌, ◌≤◌, Bool, true, false, if◌then◌else◌, List, [], ◌∷◌, nat_eq, get_or, ◌-◌, Option, Some, None, is_some, option_and_then, refl, ap, sym, subst, ◌∙◌, inl, inr, arith}
 use Rattle.std.specs.List.{list_any}
 use Rattle.std.proofs.lemmas.Bool.{cases_eq, eq-eqb, ne_eqb, false≢true}

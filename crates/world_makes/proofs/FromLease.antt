@@ -76,7 +76,8 @@ module _ (script : Script) (sound : IsSoundScript script) (w : World) (b : Besid
   -- a call that starts so is the node's step
   pub given-by : (numbers : List ℕ) (number : ℕ) (o : Origin) → takes_by kind o ≡ [] → (after : Step)
       → AreToNodes (node_count script) after.sends
-      → start_making script first call kind ≡ make_with script (step_to (ready_node n started kind numbers o)) call number
+      → start_making script first call kind
+      ≡ make_with script (step_to (ready_node n started kind numbers o)) call number
       → make_with script (step_to (ready_node n started kind numbers o)) call number ≡ Some after
       → Gives script w p (events.Run p) (takes_by kind o) after
   given-by numbers number o none after to_nodes starts makes =

@@ -1,4 +1,5 @@
--- The leader starts its own call where its lease is used up: it gives itself the next range, and takes the first number.
+-- The leader starts its own call where its lease is used up: it gives itself the next range, and takes the first
+-- number.
 use Rattle.std.proofs.Common.{◌≡◌, ◌≢◌, ◌⊎◌, ℕ, suc, ◌+◌, ◌<◌, ◌≤◌, Bool, true, false, ◌&&◌, ◌||◌, not, if◌then◌else◌, List, [], ◌∷◌, ◌++◌, length, filter, flat_map, nat_eq, nat_lt, sum_by, Some, None, is_none, option_and_then, refl, ap, sym, subst, ◌∙◌, inl, inr, arith, length-append}
 use Rattle.std.specs.List.{list_any, range_with_len}
 use Rattle.std.proofs.lemmas.Bool.{cases_eq, eq-eqb, ltb-true, ne_eqb, or_left, or_right, false≢true}
@@ -42,7 +43,8 @@ use Rattle.world_makes.proofs.Sources.{Gives, InLease, Next, Origin, Source, kin
 use Rattle.world_makes.proofs.FromLease.{frames-of-none, given-by, on-way-still}
 
 -- the lease that was put last is the node's
-pub with-with : (m : Leases) (kind : Kind) (ns ms : List ℕ) → with_kind (with_kind m kind ns) kind ms ≡ with_kind m kind ms
+pub with-with : (m : Leases) (kind : Kind) (ns ms : List ℕ)
+    → with_kind (with_kind m kind ns) kind ms ≡ with_kind m kind ms
 with-with m kinds.Proc ns ms = refl
 with-with m kinds.Msg ns ms = refl
 with-with m kinds.Sem ns ms = refl
@@ -134,8 +136,9 @@ module _ (script : Script) (sound : IsSoundScript script) (w : World) (b : Besid
       then take_first (with_next_range first.node kind) kind (lease_of up) else None)) more
       ∙ ap (λ t. option_and_then (make_taken script first s.call)
       (if not t then take_first (with_next_range first.node kind) kind (lease_of up) else None)) none-known
-      ∙ ap (λ leases. make_with script (step_to (record (ready_node n started kind later Next) { leases = leases })) s.call
-      up) (with-with n.leases kind (lease_of up) later)
+      ∙ ap (λ leases. make_with script
+      (step_to (record (ready_node n started kind later Next) { leases = leases })) s.call up)
+      (with-with n.leases kind (lease_of up) later)
 
   ranges-now : for_kind (with_range d kind 1).ranges kind ≡ were ++ 1 ∷ []
   ranges-now = for-with d.ranges kind (were ++ 1 ∷ [])
@@ -176,7 +179,10 @@ module _ (script : Script) (sound : IsSoundScript script) (w : World) (b : Besid
             in let same = on-way-still script sound w b holds 1 low high can s kind takes
             in let count = counted
             in omega (arith, old, same, count);
-        enough = let count = counted in let fewer = ltb-true (length were) max_ranges more in omega (arith, count, fewer);
+        enough =
+            let count = counted
+            in let fewer = ltb-true (length were) max_ranges more
+            in omega (arith, count, fewer);
         gives = λ after to_nodes makes. given-by script sound w b holds 1 low high can s kind takes later up Next refl
             after to_nodes starts-so makes;
       }

@@ -1,5 +1,5 @@
--- A name that nothing has, at a node that doesn't leave: it isn't there, and nothing on its way from the leader is about
--- it.
+-- A name that nothing has, at a node that doesn't leave: it isn't there, and nothing on its way from the leader is
+-- about it.
 use Rattle.std.proofs.Common.{◌≡◌, ℕ, ◌≤◌, Bool, true, false, ◌&&◌, ◌||◌, not, cond, List, [], ◌∷◌, filter, nat_eq, is_some, refl, ap, sym, subst, ◌∙◌, inl, inr}
 use Rattle.pico_base.specs.declared.numbers.Name.{Name}
 use Rattle.pico_base.specs.declared.script.Script.{Script}

@@ -1,5 +1,5 @@
--- A node starts, or goes on with, a call that takes a number, and what holds in every world that a run leads to still
--- holds. So each call of a process on itself keeps it, at every node.
+-- A node starts, or goes on with, a call that takes a number, and what holds in every world that a run leads to
+-- still holds. So each call of a process on itself keeps it, at every node.
 use Rattle.std.proofs.Common.{◌≡◌, ◌≢◌, ◌⊎◌, ℕ, ◌≤◌, Bool, true, false, List, [], ◌∷◌, length, Some, None, Ok, Err, refl, ap, sym, subst, ◌∙◌, inl, inr, arith}
 use Rattle.std.proofs.lemmas.Bool.{cases_eq, false≢true, ltb-true}
 use Rattle.pico_base.specs.declared.call.Call.{Call}
@@ -133,7 +133,7 @@ module _ (script : Script) (sound : IsSoundScript script) (w : World) (b : Besid
           made-with script sound w b holds 1 kind _ _ _ (events.Run 1) t.call m
           (from-next script sound w b holds high_z can_z t kind (making-takes kind t.call m) over (more kind)))
 
-  -- A call that takes a number starts with one of the lease; else the leader gives itself more, and any other node asks.
+  -- A call that takes a number starts with one of the lease; else the leader gives itself more, and another node asks.
   pub making-keeps : (kind : Kind) → Making kind s.call → Keeps script w (events.Run p)
   making-keeps kind m = by-lease (for_kind (node_of w p).leases kind) refl
     where

@@ -1,5 +1,5 @@
--- A node's process forks, whatever the number's source: its row lists the child, whose deed goes to the block's node in a
--- Checkpoint, and the child's place is told, or placed.
+-- A node's process forks, whatever the number's source: its row lists the child, whose deed goes to the block's node
+-- in a Checkpoint, and the child's place is told, or placed.
 use Rattle.std.proofs.Common.{◌≡◌, ◌≢◌, ◌⊎◌, ℕ, ◌+◌, ◌<◌, ◌≤◌, Bool, true, false, ◌&&◌, ◌||◌, cond, not, if◌then◌else◌, List, [], ◌∷◌, ◌++◌, filter, flat_map, nat_eq, Contains, Option, Some, None, is_none, is_some, option_map, refl, ap, sym, subst, ◌∙◌, inl, inr, arith, append-nil}
 use Rattle.std.specs.List.{AllByRecursion}
 use Rattle.std.proofs.lemmas.Bool.{cases_eq, eq-eqb, eqb-true, ne_eqb, false≢true}
@@ -276,8 +276,8 @@ module _ (script : Script) (sound : IsSoundScript script) (w : World) (b : Besid
       places-now leaves c some
 
   not-child : (c : ℕ) → b.pids c ≢ number
-  not-child c = apart-child script b.kernel b.places b.pids p block number s.row (child_vars place) forks.next places-now
-      leaves c
+  not-child c =
+      apart-child script b.kernel b.places b.pids p block number s.row (child_vars place) forks.next places-now leaves c
 
   child-there : pids-now block ≡ number
   child-there = now-there script b.kernel b.places b.pids p block number s.row (child_vars place) forks.next places-now
@@ -286,7 +286,8 @@ module _ (script : Script) (sound : IsSoundScript script) (w : World) (b : Besid
   -- ---- the node
 
   row-there : (pid : ℕ) → n.pid ≡ pid
-      → get_named (put_named n.deeds (Proc pid) (parent_body s.row number)) (Proc n.pid) ≡ Some (parent_body s.row number)
+      → get_named (put_named n.deeds (Proc pid) (parent_body s.row number)) (Proc n.pid)
+      ≡ Some (parent_body s.row number)
   row-there pid is =
       ap (λ q. get_named (put_named n.deeds (Proc pid) (parent_body s.row number)) (Proc q)) is
       ∙ get-put-same-name n.deeds (Proc pid) (parent_body s.row number)
@@ -389,7 +390,8 @@ module _ (script : Script) (sound : IsSoundScript script) (w : World) (b : Besid
 
   held-now : (q : ℕ) → held_at next name q ≡ None
   held-now q =
-      read-same script p w next after-node (takes_by kind o) sends entries changes (λ (z : Node). get_named z.deeds name)
+      read-same script p w next after-node (takes_by kind o) sends entries changes
+      (λ (z : Node). get_named z.deeds name)
       (get-put-other-name n.deeds (Proc pid) (parent_body s.row number) name not-parent) q
       ∙ held-nowhere script b.pids (is_born_in w) name x known unused q
 
@@ -701,7 +703,8 @@ module _ (script : Script) (sound : IsSoundScript script) (w : World) (b : Besid
   names-now m =
       elim (name-cases name m) [
         | inl i ↦
-            subst (λ z. NameHolds script pids-now (is_born_in next) z (name_sight script next [] moved z)) i new-name-now
+            subst (λ z. NameHolds script pids-now (is_born_in next) z (name_sight script next [] moved z)) i
+            new-name-now
         | inr d ↦
             elim (name-cases (Proc pid) m) [
               | inl i ↦
@@ -918,8 +921,8 @@ module _ (script : Script) (sound : IsSoundScript script) (w : World) (b : Besid
         is_step = given.is_step;
         holds = record {
           shape = changes.shape;
-          history = history-after script w b holds p call kind number numbers o e s next after-node sends reply forks.next
-              changes forks.enters.makes;
+          history = history-after script w b holds p call kind number numbers o e s next after-node sends reply
+              forks.next changes forks.enters.makes;
           leading = is-after.leads;
           pids = pids-forked script b.kernel b.places b.pids p block number s.row (child_vars place) forks.next
               places-now leaves holds.pids;

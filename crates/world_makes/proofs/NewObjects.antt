@@ -1,4 +1,5 @@
--- A node makes a queue or set without a key, whatever the number's source: it holds it, and places it or tells its place.
+-- A node makes a queue or set without a key, whatever the number's source: it holds it, and places it or tells its
+-- place.
 use Rattle.std.proofs.Common.{◌≡◌, ◌≢◌, ◌⊎◌, ℕ, ◌+◌, ◌≤◌, Bool, true, false, ◌&&◌, ◌||◌, not, if◌then◌else◌, List, [], ◌∷◌, ◌++◌, filter, flat_map, nat_eq, Contains, Option, Some, None, is_none, is_some, refl, ap, sym, subst, ◌∙◌, inl, inr, arith, append-nil}
 use Rattle.std.specs.List.{AllByRecursion}
 use Rattle.std.proofs.lemmas.Bool.{cases_eq, eq-eqb, ne_eqb, false≢true}
@@ -220,8 +221,8 @@ module _ (script : Script) (w : World) (b : Beside) (holds : Holds script w [] b
         owners = node-holds.owners;
       }
 
-  move : IsEntryMove script w next [] [] b made.next places-now deed-now calls p after.node (takes_by kind o) after.sends
-      p
+  move : IsEntryMove script w next [] [] b made.next places-now deed-now calls p after.node (takes_by kind o)
+      after.sends p
   move =
       record {
         entry = processes-stay-leaves k pid call reply made.next s.may enters.makes made.caller
@@ -266,8 +267,8 @@ module _ (script : Script) (w : World) (b : Beside) (holds : Holds script w [] b
   call-now : CallHolds script p (is_born_in next) (call_sight next [] moved p)
   call-now =
       call-after script w b holds p call kind number numbers o e s next after.node after.sends reply made.next changes
-      (is_born_in next) places-now b.pids deed-now made.caller.alive name (place_if (nat_eq p 1) p) is-after refl s.stage
-      (place-moves script b.places p pid call reply place g.no_fork
+      (is_born_in next) places-now b.pids deed-now made.caller.alive name (place_if (nat_eq p 1) p) is-after refl
+      s.stage (place-moves script b.places p pid call reply place g.no_fork
       ∙ ap Some (moved-is place call (Some reply) g.not_killed)) made.caller.lives (of-tells _ (λ other. refl))
 
   -- ---- other names
@@ -290,7 +291,9 @@ module _ (script : Script) (w : World) (b : Beside) (holds : Holds script w [] b
   -- ---- its name
 
   abbrev x : NameSight
-  x = ready-name script w b holds p call kind number numbers o e s next after.node after.sends after.entries changes name
+  x =
+      ready-name script w b holds p call kind number numbers o e s next after.node after.sends after.entries changes
+      name
 
   known : NameHolds script b.pids (is_born_in w) name x
   known =
@@ -386,13 +389,14 @@ module _ (script : Script) (w : World) (b : Beside) (holds : Holds script w [] b
         there = there-now;
         begins = begins-elsewhere;
         steps = λ q d. steps-same q;
-        told = told-now script w b holds p call kind number numbers o e s next after.node [] after.entries name p changes
-            is-after unused is-maker made.next places-now b.pids deed-now used none-placed (says-itself name g.object)
+        told = told-now script w b holds p call kind number numbers o e s next after.node [] after.entries name p
+            changes is-after unused is-maker made.next places-now b.pids deed-now used none-placed
+            (says-itself name g.object)
             (λ other. other);
         found = found-now script w b holds p call kind number numbers o e s next after.node [] after.entries name p
             changes is-after unused is-maker made.next places-now b.pids deed-now used none-placed (λ flag. tt);
-        unplaced = unplaced-now script w b holds p call kind number numbers o e s next after.node [] after.entries name p
-            changes is-after unused is-maker made.next places-now b.pids deed-now used none-placed;
+        unplaced = unplaced-now script w b holds p call kind number numbers o e s next after.node [] after.entries name
+            p changes is-after unused is-maker made.next places-now b.pids deed-now used none-placed;
         ranged = ranged-now script w b holds p call kind number numbers o e s next after.node [] after.entries name p
             changes is-after unused is-maker made.next places-now b.pids deed-now used none-placed
             (of-tells _ (λ other. refl));

@@ -1,4 +1,5 @@
--- What holds of a name: once it is new; while its number is made ready; and where one more node's process has a number.
+-- What holds of a name: once it is new; while its number is made ready; and where one more node's process has a
+-- number.
 use Rattle.std.proofs.Common.{◌≡◌, ◌≢◌, ◌⊎◌, ℕ, ◌≤◌, Bool, true, false, List, [], ◌∷◌, nat_eq, ◌&&◌, Contains, Option, Some, None, is_some, refl, ap, sym, subst, ◌∙◌, inl, inr}
 use Rattle.std.specs.List.{AllByRecursion}
 use Rattle.std.proofs.lemmas.Bool.{cases_eq, eq-eqb, ne_eqb, false≢true}

@@ -1,5 +1,5 @@
--- A call takes its number, and the frame that brought that is gone: what is left on its way, and what holds of each name
--- then. Nothing is on its way for the call any more.
+-- A call takes its number, and the frame that brought that is gone: what is left on its way, and what holds of each
+-- name then. Nothing is on its way for the call any more.
 use Rattle.std.proofs.Common.{◌≡◌, ◌≢◌, ◌⊎◌, ℕ, ◌≤◌, Bool, true, false, ◌&&◌, not, if◌then◌else◌, List, [], ◌∷◌, ◌++◌, filter, flat_map, nat_eq, Contains, Option, Some, None, is_none, is_some, refl, ap, sym, subst, ◌∙◌, inl, inr}
 use Rattle.std.specs.List.{AllByRecursion, list_any}
 use Rattle.std.proofs.lemmas.Bool.{ne_eqb}
@@ -174,7 +174,10 @@ module _ (script : Script) (w : World) (b : Beside) (holds : Holds script w [] b
   -- the name where its number is made ready
   abbrev pub ready-name : Name → NameSight
   ready-name m =
-      record (name_sight script w [] b m) { maker = maker (directory_by (directory_of w) kind o) m; ranges = ranges-left m }
+      record (name_sight script w [] b m) {
+        maker = maker (directory_by (directory_of w) kind o) m;
+        ranges = ranges-left m;
+      }
 
   ranges-were : (m : Name) (h : ℕ) → flat_map (range_steps_of b.call m) (frames_to w h 1)
       ≡ flat_map (range_steps_of b.call m) (taken p (takes_by kind o) h 1) ++ ranges-left m h

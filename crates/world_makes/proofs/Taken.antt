@@ -1,5 +1,5 @@
--- A number that a call takes, whatever its source: nothing has it, it is the node's, and nobody knows a name with it. And
--- what the call's entry leaves of the history, of the keys, and of the call itself.
+-- A number that a call takes, whatever its source: nothing has it, it is the node's, and nobody knows a name with
+-- it. And what the call's entry leaves of the history, of the keys, and of the call itself.
 use Rattle.std.proofs.Common.{◌≡◌, ◌≢◌, ℕ, ◌≤◌, Bool, true, false, if◌then◌else◌, List, [], ◌∷◌, ◌++◌, filter, flat_map, nat_eq, Option, Some, None, refl, ap, sym, subst, ◌∙◌, arith}
 use Rattle.std.specs.List.{AllByRecursion}
 use Rattle.std.proofs.lemmas.Bool.{eq-eqb, ne_eqb}

@@ -1,5 +1,5 @@
--- The place of a new name is told by the node that made it, or placed at once where that is the leader: what is believed
--- of it, and what is on its way about it.
+-- The place of a new name is told by the node that made it, or placed at once where that is the leader: what is
+-- believed of it, and what is on its way about it.
 use Rattle.std.proofs.Common.{◌≡◌, ◌≢◌, ◌⊎◌, ℕ, ◌≤◌, Bool, true, false, ◌&&◌, if◌then◌else◌, List, [], ◌∷◌, ◌++◌, filter, flat_map, nat_eq, Contains, Option, Some, None, is_none, is_some, refl, ap, sym, subst, ◌∙◌, inl, inr, append-nil}
 use Rattle.std.specs.List.{AllByRecursion}
 use Rattle.std.proofs.lemmas.Bool.{cases_eq, eq-eqb, eqb-true, ne_eqb, false≢true}
@@ -224,7 +224,8 @@ module _ (script : Script) (w : World) (b : Beside) (holds : Holds script w [] b
     found-now none q low =
         ap (λ place. finds_place (is_some place)
         (news name (is_used_name k name && is_maker (maker (directory_of next) name) q) (frames_to next 1 q))) a.itself
-        ∙ ap (λ flag. finds_place (is_some (place_if (nat_eq p 1) at)) (news name flag (frames_to next 1 q))) (flag-now q)
+        ∙ ap (λ flag. finds_place (is_some (place_if (nat_eq p 1) at)) (news name flag (frames_to next 1 q)))
+        (flag-now q)
         ∙ ap (finds_place (is_some (place_if (nat_eq p 1) at))) (news-now none (nat_eq p q) q)
         ∙ by-test (nat_eq p 1) refl (cases_eq q p)
       where

@@ -1,4 +1,5 @@
--- A fork that is due: its block is forked by this node alone, and not yet, so nothing is on its way to that block's node.
+-- A fork that is due: its block is forked by this node alone, and not yet, so nothing is on its way to that block's
+-- node.
 use Rattle.std.proofs.Common.{Contains, ◌≡◌, ◌≢◌, ◌⊎◌, ℕ, ◌<◌, ◌≤◌, Bool, true, false, ◌&&◌, ◌||◌, cond, List, [], ◌∷◌, filter, nat_eq, Option, Some, None, is_some, refl, ap, sym, subst, ◌∙◌, inl, inr, arith}
 use Rattle.std.specs.List.{list_any}
 use Rattle.std.proofs.lemmas.Bool.{eq-eqb, eqb-true, or_left, false≢true}
@@ -122,8 +123,9 @@ module _ (script : Script) (w : World) (b : Beside) (holds : Holds script w [] b
       in let it = some-process (get b.kernel.processes pid)
       (process-there b.kernel pid valid ∙ used (is_used_name b.kernel (Proc pid)) refl name.made.1)
       in let owner = holds.pids.there pid it.0 it.1
-      in let family : FamilyHolds script b.pids b.places b.kernel (process_deed b.deed) (checkpoints_to script w owner.0)
-      (stage_of w owner.0) owner.0 = holds.families owner.0 (λ none. owner.2 (sym owner.1 ∙ none))
+      in let family : FamilyHolds script b.pids b.places b.kernel (process_deed b.deed)
+      (checkpoints_to script w owner.0) (stage_of w owner.0) owner.0 =
+      holds.families owner.0 (λ none. owner.2 (sym owner.1 ∙ none))
       in let same : c ≡ owner.0 =
       own-node owner.0 family.process
       (subst (λ d. IsWhereFor owner.0 d family.process) (ap (λ q. b.deed (Proc q)) owner.1 ∙ is) family.where_it_is)
@@ -165,7 +167,8 @@ module _ (script : Script) (w : World) (b : Beside) (holds : Holds script w [] b
       in let it : Frame = frames.Checkpoint pid parent deed vars
       in let in_it : Contains (filter (brings m) (frames_to w c sender)) it =
       contains-filter (brings m) (frames_to w c sender) it there (same-name m m refl)
-      in let one : OnlyOne (IsBringer b.pids m (body_in b.kernel m) (b.deed m)) (filter (brings m) (frames_to w c sender)) =
+      in let one : OnlyOne (IsBringer b.pids m (body_in b.kernel m) (b.deed m))
+      (filter (brings m) (frames_to w c sender)) =
       one-of (is_stream_of (forker script) (b.deed m) c sender) (IsBringer b.pids m (body_in b.kernel m) (b.deed m))
       (filter (brings m) (frames_to w c sender)) it in_it (name.streams c sender)
       in let same : one.one ≡ it = just-one one.one it (subst (λ fs. Contains fs it) one.only in_it)

@@ -108,7 +108,8 @@ module _ (script : Script) (w : World) (b : Beside) (holds : Holds script w [] b
       (subst (λ c. stage_of w c ≡ Left) own (handed-has-left script w b holds (Proc pid) g is))
       (ap (λ (m : Node). m.stage) unborn)
 
-  family : FamilyHolds script b.pids b.places b.kernel (process_deed b.deed) (checkpoints_to script w q) (stage_of w q) q
+  family : FamilyHolds script b.pids b.places b.kernel (process_deed b.deed) (checkpoints_to script w q) (stage_of w q)
+      q
   family = holds.families q forked
 
   -- its process lives, and its node isn't born: its Checkpoint is on its way
