@@ -1,13 +1,12 @@
 -- The leader's directory after a new name: the leader places it itself, or the maker tells it. And the node that the
 -- name is told by, or placed at.
 use Rattle.std.proofs.Common.{◌≡◌, ◌≢◌, ℕ, Bool, true, false, not, if◌then◌else◌, List, [], ◌∷◌, ◌++◌, filter, nat_eq, is_none, Contains, Option, Some, None, refl, ap, sym, subst, ◌∙◌, inl, inr, append-nil}
-use Rattle.std.proofs.lemmas.Bool.{cases_eq, ne_eqb, false≢true}
+use Rattle.std.proofs.lemmas.Bool.{cases_eq, ne_eqb}
 use Rattle.pico_base.specs.declared.numbers.Kind.{Kind}
 use Rattle.pico_base.specs.declared.numbers.Name.{Name}
 use Rattle.pico_base.specs.declared.numbers.Name.TheVariants.{Proc}
 use Rattle.pico_base.specs.declared.reply.Entry.{Entry}
 use Rattle.pico_base.specs.declared.script.Script.{Script}
-use Rattle.rpc_frame.specs.declared.deed.Parcel.{Parcel}
 use Rattle.rpc_frame.specs.declared.frame.Frame.{Frame}
 use Rattle.rpc_frame.specs.declared.frame.Frame.TheVariants as frames
 use Rattle.number_maps.specs.Maps.{get}
@@ -22,7 +21,6 @@ use Rattle.world_laws.specs.Callers.{is_item_about}
 use Rattle.world_laws.specs.Invariant.{IsLeading}
 use Rattle.world_laws.specs.Sights.{directory_of, node_of}
 use Rattle.world_laws.proofs.Changes.{Changes, directory-same}
-use Rattle.world_laws.proofs.Named.{name-cases}
 use Rattle.world_rules.proofs.CallMoves.{SameButCall}
 use Rattle.world_rules.proofs.Places.{place-with-other, place-with-same, with-place-keeps}
 use Rattle.world_makes.proofs.Sources.{Comes, InLease, Next, Origin, directory_by, takes_by}

@@ -1,8 +1,7 @@
 -- After a fork each process's family holds: the new process is its parent's child, on its way to its node, and the
 -- others are whose children they were.
-use Rattle.std.proofs.Common.{◌≡◌, ◌≢◌, ◌⊎◌, ℕ, Bool, true, false, List, [], ◌∷◌, Some, None, is_some, refl, ap, sym, subst, ◌∙◌, inl, inr}
+use Rattle.std.proofs.Common.{◌≡◌, ◌≢◌, ◌⊎◌, ℕ, List, [], ◌∷◌, Some, is_some, refl, ap, sym, subst, ◌∙◌, inl, inr}
 use Rattle.std.proofs.lemmas.Bool.{cases_eq}
-use Rattle.pico_base.specs.declared.numbers.Name.TheVariants.{Proc}
 use Rattle.pico_base.specs.declared.script.Script.{Script}
 use Rattle.rpc_frame.specs.declared.deed.PackedDeed.{PackedDeed}
 use Rattle.rpc_frame.specs.declared.frame.Frame.{Frame}
@@ -17,7 +16,7 @@ use Rattle.kernel_laws.proofs.People.{from-living}
 use Rattle.kernel_moves.specs.Entering.{IsChildIn, IsKin, Same, TurnsTo}
 use Rattle.kernel_moves.proofs.Kin.{kin-fork, kin-new}
 use Rattle.kernel_moves.proofs.Listed.{ListsOne, listed-fork, listed-new, listed-same}
-use Rattle.node_model.specs.Bodies.{body_in, process_body}
+use Rattle.node_model.specs.Bodies.{process_body}
 use Rattle.world_model.specs.Node.{Stage, Unborn}
 use Rattle.world_laws.specs.Places.{DeedPlace, InCheckpoint, InExitTo, InGiveBack, InGrant, InHand, InKept, InLeft, InTable, Unmade}
 use Rattle.world_laws.specs.Names.{forker}

@@ -8,8 +8,6 @@ use Rattle.pico_base.specs.declared.numbers.Name.TheVariants.{Proc}
 use Rattle.pico_base.specs.declared.script.Block.{Block}
 use Rattle.pico_base.specs.declared.script.Line.{Line}
 use Rattle.pico_base.specs.declared.script.Script.{Script}
-use Rattle.rpc_frame.specs.declared.frame.Frame.{Frame}
-use Rattle.rpc_frame.specs.declared.frame.Frame.TheVariants as frames
 use Rattle.number_maps.specs.Maps.{get}
 use Rattle.kernel_model.specs.Fitting.{Place, Places, block_at, block_place}
 use Rattle.kernel_model.specs.Kernel.{Kernel, Process, living_at}
@@ -18,22 +16,17 @@ use Rattle.kernel_model.specs.Row.{Alive, Row}
 use Rattle.kernel_model.specs.Script.{Vars, implied_exit, is_exit, with_exit}
 use Rattle.kernel_model.specs.Valid.{IsValid}
 use Rattle.kernel_laws.proofs.People.{from-living}
-use Rattle.kernel_moves.specs.Entering.{IsChildIn, IsKin, LeavesOthers, Same, TurnsTo, is_used_name}
-use Rattle.kernel_moves.proofs.Kin.{LeavesFork, kin-fork, kin-new}
-use Rattle.kernel_moves.proofs.Listed.{ListsOne, listed-fork, listed-new, listed-same}
+use Rattle.kernel_moves.specs.Entering.{LeavesOthers, is_used_name}
+use Rattle.kernel_moves.proofs.Kin.{LeavesFork}
 use Rattle.kernel_moves.proofs.Numbers.{process-there}
 use Rattle.kernel_moves.proofs.Others.{Lived, others-lived, others-stay-dead, others-still-may}
-use Rattle.node_model.specs.Bodies.{body_in, process_body}
 use Rattle.node_model.specs.Caller.{lines_in, lines_of}
 use Rattle.world_model.specs.Lives.{is_new_row}
-use Rattle.world_model.specs.Node.{Stage, Unborn}
 use Rattle.world_model.specs.World.{node_count}
-use Rattle.world_laws.specs.Places.{DeedPlace, InCheckpoint, InTable}
 use Rattle.world_laws.specs.Names.{forker}
-use Rattle.world_laws.specs.Families.{CheckpointIn, FamilyHolds, IsAwaited, IsCheckpointFor, IsItsOwn, IsNewAt, IsWhereFor, IsWithParent, PidsHold}
+use Rattle.world_laws.specs.Families.{PidsHold}
 use Rattle.world_own.proofs.Entries.{MayStill, StillLives}
-use Rattle.world_own.proofs.Others.{GoesOn, Leads, both-live, checkpoint-still, fresh-still, leads-by, turned-on, where-still, with-parent-still}
-use Rattle.world_makes.proofs.Forkers.{IsForkedFrom, first-not-forked, names_in_line}
+use Rattle.world_makes.proofs.Forkers.{IsForkedFrom, names_in_line}
 use Rattle.world_makes.proofs.WithinLines.{block-lines}
 
 -- the block's process has this number now

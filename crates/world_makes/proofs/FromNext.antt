@@ -1,15 +1,12 @@
 -- The leader starts its own call where its lease is used up: it gives itself the next range, and takes the first
 -- number.
-use Rattle.std.proofs.Common.{◌≡◌, ◌≢◌, ◌⊎◌, ℕ, suc, ◌+◌, ◌<◌, ◌≤◌, Bool, true, false, ◌&&◌, ◌||◌, not, if◌then◌else◌, List, [], ◌∷◌, ◌++◌, length, filter, flat_map, nat_eq, nat_lt, sum_by, Some, None, is_none, option_and_then, refl, ap, sym, subst, ◌∙◌, inl, inr, arith, length-append}
+use Rattle.std.proofs.Common.{◌≡◌, ℕ, ◌+◌, ◌≤◌, Bool, true, false, ◌&&◌, ◌||◌, not, if◌then◌else◌, List, [], ◌∷◌, ◌++◌, length, filter, nat_eq, Some, None, is_none, option_and_then, refl, ap, sym, subst, ◌∙◌, arith, length-append}
 use Rattle.std.specs.List.{list_any, range_with_len}
-use Rattle.std.proofs.lemmas.Bool.{cases_eq, eq-eqb, ltb-true, ne_eqb, or_left, or_right, false≢true}
-use Rattle.pico_base.specs.declared.call.Call.{Call}
+use Rattle.std.proofs.lemmas.Bool.{eq-eqb, ltb-true, or_left, or_right}
 use Rattle.pico_base.specs.declared.numbers.Kind.{Kind}
 use Rattle.pico_base.specs.declared.numbers.Kind.TheVariants as kinds
-use Rattle.pico_base.specs.declared.numbers.Name.{Name}
 use Rattle.pico_base.specs.declared.script.Event.TheVariants as events
 use Rattle.pico_base.specs.declared.script.Script.{Script}
-use Rattle.rpc_frame.specs.declared.frame.Frame.{Frame}
 use Rattle.rpc_frame.specs.declared.frame.Frame.TheVariants as frames
 use Rattle.kernel_model.specs.Script.{IsSoundScript}
 use Rattle.kernel_moves.specs.Entering.{is_used_name}
@@ -18,11 +15,11 @@ use Rattle.node_model.specs.Directory.{Directory, has_more, is_known, max_ranges
 use Rattle.node_model.specs.Kinds.{for_kind, kind_of, name_of, number_of, with_kind}
 use Rattle.node_model.specs.Leases.{Leases, is_used_up, lease_of}
 use Rattle.world_model.specs.Node.{Node, can_run, is_leader}
-use Rattle.world_model.specs.Numbers.{Taken, knows_any, make, make_taken, make_with, take_first, take_from, with_next_range}
-use Rattle.world_model.specs.Starting.{run, start_by, start_making}
-use Rattle.world_model.specs.Step.{Step, send, step_to, with_node}
-use Rattle.world_model.specs.World.{World, node_count, numbers as numbers_from, world_after}
-use Rattle.world_laws.specs.Places.{Beside, Idle, call_in}
+use Rattle.world_model.specs.Numbers.{knows_any, make_taken, make_with, take_first, take_from, with_next_range}
+use Rattle.world_model.specs.Starting.{start_making}
+use Rattle.world_model.specs.Step.{Step, send, step_to}
+use Rattle.world_model.specs.World.{World, node_count}
+use Rattle.world_laws.specs.Places.{Beside}
 use Rattle.world_laws.specs.Sights.{directory_of, frames_to, is_born_in, is_born_stage, node_of}
 use Rattle.world_laws.specs.Names.{name_sight}
 use Rattle.world_laws.specs.Families.{NodeHolds}
@@ -30,16 +27,13 @@ use Rattle.world_laws.specs.Invariant.{Holds}
 use Rattle.number_maps.specs.Maps.{is_used}
 use Rattle.kernel_model.specs.Footprint.{used_of}
 use Rattle.world_laws.specs.Callers.{is_about}
-use Rattle.world_laws.specs.Ranges.{KindHolds, has_lease, is_given, kind_sight, lease_in, leases_on_way, one_for}
-use Rattle.world_laws.proofs.Changes.{Changes, frames_if}
-use Rattle.world_laws.proofs.NewRanges.{no-lease-about, unmade-next, upcoming_in}
-use Rattle.world_laws.proofs.Sends.{AreToNodes}
-use Rattle.world_laws.proofs.Steps.{changes-by-run, run-steps}
+use Rattle.world_laws.specs.Ranges.{KindHolds, has_lease, is_given, kind_sight}
+use Rattle.world_laws.proofs.NewRanges.{no-lease-about, unmade-next}
 use Rattle.world_own.proofs.Asks.{Takes}
 use Rattle.world_own.proofs.Objects.{for-with}
-use Rattle.world_own.proofs.Runs.{Starts, run-is}
+use Rattle.world_own.proofs.Runs.{Starts}
 use Rattle.world_makes.proofs.NewOnes.{nothing-known}
-use Rattle.world_makes.proofs.Sources.{Gives, InLease, Next, Origin, Source, kind-at-hand, kind-next, ready_kind, ready_node, takes_by}
+use Rattle.world_makes.proofs.Sources.{Next, Source, kind-next, ready_kind, ready_node}
 use Rattle.world_makes.proofs.FromLease.{frames-of-none, given-by, on-way-still}
 
 -- the lease that was put last is the node's

@@ -1,9 +1,8 @@
 -- A node's process forks, whatever the number's source: its row lists the child, whose deed goes to the block's node
 -- in a Checkpoint, and the child's place is told, or placed.
-use Rattle.std.proofs.Common.{◌≡◌, ◌≢◌, ◌⊎◌, ℕ, ◌+◌, ◌<◌, ◌≤◌, Bool, true, false, ◌&&◌, ◌||◌, cond, not, if◌then◌else◌, List, [], ◌∷◌, ◌++◌, filter, flat_map, nat_eq, Contains, Option, Some, None, is_none, is_some, option_map, refl, ap, sym, subst, ◌∙◌, inl, inr, arith, append-nil}
+use Rattle.std.proofs.Common.{◌≡◌, ◌≢◌, ◌⊎◌, ℕ, ◌≤◌, Bool, true, false, ◌&&◌, cond, not, if◌then◌else◌, List, [], ◌∷◌, ◌++◌, filter, flat_map, nat_eq, Contains, Option, Some, None, is_some, option_map, refl, ap, sym, subst, ◌∙◌, inl, inr, arith, append-nil}
 use Rattle.std.specs.List.{AllByRecursion}
 use Rattle.std.proofs.lemmas.Bool.{cases_eq, eq-eqb, eqb-true, ne_eqb, false≢true}
-use Rattle.std.proofs.lemmas.List.Elements.{filter-append}
 use Rattle.pico_base.specs.declared.call.Call.{Call}
 use Rattle.pico_base.specs.declared.call.Call.TheVariants as calls
 use Rattle.pico_base.specs.declared.numbers.Kind.{Kind}
@@ -19,18 +18,18 @@ use Rattle.rpc_frame.specs.declared.deed.PackedDeed.{PackedDeed}
 use Rattle.rpc_frame.specs.declared.frame.Frame.{Frame}
 use Rattle.rpc_frame.specs.declared.frame.Frame.TheVariants as frames
 use Rattle.number_maps.specs.Maps.{get}
-use Rattle.kernel_model.specs.Fitting.{Place, Places, block_at, block_place, child_vars, place_after, places_after}
-use Rattle.kernel_model.specs.Kernel.{Kernel, living_at}
+use Rattle.kernel_model.specs.Fitting.{Place, Places, child_vars, places_after}
+use Rattle.kernel_model.specs.Kernel.{living_at}
 use Rattle.kernel_model.specs.Row.{Row}
-use Rattle.kernel_model.specs.Script.{IsSoundScript, Vars}
+use Rattle.kernel_model.specs.Script.{IsSoundScript}
 use Rattle.kernel_moves.specs.Entering.{entry_of, is_used_name}
 use Rattle.kernel_moves.proofs.Fresh.{Forks}
 use Rattle.kernel_moves.proofs.History.{ForkPlaces, fork-places}
 use Rattle.kernel_moves.proofs.Numbers.{used-made, used-others}
-use Rattle.node_model.specs.Bodies.{Body, Deeds, Living as LivingBody, body_in, row_of}
+use Rattle.node_model.specs.Bodies.{Body, Living as LivingBody, body_in, row_of}
 use Rattle.node_model.specs.Caller.{answer_call, caller_place}
-use Rattle.node_model.specs.Directory.{Directory, held_for, is_known, is_parcel_with, maker, place_of}
-use Rattle.node_model.specs.Kinds.{for_kind, get_named, is_same_name, kind_of, number_of, put_named, with_kind}
+use Rattle.node_model.specs.Directory.{Directory, is_known, is_parcel_with, maker}
+use Rattle.node_model.specs.Kinds.{get_named, put_named, with_kind}
 use Rattle.node_model.specs.Serving.{child_body, parent_body}
 use Rattle.node_model.specs.Spelling.{pack}
 use Rattle.world_model.specs.Census.{brings}
@@ -38,8 +37,8 @@ use Rattle.world_model.specs.Node.{Node, Stage, Living, Left, Unborn, unborn_nod
 use Rattle.world_model.specs.Numbers.{fork_with, make_with, tell_place}
 use Rattle.world_model.specs.Step.{Step, send, step_to}
 use Rattle.world_model.specs.World.{World, node_count}
-use Rattle.world_laws.specs.Places.{Beside, CallPlace, DeedPlace, Idle, InCheckpoint, InTable, Unmade, deed_in}
-use Rattle.world_laws.specs.Sights.{directory_of, frames_to, is_born_in, is_born_stage, node_of, stage_of}
+use Rattle.world_laws.specs.Places.{Beside, CallPlace, DeedPlace, InCheckpoint, InTable, Unmade, deed_in}
+use Rattle.world_laws.specs.Sights.{directory_of, frames_to, is_born_in, node_of, stage_of}
 use Rattle.world_laws.specs.Names.{IsBringer, IsCheckpointOf, NameHolds, NameSight, OneIf, PlaysTo, SaysOf, comes_to, forker, held_as, held_at, is_hand_place, is_kept_for, is_stream_of, may_be_at, name_sight, range_steps_of}
 use Rattle.world_laws.specs.Ranges.{kind_sight}
 use Rattle.world_laws.specs.Families.{FamilyHolds, HoldsIn, NodeHolds, checkpoints_to, is_checkpoint_frame}
@@ -67,7 +66,7 @@ use Rattle.world_makes.proofs.Counts.{few-now, kinds-now}
 use Rattle.world_makes.proofs.ForkFamilies.{family-new, family-still}
 use Rattle.world_makes.proofs.Directories.{IsAfter, after-is, directory-now, place_if, placed_if, tell-is, tells_if}
 use Rattle.world_makes.proofs.ForkKin.{ForkLeaves, apart-child, now-other, now-parent, now-there, others-go-on, pids-forked, with-pid-other, with_pid}
-use Rattle.world_makes.proofs.Forked.{fork-entry, fork-kind, fork-leaves, own-row}
+use Rattle.world_makes.proofs.Forked.{fork-entry, fork-kind, fork-leaves}
 use Rattle.world_makes.proofs.Forkers.{IsForkedFrom}
 use Rattle.world_makes.proofs.MorePids.{born-with, node-with, sender-with, way-with}
 use Rattle.world_makes.proofs.FromLease.{frames-of-none}

@@ -1,64 +1,58 @@
 -- A node makes a queue or set without a key, whatever the number's source: it holds it, and places it or tells its
 -- place.
-use Rattle.std.proofs.Common.{◌≡◌, ◌≢◌, ◌⊎◌, ℕ, ◌+◌, ◌≤◌, Bool, true, false, ◌&&◌, ◌||◌, not, if◌then◌else◌, List, [], ◌∷◌, ◌++◌, filter, flat_map, nat_eq, Contains, Option, Some, None, is_none, is_some, refl, ap, sym, subst, ◌∙◌, inl, inr, arith, append-nil}
+use Rattle.std.proofs.Common.{◌≡◌, ◌≢◌, ℕ, ◌≤◌, Bool, true, false, ◌&&◌, not, if◌then◌else◌, List, [], ◌∷◌, filter, nat_eq, Some, None, is_some, refl, ap, sym, subst, ◌∙◌, inl, inr, arith}
 use Rattle.std.specs.List.{AllByRecursion}
-use Rattle.std.proofs.lemmas.Bool.{cases_eq, eq-eqb, ne_eqb, false≢true}
+use Rattle.std.proofs.lemmas.Bool.{cases_eq, eq-eqb, false≢true}
 use Rattle.pico_base.specs.declared.call.Call.{Call}
 use Rattle.pico_base.specs.declared.numbers.Kind.{Kind}
 use Rattle.pico_base.specs.declared.numbers.Name.{Name}
 use Rattle.pico_base.specs.declared.numbers.Name.TheVariants.{Proc, Msg, Sem}
-use Rattle.pico_base.specs.declared.reply.Entry.{Entry}
 use Rattle.pico_base.specs.declared.reply.Reply.{Reply}
 use Rattle.pico_base.specs.declared.reply.Reply.TheVariants as replies
 use Rattle.pico_base.specs.declared.script.Event.{Event}
 use Rattle.pico_base.specs.declared.script.Script.{Script}
 use Rattle.rpc_frame.specs.declared.frame.Frame.{Frame}
 use Rattle.rpc_frame.specs.declared.frame.Frame.TheVariants as frames
-use Rattle.number_maps.specs.Maps.{get}
-use Rattle.kernel_model.specs.Fitting.{Place, Places, place_after, places_after}
+use Rattle.kernel_model.specs.Fitting.{Place, Places, places_after}
 use Rattle.kernel_model.specs.Kernel.{Kernel}
-use Rattle.kernel_moves.specs.Entering.{Enters, HasHistory, entry_of, is_used_name}
+use Rattle.kernel_moves.specs.Entering.{Enters, entry_of, is_used_name}
 use Rattle.kernel_moves.proofs.Fresh.{MakesObject}
-use Rattle.kernel_moves.proofs.History.{history-goes-on, moved-is, place-moves}
-use Rattle.kernel_moves.proofs.Keys.{keys-kept}
+use Rattle.kernel_moves.proofs.History.{moved-is, place-moves}
 use Rattle.kernel_moves.proofs.Numbers.{used-made, used-others}
 use Rattle.node_model.specs.Bodies.{Body, Deeds, Living as LivingBody, body_in}
 use Rattle.node_model.specs.Caller.{answer_call, caller_place}
-use Rattle.node_model.specs.Directory.{Directory, Place as DirectoryPlace, held_for, is_parcel_with, maker, maker_in, place_of}
-use Rattle.node_model.specs.Kinds.{for_kind, get_named, is_object, kind_of, number_of, put_named, with_kind}
+use Rattle.node_model.specs.Directory.{Directory, is_parcel_with, maker, place_of}
+use Rattle.node_model.specs.Kinds.{get_named, is_object, put_named, with_kind}
 use Rattle.world_model.specs.Census.{brings}
 use Rattle.world_model.specs.Node.{Node, Stage, Living, Left}
-use Rattle.world_model.specs.Numbers.{make_object, make_with, tell_place}
+use Rattle.world_model.specs.Numbers.{make_with, tell_place}
 use Rattle.world_model.specs.Step.{Step, step_to}
 use Rattle.world_model.specs.World.{World, node_count}
-use Rattle.world_laws.specs.Places.{Beside, CallPlace, DeedPlace, Idle, InTable, Unmade, deed_in}
+use Rattle.world_laws.specs.Places.{Beside, CallPlace, DeedPlace, InTable, Unmade, deed_in}
 use Rattle.world_laws.specs.Sights.{directory_of, frames_to, is_born_in, is_born_stage, node_of, stage_of}
-use Rattle.world_laws.specs.Plays.{Has, Lacks, begin, has_any, is_checkpoint_of, placed_in, play, plays}
-use Rattle.world_laws.specs.Names.{IsBringer, NameHolds, NameSight, OneIf, PlaysTo, SaysOf, comes_to, forker, held_as, held_at, is_kept_for, is_hand_place, is_stream_of, may_be_at, name_sight, range_steps_of}
-use Rattle.world_laws.specs.Callers.{CallHolds, call_sight, is_about}
+use Rattle.world_laws.specs.Plays.{Has, begin, has_any, is_checkpoint_of, placed_in, play, plays}
+use Rattle.world_laws.specs.Names.{IsBringer, NameHolds, NameSight, OneIf, PlaysTo, SaysOf, comes_to, forker, held_as, held_at, is_kept_for, is_hand_place, is_stream_of, may_be_at, name_sight}
+use Rattle.world_laws.specs.Callers.{CallHolds, call_sight}
 use Rattle.world_laws.specs.Families.{HoldsIn, NodeHolds}
-use Rattle.world_laws.specs.Invariant.{Holds, MayBe}
-use Rattle.world_laws.specs.Ranges.{KeysHold, KindSight, kind_sight, lease_at, lease_in}
+use Rattle.world_laws.specs.Invariant.{Holds}
+use Rattle.world_laws.specs.Ranges.{lease_in}
 use Rattle.world_laws.specs.Ways.{IsHere, knows_parent, way_sight}
 use Rattle.world_laws.proofs.Changes.{Changes, filter-is-list-map, flat_map-is-list-map, made-same, only-stayed, read-same, MakesNothing}
-use Rattle.world_laws.proofs.Frames.{ArePlain, BringNoBirth}
-use Rattle.world_laws.proofs.LeftAlone.{AreNotAbout}
 use Rattle.world_laws.proofs.Named.{get-put-other-name, get-put-same-name, name-cases, other-name, same-name}
-use Rattle.world_laws.proofs.NameFacts.{begins-with, has_left, held-elsewhere, held-here}
+use Rattle.world_laws.proofs.NameFacts.{held-elsewhere, held-here}
 use Rattle.world_laws.proofs.Sends.{AreToNodes}
-use Rattle.world_laws.proofs.Stays.{IsMore, SameName, name-stays}
+use Rattle.world_laws.proofs.Stays.{IsMore, name-stays}
 use Rattle.world_laws.proofs.Steps.{KeepsAs}
 use Rattle.world_rules.proofs.Nodes.{object-is-no-process}
 use Rattle.world_own.proofs.EntryMoves.{IsEntryMove, entry-born, entry-keeps}
-use Rattle.world_own.proofs.NewNumbers.{taken-maker, taken-unused}
-use Rattle.world_own.proofs.Objects.{MakesOne, here-way, process-apart, processes-stay-leaves, two-or-more}
-use Rattle.world_makes.proofs.CallsOver.{call-over, carried-here}
+use Rattle.world_own.proofs.Objects.{MakesOne, here-way, process-apart, processes-stay-leaves}
+use Rattle.world_makes.proofs.CallsOver.{carried-here}
 use Rattle.world_makes.proofs.Counts.{few-now, kinds-now}
 use Rattle.world_makes.proofs.Directories.{IsAfter, after-is, directory-now, moves-none, place_if, placed_if, tell-is, tells_if}
 use Rattle.world_makes.proofs.Lacking.{nothing-played}
 use Rattle.world_makes.proofs.NewOnes.{IsNew, brought-nowhere, held-nowhere, name-new}
-use Rattle.world_makes.proofs.Ready.{calls-now, left-alone, left-steps, name-is-ready, nothing-by, other-seen, others-same, ready-name}
-use Rattle.world_makes.proofs.Sources.{Comes, Gives, InLease, Next, Origin, Source, directory_by, ready_kind, ready_node, takes_by}
+use Rattle.world_makes.proofs.Ready.{calls-now, left-steps, name-is-ready, nothing-by, other-seen, others-same, ready-name}
+use Rattle.world_makes.proofs.Sources.{Gives, Origin, Source, directory_by, ready_node, takes_by}
 use Rattle.world_makes.proofs.Taken.{call-after, history-after, keys-after, name-maker, name-unknown, name-unused, some-node, taken-no-birth, taken-of-no-other, taken-plain}
 use Rattle.world_makes.proofs.Told.{belief-now, bound-now, found-now, items-now, leased-now, ranged-now, told-now, unplaced-now}
 

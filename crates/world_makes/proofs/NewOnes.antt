@@ -1,18 +1,16 @@
 -- What holds of a name: once it is new; while its number is made ready; and where one more node's process has a
 -- number.
-use Rattle.std.proofs.Common.{◌≡◌, ◌≢◌, ◌⊎◌, ℕ, ◌≤◌, Bool, true, false, List, [], ◌∷◌, nat_eq, ◌&&◌, Contains, Option, Some, None, is_some, refl, ap, sym, subst, ◌∙◌, inl, inr}
+use Rattle.std.proofs.Common.{◌≡◌, ◌≢◌, ◌⊎◌, ℕ, ◌≤◌, Bool, true, false, List, [], nat_eq, Contains, Option, Some, None, is_some, refl, ap, sym, subst, ◌∙◌, inl, inr}
 use Rattle.std.specs.List.{AllByRecursion}
 use Rattle.std.proofs.lemmas.Bool.{cases_eq, eq-eqb, ne_eqb, false≢true}
 use Rattle.pico_base.specs.declared.numbers.Name.{Name}
-use Rattle.pico_base.specs.declared.numbers.Name.TheVariants.{Proc, Msg, Sem}
 use Rattle.pico_base.specs.declared.script.Script.{Script}
 use Rattle.rpc_frame.specs.declared.frame.Frame.{Frame}
-use Rattle.node_model.specs.Bodies.{Body}
-use Rattle.node_model.specs.Directory.{Place, destination_of, items_of}
+use Rattle.node_model.specs.Directory.{destination_of, items_of}
 use Rattle.node_model.specs.Kinds.{is_object}
 use Rattle.world_laws.specs.Places.{DeedPlace, InCheckpoint, InExitTo, InGiveBack, InGrant, InHand, InKept, InLeft, InTable, Unmade}
 use Rattle.world_laws.specs.Plays.{Nowhere, Somewhere, believed, finds_place, is_there, told}
-use Rattle.world_laws.specs.Names.{HasMakerThatStays, IsBringer, IsExitOf, IsItemFor, IsItemWith, IsLeftOf, IsTold, NameHolds, NameSight, OneIf, OnlyOne, PlaysTo, RangeStep, SaysOf, IsSentThere, belief_of, forker, held_as, is_hand_place, is_kept_for, is_nowhere, is_stream_of, leases_first, maker_tells, may_be_at, node_in}
+use Rattle.world_laws.specs.Names.{HasMakerThatStays, IsBringer, IsExitOf, IsItemFor, IsItemWith, IsLeftOf, IsTold, NameHolds, NameSight, OneIf, PlaysTo, RangeStep, SaysOf, IsSentThere, belief_of, forker, held_as, is_hand_place, is_kept_for, is_nowhere, is_stream_of, leases_first, maker_tells, may_be_at, node_in}
 use Rattle.world_own.proofs.NewNames.{is-unplaced, nobody-in}
 
 -- ---- a name that nothing has

@@ -1,20 +1,18 @@
 -- A fork that is due: its block is forked by this node alone, and not yet, so nothing is on its way to that block's
 -- node.
-use Rattle.std.proofs.Common.{Contains, ◌≡◌, ◌≢◌, ◌⊎◌, ℕ, ◌<◌, ◌≤◌, Bool, true, false, ◌&&◌, ◌||◌, cond, List, [], ◌∷◌, filter, nat_eq, Option, Some, None, is_some, refl, ap, sym, subst, ◌∙◌, inl, inr, arith}
+use Rattle.std.proofs.Common.{Contains, ◌≡◌, ◌≢◌, ℕ, ◌≤◌, Bool, true, false, cond, List, [], ◌∷◌, filter, Option, Some, None, is_some, refl, ap, sym, subst, ◌∙◌, inl, inr}
 use Rattle.std.specs.List.{list_any}
-use Rattle.std.proofs.lemmas.Bool.{eq-eqb, eqb-true, or_left, false≢true}
-use Rattle.pico_base.specs.declared.call.Call.{Call}
+use Rattle.std.proofs.lemmas.Bool.{eq-eqb, or_left, false≢true}
 use Rattle.pico_base.specs.declared.call.Call.TheVariants as calls
 use Rattle.pico_base.specs.declared.numbers.Kind.{Kind}
 use Rattle.pico_base.specs.declared.numbers.Name.{Name}
 use Rattle.pico_base.specs.declared.numbers.Name.TheVariants.{Msg, Proc, Sem}
 use Rattle.pico_base.specs.declared.script.Event.{Event}
-use Rattle.pico_base.specs.declared.script.Line.{Line}
 use Rattle.pico_base.specs.declared.script.Script.{Script}
 use Rattle.rpc_frame.specs.declared.frame.Frame.{Frame}
 use Rattle.rpc_frame.specs.declared.frame.Frame.TheVariants as frames
 use Rattle.number_maps.specs.Maps.{get}
-use Rattle.kernel_model.specs.Fitting.{Place, due, is_killed}
+use Rattle.kernel_model.specs.Fitting.{Place, due}
 use Rattle.kernel_model.specs.Kernel.{Process}
 use Rattle.kernel_model.specs.Kernel as kernel
 use Rattle.kernel_model.specs.Script.{IsSoundScript}
@@ -26,17 +24,15 @@ use Rattle.kernel_moves.proofs.Numbers.{process-there}
 use Rattle.kernel_moves.proofs.Places.{ForkPasses, fork-passes}
 use Rattle.node_model.specs.Bodies.{body_in}
 use Rattle.node_model.specs.Caller.{caller_place, lines_of}
-use Rattle.node_model.specs.Kinds.{is_object}
-use Rattle.node_model.specs.Spelling.{pack}
 use Rattle.world_model.specs.Census.{brings}
 use Rattle.world_model.specs.Lives.{names_block}
 use Rattle.world_model.specs.Node.{Leaving, Left, Living, Node, Over, Stage, Unborn, unborn_node}
 use Rattle.world_model.specs.World.{World, node_count}
-use Rattle.world_laws.specs.Places.{Beside, DeedPlace, InCheckpoint, InExitTo, InGiveBack, InGrant, InHand, InKept, InLeft, InTable, Unmade}
+use Rattle.world_laws.specs.Places.{Beside, InCheckpoint, Unmade}
 use Rattle.world_laws.specs.Sights.{frames_to, is_born_in, node_of, stage_of}
-use Rattle.world_laws.specs.Names.{IsBringer, IsExitOf, IsLeftOf, NameHolds, OneIf, OnlyOne, forker, is_stream_of, may_be_at, name_sight}
-use Rattle.world_laws.specs.Callers.{CallHolds, HasCallOrNone, HasNoCall, IsNowhere, call_sight}
-use Rattle.world_laws.specs.Families.{BornIn, FamilyHolds, HoldsIn, IsBorn, IsWhereFor, NodeHolds, checkpoints_to, is_checkpoint_frame}
+use Rattle.world_laws.specs.Names.{IsBringer, NameHolds, OneIf, OnlyOne, forker, is_stream_of, may_be_at, name_sight}
+use Rattle.world_laws.specs.Callers.{CallHolds, HasCallOrNone, HasNoCall, call_sight}
+use Rattle.world_laws.specs.Families.{BornIn, FamilyHolds, HoldsIn, IsWhereFor, NodeHolds, checkpoints_to, is_checkpoint_frame}
 use Rattle.world_laws.specs.Invariant.{Holds, process_deed}
 use Rattle.world_laws.specs.Ways.{IsHere, Way, WaySight, collected, gone, here, knows_parent, over, tells, way_sight}
 use Rattle.world_laws.proofs.Named.{same-name}
