@@ -7,3 +7,8 @@ pub mod MadeNames
 pub mod MadeNumbers
 pub mod OtherLeases
 pub mod MadeForOther
+pub mod KeyOutcomes
+pub mod KeyRoutes
+pub mod Removals
+pub mod RemovalRoutes
+pub mod OtherRoutes

@@ -1,0 +1,14 @@
+pub mod Arrivals
+pub mod Released
+pub mod Parcels
+pub mod Hands
+pub mod Onward
+pub mod SentOn
+pub mod DeedMoves
+pub mod SentAll
+pub mod EndLeaves
+pub mod Exits
+pub mod ExitDeeds
+pub mod ExitMoves
+pub mod LeaderExits
+pub mod EndKeeps
