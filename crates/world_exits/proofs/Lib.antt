@@ -14,3 +14,4 @@ pub mod LeaderExits
 pub mod EndKeeps
 pub mod SentParcels
 pub mod ExitTos
+pub mod NoForker
