@@ -63,12 +63,13 @@ living-same : {r s : Row} → LivingBody r ≡ LivingBody s → r ≡ s
 living-same e = cc
 
 -- an end is its process's last call, and no fork
-ends-last : (call : Call) → is_end call ≡ true → places_of.is_end call ≡ true
+pub ends-last : (call : Call) → is_end call ≡ true → places_of.is_end call ≡ true
 ends-last (calls.Exit status) h = refl
 ends-last (calls.Killed sig) h = refl
 ends-last call h = absurd (false≢true h)
 
-end-no-fork : (call : Call) → is_end call ≡ true → is_fork call ≡ false
+-- it forks nothing
+pub end-no-fork : (call : Call) → is_end call ≡ true → is_fork call ≡ false
 end-no-fork (calls.Exit status) h = refl
 end-no-fork (calls.Killed sig) h = refl
 end-no-fork call h = absurd (false≢true h)

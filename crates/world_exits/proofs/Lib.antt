@@ -15,3 +15,4 @@ pub mod EndKeeps
 pub mod SentParcels
 pub mod ExitTos
 pub mod NoForker
+pub mod FirstEnds
