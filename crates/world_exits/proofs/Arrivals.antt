@@ -206,6 +206,7 @@ pub just-one-if : {A : Type 0} (t : Bool) (x : A) (xs : List A) → xs ≡ only_
 just-one-if true x xs e = record { one = x; only = e; holds = refl }
 just-one-if false x xs e = e
 
+-- and back
 pub just-one-is : {A : Type 0} (t : Bool) (x : A) (xs : List A) → OneIf t (λ y. y ≡ x) xs → xs ≡ only_if t x
 just-one-is true x xs one =
     let o : OnlyOne (λ y. y ≡ x) xs = one

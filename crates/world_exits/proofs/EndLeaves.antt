@@ -124,6 +124,7 @@ module _ (k next : Kernel) (places after : Places) (pid parent : ℕ) (row : Row
         | inr d ↦ inl (sym (l.places_stay q d) ∙ there)
       ]
 
+  -- what holds of them holds afterwards
   pub pids-after-end : (script : Script) (pids : ℕ → ℕ) → PidsHold script pids places k
       → PidsHold script pids after next
   pids-after-end script pids h =

@@ -41,9 +41,9 @@ use Rattle.world_laws.proofs.NameFacts.{IsHeldAt, held-there}
 use Rattle.world_ends.proofs.RecallAlls.{deeds_at}
 use Rattle.world_ends.proofs.Taken.{each_with}
 use Rattle.world_exits.proofs.DeedMoves.{ComesAsBefore, deed_by, together-by, comes-by}
-use Rattle.world_exits.proofs.Parcels.{HasParcel, IsOnItsWay, bodies, part, has-body, no-object-in, own-in-parcel, parcel-forked, in-parcel-made, is-used-there, low-node, own-lives, own-living, living-own}
+use Rattle.world_exits.proofs.Parcels.{HasParcel, IsOnItsWay, bodies, part, has-body, no-object-in, own-in-parcel, parcel-forked, in-parcel-made, is-used-there, low-node, not-first, own-lives, own-living, living-own}
 use Rattle.world_exits.proofs.EndLeaves.{EndLeaves, RestsAfter, end-dead}
-use Rattle.world_exits.proofs.Exits.{end_row, parent_body, exit_is, next, deeds_then, places_then, exit-leaves, may-exit, none-here, parent-here, parent-not-in, pid-is, parent-is, not-first, own-row, gets, child-in}
+use Rattle.world_exits.proofs.Exits.{end_row, parent_body, exit_is, next, deeds_then, places_then, exit-leaves, may-exit, none-here, parent-here, parent-not-in, pid-is, parent-is, own-row, gets, child-in}
 
 some-same : {A : Type 0} {u v : A} → Some u ≡ Some v → u ≡ v
 some-same e = cc
@@ -423,7 +423,7 @@ module _ (script : Script) (w : World) (hand : List Held) (b : Beside) (holds : 
   below =
       let pids = holds.pids
       in let up = pids.forked c (parcel-forked script w hand b holds parcel c call place parcel_is)
-      (not-first script w hand b holds parcel c call place parcel_is reads x parent_at)
+      (not-first script w hand b holds parcel c call place parcel_is)
       in let its_family : FamilyHolds script b.pids b.places k (process_deed b.deed)
       (checkpoints_to script w (forker script c)) (stage_of w (forker script c)) (forker script c) =
       holds.families (forker script c) up.0

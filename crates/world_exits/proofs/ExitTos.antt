@@ -74,6 +74,7 @@ come_in s x body begins steps =
       steps = steps;
     }
 
+-- what there is to show for it
 pub record ComesIn (s : NameSight) (c x : ℕ) (begins : ℕ → Hold) (steps : ℕ → List PlayStep) : Type 0 where
   pub deed : s.deed ≡ InExitTo c x
   pub used : s.used ≡ true

@@ -50,7 +50,7 @@ use Rattle.world_laws.proofs.NameFacts.{IsHeldAt, held-there, held-here}
 use Rattle.world_laws.proofs.Named.{name-cases}
 use Rattle.world_ends.proofs.RecallAlls.{deeds_at}
 use Rattle.world_ends.proofs.Taken.{each_with, each-gets}
-use Rattle.world_exits.proofs.Parcels.{HasParcel, IsOnItsWay, bodies, part, is_of, has-body, in-parcel, no-object-in, own-in-parcel, parcel-forked, low-node, high-node, OwnLives, own-lives, own-living, own-part, own-family, end-to-be-made, is-an-end, living-own, parcel-fits, parcel-reads}
+use Rattle.world_exits.proofs.Parcels.{HasParcel, IsOnItsWay, bodies, part, is_of, has-body, in-parcel, no-object-in, own-in-parcel, parcel-forked, not-first, OwnLives, own-lives, own-living, own-part, own-family, end-to-be-made, is-an-end, living-own, parcel-fits, parcel-reads}
 use Rattle.world_exits.proofs.EndLeaves.{EndLeaves, end-dead}
 
 some-same : {A : Type 0} {u v : A} → Some u ≡ Some v → u ≡ v
@@ -100,9 +100,11 @@ module _ (script : Script) (w : World) (hand : List Held) (b : Beside) (holds : 
   abbrev lives : OwnLives script w hand b holds parcel c call place parcel_is
   lives = own-lives script w hand b holds parcel c call place parcel_is
 
+  -- the row of the parcel's process
   abbrev pub end_row : Row
   end_row = lives.alive.row
 
+  -- and its parent's body
   abbrev pub parent_body : Body
   parent_body = of parcel.parent
 
@@ -134,16 +136,6 @@ module _ (script : Script) (w : World) (hand : List Held) (b : Beside) (holds : 
           absurd (none-is-some parent_body (sym (none-here parcel.parent e) ∙ parent-here))
 
   -- ---- the process
-
-  -- its node isn't the leader
-  pub not-first : c ≢ 1
-  not-first e =
-      let node : NodeHolds script b.pids (is_born_in w) 1 (node_of w 1) =
-      holds.nodes 1 (omega arith)
-      (subst (λ y. y ≤ node_count script) e (high-node script w hand b holds parcel c call place parcel_is))
-      in false≢true
-      (sym (ap is_first_stage parcel_is.stage)
-      ∙ ap (λ y. is_first_stage (stage_of w y)) e ∙ node.first refl)
 
   -- its parent is the process of the node that forked it
   pub parent-is : parcel.parent ≡ b.pids (forker script c)
@@ -213,7 +205,7 @@ module _ (script : Script) (w : World) (hand : List Held) (b : Beside) (holds : 
             let a : HasRow k parcel.parent row = body-living k parcel.parent row is
             in ap (λ (r : Row). lists r.family parcel.pid) (sym a.row_is)
             ∙ ap (lists a.alive.row.family) pid-is
-            ∙ its-child family.process family.is (family.child not-first) a.alive
+            ∙ its-child family.process family.is (family.child (not-first script w hand b holds parcel c call place parcel_is)) a.alive
             (ap (living_at k) (sym parent-is) ∙ a.lives);
         only = λ p a is_living lists_it.
             let is = from-living k.processes p a is_living
@@ -262,6 +254,7 @@ module _ (script : Script) (w : World) (hand : List Held) (b : Beside) (holds : 
   abbrev pub exit_is : EndsHere k deeds parcel (each_with of its) end_row parent_body
   exit_is = ends-here k deeds parcel (each_with of its) end_row parent_body may-exit may-end
 
+  -- the next kernel
   abbrev pub next : Kernel
   next = exit_is.next
 
@@ -298,6 +291,7 @@ module _ (script : Script) (w : World) (hand : List Held) (b : Beside) (holds : 
   abbrev pub exit_entry : Entry
   exit_entry = entry_of x parcel.pid parcel.call replies.Ended
 
+  -- and the places then
   abbrev pub places_then : Places
   places_then = places_after script b.places exit_entry was
 

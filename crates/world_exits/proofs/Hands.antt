@@ -33,12 +33,15 @@ no-ending-for name other object (Ending parcel ∷ items) all = absurd (false≢
 
 module _ (script : Script) (w : World) (items : List Held) (parcel : Parcel) (b : Beside)
     (holds : Holds script w (Ending parcel ∷ items) b) where
+  -- what is in hand
   abbrev pub hand : List Held
   hand = Ending parcel ∷ items
 
+  -- the names of the first parcel
   abbrev pub names : List Name
   names = names_in parcel
 
+  -- what the leader knows
   abbrev pub d : Directory
   d = directory_of w
 

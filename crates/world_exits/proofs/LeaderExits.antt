@@ -66,6 +66,7 @@ rested x body begins =
       begins = begins;
     }
 
+-- what there is to show for it
 pub record RestsHere (x : NameSight) (begins : ℕ → Hold) : Type 0 where
   pub used : x.used ≡ true
   pub brought : (to sender : ℕ) → x.brought to sender ≡ []
@@ -135,6 +136,7 @@ module _ (script : Script) (w : World) (items : List Held) (parcel : Parcel) (b 
   abbrev c : ℕ
   c = sender.node
 
+  -- the first parcel in hand
   abbrev pub leader_parcel : HasParcel script w b parcel c sender.call (InHand c)
   leader_parcel = parcel-in-hand script w items parcel b holds
 

@@ -16,3 +16,4 @@ pub mod SentParcels
 pub mod ExitTos
 pub mod NoForker
 pub mod FirstEnds
+pub mod HandEnds

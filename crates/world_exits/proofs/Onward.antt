@@ -21,10 +21,12 @@ use Rattle.world_exits.proofs.Released.{call_released}
 
 -- ---- where a play ends
 
+-- nothing will be held any more
 abbrev pub is_done : Hold → Bool
 is_done Done = true
 is_done hold = false
 
+-- all are asked for
 abbrev pub is_all_go : PlayStep → Bool
 is_all_go AllGo = true
 is_all_go s = false
@@ -184,6 +186,7 @@ pub record GoesOnward (pids : ℕ → ℕ) (name : Name) (x : NameSight) (c node
   pub others : (h : ℕ) → 2 ≤ h → PlaysTo (x.begins h) (x.steps h) false
   pub lacks : play (x.begins node) (x.steps node) ≡ Some Lacks
 
+-- it is on its way there now
 abbrev pub gone_onward : NameSight → ℕ → ℕ → Parcel → NameSight
 gone_onward x c node parcel =
     record x {

@@ -230,6 +230,7 @@ module _ (script : Script) (pids : ℕ → ℕ) (names : List Name) where
     pub queues : (id : ℕ) → f (Msg id) ≡ []
     pub sets : (id : ℕ) → f (Sem id) ≡ []
 
+  -- the name, as it is seen then
   abbrev pub released_name : NameSight → (Name → List Held) → NameSight
   released_name x f =
       record x {
@@ -362,6 +363,7 @@ module _ (names : List Name) where
       by-test false = refl
   end-place-still c = refl
 
+  -- the call, as it is seen then
   abbrev pub released_call : CallSight → CallSight
   released_call x =
       record x {

@@ -45,7 +45,8 @@ use Rattle.world_exits.proofs.Parcels.{HasParcel, hand-sender, parcel-in-hand, i
 use Rattle.world_exits.proofs.Hands.{hand, names, d, hand_then, parcel-apart, held_with, seen-held, in-hand-then, none-in-hand, kept-then, none-kept-then, place-then, place-still, call-in-hand, parcel-was}
 use Rattle.world_exits.proofs.Onward.{is_done, done-together, lacks-is, plays-released, ranges-released, GoesOnward, gone_onward, name-gone-onward}
 
-checkpoints-bring : (name : Name) (frame : Frame) → is_checkpoint_of name frame ≡ true → brings name frame ≡ true
+-- a Checkpoint of a name brings its deed
+pub checkpoints-bring : (name : Name) (frame : Frame) → is_checkpoint_of name frame ≡ true → brings name frame ≡ true
 checkpoints-bring name (frames.Checkpoint pid parent deed vars) h = h
 checkpoints-bring name frame h = absurd (false≢true h)
 
@@ -150,6 +151,7 @@ module _ (script : Script) (w : World) (items : List Held) (parcel : Parcel) (b 
   abbrev calls_now : ℕ → CallPlace
   calls_now p = call_released of (b.call p)
 
+  -- what is beside the world then
   abbrev pub sent_beside : Beside
   sent_beside = record b { deed = deeds_now; call = calls_now }
 

@@ -34,12 +34,9 @@ use Rattle.world_laws.proofs.NameFacts.{IsHeldAt, held-there, begin-has, has_lef
 use Rattle.world_laws.proofs.Steps.{Heads}
 use Rattle.world_ends.proofs.KeptItems.{kept-is-there, not-left-out, has-its-own}
 use Rattle.world_ends.proofs.Taken.{fewer-none}
-use Rattle.world_exits.proofs.Parcels.{HasParcel, sent-on-way, has-number, own-lives, own-family, parcel-forked}
+use Rattle.world_exits.proofs.Parcels.{HasParcel, sent-on-way, has-number, own-lives, not-first}
 use Rattle.world_exits.proofs.ExitMoves.{is_exit}
-
-checkpoints-bring : (name : Name) (frame : Frame) → is_checkpoint_of name frame ≡ true → brings name frame ≡ true
-checkpoints-bring name (frames.Checkpoint pid parent deed vars) h = h
-checkpoints-bring name frame h = absurd (false≢true h)
+use Rattle.world_exits.proofs.SentOn.{checkpoints-bring}
 
 some-same : {A : Type 0} {u v : A} → Some u ≡ Some v → u ≡ v
 some-same e = cc
@@ -132,6 +129,7 @@ module _ (script : Script) (w : World) (b : Beside) (holds : Holds script w [] b
   pub not-leader : x ≢ 1
   not-leader e = head-from-another script w x 1 frame rest h (is_born_in w) holds.frames_fit (sym e)
 
+  -- so it is above
   pub above-leader : 2 ≤ x
   above-leader = let low = h.low in let other = not-leader in omega (arith, low, other)
 
@@ -263,16 +261,8 @@ module _ (script : Script) (w : World) (b : Beside) (holds : Holds script w [] b
   of-parent : NameHolds script b.pids (is_born_in w) parent p
   of-parent = holds.names parent
 
-  not-first : c ≢ 1
-  not-first e = is-not-left (sym (ap (stage_of w) e) ∙ sent-sender.stage)
-    where
-      is-not-left : stage_of w 1 ≡ Left → ⊥
-      is-not-left left =
-          let node = holds.nodes 1 (omega arith) (let high = h.high in let low = h.low in omega (arith, high, low))
-          in false≢true (sym (ap is_first_stage left) ∙ node.first refl)
-
   up : (b.pids (forker script c) ≢ 0) × (forker script c < c)
-  up = let pids = holds.pids in pids.forked c forked not-first
+  up = let pids = holds.pids in pids.forked c forked (not-first script w [] b holds parcel c sent-sender.call (InExitTo c x) parcel-sent)
 
   abbrev g : ℕ
   g = forker script c
@@ -320,7 +310,7 @@ module _ (script : Script) (w : World) (b : Beside) (holds : Holds script w [] b
       listed a lives =
           let own = own-lives script w [] b holds parcel c sent-sender.call (InExitTo c x) parcel-sent
           in subst (λ v. IsChildIn b.kernel (b.pids g) (b.pids c) v) (some-same (sym child.is ∙ own.there))
-          (child.child not-first) a lives
+          (child.child (not-first script w [] b holds parcel c sent-sender.call (InExitTo c x) parcel-sent)) a lives
 
       by-process : (v : Process) → get b.kernel.processes (b.pids g) ≡ Some v → IsWhereFor g (InCheckpoint to) v
           → IsNewAt v (InCheckpoint to) → ⊥
@@ -380,6 +370,7 @@ module _ (script : Script) (w : World) (b : Beside) (holds : Holds script w [] b
       ++ plays b.call parent rest) parent-not-in
       ∙ ap (λ t. steps_if t IsNeeded ++ plays b.call parent rest) (same-name parent (Proc parcel.parent) refl)
 
+  -- so it does
   pub parent-plays : ParentPlays
   parent-plays =
       let played : PlaysTo (p.begins x) (p.steps x) (is_there x (belief_of p)) = of-parent.plays x above-leader
