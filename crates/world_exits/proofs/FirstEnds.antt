@@ -1,10 +1,8 @@
 -- Process 1 ends at node 1: it is gone with its ended children, and node 1 goes on as the leader.
-use Rattle.std.proofs.Common.{◌≡◌, ◌≢◌, ◌⊎◌, ℕ, ◌+◌, ◌≤◌, Bool, true, false, ◌||◌, if◌then◌else◌, List, [], ◌∷◌, ◌++◌, length, map, filter, flat_map, sum_by, nat_eq, Option, Some, None, is_some, Contains, refl, ap, sym, subst, ◌∙◌, inl, inr, arith}
-use Rattle.std.specs.List.{list_any}
+use Rattle.std.proofs.Common.{◌≡◌, ◌≢◌, ◌⊎◌, ℕ, ◌+◌, ◌≤◌, Bool, true, false, ◌||◌, if◌then◌else◌, List, [], ◌∷◌, ◌++◌, length, map, filter, nat_eq, Option, Some, None, is_some, Contains, refl, ap, sym, subst, ◌∙◌, inl, inr, arith}
 use Rattle.std.proofs.lemmas.Bool.{cases_eq, eq-eqb, ne_eqb, or_cases, false≢true}
 use Rattle.std.proofs.lemmas.List.{length-append}
 use Rattle.pico_base.specs.declared.call.Call.{Call}
-use Rattle.pico_base.specs.declared.call.Call.TheVariants as calls
 use Rattle.pico_base.specs.declared.call.Home.TheVariants as homes
 use Rattle.pico_base.specs.declared.numbers.Kind.{Kind}
 use Rattle.pico_base.specs.declared.numbers.Name.{Name}
@@ -15,16 +13,15 @@ use Rattle.pico_base.specs.declared.reply.Reply.TheVariants as replies
 use Rattle.pico_base.specs.declared.script.Event.TheVariants as events
 use Rattle.pico_base.specs.declared.script.Script.{Script}
 use Rattle.pico_base.specs.Home.{home_of}
-use Rattle.rpc_frame.specs.declared.deed.Parcel.{Parcel}
 use Rattle.rpc_frame.specs.declared.frame.Frame.TheVariants as frames
 use Rattle.number_maps.specs.Maps.{get, is_used}
 use Rattle.kernel_laws.proofs.People.{from-living}
-use Rattle.kernel_model.specs.Fitting.{Place, Places, IsDue, move_on, places_after}
+use Rattle.kernel_model.specs.Fitting.{Place, Places, move_on, places_after}
 use Rattle.kernel_model.specs.Kernel.{Kernel, Process, living_at}
 use Rattle.kernel_model.specs.Kernel as kernel
 use Rattle.kernel_model.specs.Row.{Alive, EndedChild, Row, ended_child, lists}
 use Rattle.kernel_model.specs.Script.{IsSoundScript}
-use Rattle.kernel_moves.specs.Entering.{HasHistory, IsKin, MayMake, entry_of, is_used_name}
+use Rattle.kernel_moves.specs.Entering.{HasHistory, entry_of, is_used_name}
 use Rattle.kernel_moves.proofs.Bodies.{living-body}
 use Rattle.kernel_moves.proofs.Ends.{EndBodies, EndsFirst, among-kept, ends-first, first-held, first-kept, gone_with, is_gone_of}
 use Rattle.kernel_moves.proofs.History.{history-goes-on, place-moves, places-stay}
@@ -32,33 +29,32 @@ use Rattle.kernel_moves.proofs.Keys.{keys-kept}
 use Rattle.kernel_moves.proofs.Numbers.{process-there}
 use Rattle.kernel_moves.proofs.Others.{goes}
 use Rattle.kernel_moves.proofs.Places.{end-is-last}
-use Rattle.node_model.specs.declared.held.Held.{Held}
 use Rattle.node_model.specs.declared.held.Held.TheVariants as items
-use Rattle.node_model.specs.Bodies.{Body, Deeds, Living as LivingBody, Ended, Gone, body_in, process_body}
+use Rattle.node_model.specs.Bodies.{Deeds, Living as LivingBody, Ended, Gone, body_in, process_body}
 use Rattle.node_model.specs.Caller.{Caller, answer_call, caller_place, start_call}
 use Rattle.node_model.specs.Directory.{Directory, held_for, is_known}
 use Rattle.node_model.specs.Kinds.{for_kind, get_named, is_object, kind_of, number_of, put_all}
 use Rattle.node_model.specs.Parcels.{end_first, ending_of, may_end_with}
 use Rattle.serve_laws.specs.Ends.{is_among}
-use Rattle.world_model.specs.Node.{Node, Leader, Stage, Living, Left, Over, can_run, is_leader}
+use Rattle.world_model.specs.Node.{Node, Leader, Stage, Living, Left, Over, can_run}
 use Rattle.world_model.specs.Lives.{is_end}
 use Rattle.world_model.specs.Starting.{run, start_by, end_leader, leave}
 use Rattle.world_model.specs.Step.{Step, reply_here, step_to}
-use Rattle.world_model.specs.World.{World, numbers, node_count, world_after}
-use Rattle.world_laws.specs.Places.{Beside, DeedPlace, InCheckpoint, InTable, Ends}
-use Rattle.world_laws.specs.Sights.{node_of, frames_to, directory_of, is_born_in, is_born_stage, stage_of}
+use Rattle.world_model.specs.World.{World, node_count, world_after}
+use Rattle.world_laws.specs.Places.{Beside, InCheckpoint, InTable, Ends}
+use Rattle.world_laws.specs.Sights.{node_of, directory_of, is_born_in, stage_of}
 use Rattle.world_laws.specs.Plays.{begin}
 use Rattle.world_laws.specs.Names.{NameHolds, forker, name_sight}
 use Rattle.world_laws.specs.Callers.{CallHolds, CallSight, FreeIn, HasCallOrNone, HasEnded, call_sight, is_about, is_end_place, is_end_stage, is_item_about, may_be_in}
-use Rattle.world_laws.specs.Families.{FamilyHolds, IsAwaited, IsWithParent, NodeHolds, BornIn, RestsBelow, checkpoints_to, is_checkpoint_frame, is_first_stage}
+use Rattle.world_laws.specs.Families.{FamilyHolds, IsAwaited, IsWithParent, NodeHolds, RestsBelow, checkpoints_to, is_checkpoint_frame}
 use Rattle.world_laws.specs.Invariant.{Holds, IsLeading, process_deed}
 use Rattle.world_laws.specs.Ranges.{FewRanges, KeysHold, kind_sight, leases_on_way}
 use Rattle.world_laws.specs.Ways.{knows_parent, way_sight}
 use Rattle.world_laws.proofs.Changes.{Changes, filter-is-list-map, made-same, read-same, still-born}
-use Rattle.world_laws.proofs.LeftAlone.{LeavesCall, LeavesName, SameCaller, call-left-alone, frames-still-fit, kind-left-alone, name-left-alone, other-node-stays, parcel-was-there, same-directory, sender-stays, way-left-alone}
+use Rattle.world_laws.proofs.LeftAlone.{LeavesCall, call-left-alone, frames-still-fit, kind-left-alone, name-left-alone, other-node-stays, parcel-was-there, same-directory, sender-stays, way-left-alone}
 use Rattle.world_laws.proofs.Lines.{IsAnswered, answered, due-at-line}
 use Rattle.world_laws.proofs.Numbers.{zero-is-unused}
-use Rattle.world_laws.proofs.Stays.{IsMore, SameCall, call-stays, kind-stays, name-stays, node-born, way-stays}
+use Rattle.world_laws.proofs.Stays.{IsMore, call-stays, kind-stays, name-stays, node-born, way-stays}
 use Rattle.world_laws.proofs.Steps.{KeepsAs, changes-by-run, run-steps}
 use Rattle.world_own.proofs.Others.{call-goes-on}
 use Rattle.world_own.proofs.Rebodied.{name-rebodied, name-seen-rebodied}

@@ -1,6 +1,6 @@
 -- The first parcel in the leader's hand: its process's end is held for the parent, where that is awaited, or it is sent
 -- on or carried out. In each case all holds as before.
-use Rattle.std.proofs.Common.{◌≡◌, ◌≢◌, ℕ, ◌≤◌, Bool, true, false, not, List, [], ◌∷◌, Option, Some, None, is_none, refl, ap, sym, subst, ◌∙◌, inl, inr, arith, append-nil}
+use Rattle.std.proofs.Common.{◌≡◌, ℕ, ◌≤◌, true, not, List, [], ◌∷◌, Option, Some, None, is_none, refl, ap, sym, subst, ◌∙◌, inl, inr, arith, append-nil}
 use Rattle.std.proofs.lemmas.Bool.{cases_eq, false≢true}
 use Rattle.pico_base.specs.declared.numbers.Name.TheVariants.{Proc}
 use Rattle.pico_base.specs.declared.script.Script.{Script}
@@ -9,7 +9,7 @@ use Rattle.node_model.specs.declared.held.Held.{Held}
 use Rattle.node_model.specs.declared.held.Held.TheVariants.{Ending}
 use Rattle.node_model.specs.Directory.{Directory, Place, At, Coming, place_of, hold, is_known}
 use Rattle.world_model.specs.Node.{Node, Stage, Unborn, Living, Leaving, Left}
-use Rattle.world_model.specs.Step.{Step, with_node, with_directory}
+use Rattle.world_model.specs.Step.{Step, with_directory}
 use Rattle.world_model.specs.Routing.{IsHeld, hold_item, end_by, end_process}
 use Rattle.world_model.specs.World.{World, node_count, world_after}
 use Rattle.world_laws.specs.Places.{InHand, Beside}

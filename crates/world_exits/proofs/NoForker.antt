@@ -1,6 +1,6 @@
 -- In a sound script a block forks only later blocks, so no node forks the first one, and no process is the parent of
 -- process 1.
-use Rattle.std.proofs.Common.{◌≡◌, ◌≢◌, ℕ, zero, suc, ◌+◌, ◌-◌, ◌<◌, ◌≤◌, Bool, true, false, ◌&&◌, ◌||◌, if◌then◌else◌, nat_eq, List, [], ◌∷◌, ◌++◌, length, map, flat_map, Option, Some, None, refl, ap, sym, subst, ◌∙◌, inl, inr, arith}
+use Rattle.std.proofs.Common.{◌≡◌, ℕ, zero, suc, ◌+◌, ◌-◌, ◌<◌, Bool, true, false, ◌&&◌, if◌then◌else◌, List, [], ◌∷◌, ◌++◌, length, map, flat_map, Option, Some, None, refl, ap, sym, ◌∙◌, inl, inr, arith}
 use Rattle.std.specs.Prelude.{slice_get, nat_lt, nat_le}
 use Rattle.std.specs.List.{list_all, list_any, enumerate_from}
 use Rattle.std.proofs.lemmas.Bool.{or_cases, eqb-true, ltb-true, false≢true}
@@ -10,7 +10,7 @@ use Rattle.pico_base.specs.declared.script.Block.{Block}
 use Rattle.pico_base.specs.declared.script.Line.{Line}
 use Rattle.pico_base.specs.declared.script.Script.{Script}
 use Rattle.kernel_model.specs.Fitting.{block_at}
-use Rattle.kernel_model.specs.Script.{Fork, IsSoundScript, fork_from, fork_targets, forks_of, goes_forward}
+use Rattle.kernel_model.specs.Script.{Fork, IsSoundScript, fork_from, fork_targets, goes_forward}
 use Rattle.world_model.specs.Lives.{forks_in, is_forked_by, names_block}
 use Rattle.world_model.specs.World.{numbers, node_count}
 use Rattle.world_laws.specs.Names.{first_that, forker}

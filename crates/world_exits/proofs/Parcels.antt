@@ -1,8 +1,8 @@
 -- A parcel in the leader's hand, or on its way to a node: where the deeds of its names are, and what it is of. Where it
 -- comes to a node it fits, and is read as what the kernel has of its processes.
-use Rattle.std.proofs.Common.{◌≡◌, ◌≢◌, ◌⊎◌, ℕ, ◌<◌, ◌≤◌, Bool, true, false, ◌&&◌, if◌then◌else◌, List, [], ◌∷◌, filter, Option, Some, None, is_none, is_some, option_and_then, Contains, refl, ap, sym, subst, ◌∙◌, inl, inr, arith}
+use Rattle.std.proofs.Common.{◌≡◌, ◌≢◌, ◌⊎◌, ℕ, ◌<◌, ◌≤◌, Bool, true, false, ◌&&◌, if◌then◌else◌, List, [], ◌∷◌, filter, Some, None, is_none, is_some, option_and_then, Contains, refl, ap, sym, subst, ◌∙◌, inl, inr, arith}
 use Rattle.std.specs.List.{list_any, list_all}
-use Rattle.std.proofs.lemmas.Bool.{eq-eqb, false≢true}
+use Rattle.std.proofs.lemmas.Bool.{false≢true}
 use Rattle.std.proofs.lemmas.List.Elements.{Contains-append_left, Contains-push}
 use Rattle.pico_base.specs.declared.call.Call.{Call}
 use Rattle.pico_base.specs.declared.numbers.Name.{Name}
@@ -24,11 +24,11 @@ use Rattle.node_model.specs.Directory.{has_deed_of, is_parcel_with}
 use Rattle.node_model.specs.Bodies.{Body, Living as LivingBody, Deeds, body_in, process_body}
 use Rattle.node_model.specs.Spelling.{pack, read_deed}
 use Rattle.node_model.specs.Parcels.{read_deeds, fits_bodies, fits_if, fitting_bodies, has_own_row, may_end_with, is_over_but_for, is_held_none, are_rising}
-use Rattle.world_model.specs.Node.{Node, Left}
+use Rattle.world_model.specs.Node.{Left}
 use Rattle.world_model.specs.Lives.{is_end}
 use Rattle.world_model.specs.World.{World, node_count}
 use Rattle.world_laws.specs.Places.{DeedPlace, Unmade, InCheckpoint, InHand, InExitTo, Ends, Beside}
-use Rattle.world_laws.specs.Sights.{node_of, frames_to, stage_of, is_born_in}
+use Rattle.world_laws.specs.Sights.{node_of, stage_of, is_born_in}
 use Rattle.world_laws.specs.Names.{NameHolds, name_sight, HasDeed, held_as, may_be_at}
 use Rattle.world_laws.specs.Callers.{call_sight, HasCall, IsSoFar, IsToBeMade, HasEnded, is_end_stage, may_be_in}
 use Rattle.world_laws.specs.Ways.{IsParcelOf, at_hand, under_way_of, HasSender}

@@ -1,5 +1,6 @@
--- A parcel that has come to a node: its names are on their way there in it, and the parent's deed is in the node's table.
-use Rattle.std.proofs.Common.{◌≡◌, ◌≢◌, ℕ, suc, ◌<◌, ◌≤◌, Bool, true, false, ◌&&◌, ◌||◌, not, cond, if◌then◌else◌, List, [], ◌∷◌, ◌++◌, length, filter, nat_eq, Option, Some, None, is_none, is_some, option_and_then, Contains, refl, ap, sym, subst, ◌∙◌, inl, inr, arith}
+-- A parcel that has come to a node: its names are on their way there in it, and the parent's deed is in the node's
+-- table.
+use Rattle.std.proofs.Common.{◌≡◌, ◌≢◌, ℕ, suc, ◌<◌, ◌≤◌, Bool, true, false, ◌&&◌, ◌||◌, not, cond, if◌then◌else◌, List, [], ◌∷◌, ◌++◌, length, filter, nat_eq, Option, Some, None, is_none, is_some, option_and_then, Contains, refl, ap, sym, subst, ◌∙◌, arith}
 use Rattle.std.specs.List.{list_any}
 use Rattle.std.proofs.lemmas.Bool.{eq-eqb, eqb-true, ne_eqb, false≢true}
 use Rattle.std.proofs.lemmas.List.Elements.{Contains-append_right}
@@ -17,20 +18,19 @@ use Rattle.kernel_moves.specs.Entering.{IsChildIn}
 use Rattle.node_model.specs.Kinds.{is_same_name}
 use Rattle.node_model.specs.Directory.{has_deed_of}
 use Rattle.node_model.specs.Bodies.{Body, body_in}
-use Rattle.world_model.specs.Node.{Left}
 use Rattle.world_model.specs.Lives.{is_new_row}
 use Rattle.world_model.specs.Census.{brings}
-use Rattle.world_model.specs.World.{World, node_count}
+use Rattle.world_model.specs.World.{World}
 use Rattle.world_laws.specs.Places.{DeedPlace, Unmade, InTable, InCheckpoint, InGrant, InGiveBack, InLeft, InKept, InHand, InExitTo, Beside}
 use Rattle.world_laws.specs.Sights.{frames_to, stage_of, is_born_in}
-use Rattle.world_laws.specs.Plays.{Hold, Has, PlayStep, Comes, IsNeeded, steps_if, play, plays, begin, is_has, is_there, is_checkpoint_of, has_any}
+use Rattle.world_laws.specs.Plays.{Hold, Has, Comes, IsNeeded, steps_if, play, plays, is_has, is_there, is_checkpoint_of, has_any}
 use Rattle.world_laws.specs.Names.{NameSight, name_sight, NameHolds, HasDeed, OneIf, OnlyOne, IsBringer, IsExitOf, PlaysTo, may_be_at, is_stream_of, held_at, comes_to, forker, belief_of}
 use Rattle.world_laws.specs.Ways.{IsParcelOf, sent as sent_in, under_way_of, HasSender}
-use Rattle.world_laws.specs.Families.{FamilyHolds, IsWhereFor, IsNewAt, checkpoints_to, is_first_stage}
+use Rattle.world_laws.specs.Families.{FamilyHolds, IsWhereFor, IsNewAt, checkpoints_to}
 use Rattle.world_laws.specs.Invariant.{Holds, process_deed}
 use Rattle.world_laws.proofs.Heads.{head-is, head-there, head-from-another}
 use Rattle.world_laws.proofs.Named.{same-name}
-use Rattle.world_laws.proofs.NameFacts.{IsHeldAt, held-there, begin-has, has_left, play-needs, play-comes}
+use Rattle.world_laws.proofs.NameFacts.{IsHeldAt, held-there, begin-has, has_left, play-needs}
 use Rattle.world_laws.proofs.Steps.{Heads}
 use Rattle.world_ends.proofs.KeptItems.{kept-is-there, not-left-out, has-its-own}
 use Rattle.world_ends.proofs.Taken.{fewer-none}
@@ -169,7 +169,8 @@ module _ (script : Script) (w : World) (b : Beside) (holds : Holds script w [] b
       (brought-is name
       ∙ ap (λ t. cond t (frame ∷ filter (brings name) rest) (filter (brings name) rest)) e) (known.streams x 1))
       in record {
-        sent = sent-here (forker script) b.pids name (body_in b.kernel name) x parcel (b.deed name) first.counts first.is;
+        sent = sent-here (forker script) b.pids name (body_in b.kernel name) x parcel (b.deed name) first.counts
+            first.is;
         alone = first.alone;
       }
 
@@ -262,12 +263,16 @@ module _ (script : Script) (w : World) (b : Beside) (holds : Holds script w [] b
   of-parent = holds.names parent
 
   up : (b.pids (forker script c) ≢ 0) × (forker script c < c)
-  up = let pids = holds.pids in pids.forked c forked (not-first script w [] b holds parcel c sent-sender.call (InExitTo c x) parcel-sent)
+  up =
+      let pids = holds.pids
+      in pids.forked c forked
+      (not-first script w [] b holds parcel c sent-sender.call (InExitTo c x) parcel-sent)
 
   abbrev g : ℕ
   g = forker script c
 
-  family : FamilyHolds script b.pids b.places b.kernel (process_deed b.deed) (checkpoints_to script w g) (stage_of w g) g
+  family : FamilyHolds script b.pids b.places b.kernel (process_deed b.deed) (checkpoints_to script w g) (stage_of w g)
+      g
   family = holds.families g up.0
 
   parent-is : parent ≡ Proc (b.pids g)
