@@ -1,4 +1,5 @@
--- A call in hand, of another node, makes a queue or a set at the leader: the entry is made, and the reply is on its way.
+-- A call in hand, of another node, makes a queue or a set at the leader: the entry is made, and the reply is on its
+-- way.
 use Rattle.std.proofs.Common.{◌≡◌, ◌≢◌, ℕ, ◌≤◌, Bool, true, false, ◌&&◌, cond, if◌then◌else◌, List, [], ◌∷◌, ◌++◌, filter, nat_eq, Some, refl, ap, sym, subst, ◌∙◌, inl, inr, arith}
 use Rattle.std.proofs.lemmas.Bool.{cases_eq, eq-eqb, ne_eqb, false≢true}
 use Rattle.std.proofs.lemmas.List.Elements.{Contains-append_right}
