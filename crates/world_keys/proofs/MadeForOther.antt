@@ -46,7 +46,7 @@ use Rattle.world_laws.proofs.Stays.{IsMore, SameCall, call-stays, node-born, way
 use Rattle.world_rules.proofs.CallMoves.{SameButCall}
 use Rattle.world_rules.proofs.Nodes.{leader-stage, object-is-no-process}
 use Rattle.world_own.proofs.Entries.{EntryLeaves, others-go-on, pids-after}
-use Rattle.world_own.proofs.Objects.{processes-stay-leaves}
+use Rattle.world_own.proofs.Objects.{process-apart, processes-stay-leaves}
 use Rattle.world_own.proofs.Others.{call-goes-on, family-after}
 use Rattle.world_hand.proofs.Answering.{IsPlainCall, answered_at, caller-born, caller-forked, due-in-hand, has-history, may-make-in-hand, pid-in-hand, place-in-hand}
 use Rattle.world_hand.proofs.HandMoves.{IsFirst, first, held-for-none, in-hand-for-others, in-no-stream}

@@ -27,8 +27,8 @@ use Rattle.world_keys.proofs.KeyRoutes.{route-to-keys}
 use Rattle.world_keys.proofs.RemovalRoutes.{route-to-removal}
 use Rattle.world_keys.proofs.Removals.{AreRising}
 
--- what is asked of the leader besides: its places name nodes, its tables of keys are by rising number, and each kind has
--- numbers left
+-- what is asked of the leader besides: its places name nodes, its tables of keys are by rising number, and each kind
+-- has numbers left
 pub record IsOrderly (l : Leader) : Type 0 where
   pub nodes : (name : Name) (node : ℕ) → place_of l.directory name ≡ Some (At node) → 1 ≤ node
   pub keys : AreRising l

@@ -267,8 +267,8 @@ module _ (script : Script) (w : World) (hand : List Held) (b : Beside) (holds : 
     next-is =
         ap (take_from n kind) used_up
         ∙ ap (λ t. if t then take_from_next n kind else None) (eq-eqb n.number 1 node-holds.number)
-        ∙ ap (λ t. if t && not (knows_any d kind (lease_of up)) then take_first (with_next_range n kind) kind (lease_of up)
-        else None) enough
+        ∙ ap (λ t. if t && not (knows_any d kind (lease_of up))
+        then take_first (with_next_range n kind) kind (lease_of up) else None) enough
         ∙ ap (λ t. if not t then take_first (with_next_range n kind) kind (lease_of up) else None) knows-none
         ∙ ap (λ (l : Leases). Some (taken_with (record n { leases = l; leader = record n.leader { directory = d' } })))
         (leased-twice n.leases kind numbers (lease_of up))
