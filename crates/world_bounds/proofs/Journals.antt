@@ -13,6 +13,7 @@ use Rattle.number_maps.specs.Maps.{Numbered, get, put}
 use Rattle.number_maps.specs.Rising.{IsRising}
 use Rattle.number_maps.proofs.LookUps.{get-first, get-later, put-equal, put-greater, put-less}
 use Rattle.number_maps.proofs.Rising.{above-first, above-lower, get-above, rising-behind, rising-nothing, rising-put, rising-rest}
+use Rattle.kernel_laws.proofs.Plain.{from_some, not_some}
 use Rattle.kernel_model.specs.Effect.{reply_alone}
 use Rattle.kernel_model.specs.Fitting.{FitsFrom, HasReplyAlone, IsDue, Place, Places, block_at, block_place, child_vars, move_on, opening_places, places_after, places_after_fork}
 use Rattle.kernel_model.specs.Script.{IsSoundScript, Vars, calls_in}
@@ -27,12 +28,6 @@ use Rattle.world_bounds.proofs.Totals.{total}
 -- what all that a map has comes to
 abbrev pub total_of : {V : Type 0} → (V → ℕ) → Numbered V → ℕ
 total_of f m = total (λ e. f e.1) m
-
-some-same : {A : Type 0} (x y : A) → Some x ≡ Some y → x ≡ y
-some-same x y h = cc
-
-none-is-not : {A : Type 0} (x : A) → None ≡ Some x → ⊥
-none-is-not x h = cc
 
 total-put : {V : Type 0} (f : V → ℕ) (m : Numbered V) (k : ℕ) (v : V) → total_of f (put m k v) ≤ total_of f m + f v
 total-put f [] k v = omega arith
@@ -57,20 +52,20 @@ total-put f (e ∷ m) k v =
 
 total-changed : {V : Type 0} (f : V → ℕ) (m : Numbered V) (k : ℕ) (v old : V) → IsRising m → get m k ≡ Some old
     → total_of f (put m k v) + f old ≤ total_of f m + f v
-total-changed f [] k v old rises there = absurd (none-is-not old there)
+total-changed f [] k v old rises there = not_some old there
 total-changed f (e ∷ m) k v old rises there =
     elim (cases_order k e.0) [
       | inl same ↦
           let is : total_of f (put (e ∷ m) k v) ≡ f v + total_of f m = ap (total_of f) (put-equal e m k v same)
-          in let was : f e.1 ≡ f old = ap f (some-same e.1 old (sym (get-first e m k same) ∙ there))
+          in let was : f e.1 ≡ f old = ap f (from_some e.1 old (sym (get-first e m k same) ∙ there))
           in omega (arith, is, was)
       | inr c ↦
           elim c [
             | inl less ↦
-                absurd (none-is-not old
+                not_some old
                 (sym (get-later e m k (λ same. omega (arith, same, less))
                 ∙ get-above k m (above-lower k e.0 m less (above-first e m rises)))
-                ∙ there))
+                ∙ there)
             | inr more ↦
                 let is : total_of f (put (e ∷ m) k v) ≡ f e.1 + total_of f (put m k v) =
                 ap (total_of f) (put-greater e m k v more)

@@ -13,7 +13,7 @@ use Rattle.number_maps.specs.Maps.{Numbered, get}
 use Rattle.number_maps.specs.Rising.{IsRising}
 use Rattle.number_maps.proofs.LookUps.{get-first, get-later}
 use Rattle.number_maps.proofs.Rising.{rising-behind, rising-filter, rising-nothing, rising-put}
-use Rattle.kernel_laws.proofs.Plain.{Of, by_test}
+use Rattle.kernel_laws.proofs.Plain.{Of, by_test, from_some, not_some}
 use Rattle.kernel_moves.proofs.Names.{get-put-other-name, get-put-same-name, name-cases}
 use Rattle.node_model.specs.declared.held.Held.{Held}
 use Rattle.node_model.specs.declared.route.Route.{Route}
@@ -76,14 +76,8 @@ of-test P true o h = h refl
 of-test P false o h = tt
 
 pub of-some : {A : Type 0} (P : A → Type 0) (o : Option A) (x : A) → Of P o → o ≡ Some x → P x
-of-some P None x h is = absurd (none-is-not is)
-  where
-    none-is-not : None ≡ Some x → ⊥
-    none-is-not e = cc
-of-some P (Some y) x h is = subst P (some-same is) h
-  where
-    some-same : Some y ≡ Some x → y ≡ x
-    some-same e = cc
+of-some P None x h is = not_some x is
+of-some P (Some y) x h is = subst P (from_some y x is) h
 
 -- ---- maps from names
 
@@ -159,18 +153,18 @@ module _ (script : Script) where
 
   -- ---- the directory
 
-  abbrev Place-Ok : Option Place → Type 0
-  Place-Ok o = PlaceNamesNodes script o
+  abbrev IsFine : Option Place → Type 0
+  IsFine o = PlaceNamesNodes script o
 
-  pub place-put : (d : Directory) (name : Name) (place : Place) → NamesNodes script d → Place-Ok (Some place)
+  pub place-put : (d : Directory) (name : Name) (place : Place) → NamesNodes script d → IsFine (Some place)
       → NamesNodes script (with_place d name place)
   place-put d name place k own =
       record {
         places = λ other. elim (name-cases other name) [
           | inl same ↦
-              subst (λ m. Place-Ok (get_named (put_named d.places name place) m)) (sym same)
-              (subst Place-Ok (sym (get-put-same-name d.places name place)) own)
-          | inr apart ↦ subst Place-Ok (sym (get-put-other-name d.places name place other apart)) (k.places other)
+              subst (λ m. IsFine (get_named (put_named d.places name place) m)) (sym same)
+              (subst IsFine (sym (get-put-same-name d.places name place)) own)
+          | inr apart ↦ subst IsFine (sym (get-put-other-name d.places name place other apart)) (k.places other)
         ];
         ranges = k.ranges;
       }
@@ -189,7 +183,7 @@ module _ (script : Script) where
       → NamesNodes script (recall d name to)
   recall-names d name to k own = place-put d name (Coming to []) k (own, tt)
 
-  hold-at-names : (d : Directory) (name : Name) (item : Held) (o : Option Place) → NamesNodes script d → Place-Ok o
+  hold-at-names : (d : Directory) (name : Name) (item : Held) (o : Option Place) → NamesNodes script d → IsFine o
       → ItemIsOfNode script item → NamesNodes script (hold_at d name item o)
   hold-at-names d name item None k was own = k
   hold-at-names d name item (Some (At node)) k was own = k
@@ -247,30 +241,30 @@ module _ (script : Script) where
             ∙ sym (ap (option_map (place_without node)) (get-later e m n other))
       ]
 
-  without-names : (node : ℕ) (o : Option Place) → Place-Ok o → Place-Ok (option_map (place_without node) o)
+  without-names : (node : ℕ) (o : Option Place) → IsFine o → IsFine (option_map (place_without node) o)
   without-names node None own = tt
   without-names node (Some (At owner)) own =
-      by_test (λ (p : Place). Place-Ok (Some p)) (nat_eq owner node) (Coming None []) (At owner) (λ _. (tt, tt))
+      by_test (λ (p : Place). IsFine (Some p)) (nat_eq owner node) (Coming None []) (At owner) (λ _. (tt, tt))
       (λ _. own)
   without-names node (Some (Coming to items)) own = own
 
   pub leaving-names : (d : Directory) (node : ℕ) → NamesNodes script d → NamesNodes script (with_leaving d node)
   leaving-names d node k = record { places = places-of; ranges = k.ranges }
     where
-      places-of : (name : Name) → Place-Ok (place_of (with_leaving d node) name)
+      places-of : (name : Name) → IsFine (place_of (with_leaving d node) name)
       places-of (Proc n) =
-          subst Place-Ok (sym (get-mapped node d.places.processes n)) (without-names node _ (k.places (Proc n)))
+          subst IsFine (sym (get-mapped node d.places.processes n)) (without-names node _ (k.places (Proc n)))
       places-of (Msg n) =
-          subst Place-Ok (sym (get-mapped node d.places.queues n)) (without-names node _ (k.places (Msg n)))
+          subst IsFine (sym (get-mapped node d.places.queues n)) (without-names node _ (k.places (Msg n)))
       places-of (Sem n) =
-          subst Place-Ok (sym (get-mapped node d.places.sets n)) (without-names node _ (k.places (Sem n)))
+          subst IsFine (sym (get-mapped node d.places.sets n)) (without-names node _ (k.places (Sem n)))
 
   pub left-names : (d : Directory) (node : ℕ) → NamesNodes script d → NamesNodes script (with_left d node)
   left-names d node k = record { places = k.places; ranges = k.ranges }
 
   -- ---- what the directory says
 
-  items-named : (o : Option Place) → Place-Ok o → ItemsAreOfNodes script (items_of o)
+  items-named : (o : Option Place) → IsFine o → ItemsAreOfNodes script (items_of o)
   items-named None own = tt
   items-named (Some (At node)) own = tt
   items-named (Some (Coming to items)) own = own.1
@@ -278,7 +272,7 @@ module _ (script : Script) where
   pub held-are-of-nodes : (d : Directory) (name : Name) → NamesNodes script d → ItemsAreOfNodes script (held_for d name)
   held-are-of-nodes d name k = items-named (place_of d name) (k.places name)
 
-  bound-named : (o : Option Place) → Place-Ok o → LeadsToNode script (destination_of o)
+  bound-named : (o : Option Place) → IsFine o → LeadsToNode script (destination_of o)
   bound-named None own = tt
   bound-named (Some (At node)) own = tt
   bound-named (Some (Coming to items)) own = own.0
@@ -307,7 +301,7 @@ module _ (script : Script) where
   maker-is-node d name k =
       maker-named (for_kind d.ranges (kind_of name)) (number_of name) (k.ranges (kind_of name))
 
-  route-by-names : (o : Option Place) (who_stays : Bool) (made_by : Option ℕ) → Place-Ok o → LeadsToNode script made_by
+  route-by-names : (o : Option Place) (who_stays : Bool) (made_by : Option ℕ) → IsFine o → LeadsToNode script made_by
       → RouteNamesNode (route_by o who_stays made_by)
   route-by-names (Some (At node)) who_stays made_by own made = own
   route-by-names (Some (Coming to items)) who_stays made_by own made = tt

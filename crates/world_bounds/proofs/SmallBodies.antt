@@ -29,7 +29,7 @@ use Rattle.kernel_model.specs.Valid.{IsValid}
 use Rattle.kernel_model.specs.Waiting.{is_waiting}
 use Rattle.kernel_laws.proofs.EndChanges.{parent-is}
 use Rattle.kernel_laws.proofs.People.{each-put, from-living}
-use Rattle.kernel_laws.proofs.Plain.{Of, by_test, of_choice}
+use Rattle.kernel_laws.proofs.Plain.{Of, by_test, from_some, not_some, of_choice}
 use Rattle.kernel_laws.proofs.Steps.{Step, step}
 use Rattle.node_model.specs.Bodies.{Body, Gone, body_in, process_body, queue_body, set_body}
 use Rattle.node_model.specs.Carrying.{is_served, makes_or_ends, on_body}
@@ -91,9 +91,6 @@ all-of k t (Sem id) = set-of-table k id (get k.sets id) t.sets refl
 
 -- ---- changes of a table
 
-some-same : {A : Type 0} (x y : A) → Some x ≡ Some y → x ≡ y
-some-same x y h = cc
-
 living-same : (a b : Alive) → kernel.Living a ≡ kernel.Living b → a ≡ b
 living-same a b h = cc
 
@@ -108,7 +105,7 @@ put-thing : {V : Type 0} (P : V → Type 0) (m : Numbered V) (k : ℕ) (v : V) �
 put-thing P m k v each own n x is =
     elim (cases_eq n k) [
       | inl same ↦
-          subst P (some-same v x (sym (get-put-same m k v) ∙ ap (get (put m k v)) (sym same) ∙ is)) own
+          subst P (from_some v x (sym (get-put-same m k v) ∙ ap (get (put m k v)) (sym same) ∙ is)) own
       | inr other ↦ each n x (sym (get-put-other m k v n other) ∙ is)
     ]
 
@@ -305,16 +302,10 @@ entry-leaves-small k next pid n call outcome all g =
 first-small : HasSmallTables opening
 first-small =
     record {
-      rows = put-living [] 1 _ (λ p a is. absurd (none-lives a is)) small-new;
-      queues = λ id q is. absurd (none-is q is);
-      sets = λ id s is. absurd (none-is s is);
+      rows = put-living [] 1 _ (λ p a is. not_some (kernel.Living a) is) small-new;
+      queues = λ id q is. not_some q is;
+      sets = λ id s is. not_some s is;
     }
-  where
-    none-is : {A : Type 0} (x : A) → None ≡ Some x → ⊥
-    none-is x h = cc
-
-    none-lives : (a : Alive) → None ≡ Some (kernel.Living a) → ⊥
-    none-lives a h = cc
 
 -- At first all bodies are small.
 pub opening-is-small : AreAllSmall opening

@@ -24,6 +24,7 @@ use Rattle.kernel_model.specs.Valid.{IsValid}
 use Rattle.kernel_model.specs.Waiting.{is_waiting}
 use Rattle.kernel_laws.specs.Reachable.{IsReachableKernel}
 use Rattle.kernel_laws.proofs.People.{from-living}
+use Rattle.kernel_laws.proofs.Plain.{from_some, not_some}
 use Rattle.kernel_laws.proofs.Steps.{Step, step}
 use Rattle.kernel_laws.proofs.ValidLaws.{reachable_kernels_are_valid_lemma}
 use Rattle.kernel_moves.proofs.History.{replays-more}
@@ -76,19 +77,13 @@ line-in-range line h =
 abbrev AreFine : Places → Type 0
 AreFine places = (pid : ℕ) (place : Place) → get places pid ≡ Some place → list_any is_bad place.left ≡ false
 
-some-same : {A : Type 0} (x y : A) → Some x ≡ Some y → x ≡ y
-some-same x y h = cc
-
-none-is-not : {A : Type 0} (x : A) → None ≡ Some x → ⊥
-none-is-not x h = cc
-
 fine-put : (places : Places) (k : ℕ) (v : Place) → AreFine places → list_any is_bad v.left ≡ false
     → AreFine (put places k v)
 fine-put places k v fine own pid place is =
     elim (cases_eq pid k) [
       | inl same ↦
           ap (λ (x : Place). list_any is_bad x.left)
-          (some-same place v (sym is ∙ ap (get (put places k v)) same ∙ get-put-same places k v)) ∙ own
+          (from_some place v (sym is ∙ ap (get (put places k v)) same ∙ get-put-same places k v)) ∙ own
       | inr other ↦ fine pid place (sym (get-put-other places k v pid other) ∙ is)
     ]
 
@@ -188,9 +183,9 @@ module _ (script : Script) (sound : IsSoundScript script) where
       elim (cases_eq pid 1) [
         | inl same ↦
             ap (λ (x : Place). list_any is_bad x.left)
-            (some-same place first (sym is ∙ get-first (1, first) [] pid same))
+            (from_some place first (sym is ∙ get-first (1, first) [] pid same))
             ∙ block-is-fine 1 (block_at script 1) [] refl
-        | inr other ↦ absurd (none-is-not place (sym (get-later (1, first) [] pid other) ∙ is))
+        | inr other ↦ not_some place (sym (get-later (1, first) [] pid other) ∙ is)
       ]
     where
       first : Place

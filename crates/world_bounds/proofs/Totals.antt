@@ -16,13 +16,6 @@ pub total-append : {X : Type 0} (f : X → ℕ) (xs ys : List X) → total f (xs
 total-append f [] ys = omega arith
 total-append f (x ∷ xs) ys = let rest = total-append f xs ys in omega (arith, rest)
 
-pub total-less : {X : Type 0} (f g : X → ℕ) → ((x : X) → f x ≤ g x) → (xs : List X) → total f xs ≤ total g xs
-total-less f g h [] = omega arith
-total-less f g h (x ∷ xs) =
-    let here = h x
-    in let rest = total-less f g h xs
-    in omega (arith, here, rest)
-
 -- ---- how often a number stands in a list
 
 abbrev pub one_if : Bool → ℕ
