@@ -1,5 +1,5 @@
--- Each call in hand of another node than the leader has a route that keeps all; so an Ask and a Bounce have a step. What
--- is asked of the leader besides stands as a premise by name.
+-- Each call in hand of another node than the leader has a route that keeps all; so an Ask and a Bounce have a step.
+-- What is asked of the leader besides stands as a premise by name.
 use Rattle.std.proofs.Common.{◌≡◌, ◌≢◌, ℕ, ◌≤◌, true, List, [], ◌∷◌, Some, sym, subst}
 use Rattle.pico_base.specs.declared.call.Call.{Call}
 use Rattle.pico_base.specs.declared.numbers.Kind.{Kind}

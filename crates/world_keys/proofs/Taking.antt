@@ -31,7 +31,8 @@ use Rattle.world_laws.proofs.Numbers.{maker-in-range}
 use Rattle.world_rules.proofs.Nodes.{leader-stage}
 use Rattle.world_own.proofs.Made.{number-is-low}
 use Rattle.world_own.proofs.NewNumbers.{kind-taken, taken-at, taken-maker, taken-unused}
-use Rattle.world_keys.proofs.NumberKinds.{kind-is, leased-twice, range-now, range-still, same-kind-turned}
+use Rattle.world_own.proofs.Objects.{kind-is}
+use Rattle.world_keys.proofs.NumberKinds.{leased-twice, range-now, range-still, same-kind-turned}
 use Rattle.world_keys.proofs.Refills.{kind-refilled, refilled}
 
 -- ---- what it comes to
