@@ -1,5 +1,5 @@
 -- All that the rules ask of a world besides the invariant, in one record; a bounded world of a sound script has it.
-use Rattle.std.proofs.Common.{◌≡◌, ◌≢◌, ℕ, zero, suc, ◌-◌, ◌≤◌, ◌<◌, Bool, true, false, List, [], ◌∷◌, length, Option, Some, None, unwrap_or, refl, ap, sym, subst, ◌∙◌, Contains, arith}
+use Rattle.std.proofs.Common.{◌≡◌, ℕ, zero, suc, ◌-◌, ◌≤◌, true, List, length, Option, Some, None, unwrap_or, refl, ap, sym, subst, ◌∙◌, Contains, arith}
 use Rattle.std.specs.Prelude.{if◌then◌else◌}
 use Rattle.std.specs.List.{AllByRecursion}
 use Rattle.std.proofs.lemmas.Bool.{lt-ltb}
@@ -16,11 +16,11 @@ use Rattle.kernel_model.specs.Script.{IsSoundScript}
 use Rattle.node_model.specs.declared.held.Held.{Held}
 use Rattle.node_model.specs.declared.held.Held.TheVariants.{Request}
 use Rattle.node_model.specs.Bodies.{Deeds}
-use Rattle.node_model.specs.Directory.{At, Place, has_more, held_for, max_ranges, place_of}
+use Rattle.node_model.specs.Directory.{At, has_more, held_for, max_ranges, place_of}
 use Rattle.node_model.specs.Kinds.{for_kind}
-use Rattle.world_model.specs.Node.{Leader, Node, unborn_node}
+use Rattle.world_model.specs.Node.{Node, unborn_node}
 use Rattle.world_model.specs.Step.{Step}
-use Rattle.world_model.specs.World.{World, node_at, node_count, world_after}
+use Rattle.world_model.specs.World.{World, node_at, world_after}
 use Rattle.world_laws.specs.Deeds.{DeedsAreRead}
 use Rattle.world_laws.specs.Invariant.{Holds, IsShaped}
 use Rattle.world_laws.specs.Places.{Beside}
@@ -40,6 +40,7 @@ use Rattle.world_bounds.proofs.Ranges.{few-ranges, more-ranges, some-blocks}
 use Rattle.world_bounds.proofs.Scripts.{sound-is-runnable}
 use Rattle.world_bounds.proofs.Worlds.{middle-is-bounded}
 
+-- what a rule may ask, in the words in which rules ask it
 pub record Ready (script : Script) (w : World) (hand : List Held) (b : Beside) : Type 0 where
   -- the script's
   pub runnable : IsRunnable script
@@ -85,7 +86,8 @@ module _ (script : Script) (sound : IsSoundScript script) (w : World) (hand : Li
   rises-by q (Some n) is =
       let within = slice_get_within w.nodes (suc q - 1) n is
       in let count = holds.shape.nodes
-      in let here : NodeIsBounded script (node_of w (suc q)) = k.nodes (suc q) (omega arith) (omega (arith, within, count))
+      in let here : NodeIsBounded script (node_of w (suc q)) =
+      k.nodes (suc q) (omega arith) (omega (arith, within, count))
       in let same : node_of w (suc q) ≡ n =
       ap (λ t. unwrap_or (if t then node_at w (suc q) else None) (unborn_node (suc q))) (lt-ltb 0 (suc q) (omega arith))
       ∙ ap (λ o. unwrap_or o (unborn_node (suc q))) is
@@ -142,6 +144,7 @@ module _ (script : Script) (w : World) (hand : List Held) (b : Beside) (ready : 
       ready.frames p q (frames.Forward asked) (head-there script w p q (frames.Forward asked) rest h)
       in f.says
 
+  -- so is that of a Bounce
   pub bounce-is-of-node : (p q : ℕ) (asked : Asked) (rest : List Frame)
       → Heads script w p q (frames.Bounce asked) rest → IsNode script asked.caller
   bounce-is-of-node p q asked rest h =

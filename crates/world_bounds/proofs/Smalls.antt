@@ -1,9 +1,9 @@
 -- Along a history that fits a sound script all bodies stay small.
-use Rattle.std.proofs.Common.{◌≡◌, ◌≢◌, ℕ, ◌+◌, ◌-◌, ◌<◌, ◌^◌, Bool, true, false, not, ◌&&◌, ◌||◌, List, [], ◌∷◌, ◌++◌, Option, Some, None, is_some, refl, ap, sym, subst, ◌∙◌, inl, inr}
+use Rattle.std.proofs.Common.{◌≡◌, ℕ, ◌-◌, ◌<◌, ◌^◌, Bool, true, false, not, ◌&&◌, ◌||◌, List, [], ◌∷◌, ◌++◌, Option, Some, None, is_some, refl, ap, sym, subst, ◌∙◌, inl, inr}
 use Rattle.std.specs.Prelude.{if◌then◌else◌}
 use Rattle.std.specs.List.{list_all, list_any}
 use Rattle.std.specs.Option.{option_and_then}
-use Rattle.std.proofs.lemmas.Bool.{and_parts, cases_Bool, cases_eq, false≢true, not-true, or_parts}
+use Rattle.std.proofs.lemmas.Bool.{and_parts, cases_Bool, cases_eq, false≢true, or_parts}
 use Rattle.pico_base.specs.declared.call.Call.{Call}
 use Rattle.pico_base.specs.declared.call.Call.TheVariants as calls
 use Rattle.pico_base.specs.declared.reply.Entry.{Entry}
@@ -17,19 +17,17 @@ use Rattle.number_maps.specs.Maps.{get, put}
 use Rattle.number_maps.proofs.LookUps.{get-first, get-later, get-put-same, get-put-other}
 use Rattle.kernel_model.specs.Fitting.{FitsFrom, IsDue, Place, Places, block_at, block_place, child_vars, is_killed, move_on, opening_places, places_after, places_after_fork}
 use Rattle.kernel_model.specs.History.{Replays, number_in}
-use Rattle.kernel_model.specs.Kernel.{Kernel, Process, alive_in, living_at, opening}
+use Rattle.kernel_model.specs.Kernel.{Kernel, Process, alive_in, opening}
 use Rattle.kernel_model.specs.Numbers.{is_between}
 use Rattle.kernel_model.specs.Script.{IsSoundScript, Vars, is_exit, is_in_range, is_line, is_tried_once, max_calls, sets_rightly, with_exit}
 use Rattle.kernel_model.specs.Valid.{IsValid}
 use Rattle.kernel_model.specs.Waiting.{is_waiting}
 use Rattle.kernel_laws.specs.Reachable.{IsReachableKernel}
-use Rattle.kernel_laws.proofs.People.{from-living}
 use Rattle.kernel_laws.proofs.Plain.{from_some, not_some}
 use Rattle.kernel_laws.proofs.Steps.{Step, step}
 use Rattle.kernel_laws.proofs.ValidLaws.{reachable_kernels_are_valid_lemma}
 use Rattle.kernel_moves.proofs.History.{replays-more}
 use Rattle.kernel_moves.proofs.Places.{DueLine, due-line, left-shrinks, waiting-of}
-use Rattle.node_model.specs.Caller.{lines_in}
 use Rattle.deeds_read.specs.Small.{IsSmallCall}
 use Rattle.deeds_read.proofs.Families.{used-is-small}
 use Rattle.world_bounds.proofs.Calls.{killed-never-waits, small-from, small-in-range}

@@ -1,7 +1,6 @@
 -- A node starts its process's next call: bounds stay.
-use Rattle.std.proofs.Common.{◌≡◌, ℕ, ◌+◌, Bool, true, false, not, ◌&&◌, nat_eq, List, [], ◌∷◌, Option, Some, None, Result, Ok, Err, refl, ap, sym, subst, ◌∙◌, arith}
-use Rattle.std.specs.Prelude.{if◌then◌else◌}
-use Rattle.std.specs.Option.{option_and_then, option_map}
+use Rattle.std.proofs.Common.{◌≡◌, ℕ, ◌+◌, not, ◌&&◌, nat_eq, Option, Some, None, Result, Ok, Err, refl, ap, subst, ◌∙◌, arith}
+use Rattle.std.specs.Option.{option_and_then}
 use Rattle.pico_base.specs.declared.call.Call.{Call}
 use Rattle.pico_base.specs.declared.call.Call.TheVariants as calls
 use Rattle.pico_base.specs.declared.call.Home.{Home}
@@ -25,13 +24,13 @@ use Rattle.node_model.specs.Caller.{due_call, start_call}
 use Rattle.node_model.specs.Kinds.{for_kind, put_all}
 use Rattle.node_model.specs.Leases.{is_used_up}
 use Rattle.node_model.specs.Parcels.{end_first}
-use Rattle.node_model.specs.Serving.{Served, serve}
+use Rattle.node_model.specs.Serving.{serve}
 use Rattle.world_model.specs.Node.{Leaving, Node, Over, asked_here, can_run, holds, is_leader, own_row}
 use Rattle.world_model.specs.Numbers.{make}
 use Rattle.world_model.specs.Routing.{route_call}
 use Rattle.world_model.specs.Serving.{serve_asked}
 use Rattle.world_model.specs.Starting.{act, ask, carry_out_own, end_leader, leave, request, run, start, start_at, start_by, start_due, start_end, start_making, start_own, start_set, with_look}
-use Rattle.world_model.specs.Step.{Step, carry_out, send, step_to, with_deeds, with_node}
+use Rattle.world_model.specs.Step.{Step, send, step_to, with_deeds, with_node}
 use Rattle.world_bounds.specs.Bounded.{IsNode, LeadsToNode, NodeIsBounded, StepIsBounded}
 use Rattle.world_bounds.proofs.NewNames.{ForksNodes, make-bounded}
 use Rattle.world_bounds.proofs.Parts.{look-names, of-map, of-next, of-test, owner-is-node, put-all-rises}
@@ -45,7 +44,8 @@ module _ (script : Script) where
   act-bounded : (s : Step) (call : Call) → StepIsBounded script s → Of (StepIsBounded script) (act script s call)
   act-bounded s call k =
       of-map (StepIsBounded script) (serve s.node.deeds s.node.pid call) (carry_out_own script s call)
-      (λ served _. carry-out-bounded script (with_deeds s (put_all s.node.deeds served.changes)) (asked_here s.node call)
+      (λ served _.
+      carry-out-bounded script (with_deeds s (put_all s.node.deeds served.changes)) (asked_here s.node call)
       served.reply
       (with-deeds-bounded script s (put_all s.node.deeds served.changes) k
       (put-all-rises served.changes s.node.deeds k.node.deeds)) k.node.number)

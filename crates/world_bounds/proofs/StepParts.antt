@@ -1,8 +1,7 @@
 -- What a step does to the node, and sends, keeps its bounds.
-use Rattle.std.proofs.Common.{◌≡◌, ◌≢◌, ℕ, ◌+◌, Bool, true, false, not, ◌&&◌, nat_eq, nat_lt, List, [], ◌∷◌, ◌++◌, fold, Option, Some, None, is_some, refl, ap, sym, subst, ◌∙◌, inl, inr, arith}
+use Rattle.std.proofs.Common.{◌≡◌, ℕ, ◌+◌, Bool, true, false, ◌&&◌, nat_eq, nat_lt, [], ◌∷◌, Option, Some, None, refl, sym, ◌∙◌, arith}
 use Rattle.std.specs.Prelude.{if◌then◌else◌, slice_get}
 use Rattle.std.specs.List.{AllByRecursion}
-use Rattle.std.specs.Option.{option_and_then, option_map}
 use Rattle.pico_base.specs.declared.call.Call.{Call}
 use Rattle.pico_base.specs.declared.call.Call.TheVariants as calls
 use Rattle.pico_base.specs.declared.numbers.Name.{Name}
@@ -25,9 +24,9 @@ use Rattle.node_model.specs.Leases.{Leases}
 use Rattle.node_model.specs.Serving.{Served, has_read, no_such_name, serve}
 use Rattle.node_model.specs.Spelling.{pack}
 use Rattle.node_model.specs.Watches.{Watches, moves_to, watch_over, with_read}
-use Rattle.world_model.specs.Node.{Node, Leader, Stage, is_leader, under_way_as}
+use Rattle.world_model.specs.Node.{Node, Stage, is_leader, under_way_as}
 use Rattle.world_model.specs.Serving.{grant, grant_held, move_to, note_read, serve_asked, serve_asked_with, serve_nobody, without_deed}
-use Rattle.world_model.specs.Step.{Step, carry_out, enter, reply_here, reply_to, send, step_to, with_deeds, with_directory, with_leader, with_node}
+use Rattle.world_model.specs.Step.{Step, carry_out, enter, reply_here, reply_to, send, step_to, with_deeds, with_directory, with_node}
 use Rattle.world_bounds.specs.Bounded.{AllRise, FrameNamesNodes, IsNode, LeadsToNode, NamesNodes, NodeIsBounded, SendIsBounded, StepIsBounded}
 use Rattle.world_bounds.proofs.Parts.{all-both, arrive-names, of-map, put-all-rises, without-rises}
 
@@ -35,7 +34,11 @@ use Rattle.world_bounds.proofs.Parts.{all-both, arrive-names, of-map, put-all-ri
 
 answered-by : (c : Caller) (call : Call) (reply : Reply) (line : Line) (again : Bool)
     → (if again then record (end_call c) { tried = c.tried + 1 }
-    else record (end_call c) { line = c.line + 1; tried = 0; vars = set_variable c.vars line.set (value_in (Some reply)) }).under_way
+    else record (end_call c) {
+      line = c.line + 1;
+      tried = 0;
+      vars = set_variable c.vars line.set (value_in (Some reply));
+    }).under_way
     ≡ None
 answered-by c call reply line true = refl
 answered-by c call reply line false = refl
@@ -45,16 +48,19 @@ answered-at c call reply None = refl
 answered-at c call reply (Some line) =
     answered-by c call reply line (asks_again call (Some reply) && nat_lt (c.tried + 1) line.tries)
 
+-- none is under way once the reply is here
 pub answered-none : (script : Script) (block : ℕ) (c : Caller) (call : Call) (reply : Reply)
     → (answer_call script block c call reply).under_way ≡ None
 answered-none script block c call reply = answered-at c call reply (slice_get (lines_of script block) c.line)
 
+-- where none is, no fork is
 pub none-forks : (o : Option Call) (block : ℕ) → o ≡ None → o ≡ Some (calls.Fork block) → ⊥
 none-forks o block none some = let apart : None ≡ Some (calls.Fork block) = sym none ∙ some in absurd (cc)
 
 module _ (script : Script) where
   -- ---- a node
 
+  -- another caller
   pub with-caller-bounded : (n : Node) (c : Caller) → NodeIsBounded script n
       → ((block : ℕ) → c.under_way ≡ Some (calls.Fork block) → IsNode script block)
       → NodeIsBounded script (record n { caller = c })
@@ -70,6 +76,7 @@ module _ (script : Script) where
         set_keys = k.set_keys;
       }
 
+  -- another directory
   pub with-directory-bounded : (n : Node) (d : Directory) → NodeIsBounded script n → NamesNodes script d
       → NodeIsBounded script (with_directory n d)
   with-directory-bounded n d k names =
@@ -100,6 +107,7 @@ module _ (script : Script) where
         set_keys = k.set_keys;
       }
 
+  -- another cache
   pub with-cache-bounded : (n : Node) (cache : Cache) → NodeIsBounded script n
       → AllByRecursion (λ e. IsNode script e.1) cache → NodeIsBounded script (record n { cache = cache })
   with-cache-bounded n cache k names =
@@ -123,19 +131,23 @@ module _ (script : Script) where
       in let high = k.high
       in record { low = omega arith; high = omega (arith, low, high) }
 
+  -- a step that has done nothing yet
   pub step-to-bounded : (n : Node) → NodeIsBounded script n → StepIsBounded script (step_to n)
   step-to-bounded n k = record { node = k; sends = tt }
 
+  -- with another node
   pub with-node-bounded : (s : Step) (n : Node) → StepIsBounded script s → NodeIsBounded script n
       → StepIsBounded script (with_node s n)
   with-node-bounded s n k own = record { node = own; sends = k.sends }
 
+  -- with other deeds
   pub with-deeds-bounded : (s : Step) (deeds : Deeds) → StepIsBounded script s → AllRise deeds
       → StepIsBounded script (with_deeds s deeds)
   with-deeds-bounded s deeds k rise =
       with-node-bounded s (record s.node { deeds = deeds }) k
       (with-tables-bounded s.node deeds s.node.watches s.node.leases s.node.stage k.node rise)
 
+  -- with a further frame
   pub send-bounded : (s : Step) (to : ℕ) (frame : Frame) → StepIsBounded script s → IsNode script to
       → FrameNamesNodes script frame → StepIsBounded script (send s to frame)
   send-bounded s to frame k receiver says =
@@ -150,6 +162,7 @@ module _ (script : Script) where
       → StepIsBounded script (send s 1 frame)
   send-first-bounded s frame k says = send-bounded s 1 frame k (first-is-node s.node.number k.node.number) says
 
+  -- with a further entry
   pub enter-bounded : (s : Step) (pid : ℕ) (call : Call) (reply : Reply) → StepIsBounded script s
       → StepIsBounded script (enter s pid call reply)
   enter-bounded s pid call reply k = record { node = k.node; sends = k.sends }
@@ -164,6 +177,7 @@ module _ (script : Script) where
       absurd (none-forks (answer_call script s.node.number s.node.caller call reply).under_way block
       (answered-none script s.node.number s.node.caller call reply) some)))
 
+  -- with a reply
   pub reply-to-bounded : (s : Step) (asked : Asked) (reply : Reply) → StepIsBounded script s
       → IsNode script asked.caller → StepIsBounded script (reply_to script s asked reply)
   reply-to-bounded s asked reply k caller =
@@ -193,6 +207,7 @@ module _ (script : Script) where
       (without-rises s.node.deeds name k.node.deeds))
       (arrive-names script s.node.leader.directory name to k.node.directory receiver))) receiver tt
 
+  -- the leader grants a deed that it holds
   pub grant-bounded : (s : Step) (name : Name) (to : ℕ) → StepIsBounded script s → IsNode script to
       → StepIsBounded script (grant s name to)
   grant-bounded s name to k receiver =
@@ -213,6 +228,7 @@ module _ (script : Script) where
   reader-is-node w reader k =
       by_test (LeadsToNode script) (nat_eq (run_with w reader) 4) (Some reader) None (λ _. k) (λ _. tt)
 
+  -- a read is noted
   pub note-read-bounded : (s : Step) (name : Name) (reader : ℕ) → StepIsBounded script s → IsNode script reader
       → StepIsBounded script (note_read s name reader)
   note-read-bounded s name reader k own =
@@ -240,6 +256,7 @@ module _ (script : Script) where
       of-map (StepIsBounded script) (serve s.node.deeds asked.pid asked.call) (serve_asked_with script s name asked)
       (λ served _. serve-asked-with-bounded s name asked served k caller)
 
+  -- so is one on a number that names nothing
   pub serve-nobody-bounded : (s : Step) (name : Name) (asked : Asked) → StepIsBounded script s
       → IsNode script asked.caller → StepIsBounded script (serve_nobody script s name asked)
   serve-nobody-bounded s name asked k caller =

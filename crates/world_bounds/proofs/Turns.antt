@@ -1,6 +1,6 @@
 -- A node takes a frame: bounds stay, rule by rule.
-use Rattle.std.proofs.Common.{◌≡◌, ℕ, ◌+◌, Bool, true, false, not, ◌&&◌, ◌||◌, nat_eq, nat_lt, List, [], ◌∷◌, ◌++◌, map, fold, Option, Some, None, refl, ap, sym, subst, ◌∙◌, arith}
-use Rattle.std.specs.Prelude.{if◌then◌else◌, nat_le}
+use Rattle.std.proofs.Common.{◌≡◌, ℕ, true, not, ◌&&◌, nat_eq, List, [], ◌∷◌, ◌++◌, map, fold, Option, Some, None, refl}
+use Rattle.std.specs.Prelude.{nat_le}
 use Rattle.std.specs.List.{AllByRecursion, list_all, list_any}
 use Rattle.std.specs.Option.{option_and_then, option_map}
 use Rattle.std.proofs.lemmas.Bool.{and_parts, leb-true}
@@ -19,16 +19,14 @@ use Rattle.rpc_frame.specs.declared.deed.PackedDeed.{PackedDeed}
 use Rattle.rpc_frame.specs.declared.deed.Parcel.{Parcel}
 use Rattle.rpc_frame.specs.declared.frame.Frame.{Frame}
 use Rattle.rpc_frame.specs.declared.frame.Frame.TheVariants as frames
-use Rattle.number_maps.specs.Maps.{Numbered}
 use Rattle.kernel_laws.proofs.Plain.{Of, by_test}
 use Rattle.kernel_model.specs.Script.{IsSoundScript, Vars}
-use Rattle.kernel_model.specs.Row.{Row}
 use Rattle.kernel_model.specs.Waiting.{is_waiting}
 use Rattle.node_model.specs.declared.held.Held.TheVariants.{Ending}
 use Rattle.node_model.specs.Bodies.{AQueue, ASet, Body, Ended, Gone, Removed, Living as LivingBody}
 use Rattle.node_model.specs.Cache.{forget, learn}
 use Rattle.node_model.specs.Caller.{answer_call, new_caller}
-use Rattle.node_model.specs.Directory.{Directory, arrive, bound_for, has_more, held_for, is_coming, is_known, is_leaving, place_name, place_of, recall, stays, upcoming, with_leaving, with_left, with_range}
+use Rattle.node_model.specs.Directory.{Directory, arrive, bound_for, has_more, held_for, is_coming, place_name, place_of, stays, upcoming, with_leaving, with_left, with_range}
 use Rattle.node_model.specs.Kinds.{get_named, is_object, none_named, put_named, without_named}
 use Rattle.node_model.specs.Leases.{leases_hold, refill, takes_number}
 use Rattle.node_model.specs.Parcels.{fitting_bodies, give_all, give_back, pack_all, parcel_of}
@@ -36,19 +34,19 @@ use Rattle.node_model.specs.Spelling.{pack, read_deed}
 use Rattle.world_model.specs.Calls.{answered_by, ask_after, asks_as, bounce, bounce_or_nobody, end_with_reply, forwarded_by, is_for_others, is_from_leader, is_on_name_or_removal, is_to_leader, requested_by, take_answer, take_ask, take_bounce, take_forward, take_not_owner, take_request, with_forgotten, with_learnt}
 use Rattle.world_model.specs.Lives.{be_born, born_with, end_released, hand_over, is_end, is_forked_by, is_new_row, is_of_process, may_leave, may_take, place_family, send_to_leader, take_checkpoint, take_exit, take_leaving, take_left, take_recall_all}
 use Rattle.world_model.specs.Moves.{come_back, give_back as gives_back, goes_on_to, is_at, is_new_here, keep, pass_on, receive_deed, suggest, take_give_back, take_grant, take_recall, take_suggest}
-use Rattle.world_model.specs.Node.{Left, Living, Node, holds, is_born, is_leader, is_leaving_stage, is_node, is_unborn, under_way_as}
+use Rattle.world_model.specs.Node.{Left, Node, holds, is_born, is_leader, is_leaving_stage, is_node, is_unborn, under_way_as}
 use Rattle.world_model.specs.Numbers.{make}
 use Rattle.world_model.specs.Ranges.{go_on_with, may_lease, take_lease, take_lease_ask, take_placed}
-use Rattle.world_model.specs.Routing.{exit_here, names_in, recall_from, release, route_call}
+use Rattle.world_model.specs.Routing.{exit_here, names_in, recall_from, route_call}
 use Rattle.world_model.specs.Serving.{serve_asked, serve_nobody, without_deed}
-use Rattle.world_model.specs.Starting.{ask, run}
+use Rattle.world_model.specs.Starting.{run}
 use Rattle.world_model.specs.Step.{Step, send, step_to, with_directory}
 use Rattle.world_model.specs.Turn.{run_turn, sends_frames, take_frame, take_turn}
 use Rattle.world_model.specs.Grammar.{is_frame, is_sent_frame}
 use Rattle.world_model.specs.World.{node_count}
 use Rattle.world_bounds.specs.Bounded.{FrameIsBounded, FrameNamesNodes, IsNode, LeadsToNode, NamesNodes, NodeIsBounded, StepIsBounded}
 use Rattle.world_bounds.proofs.NewNames.{ForksNodes, make-bounded}
-use Rattle.world_bounds.proofs.Parts.{arrive-names, bound-is-node, forget-names, held-are-of-nodes, learn-names, leaving-names, left-names, none-rises, of-map, of-next, of-some, of-test, place-name-names, put-rises, range-names, recall-names, without-rises}
+use Rattle.world_bounds.proofs.Parts.{arrive-names, bound-is-node, forget-names, held-are-of-nodes, learn-names, leaving-names, left-names, none-rises, of-map, of-next, of-some, of-test, place-name-names, put-rises, range-names, without-rises}
 use Rattle.world_bounds.proofs.Released.{exit-here-bounded, release-bounded}
 use Rattle.world_bounds.proofs.Routed.{recall-from-bounded, route-call-bounded}
 use Rattle.world_bounds.proofs.Started.{ask-bounded, run-bounded}
@@ -408,7 +406,8 @@ module _ (script : Script) where
   take-exit-bounded : (n : Node) (sender : ℕ) (parcel : Parcel) → NodeIsBounded script n
       → Bounded (take_exit n sender parcel)
   take-exit-bounded n sender parcel k =
-      of-test (StepIsBounded script) (is_from_leader n sender && not (list_any (leases_hold n.leases) (names_in parcel)))
+      of-test (StepIsBounded script)
+      (is_from_leader n sender && not (list_any (leases_hold n.leases) (names_in parcel)))
       (exit_here (step_to n) parcel)
       (λ _. exit-here-bounded script (step_to n) parcel (step-to-bounded script n k))
 
@@ -420,7 +419,8 @@ module _ (script : Script) where
 
   take-frame-bounded : (n : Node) (to sender : ℕ) (frame : Frame) → NodeIsBounded script n
       → FrameIsBounded script to sender frame → Bounded (take_frame script n sender frame)
-  take-frame-bounded n to sender (frames.Ask ticket pid call) k f = take-ask-bounded n sender ticket pid call k f.sender_is
+  take-frame-bounded n to sender (frames.Ask ticket pid call) k f =
+      take-ask-bounded n sender ticket pid call k f.sender_is
   take-frame-bounded n to sender (frames.Request ticket pid call) k f =
       take-request-bounded n sender ticket pid call k f.sender_is
   take-frame-bounded n to sender (frames.Forward asked) k f = take-forward-bounded n sender asked k f.says
@@ -459,4 +459,5 @@ module _ (script : Script) where
   pub run-turn-bounded : IsSoundScript script → (n : Node) → NodeIsBounded script n → Bounded (run_turn script n)
   run-turn-bounded sound n k =
       of-next (StepIsBounded script) (run script n) sends_frames
-      (λ s is. sent-frames-bounded s (of-some (StepIsBounded script) (run script n) s (run-bounded script sound n k) is))
+      (λ s is. sent-frames-bounded s
+      (of-some (StepIsBounded script) (run script n) s (run-bounded script sound n k) is))

@@ -1,6 +1,7 @@
--- What each world of a run has, with no thought of who owns what: numbers of nodes are those of nodes of the script, and
--- tables stand by rising number. It holds in the middle of an event, too, while the leader has calls and parcels in hand.
-use Rattle.std.specs.Prelude.{◌≡◌, ◌≤◌, ℕ, List, Option, Some, None}
+-- What each world of a run has, with no thought of who owns what: numbers of nodes are those of nodes of the script,
+-- and tables stand by rising number. It holds in the middle of an event, too, while the leader has calls and parcels in
+-- hand.
+use Rattle.std.specs.Prelude.{◌≡◌, ◌≤◌, ℕ, List, [], Option, Some, None}
 use Rattle.std.specs.List.{AllByRecursion}
 use Rattle.pico_base.specs.declared.call.Call.TheVariants as calls
 use Rattle.pico_base.specs.declared.numbers.Kind.{Kind}
@@ -16,6 +17,7 @@ use Rattle.node_model.specs.Kinds.{Named, for_kind}
 use Rattle.world_model.specs.Node.{Node}
 use Rattle.world_model.specs.Step.{Step}
 use Rattle.world_model.specs.World.{World, node_count}
+use Rattle.world_laws.specs.Invariant.{IsShaped}
 use Rattle.world_laws.specs.Sights.{node_of, frames_to}
 
 -- the number of a node of the script
@@ -95,3 +97,8 @@ pub record IsBounded (script : Script) (w : World) (hand : List Held) : Type 0 w
   pub nodes : (p : ℕ) → 1 ≤ p → p ≤ node_count script → NodeIsBounded script (node_of w p)
   pub streams : (to sender : ℕ) → AllByRecursion (FrameIsBounded script to sender) (frames_to w to sender)
   pub in_hand : ItemsAreOfNodes script hand
+
+-- a node for each block, a stream for each pair of nodes, and bounds: each step keeps these by themselves
+pub record IsShapedAndBounded (script : Script) (w : World) : Type 0 where
+  pub shape : IsShaped script w
+  pub bounded : IsBounded script w []
