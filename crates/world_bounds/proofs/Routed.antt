@@ -57,7 +57,9 @@ module _ (script : Script) where
         number = k.number;
         parent_node = k.parent_node;
         fork = k.fork;
+        size = k.size;
         deeds = k.deeds;
+        watches = k.watches;
         cache = k.cache;
         directory = own.directory;
         queue_keys = own.queue_keys;
@@ -79,7 +81,9 @@ module _ (script : Script) where
         number = k.node.number;
         parent_node = k.node.parent_node;
         fork = k.node.fork;
+        size = k.node.size;
         deeds = put-rises n.deeds name body k.node.deeds;
+        watches = k.node.watches;
         cache = k.node.cache;
         directory = place-name-names script l.directory name n.number own.directory k.node.number;
         queue_keys = own.queue_keys;

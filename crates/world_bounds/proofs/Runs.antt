@@ -3,6 +3,7 @@ use Rattle.std.proofs.Common.{◌≡◌, ℕ, zero, suc, ◌+◌, ◌-◌, ◌�
 use Rattle.std.specs.Prelude.{if◌then◌else◌}
 use Rattle.std.specs.List.{AllByRecursion}
 use Rattle.std.proofs.lemmas.Bool.{cases_eq, lt-ltb}
+use Rattle.pico_base.specs.declared.call.Call.TheVariants as calls
 use Rattle.pico_base.specs.declared.numbers.Kind.TheVariants as kinds
 use Rattle.pico_base.specs.declared.numbers.Name.{Name}
 use Rattle.pico_base.specs.declared.numbers.Name.TheVariants.{Proc, Msg, Sem}
@@ -27,7 +28,8 @@ use Rattle.world_rules.proofs.Opening.{opening-holds}
 use Rattle.world_bounds.specs.Bounded.{FrameIsBounded, IsBounded, IsNode, IsShapedAndBounded, NamesNodes, NodeIsBounded, PlaceNamesNodes}
 use Rattle.world_bounds.proofs.Parts.{all-at, none-rises, put-rises}
 use Rattle.world_bounds.proofs.Scripts.{sound-is-runnable}
-use Rattle.world_bounds.proofs.StepParts.{first-is-node, none-forks}
+use Rattle.world_bounds.proofs.StepParts.{first-is-node, none-is}
+use Rattle.world_bounds.proofs.Watched.{none-watched}
 use Rattle.world_bounds.proofs.Worlds.{event-stays-bounded}
 
 -- ---- nothing is on its way
@@ -80,8 +82,11 @@ module _ (script : Script) where
       record {
         number = own;
         parent_node = first-is-node script p own;
-        fork = λ block some. absurd (none-forks (new_caller []).under_way block refl some);
+        fork = λ block. none-is (new_caller []).under_way (calls.Fork block) refl;
+        size = λ count create excl.
+            none-is (new_caller []).under_way (calls.SemGet None count create excl) refl;
         deeds = none-rises;
+        watches = none-watched p;
         cache = tt;
         directory = opening-names (first-is-node script p own);
         queue_keys = rising-nothing Bound;
@@ -93,8 +98,11 @@ module _ (script : Script) where
       record {
         number = own;
         parent_node = own;
-        fork = λ block some. absurd (none-forks (new_caller []).under_way block refl some);
+        fork = λ block. none-is (new_caller []).under_way (calls.Fork block) refl;
+        size = λ count create excl.
+            none-is (new_caller []).under_way (calls.SemGet None count create excl) refl;
         deeds = put-rises none_named (Proc 1) (LivingBody new_row) none-rises;
+        watches = none-watched 1;
         cache = tt;
         directory = opening-names own;
         queue_keys = rising-nothing Bound;

@@ -31,6 +31,7 @@ use Rattle.node_model.specs.Kinds.{get_named, is_object, none_named, put_named, 
 use Rattle.node_model.specs.Leases.{leases_hold, refill, takes_number}
 use Rattle.node_model.specs.Parcels.{fitting_bodies, give_all, give_back, pack_all, parcel_of}
 use Rattle.node_model.specs.Spelling.{pack, read_deed}
+use Rattle.node_model.specs.Watches.{unwatch}
 use Rattle.world_model.specs.Calls.{answered_by, ask_after, asks_as, bounce, bounce_or_nobody, end_with_reply, forwarded_by, is_for_others, is_from_leader, is_on_name_or_removal, is_to_leader, requested_by, take_answer, take_ask, take_bounce, take_forward, take_not_owner, take_request, with_forgotten, with_learnt}
 use Rattle.world_model.specs.Lives.{be_born, born_with, end_released, hand_over, is_end, is_forked_by, is_new_row, is_of_process, may_leave, may_take, place_family, send_to_leader, take_checkpoint, take_exit, take_leaving, take_left, take_recall_all}
 use Rattle.world_model.specs.Moves.{come_back, give_back as gives_back, goes_on_to, is_at, is_new_here, keep, pass_on, receive_deed, suggest, take_give_back, take_grant, take_recall, take_suggest}
@@ -50,7 +51,8 @@ use Rattle.world_bounds.proofs.Parts.{arrive-names, bound-is-node, forget-names,
 use Rattle.world_bounds.proofs.Released.{exit-here-bounded, release-bounded}
 use Rattle.world_bounds.proofs.Routed.{recall-from-bounded, route-call-bounded}
 use Rattle.world_bounds.proofs.Started.{ask-bounded, run-bounded}
-use Rattle.world_bounds.proofs.StepParts.{answered-none, first-is-node, none-forks, send-bounded, send-first-bounded, serve-asked-bounded, serve-nobody-bounded, step-to-bounded, with-cache-bounded, with-caller-bounded, with-directory-bounded, with-tables-bounded}
+use Rattle.world_bounds.proofs.Watched.{none-watched, unwatched}
+use Rattle.world_bounds.proofs.StepParts.{answered-none, first-is-node, none-is, send-bounded, send-first-bounded, serve-asked-bounded, serve-nobody-bounded, step-to-bounded, with-cache-bounded, with-caller-bounded, with-directory-bounded, with-tables-bounded}
 
 module _ (script : Script) where
   abbrev Bounded : Option Step → Type 0
@@ -169,9 +171,12 @@ module _ (script : Script) where
       (λ _. step-to-bounded script (end_with_reply script n sender call reply)
       (with-caller-bounded script (with_learnt n sender (home_of n.pid call))
       (answer_call script n.number n.caller call reply) (learnt-bounded n sender (home_of n.pid call) k own)
-      (λ block some.
-      absurd (none-forks (answer_call script n.number n.caller call reply).under_way block
-      (answered-none script n.number n.caller call reply) some))))
+      (λ block.
+      none-is (answer_call script n.number n.caller call reply).under_way (calls.Fork block)
+      (answered-none script n.number n.caller call reply))
+      (λ count create excl.
+      none-is (answer_call script n.number n.caller call reply).under_way (calls.SemGet None count create excl)
+      (answered-none script n.number n.caller call reply))))
 
   take-answer-bounded : (n : Node) (sender ticket : ℕ) (reply : Reply) → NodeIsBounded script n → IsNode script sender
       → Bounded (take_answer script n sender ticket reply)
@@ -205,7 +210,7 @@ module _ (script : Script) where
       (make script (step_to (record n { leases = refill n.leases kind first })) call kind)
       (λ _. make-bounded script (step_to (record n { leases = refill n.leases kind first })) call kind
       (step-to-bounded script (record n { leases = refill n.leases kind first })
-      (with-tables-bounded script n n.deeds n.watches (refill n.leases kind first) n.stage k k.deeds)) own)
+      (with-tables-bounded script n n.deeds n.watches (refill n.leases kind first) n.stage k k.deeds k.watches)) own)
 
   take-lease-bounded : (n : Node) (sender : ℕ) (kind : Kind) (first : ℕ) → NodeIsBounded script n
       → Bounded (take_lease script n sender kind first)
@@ -250,14 +255,14 @@ module _ (script : Script) where
       (λ _. of-map (StepIsBounded script) (get_named n.deeds name) (gives_back n name)
       (λ body _. send-first-bounded script (step_to (without_deed n name)) (frames.GiveBack (pack name body))
       (step-to-bounded script (without_deed n name)
-      (with-tables-bounded script n (without_named n.deeds name) _ n.leases n.stage k
-      (without-rises n.deeds name k.deeds))) tt))
+      (with-tables-bounded script n (without_named n.deeds name) (unwatch n.watches name) n.leases n.stage k
+      (without-rises n.deeds name k.deeds) (unwatched n.number n.watches name k.watches))) tt))
 
   keep-bounded : (n : Node) (name : Name) (body : Body) → NodeIsBounded script n
       → NodeIsBounded script (keep n name body)
   keep-bounded n name body k =
       with-tables-bounded script n (put_named n.deeds name body) n.watches n.leases n.stage k
-      (put-rises n.deeds name body k.deeds)
+      (put-rises n.deeds name body k.deeds) k.watches
 
   goes-on-to-node : (d : Directory) (o : Option ℕ) → LeadsToNode script o → LeadsToNode script (goes_on_to d o)
   goes-on-to-node d None own = tt
@@ -312,8 +317,11 @@ module _ (script : Script) where
       record {
         number = k.number;
         parent_node = own;
-        fork = λ block some. absurd (none-forks (new_caller vars).under_way block refl some);
+        fork = λ block. none-is (new_caller vars).under_way (calls.Fork block) refl;
+        size = λ count create excl.
+            none-is (new_caller vars).under_way (calls.SemGet None count create excl) refl;
         deeds = put-rises none_named (Proc pid) body none-rises;
+        watches = k.watches;
         cache = k.cache;
         directory = k.directory;
         queue_keys = k.queue_keys;
@@ -377,7 +385,7 @@ module _ (script : Script) where
       (Some (fold send_to_leader (step_to empty) (give_all n.deeds n.pid n.parent call)))
       (λ _. sent-to-leader (give_all n.deeds n.pid n.parent call) (step_to empty)
       (step-to-bounded script empty
-      (with-tables-bounded script n none_named none_named n.leases Left k none-rises))
+      (with-tables-bounded script n none_named none_named n.leases Left k none-rises (none-watched n.number)))
       (given-name (pack_all Msg n.deeds.queues ++ pack_all Sem n.deeds.sets) (parcel_of n.deeds n.pid n.parent call)))
 
   take-recall-all-bounded : (n : Node) (sender : ℕ) → NodeIsBounded script n → Bounded (take_recall_all n sender)
