@@ -62,6 +62,7 @@ use Rattle.world_own.proofs.Asks.{Takes}
 use Rattle.world_own.proofs.Made.{number-is-low}
 use Rattle.world_own.proofs.Objects.{for-with, kind-itself}
 use Rattle.world_makes.proofs.FromNext.{kind-of-name, none-passes, number-of-name, with-with}
+use Rattle.world_makes.proofs.Making.{HasSize, Making, making-of, making-takes}
 use Rattle.world_makes.proofs.NewOnes.{held-nowhere}
 use Rattle.world_makes.proofs.Sources.{Comes, Gives, Source, kind-come, ready_kind, ready_node, takes_by}
 
@@ -181,7 +182,7 @@ all-true a c d e h g i j = rw (h, g, i, j) refl
 module _ (script : Script) (w : World) (b : Beside) (holds : Holds script w [] b) (p : ℕ) (kind : Kind) (first : ℕ)
     (rest : List Frame) (h : Heads script w p 1 (frames.Lease kind first) rest)
     (rising : IsRising (node_of w p).deeds.processes)
-    (sized : (call : Call) → (node_of w p).caller.under_way ≡ Some call → takes_number kind call ≡ true → Takes kind call)
+    (sized : (call : Call) → (node_of w p).caller.under_way ≡ Some call → HasSize call)
     (enough : length (for_kind (directory_of w).ranges kind) ≤ max_ranges) where
   abbrev frame : Frame
   frame = frames.Lease kind first
@@ -248,8 +249,11 @@ module _ (script : Script) (w : World) (b : Beside) (holds : Holds script w [] b
       by-home homes.Parent e = absurd (false≢true e)
 
   -- it is one that a number of the kind is taken for
-  pub takes : Takes kind call
-  takes = sized call found.is takes-kind
+  pub making : Making kind call
+  making = making-of kind call takes-kind (sized call found.is)
+
+  takes : Takes kind call
+  takes = making-takes kind call making
 
   holds-row : HoldsRow n.deeds n.pid
   holds-row = subst (λ (s : Stage). HoldsIn p n s) is-living node-there.holds
