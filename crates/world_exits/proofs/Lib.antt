@@ -12,3 +12,4 @@ pub mod ExitDeeds
 pub mod ExitMoves
 pub mod LeaderExits
 pub mod EndKeeps
+pub mod SentParcels
