@@ -13,3 +13,4 @@ pub mod ExitMoves
 pub mod LeaderExits
 pub mod EndKeeps
 pub mod SentParcels
+pub mod ExitTos

@@ -135,7 +135,8 @@ module _ (script : Script) (w : World) (b : Beside) (holds : Holds script w [] b
   pub above-leader : 2 ≤ x
   above-leader = let low = h.low in let other = not-leader in omega (arith, low, other)
 
-  stream-is : frames_to w x 1 ≡ frame ∷ rest
+  -- it is the first of its stream
+  pub stream-is : frames_to w x 1 ≡ frame ∷ rest
   stream-is = head-is script w x 1 frame rest h
 
   -- the node whose parcel it is
