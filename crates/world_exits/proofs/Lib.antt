@@ -12,3 +12,5 @@ pub mod ExitDeeds
 pub mod ExitMoves
 pub mod LeaderExits
 pub mod EndKeeps
+pub mod SentParcels
+pub mod ExitTos
