@@ -1,2 +1,3 @@
 pub mod WatchedSteps
 pub mod WatchedTurns
+pub mod Hands
