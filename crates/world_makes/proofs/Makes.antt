@@ -1,7 +1,7 @@
--- A node starts, or goes on with, a call that takes a number, and what holds in every world that a run leads to still
--- holds. So each call of a process on itself keeps it, at every node.
-use Rattle.std.proofs.Common.{◌≡◌, ◌≢◌, ◌⊎◌, ℕ, ◌≤◌, Bool, true, false, List, [], ◌∷◌, length, Some, None, Ok, Err, refl, ap, sym, subst, ◌∙◌, inl, inr, arith}
-use Rattle.std.proofs.lemmas.Bool.{cases_eq, false≢true, ltb-true}
+-- A node starts, or goes on with, a call that takes a number, and what holds in every world that a run leads to
+-- still holds. So each call of a process on itself keeps it, at every node.
+use Rattle.std.proofs.Common.{◌≡◌, ◌≢◌, ◌⊎◌, ℕ, ◌≤◌, Bool, true, List, [], ◌∷◌, length, Some, None, Ok, refl, ap, sym, subst, inl, inr, arith}
+use Rattle.std.proofs.lemmas.Bool.{cases_eq, ltb-true}
 use Rattle.pico_base.specs.declared.call.Call.{Call}
 use Rattle.pico_base.specs.declared.call.Call.TheVariants as calls
 use Rattle.pico_base.specs.declared.numbers.Kind.{Kind}
@@ -27,7 +27,7 @@ use Rattle.world_laws.specs.Places.{Beside}
 use Rattle.world_laws.specs.Sights.{directory_of, node_of}
 use Rattle.world_laws.specs.Invariant.{Holds}
 use Rattle.world_laws.proofs.Steps.{Heads}
-use Rattle.world_own.proofs.Asks.{Takes, lease-ask-starts}
+use Rattle.world_own.proofs.Asks.{lease-ask-starts}
 use Rattle.world_own.proofs.Made.{makes-queue as a-queue, makes-set as a-set}
 use Rattle.world_own.proofs.OwnCalls.{own-call-keeps}
 use Rattle.world_own.proofs.OwnCases.{Keeps, OwnCase, forks as case-forks, is-refused, makes-queue, makes-set, own-case, serves}
@@ -133,7 +133,7 @@ module _ (script : Script) (sound : IsSoundScript script) (w : World) (b : Besid
           made-with script sound w b holds 1 kind _ _ _ (events.Run 1) t.call m
           (from-next script sound w b holds high_z can_z t kind (making-takes kind t.call m) over (more kind)))
 
-  -- A call that takes a number starts with one of the lease; else the leader gives itself more, and any other node asks.
+  -- A call that takes a number starts with one of the lease; else the leader gives itself more, and another node asks.
   pub making-keeps : (kind : Kind) → Making kind s.call → Keeps script w (events.Run p)
   making-keeps kind m = by-lease (for_kind (node_of w p).leases kind) refl
     where

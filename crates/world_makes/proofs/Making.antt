@@ -1,5 +1,5 @@
 -- The calls that take a number, and what each comes to with one of any source.
-use Rattle.std.proofs.Common.{◌≡◌, ℕ, Bool, true, false, List, Some, None, Ok, refl, ap, sym, subst, ◌∙◌}
+use Rattle.std.proofs.Common.{◌≡◌, ℕ, Bool, true, None, Ok, refl, sym, subst}
 use Rattle.std.proofs.lemmas.Bool.{false≢true}
 use Rattle.pico_base.specs.declared.call.Call.{Call}
 use Rattle.pico_base.specs.declared.call.Call.TheVariants as calls
@@ -20,7 +20,7 @@ pub data Making (kind : Kind) (call : Call) : Type 0 where
 abbrev pub HasSize : Call → Type 0
 HasSize call =
     (count : ℕ) (create excl : Bool) → call ≡ calls.SemGet None count create excl
-        → (set : SemaphoreSet) × (new_set count ≡ Ok set)
+    → (set : SemaphoreSet) × (new_set count ≡ Ok set)
 
 -- a call that takes a number of a kind is one of these
 pub making-of : (kind : Kind) (call : Call) → takes_number kind call ≡ true → HasSize call → Making kind call
