@@ -1,9 +1,7 @@
 -- The rule of an ExitTo: the exit is carried out at the node, and all holds as before.
-use Rattle.std.proofs.Common.{◌≡◌, ◌≢◌, ℕ, ◌≤◌, Bool, true, false, ◌&&◌, ◌||◌, not, cond, if◌then◌else◌, List, [], ◌∷◌, ◌++◌, map, filter, flat_map, nat_eq, Option, Some, None, is_some, Contains, refl, ap, sym, subst, ◌∙◌, inl, inr, arith, append-nil}
-use Rattle.std.specs.List.{AllByRecursion, list_any}
-use Rattle.std.proofs.lemmas.Bool.{cases_eq, eq-eqb, ne_eqb, false≢true}
-use Rattle.pico_base.specs.declared.call.Call.{Call}
-use Rattle.pico_base.specs.declared.numbers.Kind.{Kind}
+use Rattle.std.proofs.Common.{◌≡◌, ◌≢◌, ℕ, ◌≤◌, Bool, true, false, ◌&&◌, ◌||◌, not, cond, if◌then◌else◌, List, [], ◌∷◌, ◌++◌, map, filter, flat_map, nat_eq, Some, None, is_some, Contains, refl, ap, sym, subst, ◌∙◌, inl, inr}
+use Rattle.std.specs.List.{list_any}
+use Rattle.std.proofs.lemmas.Bool.{cases_eq, ne_eqb, false≢true}
 use Rattle.pico_base.specs.declared.numbers.Name.{Name}
 use Rattle.pico_base.specs.declared.numbers.Name.TheVariants.{Proc, Msg, Sem}
 use Rattle.pico_base.specs.declared.reply.Reply.TheVariants as replies
@@ -15,35 +13,32 @@ use Rattle.rpc_frame.specs.declared.deed.Parcel.{Parcel}
 use Rattle.rpc_frame.specs.declared.frame.Frame.{Frame}
 use Rattle.rpc_frame.specs.declared.frame.Frame.TheVariants as frames
 use Rattle.number_maps.specs.Maps.{get, is_used}
-use Rattle.kernel_model.specs.Kernel.{Kernel, Process}
+use Rattle.kernel_model.specs.Kernel.{Kernel}
 use Rattle.kernel_moves.specs.Entering.{is_used_name}
-use Rattle.node_model.specs.declared.held.Held.{Held}
 use Rattle.node_model.specs.declared.held.Held.TheVariants.{Ending}
 use Rattle.node_model.specs.Kinds.{kind_of, number_of, is_object, is_same_name, get_named, for_kind}
-use Rattle.node_model.specs.Directory.{Directory, maker, stays, has_deed_of, is_parcel_with, held_for, is_known, place_of}
+use Rattle.node_model.specs.Directory.{Directory, has_deed_of, held_for, is_known}
 use Rattle.node_model.specs.Leases.{leases_hold}
 use Rattle.node_model.specs.Bodies.{Body, Deeds, body_in}
 use Rattle.world_model.specs.Node.{Node, is_leader, is_born}
 use Rattle.world_model.specs.Step.{Step, step_to, with_deeds, enter, entry_by}
-use Rattle.world_model.specs.Calls.{is_from_leader}
 use Rattle.world_model.specs.Lives.{take_exit}
 use Rattle.world_model.specs.Routing.{names_in, exit_here}
 use Rattle.world_model.specs.Census.{brings}
 use Rattle.world_model.specs.World.{World, world_after, node_count}
-use Rattle.world_laws.specs.Places.{DeedPlace, Unmade, InTable, InExitTo, CallPlace, Beside}
+use Rattle.world_laws.specs.Places.{DeedPlace, Unmade, InTable, InExitTo, Beside}
 use Rattle.world_laws.specs.Sights.{node_of, frames_to, directory_of, stage_of, is_born_in}
 use Rattle.world_laws.specs.Plays.{Hold, Has, PlayStep, Comes, IsNeeded, play, plays, steps_if, begin, is_there, is_checkpoint_of, has_any, placed_in, news}
 use Rattle.world_laws.specs.Names.{NameSight, name_sight, NameHolds, OneIf, IsBringer, IsItemWith, PlaysTo, is_stream_of, is_kept_for, is_hand_place, node_in, held_as, held_at, comes_to, range_steps_of, forker, is_maker, belief_of}
 use Rattle.world_laws.specs.Callers.{CallHolds, call_sight, is_item_about}
 use Rattle.world_laws.specs.Ways.{IsParcelIn, left as left_in, sent as sent_in, kept as kept_in, at_hand, under_way_of, HasSender}
 use Rattle.world_laws.specs.Ranges.{kind_sight}
-use Rattle.world_laws.specs.Families.{NodeHolds, IsWhereFor}
+use Rattle.world_laws.specs.Families.{NodeHolds}
 use Rattle.world_laws.specs.Invariant.{Holds, IsLeading}
 use Rattle.world_laws.specs.Deeds.{DeedsAreRead}
-use Rattle.world_laws.proofs.Changes.{Changes, filter-is-list-map, flat_map-is-list-map, made-same, only-stayed, read-same, directory-same}
-use Rattle.world_laws.proofs.Frames.{concerns}
+use Rattle.world_laws.proofs.Changes.{Changes, filter-is-list-map, flat_map-is-list-map, made-same, only-stayed, directory-same}
 use Rattle.world_laws.proofs.Heads.{rest-stays, others-stay}
-use Rattle.world_laws.proofs.LeftAlone.{LeavesCall, SameCaller, DirectoryLeaves, same-directory, name-left-alone, call-left-alone, was-there}
+use Rattle.world_laws.proofs.LeftAlone.{LeavesCall, DirectoryLeaves, same-directory, name-left-alone, call-left-alone, was-there}
 use Rattle.world_laws.proofs.Named.{name-cases, same-name, other-name}
 use Rattle.world_laws.proofs.NameFacts.{has_left, begins-with, play-comes, play-needs, held-here, held-elsewhere, holder-is-born}
 use Rattle.world_laws.proofs.Numbers.{used-is-taken}
@@ -51,7 +46,6 @@ use Rattle.world_laws.proofs.Stays.{IsMore, SameName, name-stays, call-stays}
 use Rattle.world_laws.proofs.Steps.{KeepsAs, Heads, world_without, take-steps, changes-by-take}
 use Rattle.world_own.proofs.Rebodied.{rebodied, name-rebodied}
 use Rattle.world_exits.proofs.Arrivals.{is_one_of, has-is-one}
-use Rattle.world_exits.proofs.DeedMoves.{ComesAsBefore}
 use Rattle.world_exits.proofs.Parcels.{HasParcel, is-used-there, in-parcel-made, no-object-in}
 use Rattle.world_exits.proofs.EndLeaves.{EndLeaves}
 use Rattle.world_exits.proofs.Exits.{next, exit_entry, deeds_then, exit-leaves, exits}
@@ -74,6 +68,7 @@ come_in s x body begins steps =
       steps = steps;
     }
 
+-- what there is to show for it
 pub record ComesIn (s : NameSight) (c x : ℕ) (begins : ℕ → Hold) (steps : ℕ → List PlayStep) : Type 0 where
   pub deed : s.deed ≡ InExitTo c x
   pub used : s.used ≡ true
@@ -92,7 +87,8 @@ name-comes-in script pids born name s c x body begins steps r h =
       streams = λ to sender. refl;
       kept = λ pid. subst (λ d. OneIf (is_kept_for (forker script) pids d pid)
           (IsItemWith name s.body (pids (node_in d))) (s.kept pid)) r.deed (h.kept pid);
-      in_hand = subst (λ d. OneIf (is_hand_place d) (IsItemWith name s.body (pids (node_in d))) s.hand) r.deed h.in_hand;
+      in_hand = subst (λ d. OneIf (is_hand_place d) (IsItemWith name s.body (pids (node_in d))) s.hand) r.deed
+          h.in_hand;
       known = h.known;
       believed = h.believed;
       plays = r.plays;

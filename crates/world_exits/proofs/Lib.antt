@@ -14,3 +14,6 @@ pub mod LeaderExits
 pub mod EndKeeps
 pub mod SentParcels
 pub mod ExitTos
+pub mod NoForker
+pub mod FirstEnds
+pub mod HandEnds

@@ -1,5 +1,6 @@
--- A parcel that has come to a node: its names are on their way there in it, and the parent's deed is in the node's table.
-use Rattle.std.proofs.Common.{◌≡◌, ◌≢◌, ℕ, suc, ◌<◌, ◌≤◌, Bool, true, false, ◌&&◌, ◌||◌, not, cond, if◌then◌else◌, List, [], ◌∷◌, ◌++◌, length, filter, nat_eq, Option, Some, None, is_none, is_some, option_and_then, Contains, refl, ap, sym, subst, ◌∙◌, inl, inr, arith}
+-- A parcel that has come to a node: its names are on their way there in it, and the parent's deed is in the node's
+-- table.
+use Rattle.std.proofs.Common.{◌≡◌, ◌≢◌, ℕ, suc, ◌<◌, ◌≤◌, Bool, true, false, ◌&&◌, ◌||◌, not, cond, if◌then◌else◌, List, [], ◌∷◌, ◌++◌, length, filter, nat_eq, Option, Some, None, is_none, is_some, option_and_then, Contains, refl, ap, sym, subst, ◌∙◌, arith}
 use Rattle.std.specs.List.{list_any}
 use Rattle.std.proofs.lemmas.Bool.{eq-eqb, eqb-true, ne_eqb, false≢true}
 use Rattle.std.proofs.lemmas.List.Elements.{Contains-append_right}
@@ -17,29 +18,25 @@ use Rattle.kernel_moves.specs.Entering.{IsChildIn}
 use Rattle.node_model.specs.Kinds.{is_same_name}
 use Rattle.node_model.specs.Directory.{has_deed_of}
 use Rattle.node_model.specs.Bodies.{Body, body_in}
-use Rattle.world_model.specs.Node.{Left}
 use Rattle.world_model.specs.Lives.{is_new_row}
 use Rattle.world_model.specs.Census.{brings}
-use Rattle.world_model.specs.World.{World, node_count}
+use Rattle.world_model.specs.World.{World}
 use Rattle.world_laws.specs.Places.{DeedPlace, Unmade, InTable, InCheckpoint, InGrant, InGiveBack, InLeft, InKept, InHand, InExitTo, Beside}
 use Rattle.world_laws.specs.Sights.{frames_to, stage_of, is_born_in}
-use Rattle.world_laws.specs.Plays.{Hold, Has, PlayStep, Comes, IsNeeded, steps_if, play, plays, begin, is_has, is_there, is_checkpoint_of, has_any}
+use Rattle.world_laws.specs.Plays.{Hold, Has, Comes, IsNeeded, steps_if, play, plays, is_has, is_there, is_checkpoint_of, has_any}
 use Rattle.world_laws.specs.Names.{NameSight, name_sight, NameHolds, HasDeed, OneIf, OnlyOne, IsBringer, IsExitOf, PlaysTo, may_be_at, is_stream_of, held_at, comes_to, forker, belief_of}
 use Rattle.world_laws.specs.Ways.{IsParcelOf, sent as sent_in, under_way_of, HasSender}
-use Rattle.world_laws.specs.Families.{FamilyHolds, IsWhereFor, IsNewAt, checkpoints_to, is_first_stage}
+use Rattle.world_laws.specs.Families.{FamilyHolds, IsWhereFor, IsNewAt, checkpoints_to}
 use Rattle.world_laws.specs.Invariant.{Holds, process_deed}
 use Rattle.world_laws.proofs.Heads.{head-is, head-there, head-from-another}
 use Rattle.world_laws.proofs.Named.{same-name}
-use Rattle.world_laws.proofs.NameFacts.{IsHeldAt, held-there, begin-has, has_left, play-needs, play-comes}
+use Rattle.world_laws.proofs.NameFacts.{IsHeldAt, held-there, begin-has, has_left, play-needs}
 use Rattle.world_laws.proofs.Steps.{Heads}
 use Rattle.world_ends.proofs.KeptItems.{kept-is-there, not-left-out, has-its-own}
 use Rattle.world_ends.proofs.Taken.{fewer-none}
-use Rattle.world_exits.proofs.Parcels.{HasParcel, sent-on-way, has-number, own-lives, own-family, parcel-forked}
+use Rattle.world_exits.proofs.Parcels.{HasParcel, sent-on-way, has-number, own-lives, not-first}
 use Rattle.world_exits.proofs.ExitMoves.{is_exit}
-
-checkpoints-bring : (name : Name) (frame : Frame) → is_checkpoint_of name frame ≡ true → brings name frame ≡ true
-checkpoints-bring name (frames.Checkpoint pid parent deed vars) h = h
-checkpoints-bring name frame h = absurd (false≢true h)
+use Rattle.world_exits.proofs.SentOn.{checkpoints-bring}
 
 some-same : {A : Type 0} {u v : A} → Some u ≡ Some v → u ≡ v
 some-same e = cc
@@ -132,6 +129,7 @@ module _ (script : Script) (w : World) (b : Beside) (holds : Holds script w [] b
   pub not-leader : x ≢ 1
   not-leader e = head-from-another script w x 1 frame rest h (is_born_in w) holds.frames_fit (sym e)
 
+  -- so it is above
   pub above-leader : 2 ≤ x
   above-leader = let low = h.low in let other = not-leader in omega (arith, low, other)
 
@@ -171,7 +169,8 @@ module _ (script : Script) (w : World) (b : Beside) (holds : Holds script w [] b
       (brought-is name
       ∙ ap (λ t. cond t (frame ∷ filter (brings name) rest) (filter (brings name) rest)) e) (known.streams x 1))
       in record {
-        sent = sent-here (forker script) b.pids name (body_in b.kernel name) x parcel (b.deed name) first.counts first.is;
+        sent = sent-here (forker script) b.pids name (body_in b.kernel name) x parcel (b.deed name) first.counts
+            first.is;
         alone = first.alone;
       }
 
@@ -263,21 +262,17 @@ module _ (script : Script) (w : World) (b : Beside) (holds : Holds script w [] b
   of-parent : NameHolds script b.pids (is_born_in w) parent p
   of-parent = holds.names parent
 
-  not-first : c ≢ 1
-  not-first e = is-not-left (sym (ap (stage_of w) e) ∙ sent-sender.stage)
-    where
-      is-not-left : stage_of w 1 ≡ Left → ⊥
-      is-not-left left =
-          let node = holds.nodes 1 (omega arith) (let high = h.high in let low = h.low in omega (arith, high, low))
-          in false≢true (sym (ap is_first_stage left) ∙ node.first refl)
-
   up : (b.pids (forker script c) ≢ 0) × (forker script c < c)
-  up = let pids = holds.pids in pids.forked c forked not-first
+  up =
+      let pids = holds.pids
+      in pids.forked c forked
+      (not-first script w [] b holds parcel c sent-sender.call (InExitTo c x) parcel-sent)
 
   abbrev g : ℕ
   g = forker script c
 
-  family : FamilyHolds script b.pids b.places b.kernel (process_deed b.deed) (checkpoints_to script w g) (stage_of w g) g
+  family : FamilyHolds script b.pids b.places b.kernel (process_deed b.deed) (checkpoints_to script w g) (stage_of w g)
+      g
   family = holds.families g up.0
 
   parent-is : parent ≡ Proc (b.pids g)
@@ -320,7 +315,7 @@ module _ (script : Script) (w : World) (b : Beside) (holds : Holds script w [] b
       listed a lives =
           let own = own-lives script w [] b holds parcel c sent-sender.call (InExitTo c x) parcel-sent
           in subst (λ v. IsChildIn b.kernel (b.pids g) (b.pids c) v) (some-same (sym child.is ∙ own.there))
-          (child.child not-first) a lives
+          (child.child (not-first script w [] b holds parcel c sent-sender.call (InExitTo c x) parcel-sent)) a lives
 
       by-process : (v : Process) → get b.kernel.processes (b.pids g) ≡ Some v → IsWhereFor g (InCheckpoint to) v
           → IsNewAt v (InCheckpoint to) → ⊥
@@ -380,6 +375,7 @@ module _ (script : Script) (w : World) (b : Beside) (holds : Holds script w [] b
       ++ plays b.call parent rest) parent-not-in
       ∙ ap (λ t. steps_if t IsNeeded ++ plays b.call parent rest) (same-name parent (Proc parcel.parent) refl)
 
+  -- so it does
   pub parent-plays : ParentPlays
   parent-plays =
       let played : PlaysTo (p.begins x) (p.steps x) (is_there x (belief_of p)) = of-parent.plays x above-leader

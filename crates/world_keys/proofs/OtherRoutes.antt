@@ -1,6 +1,6 @@
 -- Each call in hand of another node than the leader has a route that keeps all; so an Ask and a Bounce have a step. What
 -- is asked of the leader besides stands as a premise by name.
-use Rattle.std.proofs.Common.{◌≡◌, ◌≢◌, ℕ, ◌≤◌, true, List, [], ◌∷◌, Some, refl, ap, sym, subst, ◌∙◌}
+use Rattle.std.proofs.Common.{◌≡◌, ◌≢◌, ℕ, ◌≤◌, true, List, [], ◌∷◌, Some, sym, subst}
 use Rattle.pico_base.specs.declared.call.Call.{Call}
 use Rattle.pico_base.specs.declared.numbers.Kind.{Kind}
 use Rattle.pico_base.specs.declared.numbers.Name.{Name}
@@ -15,9 +15,8 @@ use Rattle.world_model.specs.Node.{Leader, Node}
 use Rattle.world_model.specs.Step.{Step, step_to}
 use Rattle.world_model.specs.World.{World, node_count, world_after}
 use Rattle.world_laws.specs.Places.{Beside, IsInHand, call_in}
-use Rattle.world_laws.specs.Sights.{directory_of, node_of}
+use Rattle.world_laws.specs.Sights.{node_of}
 use Rattle.world_laws.specs.Invariant.{Holds}
-use Rattle.world_laws.proofs.Changes.{Changes}
 use Rattle.world_laws.proofs.Steps.{Heads, changes-by-take, world_without}
 use Rattle.world_laws.proofs.Heads.{head-from-another}
 use Rattle.world_hand.proofs.Asks.{NeverWaits, ask-in-hand}

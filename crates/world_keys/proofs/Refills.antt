@@ -1,6 +1,6 @@
 -- A node gives itself the next range of a kind, as the leader does: what holds of the kind, and of an unused name whose
 -- number is in the range.
-use Rattle.std.proofs.Common.{◌≡◌, ◌≢◌, ◌⊎◌, ℕ, ◌≤◌, Bool, true, false, ◌||◌, not, if◌then◌else◌, List, [], ◌∷◌, ◌++◌, nat_eq, Contains, Option, Some, None, is_some, refl, ap, sym, subst, ◌∙◌, inl, inr}
+use Rattle.std.proofs.Common.{◌≡◌, ◌⊎◌, ℕ, ◌≤◌, Bool, true, false, ◌||◌, not, if◌then◌else◌, List, [], ◌∷◌, ◌++◌, nat_eq, Contains, Option, Some, None, is_some, refl, ap, sym, subst, ◌∙◌, inl, inr}
 use Rattle.std.specs.List.{list_any}
 use Rattle.std.proofs.lemmas.Bool.{eq-eqb, eqb-true, false≢true}
 use Rattle.std.proofs.lemmas.List.Elements.{Contains-push_cases}
@@ -10,7 +10,7 @@ use Rattle.kernel_laws.proofs.Members.{contains-first}
 use Rattle.node_model.specs.Directory.{maker_in}
 use Rattle.node_model.specs.Leases.{lease_of}
 use Rattle.world_laws.specs.Plays.{believed, is_there}
-use Rattle.world_laws.specs.Names.{IsTold, NameHolds, NameSight, PlaysTo, IsSentThere, belief_of, maker_tells}
+use Rattle.world_laws.specs.Names.{IsTold, NameHolds, NameSight, PlaysTo, belief_of, maker_tells}
 use Rattle.world_laws.specs.Ranges.{IsRangeOf, IsRestOf, KindHolds, KindSight, is_given, is_in_lease}
 use Rattle.world_laws.proofs.Numbers.{maker-in-range}
 use Rattle.world_laws.proofs.NewRanges.{maker-elsewhere, maker-stays, range-of-next, unmade-next, upcoming_in}
