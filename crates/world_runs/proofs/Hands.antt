@@ -32,8 +32,7 @@ use Rattle.world_first.specs.Watching.{WatchesAsOwner}
 use Rattle.world_first.proofs.OwnRoutes.{first-has-route}
 use Rattle.world_ends.proofs.KeptItems.{parcel-held}
 use Rattle.world_release.proofs.Rounds.{HasEnd, RoutesAll, frees, keeps_it, leader-in-step}
-use Rattle.world_exits.proofs.EndKeeps.{EndKeeps, end-carried-out, end-sent-on}
-use Rattle.world_exits.proofs.Parcels.{hand-sender, high-node, low-node, parcel-in-hand}
+use Rattle.world_exits.proofs.HandEnds as ends
 use Rattle.world_bounds.specs.Bounded.{IsBounded, ItemIsOfNode, ItemsAreOfNodes, StepIsBounded}
 use Rattle.world_bounds.proofs.Parts.{all-both, of-some}
 use Rattle.world_bounds.proofs.Ranges.{some-blocks}
@@ -73,57 +72,6 @@ module _ (script : Script) (w : World) (hand : List Held) (b : Beside) (ready : 
         keys = record { queues = ready.queue_keys; sets = ready.set_keys };
         enough = ready.enough;
       }
-
--- ---- who is known
-
--- the leader knows the parent of a process whose node has left
-module _ (script : Script) (w : World) (b : Beside) (c : ℕ) (left : stage_of w c ≡ Left) where
-  none-here : (s : Stage) → s ≡ Left → (s ≡ Unborn) ⊎ (s ≡ Living) → ⊥
-  none-here s e (inl u) = absurd (cc)
-  none-here s e (inr u) = absurd (cc)
-
-  none-leaves : (s : Stage) → s ≡ Left → s ≡ Leaving → ⊥
-  none-leaves s e u = absurd (cc)
-
-  left-knows : Way script b.pids c (knows_parent script w b.pids c) (way_sight w c)
-      → knows_parent script w b.pids c ≡ true
-  left-knows (here x) = absurd (none-here (stage_of w c) left x.stage)
-  left-knows (tells x) = absurd (none-leaves (stage_of w c) left x.stage)
-  left-knows (collected x) = absurd (none-leaves (stage_of w c) left x.stage)
-  left-knows (over x) = x.parent
-  left-knows (gone x) = x.parent
-
-first-never-left : (script : Script) (b : Beside) (born : ℕ → Bool) (n : Node) → NodeHolds script b.pids born 1 n
-    → n.stage ≡ Left → ⊥
-first-never-left script b born n holds left =
-    false≢true (subst (λ s. is_first_stage s ≡ true) left (holds.first refl))
-
-module _ (script : Script) (w : World) (rest : List Held) (parcel : Parcel) (b : Beside)
-    (holds : Holds script w (Ending parcel ∷ rest) b) (some_node : 1 ≤ node_count script) where
-  abbrev sender : HasSender script b.pids (stage_of w) (under_way_of w) parcel
-  sender = hand-sender script w rest parcel b holds
-
-  low : 1 ≤ sender.node
-  low =
-      low-node script w (Ending parcel ∷ rest) b holds parcel sender.node sender.call (InHand sender.node)
-      (parcel-in-hand script w rest parcel b holds)
-
-  high : sender.node ≤ node_count script
-  high =
-      high-node script w (Ending parcel ∷ rest) b holds parcel sender.node sender.call (InHand sender.node)
-      (parcel-in-hand script w rest parcel b holds)
-
-  not-first : sender.node ≢ 1
-  not-first e =
-      first-never-left script b (is_born_in w) (node_of w 1) (holds.nodes 1 (omega arith) some_node)
-      (subst (λ c. stage_of w c ≡ Left) e sender.stage)
-
-  -- The parent of a process whose parcel is in hand is known.
-  pub parent-is-known : is_known (directory_of w) (Proc parcel.parent) ≡ true
-  parent-is-known =
-      let its : IsParcelOf script b.pids sender.node sender.call parcel = sender.is_of
-      in ap (λ q. is_known (directory_of w) (Proc q)) its.parent
-      ∙ left-knows script w b sender.node sender.stage (holds.ways sender.node (omega (arith, low, not-first)) high)
 
 -- ---- a step on the way
 
@@ -177,69 +125,17 @@ module _ (script : Script) (sound : IsSoundScript script) where
   module _ (v : World) (s : Step) (parcel : Parcel) (rest : List Held)
       (good : Good script v s (Ending parcel ∷ rest)) where
     module _ (b : Beside) (holds : Holds script (world_after v 1 s) (Ending parcel ∷ rest) b) where
-      abbrev w : World
-      w = world_after v 1 s
-
-      ready : Ready script w (Ending parcel ∷ rest) b
+      ready : Ready script (world_after v 1 s) (Ending parcel ∷ rest) b
       ready = ready-then v s (Ending parcel ∷ rest) b holds good
 
-      directory-here : s.node.leader.directory ≡ directory_of w
-      directory-here =
-          sym (ap (λ (n : Node). n.leader.directory) (leader-in-step script v s (Ending parcel ∷ rest) b holds))
-
-      place-in-step : (o : Option Place) → place_of (directory_of w) (Proc parcel.parent) ≡ o
-          → end_process s parcel ≡ end_by s parcel o
-      place-in-step o place =
-          ap (λ d. end_by s parcel (place_of d (Proc parcel.parent))) directory-here ∙ ap (end_by s parcel) place
-
-      freed : (b' : Beside) → EndKeeps script v s parcel rest b' → HasEnd script v s parcel rest
-      freed b' e = frees e.next e.items e.is_end (record { beside = b'; holds = e.holds })
-
-      holds-item : Changes script 1 w (world_after v 1 (hold_item s (Proc parcel.parent) (Ending parcel)))
-          (with_directory (node_of w 1) (hold (directory_of w) (Proc parcel.parent) (Ending parcel))) [] [] []
-      holds-item =
-          subst (λ (n : Node). Changes script 1 w
-          (world_after v 1 (hold_item s (Proc parcel.parent) (Ending parcel)))
-          (with_directory n (hold n.leader.directory (Proc parcel.parent) (Ending parcel))) [] [] [])
-          (sym (leader-in-step script v s (Ending parcel ∷ rest) b holds))
-          (changes-further script v 1 s (hold_item s (Proc parcel.parent) (Ending parcel)) [] [] holds.shape
-          (omega arith) (some-blocks script sound) tt
-          (record { sends_are = sym (append-nil s.sends); entries_are = sym (append-nil s.entries) }))
-
-      kept : (b' : Beside)
-          → Holds script (world_after v 1 (hold_item s (Proc parcel.parent) (Ending parcel))) rest b'
-          → (o : Option Place) → place_of (directory_of w) (Proc parcel.parent) ≡ o
-          → end_by s parcel o ≡ Some (IsHeld (hold_item s (Proc parcel.parent) (Ending parcel)))
-          → HasEnd script v s parcel rest
-      kept b' after o place is =
-          keeps_it (hold_item s (Proc parcel.parent) (Ending parcel)) (place-in-step o place ∙ is)
-          (record { beside = b'; holds = after })
-
-      by-place : (o : Option Place) → place_of (directory_of w) (Proc parcel.parent) ≡ o
-          → HasEnd script v s parcel rest
-      by-place None place =
-          absurd
-          (false≢true
-          (sym (ap (λ o. not (is_none o)) place) ∙ parent-is-known script w rest parcel b holds (some-blocks script sound)))
-      by-place (Some (At x)) place =
-          elim (cases_eq x 1) [
-            | inl first ↦
-                freed _
-                (end-carried-out script v s parcel rest b holds (some-blocks script sound) ready.reads
-                (place ∙ ap (λ y. Some (At y)) first))
-            | inr away ↦
-                freed _
-                (end-sent-on script v s parcel rest b holds (some-blocks script sound) x place
-                (ready.at_nodes (Proc parcel.parent) x place) away)
-          ]
-      by-place (Some (Coming to items)) place =
-          kept _
-          (parcel-held script w rest parcel b holds to items place
-          (world_after v 1 (hold_item s (Proc parcel.parent) (Ending parcel))) holds-item)
-          (Some (Coming to items)) place refl
+      comes-to : ends.HasEnd script v s parcel rest → HasEnd script v s parcel rest
+      comes-to (ends.is-held b' e) = keeps_it e.next e.is_end (record { beside = b'; holds = e.holds })
+      comes-to (ends.releases b' e) = frees e.next e.items e.is_end (record { beside = b'; holds = e.holds })
 
       parcel-has-end : HasEnd script v s parcel rest
-      parcel-has-end = by-place (place_of (directory_of w) (Proc parcel.parent)) refl
+      parcel-has-end =
+          comes-to
+          (ends.hand-has-end script v s parcel rest b holds (some-blocks script sound) ready.reads ready.at_nodes)
 
     good-held : (next : Step) → end_process s parcel ≡ Some (IsHeld next) → Good script v next rest
     good-held next is =

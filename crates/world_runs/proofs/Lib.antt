@@ -1,3 +1,4 @@
 pub mod WatchedSteps
 pub mod WatchedTurns
 pub mod Hands
+pub mod Takes
