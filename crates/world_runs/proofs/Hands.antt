@@ -39,7 +39,7 @@ use Rattle.world_bounds.proofs.Ranges.{some-blocks}
 use Rattle.world_bounds.proofs.Ready.{Ready, middle-is-ready}
 use Rattle.world_bounds.proofs.Released.{AfterEndIsBounded, end-process-bounded}
 use Rattle.world_bounds.proofs.Routed.{route-call-bounded}
-use Rattle.world_runs.proofs.WatchedSteps.{IsAfterWatched, IsWatched, end-process-watched, route-call-watched}
+use Rattle.world_runs.proofs.TendedSteps.{IsAfterTended, IsTended, end-process-tended, route-call-tended}
 
 -- A step in the middle of an event of the leader, with this in hand: it is bounded, and so is the world before it; and
 -- its watches are its own.
@@ -48,7 +48,7 @@ pub record Good (script : Script) (v : World) (s : Step) (hand : List Held) : Ty
   pub before : IsBounded script v []
   pub step : StepIsBounded script s
   pub items : ItemsAreOfNodes script hand
-  pub watched : IsWatched s
+  pub tended : IsTended s
 
 -- ---- what the rules ask of the leader
 
@@ -84,7 +84,7 @@ module _ (script : Script) (sound : IsSoundScript script) where
 
     watched-then : WatchesAsOwner (node_of (world_after v 1 s) 1)
     watched-then =
-        subst (λ (n : Node). WatchesAsOwner n) (sym (leader-in-step script v s hand b holds)) good.watched
+        subst (λ (n : Node). WatchesAsOwner n) (sym (leader-in-step script v s hand b holds)) (let t = good.tended in t.0)
 
   -- ---- a call
 
@@ -116,8 +116,8 @@ module _ (script : Script) (sound : IsSoundScript script) where
           step = of-some (StepIsBounded script) (route_call script s asked) next
               (route-call-bounded script s asked good.step good.items.0) is;
           items = good.items.1;
-          watched = of-some IsWatched (route_call script s asked) next
-              (route-call-watched script s asked good.watched) is;
+          tended = of-some IsTended (route_call script s asked) next
+              (route-call-tended script s asked good.tended) is;
         }
 
   -- ---- a parcel
@@ -145,8 +145,8 @@ module _ (script : Script) (sound : IsSoundScript script) where
           step = of-some (AfterEndIsBounded script) (end_process s parcel) (IsHeld next)
               (end-process-bounded script s parcel good.step) is;
           items = good.items.1;
-          watched = of-some IsAfterWatched (end_process s parcel) (IsHeld next)
-              (end-process-watched script s parcel good.watched) is;
+          tended = of-some IsAfterTended (end_process s parcel) (IsHeld next)
+              (end-process-tended script s parcel good.tended) is;
         }
 
     good-released : (next : Step) (items : List Held) → end_process s parcel ≡ Some (Releases next items)
@@ -160,8 +160,8 @@ module _ (script : Script) (sound : IsSoundScript script) where
           before = good.before;
           step = both.0;
           items = all-both (ItemIsOfNode script) items rest both.1 good.items.1;
-          watched = of-some IsAfterWatched (end_process s parcel) (Releases next items)
-              (end-process-watched script s parcel good.watched) is;
+          tended = of-some IsAfterTended (end_process s parcel) (Releases next items)
+              (end-process-tended script s parcel good.tended) is;
         }
 
   -- In the middle of an event of the leader each call in hand goes on, and so does each parcel.

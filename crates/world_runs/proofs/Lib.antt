@@ -1,4 +1,4 @@
-pub mod WatchedSteps
-pub mod WatchedTurns
+pub mod TendedSteps
+pub mod TendedTurns
 pub mod Hands
 pub mod Takes

@@ -37,8 +37,6 @@ use Rattle.world_sent.proofs.Forwards.{HasStep, forward-taken-from}
 use Rattle.world_sent.proofs.NotOwners.{not-owner-taken}
 use Rattle.world_sent.proofs.Requests.{request-taken-anywhere}
 use Rattle.world_makes.proofs.Makes.{lease-keeps}
-use Rattle.world_makes.proofs.Making.{HasSize}
-use Rattle.world_first.specs.Watching.{WatchesAsOwner}
 use Rattle.world_first.proofs.NotOwners.{not-owner-has-step}
 use Rattle.world_ends.proofs.Leavings.{leaving-keeps}
 use Rattle.world_ends.proofs.RecallAlls.{any-recall-all-keeps}
@@ -53,8 +51,8 @@ use Rattle.world_bounds.proofs.StepParts.{step-to-bounded}
 use Rattle.world_bounds.proofs.Turns.{left-noted-bounded, passed-on-bounded}
 use Rattle.world_bounds.proofs.Worlds.{without-is-bounded, without-is-shaped}
 use Rattle.world_runs.proofs.Hands.{Good, hand-goes-on, leader-is-ready}
-use Rattle.world_runs.proofs.WatchedSteps.{IsWatched}
-use Rattle.world_runs.proofs.WatchedTurns.{passed-on-watched}
+use Rattle.world_runs.proofs.TendedSteps.{IsTended, NodeIsTended}
+use Rattle.world_runs.proofs.TendedTurns.{passed-on-tended}
 
 -- ---- events, in one form
 
@@ -88,8 +86,7 @@ or-false true h = refl
 or-false false h = h
 
 module _ (script : Script) (sound : IsSoundScript script) (w : World) (b : Beside) (holds : Holds script w [] b)
-    (bounded : IsBounded script w []) (watches : WatchesAsOwner (node_of w 1))
-    (sized : (p : ℕ) (call : Call) → (node_of w p).caller.under_way ≡ Some call → HasSize call) where
+    (bounded : IsBounded script w []) (tended : (p : ℕ) → NodeIsTended (node_of w p)) where
   ready : Ready script w [] b
   ready = bounded-is-ready script sound w [] b holds bounded
 
@@ -100,15 +97,15 @@ module _ (script : Script) (sound : IsSoundScript script) (w : World) (b : Besid
     leader-bounded = bounded.nodes 1 h.low h.high
 
     -- a step of the leader from the world without the frame
-    good-with : (s : Step) (hand : List Held) → StepIsBounded script s → ItemsAreOfNodes script hand → IsWatched s
+    good-with : (s : Step) (hand : List Held) → StepIsBounded script s → ItemsAreOfNodes script hand → IsTended s
         → Good script (world_without w 1 q rest) s hand
-    good-with s hand step items watched =
+    good-with s hand step items kept_so =
         record {
           shape = without-is-shaped script w 1 q frame rest holds.shape h;
           before = without-is-bounded script w [] 1 q frame rest holds.shape h bounded;
           step = step;
           items = items;
-          watched = watched;
+          tended = kept_so;
         }
 
   ask-taken : (q ticket pid : ℕ) (call : Call) (rest : List Frame)
@@ -120,7 +117,7 @@ module _ (script : Script) (sound : IsSoundScript script) (w : World) (b : Besid
       (good-with q (frames.Ask ticket pid call) rest h (step_to (node_of w 1))
       (Request (record { caller = q; ticket = ticket; pid = pid; call = call }) ∷ [])
       (step-to-bounded script (node_of w 1) (leader-bounded q (frames.Ask ticket pid call) rest h))
-      (record { low = h.low_from; high = h.high_from }, tt) watches))
+      (record { low = h.low_from; high = h.high_from }, tt) (tended 1)))
 
   bounce-taken : (q : ℕ) (asked : Asked) (rest : List Frame) → Heads script w 1 q (frames.Bounce asked) rest
       → Keeps script w (events.Take 1 q)
@@ -130,7 +127,7 @@ module _ (script : Script) (sound : IsSoundScript script) (w : World) (b : Besid
       (bounce-goes-on script (Good script) (hand-goes-on script sound) w b holds q rest asked h own.low own.high
       ready.never_waits
       (good-with q (frames.Bounce asked) rest h (step_to (node_of w 1)) (Request asked ∷ [])
-      (step-to-bounded script (node_of w 1) (leader-bounded q (frames.Bounce asked) rest h)) (own, tt) watches))
+      (step-to-bounded script (node_of w 1) (leader-bounded q (frames.Bounce asked) rest h)) (own, tt) (tended 1)))
 
   give-back-taken : (q : ℕ) (packed : PackedDeed) (rest : List Frame) → Heads script w 1 q (frames.GiveBack packed) rest
       → Keeps script w (events.Take 1 q)
@@ -146,7 +143,7 @@ module _ (script : Script) (sound : IsSoundScript script) (w : World) (b : Besid
       (held_for (directory_of w) packed.name)
       (passed-on-bounded script n packed.name (body_in b.kernel packed.name) own)
       (held-are-of-nodes script (directory_of w) packed.name own.directory)
-      (passed-on-watched script n packed.name (body_in b.kernel packed.name) watches)))
+      (passed-on-tended script n packed.name (body_in b.kernel packed.name) (tended 1))))
 
   left-taken : (q : ℕ) (parcel : Parcel) (rest : List Frame) → Heads script w 1 q (frames.Left parcel) rest
       → Keeps script w (events.Take 1 q)
@@ -156,7 +153,7 @@ module _ (script : Script) (sound : IsSoundScript script) (w : World) (b : Besid
       ready.reads
       (good-with q (frames.Left parcel) rest h
       (step_to (with_directory (node_of w 1) (with_left (directory_of w) q))) (Ending parcel ∷ [])
-      (left-noted-bounded script (node_of w 1) q (leader-bounded q (frames.Left parcel) rest h)) (tt, tt) watches))
+      (left-noted-bounded script (node_of w 1) q (leader-bounded q (frames.Left parcel) rest h)) (tt, tt) (tended 1)))
 
   -- ---- other frames
 
@@ -168,7 +165,7 @@ module _ (script : Script) (sound : IsSoundScript script) (w : World) (b : Besid
             at-leader script w p q (frames.NotOwner ticket) rest h first
             (λ g. by-leader script w q
             (not-owner-has-step script w b holds q ticket rest g ready.never_waits
-            (leader-is-ready script w [] b ready watches)))
+            (leader-is-ready script w [] b ready (tended 1).0)))
         | inr other ↦ by-node script w p q (not-owner-taken script w b holds p q ticket rest h other)
       ]
 
@@ -200,7 +197,7 @@ module _ (script : Script) (sound : IsSoundScript script) (w : World) (b : Besid
         (λ g. kept script w 1 q _ (lease-ask-keeps script w b holds q kind (ready.enough kind) rest g))
     frame-taken (frames.Lease kind first) h may fits =
         from-leader script w p q (frames.Lease kind first) rest h fits
-        (λ g. lease-keeps script sound w b holds p kind first rest g (let r = ready.rises p in r.processes) (sized p)
+        (λ g. lease-keeps script sound w b holds p kind first rest g (let r = ready.rises p in r.processes) ((tended p).1)
         (ready.few kind))
     frame-taken (frames.Placed name node) h may fits =
         kept script w p q _ (placed-keeps script w b holds p q name node rest h)
