@@ -49,7 +49,7 @@ use Rattle.world_runs.proofs.StartedInHand.{start-in-hand, started-asked-here, s
 
 module _ (script : Script) (sound : IsSoundScript script) (w : World) (b : Beside) (holds : Holds script w [] b) (p : ℕ)
     (low : 1 ≤ p) (high : p ≤ node_count script) (can : can_run (node_of w p) ≡ true) (s : Starts script w b p)
-    (other : p ≢ 1) (never : NeverWaits script) (name : Name) (is : home_of (node_of w p).pid s.call ≡ homes.At name)
+    (other : p ≢ 1) (name : Name) (is : home_of (node_of w p).pid s.call ≡ homes.At name)
     (there : node_holds (node_of w p) name ≡ true) where
   abbrev n : Node
   n = node_of w p

@@ -7,3 +7,5 @@ pub mod HeldStarts
 pub mod LeavingStarts
 pub mod LeavingNames
 pub mod Leaves
+pub mod Starts
+pub mod Worlds

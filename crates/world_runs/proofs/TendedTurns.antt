@@ -59,6 +59,12 @@ use Rattle.world_bounds.proofs.Parts.{of-map, of-next, of-some, of-test}
 use Rattle.world_bounds.proofs.StepParts.{answered-none}
 use Rattle.world_runs.proofs.TendedSteps.{IsSized, IsTakenTended, IsTended, NodeIsTended, Tended, none-sized, carry-out-tended, exit-here-tended, release-tended, route-call-tended, serve-asked-tended, serve-nobody-tended, take-number-tended, without-deed-tended}
 
+-- Where nothing has a watch, each is the node's own.
+pub none-tended : (number : ℕ) (name : Name) → (watch_over none_named number name).owner ≡ number
+none-tended number (Proc pid) = refl
+none-tended number (Msg id) = refl
+none-tended number (Sem id) = refl
+
 module _ (script : Script) where
   -- ---- numbers
 
@@ -351,11 +357,6 @@ module _ (script : Script) where
   sent-to-leader : (fs : List Frame) (s : Step) → IsTended s → IsTended (fold send_to_leader s fs)
   sent-to-leader [] s k = k
   sent-to-leader (f ∷ fs) s k = sent-to-leader fs (send s 1 f) k
-
-  none-tended : (number : ℕ) (name : Name) → (watch_over none_named number name).owner ≡ number
-  none-tended number (Proc pid) = refl
-  none-tended number (Msg id) = refl
-  none-tended number (Sem id) = refl
 
   hand-over-tended : (n : Node) (call : Call) → NodeIsTended n → Tended (hand_over n call)
   hand-over-tended n call k =
