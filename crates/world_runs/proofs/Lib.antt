@@ -9,3 +9,4 @@ pub mod LeavingNames
 pub mod Leaves
 pub mod Starts
 pub mod Worlds
+pub mod Runs
