@@ -1,36 +1,25 @@
 -- In the middle of an event of the leader each call first in its hand has a route, and each parcel comes to its end: the
 -- steps on the way are bounded, and the leader's watches are its own.
-use Rattle.std.proofs.Common.{◌≡◌, ◌≢◌, ◌⊎◌, ℕ, ◌≤◌, Bool, true, false, not, is_none, List, [], ◌∷◌, ◌++◌, nat_eq, if◌then◌else◌, Option, Some, None, option_map, refl, ap, sym, subst, ◌∙◌, inl, inr, arith, append-nil}
-use Rattle.std.proofs.lemmas.Bool.{cases_eq, false≢true}
-use Rattle.pico_base.specs.declared.numbers.Kind.{Kind}
-use Rattle.pico_base.specs.declared.numbers.Name.TheVariants.{Proc}
+use Rattle.std.proofs.Common.{◌≡◌, List, [], ◌∷◌, ◌++◌, Some, sym, subst, inl, inr}
+use Rattle.std.proofs.lemmas.Bool.{cases_eq}
 use Rattle.pico_base.specs.declared.script.Script.{Script}
 use Rattle.rpc_frame.specs.declared.asked.Asked.{Asked}
 use Rattle.rpc_frame.specs.declared.deed.Parcel.{Parcel}
 use Rattle.kernel_model.specs.Script.{IsSoundScript}
 use Rattle.node_model.specs.declared.held.Held.{Held}
 use Rattle.node_model.specs.declared.held.Held.TheVariants.{Request, Ending}
-use Rattle.node_model.specs.Directory.{Directory, Place, At, Coming, hold, is_known, place_of}
-use Rattle.world_model.specs.Node.{Leaving, Left, Living, Node, Stage, Unborn}
-use Rattle.world_model.specs.Routing.{IsHeld, Releases, end_by, end_process, hold_item, route_call}
-use Rattle.world_model.specs.Step.{Step, with_directory}
-use Rattle.world_model.specs.World.{World, node_count, world_after}
-use Rattle.world_laws.specs.Families.{NodeHolds, is_first_stage}
+use Rattle.world_model.specs.Node.{Node}
+use Rattle.world_model.specs.Routing.{IsHeld, Releases, end_process, route_call}
+use Rattle.world_model.specs.Step.{Step}
+use Rattle.world_model.specs.World.{World, world_after}
 use Rattle.world_laws.specs.Invariant.{Holds, IsShaped}
-use Rattle.world_laws.specs.Names.{forker}
-use Rattle.world_laws.specs.Places.{Beside, InHand}
-use Rattle.world_laws.specs.Sights.{directory_of, is_born_in, node_of, stage_of}
-use Rattle.world_laws.specs.Ways.{HandsOver, HasSender, IsCollected, IsGone, IsHere, IsParcelOf, TellsEnd, Way, collected, gone, here, knows_parent, over, tells, under_way_of, way_sight}
-use Rattle.world_laws.proofs.Changes.{Changes}
-use Rattle.world_laws.proofs.Middles.{changes-further}
-use Rattle.world_hand.proofs.Noted.{HoldsAfter}
+use Rattle.world_laws.specs.Places.{Beside}
+use Rattle.world_laws.specs.Sights.{node_of}
 use Rattle.world_hand.proofs.ReadRoutes.{HasRoute}
-use Rattle.world_keys.proofs.OtherRoutes.{IsOrderly, LeaderIsOrderly, other-has-route}
-use Rattle.world_keys.proofs.Removals.{AreRising}
+use Rattle.world_keys.proofs.OtherRoutes.{LeaderIsOrderly, other-has-route}
 use Rattle.world_first.specs.Ready.{IsReady}
 use Rattle.world_first.specs.Watching.{WatchesAsOwner}
 use Rattle.world_first.proofs.OwnRoutes.{first-has-route}
-use Rattle.world_ends.proofs.KeptItems.{parcel-held}
 use Rattle.world_release.proofs.Rounds.{HasEnd, RoutesAll, frees, keeps_it, leader-in-step}
 use Rattle.world_exits.proofs.HandEnds as ends
 use Rattle.world_bounds.specs.Bounded.{IsBounded, ItemIsOfNode, ItemsAreOfNodes, StepIsBounded}

@@ -1,47 +1,32 @@
 -- A node starts a call of its process on a name that it holds: it serves the call, and where that has read it notes so.
-use Rattle.std.proofs.Common.{◌≡◌, ◌≢◌, ℕ, ◌+◌, ◌≤◌, Bool, true, false, cond, if◌then◌else◌, Option, Some, None, is_some, List, [], ◌∷◌, filter, Contains, refl, ap, sym, subst, ◌∙◌, inl, inr, arith}
-use Rattle.std.proofs.lemmas.Bool.{cases_eq, eq-eqb, ne_eqb, false≢true}
-use Rattle.std.proofs.lemmas.List.Elements.{Contains-push_cases}
-use Rattle.pico_base.specs.declared.numbers.Kind.{Kind}
+use Rattle.std.proofs.Common.{◌≡◌, ◌≢◌, ℕ, ◌≤◌, true, false, if◌then◌else◌, Option, Some, None, is_some, [], refl, ap, sym, ◌∙◌, inl}
+use Rattle.std.proofs.lemmas.Bool.{false≢true}
 use Rattle.pico_base.specs.declared.numbers.Name.{Name}
 use Rattle.pico_base.specs.declared.script.Script.{Script}
 use Rattle.pico_base.specs.declared.call.Home.TheVariants as homes
 use Rattle.pico_base.specs.declared.script.Event.TheVariants as events
 use Rattle.pico_base.specs.Home.{home_of}
 use Rattle.rpc_frame.specs.declared.asked.Asked.{Asked}
-use Rattle.rpc_frame.specs.declared.deed.Parcel.{Parcel}
-use Rattle.node_model.specs.declared.held.Held.{Held}
-use Rattle.node_model.specs.declared.held.Held.TheVariants.{Request, Ending}
 use Rattle.kernel_model.specs.Script.{IsSoundScript}
 use Rattle.kernel_model.specs.Waiting.{is_waiting}
 use Rattle.node_model.specs.Bodies.{Body, body_in}
 use Rattle.node_model.specs.Cache.{owner_in}
-use Rattle.node_model.specs.Caller.{Caller, start_call}
 use Rattle.node_model.specs.Carrying.{is_served}
-use Rattle.node_model.specs.Directory.{Directory, held_for, is_parcel}
-use Rattle.node_model.specs.Kinds.{for_kind, get_named}
+use Rattle.node_model.specs.Kinds.{get_named}
 use Rattle.world_model.specs.Calls.{is_for_others}
-use Rattle.world_model.specs.Node.{Node, Stage, Living, Left, asked_here, can_run, holds as node_holds}
+use Rattle.world_model.specs.Node.{Node, asked_here, can_run, holds as node_holds}
 use Rattle.world_model.specs.Serving.{serve_asked}
 use Rattle.world_model.specs.Starting.{request, run, start_by, with_look}
 use Rattle.world_model.specs.Step.{step_to, with_node}
 use Rattle.world_model.specs.World.{World, node_count, world_after}
-use Rattle.world_laws.specs.Places.{Beside, CallPlace, InTable, IsInHand, call_in}
-use Rattle.world_laws.specs.Sights.{node_of, directory_of, is_born_in}
+use Rattle.world_laws.specs.Places.{Beside, InTable, IsInHand, call_in}
+use Rattle.world_laws.specs.Sights.{node_of, is_born_in}
 use Rattle.world_laws.specs.Names.{NameHolds, name_sight}
-use Rattle.world_laws.specs.Callers.{CallHolds, CallSight, HasCall, call_sight, is_about, is_at_work, is_end_place, is_item_about}
-use Rattle.world_laws.specs.Families.{HoldsIn, NodeHolds}
 use Rattle.world_laws.specs.Invariant.{HasInvariant, Holds}
-use Rattle.world_laws.specs.Ranges.{KindHolds, has_lease, kind_sight}
-use Rattle.world_laws.proofs.Changes.{Changes, read-same, filter-is-list-map, only-stayed, stayed}
-use Rattle.world_laws.proofs.LeftAlone.{few-still, kind-left-alone, name-left-alone, same-directory}
-use Rattle.world_laws.proofs.Stays.{IsMore, SameCall, call-stays, kind-stays, name-stays}
 use Rattle.world_laws.proofs.NameFacts.{IsHeldAt, held-there}
-use Rattle.world_laws.proofs.Steps.{changes-by-run, run-steps}
-use Rattle.world_rules.proofs.CallMoves.{IsCallMove, call-move-keeps, move-born, ranges-still, same-but-call, steps-still}
+use Rattle.world_laws.proofs.Steps.{run-steps}
 use Rattle.world_own.proofs.OwnCases.{Keeps}
 use Rattle.world_own.proofs.Runs.{Starts, run-is}
-use Rattle.world_hand.proofs.Asks.{NeverWaits}
 use Rattle.world_hand.proofs.NobodyRoutes.{on-name-served}
 use Rattle.world_sent.proofs.InHand.{HasInHand}
 use Rattle.world_sent.proofs.ServeSteps.{EndsIn, ServesInHand, serves-and-suggests, serves-in-hand}

@@ -1,5 +1,5 @@
 -- A node other than the leader starts the call that ends its process: it leaves, and all holds as before.
-use Rattle.std.proofs.Common.{◌≡◌, ◌≢◌, ◌⊎◌, ℕ, ◌≤◌, Bool, true, false, if◌then◌else◌, List, [], ◌∷◌, ◌++◌, filter, Contains, None, refl, ap, sym, subst, ◌∙◌, inl, inr, arith, append-nil}
+use Rattle.std.proofs.Common.{◌≡◌, ◌≢◌, ℕ, ◌≤◌, Bool, true, false, if◌then◌else◌, List, [], ◌∷◌, ◌++◌, filter, Contains, None, refl, ap, sym, subst, ◌∙◌, inl, inr, arith, append-nil}
 use Rattle.std.proofs.lemmas.Bool.{cases_eq, eq-eqb, ne_eqb}
 use Rattle.pico_base.specs.declared.call.Home.TheVariants as homes
 use Rattle.pico_base.specs.declared.numbers.Kind.{Kind}
@@ -16,19 +16,19 @@ use Rattle.kernel_moves.specs.Entering.{HasHistory}
 use Rattle.node_model.specs.declared.held.Held.TheVariants.{Ending}
 use Rattle.node_model.specs.Directory.{Directory, held_for, is_known}
 use Rattle.node_model.specs.Kinds.{for_kind}
-use Rattle.world_model.specs.Node.{Leaving, Left, Living, Node, Stage, Unborn, can_run}
+use Rattle.world_model.specs.Node.{Leaving, Left, Living, Node, Stage, can_run}
 use Rattle.world_model.specs.World.{World, node_count}
-use Rattle.world_laws.specs.Places.{Beside, CallPlace, DeedPlace, Ends, call_in}
+use Rattle.world_laws.specs.Places.{Beside, DeedPlace, Ends, call_in}
 use Rattle.world_laws.specs.Sights.{directory_of, frames_to, is_born_in, node_of, stage_of}
 use Rattle.world_laws.specs.Names.{forker}
 use Rattle.world_laws.specs.Families.{FamilyHolds, IsAwaited, IsBorn, checkpoints_to, is_checkpoint_frame}
-use Rattle.world_laws.specs.Invariant.{FramesFit, Holds, IsLeading, process_deed}
+use Rattle.world_laws.specs.Invariant.{Holds, IsLeading, process_deed}
 use Rattle.world_laws.specs.Ranges.{FewRanges, KeysHold, KindHolds, has_lease, kind_sight}
-use Rattle.world_laws.specs.Ways.{HasSender, IsHere, IsParcelIn, Shows, Way, WaySight, at_hand, collected, gone, here, is_leaving_frame, is_left_frame, is_recall_all, kept as kept_in, knows_parent, left as left_in, over, sent as sent_in, tells, under_way_of, way_sight}
+use Rattle.world_laws.specs.Ways.{IsHere, IsParcelIn, Shows, Way, WaySight, at_hand, collected, gone, here, is_leaving_frame, is_left_frame, is_recall_all, kept as kept_in, knows_parent, left as left_in, over, sent as sent_in, tells, way_sight}
 use Rattle.world_laws.proofs.Changes.{Changes, filter-is-list-map, frames_if, made-after, made-same, read-same, sent, stayed}
 use Rattle.world_laws.proofs.LeftAlone.{family-left-alone, few-still, frames-still-fit, kind-left-alone, sender-stays, was-there}
 use Rattle.world_laws.proofs.Stays.{IsMore, SameWay, kind-stays, way-stays}
-use Rattle.world_laws.proofs.Steps.{KeepsAs, run-steps}
+use Rattle.world_laws.proofs.Steps.{run-steps}
 use Rattle.world_own.proofs.OwnCases.{Keeps}
 use Rattle.world_own.proofs.Runs.{Starts}
 use Rattle.world_runs.proofs.LeavingNames.{leaving-name}

@@ -13,11 +13,11 @@ use Rattle.kernel_moves.specs.Entering.{is_used_name}
 use Rattle.node_model.specs.Directory.{held_for, is_parcel_with, maker, place_of, stays}
 use Rattle.node_model.specs.Kinds.{get_named}
 use Rattle.world_model.specs.Census.{brings}
-use Rattle.world_model.specs.Node.{Leaving, Node, can_run}
+use Rattle.world_model.specs.Node.{Node, can_run}
 use Rattle.world_model.specs.World.{World, node_count}
-use Rattle.world_laws.specs.Places.{Beside, Ends, call_in}
+use Rattle.world_laws.specs.Places.{Beside}
 use Rattle.world_laws.specs.Sights.{directory_of, frames_to, is_born_in, node_of, stage_of}
-use Rattle.world_laws.specs.Plays.{NeedsPlace, News, begin, believed, finds_place, has_any, is_checkpoint_of, news, news_if, placed_in, plays, told}
+use Rattle.world_laws.specs.Plays.{NeedsPlace, begin, believed, finds_place, has_any, is_checkpoint_of, news, news_if, placed_in, plays, told}
 use Rattle.world_laws.specs.Names.{NameHolds, NameSight, comes_to, forker, held_at, is_maker, is_nowhere, maker_tells, name_sight, range_steps_of}
 use Rattle.world_laws.specs.Invariant.{Holds}
 use Rattle.world_laws.proofs.Changes.{Changes, filter-is-list-map, flat_map-is-list-map, frames_if, made-after, made-same, only-stayed, read-same, sent, stayed}

@@ -1,6 +1,6 @@
 -- A node other than the leader starts the call that ends its process: the node leaves, and tells the leader. The step,
 -- what it changes, and the call.
-use Rattle.std.proofs.Common.{◌≡◌, ◌≢◌, ℕ, ◌+◌, ◌≤◌, true, false, if◌then◌else◌, List, [], ◌∷◌, filter, flat_map, Some, refl, ap, sym, subst, ◌∙◌, inl, inr, arith}
+use Rattle.std.proofs.Common.{◌≡◌, ◌≢◌, ℕ, ◌≤◌, true, if◌then◌else◌, List, [], ◌∷◌, filter, flat_map, Some, refl, ap, sym, subst, ◌∙◌, inl, inr, arith}
 use Rattle.std.proofs.lemmas.Bool.{cases_eq, eq-eqb, ne_eqb}
 use Rattle.pico_base.specs.declared.call.Call.{Call}
 use Rattle.pico_base.specs.declared.call.Home.TheVariants as homes
@@ -12,19 +12,19 @@ use Rattle.pico_base.specs.declared.numbers.Name.{Name}
 use Rattle.kernel_model.specs.Script.{IsSoundScript}
 use Rattle.node_model.specs.Caller.{Caller, start_call}
 use Rattle.node_model.specs.Directory.{Directory, held_for}
-use Rattle.world_model.specs.Node.{Leaving, Living, Node, Over, Stage, can_run}
+use Rattle.world_model.specs.Node.{Leaving, Node, Over, can_run}
 use Rattle.world_model.specs.Starting.{end_leader, leave, run, start_by}
 use Rattle.world_model.specs.Step.{Step, step_to}
 use Rattle.world_model.specs.World.{World, node_count, world_after}
 use Rattle.world_laws.specs.Places.{Beside, CallPlace, Ends, call_in}
-use Rattle.world_laws.specs.Sights.{directory_of, is_born_in, is_born_stage, node_of}
+use Rattle.world_laws.specs.Sights.{directory_of, is_born_in, node_of}
 use Rattle.world_laws.specs.Plays.{plays}
 use Rattle.world_laws.specs.Names.{range_steps_of}
 use Rattle.world_laws.specs.Callers.{CallHolds, CallSight, HasCall, call_sight, is_about, is_item_about, may_be_in}
 use Rattle.world_laws.specs.Families.{NodeHolds}
 use Rattle.world_laws.specs.Invariant.{Holds}
 use Rattle.world_laws.proofs.Changes.{Changes, filter-is-list-map, made-same, read-same, stayed, still-born}
-use Rattle.world_laws.proofs.Frames.{IsSameBut, plays-of-others, ranges-of-all-others}
+use Rattle.world_laws.proofs.Frames.{plays-of-others, ranges-of-all-others}
 use Rattle.world_laws.proofs.LeftAlone.{LeavesCall, call-left-alone, other-node-stays}
 use Rattle.world_laws.proofs.Stays.{IsMore, SameCall, call-stays, node-born}
 use Rattle.world_laws.proofs.Steps.{changes-by-run}

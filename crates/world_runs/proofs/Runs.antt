@@ -1,5 +1,5 @@
 -- What follows for every run of a sound script.
-use Rattle.std.proofs.Common.{[], Some, is_some, ap}
+use Rattle.std.proofs.Common.{[], is_some, ap}
 use Rattle.kernel_moves.specs.Entering.{HasHistory}
 use Rattle.world_laws.specs.Invariant.{HasInvariant, Holds}
 use Rattle.world_runs.specs.Laws.{EnabledEventsHaveSteps, JournalsAreLegal, WorldsHaveTheInvariant}

@@ -1,5 +1,5 @@
 -- Each call that a node may start has a step, and keeps all.
-use Rattle.std.proofs.Common.{◌≡◌, ◌≢◌, ◌⊎◌, ℕ, ◌≤◌, Bool, true, false, Option, Some, None, [], refl, ap, sym, subst, ◌∙◌, inl, inr, arith}
+use Rattle.std.proofs.Common.{◌≡◌, ◌≢◌, ℕ, ◌≤◌, Bool, true, false, Option, Some, None, [], refl, ap, sym, subst, inl, inr, arith}
 use Rattle.std.proofs.lemmas.Bool.{cases_eq}
 use Rattle.pico_base.specs.declared.call.Home.{Home}
 use Rattle.pico_base.specs.declared.call.Home.TheVariants as homes
@@ -23,7 +23,6 @@ use Rattle.world_own.proofs.OwnCases.{Keeps}
 use Rattle.world_own.proofs.Requests.{at-asked, owner-asked}
 use Rattle.world_own.proofs.Runs.{Starts}
 use Rattle.world_makes.proofs.Makes.{own-call-starts}
-use Rattle.world_first.specs.Ready.{IsReady}
 use Rattle.world_first.specs.Watching.{WatchesAsOwner}
 use Rattle.world_first.proofs.OwnStarts.{first-starts}
 use Rattle.world_exits.proofs.FirstEnds.{first-end-keeps}

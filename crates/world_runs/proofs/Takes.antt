@@ -1,5 +1,5 @@
 -- Each frame that a node may take has a step, and keeps all.
-use Rattle.std.proofs.Common.{◌≡◌, ◌≢◌, ◌⊎◌, ℕ, ◌≤◌, Bool, true, false, ◌||◌, List, [], ◌∷◌, length, Some, refl, ap, sym, subst, ◌∙◌, inl, inr, Contains}
+use Rattle.std.proofs.Common.{◌≡◌, ℕ, Bool, true, false, ◌||◌, List, [], ◌∷◌, refl, sym, subst, inl, inr}
 use Rattle.std.proofs.lemmas.Bool.{cases_eq}
 use Rattle.pico_base.specs.declared.call.Call.{Call}
 use Rattle.pico_base.specs.declared.script.Event.TheVariants as events
@@ -17,7 +17,7 @@ use Rattle.node_model.specs.Directory.{bound_for, held_for, with_left}
 use Rattle.world_model.specs.Moves.{goes_on_to, pass_on}
 use Rattle.world_model.specs.Node.{Node, is_born}
 use Rattle.world_model.specs.Step.{Step, step_to, with_directory}
-use Rattle.world_model.specs.World.{World, is_checkpoint, is_enabled, node_count}
+use Rattle.world_model.specs.World.{World, is_checkpoint, is_enabled}
 use Rattle.world_laws.specs.Invariant.{Holds, MayBe}
 use Rattle.world_laws.specs.Places.{Beside}
 use Rattle.world_laws.specs.Sights.{directory_of, is_born_in, node_of}
@@ -45,7 +45,6 @@ use Rattle.world_release.proofs.GiveBacks.{give-back-goes-on}
 use Rattle.world_exits.proofs.ExitTos.{exit-to-keeps}
 use Rattle.world_bounds.specs.Bounded.{IsBounded, ItemsAreOfNodes, NodeIsBounded, StepIsBounded}
 use Rattle.world_bounds.proofs.Parts.{held-are-of-nodes}
-use Rattle.world_bounds.proofs.Ranges.{some-blocks}
 use Rattle.world_bounds.proofs.Ready.{Ready, bounce-is-of-node, bounded-is-ready, forward-is-of-node}
 use Rattle.world_bounds.proofs.StepParts.{step-to-bounded}
 use Rattle.world_bounds.proofs.Turns.{left-noted-bounded, passed-on-bounded}

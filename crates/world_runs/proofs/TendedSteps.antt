@@ -1,15 +1,15 @@
 -- A node keeps its watches as its own, and a set that its process asks for without a key has a size that there is: so
 -- it stays in what the node serves, replies, routes, ends and releases.
-use Rattle.std.proofs.Common.{◌≡◌, ◌⊎◌, ◌≢◌, ℕ, zero, suc, Bool, true, false, not, ◌&&◌, ◌||◌, nat_eq, List, [], ◌∷◌, ◌++◌, Option, Some, None, Result, Ok, Err, refl, ap, sym, subst, ◌∙◌, inl, inr, unwrap_or}
+use Rattle.std.proofs.Common.{◌≡◌, ℕ, zero, suc, not, ◌&&◌, nat_eq, List, [], ◌∷◌, ◌++◌, Option, Some, None, Result, Ok, Err, refl, ap, sym, subst, ◌∙◌, inl, inr, unwrap_or}
 use Rattle.std.specs.Prelude.{if◌then◌else◌, count_by, ◌+◌}
-use Rattle.std.specs.Option.{option_and_then, option_map}
+use Rattle.std.specs.Option.{option_map}
 use Rattle.pico_base.specs.declared.call.Call.{Call}
 use Rattle.pico_base.specs.declared.call.Call.TheVariants as calls
 use Rattle.pico_base.specs.declared.call.Home.{Home}
 use Rattle.pico_base.specs.declared.call.Home.TheVariants as homes
 use Rattle.pico_base.specs.declared.numbers.Kind.TheVariants as kinds
 use Rattle.pico_base.specs.declared.numbers.Name.{Name}
-use Rattle.pico_base.specs.declared.numbers.Name.TheVariants.{Proc, Msg, Sem}
+use Rattle.pico_base.specs.declared.numbers.Name.TheVariants.{Proc}
 use Rattle.pico_base.specs.declared.numbers.Kind.{Kind}
 use Rattle.pico_base.specs.declared.reply.Errno.{Errno}
 use Rattle.pico_base.specs.declared.reply.Reply.{Reply}
@@ -19,7 +19,7 @@ use Rattle.pico_base.specs.Home.{home_of}
 use Rattle.key_table.specs.KeyMap.{key_answer}
 use Rattle.key_table.specs.declared.KeyAnswer.{KeyAnswer}
 use Rattle.key_table.specs.declared.KeyAnswer.TheVariants as answers
-use Rattle.migrate.specs.Watching.{Watching, watching_after, watching_anew, watching_run, run_with}
+use Rattle.migrate.specs.Watching.{Watching, watching_after, watching_anew}
 use Rattle.rpc_frame.specs.declared.asked.Asked.{Asked}
 use Rattle.rpc_frame.specs.declared.deed.Parcel.{Parcel}
 use Rattle.rpc_frame.specs.declared.frame.Frame.TheVariants as frames
@@ -40,9 +40,9 @@ use Rattle.node_model.specs.Serving.{Served, has_read, no_such_name, serve}
 use Rattle.node_model.specs.Watches.{Watches, moves_to, unwatch, watch_over, with_read}
 use Rattle.world_model.specs.Node.{Node, is_leader, under_way_as}
 use Rattle.world_model.specs.Numbers.{Taken, knows_any, take_first, take_from, take_from_next, take_number, with_next_range}
-use Rattle.world_model.specs.Routing.{AfterEnd, IsHeld, Releases, create_set, end_by, end_process, enter_exit, exit_here, exit_with, find_set, forward, get_by_key, get_queue, get_set, go_on_after, hold_item, make_queue, make_set, no_round, recall_and_hold, release, release_names, release_round, release_rounds, remove_by, route_by, route_call, route_home, unbind_name}
+use Rattle.world_model.specs.Routing.{AfterEnd, IsHeld, Releases, create_set, end_by, end_process, enter_exit, exit_here, exit_with, find_set, forward, get_by_key, get_queue, get_set, go_on_after, make_queue, make_set, no_round, recall_and_hold, release, release_names, release_round, release_rounds, remove_by, route_by, route_call, route_home, unbind_name}
 use Rattle.world_model.specs.Serving.{grant, grant_held, move_to, note_read, serve_asked, serve_asked_with, serve_nobody}
-use Rattle.world_model.specs.Step.{Step, carry_out, enter, reply_here, reply_to, send, with_deeds, with_directory, with_node}
+use Rattle.world_model.specs.Step.{Step, carry_out, enter, reply_here, reply_to, send, with_deeds, with_node}
 use Rattle.world_laws.proofs.Named.{get-put-other-name, get-put-same-name, get-without-other-name, get-without-same-name, name-cases}
 use Rattle.world_makes.proofs.Making.{HasSize}
 use Rattle.world_first.specs.Watching.{WatchesAsOwner}
@@ -125,12 +125,11 @@ module _ (script : Script) where
   reply-here-tended : (s : Step) (reply : Reply) (o : Option Call) → IsTended s
       → IsTended (reply_here script s reply o)
   reply-here-tended s reply None k = k
-  reply-here-tended s reply (Some call) k =
-      (
-        k.0,
-        none-sized (answer_call script s.node.number s.node.caller call reply).under_way
-            (answered-none script s.node.number s.node.caller call reply),
-      )
+  reply-here-tended s reply (Some call) k = (
+    k.0,
+    none-sized (answer_call script s.node.number s.node.caller call reply).under_way
+        (answered-none script s.node.number s.node.caller call reply),
+  )
 
   reply-to-tended : (s : Step) (asked : Asked) (reply : Reply) → IsTended s
       → IsTended (reply_to script s asked reply)

@@ -1,9 +1,9 @@
 -- In each of its turns a node keeps its watches as its own, and a size for the set that its process asks for.
-use Rattle.std.proofs.Common.{◌≡◌, ℕ, Bool, true, false, not, ◌&&◌, ◌||◌, nat_eq, List, [], ◌∷◌, fold, Option, Some, None, Result, Ok, Err, refl, ap, sym, subst, ◌∙◌}
+use Rattle.std.proofs.Common.{◌≡◌, ℕ, Bool, true, false, not, ◌&&◌, nat_eq, List, [], ◌∷◌, fold, Option, Some, None, Result, Ok, Err, refl, ap, sym, subst, ◌∙◌}
 use Rattle.std.proofs.lemmas.Bool.{eq-eqb, false≢true}
-use Rattle.std.specs.Prelude.{if◌then◌else◌, ◌+◌}
+use Rattle.std.specs.Prelude.{◌+◌}
 use Rattle.std.specs.List.{list_all, list_any}
-use Rattle.std.specs.Option.{option_and_then, option_map}
+use Rattle.std.specs.Option.{option_and_then}
 use Rattle.pico_base.specs.declared.call.Call.{Call}
 use Rattle.pico_base.specs.declared.call.Call.TheVariants as calls
 use Rattle.pico_base.specs.declared.call.Home.{Home}
@@ -18,11 +18,9 @@ use Rattle.pico_base.specs.declared.reply.Reply.TheVariants as replies
 use Rattle.pico_base.specs.declared.script.Script.{Script}
 use Rattle.pico_base.specs.Home.{home_of}
 use Rattle.rpc_frame.specs.declared.asked.Asked.{Asked}
-use Rattle.rpc_frame.specs.declared.deed.PackedDeed.{PackedDeed}
-use Rattle.rpc_frame.specs.declared.deed.Parcel.{Parcel}
 use Rattle.rpc_frame.specs.declared.frame.Frame.{Frame}
 use Rattle.rpc_frame.specs.declared.frame.Frame.TheVariants as frames
-use Rattle.kernel_laws.proofs.Plain.{Of, by_test}
+use Rattle.kernel_laws.proofs.Plain.{by_test}
 use Rattle.kernel_model.specs.Fitting.{child_vars}
 use Rattle.kernel_model.specs.Numbers.{is_u32}
 use Rattle.kernel_model.specs.Queue.{empty_queue}
@@ -34,21 +32,21 @@ use Rattle.node_model.specs.declared.held.Held.TheVariants.{Ending}
 use Rattle.node_model.specs.Bodies.{AQueue, ASet, Body, Ended, Gone, Removed, Living as LivingBody}
 use Rattle.node_model.specs.Cache.{owner_in}
 use Rattle.node_model.specs.Caller.{answer_call, caller_place, due_call, new_caller, start_call}
-use Rattle.node_model.specs.Directory.{bound_for, has_more, held_for, is_coming, place_name, place_of, stays, upcoming, with_leaving, with_left, with_range}
+use Rattle.node_model.specs.Directory.{bound_for, has_more, held_for, is_coming, place_name, place_of, stays, with_left}
 use Rattle.node_model.specs.Kinds.{for_kind, get_named, is_object, none_named, put_all, put_named}
 use Rattle.node_model.specs.Leases.{is_used_up, leases_hold, refill, takes_number}
 use Rattle.node_model.specs.Parcels.{fitting_bodies, give_all}
-use Rattle.node_model.specs.Serving.{Served, child_body, parent_body, serve}
+use Rattle.node_model.specs.Serving.{child_body, parent_body, serve}
 use Rattle.node_model.specs.Spelling.{pack, read_deed}
 use Rattle.node_model.specs.Watches.{watch_over}
-use Rattle.world_model.specs.Calls.{answered_by, ask_after, asks_as, bounce, bounce_or_nobody, end_with_reply, forwarded_by, is_for_others, is_from_leader, is_on_name_or_removal, is_to_leader, requested_by, take_answer, take_ask, take_bounce, take_forward, take_not_owner, take_request, with_forgotten, with_learnt}
+use Rattle.world_model.specs.Calls.{answered_by, ask_after, asks_as, bounce, bounce_or_nobody, end_with_reply, forwarded_by, is_for_others, is_from_leader, is_on_name_or_removal, is_to_leader, requested_by, with_forgotten, with_learnt}
 use Rattle.world_model.specs.Grammar.{is_frame, is_sent_frame}
-use Rattle.world_model.specs.Lives.{be_born, born_with, end_released, hand_over, is_end, is_forked_by, is_new_row, is_of_process, may_leave, may_take, place_family, send_to_leader, take_checkpoint, take_exit, take_leaving, take_left, take_recall_all}
-use Rattle.world_model.specs.Moves.{come_back, give_back, goes_on_to, is_at, is_new_here, pass_on, receive_deed, suggest, take_give_back, take_grant, take_recall, take_suggest}
+use Rattle.world_model.specs.Lives.{be_born, born_with, end_released, hand_over, is_end, is_forked_by, is_new_row, is_of_process, may_leave, may_take, send_to_leader}
+use Rattle.world_model.specs.Moves.{come_back, give_back, goes_on_to, is_at, is_new_here, pass_on, receive_deed, suggest}
 use Rattle.world_model.specs.Node.{Left, Node, asked_here, can_run, holds, is_born, is_leader, is_leaving_stage, is_node, is_unborn, own_row, under_way_as}
-use Rattle.world_model.specs.Numbers.{Taken, fork_with, make, make_object, make_set, make_taken, make_with, take_number, tell_place}
-use Rattle.world_model.specs.Ranges.{go_on_with, may_lease, take_lease, take_lease_ask, take_placed}
-use Rattle.world_model.specs.Routing.{exit_here, names_in, recall_from, route_call}
+use Rattle.world_model.specs.Numbers.{fork_with, make, make_object, make_set, make_taken, make_with, take_number, tell_place}
+use Rattle.world_model.specs.Ranges.{go_on_with, may_lease}
+use Rattle.world_model.specs.Routing.{names_in, recall_from, route_call}
 use Rattle.world_model.specs.Serving.{serve_asked, serve_nobody}
 use Rattle.world_model.specs.Starting.{act, ask, carry_out_own, end_leader, leave, request, run, start, start_at, start_by, start_due, start_end, start_making, start_own, start_set, with_look}
 use Rattle.world_model.specs.Step.{Step, carry_out, enter, reply_here, send, step_to, with_deeds, with_directory, with_node}
@@ -192,12 +190,11 @@ module _ (script : Script) where
       answered : (o : Option Call) → o ≡ Some call
           → IsTended (reply_here script (enter s s.node.pid call (replies.Fail e)) (replies.Fail e) o)
       answered None is = absurd (let apart : None ≡ Some call = is in cc)
-      answered (Some other) is =
-          (
-            k,
-            none-sized (answer_call script s.node.number s.node.caller other (replies.Fail e)).under_way
-                (answered-none script s.node.number s.node.caller other (replies.Fail e)),
-          )
+      answered (Some other) is = (
+        k,
+        none-sized (answer_call script s.node.number s.node.caller other (replies.Fail e)).under_way
+            (answered-none script s.node.number s.node.caller other (replies.Fail e)),
+      )
 
   set-tended : (n : Node) (row : Row) (count : ℕ) (create excl : Bool) → NodeIsTended n
       → (r : Result SemaphoreSet Errno) → new_set count ≡ r

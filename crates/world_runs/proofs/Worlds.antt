@@ -1,6 +1,6 @@
 -- What each world of a run has: the invariant, bounds, and nodes that are tended. The opening world has it, and each
 -- enabled event has a step that keeps it.
-use Rattle.std.proofs.Common.{◌≡◌, ◌≢◌, ℕ, zero, suc, ◌+◌, ◌-◌, ◌≤◌, Bool, true, false, List, [], ◌∷◌, map, nat_eq, slice_get, Option, Some, None, unwrap_or, refl, ap, sym, subst, ◌∙◌, inl, inr}
+use Rattle.std.proofs.Common.{◌≡◌, ℕ, zero, suc, ◌+◌, ◌-◌, ◌≤◌, Bool, true, false, List, [], ◌∷◌, map, nat_eq, Option, Some, None, unwrap_or, refl, ap, sym, subst, ◌∙◌, inl, inr}
 use Rattle.std.specs.Prelude.{if◌then◌else◌}
 use Rattle.std.specs.List.{AllByRecursion}
 use Rattle.std.proofs.lemmas.Bool.{cases_eq}
@@ -15,8 +15,7 @@ use Rattle.world_model.specs.Run.{IsReachableWorld, Runs}
 use Rattle.world_model.specs.Step.{Step}
 use Rattle.world_model.specs.Turn.{run_turn, take_turn}
 use Rattle.world_model.specs.World.{World, after_turn, is_enabled, is_number, node_at, node_count, numbers, opening_world, runs_at, step, stream, takes_at, world_after}
-use Rattle.world_laws.specs.Invariant.{HasInvariant, Holds, IsShaped}
-use Rattle.world_laws.specs.Places.{Beside}
+use Rattle.world_laws.specs.Invariant.{HasInvariant, IsShaped}
 use Rattle.world_laws.specs.Sights.{node_of}
 use Rattle.world_laws.proofs.Changes.{Changes}
 use Rattle.world_laws.proofs.Steps.{Heads, KeepsAs, changes-by-run, node-there, world_without}
@@ -24,7 +23,6 @@ use Rattle.world_rules.proofs.Enabled.{IsTaken, enabled-takes}
 use Rattle.world_rules.proofs.Opening.{opening-holds}
 use Rattle.world_own.proofs.Enabled.{IsRun, enabled-runs}
 use Rattle.world_own.proofs.OwnCases.{Keeps}
-use Rattle.world_bounds.specs.Bounded.{IsBounded}
 use Rattle.world_bounds.proofs.Parts.{all-at}
 use Rattle.world_bounds.proofs.Runs.{opening-is-shaped-and-bounded}
 use Rattle.world_bounds.proofs.Scripts.{sound-is-runnable}
