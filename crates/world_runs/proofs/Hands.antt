@@ -1,5 +1,5 @@
--- In the middle of an event of the leader each call first in its hand has a route, and each parcel comes to its end: the
--- steps on the way are bounded, and the leader's watches are its own.
+-- In the middle of an event of the leader each call first in its hand has a route, and each parcel comes to its end:
+-- the steps on the way are bounded, and the leader is tended.
 use Rattle.std.proofs.Common.{◌≡◌, List, [], ◌∷◌, ◌++◌, Some, sym, subst, inl, inr}
 use Rattle.std.proofs.lemmas.Bool.{cases_eq}
 use Rattle.pico_base.specs.declared.script.Script.{Script}
@@ -31,7 +31,7 @@ use Rattle.world_bounds.proofs.Routed.{route-call-bounded}
 use Rattle.world_runs.proofs.TendedSteps.{IsAfterTended, IsTended, end-process-tended, route-call-tended}
 
 -- A step in the middle of an event of the leader, with this in hand: it is bounded, and so is the world before it; and
--- its watches are its own.
+-- the leader is tended.
 pub record Good (script : Script) (v : World) (s : Step) (hand : List Held) : Type 0 where
   pub shape : IsShaped script v
   pub before : IsBounded script v []
@@ -42,7 +42,7 @@ pub record Good (script : Script) (v : World) (s : Step) (hand : List Held) : Ty
 -- ---- what the rules ask of the leader
 
 module _ (script : Script) (w : World) (hand : List Held) (b : Beside) (ready : Ready script w hand b) where
-  -- for a call of its own process
+  -- For a call of its own process.
   pub leader-is-ready : WatchesAsOwner (node_of w 1) → IsReady (node_of w 1)
   leader-is-ready watches =
       record {
@@ -53,7 +53,7 @@ module _ (script : Script) (w : World) (hand : List Held) (b : Beside) (ready : 
         numbers = ready.enough;
       }
 
-  -- and for another's
+  -- And for another's.
   pub leader-is-orderly : LeaderIsOrderly w
   leader-is-orderly =
       record {
@@ -73,7 +73,8 @@ module _ (script : Script) (sound : IsSoundScript script) where
 
     watched-then : WatchesAsOwner (node_of (world_after v 1 s) 1)
     watched-then =
-        subst (λ (n : Node). WatchesAsOwner n) (sym (leader-in-step script v s hand b holds)) (let t = good.tended in t.0)
+        subst (λ (n : Node). WatchesAsOwner n) (sym (leader-in-step script v s hand b holds))
+        (let t = good.tended in t.0)
 
   -- ---- a call
 

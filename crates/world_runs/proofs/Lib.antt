@@ -1,4 +1,5 @@
 pub mod TendedSteps
+pub mod TendedStarts
 pub mod TendedTurns
 pub mod Hands
 pub mod Takes

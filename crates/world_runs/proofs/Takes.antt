@@ -2,6 +2,8 @@
 use Rattle.std.proofs.Common.{◌≡◌, ℕ, Bool, true, false, ◌||◌, List, [], ◌∷◌, refl, sym, subst, inl, inr}
 use Rattle.std.proofs.lemmas.Bool.{cases_eq}
 use Rattle.pico_base.specs.declared.call.Call.{Call}
+use Rattle.pico_base.specs.declared.numbers.Kind.{Kind}
+use Rattle.pico_base.specs.declared.numbers.Name.{Name}
 use Rattle.pico_base.specs.declared.script.Event.TheVariants as events
 use Rattle.pico_base.specs.declared.script.Script.{Script}
 use Rattle.rpc_frame.specs.declared.asked.Asked.{Asked}
@@ -98,13 +100,13 @@ module _ (script : Script) (sound : IsSoundScript script) (w : World) (b : Besid
     -- a step of the leader from the world without the frame
     good-with : (s : Step) (hand : List Held) → StepIsBounded script s → ItemsAreOfNodes script hand → IsTended s
         → Good script (world_without w 1 q rest) s hand
-    good-with s hand step items kept_so =
+    good-with s hand step items is_tended =
         record {
           shape = without-is-shaped script w 1 q frame rest holds.shape h;
           before = without-is-bounded script w [] 1 q frame rest holds.shape h bounded;
           step = step;
           items = items;
-          tended = kept_so;
+          tended = is_tended;
         }
 
   ask-taken : (q ticket pid : ℕ) (call : Call) (rest : List Frame)
@@ -176,6 +178,43 @@ module _ (script : Script) (sound : IsSoundScript script) (w : World) (b : Besid
         in by-node script w p q
         (forward-taken-from script w b holds p q asked rest h own.low own.high born ready.never_waits)
 
+    lease-ask-found : (kind : Kind) → Heads script w p q (frames.LeaseAsk kind) rest → p ≡ 1
+        → Keeps script w (events.Take p q)
+    lease-ask-found kind h first =
+        at-leader script w p q (frames.LeaseAsk kind) rest h first
+        (λ g. kept script w 1 q _ (lease-ask-keeps script w b holds q kind (ready.enough kind) rest g))
+
+    lease-found : (kind : Kind) (first : ℕ) → Heads script w p q (frames.Lease kind first) rest → q ≡ 1
+        → Keeps script w (events.Take p q)
+    lease-found kind first h sender =
+        from-leader script w p q (frames.Lease kind first) rest h sender
+        (λ g. lease-keeps script sound w b holds p kind first rest g (let r = ready.rises p in r.processes)
+        ((tended p).1) (ready.few kind))
+
+    suggest-found : (name : Name) (node : ℕ) → Heads script w p q (frames.Suggest name node) rest → p ≡ 1
+        → Keeps script w (events.Take p q)
+    suggest-found name node h first =
+        at-leader script w p q (frames.Suggest name node) rest h first
+        (λ g. kept script w 1 q _ (suggest-keeps script w b holds q name node rest g))
+
+    recall-found : (name : Name) → Heads script w p q (frames.Recall name) rest → q ≡ 1
+        → Keeps script w (events.Take p q)
+    recall-found name h sender =
+        from-leader script w p q (frames.Recall name) rest h sender
+        (λ g. kept script w p 1 _ (recall-keeps script w b holds p name rest g))
+
+    grant-found : (deed : PackedDeed) → Heads script w p q (frames.Grant deed) rest → q ≡ 1
+        → Keeps script w (events.Take p q)
+    grant-found deed h sender =
+        from-leader script w p q (frames.Grant deed) rest h sender
+        (λ g. kept script w p 1 _ (grant-keeps script w b holds ready.reads p deed rest g))
+
+    exit-found : (parcel : Parcel) → Heads script w p q (frames.ExitTo parcel) rest → q ≡ 1
+        → Keeps script w (events.Take p q)
+    exit-found parcel h sender =
+        from-leader script w p q (frames.ExitTo parcel) rest h sender
+        (λ g. kept script w p 1 _ (exit-to-keeps script w b holds ready.reads p parcel rest g))
+
     -- Each frame at the head of a stream that its receiver may take has a step.
     pub frame-taken : (frame : Frame) → Heads script w p q frame rest
         → (is_born (node_of w p) || is_checkpoint frame) ≡ true → MayBe script (is_born_in w) p q frame
@@ -191,37 +230,24 @@ module _ (script : Script) (sound : IsSoundScript script) (w : World) (b : Besid
     frame-taken (frames.Answer ticket reply) h may fits =
         kept script w p q _ (answer-keeps script w b holds p q ticket reply rest h)
     frame-taken (frames.NotOwner ticket) h may fits = not-owner-found p q ticket rest h
-    frame-taken (frames.LeaseAsk kind) h may fits =
-        at-leader script w p q (frames.LeaseAsk kind) rest h fits
-        (λ g. kept script w 1 q _ (lease-ask-keeps script w b holds q kind (ready.enough kind) rest g))
-    frame-taken (frames.Lease kind first) h may fits =
-        from-leader script w p q (frames.Lease kind first) rest h fits
-        (λ g. lease-keeps script sound w b holds p kind first rest g (let r = ready.rises p in r.processes) ((tended p).1)
-        (ready.few kind))
+    frame-taken (frames.LeaseAsk kind) h may fits = lease-ask-found kind h fits
+    frame-taken (frames.Lease kind first) h may fits = lease-found kind first h fits
     frame-taken (frames.Placed name node) h may fits =
         kept script w p q _ (placed-keeps script w b holds p q name node rest h)
     frame-taken (frames.Checkpoint pid parent deed vars) h may fits =
         kept script w p q _ (checkpoint-keeps script w b holds ready.reads p q pid parent deed vars rest h)
-    frame-taken (frames.Suggest name node) h may fits =
-        at-leader script w p q (frames.Suggest name node) rest h fits.0
-        (λ g. kept script w 1 q _ (suggest-keeps script w b holds q name node rest g))
-    frame-taken (frames.Recall name) h may fits =
-        from-leader script w p q (frames.Recall name) rest h fits.0
-        (λ g. kept script w p 1 _ (recall-keeps script w b holds p name rest g))
+    frame-taken (frames.Suggest name node) h may fits = suggest-found name node h fits.0
+    frame-taken (frames.Recall name) h may fits = recall-found name h fits.0
     frame-taken (frames.GiveBack deed) h may fits =
         at-leader script w p q (frames.GiveBack deed) rest h fits (λ g. give-back-taken q deed rest g)
-    frame-taken (frames.Grant deed) h may fits =
-        from-leader script w p q (frames.Grant deed) rest h fits.0
-        (λ g. kept script w p 1 _ (grant-keeps script w b holds ready.reads p deed rest g))
+    frame-taken (frames.Grant deed) h may fits = grant-found deed h fits.0
     frame-taken (frames.Leaving pid parent parent_node) h may fits =
         kept script w p q _ (leaving-keeps script w b holds p q pid parent parent_node rest h)
     frame-taken frames.RecallAll h may fits =
         kept script w p q _ (any-recall-all-keeps script w b holds p q rest h (ready.rises p))
     frame-taken (frames.Left parcel) h may fits =
         at-leader script w p q (frames.Left parcel) rest h fits (λ g. left-taken q parcel rest g)
-    frame-taken (frames.ExitTo parcel) h may fits =
-        from-leader script w p q (frames.ExitTo parcel) rest h fits
-        (λ g. kept script w p 1 _ (exit-to-keeps script w b holds ready.reads p parcel rest g))
+    frame-taken (frames.ExitTo parcel) h may fits = exit-found parcel h fits
 
   -- Each enabled event that takes a frame has a step, and keeps all.
   pub take-keeps : (p q : ℕ) → is_enabled w (events.Take p q) ≡ true → Keeps script w (events.Take p q)

@@ -100,6 +100,7 @@ IsSized n = (call : Call) → n.caller.under_way ≡ Some call → HasSize call
 abbrev pub NodeIsTended : Node → Type 0
 NodeIsTended n = WatchesAsOwner n × IsSized n
 
+-- so has a step's node
 abbrev pub IsTended : Step → Type 0
 IsTended s = NodeIsTended s.node
 
@@ -107,6 +108,7 @@ IsTended s = NodeIsTended s.node
 pub none-sized : (o : Option Call) → o ≡ None → (call : Call) → o ≡ Some call → HasSize call
 none-sized o none call some = let apart : None ≡ Some call = sym none ∙ some in absurd (cc)
 
+-- and the step that a rule comes to, if it comes to one
 abbrev pub Tended : Option Step → Type 0
 Tended o = Of IsTended o
 
