@@ -174,7 +174,8 @@ module _ (script : Script) where
       → Tended (take_frame script n sender (frames.Ask ticket pid call))
   take-ask-tended n sender ticket pid call k =
       of-test IsTended (is_to_leader n sender && asks_as is_for_others pid call) _
-      (λ _. route-call-tended script (step_to n) (record { caller = sender; ticket = ticket; pid = pid; call = call }) k)
+      (λ _. route-call-tended script (step_to n)
+      (record { caller = sender; ticket = ticket; pid = pid; call = call }) k)
 
   take-request-tended : (n : Node) (sender : ℕ) (ticket pid : ℕ) (call : Call) → NodeIsTended n
       → Tended (take_frame script n sender (frames.Request ticket pid call))
