@@ -10,36 +10,25 @@ use Rattle.node_model.specs.declared.held.Held.TheVariants.{Ending}
 use Rattle.node_model.specs.Directory.{Directory, Place, At, Coming, place_of, hold, is_known}
 use Rattle.world_model.specs.Node.{Node, Stage, Unborn, Living, Leaving, Left}
 use Rattle.world_model.specs.Step.{Step, with_directory}
-use Rattle.world_model.specs.Routing.{IsHeld, hold_item, end_by, end_process}
+use Rattle.world_model.specs.Routing.{hold_item, end_by}
 use Rattle.world_model.specs.World.{World, node_count, world_after}
 use Rattle.world_laws.specs.Places.{InHand, Beside}
 use Rattle.world_laws.specs.Sights.{node_of, directory_of, stage_of}
 use Rattle.world_laws.specs.Names.{forker}
 use Rattle.world_laws.specs.Ways.{Way, way_sight, knows_parent, IsParcelOf, here, tells, collected, over, gone, under_way_of, HasSender}
 use Rattle.world_laws.specs.Deeds.{DeedsAreRead}
+use Rattle.world_laws.specs.Families.{PidsHold}
 use Rattle.world_laws.specs.Invariant.{Holds}
 use Rattle.world_laws.proofs.Changes.{Changes}
 use Rattle.world_laws.proofs.Middles.{changes-further}
+use Rattle.world_release.proofs.Rounds.{HasEnd, keeps_it, frees}
 use Rattle.world_ends.proofs.Directories.{KnowsNodes}
 use Rattle.world_ends.proofs.KeptItems.{parcel-held}
 use Rattle.world_exits.proofs.EndKeeps.{EndKeeps, leader-here, leader-directory, end-sent-on, end-carried-out}
 use Rattle.world_exits.proofs.Parcels.{HasParcel, hand-sender, parcel-in-hand, low-node, high-node, not-first}
 
--- the end is held for the parent, and the rest is in hand
-pub record EndIsHeld (script : Script) (v : World) (s : Step) (parcel : Parcel) (rest : List Held) (b : Beside)
-    : Type 0
-  where
-    pub next : Step
-    pub is_end : end_process s parcel ≡ Some (IsHeld next)
-    pub holds : Holds script (world_after v 1 next) rest b
-
--- what the end comes to, with something beside the world
-pub data HasEnd (script : Script) (v : World) (s : Step) (parcel : Parcel) (rest : List Held) : Type 0 where
-  is-held : (b : Beside) → EndIsHeld script v s parcel rest b → HasEnd script v s parcel rest
-  releases : (b : Beside) → EndKeeps script v s parcel rest b → HasEnd script v s parcel rest
-
 module _ (script : Script) (v : World) (s : Step) (parcel : Parcel) (rest : List Held) (b : Beside)
-    (holds : Holds script (world_after v 1 s) (Ending parcel ∷ rest) b) (some_node : 1 ≤ node_count script)
+    (holds : Holds script (world_after v 1 s) (Ending parcel ∷ rest) b)
     (reads : DeedsAreRead b.kernel) (at_nodes : KnowsNodes (directory_of (world_after v 1 s))) where
   abbrev w : World
   w = world_after v 1 s
@@ -55,6 +44,12 @@ module _ (script : Script) (v : World) (s : Step) (parcel : Parcel) (rest : List
 
   parcel_is : HasParcel script w b parcel c sender.call (InHand c)
   parcel_is = parcel-in-hand script w rest parcel b holds
+
+  some_node : 1 ≤ node_count script
+  some_node =
+      let pids : PidsHold script b.pids b.places b.kernel = holds.pids
+      in let range = pids.nodes 1 (λ e. omega (arith, e, pids.first))
+      in range.1
 
   -- the leader knows the parent, since the node has left
   parent-known : is_known d (Proc parcel.parent) ≡ true
@@ -107,23 +102,26 @@ module _ (script : Script) (v : World) (s : Step) (parcel : Parcel) (rest : List
   held-for : (to : Option ℕ) (kept : List Held) → place_of d (Proc parcel.parent) ≡ Some (Coming to kept)
       → HasEnd script v s parcel rest
   held-for to kept place =
-      is-held _
+      keeps_it held_on
+      (ap (λ z. end_by s parcel (place_of z (Proc parcel.parent)))
+      (leader-directory script v s parcel rest b holds some_node)
+      ∙ ap (end_by s parcel) place)
       (record {
-        next = held_on;
-        is_end = ap (λ z. end_by s parcel (place_of z (Proc parcel.parent)))
-            (leader-directory script v s parcel rest b holds some_node)
-            ∙ ap (end_by s parcel) place;
+        beside = _;
         holds = parcel-held script w rest parcel b holds to kept place (world_after v 1 held_on) held-changes;
       })
+
+  released : (b2 : Beside) → EndKeeps script v s parcel rest b2 → HasEnd script v s parcel rest
+  released b2 e = frees e.next e.items e.is_end (record { beside = b2; holds = e.holds })
 
   at-node : (x : ℕ) → place_of d (Proc parcel.parent) ≡ Some (At x) → HasEnd script v s parcel rest
   at-node x place =
       elim (cases_eq x 1) [
         | inl e ↦
-            releases _
+            released _
             (end-carried-out script v s parcel rest b holds some_node reads (place ∙ ap (λ y. Some (At y)) e))
         | inr away ↦
-            releases _
+            released _
             (end-sent-on script v s parcel rest b holds some_node x place (at_nodes (Proc parcel.parent) x place) away)
       ]
 

@@ -1,4 +1,5 @@
--- A call in hand, of another node, makes a queue or a set at the leader: the entry is made, and the reply is on its way.
+-- A call in hand, of another node, makes a queue or a set at the leader: the entry is made, and the reply is on its
+-- way.
 use Rattle.std.proofs.Common.{◌≡◌, ◌≢◌, ℕ, ◌≤◌, Bool, true, false, ◌&&◌, cond, if◌then◌else◌, List, [], ◌∷◌, ◌++◌, filter, nat_eq, Some, refl, ap, sym, subst, ◌∙◌, inl, inr, arith}
 use Rattle.std.proofs.lemmas.Bool.{cases_eq, eq-eqb, ne_eqb, false≢true}
 use Rattle.std.proofs.lemmas.List.Elements.{Contains-append_right}
@@ -46,11 +47,10 @@ use Rattle.world_laws.proofs.Stays.{IsMore, SameCall, call-stays, node-born, way
 use Rattle.world_rules.proofs.CallMoves.{SameButCall}
 use Rattle.world_rules.proofs.Nodes.{leader-stage, object-is-no-process}
 use Rattle.world_own.proofs.Entries.{EntryLeaves, others-go-on, pids-after}
-use Rattle.world_own.proofs.Objects.{processes-stay-leaves}
+use Rattle.world_own.proofs.Objects.{process-apart, processes-stay-leaves}
 use Rattle.world_own.proofs.Others.{call-goes-on, family-after}
 use Rattle.world_hand.proofs.Answering.{IsPlainCall, answered_at, caller-born, caller-forked, due-in-hand, has-history, may-make-in-hand, pid-in-hand, place-in-hand}
 use Rattle.world_hand.proofs.HandMoves.{IsFirst, first, held-for-none, in-hand-for-others, in-no-stream}
-use Rattle.world_keys.proofs.NumberKinds.{process-apart}
 use Rattle.world_keys.proofs.MadeHere.{MakesOf, Tables, directory-now, made_node, node-now}
 use Rattle.world_keys.proofs.MadeNames.{LeavesFrames, made-names}
 use Rattle.world_keys.proofs.MadeNumbers.{made-few, made-kinds}

@@ -31,7 +31,7 @@ use Rattle.world_laws.proofs.Frames.{all-weaker, no-lease}
 use Rattle.world_laws.proofs.LeftAlone.{kind-left-alone}
 use Rattle.world_laws.proofs.Stays.{IsMore, SameKind, kind-stays}
 use Rattle.world_own.proofs.NewNumbers.{taken-at}
-use Rattle.world_keys.proofs.NumberKinds.{for-other, for-with, kind-is, kind-itself}
+use Rattle.world_own.proofs.Objects.{for-other, for-with, kind-is, kind-itself}
 use Rattle.world_keys.proofs.MadeHere.{MakesOf, Tables, made_node, ranges-now}
 use Rattle.world_keys.proofs.Taking.{TakesNumber, to_be_taken}
 

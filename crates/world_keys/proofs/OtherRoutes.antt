@@ -1,5 +1,5 @@
--- Each call in hand of another node than the leader has a route that keeps all; so an Ask and a Bounce have a step. What
--- is asked of the leader besides stands as a premise by name.
+-- Each call in hand of another node than the leader has a route that keeps all; so an Ask and a Bounce have a step.
+-- What is asked of the leader besides stands as a premise by name.
 use Rattle.std.proofs.Common.{◌≡◌, ◌≢◌, ℕ, ◌≤◌, true, List, [], ◌∷◌, Some, sym, subst}
 use Rattle.pico_base.specs.declared.call.Call.{Call}
 use Rattle.pico_base.specs.declared.numbers.Kind.{Kind}
@@ -27,8 +27,8 @@ use Rattle.world_keys.proofs.KeyRoutes.{route-to-keys}
 use Rattle.world_keys.proofs.RemovalRoutes.{route-to-removal}
 use Rattle.world_keys.proofs.Removals.{AreRising}
 
--- what is asked of the leader besides: its places name nodes, its tables of keys are by rising number, and each kind has
--- numbers left
+-- what is asked of the leader besides: its places name nodes, its tables of keys are by rising number, and each kind
+-- has numbers left
 pub record IsOrderly (l : Leader) : Type 0 where
   pub nodes : (name : Name) (node : ℕ) → place_of l.directory name ≡ Some (At node) → 1 ≤ node
   pub keys : AreRising l

@@ -40,7 +40,7 @@ use Rattle.world_hand.proofs.Answering.{LeaderAnswers, answered-keeps, due-in-ha
 use Rattle.world_hand.proofs.ReadRoutes.{HasRoute}
 use Rattle.world_hand.proofs.Routes.{leader-here, leader-number}
 use Rattle.world_hand.proofs.Served.{IsAtLeader}
-use Rattle.world_keys.proofs.NumberKinds.{process-apart}
+use Rattle.world_own.proofs.Objects.{process-apart}
 use Rattle.world_keys.proofs.Removals.{AreRising, IsRemoval, Removes, at, body-elsewhere, held-elsewhere, keys-unbound-now, known, removal, removed-node-holds, same-directory-unbound, serves}
 
 module _ (script : Script) (v : World) (s : Step) (asked : Asked) (rest : List Held) (b : Beside)

@@ -66,8 +66,10 @@ by-home pid (calls.SemRmid id) name h = RemovesSet id refl (name-is (Sem id) nam
 by-home pid (calls.MsgGet key create excl) name h = absurd (not-removed name (sym (get-not key) ∙ h))
 by-home pid (calls.SemGet key count create excl) name h = absurd (not-removed name (sym (get-not key) ∙ h))
 by-home pid (calls.Kill other Bad) name h = absurd (not-removed name h)
-by-home pid (calls.Kill other Zero) name h = absurd (not-removed name (sym (kill-is removed_in None pid other refl refl) ∙ h))
-by-home pid (calls.Kill other (Is sig)) name h = absurd (not-removed name (sym (kill-is removed_in None pid other refl refl) ∙ h))
+by-home pid (calls.Kill other Zero) name h =
+    absurd (not-removed name (sym (kill-is removed_in None pid other refl refl) ∙ h))
+by-home pid (calls.Kill other (Is sig)) name h =
+    absurd (not-removed name (sym (kill-is removed_in None pid other refl refl) ∙ h))
 by-home pid call name h = absurd (not-removed name h)
 
 -- a removal is of a queue or of a set

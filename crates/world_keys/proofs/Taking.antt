@@ -31,7 +31,8 @@ use Rattle.world_laws.proofs.Numbers.{maker-in-range}
 use Rattle.world_rules.proofs.Nodes.{leader-stage}
 use Rattle.world_own.proofs.Made.{number-is-low}
 use Rattle.world_own.proofs.NewNumbers.{kind-taken, taken-at, taken-maker, taken-unused}
-use Rattle.world_keys.proofs.NumberKinds.{kind-is, leased-twice, range-now, range-still, same-kind-turned}
+use Rattle.world_own.proofs.Objects.{kind-is}
+use Rattle.world_keys.proofs.NumberKinds.{leased-twice, range-now, range-still, same-kind-turned}
 use Rattle.world_keys.proofs.Refills.{kind-refilled, refilled}
 
 -- ---- what it comes to
@@ -267,8 +268,8 @@ module _ (script : Script) (w : World) (hand : List Held) (b : Beside) (holds : 
     next-is =
         ap (take_from n kind) used_up
         ∙ ap (λ t. if t then take_from_next n kind else None) (eq-eqb n.number 1 node-holds.number)
-        ∙ ap (λ t. if t && not (knows_any d kind (lease_of up)) then take_first (with_next_range n kind) kind (lease_of up)
-        else None) enough
+        ∙ ap (λ t. if t && not (knows_any d kind (lease_of up))
+        then take_first (with_next_range n kind) kind (lease_of up) else None) enough
         ∙ ap (λ t. if not t then take_first (with_next_range n kind) kind (lease_of up) else None) knows-none
         ∙ ap (λ (l : Leases). Some (taken_with (record n { leases = l; leader = record n.leader { directory = d' } })))
         (leased-twice n.leases kind numbers (lease_of up))
