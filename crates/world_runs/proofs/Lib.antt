@@ -1,6 +1,3 @@
-pub mod TendedSteps
-pub mod TendedStarts
-pub mod TendedTurns
 pub mod Hands
 pub mod Takes
 pub mod StartedInHand

@@ -23,7 +23,6 @@ use Rattle.world_own.proofs.OwnCases.{Keeps}
 use Rattle.world_own.proofs.Requests.{at-asked, owner-asked}
 use Rattle.world_own.proofs.Runs.{Starts}
 use Rattle.world_makes.proofs.Makes.{own-call-starts}
-use Rattle.world_first.specs.Watching.{WatchesAsOwner}
 use Rattle.world_first.proofs.OwnStarts.{first-starts}
 use Rattle.world_exits.proofs.FirstEnds.{first-end-keeps}
 use Rattle.world_bounds.specs.Bounded.{IsBounded}
@@ -38,7 +37,7 @@ kept : (script : Script) (w : World) (p : ℕ) (b : Beside) → KeepsAs script w
 kept script w p b keeps = record { beside = b; keeps = keeps }
 
 module _ (script : Script) (sound : IsSoundScript script) (w : World) (b : Beside) (holds : Holds script w [] b)
-    (bounded : IsBounded script w []) (watches : WatchesAsOwner (node_of w 1)) where
+    (bounded : IsBounded script w []) where
   ready : Ready script w [] b
   ready = bounded-is-ready script sound w [] b holds bounded
 
@@ -51,13 +50,13 @@ module _ (script : Script) (sound : IsSoundScript script) (w : World) (b : Besid
         (ap is_own_home is)
     first-by-home (homes.At name) is =
         first-starts script sound w b holds (some-blocks script sound) can s ready.never_waits
-        (leader-is-ready script w [] b ready watches) (ap is_for_others is)
+        (leader-is-ready script sound w [] b ready) (ap is_for_others is)
     first-by-home (homes.Removal name) is =
         first-starts script sound w b holds (some-blocks script sound) can s ready.never_waits
-        (leader-is-ready script w [] b ready watches) (ap is_for_others is)
+        (leader-is-ready script sound w [] b ready) (ap is_for_others is)
     first-by-home homes.Keys is =
         first-starts script sound w b holds (some-blocks script sound) can s ready.never_waits
-        (leader-is-ready script w [] b ready watches) (ap is_for_others is)
+        (leader-is-ready script sound w [] b ready) (ap is_for_others is)
     first-by-home homes.Parent is =
         kept script w 1 _ (first-end-keeps script sound w b holds (some-blocks script sound) can s is)
 

@@ -12,19 +12,18 @@ use Rattle.rpc_frame.specs.declared.deed.Parcel.{Parcel}
 use Rattle.rpc_frame.specs.declared.frame.Frame.{Frame}
 use Rattle.rpc_frame.specs.declared.frame.Frame.TheVariants as frames
 use Rattle.kernel_model.specs.Script.{IsSoundScript}
-use Rattle.node_model.specs.declared.held.Held.{Held}
 use Rattle.node_model.specs.declared.held.Held.TheVariants.{Request, Ending}
 use Rattle.node_model.specs.Bodies.{body_in}
 use Rattle.node_model.specs.Directory.{bound_for, held_for, with_left}
 use Rattle.world_model.specs.Moves.{goes_on_to, pass_on}
 use Rattle.world_model.specs.Node.{Node, is_born}
-use Rattle.world_model.specs.Step.{Step, step_to, with_directory}
+use Rattle.world_model.specs.Step.{step_to, with_directory}
 use Rattle.world_model.specs.World.{World, is_checkpoint, is_enabled}
 use Rattle.world_laws.specs.Invariant.{Holds, MayBe}
 use Rattle.world_laws.specs.Places.{Beside}
 use Rattle.world_laws.specs.Sights.{directory_of, is_born_in, node_of}
 use Rattle.world_laws.proofs.Heads.{head-may-be}
-use Rattle.world_laws.proofs.Steps.{Heads, KeepsAs, world_without}
+use Rattle.world_laws.proofs.Steps.{Heads, KeepsAs}
 use Rattle.world_rules.proofs.Answers.{answer-keeps}
 use Rattle.world_rules.proofs.Births.{checkpoint-keeps}
 use Rattle.world_rules.proofs.Enabled.{IsTaken, enabled-takes}
@@ -45,15 +44,12 @@ use Rattle.world_ends.proofs.RecallAlls.{any-recall-all-keeps}
 use Rattle.world_release.proofs.Arrivals.{ask-goes-on, bounce-goes-on, left-goes-on}
 use Rattle.world_release.proofs.GiveBacks.{give-back-goes-on}
 use Rattle.world_exits.proofs.ExitTos.{exit-to-keeps}
-use Rattle.world_bounds.specs.Bounded.{IsBounded, ItemsAreOfNodes, NodeIsBounded, StepIsBounded}
+use Rattle.world_bounds.specs.Bounded.{IsBounded, IsGood, NodeIsBounded}
 use Rattle.world_bounds.proofs.Parts.{held-are-of-nodes}
-use Rattle.world_bounds.proofs.Ready.{Ready, bounce-is-of-node, bounded-is-ready, forward-is-of-node}
+use Rattle.world_bounds.proofs.Ready.{Ready, bounce-is-of-node, bounded-is-ready, forward-is-of-node, taken-is-good}
 use Rattle.world_bounds.proofs.StepParts.{step-to-bounded}
 use Rattle.world_bounds.proofs.Turns.{left-noted-bounded, passed-on-bounded}
-use Rattle.world_bounds.proofs.Worlds.{without-is-bounded, without-is-shaped}
-use Rattle.world_runs.proofs.Hands.{Good, hand-goes-on, leader-is-ready}
-use Rattle.world_runs.proofs.TendedSteps.{IsTended, NodeIsTended}
-use Rattle.world_runs.proofs.TendedTurns.{passed-on-tended}
+use Rattle.world_runs.proofs.Hands.{hand-goes-on, leader-is-ready}
 
 -- ---- events, in one form
 
@@ -87,7 +83,7 @@ or-false true h = refl
 or-false false h = h
 
 module _ (script : Script) (sound : IsSoundScript script) (w : World) (b : Beside) (holds : Holds script w [] b)
-    (bounded : IsBounded script w []) (tended : (p : ℕ) → NodeIsTended (node_of w p)) where
+    (bounded : IsBounded script w []) where
   ready : Ready script w [] b
   ready = bounded-is-ready script sound w [] b holds bounded
 
@@ -97,38 +93,27 @@ module _ (script : Script) (sound : IsSoundScript script) (w : World) (b : Besid
     leader-bounded : NodeIsBounded script (node_of w 1)
     leader-bounded = bounded.nodes 1 h.low h.high
 
-    -- a step of the leader from the world without the frame
-    good-with : (s : Step) (hand : List Held) → StepIsBounded script s → ItemsAreOfNodes script hand → IsTended s
-        → Good script (world_without w 1 q rest) s hand
-    good-with s hand step items is_tended =
-        record {
-          shape = without-is-shaped script w 1 q frame rest holds.shape h;
-          before = without-is-bounded script w [] 1 q frame rest holds.shape h bounded;
-          step = step;
-          items = items;
-          tended = is_tended;
-        }
-
   ask-taken : (q ticket pid : ℕ) (call : Call) (rest : List Frame)
       → Heads script w 1 q (frames.Ask ticket pid call) rest → Keeps script w (events.Take 1 q)
   ask-taken q ticket pid call rest h =
       by-leader script w q
-      (ask-goes-on script (Good script) (hand-goes-on script sound) w b holds q rest ticket pid call h
+      (ask-goes-on script (IsGood script) (hand-goes-on script sound) w b holds q rest ticket pid call h
       ready.never_waits
-      (good-with q (frames.Ask ticket pid call) rest h (step_to (node_of w 1))
-      (Request (record { caller = q; ticket = ticket; pid = pid; call = call }) ∷ [])
+      (taken-is-good script w q (frames.Ask ticket pid call) rest (step_to (node_of w 1))
+      (Request (record { caller = q; ticket = ticket; pid = pid; call = call }) ∷ []) holds.shape bounded h
       (step-to-bounded script (node_of w 1) (leader-bounded q (frames.Ask ticket pid call) rest h))
-      (record { low = h.low_from; high = h.high_from }, tt) (tended 1)))
+      (record { low = h.low_from; high = h.high_from }, tt)))
 
   bounce-taken : (q : ℕ) (asked : Asked) (rest : List Frame) → Heads script w 1 q (frames.Bounce asked) rest
       → Keeps script w (events.Take 1 q)
   bounce-taken q asked rest h =
       let own = bounce-is-of-node script w [] b ready 1 q asked rest h
       in by-leader script w q
-      (bounce-goes-on script (Good script) (hand-goes-on script sound) w b holds q rest asked h own.low own.high
+      (bounce-goes-on script (IsGood script) (hand-goes-on script sound) w b holds q rest asked h own.low own.high
       ready.never_waits
-      (good-with q (frames.Bounce asked) rest h (step_to (node_of w 1)) (Request asked ∷ [])
-      (step-to-bounded script (node_of w 1) (leader-bounded q (frames.Bounce asked) rest h)) (own, tt) (tended 1)))
+      (taken-is-good script w q (frames.Bounce asked) rest (step_to (node_of w 1)) (Request asked ∷ []) holds.shape
+      bounded h
+      (step-to-bounded script (node_of w 1) (leader-bounded q (frames.Bounce asked) rest h)) (own, tt)))
 
   give-back-taken : (q : ℕ) (packed : PackedDeed) (rest : List Frame) → Heads script w 1 q (frames.GiveBack packed) rest
       → Keeps script w (events.Take 1 q)
@@ -136,25 +121,24 @@ module _ (script : Script) (sound : IsSoundScript script) (w : World) (b : Besid
       let n : Node = node_of w 1
       in let own : NodeIsBounded script n = leader-bounded q (frames.GiveBack packed) rest h
       in by-leader script w q
-      (give-back-goes-on script w b holds ready.at_nodes ready.reads q packed rest h (Good script)
+      (give-back-goes-on script w b holds ready.at_nodes ready.reads q packed rest h (IsGood script)
       (hand-goes-on script sound)
-      (good-with q (frames.GiveBack packed) rest h
+      (taken-is-good script w q (frames.GiveBack packed) rest
       (pass_on n packed.name (body_in b.kernel packed.name)
       (goes_on_to (directory_of w) (bound_for (directory_of w) packed.name)))
-      (held_for (directory_of w) packed.name)
+      (held_for (directory_of w) packed.name) holds.shape bounded h
       (passed-on-bounded script n packed.name (body_in b.kernel packed.name) own)
-      (held-are-of-nodes script (directory_of w) packed.name own.directory)
-      (passed-on-tended script n packed.name (body_in b.kernel packed.name) (tended 1))))
+      (held-are-of-nodes script (directory_of w) packed.name own.directory)))
 
   left-taken : (q : ℕ) (parcel : Parcel) (rest : List Frame) → Heads script w 1 q (frames.Left parcel) rest
       → Keeps script w (events.Take 1 q)
   left-taken q parcel rest h =
       by-leader script w q
-      (left-goes-on script (Good script) (hand-goes-on script sound) w b holds q rest parcel h ready.at_nodes
+      (left-goes-on script (IsGood script) (hand-goes-on script sound) w b holds q rest parcel h ready.at_nodes
       ready.reads
-      (good-with q (frames.Left parcel) rest h
+      (taken-is-good script w q (frames.Left parcel) rest
       (step_to (with_directory (node_of w 1) (with_left (directory_of w) q))) (Ending parcel ∷ [])
-      (left-noted-bounded script (node_of w 1) q (leader-bounded q (frames.Left parcel) rest h)) (tt, tt) (tended 1)))
+      holds.shape bounded h (left-noted-bounded script (node_of w 1) q (leader-bounded q (frames.Left parcel) rest h)) (tt, tt)))
 
   -- ---- other frames
 
@@ -166,7 +150,7 @@ module _ (script : Script) (sound : IsSoundScript script) (w : World) (b : Besid
             at-leader script w p q (frames.NotOwner ticket) rest h first
             (λ g. by-leader script w q
             (not-owner-has-step script w b holds q ticket rest g ready.never_waits
-            (leader-is-ready script w [] b ready (tended 1).0)))
+            (leader-is-ready script sound w [] b ready)))
         | inr other ↦ by-node script w p q (not-owner-taken script w b holds p q ticket rest h other)
       ]
 
@@ -189,7 +173,7 @@ module _ (script : Script) (sound : IsSoundScript script) (w : World) (b : Besid
     lease-found kind first h sender =
         from-leader script w p q (frames.Lease kind first) rest h sender
         (λ g. lease-keeps script sound w b holds p kind first rest g (let r = ready.rises p in r.processes)
-        ((tended p).1) (ready.few kind))
+        (ready.sized p g.low g.high) (ready.few kind))
 
     suggest-found : (name : Name) (node : ℕ) → Heads script w p q (frames.Suggest name node) rest → p ≡ 1
         → Keeps script w (events.Take p q)
