@@ -30,7 +30,7 @@ use Rattle.world_hand.proofs.NobodyRoutes.{on-name-served}
 use Rattle.world_sent.proofs.InHand.{HasInHand}
 use Rattle.world_sent.proofs.NoCheckpoint.{in-table}
 use Rattle.world_sent.proofs.ServeSteps.{EndsIn, ServesInHand, serves-and-suggests, serves-in-hand}
-use Rattle.world_held.proofs.Starts.{started_asked, started_beside, started_node, started-asked-here, started-in-hand}
+use Rattle.world_first.proofs.Starts.{start-in-hand, started_asked, started_beside, started_node, started-asked-here}
 
 module _ (script : Script) (sound : IsSoundScript script) (w : World) (b : Beside) (holds : Holds script w [] b) (p : ℕ)
     (low : 1 ≤ p) (high : p ≤ node_count script) (can : can_run (node_of w p) ≡ true) (s : Starts script w b p)
@@ -59,7 +59,14 @@ module _ (script : Script) (sound : IsSoundScript script) (w : World) (b : Besid
   in-hand = started_beside script w b holds p low high s n.cache node-was.owners others
 
   is-in-hand : HasInHand script (world_after w p (step_to started)) in-hand p asked
-  is-in-hand = started-in-hand script w b holds p low high s n.cache node-was.owners others
+  is-in-hand =
+      record {
+        low_node = low;
+        high_node = high;
+        low = low;
+        high = high;
+        holds = start-in-hand script w b holds p low high s n.cache node-was.owners others;
+      }
 
   -- the name's deed is in the node's table
   deed : b.deed name ≡ InTable p

@@ -1,3 +1,3 @@
-pub mod Starts
 pub mod HeldStarts
 pub mod OtherStarts
+pub mod AnyStarts
