@@ -6,7 +6,8 @@ use Rattle.pico_base.specs.declared.script.Script.{Script}
 use Rattle.pico_base.specs.declared.script.Event.TheVariants as events
 use Rattle.rpc_frame.specs.declared.frame.Frame.{Frame}
 use Rattle.world_model.specs.Node.{Node, can_run, is_born}
-use Rattle.world_model.specs.Turn.{run_turn, take_turn}
+use Rattle.world_model.specs.Starting.{run}
+use Rattle.world_model.specs.Turn.{take_frame}
 use Rattle.world_model.specs.World.{World, node_at, stream, with_stream, node_count, world_after, after_turn, runs_at, takes_at, step, is_enabled, is_run_enabled, is_take_enabled, is_number, is_checkpoint}
 use Rattle.world_laws.proofs.Streams.{Square, square-with, stream-same, stream-other}
 use Rattle.log_laws.specs.Logs.{IsNode, StampedFrame, frame_of, Input, Runs, Takes, Logged, Log, LeadsTo, Makes, turn_on, takes_of, taken_in, taken_if, sent_in, IsTakenLater, GoesBetween}
@@ -81,9 +82,9 @@ module _ (script : Script) (ends : Ends) (w : World) (now : Nodes) (on_way : OnW
 
   pub run-advances : t.turn.input ≡ Runs → Advances script ends w t turns
   run-advances input =
-      let turned : (if can_run (now t.node) then run_turn script (now t.node) else None) ≡ Some t.turn.step =
+      let turned : (if can_run (now t.node) then run script (now t.node) else None) ≡ Some t.turn.step =
       ap (turn_on script (now t.node)) (sym input) ∙ makes.turns
-      in let rule = if-some (can_run (now t.node)) (run_turn script (now t.node)) t.turn.step turned
+      in let rule = if-some (can_run (now t.node)) (run script (now t.node)) t.turn.step turned
       in let there = half.node t.node here
       in record {
         next = world_after w t.node t.turn.step;
@@ -97,7 +98,7 @@ module _ (script : Script) (ends : Ends) (w : World) (now : Nodes) (on_way : OnW
             ap (λ (i : Input). step w (event_at t.node i)) input
             ∙ ap (runs_at w t.node) there
             ∙ ap (after_turn w t.node)
-            (ap (λ (s : Script). run_turn s (now t.node)) half.of_script ∙ rule.1);
+            (ap (λ (s : Script). run s (now t.node)) half.of_script ∙ rule.1);
         journal = refl;
         halfway = halfway-after script ends w now on_way t turns (run-taken input);
       }
@@ -269,7 +270,7 @@ module _ (script : Script) (ends : Ends) (w : World) (now : Nodes) (on_way : OnW
   frame-heads = half.stream_is t.node from to_here from_node ∙ ap (map frame_of) way
 
   turn-taken : (if is_born (now t.node) || is_checkpoint taken.frame
-      then take_turn script (now t.node) from taken.frame else None) ≡ Some t.turn.step
+      then take_frame script (now t.node) from taken.frame else None) ≡ Some t.turn.step
   turn-taken =
       ap (turn_on script (now t.node)) (sym input) ∙ (makes script ends w now on_way t turns half).turns
 
@@ -277,7 +278,7 @@ module _ (script : Script) (ends : Ends) (w : World) (now : Nodes) (on_way : OnW
   frame-advances =
       let n : Node = now t.node
       in let frame : Frame = taken.frame
-      in let rule = if-some (is_born n || is_checkpoint frame) (take_turn script n from frame) t.turn.step turn-taken
+      in let rule = if-some (is_born n || is_checkpoint frame) (take_frame script n from frame) t.turn.step turn-taken
       in let there = half.node t.node to_here
       in let numbers = both-true (is_number t.node) (is_number from) (number-is t.node to_here.low)
       (number-is from from_node.low)
@@ -296,7 +297,7 @@ module _ (script : Script) (ends : Ends) (w : World) (now : Nodes) (on_way : OnW
             ∙ ap (λ (o : Option Node). takes_at w t.node from o (stream w t.node from)) there
             ∙ ap (takes_at w t.node from (Some n)) frame-heads
             ∙ ap (after_turn without t.node)
-            (ap (λ (s : Script). take_turn s n from frame) half.of_script ∙ rule.1);
+            (ap (λ (s : Script). take_frame s n from frame) half.of_script ∙ rule.1);
         journal = refl;
         halfway = halfway-after script ends without now left_over t turns without-taken;
       }

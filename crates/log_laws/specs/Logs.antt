@@ -6,7 +6,8 @@ use Rattle.pico_base.specs.declared.script.Script.{Script}
 use Rattle.rpc_frame.specs.declared.frame.Frame.{Frame}
 use Rattle.world_model.specs.Node.{Node, opening_node, is_born, can_run}
 use Rattle.world_model.specs.Step.{Step}
-use Rattle.world_model.specs.Turn.{run_turn, take_turn}
+use Rattle.world_model.specs.Starting.{run}
+use Rattle.world_model.specs.Turn.{take_frame}
 use Rattle.world_model.specs.World.{node_count, is_checkpoint}
 
 -- a node of the script, by number
@@ -38,9 +39,9 @@ Log = List Logged
 
 -- the machine's turn, where the event is enabled
 abbrev pub turn_on : Script → Node → Input → Option Step
-turn_on script n Runs = if can_run n then run_turn script n else None
+turn_on script n Runs = if can_run n then run script n else None
 turn_on script n (Takes from taken) =
-    if is_born n || is_checkpoint taken.frame then take_turn script n from taken.frame else None
+    if is_born n || is_checkpoint taken.frame then take_frame script n from taken.frame else None
 
 -- the turn is the machine's, and the log goes on from the node that it leaves
 pub record Makes (script : Script) (n : Node) (turn : Logged) (Rest : Node → Type 0) : Type 0 where

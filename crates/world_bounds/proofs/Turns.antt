@@ -42,8 +42,7 @@ use Rattle.world_model.specs.Routing.{exit_here, names_in, recall_from, route_ca
 use Rattle.world_model.specs.Serving.{serve_asked, serve_nobody, without_deed}
 use Rattle.world_model.specs.Starting.{run}
 use Rattle.world_model.specs.Step.{Step, send, step_to, with_directory}
-use Rattle.world_model.specs.Turn.{run_turn, sends_frames, take_frame, take_turn}
-use Rattle.world_model.specs.Grammar.{is_frame, is_sent_frame}
+use Rattle.world_model.specs.Turn.{take_frame}
 use Rattle.world_model.specs.World.{node_count}
 use Rattle.world_bounds.specs.Bounded.{FrameIsBounded, FrameNamesNodes, IsNode, LeadsToNode, NamesNodes, NodeIsBounded, StepIsBounded}
 use Rattle.world_bounds.proofs.NewNames.{ForksNodes, make-bounded}
@@ -421,51 +420,34 @@ module _ (script : Script) where
 
   -- ---- a turn
 
-  sent-frames-bounded : (s : Step) → StepIsBounded script s → Bounded (sends_frames s)
-  sent-frames-bounded s k =
-      of-test (StepIsBounded script) (list_all is_sent_frame s.sends) (Some s) (λ _. k)
-
-  take-frame-bounded : (n : Node) (to sender : ℕ) (frame : Frame) → NodeIsBounded script n
-      → FrameIsBounded script to sender frame → Bounded (take_frame script n sender frame)
-  take-frame-bounded n to sender (frames.Ask ticket pid call) k f =
-      take-ask-bounded n sender ticket pid call k f.sender_is
-  take-frame-bounded n to sender (frames.Request ticket pid call) k f =
-      take-request-bounded n sender ticket pid call k f.sender_is
-  take-frame-bounded n to sender (frames.Forward asked) k f = take-forward-bounded n sender asked k f.says
-  take-frame-bounded n to sender (frames.Bounce asked) k f = take-bounce-bounded n sender asked k f.says
-  take-frame-bounded n to sender (frames.Answer ticket reply) k f =
-      take-answer-bounded n sender ticket reply k f.sender_is
-  take-frame-bounded n to sender (frames.NotOwner ticket) k f = take-not-owner-bounded n ticket k
-  take-frame-bounded n to sender (frames.LeaseAsk kind) k f = take-lease-ask-bounded n sender kind k f.sender_is
-  take-frame-bounded n to sender (frames.Lease kind first) k f = take-lease-bounded n sender kind first k
-  take-frame-bounded n to sender (frames.Placed name node) k f = take-placed-bounded n sender name node k f.says
-  take-frame-bounded n to sender (frames.Checkpoint pid parent deed vars) k f =
-      take-checkpoint-bounded n sender pid parent deed vars k f.sender_is
-  take-frame-bounded n to sender (frames.Suggest name node) k f =
-      take-suggest-bounded n sender name node k f.sender_is f.says
-  take-frame-bounded n to sender (frames.Recall name) k f = take-recall-bounded n sender name k
-  take-frame-bounded n to sender (frames.GiveBack deed) k f = take-give-back-bounded n sender deed k
-  take-frame-bounded n to sender (frames.Grant deed) k f = take-grant-bounded n sender deed k
-  take-frame-bounded n to sender (frames.Leaving pid parent parent_node) k f =
-      take-leaving-bounded n sender pid parent parent_node k f.sender_is f.says
-  take-frame-bounded n to sender frames.RecallAll k f = take-recall-all-bounded n sender k
-  take-frame-bounded n to sender (frames.Left parcel) k f = take-left-bounded n sender parcel k
-  take-frame-bounded n to sender (frames.ExitTo parcel) k f = take-exit-bounded n sender parcel k
-
   -- A node that takes a frame stays bounded, and so is what it sends.
   pub take-turn-bounded : (n : Node) (to sender : ℕ) (frame : Frame) → NodeIsBounded script n
-      → FrameIsBounded script to sender frame → Bounded (take_turn script n sender frame)
-  take-turn-bounded n to sender frame k f =
-      of-test (StepIsBounded script) (is_frame frame)
-      (option_and_then sends_frames (take_frame script n sender frame))
-      (λ _. of-next (StepIsBounded script) (take_frame script n sender frame) sends_frames
-      (λ s is. sent-frames-bounded s
-      (of-some (StepIsBounded script) (take_frame script n sender frame) s
-      (take-frame-bounded n to sender frame k f) is)))
+      → FrameIsBounded script to sender frame → Bounded (take_frame script n sender frame)
+  take-turn-bounded n to sender (frames.Ask ticket pid call) k f =
+      take-ask-bounded n sender ticket pid call k f.sender_is
+  take-turn-bounded n to sender (frames.Request ticket pid call) k f =
+      take-request-bounded n sender ticket pid call k f.sender_is
+  take-turn-bounded n to sender (frames.Forward asked) k f = take-forward-bounded n sender asked k f.says
+  take-turn-bounded n to sender (frames.Bounce asked) k f = take-bounce-bounded n sender asked k f.says
+  take-turn-bounded n to sender (frames.Answer ticket reply) k f =
+      take-answer-bounded n sender ticket reply k f.sender_is
+  take-turn-bounded n to sender (frames.NotOwner ticket) k f = take-not-owner-bounded n ticket k
+  take-turn-bounded n to sender (frames.LeaseAsk kind) k f = take-lease-ask-bounded n sender kind k f.sender_is
+  take-turn-bounded n to sender (frames.Lease kind first) k f = take-lease-bounded n sender kind first k
+  take-turn-bounded n to sender (frames.Placed name node) k f = take-placed-bounded n sender name node k f.says
+  take-turn-bounded n to sender (frames.Checkpoint pid parent deed vars) k f =
+      take-checkpoint-bounded n sender pid parent deed vars k f.sender_is
+  take-turn-bounded n to sender (frames.Suggest name node) k f =
+      take-suggest-bounded n sender name node k f.sender_is f.says
+  take-turn-bounded n to sender (frames.Recall name) k f = take-recall-bounded n sender name k
+  take-turn-bounded n to sender (frames.GiveBack deed) k f = take-give-back-bounded n sender deed k
+  take-turn-bounded n to sender (frames.Grant deed) k f = take-grant-bounded n sender deed k
+  take-turn-bounded n to sender (frames.Leaving pid parent parent_node) k f =
+      take-leaving-bounded n sender pid parent parent_node k f.sender_is f.says
+  take-turn-bounded n to sender frames.RecallAll k f = take-recall-all-bounded n sender k
+  take-turn-bounded n to sender (frames.Left parcel) k f = take-left-bounded n sender parcel k
+  take-turn-bounded n to sender (frames.ExitTo parcel) k f = take-exit-bounded n sender parcel k
 
   -- So does one of a sound script that starts a call.
-  pub run-turn-bounded : IsSoundScript script → (n : Node) → NodeIsBounded script n → Bounded (run_turn script n)
-  run-turn-bounded sound n k =
-      of-next (StepIsBounded script) (run script n) sends_frames
-      (λ s is. sent-frames-bounded s
-      (of-some (StepIsBounded script) (run script n) s (run-bounded script sound n k) is))
+  pub run-turn-bounded : IsSoundScript script → (n : Node) → NodeIsBounded script n → Bounded (run script n)
+  run-turn-bounded sound n k = run-bounded script sound n k

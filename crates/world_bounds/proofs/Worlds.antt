@@ -11,7 +11,8 @@ use Rattle.kernel_model.specs.Script.{IsSoundScript}
 use Rattle.node_model.specs.declared.held.Held.{Held}
 use Rattle.world_model.specs.Node.{Node}
 use Rattle.world_model.specs.Step.{Step, step_to}
-use Rattle.world_model.specs.Turn.{run_turn, take_turn}
+use Rattle.world_model.specs.Starting.{run}
+use Rattle.world_model.specs.Turn.{take_frame}
 use Rattle.world_model.specs.World.{World, after_turn, is_enabled, node_count, runs_at, step, stream, takes_at, world_after}
 use Rattle.world_laws.specs.Invariant.{IsShaped}
 use Rattle.world_laws.specs.Sights.{node_of}
@@ -160,13 +161,13 @@ module _ (script : Script) where
     run-stays p enabled steps =
         let r : IsRun script w p = enabled-runs script w p k.shape enabled
         in let own : IsNode script p = record { low = r.low; high = r.high }
-        in let after : after_turn w p (run_turn script (node_of w p)) ≡ Some next =
+        in let after : after_turn w p (run script (node_of w p)) ≡ Some next =
         sym (ap (runs_at w p) (node-there script w k.shape p r.low r.high)
-        ∙ ap (λ (x : Script). after_turn w p (run_turn x (node_of w p))) k.shape.of_script)
+        ∙ ap (λ (x : Script). after_turn w p (run x (node_of w p))) k.shape.of_script)
         ∙ steps
-        in let found = after-some w next p (run_turn script (node_of w p)) after
+        in let found = after-some w next p (run script (node_of w p)) after
         in let b : StepIsBounded script found.0 =
-        of-some (StepIsBounded script) (run_turn script (node_of w p)) found.0
+        of-some (StepIsBounded script) (run script (node_of w p)) found.0
         (run-turn-bounded script sound (node_of w p) (k.bounded.nodes p r.low r.high)) found.1
         in subst (IsShapedAndBounded script) (sym found.2)
         (by-changes w (world_after w p found.0) p found.0 []
@@ -178,17 +179,17 @@ module _ (script : Script) where
         let t : IsTaken script w p q = enabled-takes script w p q k.shape enabled
         in let h : Heads script w p q t.frame t.rest = t.heads
         in let own : IsNode script p = record { low = h.low; high = h.high }
-        in let after : after_turn (world_without w p q t.rest) p (take_turn script (node_of w p) q t.frame)
+        in let after : after_turn (world_without w p q t.rest) p (take_frame script (node_of w p) q t.frame)
         ≡ Some next =
         sym (ap (λ o. takes_at w p q o (stream w p q)) (node-there script w k.shape p h.low h.high)
         ∙ ap (takes_at w p q (Some (node_of w p))) h.head
-        ∙ ap (λ (x : Script). after_turn (world_without w p q t.rest) p (take_turn x (node_of w p) q t.frame))
+        ∙ ap (λ (x : Script). after_turn (world_without w p q t.rest) p (take_frame x (node_of w p) q t.frame))
         k.shape.of_script)
         ∙ steps
         in let found =
-        after-some (world_without w p q t.rest) next p (take_turn script (node_of w p) q t.frame) after
+        after-some (world_without w p q t.rest) next p (take_frame script (node_of w p) q t.frame) after
         in let b : StepIsBounded script found.0 =
-        of-some (StepIsBounded script) (take_turn script (node_of w p) q t.frame) found.0
+        of-some (StepIsBounded script) (take_frame script (node_of w p) q t.frame) found.0
         (take-turn-bounded script (node_of w p) p q t.frame (k.bounded.nodes p h.low h.high)
         (head-is-bounded w [] p q t.frame t.rest h k.bounded)) found.1
         in subst (IsShapedAndBounded script) (sym found.2)

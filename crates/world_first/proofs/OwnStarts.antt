@@ -103,19 +103,19 @@ module _ (script : Script) (sound : IsSoundScript script) (w : World) (b : Besid
 
   -- ---- routed by the leader
 
-  module _ (cache : Cache) (owners : HasOwners w cache) (others : is_for_others (home_of n.pid call) ≡ true) where
+  module _ (cache : Cache) (owners : HasOwners w 1 cache) (others : is_for_others (home_of n.pid call) ≡ true) where
     asks-itself : ask script (step_to (started cache)) call
-        ≡ route_call script (step_to (started cache)) (started_asked script w b holds high s cache owners others)
+        ≡ route_call script (step_to (started cache)) (started_asked script w b holds 1 low high s cache owners others)
     asks-itself =
         ap (λ t. if t then route_call script (step_to (started cache)) (asked_here (started cache) call)
         else Some (send (step_to (started cache)) 1 (frames.Ask (n.caller.ticket + 1) n.pid call)))
         (eq-eqb n.number 1 node-was.number)
         ∙ ap (route_call script (step_to (started cache)))
-        (started-asked-here script w b holds high s cache owners others)
+        (started-asked-here script w b holds 1 low high s cache owners others)
 
     ready-now : IsReady (node_of (world_after w 1 (step_to (started cache))) 1)
     ready-now =
-        subst (λ (m : Node). IsReady m) (sym (started-here script w b holds high s cache owners others))
+        subst (λ (m : Node). IsReady m) (sym (started-here script w b holds 1 low high s cache owners others))
         (record {
           watches = ready.watches;
           queues = ready.queues;
@@ -128,10 +128,10 @@ module _ (script : Script) (sound : IsSoundScript script) (w : World) (b : Besid
     routed : run script n ≡ ask script (step_to (started cache)) call → Keeps script w (events.Run 1)
     routed rule =
         let r : HasRoute script w (step_to (started cache))
-        (started_asked script w b holds high s cache owners others) [] =
+        (started_asked script w b holds 1 low high s cache owners others) [] =
         own-has-route script w (step_to (started cache)) (n.caller.ticket + 1) n.pid call []
-        (started_beside script w b holds high s cache owners others)
-        (start-in-hand script w b holds high s cache owners others) high never ready-now
+        (started_beside script w b holds 1 low high s cache owners others)
+        (start-in-hand script w b holds 1 low high s cache owners others) high never ready-now
         in record {
           beside = r.beside;
           keeps = record {
@@ -170,11 +170,11 @@ module _ (script : Script) (sound : IsSoundScript script) (w : World) (b : Besid
     -- it holds the name
     module _ (held : node_holds n name ≡ true) where
       abbrev in-hand : Beside
-      in-hand = started_beside script w b holds high s n.cache node-was.owners others
+      in-hand = started_beside script w b holds 1 low high s n.cache node-was.owners others
 
       holds-in-hand : Holds script (world_after w 1 (step_to (started n.cache)))
-          (Request (started_asked script w b holds high s n.cache node-was.owners others) ∷ []) in-hand
-      holds-in-hand = start-in-hand script w b holds high s n.cache node-was.owners others
+          (Request (started_asked script w b holds 1 low high s n.cache node-was.owners others) ∷ []) in-hand
+      holds-in-hand = start-in-hand script w b holds 1 low high s n.cache node-was.owners others
 
       watching : WatchesAsOwner (node_of (world_after w 1 (step_to (started n.cache))) 1)
       watching = let now = ready-now n.cache node-was.owners others in now.watches
@@ -185,7 +185,7 @@ module _ (script : Script) (sound : IsSoundScript script) (w : World) (b : Besid
           in record {
             deed_is = at.deed_is;
             held = ap (λ (m : Node). get_named m.deeds name)
-                (started-here script w b holds high s n.cache node-was.owners others) ∙ at.held;
+                (started-here script w b holds 1 low high s n.cache node-was.owners others) ∙ at.held;
           }
 
       abbrev noted : Watches
@@ -202,7 +202,7 @@ module _ (script : Script) (sound : IsSoundScript script) (w : World) (b : Besid
       served-rule =
           rule-at true held
           ∙ ap (serve_asked script (step_to (started n.cache)) name)
-          (started-asked-here script w b holds high s n.cache node-was.owners others)
+          (started-asked-here script w b holds 1 low high s n.cache node-was.owners others)
           ∙ own-serve-rule script w (step_to (started n.cache)) (n.caller.ticket + 1) n.pid call [] in-hand
           holds-in-hand high never watching name (inl is) at-next
 
@@ -228,7 +228,7 @@ module _ (script : Script) (sound : IsSoundScript script) (w : World) (b : Besid
     abbrev IsOwner : Name × ℕ → Type 0
     IsOwner e = (is_born_in w e.1 ≡ true) × (e.1 ≢ 1)
 
-    owners-now : HasOwners w looked-at
+    owners-now : HasOwners w 1 looked-at
     owners-now m owner there =
         All-contains IsOwner looked-at (m, owner)
         (looked IsOwner n.cache name

@@ -1,6 +1,5 @@
 -- A node's turn as a step of the world, and what it changes there.
-use Rattle.std.proofs.Common.{◌≡◌, ◌≢◌, ◌⊎◌, ℕ, zero, suc, ◌-◌, ◌<◌, ◌≤◌, Bool, true, false, ◌&&◌, if◌then◌else◌, List, [], ◌∷◌, ◌++◌, length, set, slice_get, get_or, nat_eq, Some, None, unwrap_or, option_and_then, refl, ap, sym, subst, ◌∙◌, inl, inr, arith, append-nil}
-use Rattle.std.specs.List.{list_all}
+use Rattle.std.proofs.Common.{◌≡◌, ◌≢◌, ◌⊎◌, ℕ, zero, suc, ◌-◌, ◌<◌, ◌≤◌, Bool, true, false, ◌&&◌, if◌then◌else◌, List, [], ◌∷◌, ◌++◌, length, set, slice_get, get_or, nat_eq, Some, None, unwrap_or, refl, ap, sym, subst, ◌∙◌, inl, inr, arith, append-nil}
 use Rattle.std.proofs.lemmas.Bool.{cases_eq, eq-eqb, ne_eqb, lt-ltb, le-ltb}
 use Rattle.std.proofs.lemmas.List.{length-set}
 use Rattle.std.proofs.lemmas.Option.{slice_get-get_or}
@@ -10,8 +9,7 @@ use Rattle.pico_base.specs.declared.script.Event.TheVariants as events
 use Rattle.rpc_frame.specs.declared.frame.Frame.{Frame}
 use Rattle.world_model.specs.Node.{unborn_node}
 use Rattle.world_model.specs.Step.{Step}
-use Rattle.world_model.specs.Grammar.{is_sent_frame}
-use Rattle.world_model.specs.Turn.{take_frame, take_turn, sends_frames, run_turn}
+use Rattle.world_model.specs.Turn.{take_frame}
 use Rattle.world_model.specs.Starting.{run}
 use Rattle.world_model.specs.World.{World, node_at, stream, stream_in, with_stream, with_all_sent, node_count, world_after, after_turn, takes_at, runs_at, step, is_number}
 use Rattle.world_laws.specs.Places.{Beside}
@@ -65,14 +63,6 @@ node-there script w s p low high =
     (sym (ap (λ b. unwrap_or (if b then node_at w p else None) (unborn_node p)) (lt-ltb 0 p (omega arith))
     ∙ ap (λ o. unwrap_or o (unborn_node p)) there))
 
--- every frame is in the grammar
-all-sent-frames : (sends : List (ℕ × Frame)) → list_all is_sent_frame sends ≡ true
-all-sent-frames [] = refl
-all-sent-frames (s ∷ sends) = all-sent-frames sends
-
-sends-all : (s : Step) → sends_frames s ≡ Some s
-sends-all s = ap (λ b. if b then Some s else None) (all-sent-frames s.sends)
-
 -- a node that takes a frame by a rule: the world's step
 pub take-steps : (script : Script) (w : World) (p q : ℕ) (frame : Frame) (rest : List Frame) (s : Step)
     → IsShaped script w → Heads script w p q frame rest → take_frame script (node_of w p) q frame ≡ Some s
@@ -81,7 +71,7 @@ take-steps script w p q frame rest s shape h rule =
     ap (λ x. takes_at w p q x (stream w p q)) (node-there script w shape p h.low h.high)
     ∙ ap (takes_at w p q (Some (node_of w p))) h.head
     ∙ ap (after_turn (world_without w p q rest) p)
-    (ap (λ x. take_turn x (node_of w p) q frame) shape.of_script ∙ ap (option_and_then sends_frames) rule ∙ sends-all s)
+    (ap (λ x. take_frame x (node_of w p) q frame) shape.of_script ∙ rule)
 
 -- a node that starts a call: the world's step
 pub run-steps : (script : Script) (w : World) (p : ℕ) (s : Step)
@@ -90,7 +80,7 @@ pub run-steps : (script : Script) (w : World) (p : ℕ) (s : Step)
 run-steps script w p s shape low high rule =
     ap (runs_at w p) (node-there script w shape p low high)
     ∙ ap (after_turn w p)
-    (ap (λ x. run_turn x (node_of w p)) shape.of_script ∙ ap (option_and_then sends_frames) rule ∙ sends-all s)
+    (ap (λ x. run x (node_of w p)) shape.of_script ∙ rule)
 
 -- ---- what is on its way
 

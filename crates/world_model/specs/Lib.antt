@@ -8,7 +8,6 @@ pub mod Calls
 pub mod Ranges
 pub mod Moves
 pub mod Lives
-pub mod Grammar
 pub mod Turn
 pub mod World
 pub mod Run

@@ -1,18 +1,14 @@
--- A node's turn: the rule of its next call, or of the frame that it takes. Where none applies there is no step.
-use Rattle.std.specs.Prelude.{ℕ, if◌then◌else◌, Option, Some, None}
-use Rattle.std.specs.List.{list_all}
-use Rattle.std.specs.Option.{option_and_then}
+-- A node takes a frame, by the rule of its kind. Where that doesn't apply there is no step.
+use Rattle.std.specs.Prelude.{ℕ, Option}
 use Rattle.pico_base.specs.declared.script.Script.{Script}
 use Rattle.rpc_frame.specs.declared.frame.Frame.{Frame}
 use Rattle.rpc_frame.specs.declared.frame.Frame.TheVariants as frames
 use Rattle.world_model.specs.Node.{Node}
 use Rattle.world_model.specs.Step.{Step}
-use Rattle.world_model.specs.Starting.{run}
 use Rattle.world_model.specs.Calls.{take_ask, take_bounce, take_forward, take_request, take_not_owner, take_answer}
 use Rattle.world_model.specs.Ranges.{take_lease_ask, take_lease, take_placed}
 use Rattle.world_model.specs.Moves.{take_suggest, take_recall, take_give_back, take_grant}
 use Rattle.world_model.specs.Lives.{take_checkpoint, take_leaving, take_recall_all, take_left, take_exit}
-use Rattle.world_model.specs.Grammar.{is_frame, is_sent_frame}
 
 -- the rule of a frame
 abbrev pub take_frame : Script → Node → ℕ → Frame → Option Step
@@ -34,14 +30,3 @@ take_frame script n from (frames.Leaving pid parent parent_node) = take_leaving 
 take_frame script n from frames.RecallAll = take_recall_all n from
 take_frame script n from (frames.Left parcel) = take_left script n from parcel
 take_frame script n from (frames.ExitTo parcel) = take_exit n from parcel
-
--- what is taken and sent is within the grammar of frames
-abbrev pub sends_frames : Step → Option Step
-sends_frames step = if list_all is_sent_frame step.sends then Some step else None
-
-abbrev pub run_turn : Script → Node → Option Step
-run_turn script n = option_and_then sends_frames (run script n)
-
-abbrev pub take_turn : Script → Node → ℕ → Frame → Option Step
-take_turn script n from frame =
-    if is_frame frame then option_and_then sends_frames (take_frame script n from frame) else None

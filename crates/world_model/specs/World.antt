@@ -8,7 +8,8 @@ use Rattle.rpc_frame.specs.declared.frame.Frame.{Frame}
 use Rattle.rpc_frame.specs.declared.frame.Frame.TheVariants as frames
 use Rattle.world_model.specs.Node.{Node, opening_node, is_born, can_run}
 use Rattle.world_model.specs.Step.{Step}
-use Rattle.world_model.specs.Turn.{run_turn, take_turn}
+use Rattle.world_model.specs.Starting.{run}
+use Rattle.world_model.specs.Turn.{take_frame}
 
 -- for each node a row of streams, one for each node that sends to it, each in the order of sending
 abbrev pub Streams : Type 0
@@ -81,13 +82,13 @@ after_turn w p (Some taken_step) = Some (world_after w p taken_step)
 
 abbrev pub runs_at : World → ℕ → Option Node → Option World
 runs_at w p None = None
-runs_at w p (Some n) = after_turn w p (run_turn w.script n)
+runs_at w p (Some n) = after_turn w p (run w.script n)
 
 abbrev pub takes_at : World → ℕ → ℕ → Option Node → List Frame → Option World
 takes_at w p from None frames_there = None
 takes_at w p from (Some n) [] = None
 takes_at w p from (Some n) (frame ∷ frames_left) =
-    after_turn (record w { streams = with_stream w.streams p from frames_left }) p (take_turn w.script n from frame)
+    after_turn (record w { streams = with_stream w.streams p from frames_left }) p (take_frame w.script n from frame)
 
 abbrev pub step : World → Event → Option World
 step w (events.Run p) = runs_at w p (node_at w p)

@@ -51,7 +51,7 @@ module _ (name : Name) (made : Bool) where
   first-none (x ∷ xs) ys h = absurd (not-empty x (xs ++ ys) h)
 
   -- where no news is on its way no place is told
-  no-news-no-place : (fs : List Frame) → news name made fs ≡ [] → placed_in name fs ≡ []
+  pub no-news-no-place : (fs : List Frame) → news name made fs ≡ [] → placed_in name fs ≡ []
   no-news-no-place [] h = refl
   no-news-no-place (frame ∷ fs) h =
       ap (λ ns. ns ++ placed_in name fs)
@@ -59,14 +59,14 @@ module _ (name : Name) (made : Bool) where
       ∙ no-news-no-place fs (second-none (news_of name made frame) (news name made fs) h)
 
 -- what needs the place at the end finds it where it is known, or some news tells it
-found-at-end : (known : Bool) (ns : List News) → finds_place known ns ≡ true → (known ≡ false → ns ≡ [] → ⊥)
+pub found-at-end : (known : Bool) (ns : List News) → finds_place known ns ≡ true → (known ≡ false → ns ≡ [] → ⊥)
     → finds_place known (ns ++ NeedsPlace ∷ []) ≡ true
 found-at-end true ns h some = refl
 found-at-end false [] h some = absurd (some refl refl)
 found-at-end false (Tells ∷ ns) h some = refl
 found-at-end false (NeedsPlace ∷ ns) h some = absurd (false≢true h)
 
-none-known : (place : Option Place) → is_some place ≡ false → place ≡ None
+pub none-known : (place : Option Place) → is_some place ≡ false → place ≡ None
 none-known None h = refl
 none-known (Some place) h = absurd (false≢true (sym h))
 

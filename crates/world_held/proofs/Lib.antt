@@ -1,0 +1,3 @@
+pub mod HeldStarts
+pub mod OtherStarts
+pub mod AnyStarts

@@ -1,0 +1,10 @@
+pub mod Hands
+pub mod Takes
+pub mod StartedInHand
+pub mod HeldStarts
+pub mod LeavingStarts
+pub mod LeavingNames
+pub mod Leaves
+pub mod Starts
+pub mod Worlds
+pub mod Runs

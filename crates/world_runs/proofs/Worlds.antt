@@ -1,0 +1,72 @@
+-- What each world of a run has: the invariant, and bounds. The opening world has it, and each enabled event has a step
+-- that keeps it.
+use Rattle.std.proofs.Common.{◌≡◌, true, List, [], ◌∷◌, Some, sym, subst, ◌∙◌}
+use Rattle.pico_base.specs.declared.script.Event.{Event}
+use Rattle.pico_base.specs.declared.script.Event.TheVariants as events
+use Rattle.pico_base.specs.declared.script.Script.{Script}
+use Rattle.kernel_model.specs.Script.{IsSoundScript}
+use Rattle.kernel_laws.proofs.Plain.{from_some}
+use Rattle.world_model.specs.Run.{IsReachableWorld, Runs}
+use Rattle.world_model.specs.World.{World, is_enabled, opening_world, step}
+use Rattle.world_laws.specs.Invariant.{HasInvariant}
+use Rattle.world_laws.proofs.Steps.{KeepsAs}
+use Rattle.world_rules.proofs.Opening.{opening-holds}
+use Rattle.world_own.proofs.OwnCases.{Keeps}
+use Rattle.world_bounds.specs.Bounded.{IsShapedAndBounded}
+use Rattle.world_bounds.proofs.Runs.{opening-is-shaped-and-bounded}
+use Rattle.world_bounds.proofs.Scripts.{sound-is-runnable}
+use Rattle.world_bounds.proofs.Worlds.{event-stays-bounded}
+use Rattle.world_runs.proofs.Starts.{run-keeps}
+use Rattle.world_runs.proofs.Takes.{take-keeps}
+
+-- What each world of a run has.
+pub record IsSettled (script : Script) (w : World) : Type 0 where
+  pub invariant : HasInvariant script w
+  pub bounded : IsShapedAndBounded script w
+
+-- The event has a step, after which the world has it again.
+pub record StaysSettled (script : Script) (w : World) (e : Event) : Type 0 where
+  pub next : World
+  pub is_step : step w e ≡ Some next
+  pub settled : IsSettled script next
+
+module _ (script : Script) (sound : IsSoundScript script) where
+  -- The opening world has it.
+  pub opening-is-settled : IsSettled script (opening_world script)
+  opening-is-settled =
+      record {
+        invariant = record { beside = _; holds = opening-holds script (sound-is-runnable script sound) };
+        bounded = opening-is-shaped-and-bounded script sound;
+      }
+
+  event-keeps : (w : World) (e : Event) → IsSettled script w → is_enabled w e ≡ true → Keeps script w e
+  event-keeps w (events.Run p) k enabled =
+      run-keeps script sound w k.invariant.beside k.invariant.holds k.bounded.bounded p enabled
+  event-keeps w (events.Take p q) k enabled =
+      take-keeps script sound w k.invariant.beside k.invariant.holds k.bounded.bounded p q enabled
+
+  -- Each enabled event has a step, and keeps it.
+  pub event-stays-settled : (w : World) (e : Event) → IsSettled script w → is_enabled w e ≡ true
+      → StaysSettled script w e
+  event-stays-settled w e k enabled =
+      let kept : Keeps script w e = event-keeps w e k enabled
+      in let s : KeepsAs script w e kept.beside = kept.keeps
+      in record {
+        next = s.next;
+        is_step = s.is_step;
+        settled = record {
+          invariant = record { beside = kept.beside; holds = s.holds };
+          bounded = event-stays-bounded script sound w s.next k.bounded e enabled s.is_step;
+        };
+      }
+
+  along : (es : List Event) (w last : World) → Runs w es last → IsSettled script w → IsSettled script last
+  along [] w last run k = subst (IsSettled script) run k
+  along (e ∷ es) w last run k =
+      let s : StaysSettled script w e = event-stays-settled w e k run.enabled
+      in along es run.next last run.rest
+      (subst (IsSettled script) (from_some s.next run.next (sym s.is_step ∙ run.steps)) s.settled)
+
+  -- So each world that a run leads to has it.
+  pub reachable-is-settled : (w : World) → IsReachableWorld script w → IsSettled script w
+  reachable-is-settled w run = along run.0 (opening_world script) w run.1 opening-is-settled
