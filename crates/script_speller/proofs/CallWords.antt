@@ -36,6 +36,7 @@ Words [] (t ∷ ts) = ⊥
 Words (w ∷ ws) [] = ⊥
 Words (w ∷ ws) (t ∷ ts) = Spelt w t × Words ws ts
 
+-- words that can stand behind a call's name
 abbrev pub AreArguments : List (List ℕ) → Type 0
 AreArguments ws = AllByRecursion IsArgument ws
 

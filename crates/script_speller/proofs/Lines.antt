@@ -30,7 +30,7 @@ use Rattle.script_reader.proofs.Widths.{width, line_width}
 use Rattle.script_speller.specs.Spelling.{variable_text, call_name, arguments, behind_blanks, separated, set_front, tries_front, line_text}
 use Rattle.script_speller.proofs.Separated.{is_solid, is_word, is_rest, is_printable, AreWords, words_again, words_are_printable, separated_width}
 use Rattle.script_speller.proofs.Numbers.{Spelt, is_argument, argument_from, IsVariable, variable_spelt, positive_spelt}
-use Rattle.script_speller.proofs.Names.{IsArgument}
+use Rattle.script_speller.proofs.Names.{IsArgument, found}
 use Rattle.script_speller.proofs.CallWords.{AreArguments, Again, call_again, of_some}
 
 -- ---- a line's words
@@ -274,7 +274,8 @@ module _ (names : List (List ℕ)) (verb : Verb) (args : List (List ℕ)) (words
 
 -- ---- a line's words, as they were read
 
-pick : (b : Bool) (x y s : Said) → (x ≡ s → ⊥) → cond b x y ≡ s → (b ≡ false) × (y ≡ s)
+-- which way a test went, where its first way isn't this
+pub pick : (b : Bool) (x y s : Said) → (x ≡ s → ⊥) → cond b x y ≡ s → (b ≡ false) × (y ≡ s)
 pick true x y s h e = absurd (h e)
 pick false x y s h e = (refl, e)
 
@@ -312,18 +313,11 @@ call_head names w ws s is e =
     (no_call (says.end_said ws) s (end_no_call ws) is) b.1 in
     (record { no_comment = a.0; no_proc = b.0; no_end = c.0 }, c.1)
 
-found : {A : Type 0} (p : A → Bool) (xs : List A) (x : A) → find p xs ≡ Some x → p x ≡ true
-found p [] x e = absurd cc
-found p (y ∷ ys) x e = of (p y) refl (found p ys x) e
-  where
-    of : (b : Bool) → p y ≡ b → (find p ys ≡ Some x → p x ≡ true) → cond b (Some y) (find p ys) ≡ Some x → p x ≡ true
-    of true t more f = subst (λ z. p z ≡ true) (same_Some y x f) t
-    of false t more f = more f
-
 verb_named : (name : List ℕ) (verb : Verb) → verb_of name ≡ Some verb → name ≡ verb_name verb
 unfolding verb_of
 verb_named name verb e =
-    sym ((bytes_eq-Decides (verb_name verb) name).0 (found (λ v. bytes_eq (verb_name v) name) all_verbs verb e))
+    sym ((bytes_eq-Decides (verb_name verb) name).0 (of_some (find (λ v. bytes_eq (verb_name v) name) all_verbs)
+    (λ v. bytes_eq (verb_name v) name ≡ true) (found (λ v. bytes_eq (verb_name v) name) all_verbs) verb e))
 
 record CallParted (names : List (List ℕ)) (set tries : Front) (ws : List (List ℕ)) (s : Said) : Type 0 where
   verb : Verb

@@ -38,7 +38,8 @@ bytes_same a b e = (bytes_eq-Decides a b).0 e
 
 -- ---- names of a table
 
-found : {A : Type 0} (p : A → Bool) (xs : List A) → IfSome (find p xs) (λ x. p x ≡ true)
+-- what a search finds passes the test
+pub found : {A : Type 0} (p : A → Bool) (xs : List A) → IfSome (find p xs) (λ x. p x ≡ true)
 found p [] = tt
 found p (x ∷ xs) = if_cond (p x) (Some x) (find p xs) (λ y. p y ≡ true) (λ t. t) (λ _. found p xs)
 
@@ -64,6 +65,7 @@ how_word Block = refl
 how_word Unblock = refl
 how_word SetMask = refl
 
+-- a signal's word is its name
 pub signal_spelt : (w : List ℕ) → IfSome (signal w) (λ g. Spelt w (signal_name g))
 unfolding signal
 signal_spelt w =
@@ -71,6 +73,7 @@ signal_spelt w =
     (λ g. Spelt w (signal_name g)) (found (λ g. bytes_eq (signal_name g) w) all_signals)
     (λ g h. record { same = sym (bytes_same (signal_name g) w h); argument = signal_word g })
 
+-- an action's word is its name
 pub action_spelt : (w : List ℕ) → IfSome (action w) (λ a. Spelt w (action_name a))
 unfolding action
 action_spelt w =
@@ -79,6 +82,7 @@ action_spelt w =
     (found (λ a. bytes_eq (action_name a) w) (Dfl ∷ Ign ∷ Catch ∷ []))
     (λ a h. record { same = sym (bytes_same (action_name a) w h); argument = action_word a })
 
+-- the word that tells how a mask changes is its name
 pub how_spelt : (w : List ℕ) → IfSome (how w) (λ h. Spelt w (how_name h))
 unfolding how
 how_spelt w =
@@ -87,6 +91,7 @@ how_spelt w =
     (found (λ h. bytes_eq (how_name h) w) (Block ∷ Unblock ∷ SetMask ∷ []))
     (λ h e. record { same = sym (bytes_same (how_name h) w e); argument = how_word h })
 
+-- the word of a signal, `0` or `badsig` is its name
 pub signal_argument_spelt : (w : List ℕ) → IfSome (signal_argument w) (λ g. Spelt w (trace.signal_argument g))
 unfolding signal_argument
 signal_argument_spelt w =
@@ -300,7 +305,8 @@ signals_weight set (w ∷ ws) =
     (signals_weight (put_at set g true) ws)
     (λ s k. omega (arith, k, one_heavier set g t, ap length h.same))))
 
-onto_width : (b n : ℕ) (ws : List (List ℕ)) → width ws ≤ n + 1 → width (onto_first b ws) ≤ suc n + 1
+-- one byte more at the front of words
+pub onto_width : (b n : ℕ) (ws : List (List ℕ)) → width ws ≤ n + 1 → width (onto_first b ws) ≤ suc n + 1
 onto_width b n [] h = omega arith
 onto_width b n (w ∷ ws) h = omega (arith, h)
 
@@ -463,6 +469,7 @@ module _ {B : Type 0} (f : List ℕ → Option B) (text : B → List ℕ) (Q : L
         (one.1, more.1),
       )))
 
+-- a word that can stand behind a call's name
 abbrev pub IsArgument : List ℕ → Type 0
 IsArgument w = is_argument w ≡ true
 

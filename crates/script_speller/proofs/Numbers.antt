@@ -34,6 +34,7 @@ pub record Spelt (w text : List ℕ) : Type 0 where
   pub same : w ≡ text
   pub argument : is_argument text ≡ true
 
+-- a word that is this text is spelled so, where it can stand behind a call's name
 pub spelt_from : (w text : List ℕ) → w ≡ text → is_argument w ≡ true → Spelt w text
 spelt_from w text e h = record { same = e; argument = subst (λ x. is_argument x ≡ true) e h }
 
@@ -70,12 +71,14 @@ digit_is_solid b h =
     let d = digit_bounds b h in
     and_from (leb 33 b) (leb b 126) (le-leb 33 b (omega (arith, d.0))) (le-leb b 126 (omega (arith, d.1)))
 
+-- digits are solid
 pub digits_rest : (w : List ℕ) → AreDigits w → is_rest plain w ≡ true
 digits_rest [] h = refl
 digits_rest (b ∷ w) h =
     let p = and_parts (parts.is_digit b) (all_ascii_digits w) h in
     and_from (is_solid b) (is_rest plain w) (digit_is_solid b p.0) (digits_rest w p.1)
 
+-- digits and what is solid behind them can stand behind a call's name
 pub digits_argument : (w rest : List ℕ) → AreDigits w → 0 < length w → is_rest plain rest ≡ true
     → is_argument (w ++ rest) ≡ true
 digits_argument [] rest h some more = absurd (omega (arith, some))
@@ -85,6 +88,7 @@ digits_argument (b ∷ w) rest h some more =
     argument_from b (w ++ rest) (digit_is_solid b p.0) (ne_eqb b 61 (λ e. omega (arith, e, d.1)))
     (ne_eqb b 34 (λ e. omega (arith, e, d.0))) (rest_append w rest (digits_rest w p.1) more)
 
+-- digits can stand behind a call's name
 pub digit_word : (w : List ℕ) → AreDigits w → 0 < length w → is_argument w ≡ true
 digit_word w h some = subst (λ x. is_argument x ≡ true) (append-nil w) (digits_argument w [] h some refl)
 
@@ -177,8 +181,10 @@ lead_of (suc n) small e = absurd (omega (arith, e, first_decimal (suc n) (omega 
 pub number_again : (limit n : ℕ) → n ≤ limit → limit ≤ 4294967295 → number limit (decimal n) ≡ Some n
 number_again limit n small bound =
     let h = decimal_is_IsNumeral n (omega (arith, small, bound)) in
-    number_from limit n (decimal n) (own.from (decimal n) h.0.1) h.0.0 h.1 small (lead_of n (omega (arith, small, bound)))
+    number_from limit n (decimal n) (own.from (decimal n) h.0.1) h.0.0 h.1 small
+    (lead_of n (omega (arith, small, bound)))
 
+-- the same of a number from 1 on
 pub positive_spelt : (limit : ℕ) (w : List ℕ) → limit ≤ 4294967295
     → IfSome (positive limit w) (λ n. Spelt w (decimal n) × (1 ≤ n))
 unfolding positive
@@ -333,6 +339,7 @@ variable_spelt (l ∷ d ∷ e ∷ f ∷ w) = tt
 
 -- ---- objects
 
+-- the word is that of this variable or number
 abbrev pub IsObjectOf : List ℕ → Option ℕ × ℕ → Type 0
 IsObjectOf w o = Spelt w (object_text o.0 o.1)
 
@@ -352,6 +359,7 @@ identifier_from_spelt w None e =
     if_map (number 4294967295 w) forms.number_object (λ n. Spelt w (decimal n)) (IsObjectOf w)
     (number_spelt 4294967295 w (omega arith)) (λ n h. h)
 
+-- an identifier's word is a variable or a number
 pub identifier_spelt : (w : List ℕ) → IfSome (identifier w) (IsObjectOf w)
 unfolding identifier
 identifier_spelt w = identifier_from_spelt w (strip (codes "$") w) refl
@@ -365,6 +373,7 @@ process_from_spelt w None e =
     if_map (positive 4294967295 w) forms.number_object (λ n. Spelt w (decimal n) × (1 ≤ n)) (IsObjectOf w)
     (positive_spelt 4294967295 w (omega arith)) (λ n h. h.0)
 
+-- a process's word is a variable or a number
 pub process_spelt : (w : List ℕ) → IfSome (process w) (IsObjectOf w)
 unfolding process
 process_spelt w = process_from_spelt w (strip (codes "$") w) refl

@@ -24,12 +24,12 @@ use Rattle.script_reader.proofs.Lines.{Plain, lines_of-feed, lines_of-plain}
 use Rattle.script_reader.proofs.Widths.{width, line_width}
 use Rattle.script_reader.proofs.Saying.{IsFine, said_fine, opening_said}
 use Rattle.script_reader.proofs.Steps.{IsFaultless, faultless}
-use Rattle.script_reader.proofs.Opened.{AreOpened, names_step, number_here, inside_of, not_both, block_names}
+use Rattle.script_reader.proofs.Opened.{AreOpened, names_step, number_here, inside_of, not_both, block_names, not_true as no_true}
 use Rattle.script_speller.specs.Spelling as spelling
 use Rattle.script_speller.specs.Spelling.{line_text, proc_line, separated}
 use Rattle.script_speller.proofs.Separated.{is_word, is_printable, AreWords, words_again, words_are_printable}
 use Rattle.script_speller.proofs.Numbers.{is_argument}
-use Rattle.script_speller.proofs.Lines.{SaidAgain, Names, name_argument, calls_again, forks_again, argument_word, line_no_end}
+use Rattle.script_speller.proofs.Lines.{SaidAgain, Names, name_argument, calls_again, forks_again, argument_word, line_no_end, pick}
 
 -- ---- lines without a fault
 
@@ -107,6 +107,7 @@ shorter_fault place n m said short e =
 abbrev pub opened_by : List (List ℕ) → List (List ℕ) → List (List ℕ)
 opened_by so_far lines = fold (λ names line. with_opening names (opening_at line)) so_far lines
 
+-- a run keeps the names of the blocks those of the lines so far
 pub names_run : (names so_far : List (List ℕ)) (place last : Place) (lines : List (List ℕ))
     → AreOpened names so_far place → Runs names place lines last → AreOpened names (opened_by so_far lines) last
 names_run names so_far place last [] o h = subst (AreOpened names so_far) h o
@@ -126,16 +127,20 @@ names_are names so_far last o out =
 
 -- ---- the lines of a spelling
 
+-- the line that ends a block
 abbrev pub end_line : List ℕ
 end_line = codes "end"
 
+-- the lines of a block's spelling
 abbrev pub block_lines : Script → Block → List (List ℕ)
 block_lines script block = proc_line block ∷ (map (line_text script) block.lines ++ end_line ∷ [])
 
+-- those of an open block so far
 abbrev pub open_lines : Script → Bool → List ℕ → List Line → List (List ℕ)
 open_lines script false name lines = []
 open_lines script true name lines = (codes "proc " ++ name) ∷ map (line_text script) lines
 
+-- those of whole blocks
 abbrev pub closed_lines : Script → List Block → List (List ℕ)
 closed_lines script blocks = flat_map (block_lines script) blocks
 
@@ -196,9 +201,6 @@ added_line script place line within =
     ∙ sym (append_assoc closed (opened place.lines) (line_text script line ∷ []))
     ∙ ap (λ (xs : List (List ℕ)). (closed ++ xs) ++ line_text script line ∷ []) (sym (front place.lines))
 
-no_true : true ≡ false → ⊥
-no_true e = cc
-
 -- each line that says something adds its line to the spelling
 lines_step : (script : Script) (place : Place) (size : ℕ) (said : Said) → IsFaultless false place size said
     → spec.is_skipped said ≡ false
@@ -250,10 +252,6 @@ proc_again names bytes name number is e f =
       short = omega (arith, proc_words names (words_of bytes) name f, line_width bytes);
       printable = ap (list_all is_printable) text ∙ words_are_printable ws are;
     }
-
-pick : (b : Bool) (x y s : Said) → (x ≡ s → ⊥) → cond b x y ≡ s → (b ≡ false) × (y ≡ s)
-pick true x y s h e = absurd (h e)
-pick false x y s h e = (refl, e)
 
 proc_no_end : (names ws : List (List ℕ)) → says.proc_said names ws ≡ Ends → ⊥
 unfolding says.proc_said

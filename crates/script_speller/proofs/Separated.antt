@@ -11,10 +11,11 @@ use Rattle.script_speller.specs.Spelling.{behind, behind_blanks, separated}
 
 -- ---- words
 
--- a printable byte that is no blank; one that may stand between quotes
+-- a printable byte that is no blank
 abbrev pub is_solid : ℕ → Bool
 is_solid b = leb 33 b && leb b 126
 
+-- one that may stand between quotes
 abbrev pub is_printable : ℕ → Bool
 is_printable b = leb 32 b && leb b 126
 
@@ -26,10 +27,12 @@ is_rest plain (b ∷ bytes) = is_solid b && is_rest plain bytes
 is_rest quoted [] = false
 is_rest quoted (b ∷ bytes) = is_printable b && is_rest (leaving b) bytes
 
+-- what is one word of a line, alone and in front of a blank
 abbrev pub is_word : List ℕ → Bool
 is_word [] = false
 is_word (b ∷ bytes) = is_solid b && is_rest (entering b) bytes
 
+-- each of them is a word
 abbrev pub AreWords : List (List ℕ) → Type 0
 AreWords ws = AllByRecursion (λ w. is_word w ≡ true) ws
 
@@ -79,6 +82,7 @@ words_again (w ∷ ws) h = first_word w (behind_blanks ws) ws h.0 (behind_words 
 
 -- ---- bytes of words
 
+-- what all bytes of two texts pass, all bytes of both pass
 pub all_append : (test : ℕ → Bool) (xs ys : List ℕ) → list_all test xs ≡ true → list_all test ys ≡ true
     → list_all test (xs ++ ys) ≡ true
 all_append test [] ys h k = k

@@ -321,7 +321,8 @@ replicate_quoted (suc n) c h = rw (plain_letter c h) (omega (arith, replicate_qu
 
 replicate_bytes : (n c : ℕ) → c ≤ 255 → AreBytes (replicate n c)
 replicate_bytes zero c h = refl
-replicate_bytes (suc n) c h = and_from (leb c 255) (list_all is_byte (replicate n c)) (le-leb c 255 h) (replicate_bytes n c h)
+replicate_bytes (suc n) c h =
+    and_from (leb c 255) (list_all is_byte (replicate n c)) (le-leb c 255 h) (replicate_bytes n c h)
 
 replicate_one : (n c : ℕ) → is_letter_or_digit c ≡ true → 1 ≤ n → is_one_letter (replicate n c) ≡ true
 replicate_one zero c h some = absurd (omega (arith, some))

@@ -31,6 +31,7 @@ use Rattle.script_reader.proofs.Widths.{width}
 use Rattle.script_reader.proofs.Opened.{AreOpened, block_names}
 use Rattle.script_speller.specs.Spelling.{behind, line_text, proc_line, separated, behind_feed, block_text, block_behind, blocks_text, spelling}
 use Rattle.script_speller.proofs.Separated.{is_printable, separated_width}
+use Rattle.script_speller.proofs.Names.{onto_width}
 use Rattle.script_speller.proofs.Lines.{Names}
 use Rattle.script_speller.proofs.Runs.{Runs, IsEnd, runs_from, runs_to, names_run, names_are, opened_by, end_line, block_lines, closed_lines, open_lines, lines_so_far, IsLineText, Spelled, spelled_run}
 
@@ -54,10 +55,6 @@ lines_again text [] h = ap lines_of (append-nil text) ∙ last text h.0
 lines_again text (next ∷ texts) h =
     lines_of-feed text (separated 10 (next ∷ texts)) (plain_from text h.0.0)
     ∙ ap (λ (ls : List (List ℕ)). text ∷ ls) (lines_again next texts h.1)
-
-onto_width : (b n : ℕ) (ws : List (List ℕ)) → width ws ≤ n + 1 → width (onto_first b ws) ≤ suc n + 1
-onto_width b n [] h = omega arith
-onto_width b n (w ∷ ws) h = omega (arith, h)
 
 -- the lines of a text have room in it
 lines_width : (bytes : List ℕ) → width (lines_of bytes) ≤ length bytes + 1
@@ -302,6 +299,7 @@ pub reads_of : (bytes text : List ℕ) (script : Script) → Reads bytes script 
     → Reads text script
 reads_of bytes text script h e = subst (λ t. Reads t script) (sym e) (spelling_again bytes script h).0
 
+-- and no text of the script is shorter
 pub shortest_of : (text : List ℕ) (script : Script) → text ≡ spelling script → (bytes : List ℕ) → Reads bytes script
     → length text ≤ length bytes
 shortest_of text script e bytes h = omega (arith, ap length e, (spelling_again bytes script h).1)

@@ -35,7 +35,8 @@ fn push_fork(out: &mut Vec<u8>, script: &Script, block: Node) -> Result<(), Memo
 }
 
 fn push_exit(out: &mut Vec<u8>, status: u16) -> Result<(), Memory>
-    ensures { OnOk result (out.new.items ≡ out.old.items ++ (codes "exit" ++ spec.behind_blanks (decimal status ∷ []))) }
+    ensures { OnOk result (out.new.items ≡ out.old.items
+        ++ (codes "exit" ++ spec.behind_blanks (decimal status ∷ []))) }
 {
     push(out, b"exit")?;
     push_decimal(out, u32::from(status))
