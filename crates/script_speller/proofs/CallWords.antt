@@ -1,5 +1,5 @@
 -- Calls: the words of a call are read as it, and have no more bytes than the words that it was read from.
-use Rattle.std.proofs.Common.{◌≡◌, ℕ, suc, ◌+◌, ◌<◌, ◌≤◌, ℤ, Bool, true, false, ◌&&◌, not, cond, eqb, leb, List, [], ◌∷◌, ◌++◌, length, map, Option, Some, None, refl, sym, ap, subst, ◌∙◌, arith}
+use Rattle.std.proofs.Common.{◌≡◌, ℕ, ◌≤◌, ℤ, Bool, true, false, ◌&&◌, cond, List, [], ◌∷◌, ◌++◌, length, map, Option, Some, None, refl, sym, ap, subst, ◌∙◌, arith}
 use Rattle.std.specs.Prelude.{IfSome, codes, bytes_eq, option_map}
 use Rattle.std.specs.Fmt.{decimal, signed_decimal}
 use Rattle.std.specs.List.{AllByRecursion}
@@ -7,7 +7,6 @@ use Rattle.std.proofs.lemmas.Bool.{and_parts}
 use Rattle.std.proofs.lemmas.Slice.Eq.{bytes_eq-Decides}
 use Rattle.pico_base.specs.declared.call.Call.{Call}
 use Rattle.pico_base.specs.declared.call.Call.TheVariants as calls
-use Rattle.pico_base.specs.declared.call.SemStep.{SemStep}
 use Rattle.pico_base.specs.declared.signal.How.{How}
 use Rattle.pico_base.specs.declared.signal.How.TheVariants.{Block, Unblock, SetMask}
 use Rattle.pico_base.specs.declared.signal.PerSignal.{PerSignal}
@@ -22,8 +21,8 @@ use Rattle.script_reader.specs.Forms as forms
 use Rattle.script_reader.specs.Forms.{FromCall, Object, Child, identifier, process, optional, two_optional, verb_name, verb_of, call_of}
 use Rattle.script_reader.proofs.Ranges.{if_bind, if_map, if_cond}
 use Rattle.script_reader.proofs.Widths.{width}
-use Rattle.script_speller.specs.Spelling.{object_text, child_word, message_word, step_word, flag_words, created, call_name, arguments}
-use Rattle.script_speller.proofs.Numbers.{Spelt, is_argument, IsObjectOf, if_weaker, number_spelt, positive_spelt, signed_spelt, identifier_spelt, process_spelt}
+use Rattle.script_speller.specs.Spelling.{object_text, child_word, message_word, step_word, flag_words, call_name, arguments}
+use Rattle.script_speller.proofs.Numbers.{Spelt, is_argument, IsObjectOf, number_spelt, positive_spelt, signed_spelt, identifier_spelt, process_spelt}
 use Rattle.script_speller.proofs.Names.{IsArgument, signal_spelt, action_spelt, how_spelt, signal_argument_spelt, set_again, set_word, set_short, AreSpelt, steps_spelt, values_spelt}
 use Rattle.script_speller.proofs.Texts.{MessageOf, message_spelt}
 

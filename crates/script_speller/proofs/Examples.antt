@@ -1,5 +1,5 @@
 -- The spelling of a small script, and of texts, computed.
-use Rattle.std.specs.Prelude.{◌≡◌, [], ◌∷◌, replicate, refl, codes}
+use Rattle.std.specs.Prelude.{◌≡◌, replicate, refl, codes}
 use Rattle.std.specs.Fmt.{digits}
 use Rattle.kernel_model.specs.FirstExample.{hello}
 use Rattle.script_speller.specs.Spelling.{variable_text, message_word, line_text, block_text, spelling}

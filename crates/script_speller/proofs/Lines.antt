@@ -1,15 +1,11 @@
 -- Lines with a call: the spelling of a line says what the line says, and is no longer.
-use Rattle.std.proofs.Common.{◌≡◌, ℕ, suc, ◌+◌, ◌<◌, ◌≤◌, Bool, true, false, ◌&&◌, not, cond, eqb, leb, List, [], ◌∷◌, ◌++◌, length, Option, Some, None, refl, sym, ap, subst, ◌∙◌, append_assoc, arith}
-use Rattle.std.specs.Prelude.{IfSome, codes, bytes_eq, option_map}
+use Rattle.std.proofs.Common.{◌≡◌, ℕ, ◌+◌, ◌≤◌, Bool, true, false, ◌&&◌, not, cond, eqb, leb, List, [], ◌∷◌, ◌++◌, length, Option, Some, None, refl, sym, ap, subst, ◌∙◌, append_assoc, arith}
+use Rattle.std.specs.Prelude.{IfSome, codes, bytes_eq}
 use Rattle.std.specs.Fmt.{decimal}
-use Rattle.std.specs.List.{AllByRecursion, find, flat_map, list_all}
+use Rattle.std.specs.List.{find, list_all}
 use Rattle.std.specs.Option.{unwrap_or}
 use Rattle.std.proofs.lemmas.Bool.{and_parts, and_from, leb-true, le-leb, eqb-true, ne_eqb, not-true}
-use Rattle.std.proofs.lemmas.List.{length-append}
-use Rattle.std.proofs.lemmas.Option.{same_Some}
 use Rattle.std.proofs.lemmas.Slice.Eq.{bytes_eq-Decides}
-use Rattle.pico_base.specs.declared.call.Call.{Call}
-use Rattle.pico_base.specs.declared.call.Call.TheVariants as calls
 use Rattle.pico_base.specs.declared.script.Line.{Line}
 use Rattle.pico_base.specs.declared.script.Script.{Script}
 use Rattle.kernel_model.specs.Script.{is_lower, is_name_byte, is_name}
@@ -18,7 +14,7 @@ use Rattle.kernel_model.specs.Trace.{name_of_block}
 use Rattle.script_reader.specs.declared.verb.Verb.{Verb}
 use Rattle.script_reader.specs.declared.verb.Verb.TheVariants as verbs
 use Rattle.script_reader.specs.declared.says.Said.{Said}
-use Rattle.script_reader.specs.declared.says.Said.TheVariants.{Skipped, Opens, BadProc, Ends, Unknown, Bad, Forks, Calls}
+use Rattle.script_reader.specs.declared.says.Said.TheVariants.{Skipped, BadProc, Ends, Unknown, Bad, Forks, Calls}
 use Rattle.script_reader.specs.Words.{words_of}
 use Rattle.script_reader.specs.Words.Stretch.{plain}
 use Rattle.script_reader.specs.Parts.{positive, variable}

@@ -1,21 +1,20 @@
 -- Numbers, variables and objects: what is read of a word has that word as its only spelling.
-use Rattle.std.proofs.Common.{◌≡◌, ℕ, zero, suc, ◌+◌, ◌-◌, ◌*◌, ◌/◌, ◌%◌, ◌<◌, ◌≤◌, ℤ, pos, negsuc, Bool, true, false, ◌&&◌, not, cond, eqb, leb, List, [], ◌∷◌, ◌++◌, length, get_or, take, drop, Option, Some, None, refl, sym, ap, subst, ◌∙◌, arith}
-use Rattle.std.specs.Prelude.{IfSome, codes, bytes_eq, option_map}
+use Rattle.std.proofs.Common.{◌≡◌, ℕ, zero, suc, ◌+◌, ◌-◌, ◌*◌, ◌/◌, ◌%◌, ◌<◌, ◌≤◌, pos, negsuc, Bool, true, false, ◌&&◌, not, cond, eqb, leb, List, [], ◌∷◌, ◌++◌, length, get_or, Option, Some, None, refl, sym, ap, subst, ◌∙◌, arith}
+use Rattle.std.specs.Prelude.{IfSome, codes}
 use Rattle.std.specs.Char.{digit_value}
 use Rattle.std.specs.Fmt.{decimal, signed_decimal}
 use Rattle.std.specs.Str.{all_ascii_digits}
 use Rattle.std.specs.Str.Parse.{digits_value, digits_value_after}
-use Rattle.std.proofs.lemmas.Bool.{and_parts, and_from, leb-true, le-leb, eqb-true, eqb-false, ne_eqb}
+use Rattle.std.proofs.lemmas.Bool.{and_parts, and_from, leb-true, le-leb, eqb-false, ne_eqb}
 use Rattle.std.proofs.lemmas.Fmt.{decimal-digits_value, decimal_is_IsNumeral, decimal_digit, first_decimal}
 use Rattle.std.proofs.lemmas.List.{append-nil}
 use Rattle.std.proofs.lemmas.Str.Parse.{IsNumeralModel, numerals_by_value, tells_all_ascii_digits}
-use Rattle.script_reader.specs.Words.{Stretch, entering}
 use Rattle.script_reader.specs.Words.Stretch.{plain}
 use Rattle.script_reader.specs.Parts as parts
 use Rattle.script_reader.specs.Parts.{digits, number, positive, signed, variable, strip}
 use Rattle.script_reader.specs.Forms.{identifier, process}
 use Rattle.script_reader.specs.Forms as forms
-use Rattle.script_reader.proofs.Ranges.{if_bind, if_map, if_cond, number_small, positive_small}
+use Rattle.script_reader.proofs.Ranges.{if_bind, if_map, if_cond, number_small}
 use Rattle.script_reader.proofs.Strips.{strip_takes}
 use Rattle.script_reader.proofs.Widths.{if_both}
 use Rattle.text_fields.proofs.Numerals.{AreDigits}

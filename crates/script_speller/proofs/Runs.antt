@@ -1,9 +1,9 @@
 -- A whole text: the lines of a script's spelling lead from place to place as those of a text that reads as the script.
-use Rattle.std.proofs.Common.{◌≡◌, ℕ, suc, ◌+◌, ◌<◌, ◌≤◌, Bool, true, false, ◌&&◌, ◌||◌, not, cond, eqb, ltb, leb, List, [], ◌∷◌, ◌++◌, length, map, Option, Some, None, Result, Ok, Err, refl, sym, ap, subst, ◌∙◌, append_assoc, arith}
+use Rattle.std.proofs.Common.{◌≡◌, ℕ, ◌+◌, ◌≤◌, Bool, true, false, ◌&&◌, cond, eqb, List, [], ◌∷◌, ◌++◌, length, map, Option, Some, None, Ok, Err, refl, sym, ap, subst, ◌∙◌, append_assoc, arith}
 use Rattle.std.specs.Prelude.{codes, bytes_eq, fold}
-use Rattle.std.specs.List.{AllByRecursion, flat_map, list_all, onto_first}
-use Rattle.std.proofs.lemmas.Bool.{and_parts, ltb-false, le-ltb, ne_eqb, leb-true, le-leb, lt-ltb}
-use Rattle.std.proofs.lemmas.List.{append-nil, length-append, map_push, length-map}
+use Rattle.std.specs.List.{AllByRecursion, flat_map, list_all}
+use Rattle.std.proofs.lemmas.Bool.{and_parts, ltb-false, le-ltb, le-leb, lt-ltb}
+use Rattle.std.proofs.lemmas.List.{append-nil, map_push}
 use Rattle.std.proofs.lemmas.Option.{same_Some, none-some}
 use Rattle.std.proofs.lemmas.Slice.Eq.{bytes_eq-Decides}
 use Rattle.pico_base.specs.declared.script.Block.{Block}
@@ -11,24 +11,21 @@ use Rattle.pico_base.specs.declared.script.Line.{Line}
 use Rattle.pico_base.specs.declared.script.Script.{Script}
 use Rattle.kernel_model.specs.Script.{is_name}
 use Rattle.script_reader.specs.declared.fault.ScriptFault.{ScriptFault}
-use Rattle.script_reader.specs.declared.fault.ScriptFault.TheVariants.{LineTooLong, NoProc, NoEnd}
+use Rattle.script_reader.specs.declared.fault.ScriptFault.TheVariants.{NoProc, NoEnd}
 use Rattle.script_reader.specs.declared.place.Place.{Place}
 use Rattle.script_reader.specs.declared.says.Said.{Said}
 use Rattle.script_reader.specs.declared.says.Said.TheVariants.{Skipped, Opens, BadProc, Ends, Unknown, Bad, Forks, Calls}
-use Rattle.script_reader.specs.Words.{lines_of, words_of, words_in}
+use Rattle.script_reader.specs.Words.{words_of, words_in}
 use Rattle.script_reader.specs.Says as says
 use Rattle.script_reader.specs.Says.{number_of, said_of, opening_at, with_opening}
 use Rattle.script_reader.specs.Fault as spec
 use Rattle.script_reader.specs.Fault.{Blocks, fault_of, has_fault, behind, blocks_from, node_of}
-use Rattle.script_reader.proofs.Lines.{Plain, lines_of-feed, lines_of-plain}
 use Rattle.script_reader.proofs.Widths.{width, line_width}
 use Rattle.script_reader.proofs.Saying.{IsFine, said_fine, opening_said}
 use Rattle.script_reader.proofs.Steps.{IsFaultless, faultless}
 use Rattle.script_reader.proofs.Opened.{AreOpened, names_step, number_here, inside_of, not_both, block_names, not_true as no_true}
-use Rattle.script_speller.specs.Spelling as spelling
 use Rattle.script_speller.specs.Spelling.{line_text, proc_line, separated}
-use Rattle.script_speller.proofs.Separated.{is_word, is_printable, AreWords, words_again, words_are_printable}
-use Rattle.script_speller.proofs.Numbers.{is_argument}
+use Rattle.script_speller.proofs.Separated.{is_printable, AreWords, words_again, words_are_printable}
 use Rattle.script_speller.proofs.Lines.{SaidAgain, Names, name_argument, calls_again, forks_again, argument_word, line_no_end, pick}
 
 -- ---- lines without a fault

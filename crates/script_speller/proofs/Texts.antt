@@ -1,15 +1,12 @@
 -- Messages' texts: the shorter spelling is read as the text that a word is of, and is no longer than the word.
-use Rattle.std.proofs.Common.{◌≡◌, ◌⊎◌, inl, inr, ℕ, zero, suc, ◌+◌, ◌-◌, ◌*◌, ◌/◌, ◌%◌, ◌<◌, ◌≤◌, Bool, true, false, ◌&&◌, ◌||◌, not, cond, eqb, ltb, leb, List, [], ◌∷◌, ◌++◌, length, replicate, Option, Some, None, refl, sym, ap, subst, ◌∙◌, append_assoc, arith}
-use Rattle.std.specs.Prelude.{IfSome, codes, bytes_eq, option_map}
+use Rattle.std.proofs.Common.{◌≡◌, inl, inr, ℕ, zero, suc, ◌+◌, ◌-◌, ◌*◌, ◌/◌, ◌%◌, ◌≤◌, Bool, true, false, ◌&&◌, ◌||◌, not, cond, eqb, leb, List, [], ◌∷◌, ◌++◌, length, replicate, Option, Some, None, refl, sym, ap, subst, ◌∙◌, append_assoc, arith}
+use Rattle.std.specs.Prelude.{IfSome, codes}
 use Rattle.std.specs.Fmt.{decimal}
-use Rattle.std.specs.List.{AllByRecursion, flat_map, list_all}
-use Rattle.std.specs.Option.{option_map_or}
-use Rattle.std.proofs.lemmas.Bool.{and_parts, and_from, leb-true, le-leb, lt-ltb, le-ltb, eqb-true, eq-eqb, ne_eqb, not-true, cases_lt}
+use Rattle.std.specs.List.{flat_map, list_all}
+use Rattle.std.proofs.lemmas.Bool.{and_parts, and_from, leb-true, le-leb, lt-ltb, le-ltb, eqb-true, eq-eqb, ne_eqb, cases_lt}
 use Rattle.std.specs.Str.{all_ascii_digits}
 use Rattle.std.proofs.lemmas.Fmt.{decimal_nonempty, length-decimal-le}
-use Rattle.std.proofs.lemmas.List.{append-nil, length-append, length-replicate}
-use Rattle.std.proofs.lemmas.Option.{same_Some, none-some}
-use Rattle.std.proofs.lemmas.Slice.Eq.{bytes_eq-Decides}
+use Rattle.std.proofs.lemmas.List.{length-append, length-replicate}
 use Rattle.kernel_model.specs.Numbers.{is_byte}
 use Rattle.kernel_model.specs.Texts.{is_letter_or_digit, is_plain, hex_digit, escape, quoted_text, is_one_letter, repeated_text}
 use Rattle.script_reader.specs.Words.Stretch.{plain, quoted}
@@ -20,7 +17,7 @@ use Rattle.script_reader.proofs.Strips.{strip_takes, strip_again}
 use Rattle.script_reader.proofs.Widths.{if_both, IsShort, quoted_short}
 use Rattle.text_fields.proofs.Numerals.{AreDigits, decimal-digits}
 use Rattle.script_speller.specs.Spelling.{message_word}
-use Rattle.script_speller.proofs.Separated.{is_rest, is_printable, is_solid, all_append}
+use Rattle.script_speller.proofs.Separated.{is_rest, is_printable, is_solid}
 use Rattle.script_speller.proofs.Numbers.{Spelt, is_argument, if_weaker, number_spelt, number_again, digits_rest, rest_append}
 use Rattle.script_speller.proofs.Names.{cut_spelt, cut_again}
 

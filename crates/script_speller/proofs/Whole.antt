@@ -1,11 +1,11 @@
 -- A script's spelling reads as the script, where some text does.
-use Rattle.std.proofs.Common.{◌≡◌, ℕ, zero, suc, ◌+◌, ◌-◌, ◌<◌, ◌≤◌, Bool, true, false, ◌&&◌, not, cond, eqb, ltb, leb, List, [], ◌∷◌, ◌++◌, length, map, get_or, Option, Some, None, Result, Ok, Err, refl, sym, ap, subst, ◌∙◌, append_assoc, arith}
+use Rattle.std.proofs.Common.{◌≡◌, ℕ, zero, suc, ◌+◌, ◌-◌, ◌<◌, ◌≤◌, Bool, true, false, cond, eqb, ltb, leb, List, [], ◌∷◌, ◌++◌, length, map, get_or, Option, Some, None, Result, Ok, Err, refl, sym, ap, subst, ◌∙◌, append_assoc, arith}
 use Rattle.std.specs.Prelude.{codes, bytes_eq, position}
 use Rattle.std.specs.List.{AllByRecursion, flat_map, list_all, onto_first, slice_get}
 use Rattle.std.specs.Str.{IsAscii}
 use Rattle.std.specs.Str.Lossy.{utf8_valid_len}
 use Rattle.std.proofs.lemmas.Bool.{and_parts, ltb-false, le-ltb, ne_eqb, leb-true}
-use Rattle.std.proofs.lemmas.List.{append-nil, length-append}
+use Rattle.std.proofs.lemmas.List.{append-nil}
 use Rattle.std.proofs.lemmas.List.Elements.{All-from_recursion}
 use Rattle.std.proofs.lemmas.List.Quantifiers.{position-Some}
 use Rattle.std.proofs.lemmas.Option.{same_Some, none-some}
@@ -17,7 +17,6 @@ use Rattle.pico_base.specs.declared.script.Line.{Line}
 use Rattle.pico_base.specs.declared.script.Script.{Script}
 use Rattle.kernel_model.specs.Fitting.{block_at}
 use Rattle.kernel_model.specs.Trace.{name_of_block}
-use Rattle.script_reader.specs.declared.fault.ScriptFault.{ScriptFault}
 use Rattle.script_reader.specs.declared.fault.ScriptFault.TheVariants.{ScriptTooLong, NotUtf8}
 use Rattle.script_reader.specs.declared.fault.ScriptStop.{ScriptStop}
 use Rattle.script_reader.specs.declared.fault.ScriptStop.TheVariants.{At}
@@ -33,7 +32,7 @@ use Rattle.script_speller.specs.Spelling.{behind, line_text, proc_line, separate
 use Rattle.script_speller.proofs.Separated.{is_printable, separated_width}
 use Rattle.script_speller.proofs.Names.{onto_width}
 use Rattle.script_speller.proofs.Lines.{Names}
-use Rattle.script_speller.proofs.Runs.{Runs, IsEnd, runs_from, runs_to, names_run, names_are, opened_by, end_line, block_lines, closed_lines, open_lines, lines_so_far, IsLineText, Spelled, spelled_run}
+use Rattle.script_speller.proofs.Runs.{IsEnd, runs_from, runs_to, names_run, names_are, opened_by, end_line, block_lines, closed_lines, open_lines, lines_so_far, IsLineText, Spelled, spelled_run}
 
 -- ---- lines and their text
 
