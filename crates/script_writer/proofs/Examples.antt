@@ -1,5 +1,5 @@
 -- A small generated script, computed.
-use Rattle.std.specs.Prelude.{◌≡◌, ◌+◌, ◌*◌, List, [], ◌∷◌, ◌++◌, length, map, replicate, refl, codes, sum_by}
+use Rattle.std.specs.Prelude.{◌≡◌, ◌+◌, ◌*◌, [], ◌∷◌, ◌++◌, length, map, replicate, refl, codes, sum_by}
 use Rattle.std.specs.Fmt.{digits}
 use Rattle.pico_base.specs.declared.script.Block.{Block}
 use Rattle.script_writer.specs.Generated.{make, send, receive, fork, generated}

@@ -1,5 +1,5 @@
 -- Verdicts on the trace of a small script, and on altered ones, computed.
-use Rattle.std.specs.Prelude.{◌≡◌, ⊤, ℕ, pos, true, false, List, [], ◌∷◌, ◌++◌, Some, None, Ok, Err, refl, codes}
+use Rattle.std.specs.Prelude.{◌≡◌, ⊤, ℕ, pos, true, false, List, ◌++◌, Some, None, Ok, Err, refl, codes}
 use Rattle.std.specs.Fmt.{digits}
 use Rattle.pico_base.specs.declared.call.Call.TheVariants.{MsgSnd, MsgRcv, Exit}
 use Rattle.pico_base.specs.declared.reply.Reply.TheVariants.{Message}
