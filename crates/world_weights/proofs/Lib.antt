@@ -1,0 +1,5 @@
+pub mod Sums
+pub mod Lines
+pub mod Maps
+pub mod Events
+pub mod Parts
