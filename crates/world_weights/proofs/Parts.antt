@@ -1,6 +1,6 @@
 -- What a node weighs, part by part: its deeds, and the leader's places.
-use Rattle.std.proofs.Common.{◌≡◌, ◌≢◌, ℕ, ◌+◌, ◌≤◌, Bool, true, false, List, [], ◌∷◌, length, map, nat_eq, if◌then◌else◌, Option, Some, None, refl, ap, sym, ◌∙◌, arith}
-use Rattle.std.proofs.lemmas.Bool.{cases_Bool, ne_eqb}
+use Rattle.std.proofs.Common.{◌≡◌, ◌≢◌, ℕ, ◌+◌, ◌≤◌, Bool, true, false, not, ◌&&◌, List, [], ◌∷◌, length, map, nat_eq, if◌then◌else◌, Option, Some, None, refl, ap, sym, ◌∙◌, arith}
+use Rattle.std.proofs.lemmas.Bool.{false≢true}
 use Rattle.std.proofs.lemmas.List.Sums.{sum_by-cons}
 use Rattle.pico_base.specs.declared.numbers.Name.{Name}
 use Rattle.pico_base.specs.declared.numbers.Name.TheVariants.{Proc, Msg, Sem}
@@ -22,12 +22,26 @@ pub passed : {X : Type 0} (b : Bool) (o : Option X) (x : X) → (if b then o els
 passed true o x h = (refl, h)
 passed false o x h = cc
 
--- or it was one of the two
+-- there is none, and one
 pub none-some : {X : Type 0} {B : Type 0} (x : X) → None ≡ Some x → B
 none-some x h = cc
 
+-- it is the one
 pub in-some : {X : Type 0} (x y : X) → Some x ≡ Some y → x ≡ y
 in-some x y h = cc
+
+-- both tests were
+pub and-left : (a b : Bool) → (a && b) ≡ true → a ≡ true
+and-left true b h = refl
+and-left false b h = absurd (false≢true h)
+
+pub and-right : (a b : Bool) → (a && b) ≡ true → b ≡ true
+and-right true b h = h
+and-right false b h = absurd (false≢true h)
+
+pub not-true : (a : Bool) → not a ≡ true → a ≡ false
+not-true true h = absurd (false≢true h)
+not-true false h = refl
 
 -- ---- deeds
 

@@ -84,15 +84,15 @@ left_to_start script number c =
     sum_by (λ line. line.tries) (drop c.line (lines_of script number)) - (c.tried + one_if (is_some c.under_way))
 
 -- the calls that a node's process hasn't started
-abbrev pub to_start_in : Script → Node → Stage → ℕ
-to_start_in script n Unborn = sum_by (λ line. line.tries) (lines_of script n.number)
-to_start_in script n Living = left_to_start script n.number n.caller
-to_start_in script n Leaving = 0
-to_start_in script n Left = 0
-to_start_in script n Over = 0
+abbrev pub to_start_in : Script → ℕ → Caller → Stage → ℕ
+to_start_in script number c Unborn = sum_by (λ line. line.tries) (lines_of script number)
+to_start_in script number c Living = left_to_start script number c
+to_start_in script number c Leaving = 0
+to_start_in script number c Left = 0
+to_start_in script number c Over = 0
 
 abbrev pub to_start : Script → Node → ℕ
-to_start script n = to_start_in script n n.stage
+to_start script n = to_start_in script n.number n.caller n.stage
 
 -- a queue or a set at another node than the leader has still to come back
 abbrev pub table_weight : Node → ℕ
