@@ -6,3 +6,4 @@ pub mod Parts
 pub mod Names
 pub mod NameFalls
 pub mod Costs
+pub mod Runs
