@@ -7,3 +7,5 @@ pub mod Names
 pub mod NameFalls
 pub mod Costs
 pub mod Runs
+pub mod CallHeads
+pub mod Made
