@@ -39,7 +39,8 @@ pub record MayEnd (script : Script) (n : Node) : Type 0 where
   pub tries : HasTries script
   pub left : HasTryLeft script n.number n.caller
 
-stage-below : (script : Script) (number : ℕ) (c d : Caller) (stage : Stage)
+-- a caller with no more to start leaves its node no heavier
+pub stage-below : (script : Script) (number : ℕ) (c d : Caller) (stage : Stage)
     → left_to_start script number d ≤ left_to_start script number c
     → to_start_in script number d stage ≤ to_start_in script number c stage
 stage-below script number c d Unborn h = omega arith
@@ -48,7 +49,8 @@ stage-below script number c d Leaving h = omega arith
 stage-below script number c d Left h = omega arith
 stage-below script number c d Over h = omega arith
 
-under-way-at : (n : Node) (ticket : ℕ) (call : Call) → under_way_as n ticket ≡ Some call
+-- the call under way, where it has the ticket
+pub under-way-at : (n : Node) (ticket : ℕ) (call : Call) → under_way_as n ticket ≡ Some call
     → n.caller.under_way ≡ Some call
 under-way-at n ticket call = by-test (nat_eq ticket n.caller.ticket)
   where

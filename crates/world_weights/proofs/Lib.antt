@@ -9,3 +9,5 @@ pub mod Costs
 pub mod Runs
 pub mod CallHeads
 pub mod Made
+pub mod NodeCalls
+pub mod CallFalls
