@@ -136,7 +136,8 @@ module _ (deeds : Deeds) (rise : ObjectsRise deeds) where
 abbrev pub move_cost : Bool → ℕ
 move_cost leads = if leads then 2 else 5
 
-table-none : (n : Node) → is_leader n ≡ true → table_weight n ≡ 0
+-- the leader's table isn't counted
+pub table-none : (n : Node) → is_leader n ≡ true → table_weight n ≡ 0
 table-none n e = ap (λ t. if t then 0 else size_of n.deeds) e
 
 grant-costs : (script : Script) (s : Step) (name : Name) (to : ℕ) (o : Option Body)

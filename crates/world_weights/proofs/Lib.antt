@@ -11,3 +11,6 @@ pub mod CallHeads
 pub mod Made
 pub mod NodeCalls
 pub mod CallFalls
+pub mod Known
+pub mod Keys
+pub mod Hand
