@@ -14,3 +14,4 @@ pub mod CallFalls
 pub mod Known
 pub mod Keys
 pub mod Hand
+pub mod Routes
