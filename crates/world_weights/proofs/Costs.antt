@@ -211,7 +211,8 @@ read-costs script s name reader false = omega arith
 abbrev pub RisesBesides : Node → Type 0
 RisesBesides n = is_leader n ≡ false → ObjectsRise n.deeds
 
-deeds-by : (script : Script) (s : Step) (deeds : Deeds) (t : Bool) → (let n : Node = s.node in is_leader n ≡ t)
+-- deeds with no more queues and sets, or the leader's
+pub deeds-by : (script : Script) (s : Step) (deeds : Deeds) (t : Bool) → (let n : Node = s.node in is_leader n ≡ t)
     → (t ≡ false → let n : Node = s.node in size_of deeds ≤ size_of n.deeds)
     → step_weight script (with_deeds s deeds) ≤ step_weight script s
 deeds-by script s deeds true leads small =

@@ -15,3 +15,6 @@ pub mod Known
 pub mod Keys
 pub mod Hand
 pub mod Routes
+pub mod Starts
+pub mod RunFalls
+pub mod RouteFalls

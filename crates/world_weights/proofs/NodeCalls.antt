@@ -40,7 +40,8 @@ pub lowers-by-cost : (script : Script) (n : Node) (s : Step) (taken more : ℕ) 
 lowers-by-cost script n s taken more call p was place low high is cost less =
     lowers-moved script n taken call p was place s low high is (omega (arith, cost, less))
 
-move-is-cheap : (leads : Bool) → move_cost leads ≤ 5
+-- a name that moves costs 5 at most
+pub move-is-cheap : (leads : Bool) → move_cost leads ≤ 5
 move-is-cheap true = omega arith
 move-is-cheap false = omega arith
 
