@@ -18,3 +18,5 @@ pub mod Routes
 pub mod Starts
 pub mod RunFalls
 pub mod RouteFalls
+pub mod Ends
+pub mod Counts
