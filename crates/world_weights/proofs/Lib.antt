@@ -20,3 +20,4 @@ pub mod RunFalls
 pub mod RouteFalls
 pub mod Ends
 pub mod Counts
+pub mod GiveBacks
