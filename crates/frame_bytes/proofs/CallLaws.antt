@@ -197,6 +197,7 @@ asked-again calls.SigPending rest h = absurd h
 asked-again (calls.Handled sig) rest h = absurd h
 asked-again (calls.WaitPid child nohang) rest h = absurd h
 
+-- a call that a frame asks for is read as it is spelled
 pub asked_call-inverse : Inverse Call IsAskedCall call_bytes asked_call_at
 asked_call-inverse = whole-inverse Call IsAskedCall call_bytes asked_call_at asked-takes asked-again
 
@@ -215,6 +216,7 @@ last-again (calls.Exit status) rest h = one-again ℕ Call half-field calls.Exit
 last-again (calls.Killed sig) rest h = one-again Sig Call sig-field calls.Killed sig rest tt
 last-again call rest h = absurd h
 
+-- so is a call that ends a process
 pub last_call-inverse : Inverse Call IsLastCall call_bytes last_call_at
 last_call-inverse = whole-inverse Call IsLastCall call_bytes last_call_at last-takes last-again
 
@@ -253,5 +255,6 @@ reply-again (replies.All values) rest h = one-again (List ℕ) Reply values-fiel
 reply-again (replies.Fail errno) rest h = one-again Errno Reply errno-field replies.Fail errno rest tt
 reply-again reply rest h = absurd h
 
+-- so is a reply
 pub reply-inverse : Inverse Reply IsAnswer reply_bytes reply_at
 reply-inverse = whole-inverse Reply IsAnswer reply_bytes reply_at reply-takes reply-again

@@ -26,12 +26,14 @@ use Rattle.frame_bytes.proofs.Inverse.{Inverse, Field, Passes, byte-inverse, pas
 
 -- ---- numbers
 
+-- a number of 4 bytes is read as it is spelled
 pub word-inverse : Inverse ℕ IsWord word word_at
 word-inverse = record {
   takes = λ bytes x fits e. number_takes w32 (2 ^ 32) wide32 bytes x fits e;
   again = λ n rest fits. number_again w32 (2 ^ 32) wide32 n rest fits;
 }
 
+-- so is one of 2 bytes
 pub half-inverse : Inverse ℕ IsHalf half half_at
 half-inverse = record {
   takes = λ bytes x fits e. number_takes w16 (2 ^ 16) wide16 bytes x fits e;
@@ -45,6 +47,7 @@ positive-inverse =
     (λ n p. record { fits = p.fits; least = p.passes }) (λ n p. record { fits = p.fits; passes = p.least })
     (passing-inverse ℕ IsWord word word_at (nat_lt 0) word-inverse)
 
+-- so is a count of 2 bytes that is at least 1
 pub count-inverse : Inverse ℕ IsCount half count_at
 unfolding count_at
 count-inverse =
@@ -167,6 +170,7 @@ kind-inverse = one_of-inverse Kind (λ k. Unit {0}) kind_byte all_kinds (tt, (tt
 
 -- ---- texts
 
+-- a text is read as it is spelled: its length, and so many bytes
 pub text-inverse : Inverse (List ℕ) IsText text text_at
 unfolding text_at
 text-inverse = record { takes = take-text; again = give } where
@@ -199,30 +203,39 @@ text-inverse = record { takes = take-text; again = give } where
 
 -- ---- the fields as values, and those that are made of others
 
+-- the fields with their laws: a number of 4 bytes
 abbrev pub word-field : Field ℕ
 word-field = record { Fits = IsWord; spell = word; read = word_at; inverse = word-inverse }
 
+-- a number of 2 bytes
 abbrev pub half-field : Field ℕ
 half-field = record { Fits = IsHalf; spell = half; read = half_at; inverse = half-inverse }
 
+-- a number of 4 bytes that is at least 1
 abbrev pub positive-field : Field ℕ
 positive-field = record { Fits = IsPositive; spell = word; read = positive_at; inverse = positive-inverse }
 
+-- a node
 abbrev pub node-field : Field ℕ
 node-field = record { Fits = IsNode; spell = λ n. n ∷ []; read = node_at; inverse = node-inverse }
 
+-- a signed number
 abbrev pub signed-field : Field ℤ
 signed-field = record { Fits = λ z. FitsSigned w32 z; spell = signed; read = signed_at; inverse = signed-inverse }
 
+-- a flag
 abbrev pub flag-field : Field Bool
 flag-field = record { Fits = λ b. Unit {0}; spell = λ b. flag_byte b ∷ []; read = flag_at; inverse = flag-inverse }
 
+-- a signal
 abbrev pub sig-field : Field Sig
 sig-field = record { Fits = λ g. Unit {0}; spell = λ g. signal_number g ∷ []; read = sig_at; inverse = sig-inverse }
 
+-- the signal of a kill, which may be 0 or none
 abbrev pub sigarg-field : Field SigArg
 sigarg-field = record { Fits = IsSigArg; spell = λ a. sigarg_byte a ∷ []; read = sigarg_at; inverse = sigarg-inverse }
 
+-- an error
 abbrev pub errno-field : Field Errno
 errno-field = record {
   Fits = λ e. Unit {0};
@@ -232,9 +245,11 @@ errno-field = record {
       errno-inverse;
 }
 
+-- a kind of numbers
 abbrev pub kind-field : Field Kind
 kind-field = record { Fits = λ k. Unit {0}; spell = λ k. kind_byte k ∷ []; read = kind_at; inverse = kind-inverse }
 
+-- a text
 abbrev pub text-field : Field (List ℕ)
 text-field = record { Fits = IsText; spell = text; read = text_at; inverse = text-inverse }
 
@@ -266,5 +281,6 @@ name-inverse =
     whole-inverse Name IsName name_field name_at
     (two-takes Name IsName name_field Kind ℕ kind-field positive-field name_of [] name-same name-fits) name-again
 
+-- a name
 abbrev pub name-field : Field Name
 name-field = record { Fits = IsName; spell = name_field; read = name_at; inverse = name-inverse }

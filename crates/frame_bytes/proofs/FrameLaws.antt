@@ -280,6 +280,7 @@ frame-inverse = whole-inverse Frame HasFields frame_body frame_at frame-takes fr
 
 -- ---- all of the bytes
 
+-- bytes that are read as a frame and nothing else are its spelling
 pub whole-takes : (bytes : List ℕ) (f : Frame) → IsBytes bytes → whole_at bytes ≡ Some f → (bytes ≡ frame_body f)
     × HasFields f
 unfolding whole_at
@@ -292,6 +293,7 @@ whole-takes bytes f fits e =
     t.0.parts ∙ ap (λ (r : List ℕ). frame_body a.0.0 ++ r) nothing ∙ append-nil (frame_body a.0.0)
     in subst (λ (x : Frame). (bytes ≡ frame_body x) × HasFields x) g.1 (spelled, t.1)
 
+-- a frame's spelling is read as the frame
 pub whole-again : (f : Frame) → HasFields f → whole_at (frame_body f) ≡ Some f
 unfolding whole_at
 whole-again f h =

@@ -16,6 +16,7 @@ pub record Inverse (A : Type 0) (Fits : A → Type 0) (spell : A → List ℕ) (
 
 -- ---- a byte, and tests
 
+-- a byte is read as it is
 pub byte-inverse : Inverse ℕ (λ n. n < 256) (λ n. n ∷ []) byte_at
 byte-inverse = record { takes = byte-takes; again = λ n rest fits. refl } where
   byte-takes : (bytes : List ℕ) (x : ℕ × List ℕ) → IsBytes bytes → byte_at bytes ≡ Some x → Takes bytes (x.0 ∷ []) x.1
@@ -30,6 +31,7 @@ pub record Passes (A : Type 0) (Fits : A → Type 0) (test : A → Bool) (a : A)
   pub fits : Fits a
   pub passes : test a ≡ true
 
+-- a value that passes a test is read as it is spelled where any value is
 pub passing-inverse : (A : Type 0) (Fits : A → Type 0) (spell : A → List ℕ) (read : Reader A) (test : A → Bool)
     → Inverse A Fits spell read
     → Inverse A (Passes A Fits test) spell (passing test read)
@@ -69,6 +71,7 @@ found-is A code b (v ∷ values) a Fits all e =
       by-test true t later g = subst (λ (y : A). (code y ≡ b) × Fits y) (some_is v a g) (eqb-true (code v) b t, all.0)
       by-test false t later g = later g
 
+-- one of a list of values with different bytes is read as it is spelled
 pub one_of-inverse : (A : Type 0) (Fits : A → Type 0) (code : A → ℕ) (values : List A) → AllByRecursion Fits values
     → ((a : A) → Fits a → find (λ x. eqb (code x) (code a)) values ≡ Some a)
     → Inverse A Fits (λ a. code a ∷ []) (one_of code values)
@@ -125,6 +128,7 @@ pub record Counted (A : Type 0) (Counts : ℕ → Type 0) (Fits : A → Type 0) 
   pub count : Counts (length xs)
   pub each : AllByRecursion Fits xs
 
+-- a list behind its count is read as it is spelled where its values are
 pub counted-inverse : (A : Type 0) (Counts : ℕ → Type 0) (spell_count : ℕ → List ℕ) (count : Reader ℕ) (Fits : A
     → Type 0) (spell : A → List ℕ) (read : Reader A)
     → Inverse ℕ Counts spell_count count → Inverse A Fits spell read
@@ -254,16 +258,19 @@ module _ (Z : Type 0) (Fits : Z → Type 0) (spell : Z → List ℕ) where
 
 -- ---- what was spelled is read again
 
+-- one field is read again, and made into a value
 pub one-again : (A Z : Type 0) (f : Field A) (make : A → Z) (a : A) (rest : List ℕ) → f.Fits a
     → one f.read make (f.spell a ++ rest) ≡ Some (make a, rest)
 one-again A Z f make a rest fa = rw (f.inverse.again a rest fa) refl
 
+-- two fields one behind the other are
 pub two-again : (A B Z : Type 0) (f : Field A) (g : Field B) (make : A → B → Z) (a : A) (b : B) (rest : List ℕ)
     → f.Fits a → g.Fits b
     → two f.read g.read make (f.spell a ++ (g.spell b ++ rest)) ≡ Some (make a b, rest)
 two-again A B Z f g make a b rest fa fb =
     rw (f.inverse.again a (g.spell b ++ rest) fa) (one-again B Z g (make a) b rest fb)
 
+-- three are
 pub three-again : (A B C Z : Type 0) (f : Field A) (g : Field B) (h : Field C) (make : A → B → C → Z) (a : A) (b : B)
     (c : C) (rest : List ℕ)
     → f.Fits a → g.Fits b → h.Fits c
@@ -271,6 +278,7 @@ pub three-again : (A B C Z : Type 0) (f : Field A) (g : Field B) (h : Field C) (
 three-again A B C Z f g h make a b c rest fa fb fc =
     rw (f.inverse.again a (g.spell b ++ (h.spell c ++ rest)) fa) (two-again B C Z g h (make a) b c rest fb fc)
 
+-- four are
 pub four-again : (A B C D Z : Type 0) (f : Field A) (g : Field B) (h : Field C) (i : Field D) (make : A → B → C → D → Z)
     (a : A) (b : B) (c : C) (d : D) (rest : List ℕ)
     → f.Fits a → g.Fits b → h.Fits c → i.Fits d
@@ -280,6 +288,7 @@ four-again A B C D Z f g h i make a b c d rest fa fb fc fd =
     rw (f.inverse.again a (g.spell b ++ (h.spell c ++ (i.spell d ++ rest))) fa)
     (three-again B C D Z g h i (make a) b c d rest fb fc fd)
 
+-- five are
 pub five-again : (A B C D E Z : Type 0) (f : Field A) (g : Field B) (h : Field C) (i : Field D) (j : Field E) (make : A
     → B → C → D → E → Z)
     (a : A) (b : B) (c : C) (d : D) (e : E) (rest : List ℕ) → f.Fits a → g.Fits b → h.Fits c → i.Fits d → j.Fits e

@@ -132,6 +132,7 @@ fields-pass (frames.ExitTo parcel) h = parcel-passes parcel h
 short-passes : (n : ℕ) → nat_le n max_frame ≡ true → n ≤ max_frame
 short-passes n h = grind (arith, nat_tests)
 
+-- a frame that passes the test is within the limits
 pub frame-passes : (f : Frame) → is_frame f ≡ true → IsWithinLimits f
 frame-passes f h =
     record {
@@ -238,5 +239,6 @@ fields-are (frames.ExitTo parcel) h = parcel-is parcel h
 short-is : (n : ℕ) → n ≤ max_frame → nat_le n max_frame ≡ true
 short-is n h = grind (arith, nat_tests)
 
+-- and one within the limits passes it
 pub frame-is : (f : Frame) → IsWithinLimits f → is_frame f ≡ true
 frame-is f h = both (has_fields f) _ (fields-are f h.fields) (short-is (length (frame_body f)) h.short)

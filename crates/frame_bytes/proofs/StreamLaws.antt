@@ -42,6 +42,7 @@ text-same b c x y fb fc e =
 short-text : (f : Frame) → IsFrame f → IsText (frame_body f)
 short-text f h = let s = h.short in omega (arith, s)
 
+-- bytes that begin with the spellings of two frames begin with one frame, and the same bytes stand behind it
 pub frame-same : (f g : Frame) (x y : List ℕ) → IsFrame f → IsFrame g → frame_bytes f ++ x ≡ frame_bytes g ++ y
     → Same Frame f g x y
 frame-same f g x y hf hg e =
@@ -147,6 +148,7 @@ one-list (f ∷ fs) (g ∷ gs) x y l m hf hg e s t =
     in let b = others.value
     in record { value = ap (λ (h : Frame). h ∷ fs) a ∙ ap (λ (hs : List Frame). g ∷ hs) b; rest = others.rest }
 
+-- a stream has one reading: the same frames and the same rest
 pub one-reading : (stream : List ℕ) (fs gs : List Frame) (l m : Left) → Splits stream fs l → Splits stream gs m
     → (fs ≡ gs) × (l ≡ m)
 one-reading stream fs gs l m s t =
@@ -250,6 +252,7 @@ all-fed stream fs old pieces frames new (Further left mid end piece others first
     (subst (λ (hs : List Frame). Splits ((stream ++ piece) ++ flat_map (λ x. x) others) hs end)
     (append_assoc fs first later) t)
 
+-- what a joiner gave for pieces is the reading of all their bytes
 pub all-fed-splits : (pieces : List (List ℕ)) (frames : List Frame) (new : Left) → AllFed (Rest []) pieces frames new
     → Splits (flat_map (λ piece. piece) pieces) frames new
 all-fed-splits pieces frames new fed =

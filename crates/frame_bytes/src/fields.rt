@@ -6,7 +6,7 @@ ghost use Rattle.pico_base.specs.Signal.{all_signals, signal_number};
 ghost use Rattle.frame_bytes.specs.Readers.{Gives, byte_at};
 ghost use Rattle.frame_bytes.specs.Fields.{count_at, errno_at, flag_at, half_at, kind_at, name_at, name_of, node_at, positive_at, sig_at, sigarg_at, signed_at, text_at, word_at};
 
-use body_fields::{u16_at, u32_at};
+use byteorder::{BigEndian, ByteOrder};
 use pico_base::{Bytes, Errno, Id, Kind, Name, Pid, Sig, SigArg, UnpackFault};
 use std::alloc::Global;
 
@@ -26,20 +26,22 @@ pub(crate) fn byte(bytes: &[u8]) -> Read<'_, u8>
 pub(crate) fn word(bytes: &[u8]) -> Read<'_, u32>
     ensures { Gives (λ x. (x.0, x.1.now)) result (word_at bytes.now) }
 {
-    match u32_at(bytes) {
-        Some((number, rest)) => Ok((number, rest)),
-        None => Err(UnpackFault::NotABody),
+    if bytes.len() < 4 {
+        return Err(UnpackFault::NotABody);
     }
+    let (front, rest) = bytes.split_at(4);
+    Ok((BigEndian::read_u32(front), rest))
 }
 
 /// A number of 2 bytes.
 pub(crate) fn half(bytes: &[u8]) -> Read<'_, u16>
     ensures { Gives (λ x. (x.0, x.1.now)) result (half_at bytes.now) }
 {
-    match u16_at(bytes) {
-        Some((number, rest)) => Ok((number, rest)),
-        None => Err(UnpackFault::NotABody),
+    if bytes.len() < 2 {
+        return Err(UnpackFault::NotABody);
     }
+    let (front, rest) = bytes.split_at(2);
+    Ok((BigEndian::read_u16(front), rest))
 }
 
 /// A number of 4 bytes that is at least 1.

@@ -1,6 +1,6 @@
 //! Frames as they are written: each function adds a field at the end, and finds that it is one that has a spelling.
 ghost use Rattle.std.specs.Prelude.{◌≡◌, ◌++◌, ◌∷◌, [], FitsSigned, length, OnOk};
-ghost use Rattle.std.specs.Int.{w32};
+ghost use Rattle.std.specs.Int.{to_be_bytes, w16, w32};
 ghost use Rattle.frame_bytes.specs.Fields.{IsCount, IsHalf, IsName, IsNode, IsText, IsWord, flag_byte, half, kind_byte, name_field, name_number, sigarg_byte, signed, text, word};
 ghost use Rattle.frame_bytes.specs.Calls.{AreSteps, IsAskedCall, IsLastCall, IsReceive, IsSend, call_bytes, steps_field, values_field};
 ghost use Rattle.frame_bytes.specs.Replies.{AreValues, IsAnswer, IsStat, reply_bytes};
@@ -8,14 +8,33 @@ ghost use Rattle.frame_bytes.specs.Frames.{AreDeeds, AreVars, HasFields, IsAsked
 ghost use Rattle.frame_bytes.specs.Limits.{AreDeedsWithin, AreVarsWithin, FieldsWithin, IsCallWithin, IsDeedWithin, IsLastWithin, IsNonzero, IsParcelWithin, IsReplyWithin};
 
 use crate::many::put_many;
+use byteorder::{BigEndian, ByteOrder};
 use pico_base::{Bytes, Call, Kind, Memory, Name, Node, Pid, Reply, SigArg, Steps, Values, Vars};
 use rpc_frame::{Asked, Frame, PackedDeed, PackedDeeds, Parcel};
+
+/// A number in 4 bytes, the high ones first.
+fn four_bytes(number: u32) -> [u8; 4]
+    ensures { result ≡ to_be_bytes w32 number }
+{
+    let mut bytes = [0; 4];
+    BigEndian::write_u32(&mut bytes, number);
+    bytes
+}
+
+/// A number in 2 bytes, the high one first.
+fn two_bytes(number: u16) -> [u8; 2]
+    ensures { result ≡ to_be_bytes w16 number }
+{
+    let mut bytes = [0; 2];
+    BigEndian::write_u16(&mut bytes, number);
+    bytes
+}
 
 pub(crate) fn put_text(out: &mut Vec<u8>, bytes: &Bytes) -> Result<(), Memory>
     requires { IsText bytes.now }
     ensures { OnOk result (out.new.items ≡ out.old.items ++ text bytes.now) }
 {
-    out.extend_from_slice(&(bytes.len() as u32).to_be_bytes())?;
+    out.extend_from_slice(&four_bytes(bytes.len() as u32))?;
     out.extend_from_slice(bytes.as_slice())?;
     Ok(())
 }
@@ -24,7 +43,7 @@ pub(crate) fn put_word(out: &mut Vec<u8>, number: u32) -> Result<(), Memory>
     ensures bytes { OnOk result (out.new.items ≡ out.old.items ++ word number) }
     ensures fits { OnOk result (IsWord number) }
 {
-    out.extend_from_slice(&number.to_be_bytes())?;
+    out.extend_from_slice(&four_bytes(number))?;
     Ok(())
 }
 
@@ -38,7 +57,7 @@ pub(crate) fn put_flag(out: &mut Vec<u8>, flag: bool) -> Result<(), Memory>
 pub(crate) fn put_signed(out: &mut Vec<u8>, number: i32) -> Result<(), Memory>
     ensures { OnOk result (out.new.items ≡ out.old.items ++ signed number) }
 {
-    out.extend_from_slice(&number.to_be_bytes())?;
+    out.extend_from_slice(&four_bytes(number.cast_unsigned()))?;
     Ok(())
 }
 
@@ -47,7 +66,7 @@ fn put_steps(out: &mut Vec<u8>, steps: &Steps) -> Result<(), Memory>
     ensures bytes { OnOk result (out.new.items ≡ out.old.items ++ steps_field steps.now) }
     ensures fits { OnOk result (AreSteps steps.now) }
 {
-    out.extend_from_slice(&(steps.len() as u16).to_be_bytes())?;
+    out.extend_from_slice(&two_bytes(steps.len() as u16))?;
     put_many(out, steps.as_slice())?;
     Ok(())
 }
@@ -57,7 +76,7 @@ fn put_values(out: &mut Vec<u8>, values: &Values) -> Result<(), Memory>
     ensures bytes { OnOk result (out.new.items ≡ out.old.items ++ values_field values.now) }
     ensures fits { OnOk result (AreValues values.now) }
 {
-    out.extend_from_slice(&(values.len() as u16).to_be_bytes())?;
+    out.extend_from_slice(&two_bytes(values.len() as u16))?;
     put_many(out, values.as_slice())?;
     Ok(())
 }
@@ -340,7 +359,7 @@ fn put_vars(out: &mut Vec<u8>, vars: &Vars) -> Result<(), Memory>
     ensures bytes { OnOk result (out.new.items ≡ out.old.items ++ vars_field vars.now) }
     ensures fits { OnOk result (AreVars vars.now) }
 {
-    out.extend_from_slice(&(vars.len() as u16).to_be_bytes())?;
+    out.extend_from_slice(&two_bytes(vars.len() as u16))?;
     put_many(out, vars.as_slice())
 }
 

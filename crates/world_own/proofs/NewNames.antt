@@ -50,7 +50,8 @@ no-step call name frames.RecallAll ss last e r h = absurd (false≢true (sym r))
 no-step call name (frames.Forward asked) ss last e r h = if-needed (needs_deed call name asked) ss last h
 no-step call name f ss last e r h = refl
 
-drops : {A : Type 0} (t : Bool) (x : A) (xs : List A) → cond t (x ∷ xs) xs ≡ [] → (t ≡ false) × (xs ≡ [])
+-- where a filter keeps nothing, it drops the first, and all the others
+pub drops : {A : Type 0} (t : Bool) (x : A) (xs : List A) → cond t (x ∷ xs) xs ≡ [] → (t ≡ false) × (xs ≡ [])
 drops true x xs h = absurd (not-empty x xs h)
   where
     not-empty : {A : Type 0} (x : A) (xs : List A) → x ∷ xs ≡ [] → ⊥
@@ -84,15 +85,18 @@ made-at x p body =
       news = λ q. if nat_eq q p then Tells ∷ [] else x.news q;
     }
 
-nobody-in : (xs : List ℕ) → ((v : ℕ) → Contains xs v → ⊥) → xs ≡ []
+-- a list in which nothing is is empty
+pub nobody-in : (xs : List ℕ) → ((v : ℕ) → Contains xs v → ⊥) → xs ≡ []
 nobody-in [] h = refl
 nobody-in (v ∷ vs) h = absurd (h v (contains-first v vs))
 
-is-unplaced : {A : Type 0} (o : Option A) → (is_some o ≡ true → ⊥) → o ≡ None
+-- what isn't there is none
+pub is-unplaced : {A : Type 0} (o : Option A) → (is_some o ≡ true → ⊥) → o ≡ None
 is-unplaced None h = refl
 is-unplaced (Some a) h = absurd (h refl)
 
-only-in : (v u : ℕ) → Contains (v ∷ []) u → v ≡ u
+-- in a list of one is that one
+pub only-in : (v u : ℕ) → Contains (v ∷ []) u → v ≡ u
 only-in v u there = elim (contains-cases v [] u there) [ inl e ↦ e | inr none ↦ absurd (contains-none u none) ]
 
 says-itself : (pids : ℕ → ℕ) (name : Name) (p : ℕ) → is_object name ≡ true → SaysOf pids name p p

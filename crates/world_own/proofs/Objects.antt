@@ -103,7 +103,8 @@ processes-stay-leaves k pid call reply next m makes lived used bodies no_fork no
     due-itself place (inl h) = h
     due-itself place (inr h) = absurd (false≢true (sym not_killed ∙ h.0))
 
-not-none : {A : Type 0} (x : A) (xs : List A) → x ∷ xs ≡ [] → ⊥
+-- a list with a first element isn't empty
+pub not-none : {A : Type 0} (x : A) (xs : List A) → x ∷ xs ≡ [] → ⊥
 not-none x xs h = cc
 
 if-placed : (t : Bool) (node : ℕ) (ns : List ℕ) (a c : List News) → (if t then node ∷ [] else []) ++ ns ≡ []
@@ -118,7 +119,7 @@ if-bounced true a c h rest = absurd (false≢true h)
 if-bounced false a c h rest = rest h
 
 -- where none of the frames tells the place and none is a Leaving, none is about the name
-no-news : (name : Name) (known : Bool) (fs : List Frame) → placed_in name fs ≡ [] → filter is_leaving_frame fs ≡ []
+pub no-news : (name : Name) (known : Bool) (fs : List Frame) → placed_in name fs ≡ [] → filter is_leaving_frame fs ≡ []
     → finds_place false (news name known fs) ≡ true → news name true fs ≡ []
 no-news name known [] e l h = refl
 no-news name known (frames.Placed m node ∷ fs) e l h =
@@ -144,7 +145,8 @@ pub record MakesOne (script : Script) (k : Kernel) (pid : ℕ) (call : Call) (ki
   pub no_exit : is_exit call ≡ false
   pub not_killed : is_killed call ≡ false
 
-here-way : (script : Script) (pids : ℕ → ℕ) (p : ℕ) (knows : Bool) (x : WaySight) → x.stage ≡ Living
+-- a node whose process makes calls doesn't leave
+pub here-way : (script : Script) (pids : ℕ → ℕ) (p : ℕ) (knows : Bool) (x : WaySight) → x.stage ≡ Living
     → Way script pids p knows x → IsHere x
 here-way script pids p knows x e (here h) = h
 here-way script pids p knows x e (tells h) = absurd (differ (sym e ∙ h.stage))
@@ -164,12 +166,14 @@ here-way script pids p knows x e (gone h) = absurd (differ (sym e ∙ h.stage))
     differ : Living ≡ Left → ⊥
     differ h = cc
 
-kind-itself : (kind : Kind) → is_same_kind kind kind ≡ true
+-- a kind is the same as itself
+pub kind-itself : (kind : Kind) → is_same_kind kind kind ≡ true
 kind-itself kinds.Proc = refl
 kind-itself kinds.Msg = refl
 kind-itself kinds.Sem = refl
 
-kind-is : (a c : Kind) → is_same_kind a c ≡ true → a ≡ c
+-- what passes the test is one kind
+pub kind-is : (a c : Kind) → is_same_kind a c ≡ true → a ≡ c
 kind-is kinds.Proc kinds.Proc h = refl
 kind-is kinds.Msg kinds.Msg h = refl
 kind-is kinds.Sem kinds.Sem h = refl
@@ -180,12 +184,14 @@ kind-is kinds.Msg kinds.Sem h = absurd (false≢true h)
 kind-is kinds.Sem kinds.Proc h = absurd (false≢true h)
 kind-is kinds.Sem kinds.Msg h = absurd (false≢true h)
 
-for-with : (m : Leases) (kind : Kind) (ns : List ℕ) → for_kind (with_kind m kind ns) kind ≡ ns
+-- the lease that was put is there
+pub for-with : (m : Leases) (kind : Kind) (ns : List ℕ) → for_kind (with_kind m kind ns) kind ≡ ns
 for-with m kinds.Proc ns = refl
 for-with m kinds.Msg ns = refl
 for-with m kinds.Sem ns = refl
 
-for-other : (m : Leases) (kind y : Kind) (ns : List ℕ) → is_same_kind kind y ≡ false
+-- and those of the other kinds stay
+pub for-other : (m : Leases) (kind y : Kind) (ns : List ℕ) → is_same_kind kind y ≡ false
     → for_kind (with_kind m kind ns) y ≡ for_kind m y
 for-other m kinds.Proc kinds.Msg ns h = refl
 for-other m kinds.Proc kinds.Sem ns h = refl
@@ -197,12 +203,14 @@ for-other m kinds.Proc kinds.Proc ns h = absurd (false≢true (sym h))
 for-other m kinds.Msg kinds.Msg ns h = absurd (false≢true (sym h))
 for-other m kinds.Sem kinds.Sem ns h = absurd (false≢true (sym h))
 
-two-or-more : (q : ℕ) → 1 ≤ q → q ≢ 1 → 2 ≤ q
+-- a node other than the first has a number of two or more
+pub two-or-more : (q : ℕ) → 1 ≤ q → q ≢ 1 → 2 ≤ q
 two-or-more zero h d = absurd (omega (arith, h))
 two-or-more (suc zero) h d = absurd (d refl)
 two-or-more (suc (suc q)) h d = omega arith
 
-process-apart : (name : Name) (q : ℕ) → is_object name ≡ true → Proc q ≢ name
+-- a queue or set is no process's name
+pub process-apart : (name : Name) (q : ℕ) → is_object name ≡ true → Proc q ≢ name
 process-apart name q object e =
     false≢true (sym (object-is-no-process name q object) ∙ same-name name (Proc q) (sym e))
 

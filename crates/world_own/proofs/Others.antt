@@ -56,13 +56,15 @@ gone-as-gone (kernel.Living c) is = absurd (cc)
 gone-as-gone (kernel.Ended g) is = absurd (cc)
 gone-as-gone kernel.Gone is = tt
 
-turned-on : (before after : Process) → TurnsTo (Some before) (Some after) → GoesOn before after
+-- so is each process that didn't make the entry
+pub turned-on : (before after : Process) → TurnsTo (Some before) (Some after) → GoesOn before after
 turned-on (kernel.Living a) after t = lives-as-living after t.0 t.1 a
 turned-on (kernel.Ended e) after (inl is) = ended-as-over after e e is
 turned-on (kernel.Ended e) after (inr is) = ended-as-gone after e is
 turned-on kernel.Gone after is = gone-as-gone after is
 
-both-live : (before after : Process) (a b : Alive) → Some before ≡ Some (kernel.Living a)
+-- who lives before and afterwards goes on
+pub both-live : (before after : Process) (a b : Alive) → Some before ≡ Some (kernel.Living a)
     → Some after ≡ Some (kernel.Living b) → GoesOn before after
 both-live (kernel.Living c) after a b is then = lives-as-living after b then c
 both-live (kernel.Ended e) after a b is then = absurd (cc)
@@ -70,7 +72,8 @@ both-live kernel.Gone after a b is then = absurd (cc)
 
 -- ---- where its deed is
 
-where-still : (c : ℕ) (place : DeedPlace) (before after : Process) → GoesOn before after → IsWhereFor c place before
+-- the deed is where it may be
+pub where-still : (c : ℕ) (place : DeedPlace) (before after : Process) → GoesOn before after → IsWhereFor c place before
     → IsWhereFor c place after
 where-still c place (kernel.Living a) (kernel.Living b) t h = h
 where-still c place (kernel.Living a) (kernel.Ended f) t h = absurd t
@@ -82,7 +85,8 @@ where-still c place kernel.Gone (kernel.Living b) t h = absurd t
 where-still c place kernel.Gone (kernel.Ended f) t h = absurd t
 where-still c place kernel.Gone kernel.Gone t h = h
 
-with-parent-still : (deed : ℕ → DeedPlace) (parent pid : ℕ) (before after : Process) → GoesOn before after
+-- an ended process's is still where its parent's is
+pub with-parent-still : (deed : ℕ → DeedPlace) (parent pid : ℕ) (before after : Process) → GoesOn before after
     → IsWithParent deed parent pid before → IsWithParent deed parent pid after
 with-parent-still deed parent pid before (kernel.Living b) t h = tt
 with-parent-still deed parent pid before kernel.Gone t h = tt
@@ -93,7 +97,8 @@ with-parent-still deed parent pid kernel.Gone (kernel.Ended f) t h = absurd t
 rows-same : (a b : Alive) → LivingBody b.row ≡ LivingBody a.row → a.row ≡ b.row
 rows-same a b h = cc
 
-fresh-still : (place : DeedPlace) (before after : Process) → GoesOn before after
+-- who is new is so still, with the same row
+pub fresh-still : (place : DeedPlace) (before after : Process) → GoesOn before after
     → ((to : ℕ) → place ≡ InCheckpoint to → process_body (Some after) ≡ process_body (Some before))
     → IsNewAt before place → IsNewAt after place
 fresh-still (InCheckpoint to) (kernel.Living a) (kernel.Living b) t same h =
@@ -104,7 +109,8 @@ fresh-still place before (kernel.Living b) t same h = tt
 fresh-still place before (kernel.Ended f) t same h = tt
 fresh-still place before kernel.Gone t same h = tt
 
-checkpoint-still : (script : Script) (pids : ℕ → ℕ) (places after : Places) (c : ℕ) (checkpoints : List Frame)
+-- a Checkpoint on its way brings the process that it brought
+pub checkpoint-still : (script : Script) (pids : ℕ → ℕ) (places after : Places) (c : ℕ) (checkpoints : List Frame)
     (place : DeedPlace)
     → ((to : ℕ) → place ≡ InCheckpoint to → get after (pids c) ≡ get places (pids c))
     → CheckpointIn script pids places c checkpoints place → CheckpointIn script pids after c checkpoints place
@@ -114,11 +120,12 @@ checkpoint-still script pids places after c checkpoints (InCheckpoint to) same h
 checkpoint-still script pids places after c checkpoints place same h = tt
 
 -- the number leads to a process
-record Leads (k : Kernel) (q : ℕ) : Type 0 where
-  process : Process
-  is : get k.processes q ≡ Some process
+pub record Leads (k : Kernel) (q : ℕ) : Type 0 where
+  pub process : Process
+  pub is : get k.processes q ≡ Some process
 
-leads-by : (k : Kernel) (q : ℕ) (o : Option Process) → get k.processes q ≡ o → is_some o ≡ true → Leads k q
+-- where it is used
+pub leads-by : (k : Kernel) (q : ℕ) (o : Option Process) → get k.processes q ≡ o → is_some o ≡ true → Leads k q
 leads-by k q (Some process) is h = record { process = process; is = is }
 leads-by k q None is h = absurd (false≢true h)
 

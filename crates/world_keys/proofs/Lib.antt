@@ -1,0 +1,15 @@
+pub mod NumberKinds
+pub mod Refills
+pub mod AtLeader
+pub mod Taking
+pub mod NewPlaces
+pub mod MadeHere
+pub mod MadeNames
+pub mod MadeNumbers
+pub mod OtherLeases
+pub mod MadeForOther
+pub mod KeyOutcomes
+pub mod KeyRoutes
+pub mod Removals
+pub mod RemovalRoutes
+pub mod OtherRoutes

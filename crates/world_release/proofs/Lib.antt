@@ -1,0 +1,11 @@
+pub mod Parcels
+pub mod RoutedParcels
+pub mod EndedParcels
+pub mod Rounds
+pub mod Arrivals
+pub mod TakenUp
+pub mod Home
+pub mod GivenBack
+pub mod Awaited
+pub mod SamePlaces
+pub mod GiveBacks
