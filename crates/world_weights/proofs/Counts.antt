@@ -18,6 +18,7 @@ use Rattle.world_laws.specs.Callers.{CallHolds, CallSight, HasCall, HasCallOrNon
 use Rattle.world_laws.specs.Invariant.{Holds}
 use Rattle.world_laws.specs.Places.{Beside, CallPlace, Idle, AsksLease, HasLease, InAsk, InRequest, InNotOwner, SentByPlace, SentByRange, InBounce, IsHeld, IsInHand, InAnswer, Ends}
 use Rattle.world_laws.specs.Sights.{directory_of, is_born_in}
+use Rattle.world_release.proofs.TakenUp.{taken_up}
 use Rattle.world_weights.specs.Weights.{call_at, call_weight, calls_weight}
 
 -- ---- sums over numbers
@@ -26,7 +27,8 @@ use Rattle.world_weights.specs.Weights.{call_at, call_weight, calls_weight}
 abbrev pub over : (ℕ → ℕ) → ℕ → ℕ → ℕ
 over f first count = sum_by f (numbers first count)
 
-over-both : (f g : ℕ → ℕ) (first count : ℕ) → over (λ p. f p + g p) first count ≡ over f first count + over g first count
+-- both together
+pub over-both : (f g : ℕ → ℕ) (first count : ℕ) → over (λ p. f p + g p) first count ≡ over f first count + over g first count
 over-both f g first zero = refl
 over-both f g first (suc count) =
     let rest = over-both f g (first + 1) count
@@ -35,7 +37,8 @@ over-both f g first (suc count) =
     in let others = sum_by-cons g first (numbers (first + 1) count)
     in omega (arith, rest, all, ones, others)
 
-over-same : (f g : ℕ → ℕ) (first count : ℕ) → ((p : ℕ) → first ≤ p → p < first + count → f p ≡ g p)
+-- the same of each
+pub over-same : (f g : ℕ → ℕ) (first count : ℕ) → ((p : ℕ) → first ≤ p → p < first + count → f p ≡ g p)
     → over f first count ≡ over g first count
 over-same f g first zero h = refl
 over-same f g first (suc count) h =
@@ -45,7 +48,8 @@ over-same f g first (suc count) h =
     in let others = sum_by-cons g first (numbers (first + 1) count)
     in omega (arith, rest, here, ones, others)
 
-over-none : (first count : ℕ) → over (λ p. 0) first count ≡ 0
+-- nothing of any
+pub over-none : (first count : ℕ) → over (λ p. 0) first count ≡ 0
 over-none first zero = refl
 over-none first (suc count) =
     let rest = over-none (first + 1) count
@@ -161,9 +165,6 @@ module _ (script : Script) (w : World) (hand : List Held) (b : Beside) (holds : 
       ∙ each-once script (held_for (directory_of w) name) all
 
 -- ---- they are in hand
-
-abbrev pub taken_up : Name → CallPlace → CallPlace
-taken_up name place = if is_held_at place name then IsInHand else place
 
 up-weight : (name : Name) (place : CallPlace)
     → call_weight (taken_up name place) + 7 * one_if (is_held_at place name) ≡ call_weight place

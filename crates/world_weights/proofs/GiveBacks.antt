@@ -37,9 +37,10 @@ use Rattle.world_laws.specs.Sights.{directory_of, is_born_in, node_of}
 use Rattle.world_laws.proofs.Named.{same-name-is}
 use Rattle.world_laws.proofs.Steps.{Heads}
 use Rattle.world_rules.proofs.Places.{place-with-same}
+use Rattle.world_release.proofs.TakenUp.{taken_up}
 use Rattle.world_weights.specs.Weights.{Falls, calls_weight, cost_if, destination_weight, directory_weight, hand_weight, is_away, item_weight, middle_weight, node_weight, routing_weight, table_weight}
 use Rattle.world_weights.proofs.Costs.{step_weight, table-none}
-use Rattle.world_weights.proofs.Counts.{IsOfNode, calls-taken-up, held-count, is_request, over, requests_in, taken_up}
+use Rattle.world_weights.proofs.Counts.{IsOfNode, calls-taken-up, held-count, is_request, over, requests_in}
 use Rattle.world_weights.proofs.Events.{Lowers, take-falls}
 use Rattle.world_weights.proofs.Hand.{IsRemovalOnly, RemovalsAreOf, RemovesOnly, back-low, back_weight, none-back}
 use Rattle.world_weights.proofs.Parts.{and-left, and-right, in-some, none-some, passed, place-replaces}
@@ -60,7 +61,8 @@ known-home d name known homes.Own on = absurd (false≢true on)
 known-home d name known homes.Keys on = absurd (false≢true on)
 known-home d name known homes.Parent on = absurd (false≢true on)
 
-abbrev ones : (Held → Bool) → List Held → ℕ
+-- how many of them
+abbrev pub ones : (Held → Bool) → List Held → ℕ
 ones test items = sum_by (λ item. one_if (test item)) items
 
 one-counted : (test : Held → Bool) (t : Bool) (item : Held) (items : List Held)

@@ -13,10 +13,12 @@ use Rattle.rpc_frame.specs.declared.asked.Asked.{Asked}
 use Rattle.node_model.specs.declared.held.Held.{Held}
 use Rattle.node_model.specs.declared.held.Held.TheVariants.{Request, Ending}
 use Rattle.node_model.specs.Directory.{Directory, is_known, place_of}
+use Rattle.node_model.specs.Kinds.{is_object}
 use Rattle.world_model.specs.Census.{one_if}
 use Rattle.world_model.specs.World.{node_count}
 use Rattle.world_model.specs.Step.{Step}
 use Rattle.world_laws.specs.Places.{CallPlace, IsInHand, call_in}
+use Rattle.world_hand.proofs.Routes.{removal-of-object}
 use Rattle.world_weights.specs.Weights.{asks_back, call_weight, calls_weight, cost_if, hand_weight, is_away, item_weight, middle_weight, removes_away, routing_weight}
 use Rattle.world_weights.proofs.Costs.{step_weight}
 use Rattle.world_weights.proofs.Known.{KnowsMore, directory_in}
@@ -88,20 +90,23 @@ back-low d hand = by-test (list_any (asks_back d) hand)
     by-test true = omega arith
     by-test false = omega arith
 
--- fewer names are away
+-- fewer queues and sets are away
 abbrev pub FewerAway : Directory → Directory → Type 0
-FewerAway d d' = (m : Name) → is_away (place_of d' m) ≡ true → is_away (place_of d m) ≡ true
+FewerAway d d' =
+    (m : Name) → is_object m ≡ true → is_away (place_of d' m) ≡ true → is_away (place_of d m) ≡ true
 
-removes-less : (d d' : Directory) → FewerAway d d' → (home : Home) → removes_away d' home ≡ true
-    → removes_away d home ≡ true
-removes-less d d' fewer (homes.Removal name) h = fewer name h
-removes-less d d' fewer (homes.At name) h = absurd (false≢true h)
-removes-less d d' fewer homes.Own h = absurd (false≢true h)
-removes-less d d' fewer homes.Keys h = absurd (false≢true h)
-removes-less d d' fewer homes.Parent h = absurd (false≢true h)
+removes-less : (d d' : Directory) → FewerAway d d' → (home : Home)
+    → ((name : Name) → home ≡ homes.Removal name → is_object name ≡ true)
+    → removes_away d' home ≡ true → removes_away d home ≡ true
+removes-less d d' fewer (homes.Removal name) object h = fewer name (object name refl) h
+removes-less d d' fewer (homes.At name) object h = absurd (false≢true h)
+removes-less d d' fewer homes.Own object h = absurd (false≢true h)
+removes-less d d' fewer homes.Keys object h = absurd (false≢true h)
+removes-less d d' fewer homes.Parent object h = absurd (false≢true h)
 
 asks-less : (d d' : Directory) → FewerAway d d' → (item : Held) → asks_back d' item ≡ true → asks_back d item ≡ true
-asks-less d d' fewer (Request asked) h = removes-less d d' fewer (home_of asked.pid asked.call) h
+asks-less d d' fewer (Request asked) h =
+    removes-less d d' fewer (home_of asked.pid asked.call) (removal-of-object asked.pid asked.call) h
 asks-less d d' fewer (Ending parcel) h = absurd (false≢true h)
 
 some-less : (d d' : Directory) → FewerAway d d' → (hand : List Held) → list_any (asks_back d') hand ≡ true

@@ -21,3 +21,4 @@ pub mod RouteFalls
 pub mod Ends
 pub mod Counts
 pub mod GiveBacks
+pub mod Arrivals

@@ -194,7 +194,7 @@ module _ (script : Script) (s : Step) (asked : Asked) (rest : List Held)
       in omega (arith, was, low, weighs, count, directory, hand, knows, back, all, light)
     where
       fewer : FewerAway d (with_place d name (Coming to (items ++ Request asked ∷ [])))
-      fewer m h =
+      fewer m object h =
           elim (name-cases m name) [
             | inl same ↦
                 absurd (false≢true (sym (ap (λ y. is_away (place_of
