@@ -22,3 +22,4 @@ pub mod Ends
 pub mod Counts
 pub mod GiveBacks
 pub mod Arrivals
+pub mod HandEnds
