@@ -23,3 +23,4 @@ pub mod Counts
 pub mod GiveBacks
 pub mod Arrivals
 pub mod HandEnds
+pub mod LeftFalls
