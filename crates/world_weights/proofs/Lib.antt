@@ -24,3 +24,4 @@ pub mod GiveBacks
 pub mod Arrivals
 pub mod HandEnds
 pub mod LeftFalls
+pub mod HandSteps
