@@ -25,3 +25,4 @@ pub mod Arrivals
 pub mod HandEnds
 pub mod LeftFalls
 pub mod HandSteps
+pub mod LightRounds
