@@ -1,10 +1,9 @@
 -- Names that come to a node: what was held for them is in hand, and weighs as much there.
-use Rattle.std.proofs.Common.{◌≡◌, ◌≢◌, ℕ, zero, suc, ◌+◌, ◌*◌, ◌≤◌, Bool, true, false, not, ◌||◌, if◌then◌else◌, List, [], ◌∷◌, ◌++◌, flat_map, is_none, Option, Some, None, refl, ap, sym, subst, ◌∙◌, inl, inr, arith}
+use Rattle.std.proofs.Common.{◌≡◌, ◌≢◌, ℕ, zero, suc, ◌+◌, ◌*◌, ◌≤◌, Bool, true, false, not, ◌||◌, if◌then◌else◌, List, [], ◌∷◌, ◌++◌, is_none, Option, Some, None, refl, ap, sym, ◌∙◌, arith}
 use Rattle.std.specs.Prelude.{count_by, sum_by}
 use Rattle.std.specs.List.{AllByRecursion, list_any}
 use Rattle.std.proofs.lemmas.Bool.{false≢true}
 use Rattle.std.proofs.lemmas.List.Sums.{sum_by-append, sum_by-cons}
-use Rattle.pico_base.specs.declared.call.Call.{Call}
 use Rattle.pico_base.specs.declared.call.Home.{Home}
 use Rattle.pico_base.specs.declared.call.Home.TheVariants as homes
 use Rattle.pico_base.specs.declared.numbers.Name.{Name}
@@ -88,12 +87,11 @@ arrivals-know node (name ∷ names) d =
 pub arrivals-known : (node : ℕ) (names : List Name) (d : Directory)
     → AllByRecursion (λ m. is_known (arrive_all d names node) m ≡ true) names
 arrivals-known node [] d = tt
-arrivals-known node (name ∷ names) d =
-    (
-      arrivals-know node names (arrive d name node) name
-          (ap (λ o. not (is_none o)) (place-with-same d name (At node))),
-      arrivals-known node names (arrive d name node),
-    )
+arrivals-known node (name ∷ names) d = (
+  arrivals-know node names (arrive d name node) name
+      (ap (λ o. not (is_none o)) (place-with-same d name (At node))),
+  arrivals-known node names (arrive d name node),
+)
 
 -- names of processes
 abbrev pub AreProcesses : List Name → Type 0

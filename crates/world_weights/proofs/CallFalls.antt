@@ -1,6 +1,6 @@
 -- Events of frames about calls, where the leader routes nothing, lower the weight: by the places of the call before and
 -- after.
-use Rattle.std.proofs.Common.{◌≡◌, ◌≢◌, ◌⊎◌, ℕ, ◌+◌, ◌≤◌, ◌<◌, false, List, [], refl, ap, sym, subst, ◌∙◌, inl, inr, arith}
+use Rattle.std.proofs.Common.{◌≡◌, ◌≢◌, ℕ, ◌+◌, ◌≤◌, ◌<◌, List, [], refl, sym, subst, ◌∙◌, inl, inr, arith}
 use Rattle.std.proofs.lemmas.Bool.{eq-eqb, ne_eqb}
 use Rattle.pico_base.specs.declared.call.Call.{Call}
 use Rattle.pico_base.specs.declared.numbers.Kind.{Kind}
@@ -11,7 +11,7 @@ use Rattle.pico_base.specs.Home.{home_of}
 use Rattle.rpc_frame.specs.declared.asked.Asked.{Asked}
 use Rattle.rpc_frame.specs.declared.frame.Frame.{Frame}
 use Rattle.rpc_frame.specs.declared.frame.Frame.TheVariants as frames
-use Rattle.world_model.specs.Node.{Node, is_leader}
+use Rattle.world_model.specs.Node.{Node}
 use Rattle.world_model.specs.World.{World, node_count}
 use Rattle.world_laws.specs.Places.{Beside, CallPlace, AsksLease, HasLease, Idle, InAnswer, InAsk, InBounce, InNotOwner, InRequest, SentByPlace, SentByRange, call_in}
 use Rattle.world_laws.specs.Sights.{node_of, is_born_in}

@@ -11,7 +11,7 @@ use Rattle.rpc_frame.specs.declared.frame.Frame.TheVariants as frames
 use Rattle.node_model.specs.Caller.{lines_of}
 use Rattle.world_model.specs.Node.{Node}
 use Rattle.world_model.specs.World.{World, node_count}
-use Rattle.world_laws.specs.Places.{Beside, CallPlace, AsksLease, HasLease, InAsk, InRequest, InNotOwner, SentByPlace, SentByRange, InBounce, InAnswer}
+use Rattle.world_laws.specs.Places.{Beside, AsksLease, HasLease, InAsk, InRequest, InNotOwner, SentByPlace, SentByRange, InBounce, InAnswer}
 use Rattle.world_laws.specs.Sights.{node_of, is_born_in}
 use Rattle.world_laws.specs.Callers.{CallHolds, CallSight, HasCall, HasTryLeft, IsJustThere, asked_of, call_sight, frame_at, is_about, is_in_stream, only_if}
 use Rattle.world_laws.specs.Families.{NodeHolds}

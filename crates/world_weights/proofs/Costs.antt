@@ -1,31 +1,28 @@
 -- What the parts of a step cost: how much more it weighs, with what was sent, than before.
-use Rattle.std.proofs.Common.{◌≡◌, ◌≢◌, ℕ, ◌+◌, ◌-◌, ◌*◌, ◌≤◌, ◌<◌, Bool, true, false, not, if◌then◌else◌, List, [], ◌∷◌, ◌++◌, length, nat_eq, Option, Some, None, option_map, option_and_then, refl, ap, sym, subst, ◌∙◌, arith}
-use Rattle.std.specs.Prelude.{sum_by}
-use Rattle.std.proofs.lemmas.Bool.{eqb-true, false≢true}
+use Rattle.std.proofs.Common.{◌≡◌, ℕ, ◌+◌, ◌≤◌, Bool, true, false, if◌then◌else◌, nat_eq, Option, Some, None, option_map, option_and_then, refl, ap, subst, arith}
+use Rattle.std.proofs.lemmas.Bool.{eqb-true}
 use Rattle.pico_base.specs.declared.call.Call.{Call}
 use Rattle.pico_base.specs.declared.numbers.Name.{Name}
-use Rattle.pico_base.specs.declared.numbers.Name.TheVariants.{Proc, Msg, Sem}
 use Rattle.pico_base.specs.declared.reply.Reply.{Reply}
 use Rattle.pico_base.specs.declared.reply.Reply.TheVariants as replies
 use Rattle.pico_base.specs.declared.script.Script.{Script}
 use Rattle.rpc_frame.specs.declared.asked.Asked.{Asked}
-use Rattle.rpc_frame.specs.declared.frame.Frame.{Frame}
 use Rattle.rpc_frame.specs.declared.frame.Frame.TheVariants as frames
 use Rattle.kernel_model.specs.Effect.{Effect}
 use Rattle.kernel_model.specs.Transition.{effect}
 use Rattle.node_model.specs.Bodies.{Body, Deeds, body_in, kernel_with}
 use Rattle.node_model.specs.Caller.{Caller, answer_call}
-use Rattle.node_model.specs.Directory.{Directory, At, arrive, stays}
-use Rattle.node_model.specs.Kinds.{get_named, put_all, put_named}
+use Rattle.node_model.specs.Directory.{At, stays}
+use Rattle.node_model.specs.Kinds.{get_named, put_all}
 use Rattle.node_model.specs.Serving.{Served, serve, serve_on, serve_at, serve_by, actor, changed_names, parts_in, has_read, no_such_name, name_for, makes_something}
 use Rattle.node_model.specs.Watches.{moves_to, with_read}
 use Rattle.world_model.specs.Node.{Node, Stage, Unborn, Living, Leaving, Left, Over, is_leader, under_way_as}
-use Rattle.world_model.specs.Step.{Step, carry_out, enter, reply_here, reply_to, send, with_deeds, with_node}
+use Rattle.world_model.specs.Step.{Step, carry_out, enter, reply_here, send, with_deeds, with_node}
 use Rattle.world_model.specs.Serving.{grant, grant_held, move_to, note_read, serve_asked, serve_asked_with, serve_nobody, without_deed}
 use Rattle.world_laws.specs.Callers.{HasTries, HasTryLeft}
-use Rattle.world_weights.specs.Weights.{directory_weight, left_to_start, node_weight, send_weight, sends_weight, to_start, to_start_in, table_weight}
+use Rattle.world_weights.specs.Weights.{left_to_start, node_weight, sends_weight, to_start_in, table_weight}
 use Rattle.world_weights.proofs.Lines.{answer-below}
-use Rattle.world_weights.proofs.Parts.{ObjectsRise, in-some, none-some, passed, place-adds, size-put-there, size_of, table-keeps}
+use Rattle.world_weights.proofs.Parts.{ObjectsRise, in-some, none-some, place-adds, size-put-there, size_of, table-keeps}
 use Rattle.world_weights.proofs.Sums.{sends-push}
 
 -- a step, with what it sends

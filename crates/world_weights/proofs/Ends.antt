@@ -1,8 +1,6 @@
 -- A process's end: its exit is carried out, or its parcel is held or sent on.
-use Rattle.std.proofs.Common.{◌≡◌, ◌≢◌, ℕ, ◌+◌, ◌≤◌, ◌<◌, Bool, true, false, not, ◌&&◌, if◌then◌else◌, List, [], ◌∷◌, ◌++◌, length, map, filter, nat_eq, Option, Some, None, option_map, option_and_then, refl, ap, sym, subst, ◌∙◌, inl, inr, arith}
-use Rattle.std.specs.Prelude.{count_by}
+use Rattle.std.proofs.Common.{◌≡◌, ℕ, ◌≤◌, false, not, ◌&&◌, List, [], ◌∷◌, ◌++◌, map, Option, Some, None, option_map, refl, subst, arith}
 use Rattle.std.specs.List.{AllByRecursion, list_any}
-use Rattle.std.proofs.lemmas.Bool.{false≢true}
 use Rattle.pico_base.specs.declared.numbers.Name.{Name}
 use Rattle.pico_base.specs.declared.numbers.Name.TheVariants.{Proc}
 use Rattle.pico_base.specs.declared.script.Script.{Script}
@@ -21,17 +19,17 @@ use Rattle.world_model.specs.Calls.{is_from_leader}
 use Rattle.world_model.specs.Lives.{take_exit}
 use Rattle.world_model.specs.Node.{Node, is_leader}
 use Rattle.world_model.specs.Routing.{enter_exit, exit_here, exit_with, names_in}
-use Rattle.world_model.specs.Step.{Step, step_to, with_deeds}
+use Rattle.world_model.specs.Step.{Step, step_to}
 use Rattle.world_model.specs.World.{World}
 use Rattle.world_laws.specs.Invariant.{Holds}
 use Rattle.world_laws.specs.Places.{Beside}
 use Rattle.world_laws.specs.Sights.{node_of}
 use Rattle.world_laws.proofs.Steps.{Heads}
-use Rattle.world_weights.specs.Weights.{Falls, node_weight}
+use Rattle.world_weights.specs.Weights.{Falls}
 use Rattle.world_weights.proofs.Costs.{deeds-by, step_weight}
 use Rattle.world_weights.proofs.Events.{Lowers, lowers-still, take-falls}
 use Rattle.world_weights.proofs.Known.{directory_in}
-use Rattle.world_weights.proofs.Parts.{in-some, none-some, passed, size_of}
+use Rattle.world_weights.proofs.Parts.{in-some, none-some, passed}
 use Rattle.world_weights.proofs.Starts.{gone-are-processes, put-processes}
 
 -- ---- an exit is carried out

@@ -1,6 +1,6 @@
 -- A deed comes back to the leader: with what was held for its name in hand, and its step begun, the weight is lower. So
 -- it is afterwards, where the release of the hand makes it no heavier.
-use Rattle.std.proofs.Common.{◌≡◌, ◌≢◌, ℕ, ◌+◌, ◌*◌, ◌≤◌, ◌<◌, Bool, true, false, not, ◌&&◌, cond, if◌then◌else◌, List, [], ◌∷◌, length, filter, nat_eq, is_none, is_some, Option, Some, None, option_and_then, refl, ap, sym, subst, ◌∙◌, arith}
+use Rattle.std.proofs.Common.{◌≡◌, ℕ, ◌+◌, ◌*◌, ◌≤◌, Bool, true, false, not, ◌&&◌, cond, List, [], ◌∷◌, length, filter, nat_eq, is_none, Option, Some, None, option_and_then, refl, ap, sym, ◌∙◌, arith}
 use Rattle.std.specs.Prelude.{count_by, sum_by}
 use Rattle.std.specs.List.{AllByRecursion}
 use Rattle.std.proofs.lemmas.Bool.{false≢true}
@@ -11,39 +11,36 @@ use Rattle.pico_base.specs.declared.numbers.Name.{Name}
 use Rattle.pico_base.specs.declared.script.Script.{Script}
 use Rattle.pico_base.specs.declared.script.Event.TheVariants as events
 use Rattle.pico_base.specs.Home.{home_of}
-use Rattle.rpc_frame.specs.declared.asked.Asked.{Asked}
 use Rattle.rpc_frame.specs.declared.deed.PackedDeed.{PackedDeed}
 use Rattle.rpc_frame.specs.declared.frame.Frame.{Frame}
 use Rattle.rpc_frame.specs.declared.frame.Frame.TheVariants as frames
 use Rattle.node_model.specs.Bodies.{Body}
 use Rattle.node_model.specs.declared.held.Held.{Held}
 use Rattle.node_model.specs.declared.held.Held.TheVariants.{Request, Ending}
-use Rattle.node_model.specs.Directory.{At, Coming, Directory, Place, arrive, bound_for, destination_of, held_for, is_coming, is_coming_to, is_known, is_parcel, items_of, place_of, stays}
-use Rattle.node_model.specs.Kinds.{is_same_name}
+use Rattle.node_model.specs.Directory.{At, Coming, Directory, Place, arrive, bound_for, destination_of, held_for, is_coming, is_coming_to, is_known, is_parcel, items_of, place_of}
 use Rattle.node_model.specs.Spelling.{read_deed}
 use Rattle.world_model.specs.Census.{one_if}
 use Rattle.world_model.specs.Moves.{come_back, goes_on_to, is_new_here, keep, pass_on, take_give_back}
 use Rattle.world_model.specs.Node.{Node, is_leader}
 use Rattle.world_model.specs.Routing.{release}
-use Rattle.world_model.specs.Step.{Step, with_directory}
+use Rattle.world_model.specs.Step.{Step}
 use Rattle.world_model.specs.World.{World, node_count}
-use Rattle.world_laws.specs.Callers.{is_held_at}
 use Rattle.world_laws.specs.Families.{NodeHolds}
 use Rattle.world_laws.specs.Invariant.{Holds}
 use Rattle.world_laws.specs.Names.{IsItemFor, NameHolds, name_sight}
 use Rattle.world_laws.specs.Places.{Beside, CallPlace}
-use Rattle.world_laws.specs.Plays.{is_call_on, is_home_on}
+use Rattle.world_laws.specs.Plays.{is_home_on}
 use Rattle.world_laws.specs.Sights.{directory_of, is_born_in, node_of}
 use Rattle.world_laws.proofs.Named.{same-name-is}
 use Rattle.world_laws.proofs.Steps.{Heads}
 use Rattle.world_rules.proofs.Places.{place-with-same}
 use Rattle.world_release.proofs.TakenUp.{taken_up}
-use Rattle.world_weights.specs.Weights.{Falls, calls_weight, cost_if, destination_weight, directory_weight, hand_weight, is_away, item_weight, middle_weight, node_weight, routing_weight, table_weight}
-use Rattle.world_weights.proofs.Costs.{step_weight, table-none}
-use Rattle.world_weights.proofs.Counts.{IsOfNode, calls-taken-up, held-count, is_request, over, requests_in}
+use Rattle.world_weights.specs.Weights.{Falls, calls_weight, cost_if, destination_weight, directory_weight, is_away, item_weight, middle_weight, node_weight, routing_weight}
+use Rattle.world_weights.proofs.Costs.{table-none}
+use Rattle.world_weights.proofs.Counts.{IsOfNode, calls-taken-up, held-count, is_request, requests_in}
 use Rattle.world_weights.proofs.Events.{Lowers, take-falls}
 use Rattle.world_weights.proofs.Hand.{IsRemovalOnly, RemovalsAreOf, RemovesOnly, back-low, back_weight, none-back}
-use Rattle.world_weights.proofs.Parts.{and-left, and-right, in-some, none-some, passed, place-replaces}
+use Rattle.world_weights.proofs.Parts.{and-left, and-right, none-some, passed, place-replaces}
 
 -- ---- what is held for a name
 

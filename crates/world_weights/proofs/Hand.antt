@@ -1,5 +1,5 @@
 -- The leader's hand: what the items that stay in it weigh with another directory.
-use Rattle.std.proofs.Common.{◌≡◌, ◌≢◌, ℕ, ◌+◌, ◌≤◌, Bool, true, false, not, ◌||◌, if◌then◌else◌, List, [], ◌∷◌, Option, Some, None, refl, ap, sym, subst, ◌∙◌, inl, inr, arith}
+use Rattle.std.proofs.Common.{◌≡◌, ℕ, ◌+◌, ◌≤◌, Bool, true, false, ◌||◌, List, [], ◌∷◌, refl, ap, ◌∙◌, arith}
 use Rattle.std.specs.Prelude.{sum_by}
 use Rattle.std.specs.List.{AllByRecursion, list_any}
 use Rattle.std.proofs.lemmas.Bool.{false≢true}
@@ -19,7 +19,7 @@ use Rattle.world_model.specs.World.{node_count}
 use Rattle.world_model.specs.Step.{Step}
 use Rattle.world_laws.specs.Places.{CallPlace, IsInHand, call_in}
 use Rattle.world_hand.proofs.Routes.{removal-of-object}
-use Rattle.world_weights.specs.Weights.{asks_back, call_weight, calls_weight, cost_if, hand_weight, is_away, item_weight, middle_weight, removes_away, routing_weight}
+use Rattle.world_weights.specs.Weights.{asks_back, call_weight, cost_if, hand_weight, is_away, item_weight, middle_weight, removes_away, routing_weight}
 use Rattle.world_weights.proofs.Costs.{step_weight}
 use Rattle.world_weights.proofs.Known.{KnowsMore, directory_in}
 use Rattle.world_weights.proofs.Sums.{call-moves}

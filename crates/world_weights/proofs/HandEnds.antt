@@ -1,8 +1,7 @@
 -- The first parcel of the leader's hand comes to its end: with what is in hand then, and the calls in their places, the
 -- step weighs no more.
-use Rattle.std.proofs.Common.{◌≡◌, ◌≢◌, ℕ, ◌+◌, ◌*◌, ◌≤◌, Bool, true, false, not, ◌||◌, if◌then◌else◌, List, [], ◌∷◌, ◌++◌, filter, length, map, nat_eq, Option, Some, None, option_map, refl, ap, sym, subst, ◌∙◌, inl, inr, arith}
-use Rattle.std.specs.Prelude.{count_by, sum_by}
-use Rattle.std.specs.List.{AllByRecursion, list_any}
+use Rattle.std.proofs.Common.{◌≡◌, ℕ, ◌+◌, ◌≤◌, Bool, true, false, if◌then◌else◌, List, [], ◌∷◌, ◌++◌, filter, length, map, nat_eq, Option, Some, None, option_map, refl, ap, sym, subst, ◌∙◌, inl, inr, arith}
+use Rattle.std.specs.Prelude.{count_by}
 use Rattle.std.proofs.lemmas.Bool.{false≢true}
 use Rattle.std.proofs.lemmas.List.{length-append}
 use Rattle.std.proofs.lemmas.List.Elements.{filter-append}
@@ -16,7 +15,7 @@ use Rattle.rpc_frame.specs.declared.frame.Frame.TheVariants as frames
 use Rattle.number_maps.specs.Maps.{Numbered}
 use Rattle.node_model.specs.Bodies.{Body}
 use Rattle.node_model.specs.declared.held.Held.{Held}
-use Rattle.node_model.specs.declared.held.Held.TheVariants.{Request, Ending}
+use Rattle.node_model.specs.declared.held.Held.TheVariants.{Ending}
 use Rattle.node_model.specs.Directory.{At, Coming, Directory, Place, hold, hold_at, is_parcel, place_of, with_place}
 use Rattle.node_model.specs.Kinds.{is_object}
 use Rattle.node_model.specs.Parcels.{pack_all}
@@ -27,18 +26,16 @@ use Rattle.world_model.specs.Step.{Step, send, with_directory, with_node}
 use Rattle.world_laws.specs.Invariant.{IsLeading}
 use Rattle.world_laws.specs.Places.{CallPlace}
 use Rattle.world_laws.proofs.Named.{name-cases}
-use Rattle.world_rules.proofs.Places.{place-with-other, place-with-same}
+use Rattle.world_rules.proofs.Places.{place-with-other}
 use Rattle.world_release.proofs.EndedParcels.{IsPacked}
 use Rattle.world_exits.proofs.Arrivals.{AreApart, names-apart}
 use Rattle.world_exits.proofs.Released.{call_released}
-use Rattle.world_weights.specs.Weights.{asks_back, calls_weight, directory_weight, hand_weight, is_away, item_weight, middle_weight, sends_weight}
+use Rattle.world_weights.specs.Weights.{calls_weight, directory_weight, hand_weight, is_away, item_weight, middle_weight}
 use Rattle.world_weights.proofs.Arrivals.{AreProcesses, HeldAsCounted, ItemsFit, arrivals-fewer, arrivals-free, arrivals-know, arrivals-known, calls-released, released-back, released-cost}
 use Rattle.world_weights.proofs.Costs.{step_weight}
-use Rattle.world_weights.proofs.Counts.{requests_in}
 use Rattle.world_weights.proofs.Ends.{EndsFree, exit-free}
-use Rattle.world_weights.proofs.GiveBacks.{ones}
 use Rattle.world_weights.proofs.Hand.{FewerAway, back-less, back_weight, items-less}
-use Rattle.world_weights.proofs.Known.{KnowsMore, directory_in, knows-with}
+use Rattle.world_weights.proofs.Known.{directory_in, knows-with}
 use Rattle.world_weights.proofs.Parts.{in-some, none-some, place-replaces}
 use Rattle.world_weights.proofs.Sums.{sends-push}
 

@@ -1,9 +1,7 @@
 -- In the middle of an event: a call that has a route, and a parcel that comes to its end, with all that holds and the
 -- calls in their places, leave the leader's step no heavier.
-use Rattle.std.proofs.Common.{◌≡◌, ◌≢◌, ℕ, ◌+◌, ◌≤◌, Bool, true, false, List, [], ◌∷◌, ◌++◌, nat_eq, Option, Some, None, refl, ap, sym, subst, ◌∙◌, arith}
+use Rattle.std.proofs.Common.{◌≡◌, ◌≤◌, List, ◌∷◌, ◌++◌, Some, ap, sym, subst, ◌∙◌}
 use Rattle.std.specs.List.{AllByRecursion}
-use Rattle.std.proofs.lemmas.Bool.{false≢true}
-use Rattle.pico_base.specs.declared.call.Home.{Home}
 use Rattle.pico_base.specs.declared.call.Home.TheVariants as homes
 use Rattle.pico_base.specs.declared.numbers.Name.{Name}
 use Rattle.pico_base.specs.declared.script.Script.{Script}
@@ -13,19 +11,17 @@ use Rattle.rpc_frame.specs.declared.deed.Parcel.{Parcel}
 use Rattle.node_model.specs.declared.held.Held.{Held}
 use Rattle.node_model.specs.declared.held.Held.TheVariants.{Request, Ending}
 use Rattle.node_model.specs.Directory.{Directory, held_for}
-use Rattle.node_model.specs.Kinds.{is_object}
 use Rattle.world_model.specs.Census.{one_if}
 use Rattle.world_model.specs.Node.{Node}
-use Rattle.world_model.specs.Routing.{AfterEnd, IsHeld, Releases, end_process, names_in, route_call}
+use Rattle.world_model.specs.Routing.{AfterEnd, IsHeld, Releases, end_process, names_in}
 use Rattle.world_model.specs.Step.{Step}
 use Rattle.world_model.specs.World.{World, node_count, world_after}
 use Rattle.world_laws.specs.Callers.{HasCall, HasTryLeft, call_sight, is_held_at}
-use Rattle.world_laws.specs.Families.{NodeHolds}
 use Rattle.world_laws.specs.Invariant.{Holds, IsLeading, IsShaped}
-use Rattle.world_laws.specs.Names.{IsItemFor, NameHolds, name_sight}
-use Rattle.world_laws.specs.Places.{Beside, CallPlace, IsInHand, call_in}
+use Rattle.world_laws.specs.Names.{NameHolds, name_sight}
+use Rattle.world_laws.specs.Places.{Beside, CallPlace, call_in}
 use Rattle.world_laws.specs.Sights.{directory_of, is_born_in, node_of}
-use Rattle.world_hand.proofs.HandMoves.{IsFirst, first}
+use Rattle.world_hand.proofs.HandMoves.{first}
 use Rattle.world_hand.proofs.Routes.{RouteKeeps, leader-number}
 use Rattle.world_release.proofs.Rounds.{first-is-packed, leader-in-step}
 use Rattle.world_exits.proofs.Released.{call_released}
@@ -77,8 +73,8 @@ module _ (script : Script) (v : World) (s : Step) (hand : List Held) (b : Beside
   items-fit =
       subst ItemsFit same-directory
       (λ m. let its : NameHolds script b.pids (is_born_in (world_after v 1 s)) m
-          (name_sight script (world_after v 1 s) hand b m) = holds.names m
-          in its.items)
+      (name_sight script (world_after v 1 s) hand b m) = holds.names m
+      in its.items)
 
   -- what the end of a parcel takes of it
   pub tended-in-step : IsOfNodes script s hand → IsTended script b.call (directory_in s)

@@ -1,8 +1,7 @@
 -- A call by a key costs nothing at the leader, and leaves it what it knew.
-use Rattle.std.proofs.Common.{◌≡◌, ℕ, ◌+◌, ◌≤◌, Bool, true, false, not, ◌&&◌, ◌||◌, if◌then◌else◌, List, [], ◌∷◌, length, nat_eq, Option, Some, None, option_map, option_and_then, Result, Ok, Err, refl, ap, sym, subst, ◌∙◌, arith}
+use Rattle.std.proofs.Common.{◌≡◌, ℕ, ◌≤◌, true, length, nat_eq, Option, Some, None, option_map, Result, Ok, Err, refl, ap, subst, ◌∙◌, arith}
 use Rattle.pico_base.specs.declared.call.Call.{Call}
 use Rattle.pico_base.specs.declared.call.Call.TheVariants as calls
-use Rattle.pico_base.specs.declared.numbers.Kind.{Kind}
 use Rattle.pico_base.specs.declared.numbers.Kind.TheVariants as kinds
 use Rattle.pico_base.specs.declared.numbers.Name.{Name}
 use Rattle.pico_base.specs.declared.numbers.Name.TheVariants.{Msg, Sem}
@@ -18,7 +17,7 @@ use Rattle.number_maps.specs.Maps.{get}
 use Rattle.kernel_model.specs.Queue.{empty_queue}
 use Rattle.kernel_model.specs.SemaphoreSet.{SemaphoreSet, new_set}
 use Rattle.node_model.specs.Bodies.{AQueue, ASet, Body}
-use Rattle.node_model.specs.Directory.{Directory, place_name}
+use Rattle.node_model.specs.Directory.{place_name}
 use Rattle.node_model.specs.Kinds.{put_named}
 use Rattle.world_model.specs.Node.{Leader, Node, is_leader}
 use Rattle.world_model.specs.Numbers.{Taken, take_number}

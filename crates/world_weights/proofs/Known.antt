@@ -1,5 +1,5 @@
 -- What the leader knows it still knows after each part of its step.
-use Rattle.std.proofs.Common.{◌≡◌, ◌≢◌, ℕ, Bool, true, false, not, ◌&&◌, if◌then◌else◌, List, [], ◌∷◌, nat_eq, is_none, Option, Some, None, option_map, option_and_then, Result, Ok, Err, refl, ap, sym, subst, ◌∙◌, inl, inr}
+use Rattle.std.proofs.Common.{◌≡◌, ℕ, Bool, true, false, not, if◌then◌else◌, List, [], ◌∷◌, nat_eq, is_none, Option, Some, None, option_map, refl, ap, subst, ◌∙◌, inl, inr}
 use Rattle.pico_base.specs.declared.call.Call.{Call}
 use Rattle.pico_base.specs.declared.numbers.Kind.{Kind}
 use Rattle.pico_base.specs.declared.numbers.Name.{Name}
@@ -8,15 +8,15 @@ use Rattle.pico_base.specs.declared.script.Script.{Script}
 use Rattle.rpc_frame.specs.declared.asked.Asked.{Asked}
 use Rattle.rpc_frame.specs.declared.frame.Frame.TheVariants as frames
 use Rattle.node_model.specs.Bodies.{Body}
-use Rattle.node_model.specs.Directory.{Directory, Place, At, arrive, is_known, place_name, place_of, stays, upcoming, with_place}
+use Rattle.node_model.specs.Directory.{Directory, Place, At, is_known, place_name, stays, upcoming, with_place}
 use Rattle.node_model.specs.Kinds.{for_kind, get_named, put_all, with_kind}
 use Rattle.node_model.specs.Leases.{lease_of}
 use Rattle.node_model.specs.Serving.{Served, has_read, serve}
 use Rattle.node_model.specs.Watches.{moves_to, with_read}
-use Rattle.world_model.specs.Node.{Leader, Node, is_leader, under_way_as}
+use Rattle.world_model.specs.Node.{Node, is_leader, under_way_as}
 use Rattle.world_model.specs.Numbers.{Taken, take_first, take_from, take_from_next, take_number, with_next_range}
-use Rattle.world_model.specs.Serving.{grant, grant_held, move_to, note_read, serve_asked, serve_asked_with, serve_nobody}
-use Rattle.world_model.specs.Step.{Step, carry_out, enter, reply_here, reply_to, send, with_deeds, with_node}
+use Rattle.world_model.specs.Serving.{grant, grant_held, move_to, note_read, serve_asked, serve_asked_with}
+use Rattle.world_model.specs.Step.{Step, carry_out, enter, reply_here, send, with_deeds, with_node}
 use Rattle.world_laws.proofs.Named.{name-cases}
 use Rattle.world_rules.proofs.Places.{place-with-other, place-with-same}
 use Rattle.world_weights.proofs.Parts.{in-some, none-some, passed}

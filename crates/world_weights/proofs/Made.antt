@@ -1,5 +1,5 @@
 -- What it costs to make a process, a queue or a set: at most 2.
-use Rattle.std.proofs.Common.{◌≡◌, ℕ, ◌+◌, ◌≤◌, Bool, true, false, not, ◌&&◌, if◌then◌else◌, List, [], ◌∷◌, Option, Some, None, option_map, option_and_then, Result, Ok, Err, refl, ap, sym, subst, ◌∙◌, arith}
+use Rattle.std.proofs.Common.{◌≡◌, ℕ, ◌+◌, ◌≤◌, Bool, true, false, if◌then◌else◌, List, [], ◌∷◌, Option, Some, None, option_map, option_and_then, Result, Ok, Err, refl, subst, arith}
 use Rattle.pico_base.specs.declared.call.Call.{Call}
 use Rattle.pico_base.specs.declared.call.Call.TheVariants as calls
 use Rattle.pico_base.specs.declared.numbers.Kind.{Kind}
@@ -15,15 +15,15 @@ use Rattle.kernel_model.specs.Row.{Row}
 use Rattle.kernel_model.specs.SemaphoreSet.{SemaphoreSet, new_set}
 use Rattle.node_model.specs.Bodies.{ASet, AQueue, Body}
 use Rattle.node_model.specs.Caller.{caller_place}
-use Rattle.node_model.specs.Directory.{has_more, place_name, upcoming}
+use Rattle.node_model.specs.Directory.{place_name, upcoming}
 use Rattle.node_model.specs.Kinds.{for_kind, put_named, with_kind}
 use Rattle.node_model.specs.Leases.{lease_of}
 use Rattle.node_model.specs.Serving.{child_body, parent_body}
 use Rattle.node_model.specs.Spelling.{pack}
 use Rattle.world_model.specs.Node.{Node, asked_here, is_leader, own_row}
-use Rattle.world_model.specs.Numbers.{Taken, fork_with, knows_any, make, make_object, make_set, make_taken, make_with, take_first, take_from, take_from_next, take_number, tell_place, with_next_range}
+use Rattle.world_model.specs.Numbers.{Taken, fork_with, make, make_object, make_set, make_taken, make_with, take_first, take_from, take_from_next, take_number, tell_place, with_next_range}
 use Rattle.world_model.specs.Step.{Step, carry_out, send, with_deeds, with_node}
-use Rattle.world_weights.specs.Weights.{node_weight, sends_weight}
+use Rattle.world_weights.specs.Weights.{node_weight}
 use Rattle.world_weights.proofs.Costs.{MayEnd, carried-costs, step_weight}
 use Rattle.world_weights.proofs.Parts.{in-some, none-some, passed, placed-keeps-weight, size-put, table-adds}
 use Rattle.world_weights.proofs.Sums.{sends-push}

@@ -1,12 +1,12 @@
 -- Sums over a map, and how many entries it has: how they change where a value is put.
-use Rattle.std.proofs.Common.{◌≡◌, ◌≢◌, ℕ, ◌+◌, ◌≤◌, ◌<◌, Bool, true, false, not, nat_eq, List, [], ◌∷◌, length, filter, Option, Some, None, refl, ap, sym, subst, ◌∙◌, inl, inr, arith}
+use Rattle.std.proofs.Common.{◌≡◌, ◌≢◌, ℕ, ◌+◌, ◌≤◌, Bool, not, nat_eq, [], ◌∷◌, length, Some, None, ap, sym, ◌∙◌, inl, inr, arith}
 use Rattle.std.specs.Prelude.{sum_by}
 use Rattle.std.proofs.lemmas.Bool.{cases_order, cases_eq, eq-eqb, ne_eqb}
 use Rattle.std.proofs.lemmas.List.Sums.{sum_by-cons}
 use Rattle.number_maps.specs.Maps.{Numbered, get, put, without}
 use Rattle.number_maps.specs.Rising.{IsRising}
 use Rattle.number_maps.proofs.LookUps.{get-first, get-later, put-less, put-equal, put-greater, filter-kept, filter-dropped}
-use Rattle.number_maps.proofs.Rising.{Above, above-first, above-lower, get-above, rising-rest}
+use Rattle.number_maps.proofs.Rising.{above-first, above-lower, get-above, rising-rest}
 
 none-is-some : {A : Type 0} {B : Type 0} (a : A) → None ≡ Some a → B
 none-is-some a h = cc

@@ -8,7 +8,7 @@ use Rattle.rpc_frame.specs.declared.deed.PackedDeed.{PackedDeed}
 use Rattle.rpc_frame.specs.declared.frame.Frame.{Frame}
 use Rattle.rpc_frame.specs.declared.frame.Frame.TheVariants as frames
 use Rattle.kernel_model.specs.Script.{Vars}
-use Rattle.world_model.specs.Node.{Node, is_leader}
+use Rattle.world_model.specs.Node.{Node}
 use Rattle.world_model.specs.World.{World}
 use Rattle.world_laws.specs.Places.{Beside}
 use Rattle.world_laws.specs.Sights.{node_of, is_born_in}

@@ -1,44 +1,34 @@
 -- The rules of names that move, and of how a node's life begins and ends: no call moves, and the weight falls.
-use Rattle.std.proofs.Common.{◌≡◌, ◌≢◌, ℕ, ◌+◌, ◌-◌, ◌*◌, ◌≤◌, ◌<◌, Bool, true, false, not, ◌&&◌, if◌then◌else◌, List, [], ◌∷◌, ◌++◌, length, map, fold, nat_eq, nat_lt, drop, Option, Some, None, option_map, option_and_then, refl, ap, sym, subst, ◌∙◌, arith, is_none}
-use Rattle.std.specs.Prelude.{sum_by}
-use Rattle.std.proofs.lemmas.Bool.{false≢true, ne_eqb}
-use Rattle.std.proofs.lemmas.List.{length-append, length-map}
+use Rattle.std.proofs.Common.{◌≡◌, ℕ, ◌+◌, Bool, true, false, ◌&&◌, if◌then◌else◌, List, [], ◌∷◌, ◌++◌, length, map, fold, Option, Some, None, option_map, option_and_then, refl, ap, subst, arith}
+use Rattle.std.proofs.lemmas.Bool.{false≢true}
+use Rattle.std.proofs.lemmas.List.{length-append}
 use Rattle.std.proofs.lemmas.List.Sums.{sum_by-cons, sum_by-append}
 use Rattle.pico_base.specs.declared.call.Call.{Call}
 use Rattle.pico_base.specs.declared.numbers.Name.{Name}
 use Rattle.pico_base.specs.declared.numbers.Name.TheVariants.{Proc, Msg, Sem}
 use Rattle.pico_base.specs.declared.script.Script.{Script}
-use Rattle.pico_base.specs.declared.script.Event.TheVariants as events
 use Rattle.rpc_frame.specs.declared.deed.PackedDeed.{PackedDeed}
 use Rattle.rpc_frame.specs.declared.frame.Frame.{Frame}
 use Rattle.rpc_frame.specs.declared.frame.Frame.TheVariants as frames
 use Rattle.number_maps.specs.Maps.{Numbered}
-use Rattle.kernel_model.specs.Row.{Row}
 use Rattle.kernel_model.specs.Script.{Vars}
 use Rattle.node_model.specs.Bodies.{Body, Living as LivingBody, Ended, Gone, AQueue, ASet, Removed}
 use Rattle.node_model.specs.Directory.{Directory, Coming, stays, place_of, place_name, with_leaving}
 use Rattle.node_model.specs.Kinds.{get_named, is_object, none_named}
-use Rattle.node_model.specs.Leases.{leases_hold}
 use Rattle.node_model.specs.Parcels.{give_all, pack_all, parcel_of}
 use Rattle.node_model.specs.Parcels as parcels
-use Rattle.node_model.specs.Spelling.{pack, read_deed}
+use Rattle.node_model.specs.Spelling.{read_deed}
 use Rattle.world_model.specs.Node.{Node, Stage, Unborn, Living, Leaving, Left, Over, is_leader, is_unborn, is_leaving_stage}
 use Rattle.world_model.specs.Step.{Step, step_to, send, with_directory}
 use Rattle.world_model.specs.Serving.{without_deed}
 use Rattle.world_model.specs.Routing.{recall_from}
 use Rattle.world_model.specs.Ranges.{take_placed}
 use Rattle.world_model.specs.Moves.{take_suggest, take_recall, take_grant, is_at, give_back, keep, receive_deed}
-use Rattle.world_model.specs.Lives.{take_checkpoint, take_leaving, take_recall_all, born_with, be_born, hand_over, send_to_leader, place_family, is_new_row, is_end}
-use Rattle.world_model.specs.World.{World}
-use Rattle.world_laws.specs.Places.{CallPlace, Beside}
-use Rattle.world_laws.specs.Sights.{node_of, is_born_in}
-use Rattle.world_laws.specs.Families.{NodeHolds}
-use Rattle.world_laws.specs.Invariant.{Holds}
-use Rattle.world_laws.proofs.Steps.{Heads}
-use Rattle.world_laws.proofs.Heads.{head-from-another, head-may-be}
-use Rattle.world_weights.specs.Weights.{Falls, frame_weight, stream_weight, send_weight, sends_weight, node_weight, table_weight, directory_weight, to_start, to_start_in}
+use Rattle.world_model.specs.Lives.{take_checkpoint, take_leaving, take_recall_all, born_with, be_born, hand_over, send_to_leader, place_family}
+use Rattle.world_laws.specs.Places.{CallPlace}
+use Rattle.world_weights.specs.Weights.{frame_weight, stream_weight, sends_weight, node_weight, to_start, to_start_in}
 use Rattle.world_weights.proofs.Sums.{sends-push}
-use Rattle.world_weights.proofs.Events.{Lowers, lowers-still, take-falls}
+use Rattle.world_weights.proofs.Events.{Lowers, lowers-still}
 use Rattle.world_weights.proofs.Parts.{passed, none-some, in-some, and-left, and-right, not-true, size_of, size-put, size-without, table-adds, table-counts, place-adds, placed-keeps-weight, leaving-keeps-weight}
 
 module _ (script : Script) (n : Node) (call : ℕ → CallPlace) where

@@ -1,5 +1,5 @@
 -- The rules of frames about calls, where the leader routes nothing: what each step costs.
-use Rattle.std.proofs.Common.{◌≡◌, ◌≢◌, ◌⊎◌, ℕ, ◌+◌, ◌≤◌, ◌<◌, Bool, true, false, not, ◌&&◌, if◌then◌else◌, List, [], ◌∷◌, nat_eq, Option, Some, None, option_map, option_and_then, refl, ap, sym, subst, ◌∙◌, inl, inr, arith}
+use Rattle.std.proofs.Common.{◌≡◌, ◌≢◌, ℕ, ◌+◌, ◌≤◌, ◌<◌, Bool, true, false, if◌then◌else◌, Option, Some, None, option_and_then, refl, ap, sym, subst, ◌∙◌, arith}
 use Rattle.std.proofs.lemmas.Bool.{false≢true}
 use Rattle.pico_base.specs.declared.call.Call.{Call}
 use Rattle.pico_base.specs.declared.call.Home.{Home}
@@ -11,26 +11,24 @@ use Rattle.pico_base.specs.declared.script.Script.{Script}
 use Rattle.pico_base.specs.Home.{home_of}
 use Rattle.rpc_frame.specs.declared.asked.Asked.{Asked}
 use Rattle.rpc_frame.specs.declared.frame.Frame.TheVariants as frames
-use Rattle.node_model.specs.Cache.{learn}
 use Rattle.node_model.specs.Caller.{Caller, answer_call}
 use Rattle.node_model.specs.Directory.{upcoming, with_range}
 use Rattle.node_model.specs.Leases.{leases_hold, refill, takes_number}
 use Rattle.world_model.specs.Node.{Node, holds, is_leader, under_way_as}
 use Rattle.world_model.specs.Step.{Step, send, step_to, with_directory}
-use Rattle.world_model.specs.Calls.{answered_by, ask_after, bounce, bounce_or_nobody, end_with_reply, forwarded_by, is_for_others, requested_by, take_answer, take_forward, take_not_owner, take_request, with_forgotten, with_learnt}
+use Rattle.world_model.specs.Calls.{answered_by, ask_after, bounce, bounce_or_nobody, end_with_reply, forwarded_by, requested_by, take_answer, take_forward, take_not_owner, take_request, with_forgotten, with_learnt}
 use Rattle.world_model.specs.Numbers.{make}
 use Rattle.world_model.specs.Ranges.{go_on_with, take_lease, take_lease_ask}
 use Rattle.world_model.specs.Routing.{route_call}
 use Rattle.world_model.specs.Serving.{serve_asked, serve_nobody}
 use Rattle.world_model.specs.World.{node_count}
 use Rattle.world_laws.specs.Places.{CallPlace, call_in}
-use Rattle.world_weights.specs.Weights.{call_weight, left_to_start, node_weight, sends_weight}
+use Rattle.world_weights.specs.Weights.{call_weight, left_to_start, node_weight}
 use Rattle.world_weights.proofs.Costs.{MayEnd, RisesBesides, move_cost, nobody-costs, served-costs, stage-below, step_weight, under-way-at}
 use Rattle.world_weights.proofs.Events.{Lowers, lowers-moved}
 use Rattle.world_weights.proofs.Lines.{answer-below}
 use Rattle.world_weights.proofs.Made.{made-costs}
 use Rattle.world_weights.proofs.Parts.{in-some, none-some, passed}
-use Rattle.world_weights.proofs.Sums.{sends-push}
 
 -- a step that costs so much, and a call that goes from a place to another
 pub lowers-by-cost : (script : Script) (n : Node) (s : Step) (taken more : ℕ) (call : ℕ → CallPlace) (p : ℕ)

@@ -1,5 +1,5 @@
 -- Events in which the leader takes a call into its hand and routes it lower the weight.
-use Rattle.std.proofs.Common.{◌≡◌, ◌≢◌, ℕ, ◌+◌, ◌≤◌, ◌<◌, Bool, true, false, not, ◌&&◌, if◌then◌else◌, List, [], ◌∷◌, nat_eq, is_none, Option, Some, None, is_some, option_and_then, refl, ap, sym, subst, ◌∙◌, arith}
+use Rattle.std.proofs.Common.{◌≡◌, ◌≢◌, ℕ, ◌+◌, ◌≤◌, Bool, true, false, not, if◌then◌else◌, List, [], ◌∷◌, nat_eq, is_none, Option, Some, None, is_some, option_and_then, refl, ap, sym, subst, ◌∙◌, arith}
 use Rattle.std.proofs.lemmas.Bool.{eq-eqb, false≢true}
 use Rattle.pico_base.specs.declared.call.Call.{Call}
 use Rattle.pico_base.specs.declared.call.Home.{Home}
@@ -11,7 +11,7 @@ use Rattle.pico_base.specs.Home.{home_of}
 use Rattle.rpc_frame.specs.declared.asked.Asked.{Asked}
 use Rattle.rpc_frame.specs.declared.frame.Frame.{Frame}
 use Rattle.rpc_frame.specs.declared.frame.Frame.TheVariants as frames
-use Rattle.node_model.specs.Directory.{Directory, Place, place_of}
+use Rattle.node_model.specs.Directory.{Place, place_of}
 use Rattle.node_model.specs.declared.held.Held.TheVariants.{Request}
 use Rattle.world_model.specs.Calls.{ask_after, take_ask, take_bounce, take_not_owner, with_forgotten}
 use Rattle.world_model.specs.Node.{Node, asked_here, is_leader, under_way_as}
@@ -31,8 +31,7 @@ use Rattle.world_weights.specs.Weights.{Falls, call_weight, hand_weight, node_we
 use Rattle.world_weights.proofs.CallHeads.{ask-place, bounce-place, may-end, not-owner-place}
 use Rattle.world_weights.proofs.Costs.{MayEnd, step_weight, under-way-at}
 use Rattle.world_weights.proofs.Events.{Lowers, lowers-moved, take-falls}
-use Rattle.world_weights.proofs.Known.{directory_in}
-use Rattle.world_weights.proofs.Parts.{in-some, none-some, passed}
+use Rattle.world_weights.proofs.Parts.{none-some, passed}
 use Rattle.world_weights.proofs.Routes.{place_limit, route-lowers}
 use Rattle.world_weights.proofs.Starts.{NameIsKnown, hand-cost, known-hand-cost}
 

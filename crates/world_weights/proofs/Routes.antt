@@ -1,12 +1,11 @@
 -- The leader routes the first call of its hand: that costs no more than the call may cost in hand.
-use Rattle.std.proofs.Common.{◌≡◌, ◌≢◌, ℕ, ◌+◌, ◌≤◌, Bool, true, false, not, ◌&&◌, ◌||◌, if◌then◌else◌, List, [], ◌∷◌, ◌++◌, filter, length, nat_eq, is_none, Option, Some, None, option_map, refl, ap, sym, subst, ◌∙◌, inl, inr, arith}
+use Rattle.std.proofs.Common.{◌≡◌, ℕ, ◌+◌, ◌≤◌, Bool, true, false, not, ◌&&◌, ◌||◌, if◌then◌else◌, List, [], ◌∷◌, ◌++◌, filter, length, nat_eq, is_none, Option, Some, None, option_map, refl, ap, sym, subst, ◌∙◌, inl, inr, arith}
 use Rattle.std.specs.Prelude.{count_by, sum_by}
 use Rattle.std.specs.List.{list_any}
-use Rattle.std.proofs.lemmas.Bool.{eqb-true, false≢true}
+use Rattle.std.proofs.lemmas.Bool.{false≢true}
 use Rattle.std.proofs.lemmas.List.{length-append}
 use Rattle.std.proofs.lemmas.List.Elements.{filter-append}
 use Rattle.std.proofs.lemmas.List.Sums.{length-filter, sum_by-cons}
-use Rattle.pico_base.specs.declared.call.Call.{Call}
 use Rattle.pico_base.specs.declared.call.Home.{Home}
 use Rattle.pico_base.specs.declared.call.Home.TheVariants as homes
 use Rattle.pico_base.specs.declared.numbers.Name.{Name}
@@ -17,10 +16,10 @@ use Rattle.pico_base.specs.Home.{home_of}
 use Rattle.rpc_frame.specs.declared.asked.Asked.{Asked}
 use Rattle.rpc_frame.specs.declared.frame.Frame.TheVariants as frames
 use Rattle.node_model.specs.declared.held.Held.{Held}
-use Rattle.node_model.specs.declared.held.Held.TheVariants.{Request, Ending}
+use Rattle.node_model.specs.declared.held.Held.TheVariants.{Request}
 use Rattle.node_model.specs.declared.route.Route.{Route}
 use Rattle.node_model.specs.declared.route.Route.TheVariants as routes
-use Rattle.node_model.specs.Directory.{Directory, Place, At, Coming, hold, hold_at, is_known, is_parcel, maker, maker_stays, place_of, recall, route, route_by, stays, with_place}
+use Rattle.node_model.specs.Directory.{Directory, Place, At, Coming, hold, hold_at, is_known, is_parcel, maker, maker_stays, place_of, recall, route, route_by, with_place}
 use Rattle.node_model.specs.Serving.{no_such_name}
 use Rattle.world_model.specs.Census.{one_if}
 use Rattle.world_model.specs.Node.{Node, is_leader}
@@ -32,8 +31,8 @@ use Rattle.world_laws.specs.Invariant.{IsLeading}
 use Rattle.world_laws.specs.Places.{CallPlace}
 use Rattle.world_laws.proofs.Named.{name-cases}
 use Rattle.world_rules.proofs.Places.{place-with-other, place-with-same}
-use Rattle.world_weights.specs.Weights.{asks_back, call_weight, cost_if, directory_weight, hand_weight, is_away, item_weight, place_weight, removes_away, routing_weight, sends_weight}
-use Rattle.world_weights.proofs.Costs.{MayEnd, RisesBesides, move_cost, nobody-costs, served-costs, step_weight}
+use Rattle.world_weights.specs.Weights.{asks_back, call_weight, cost_if, directory_weight, hand_weight, is_away, item_weight, removes_away, routing_weight}
+use Rattle.world_weights.proofs.Costs.{MayEnd, move_cost, nobody-costs, served-costs, step_weight}
 use Rattle.world_weights.proofs.Hand.{FewerAway, RemovalsAreOf, back-less, back-low, back-rest, back_weight, items-less, none-back, routing-low}
 use Rattle.world_weights.proofs.Keys.{IsFree, by-key-free}
 use Rattle.world_weights.proofs.Known.{KnowsMore, carried-knows, directory_in, knows-after, knows-with, served-knows}

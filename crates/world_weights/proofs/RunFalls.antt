@@ -1,17 +1,15 @@
 -- A node that starts a call lowers the weight, wherever the call is then.
-use Rattle.std.proofs.Common.{◌≡◌, ◌≢◌, ℕ, ◌+◌, ◌*◌, ◌≤◌, ◌<◌, Bool, true, false, not, ◌&&◌, if◌then◌else◌, List, [], ◌∷◌, drop, slice_get, nat_eq, Option, Some, None, is_some, option_and_then, refl, ap, sym, subst, ◌∙◌, arith}
+use Rattle.std.proofs.Common.{◌≡◌, ℕ, ◌+◌, ◌≤◌, Bool, true, false, not, ◌&&◌, if◌then◌else◌, [], slice_get, Option, Some, None, is_some, option_and_then, refl, ap, sym, subst, ◌∙◌, arith}
 use Rattle.std.proofs.lemmas.Bool.{eqb-true, false≢true}
 use Rattle.pico_base.specs.declared.call.Call.{Call}
 use Rattle.pico_base.specs.declared.script.Line.{Line}
 use Rattle.pico_base.specs.declared.script.Script.{Script}
 use Rattle.pico_base.specs.declared.script.Event.TheVariants as events
 use Rattle.pico_base.specs.Home.{home_of}
-use Rattle.kernel_model.specs.Kernel.{living_at}
 use Rattle.kernel_model.specs.Numbers.{is_u32}
-use Rattle.kernel_model.specs.Row.{Alive, Row}
+use Rattle.kernel_model.specs.Row.{Row}
 use Rattle.kernel_model.specs.Waiting.{is_waiting}
-use Rattle.number_maps.specs.Maps.{get}
-use Rattle.node_model.specs.Caller.{Caller, caller_place, due_call, lines_of, start_call}
+use Rattle.node_model.specs.Caller.{caller_place, due_call, lines_of, start_call}
 use Rattle.world_model.specs.Node.{Node, Stage, Living, Unborn, Leaving, Left, Over, can_run, is_leader, is_living, own_row}
 use Rattle.world_model.specs.Starting.{run, start, start_by, start_due}
 use Rattle.world_model.specs.Step.{Step, step_to}
@@ -20,7 +18,7 @@ use Rattle.world_laws.specs.Callers.{CallHolds, CallSight, FreeIn, HasCallOrNone
 use Rattle.world_laws.specs.Families.{NodeHolds, PidsHold}
 use Rattle.world_laws.specs.Invariant.{Holds, IsLeading, IsShaped}
 use Rattle.world_laws.specs.Places.{Beside, CallPlace, Idle, InAnswer, InAsk, InBounce, InNotOwner, InRequest, IsHeld, IsInHand, SentByPlace, SentByRange, AsksLease, HasLease, Ends, call_in}
-use Rattle.world_laws.specs.Sights.{directory_of, is_born_in, node_of}
+use Rattle.world_laws.specs.Sights.{is_born_in, node_of}
 use Rattle.world_laws.proofs.Lines.{past-end}
 use Rattle.world_weights.specs.Weights.{Falls, call_weight, left_to_start, node_weight, to_start, to_start_in}
 use Rattle.world_weights.proofs.Costs.{MayEnd, RisesBesides, step_weight}

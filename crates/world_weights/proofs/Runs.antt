@@ -1,13 +1,12 @@
 -- The opening world weighs at most 32 for each call of the script. So where each event lowers the weight, a run has at
 -- most 32 events for each call.
-use Rattle.std.proofs.Common.{◌≡◌, ℕ, zero, suc, ◌+◌, ◌-◌, ◌*◌, ◌<◌, ◌≤◌, Bool, true, false, if◌then◌else◌, List, [], ◌∷◌, length, map, replicate, slice_get, nat_eq, Option, Some, None, refl, ap, sym, subst, ◌∙◌, arith}
+use Rattle.std.proofs.Common.{◌≡◌, ℕ, zero, suc, ◌+◌, ◌-◌, ◌*◌, ◌<◌, ◌≤◌, Bool, true, false, if◌then◌else◌, List, [], ◌∷◌, length, map, replicate, slice_get, nat_eq, Some, refl, ap, sym, subst, ◌∙◌, arith}
 use Rattle.std.specs.Prelude.{sum_by}
 use Rattle.std.proofs.lemmas.Bool.{eqb-true}
 use Rattle.std.proofs.lemmas.List.Sums.{sum_by-cons}
 use Rattle.pico_base.specs.declared.script.Block.{Block}
 use Rattle.pico_base.specs.declared.script.Event.{Event}
 use Rattle.pico_base.specs.declared.script.Script.{Script}
-use Rattle.rpc_frame.specs.declared.frame.Frame.{Frame}
 use Rattle.kernel_model.specs.Fitting.{block_at}
 use Rattle.kernel_model.specs.Script.{calls_in}
 use Rattle.node_model.specs.Caller.{lines_in, lines_of}
@@ -15,7 +14,7 @@ use Rattle.world_model.specs.Node.{Node, first_node, opening_node, unborn_node}
 use Rattle.world_model.specs.Run.{Runs}
 use Rattle.world_model.specs.World.{World, node_count, numbers, opening_world}
 use Rattle.world_laws.specs.Places.{Beside, CallPlace, Idle}
-use Rattle.world_weights.specs.Weights.{call_at, call_weight, calls_of, calls_weight, node_weight, row_weight, stream_weight, streams_weight, weight}
+use Rattle.world_weights.specs.Weights.{call_at, call_weight, calls_of, node_weight, row_weight, stream_weight, streams_weight, weight}
 use Rattle.world_weights.specs.Runs.{EachGoesOn, GoesOn, RunsAreShort}
 
 -- ---- the opening world

@@ -1,6 +1,5 @@
 -- What it costs to start a call: at most 10, where a call that isn't started weighs 32.
-use Rattle.std.proofs.Common.{◌≡◌, ◌≢◌, ℕ, ◌+◌, ◌*◌, ◌≤◌, Bool, true, false, not, ◌&&◌, ◌||◌, if◌then◌else◌, List, [], ◌∷◌, ◌++◌, map, nat_eq, Option, Some, None, is_some, is_none, option_map, option_and_then, Result, Ok, Err, refl, ap, sym, subst, ◌∙◌, arith}
-use Rattle.std.specs.Prelude.{sum_by}
+use Rattle.std.proofs.Common.{◌≡◌, ℕ, ◌+◌, ◌≤◌, Bool, true, false, not, ◌&&◌, ◌||◌, if◌then◌else◌, List, [], ◌∷◌, nat_eq, Option, Some, None, is_none, option_map, Result, Ok, Err, refl, ap, sym, subst, ◌∙◌, arith}
 use Rattle.std.specs.List.{AllByRecursion, list_any}
 use Rattle.std.proofs.lemmas.Bool.{eqb-true, false≢true}
 use Rattle.std.proofs.lemmas.List.Sums.{sum_by-cons}
@@ -14,17 +13,14 @@ use Rattle.pico_base.specs.declared.numbers.Name.{Name}
 use Rattle.pico_base.specs.declared.numbers.Name.TheVariants.{Proc, Msg, Sem}
 use Rattle.pico_base.specs.declared.reply.Errno.{Errno}
 use Rattle.pico_base.specs.declared.reply.Reply.TheVariants as replies
-use Rattle.pico_base.specs.declared.script.Line.{Line}
 use Rattle.pico_base.specs.declared.script.Script.{Script}
 use Rattle.pico_base.specs.Home.{home_of}
 use Rattle.rpc_frame.specs.declared.asked.Asked.{Asked}
 use Rattle.rpc_frame.specs.declared.frame.Frame.TheVariants as frames
 use Rattle.kernel_model.specs.Row.{Row}
 use Rattle.kernel_model.specs.SemaphoreSet.{SemaphoreSet, new_set}
-use Rattle.kernel_model.specs.Waiting.{is_waiting}
-use Rattle.node_model.specs.Bodies.{Body, Deeds, Gone}
-use Rattle.node_model.specs.Cache.{look, owner_in}
-use Rattle.node_model.specs.Caller.{Caller, due_call, lines_of, start_call}
+use Rattle.node_model.specs.Bodies.{Body, Deeds}
+use Rattle.node_model.specs.Cache.{owner_in}
 use Rattle.node_model.specs.Directory.{Directory, Place, At, Coming, is_known, place_of}
 use Rattle.node_model.specs.Kinds.{for_kind, is_object, put_all, put_named}
 use Rattle.node_model.specs.Leases.{is_used_up}
@@ -32,23 +28,20 @@ use Rattle.node_model.specs.Parcels.{all_gone, end_first}
 use Rattle.node_model.specs.Serving.{Served, serve}
 use Rattle.node_model.specs.declared.held.Held.TheVariants.{Request}
 use Rattle.world_model.specs.Census.{one_if}
-use Rattle.world_model.specs.Node.{Node, Stage, Living, Leaving, Over, asked_here, holds, is_leader}
+use Rattle.world_model.specs.Node.{Node, Over, asked_here, holds, is_leader}
 use Rattle.world_model.specs.Numbers.{make}
 use Rattle.world_model.specs.Routing.{route_call}
 use Rattle.world_model.specs.Serving.{serve_asked}
-use Rattle.world_model.specs.Starting.{act, ask, carry_out_own, end_leader, leave, request, start_at, start_by, start_end, start_making, start_own, start_set, with_look}
-use Rattle.world_model.specs.Step.{Step, carry_out, send, step_to, with_deeds, with_node}
+use Rattle.world_model.specs.Starting.{act, ask, carry_out_own, end_leader, leave, request, start_by, start_making, start_own, start_set, with_look}
+use Rattle.world_model.specs.Step.{Step, carry_out, send, step_to, with_deeds}
 use Rattle.world_laws.specs.Invariant.{IsLeading}
-use Rattle.world_laws.specs.Places.{CallPlace, Idle}
-use Rattle.world_weights.specs.Weights.{asks_back, cost_if, hand_weight, is_away, item_weight, node_weight, removes_away, routing_weight, sends_weight, to_start, to_start_in}
-use Rattle.world_weights.proofs.Costs.{MayEnd, RisesBesides, carried-costs, deeds-by, move_cost, served-costs, served-size, step_weight, table-none}
-use Rattle.world_weights.proofs.Hand.{back_weight}
-use Rattle.world_weights.proofs.Known.{directory_in}
+use Rattle.world_laws.specs.Places.{Idle}
+use Rattle.world_weights.specs.Weights.{asks_back, cost_if, hand_weight, is_away, item_weight, node_weight, removes_away, routing_weight}
+use Rattle.world_weights.proofs.Costs.{MayEnd, RisesBesides, carried-costs, deeds-by, served-costs, served-size, step_weight, table-none}
 use Rattle.world_weights.proofs.Made.{made-costs}
 use Rattle.world_weights.proofs.NodeCalls.{move-is-cheap}
-use Rattle.world_weights.proofs.Parts.{ObjectsRise, in-some, none-some, passed, size_of, table-keeps}
-use Rattle.world_weights.proofs.Routes.{place_limit, route-lowers}
-use Rattle.world_weights.proofs.Sums.{sends-push}
+use Rattle.world_weights.proofs.Parts.{in-some, none-some, size_of}
+use Rattle.world_weights.proofs.Routes.{route-lowers}
 
 -- ---- one call in hand
 

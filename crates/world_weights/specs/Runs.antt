@@ -1,5 +1,5 @@
 -- What a run of events is bounded by: the weight of the world that it begins with.
-use Rattle.std.specs.Prelude.{◌≡◌, ◌<◌, ◌≤◌, ℕ, ◌*◌, true, List, length, Some}
+use Rattle.std.specs.Prelude.{◌≡◌, ◌<◌, ◌≤◌, ◌*◌, true, List, length, Some}
 use Rattle.pico_base.specs.declared.script.Event.{Event}
 use Rattle.pico_base.specs.declared.script.Script.{Script}
 use Rattle.world_model.specs.World.{World, is_enabled, step}

@@ -1,6 +1,6 @@
 -- What is still to happen in a world, as a number that each event lowers. A call that isn't started weighs 32, which is
 -- more than all that it can set off. A call under way weighs by its place, so that the frame it is in weighs nothing.
-use Rattle.std.specs.Prelude.{◌≡◌, ◌<◌, ℕ, ◌+◌, ◌-◌, ◌*◌, Bool, false, true, not, nat_eq, List, length, drop, if◌then◌else◌, Option, Some, None, is_some, sum_by, count_by}
+use Rattle.std.specs.Prelude.{◌≡◌, ◌<◌, ℕ, ◌+◌, ◌-◌, ◌*◌, Bool, false, not, nat_eq, List, length, drop, if◌then◌else◌, Option, Some, None, is_some, sum_by, count_by}
 use Rattle.std.specs.List.{list_any}
 use Rattle.pico_base.specs.declared.call.Home.{Home}
 use Rattle.pico_base.specs.declared.call.Home.TheVariants as homes
