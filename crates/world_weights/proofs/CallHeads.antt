@@ -78,10 +78,11 @@ module _ (script : Script) (w : World) (b : Beside) (holds : Holds script w [] b
       → b.call q ≡ InAsk
   ask-place ticket pid call h =
       let f : Frame = frames.Ask ticket pid call
-      in let is : IsAskOf (b.call q) (asked_there script w b holds q h.low_from h.high_from p q f rest h (eq-eqb q q refl))
-      ticket pid call (filter (is_about q p q) rest) =
-      ask-of (asked_there script w b holds q h.low_from h.high_from p q f rest h (eq-eqb q q refl)) q p q ticket pid call
-      (filter (is_about q p q) rest) (b.call q)
+      in let is : IsAskOf (b.call q)
+      (asked_there script w b holds q h.low_from h.high_from p q f rest h (eq-eqb q q refl)) ticket pid call
+      (filter (is_about q p q) rest) =
+      ask-of (asked_there script w b holds q h.low_from h.high_from p q f rest h (eq-eqb q q refl)) q p q ticket pid
+      call (filter (is_about q p q) rest) (b.call q)
       (in-place script w b holds q h.low_from h.high_from p q f rest h (eq-eqb q q refl))
       in is.place_is
 
@@ -103,8 +104,9 @@ module _ (script : Script) (w : World) (b : Beside) (holds : Holds script w [] b
   lease-ask-place kind h =
       let f : Frame = frames.LeaseAsk kind
       in let is : IsLeaseAskOf (b.call q) kind (filter (is_about q p q) rest) =
-      lease-ask-of (b.call q) (asked_there script w b holds q h.low_from h.high_from p q f rest h (eq-eqb q q refl)) q p q
-      kind (filter (is_about q p q) rest)
+      lease-ask-of (b.call q)
+      (asked_there script w b holds q h.low_from h.high_from p q f rest h (eq-eqb q q refl)) q p q kind
+      (filter (is_about q p q) rest)
       (in-place script w b holds q h.low_from h.high_from p q f rest h (eq-eqb q q refl))
       in is.place_is
 
@@ -128,7 +130,8 @@ module _ (script : Script) (w : World) (b : Beside) (holds : Holds script w [] b
       (asked_there script w b holds p h.low h.high p q f rest h (eq-eqb p p refl)) q ticket
       (filter (is_about p p q) rest) =
       not-owner-of (asked_there script w b holds p h.low h.high p q f rest h (eq-eqb p p refl)) p p q ticket
-      (filter (is_about p p q) rest) (b.call p) (in-place script w b holds p h.low h.high p q f rest h (eq-eqb p p refl))
+      (filter (is_about p p q) rest) (b.call p)
+      (in-place script w b holds p h.low h.high p q f rest h (eq-eqb p p refl))
       in is.place_is
 
   -- and a Lease
@@ -138,7 +141,8 @@ module _ (script : Script) (w : World) (b : Beside) (holds : Holds script w [] b
       let f : Frame = frames.Lease kind first
       in let is : IsLeaseOf (b.call p) kind first (filter (is_about p p q) rest) =
       lease-of-call (asked_there script w b holds p h.low h.high p q f rest h (eq-eqb p p refl)) p p q kind first
-      (filter (is_about p p q) rest) (b.call p) (in-place script w b holds p h.low h.high p q f rest h (eq-eqb p p refl))
+      (filter (is_about p p q) rest) (b.call p)
+      (in-place script w b holds p h.low h.high p q f rest h (eq-eqb p p refl))
       in is.place_is
 
   -- a Forward is the call's that it brings
@@ -147,7 +151,8 @@ module _ (script : Script) (w : World) (b : Beside) (holds : Holds script w [] b
   forward-place asked h low high =
       let f : Frame = frames.Forward asked
       in let c : ℕ = asked.caller
-      in let is : IsForwardOf (b.call c) (asked_there script w b holds c low high p q f rest h (eq-eqb c c refl)) p asked
+      in let is : IsForwardOf (b.call c)
+      (asked_there script w b holds c low high p q f rest h (eq-eqb c c refl)) p asked
       (filter (is_about c p q) rest) =
       forward-of (asked_there script w b holds c low high p q f rest h (eq-eqb c c refl)) c p q asked
       (filter (is_about c p q) rest) (b.call c) (in-place script w b holds c low high p q f rest h (eq-eqb c c refl))

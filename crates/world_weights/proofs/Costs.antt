@@ -173,7 +173,10 @@ moved-costs script s name None = omega arith
 moved-costs script s name (Some to) = let n : Node = s.node in move-by script s name to (is_leader n) refl
 
 here-number : (script : Script) (s : Step) (reply : Reply) (o : Option Call)
-    → (let n : Node = s.node in let t : Step = reply_here script s reply o in let m : Node = t.node in m.number ≡ n.number)
+    → (let n : Node = s.node
+    in let t : Step = reply_here script s reply o
+    in let m : Node = t.node
+    in m.number ≡ n.number)
 here-number script s reply None = refl
 here-number script s reply (Some call) = refl
 
@@ -223,7 +226,8 @@ deeds-by script s deeds false leads small =
 
 with-served : (script : Script) (s : Step) (name : Name) (asked : Asked) (served : Served)
     → (let n : Node = s.node in asked.caller ≡ n.number → MayEnd script n)
-    → (let n : Node = s.node in RisesBesides n) → (let n : Node = s.node in serve n.deeds asked.pid asked.call ≡ Some served)
+    → (let n : Node = s.node in RisesBesides n)
+    → (let n : Node = s.node in serve n.deeds asked.pid asked.call ≡ Some served)
     → step_weight script (serve_asked_with script s name asked served)
     ≤ step_weight script s + (let n : Node = s.node in move_cost (is_leader n))
 with-served script s name asked served may rises is =
@@ -233,7 +237,8 @@ with-served script s name asked served may rises is =
     in let first : step_weight script changed ≤ step_weight script s =
     deeds-by script s (put_all n.deeds served.changes) (is_leader n) refl
     (λ other. served-size n.deeds (rises other) asked.pid asked.call served is)
-    in let second = carried-costs script changed asked served.reply (λ e. record { tries = (may e).tries; left = (may e).left })
+    in let second = carried-costs script changed asked served.reply
+    (λ e. record { tries = (may e).tries; left = (may e).left })
     in let third = read-costs script done name asked.caller (has_read asked.call served.reply)
     in let same : move_cost (is_leader done.node) ≡ move_cost (is_leader n) =
     ap (λ x. move_cost (nat_eq x 1)) (carried-number script changed asked served.reply)

@@ -27,7 +27,8 @@ abbrev pub over : (ℕ → ℕ) → ℕ → ℕ → ℕ
 over f first count = sum_by f (numbers first count)
 
 -- both together
-pub over-both : (f g : ℕ → ℕ) (first count : ℕ) → over (λ p. f p + g p) first count ≡ over f first count + over g first count
+pub over-both : (f g : ℕ → ℕ) (first count : ℕ)
+    → over (λ p. f p + g p) first count ≡ over f first count + over g first count
 over-both f g first zero = refl
 over-both f g first (suc count) =
     let rest = over-both f g (first + 1) count
@@ -75,10 +76,12 @@ over-one c first (suc count) low high =
 
 -- ---- calls among items
 
+-- an item is a call, or a parcel
 abbrev pub is_request : Held → Bool
 is_request (Request asked) = true
 is_request (Ending parcel) = false
 
+-- how many calls there are
 abbrev pub requests_in : List Held → ℕ
 requests_in items = sum_by (λ item. one_if (is_request item)) items
 
@@ -129,7 +132,8 @@ only-length : (t : Bool) (item : Held) → length (only_if t item) ≡ one_if t
 only-length true item = refl
 only-length false item = refl
 
-module _ (script : Script) (w : World) (hand : List Held) (b : Beside) (holds : Holds script w hand b) (name : Name) where
+module _ (script : Script) (w : World) (hand : List Held) (b : Beside) (holds : Holds script w hand b) (name : Name)
+    where
   abbrev x : ℕ → CallSight
   x p = call_sight w hand b p
 

@@ -67,6 +67,7 @@ routing-low d homes.Parent = omega arith
 
 -- ---- removals for which a name has to be asked back
 
+-- 1 where one of the items needs that
 abbrev pub back_weight : Directory → List Held → ℕ
 back_weight d hand = one_if (list_any (asks_back d) hand)
 
@@ -129,14 +130,17 @@ back-rest d item hand =
 
 -- ---- the removals of a hand are of one name
 
+-- a call removes no other name
 abbrev pub RemovesOnly : Name → Home → Type 0
 RemovesOnly name (homes.Removal other) = other ≡ name
 RemovesOnly name home = Unit {0}
 
+-- nor does an item
 abbrev pub IsRemovalOnly : Name → Held → Type 0
 IsRemovalOnly name (Request asked) = RemovesOnly name (home_of asked.pid asked.call)
 IsRemovalOnly name (Ending parcel) = Unit {0}
 
+-- nor any of a hand
 abbrev pub RemovalsAreOf : Name → List Held → Type 0
 RemovalsAreOf name hand = AllByRecursion (IsRemovalOnly name) hand
 

@@ -110,8 +110,8 @@ module _ (script : Script) (v : World) (s : Step) (asked : Asked) (rest : List H
   own-may-end e =
       let here : asked.caller ≡ 1 = e ∙ number
       in let it = first script w asked rest b holds low high
-      in let has : HasCall script asked.caller (is_born_in w) (call_sight w (Request asked ∷ rest) b asked.caller) it.call
-      = it.has
+      in let has : HasCall script asked.caller (is_born_in w) (call_sight w (Request asked ∷ rest) b asked.caller)
+      it.call = it.has
       in let shape : IsShaped script w = holds.shape
       in let there : HasTryLeft script asked.caller (node_of w asked.caller).caller = has.try_left
       in let n : Node = s.node

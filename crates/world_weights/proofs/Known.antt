@@ -119,8 +119,8 @@ served-with-knows script s name asked served =
     (read-knows done name asked.caller (has_read asked.call served.reply))
 
 -- A call is served.
-pub served-knows : (script : Script) (s t : Step) (name : Name) (asked : Asked) → serve_asked script s name asked ≡ Some t
-    → KnowsMore (directory_in s) (directory_in t)
+pub served-knows : (script : Script) (s t : Step) (name : Name) (asked : Asked)
+    → serve_asked script s name asked ≡ Some t → KnowsMore (directory_in s) (directory_in t)
 served-knows script s t name asked h =
     let n : Node = s.node in by-served (serve n.deeds asked.pid asked.call) h
   where

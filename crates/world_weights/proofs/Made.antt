@@ -22,7 +22,7 @@ use Rattle.node_model.specs.Serving.{child_body, parent_body}
 use Rattle.node_model.specs.Spelling.{pack}
 use Rattle.world_model.specs.Node.{Node, asked_here, is_leader, own_row}
 use Rattle.world_model.specs.Numbers.{Taken, fork_with, make, make_object, make_set, make_taken, make_with, take_first, take_from, take_from_next, take_number, tell_place, with_next_range}
-use Rattle.world_model.specs.Step.{Step, carry_out, send, with_deeds, with_node}
+use Rattle.world_model.specs.Step.{Step, carry_out, send, with_deeds, with_directory, with_node}
 use Rattle.world_weights.specs.Weights.{node_weight}
 use Rattle.world_weights.proofs.Costs.{MayEnd, carried-costs, step_weight}
 use Rattle.world_weights.proofs.Parts.{in-some, none-some, passed, placed-keeps-weight, size-put, table-adds}
@@ -76,7 +76,7 @@ module _ (script : Script) (n : Node) (kind : Kind) where
 
 tell-by : (script : Script) (s : Step) (name : Name) (at : ℕ) (t : Bool)
     → step_weight script (if t
-    then with_node s (let n : Node = s.node in record n { leader = record n.leader { directory = place_name n.leader.directory name at } })
+    then with_node s (let n : Node = s.node in with_directory n (place_name n.leader.directory name at))
     else send s 1 (frames.Placed name at)) ≤ step_weight script s + 1
 tell-by script s name at true =
     let n : Node = s.node

@@ -14,7 +14,7 @@ use Rattle.rpc_frame.specs.declared.frame.Frame.TheVariants as frames
 use Rattle.node_model.specs.Caller.{Caller, answer_call}
 use Rattle.node_model.specs.Directory.{upcoming, with_range}
 use Rattle.node_model.specs.Leases.{leases_hold, refill, takes_number}
-use Rattle.world_model.specs.Node.{Node, holds, is_leader, under_way_as}
+use Rattle.world_model.specs.Node.{Node, asked_here, holds, is_leader, under_way_as}
 use Rattle.world_model.specs.Step.{Step, send, step_to, with_directory}
 use Rattle.world_model.specs.Calls.{answered_by, ask_after, bounce, bounce_or_nobody, end_with_reply, forwarded_by, requested_by, take_answer, take_forward, take_not_owner, take_request, with_forgotten, with_learnt}
 use Rattle.world_model.specs.Numbers.{make}
@@ -126,11 +126,13 @@ module _ (script : Script) (n : Node) where
     -- ---- Forward
 
     forward-at : (name : Name) (s : Step) (t : Bool)
-        → (if t then serve_asked script (step_to n) name asked else Some (bounce_or_nobody script n asked name)) ≡ Some s
+        → (if t then serve_asked script (step_to n) name asked
+        else Some (bounce_or_nobody script n asked name)) ≡ Some s
         → CostsAtMost 5 s
     forward-at name s true h = serve-costs name s h
     forward-at name s false h =
-        subst (CostsAtMost 5) (in-some _ _ h) (more-is-fine (bounce_or_nobody script n asked name) (unserved-costs name))
+        subst (CostsAtMost 5) (in-some _ _ h)
+        (more-is-fine (bounce_or_nobody script n asked name) (unserved-costs name))
 
     forward-removal : (name : Name) (s : Step) (t : Bool)
         → (if t then Some (bounce n asked) else Some (bounce_or_nobody script n asked name)) ≡ Some s
@@ -214,7 +216,7 @@ module _ (script : Script) (n : Node) where
 
   asked-costs : (name : Name) (call : Call) (s : Step) (t : Bool) → t ≡ false
       → (let m : Node = with_forgotten n name in if t
-      then route_call script (step_to m) (record { caller = m.number; ticket = m.caller.ticket; pid = m.pid; call = call })
+      then route_call script (step_to m) (asked_here m call)
       else Some (send (step_to m) 1 (frames.Ask m.caller.ticket m.pid call))) ≡ Some s
       → CostsAtMost 0 s
   asked-costs name call s true other h = absurd (false≢true (sym other))

@@ -35,10 +35,12 @@ pub and-left : (a b : Bool) → (a && b) ≡ true → a ≡ true
 and-left true b h = refl
 and-left false b h = absurd (false≢true h)
 
+-- the second, too
 pub and-right : (a b : Bool) → (a && b) ≡ true → b ≡ true
 and-right true b h = h
 and-right false b h = absurd (false≢true h)
 
+-- what isn't so is false
 pub not-true : (a : Bool) → not a ≡ true → a ≡ false
 not-true true h = absurd (false≢true h)
 not-true false h = refl

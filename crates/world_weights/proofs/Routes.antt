@@ -46,6 +46,7 @@ routed_weight routes.Coming = 7
 routed_weight (routes.Range node) = 10
 routed_weight routes.Nobody = 1
 
+-- by the call's home
 abbrev pub place_limit : Directory → Home → ℕ
 place_limit d (homes.At name) = routed_weight (route d name)
 place_limit d (homes.Removal name) = routed_weight (route d name)
@@ -253,12 +254,13 @@ module _ (script : Script) (s : Step) (asked : Asked) (rest : List Held)
       in subst (Lowers place) (in-some (forward s node asked) t h)
       (sent-on node place (omega (arith, cost, light)))
 
-  by-route : (name : Name) (t : Step) (place : CallPlace) (r : Route) → routing_weight d home ≡ cost_if (is_known d name)
-      → route d name ≡ r → call_weight place ≤ routed_weight r
+  by-route : (name : Name) (t : Step) (place : CallPlace) (r : Route)
+      → routing_weight d home ≡ cost_if (is_known d name) → route d name ≡ r → call_weight place ≤ routed_weight r
       → routing.route_by script s name asked r ≡ Some t → Lowers place t
   by-route name t place (routes.At node) on e light h =
       at-node name node t place (nat_eq node 1) on (said name (routes.At node) e) light
-      (sym (ap (λ x. if nat_eq node x then serve_asked script s name asked else Some (forward s node asked)) number) ∙ h)
+      (sym (ap (λ x. if nat_eq node x then serve_asked script s name asked else Some (forward s node asked)) number)
+      ∙ h)
   by-route name t place routes.Coming on e light h =
       let coming : IsComing (place_of d name) = said name routes.Coming e
       in subst (Lowers place) (in-some (hold_item s name (Request asked)) t h)
@@ -271,8 +273,8 @@ module _ (script : Script) (s : Step) (asked : Asked) (rest : List Held)
   by-route name t place routes.Nobody on e light h =
       subst (Lowers place) (in-some (serve_nobody script s name asked) t h) (nobody name place light)
 
-  removed-at : (name : Name) (node : ℕ) (t : Step) (place : CallPlace) (leads_there : Bool) → nat_eq node 1 ≡ leads_there
-      → home ≡ homes.Removal name → RemovalsAreOf name rest
+  removed-at : (name : Name) (node : ℕ) (t : Step) (place : CallPlace) (leads_there : Bool)
+      → nat_eq node 1 ≡ leads_there → home ≡ homes.Removal name → RemovalsAreOf name rest
       → place_of d name ≡ Some (At node) → call_weight place ≤ (if leads_there then 1 else 7)
       → (if leads_there then option_map (unbind_name name) (serve_asked script s name asked)
       else Some (recall_and_hold s name (Request asked) node)) ≡ Some t

@@ -34,7 +34,8 @@ opening-node-weight script p = by-test (nat_eq p 1) refl
         in subst (λ q. node_weight script (opening_node q) ≤ 32 * sum_by (λ line. line.tries) (lines_of script q))
         (sym e) (omega arith)
     by-test false h =
-        let e : opening_node p ≡ unborn_node p = ap (λ (b : Bool). elim b [ true ↦ first_node | false ↦ unborn_node p ]) h
+        let e : opening_node p ≡ unborn_node p =
+        ap (λ (b : Bool). elim b [ true ↦ first_node | false ↦ unborn_node p ]) h
         in let none = no-table (nat_eq p 1)
         in subst (λ (m : Node). node_weight script m ≤ 32 * sum_by (λ line. line.tries) (lines_of script p)) (sym e)
         (omega (arith, none))

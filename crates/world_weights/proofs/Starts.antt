@@ -71,7 +71,8 @@ hand-of : (d : Directory) (asked : Asked) → hand_weight d (Request asked ∷ [
     ≡ routing_weight d (home_of asked.pid asked.call) + one_if (removes_away d (home_of asked.pid asked.call))
 hand-of d asked =
     let one = sum_by-cons (item_weight d) (Request asked) []
-    in let back : one_if (list_any (asks_back d) (Request asked ∷ [])) ≡ one_if (removes_away d (home_of asked.pid asked.call)) =
+    in let back : one_if (list_any (asks_back d) (Request asked ∷ []))
+    ≡ one_if (removes_away d (home_of asked.pid asked.call)) =
     ap one_if (or-none (removes_away d (home_of asked.pid asked.call)))
     in omega (arith, one, back)
 
@@ -275,8 +276,8 @@ module _ (script : Script) (n : Node) (may : MayStart script n) where
   end-by call row false leads = omega arith
 
   -- By the call's home.
-  pub start-costs : (call : Call) (row : Row) (home : Home) (s : Step) → start_by script (step_to n) call row home ≡ Some s
-      → step_weight script s ≤ node_weight script n + 10
+  pub start-costs : (call : Call) (row : Row) (home : Home) (s : Step)
+      → start_by script (step_to n) call row home ≡ Some s → step_weight script s ≤ node_weight script n + 10
   start-costs call row homes.Own s h = owns script n may call s h
   start-costs call row (homes.At name) s h = at-name call name s (holds n name) h
   start-costs call row homes.Keys s h = asks script n may call s h
