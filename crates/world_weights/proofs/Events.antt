@@ -2,6 +2,7 @@
 -- the places of calls.
 use Rattle.std.proofs.Common.{◌≡◌, ℕ, ◌+◌, ◌-◌, ◌≤◌, ◌<◌, List, Option, Some, None, option_and_then, refl, ap, sym, subst, ◌∙◌, arith}
 use Rattle.pico_base.specs.declared.script.Script.{Script}
+use Rattle.pico_base.specs.declared.script.Event.{Event}
 use Rattle.pico_base.specs.declared.script.Event.TheVariants as events
 use Rattle.rpc_frame.specs.declared.frame.Frame.{Frame}
 use Rattle.world_model.specs.Node.{Node}
@@ -105,3 +106,9 @@ lowers-moved script n taken call p was place s low_p high_p is low =
     let moved = call-moves script call p place low_p high_p
     in let old : call_weight (call p) ≡ call_weight was = ap call_weight is
     in record { lower = omega (arith, low, moved, old) }
+
+-- the same with calls that are in the same places
+pub falls-alike : (script : Script) (w : World) (e : Event) (call call_after other : ℕ → CallPlace)
+    → ((p : ℕ) → call_after p ≡ other p) → Falls script w e call call_after → Falls script w e call other
+falls-alike script w e call call_after other same falls =
+    subst (λ c. Falls script w e call c) (λ i p. same p i) falls

@@ -22,7 +22,7 @@ use Rattle.world_laws.specs.Sights.{is_born_in, node_of}
 use Rattle.world_laws.proofs.Lines.{past-end}
 use Rattle.world_weights.specs.Weights.{Falls, call_weight, left_to_start, node_weight, to_start, to_start_in}
 use Rattle.world_weights.proofs.Costs.{MayEnd, RisesBesides, step_weight}
-use Rattle.world_weights.proofs.Events.{Lowers, lowers-moved, run-falls}
+use Rattle.world_weights.proofs.Events.{Lowers, lowers-moved, lowers-still, run-falls}
 use Rattle.world_weights.proofs.Lines.{start-below}
 use Rattle.world_weights.proofs.Parts.{and-left, and-right, none-some, passed}
 use Rattle.world_weights.proofs.Starts.{MayStart, start-costs}
@@ -141,9 +141,10 @@ module _ (script : Script) (w : World) (b : Beside) (holds : Holds script w [] b
       let one : p ≡ 1 = sym node-holds.number ∙ eqb-true n.number 1 e
       in subst (λ q. let m : Node = node_of w q in IsLeading m.leader.directory) (sym one) holds.leading
 
-  starts-lower : (place : CallPlace) (s : Step) → run script n ≡ Some s
-      → Lowers script n 0 b.call (call_in b.call p place) s
-  starts-lower place s rule =
+  -- what starting a call costs leaves this much
+  start-leaves : (s : Step) → run script n ≡ Some s
+      → (step_weight script s + 22 ≤ node_weight script n) × (b.call p ≡ Idle)
+  start-leaves s rule =
       let test = passed (can_run n && is_u32 (n.caller.ticket + 1)) (option_and_then (start_due script n) (own_row n))
       s rule
       in let can : can_run n ≡ true = and-left _ _ test.0
@@ -156,13 +157,32 @@ module _ (script : Script) (w : World) (b : Beside) (holds : Holds script w [] b
       subst (λ y. HasTryLeft script y n.caller) (sym node-holds.number) free.try_left
       in let may : MayStart script n =
       record { may_end = record { tries = shape.tries; left = left }; rises = rises; leads = leading }
-      in let cost = row-lowers script n living none line.0
-      (ap (λ y. slice_get (lines_of script y) n.caller.line) node-holds.number ∙ line.1) may s (own_row n) test.1
       in let nowhere : HasNoCall script p x = no-call none
+      in (
+        row-lowers script n living none line.0
+            (ap (λ y. slice_get (lines_of script y) n.caller.line) node-holds.number ∙ line.1) may s (own_row n) test.1,
+        nowhere.idle,
+      )
+
+  starts-lower : (place : CallPlace) (s : Step) → run script n ≡ Some s
+      → Lowers script n 0 b.call (call_in b.call p place) s
+  starts-lower place s rule =
+      let leaves = start-leaves s rule
+      in let cost : step_weight script s + 22 ≤ node_weight script n = leaves.0
       in let light = place-low place
-      in lowers-moved script n 0 b.call p Idle place s low high nowhere.idle (omega (arith, cost, light))
+      in lowers-moved script n 0 b.call p Idle place s low high leaves.1 (omega (arith, cost, light))
 
   -- A call is started.
   pub run-falls-to : (place : CallPlace) → Falls script w (events.Run p) b.call (call_in b.call p place)
   run-falls-to place =
       run-falls script w p b.call (call_in b.call p place) holds.shape low high (starts-lower place)
+
+  alone-lowers : (s : Step) → run script n ≡ Some s → Lowers script n 0 b.call b.call s
+  alone-lowers s rule =
+      let leaves = start-leaves s rule
+      in let cost : step_weight script s + 22 ≤ node_weight script n = leaves.0
+      in lowers-still script n 0 b.call s (omega (arith, cost))
+
+  -- One that is over at once.
+  pub run-falls-alone : Falls script w (events.Run p) b.call b.call
+  run-falls-alone = run-falls script w p b.call b.call holds.shape low high alone-lowers
