@@ -26,3 +26,4 @@ pub mod HandEnds
 pub mod LeftFalls
 pub mod HandSteps
 pub mod LightRounds
+pub mod Law
