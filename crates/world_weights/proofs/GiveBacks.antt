@@ -244,28 +244,29 @@ module _ (script : Script) (w : World) (b : Beside) (holds : Holds script w [] b
   -- the release makes it no heavier
   abbrev pub ReleaseIsLight : Type 0
   ReleaseIsLight =
-      (body : Body) (t : Step) → release script held (begun body) ≡ Some t
+      (body : Body) (t : Step) → read_deed packed ≡ Some body → release script held (begun body) ≡ Some t
       → middle_weight script t [] call_after
       ≤ middle_weight script (begun body) held (λ p. taken_up packed.name (b.call p))
 
-  ended : (body : Body) (t : Step) → IsComing (place_of (directory_of w) packed.name) → ReleaseIsLight
+  ended : (body : Body) (t : Step) → read_deed packed ≡ Some body
+      → IsComing (place_of (directory_of w) packed.name) → ReleaseIsLight
       → release script held (begun body) ≡ Some t → Lowers script m 1 b.call call_after t
-  ended body t coming light is =
-      let less = light body t is
+  ended body t e coming light is =
+      let less = light body t e is
       in let begins = give-back-begins script w b holds h.high packed.name of_nodes coming body
       in record { lower = omega (arith, less, begins) }
 
-  by-body : (t : Step) (o : Option Body) → IsComing (place_of (directory_of w) packed.name) → ReleaseIsLight
+  by-body : (t : Step) (o : Option Body) → read_deed packed ≡ o → IsComing (place_of (directory_of w) packed.name) → ReleaseIsLight
       → option_and_then (come_back script m packed.name) o ≡ Some t → Lowers script m 1 b.call call_after t
-  by-body t None coming light is = none-some t is
-  by-body t (Some body) coming light is = ended body t coming light is
+  by-body t None e coming light is = none-some t is
+  by-body t (Some body) e coming light is = ended body t e coming light is
 
   give-back-lowers : ReleaseIsLight → (t : Step) → take_give_back script m q packed ≡ Some t
       → Lowers script m 1 b.call call_after t
   give-back-lowers light t rule =
       let test = passed (is_leader m && (is_coming (directory_of w) packed.name && is_new_here m packed.name))
       (option_and_then (come_back script m packed.name) (read_deed packed)) t rule
-      in by-body t (read_deed packed)
+      in by-body t (read_deed packed) refl
       (coming-is (place_of (directory_of w) packed.name) (and-left _ _ (and-right _ _ test.0))) light test.1
 
   -- So the event lowers the weight.

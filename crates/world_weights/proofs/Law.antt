@@ -1,7 +1,6 @@
 -- The whole law: each event lowers the weight, where each call is afterwards where its rule leaves it.
-use Rattle.std.proofs.Common.{◌≡◌, ◌≢◌, ◌⊎◌, ℕ, ◌≤◌, List, [], ◌∷◌, Some, refl, sym, subst, ◌∙◌, inl, inr}
+use Rattle.std.proofs.Common.{◌≡◌, ◌≢◌, ◌⊎◌, ℕ, ◌≤◌, List, [], Some, sym, subst, inl, inr}
 use Rattle.std.specs.List.{AllByRecursion}
-use Rattle.std.proofs.lemmas.Bool.{cases_eq}
 use Rattle.pico_base.specs.declared.call.Call.{Call}
 use Rattle.pico_base.specs.declared.numbers.Kind.{Kind}
 use Rattle.pico_base.specs.declared.numbers.Name.{Name}
@@ -61,6 +60,7 @@ abbrev pub IsServedOr : World → ℕ → Asked → CallPlace → CallPlace → 
 IsServedOr w p asked back place most =
     (call_weight place ≤ most) ⊎ ((place ≡ back) × IsNotServed (node_of w p) (home_of asked.pid asked.call))
 
+-- where a frame's rule may leave the calls
 abbrev pub AfterFrame : (script : Script) (w : World) (b : Beside) → Holds script w [] b → (p q : ℕ)
     → List Frame → Frame → (ℕ → CallPlace) → Type 0
 AfterFrame script w b holds p q rest (frames.Ask ticket pid call) after =
