@@ -40,6 +40,7 @@ use Rattle.world_weights.proofs.Costs.{table-none}
 use Rattle.world_weights.proofs.Counts.{IsOfNode, calls-taken-up, held-count, is_request, requests_in}
 use Rattle.world_weights.proofs.Events.{Lowers, take-falls}
 use Rattle.world_weights.proofs.Hand.{IsRemovalOnly, RemovalsAreOf, RemovesOnly, back-low, back_weight, none-back}
+use Rattle.world_weights.proofs.Routes.{IsComing}
 use Rattle.world_weights.proofs.Parts.{and-left, and-right, none-some, passed, place-replaces}
 
 -- ---- what is held for a name
@@ -127,11 +128,6 @@ items-only name (item ∷ items) all = (item-only name item all.0, items-only na
 goes-for : (d : Directory) (to : Option ℕ) (other : ℕ) → goes_on_to d to ≡ Some other → destination_weight to ≡ 3
 goes-for d None other h = none-some other h
 goes-for d (Some to) other h = refl
-
-pub record IsComing (o : Option Place) : Type 0 where
-  pub to : Option ℕ
-  pub items : List Held
-  pub is : o ≡ Some (Coming to items)
 
 coming-is : (o : Option Place) → is_coming_to o ≡ true → IsComing o
 coming-is None h = absurd (false≢true h)

@@ -27,3 +27,4 @@ pub mod LeftFalls
 pub mod HandSteps
 pub mod LightRounds
 pub mod Law
+pub mod LightEvents
