@@ -10,6 +10,7 @@ use Rattle.rpc_frame.specs.declared.asked.Asked.{Asked}
 use Rattle.rpc_frame.specs.declared.frame.Frame.TheVariants as frames
 use Rattle.kernel_model.specs.Effect.{Effect}
 use Rattle.kernel_model.specs.Transition.{effect}
+use Rattle.kernel_laws.proofs.Plain.{from_some, not_some}
 use Rattle.node_model.specs.Bodies.{Body, Deeds, body_in, kernel_with}
 use Rattle.node_model.specs.Caller.{Caller, answer_call}
 use Rattle.node_model.specs.Directory.{At, stays}
@@ -22,7 +23,7 @@ use Rattle.world_model.specs.Serving.{grant, grant_held, move_to, note_read, ser
 use Rattle.world_laws.specs.Callers.{HasTries, HasTryLeft}
 use Rattle.world_weights.specs.Weights.{left_to_start, node_weight, sends_weight, to_start_in, table_weight}
 use Rattle.world_weights.proofs.Lines.{answer-below}
-use Rattle.world_weights.proofs.Parts.{ObjectsRise, in-some, none-some, place-adds, size-put-there, size_of, table-keeps}
+use Rattle.world_weights.proofs.Parts.{ObjectsRise, place-adds, size-put-there, size_of, table-keeps}
 use Rattle.world_weights.proofs.Sums.{sends-push}
 
 -- a step, with what it sends
@@ -54,7 +55,7 @@ under-way-at n ticket call = by-test (nat_eq ticket n.caller.ticket)
     by-test : (t : Bool) → elim t [ true ↦ n.caller.under_way | false ↦ None ] ≡ Some call
         → n.caller.under_way ≡ Some call
     by-test true h = h
-    by-test false h = none-some call h
+    by-test false h = not_some call h
 
 here-costs : (script : Script) (s : Step) (reply : Reply) (ticket : ℕ) (o : Option Call)
     → under_way_as s.node ticket ≡ o → MayEnd script s.node
@@ -99,25 +100,25 @@ module _ (deeds : Deeds) (rise : ObjectsRise deeds) where
   served-on : (name : Name) (was : Body) (pid : ℕ) (call : Call) (o : Option Effect) (s : Served)
       → get_named deeds name ≡ Some was → option_map (serve_by name) o ≡ Some s
       → size_of (put_all deeds s.changes) ≤ size_of deeds
-  served-on name was pid call None s there h = none-some s h
+  served-on name was pid call None s there h = not_some s h
   served-on name was pid call (Some e) s there h =
-      subst (λ (x : Served). size_of (put_all deeds x.changes) ≤ size_of deeds) (in-some _ _ h)
+      subst (λ (x : Served). size_of (put_all deeds x.changes) ≤ size_of deeds) (from_some _ _ h)
       (changed-size name was e there e.reply)
 
   served-at : (name : Name) (pid : ℕ) (call : Call) (s : Served) (o : Option Body) → get_named deeds name ≡ o
       → option_and_then (λ body. serve_on name body pid call) o ≡ Some s
       → size_of (put_all deeds s.changes) ≤ size_of deeds
-  served-at name pid call s None there h = none-some s h
+  served-at name pid call s None there h = not_some s h
   served-at name pid call s (Some body) there h =
       served-on name body pid call (effect (kernel_with name body) pid (actor body) call 0) s there h
 
   served-by : (pid : ℕ) (call : Call) (s : Served) (o : Option Name) → serve_at deeds pid call o ≡ Some s
       → size_of (put_all deeds s.changes) ≤ size_of deeds
-  served-by pid call s None h = none-some s h
+  served-by pid call s None h = not_some s h
   served-by pid call s (Some name) h = served-at name pid call s (get_named deeds name) refl h
 
   not-if : (t : Bool) (o : Option Served) (s : Served) → (if t then None else o) ≡ Some s → o ≡ Some s
-  not-if true o s h = none-some s h
+  not-if true o s h = not_some s h
   not-if false o s h = h
 
   -- it leaves as many queues and sets
@@ -255,10 +256,10 @@ served-costs script s t name asked may rises h =
     by-served : (o : Option Served) → (let n : Node = s.node in serve n.deeds asked.pid asked.call ≡ o)
         → option_map (serve_asked_with script s name asked) o ≡ Some t
         → step_weight script t ≤ step_weight script s + (let n : Node = s.node in move_cost (is_leader n))
-    by-served None e g = none-some t g
+    by-served None e g = not_some t g
     by-served (Some served) e g =
         subst (λ (x : Step). step_weight script x
-        ≤ step_weight script s + (let n : Node = s.node in move_cost (is_leader n))) (in-some _ _ g)
+        ≤ step_weight script s + (let n : Node = s.node in move_cost (is_leader n))) (from_some _ _ g)
         (with-served script s name asked served may rises e)
 
 -- A call on a number that names nothing.

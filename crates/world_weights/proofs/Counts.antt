@@ -119,7 +119,8 @@ one-filtered : (test : Held → Bool) (t : Bool) (item : Held) (items : List Hel
 one-filtered test true item items = omega arith
 one-filtered test false item items = omega arith
 
-filtered : (test : Held → Bool) (items : List Held)
+-- the items that pass a test
+pub filtered : (test : Held → Bool) (items : List Held)
     → sum_by (λ item. one_if (test item)) items ≡ length (filter test items)
 filtered test [] = refl
 filtered test (item ∷ items) =
@@ -133,39 +134,39 @@ only-length true item = refl
 only-length false item = refl
 
 module _ (script : Script) (w : World) (hand : List Held) (b : Beside) (holds : Holds script w hand b) (name : Name)
-    where
-  abbrev x : ℕ → CallSight
-  x p = call_sight w hand b p
+  where
+    abbrev x : ℕ → CallSight
+    x p = call_sight w hand b p
 
-  by-call : (p : ℕ) (o : Option Call) → HasCallOrNone script p (is_born_in w) (x p) o
-      → about_in p (held_for (directory_of w) name) ≡ one_if (is_held_at (b.call p) name)
-  by-call p (Some call) h =
-      let has : HasCall script p (is_born_in w) (x p) call = h
-      in let there : IsJustThere p (x p) (asked_of (x p) call) = has.just_there
-      in filtered (is_item_about p) (held_for (directory_of w) name)
-      ∙ ap length (there.held_for_names name)
-      ∙ only-length (is_held_at (b.call p) name) (Request (asked_of (x p) call))
-  by-call p None h =
-      let none : HasNoCall script p (x p) = h
-      in let nowhere : IsNowhere (x p) = none.nowhere
-      in filtered (is_item_about p) (held_for (directory_of w) name)
-      ∙ ap length (nowhere.held_for_names name)
-      ∙ sym (ap (λ place. one_if (is_held_at place name)) none.idle)
+    by-call : (p : ℕ) (o : Option Call) → HasCallOrNone script p (is_born_in w) (x p) o
+        → about_in p (held_for (directory_of w) name) ≡ one_if (is_held_at (b.call p) name)
+    by-call p (Some call) h =
+        let has : HasCall script p (is_born_in w) (x p) call = h
+        in let there : IsJustThere p (x p) (asked_of (x p) call) = has.just_there
+        in filtered (is_item_about p) (held_for (directory_of w) name)
+        ∙ ap length (there.held_for_names name)
+        ∙ only-length (is_held_at (b.call p) name) (Request (asked_of (x p) call))
+    by-call p None h =
+        let none : HasNoCall script p (x p) = h
+        in let nowhere : IsNowhere (x p) = none.nowhere
+        in filtered (is_item_about p) (held_for (directory_of w) name)
+        ∙ ap length (nowhere.held_for_names name)
+        ∙ sym (ap (λ place. one_if (is_held_at place name)) none.idle)
 
-  about-held : (p : ℕ) → 1 ≤ p → p ≤ node_count script
-      → about_in p (held_for (directory_of w) name) ≡ one_if (is_held_at (b.call p) name)
-  about-held p low high =
-      let c : CallHolds script p (is_born_in w) (x p) = holds.calls p low high
-      in by-call p (x p).caller.under_way c.call
+    about-held : (p : ℕ) → 1 ≤ p → p ≤ node_count script
+        → about_in p (held_for (directory_of w) name) ≡ one_if (is_held_at (b.call p) name)
+    about-held p low high =
+        let c : CallHolds script p (is_born_in w) (x p) = holds.calls p low high
+        in by-call p (x p).caller.under_way c.call
 
-  -- There are as many as nodes whose calls are held for it.
-  pub held-count : AllByRecursion (IsOfNode script) (held_for (directory_of w) name)
-      → over (λ p. one_if (is_held_at (b.call p) name)) 1 (node_count script)
-      ≡ requests_in (held_for (directory_of w) name)
-  held-count all =
-      sym (over-same (λ p. about_in p (held_for (directory_of w) name)) (λ p. one_if (is_held_at (b.call p) name)) 1
-      (node_count script) (λ p low high. about-held p low (omega (arith, high))))
-      ∙ each-once script (held_for (directory_of w) name) all
+    -- There are as many as nodes whose calls are held for it.
+    pub held-count : AllByRecursion (IsOfNode script) (held_for (directory_of w) name)
+        → over (λ p. one_if (is_held_at (b.call p) name)) 1 (node_count script)
+        ≡ requests_in (held_for (directory_of w) name)
+    held-count all =
+        sym (over-same (λ p. about_in p (held_for (directory_of w) name)) (λ p. one_if (is_held_at (b.call p) name)) 1
+        (node_count script) (λ p low high. about-held p low (omega (arith, high))))
+        ∙ each-once script (held_for (directory_of w) name) all
 
 -- ---- they are in hand
 

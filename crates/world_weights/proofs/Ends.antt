@@ -10,6 +10,7 @@ use Rattle.rpc_frame.specs.declared.frame.Frame.{Frame}
 use Rattle.rpc_frame.specs.declared.frame.Frame.TheVariants as frames
 use Rattle.kernel_model.specs.Kernel.{Kernel}
 use Rattle.number_maps.specs.Maps.{Numbered}
+use Rattle.kernel_laws.proofs.Plain.{from_some, not_some}
 use Rattle.node_model.specs.Bodies.{AQueue, ASet, Body, Deeds, Ended, Gone, Living, Removed}
 use Rattle.node_model.specs.Kinds.{get_named, is_object, put_all}
 use Rattle.node_model.specs.Parcels.{all_gone, commit_exit, ending_of, fitting_bodies, kernel_after_end, lets_end, names_after_end}
@@ -25,11 +26,11 @@ use Rattle.world_laws.specs.Invariant.{Holds}
 use Rattle.world_laws.specs.Places.{Beside}
 use Rattle.world_laws.specs.Sights.{node_of}
 use Rattle.world_laws.proofs.Steps.{Heads}
+use Rattle.world_release.proofs.RoutedParcels.{directory_in}
 use Rattle.world_weights.specs.Weights.{Falls}
 use Rattle.world_weights.proofs.Costs.{deeds-by, step_weight}
 use Rattle.world_weights.proofs.Events.{Lowers, lowers-still, take-falls}
-use Rattle.world_weights.proofs.Known.{directory_in}
-use Rattle.world_weights.proofs.Parts.{in-some, none-some, passed}
+use Rattle.world_weights.proofs.Parts.{passed}
 use Rattle.world_weights.proofs.Starts.{gone-are-processes, put-processes}
 
 -- ---- an exit is carried out
@@ -57,7 +58,7 @@ exit-are parcel bodies parent changes h =
     all_gone (map (λ e. e.0) bodies)
     ++ parts_in (kernel_after_end parcel.pid parcel.parent parent (ending_of parcel.call))
     (names_after_end parcel.pid parcel.parent parent)
-    in subst AreOfProcesses (in-some all changes (passed (lets_end parcel.pid parent) (Some all) changes h).1)
+    in subst AreOfProcesses (from_some all changes (passed (lets_end parcel.pid parent) (Some all) changes h).1)
     (both-are (all_gone (map (λ e. e.0) bodies))
     (parts_in (kernel_after_end parcel.pid parcel.parent parent (ending_of parcel.call))
     (names_after_end parcel.pid parcel.parent parent))
@@ -81,17 +82,17 @@ module _ (script : Script) (s : Step) (parcel : Parcel) where
 
   exit-by : (bodies : Numbered Body) (parent : Body) (t : Step) (o : Option (List (Name × Body)))
       → commit_exit parcel bodies parent ≡ o → option_map (enter_exit s parcel) o ≡ Some t → EndsFree script s t
-  exit-by bodies parent t None e h = none-some t h
+  exit-by bodies parent t None e h = not_some t h
   exit-by bodies parent t (Some changes) e h =
-      subst (EndsFree script s) (in-some (enter_exit s parcel changes) t h)
+      subst (EndsFree script s) (from_some (enter_exit s parcel changes) t h)
       (entered changes (exit-are parcel bodies parent changes e))
 
   exit-of : (t : Step) (bodies : Option (Numbered Body)) (parent : Option Body)
       → exit_with s parcel bodies parent ≡ Some t → EndsFree script s t
   exit-of t (Some bodies) (Some parent) h =
       exit-by bodies parent t (commit_exit parcel bodies parent) refl h
-  exit-of t (Some bodies) None h = none-some t h
-  exit-of t None parent h = none-some t h
+  exit-of t (Some bodies) None h = not_some t h
+  exit-of t None parent h = not_some t h
 
   -- An exit is carried out.
   pub exit-free : (t : Step) → exit_here s parcel ≡ Some t → EndsFree script s t

@@ -5,6 +5,7 @@ use Rattle.pico_base.specs.declared.script.Script.{Script}
 use Rattle.pico_base.specs.declared.script.Event.{Event}
 use Rattle.pico_base.specs.declared.script.Event.TheVariants as events
 use Rattle.rpc_frame.specs.declared.frame.Frame.{Frame}
+use Rattle.kernel_laws.proofs.Plain.{from_some, not_some}
 use Rattle.world_model.specs.Node.{Node}
 use Rattle.world_model.specs.Step.{Step}
 use Rattle.world_model.specs.Starting.{run}
@@ -16,12 +17,6 @@ use Rattle.world_laws.specs.Invariant.{IsShaped}
 use Rattle.world_laws.proofs.Steps.{Heads, world_without, take-steps, run-steps, node-there}
 use Rattle.world_weights.specs.Weights.{Falls, calls_weight, call_weight, frame_weight, node_weight, sends_weight, weight}
 use Rattle.world_weights.proofs.Sums.{call-moves, sent-all, sum-set, taken-one}
-
-none-is-some : {A : Type 0} {B : Type 0} (a : A) → None ≡ Some a → B
-none-is-some a h = cc
-
-some-is : {X : Type 0} (x y : X) → Some x ≡ Some y → x ≡ y
-some-is x y h = cc
 
 -- a step lowers what the node weighs, with the frame that it takes, and the calls
 pub record Lowers (script : Script) (n : Node) (taken : ℕ) (call call_after : ℕ → CallPlace) (s : Step) : Type 0 where
@@ -56,7 +51,7 @@ take-falls script w p q frame rest call call_after shape h lowers next is =
         ∙ ap (takes_at w p q (Some (node_of w p))) h.head
         ∙ ap (after_turn (world_without w p q rest) p)
         (ap (λ x. take_turn x (node_of w p) q frame) shape.of_script ∙ ap (option_and_then sends_frames) e)
-        in none-is-some next (sym stuck ∙ is)
+        in not_some next (sym stuck ∙ is)
     by-rule (Some s) e =
         let there : step w (events.Take p q) ≡ Some (world_after (world_without w p q rest) p s) =
         take-steps script w p q frame rest s shape h e
@@ -64,7 +59,7 @@ take-falls script w p q frame rest call call_after shape h lowers next is =
         after-step script (world_without w p q rest) p (frame_weight frame) (node_of w p) s call call_after
         (node-there script w shape p h.low h.high) (lowers s e)
         in let fewer = taken-one w.streams p q frame rest h.head
-        in subst (λ v. weight script v call_after < weight script w call) (some-is _ _ (sym there ∙ is))
+        in subst (λ v. weight script v call_after < weight script w call) (from_some _ _ (sym there ∙ is))
         (omega (arith, lower, fewer))
 
 -- A node that starts a call.
@@ -82,12 +77,12 @@ run-falls script w p call call_after shape low high lowers next is =
         ap (runs_at w p) (node-there script w shape p low high)
         ∙ ap (after_turn w p)
         (ap (λ x. run_turn x (node_of w p)) shape.of_script ∙ ap (option_and_then sends_frames) e)
-        in none-is-some next (sym stuck ∙ is)
+        in not_some next (sym stuck ∙ is)
     by-rule (Some s) e =
         let there : step w (events.Run p) ≡ Some (world_after w p s) = run-steps script w p s shape low high e
         in let lower =
         after-step script w p 0 (node_of w p) s call call_after (node-there script w shape p low high) (lowers s e)
-        in subst (λ v. weight script v call_after < weight script w call) (some-is _ _ (sym there ∙ is))
+        in subst (λ v. weight script v call_after < weight script w call) (from_some _ _ (sym there ∙ is))
         (omega (arith, lower))
 
 -- no call is in another place

@@ -1,6 +1,6 @@
 -- A deed comes back to the leader: with what was held for its name in hand, and its step begun, the weight is lower. So
 -- it is afterwards, where the release of the hand makes it no heavier.
-use Rattle.std.proofs.Common.{◌≡◌, ℕ, ◌+◌, ◌*◌, ◌≤◌, Bool, true, false, not, ◌&&◌, cond, List, [], ◌∷◌, length, filter, nat_eq, is_none, Option, Some, None, option_and_then, refl, ap, sym, ◌∙◌, arith}
+use Rattle.std.proofs.Common.{◌≡◌, ℕ, ◌+◌, ◌*◌, ◌≤◌, Bool, true, not, ◌&&◌, List, [], ◌∷◌, nat_eq, is_none, Option, Some, None, option_and_then, refl, ap, sym, ◌∙◌, arith}
 use Rattle.std.specs.Prelude.{count_by, sum_by}
 use Rattle.std.specs.List.{AllByRecursion}
 use Rattle.std.proofs.lemmas.Bool.{false≢true}
@@ -14,6 +14,7 @@ use Rattle.pico_base.specs.Home.{home_of}
 use Rattle.rpc_frame.specs.declared.deed.PackedDeed.{PackedDeed}
 use Rattle.rpc_frame.specs.declared.frame.Frame.{Frame}
 use Rattle.rpc_frame.specs.declared.frame.Frame.TheVariants as frames
+use Rattle.kernel_laws.proofs.Plain.{not_some}
 use Rattle.node_model.specs.Bodies.{Body}
 use Rattle.node_model.specs.declared.held.Held.{Held}
 use Rattle.node_model.specs.declared.held.Held.TheVariants.{Request, Ending}
@@ -37,11 +38,11 @@ use Rattle.world_rules.proofs.Places.{place-with-same}
 use Rattle.world_release.proofs.TakenUp.{taken_up}
 use Rattle.world_weights.specs.Weights.{Falls, calls_weight, cost_if, destination_weight, directory_weight, is_away, item_weight, middle_weight, node_weight, routing_weight}
 use Rattle.world_weights.proofs.Costs.{table-none}
-use Rattle.world_weights.proofs.Counts.{IsOfNode, calls-taken-up, held-count, is_request, requests_in}
+use Rattle.world_weights.proofs.Counts.{IsOfNode, calls-taken-up, filtered, held-count, is_request, requests_in}
 use Rattle.world_weights.proofs.Events.{Lowers, take-falls}
 use Rattle.world_weights.proofs.Hand.{IsRemovalOnly, RemovalsAreOf, RemovesOnly, back-low, back_weight, none-back}
 use Rattle.world_weights.proofs.Routes.{IsComing}
-use Rattle.world_weights.proofs.Parts.{and-left, and-right, none-some, passed, place-replaces}
+use Rattle.world_weights.proofs.Parts.{and-left, and-right, passed, place-replaces}
 
 -- ---- what is held for a name
 
@@ -63,22 +64,9 @@ known-home d name known homes.Parent on = absurd (false≢true on)
 abbrev pub ones : (Held → Bool) → List Held → ℕ
 ones test items = sum_by (λ item. one_if (test item)) items
 
-one-counted : (test : Held → Bool) (t : Bool) (item : Held) (items : List Held)
-    → length (cond t (item ∷ filter test items) (filter test items)) ≡ one_if t + length (filter test items)
-one-counted test true item items = omega arith
-one-counted test false item items = omega arith
-
-counted : (test : Held → Bool) (items : List Held) → ones test items ≡ length (filter test items)
-counted test [] = refl
-counted test (item ∷ items) =
-    let rest = counted test items
-    in let one = one-counted test (test item) item items
-    in let all = sum_by-cons (λ i. one_if (test i)) item items
-    in omega (arith, rest, one, all)
-
 -- as many parcels
 pub parcels-counted : (items : List Held) → ones is_parcel items ≡ count_by is_parcel items
-parcels-counted items = counted is_parcel items ∙ length-filter is_parcel items
+parcels-counted items = filtered is_parcel items ∙ length-filter is_parcel items
 
 item-costs : (d : Directory) (name : Name) → is_known d name ≡ true → (item : Held) → IsItemFor name item
     → item_weight d item ≤ 7 * one_if (is_request item) + one_if (is_parcel item)
@@ -126,7 +114,7 @@ items-only name (item ∷ items) all = (item-only name item all.0, items-only na
 -- ---- the deed comes
 
 goes-for : (d : Directory) (to : Option ℕ) (other : ℕ) → goes_on_to d to ≡ Some other → destination_weight to ≡ 3
-goes-for d None other h = none-some other h
+goes-for d None other h = not_some other h
 goes-for d (Some to) other h = refl
 
 coming-is : (o : Option Place) → is_coming_to o ≡ true → IsComing o
@@ -254,7 +242,7 @@ module _ (script : Script) (w : World) (b : Beside) (holds : Holds script w [] b
 
   by-body : (t : Step) (o : Option Body) → read_deed packed ≡ o → IsComing (place_of (directory_of w) packed.name) → ReleaseIsLight
       → option_and_then (come_back script m packed.name) o ≡ Some t → Lowers script m 1 b.call call_after t
-  by-body t None e coming light is = none-some t is
+  by-body t None e coming light is = not_some t is
   by-body t (Some body) e coming light is = ended body t e coming light is
 
   give-back-lowers : ReleaseIsLight → (t : Step) → take_give_back script m q packed ≡ Some t

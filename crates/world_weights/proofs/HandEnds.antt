@@ -13,6 +13,7 @@ use Rattle.rpc_frame.specs.declared.deed.PackedDeed.{PackedDeed}
 use Rattle.rpc_frame.specs.declared.deed.Parcel.{Parcel}
 use Rattle.rpc_frame.specs.declared.frame.Frame.TheVariants as frames
 use Rattle.number_maps.specs.Maps.{Numbered}
+use Rattle.kernel_laws.proofs.Plain.{from_some, not_some}
 use Rattle.node_model.specs.Bodies.{Body}
 use Rattle.node_model.specs.declared.held.Held.{Held}
 use Rattle.node_model.specs.declared.held.Held.TheVariants.{Ending}
@@ -30,13 +31,14 @@ use Rattle.world_rules.proofs.Places.{place-with-other}
 use Rattle.world_release.proofs.EndedParcels.{IsPacked}
 use Rattle.world_exits.proofs.Arrivals.{AreApart, names-apart}
 use Rattle.world_exits.proofs.Released.{call_released}
+use Rattle.world_release.proofs.RoutedParcels.{directory_in}
 use Rattle.world_weights.specs.Weights.{calls_weight, directory_weight, hand_weight, is_away, item_weight, middle_weight}
 use Rattle.world_weights.proofs.Arrivals.{AreProcesses, HeldAsCounted, ItemsFit, arrivals-fewer, arrivals-free, arrivals-know, arrivals-known, calls-released, released-back, released-cost}
 use Rattle.world_weights.proofs.Costs.{step_weight}
 use Rattle.world_weights.proofs.Ends.{EndsFree, exit-free}
 use Rattle.world_weights.proofs.Hand.{FewerAway, back-less, back_weight, items-less}
-use Rattle.world_weights.proofs.Known.{directory_in, knows-with}
-use Rattle.world_weights.proofs.Parts.{in-some, none-some, place-replaces}
+use Rattle.world_weights.proofs.Known.{knows-with}
+use Rattle.world_weights.proofs.Parts.{place-replaces}
 use Rattle.world_weights.proofs.Sums.{sends-push}
 
 packed-processes : (bodies : Numbered Body)
@@ -152,11 +154,11 @@ module _ (script : Script) (call : ℕ → CallPlace) (parcel : Parcel) (packed 
   carried-out : (s : Step) (node : ℕ) (after : AfterEnd) (o : Option Step) → exit_here s parcel ≡ o
       → IsTended script call (directory_in s)
       → option_map (release_names parcel node) o ≡ Some after → EndLowers s after
-  carried-out s node after None e tended h = none-some after h
+  carried-out s node after None e tended h = not_some after h
   carried-out s node after (Some u) e tended h =
       let free : EndsFree script s u = exit-free script s parcel u e
       in let cost = free.costs
-      in subst (EndLowers s) (in-some (release_names parcel node u) after h)
+      in subst (EndLowers s) (from_some (release_names parcel node u) after h)
       (released s u node 0 (omega arith) (omega (arith, cost)) free.directory tended)
 
   end-at : (s : Step) (node : ℕ) (after : AfterEnd) (t : Bool) → IsTended script call (directory_in s)
@@ -167,16 +169,16 @@ module _ (script : Script) (call : ℕ → CallPlace) (parcel : Parcel) (packed 
   end-at s node after false tended h =
       let u : Step = send s node (frames.ExitTo parcel)
       in let one = sends-push s.sends (node, frames.ExitTo parcel)
-      in subst (EndLowers s) (in-some (release_names parcel node u) after h)
+      in subst (EndLowers s) (from_some (release_names parcel node u) after h)
       (released s u node 1 (omega arith) (omega (arith, one)) refl tended)
 
   end-place : (s : Step) (after : AfterEnd) (o : Option Place) → place_of (directory_in s) (Proc parcel.parent) ≡ o
       → IsTended script call (directory_in s) → end_by s parcel o ≡ Some after → EndLowers s after
-  end-place s after None e tended h = none-some after h
+  end-place s after None e tended h = not_some after h
   end-place s after (Some (At node)) e tended h =
       let n : Node = s.node in end-at s node after (nat_eq node n.number) tended h
   end-place s after (Some (Coming to items)) e tended h =
-      subst (EndLowers s) (in-some (IsHeld (hold_item s (Proc parcel.parent) (Ending parcel))) after h)
+      subst (EndLowers s) (from_some (IsHeld (hold_item s (Proc parcel.parent) (Ending parcel))) after h)
       (held s to items e tended)
 
   -- The end of the first parcel.

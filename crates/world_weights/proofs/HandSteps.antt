@@ -25,13 +25,13 @@ use Rattle.world_hand.proofs.HandMoves.{first}
 use Rattle.world_hand.proofs.Routes.{RouteKeeps, leader-number}
 use Rattle.world_release.proofs.Rounds.{first-is-packed, leader-in-step}
 use Rattle.world_exits.proofs.Released.{call_released}
+use Rattle.world_release.proofs.RoutedParcels.{directory_in}
 use Rattle.world_weights.specs.Weights.{call_weight, middle_weight}
 use Rattle.world_weights.proofs.Arrivals.{ItemsFit}
 use Rattle.world_weights.proofs.Costs.{MayEnd}
 use Rattle.world_weights.proofs.Counts.{IsOfNode, held-count, over, requests_in}
 use Rattle.world_weights.proofs.Hand.{RemovalsAreOf, RemovesOnly, first-goes}
 use Rattle.world_weights.proofs.HandEnds.{EndLowers, IsTended, end-lowers}
-use Rattle.world_weights.proofs.Known.{directory_in}
 use Rattle.world_weights.proofs.Routes.{place_limit, route-lowers}
 
 -- the call has a route that keeps all, and then only it is in another place, which weighs no more than its route says

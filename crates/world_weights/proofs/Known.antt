@@ -7,6 +7,7 @@ use Rattle.pico_base.specs.declared.reply.Reply.{Reply}
 use Rattle.pico_base.specs.declared.script.Script.{Script}
 use Rattle.rpc_frame.specs.declared.asked.Asked.{Asked}
 use Rattle.rpc_frame.specs.declared.frame.Frame.TheVariants as frames
+use Rattle.kernel_laws.proofs.Plain.{from_some, not_some}
 use Rattle.node_model.specs.Bodies.{Body}
 use Rattle.node_model.specs.Directory.{Directory, Place, At, is_known, place_name, stays, upcoming, with_place}
 use Rattle.node_model.specs.Kinds.{for_kind, get_named, put_all, with_kind}
@@ -19,15 +20,12 @@ use Rattle.world_model.specs.Serving.{grant, grant_held, move_to, note_read, ser
 use Rattle.world_model.specs.Step.{Step, carry_out, enter, reply_here, send, with_deeds, with_node}
 use Rattle.world_laws.proofs.Named.{name-cases}
 use Rattle.world_rules.proofs.Places.{place-with-other, place-with-same}
-use Rattle.world_weights.proofs.Parts.{in-some, none-some, passed}
+use Rattle.world_release.proofs.RoutedParcels.{directory_in}
+use Rattle.world_weights.proofs.Parts.{passed}
 
 -- each known name is known
 abbrev pub KnowsMore : Directory → Directory → Type 0
 KnowsMore d d' = (m : Name) → is_known d m ≡ true → is_known d' m ≡ true
-
--- what a step's node knows
-abbrev pub directory_in : Step → Directory
-directory_in s = let n : Node = s.node in n.leader.directory
 
 -- one after another
 pub knows-after : (d e f : Directory) → KnowsMore d e → KnowsMore e f → KnowsMore d f
@@ -126,9 +124,9 @@ served-knows script s t name asked h =
   where
     by-served : (o : Option Served) → option_map (serve_asked_with script s name asked) o ≡ Some t
         → KnowsMore (directory_in s) (directory_in t)
-    by-served None g = none-some t g
+    by-served None g = not_some t g
     by-served (Some served) g =
-        subst (λ (x : Step). KnowsMore (directory_in s) (directory_in x)) (in-some _ _ g)
+        subst (λ (x : Step). KnowsMore (directory_in s) (directory_in x)) (from_some _ _ g)
         (served-with-knows script s name asked served)
 
 -- ---- a number is taken
@@ -139,10 +137,10 @@ TakenKnows n t = let m : Node = t.node in KnowsMore n.leader.directory m.leader.
 module _ (n : Node) (kind : Kind) where
   first-knows : (m : Node) (t : Taken) (numbers : List ℕ) → KnowsMore n.leader.directory m.leader.directory
       → take_first m kind numbers ≡ Some t → TakenKnows n t
-  first-knows m t [] same h = none-some t h
+  first-knows m t [] same h = not_some t h
   first-knows m t (number ∷ numbers) same h =
       let left : Taken = record { number = number; node = record m { leases = with_kind m.leases kind numbers } }
-      in subst (TakenKnows n) (in-some left t h) same
+      in subst (TakenKnows n) (from_some left t h) same
 
   next-knows : (t : Taken) (numbers : List ℕ) → take_from n kind numbers ≡ Some t → TakenKnows n t
   next-knows t (number ∷ numbers) h = first-knows n t (number ∷ numbers) (λ m g. g) h

@@ -7,6 +7,7 @@ use Rattle.rpc_frame.specs.declared.deed.Parcel.{Parcel}
 use Rattle.rpc_frame.specs.declared.frame.Frame.{Frame}
 use Rattle.rpc_frame.specs.declared.frame.Frame.TheVariants as frames
 use Rattle.number_maps.specs.Maps.{Numbered}
+use Rattle.kernel_laws.proofs.Plain.{not_some}
 use Rattle.node_model.specs.Bodies.{Body}
 use Rattle.node_model.specs.Directory.{with_left}
 use Rattle.node_model.specs.declared.held.Held.TheVariants.{Ending}
@@ -22,7 +23,7 @@ use Rattle.world_laws.specs.Sights.{node_of}
 use Rattle.world_laws.proofs.Steps.{Heads}
 use Rattle.world_weights.specs.Weights.{Falls, calls_weight, middle_weight, node_weight}
 use Rattle.world_weights.proofs.Events.{Lowers, take-falls}
-use Rattle.world_weights.proofs.Parts.{none-some, passed}
+use Rattle.world_weights.proofs.Parts.{passed}
 
 module _ (script : Script) (w : World) (b : Beside) (holds : Holds script w [] b) (q : ℕ) (parcel : Parcel)
     (rest : List Frame) (h : Heads script w 1 q (frames.Left parcel) rest) (call_after : ℕ → CallPlace) where
@@ -46,7 +47,7 @@ module _ (script : Script) (w : World) (b : Beside) (holds : Holds script w [] b
 
   by-bodies : (t : Step) (o : Option (Numbered Body)) → EndIsLight
       → option_and_then (end_released script n q parcel) o ≡ Some t → Lowers script n 2 b.call call_after t
-  by-bodies t None light is = none-some t is
+  by-bodies t None light is = not_some t is
   by-bodies t (Some bodies) light is =
       let less = light t is
       in let begins = left-begins

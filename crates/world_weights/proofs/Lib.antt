@@ -28,3 +28,4 @@ pub mod HandSteps
 pub mod LightRounds
 pub mod Law
 pub mod LightEvents
+pub mod LightRuns

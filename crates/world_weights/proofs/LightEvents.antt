@@ -1,7 +1,6 @@
 -- Events in which the leader routes calls or ends a process: where its hand goes on with each call in its place, there is
 -- a step that keeps all and lowers the weight.
 use Rattle.std.proofs.Common.{◌≡◌, ℕ, ◌≤◌, Bool, true, false, if◌then◌else◌, nat_eq, List, [], ◌∷◌, Option, Some, refl, ap, sym, subst, ◌∙◌}
-use Rattle.std.specs.List.{AllByRecursion}
 use Rattle.pico_base.specs.declared.call.Call.{Call}
 use Rattle.pico_base.specs.declared.numbers.Name.{Name}
 use Rattle.pico_base.specs.declared.script.Event.{Event}
@@ -11,6 +10,7 @@ use Rattle.rpc_frame.specs.declared.asked.Asked.{Asked}
 use Rattle.rpc_frame.specs.declared.deed.Parcel.{Parcel}
 use Rattle.rpc_frame.specs.declared.frame.Frame.{Frame}
 use Rattle.rpc_frame.specs.declared.frame.Frame.TheVariants as frames
+use Rattle.kernel_laws.proofs.Plain.{from_some}
 use Rattle.node_model.specs.declared.held.Held.{Held}
 use Rattle.node_model.specs.declared.held.Held.TheVariants.{Request, Ending}
 use Rattle.node_model.specs.Directory.{with_left}
@@ -32,7 +32,6 @@ use Rattle.world_weights.proofs.Events.{falls-alike}
 use Rattle.world_weights.proofs.HandSteps.{LightRoute}
 use Rattle.world_weights.proofs.LeftFalls.{left-falls}
 use Rattle.world_weights.proofs.LightRounds.{EmptiesLightly, RoutesLightly, release-is-light}
-use Rattle.world_weights.proofs.Parts.{in-some}
 use Rattle.world_weights.proofs.RouteFalls.{ask-falls, bounce-falls}
 
 -- the event has a step that keeps all, with something beside the world, and lowers the weight
@@ -57,7 +56,7 @@ last-is-light : (script : Script) (Good : World → Step → List Held → Type 
     → (let after : Beside = e.beside in middle_weight script t [] after.call ≤ from_weight)
 last-is-light script Good v from_weight came_to e t is =
     let after : Beside = e.beside
-    in subst (λ (s : Step). middle_weight script s [] after.call ≤ from_weight) (in-some _ _ (sym e.is_last ∙ is))
+    in subst (λ (s : Step). middle_weight script s [] after.call ≤ from_weight) (from_some _ _ (sym e.is_last ∙ is))
     e.lower
 
 module _ (script : Script) (name : Name) (Good : World → Step → List Held → Type 0)

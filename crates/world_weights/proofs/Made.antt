@@ -13,6 +13,7 @@ use Rattle.kernel_model.specs.Fitting.{child_vars}
 use Rattle.kernel_model.specs.Queue.{empty_queue}
 use Rattle.kernel_model.specs.Row.{Row}
 use Rattle.kernel_model.specs.SemaphoreSet.{SemaphoreSet, new_set}
+use Rattle.kernel_laws.proofs.Plain.{from_some, not_some}
 use Rattle.node_model.specs.Bodies.{ASet, AQueue, Body}
 use Rattle.node_model.specs.Caller.{caller_place}
 use Rattle.node_model.specs.Directory.{place_name, upcoming}
@@ -25,7 +26,7 @@ use Rattle.world_model.specs.Numbers.{Taken, fork_with, make, make_object, make_
 use Rattle.world_model.specs.Step.{Step, carry_out, send, with_deeds, with_directory, with_node}
 use Rattle.world_weights.specs.Weights.{node_weight}
 use Rattle.world_weights.proofs.Costs.{MayEnd, carried-costs, step_weight}
-use Rattle.world_weights.proofs.Parts.{in-some, none-some, passed, placed-keeps-weight, size-put, table-adds}
+use Rattle.world_weights.proofs.Parts.{passed, placed-keeps-weight, size-put, table-adds}
 use Rattle.world_weights.proofs.Sums.{sends-push}
 
 -- ---- a number is taken
@@ -43,11 +44,11 @@ module _ (script : Script) (n : Node) (kind : Kind) where
   -- a node that weighs the same, without its next number
   first-taken : (m : Node) (t : Taken) (numbers : List ℕ) → TakesNone script n m → take_first m kind numbers ≡ Some t
       → TakenFrom script n t
-  first-taken m t [] same h = none-some t h
+  first-taken m t [] same h = not_some t h
   first-taken m t (number ∷ numbers) same h =
       let left : Taken = record { number = number; node = record m { leases = with_kind m.leases kind numbers } }
       in let weighs : node_weight script left.node ≤ node_weight script n = same.weighs
-      in subst (TakenFrom script n) (in-some left t h)
+      in subst (TakenFrom script n) (from_some left t h)
       (record {
         weighs = weighs;
         number_is = same.number_is;
@@ -124,24 +125,24 @@ module _ (script : Script) (s : Step) (call : Call) (may : let n : Node = s.node
 
   set-costs : (number : ℕ) (t : Step) (o : Result SemaphoreSet Errno) → make_set script s call number o ≡ Some t
       → cheap t
-  set-costs number t (Err e) h = none-some t h
-  set-costs number t (Ok set) h = subst cheap (in-some _ _ h) (object-costs (Sem number) (ASet set) number)
+  set-costs number t (Err e) h = not_some t h
+  set-costs number t (Ok set) h = subst cheap (from_some _ _ h) (object-costs (Sem number) (ASet set) number)
 
   forked-costs : (block child : ℕ) (t : Step) (o : Option Row)
       → option_map (fork_with script s call block child) o ≡ Some t → cheap t
-  forked-costs block child t None h = none-some t h
-  forked-costs block child t (Some row) h = subst cheap (in-some _ _ h) (fork-costs block child row)
+  forked-costs block child t None h = not_some t h
+  forked-costs block child t (Some row) h = subst cheap (from_some _ _ h) (fork-costs block child row)
 
 made-with : (script : Script) (s t : Step) (call : Call) (number : ℕ) → (let n : Node = s.node in MayEnd script n)
     → make_with script s call number ≡ Some t → step_weight script t ≤ step_weight script s + 2
 made-with script s t (calls.Fork block) number may h =
     let n : Node = s.node in forked-costs script s (calls.Fork block) may block number t (own_row n) h
 made-with script s t (calls.MsgGet key create excl) number may h =
-    subst (λ (x : Step). step_weight script x ≤ step_weight script s + 2) (in-some _ _ h)
+    subst (λ (x : Step). step_weight script x ≤ step_weight script s + 2) (from_some _ _ h)
     (object-costs script s (calls.MsgGet key create excl) may (Msg number) (AQueue empty_queue) number)
 made-with script s t (calls.SemGet key count create excl) number may h =
     set-costs script s (calls.SemGet key count create excl) may number t (new_set count) h
-made-with script s t call number may h = none-some t h
+made-with script s t call number may h = not_some t h
 
 -- Something is made with the next number.
 pub made-costs : (script : Script) (s t : Step) (call : Call) (kind : Kind)
@@ -152,7 +153,7 @@ made-costs script s t call kind may h = let n : Node = s.node in by-number (take
     by-number : (o : Option Taken) → (let n : Node = s.node in take_number n kind ≡ o)
         → option_and_then (make_taken script s call) o ≡ Some t
         → step_weight script t ≤ step_weight script s + 2
-    by-number None e g = none-some t g
+    by-number None e g = not_some t g
     by-number (Some taken) e g =
         let n : Node = s.node
         in let same : TakesNone script n taken.node = number-taken script n kind taken e

@@ -1,5 +1,5 @@
 -- Sums over a map, and how many entries it has: how they change where a value is put.
-use Rattle.std.proofs.Common.{◌≡◌, ◌≢◌, ℕ, ◌+◌, ◌≤◌, Bool, not, nat_eq, [], ◌∷◌, length, Some, None, ap, sym, ◌∙◌, inl, inr, arith}
+use Rattle.std.proofs.Common.{◌≡◌, ◌≢◌, ℕ, ◌+◌, ◌≤◌, Bool, not, nat_eq, [], ◌∷◌, length, Some, ap, sym, ◌∙◌, inl, inr, arith}
 use Rattle.std.specs.Prelude.{sum_by}
 use Rattle.std.proofs.lemmas.Bool.{cases_order, cases_eq, eq-eqb, ne_eqb}
 use Rattle.std.proofs.lemmas.List.Sums.{sum_by-cons}
@@ -7,12 +7,7 @@ use Rattle.number_maps.specs.Maps.{Numbered, get, put, without}
 use Rattle.number_maps.specs.Rising.{IsRising}
 use Rattle.number_maps.proofs.LookUps.{get-first, get-later, put-less, put-equal, put-greater, filter-kept, filter-dropped}
 use Rattle.number_maps.proofs.Rising.{above-first, above-lower, get-above, rising-rest}
-
-none-is-some : {A : Type 0} {B : Type 0} (a : A) → None ≡ Some a → B
-none-is-some a h = cc
-
-some-is : {X : Type 0} (x y : X) → Some x ≡ Some y → x ≡ y
-some-is x y h = cc
+use Rattle.kernel_laws.proofs.Plain.{from_some, not_some}
 
 module _ {V : Type 0} (g : V → ℕ) where
   abbrev values : Numbered V → ℕ
@@ -48,20 +43,20 @@ module _ {V : Type 0} (g : V → ℕ) where
   -- and the old one goes
   pub put-replaces : (m : Numbered V) (k : ℕ) (v was : V) → IsRising m → get m k ≡ Some was
       → values (put m k v) + g was ≤ values m + g v
-  put-replaces [] k v was rises there = none-is-some was there
+  put-replaces [] k v was rises there = not_some was there
   put-replaces (e ∷ m) k v was rises there =
       let old = one-more e m
       in elim (cases_order k e.0) [
         | inl same ↦
             let now = ap values (put-equal e m k v same)
             in let one = one-more (e.0, v) m
-            in let first : g e.1 ≡ g was = ap g (some-is e.1 was (sym (get-first e m k same) ∙ there))
+            in let first : g e.1 ≡ g was = ap g (from_some e.1 was (sym (get-first e m k same) ∙ there))
             in omega (arith, old, now, one, first)
         | inr c ↦
             elim c [
               | inl l ↦
                   let ne : k ≢ e.0 = omega arith
-                  in none-is-some was (sym (get-later e m k ne
+                  in not_some was (sym (get-later e m k ne
                   ∙ get-above k m (above-lower k e.0 m l (above-first e m rises))) ∙ there)
               | inr l ↦
                   let ne : k ≢ e.0 = omega arith
@@ -94,7 +89,7 @@ module _ {V : Type 0} where
   -- and no more where there is one
   pub length-put-there : (m : Numbered V) (k : ℕ) (v was : V) → IsRising m → get m k ≡ Some was
       → length (put m k v) ≤ length m
-  length-put-there [] k v was rises there = none-is-some was there
+  length-put-there [] k v was rises there = not_some was there
   length-put-there (e ∷ m) k v was rises there =
       elim (cases_order k e.0) [
         | inl same ↦ let now = ap length (put-equal e m k v same) in omega (arith, now)
@@ -102,7 +97,7 @@ module _ {V : Type 0} where
             elim c [
               | inl l ↦
                   let ne : k ≢ e.0 = omega arith
-                  in none-is-some was (sym (get-later e m k ne
+                  in not_some was (sym (get-later e m k ne
                   ∙ get-above k m (above-lower k e.0 m l (above-first e m rises))) ∙ there)
               | inr l ↦
                   let ne : k ≢ e.0 = omega arith
@@ -132,7 +127,7 @@ module _ {V : Type 0} where
 
   -- one fewer at least where there was one
   pub length-without : (m : Numbered V) (k : ℕ) (was : V) → get m k ≡ Some was → length (without m k) + 1 ≤ length m
-  length-without [] k was there = none-is-some was there
+  length-without [] k was there = not_some was there
   length-without (e ∷ m) k was there =
       elim (cases_eq k e.0) [
         | inl same ↦

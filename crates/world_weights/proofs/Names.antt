@@ -12,6 +12,7 @@ use Rattle.rpc_frame.specs.declared.frame.Frame.{Frame}
 use Rattle.rpc_frame.specs.declared.frame.Frame.TheVariants as frames
 use Rattle.number_maps.specs.Maps.{Numbered}
 use Rattle.kernel_model.specs.Script.{Vars}
+use Rattle.kernel_laws.proofs.Plain.{from_some, not_some}
 use Rattle.node_model.specs.Bodies.{Body, Living as LivingBody, Ended, Gone, AQueue, ASet, Removed}
 use Rattle.node_model.specs.Directory.{Directory, Coming, stays, place_of, place_name, with_leaving}
 use Rattle.node_model.specs.Kinds.{get_named, is_object, none_named}
@@ -29,7 +30,7 @@ use Rattle.world_laws.specs.Places.{CallPlace}
 use Rattle.world_weights.specs.Weights.{frame_weight, stream_weight, sends_weight, node_weight, to_start, to_start_in}
 use Rattle.world_weights.proofs.Sums.{sends-push}
 use Rattle.world_weights.proofs.Events.{Lowers, lowers-still}
-use Rattle.world_weights.proofs.Parts.{passed, none-some, in-some, and-left, and-right, not-true, size_of, size-put, size-without, table-adds, table-counts, place-adds, placed-keeps-weight, leaving-keeps-weight}
+use Rattle.world_weights.proofs.Parts.{no-table, passed, and-left, and-right, not-true, size_of, size-put, size-without, table-adds, table-counts, place-adds, placed-keeps-weight, leaving-keeps-weight}
 
 module _ (script : Script) (n : Node) (call : ℕ → CallPlace) where
   -- the step lowers the weight, with no call moved
@@ -37,7 +38,7 @@ module _ (script : Script) (n : Node) (call : ℕ → CallPlace) where
   LowersAlone taken s = Lowers script n taken call call s
 
   becomes : (taken : ℕ) (m s : Step) → Some m ≡ Some s → LowersAlone taken m → LowersAlone taken s
-  becomes taken m s e low = subst (LowersAlone taken) (in-some m s e) low
+  becomes taken m s e low = subst (LowersAlone taken) (from_some m s e) low
 
   -- ---- Placed
 
@@ -60,19 +61,19 @@ module _ (script : Script) (n : Node) (call : ℕ → CallPlace) where
   pub suggest-lowers : (from : ℕ) (name : Name) (to : ℕ) (s : Step) → take_suggest script n from name to ≡ Some s
       → LowersAlone 5 s
   suggest-lowers from name to s h =
-      subst (LowersAlone 5) (in-some _ _ (passed _ _ s h).1)
+      subst (LowersAlone 5) (from_some _ _ (passed _ _ s h).1)
       (suggest-by from name to (is_at from (place_of n.leader.directory name) && stays n.leader.directory to))
 
   -- ---- Recall
 
   recall-by : (name : Name) (s : Step) (o : Option Body) → get_named n.deeds name ≡ o → is_leader n ≡ false
       → is_object name ≡ true → option_map (give_back n name) o ≡ Some s → LowersAlone 1 s
-  recall-by name s None there other object h = none-some s h
+  recall-by name s None there other object h = not_some s h
   recall-by name s (Some body) there other object h =
       let fewer = size-without n.deeds name body object there
       in let old = table-counts n other
       in let now = table-counts (without_deed n name) other
-      in subst (LowersAlone 1) (in-some _ _ h)
+      in subst (LowersAlone 1) (from_some _ _ h)
       (lowers-still script n 1 call (give_back n name body) (omega (arith, fewer, old, now)))
 
   pub recall-lowers : (from : ℕ) (name : Name) (s : Step) → take_recall n from name ≡ Some s → LowersAlone 1 s
@@ -85,10 +86,10 @@ module _ (script : Script) (n : Node) (call : ℕ → CallPlace) where
 
   grant-by : (name : Name) (s : Step) (o : Option Body) → option_map (receive_deed n name) o ≡ Some s
       → LowersAlone 2 s
-  grant-by name s None h = none-some s h
+  grant-by name s None h = not_some s h
   grant-by name s (Some body) h =
       let more = table-adds n (keep n name body) 1 refl (size-put n.deeds name body)
-      in subst (LowersAlone 2) (in-some _ _ h)
+      in subst (LowersAlone 2) (from_some _ _ h)
       (lowers-still script n 2 call (receive_deed n name body) (omega (arith, more)))
 
   pub grant-lowers : (from : ℕ) (packed : PackedDeed) (s : Step) → take_grant n from packed ≡ Some s → LowersAlone 2 s
@@ -103,10 +104,6 @@ module _ (script : Script) (n : Node) (call : ℕ → CallPlace) where
   is-unborn Left h = absurd (false≢true h)
   is-unborn Over h = absurd (false≢true h)
 
-  no-table : (t : Bool) → let none : ℕ = 0 in (if t then none else none) ≡ none
-  no-table true = refl
-  no-table false = refl
-
   born-lowers : (from pid parent : ℕ) (vars : Vars) (body : Body) → n.stage ≡ Unborn
       → LowersAlone 1 (step_to (be_born n from pid parent vars body))
   born-lowers from pid parent vars body unborn =
@@ -118,16 +115,16 @@ module _ (script : Script) (n : Node) (call : ℕ → CallPlace) where
   born-by : (from pid parent : ℕ) (vars : Vars) (s : Step) (body : Body) → n.stage ≡ Unborn
       → born_with n from pid parent vars body ≡ Some s → LowersAlone 1 s
   born-by from pid parent vars s (LivingBody row) unborn h =
-      subst (LowersAlone 1) (in-some _ _ (passed _ _ s h).1) (born-lowers from pid parent vars (LivingBody row) unborn)
-  born-by from pid parent vars s (Ended ending) unborn h = none-some s h
-  born-by from pid parent vars s Gone unborn h = none-some s h
-  born-by from pid parent vars s (AQueue queue) unborn h = none-some s h
-  born-by from pid parent vars s (ASet set) unborn h = none-some s h
-  born-by from pid parent vars s Removed unborn h = none-some s h
+      subst (LowersAlone 1) (from_some _ _ (passed _ _ s h).1) (born-lowers from pid parent vars (LivingBody row) unborn)
+  born-by from pid parent vars s (Ended ending) unborn h = not_some s h
+  born-by from pid parent vars s Gone unborn h = not_some s h
+  born-by from pid parent vars s (AQueue queue) unborn h = not_some s h
+  born-by from pid parent vars s (ASet set) unborn h = not_some s h
+  born-by from pid parent vars s Removed unborn h = not_some s h
 
   checkpoint-by : (from pid parent : ℕ) (vars : Vars) (s : Step) (o : Option Body) → n.stage ≡ Unborn
       → option_and_then (born_with n from pid parent vars) o ≡ Some s → LowersAlone 1 s
-  checkpoint-by from pid parent vars s None unborn h = none-some s h
+  checkpoint-by from pid parent vars s None unborn h = not_some s h
   checkpoint-by from pid parent vars s (Some body) unborn h = born-by from pid parent vars s body unborn h
 
   pub checkpoint-lowers : (from pid parent : ℕ) (deed : PackedDeed) (vars : Vars) (s : Step)
@@ -208,7 +205,7 @@ module _ (script : Script) (n : Node) (call : ℕ → CallPlace) where
 
   recall-all-by : (s : Step) (o : Option Call) → n.stage ≡ Leaving → is_leader n ≡ false
       → option_and_then (hand_over n) o ≡ Some s → LowersAlone 3 s
-  recall-all-by s None leaving other h = none-some s h
+  recall-all-by s None leaving other h = not_some s h
   recall-all-by s (Some ends) leaving other h = handed-over ends s leaving other h
 
   pub recall-all-lowers : (from : ℕ) (s : Step) → is_leader n ≡ false → take_recall_all n from ≡ Some s

@@ -11,6 +11,7 @@ use Rattle.pico_base.specs.declared.script.Script.{Script}
 use Rattle.pico_base.specs.Home.{home_of}
 use Rattle.rpc_frame.specs.declared.asked.Asked.{Asked}
 use Rattle.rpc_frame.specs.declared.frame.Frame.TheVariants as frames
+use Rattle.kernel_laws.proofs.Plain.{from_some, not_some}
 use Rattle.node_model.specs.Caller.{Caller, answer_call}
 use Rattle.node_model.specs.Directory.{upcoming, with_range}
 use Rattle.node_model.specs.Leases.{leases_hold, refill, takes_number}
@@ -28,7 +29,7 @@ use Rattle.world_weights.proofs.Costs.{MayEnd, RisesBesides, move_cost, nobody-c
 use Rattle.world_weights.proofs.Events.{Lowers, lowers-moved}
 use Rattle.world_weights.proofs.Lines.{answer-below}
 use Rattle.world_weights.proofs.Made.{made-costs}
-use Rattle.world_weights.proofs.Parts.{in-some, none-some, passed}
+use Rattle.world_weights.proofs.Parts.{passed}
 
 -- a step that costs so much, and a call that goes from a place to another
 pub lowers-by-cost : (script : Script) (n : Node) (s : Step) (taken more : ℕ) (call : ℕ → CallPlace) (p : ℕ)
@@ -67,7 +68,7 @@ module _ (script : Script) (n : Node) where
       send (step_to (with_directory n (with_range n.leader.directory kind from))) from
       (frames.Lease kind (upcoming n.leader.directory kind))
       in let cost : CostsAtMost 0 m = omega arith
-      in subst (CostsAtMost 0) (in-some m s (passed _ _ s h).1) cost
+      in subst (CostsAtMost 0) (from_some m s (passed _ _ s h).1) cost
 
   -- ---- Answer
 
@@ -85,7 +86,7 @@ module _ (script : Script) (n : Node) where
 
   answer-by : (from ticket : ℕ) (reply : Reply) (s : Step) (o : Option Call) → under_way_as n ticket ≡ o
       → MayEnd script n → option_and_then (answered_by script n from reply) o ≡ Some s → CostsAtMost 0 s
-  answer-by from ticket reply s None e may h = none-some s h
+  answer-by from ticket reply s None e may h = not_some s h
   answer-by from ticket reply s (Some call) e may h =
       let below : left_to_start script n.number (answer_call script n.number n.caller call reply)
       ≤ left_to_start script n.number n.caller =
@@ -93,7 +94,7 @@ module _ (script : Script) (n : Node) where
       in let m : Step = step_to (end_with_reply script n from call reply)
       in let cost : CostsAtMost 0 m =
       ended-costs (home_of n.pid call) from (answer_call script n.number n.caller call reply) below
-      in subst (CostsAtMost 0) (in-some m s (passed _ _ s h).1) cost
+      in subst (CostsAtMost 0) (from_some m s (passed _ _ s h).1) cost
 
   pub answer-costs : (from ticket : ℕ) (reply : Reply) (s : Step) → MayEnd script n
       → take_answer script n from ticket reply ≡ Some s → CostsAtMost 0 s
@@ -131,21 +132,21 @@ module _ (script : Script) (n : Node) where
         → CostsAtMost 5 s
     forward-at name s true h = serve-costs name s h
     forward-at name s false h =
-        subst (CostsAtMost 5) (in-some _ _ h)
+        subst (CostsAtMost 5) (from_some _ _ h)
         (more-is-fine (bounce_or_nobody script n asked name) (unserved-costs name))
 
     forward-removal : (name : Name) (s : Step) (t : Bool)
         → (if t then Some (bounce n asked) else Some (bounce_or_nobody script n asked name)) ≡ Some s
         → CostsAtMost 0 s
-    forward-removal name s true h = subst (CostsAtMost 0) (in-some _ _ h) bounce-costs
-    forward-removal name s false h = subst (CostsAtMost 0) (in-some _ _ h) (unserved-costs name)
+    forward-removal name s true h = subst (CostsAtMost 0) (from_some _ _ h) bounce-costs
+    forward-removal name s false h = subst (CostsAtMost 0) (from_some _ _ h) (unserved-costs name)
 
     forward-home : (s : Step) (home : Home) → forwarded_by script n asked home ≡ Some s → CostsAtMost 5 s
     forward-home s (homes.At name) h = forward-at name s (holds n name) h
     forward-home s (homes.Removal name) h = more-is-fine s (forward-removal name s (holds n name) h)
-    forward-home s homes.Own h = none-some s h
-    forward-home s homes.Keys h = none-some s h
-    forward-home s homes.Parent h = none-some s h
+    forward-home s homes.Own h = not_some s h
+    forward-home s homes.Keys h = not_some s h
+    forward-home s homes.Parent h = not_some s h
 
     -- in whatever way it ends
     pub forward-costs : (from : ℕ) (s : Step) → take_forward script n from asked ≡ Some s → CostsAtMost 5 s
@@ -154,13 +155,13 @@ module _ (script : Script) (n : Node) where
     unserved-home : (s : Step) (home : Home) → IsNotServed n home → forwarded_by script n asked home ≡ Some s
         → CostsAtMost 0 s
     unserved-home s (homes.At name) lacks h =
-        subst (CostsAtMost 0) (in-some _ _
+        subst (CostsAtMost 0) (from_some _ _
         (sym (ap (λ t. if t then serve_asked script (step_to n) name asked
         else Some (bounce_or_nobody script n asked name)) lacks) ∙ h)) (unserved-costs name)
     unserved-home s (homes.Removal name) lacks h = forward-removal name s (holds n name) h
-    unserved-home s homes.Own lacks h = none-some s h
-    unserved-home s homes.Keys lacks h = none-some s h
-    unserved-home s homes.Parent lacks h = none-some s h
+    unserved-home s homes.Own lacks h = not_some s h
+    unserved-home s homes.Keys lacks h = not_some s h
+    unserved-home s homes.Parent lacks h = not_some s h
 
     -- then it costs nothing
     pub bounced-costs : (from : ℕ) (s : Step) → IsNotServed n (home_of asked.pid asked.call)
@@ -177,25 +178,25 @@ module _ (script : Script) (n : Node) where
     request-at name s true h = serve-costs name s h
     request-at name s false h =
         let cost : CostsAtMost 0 refusal = omega arith
-        in subst (CostsAtMost 5) (in-some refusal s h) (more-is-fine refusal cost)
+        in subst (CostsAtMost 5) (from_some refusal s h) (more-is-fine refusal cost)
 
     request-home : (s : Step) (home : Home) → requested_by script n asked home ≡ Some s → CostsAtMost 5 s
     request-home s (homes.At name) h = request-at name s (holds n name) h
-    request-home s (homes.Removal name) h = none-some s h
-    request-home s homes.Own h = none-some s h
-    request-home s homes.Keys h = none-some s h
-    request-home s homes.Parent h = none-some s h
+    request-home s (homes.Removal name) h = not_some s h
+    request-home s homes.Own h = not_some s h
+    request-home s homes.Keys h = not_some s h
+    request-home s homes.Parent h = not_some s h
 
     refused-home : (s : Step) (home : Home) → IsNotServed n home → requested_by script n asked home ≡ Some s
         → CostsAtMost 0 s
     refused-home s (homes.At name) lacks h =
         let cost : CostsAtMost 0 refusal = omega arith
-        in subst (CostsAtMost 0) (in-some refusal s
+        in subst (CostsAtMost 0) (from_some refusal s
         (sym (ap (λ t. if t then serve_asked script (step_to n) name asked else Some refusal) lacks) ∙ h)) cost
-    refused-home s (homes.Removal name) lacks h = none-some s h
-    refused-home s homes.Own lacks h = none-some s h
-    refused-home s homes.Keys lacks h = none-some s h
-    refused-home s homes.Parent lacks h = none-some s h
+    refused-home s (homes.Removal name) lacks h = not_some s h
+    refused-home s homes.Own lacks h = not_some s h
+    refused-home s homes.Keys lacks h = not_some s h
+    refused-home s homes.Parent lacks h = not_some s h
 
   -- a Request in whatever way it ends
   pub request-costs : (from ticket pid : ℕ) (call : Call) (s : Step) → from ≢ n.number → RisesBesides n
@@ -223,19 +224,19 @@ module _ (script : Script) (n : Node) where
   asked-costs name call s false other h =
       let m : Step = send (step_to (with_forgotten n name)) 1 (frames.Ask n.caller.ticket n.pid call)
       in let cost : CostsAtMost 0 m = omega arith
-      in subst (CostsAtMost 0) (in-some m s h) cost
+      in subst (CostsAtMost 0) (from_some m s h) cost
 
   not-owner-home : (call : Call) (s : Step) (home : Home) → is_leader n ≡ false
       → ask_after script n call home ≡ Some s → CostsAtMost 0 s
   not-owner-home call s (homes.At name) other h = asked-costs name call s (is_leader n) other h
-  not-owner-home call s (homes.Removal name) other h = none-some s h
-  not-owner-home call s homes.Own other h = none-some s h
-  not-owner-home call s homes.Keys other h = none-some s h
-  not-owner-home call s homes.Parent other h = none-some s h
+  not-owner-home call s (homes.Removal name) other h = not_some s h
+  not-owner-home call s homes.Own other h = not_some s h
+  not-owner-home call s homes.Keys other h = not_some s h
+  not-owner-home call s homes.Parent other h = not_some s h
 
   not-owner-by : (s : Step) (o : Option Call) → is_leader n ≡ false
       → option_and_then (λ call. ask_after script n call (home_of n.pid call)) o ≡ Some s → CostsAtMost 0 s
-  not-owner-by s None other h = none-some s h
+  not-owner-by s None other h = not_some s h
   not-owner-by s (Some call) other h = not-owner-home call s (home_of n.pid call) other h
 
   -- another node asks the leader
@@ -247,7 +248,7 @@ module _ (script : Script) (n : Node) where
 
   lease-by : (kind : Kind) (first : ℕ) (s : Step) (o : Option Call) → MayEnd script n
       → option_and_then (go_on_with script n kind first) o ≡ Some s → CostsAtMost 2 s
-  lease-by kind first s None may h = none-some s h
+  lease-by kind first s None may h = not_some s h
   lease-by kind first s (Some call) may h =
       let refilled : Step = step_to (record n { leases = refill n.leases kind first })
       in let cost = made-costs script refilled s call kind (record { tries = may.tries; left = may.left })

@@ -22,14 +22,6 @@ pub passed : {X : Type 0} (b : Bool) (o : Option X) (x : X) → (if b then o els
 passed true o x h = (refl, h)
 passed false o x h = cc
 
--- there is none, and one
-pub none-some : {X : Type 0} {B : Type 0} (x : X) → None ≡ Some x → B
-none-some x h = cc
-
--- it is the one
-pub in-some : {X : Type 0} (x y : X) → Some x ≡ Some y → x ≡ y
-in-some x y h = cc
-
 -- both tests were
 pub and-left : (a b : Bool) → (a && b) ≡ true → a ≡ true
 and-left true b h = refl
@@ -59,6 +51,11 @@ pub record ObjectsRise (deeds : Deeds) : Type 0 where
 counted : (leads : Bool) (x y more : ℕ) → x ≤ y + more → (if leads then 0 else x) ≤ (if leads then 0 else y) + more
 counted true x y more h = omega arith
 counted false x y more h = h
+
+-- a node without objects
+pub no-table : (t : Bool) → let none : ℕ = 0 in (if t then none else none) ≡ none
+no-table true = refl
+no-table false = refl
 
 -- a node with so many more objects
 pub table-adds : (n m : Node) (more : ℕ) → m.number ≡ n.number → size_of m.deeds ≤ size_of n.deeds + more

@@ -11,6 +11,7 @@ use Rattle.pico_base.specs.Home.{home_of}
 use Rattle.rpc_frame.specs.declared.asked.Asked.{Asked}
 use Rattle.rpc_frame.specs.declared.frame.Frame.{Frame}
 use Rattle.rpc_frame.specs.declared.frame.Frame.TheVariants as frames
+use Rattle.kernel_laws.proofs.Plain.{not_some}
 use Rattle.node_model.specs.Directory.{Place, place_of}
 use Rattle.node_model.specs.declared.held.Held.TheVariants.{Request}
 use Rattle.world_model.specs.Calls.{ask_after, take_ask, take_bounce, take_not_owner, with_forgotten}
@@ -31,7 +32,7 @@ use Rattle.world_weights.specs.Weights.{Falls, call_weight, hand_weight, node_we
 use Rattle.world_weights.proofs.CallHeads.{ask-place, bounce-place, may-end, not-owner-place}
 use Rattle.world_weights.proofs.Costs.{MayEnd, step_weight, under-way-at}
 use Rattle.world_weights.proofs.Events.{Lowers, lowers-moved, take-falls}
-use Rattle.world_weights.proofs.Parts.{none-some, passed}
+use Rattle.world_weights.proofs.Parts.{passed}
 use Rattle.world_weights.proofs.Routes.{place_limit, route-lowers}
 use Rattle.world_weights.proofs.Starts.{NameIsKnown, hand-cost, known-hand-cost}
 
@@ -156,15 +157,15 @@ module _ (script : Script) (w : World) (b : Beside) (holds : Holds script w [] b
         → ask_after script n call home ≡ Some s
         → step_weight script s + call_weight place ≤ node_weight script n + 10
     by-home call s (homes.At name) is g = asks-again call name s (is_leader n) refl is g
-    by-home call s (homes.Removal name) is g = none-some s g
-    by-home call s homes.Own is g = none-some s g
-    by-home call s homes.Keys is g = none-some s g
-    by-home call s homes.Parent is g = none-some s g
+    by-home call s (homes.Removal name) is g = not_some s g
+    by-home call s homes.Own is g = not_some s g
+    by-home call s homes.Keys is g = not_some s g
+    by-home call s homes.Parent is g = not_some s g
 
     by-call : (s : Step) (o : Option Call) → under_way_as n ticket ≡ o
         → option_and_then (λ call. ask_after script n call (home_of n.pid call)) o ≡ Some s
         → step_weight script s + call_weight place ≤ node_weight script n + 10
-    by-call s None e g = none-some s g
+    by-call s None e g = not_some s g
     by-call s (Some call) e g = by-home call s (home_of n.pid call) (under-way-at n ticket call e) g
 
     not-owner-lowers : (s : Step) → take_not_owner script n ticket ≡ Some s

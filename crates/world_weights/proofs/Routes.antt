@@ -15,6 +15,7 @@ use Rattle.pico_base.specs.declared.script.Script.{Script}
 use Rattle.pico_base.specs.Home.{home_of}
 use Rattle.rpc_frame.specs.declared.asked.Asked.{Asked}
 use Rattle.rpc_frame.specs.declared.frame.Frame.TheVariants as frames
+use Rattle.kernel_laws.proofs.Plain.{from_some, not_some}
 use Rattle.node_model.specs.declared.held.Held.{Held}
 use Rattle.node_model.specs.declared.held.Held.TheVariants.{Request}
 use Rattle.node_model.specs.declared.route.Route.{Route}
@@ -31,12 +32,13 @@ use Rattle.world_laws.specs.Invariant.{IsLeading}
 use Rattle.world_laws.specs.Places.{CallPlace}
 use Rattle.world_laws.proofs.Named.{name-cases}
 use Rattle.world_rules.proofs.Places.{place-with-other, place-with-same}
+use Rattle.world_release.proofs.RoutedParcels.{directory_in}
 use Rattle.world_weights.specs.Weights.{asks_back, call_weight, cost_if, directory_weight, hand_weight, is_away, item_weight, removes_away, routing_weight}
 use Rattle.world_weights.proofs.Costs.{MayEnd, move_cost, nobody-costs, served-costs, step_weight}
 use Rattle.world_weights.proofs.Hand.{FewerAway, RemovalsAreOf, back-less, back-low, back-rest, back_weight, items-less, none-back, routing-low}
 use Rattle.world_weights.proofs.Keys.{IsFree, by-key-free}
-use Rattle.world_weights.proofs.Known.{KnowsMore, carried-knows, directory_in, knows-after, knows-with, served-knows}
-use Rattle.world_weights.proofs.Parts.{in-some, none-some, place-adds, place-replaces}
+use Rattle.world_weights.proofs.Known.{KnowsMore, carried-knows, knows-after, knows-with, served-knows}
+use Rattle.world_weights.proofs.Parts.{place-adds, place-replaces}
 use Rattle.world_weights.proofs.Sums.{sends-push}
 
 -- what the call's place weighs at most once it is routed
@@ -143,13 +145,13 @@ module _ (script : Script) (s : Step) (asked : Asked) (rest : List Held)
 
   unbound-by : (t : Step) (name : Name) (place : CallPlace) (o : Option Step) → serve_asked script s name asked ≡ o
       → option_map (unbind_name name) o ≡ Some t → call_weight place ≤ 1 → Lowers place t
-  unbound-by t name place None e h light = none-some t h
+  unbound-by t name place None e h light = not_some t h
   unbound-by t name place (Some u) e h light =
       let cost = served-costs script s u name asked may (λ other. absurd (false≢true (sym other ∙ leads))) e
       in let two : move_cost (is_leader n) ≡ 2 = ap move_cost leads
       in let unbound : IsFree script u (unbind_name name u) = unbind-free script name u
       in let more = unbound.costs
-      in subst (Lowers place) (in-some (unbind_name name u) t h)
+      in subst (Lowers place) (from_some (unbind_name name u) t h)
       (cheap (unbind_name name u) place (omega (arith, cost, two, more))
       (knows-after d (directory_in u) (directory_in (unbind_name name u)) (served-knows script s u name asked e)
       unbound.knows) light)
@@ -251,7 +253,7 @@ module _ (script : Script) (s : Step) (asked : Asked) (rest : List Held)
   at-node name node t place true on e light h = served t name place h light
   at-node name node t place false on e light h =
       let cost : routing_weight d home ≡ 7 = on ∙ ap cost_if (known name (At node) e)
-      in subst (Lowers place) (in-some (forward s node asked) t h)
+      in subst (Lowers place) (from_some (forward s node asked) t h)
       (sent-on node place (omega (arith, cost, light)))
 
   by-route : (name : Name) (t : Step) (place : CallPlace) (r : Route)
@@ -263,15 +265,15 @@ module _ (script : Script) (s : Step) (asked : Asked) (rest : List Held)
       ∙ h)
   by-route name t place routes.Coming on e light h =
       let coming : IsComing (place_of d name) = said name routes.Coming e
-      in subst (Lowers place) (in-some (hold_item s name (Request asked)) t h)
+      in subst (Lowers place) (from_some (hold_item s name (Request asked)) t h)
       (held name coming.to coming.items place coming.is light)
   by-route name t place (routes.Range node) on e light h =
       let none : place_of d name ≡ None = said name (routes.Range node) e
       in let cost : routing_weight d home ≡ 10 = on ∙ ap (λ o. cost_if (not (is_none o))) none
-      in subst (Lowers place) (in-some (forward s node asked) t h)
+      in subst (Lowers place) (from_some (forward s node asked) t h)
       (sent-on node place (omega (arith, cost, light)))
   by-route name t place routes.Nobody on e light h =
-      subst (Lowers place) (in-some (serve_nobody script s name asked) t h) (nobody name place light)
+      subst (Lowers place) (from_some (serve_nobody script s name asked) t h) (nobody name place light)
 
   removed-at : (name : Name) (node : ℕ) (t : Step) (place : CallPlace) (leads_there : Bool)
       → nat_eq node 1 ≡ leads_there → home ≡ homes.Removal name → RemovalsAreOf name rest
@@ -282,7 +284,7 @@ module _ (script : Script) (s : Step) (asked : Asked) (rest : List Held)
   removed-at name node t place true test on only e light h =
       unbound-by t name place (serve_asked script s name asked) refl h light
   removed-at name node t place false test on only e light h =
-      subst (Lowers place) (in-some (recall_and_hold s name (Request asked) node) t h)
+      subst (Lowers place) (from_some (recall_and_hold s name (Request asked) node) t h)
       (asked-back name node place on e test only light)
 
   by-removal : (name : Name) (t : Step) (place : CallPlace) (r : Route) → home ≡ homes.Removal name
@@ -307,8 +309,8 @@ module _ (script : Script) (s : Step) (asked : Asked) (rest : List Held)
   by-home t place (homes.Removal name) on only light h =
       by-removal name t place (route d name) on (only name refl) refl light h
   by-home t place homes.Keys on only light h = free t place (by-key-free script s asked leads may asked.call t h) light
-  by-home t place homes.Own on only light h = none-some t h
-  by-home t place homes.Parent on only light h = none-some t h
+  by-home t place homes.Own on only light h = not_some t h
+  by-home t place homes.Parent on only light h = not_some t h
 
   -- The route costs no more than the call may cost in hand, where a removal stands before removals of its name alone.
   pub route-lowers : (t : Step) (place : CallPlace)

@@ -9,6 +9,7 @@ use Rattle.pico_base.specs.Home.{home_of}
 use Rattle.kernel_model.specs.Numbers.{is_u32}
 use Rattle.kernel_model.specs.Row.{Row}
 use Rattle.kernel_model.specs.Waiting.{is_waiting}
+use Rattle.kernel_laws.proofs.Plain.{not_some}
 use Rattle.node_model.specs.Caller.{caller_place, due_call, lines_of, start_call}
 use Rattle.world_model.specs.Node.{Node, Stage, Living, Unborn, Leaving, Left, Over, can_run, is_leader, is_living, own_row}
 use Rattle.world_model.specs.Starting.{run, start, start_by, start_due}
@@ -24,7 +25,7 @@ use Rattle.world_weights.specs.Weights.{Falls, call_weight, left_to_start, node_
 use Rattle.world_weights.proofs.Costs.{MayEnd, RisesBesides, step_weight}
 use Rattle.world_weights.proofs.Events.{Lowers, lowers-moved, lowers-still, run-falls}
 use Rattle.world_weights.proofs.Lines.{start-below}
-use Rattle.world_weights.proofs.Parts.{and-left, and-right, none-some, passed}
+use Rattle.world_weights.proofs.Parts.{and-left, and-right, passed}
 use Rattle.world_weights.proofs.Starts.{MayStart, start-costs}
 
 -- no call's place weighs more
@@ -83,7 +84,7 @@ module _ (script : Script) (n : Node) (living : n.stage ≡ Living) (free : n.ca
       by-test : (t : Bool) → (if t then None
           else start_by script (step_to (started n call)) call row (home_of n.pid call)) ≡ Some s
           → step_weight script s + 22 ≤ node_weight script n
-      by-test true g = none-some s g
+      by-test true g = not_some s g
       by-test false g =
           let light = lighter call
           in let cost = start-costs script (started n call) (may-still call) call row (home_of n.pid call) s g
@@ -91,12 +92,12 @@ module _ (script : Script) (n : Node) (living : n.stage ≡ Living) (free : n.ca
 
   due-lowers : (row : Row) (s : Step) (o : Option Call) → option_and_then (start script n row) o ≡ Some s
       → step_weight script s + 22 ≤ node_weight script n
-  due-lowers row s None h = none-some s h
+  due-lowers row s None h = not_some s h
   due-lowers row s (Some call) h = start-lowers row call s h
 
   row-lowers : (s : Step) (o : Option Row) → option_and_then (start_due script n) o ≡ Some s
       → step_weight script s + 22 ≤ node_weight script n
-  row-lowers s None h = none-some s h
+  row-lowers s None h = not_some s h
   row-lowers s (Some row) h = due-lowers row s (due_call script n.number n.caller row.signals.doom) h
 
 -- ---- the event

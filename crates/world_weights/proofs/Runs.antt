@@ -1,6 +1,6 @@
 -- The opening world weighs at most 32 for each call of the script. So where each event lowers the weight, a run has at
 -- most 32 events for each call.
-use Rattle.std.proofs.Common.{◌≡◌, ℕ, zero, suc, ◌+◌, ◌-◌, ◌*◌, ◌<◌, ◌≤◌, Bool, true, false, if◌then◌else◌, List, [], ◌∷◌, length, map, replicate, slice_get, nat_eq, Some, refl, ap, sym, subst, ◌∙◌, arith}
+use Rattle.std.proofs.Common.{◌≡◌, ℕ, zero, suc, ◌+◌, ◌-◌, ◌*◌, ◌<◌, ◌≤◌, Bool, true, false, List, [], ◌∷◌, length, map, replicate, slice_get, nat_eq, Some, refl, ap, sym, subst, ◌∙◌, arith}
 use Rattle.std.specs.Prelude.{sum_by}
 use Rattle.std.proofs.lemmas.Bool.{eqb-true}
 use Rattle.std.proofs.lemmas.List.Sums.{sum_by-cons}
@@ -15,13 +15,10 @@ use Rattle.world_model.specs.Run.{Runs}
 use Rattle.world_model.specs.World.{World, node_count, numbers, opening_world}
 use Rattle.world_laws.specs.Places.{Beside, CallPlace, Idle}
 use Rattle.world_weights.specs.Weights.{call_at, call_weight, calls_of, node_weight, row_weight, stream_weight, streams_weight, weight}
+use Rattle.world_weights.proofs.Parts.{no-table}
 use Rattle.world_weights.specs.Runs.{EachGoesOn, GoesOn, RunsAreShort}
 
 -- ---- the opening world
-
-no-table : (t : Bool) → let none : ℕ = 0 in (if t then none else none) ≡ none
-no-table true = refl
-no-table false = refl
 
 opening-node-weight : (script : Script) (p : ℕ)
     → node_weight script (opening_node p) ≤ 32 * sum_by (λ line. line.tries) (lines_of script p)

@@ -19,6 +19,7 @@ use Rattle.rpc_frame.specs.declared.asked.Asked.{Asked}
 use Rattle.rpc_frame.specs.declared.frame.Frame.TheVariants as frames
 use Rattle.kernel_model.specs.Row.{Row}
 use Rattle.kernel_model.specs.SemaphoreSet.{SemaphoreSet, new_set}
+use Rattle.kernel_laws.proofs.Plain.{from_some, not_some}
 use Rattle.node_model.specs.Bodies.{Body, Deeds}
 use Rattle.node_model.specs.Cache.{owner_in}
 use Rattle.node_model.specs.Directory.{Directory, Place, At, Coming, is_known, place_of}
@@ -40,7 +41,7 @@ use Rattle.world_weights.specs.Weights.{asks_back, cost_if, hand_weight, is_away
 use Rattle.world_weights.proofs.Costs.{MayEnd, RisesBesides, carried-costs, deeds-by, served-costs, served-size, step_weight, table-none}
 use Rattle.world_weights.proofs.Made.{made-costs}
 use Rattle.world_weights.proofs.NodeCalls.{move-is-cheap}
-use Rattle.world_weights.proofs.Parts.{in-some, none-some, size_of}
+use Rattle.world_weights.proofs.Parts.{size_of}
 use Rattle.world_weights.proofs.Routes.{route-lowers}
 
 -- ---- one call in hand
@@ -166,7 +167,7 @@ module _ (script : Script) (n : Node) (may : MayStart script n) where
 
   own-served : (call : Call) (s : Step) (o : Option Served) → serve n.deeds n.pid call ≡ o
       → option_map (carry_out_own script (step_to n) call) o ≡ Some s → Costs s
-  own-served call s None e h = none-some s h
+  own-served call s None e h = not_some s h
   own-served call s (Some served) e h =
       let changed : Step = with_deeds (step_to n) (put_all n.deeds served.changes)
       in let first : step_weight script changed ≤ step_weight script (step_to n) =
@@ -175,7 +176,7 @@ module _ (script : Script) (n : Node) (may : MayStart script n) where
       in let there : MayEnd script n = may.may_end
       in let second = carried-costs script changed (asked_here n call) served.reply
       (λ x. record { tries = there.tries; left = there.left })
-      in subst Costs (in-some (carry_out_own script (step_to n) call served) s h) (omega (arith, first, second))
+      in subst Costs (from_some (carry_out_own script (step_to n) call served) s h) (omega (arith, first, second))
 
   acts : (call : Call) (s : Step) → act script (step_to n) call ≡ Some s → Costs s
   acts call s h = own-served call s (serve n.deeds n.pid call) refl h
@@ -186,7 +187,7 @@ module _ (script : Script) (n : Node) (may : MayStart script n) where
   making-by call kind s true h =
       let m : Step = send (step_to n) 1 (frames.LeaseAsk kind)
       in let cost : Costs m = omega arith
-      in subst Costs (in-some m s h) cost
+      in subst Costs (from_some m s h) cost
   making-by call kind s false h =
       let cost = made-costs script (step_to n) s call kind may.may_end h in omega (arith, cost)
 
@@ -197,7 +198,7 @@ module _ (script : Script) (n : Node) (may : MayStart script n) where
       → Costs s
   sets call s (Err e) h =
       let cost = carried-costs script (step_to n) (asked_here n call) (replies.Fail e) (ends (asked_here n call))
-      in subst Costs (in-some (carry_out script (step_to n) (asked_here n call) (replies.Fail e)) s h)
+      in subst Costs (from_some (carry_out script (step_to n) (asked_here n call) (replies.Fail e)) s h)
       (omega (arith, cost))
   sets call s (Ok set) h = makes call kinds.Sem s h
 
@@ -221,7 +222,7 @@ module _ (script : Script) (n : Node) (may : MayStart script n) where
   asking-by call s false leads h =
       let m : Step = send (step_to n) 1 (frames.Ask n.caller.ticket n.pid call)
       in let cost : Costs m = omega arith
-      in subst Costs (in-some m s h) cost
+      in subst Costs (from_some m s h) cost
 
   asks : (call : Call) (s : Step) → ask script (step_to n) call ≡ Some s → Costs s
   asks call s h = asking-by call s (is_leader n) refl h
@@ -241,7 +242,7 @@ module _ (script : Script) (n : Node) (may : MayStart script n) where
   requests-to call owner s false h =
       let m : Step = send (step_to n) owner (frames.Request n.caller.ticket n.pid call)
       in let cost : step_weight script m ≤ node_weight script n + 10 = omega arith
-      in subst (λ (x : Step). step_weight script x ≤ node_weight script n + 10) (in-some m s h) cost
+      in subst (λ (x : Step). step_weight script x ≤ node_weight script n + 10) (from_some m s h) cost
 
   requests : (call : Call) (o : Option ℕ) (s : Step) → request script (step_to n) call o ≡ Some s
       → step_weight script s ≤ node_weight script n + 10
@@ -283,5 +284,5 @@ module _ (script : Script) (n : Node) (may : MayStart script n) where
   start-costs call row homes.Keys s h = asks script n may call s h
   start-costs call row (homes.Removal name) s h = asks script n may call s h
   start-costs call row homes.Parent s h =
-      subst (λ (x : Step). step_weight script x ≤ node_weight script n + 10) (in-some _ _ h)
+      subst (λ (x : Step). step_weight script x ≤ node_weight script n + 10) (from_some _ _ h)
       (end-by call row (is_leader n) refl)

@@ -5,12 +5,10 @@ use Rattle.std.proofs.lemmas.Bool.{cases_eq, eq-eqb, ne_eqb}
 use Rattle.std.proofs.lemmas.List.Sums.{sum_by-cons, sum_by_push}
 use Rattle.rpc_frame.specs.declared.frame.Frame.{Frame}
 use Rattle.pico_base.specs.declared.script.Script.{Script}
+use Rattle.kernel_laws.proofs.Plain.{from_some}
 use Rattle.world_model.specs.World.{Streams, numbers, node_count, stream_in, with_stream, with_sent, with_all_sent}
 use Rattle.world_laws.specs.Places.{CallPlace, call_in}
 use Rattle.world_weights.specs.Weights.{frame_weight, stream_weight, row_weight, streams_weight, send_weight, sends_weight, call_weight, call_at, calls_weight}
-
-some-is : {X : Type 0} (x y : X) → Some x ≡ Some y → x ≡ y
-some-is x y h = cc
 
 -- one element in place of another
 pub sum-set : {X : Type 0} (f : X → ℕ) (xs : List X) (i : ℕ) (x y : X) → slice_get xs i ≡ Some y
@@ -19,7 +17,7 @@ sum-set f [] i x y h = cc
 sum-set f (z ∷ xs) zero x y h =
     let a = sum_by-cons f x xs
     in let b = sum_by-cons f z xs
-    in let c : f z ≡ f y = ap f (some-is _ _ h)
+    in let c : f z ≡ f y = ap f (from_some _ _ h)
     in omega (arith, a, b, c)
 sum-set f (z ∷ xs) (suc i) x y h =
     let rest = sum-set f xs i x y h
