@@ -240,7 +240,8 @@ module _ (script : Script) (w : World) (b : Beside) (holds : Holds script w [] b
       in let begins = give-back-begins script w b holds h.high packed.name of_nodes coming body
       in record { lower = omega (arith, less, begins) }
 
-  by-body : (t : Step) (o : Option Body) → read_deed packed ≡ o → IsComing (place_of (directory_of w) packed.name) → ReleaseIsLight
+  by-body : (t : Step) (o : Option Body) → read_deed packed ≡ o
+      → IsComing (place_of (directory_of w) packed.name) → ReleaseIsLight
       → option_and_then (come_back script m packed.name) o ≡ Some t → Lowers script m 1 b.call call_after t
   by-body t None e coming light is = not_some t is
   by-body t (Some body) e coming light is = ended body t e coming light is

@@ -115,7 +115,8 @@ module _ (script : Script) (n : Node) (call : ℕ → CallPlace) where
   born-by : (from pid parent : ℕ) (vars : Vars) (s : Step) (body : Body) → n.stage ≡ Unborn
       → born_with n from pid parent vars body ≡ Some s → LowersAlone 1 s
   born-by from pid parent vars s (LivingBody row) unborn h =
-      subst (LowersAlone 1) (from_some _ _ (passed _ _ s h).1) (born-lowers from pid parent vars (LivingBody row) unborn)
+      subst (LowersAlone 1) (from_some _ _ (passed _ _ s h).1)
+      (born-lowers from pid parent vars (LivingBody row) unborn)
   born-by from pid parent vars s (Ended ending) unborn h = not_some s h
   born-by from pid parent vars s Gone unborn h = not_some s h
   born-by from pid parent vars s (AQueue queue) unborn h = not_some s h
