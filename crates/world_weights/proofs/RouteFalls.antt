@@ -1,5 +1,5 @@
 -- Events in which the leader takes a call into its hand and routes it lower the weight.
-use Rattle.std.proofs.Common.{◌≡◌, ◌≢◌, ℕ, ◌+◌, ◌≤◌, Bool, true, false, not, if◌then◌else◌, List, [], ◌∷◌, nat_eq, is_none, Option, Some, None, is_some, option_and_then, refl, ap, sym, subst, ◌∙◌, arith}
+use Rattle.std.proofs.Common.{◌≡◌, ◌≢◌, ℕ, ◌+◌, ◌≤◌, Bool, ◌&&◌, true, false, not, if◌then◌else◌, List, [], ◌∷◌, nat_eq, is_none, Option, Some, None, is_some, option_and_then, refl, ap, sym, subst, ◌∙◌, arith}
 use Rattle.std.proofs.lemmas.Bool.{eq-eqb, false≢true}
 use Rattle.pico_base.specs.declared.call.Call.{Call}
 use Rattle.pico_base.specs.declared.call.Home.{Home}
@@ -14,8 +14,8 @@ use Rattle.rpc_frame.specs.declared.frame.Frame.TheVariants as frames
 use Rattle.kernel_laws.proofs.Plain.{not_some}
 use Rattle.node_model.specs.Directory.{Place, place_of}
 use Rattle.node_model.specs.declared.held.Held.TheVariants.{Request}
-use Rattle.world_model.specs.Calls.{ask_after, take_ask, take_bounce, take_not_owner, with_forgotten}
-use Rattle.world_model.specs.Node.{Node, asked_here, is_leader, under_way_as}
+use Rattle.world_model.specs.Calls.{ask_after, asks_as, is_for_others, is_on_name_or_removal, is_to_leader, take_ask, take_bounce, take_not_owner, with_forgotten}
+use Rattle.world_model.specs.Node.{Node, asked_here, is_leader, is_node, under_way_as}
 use Rattle.world_model.specs.Routing.{route_call}
 use Rattle.world_model.specs.Step.{Step, send, step_to}
 use Rattle.world_model.specs.World.{World, node_count}
@@ -77,8 +77,10 @@ module _ (script : Script) (w : World) (b : Beside) (holds : Holds script w [] b
     ask-lowers : IsRoutedTo asked_by place → (s : Step) → take_ask script n q ticket pid call ≡ Some s
         → Lowers script n 0 b.call (call_in b.call q place) s
     ask-lowers light s rule =
-        let cost = alone-costs script n (number-is h.high) holds.leading asked_by (λ e. absurd (away e)) place light s
-        (passed _ _ s rule).1
+        let routed = passed (is_to_leader n q && asks_as is_for_others pid call)
+        (route_call script (step_to n) asked_by) s rule
+        in let cost = alone-costs script n (number-is h.high) holds.leading asked_by (λ e. absurd (away e)) place light
+        s routed.1
         in let hand = hand-cost n.leader.directory asked_by
         in lowers-moved script n 0 b.call q InAsk place s h.low_from h.high_from
         (ask-place script w b holds 1 q rest ticket pid call h) (omega (arith, cost, hand))
@@ -117,8 +119,10 @@ module _ (script : Script) (w : World) (b : Beside) (holds : Holds script w [] b
     bounce-lowers : (place : CallPlace) → IsRoutedTo asked place → (s : Step) → take_bounce script n q asked ≡ Some s
         → Lowers script n 0 b.call (call_in b.call asked.caller place) s
     bounce-lowers place light s rule =
-        let cost = alone-costs script n (number-is h.high) holds.leading asked own-may-end place light s
-        (passed _ _ s rule).1
+        let routed = passed
+        (is_to_leader n q && (is_node script asked.caller && asks_as is_on_name_or_removal asked.pid asked.call))
+        (route_call script (step_to n) asked) s rule
+        in let cost = alone-costs script n (number-is h.high) holds.leading asked own-may-end place light s routed.1
         in let hand = known-hand-cost (directory_of w) asked (known-at (home_of asked.pid asked.call) refl)
         in lowers-moved script n 0 b.call asked.caller (InBounce q) place s low high
         (bounce-place script w b holds 1 q rest asked h low high) (omega (arith, cost, hand))
