@@ -1,6 +1,6 @@
 -- An event lowers the weight of a world where its step lowers what its node weighs, with the frames taken and sent and
 -- the places of calls.
-use Rattle.std.proofs.Common.{◌≡◌, ℕ, ◌+◌, ◌-◌, ◌≤◌, ◌<◌, List, Option, Some, None, option_and_then, refl, ap, sym, subst, ◌∙◌, arith}
+use Rattle.std.proofs.Common.{◌≡◌, ℕ, ◌+◌, ◌-◌, ◌≤◌, ◌<◌, List, Option, Some, None, refl, ap, sym, subst, ◌∙◌, arith}
 use Rattle.pico_base.specs.declared.script.Script.{Script}
 use Rattle.pico_base.specs.declared.script.Event.{Event}
 use Rattle.pico_base.specs.declared.script.Event.TheVariants as events
@@ -9,7 +9,7 @@ use Rattle.kernel_laws.proofs.Plain.{from_some, not_some}
 use Rattle.world_model.specs.Node.{Node}
 use Rattle.world_model.specs.Step.{Step}
 use Rattle.world_model.specs.Starting.{run}
-use Rattle.world_model.specs.Turn.{take_frame, take_turn, run_turn, sends_frames}
+use Rattle.world_model.specs.Turn.{take_frame}
 use Rattle.world_model.specs.World.{World, node_at, stream, node_count, world_after, after_turn, takes_at, runs_at, step}
 use Rattle.world_laws.specs.Places.{CallPlace, call_in}
 use Rattle.world_laws.specs.Sights.{node_of}
@@ -50,7 +50,7 @@ take-falls script w p q frame rest call call_after shape h lowers next is =
         ap (λ x. takes_at w p q x (stream w p q)) (node-there script w shape p h.low h.high)
         ∙ ap (takes_at w p q (Some (node_of w p))) h.head
         ∙ ap (after_turn (world_without w p q rest) p)
-        (ap (λ x. take_turn x (node_of w p) q frame) shape.of_script ∙ ap (option_and_then sends_frames) e)
+        (ap (λ x. take_frame x (node_of w p) q frame) shape.of_script ∙ e)
         in not_some next (sym stuck ∙ is)
     by-rule (Some s) e =
         let there : step w (events.Take p q) ≡ Some (world_after (world_without w p q rest) p s) =
@@ -76,7 +76,7 @@ run-falls script w p call call_after shape low high lowers next is =
         let stuck : step w (events.Run p) ≡ None =
         ap (runs_at w p) (node-there script w shape p low high)
         ∙ ap (after_turn w p)
-        (ap (λ x. run_turn x (node_of w p)) shape.of_script ∙ ap (option_and_then sends_frames) e)
+        (ap (λ x. run x (node_of w p)) shape.of_script ∙ e)
         in not_some next (sym stuck ∙ is)
     by-rule (Some s) e =
         let there : step w (events.Run p) ≡ Some (world_after w p s) = run-steps script w p s shape low high e
