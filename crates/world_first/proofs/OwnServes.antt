@@ -18,7 +18,6 @@ use Rattle.kernel_model.specs.Fitting.{places_after}
 use Rattle.node_model.specs.Bodies.{Body}
 use Rattle.node_model.specs.Caller.{answer_call, caller_place}
 use Rattle.node_model.specs.Carrying.{is_served}
-use Rattle.node_model.specs.Directory.{Directory}
 use Rattle.node_model.specs.Serving.{has_read, serve}
 use Rattle.node_model.specs.Watches.{Watches, moves_to, watch_over, with_read}
 use Rattle.world_model.specs.Node.{Node, Leader}
@@ -29,7 +28,7 @@ use Rattle.serve_laws.specs.Served.{served_as}
 use Rattle.kernel_moves.specs.Entering.{entry_of, removed_queue, removed_set}
 use Rattle.kernel_moves.proofs.Holding.{ServesHere, served_deeds}
 use Rattle.world_laws.specs.Places.{Beside, Idle, call_in}
-use Rattle.world_laws.specs.Sights.{node_of, directory_of}
+use Rattle.world_laws.specs.Sights.{node_of}
 use Rattle.world_laws.specs.Ranges.{KeysHold}
 use Rattle.world_laws.specs.Invariant.{Holds}
 use Rattle.world_laws.proofs.Changes.{Changes}
@@ -68,9 +67,6 @@ module _ (script : Script) (v : World) (s : Step) (ticket pid : ℕ) (call : Cal
 
   abbrev n : Node
   n = node_of w 1
-
-  abbrev d : Directory
-  d = directory_of w
 
   low : 1 ≤ 1
   low = omega arith

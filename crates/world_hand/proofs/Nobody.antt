@@ -16,7 +16,7 @@ use Rattle.node_model.specs.declared.held.Held.TheVariants.{Request}
 use Rattle.node_model.specs.Caller.{Caller, caller_place}
 use Rattle.world_model.specs.Node.{Node}
 use Rattle.world_model.specs.World.{World, node_count}
-use Rattle.kernel_moves.specs.Entering.{HasKeys, LeavesOthers, MayMake, Same, entry_of}
+use Rattle.kernel_moves.specs.Entering.{LeavesOthers, MayMake, Same, entry_of}
 use Rattle.kernel_moves.proofs.Fresh.{LeavesAll}
 use Rattle.kernel_moves.proofs.History.{moved-is, place-moves, places-stay}
 use Rattle.kernel_moves.proofs.Keys.{keys-kept}
