@@ -16,28 +16,31 @@ use Rattle.node_model.specs.Directory.{Directory, Place, At, Coming, maker, make
 use Rattle.world_model.specs.Calls.{is_for_others}
 use Rattle.world_model.specs.Step.{Step}
 use Rattle.world_model.specs.World.{World, node_count, world_after}
-use Rattle.world_laws.specs.Places.{Beside}
+use Rattle.world_laws.specs.Places.{Beside, CallPlace, InAnswer, IsHeld, SentByPlace, SentByRange, call_in}
+use Rattle.pico_base.specs.declared.reply.Reply.TheVariants as replies
+use Rattle.node_model.specs.Serving.{no_such_name}
 use Rattle.world_laws.specs.Sights.{directory_of}
 use Rattle.world_laws.specs.Invariant.{Holds}
 use Rattle.world_laws.proofs.Steps.{KeepsAs}
 use Rattle.world_hand.proofs.Asks.{NeverWaits}
 use Rattle.world_hand.proofs.HandMoves.{in-hand-for-others}
 use Rattle.world_hand.proofs.NobodyRoutes.{route-to-nobody}
-use Rattle.world_hand.proofs.ReadRoutes.{HasRoute, route-to-leader-too}
-use Rattle.world_hand.proofs.Routes.{IsOn, RouteKeeps, route-by-range, route-to-held, route-to-owner, route-to-recall}
+use Rattle.world_hand.proofs.ReadRoutes.{HasRoute, PlaceFits, asks_back, goes_by_range, goes_to_owner, is_answered, is_held, route-to-leader-too}
+use Rattle.world_hand.proofs.Routes.{IsOn, RouteKeeps, range-is, route-by-range, route-to-held, route-to-owner, route-to-recall}
 
 -- what is still to be shown for the call: the directory names nodes, and calls on keys and removals at the leader have
 -- their routes
-pub record RoutesLeft (script : Script) (v : World) (s : Step) (asked : Asked) (rest : List Held) : Type 0 where
+pub record RoutesLeft (script : Script) (v : World) (s : Step) (asked : Asked) (rest : List Held) (b : Beside) : Type 0
+  where
   pub nodes : (name : Name) (node : ℕ) → place_of (directory_of (world_after v 1 s)) name ≡ Some (At node) → 1 ≤ node
-  pub keys : home_of asked.pid asked.call ≡ homes.Keys → HasRoute script v s asked rest
+  pub keys : home_of asked.pid asked.call ≡ homes.Keys → HasRoute script v s asked rest b
   pub removal_here : (name : Name) → home_of asked.pid asked.call ≡ homes.Removal name
-      → place_of (directory_of (world_after v 1 s)) name ≡ Some (At 1) → HasRoute script v s asked rest
+      → place_of (directory_of (world_after v 1 s)) name ≡ Some (At 1) → HasRoute script v s asked rest b
 
 module _ (script : Script) (v : World) (s : Step) (asked : Asked) (rest : List Held) (b : Beside)
     (holds : Holds script (world_after v 1 s) (Request asked ∷ rest) b) (low : 1 ≤ asked.caller)
     (high : asked.caller ≤ node_count script) (other : asked.caller ≢ 1) (never : NeverWaits script)
-    (left : RoutesLeft script v s asked rest) where
+    (left : RoutesLeft script v s asked rest b) where
   abbrev w : World
   w = world_after v 1 s
 
@@ -47,16 +50,31 @@ module _ (script : Script) (v : World) (s : Step) (asked : Asked) (rest : List H
   abbrev home : Home
   home = home_of asked.pid asked.call
 
-  routed : (b' : Beside) → RouteKeeps script v s asked rest b' → HasRoute script v s asked rest
-  routed b' keeps = record { beside = b'; keeps = keeps }
+  routed : (place : CallPlace) → PlaceFits d home place
+      → RouteKeeps script v s asked rest (record b { call = call_in b.call asked.caller place })
+      → HasRoute script v s asked rest b
+  routed place fits keeps =
+      record {
+        beside = record b { call = call_in b.call asked.caller place };
+        keeps = keeps;
+        place = place;
+        calls = refl;
+        fits = fits;
+      }
 
   nobody : (name : Name) → IsOn name home → place_of d name ≡ None → route d name ≡ routes.Nobody
-      → HasRoute script v s asked rest
+      → HasRoute script v s asked rest b
   nobody name on place nowhere =
-      routed _ (route-to-nobody script v s asked rest b holds low high other never name on place nowhere)
+      record {
+        beside = _;
+        keeps = route-to-nobody script v s asked rest b holds low high other never name on place nowhere;
+        place = InAnswer 1 (replies.Fail (no_such_name name));
+        calls = refl;
+        fits = is_answered 1 (replies.Fail (no_such_name name)) refl;
+      }
 
   by-maker : (name : Name) → IsOn name home → place_of d name ≡ None → (m : Option ℕ) → maker d name ≡ m
-      → HasRoute script v s asked rest
+      → HasRoute script v s asked rest b
   by-maker name on place None made =
       nobody name on place
       (ap (λ o. route_by o (maker_stays d (maker d name)) (maker d name)) place
@@ -68,9 +86,12 @@ module _ (script : Script) (v : World) (s : Step) (asked : Asked) (rest : List H
           ap (λ o. route_by o (maker_stays d (maker d name)) (maker d name)) place
           ∙ ap (λ m. route_by None (maker_stays d m) m) made
 
-      by-tests : (t : Bool) → stays d h ≡ t → (h ≡ 1) ⊎ (h ≢ 1) → HasRoute script v s asked rest
+      by-tests : (t : Bool) → stays d h ≡ t → (h ≡ 1) ⊎ (h ≢ 1) → HasRoute script v s asked rest b
       by-tests true e (inr away) =
-          routed _ (route-by-range script v s asked rest b holds low high name h on place made e away)
+          routed (SentByRange h)
+          (goes_by_range name h refl on
+          (range-is script v s asked rest b holds low high name h place made e away))
+          (route-by-range script v s asked rest b holds low high name h on place made e away)
       by-tests true e (inl first) =
           nobody name on place
           (goes ∙ ap (λ t. if t && not (nat_eq h 1) then routes.Range h else routes.Nobody) e
@@ -80,34 +101,38 @@ module _ (script : Script) (v : World) (s : Step) (asked : Asked) (rest : List H
           (goes ∙ ap (λ t. if t && not (nat_eq h 1) then routes.Range h else routes.Nobody) e)
 
   on-name : (name : Name) → home ≡ homes.At name → (o : Option Place) → place_of d name ≡ o
-      → HasRoute script v s asked rest
+      → HasRoute script v s asked rest b
   on-name name on None place = by-maker name (inl on) place (maker d name) refl
   on-name name on (Some (Coming to items)) place =
-      routed _ (route-to-held script v s asked rest b holds low high name to items (inl on) place)
+      routed (IsHeld name) (is_held name to items refl (inl on) place)
+      (route-to-held script v s asked rest b holds low high name to items (inl on) place)
   on-name name on (Some (At node)) place =
       elim (cases_eq node 1) [
         | inl e ↦
             route-to-leader-too script v s asked rest b holds low high other never name on
             (place ∙ ap (λ y. Some (At y)) e)
         | inr away ↦
-            routed _ (route-to-owner script v s asked rest b holds low high name node on place
+            routed (SentByPlace node) (goes_to_owner name node refl on place away)
+            (route-to-owner script v s asked rest b holds low high name node on place
             (left.nodes name node place) away)
       ]
 
   removes : (name : Name) → home ≡ homes.Removal name → (o : Option Place) → place_of d name ≡ o
-      → HasRoute script v s asked rest
+      → HasRoute script v s asked rest b
   removes name on None place = by-maker name (inr on) place (maker d name) refl
   removes name on (Some (Coming to items)) place =
-      routed _ (route-to-held script v s asked rest b holds low high name to items (inr on) place)
+      routed (IsHeld name) (is_held name to items refl (inr on) place)
+      (route-to-held script v s asked rest b holds low high name to items (inr on) place)
   removes name on (Some (At node)) place =
       elim (cases_eq node 1) [
         | inl e ↦ left.removal_here name on (place ∙ ap (λ y. Some (At y)) e)
         | inr away ↦
-            routed _ (route-to-recall script v s asked rest b holds low high name node on place
+            routed (IsHeld name) (asks_back name node refl on place away)
+            (route-to-recall script v s asked rest b holds low high name node on place
             (left.nodes name node place) away)
       ]
 
-  by-home : (h : Home) → home ≡ h → is_for_others h ≡ true → HasRoute script v s asked rest
+  by-home : (h : Home) → home ≡ h → is_for_others h ≡ true → HasRoute script v s asked rest b
   by-home (homes.At name) on h = on-name name on (place_of d name) refl
   by-home (homes.Removal name) on h = removes name on (place_of d name) refl
   by-home homes.Keys on h = left.keys on
@@ -115,7 +140,7 @@ module _ (script : Script) (v : World) (s : Step) (asked : Asked) (rest : List H
   by-home homes.Parent on h = absurd (false≢true h)
 
   -- The call has a route, which keeps all.
-  pub hand-has-route : HasRoute script v s asked rest
+  pub hand-has-route : HasRoute script v s asked rest b
   hand-has-route = by-home home refl (in-hand-for-others script w asked rest b holds low high)
 
 -- ---- a frame with a call

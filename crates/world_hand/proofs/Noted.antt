@@ -15,7 +15,7 @@ use Rattle.world_model.specs.Node.{Node, is_leader}
 use Rattle.world_model.specs.Step.{Step, send, with_directory, with_node}
 use Rattle.world_model.specs.Serving.{grant, grant_held, move_to, note_read}
 use Rattle.world_model.specs.World.{World, node_count, world_after}
-use Rattle.world_laws.specs.Places.{Beside, InGrant, deed_in}
+use Rattle.world_laws.specs.Places.{Beside, CallPlace, InGrant, deed_in}
 use Rattle.world_laws.specs.Sights.{node_of, directory_of, is_born_in, is_born_stage, stage_of}
 use Rattle.world_laws.specs.Families.{NodeHolds}
 use Rattle.world_laws.specs.Invariant.{Holds}
@@ -30,10 +30,11 @@ use Rattle.world_rules.proofs.Suggestions.{born-in-range}
 use Rattle.world_hand.proofs.Grantings.{grant-sent-keeps}
 use Rattle.world_hand.proofs.Served.{IsAtLeader, at-leader}
 
--- after this step all holds, with something beside the world
-pub record HoldsAfter (script : Script) (v : World) (t : Step) (hand : List Held) : Type 0 where
+-- after this step all holds, with something beside the world that has calls in these places
+pub record HoldsAfter (script : Script) (v : World) (t : Step) (hand : List Held) (call : ℕ → CallPlace) : Type 0 where
   pub beside : Beside
   pub holds : Holds script (world_after v 1 t) hand beside
+  pub calls : beside.call ≡ call
 
 module _ (script : Script) (v : World) (s : Step) (hand : List Held) (b : Beside)
     (holds : Holds script (world_after v 1 s) hand b) (name : Name) (reader : ℕ) (object : is_object name ≡ true)
@@ -111,7 +112,7 @@ module _ (script : Script) (v : World) (s : Step) (hand : List Held) (b : Beside
   more =
       quiet-born script w (world_after v 1 noted) hand b b.deed 1 n [] [] (omega arith) high-one holds changes quiet
 
-  noted-keeps : HoldsAfter script v noted hand
+  noted-keeps : HoldsAfter script v noted hand b.call
   noted-keeps =
       record {
         beside = b;
@@ -130,6 +131,7 @@ module _ (script : Script) (v : World) (s : Step) (hand : List Held) (b : Beside
               steps_are = λ y. refl;
               ranges_are = λ y. refl;
             }) tt tt) (holds.names m));
+        calls = refl;
       }
 
   -- ---- it goes there
@@ -140,9 +142,9 @@ module _ (script : Script) (v : World) (s : Step) (hand : List Held) (b : Beside
   held-here : get_named s.node.deeds name ≡ Some (body_in b.kernel name)
   held-here = ap (λ (m : Node). get_named m.deeds name) (sym here) ∙ at.held
 
-  granted-keeps : stays s.node.leader.directory reader ≡ true → HoldsAfter script v (grant noted name reader) hand
+  granted-keeps : stays s.node.leader.directory reader ≡ true → HoldsAfter script v (grant noted name reader) hand b.call
   granted-keeps stays_there =
-      subst (λ o. HoldsAfter script v (grant_held noted name reader o) hand) (sym held-here)
+      subst (λ o. HoldsAfter script v (grant_held noted name reader o) hand b.call) (sym held-here)
       (record {
         beside = record b { deed = deed_in b.deed name (InGrant reader) };
         holds = grant-sent-keeps script w hand b holds name reader object born other place
@@ -157,24 +159,25 @@ module _ (script : Script) (v : World) (s : Step) (hand : List Held) (b : Beside
             (changes-further script v 1 s after ((reader, frames.Grant (pack name (body_in b.kernel name))) ∷ []) []
             holds.shape (omega arith) high-one (record { low = low-high.0; high = low-high.1 }, tt)
             (record { sends_are = refl; entries_are = sym (append-nil s.entries) })));
+        calls = refl;
       })
     where
       after : Step
       after = grant_held noted name reader (Some (body_in b.kernel name))
 
   by-stays : (t : Bool) → stays s.node.leader.directory reader ≡ t
-      → HoldsAfter script v (if t then grant noted name reader else noted) hand
+      → HoldsAfter script v (if t then grant noted name reader else noted) hand b.call
   by-stays true e = granted-keeps e
   by-stays false e = noted-keeps
 
-  by-run : (t : Bool) → HoldsAfter script v (move_to noted name (if t then Some reader else None)) hand
+  by-run : (t : Bool) → HoldsAfter script v (move_to noted name (if t then Some reader else None)) hand b.call
   by-run false = noted-keeps
   by-run true =
       subst (λ t. HoldsAfter script v (if t
       then if stays s.node.leader.directory reader then grant noted name reader else noted
-      else send noted 1 (frames.Suggest name reader)) hand) (sym leads)
+      else send noted 1 (frames.Suggest name reader)) hand b.call) (sym leads)
       (by-stays (stays s.node.leader.directory reader) refl)
 
   -- All holds after the leader has noted the read, and perhaps sent the deed.
-  pub read-noted-keeps : HoldsAfter script v (note_read s name reader) hand
+  pub read-noted-keeps : HoldsAfter script v (note_read s name reader) hand b.call
   read-noted-keeps = by-run (run_with (watch_over s.node.watches s.node.number name) reader == 4)

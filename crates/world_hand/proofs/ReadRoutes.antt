@@ -1,6 +1,6 @@
 -- The leader routes a call of another node on a name that it holds, whether that has read or not; and what is left of
 -- the hand's routes for such calls.
-use Rattle.std.proofs.Common.{◌≡◌, ◌≢◌, ℕ, ◌≤◌, Bool, true, false, if◌then◌else◌, List, ◌∷◌, Some, refl, ap, sym, ◌∙◌}
+use Rattle.std.proofs.Common.{◌≡◌, ◌≢◌, ℕ, ◌≤◌, Bool, true, false, if◌then◌else◌, List, ◌∷◌, Option, Some, refl, ap, sym, ◌∙◌}
 use Rattle.std.proofs.lemmas.Bool.{false≢true}
 use Rattle.pico_base.specs.declared.call.Call.{Call}
 use Rattle.pico_base.specs.declared.call.Call.TheVariants as calls
@@ -14,25 +14,45 @@ use Rattle.rpc_frame.specs.declared.asked.Asked.{Asked}
 use Rattle.node_model.specs.declared.held.Held.{Held}
 use Rattle.node_model.specs.declared.held.Held.TheVariants.{Request}
 use Rattle.node_model.specs.Kinds.{is_object}
-use Rattle.node_model.specs.Directory.{Directory, At, place_of}
+use Rattle.node_model.specs.declared.route.Route.TheVariants as routes
+use Rattle.node_model.specs.Directory.{Directory, At, Coming, place_of, route}
 use Rattle.node_model.specs.Serving.{has_read}
 use Rattle.world_model.specs.Node.{Node}
 use Rattle.world_model.specs.Step.{Step}
 use Rattle.world_model.specs.Serving.{note_read}
 use Rattle.world_model.specs.World.{World, node_count, world_after}
-use Rattle.world_laws.specs.Places.{Beside}
+use Rattle.world_laws.specs.Places.{Beside, CallPlace, Idle, InAnswer, IsHeld, SentByPlace, SentByRange, call_in}
 use Rattle.world_laws.specs.Sights.{directory_of, is_born_stage}
 use Rattle.world_laws.specs.Invariant.{Holds}
 use Rattle.world_hand.proofs.Answering.{caller-born}
 use Rattle.world_hand.proofs.Asks.{NeverWaits}
 use Rattle.world_hand.proofs.Noted.{HoldsAfter, read-noted-keeps}
-use Rattle.world_hand.proofs.Routes.{RouteKeeps}
+use Rattle.world_hand.proofs.Routes.{IsOn, RouteKeeps}
 use Rattle.world_hand.proofs.ServedRoutes.{reply_of, route-to-leader, served_beside, served_step, served-middle, served-route, served-same-caller, served-same-directory}
 
--- the call has a route that keeps all, with something beside the world
-pub record HasRoute (script : Script) (v : World) (s : Step) (asked : Asked) (rest : List Held) : Type 0 where
-  pub beside : Beside
-  pub keeps : RouteKeeps script v s asked rest beside
+-- where a call is once it is routed: answered, with its node going on at once; or on its way to the name's owner or the
+-- node that has its number's range; or held for the name, which comes or is asked back
+pub data PlaceFits (d : Directory) (home : Home) (place : CallPlace) : Type 0 where
+  is_over : place ≡ Idle → PlaceFits d home place
+  is_answered : (sender : ℕ) (reply : Reply) → place ≡ InAnswer sender reply → PlaceFits d home place
+  goes_to_owner : (name : Name) (node : ℕ) → place ≡ SentByPlace node → home ≡ homes.At name
+      → place_of d name ≡ Some (At node) → node ≢ 1 → PlaceFits d home place
+  goes_by_range : (name : Name) (node : ℕ) → place ≡ SentByRange node → IsOn name home
+      → route d name ≡ routes.Range node → PlaceFits d home place
+  is_held : (name : Name) (to : Option ℕ) (items : List Held) → place ≡ IsHeld name → IsOn name home
+      → place_of d name ≡ Some (Coming to items) → PlaceFits d home place
+  asks_back : (name : Name) (node : ℕ) → place ≡ IsHeld name → home ≡ homes.Removal name
+      → place_of d name ≡ Some (At node) → node ≢ 1 → PlaceFits d home place
+
+-- The call has a route that keeps all, with something beside the world: only this call is in another place, which fits
+-- the route.
+pub record HasRoute (script : Script) (v : World) (s : Step) (asked : Asked) (rest : List Held) (b : Beside) : Type 0
+  where
+    pub beside : Beside
+    pub keeps : RouteKeeps script v s asked rest beside
+    pub place : CallPlace
+    pub calls : beside.call ≡ call_in b.call asked.caller place
+    pub fits : PlaceFits (directory_of (world_after v 1 s)) (home_of asked.pid asked.call) place
 
 -- ---- what reads
 
@@ -67,6 +87,7 @@ module _ (script : Script) (v : World) (s : Step) (asked : Asked) (rest : List H
     served = served_step script v s asked rest b holds low high other never name on place
 
     noted : has_read asked.call reply ≡ true → HoldsAfter script v (note_read served name asked.caller) rest
+        (call_in b.call asked.caller (InAnswer 1 reply))
     noted e =
         read-noted-keeps script v served rest
         (served_beside script v s asked rest b holds low high other never name on place)
@@ -78,14 +99,19 @@ module _ (script : Script) (v : World) (s : Step) (asked : Asked) (rest : List H
         (ap (λ y. place_of y name)
         (served-same-directory script v s asked rest b holds low high other never name on place) ∙ place)
 
-    by-read : (t : Bool) → has_read asked.call reply ≡ t → HasRoute script v s asked rest
+    by-read : (t : Bool) → has_read asked.call reply ≡ t → HasRoute script v s asked rest b
     by-read false e =
         record {
           beside = served_beside script v s asked rest b holds low high other never name on place;
           keeps = route-to-leader script v s asked rest b holds low high other never name on place e;
+          place = InAnswer 1 reply;
+          calls = refl;
+          fits = is_answered 1 reply refl;
         }
     by-read true e =
-        let after : HoldsAfter script v (note_read served name asked.caller) rest = noted e
+        let after : HoldsAfter script v (note_read served name asked.caller) rest
+        (call_in b.call asked.caller (InAnswer 1 reply)) =
+        noted e
         in record {
           beside = after.beside;
           keeps = record {
@@ -94,8 +120,11 @@ module _ (script : Script) (v : World) (s : Step) (asked : Asked) (rest : List H
                 ∙ ap (λ t. Some (if t then note_read served name asked.caller else served)) e;
             holds = after.holds;
           };
+          place = InAnswer 1 reply;
+          calls = after.calls;
+          fits = is_answered 1 reply refl;
         }
 
     -- A call on a name that the leader holds is served, and the name moves to who has read it often.
-    pub route-to-leader-too : HasRoute script v s asked rest
+    pub route-to-leader-too : HasRoute script v s asked rest b
     route-to-leader-too = by-read (has_read asked.call reply) refl

@@ -195,7 +195,8 @@ module _ (script : Script) (v : World) (s : Step) (asked : Asked) (rest : List H
             (owner-in-range script w (Request asked ∷ rest) b holds name h place low_owner));
       }
 
-  range-is : (name : Name) (h : ℕ) → place_of d name ≡ None → maker d name ≡ Some h → stays d h ≡ true → h ≢ 1
+  -- the range's node is its route
+  pub range-is : (name : Name) (h : ℕ) → place_of d name ≡ None → maker d name ≡ Some h → stays d h ≡ true → h ≢ 1
       → route d name ≡ routes.Range h
   range-is name h place makes stays_there other =
       ap (λ o. route_by o (maker_stays d (maker d name)) (maker d name)) place
