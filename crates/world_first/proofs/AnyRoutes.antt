@@ -15,29 +15,30 @@ use Rattle.node_model.specs.Directory.{Directory, Place, At, Coming, maker, make
 use Rattle.world_model.specs.Calls.{is_for_others}
 use Rattle.world_model.specs.Step.{Step}
 use Rattle.world_model.specs.World.{World, node_count, world_after}
-use Rattle.world_laws.specs.Places.{Beside}
+use Rattle.world_laws.specs.Places.{Beside, CallPlace, IsHeld, SentByPlace, SentByRange, call_in}
 use Rattle.world_laws.specs.Sights.{directory_of}
 use Rattle.world_laws.specs.Invariant.{Holds}
 use Rattle.world_hand.proofs.HandMoves.{in-hand-for-others}
-use Rattle.world_hand.proofs.ReadRoutes.{HasRoute}
-use Rattle.world_hand.proofs.Routes.{IsOn, RouteKeeps, route-by-range, route-to-held, route-to-owner, route-to-recall}
+use Rattle.world_hand.proofs.ReadRoutes.{HasRoute, PlaceFits, asks_back, goes_by_range, goes_to_owner, is_held}
+use Rattle.world_hand.proofs.Routes.{IsOn, RouteKeeps, range-is, route-by-range, route-to-held, route-to-owner, route-to-recall}
 
 -- The directory names nodes, and the call has a route where the leader carries it out: on a name that nothing has, on a
 -- name that the leader holds, as a removal of one that it holds, and on a key.
-pub record RoutesHere (script : Script) (v : World) (s : Step) (asked : Asked) (rest : List Held) : Type 0 where
+pub record RoutesHere (script : Script) (v : World) (s : Step) (asked : Asked) (rest : List Held) (b : Beside) : Type 0
+  where
   pub nodes : (name : Name) (node : ℕ) → place_of (directory_of (world_after v 1 s)) name ≡ Some (At node) → 1 ≤ node
   pub nobody : (name : Name) → IsOn name (home_of asked.pid asked.call)
       → place_of (directory_of (world_after v 1 s)) name ≡ None
-      → route (directory_of (world_after v 1 s)) name ≡ routes.Nobody → HasRoute script v s asked rest
+      → route (directory_of (world_after v 1 s)) name ≡ routes.Nobody → HasRoute script v s asked rest b
   pub served : (name : Name) → home_of asked.pid asked.call ≡ homes.At name
-      → place_of (directory_of (world_after v 1 s)) name ≡ Some (At 1) → HasRoute script v s asked rest
+      → place_of (directory_of (world_after v 1 s)) name ≡ Some (At 1) → HasRoute script v s asked rest b
   pub removed : (name : Name) → home_of asked.pid asked.call ≡ homes.Removal name
-      → place_of (directory_of (world_after v 1 s)) name ≡ Some (At 1) → HasRoute script v s asked rest
-  pub keys : home_of asked.pid asked.call ≡ homes.Keys → HasRoute script v s asked rest
+      → place_of (directory_of (world_after v 1 s)) name ≡ Some (At 1) → HasRoute script v s asked rest b
+  pub keys : home_of asked.pid asked.call ≡ homes.Keys → HasRoute script v s asked rest b
 
 module _ (script : Script) (v : World) (s : Step) (asked : Asked) (rest : List Held) (b : Beside)
     (holds : Holds script (world_after v 1 s) (Request asked ∷ rest) b) (low : 1 ≤ asked.caller)
-    (high : asked.caller ≤ node_count script) (here : RoutesHere script v s asked rest) where
+    (high : asked.caller ≤ node_count script) (here : RoutesHere script v s asked rest b) where
   abbrev w : World
   w = world_after v 1 s
 
@@ -47,11 +48,20 @@ module _ (script : Script) (v : World) (s : Step) (asked : Asked) (rest : List H
   abbrev home : Home
   home = home_of asked.pid asked.call
 
-  routed : (b' : Beside) → RouteKeeps script v s asked rest b' → HasRoute script v s asked rest
-  routed b' keeps = record { beside = b'; keeps = keeps }
+  routed : (place : CallPlace) → PlaceFits d home place
+      → RouteKeeps script v s asked rest (record b { call = call_in b.call asked.caller place })
+      → HasRoute script v s asked rest b
+  routed place fits keeps =
+      record {
+        beside = record b { call = call_in b.call asked.caller place };
+        keeps = keeps;
+        place = place;
+        calls = refl;
+        fits = fits;
+      }
 
   by-maker : (name : Name) → IsOn name home → place_of d name ≡ None → (m : Option ℕ) → maker d name ≡ m
-      → HasRoute script v s asked rest
+      → HasRoute script v s asked rest b
   by-maker name on place None made =
       here.nobody name on place
       (ap (λ o. route_by o (maker_stays d (maker d name)) (maker d name)) place
@@ -63,9 +73,12 @@ module _ (script : Script) (v : World) (s : Step) (asked : Asked) (rest : List H
           ap (λ o. route_by o (maker_stays d (maker d name)) (maker d name)) place
           ∙ ap (λ m. route_by None (maker_stays d m) m) made
 
-      by-tests : (t : Bool) → stays d h ≡ t → (h ≡ 1) ⊎ (h ≢ 1) → HasRoute script v s asked rest
+      by-tests : (t : Bool) → stays d h ≡ t → (h ≡ 1) ⊎ (h ≢ 1) → HasRoute script v s asked rest b
       by-tests true e (inr away) =
-          routed _ (route-by-range script v s asked rest b holds low high name h on place made e away)
+          routed (SentByRange h)
+          (goes_by_range name h refl on
+          (range-is script v s asked rest b holds low high name h place made e away))
+          (route-by-range script v s asked rest b holds low high name h on place made e away)
       by-tests true e (inl first) =
           here.nobody name on place
           (goes ∙ ap (λ t. if t && not (nat_eq h 1) then routes.Range h else routes.Nobody) e
@@ -75,32 +88,36 @@ module _ (script : Script) (v : World) (s : Step) (asked : Asked) (rest : List H
           (goes ∙ ap (λ t. if t && not (nat_eq h 1) then routes.Range h else routes.Nobody) e)
 
   on-name : (name : Name) → home ≡ homes.At name → (o : Option Place) → place_of d name ≡ o
-      → HasRoute script v s asked rest
+      → HasRoute script v s asked rest b
   on-name name on None place = by-maker name (inl on) place (maker d name) refl
   on-name name on (Some (Coming to items)) place =
-      routed _ (route-to-held script v s asked rest b holds low high name to items (inl on) place)
+      routed (IsHeld name) (is_held name to items refl (inl on) place)
+      (route-to-held script v s asked rest b holds low high name to items (inl on) place)
   on-name name on (Some (At node)) place =
       elim (cases_eq node 1) [
         | inl e ↦ here.served name on (place ∙ ap (λ y. Some (At y)) e)
         | inr away ↦
-            routed _ (route-to-owner script v s asked rest b holds low high name node on place
+            routed (SentByPlace node) (goes_to_owner name node refl on place away)
+            (route-to-owner script v s asked rest b holds low high name node on place
             (here.nodes name node place) away)
       ]
 
   removes : (name : Name) → home ≡ homes.Removal name → (o : Option Place) → place_of d name ≡ o
-      → HasRoute script v s asked rest
+      → HasRoute script v s asked rest b
   removes name on None place = by-maker name (inr on) place (maker d name) refl
   removes name on (Some (Coming to items)) place =
-      routed _ (route-to-held script v s asked rest b holds low high name to items (inr on) place)
+      routed (IsHeld name) (is_held name to items refl (inr on) place)
+      (route-to-held script v s asked rest b holds low high name to items (inr on) place)
   removes name on (Some (At node)) place =
       elim (cases_eq node 1) [
         | inl e ↦ here.removed name on (place ∙ ap (λ y. Some (At y)) e)
         | inr away ↦
-            routed _ (route-to-recall script v s asked rest b holds low high name node on place
+            routed (IsHeld name) (asks_back name node refl on place away)
+            (route-to-recall script v s asked rest b holds low high name node on place
             (here.nodes name node place) away)
       ]
 
-  by-home : (h : Home) → home ≡ h → is_for_others h ≡ true → HasRoute script v s asked rest
+  by-home : (h : Home) → home ≡ h → is_for_others h ≡ true → HasRoute script v s asked rest b
   by-home (homes.At name) on h = on-name name on (place_of d name) refl
   by-home (homes.Removal name) on h = removes name on (place_of d name) refl
   by-home homes.Keys on h = here.keys on
@@ -108,5 +125,5 @@ module _ (script : Script) (v : World) (s : Step) (asked : Asked) (rest : List H
   by-home homes.Parent on h = absurd (false≢true h)
 
   -- The call has a route, which keeps all.
-  pub any-has-route : HasRoute script v s asked rest
+  pub any-has-route : HasRoute script v s asked rest b
   any-has-route = by-home home refl (in-hand-for-others script w asked rest b holds low high)

@@ -39,7 +39,7 @@ none-else home none e = absurd (false≢true (sym none ∙ ap is_keys_home e))
 pub route-own-key : (script : Script) (v : World) (s : Step) (ticket pid : ℕ) (call : Call) (rest : List Held)
     (b : Beside) → Holds script (world_after v 1 s) (Request (own_asked ticket pid call) ∷ rest) b
     → 1 ≤ node_count script → HasNumbers (world_after v 1 s) → home_of pid call ≡ homes.Keys
-    → HasRoute script v s (own_asked ticket pid call) rest
+    → HasRoute script v s (own_asked ticket pid call) rest b
 route-own-key script v s ticket pid (calls.MsgGet (Some key) create excl) rest b holds high enough on =
     route-own-queue script v s ticket pid key create excl rest b holds high enough
 route-own-key script v s ticket pid (calls.SemGet (Some key) count create excl) rest b holds high enough on =

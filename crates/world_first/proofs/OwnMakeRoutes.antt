@@ -21,13 +21,13 @@ use Rattle.world_model.specs.Numbers.{Taken, take_number}
 use Rattle.world_model.specs.Step.{Step, with_node}
 use Rattle.world_model.specs.Routing.{make_bound, route_call}
 use Rattle.world_model.specs.World.{World, node_count, world_after}
-use Rattle.world_laws.specs.Places.{Beside}
+use Rattle.world_laws.specs.Places.{Beside, Idle}
 use Rattle.world_laws.specs.Sights.{node_of}
 use Rattle.world_laws.specs.Invariant.{Holds}
 use Rattle.world_laws.proofs.Changes.{Changes}
 use Rattle.world_laws.proofs.Middles.{changes-further}
 use Rattle.world_hand.proofs.Answering.{IsPlainCall}
-use Rattle.world_hand.proofs.ReadRoutes.{HasRoute}
+use Rattle.world_hand.proofs.ReadRoutes.{HasRoute, is_over}
 use Rattle.world_keys.proofs.MadeHere.{MakesOf, Tables, made_node}
 use Rattle.world_keys.proofs.Taking.{without_number}
 use Rattle.world_first.proofs.AnsweredHere.{own_asked}
@@ -117,7 +117,7 @@ module _ (script : Script) (v : World) (s : Step) (ticket pid : ℕ) (call : Cal
       (record { sends_are = sym (append-nil s.sends); entries_are = refl }))
 
   -- A call that makes it so has a route.
-  pub own-made-route : route_call script s asked ≡ Some own_made_step → HasRoute script v s asked rest
+  pub own-made-route : route_call script s asked ≡ Some own_made_step → HasRoute script v s asked rest b
   own-made-route rule =
       record {
         beside = own_made_beside script w ticket pid call rest b holds high kind name body m (keys n.leader) has_keys
@@ -128,4 +128,7 @@ module _ (script : Script) (v : World) (s : Step) (ticket pid : ℕ) (call : Cal
           holds = own-made-keeps script w ticket pid call rest b holds high kind name body m (keys n.leader) has_keys
               plain s.node.number (world_after v 1 own_made_step) changes;
         };
+        place = Idle;
+        calls = refl;
+        fits = is_over refl;
       }

@@ -76,7 +76,7 @@ module _ (script : Script) (v : World) (s : Step) (ticket pid key : ℕ) (create
       (sym (own-node-here script v s ticket pid call rest b holds high))
       ∙ ap (get_queue script s asked key) e
 
-  made : key_answer (get l.queue_keys key) create excl ≡ answers.Create → HasRoute script v s asked rest
+  made : key_answer (get l.queue_keys key) create excl ≡ answers.Create → HasRoute script v s asked rest b
   made e =
       own-made-route script v s ticket pid call rest b holds high kinds.Msg (Msg t.number) (AQueue empty_queue) m tables
       bound.keys plain
@@ -104,7 +104,7 @@ module _ (script : Script) (v : World) (s : Step) (ticket pid key : ℕ) (create
       tables y = record { queues = put y.queue_keys key (bound_to t.number 0); sets = y.set_keys }
 
   by-answer : (answer : KeyAnswer) → key_answer (get l.queue_keys key) create excl ≡ answer
-      → HasRoute script v s asked rest
+      → HasRoute script v s asked rest b
   by-answer (answers.Found id count) e =
       own-unchanged-route script v s ticket pid call rest b holds high (replies.Num id)
       (finds-queue l.queue_keys l.set_keys b.kernel pid key create excl id count may has-keys e) plain
@@ -116,5 +116,5 @@ module _ (script : Script) (v : World) (s : Step) (ticket pid key : ℕ) (create
   by-answer answers.Create e = made e
 
   -- A get of a queue by a key has a route.
-  pub route-own-queue : HasRoute script v s asked rest
+  pub route-own-queue : HasRoute script v s asked rest b
   route-own-queue = by-answer (key_answer (get l.queue_keys key) create excl) refl

@@ -26,12 +26,12 @@ use Rattle.world_model.specs.Serving.{serve_asked}
 use Rattle.world_model.specs.Routing.{recall_and_hold, remove_by, route_home, unbind_name, without_key}
 use Rattle.world_model.specs.World.{World, node_count, world_after}
 use Rattle.kernel_moves.specs.Entering.{HasKeys, removed_queue, removed_set, without_keys_of}
-use Rattle.world_laws.specs.Places.{Beside}
+use Rattle.world_laws.specs.Places.{Beside, Idle}
 use Rattle.world_laws.specs.Sights.{node_of, directory_of}
 use Rattle.world_laws.specs.Ranges.{KeysHold}
 use Rattle.world_laws.specs.Invariant.{Holds}
 use Rattle.world_hand.proofs.Asks.{NeverWaits}
-use Rattle.world_hand.proofs.ReadRoutes.{HasRoute}
+use Rattle.world_hand.proofs.ReadRoutes.{HasRoute, is_over}
 use Rattle.world_hand.proofs.Served.{IsAtLeader, at-leader}
 use Rattle.world_first.specs.Watching.{WatchesAsOwner}
 use Rattle.world_first.proofs.AnsweredHere.{own_asked}
@@ -152,7 +152,7 @@ module _ (script : Script) (v : World) (s : Step) (ticket pid : ℕ) (call : Cal
       (own-is-served script v s ticket pid call rest b holds high never watches name (inr on) at) at queues sets)
 
   -- The queue or set is removed, and the process goes on.
-  pub route-own-removal : HasRoute script v s asked rest
+  pub route-own-removal : HasRoute script v s asked rest b
   route-own-removal =
       record {
         beside = own_served_beside script v s ticket pid call rest b holds high never watches name (inr on) at;
@@ -169,4 +169,7 @@ module _ (script : Script) (v : World) (s : Step) (ticket pid : ℕ) (call : Cal
           holds = own-served-holds script v s ticket pid call rest b holds high never watches name (inr on) at noted
               unbound (same-directory n.leader name) keys-now;
         };
+        place = Idle;
+        calls = refl;
+        fits = is_over refl;
       }

@@ -24,13 +24,13 @@ use Rattle.world_model.specs.Routing.{forward, route_home}
 use Rattle.world_model.specs.Routing as routing
 use Rattle.world_model.specs.World.{World, node_count, world_after}
 use Rattle.kernel_moves.proofs.Fresh.{LeavesAll, nobody}
-use Rattle.world_laws.specs.Places.{Beside}
+use Rattle.world_laws.specs.Places.{Beside, Idle}
 use Rattle.world_laws.specs.Sights.{node_of, directory_of}
 use Rattle.world_laws.specs.Invariant.{Holds}
 use Rattle.world_hand.proofs.Answering.{due-in-hand, may-make-in-hand, served-plain}
 use Rattle.world_hand.proofs.Asks.{NeverWaits}
 use Rattle.world_hand.proofs.NobodyRoutes.{name-for-on, nobody-unused, on-name-served}
-use Rattle.world_hand.proofs.ReadRoutes.{HasRoute}
+use Rattle.world_hand.proofs.ReadRoutes.{HasRoute, is_over}
 use Rattle.world_hand.proofs.Routes.{IsOn, routed-elsewhere}
 use Rattle.world_hand.proofs.Served.{IsAtLeader, at-leader}
 use Rattle.world_first.specs.Ready.{IsReady}
@@ -84,7 +84,7 @@ module _ (script : Script) (v : World) (s : Step) (ticket pid : ℕ) (call : Cal
         (name-for-on pid call name on) (nobody-unused script w (Request asked ∷ rest) b holds name place nowhere)
 
     -- A call on a number that names nothing is refused, and the process goes on.
-    pub route-own-to-nobody : HasRoute script v s asked rest
+    pub route-own-to-nobody : HasRoute script v s asked rest b
     route-own-to-nobody =
         own-unchanged-route script v s ticket pid call rest b holds high refusal refused (served-plain call is-served)
         (routed-elsewhere script v s asked rest b holds low high name routes.Nobody refl on nowhere)
@@ -92,7 +92,7 @@ module _ (script : Script) (v : World) (s : Step) (ticket pid : ℕ) (call : Cal
   module _ (watches : WatchesAsOwner n) where
     -- A call on a name that the leader holds is served at once, and the process goes on.
     pub route-own-to-leader : (name : Name) → home_of pid call ≡ homes.At name → place_of d name ≡ Some (At 1)
-        → HasRoute script v s asked rest
+        → HasRoute script v s asked rest b
     route-own-to-leader name on place =
         let at : IsAtLeader w b name = at-leader script w (Request asked ∷ rest) b name holds place
         in let reply : Reply =
@@ -115,10 +115,13 @@ module _ (script : Script) (v : World) (s : Step) (ticket pid : ℕ) (call : Cal
                 (own-keys-stay script w ticket pid call rest b holds high name (inl on)
                 (own-is-served script v s ticket pid call rest b holds high never watches name (inl on) at) at on);
           };
+          place = Idle;
+          calls = refl;
+          fits = is_over refl;
         }
 
   -- The call has a route, which keeps all.
-  pub own-has-route : IsReady n → HasRoute script v s asked rest
+  pub own-has-route : IsReady n → HasRoute script v s asked rest b
   own-has-route ready =
       any-has-route script v s asked rest b holds low high
       (record {
@@ -133,9 +136,9 @@ module _ (script : Script) (v : World) (s : Step) (ticket pid : ℕ) (call : Cal
 -- So has any call in hand that is node 1's.
 pub first-has-route : (script : Script) (v : World) (s : Step) (asked : Asked) (rest : List Held) (b : Beside)
     → Holds script (world_after v 1 s) (Request asked ∷ rest) b → 1 ≤ node_count script → asked.caller ≡ 1
-    → NeverWaits script → IsReady (node_of (world_after v 1 s) 1) → HasRoute script v s asked rest
+    → NeverWaits script → IsReady (node_of (world_after v 1 s) 1) → HasRoute script v s asked rest b
 first-has-route script v s asked rest b holds high is never ready =
-    subst (λ (a : Asked). HasRoute script v s a rest) (sym same)
+    subst (λ (a : Asked). HasRoute script v s a rest b) (sym same)
     (own-has-route script v s asked.ticket asked.pid asked.call rest b
     (subst (λ (a : Asked). Holds script (world_after v 1 s) (Request a ∷ rest) b) same holds) high never ready)
   where

@@ -71,7 +71,7 @@ module _ (script : Script) (v : World) (s : Step) (ticket pid key count : ℕ) (
       ∙ ap (get_set script s asked key count) e
 
   made : key_answer (get l.set_keys key) create excl ≡ answers.Create → (set : SemaphoreSet) → new_set count ≡ Ok set
-      → HasRoute script v s asked rest
+      → HasRoute script v s asked rest b
   made e set sized =
       own-made-route script v s ticket pid call rest b holds high kinds.Sem (Sem t.number) (ASet set) m tables
       bound.keys plain
@@ -105,7 +105,7 @@ module _ (script : Script) (v : World) (s : Step) (ticket pid key count : ℕ) (
 
   -- a set of a bad size is refused
   by-size : key_answer (get l.set_keys key) create excl ≡ answers.Create → (size : Result SemaphoreSet Errno)
-      → new_set count ≡ size → HasRoute script v s asked rest
+      → new_set count ≡ size → HasRoute script v s asked rest b
   by-size e (Ok set) sized = made e set sized
   by-size e (Err error) bad =
       own-unchanged-route script v s ticket pid call rest b holds high (replies.Fail error)
@@ -113,7 +113,7 @@ module _ (script : Script) (v : World) (s : Step) (ticket pid key count : ℕ) (
       (rule-by answers.Create e ∙ ap (create_set script s asked key) bad)
 
   by-answer : (answer : KeyAnswer) → key_answer (get l.set_keys key) create excl ≡ answer
-      → HasRoute script v s asked rest
+      → HasRoute script v s asked rest b
   by-answer (answers.Found id size) e =
       own-unchanged-route script v s ticket pid call rest b holds high (found_set id size count)
       (finds-set l.queue_keys l.set_keys b.kernel pid key count create excl id size may has-keys e) plain
@@ -125,5 +125,5 @@ module _ (script : Script) (v : World) (s : Step) (ticket pid key count : ℕ) (
   by-answer answers.Create e = by-size e (new_set count) refl
 
   -- A get of a set by a key has a route.
-  pub route-own-set : HasRoute script v s asked rest
+  pub route-own-set : HasRoute script v s asked rest b
   route-own-set = by-answer (key_answer (get l.set_keys key) create excl) refl

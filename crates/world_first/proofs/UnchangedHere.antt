@@ -28,7 +28,7 @@ use Rattle.world_laws.proofs.Middles.{changes-further}
 use Rattle.world_own.proofs.Entries.{EntryLeaves}
 use Rattle.world_hand.proofs.Answering.{IsPlainCall, due-in-hand, may-make-in-hand, place-in-hand}
 use Rattle.world_hand.proofs.Nobody.{unchanged-leaves}
-use Rattle.world_hand.proofs.ReadRoutes.{HasRoute}
+use Rattle.world_hand.proofs.ReadRoutes.{HasRoute, is_over}
 use Rattle.world_hand.proofs.Routes.{leader-here, leader-number}
 use Rattle.world_first.proofs.AnsweredHere.{own_asked, own-living, own-ticket, own-under-way}
 use Rattle.world_first.proofs.KeptHere.{KeepsRest, own-kept, own-name-kept}
@@ -168,7 +168,7 @@ module _ (script : Script) (v : World) (s : Step) (ticket pid : ℕ) (call : Cal
     -- So it has a route where the leader carries it out with this reply.
     pub own-unchanged-route : route_call script s (own_asked ticket pid call)
         ≡ Some (carry_out script s (own_asked ticket pid call) reply)
-        → HasRoute script v s (own_asked ticket pid call) rest
+        → HasRoute script v s (own_asked ticket pid call) rest b
     own-unchanged-route rule =
         record {
           beside = after_unchanged;
@@ -178,4 +178,7 @@ module _ (script : Script) (v : World) (s : Step) (ticket pid : ℕ) (call : Cal
                 ∙ ap Some (carried-out-here script s ticket pid call reply own-node-number own-under-way-as);
             holds = own-unchanged-keeps;
           };
+          place = Idle;
+          calls = refl;
+          fits = is_over refl;
         }

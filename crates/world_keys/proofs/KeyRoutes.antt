@@ -18,7 +18,7 @@ use Rattle.world_model.specs.Node.{Node, under_way_as}
 use Rattle.world_model.specs.Step.{Step, carry_out, enter, reply_here, send, with_node}
 use Rattle.world_model.specs.Routing.{route_home}
 use Rattle.world_model.specs.World.{World, node_count, world_after}
-use Rattle.world_laws.specs.Places.{Beside}
+use Rattle.world_laws.specs.Places.{Beside, InAnswer}
 use Rattle.world_laws.specs.Sights.{directory_of, node_of}
 use Rattle.world_laws.specs.Invariant.{Holds}
 use Rattle.world_laws.proofs.Changes.{Changes}
@@ -26,7 +26,7 @@ use Rattle.world_laws.proofs.Middles.{changes-further}
 use Rattle.world_hand.proofs.Answering.{IsPlainCall, may-make-in-hand}
 use Rattle.world_hand.proofs.Nobody.{unchanged-answered}
 use Rattle.world_hand.proofs.NobodyRoutes.{answer-changes, carried-out, replied}
-use Rattle.world_hand.proofs.ReadRoutes.{HasRoute}
+use Rattle.world_hand.proofs.ReadRoutes.{HasRoute, is_answered}
 use Rattle.world_hand.proofs.Routes.{leader-here, leader-number}
 use Rattle.world_keys.proofs.KeyOutcomes.{IsKeyed, MakesKeyed, OnlyReplies, key-outcome, keyed, keyed-plain}
 use Rattle.world_keys.proofs.MadeForOther.{made-keeps, moved as made_moved}
@@ -55,7 +55,7 @@ module _ (script : Script) (v : World) (s : Step) (asked : Asked) (rest : List H
   plain = keyed-plain asked.call is-keyed
 
   -- A get that has a reply and changes nothing else: the reply is on its way.
-  replies-only : OnlyReplies script b s asked → HasRoute script v s asked rest
+  replies-only : OnlyReplies script b s asked → HasRoute script v s asked rest b
   replies-only o =
       record {
         beside = replied script v s asked rest b holds low high other o.reply
@@ -69,6 +69,9 @@ module _ (script : Script) (v : World) (s : Step) (asked : Asked) (rest : List H
               (frames.Answer asked.ticket o.reply)))
               (answer-changes script v s asked rest b holds low high other o.reply);
         };
+        place = InAnswer 1 o.reply;
+        calls = refl;
+        fits = is_answered 1 o.reply refl;
       }
 
   module _ (m : MakesKeyed script w b s asked) where
@@ -104,7 +107,7 @@ module _ (script : Script) (v : World) (s : Step) (asked : Asked) (rest : List H
         (record { low = low; high = high }, tt) (record { sends_are = refl; entries_are = refl })
 
     -- A get that makes something: that is at the leader, and the reply is on its way.
-    makes-new : HasRoute script v s asked rest
+    makes-new : HasRoute script v s asked rest b
     makes-new =
         record {
           beside = made_moved script w asked rest b holds low high other m.kind m.name m.body m.makes m.keys m.has_keys
@@ -115,10 +118,13 @@ module _ (script : Script) (v : World) (s : Step) (asked : Asked) (rest : List H
             holds = made-keeps script w asked rest b holds low high other m.kind m.name m.body m.makes m.keys m.has_keys
                 plain after.number (world_after v 1 next) changes;
           };
+          place = InAnswer 1 reply;
+          calls = refl;
+          fits = is_answered 1 reply refl;
         }
 
   -- A get by a key has a route that keeps all.
-  pub route-to-keys : ((kind : Kind) → has_more (directory_of w) kind ≡ true) → HasRoute script v s asked rest
+  pub route-to-keys : ((kind : Kind) → has_more (directory_of w) kind ≡ true) → HasRoute script v s asked rest b
   route-to-keys enough =
       elim (key-outcome script w hand b holds high-one enough s here asked
       (may-make-in-hand script w asked rest b holds low high) is-keyed) [

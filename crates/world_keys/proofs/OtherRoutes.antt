@@ -35,7 +35,7 @@ module _ (script : Script) (v : World) (s : Step) (asked : Asked) (rest : List H
     (holds : Holds script (world_after v 1 s) (Request asked ∷ rest) b) (low : 1 ≤ asked.caller)
     (high : asked.caller ≤ node_count script) (other : asked.caller ≢ 1) (never : NeverWaits script)
     (orderly : LeaderIsOrderly (world_after v 1 s)) where
-  routes-there : RoutesLeft script v s asked rest
+  routes-there : RoutesLeft script v s asked rest b
   routes-there =
       record {
         nodes = orderly.nodes;
@@ -45,5 +45,5 @@ module _ (script : Script) (v : World) (s : Step) (asked : Asked) (rest : List H
       }
 
   -- The call has a route, which keeps all.
-  pub other-has-route : HasRoute script v s asked rest
+  pub other-has-route : HasRoute script v s asked rest b
   other-has-route = hand-has-route script v s asked rest b holds low high other never routes-there

@@ -37,7 +37,7 @@ use Rattle.world_laws.proofs.Named.{name-cases}
 use Rattle.world_own.proofs.Entries.{EntryLeaves}
 use Rattle.world_own.proofs.Served.{served-leaves}
 use Rattle.world_hand.proofs.Answering.{LeaderAnswers, answered-keeps, due-in-hand, may-make-in-hand, name-not-served, name-served, place-in-hand, served-plain}
-use Rattle.world_hand.proofs.ReadRoutes.{HasRoute}
+use Rattle.world_hand.proofs.ReadRoutes.{HasRoute, is_answered}
 use Rattle.world_hand.proofs.Routes.{leader-here, leader-number}
 use Rattle.world_hand.proofs.Served.{IsAtLeader}
 use Rattle.world_own.proofs.Objects.{process-apart}
@@ -218,7 +218,7 @@ module _ (script : Script) (v : World) (s : Step) (asked : Asked) (rest : List H
       ]
 
   -- A removal of a name that the leader holds has a route that keeps all.
-  pub route-to-removal : HasRoute script v s asked rest
+  pub route-to-removal : HasRoute script v s asked rest b
   route-to-removal =
       record {
         beside = removed_beside;
@@ -229,4 +229,7 @@ module _ (script : Script) (v : World) (s : Step) (asked : Asked) (rest : List H
               s.node.number leaves (served-plain asked.call is.served) other after answers (world_after v 1 next)
               changes names;
         };
+        place = InAnswer 1 reply;
+        calls = refl;
+        fits = is_answered 1 reply refl;
       }
