@@ -45,9 +45,6 @@ and-false : (t : Bool) → (t && false) ≡ false
 and-false true = refl
 and-false false = refl
 
-some-same : {A : Type 0} {a c : A} → Some a ≡ Some c → a ≡ c
-some-same e = cc
-
 has-is : (hold : Hold) → is_has hold ≡ true → is_done hold ≡ false
 has-is Has h = refl
 has-is Lacks h = refl
@@ -154,9 +151,6 @@ module _ (script : Script) (w : World) (items : List Held) (parcel : Parcel) (b 
 
   more : IsMore (is_born_in w) (is_born_in w')
   more = still-born script 1 w w' after [] sends [] changes (λ g. g)
-
-  stage-same : (q : ℕ) → stage_of w' q ≡ stage_of w q
-  stage-same q = read-same script 1 w w' after [] sends [] changes (λ (m : Node). m.stage) refl q
 
   -- ---- the names
 
