@@ -269,7 +269,8 @@ text_byte_room (b ∷ rest) =
     longer None h = tt
     longer (Some p) h = (h.0, omega (arith, escape_short p.0, h.1))
 
-abbrev IsShort : List ℕ → List ℕ → Type 0
+-- a text of bytes whose spelling between quotes has room in these bytes
+abbrev pub IsShort : List ℕ → List ℕ → Type 0
 IsShort bytes t = (list_all is_byte t ≡ true) × (length (flat_map texts.escape t) + 1 ≤ length bytes)
 
 closed_short : (bytes : List ℕ) → IfSome (closed_at [] bytes) (IsShort bytes)
@@ -293,7 +294,8 @@ one_more_byte n bytes again (Some p) h =
     if_map (quoted_at n p.1) (with_byte p.0) (IsShort p.1) (IsShort bytes) (again p.1)
     (λ t k. longer_text bytes p t h k)
 
-quoted_short : (n : ℕ) (bytes : List ℕ) → IfSome (quoted_at n bytes) (IsShort bytes)
+-- what is read between quotes is no longer spelled in another way
+pub quoted_short : (n : ℕ) (bytes : List ℕ) → IfSome (quoted_at n bytes) (IsShort bytes)
 unfolding quoted_at
 quoted_short zero bytes = closed_short bytes
 quoted_short (suc n) bytes = one_more_byte n bytes (quoted_short n) (text_byte_at bytes) (text_byte_room bytes)

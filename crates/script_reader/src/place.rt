@@ -17,14 +17,14 @@ pub(crate) const MAX_BLOCKS: usize = 32;
 
 /// The block of this number has been forked: it begins with these variables.
 #[derive(Drop)]
-pub(crate) struct Begun {
+pub struct Begun {
     pub(crate) number: usize,
     pub(crate) known: Flags,
 }
 
 /// What the lines read so far say. Blocks go by their numbers, which are counted from 1.
 #[derive(Drop)]
-pub(crate) struct Place {
+pub struct Place {
     /// The whole blocks.
     pub(crate) blocks: Blocks,
     /// Whether a block is open.

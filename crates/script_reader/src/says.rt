@@ -18,7 +18,7 @@ const MAX_TRIES: u32 = 20_000;
 
 /// What a line says. A block goes by its number among the names of the text.
 #[derive(Drop)]
-pub(crate) enum Said {
+pub enum Said {
     /// Nothing: it has no words, or is a comment.
     Skipped,
     /// `proc NAME`.

@@ -5,7 +5,7 @@ ghost use Rattle.script_reader.specs.Forms.{verb_name, verb_of};
 
 /// What the first word of a call names.
 #[derive(Clone, Copy, PartialEq, Eq)]
-pub(crate) enum Verb {
+pub enum Verb {
     Fork,
     Exit,
     GetPid,

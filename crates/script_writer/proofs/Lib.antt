@@ -1,3 +1,4 @@
 pub mod Repeated
 pub mod Tables
 pub mod Soundness
+pub mod Examples

@@ -1,5 +1,5 @@
 -- A generated script is sound, and today's machine can run it.
-use Rattle.std.proofs.Common.{◌≡◌, ℕ, zero, suc, ◌+◌, ◌*◌, ◌%◌, ◌≤◌, Bool, true, false, ◌&&◌, ◌||◌, not, cond, ltb, leb, eqb, List, [], ◌∷◌, ◌++◌, map, length, replicate, Option, Some, None, Result, refl, sym, ap, ap₂, ◌∙◌, subst, append_assoc, arith}
+use Rattle.std.proofs.Common.{◌≡◌, ℕ, suc, ◌+◌, ◌*◌, ◌≤◌, Bool, true, false, ◌&&◌, ◌||◌, not, eqb, List, [], ◌∷◌, ◌++◌, map, length, replicate, Some, Result, refl, sym, ap, ap₂, ◌∙◌, subst, append_assoc, arith}
 use Rattle.std.specs.Prelude.{nat_eq, nat_lt, nat_le, sum_by, count_by, codes, pos, IfOk}
 use Rattle.std.specs.List.{flat_map, list_all, list_any, enumerate_from}
 use Rattle.std.proofs.lemmas.Bool.{and_parts, and_from, eq-eqb, le-leb}
@@ -14,7 +14,6 @@ use Rattle.std.proofs.lemmas.Result.{IfOk-weaker}
 use Rattle.pico_base.specs.declared.script.Line.{Line}
 use Rattle.pico_base.specs.declared.script.Block.{Block}
 use Rattle.pico_base.specs.declared.script.Script.{Script}
-use Rattle.kernel_model.specs.Numbers.{is_between}
 use Rattle.kernel_model.specs.Waiting.{is_waiting}
 use Rattle.kernel_model.specs.Script.{Fork, fork_from, forks_of, is_name, is_same, names_differ, is_line, is_known, known_at, uses_known, uses_known_from, begun_in, calls_in, ends_rightly, IsSoundScript}
 use Rattle.machine_model.specs.Built.{is_built_line, is_built_block, IsRunnable}

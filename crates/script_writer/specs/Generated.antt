@@ -1,7 +1,7 @@
 -- Generated scripts. Script N has P = 2 + N mod 31 blocks: `main`, and a worker for each number from 1 to P - 1. For
 -- each worker main makes a queue, sends M = 10 + N mod 291 messages to it, and then forks the worker, which receives
 -- them all and tells main so with a message to the queue that main made first.
-use Rattle.std.specs.Prelude.{ℕ, zero, suc, ◌+◌, ◌*◌, ◌%◌, ◌<◌, pos, true, false, List, [], ◌∷◌, ◌++◌, map, replicate, codes, nat_lt, if◌then◌else◌, Option, Some, None}
+use Rattle.std.specs.Prelude.{ℕ, zero, suc, ◌+◌, ◌*◌, ◌%◌, pos, true, false, List, [], ◌∷◌, ◌++◌, map, replicate, codes, nat_lt, if◌then◌else◌, Option, Some, None}
 use Rattle.std.specs.List.{flat_map}
 use Rattle.std.specs.Fmt.{decimal}
 use Rattle.pico_base.specs.declared.call.Call.{Call}

@@ -1,4 +1,4 @@
-//! Writes scripts: generated ones, and a script's text.
+//! Writes the script of a number.
 #![tactic(auto)]
 
 mod generator;

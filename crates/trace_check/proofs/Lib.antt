@@ -10,3 +10,4 @@ pub mod PlaceLaws
 pub mod SameTexts
 pub mod StandingLaws
 pub mod TallyLaws
+pub mod Examples

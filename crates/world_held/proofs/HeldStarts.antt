@@ -1,6 +1,6 @@
 -- A node other than the leader starts a call of its process on a name that it holds: it serves the call at once, and
 -- notes the read where the call has read.
-use Rattle.std.proofs.Common.{◌≡◌, ◌≢◌, ℕ, ◌+◌, ◌≤◌, true, if◌then◌else◌, [], ◌∷◌, Some, None, refl, ap, sym, ◌∙◌, inl}
+use Rattle.std.proofs.Common.{◌≡◌, ◌≢◌, ℕ, ◌≤◌, true, if◌then◌else◌, [], ap, ◌∙◌, inl}
 use Rattle.pico_base.specs.declared.call.Call.{Call}
 use Rattle.pico_base.specs.declared.call.Home.TheVariants as homes
 use Rattle.pico_base.specs.declared.numbers.Name.{Name}
@@ -11,7 +11,6 @@ use Rattle.rpc_frame.specs.declared.asked.Asked.{Asked}
 use Rattle.kernel_model.specs.Script.{IsSoundScript}
 use Rattle.node_model.specs.Cache.{look, owner_in}
 use Rattle.node_model.specs.Carrying.{is_served}
-use Rattle.node_model.specs.Caller.{start_call}
 use Rattle.world_model.specs.Calls.{is_for_others}
 use Rattle.world_model.specs.Node.{Node, asked_here, can_run, holds as node_holds}
 use Rattle.world_model.specs.Serving.{serve_asked}
@@ -82,8 +81,7 @@ module _ (script : Script) (sound : IsSoundScript script) (w : World) (b : Besid
       (started-asked-here script w b holds p low high s n.cache node-was.owners others)
 
   served : is_served call ≡ true
-  served =
-      on-name-served n.pid call name (inl home) (never p n.caller call s.due_now.due)
+  served = on-name-served n.pid call name (inl home) (never p n.caller call s.due_now.due)
 
   serves : ServesInHand script w p started asked name
   serves = serves-in-hand script w p started in-hand asked is-in-hand name home served deed
@@ -91,7 +89,7 @@ module _ (script : Script) (sound : IsSoundScript script) (w : World) (b : Besid
   ends : EndsIn script w p (serve_asked script (step_to started) name asked)
   ends = serves-and-suggests script w p started asked name serves low high home other
 
-  -- The call is carried out at the node, and it is over.
+  -- The call is carried out at the node, and it is over; all holds.
   pub held-call-keeps : Keeps script w (events.Run p)
   held-call-keeps =
       let after : HasInvariant script (world_after w p ends.next) = ends.holds

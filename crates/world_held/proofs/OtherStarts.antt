@@ -1,4 +1,4 @@
--- A node other than the leader starts a call of its process that any node may carry out: it serves the call where it
+-- A node other than the leader starts a call of its process that others may carry out: it serves the call where it
 -- holds the name, asks the owner that its cache names, or asks the leader.
 use Rattle.std.proofs.Common.{◌≡◌, ◌≢◌, ℕ, ◌≤◌, Bool, true, false, Option, Some, None, refl, []}
 use Rattle.std.proofs.lemmas.Bool.{false≢true}
