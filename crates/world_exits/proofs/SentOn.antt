@@ -30,16 +30,12 @@ use Rattle.world_laws.proofs.Named.{name-cases, same-name, other-name}
 use Rattle.world_laws.proofs.Stays.{IsMore, SameName, name-stays}
 use Rattle.world_hand.proofs.Forwards.{name-sent-for, steps_as, ranges_as}
 use Rattle.world_ends.proofs.Taken.{fewer-none, play-without, plays-without, begin-without}
+use Rattle.world_ends.proofs.Releases.{checkpoints-bring}
 use Rattle.world_exits.proofs.Arrivals.{either-way, Arrives}
 use Rattle.world_exits.proofs.Released.{call_released, deed_released, released_name, name-released}
 use Rattle.world_exits.proofs.Parcels.{HasParcel, hand-sender, parcel-in-hand, is-used-there, in-parcel-made}
 use Rattle.world_exits.proofs.Hands.{names, hand_then, parcel-apart, held_with, seen-held, in-hand-then, none-in-hand, kept-then, none-kept-then, place-then, place-still}
 use Rattle.world_exits.proofs.Onward.{is_done, done-together, lacks-is, plays-released, ranges-released, GoesOnward, gone_onward, name-gone-onward}
-
--- a Checkpoint of a name brings its deed
-pub checkpoints-bring : (name : Name) (frame : Frame) → is_checkpoint_of name frame ≡ true → brings name frame ≡ true
-checkpoints-bring name (frames.Checkpoint pid parent deed vars) h = h
-checkpoints-bring name frame h = absurd (false≢true h)
 
 and-false : (t : Bool) → (t && false) ≡ false
 and-false true = refl
