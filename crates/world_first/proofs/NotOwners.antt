@@ -8,11 +8,14 @@ use Rattle.pico_base.specs.declared.call.Home.{Home}
 use Rattle.pico_base.specs.declared.call.Home.TheVariants as homes
 use Rattle.pico_base.specs.declared.numbers.Name.{Name}
 use Rattle.pico_base.specs.declared.script.Script.{Script}
+use Rattle.pico_base.specs.declared.script.Event.TheVariants as events
 use Rattle.pico_base.specs.Home.{home_of}
 use Rattle.rpc_frame.specs.declared.asked.Asked.{Asked}
 use Rattle.rpc_frame.specs.declared.frame.Frame.{Frame}
 use Rattle.rpc_frame.specs.declared.frame.Frame.TheVariants as frames
 use Rattle.node_model.specs.declared.held.Held.TheVariants.{Request}
+use Rattle.kernel_laws.proofs.Plain.{from_some}
+use Rattle.node_model.specs.Directory.{Directory}
 use Rattle.node_model.specs.Cache.{forget}
 use Rattle.node_model.specs.Kinds.{is_same_name}
 use Rattle.world_model.specs.Calls.{ask_after, is_for_others, is_on_name, take_not_owner, with_forgotten}
@@ -20,8 +23,8 @@ use Rattle.world_model.specs.Node.{Node, Stage, Living, asked_here, under_way_as
 use Rattle.world_model.specs.Routing.{route_call}
 use Rattle.world_model.specs.Step.{send, step_to}
 use Rattle.world_model.specs.World.{World, world_after}
-use Rattle.world_laws.specs.Places.{Beside, IsInHand, call_in}
-use Rattle.world_laws.specs.Sights.{is_born_in, node_of}
+use Rattle.world_laws.specs.Places.{Beside, CallPlace, IsInHand, call_in}
+use Rattle.world_laws.specs.Sights.{directory_of, is_born_in, node_of}
 use Rattle.world_laws.specs.Callers.{CallHolds, CallSight, HasCall, IsJustThere, IsSoFar, IsToBeMade, asked_of, call_sight, frame_at, is_about, is_end_place, is_held_at, is_in_stream, may_be_in, only_if}
 use Rattle.world_laws.specs.Families.{HoldsIn, NodeHolds}
 use Rattle.world_laws.specs.Invariant.{Holds}
@@ -31,8 +34,9 @@ use Rattle.world_laws.proofs.Steps.{Heads, take-steps, world_without}
 use Rattle.world_rules.proofs.Answers.{Found, find}
 use Rattle.world_rules.proofs.CallFrames.{IsNotOwnerOf, not-owner-of}
 use Rattle.world_hand.proofs.Asks.{NeverWaits}
-use Rattle.world_hand.proofs.HandRoutes.{KeepsSo}
-use Rattle.world_hand.proofs.ReadRoutes.{HasRoute}
+use Rattle.world_own.proofs.Moved.{IsMoved, twice-in}
+use Rattle.world_own.proofs.OwnCases.{Keeps}
+use Rattle.world_hand.proofs.ReadRoutes.{HasRoute, PlaceFits}
 use Rattle.world_hand.proofs.Takings.{IsSameLeader, IsTakenUp, name-not-taken, taken-keeps}
 use Rattle.world_first.specs.Ready.{IsReady}
 use Rattle.world_first.proofs.AnsweredHere.{living-at-work, own_asked}
@@ -46,6 +50,12 @@ on-some-name homes.Own h = absurd (false≢true h)
 on-some-name homes.Keys h = absurd (false≢true h)
 on-some-name (homes.Removal name) h = absurd (false≢true h)
 on-some-name homes.Parent h = absurd (false≢true h)
+
+-- where the call under way at node 1 is once the leader has routed it
+abbrev pub IsRoutedAgain : World → CallPlace → Type 0
+IsRoutedAgain w place =
+    (call : Call) → (let n : Node = node_of w 1 in n.caller.under_way ≡ Some call)
+    → PlaceFits (directory_of w) (let n : Node = node_of w 1 in home_of n.pid call) place
 
 module _ (script : Script) (w : World) (b : Beside) (holds : Holds script w [] b) (q ticket : ℕ) (rest : List Frame)
     (h : Heads script w 1 q (frames.NotOwner ticket) rest) where
@@ -202,9 +212,10 @@ module _ (script : Script) (w : World) (b : Beside) (holds : Holds script w [] b
       ∙ ap (route_call script (step_to after)) asked-here-is
 
   -- So a NotOwner has a step at node 1, and keeps all.
-  pub not-owner-has-step : NeverWaits script → IsReady n → KeepsSo script w q
+  pub not-owner-has-step : NeverWaits script → IsReady n
+      → Keeps script w (events.Take 1 q) (λ after. IsMoved b.call after 1 (IsRoutedAgain w))
   not-owner-has-step never ready =
-      let r : HasRoute script v (step_to after) asked [] =
+      let r : HasRoute script v (step_to after) asked [] in-hand =
       own-has-route script v (step_to after) ticket n.pid call [] in-hand not-owner-in-hand h.high never
       (subst (λ (m : Node). IsReady m) (sym here)
       (record {
@@ -221,6 +232,14 @@ module _ (script : Script) (w : World) (b : Beside) (holds : Holds script w [] b
           is_step = take-steps script w 1 q frame rest r.keeps.next holds.shape h
               (not-owner-is-routed ∙ r.keeps.is_route);
           holds = r.keeps.holds;
+        };
+        after = record {
+          place = r.place;
+          calls = λ y. twice-in b.call 1 IsInHand r.place y ∙ ap (λ c. c y) (sym r.calls);
+          fits = λ other is. subst (λ (c : Call). PlaceFits (directory_of w) (home_of n.pid c) r.place)
+              (from_some call other (sym found.is ∙ is))
+              (subst (λ (d : Directory). PlaceFits d (home_of n.pid call) r.place)
+              (ap (λ (m : Node). m.leader.directory) here) r.fits);
         };
       }
     where

@@ -27,7 +27,8 @@ use Rattle.world_laws.specs.Invariant.{Holds}
 use Rattle.world_laws.proofs.Changes.{Changes}
 use Rattle.world_laws.proofs.Middles.{changes-further}
 use Rattle.world_hand.proofs.Answering.{IsPlainCall}
-use Rattle.world_hand.proofs.ReadRoutes.{HasRoute, is_over}
+use Rattle.world_own.proofs.Moved.{is_over}
+use Rattle.world_hand.proofs.ReadRoutes.{HasRoute, is_carried_out}
 use Rattle.world_keys.proofs.MadeHere.{MakesOf, Tables, made_node}
 use Rattle.world_keys.proofs.Taking.{without_number}
 use Rattle.world_first.proofs.AnsweredHere.{own_asked}
@@ -130,5 +131,5 @@ module _ (script : Script) (v : World) (s : Step) (ticket pid : ℕ) (call : Cal
         };
         place = Idle;
         calls = refl;
-        fits = is_over refl;
+        fits = is_carried_out (is_over refl);
       }

@@ -31,7 +31,8 @@ use Rattle.world_laws.specs.Sights.{node_of, directory_of}
 use Rattle.world_laws.specs.Ranges.{KeysHold}
 use Rattle.world_laws.specs.Invariant.{Holds}
 use Rattle.world_hand.proofs.Asks.{NeverWaits}
-use Rattle.world_hand.proofs.ReadRoutes.{HasRoute, is_over}
+use Rattle.world_own.proofs.Moved.{is_over}
+use Rattle.world_hand.proofs.ReadRoutes.{HasRoute, is_carried_out}
 use Rattle.world_hand.proofs.Served.{IsAtLeader, at-leader}
 use Rattle.world_first.specs.Watching.{WatchesAsOwner}
 use Rattle.world_first.proofs.AnsweredHere.{own_asked}
@@ -171,5 +172,5 @@ module _ (script : Script) (v : World) (s : Step) (ticket pid : ℕ) (call : Cal
         };
         place = Idle;
         calls = refl;
-        fits = is_over refl;
+        fits = is_carried_out (is_over refl);
       }

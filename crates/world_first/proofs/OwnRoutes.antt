@@ -30,7 +30,8 @@ use Rattle.world_laws.specs.Invariant.{Holds}
 use Rattle.world_hand.proofs.Answering.{due-in-hand, may-make-in-hand, served-plain}
 use Rattle.world_hand.proofs.Asks.{NeverWaits}
 use Rattle.world_hand.proofs.NobodyRoutes.{name-for-on, nobody-unused, on-name-served}
-use Rattle.world_hand.proofs.ReadRoutes.{HasRoute, is_over}
+use Rattle.world_own.proofs.Moved.{is_over}
+use Rattle.world_hand.proofs.ReadRoutes.{HasRoute, is_carried_out}
 use Rattle.world_hand.proofs.Routes.{IsOn, routed-elsewhere}
 use Rattle.world_hand.proofs.Served.{IsAtLeader, at-leader}
 use Rattle.world_first.specs.Ready.{IsReady}
@@ -117,7 +118,7 @@ module _ (script : Script) (v : World) (s : Step) (ticket pid : ℕ) (call : Cal
           };
           place = Idle;
           calls = refl;
-          fits = is_over refl;
+          fits = is_carried_out (is_over refl);
         }
 
   -- The call has a route, which keeps all.

@@ -1,6 +1,6 @@
 -- Node 1 starts a call of its process that isn't on the process itself: it is served where node 1 holds the name, goes
 -- to the owner of its cache, or is routed by the leader.
-use Rattle.std.proofs.Common.{◌≡◌, ◌≢◌, ℕ, ◌+◌, ◌≤◌, Bool, true, false, not, if◌then◌else◌, [], ◌∷◌, Contains, Option, Some, None, is_some, refl, ap, sym, subst, ◌∙◌, inl, arith, All}
+use Rattle.std.proofs.Common.{◌≡◌, ◌≢◌, ℕ, ◌+◌, ◌≤◌, Bool, true, false, not, if◌then◌else◌, [], ◌∷◌, Contains, Option, Some, None, is_some, refl, ap, sym, subst, ◌∙◌, inl, inr, arith, All}
 use Rattle.std.proofs.lemmas.Bool.{eq-eqb, false≢true, ne_eqb}
 use Rattle.std.proofs.lemmas.List.Elements.{All-cons, All-filter, All-weaker, All-contains, All-contains_itself}
 use Rattle.std.proofs.lemmas.Map.Views.{Contains-from_lookup}
@@ -27,7 +27,7 @@ use Rattle.world_model.specs.Serving.{serve_asked}
 use Rattle.world_model.specs.Starting.{ask, request, run, start_by}
 use Rattle.world_model.specs.Step.{Step, send, step_to}
 use Rattle.world_model.specs.World.{World, node_count, world_after}
-use Rattle.world_laws.specs.Places.{Beside, InRequest, call_in}
+use Rattle.world_laws.specs.Places.{Beside, Idle, InRequest, IsInHand, call_in}
 use Rattle.world_laws.specs.Sights.{is_born_in, node_of}
 use Rattle.world_laws.specs.Names.{NameHolds, name_sight}
 use Rattle.world_laws.specs.Callers.{may_be_in}
@@ -38,6 +38,7 @@ use Rattle.world_laws.proofs.Named.{same-name-is}
 use Rattle.world_laws.proofs.Steps.{run-steps}
 use Rattle.world_rules.proofs.Suggestions.{born-in-range}
 use Rattle.world_own.proofs.Outs.{out-keeps}
+use Rattle.world_own.proofs.Moved.{AfterRun, twice-in}
 use Rattle.world_own.proofs.OwnCases.{Keeps}
 use Rattle.world_own.proofs.Runs.{Starts, run-is}
 use Rattle.world_hand.proofs.Asks.{NeverWaits}
@@ -125,10 +126,11 @@ module _ (script : Script) (sound : IsSoundScript script) (w : World) (b : Besid
         })
 
     -- the call is in hand, and has a route
-    routed : run script n ≡ ask script (step_to (started cache)) call → Keeps script w (events.Run 1)
+    routed : run script n ≡ ask script (step_to (started cache)) call → Keeps script w (events.Run 1) (AfterRun b 1)
     routed rule =
         let r : HasRoute script w (step_to (started cache))
-        (started_asked script w b holds 1 low high s cache owners others) [] =
+        (started_asked script w b holds 1 low high s cache owners others) []
+        (started_beside script w b holds 1 low high s cache owners others) =
         own-has-route script w (step_to (started cache)) (n.caller.ticket + 1) n.pid call []
         (started_beside script w b holds 1 low high s cache owners others)
         (start-in-hand script w b holds 1 low high s cache owners others) high never ready-now
@@ -139,14 +141,19 @@ module _ (script : Script) (sound : IsSoundScript script) (w : World) (b : Besid
             is_step = run-steps script w 1 r.keeps.next holds.shape low high (rule ∙ asks-itself ∙ r.keeps.is_route);
             holds = r.keeps.holds;
           };
+          after = inr (record {
+            place = r.place;
+            calls = λ y. twice-in b.call 1 IsInHand r.place y ∙ ap (λ c. c y) (sym r.calls);
+            fits = tt;
+          });
         }
 
   -- Node 1 starts a call on a key.
-  pub own-key-starts : home_of n.pid call ≡ homes.Keys → Keeps script w (events.Run 1)
+  pub own-key-starts : home_of n.pid call ≡ homes.Keys → Keeps script w (events.Run 1) (AfterRun b 1)
   own-key-starts is = routed n.cache node-was.owners (ap is_for_others is) (rule-by homes.Keys is)
 
   -- Node 1 starts a removal.
-  pub own-removal-starts : (name : Name) → home_of n.pid call ≡ homes.Removal name → Keeps script w (events.Run 1)
+  pub own-removal-starts : (name : Name) → home_of n.pid call ≡ homes.Removal name → Keeps script w (events.Run 1) (AfterRun b 1)
   own-removal-starts name is = routed n.cache node-was.owners (ap is_for_others is) (rule-by (homes.Removal name) is)
 
   -- ---- on a name
@@ -206,7 +213,7 @@ module _ (script : Script) (sound : IsSoundScript script) (w : World) (b : Besid
           ∙ own-serve-rule script w (step_to (started n.cache)) (n.caller.ticket + 1) n.pid call [] in-hand
           holds-in-hand high never watching name (inl is) at-next
 
-      served-there : Keeps script w (events.Run 1)
+      served-there : Keeps script w (events.Run 1) (AfterRun b 1)
       served-there =
           record {
             beside = own_served_beside script w (step_to (started n.cache)) (n.caller.ticket + 1) n.pid call [] in-hand
@@ -221,6 +228,7 @@ module _ (script : Script) (sound : IsSoundScript script) (w : World) (b : Besid
                   (own-is-served script w (step_to (started n.cache)) (n.caller.ticket + 1) n.pid call [] in-hand
                   holds-in-hand high never watching name (inl is) at-next) at-next is);
             };
+            after = inr (record { place = Idle; calls = λ y. twice-in b.call 1 IsInHand Idle y; fits = tt });
           }
 
     -- its cache afterwards
@@ -237,7 +245,7 @@ module _ (script : Script) (sound : IsSoundScript script) (w : World) (b : Besid
 
     -- the owner that it names is asked
     asked-owner : node_holds n name ≡ false → (owner : ℕ) → owner_in n.cache name ≡ Some owner
-        → Keeps script w (events.Run 1)
+        → Keeps script w (events.Run 1) (AfterRun b 1)
     asked-owner elsewhere owner found =
         record {
           beside = record b { call = call_in b.call 1 (InRequest owner) };
@@ -270,6 +278,7 @@ module _ (script : Script) (sound : IsSoundScript script) (w : World) (b : Besid
               ∙ ap (λ t. if t then ask script (step_to (started looked-at)) call
               else Some (send (step_to (started looked-at)) owner (frames.Request (n.caller.ticket + 1) n.pid call)))
               (ne_eqb owner n.number (λ e. its.1 (e ∙ node-was.number))));
+          after = inr (record { place = InRequest owner; calls = λ y. refl; fits = tt });
         }
       where
         its : (is_born_in w owner ≡ true) × (owner ≢ 1)
@@ -278,25 +287,25 @@ module _ (script : Script) (sound : IsSoundScript script) (w : World) (b : Besid
         within : (1 ≤ owner) × (owner ≤ node_count script)
         within = born-in-range script w holds.shape owner its.0
 
-    by-owner : node_holds n name ≡ false → (o : Option ℕ) → owner_in n.cache name ≡ o → Keeps script w (events.Run 1)
+    by-owner : node_holds n name ≡ false → (o : Option ℕ) → owner_in n.cache name ≡ o → Keeps script w (events.Run 1) (AfterRun b 1)
     by-owner elsewhere (Some owner) found = asked-owner elsewhere owner found
     by-owner elsewhere None found =
         routed looked-at owners-now others
         (rule-at false elsewhere ∙ ap (request script (step_to (started looked-at)) call) found)
 
-    by-held : (t : Bool) → node_holds n name ≡ t → Keeps script w (events.Run 1)
+    by-held : (t : Bool) → node_holds n name ≡ t → Keeps script w (events.Run 1) (AfterRun b 1)
     by-held true e = served-there e
     by-held false e = by-owner e (owner_in n.cache name) refl
 
     -- Node 1 starts a call on a name.
-    pub own-at-starts : Keeps script w (events.Run 1)
+    pub own-at-starts : Keeps script w (events.Run 1) (AfterRun b 1)
     own-at-starts = by-held (node_holds n name) refl
 
   -- Node 1 starts any call that others may carry out: it is served at once, goes to the cache's owner, or is routed.
-  pub first-starts : is_for_others (home_of n.pid call) ≡ true → Keeps script w (events.Run 1)
+  pub first-starts : is_for_others (home_of n.pid call) ≡ true → Keeps script w (events.Run 1) (AfterRun b 1)
   first-starts others = by-home (home_of n.pid call) refl others
     where
-      by-home : (home : Home) → home_of n.pid call ≡ home → is_for_others home ≡ true → Keeps script w (events.Run 1)
+      by-home : (home : Home) → home_of n.pid call ≡ home → is_for_others home ≡ true → Keeps script w (events.Run 1) (AfterRun b 1)
       by-home (homes.At name) is h = own-at-starts name is
       by-home (homes.Removal name) is h = own-removal-starts name is
       by-home homes.Keys is h = own-key-starts is

@@ -25,7 +25,8 @@ use Rattle.world_laws.proofs.Steps.{KeepsAs}
 use Rattle.world_hand.proofs.Asks.{NeverWaits}
 use Rattle.world_hand.proofs.HandMoves.{in-hand-for-others}
 use Rattle.world_hand.proofs.NobodyRoutes.{route-to-nobody}
-use Rattle.world_hand.proofs.ReadRoutes.{HasRoute, PlaceFits, asks_back, goes_by_range, goes_to_owner, is_answered, is_held, route-to-leader-too}
+use Rattle.world_own.proofs.Moved.{is_answered}
+use Rattle.world_hand.proofs.ReadRoutes.{HasRoute, PlaceFits, asks_back, goes_by_range, goes_to_owner, is_carried_out, is_held, route-to-leader-too}
 use Rattle.world_hand.proofs.Routes.{IsOn, RouteKeeps, range-is, route-by-range, route-to-held, route-to-owner, route-to-recall}
 
 -- what is still to be shown for the call: the directory names nodes, and calls on keys and removals at the leader have
@@ -70,7 +71,7 @@ module _ (script : Script) (v : World) (s : Step) (asked : Asked) (rest : List H
         keeps = route-to-nobody script v s asked rest b holds low high other never name on place nowhere;
         place = InAnswer 1 (replies.Fail (no_such_name name));
         calls = refl;
-        fits = is_answered 1 (replies.Fail (no_such_name name)) refl;
+        fits = is_carried_out (is_answered 1 (replies.Fail (no_such_name name)) refl);
       }
 
   by-maker : (name : Name) → IsOn name home → place_of d name ≡ None → (m : Option ℕ) → maker d name ≡ m

@@ -21,20 +21,20 @@ use Rattle.world_model.specs.Node.{Node}
 use Rattle.world_model.specs.Step.{Step}
 use Rattle.world_model.specs.Serving.{note_read}
 use Rattle.world_model.specs.World.{World, node_count, world_after}
-use Rattle.world_laws.specs.Places.{Beside, CallPlace, Idle, InAnswer, IsHeld, SentByPlace, SentByRange, call_in}
+use Rattle.world_laws.specs.Places.{Beside, CallPlace, InAnswer, IsHeld, SentByPlace, SentByRange, call_in}
 use Rattle.world_laws.specs.Sights.{directory_of, is_born_stage}
 use Rattle.world_laws.specs.Invariant.{Holds}
 use Rattle.world_hand.proofs.Answering.{caller-born}
+use Rattle.world_own.proofs.Moved.{IsCarriedOut, is_answered}
 use Rattle.world_hand.proofs.Asks.{NeverWaits}
 use Rattle.world_hand.proofs.Noted.{HoldsAfter, read-noted-keeps}
 use Rattle.world_hand.proofs.Routes.{IsOn, RouteKeeps}
 use Rattle.world_hand.proofs.ServedRoutes.{reply_of, route-to-leader, served_beside, served_step, served-middle, served-route, served-same-caller, served-same-directory}
 
--- where a call is once it is routed: answered, with its node going on at once; or on its way to the name's owner or the
--- node that has its number's range; or held for the name, which comes or is asked back
+-- Where a call is once it is routed: it is carried out, or on its way to the name's owner or to the node that has its
+-- number's range, or held for the name, which comes or is asked back.
 pub data PlaceFits (d : Directory) (home : Home) (place : CallPlace) : Type 0 where
-  is_over : place ≡ Idle → PlaceFits d home place
-  is_answered : (sender : ℕ) (reply : Reply) → place ≡ InAnswer sender reply → PlaceFits d home place
+  is_carried_out : IsCarriedOut place → PlaceFits d home place
   goes_to_owner : (name : Name) (node : ℕ) → place ≡ SentByPlace node → home ≡ homes.At name
       → place_of d name ≡ Some (At node) → node ≢ 1 → PlaceFits d home place
   goes_by_range : (name : Name) (node : ℕ) → place ≡ SentByRange node → IsOn name home
@@ -106,7 +106,7 @@ module _ (script : Script) (v : World) (s : Step) (asked : Asked) (rest : List H
           keeps = route-to-leader script v s asked rest b holds low high other never name on place e;
           place = InAnswer 1 reply;
           calls = refl;
-          fits = is_answered 1 reply refl;
+          fits = is_carried_out (is_answered 1 reply refl);
         }
     by-read true e =
         let after : HoldsAfter script v (note_read served name asked.caller) rest
@@ -122,7 +122,7 @@ module _ (script : Script) (v : World) (s : Step) (asked : Asked) (rest : List H
           };
           place = InAnswer 1 reply;
           calls = after.calls;
-          fits = is_answered 1 reply refl;
+          fits = is_carried_out (is_answered 1 reply refl);
         }
 
     -- A call on a name that the leader holds is served, and the name moves to who has read it often.

@@ -26,7 +26,8 @@ use Rattle.world_laws.proofs.Middles.{changes-further}
 use Rattle.world_hand.proofs.Answering.{IsPlainCall, may-make-in-hand}
 use Rattle.world_hand.proofs.Nobody.{unchanged-answered}
 use Rattle.world_hand.proofs.NobodyRoutes.{answer-changes, carried-out, replied}
-use Rattle.world_hand.proofs.ReadRoutes.{HasRoute, is_answered}
+use Rattle.world_own.proofs.Moved.{is_answered}
+use Rattle.world_hand.proofs.ReadRoutes.{HasRoute, is_carried_out}
 use Rattle.world_hand.proofs.Routes.{leader-here, leader-number}
 use Rattle.world_keys.proofs.KeyOutcomes.{IsKeyed, MakesKeyed, OnlyReplies, key-outcome, keyed, keyed-plain}
 use Rattle.world_keys.proofs.MadeForOther.{made-keeps, moved as made_moved}
@@ -71,7 +72,7 @@ module _ (script : Script) (v : World) (s : Step) (asked : Asked) (rest : List H
         };
         place = InAnswer 1 o.reply;
         calls = refl;
-        fits = is_answered 1 o.reply refl;
+        fits = is_carried_out (is_answered 1 o.reply refl);
       }
 
   module _ (m : MakesKeyed script w b s asked) where
@@ -120,7 +121,7 @@ module _ (script : Script) (v : World) (s : Step) (asked : Asked) (rest : List H
           };
           place = InAnswer 1 reply;
           calls = refl;
-          fits = is_answered 1 reply refl;
+          fits = is_carried_out (is_answered 1 reply refl);
         }
 
   -- A get by a key has a route that keeps all.

@@ -37,7 +37,8 @@ use Rattle.world_laws.proofs.Named.{name-cases}
 use Rattle.world_own.proofs.Entries.{EntryLeaves}
 use Rattle.world_own.proofs.Served.{served-leaves}
 use Rattle.world_hand.proofs.Answering.{LeaderAnswers, answered-keeps, due-in-hand, may-make-in-hand, name-not-served, name-served, place-in-hand, served-plain}
-use Rattle.world_hand.proofs.ReadRoutes.{HasRoute, is_answered}
+use Rattle.world_own.proofs.Moved.{is_answered}
+use Rattle.world_hand.proofs.ReadRoutes.{HasRoute, is_carried_out}
 use Rattle.world_hand.proofs.Routes.{leader-here, leader-number}
 use Rattle.world_hand.proofs.Served.{IsAtLeader}
 use Rattle.world_own.proofs.Objects.{process-apart}
@@ -231,5 +232,5 @@ module _ (script : Script) (v : World) (s : Step) (asked : Asked) (rest : List H
         };
         place = InAnswer 1 reply;
         calls = refl;
-        fits = is_answered 1 reply refl;
+        fits = is_carried_out (is_answered 1 reply refl);
       }

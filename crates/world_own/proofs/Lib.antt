@@ -15,4 +15,5 @@ pub mod NewNumbers
 pub mod Objects
 pub mod Made
 pub mod OwnCases
+pub mod Moved
 pub mod Enabled

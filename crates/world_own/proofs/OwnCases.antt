@@ -10,7 +10,7 @@ use Rattle.kernel_model.specs.SemaphoreSet.{SemaphoreSet, new_set}
 use Rattle.kernel_model.specs.Waiting.{is_waiting}
 use Rattle.node_model.specs.Carrying.{is_own, is_served, makes_or_ends}
 use Rattle.world_model.specs.World.{World}
-use Rattle.world_laws.specs.Places.{Beside}
+use Rattle.world_laws.specs.Places.{Beside, CallPlace}
 use Rattle.world_laws.proofs.Steps.{KeepsAs}
 
 -- what a call of one's own is
@@ -45,7 +45,8 @@ own-case pid (calls.Exit status) own h = absurd (false≢true own)
 own-case pid (calls.Killed sig) own h = absurd (false≢true own)
 own-case pid call own h = serves (served-by call refl h)
 
--- an event has a step, and the invariant holds after it
-pub record Keeps (script : Script) (w : World) (e : Event) : Type 0 where
+-- an event has a step, and the invariant holds after it, with calls in such places
+pub record Keeps (script : Script) (w : World) (e : Event) (After : (ℕ → CallPlace) → Type 0) : Type 0 where
   pub beside : Beside
   pub keeps : KeepsAs script w e beside
+  pub after : After beside.call

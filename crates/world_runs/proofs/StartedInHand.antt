@@ -70,10 +70,6 @@ module _ (script : Script) (w : World) (b : Beside) (holds : Holds script w [] b
   changes : Changes script p w next started_node [] [] []
   changes = changes-by-run script w holds.shape p (step_to started_node) low high tt
 
-  -- it is the node now
-  pub started-here : node_of next p ≡ started_node
-  started-here = changes.here
-
   same-there : directory_of next ≡ directory_of w
   same-there = read-same script p w next started_node [] [] [] changes (λ (m : Node). m.leader.directory) refl 1
 
