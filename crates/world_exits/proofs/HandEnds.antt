@@ -1,6 +1,6 @@
 -- The first parcel in the leader's hand: its process's end is held for the parent, where that is awaited, or it is sent
 -- on or carried out. In each case all holds as before.
-use Rattle.std.proofs.Common.{◌≡◌, ℕ, ◌≤◌, true, not, List, [], ◌∷◌, Option, Some, None, is_none, refl, ap, sym, subst, ◌∙◌, inl, inr, arith, append-nil}
+use Rattle.std.proofs.Common.{◌≡◌, ℕ, ◌≤◌, true, not, List, [], ◌∷◌, Option, Some, None, is_none, refl, ap, sym, subst, ◌∙◌, inl, inr, arith, append-nil, ◌++◌}
 use Rattle.std.proofs.lemmas.Bool.{cases_eq, false≢true}
 use Rattle.pico_base.specs.declared.numbers.Name.TheVariants.{Proc}
 use Rattle.pico_base.specs.declared.script.Script.{Script}
@@ -10,7 +10,7 @@ use Rattle.node_model.specs.declared.held.Held.TheVariants.{Ending}
 use Rattle.node_model.specs.Directory.{Directory, Place, At, Coming, place_of, hold, is_known}
 use Rattle.world_model.specs.Node.{Node, Stage, Unborn, Living, Leaving, Left}
 use Rattle.world_model.specs.Step.{Step, with_directory}
-use Rattle.world_model.specs.Routing.{hold_item, end_by}
+use Rattle.world_model.specs.Routing.{IsHeld, Releases, end_by, end_process, hold_item, names_in}
 use Rattle.world_model.specs.World.{World, node_count, world_after}
 use Rattle.world_laws.specs.Places.{InHand, Beside}
 use Rattle.world_laws.specs.Sights.{node_of, directory_of, stage_of}
@@ -21,11 +21,22 @@ use Rattle.world_laws.specs.Families.{PidsHold}
 use Rattle.world_laws.specs.Invariant.{Holds}
 use Rattle.world_laws.proofs.Changes.{Changes}
 use Rattle.world_laws.proofs.Middles.{changes-further}
-use Rattle.world_release.proofs.Rounds.{HasEnd, keeps_it, frees}
+use Rattle.world_hand.proofs.Noted.{HoldsAfter}
+use Rattle.world_exits.proofs.Released.{call_released}
 use Rattle.world_ends.proofs.Directories.{KnowsNodes}
 use Rattle.world_ends.proofs.KeptItems.{parcel-held}
 use Rattle.world_exits.proofs.EndKeeps.{EndKeeps, leader-here, leader-directory, end-sent-on, end-carried-out}
 use Rattle.world_exits.proofs.Parcels.{HasParcel, hand-sender, parcel-in-hand, low-node, high-node, not-first}
+
+-- The parcel comes to an end that keeps all: it is held, with each call where it was; or it is gone, and what was held
+-- for its names is in hand.
+pub data HasEnd (script : Script) (v : World) (s : Step) (parcel : Parcel) (rest : List Held) (b : Beside) : Type 0
+  where
+    keeps_it : (next : Step) → end_process s parcel ≡ Some (IsHeld next)
+        → HoldsAfter script v next rest b.call → HasEnd script v s parcel rest b
+    frees : (next : Step) (items : List Held) → end_process s parcel ≡ Some (Releases next items)
+        → HoldsAfter script v next (items ++ rest) (λ p. call_released (names_in parcel) (b.call p))
+        → HasEnd script v s parcel rest b
 
 module _ (script : Script) (v : World) (s : Step) (parcel : Parcel) (rest : List Held) (b : Beside)
     (holds : Holds script (world_after v 1 s) (Ending parcel ∷ rest) b)
@@ -100,7 +111,7 @@ module _ (script : Script) (v : World) (s : Step) (parcel : Parcel) (rest : List
       (record { sends_are = sym (append-nil s.sends); entries_are = sym (append-nil s.entries) }))
 
   held-for : (to : Option ℕ) (kept : List Held) → place_of d (Proc parcel.parent) ≡ Some (Coming to kept)
-      → HasEnd script v s parcel rest
+      → HasEnd script v s parcel rest b
   held-for to kept place =
       keeps_it held_on
       (ap (λ z. end_by s parcel (place_of z (Proc parcel.parent)))
@@ -109,27 +120,29 @@ module _ (script : Script) (v : World) (s : Step) (parcel : Parcel) (rest : List
       (record {
         beside = _;
         holds = parcel-held script w rest parcel b holds to kept place (world_after v 1 held_on) held-changes;
+        calls = refl;
       })
 
-  released : (b2 : Beside) → EndKeeps script v s parcel rest b2 → HasEnd script v s parcel rest
-  released b2 e = frees e.next e.items e.is_end (record { beside = b2; holds = e.holds })
+  released : (b2 : Beside) → b2.call ≡ (λ p. call_released (names_in parcel) (b.call p))
+      → EndKeeps script v s parcel rest b2 → HasEnd script v s parcel rest b
+  released b2 same e = frees e.next e.items e.is_end (record { beside = b2; holds = e.holds; calls = same })
 
-  at-node : (x : ℕ) → place_of d (Proc parcel.parent) ≡ Some (At x) → HasEnd script v s parcel rest
+  at-node : (x : ℕ) → place_of d (Proc parcel.parent) ≡ Some (At x) → HasEnd script v s parcel rest b
   at-node x place =
       elim (cases_eq x 1) [
         | inl e ↦
-            released _
+            released _ refl
             (end-carried-out script v s parcel rest b holds some_node reads (place ∙ ap (λ y. Some (At y)) e))
         | inr away ↦
-            released _
+            released _ refl
             (end-sent-on script v s parcel rest b holds some_node x place (at_nodes (Proc parcel.parent) x place) away)
       ]
 
-  by-place : (o : Option Place) → place_of d (Proc parcel.parent) ≡ o → HasEnd script v s parcel rest
+  by-place : (o : Option Place) → place_of d (Proc parcel.parent) ≡ o → HasEnd script v s parcel rest b
   by-place None e = absurd (false≢true (sym (ap (λ o. not (is_none o)) e) ∙ parent-known))
   by-place (Some (Coming to kept)) e = held-for to kept e
   by-place (Some (At x)) e = at-node x e
 
   -- The end comes to something that keeps all.
-  pub hand-has-end : HasEnd script v s parcel rest
+  pub hand-has-end : HasEnd script v s parcel rest b
   hand-has-end = by-place (place_of d (Proc parcel.parent)) refl

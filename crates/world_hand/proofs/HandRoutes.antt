@@ -143,10 +143,3 @@ module _ (script : Script) (v : World) (s : Step) (asked : Asked) (rest : List H
   -- The call has a route, which keeps all.
   pub hand-has-route : HasRoute script v s asked rest b
   hand-has-route = by-home home refl (in-hand-for-others script w asked rest b holds low high)
-
--- ---- a frame with a call
-
--- the event has a step that keeps all, with something beside the world
-pub record KeepsSo (script : Script) (w : World) (q : ℕ) : Type 0 where
-  pub beside : Beside
-  pub keeps : KeepsAs script w (events.Take 1 q) beside

@@ -1,6 +1,9 @@
 -- Where calls are after an event: each where it was, or one in another place.
-use Rattle.std.proofs.Common.{◌≡◌, ◌⊎◌, ℕ, Bool, true, false, nat_eq, if◌then◌else◌, refl, ap, sym, ◌∙◌}
+use Rattle.std.proofs.Common.{◌≡◌, ◌⊎◌, ℕ, Bool, true, false, nat_eq, if◌then◌else◌, refl, ◌∙◌}
+use Rattle.pico_base.specs.declared.call.Home.{Home}
+use Rattle.pico_base.specs.declared.call.Home.TheVariants as homes
 use Rattle.pico_base.specs.declared.reply.Reply.{Reply}
+use Rattle.world_model.specs.Node.{Node, holds}
 use Rattle.world_laws.specs.Places.{Beside, CallPlace, Idle, InAnswer, call_in}
 
 -- one call is in another place, and this holds of that
@@ -21,6 +24,11 @@ AfterRun b p after = AreStill b.call after ⊎ IsMoved b.call after p (λ place.
 pub data IsCarriedOut (place : CallPlace) : Type 0 where
   is_over : place ≡ Idle → IsCarriedOut place
   is_answered : (sender : ℕ) (reply : Reply) → place ≡ InAnswer sender reply → IsCarriedOut place
+
+-- a call that isn't served here: it is on a name that isn't held, or it removes one
+abbrev pub IsNotServed : Node → Home → Type 0
+IsNotServed n (homes.At name) = holds n name ≡ false
+IsNotServed n home = Unit {0}
 
 -- two changes of one call's place are one
 pub twice-in : (call : ℕ → CallPlace) (c : ℕ) (first place : CallPlace) (y : ℕ)

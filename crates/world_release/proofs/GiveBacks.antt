@@ -29,7 +29,7 @@ use Rattle.world_laws.proofs.Steps.{Heads, world_without, take-steps}
 use Rattle.world_rules.proofs.Places.{place-with-same}
 use Rattle.world_rules.proofs.Suggestions.{born-in-range}
 use Rattle.world_hand.proofs.Grantings.{grant-sent-keeps}
-use Rattle.world_hand.proofs.HandRoutes.{KeepsSo}
+use Rattle.world_release.proofs.TakenUp.{taken_up}
 use Rattle.world_hand.proofs.Noted.{HoldsAfter}
 use Rattle.world_ends.proofs.Directories.{KnowsNodes}
 use Rattle.world_release.proofs.Rounds.{RoutesAll, EmptiesHand, release-empties}
@@ -194,7 +194,7 @@ module _ (script : Script) (w : World) (b : Beside) (holds : Holds script w [] b
         still-born script 1 w home _ _ [] [] c (λ g. g) to bound.is_born
 
     -- the deed is on its way there
-    granted : HoldsAfter script v sent (held_for d name)
+    granted : HoldsAfter script v sent (held_for d name) (λ y. taken_up name (b.call y))
     granted =
         record {
           beside = record beside-kept { deed = deed_in beside-kept.deed name (InGrant to) };
@@ -202,35 +202,17 @@ module _ (script : Script) (w : World) (b : Beside) (holds : Holds script w [] b
               kept-holds name to object born-still goes.other home-now
               (ap (λ (m : Node). stays m.leader.directory to) here ∙ goes.stays_there) n.watches (world_after v 1 sent)
               further-so;
+          calls = refl;
         }
 
   -- ---- the event
 
   by-goal : (o : Option ℕ) → goes_on_to d (bound_for d name) ≡ o
-      → HoldsAfter script v (pass_on n name body o) (held_for d name)
-  by-goal None e = record { beside = beside-kept; holds = kept-holds }
+      → HoldsAfter script v (pass_on n name body o) (held_for d name) (λ y. taken_up name (b.call y))
+  by-goal None e = record { beside = beside-kept; holds = kept-holds; calls = refl }
   by-goal (Some to) e = granted to (goes-to d (bound_for d name) to e)
 
   -- In the middle of the event all holds, with what was held for the name in hand.
   pub give-back-in-hand : HoldsAfter script v (pass_on n name body (goes_on_to d (bound_for d name))) (held_for d name)
+      (λ y. taken_up name (b.call y))
   give-back-in-hand = by-goal (goes_on_to d (bound_for d name)) refl
-
-  -- The deed goes on or stays, and what was held for the name is released.
-  pub give-back-goes-on : (Good : World → Step → List Held → Type 0) → RoutesAll script Good
-      → Good v (pass_on n name body (goes_on_to d (bound_for d name))) (held_for d name)
-      → KeepsSo script w q
-  give-back-goes-on Good all good =
-      let taken : Step = pass_on n name body (goes_on_to d (bound_for d name))
-      in let middle : HoldsAfter script v taken (held_for d name) = give-back-in-hand
-      in let e : EmptiesHand script Good v (release script (held_for d name) taken) =
-      release-empties script Good all v (held_for d name) taken middle.beside middle.holds good
-      in let after : HoldsAfter script v e.last [] = e.after
-      in record {
-        beside = after.beside;
-        keeps = record {
-          next = world_after v 1 e.last;
-          is_step = take-steps script w 1 q (frames.GiveBack packed) rest e.last holds.shape h
-              (give-back-releases ∙ e.is_last);
-          holds = after.holds;
-        };
-      }

@@ -1,6 +1,6 @@
 -- A node other than the leader takes a call that the leader sent it: it serves the call where it holds the name,
 -- refuses it where nothing has the number, and else sends it back.
-use Rattle.std.proofs.Common.{◌≡◌, ◌≢◌, ℕ, ◌≤◌, Bool, true, false, ◌&&◌, not, if◌then◌else◌, List, [], ◌∷◌, length, nat_le, Option, Some, None, is_some, refl, ap, sym, subst, ◌∙◌, inl, inr, arith}
+use Rattle.std.proofs.Common.{◌≡◌, ◌≢◌, ℕ, ◌≤◌, Bool, true, false, ◌&&◌, not, if◌then◌else◌, List, [], ◌∷◌, length, nat_le, Option, Some, None, is_some, refl, ap, sym, subst, ◌∙◌, inl, inr, arith, ◌⊎◌}
 use Rattle.std.proofs.lemmas.Bool.{le-leb, ne_eqb, false≢true}
 use Rattle.pico_base.specs.declared.call.Home.{Home}
 use Rattle.pico_base.specs.declared.call.Home.TheVariants as homes
@@ -27,17 +27,19 @@ use Rattle.world_model.specs.Serving.{serve_asked, serve_nobody}
 use Rattle.world_model.specs.Step.{Step, step_to}
 use Rattle.world_model.specs.Turn.{take_frame}
 use Rattle.world_model.specs.World.{World, node_count, world_after}
-use Rattle.world_laws.specs.Places.{InBounce, InTable, Unmade, IsInHand, Beside, call_in}
+use Rattle.world_laws.specs.Places.{CallPlace, InBounce, InTable, SentByRange, Unmade, IsInHand, Beside, call_in}
 use Rattle.world_laws.specs.Sights.{node_of, directory_of, is_born_in, is_born_stage}
 use Rattle.world_laws.specs.Names.{NameHolds, held_as, name_sight}
 use Rattle.world_laws.specs.Families.{NodeHolds}
-use Rattle.world_laws.specs.Invariant.{HasInvariant, Holds, MayBe}
+use Rattle.world_laws.specs.Invariant.{Holds, MayBe}
 use Rattle.world_laws.proofs.Changes.{Changes}
 use Rattle.world_laws.proofs.Heads.{head-may-be}
 use Rattle.world_laws.proofs.Middles.{changes-further}
 use Rattle.world_laws.proofs.NameFacts.{held-here}
 use Rattle.world_laws.proofs.Steps.{Heads, KeepsAs, take-steps, world_without}
 use Rattle.world_rules.proofs.Nodes.{and-true, born-stage}
+use Rattle.world_own.proofs.Moved.{IsCarriedOut, IsMoved, IsNotServed, moved-twice}
+use Rattle.world_own.proofs.OwnCases.{Keeps}
 use Rattle.world_hand.proofs.Answering.{may-make-in-hand, served-plain}
 use Rattle.world_hand.proofs.Asks.{NeverWaits}
 use Rattle.world_hand.proofs.Forwards.{sent_as}
@@ -48,29 +50,59 @@ use Rattle.world_sent.proofs.Brought.{brought_world}
 use Rattle.world_sent.proofs.Forwarded.{finds-deed, forward-in-hand, is_right_home, is-at-maker, no-lease-comes, not-leader, on-right-home, same-nodes, sent-by, waits-not}
 use Rattle.world_sent.proofs.InHand.{HasInHand}
 use Rattle.world_sent.proofs.NoCheckpoint.{in-table}
-use Rattle.world_sent.proofs.ServeSteps.{EndsIn, node-here, serves-and-suggests, serves-in-hand}
+use Rattle.world_sent.proofs.ServeSteps.{CarriedOut, EndsIn, node-here, serves-and-suggests, serves-in-hand}
 use Rattle.world_sent.proofs.Unleased.{given-used, leased-unused}
 use Rattle.world_sent.proofs.Unserved.{refuses}
-
--- the event has a step, and all holds after it, with something beside the world
-pub record HasStep (script : Script) (w : World) (p q : ℕ) : Type 0 where
-  pub beside : Beside
-  pub keeps : KeepsAs script w (events.Take p q) beside
 
 -- a rule that ends in a step after which all holds is such a step
 pub has-step : (script : Script) (w : World) (b : Beside) → Holds script w [] b → (p q : ℕ) (frame : Frame)
     (rest : List Frame) → Heads script w p q frame rest → (result : Option Step)
-    → take_frame script (node_of w p) q frame ≡ result → EndsIn script (world_without w p q rest) p result
-    → HasStep script w p q
-has-step script w b holds p q frame rest h result rule ends =
-    let after : HasInvariant script (world_after (world_without w p q rest) p ends.next) = ends.holds
-    in record {
-      beside = after.beside;
+    → take_frame script (node_of w p) q frame ≡ result
+    → (After : (ℕ → CallPlace) → Type 0) → EndsIn script (world_without w p q rest) p result After
+    → Keeps script w (events.Take p q) After
+has-step script w b holds p q frame rest h result rule After ends =
+    record {
+      beside = ends.beside;
       keeps = record {
         next = world_after (world_without w p q rest) p ends.next;
         is_step = take-steps script w p q frame rest ends.next holds.shape h (rule ∙ ends.is);
-        holds = after.holds;
+        holds = ends.holds;
       };
+      after = ends.after;
+    }
+
+-- a call that was in hand in the middle
+pub moved-step : (script : Script) (w : World) (b : Beside) (p q c : ℕ) (P : CallPlace → Type 0)
+    → Keeps script w (events.Take p q) (λ after. IsMoved (call_in b.call c IsInHand) after c P)
+    → Keeps script w (events.Take p q) (λ after. IsMoved b.call after c P)
+moved-step script w b p q c P k =
+    let kept : Beside = k.beside
+    in record {
+      beside = k.beside;
+      keeps = k.keeps;
+      after = moved-twice b.call kept.call c IsInHand P k.after;
+    }
+
+-- the call of a Forward is carried out, or goes back where it was sent by range and isn't served
+abbrev pub IsForwarded : World → Beside → ℕ → Asked → CallPlace → Type 0
+IsForwarded w b p asked place =
+    IsCarriedOut place
+    ⊎ ((place ≡ InBounce p) × ((b.call asked.caller ≡ SentByRange p)
+    × IsNotServed (node_of w p) (home_of asked.pid asked.call)))
+
+-- a call that is carried out is where it may be
+pub carried-ends : (script : Script) (v : World) (p : ℕ) (result : Option Step) (b : Beside) (c : ℕ)
+    (P : CallPlace → Type 0) → ((place : CallPlace) → IsCarriedOut place → P place)
+    → EndsIn script v p result (CarriedOut b c) → EndsIn script v p result (λ after. IsMoved b.call after c P)
+carried-ends script v p result b c P fits e =
+    let after : Beside = e.beside
+    in let m : CarriedOut b c after.call = e.after
+    in record {
+      next = e.next;
+      is = e.is;
+      beside = e.beside;
+      holds = e.holds;
+      after = record { place = m.place; calls = m.calls; fits = fits m.place m.fits };
     }
 
 all-true : (leads born is_node waits : Bool) → leads ≡ false → born ≡ true → is_node ≡ true → waits ≡ false
@@ -126,6 +158,10 @@ module _ (script : Script) (w : World) (b : Beside) (holds : Holds script w [] b
     g : HasInHand script middle moved p asked
     g = forward-in-hand script w b holds p asked rest h low high by at
 
+    -- it ends in a step, with the call where it may be
+    abbrev Ends : Option Step → Type 0
+    Ends result = EndsIn script v p result (λ after. IsMoved moved.call after asked.caller (IsForwarded w b p asked))
+
     middle-holds : Holds script middle (Request asked ∷ []) moved
     middle-holds = g.holds
 
@@ -178,10 +214,12 @@ module _ (script : Script) (w : World) (b : Beside) (holds : Holds script w [] b
         ∙ held-here p (body_in b.kernel name))
 
     serves-it : home ≡ homes.At name → b.deed name ≡ InTable p
-        → EndsIn script v p (serve_asked script (step_to n) name asked)
+        → Ends (serve_asked script (step_to n) name asked)
     serves-it is deed =
-        serves-and-suggests script v p n asked name
-        (serves-in-hand script v p n moved asked g name is served deed) h.low h.high is other
+        carried-ends script v p (serve_asked script (step_to n) name asked) moved asked.caller
+        (IsForwarded w b p asked) (λ place over. inl over)
+        (serves-and-suggests script v p n asked name moved
+        (serves-in-hand script v p n moved asked g name is served deed) h.low h.high is other)
 
     -- ---- the call was sent by range
 
@@ -189,16 +227,19 @@ module _ (script : Script) (w : World) (b : Beside) (holds : Holds script w [] b
       made : maker (directory_of w) name ≡ Some p
       made = is-at-maker script w b holds p asked rest h low high by at name on.on ranged
 
-      bounces : is_used_name b.kernel name ≡ true → EndsIn script v p (Some (bounce n asked))
-      bounces used =
+      bounces : IsNotServed n home → is_used_name b.kernel name ≡ true → Ends (Some (bounce n asked))
+      bounces lacks used =
           record {
             next = bounce n asked;
             is = refl;
-            holds = record {
-              beside = record moved { call = call_in moved.call asked.caller (InBounce p) };
-              holds = bounced-keeps script middle moved p asked g other name on.on used
+            beside = record moved { call = call_in moved.call asked.caller (InBounce p) };
+            holds = bounced-keeps script middle moved p asked g other name on.on used
                   (ap (λ (m : Node). maker m.leader.directory name) (nodes-same 1) ∙ made)
                   (world_after v p (bounce n asked)) changes;
+            after = record {
+              place = InBounce p;
+              calls = λ y. refl;
+              fits = inr (refl, (at ∙ ap (λ t. sent_as t p) ranged, lacks));
             };
           }
         where
@@ -215,66 +256,70 @@ module _ (script : Script) (w : World) (b : Beside) (holds : Holds script w [] b
               (record { sends_are = refl; entries_are = refl }))
 
       refuses-it : is_used_name b.kernel name ≡ false
-          → EndsIn script v p (Some (serve_nobody script (step_to n) name asked))
+          → Ends (Some (serve_nobody script (step_to n) name asked))
       refuses-it unused =
-          refuses script v p n moved asked g born-still (replies.Fail (no_such_name name))
+          carried-ends script v p (Some (serve_nobody script (step_to n) name asked)) moved asked.caller
+          (IsForwarded w b p asked) (λ place over. inl over)
+          (refuses script v p n moved asked g born-still (replies.Fail (no_such_name name))
           (nobody b.kernel asked.pid asked.call name
           (may-make-in-hand script middle asked [] moved middle-holds low high) served
-          (name-for-on asked.pid asked.call name on.on) unused) (served-plain asked.call served)
+          (name-for-on asked.pid asked.call name on.on) unused) (served-plain asked.call served))
 
-      elsewhere : (t : Bool) → leases_hold n.leases name ≡ t
-          → EndsIn script v p (Some (if t then serve_nobody script (step_to n) name asked else bounce n asked))
-      elsewhere true e = refuses-it (leased-unused script w [] b holds p name made e)
-      elsewhere false e =
-          bounces
+      elsewhere : IsNotServed n home → (t : Bool) → leases_hold n.leases name ≡ t
+          → Ends (Some (if t then serve_nobody script (step_to n) name asked else bounce n asked))
+      elsewhere lacks true e = refuses-it (leased-unused script w [] b holds p name made e)
+      elsewhere lacks false e =
+          bounces lacks
           (given-used script w [] b holds p name made e
           (no-lease-comes script w b holds p asked rest h low high by at name on.on ranged))
 
       by-deed-at : home ≡ homes.At name → (t : Bool) → holds_deed n name ≡ t
-          → EndsIn script v p (if t then serve_asked script (step_to n) name asked
+          → Ends (if t then serve_asked script (step_to n) name asked
           else Some (bounce_or_nobody script n asked name))
       by-deed-at is true e = serves-it is (in-table script w [] b holds p is-born name e)
-      by-deed-at is false e = elsewhere (leases_hold n.leases name) refl
+      by-deed-at is false e = elsewhere (subst (IsNotServed n) (sym is) e) (leases_hold n.leases name) refl
 
-      by-deed-of-removal : (t : Bool) → holds_deed n name ≡ t
-          → EndsIn script v p (if t then Some (bounce n asked) else Some (bounce_or_nobody script n asked name))
-      by-deed-of-removal true e = bounces (used-there (in-table script w [] b holds p is-born name e))
-      by-deed-of-removal false e = elsewhere (leases_hold n.leases name) refl
+      by-deed-of-removal : home ≡ homes.Removal name → (t : Bool) → holds_deed n name ≡ t
+          → Ends (if t then Some (bounce n asked) else Some (bounce_or_nobody script n asked name))
+      by-deed-of-removal is true e = bounces (subst (IsNotServed n) (sym is) tt) (used-there (in-table script w [] b holds p is-born name e))
+      by-deed-of-removal is false e = elsewhere (subst (IsNotServed n) (sym is) tt) (leases_hold n.leases name) refl
 
-      ranged-ends : EndsIn script v p (forwarded_by script n asked home)
+      ranged-ends : Ends (forwarded_by script n asked home)
       ranged-ends =
           elim on.on [
             | inl is ↦
-                subst (λ y. EndsIn script v p (forwarded_by script n asked y)) (sym is)
+                subst (λ y. Ends (forwarded_by script n asked y)) (sym is)
                 (by-deed-at is (holds_deed n name) refl)
             | inr is ↦
-                subst (λ y. EndsIn script v p (forwarded_by script n asked y)) (sym is)
-                (by-deed-of-removal (holds_deed n name) refl)
+                subst (λ y. Ends (forwarded_by script n asked y)) (sym is)
+                (by-deed-of-removal is (holds_deed n name) refl)
           ]
 
     -- ---- the call was sent by place
 
-    placed-ends : by ≡ true → EndsIn script v p (forwarded_by script n asked home)
+    placed-ends : by ≡ true → Ends (forwarded_by script n asked home)
     placed-ends placed =
         let is : home ≡ homes.At name = on.at placed
         in let deed : b.deed name ≡ InTable p =
         finds-deed script w b holds p asked rest h low high by at name on.on placed is-born
-        in subst (λ y. EndsIn script v p (forwarded_by script n asked y)) (sym is)
-        (subst (λ t. EndsIn script v p (if t then serve_asked script (step_to n) name asked
+        in subst (λ y. Ends (forwarded_by script n asked y)) (sym is)
+        (subst (λ t. Ends (if t then serve_asked script (step_to n) name asked
         else Some (bounce_or_nobody script n asked name))) (sym (held-there deed)) (serves-it is deed))
 
-    by-way : (t : Bool) → by ≡ t → EndsIn script v p (forwarded_by script n asked home)
+    by-way : (t : Bool) → by ≡ t → Ends (forwarded_by script n asked home)
     by-way true placed = placed-ends placed
     by-way false ranged = ranged-ends ranged
 
-    sent-step : HasStep script w p 1
+    sent-step : Keeps script w (events.Take p 1) (λ after. IsMoved b.call after asked.caller (IsForwarded w b p asked))
     sent-step =
-        has-step script w b holds p 1 (frames.Forward asked) rest h (forwarded_by script n asked home) rule
-        (by-way by refl)
+        moved-step script w b p 1 asked.caller (IsForwarded w b p asked)
+        (has-step script w b holds p 1 (frames.Forward asked) rest h (forwarded_by script n asked home) rule
+        (λ after. IsMoved moved.call after asked.caller (IsForwarded w b p asked)) (by-way by refl))
 
   -- Where a node that is born takes a Forward, of a caller that is a node of the script, the event has a step, and all
   -- holds after it.
-  pub forward-taken : HasStep script w p 1
+  pub forward-taken : Keeps script w (events.Take p 1)
+      (λ after. IsMoved b.call after asked.caller (IsForwarded w b p asked))
   forward-taken =
       let sent = sent-by script w b holds p asked rest h low high
       in sent-step sent.0 sent.1
@@ -282,9 +327,12 @@ module _ (script : Script) (w : World) (b : Beside) (holds : Holds script w [] b
 -- So it is whoever it comes from, which is the leader.
 pub forward-taken-from : (script : Script) (w : World) (b : Beside) → Holds script w [] b → (p q : ℕ) (asked : Asked)
     (rest : List Frame) → Heads script w p q (frames.Forward asked) rest → 1 ≤ asked.caller
-    → asked.caller ≤ node_count script → is_born (node_of w p) ≡ true → NeverWaits script → HasStep script w p q
+    → asked.caller ≤ node_count script → is_born (node_of w p) ≡ true → NeverWaits script
+    → Keeps script w (events.Take p q) (λ after. IsMoved b.call after asked.caller (IsForwarded w b p asked))
 forward-taken-from script w b holds p q asked rest head low high born never =
-    subst (λ y. Heads script w p y (frames.Forward asked) rest → HasStep script w p y) (sym from_leader)
+    subst (λ y. Heads script w p y (frames.Forward asked) rest
+    → Keeps script w (events.Take p y) (λ after. IsMoved b.call after asked.caller (IsForwarded w b p asked)))
+    (sym from_leader)
     (λ first. forward-taken script w b holds p asked rest first low high born never) head
   where
     from_leader : MayBe script (is_born_in w) p q (frames.Forward asked)

@@ -30,9 +30,11 @@ use Rattle.world_laws.proofs.Middles.{changes-further}
 use Rattle.world_laws.proofs.Steps.{Heads, world_without}
 use Rattle.world_rules.proofs.Answers.{Found, find}
 use Rattle.world_rules.proofs.CallFrames.{IsNotOwnerOf, not-owner-of}
+use Rattle.world_own.proofs.Moved.{IsMoved}
+use Rattle.world_own.proofs.OwnCases.{Keeps}
 use Rattle.world_hand.proofs.Answering.{at-work-born}
 use Rattle.world_sent.proofs.Brought.{IsBrought, brought_world, brought-keeps, brought-nodes, name-not-brought}
-use Rattle.world_sent.proofs.Forwards.{HasStep, has-step}
+use Rattle.world_sent.proofs.Forwards.{has-step, moved-step}
 use Rattle.world_sent.proofs.InHand.{HasInHand}
 use Rattle.world_sent.proofs.Requests.{IsAtName, at-name, for-others}
 use Rattle.world_sent.proofs.SameNodes.{node-with}
@@ -223,17 +225,18 @@ module _ (script : Script) (w : World) (b : Beside) (holds : Holds script w [] b
       (record { sends_are = refl; entries_are = refl }))
 
   -- The event has a step, and all holds after it, with the call in an Ask.
-  pub not-owner-taken : HasStep script w p q
+  pub not-owner-taken : Keeps script w (events.Take p q) (λ a. IsMoved b.call a p (λ place. place ≡ InAsk))
   not-owner-taken =
-      has-step script w b holds p q frame rest h (Some after) rule
+      moved-step script w b p q p (λ place. place ≡ InAsk)
+      (has-step script w b holds p q frame rest h (Some after) rule
+      (λ a. IsMoved moved.call a p (λ place. place ≡ InAsk))
       (record {
         next = after;
         is = refl;
-        holds = record {
-          beside = record moved { call = call_in moved.call p InAsk };
-          holds = sent-keeps script middle moved p asked g InAsk 1 asks (record m { cache = forget m.cache name })
+        beside = record moved { call = call_in moved.call p InAsk };
+        holds = sent-keeps script middle moved p asked g InAsk 1 asks (record m { cache = forget m.cache name })
               goes-to-leader (world_after v p after) changes
               (λ y. name-not-sent script middle moved p asked g InAsk 1 asks
               (record m { cache = forget m.cache name }) goes-to-leader (world_after v p after) changes y refl);
-        };
-      })
+        after = record { place = InAsk; calls = λ y. refl; fits = refl };
+      }))

@@ -1,6 +1,6 @@
 -- A node takes a call that another node sent it as the owner of its name: it serves the call where it holds the name,
 -- and else tells the caller that it doesn't own it.
-use Rattle.std.proofs.Common.{◌≡◌, ◌≢◌, ℕ, Bool, true, false, ◌&&◌, not, cond, if◌then◌else◌, List, [], ◌∷◌, filter, nat_eq, Option, Some, None, is_some, refl, ap, sym, subst, ◌∙◌, inl, inr, arith, Contains}
+use Rattle.std.proofs.Common.{◌≡◌, ◌≢◌, ℕ, Bool, true, false, ◌&&◌, not, cond, if◌then◌else◌, List, [], ◌∷◌, filter, nat_eq, Option, Some, None, is_some, refl, ap, sym, subst, ◌∙◌, inl, inr, arith, Contains, ◌⊎◌}
 use Rattle.std.proofs.lemmas.Bool.{cases_eq, eqb-true, eq-eqb, ne_eqb, false≢true}
 use Rattle.std.proofs.lemmas.List.Elements.{Contains-append_left, Contains-push}
 use Rattle.pico_base.specs.declared.call.Call.{Call}
@@ -21,7 +21,7 @@ use Rattle.world_model.specs.Node.{Node, Stage, Unborn, Living, Leaving, Left, O
 use Rattle.world_model.specs.Serving.{serve_asked}
 use Rattle.world_model.specs.Step.{Step, send, step_to}
 use Rattle.world_model.specs.World.{World, world_after}
-use Rattle.world_laws.specs.Places.{InNotOwner, InTable, IsInHand, Beside, call_in}
+use Rattle.world_laws.specs.Places.{CallPlace, InNotOwner, InTable, IsInHand, Beside, call_in}
 use Rattle.world_laws.specs.Sights.{node_of, directory_of, is_born_in, is_born_stage}
 use Rattle.world_laws.specs.Plays.{believed, is_there}
 use Rattle.world_laws.specs.Names.{NameHolds, NameSight, held_as, maker_tells, name_sight}
@@ -36,14 +36,16 @@ use Rattle.world_laws.proofs.NameFacts.{held-here}
 use Rattle.world_laws.proofs.Steps.{Heads, world_without}
 use Rattle.world_rules.proofs.Answers.{Found, find}
 use Rattle.world_rules.proofs.CallFrames.{IsRequestOf, request-of}
+use Rattle.world_own.proofs.Moved.{IsCarriedOut, IsMoved, IsNotServed}
+use Rattle.world_own.proofs.OwnCases.{Keeps}
 use Rattle.world_hand.proofs.Asks.{NeverWaits}
 use Rattle.world_hand.proofs.NobodyRoutes.{on-name-served}
 use Rattle.world_sent.proofs.Brought.{IsBrought, brought_world, brought-keeps, brought-nodes, name-not-brought}
-use Rattle.world_sent.proofs.Forwards.{HasStep, has-step}
+use Rattle.world_sent.proofs.Forwards.{carried-ends, has-step, moved-step}
 use Rattle.world_sent.proofs.InHand.{HasInHand}
 use Rattle.world_sent.proofs.NoCheckpoint.{in-table}
 use Rattle.world_sent.proofs.Sent.{GoesOn, name-not-sent, sent-keeps}
-use Rattle.world_sent.proofs.ServeSteps.{EndsIn, ServesInHand, node-here, serves-and-grants, serves-and-suggests, serves-in-hand}
+use Rattle.world_sent.proofs.ServeSteps.{CarriedOut, EndsIn, ServesInHand, node-here, serves-and-grants, serves-and-suggests, serves-in-hand}
 
 -- who is born isn't unborn
 not-unborn : (stage : Stage) → is_born_stage stage ≡ true → not (is_unborn stage) ≡ true
@@ -77,6 +79,12 @@ at-name homes.Own h = absurd (false≢true h)
 at-name homes.Keys h = absurd (false≢true h)
 at-name (homes.Removal name) h = absurd (false≢true h)
 at-name homes.Parent h = absurd (false≢true h)
+
+-- the call of a Request is carried out, or the node says that it isn't the owner, where the call isn't served
+abbrev pub IsRequested : World → ℕ → Asked → CallPlace → Type 0
+IsRequested w p asked place =
+    IsCarriedOut place
+    ⊎ ((place ≡ InNotOwner p) × IsNotServed (node_of w p) (home_of asked.pid asked.call))
 
 module _ (script : Script) (w : World) (b : Beside) (holds : Holds script w [] b) (p q ticket pid : ℕ) (call : Call)
     (rest : List Frame) (h : Heads script w p q (frames.Request ticket pid call) rest) where
@@ -191,6 +199,10 @@ module _ (script : Script) (w : World) (b : Beside) (holds : Holds script w [] b
             (λ m. name-not-brought script w b holds p q frame rest h asked brought m refl);
       }
 
+  -- it ends in a step, with the call where it may be
+  abbrev Ends : Option Step → Type 0
+  Ends result = EndsIn script v p result (λ after. IsMoved moved.call after q (IsRequested w p asked))
+
   middle-holds : Holds script middle (Request asked ∷ []) moved
   middle-holds = g.holds
 
@@ -211,7 +223,7 @@ module _ (script : Script) (w : World) (b : Beside) (holds : Holds script w [] b
 
   -- ---- the deed is here
 
-  serves-request : NeverWaits script → b.deed name ≡ InTable p → ServesInHand script v p n asked name
+  serves-request : NeverWaits script → b.deed name ≡ InTable p → ServesInHand script v p n asked name moved
   serves-request never deed =
       serves-in-hand script v p n moved asked g name on.is
       (on-name-served pid call name (inl on.is) (waits-not never)) deed
@@ -250,38 +262,43 @@ module _ (script : Script) (w : World) (b : Beside) (holds : Holds script w [] b
       (changes-further script v p (step_to n) told ((q, frames.NotOwner ticket) ∷ []) [] middle-holds.shape h.low
       h.high (record { low = h.low_from; high = h.high_from }, tt) (record { sends_are = refl; entries_are = refl }))
 
-  tells : EndsIn script v p (Some told)
-  tells =
+  tells : IsNotServed n (home_of pid call) → Ends (Some told)
+  tells lacks =
       record {
         next = told;
         is = refl;
-        holds = record {
-          beside = record moved { call = call_in moved.call q (InNotOwner p) };
-          holds = sent-keeps script middle moved p asked g (InNotOwner p) q (frames.NotOwner ticket) (node_of middle p)
+        beside = record moved { call = call_in moved.call q (InNotOwner p) };
+        holds = sent-keeps script middle moved p asked g (InNotOwner p) q (frames.NotOwner ticket) (node_of middle p)
               goes-back (world_after v p told) told-changes
               (λ m. name-not-sent script middle moved p asked g (InNotOwner p) q (frames.NotOwner ticket)
               (node_of middle p) goes-back (world_after v p told) told-changes m refl);
-        };
+        after = record { place = InNotOwner p; calls = λ y. refl; fits = inr (refl, lacks) };
       }
 
   by-deed : (t : Bool) → holds_deed n name ≡ t
-      → (b.deed name ≡ InTable p → EndsIn script v p (serve_asked script (step_to n) name asked))
-      → EndsIn script v p (if t then serve_asked script (step_to n) name asked else Some told)
+      → (b.deed name ≡ InTable p → Ends (serve_asked script (step_to n) name asked))
+      → Ends (if t then serve_asked script (step_to n) name asked else Some told)
   by-deed true e serve = serve (in-table script w [] b holds p born name e)
-  by-deed false e serve = tells
+  by-deed false e serve = tells (subst (IsNotServed n) (sym on.is) e)
 
   taken-by : NeverWaits script
-      → (b.deed name ≡ InTable p → EndsIn script v p (serve_asked script (step_to n) name asked)) → HasStep script w p q
+      → (b.deed name ≡ InTable p → EndsIn script v p (serve_asked script (step_to n) name asked) (CarriedOut moved q))
+      → Keeps script w (events.Take p q) (λ after. IsMoved b.call after q (IsRequested w p asked))
   taken-by never serve =
-      has-step script w b holds p q frame rest h (requested_by script n asked (home_of pid call)) (rule never)
-      (subst (λ y. EndsIn script v p (requested_by script n asked y)) (sym on.is)
-      (by-deed (holds_deed n name) refl serve))
+      moved-step script w b p q q (IsRequested w p asked)
+      (has-step script w b holds p q frame rest h (requested_by script n asked (home_of pid call)) (rule never)
+      (λ after. IsMoved moved.call after q (IsRequested w p asked))
+      (subst (λ y. Ends (requested_by script n asked y)) (sym on.is)
+      (by-deed (holds_deed n name) refl
+      (λ deed. carried-ends script v p (serve_asked script (step_to n) name asked) moved q (IsRequested w p asked)
+      (λ place over. inl over) (serve deed)))))
 
   -- Where a node other than the leader takes a Request, the event has a step, and all holds after it.
-  pub request-taken : NeverWaits script → p ≢ 1 → HasStep script w p q
+  pub request-taken : NeverWaits script → p ≢ 1
+      → Keeps script w (events.Take p q) (λ after. IsMoved b.call after q (IsRequested w p asked))
   request-taken never not_leader =
       taken-by never
-      (λ deed. serves-and-suggests script v p n asked name (serves-request never deed) h.low h.high on.is not_leader)
+      (λ deed. serves-and-suggests script v p n asked name moved (serves-request never deed) h.low h.high on.is not_leader)
 
 -- ---- the leader
 
@@ -324,10 +341,11 @@ module _ (script : Script) (w : World) (b : Beside) (holds_all : Holds script w 
         → EndsIn script (world_without w 1 q rest) 1
         (serve_asked script (step_to (node_of w 1)) (on script w b holds_all 1 q ticket pid call rest head).name
         (record { caller = q; ticket = ticket; pid = pid; call = call }))
+        (CarriedOut (record b { call = call_in b.call q IsInHand }) q)
     leader-serves deed =
         serves-and-grants script (world_without w 1 q rest) (node_of w 1)
         (record { caller = q; ticket = ticket; pid = pid; call = call })
-        (on script w b holds_all 1 q ticket pid call rest head).name
+        (on script w b holds_all 1 q ticket pid call rest head).name (record b { call = call_in b.call q IsInHand })
         (serves-request script w b holds_all 1 q ticket pid call rest head never deed) head.high
         (on script w b holds_all 1 q ticket pid call rest head).is
         (other script w b holds_all 1 q ticket pid call rest head)
@@ -336,18 +354,24 @@ module _ (script : Script) (w : World) (b : Beside) (holds_all : Holds script w 
         ∙ place-at-leader script w [] b holds_all (on script w b holds_all 1 q ticket pid call rest head).name deed)
 
     -- Where the leader takes a Request, the event has a step, too.
-    pub request-taken-by-leader : HasStep script w 1 q
+    pub request-taken-by-leader : Keeps script w (events.Take 1 q)
+        (λ after. IsMoved b.call after q
+        (IsRequested w 1 (record { caller = q; ticket = ticket; pid = pid; call = call })))
     request-taken-by-leader =
         taken-by script w b holds_all 1 q ticket pid call rest head never leader-serves
 
 -- Where a node takes a Request, the event has a step, and all holds after it.
 pub request-taken-anywhere : (script : Script) (w : World) (b : Beside) → Holds script w [] b → (p q ticket pid : ℕ)
     (call : Call) (rest : List Frame) → Heads script w p q (frames.Request ticket pid call) rest → NeverWaits script
-    → HasStep script w p q
+    → Keeps script w (events.Take p q)
+    (λ after. IsMoved b.call after q
+    (IsRequested w p (record { caller = q; ticket = ticket; pid = pid; call = call })))
 request-taken-anywhere script w b holds p q ticket pid call rest head never =
     elim (cases_eq p 1) [
       | inr d ↦ request-taken script w b holds p q ticket pid call rest head never d
       | inl e ↦
-          subst (λ y. Heads script w y q (frames.Request ticket pid call) rest → HasStep script w y q) (sym e)
+          subst (λ y. Heads script w y q (frames.Request ticket pid call) rest → Keeps script w (events.Take y q)
+          (λ after. IsMoved b.call after q
+          (IsRequested w y (record { caller = q; ticket = ticket; pid = pid; call = call })))) (sym e)
           (λ first. request-taken-by-leader script w b holds q ticket pid call rest first never) head
     ]

@@ -23,12 +23,13 @@ use Rattle.world_model.specs.World.{World, node_count, world_after}
 use Rattle.serve_laws.specs.Served.{served_as}
 use Rattle.kernel_moves.specs.Entering.{entry_of}
 use Rattle.kernel_moves.proofs.Holding.{ServesHere, served_deeds}
-use Rattle.world_laws.specs.Places.{Idle, InAnswer, InTable, Beside}
+use Rattle.world_laws.specs.Places.{CallPlace, Idle, InAnswer, InTable, Beside}
 use Rattle.world_laws.specs.Sights.{node_of, directory_of, is_born_in, is_born_stage}
 use Rattle.world_laws.specs.Families.{NodeHolds}
-use Rattle.world_laws.specs.Invariant.{HasInvariant, Holds}
+use Rattle.world_laws.specs.Invariant.{Holds}
 use Rattle.world_laws.proofs.Changes.{Changes, read-same}
 use Rattle.world_laws.proofs.Middles.{changes-further}
+use Rattle.world_own.proofs.Moved.{IsCarriedOut, IsMoved, is_answered, is_over}
 use Rattle.world_hand.proofs.Answering.{caller-born}
 use Rattle.world_hand.proofs.HandMoves.{IsFirst}
 use Rattle.world_hand.proofs.Noted.{HoldsAfter, read-noted-keeps}
@@ -37,23 +38,38 @@ use Rattle.world_sent.proofs.InHand.{HasInHand, in-hand}
 use Rattle.world_sent.proofs.Serves.{after_node, holder-born, served_beside, served-answered, served-ended, serves}
 use Rattle.world_sent.proofs.Suggested.{read-suggested-keeps}
 
--- this comes to a step of node p after which all holds
-pub record EndsIn (script : Script) (v : World) (p : ℕ) (result : Option Step) : Type 0 where
-  pub next : Step
-  pub is : result ≡ Some next
-  pub holds : HasInvariant script (world_after v p next)
+-- this comes to a step of node p after which all holds, with calls in such places
+pub record EndsIn (script : Script) (v : World) (p : ℕ) (result : Option Step) (After : (ℕ → CallPlace) → Type 0) : Type 0
+  where
+    pub next : Step
+    pub is : result ≡ Some next
+    pub beside : Beside
+    pub holds : Holds script (world_after v p next) [] beside
+    pub after : After beside.call
+
+-- the call that was in hand is carried out
+abbrev pub CarriedOut : Beside → ℕ → (ℕ → CallPlace) → Type 0
+CarriedOut b c after = IsMoved b.call after c IsCarriedOut
 
 -- The node serves the call, and notes who read where it has; before that all holds, too.
-pub record ServesInHand (script : Script) (v : World) (p : ℕ) (n : Node) (asked : Asked) (name : Name) : Type 0 where
+pub record ServesInHand (script : Script) (v : World) (p : ℕ) (n : Node) (asked : Asked) (name : Name) (b : Beside) : Type 0
+  where
   pub reply : Reply
   pub done : Step
   pub is : serve_asked script (step_to n) name asked
       ≡ Some (if has_read asked.call reply then note_read done name asked.caller else done)
   pub beside : Beside
   pub holds : Holds script (world_after v p done) [] beside
+  pub carried_out : CarriedOut b asked.caller beside.call
   pub node_born : is_born_in (world_after v p done) p ≡ true
   pub caller_born : is_born_in (world_after v p done) asked.caller ≡ true
   pub directory_is : directory_of (world_after v p done) ≡ directory_of (world_after v p (step_to n))
+
+-- all holds, with calls in these places
+pub record HoldsWith (script : Script) (w : World) (call : ℕ → CallPlace) : Type 0 where
+  pub beside : Beside
+  pub holds : Holds script w [] beside
+  pub calls : beside.call ≡ call
 
 -- ---- the middle of the event
 
@@ -148,7 +164,7 @@ module _ (script : Script) (v : World) (p : ℕ) (n : Node) (b : Beside) (asked 
         (entry ∷ []) holds.shape g.low_node g.high_node (record { low = g.low; high = g.high }, tt)
         (record { sends_are = refl; entries_are = refl }))
 
-    serves-other : asked.caller ≢ p → ServesInHand script v p n asked name
+    serves-other : asked.caller ≢ p → ServesInHand script v p n asked name b
     serves-other other =
         record {
           reply = reply;
@@ -159,6 +175,7 @@ module _ (script : Script) (v : World) (p : ℕ) (n : Node) (b : Beside) (asked 
           beside = served_beside script w b p asked g name on served deed n.number (InAnswer p reply);
           holds = served-answered script w b p asked g name on served deed n.number other (world_after v p answered)
               answer-changes;
+          carried_out = record { place = InAnswer p reply; calls = λ y. refl; fits = is_answered p reply refl };
           node_born = same-born p ∙ born;
           caller_born = same-born asked.caller ∙ caller-born script w asked [] b holds g.low g.high;
           directory_is = read-same script p w (world_after v p answered) _ [] _ (entry ∷ []) answer-changes
@@ -190,7 +207,7 @@ module _ (script : Script) (v : World) (p : ℕ) (n : Node) (b : Beside) (asked 
         (changes-further script v p (step_to n) ended [] (entry ∷ []) holds.shape g.low_node g.high_node tt
         (record { sends_are = refl; entries_are = refl }))
 
-    serves-own : asked.caller ≡ p → ServesInHand script v p n asked name
+    serves-own : asked.caller ≡ p → ServesInHand script v p n asked name b
     serves-own own =
         record {
           reply = reply;
@@ -203,6 +220,7 @@ module _ (script : Script) (v : World) (p : ℕ) (n : Node) (b : Beside) (asked 
           beside = served_beside script w b p asked g name on served deed n.number Idle;
           holds = served-ended script w b p asked g name on served deed n.number own (world_after v p ended)
               end-changes;
+          carried_out = record { place = Idle; calls = λ y. refl; fits = is_over refl };
           node_born = same-born p ∙ born;
           caller_born = same-born asked.caller ∙ caller-born script w asked [] b holds g.low g.high;
           directory_is = read-same script p w (world_after v p ended) _ [] [] (entry ∷ []) end-changes
@@ -215,48 +233,59 @@ module _ (script : Script) (v : World) (p : ℕ) (n : Node) (b : Beside) (asked 
             (λ (m : Node). is_born_stage m.stage) refl y
 
     -- A node that holds the name of a call in hand serves it.
-    pub serves-in-hand : ServesInHand script v p n asked name
+    pub serves-in-hand : ServesInHand script v p n asked name b
     serves-in-hand = elim (cases_eq asked.caller p) [ inl own ↦ serves-own own | inr other ↦ serves-other other ]
 
 -- ---- who read is noted
 
-module _ (script : Script) (v : World) (p : ℕ) (n : Node) (asked : Asked) (name : Name)
-    (s : ServesInHand script v p n asked name) (low : 1 ≤ p) (high : p ≤ node_count script)
+module _ (script : Script) (v : World) (p : ℕ) (n : Node) (asked : Asked) (name : Name) (b : Beside)
+    (s : ServesInHand script v p n asked name b) (low : 1 ≤ p) (high : p ≤ node_count script)
     (on : home_of asked.pid asked.call ≡ homes.At name) where
   noted-or-not : (t : Bool) → has_read asked.call s.reply ≡ t
-      → (t ≡ true → HasInvariant script (world_after v p (note_read s.done name asked.caller)))
-      → EndsIn script v p (serve_asked script (step_to n) name asked)
+      → (t ≡ true → HoldsWith script (world_after v p (note_read s.done name asked.caller)) s.beside.call)
+      → EndsIn script v p (serve_asked script (step_to n) name asked) (CarriedOut b asked.caller)
   noted-or-not false e after =
       record {
         next = s.done;
         is = s.is ∙ ap (λ t. Some (if t then note_read s.done name asked.caller else s.done)) e;
-        holds = record { beside = s.beside; holds = s.holds };
+        beside = s.beside;
+        holds = s.holds;
+        after = s.carried_out;
       }
   noted-or-not true e after =
-      record {
+      let noted : HoldsWith script (world_after v p (note_read s.done name asked.caller)) s.beside.call = after refl
+      in record {
         next = note_read s.done name asked.caller;
         is = s.is ∙ ap (λ t. Some (if t then note_read s.done name asked.caller else s.done)) e;
-        holds = after refl;
+        beside = noted.beside;
+        holds = noted.holds;
+        after = subst (λ c. CarriedOut b asked.caller c) (sym noted.calls) s.carried_out;
       }
 
   -- A node other than the leader serves the call, and suggests the reader where it is time.
-  pub serves-and-suggests : p ≢ 1 → EndsIn script v p (serve_asked script (step_to n) name asked)
+  pub serves-and-suggests : p ≢ 1
+      → EndsIn script v p (serve_asked script (step_to n) name asked) (CarriedOut b asked.caller)
   serves-and-suggests other =
       noted-or-not (has_read asked.call s.reply) refl
-      (λ e. read-suggested-keeps script v p s.done s.beside s.holds low high other s.node_born name asked.caller
-      (reads-object asked.pid asked.call s.reply name on e) s.caller_born)
+      (λ e.
+      record {
+        beside = s.beside;
+        holds = read-suggested-keeps script v p s.done s.beside s.holds low high other s.node_born name asked.caller
+            (reads-object asked.pid asked.call s.reply name on e) s.caller_born;
+        calls = refl;
+      })
 
 -- The leader serves a call of another node, and the name moves to the reader where it is time.
-pub serves-and-grants : (script : Script) (v : World) (n : Node) (asked : Asked) (name : Name)
-    → (s : ServesInHand script v 1 n asked name) → 1 ≤ node_count script
+pub serves-and-grants : (script : Script) (v : World) (n : Node) (asked : Asked) (name : Name) (b : Beside)
+    → (s : ServesInHand script v 1 n asked name b) → 1 ≤ node_count script
     → home_of asked.pid asked.call ≡ homes.At name → asked.caller ≢ 1
     → place_of (directory_of (world_after v 1 (step_to n))) name ≡ Some (At 1)
-    → EndsIn script v 1 (serve_asked script (step_to n) name asked)
-serves-and-grants script v n asked name s high on other place =
-    noted-or-not script v 1 n asked name s (omega arith) high on (has_read asked.call s.reply) refl
+    → EndsIn script v 1 (serve_asked script (step_to n) name asked) (CarriedOut b asked.caller)
+serves-and-grants script v n asked name b s high on other place =
+    noted-or-not script v 1 n asked name b s (omega arith) high on (has_read asked.call s.reply) refl
     (λ e.
-    let after : HoldsAfter script v (note_read s.done name asked.caller) [] =
+    let after : HoldsAfter script v (note_read s.done name asked.caller) [] s.beside.call =
     read-noted-keeps script v s.done [] s.beside s.holds name asked.caller
     (reads-object asked.pid asked.call s.reply name on e) s.caller_born other
     (ap (λ d. place_of d name) s.directory_is ∙ place)
-    in record { beside = after.beside; holds = after.holds })
+    in record { beside = after.beside; holds = after.holds; calls = after.calls })

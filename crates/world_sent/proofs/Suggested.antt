@@ -19,7 +19,7 @@ use Rattle.world_laws.specs.Places.{Beside}
 use Rattle.world_laws.specs.Sights.{node_of, directory_of, is_born_in}
 use Rattle.world_laws.specs.Callers.{is_about}
 use Rattle.world_laws.specs.Families.{NodeHolds}
-use Rattle.world_laws.specs.Invariant.{HasInvariant, Holds, MayBe}
+use Rattle.world_laws.specs.Invariant.{Holds, MayBe}
 use Rattle.world_laws.proofs.Stays.{IsMore, name-stays}
 use Rattle.world_laws.proofs.Changes.{Changes, read-same}
 use Rattle.world_laws.proofs.Frames.{ArePlain, BringNoBirth, BringNoLease}
@@ -101,11 +101,9 @@ module _ (script : Script) (v : World) (p : ℕ) (s : Step) (b : Beside) (holds 
     more : IsMore (is_born_in w) (is_born_in w')
     more = quiet-born script w w' [] b b.deed p n [] sends low high holds c quiet
 
-    silent-keeps : HasInvariant script w'
+    silent-keeps : Holds script w' [] b
     silent-keeps =
-        record {
-          beside = b;
-          holds = quiet-keeps script w w' [] b b.deed p n [] sends low high holds c quiet
+        quiet-keeps script w w' [] b b.deed p n [] sends low high holds c quiet
               (λ m. name-stays script b.pids (is_born_in w) (is_born_in w') m _ _ more
               (name-left-alone script p w w' n [] sends [] c [] [] b b m
               (record {
@@ -118,12 +116,11 @@ module _ (script : Script) (v : World) (p : ℕ) (s : Step) (b : Beside) (holds 
                 hand_is = refl;
                 steps_are = λ y. refl;
                 ranges_are = λ y. refl;
-              }) tt (silent.not_about m)) (holds.names m));
-        }
+              }) tt (silent.not_about m)) (holds.names m))
 
   -- a step that notes the read, and sends these
   noted-by : (t : Step) (sends : List (ℕ × Frame)) → AreSilent script w p sends
-      → t.node ≡ record s.node { watches = read_now } → GrowsBy s t sends [] → HasInvariant script (world_after v p t)
+      → t.node ≡ record s.node { watches = read_now } → GrowsBy s t sends [] → Holds script (world_after v p t) [] b
   noted-by t sends silent node_is grows =
       silent-keeps sends silent (world_after v p t)
       (subst (λ (m : Node). Changes script p w (world_after v p t) m [] sends [])
@@ -156,17 +153,17 @@ module _ (script : Script) (v : World) (p : ℕ) (s : Step) (b : Beside) (holds 
         not_about = λ m. (refl, tt);
       }
 
-  by-run : (t : Bool) → HasInvariant script (world_after v p (move_to noted name (if t then Some reader else None)))
+  by-run : (t : Bool) → Holds script (world_after v p (move_to noted name (if t then Some reader else None))) [] b
   by-run false =
       noted-by noted [] none-sent refl
       (record { sends_are = sym (append-nil s.sends); entries_are = sym (append-nil s.entries) })
   by-run true =
-      subst (λ t. HasInvariant script (world_after v p (if t
+      subst (λ t. Holds script (world_after v p (if t
       then if stays s.node.leader.directory reader then grant noted name reader else noted
-      else send noted 1 (frames.Suggest name reader)))) (sym no-leader)
+      else send noted 1 (frames.Suggest name reader))) [] b) (sym no-leader)
       (noted-by (send noted 1 (frames.Suggest name reader)) ((1, frames.Suggest name reader) ∷ []) suggestion refl
       (record { sends_are = refl; entries_are = sym (append-nil s.entries) }))
 
   -- All holds after the node has noted the read, and perhaps told the leader.
-  pub read-suggested-keeps : HasInvariant script (world_after v p (note_read s name reader))
+  pub read-suggested-keeps : Holds script (world_after v p (note_read s name reader)) [] b
   read-suggested-keeps = by-run (run_with (watch_over s.node.watches s.node.number name) reader == 4)

@@ -25,13 +25,14 @@ use Rattle.world_laws.proofs.Changes.{Changes}
 use Rattle.world_laws.proofs.LeftAlone.{SameCaller}
 use Rattle.world_laws.proofs.Middles.{changes-further}
 use Rattle.world_own.proofs.Refused.{unchanged-leaves}
+use Rattle.world_own.proofs.Moved.{is_answered, is_over}
 use Rattle.world_hand.proofs.Answering.{IsPlainCall, due-in-hand, may-make-in-hand, place-in-hand}
 use Rattle.world_sent.proofs.InHand.{HasInHand}
 use Rattle.world_sent.proofs.Replied.{IsCarriedOut, IsNodeAfter, IsReplied, name-not-changed, replied-keeps}
 use Rattle.world_sent.proofs.InAnswers.{call-in-answer, in-answer}
 use Rattle.world_sent.proofs.EndedHere.{call-ended-here, ended-here}
 use Rattle.world_sent.proofs.SameNodes.{node-with}
-use Rattle.world_sent.proofs.ServeSteps.{EndsIn, node-here, number-here, own-answered, own-under-way}
+use Rattle.world_sent.proofs.ServeSteps.{CarriedOut, EndsIn, node-here, number-here, own-answered, own-under-way}
 
 -- ---- the entry
 
@@ -164,17 +165,16 @@ module _ (script : Script) (v : World) (p : ℕ) (n : Node) (b : Beside) (asked 
       (entry ∷ []) middle-holds.shape g.low_node g.high_node (record { low = g.low; high = g.high }, tt)
       (record { sends_are = refl; entries_are = refl }))
 
-  refuses-other : asked.caller ≢ p → EndsIn script v p (Some (carry_out script (step_to n) asked reply))
+  refuses-other : asked.caller ≢ p → EndsIn script v p (Some (carry_out script (step_to n) asked reply)) (CarriedOut b asked.caller)
   refuses-other other =
       record {
         next = answered;
         is = ap (λ t. Some (if t then reply_here script entered reply (under_way_as n asked.ticket) else answered))
             (ne_eqb asked.caller n.number (λ e. other (e ∙ number-here script v p n b asked g)));
-        holds = record {
-          beside = refused_beside script middle b p asked g born reply l plain n.number (InAnswer p reply);
-          holds = refused-answered script middle b p asked g born reply l plain n.number other
-              (world_after v p answered) answer-changes;
-        };
+        beside = refused_beside script middle b p asked g born reply l plain n.number (InAnswer p reply);
+        holds = refused-answered script middle b p asked g born reply l plain n.number other
+            (world_after v p answered) answer-changes;
+        after = record { place = InAnswer p reply; calls = λ y. refl; fits = is_answered p reply refl };
       }
 
   abbrev next-caller : Caller
@@ -191,7 +191,7 @@ module _ (script : Script) (v : World) (p : ℕ) (n : Node) (b : Beside) (asked 
       (changes-further script v p (step_to n) (ended-with next-caller) [] (entry ∷ []) middle-holds.shape g.low_node
       g.high_node tt (record { sends_are = refl; entries_are = refl }))
 
-  refuses-own : asked.caller ≡ p → EndsIn script v p (Some (carry_out script (step_to n) asked reply))
+  refuses-own : asked.caller ≡ p → EndsIn script v p (Some (carry_out script (step_to n) asked reply)) (CarriedOut b asked.caller)
   refuses-own own =
       record {
         next = ended-with next-caller;
@@ -199,13 +199,12 @@ module _ (script : Script) (v : World) (p : ℕ) (n : Node) (b : Beside) (asked 
             (eq-eqb asked.caller n.number (own ∙ sym (number-here script v p n b asked g)))
             ∙ ap (λ o. Some (reply_here script entered reply o)) (own-under-way script v p n b asked g own)
             ∙ ap (λ k. Some (ended-with k)) (own-answered script v p n b asked g reply own);
-        holds = record {
-          beside = refused_beside script middle b p asked g born reply l plain n.number Idle;
-          holds = refused-ended script middle b p asked g born reply l plain n.number own
-              (world_after v p (ended-with next-caller)) end-changes;
-        };
+        beside = refused_beside script middle b p asked g born reply l plain n.number Idle;
+        holds = refused-ended script middle b p asked g born reply l plain n.number own
+            (world_after v p (ended-with next-caller)) end-changes;
+        after = record { place = Idle; calls = λ y. refl; fits = is_over refl };
       }
 
   -- A node carries out such a call, and all holds.
-  pub refuses : EndsIn script v p (Some (carry_out script (step_to n) asked reply))
+  pub refuses : EndsIn script v p (Some (carry_out script (step_to n) asked reply)) (CarriedOut b asked.caller)
   refuses = elim (cases_eq asked.caller p) [ inl own ↦ refuses-own own | inr other ↦ refuses-other other ]

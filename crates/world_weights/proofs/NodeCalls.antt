@@ -24,6 +24,7 @@ use Rattle.world_model.specs.Routing.{route_call}
 use Rattle.world_model.specs.Serving.{serve_asked, serve_nobody}
 use Rattle.world_model.specs.World.{node_count}
 use Rattle.world_laws.specs.Places.{CallPlace, call_in}
+use Rattle.world_own.proofs.Moved.{IsNotServed}
 use Rattle.world_weights.specs.Weights.{call_weight, left_to_start, node_weight}
 use Rattle.world_weights.proofs.Costs.{MayEnd, RisesBesides, move_cost, nobody-costs, served-costs, stage-below, step_weight, under-way-at}
 use Rattle.world_weights.proofs.Events.{Lowers, lowers-moved}
@@ -43,11 +44,6 @@ lowers-by-cost script n s taken more call p was place low high is cost less =
 pub move-is-cheap : (leads : Bool) → move_cost leads ≤ 5
 move-is-cheap true = omega arith
 move-is-cheap false = omega arith
-
--- a call that isn't served here: it is on a name that isn't held, or it removes one
-abbrev pub IsNotServed : Node → Home → Type 0
-IsNotServed n (homes.At name) = holds n name ≡ false
-IsNotServed n home = Unit {0}
 
 module _ (script : Script) (n : Node) where
   -- a step from this node that costs so much
