@@ -19,7 +19,7 @@ use Rattle.world_laws.specs.Places.{Beside, CallPlace, IsHeld, SentByPlace, Sent
 use Rattle.world_laws.specs.Sights.{directory_of}
 use Rattle.world_laws.specs.Invariant.{Holds}
 use Rattle.world_hand.proofs.HandMoves.{in-hand-for-others}
-use Rattle.world_hand.proofs.ReadRoutes.{HasRoute, PlaceFits, asks_back, goes_by_range, goes_to_owner, is_held}
+use Rattle.world_hand.proofs.ReadRoutes.{HasRoute, PlaceFits, is_asked_back, goes_by_range, goes_to_owner, is_held}
 use Rattle.world_hand.proofs.Routes.{IsOn, RouteKeeps, range-is, route-by-range, route-to-held, route-to-owner, route-to-recall}
 
 -- The directory names nodes, and the call has a route where the leader carries it out: on a name that nothing has, on a
@@ -112,7 +112,7 @@ module _ (script : Script) (v : World) (s : Step) (asked : Asked) (rest : List H
       elim (cases_eq node 1) [
         | inl e ↦ here.removed name on (place ∙ ap (λ y. Some (At y)) e)
         | inr away ↦
-            routed (IsHeld name) (asks_back name node refl on place away)
+            routed (IsHeld name) (is_asked_back name node refl on place away)
             (route-to-recall script v s asked rest b holds low high name node on place
             (here.nodes name node place) away)
       ]

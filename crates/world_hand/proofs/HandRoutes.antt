@@ -6,7 +6,6 @@ use Rattle.pico_base.specs.declared.call.Home.{Home}
 use Rattle.pico_base.specs.declared.call.Home.TheVariants as homes
 use Rattle.pico_base.specs.declared.numbers.Name.{Name}
 use Rattle.pico_base.specs.declared.script.Script.{Script}
-use Rattle.pico_base.specs.declared.script.Event.TheVariants as events
 use Rattle.pico_base.specs.Home.{home_of}
 use Rattle.rpc_frame.specs.declared.asked.Asked.{Asked}
 use Rattle.node_model.specs.declared.held.Held.{Held}
@@ -21,12 +20,11 @@ use Rattle.pico_base.specs.declared.reply.Reply.TheVariants as replies
 use Rattle.node_model.specs.Serving.{no_such_name}
 use Rattle.world_laws.specs.Sights.{directory_of}
 use Rattle.world_laws.specs.Invariant.{Holds}
-use Rattle.world_laws.proofs.Steps.{KeepsAs}
 use Rattle.world_hand.proofs.Asks.{NeverWaits}
 use Rattle.world_hand.proofs.HandMoves.{in-hand-for-others}
 use Rattle.world_hand.proofs.NobodyRoutes.{route-to-nobody}
 use Rattle.world_own.proofs.Moved.{is_answered}
-use Rattle.world_hand.proofs.ReadRoutes.{HasRoute, PlaceFits, asks_back, goes_by_range, goes_to_owner, is_carried_out, is_held, route-to-leader-too}
+use Rattle.world_hand.proofs.ReadRoutes.{HasRoute, PlaceFits, is_asked_back, goes_by_range, goes_to_owner, is_carried_out, is_held, route-to-leader-too}
 use Rattle.world_hand.proofs.Routes.{IsOn, RouteKeeps, range-is, route-by-range, route-to-held, route-to-owner, route-to-recall}
 
 -- what is still to be shown for the call: the directory names nodes, and calls on keys and removals at the leader have
@@ -128,7 +126,7 @@ module _ (script : Script) (v : World) (s : Step) (asked : Asked) (rest : List H
       elim (cases_eq node 1) [
         | inl e ↦ left.removal_here name on (place ∙ ap (λ y. Some (At y)) e)
         | inr away ↦
-            routed (IsHeld name) (asks_back name node refl on place away)
+            routed (IsHeld name) (is_asked_back name node refl on place away)
             (route-to-recall script v s asked rest b holds low high name node on place
             (left.nodes name node place) away)
       ]

@@ -41,7 +41,7 @@ pub data PlaceFits (d : Directory) (home : Home) (place : CallPlace) : Type 0 wh
       → route d name ≡ routes.Range node → PlaceFits d home place
   is_held : (name : Name) (to : Option ℕ) (items : List Held) → place ≡ IsHeld name → IsOn name home
       → place_of d name ≡ Some (Coming to items) → PlaceFits d home place
-  asks_back : (name : Name) (node : ℕ) → place ≡ IsHeld name → home ≡ homes.Removal name
+  is_asked_back : (name : Name) (node : ℕ) → place ≡ IsHeld name → home ≡ homes.Removal name
       → place_of d name ≡ Some (At node) → node ≢ 1 → PlaceFits d home place
 
 -- The call has a route that keeps all, with something beside the world: only this call is in another place, which fits

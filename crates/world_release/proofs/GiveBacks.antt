@@ -25,14 +25,13 @@ use Rattle.world_laws.specs.Families.{NodeHolds}
 use Rattle.world_laws.specs.Invariant.{Holds}
 use Rattle.world_laws.proofs.Changes.{Changes, still-born}
 use Rattle.world_laws.proofs.Middles.{changes-further}
-use Rattle.world_laws.proofs.Steps.{Heads, world_without, take-steps}
+use Rattle.world_laws.proofs.Steps.{Heads, world_without}
 use Rattle.world_rules.proofs.Places.{place-with-same}
 use Rattle.world_rules.proofs.Suggestions.{born-in-range}
 use Rattle.world_hand.proofs.Grantings.{grant-sent-keeps}
 use Rattle.world_release.proofs.TakenUp.{taken_up}
 use Rattle.world_hand.proofs.Noted.{HoldsAfter}
 use Rattle.world_ends.proofs.Directories.{KnowsNodes}
-use Rattle.world_release.proofs.Rounds.{RoutesAll, EmptiesHand, release-empties}
 use Rattle.world_release.proofs.SamePlaces.{without-put-name, put-twice-name}
 use Rattle.world_release.proofs.Awaited.{given-held-none, given-is-awaited, given-is-new, given-is-used}
 use Rattle.world_release.proofs.GivenBack.{given-object, is-given-back, kept_beside, kept-changes, kept-in-hand}
@@ -116,6 +115,13 @@ module _ (script : Script) (w : World) (b : Beside) (holds : Holds script w [] b
       → (leads && (coming_here && new)) ≡ true
   all-true leads coming_here new a c e = rw (a, c, e) refl
 
+  -- what comes is the kernel's body
+  pub given-is-read : read_deed packed ≡ Some body
+  given-is-read =
+      let given = is-given-back script w b holds q packed rest h
+      in ap read_deed given.packed_is
+      ∙ reads name (given-is-used script w [] b holds at_nodes name object q given.deed_is)
+
   -- The rule applies: the leader takes the deed, and releases what was held for it.
   pub give-back-releases : take_give_back script n q packed
       ≡ release script (held_for d name) (pass_on n name body (goes_on_to d (bound_for d name)))
@@ -124,9 +130,7 @@ module _ (script : Script) (w : World) (b : Beside) (holds : Holds script w [] b
       in ap (λ t. if t then option_and_then (come_back script n name) (read_deed packed) else None)
       (all-true (is_leader n) (is_coming d name) (is_new_here n name) (eq-eqb n.number 1 node-was.number) awaited
       (given-is-new script w [] b holds at_nodes name object q given.deed_is))
-      ∙ ap (option_and_then (come_back script n name))
-      (ap read_deed given.packed_is
-      ∙ reads name (given-is-used script w [] b holds at_nodes name object q given.deed_is))
+      ∙ ap (option_and_then (come_back script n name)) given-is-read
 
   -- ---- the deed stays
 

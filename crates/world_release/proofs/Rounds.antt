@@ -1,16 +1,14 @@
 -- The leader's hand is emptied in the middle of an event: where each call first in it has a route, and each parcel
 -- comes to its end, at every step on the way, the release of what is in hand comes to a step, and all holds after it.
-use Rattle.std.proofs.Common.{◌≡◌, ℕ, zero, suc, ◌+◌, ◌≤◌, ◌<◌, List, [], ◌∷◌, ◌++◌, Option, Some, option_and_then, refl, ap, sym, subst, ◌∙◌, arith, append-nil}
+use Rattle.std.proofs.Common.{◌≡◌, ℕ, ◌+◌, ◌≤◌, List, [], ◌∷◌, sym, subst, arith, append-nil}
 use Rattle.std.proofs.lemmas.List.Elements.{Contains-append_left, Contains-push}
 use Rattle.pico_base.specs.declared.script.Script.{Script}
-use Rattle.rpc_frame.specs.declared.asked.Asked.{Asked}
 use Rattle.rpc_frame.specs.declared.deed.Parcel.{Parcel}
 use Rattle.node_model.specs.declared.held.Held.{Held}
-use Rattle.node_model.specs.declared.held.Held.TheVariants.{Request, Ending}
+use Rattle.node_model.specs.declared.held.Held.TheVariants.{Ending}
 use Rattle.node_model.specs.Directory.{parcels_held}
 use Rattle.world_model.specs.Node.{Node}
 use Rattle.world_model.specs.Step.{Step}
-use Rattle.world_model.specs.Routing.{IsHeld, Releases, route_call, end_process, go_on_after, release_round, release_rounds, no_round, release}
 use Rattle.world_model.specs.World.{World, node_count, world_after}
 use Rattle.world_laws.specs.Places.{Beside}
 use Rattle.world_laws.specs.Sights.{node_of, directory_of, stage_of}
@@ -19,12 +17,9 @@ use Rattle.world_laws.specs.Families.{PidsHold}
 use Rattle.world_laws.specs.Invariant.{Holds, IsLeading}
 use Rattle.world_laws.proofs.Changes.{Changes}
 use Rattle.world_laws.proofs.Middles.{changes-further}
-use Rattle.world_hand.proofs.Noted.{HoldsAfter}
-use Rattle.world_hand.proofs.ReadRoutes.{HasRoute}
-use Rattle.world_hand.proofs.Routes.{RouteKeeps}
-use Rattle.world_release.proofs.Parcels.{PlacesRise, parcels_among, among-behind-call, among-behind-parcel, among-both}
-use Rattle.world_release.proofs.RoutedParcels.{directory_in, HoldsNoMore, route-holds-no-more}
-use Rattle.world_release.proofs.EndedParcels.{EndLeaves, IsPacked, end-leaves}
+use Rattle.world_release.proofs.Parcels.{PlacesRise, parcels_among}
+use Rattle.world_release.proofs.RoutedParcels.{directory_in}
+use Rattle.world_release.proofs.EndedParcels.{IsPacked}
 
 -- ---- the leader in the middle of its event
 

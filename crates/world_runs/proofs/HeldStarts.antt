@@ -25,11 +25,12 @@ use Rattle.world_laws.specs.Names.{NameHolds, name_sight}
 use Rattle.world_laws.specs.Invariant.{HasInvariant, Holds}
 use Rattle.world_laws.proofs.NameFacts.{IsHeldAt, held-there}
 use Rattle.world_laws.proofs.Steps.{run-steps}
+use Rattle.world_own.proofs.Moved.{AfterRun, twice-in}
 use Rattle.world_own.proofs.OwnCases.{Keeps}
 use Rattle.world_own.proofs.Runs.{Starts, run-is}
 use Rattle.world_hand.proofs.NobodyRoutes.{on-name-served}
 use Rattle.world_sent.proofs.InHand.{HasInHand}
-use Rattle.world_sent.proofs.ServeSteps.{EndsIn, ServesInHand, serves-and-suggests, serves-in-hand}
+use Rattle.world_sent.proofs.ServeSteps.{CarriedOut, EndsIn, ServesInHand, serves-and-suggests, serves-in-hand}
 use Rattle.world_runs.proofs.StartedInHand.{start-in-hand, started-asked-here, started_asked, started_node}
 
 module _ (script : Script) (sound : IsSoundScript script) (w : World) (b : Beside) (holds : Holds script w [] b) (p : ℕ)
@@ -77,7 +78,7 @@ module _ (script : Script) (sound : IsSoundScript script) (w : World) (b : Besid
           held-there (b.deed name) (body_in b.kernel name) p body (sym (old.tables p) ∙ e)
           in at.deed_is
 
-  serves-here : ServesInHand script w p its asked name
+  serves-here : ServesInHand script w p its asked name (record b { call = call_in b.call p IsInHand })
   serves-here =
       serves-in-hand script w p its (record b { call = call_in b.call p IsInHand }) asked in-hand name is served
       deed-here
@@ -92,16 +93,23 @@ module _ (script : Script) (sound : IsSoundScript script) (w : World) (b : Besid
       (started-asked-here script w b holds p low high s (ap is_for_others is))
 
   -- The node serves the call at once.
-  pub held-call-starts : Keeps script w (events.Run p)
+  pub held-call-starts : Keeps script w (events.Run p) (AfterRun b p)
   held-call-starts =
-      let e : EndsIn script w p (serve_asked script (step_to its) name asked) =
-      serves-and-suggests script w p its asked name serves-here low high is other
-      in let all : HasInvariant script (world_after w p e.next) = e.holds
+      let b1 : Beside = record b { call = call_in b.call p IsInHand }
+      in let e : EndsIn script w p (serve_asked script (step_to its) name asked) (CarriedOut b1 p) =
+      serves-and-suggests script w p its asked name b1 serves-here low high is other
+      in let last : Beside = e.beside
+      in let m : CarriedOut b1 p last.call = e.after
       in record {
-        beside = all.beside;
+        beside = e.beside;
         keeps = record {
           next = world_after w p e.next;
           is_step = run-steps script w p e.next holds.shape low high (rule ∙ e.is);
-          holds = all.holds;
+          holds = e.holds;
         };
+        after = inr (record {
+          place = m.place;
+          calls = λ y. twice-in b.call p IsInHand m.place y ∙ m.calls y;
+          fits = tt;
+        });
       }

@@ -29,6 +29,7 @@ use Rattle.world_laws.proofs.Changes.{Changes, filter-is-list-map, frames_if, ma
 use Rattle.world_laws.proofs.LeftAlone.{family-left-alone, few-still, frames-still-fit, kind-left-alone, sender-stays, was-there}
 use Rattle.world_laws.proofs.Stays.{IsMore, SameWay, kind-stays, way-stays}
 use Rattle.world_laws.proofs.Steps.{run-steps}
+use Rattle.world_own.proofs.Moved.{AfterRun}
 use Rattle.world_own.proofs.OwnCases.{Keeps}
 use Rattle.world_own.proofs.Runs.{Starts}
 use Rattle.world_runs.proofs.LeavingNames.{leaving-name}
@@ -283,7 +284,7 @@ module _ (script : Script) (sound : IsSoundScript script) (w : World) (b : Besid
       }
 
   -- The node leaves, and all holds.
-  pub leave-starts : Keeps script w (events.Run p)
+  pub leave-starts : Keeps script w (events.Run p) (AfterRun b p)
   leave-starts =
       record {
         beside = moved;
@@ -293,4 +294,5 @@ module _ (script : Script) (sound : IsSoundScript script) (w : World) (b : Besid
               low high (leaves-by-rule script sound w b holds p low high can s other home);
           holds = leaving-holds;
         };
+        after = inr (record { place = Ends; calls = λ y. refl; fits = tt });
       }

@@ -36,7 +36,7 @@ use Rattle.world_laws.proofs.Changes.{Changes}
 use Rattle.world_laws.proofs.Heads.{head-may-be}
 use Rattle.world_laws.proofs.Middles.{changes-further}
 use Rattle.world_laws.proofs.NameFacts.{held-here}
-use Rattle.world_laws.proofs.Steps.{Heads, KeepsAs, take-steps, world_without}
+use Rattle.world_laws.proofs.Steps.{Heads, take-steps, world_without}
 use Rattle.world_rules.proofs.Nodes.{and-true, born-stage}
 use Rattle.world_own.proofs.Moved.{IsCarriedOut, IsMoved, IsNotServed, moved-twice}
 use Rattle.world_own.proofs.OwnCases.{Keeps}

@@ -46,7 +46,8 @@ packed-processes : (bodies : Numbered Body)
 packed-processes [] = tt
 packed-processes (e ∷ bodies) = (refl, packed-processes bodies)
 
-names-are-processes : (parcel : Parcel) → IsPacked parcel → AreProcesses (names_in parcel)
+-- the names of a parcel are of processes
+pub names-are-processes : (parcel : Parcel) → IsPacked parcel → AreProcesses (names_in parcel)
 names-are-processes parcel packed =
     subst (λ ds. AreProcesses (map (λ (deed : PackedDeed). deed.name) ds)) (sym packed.packed)
     (packed-processes packed.bodies)

@@ -23,6 +23,7 @@ use Rattle.world_laws.specs.Places.{Beside, CallPlace, call_in}
 use Rattle.world_laws.specs.Sights.{directory_of, is_born_in, node_of}
 use Rattle.world_hand.proofs.HandMoves.{first}
 use Rattle.world_hand.proofs.Routes.{RouteKeeps, leader-number}
+use Rattle.world_hand.proofs.ReadRoutes.{HasRoute, PlaceFits}
 use Rattle.world_release.proofs.Rounds.{first-is-packed, leader-in-step}
 use Rattle.world_exits.proofs.Released.{call_released}
 use Rattle.world_release.proofs.RoutedParcels.{directory_in}
@@ -32,7 +33,7 @@ use Rattle.world_weights.proofs.Costs.{MayEnd}
 use Rattle.world_weights.proofs.Counts.{IsOfNode, held-count, over, requests_in}
 use Rattle.world_weights.proofs.Hand.{RemovalsAreOf, RemovesOnly, first-goes}
 use Rattle.world_weights.proofs.HandEnds.{EndLowers, IsTended, end-lowers}
-use Rattle.world_weights.proofs.Routes.{place_limit, route-lowers}
+use Rattle.world_weights.proofs.Routes.{place_limit, placed-light, route-lowers}
 
 -- the call has a route that keeps all, and then only it is in another place, which weighs no more than its route says
 pub record LightRoute (script : Script) (v : World) (s : Step) (asked : Asked) (rest : List Held) (b : Beside) : Type 0
@@ -42,18 +43,6 @@ pub record LightRoute (script : Script) (v : World) (s : Step) (asked : Asked) (
     pub place : CallPlace
     pub calls : beside.call ≡ call_in b.call asked.caller place
     pub light : call_weight place ≤ place_limit (directory_in s) (home_of asked.pid asked.call)
-
--- the parcel comes to an end that keeps all: it is held, with each call where it was; or what was held for its names is
--- in hand
-pub data LightEnd (script : Script) (v : World) (s : Step) (parcel : Parcel) (rest : List Held) (b : Beside) : Type 0
-  where
-    keeps_it : (next : Step) (beside : Beside) → end_process s parcel ≡ Some (IsHeld next)
-        → Holds script (world_after v 1 next) rest beside → beside.call ≡ b.call
-        → LightEnd script v s parcel rest b
-    frees : (next : Step) (items : List Held) (beside : Beside) → end_process s parcel ≡ Some (Releases next items)
-        → Holds script (world_after v 1 next) (items ++ rest) beside
-        → beside.call ≡ (λ p. call_released (names_in parcel) (b.call p))
-        → LightEnd script v s parcel rest b
 
 -- what is in hand and held is of nodes of the script
 pub record IsOfNodes (script : Script) (s : Step) (hand : List Held) : Type 0 where
@@ -69,7 +58,8 @@ module _ (script : Script) (v : World) (s : Step) (hand : List Held) (b : Beside
   pub leading-in-step : IsLeading (directory_in s)
   leading-in-step = subst IsLeading same-directory holds.leading
 
-  items-fit : ItemsFit (directory_in s)
+  -- what is held for a name is on it
+  pub items-fit : ItemsFit (directory_in s)
   items-fit =
       subst ItemsFit same-directory
       (λ m. let its : NameHolds script b.pids (is_born_in (world_after v 1 s)) m
@@ -89,6 +79,21 @@ module _ (script : Script) (v : World) (s : Step) (hand : List Held) (b : Beside
       }
 
 -- ---- a call
+
+-- a route says that
+pub light-route : (script : Script) (v : World) (s : Step) (asked : Asked) (rest : List Held) (b : Beside)
+    → Holds script (world_after v 1 s) (Request asked ∷ rest) b → HasRoute script v s asked rest b
+    → LightRoute script v s asked rest b
+light-route script v s asked rest b holds r =
+    record {
+      beside = r.beside;
+      keeps = r.keeps;
+      place = r.place;
+      calls = r.calls;
+      light = placed-light (directory_in s) (home_of asked.pid asked.call) r.place
+          (subst (λ (d : Directory). PlaceFits d (home_of asked.pid asked.call) r.place)
+          (same-directory script v s (Request asked ∷ rest) b holds) r.fits);
+    }
 
 module _ (script : Script) (v : World) (s : Step) (asked : Asked) (rest : List Held) (b : Beside)
     (holds : Holds script (world_after v 1 s) (Request asked ∷ rest) b)

@@ -18,6 +18,7 @@ use Rattle.world_laws.specs.Places.{Beside, CallPlace, HasLease, Idle, InAsk, In
 use Rattle.world_laws.specs.Sights.{directory_of, is_born_in, node_of}
 use Rattle.world_laws.proofs.Steps.{Heads}
 use Rattle.world_laws.proofs.Heads.{head-may-be}
+use Rattle.world_own.proofs.Moved.{AfterRun, AreStill, IsMoved, IsNotServed}
 use Rattle.world_weights.specs.Weights.{Falls, call_weight}
 use Rattle.world_weights.proofs.CallFalls.{answer-falls, bounced-falls, forward-falls, lease-ask-falls, lease-falls, not-owner-falls, refused-falls, request-falls}
 use Rattle.world_weights.proofs.Costs.{RisesBesides}
@@ -27,22 +28,11 @@ use Rattle.world_weights.proofs.Events.{falls-alike}
 use Rattle.world_weights.proofs.GiveBacks.{ReleaseIsLight, give-back-falls}
 use Rattle.world_weights.proofs.LeftFalls.{EndIsLight, left-falls}
 use Rattle.world_weights.proofs.NameFalls.{checkpoint-falls, grant-falls, leaving-falls, placed-falls, recall-all-falls, recall-falls, suggest-falls}
-use Rattle.world_weights.proofs.NodeCalls.{IsNotServed}
 use Rattle.world_weights.proofs.RouteFalls.{ask-falls, bounce-falls, first-not-owner-falls}
 use Rattle.world_weights.proofs.Routes.{place_limit}
 use Rattle.world_weights.proofs.RunFalls.{run-falls-alone, run-falls-to}
 
 -- ---- where calls are after an event
-
--- one call is in another place, and this holds of that
-pub record IsMoved (before after : ℕ → CallPlace) (c : ℕ) (P : CallPlace → Type 0) : Type 0 where
-  pub place : CallPlace
-  pub calls : (y : ℕ) → call_in before c place y ≡ after y
-  pub fits : P place
-
--- each is where it was
-abbrev pub AreStill : (ℕ → CallPlace) → (ℕ → CallPlace) → Type 0
-AreStill before after = (y : ℕ) → before y ≡ after y
 
 -- what the route of a call in the leader's hand allows
 abbrev pub IsWhereRouted : World → Asked → CallPlace → Type 0
@@ -100,10 +90,6 @@ pub record IsInOrder (script : Script) (w : World) : Type 0 where
   pub held : (m : Name) → AllByRecursion (IsOfNode script) (held_for (directory_of w) m)
 
 -- ---- a call is started
-
--- it is over at once, or in some place
-abbrev pub AfterRun : Beside → ℕ → (ℕ → CallPlace) → Type 0
-AfterRun b p after = AreStill b.call after ⊎ IsMoved b.call after p (λ place. Unit {0})
 
 -- A node starts a call.
 pub each-run-falls : (script : Script) (w : World) (b : Beside) → Holds script w [] b → IsInOrder script w → (p : ℕ)

@@ -23,6 +23,7 @@ pub mod Counts
 pub mod GiveBacks
 pub mod Arrivals
 pub mod HandEnds
+pub mod Frees
 pub mod LeftFalls
 pub mod HandSteps
 pub mod LightRounds

@@ -13,7 +13,11 @@ use Rattle.rpc_frame.specs.declared.frame.Frame.TheVariants as frames
 use Rattle.kernel_laws.proofs.Plain.{from_some}
 use Rattle.node_model.specs.declared.held.Held.{Held}
 use Rattle.node_model.specs.declared.held.Held.TheVariants.{Request, Ending}
-use Rattle.node_model.specs.Directory.{with_left}
+use Rattle.rpc_frame.specs.declared.deed.PackedDeed.{PackedDeed}
+use Rattle.node_model.specs.Bodies.{Body, body_in}
+use Rattle.node_model.specs.Directory.{bound_for, held_for, with_left}
+use Rattle.world_model.specs.Moves.{goes_on_to, pass_on}
+use Rattle.std.specs.List.{AllByRecursion}
 use Rattle.world_model.specs.Routing.{release}
 use Rattle.world_model.specs.Step.{Step, step_to, with_directory}
 use Rattle.world_model.specs.World.{World, node_count, world_after}
@@ -21,12 +25,18 @@ use Rattle.world_laws.specs.Deeds.{DeedsAreRead}
 use Rattle.world_laws.specs.Invariant.{Holds}
 use Rattle.world_laws.specs.Places.{Beside, CallPlace, IsInHand, call_in}
 use Rattle.world_laws.specs.Sights.{directory_of, node_of}
-use Rattle.world_laws.proofs.Steps.{Heads, KeepsAs, world_without}
+use Rattle.world_laws.proofs.Steps.{Heads, KeepsAs, take-steps, world_without}
+use Rattle.world_hand.proofs.Noted.{HoldsAfter}
+use Rattle.world_release.proofs.GiveBacks.{give-back-in-hand, give-back-releases, given-is-read}
+use Rattle.world_release.proofs.TakenUp.{taken_up}
+use Rattle.world_weights.proofs.Counts.{IsOfNode}
+use Rattle.world_weights.proofs.GiveBacks.{give-back-falls}
 use Rattle.world_hand.proofs.Asks.{NeverWaits, ask-in-hand, ask-keeps}
 use Rattle.world_hand.proofs.Bounces.{bounce-in-hand, bounce-keeps}
 use Rattle.world_ends.proofs.Directories.{KnowsNodes}
 use Rattle.world_ends.proofs.Lefts.{at_leader, left-in-hand}
 use Rattle.world_ends.proofs.Releases.{left-steps}
+use Rattle.world_own.proofs.Moved.{twice-in}
 use Rattle.world_weights.specs.Weights.{Falls, middle_weight}
 use Rattle.world_weights.proofs.Events.{falls-alike}
 use Rattle.world_weights.proofs.HandSteps.{LightRoute}
@@ -39,16 +49,6 @@ pub record KeepsLightly (script : Script) (w : World) (e : Event) (b : Beside) :
   pub beside : Beside
   pub keeps : KeepsAs script w e beside
   pub falls : Falls script w e b.call beside.call
-
--- two changes of one call's place are one
-twice-in : (call : ℕ → CallPlace) (c : ℕ) (first place : CallPlace) (y : ℕ)
-    → call_in call c place y ≡ call_in (call_in call c first) c place y
-twice-in call c first place y = by-test (nat_eq c y)
-  where
-    by-test : (t : Bool) → (if t then place else call y)
-        ≡ (if t then place else (if t then first else call y))
-    by-test true = refl
-    by-test false = refl
 
 -- a step to which a release has come
 last-is-light : (script : Script) (Good : World → Step → List Held → Type 0) (v : World) (from_weight : ℕ)
@@ -127,4 +127,60 @@ module _ (script : Script) (name : Name) (Good : World → Step → List Held �
         falls = left-falls script w b holds q parcel rest h after.call
             (λ t is. last-is-light script Good v (middle_weight script taken (Ending parcel ∷ []) b.call)
             (release script (Ending parcel ∷ []) taken) e t is);
+      }
+
+-- ---- a deed comes back
+
+module _ (script : Script) (packed : PackedDeed) (Good : World → Step → List Held → Type 0)
+    (all : RoutesLightly script packed.name Good) (w : World) (b : Beside) (holds : Holds script w [] b) (q : ℕ)
+    (rest : List Frame) (h : Heads script w 1 q (frames.GiveBack packed) rest) (at_nodes : KnowsNodes (directory_of w))
+    (reads : DeedsAreRead b.kernel)
+    (of_nodes : AllByRecursion (IsOfNode script) (held_for (directory_of w) packed.name)) where
+  abbrev home : World
+  home = world_without w 1 q rest
+
+  abbrev held : List Held
+  held = held_for (directory_of w) packed.name
+
+  abbrev up : ℕ → CallPlace
+  up y = taken_up packed.name (b.call y)
+
+  -- the leader's step, with this deed
+  abbrev with-deed : Body → Step
+  with-deed body =
+      pass_on (node_of w 1) packed.name body
+      (goes_on_to (directory_of w) (bound_for (directory_of w) packed.name))
+
+  abbrev taken : Step
+  taken = with-deed (body_in b.kernel packed.name)
+
+  middle : HoldsAfter script home taken held up
+  middle = give-back-in-hand script w b holds at_nodes reads q packed rest h
+
+  abbrev begun : Beside
+  begun = middle.beside
+
+  -- It goes on or stays, and what was held for it is released.
+  pub give-back-goes-lightly : Good home taken held → KeepsLightly script w (events.Take 1 q) b
+  give-back-goes-lightly good =
+      let e : EmptiesLightly script Good home (middle_weight script taken held begun.call)
+      (release script held taken) =
+      release-is-light script packed.name Good all home held taken middle.beside middle.holds good
+      in let after : Beside = e.beside
+      in record {
+        beside = e.beside;
+        keeps = record {
+          next = world_after home 1 e.last;
+          is_step = take-steps script w 1 q (frames.GiveBack packed) rest e.last holds.shape h
+              (give-back-releases script w b holds at_nodes reads q packed rest h ∙ e.is_last);
+          holds = e.holds;
+        };
+        falls = give-back-falls script w b holds q packed rest h of_nodes after.call
+            (λ body t read. subst (λ (x : Body). release script held (with-deed x) ≡ Some t
+            → middle_weight script t [] after.call ≤ middle_weight script (with-deed x) held up)
+            (from_some (body_in b.kernel packed.name) body
+            (sym (given-is-read script w b holds at_nodes reads q packed rest h) ∙ read))
+            (λ is. subst (λ c. middle_weight script t [] after.call ≤ middle_weight script taken held c) middle.calls
+            (last-is-light script Good home (middle_weight script taken held begun.call) (release script held taken) e
+            t is)));
       }

@@ -19,7 +19,8 @@ use Rattle.world_release.proofs.RoutedParcels.{HoldsNoMore, route-holds-no-more}
 use Rattle.world_release.proofs.Rounds.{first-is-packed, parcels_left, places-rise}
 use Rattle.world_weights.specs.Weights.{middle_weight}
 use Rattle.world_weights.proofs.Hand.{RemovalsAreOf}
-use Rattle.world_weights.proofs.HandSteps.{IsOfNodes, LightEnd, LightRoute, frees, freed-is-light, held-is-light, keeps_it, route-is-light}
+use Rattle.world_weights.proofs.HandSteps.{IsOfNodes, LightRoute, freed-is-light, held-is-light, route-is-light}
+use Rattle.world_exits.proofs.HandEnds.{HasEnd, frees, keeps_it}
 
 -- A step from a world with this in hand is good by what its rules ask besides the invariant. Then what is first in hand
 -- goes on, with its call in its place, to a step that is good again. Removals in a good hand are of the one name.
@@ -29,13 +30,13 @@ pub record RoutesLightly (script : Script) (name : Name) (Good : World → Step 
       → LightRoute script v s asked rest b
   pub ends : (v : World) (s : Step) (parcel : Parcel) (rest : List Held) (b : Beside)
       → Holds script (world_after v 1 s) (Ending parcel ∷ rest) b → Good v s (Ending parcel ∷ rest)
-      → LightEnd script v s parcel rest b
+      → HasEnd script v s parcel rest b
   pub good_routed : (v : World) (s next : Step) (asked : Asked) (rest : List Held) → Good v s (Request asked ∷ rest)
       → route_call script s asked ≡ Some next → Good v next rest
   pub good_held : (v : World) (s next : Step) (parcel : Parcel) (rest : List Held) → Good v s (Ending parcel ∷ rest)
       → end_process s parcel ≡ Some (IsHeld next) → Good v next rest
-  pub good_released : (v : World) (s next : Step) (parcel : Parcel) (items rest : List Held)
-      → Good v s (Ending parcel ∷ rest) → end_process s parcel ≡ Some (Releases next items)
+  pub good_released : (v : World) (s next : Step) (parcel : Parcel) (items rest : List Held) (b : Beside)
+      → Holds script (world_after v 1 s) (Ending parcel ∷ rest) b → Good v s (Ending parcel ∷ rest) → end_process s parcel ≡ Some (Releases next items)
       → Good v next (items ++ rest)
   pub of_nodes : (v : World) (s : Step) (hand : List Held) → Good v s hand → IsOfNodes script s hand
   pub one_name : (v : World) (s : Step) (hand : List Held) → Good v s hand → RemovalsAreOf name hand
@@ -74,19 +75,20 @@ module _ (script : Script) (name : Name) (Good : World → Step → List Held �
       → ((t : Step) (b' : Beside) → Holds script (world_after v 1 t) rest b' → Good v t rest
       → parcels_left rest t ≤ limit
       → EmptiesLightly script Good v (middle_weight script t rest b'.call) (release_round script does rest t))
-      → LightEnd script v s parcel rest b
+      → HasEnd script v s parcel rest b
       → EmptiesLightly script Good v (middle_weight script s (Ending parcel ∷ rest) b.call)
       (release_round script does (Ending parcel ∷ rest) s)
-  by-end does limit parcel rest s b holds good few below later (keeps_it next beside is after same) =
+  by-end does limit parcel rest s b holds good few below later (keeps_it next is after) =
       let left : EndLeaves s (Some (IsHeld next)) =
       subst (EndLeaves s) is
       (end-leaves s parcel (first-is-packed script (world_after v 1 s) parcel rest b holds)
       (places-rise script v s (Ending parcel ∷ rest) b holds))
       in let light = held-is-light script v s parcel rest b holds
-      (all.of_nodes v s (Ending parcel ∷ rest) good) next beside is same
-      in let e : EmptiesLightly script Good v (middle_weight script next rest beside.call)
+      (all.of_nodes v s (Ending parcel ∷ rest) good) next after.beside is after.calls
+      in let kept : Beside = after.beside
+      in let e : EmptiesLightly script Good v (middle_weight script next rest kept.call)
       (release_round script does rest next) =
-      later next beside after (all.good_held v s next parcel rest good is)
+      later next after.beside after.holds (all.good_held v s next parcel rest good is)
       (omega (arith, few, left, among-behind-parcel parcel rest))
       in let low = e.lower
       in record {
@@ -97,16 +99,18 @@ module _ (script : Script) (name : Name) (Good : World → Step → List Held �
         good = e.good;
         lower = omega (arith, low, light);
       }
-  by-end does limit parcel rest s b holds good few below later (frees next items beside is after same) =
+  by-end does limit parcel rest s b holds good few below later (frees next items is after) =
       let left : EndLeaves s (Some (Releases next items)) =
       subst (EndLeaves s) is
       (end-leaves s parcel (first-is-packed script (world_after v 1 s) parcel rest b holds)
       (places-rise script v s (Ending parcel ∷ rest) b holds))
       in let light = freed-is-light script v s parcel rest b holds
-      (all.of_nodes v s (Ending parcel ∷ rest) good) next items beside is same
-      in let e : EmptiesLightly script Good v (middle_weight script next (items ++ rest) beside.call)
+      (all.of_nodes v s (Ending parcel ∷ rest) good) next items after.beside is after.calls
+      in let freed : Beside = after.beside
+      in let e : EmptiesLightly script Good v (middle_weight script next (items ++ rest) freed.call)
       (does (items ++ rest) next) =
-      below (items ++ rest) next beside after (all.good_released v s next parcel items rest good is)
+      below (items ++ rest) next after.beside after.holds
+      (all.good_released v s next parcel items rest b holds good is)
       (omega (arith, few, left, among-behind-parcel parcel rest, among-both items rest))
       in let low = e.lower
       in record {

@@ -1,8 +1,8 @@
 -- The leader routes the first call of its hand: that costs no more than the call may cost in hand.
-use Rattle.std.proofs.Common.{◌≡◌, ℕ, ◌+◌, ◌≤◌, Bool, true, false, not, ◌&&◌, ◌||◌, if◌then◌else◌, List, [], ◌∷◌, ◌++◌, filter, length, nat_eq, is_none, Option, Some, None, option_map, refl, ap, sym, subst, ◌∙◌, inl, inr, arith}
+use Rattle.std.proofs.Common.{◌≡◌, ◌≢◌, ℕ, ◌+◌, ◌≤◌, Bool, true, false, not, ◌&&◌, ◌||◌, if◌then◌else◌, List, [], ◌∷◌, ◌++◌, filter, length, nat_eq, is_none, Option, Some, None, option_map, refl, ap, sym, subst, ◌∙◌, inl, inr, arith}
 use Rattle.std.specs.Prelude.{count_by, sum_by}
 use Rattle.std.specs.List.{list_any}
-use Rattle.std.proofs.lemmas.Bool.{false≢true}
+use Rattle.std.proofs.lemmas.Bool.{false≢true, ne_eqb}
 use Rattle.std.proofs.lemmas.List.{length-append}
 use Rattle.std.proofs.lemmas.List.Elements.{filter-append}
 use Rattle.std.proofs.lemmas.List.Sums.{length-filter, sum_by-cons}
@@ -31,6 +31,9 @@ use Rattle.world_model.specs.Step.{Step}
 use Rattle.world_laws.specs.Invariant.{IsLeading}
 use Rattle.world_laws.specs.Places.{CallPlace}
 use Rattle.world_laws.proofs.Named.{name-cases}
+use Rattle.world_own.proofs.Moved.{IsCarriedOut, is_answered, is_over}
+use Rattle.world_hand.proofs.ReadRoutes.{PlaceFits, goes_by_range, goes_to_owner, is_asked_back, is_carried_out, is_held}
+use Rattle.world_hand.proofs.Routes.{IsOn}
 use Rattle.world_rules.proofs.Places.{place-with-other, place-with-same}
 use Rattle.world_release.proofs.RoutedParcels.{directory_in}
 use Rattle.world_weights.specs.Weights.{asks_back, call_weight, cost_if, directory_weight, hand_weight, is_away, item_weight, removes_away, routing_weight}
@@ -53,6 +56,68 @@ abbrev pub place_limit : Directory → Home → ℕ
 place_limit d (homes.At name) = routed_weight (route d name)
 place_limit d (homes.Removal name) = routed_weight (route d name)
 place_limit d home = 1
+
+-- a call that is carried out weighs little
+pub carried-light : (place : CallPlace) → IsCarriedOut place → call_weight place ≤ 1
+carried-light place (is_over e) = let same = ap call_weight e in omega (arith, same)
+carried-light place (is_answered sender reply e) = let same = ap call_weight e in omega (arith, same)
+
+routed-some : (t : Bool) → 1 ≤ (if t then 1 else 7)
+routed-some true = omega arith
+routed-some false = omega arith
+
+routed-low : (r : Route) → 1 ≤ routed_weight r
+routed-low (routes.At node) = routed-some (nat_eq node 1)
+routed-low routes.Coming = omega arith
+routed-low (routes.Range node) = omega arith
+routed-low routes.Nobody = omega arith
+
+limit-low : (d : Directory) (home : Home) → 1 ≤ place_limit d home
+limit-low d (homes.At name) = routed-low (route d name)
+limit-low d (homes.Removal name) = routed-low (route d name)
+limit-low d homes.Own = omega arith
+limit-low d homes.Keys = omega arith
+limit-low d homes.Parent = omega arith
+
+-- a call on a name may weigh what the name's route allows
+limit-on : (d : Directory) (name : Name) (home : Home) → IsOn name home → place_limit d home ≡ routed_weight (route d name)
+limit-on d name home (inl e) = ap (place_limit d) e
+limit-on d name home (inr e) = ap (place_limit d) e
+
+placed-by : (d : Directory) (name : Name) (home : Home) (place : CallPlace) (o : Option Place) → place_of d name ≡ o
+    → IsOn name home
+    → call_weight place ≤ routed_weight (route_by o (maker_stays d (maker d name)) (maker d name))
+    → call_weight place ≤ place_limit d home
+placed-by d name home place o e on light =
+    let limit = limit-on d name home on
+    in let same : routed_weight (route d name)
+    ≡ routed_weight (route_by o (maker_stays d (maker d name)) (maker d name)) =
+    ap (λ x. routed_weight (route_by x (maker_stays d (maker d name)) (maker d name))) e
+    in omega (arith, limit, same, light)
+
+away-light : (place : CallPlace) (node : ℕ) → call_weight place ≡ 7 → node ≢ 1
+    → call_weight place ≤ routed_weight (routes.At node)
+away-light place node seven away =
+    let t : routed_weight (routes.At node) ≡ 7 = ap (λ t. if t then 1 else 7) (ne_eqb node 1 away)
+    in omega (arith, seven, t)
+
+-- A place that fits the route weighs no more than the route allows.
+pub placed-light : (d : Directory) (home : Home) (place : CallPlace) → PlaceFits d home place
+    → call_weight place ≤ place_limit d home
+placed-light d home place (is_carried_out over) =
+    let light = carried-light place over in let low = limit-low d home in omega (arith, light, low)
+placed-light d home place (goes_to_owner name node is on at away) =
+    placed-by d name home place (Some (At node)) at (inl on) (away-light place node (ap call_weight is) away)
+placed-light d home place (goes_by_range name node is on ranged) =
+    let limit = limit-on d name home on
+    in let ten : call_weight place ≡ 10 = ap call_weight is
+    in let range : routed_weight (route d name) ≡ 10 = ap routed_weight ranged
+    in omega (arith, limit, ten, range)
+placed-light d home place (is_held name to items is on at) =
+    let seven : call_weight place ≡ 7 = ap call_weight is
+    in placed-by d name home place (Some (Coming to items)) at on (omega (arith, seven))
+placed-light d home place (is_asked_back name node is on at away) =
+    placed-by d name home place (Some (At node)) at (inr on) (away-light place node (ap call_weight is) away)
 
 -- the route costs what the call may cost
 abbrev pub RouteLowers : Script → Step → Step → Asked → List Held → CallPlace → Type 0
