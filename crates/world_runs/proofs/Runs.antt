@@ -2,8 +2,8 @@
 use Rattle.std.proofs.Common.{[], is_some, ap}
 use Rattle.kernel_moves.specs.Entering.{HasHistory}
 use Rattle.world_laws.specs.Invariant.{HasInvariant, Holds}
-use Rattle.world_runs.specs.Laws.{EnabledEventsHaveSteps, JournalsAreLegal, WorldsHaveTheInvariant}
-use Rattle.world_runs.proofs.Worlds.{IsSettled, StaysSettled, event-stays-settled, reachable-is-settled}
+use Rattle.world_runs.specs.Laws.{EnabledEventsHaveSteps, JournalsAreLegal, RunsAreShort, WorldsHaveTheInvariant}
+use Rattle.world_runs.proofs.Worlds.{IsSettled, StaysSettled, event-stays-settled, reachable-is-settled, settled-runs-are-short}
 
 -- Each world that a run leads to has the invariant.
 pub worlds_have_the_invariant_lemma : WorldsHaveTheInvariant
@@ -25,3 +25,7 @@ enabled_events_have_steps_lemma script w e sound run enabled =
     let s : StaysSettled script w e =
     event-stays-settled script sound w e (reachable-is-settled script sound w run) enabled
     in ap is_some s.is_step
+
+-- And its runs are short.
+pub runs_are_short_lemma : RunsAreShort
+runs_are_short_lemma script sound = settled-runs-are-short script sound

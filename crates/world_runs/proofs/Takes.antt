@@ -1,5 +1,5 @@
 -- Each frame that a node may take has a step, and keeps all.
-use Rattle.std.proofs.Common.{◌≡◌, ℕ, Bool, true, false, ◌||◌, List, [], ◌∷◌, refl, sym, subst, inl, inr}
+use Rattle.std.proofs.Common.{◌≡◌, ℕ, Bool, true, false, ◌||◌, List, [], ◌∷◌, refl, sym, subst, inl, inr, ◌≤◌, ◌⊎◌, arith}
 use Rattle.std.proofs.lemmas.Bool.{cases_eq}
 use Rattle.pico_base.specs.declared.call.Call.{Call}
 use Rattle.pico_base.specs.declared.numbers.Kind.{Kind}
@@ -20,7 +20,7 @@ use Rattle.world_model.specs.Node.{Node, is_born}
 use Rattle.world_model.specs.Step.{step_to, with_directory}
 use Rattle.world_model.specs.World.{World, is_checkpoint, is_enabled}
 use Rattle.world_laws.specs.Invariant.{Holds, MayBe}
-use Rattle.world_laws.specs.Places.{Beside}
+use Rattle.world_laws.specs.Places.{Beside, CallPlace, HasLease, Idle, InAsk, InBounce, InNotOwner, SentByRange}
 use Rattle.world_laws.specs.Sights.{directory_of, is_born_in, node_of}
 use Rattle.world_laws.proofs.Heads.{head-may-be}
 use Rattle.world_laws.proofs.Steps.{Heads, KeepsAs}
@@ -33,50 +33,33 @@ use Rattle.world_rules.proofs.Placings.{placed-keeps}
 use Rattle.world_rules.proofs.Recalls.{recall-keeps}
 use Rattle.world_rules.proofs.Suggestions.{suggest-keeps}
 use Rattle.world_own.proofs.OwnCases.{Keeps}
-use Rattle.world_hand.proofs.HandRoutes.{KeepsSo}
-use Rattle.world_sent.proofs.Forwards.{HasStep, forward-taken-from}
 use Rattle.world_sent.proofs.NotOwners.{not-owner-taken}
-use Rattle.world_sent.proofs.Requests.{request-taken-anywhere}
 use Rattle.world_makes.proofs.Makes.{lease-keeps}
-use Rattle.world_first.proofs.NotOwners.{not-owner-has-step}
 use Rattle.world_ends.proofs.Leavings.{leaving-keeps}
 use Rattle.world_ends.proofs.RecallAlls.{any-recall-all-keeps}
-use Rattle.world_release.proofs.Arrivals.{ask-goes-on, bounce-goes-on, left-goes-on}
-use Rattle.world_release.proofs.GiveBacks.{give-back-goes-on}
 use Rattle.world_exits.proofs.ExitTos.{exit-to-keeps}
 use Rattle.world_bounds.specs.Bounded.{IsBounded, IsGood, NodeIsBounded}
 use Rattle.world_bounds.proofs.Parts.{held-are-of-nodes}
 use Rattle.world_bounds.proofs.Ready.{Ready, bounce-is-of-node, bounded-is-ready, forward-is-of-node, taken-is-good}
 use Rattle.world_bounds.proofs.StepParts.{step-to-bounded}
 use Rattle.world_bounds.proofs.Turns.{left-noted-bounded, passed-on-bounded}
-use Rattle.world_runs.proofs.Hands.{hand-goes-on, leader-is-ready}
-
--- ---- events, in one form
-
-kept : (script : Script) (w : World) (p q : ℕ) (b : Beside) → KeepsAs script w (events.Take p q) b
-    → Keeps script w (events.Take p q)
-kept script w p q b keeps = record { beside = b; keeps = keeps }
-
-by-leader : (script : Script) (w : World) (q : ℕ) → KeepsSo script w q → Keeps script w (events.Take 1 q)
-by-leader script w q k = record { beside = k.beside; keeps = k.keeps }
-
-by-node : (script : Script) (w : World) (p q : ℕ) → HasStep script w p q → Keeps script w (events.Take p q)
-by-node script w p q k = record { beside = k.beside; keeps = k.keeps }
-
--- a frame that only the leader takes, or that only it sends
-module _ (script : Script) (w : World) (p q : ℕ) (frame : Frame) (rest : List Frame)
-    (h : Heads script w p q frame rest) where
-  at-leader : p ≡ 1 → (Heads script w 1 q frame rest → Keeps script w (events.Take 1 q))
-      → Keeps script w (events.Take p q)
-  at-leader e goes =
-      subst (λ y. Keeps script w (events.Take y q)) (sym e)
-      (goes (subst (λ y. Heads script w y q frame rest) e h))
-
-  from-leader : q ≡ 1 → (Heads script w p 1 frame rest → Keeps script w (events.Take p 1))
-      → Keeps script w (events.Take p q)
-  from-leader e goes =
-      subst (λ y. Keeps script w (events.Take p y)) (sym e)
-      (goes (subst (λ y. Heads script w p y frame rest) e h))
+use Rattle.std.specs.List.{AllByRecursion}
+use Rattle.pico_base.specs.declared.numbers.Name.TheVariants.{Proc}
+use Rattle.pico_base.specs.Home.{home_of}
+use Rattle.world_laws.specs.Names.{NameHolds, name_sight}
+use Rattle.world_own.proofs.Moved.{IsMoved, IsNotServed}
+use Rattle.world_bounds.proofs.Ranges.{some-blocks}
+use Rattle.world_first.proofs.NotOwners.{IsRoutedAgain, not-owner-has-step}
+use Rattle.world_sent.proofs.Forwards.{IsForwarded, forward-taken-from}
+use Rattle.world_sent.proofs.Requests.{IsRequested, request-taken-anywhere}
+use Rattle.world_weights.specs.Weights.{call_weight}
+use Rattle.world_weights.proofs.Counts.{IsOfNode}
+use Rattle.world_weights.proofs.Frees.{name_removed, removes-its-own}
+use Rattle.world_weights.proofs.GiveBacks.{items-only}
+use Rattle.world_weights.proofs.Law.{AfterFrame, CallerIsNode, IsAskedAgain, IsInOrder, IsServedOr, each-take-falls}
+use Rattle.world_weights.proofs.LightEvents.{KeepsLightly, ask-goes-lightly, bounce-goes-lightly, give-back-goes-lightly, left-goes-lightly}
+use Rattle.world_weights.proofs.Routes.{carried-light, placed-light}
+use Rattle.world_runs.proofs.Hands.{IsGoodFor, hand-goes-on, leader-is-ready, of-nodes}
 
 or-false : (b : Bool) → (b || false) ≡ true → b ≡ true
 or-false true h = refl
@@ -87,6 +70,67 @@ module _ (script : Script) (sound : IsSoundScript script) (w : World) (b : Besid
   ready : Ready script w [] b
   ready = bounded-is-ready script sound w [] b holds bounded
 
+  -- an event has a step that keeps all, and lowers the weight
+  abbrev Lightly : ℕ → ℕ → Type 0
+  Lightly p q = KeepsLightly script w (events.Take p q) b
+
+  held-of-nodes : (m : Name) → AllByRecursion (IsOfNode script) (held_for (directory_of w) m)
+  held-of-nodes m =
+      let own : NodeIsBounded script (node_of w 1) = bounded.nodes 1 (omega arith) (some-blocks script sound)
+      in of-nodes script sound (held_for (directory_of w) m)
+      (held-are-of-nodes script (directory_of w) m own.directory)
+
+  -- what the law on weights asks
+  pub in-order : IsInOrder script w
+  in-order =
+      record {
+        rises = λ p low high other.
+            let own : NodeIsBounded script (node_of w p) = bounded.nodes p low high
+            in let deeds = own.deeds
+            in record { queues = deeds.queues; sets = deeds.sets };
+        held = held-of-nodes;
+      }
+
+  -- ---- events, in one form
+
+  module _ (p q : ℕ) (frame : Frame) (rest : List Frame) (h : Heads script w p q frame rest) where
+    -- where the rule leaves the calls as it may
+    by-rule : CallerIsNode script frame → Keeps script w (events.Take p q) (AfterFrame script w b holds p q rest frame)
+        → Lightly p q
+    by-rule of_node k =
+        let after : Beside = k.beside
+        in record {
+          beside = k.beside;
+          keeps = k.keeps;
+          falls = each-take-falls script w b holds in-order p q rest after.call frame h of_node k.after;
+        }
+
+    kept : CallerIsNode script frame → (beside : Beside) → AfterFrame script w b holds p q rest frame beside.call
+        → KeepsAs script w (events.Take p q) beside → Lightly p q
+    kept of_node beside after keeps = by-rule of_node (record { beside = beside; keeps = keeps; after = after })
+
+    -- a frame that only the leader takes, or that only it sends
+    at-leader : p ≡ 1 → (Heads script w 1 q frame rest → Lightly 1 q) → Lightly p q
+    at-leader e goes =
+        subst (λ y. Lightly y q) (sym e) (goes (subst (λ y. Heads script w y q frame rest) e h))
+
+    from-leader : q ≡ 1 → (Heads script w p 1 frame rest → Lightly p 1) → Lightly p q
+    from-leader e goes =
+        subst (λ y. Lightly p y) (sym e) (goes (subst (λ y. Heads script w p y frame rest) e h))
+
+    -- a rule that leaves one call in such a place
+    moved-so : (c : ℕ) (P Q : CallPlace → Type 0) → ((place : CallPlace) → P place → Q place)
+        → Keeps script w (events.Take p q) (λ after. IsMoved b.call after c P)
+        → Keeps script w (events.Take p q) (λ after. IsMoved b.call after c Q)
+    moved-so c P Q fits k =
+        let after : Beside = k.beside
+        in let m : IsMoved b.call after.call c P = k.after
+        in record {
+          beside = k.beside;
+          keeps = k.keeps;
+          after = record { place = m.place; calls = m.calls; fits = fits m.place m.fits };
+        }
+
   -- ---- at the leader, with something for its hand
 
   module _ (q : ℕ) (frame : Frame) (rest : List Frame) (h : Heads script w 1 q frame rest) where
@@ -94,147 +138,187 @@ module _ (script : Script) (sound : IsSoundScript script) (w : World) (b : Besid
     leader-bounded = bounded.nodes 1 h.low h.high
 
   ask-taken : (q ticket pid : ℕ) (call : Call) (rest : List Frame)
-      → Heads script w 1 q (frames.Ask ticket pid call) rest → Keeps script w (events.Take 1 q)
+      → Heads script w 1 q (frames.Ask ticket pid call) rest → Lightly 1 q
   ask-taken q ticket pid call rest h =
-      by-leader script w q
-      (ask-goes-on script (IsGood script) (hand-goes-on script sound) w b holds q rest ticket pid call h
-      ready.never_waits
-      (taken-is-good script w q (frames.Ask ticket pid call) rest (step_to (node_of w 1))
-      (Request (record { caller = q; ticket = ticket; pid = pid; call = call }) ∷ []) holds.shape bounded h
+      let asked : Asked = record { caller = q; ticket = ticket; pid = pid; call = call }
+      in let name : Name = name_removed (home_of pid call)
+      in ask-goes-lightly script name (IsGoodFor script sound name) (hand-goes-on script sound name) w b holds q rest
+      ticket pid call h ready.never_waits
+      (taken-is-good script w q (frames.Ask ticket pid call) rest (step_to (node_of w 1)) (Request asked ∷ [])
+      holds.shape bounded h
       (step-to-bounded script (node_of w 1) (leader-bounded q (frames.Ask ticket pid call) rest h))
-      (record { low = h.low_from; high = h.high_from }, tt)))
+      (record { low = h.low_from; high = h.high_from }, tt), (removes-its-own (home_of pid call), tt))
 
   bounce-taken : (q : ℕ) (asked : Asked) (rest : List Frame) → Heads script w 1 q (frames.Bounce asked) rest
-      → Keeps script w (events.Take 1 q)
+      → Lightly 1 q
   bounce-taken q asked rest h =
       let own = bounce-is-of-node script w [] b ready 1 q asked rest h
-      in by-leader script w q
-      (bounce-goes-on script (IsGood script) (hand-goes-on script sound) w b holds q rest asked h own.low own.high
-      ready.never_waits
+      in let name : Name = name_removed (home_of asked.pid asked.call)
+      in bounce-goes-lightly script name (IsGoodFor script sound name) (hand-goes-on script sound name) w b holds q rest
+      asked h own.low own.high ready.never_waits
       (taken-is-good script w q (frames.Bounce asked) rest (step_to (node_of w 1)) (Request asked ∷ []) holds.shape
       bounded h
-      (step-to-bounded script (node_of w 1) (leader-bounded q (frames.Bounce asked) rest h)) (own, tt)))
+      (step-to-bounded script (node_of w 1) (leader-bounded q (frames.Bounce asked) rest h)) (own, tt),
+      (removes-its-own (home_of asked.pid asked.call), tt))
 
   give-back-taken : (q : ℕ) (packed : PackedDeed) (rest : List Frame) → Heads script w 1 q (frames.GiveBack packed) rest
-      → Keeps script w (events.Take 1 q)
+      → Lightly 1 q
   give-back-taken q packed rest h =
       let n : Node = node_of w 1
       in let own : NodeIsBounded script n = leader-bounded q (frames.GiveBack packed) rest h
-      in by-leader script w q
-      (give-back-goes-on script w b holds ready.at_nodes ready.reads q packed rest h (IsGood script)
-      (hand-goes-on script sound)
+      in let its : NameHolds script b.pids (is_born_in w) packed.name (name_sight script w [] b packed.name) =
+      holds.names packed.name
+      in give-back-goes-lightly script packed (IsGoodFor script sound packed.name)
+      (hand-goes-on script sound packed.name) w b holds q rest h ready.at_nodes ready.reads (held-of-nodes packed.name)
       (taken-is-good script w q (frames.GiveBack packed) rest
       (pass_on n packed.name (body_in b.kernel packed.name)
       (goes_on_to (directory_of w) (bound_for (directory_of w) packed.name)))
       (held_for (directory_of w) packed.name) holds.shape bounded h
       (passed-on-bounded script n packed.name (body_in b.kernel packed.name) own)
-      (held-are-of-nodes script (directory_of w) packed.name own.directory)))
+      (held-are-of-nodes script (directory_of w) packed.name own.directory),
+      items-only packed.name (held_for (directory_of w) packed.name) its.items)
 
   left-taken : (q : ℕ) (parcel : Parcel) (rest : List Frame) → Heads script w 1 q (frames.Left parcel) rest
-      → Keeps script w (events.Take 1 q)
+      → Lightly 1 q
   left-taken q parcel rest h =
-      by-leader script w q
-      (left-goes-on script (IsGood script) (hand-goes-on script sound) w b holds q rest parcel h ready.at_nodes
-      ready.reads
+      left-goes-lightly script (Proc 0) (IsGoodFor script sound (Proc 0)) (hand-goes-on script sound (Proc 0)) w b holds q
+      rest parcel h ready.at_nodes ready.reads
       (taken-is-good script w q (frames.Left parcel) rest
       (step_to (with_directory (node_of w 1) (with_left (directory_of w) q))) (Ending parcel ∷ [])
-      holds.shape bounded h (left-noted-bounded script (node_of w 1) q (leader-bounded q (frames.Left parcel) rest h)) (tt, tt)))
+      holds.shape bounded h (left-noted-bounded script (node_of w 1) q (leader-bounded q (frames.Left parcel) rest h))
+      (tt, tt), (tt, tt))
 
   -- ---- other frames
 
+  requested-so : (p : ℕ) (asked : Asked) (place : CallPlace) → IsRequested w p asked place
+      → IsServedOr w p asked (InNotOwner p) place 7
+  requested-so p asked place (inl over) = let light = carried-light place over in inl (omega (arith, light))
+  requested-so p asked place (inr back) = inr back
+
+  forwarded-so : (p : ℕ) (asked : Asked) (place : CallPlace) → IsForwarded w b p asked place
+      → (call_weight place ≤ 1) ⊎ ((place ≡ InBounce p) × ((b.call asked.caller ≡ SentByRange p)
+      × IsNotServed (node_of w p) (home_of asked.pid asked.call)))
+  forwarded-so p asked place (inl over) = inl (carried-light place over)
+  forwarded-so p asked place (inr back) = inr back
+
   not-owner-found : (p q ticket : ℕ) (rest : List Frame) → Heads script w p q (frames.NotOwner ticket) rest
-      → Keeps script w (events.Take p q)
+      → Lightly p q
   not-owner-found p q ticket rest h =
       elim (cases_eq p 1) [
         | inl first ↦
-            at-leader script w p q (frames.NotOwner ticket) rest h first
-            (λ g. by-leader script w q
+            at-leader p q (frames.NotOwner ticket) rest h first
+            (λ g. by-rule 1 q (frames.NotOwner ticket) rest g tt
+            (moved-so 1 q (frames.NotOwner ticket) rest g 1 (IsRoutedAgain w) (IsAskedAgain w 1)
+            (λ place fits. inr (refl, (λ call is. placed-light (directory_of w)
+            (let n : Node = node_of w 1 in home_of n.pid call) place (fits call is))))
             (not-owner-has-step script w b holds q ticket rest g ready.never_waits
-            (leader-is-ready script sound w [] b ready)))
-        | inr other ↦ by-node script w p q (not-owner-taken script w b holds p q ticket rest h other)
+            (leader-is-ready script sound w [] b ready))))
+        | inr other ↦
+            by-rule p q (frames.NotOwner ticket) rest h tt
+            (moved-so p q (frames.NotOwner ticket) rest h p (λ place. place ≡ InAsk) (IsAskedAgain w p)
+            (λ place is. inl (other, is)) (not-owner-taken script w b holds p q ticket rest h other))
       ]
 
   module _ (p q : ℕ) (rest : List Frame) where
     forward-found : (asked : Asked) → Heads script w p q (frames.Forward asked) rest → is_born (node_of w p) ≡ true
-        → Keeps script w (events.Take p q)
+        → Lightly p q
     forward-found asked h born =
         let own = forward-is-of-node script w [] b ready p q asked rest h
-        in by-node script w p q
-        (forward-taken-from script w b holds p q asked rest h own.low own.high born ready.never_waits)
+        in by-rule p q (frames.Forward asked) rest h (own.low, own.high)
+        (moved-so p q (frames.Forward asked) rest h asked.caller (IsForwarded w b p asked) _
+        (forwarded-so p asked)
+        (forward-taken-from script w b holds p q asked rest h own.low own.high born ready.never_waits))
 
     lease-ask-found : (kind : Kind) → Heads script w p q (frames.LeaseAsk kind) rest → p ≡ 1
-        → Keeps script w (events.Take p q)
+        → Lightly p q
     lease-ask-found kind h first =
-        at-leader script w p q (frames.LeaseAsk kind) rest h first
-        (λ g. kept script w 1 q _ (lease-ask-keeps script w b holds q kind (ready.enough kind) rest g))
+        at-leader p q (frames.LeaseAsk kind) rest h first
+        (λ g. kept 1 q (frames.LeaseAsk kind) rest g tt _
+        (record { place = HasLease kind _; calls = λ y. refl; fits = (_, refl) })
+        (lease-ask-keeps script w b holds q kind (ready.enough kind) rest g))
 
     lease-found : (kind : Kind) (first : ℕ) → Heads script w p q (frames.Lease kind first) rest → q ≡ 1
-        → Keeps script w (events.Take p q)
+        → Lightly p q
     lease-found kind first h sender =
-        from-leader script w p q (frames.Lease kind first) rest h sender
-        (λ g. lease-keeps script sound w b holds p kind first rest g (let r = ready.rises p in r.processes)
-        (ready.sized p g.low g.high) (ready.few kind))
+        from-leader p q (frames.Lease kind first) rest h sender
+        (λ g. by-rule p 1 (frames.Lease kind first) rest g tt
+        (lease-keeps script sound w b holds p kind first rest g (let r = ready.rises p in r.processes)
+        (ready.sized p g.low g.high) (ready.few kind)))
 
     suggest-found : (name : Name) (node : ℕ) → Heads script w p q (frames.Suggest name node) rest → p ≡ 1
-        → Keeps script w (events.Take p q)
+        → Lightly p q
     suggest-found name node h first =
-        at-leader script w p q (frames.Suggest name node) rest h first
-        (λ g. kept script w 1 q _ (suggest-keeps script w b holds q name node rest g))
+        at-leader p q (frames.Suggest name node) rest h first
+        (λ g. kept 1 q (frames.Suggest name node) rest g tt _ (λ y. refl)
+        (suggest-keeps script w b holds q name node rest g))
 
     recall-found : (name : Name) → Heads script w p q (frames.Recall name) rest → q ≡ 1
-        → Keeps script w (events.Take p q)
+        → Lightly p q
     recall-found name h sender =
-        from-leader script w p q (frames.Recall name) rest h sender
-        (λ g. kept script w p 1 _ (recall-keeps script w b holds p name rest g))
+        from-leader p q (frames.Recall name) rest h sender
+        (λ g. kept p 1 (frames.Recall name) rest g tt _ (λ y. refl)
+        (recall-keeps script w b holds p name rest g))
 
     grant-found : (deed : PackedDeed) → Heads script w p q (frames.Grant deed) rest → q ≡ 1
-        → Keeps script w (events.Take p q)
+        → Lightly p q
     grant-found deed h sender =
-        from-leader script w p q (frames.Grant deed) rest h sender
-        (λ g. kept script w p 1 _ (grant-keeps script w b holds ready.reads p deed rest g))
+        from-leader p q (frames.Grant deed) rest h sender
+        (λ g. kept p 1 (frames.Grant deed) rest g tt _ (λ y. refl)
+        (grant-keeps script w b holds ready.reads p deed rest g))
 
     exit-found : (parcel : Parcel) → Heads script w p q (frames.ExitTo parcel) rest → q ≡ 1
-        → Keeps script w (events.Take p q)
+        → Lightly p q
     exit-found parcel h sender =
-        from-leader script w p q (frames.ExitTo parcel) rest h sender
-        (λ g. kept script w p 1 _ (exit-to-keeps script w b holds ready.reads p parcel rest g))
+        from-leader p q (frames.ExitTo parcel) rest h sender
+        (λ g. kept p 1 (frames.ExitTo parcel) rest g tt _ (λ y. refl)
+        (exit-to-keeps script w b holds ready.reads p parcel rest g))
 
     -- Each frame at the head of a stream that its receiver may take has a step.
     pub frame-taken : (frame : Frame) → Heads script w p q frame rest
         → (is_born (node_of w p) || is_checkpoint frame) ≡ true → MayBe script (is_born_in w) p q frame
-        → Keeps script w (events.Take p q)
+        → Lightly p q
     frame-taken (frames.Ask ticket pid call) h may fits =
-        at-leader script w p q (frames.Ask ticket pid call) rest h fits
+        at-leader p q (frames.Ask ticket pid call) rest h fits
         (λ g. ask-taken q ticket pid call rest g)
     frame-taken (frames.Request ticket pid call) h may fits =
-        by-node script w p q (request-taken-anywhere script w b holds p q ticket pid call rest h ready.never_waits)
+        by-rule p q (frames.Request ticket pid call) rest h tt
+        (moved-so p q (frames.Request ticket pid call) rest h q
+        (IsRequested w p (record { caller = q; ticket = ticket; pid = pid; call = call })) _
+        (requested-so p (record { caller = q; ticket = ticket; pid = pid; call = call }))
+        (request-taken-anywhere script w b holds p q ticket pid call rest h ready.never_waits))
     frame-taken (frames.Forward asked) h may fits = forward-found asked h (or-false (is_born (node_of w p)) may)
     frame-taken (frames.Bounce asked) h may fits =
-        at-leader script w p q (frames.Bounce asked) rest h fits (λ g. bounce-taken q asked rest g)
+        at-leader p q (frames.Bounce asked) rest h fits (λ g. bounce-taken q asked rest g)
     frame-taken (frames.Answer ticket reply) h may fits =
-        kept script w p q _ (answer-keeps script w b holds p q ticket reply rest h)
+        kept p q (frames.Answer ticket reply) rest h tt _
+        (record { place = Idle; calls = λ y. refl; fits = refl })
+        (answer-keeps script w b holds p q ticket reply rest h)
     frame-taken (frames.NotOwner ticket) h may fits = not-owner-found p q ticket rest h
     frame-taken (frames.LeaseAsk kind) h may fits = lease-ask-found kind h fits
     frame-taken (frames.Lease kind first) h may fits = lease-found kind first h fits
     frame-taken (frames.Placed name node) h may fits =
-        kept script w p q _ (placed-keeps script w b holds p q name node rest h)
+        kept p q (frames.Placed name node) rest h tt _ (λ y. refl)
+        (placed-keeps script w b holds p q name node rest h)
     frame-taken (frames.Checkpoint pid parent deed vars) h may fits =
-        kept script w p q _ (checkpoint-keeps script w b holds ready.reads p q pid parent deed vars rest h)
+        kept p q (frames.Checkpoint pid parent deed vars) rest h tt _ (λ y. refl)
+        (checkpoint-keeps script w b holds ready.reads p q pid parent deed vars rest h)
     frame-taken (frames.Suggest name node) h may fits = suggest-found name node h fits.0
     frame-taken (frames.Recall name) h may fits = recall-found name h fits.0
     frame-taken (frames.GiveBack deed) h may fits =
-        at-leader script w p q (frames.GiveBack deed) rest h fits (λ g. give-back-taken q deed rest g)
+        at-leader p q (frames.GiveBack deed) rest h fits (λ g. give-back-taken q deed rest g)
     frame-taken (frames.Grant deed) h may fits = grant-found deed h fits.0
     frame-taken (frames.Leaving pid parent parent_node) h may fits =
-        kept script w p q _ (leaving-keeps script w b holds p q pid parent parent_node rest h)
+        kept p q (frames.Leaving pid parent parent_node) rest h tt _ (λ y. refl)
+        (leaving-keeps script w b holds p q pid parent parent_node rest h)
     frame-taken frames.RecallAll h may fits =
-        kept script w p q _ (any-recall-all-keeps script w b holds p q rest h (ready.rises p))
+        kept p q frames.RecallAll rest h tt _ (λ y. refl)
+        (any-recall-all-keeps script w b holds p q rest h (ready.rises p))
     frame-taken (frames.Left parcel) h may fits =
-        at-leader script w p q (frames.Left parcel) rest h fits (λ g. left-taken q parcel rest g)
+        at-leader p q (frames.Left parcel) rest h fits (λ g. left-taken q parcel rest g)
     frame-taken (frames.ExitTo parcel) h may fits = exit-found parcel h fits
 
   -- Each enabled event that takes a frame has a step, and keeps all.
-  pub take-keeps : (p q : ℕ) → is_enabled w (events.Take p q) ≡ true → Keeps script w (events.Take p q)
+  pub take-keeps : (p q : ℕ) → is_enabled w (events.Take p q) ≡ true → Lightly p q
   take-keeps p q enabled =
       let t : IsTaken script w p q = enabled-takes script w p q holds.shape enabled
       in frame-taken p q t.rest t.frame t.heads t.may

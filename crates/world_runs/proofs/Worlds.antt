@@ -1,6 +1,6 @@
 -- What each world of a run has: the invariant, and bounds. The opening world has it, and each enabled event has a step
 -- that keeps it.
-use Rattle.std.proofs.Common.{◌≡◌, true, List, [], ◌∷◌, Some, sym, subst, ◌∙◌}
+use Rattle.std.proofs.Common.{◌≡◌, ℕ, true, refl, List, [], ◌∷◌, Some, sym, subst, ◌∙◌}
 use Rattle.pico_base.specs.declared.script.Event.{Event}
 use Rattle.pico_base.specs.declared.script.Event.TheVariants as events
 use Rattle.pico_base.specs.declared.script.Script.{Script}
@@ -8,16 +8,23 @@ use Rattle.kernel_model.specs.Script.{IsSoundScript}
 use Rattle.kernel_laws.proofs.Plain.{from_some}
 use Rattle.world_model.specs.Run.{IsReachableWorld, Runs}
 use Rattle.world_model.specs.World.{World, is_enabled, opening_world, step}
-use Rattle.world_laws.specs.Invariant.{HasInvariant}
+use Rattle.world_laws.specs.Invariant.{HasInvariant, Holds}
+use Rattle.world_laws.specs.Places.{Beside}
 use Rattle.world_laws.proofs.Steps.{KeepsAs}
 use Rattle.world_rules.proofs.Opening.{opening-holds}
+use Rattle.world_own.proofs.Enabled.{IsRun, enabled-runs}
+use Rattle.world_own.proofs.Moved.{AfterRun}
 use Rattle.world_own.proofs.OwnCases.{Keeps}
 use Rattle.world_bounds.specs.Bounded.{IsShapedAndBounded}
 use Rattle.world_bounds.proofs.Runs.{opening-is-shaped-and-bounded}
 use Rattle.world_bounds.proofs.Scripts.{sound-is-runnable}
 use Rattle.world_bounds.proofs.Worlds.{event-stays-bounded}
 use Rattle.world_runs.proofs.Starts.{run-keeps}
-use Rattle.world_runs.proofs.Takes.{take-keeps}
+use Rattle.world_runs.proofs.Takes.{in-order, take-keeps}
+use Rattle.world_weights.specs.Runs.{RunsAreShort}
+use Rattle.world_weights.proofs.Law.{each-run-falls}
+use Rattle.world_weights.proofs.LightEvents.{KeepsLightly}
+use Rattle.world_weights.proofs.LightRuns.{EachKeepsLightly, light-runs-are-short}
 
 -- What each world of a run has.
 pub record IsSettled (script : Script) (w : World) : Type 0 where
@@ -39,17 +46,32 @@ module _ (script : Script) (sound : IsSoundScript script) where
         bounded = opening-is-shaped-and-bounded script sound;
       }
 
-  event-keeps : (w : World) (e : Event) → IsSettled script w → is_enabled w e ≡ true → Keeps script w e
-  event-keeps w (events.Run p) k enabled =
-      run-keeps script sound w k.invariant.beside k.invariant.holds k.bounded.bounded p enabled
-  event-keeps w (events.Take p q) k enabled =
-      take-keeps script sound w k.invariant.beside k.invariant.holds k.bounded.bounded p q enabled
+  run-lightly : (w : World) (b : Beside) (p : ℕ) → Holds script w [] b → IsShapedAndBounded script w
+      → is_enabled w (events.Run p) ≡ true → KeepsLightly script w (events.Run p) b
+  run-lightly w b p holds within enabled =
+      let k : Keeps script w (events.Run p) (AfterRun b p) =
+      run-keeps script sound w b holds within.bounded p enabled
+      in let after : Beside = k.beside
+      in let r : IsRun script w p = enabled-runs script w p holds.shape enabled
+      in record {
+        beside = k.beside;
+        keeps = k.keeps;
+        falls = each-run-falls script w b holds (in-order script sound w b holds within.bounded) p r.low r.high after.call
+            k.after;
+      }
+
+  -- Each enabled event has a step that keeps all, and lowers the weight.
+  pub event-keeps-lightly : EachKeepsLightly script (IsShapedAndBounded script)
+  event-keeps-lightly w b (events.Run p) holds within enabled = run-lightly w b p holds within enabled
+  event-keeps-lightly w b (events.Take p q) holds within enabled =
+      take-keeps script sound w b holds within.bounded p q enabled
 
   -- Each enabled event has a step, and keeps it.
   pub event-stays-settled : (w : World) (e : Event) → IsSettled script w → is_enabled w e ≡ true
       → StaysSettled script w e
   event-stays-settled w e k enabled =
-      let kept : Keeps script w e = event-keeps w e k enabled
+      let kept : KeepsLightly script w e k.invariant.beside =
+      event-keeps-lightly w k.invariant.beside e k.invariant.holds k.bounded enabled
       in let s : KeepsAs script w e kept.beside = kept.keeps
       in record {
         next = s.next;
@@ -70,3 +92,10 @@ module _ (script : Script) (sound : IsSoundScript script) where
   -- So each world that a run leads to has it.
   pub reachable-is-settled : (w : World) → IsReachableWorld script w → IsSettled script w
   reachable-is-settled w run = along run.0 (opening_world script) w run.1 opening-is-settled
+
+  -- And a run is short.
+  pub settled-runs-are-short : RunsAreShort script
+  settled-runs-are-short =
+      light-runs-are-short script (IsShapedAndBounded script)
+      (λ w next e within enabled is. event-stays-bounded script sound w next within e enabled is) event-keeps-lightly _
+      (opening-holds script (sound-is-runnable script sound)) (opening-is-shaped-and-bounded script sound) (λ p. refl)

@@ -8,6 +8,7 @@ use Rattle.kernel_model.specs.Script.{IsSoundScript}
 use Rattle.world_model.specs.Run.{IsReachableWorld}
 use Rattle.world_model.specs.World.{World, is_enabled, step}
 use Rattle.world_laws.specs.Invariant.{HasInvariant}
+use Rattle.world_weights.specs.Runs.{RunsAreShort as EachRunIsShort}
 
 -- The journal is one history of a single POSIX kernel, and each process's calls stand in it once and in order.
 abbrev pub JournalsAreLegal : Type 0
@@ -19,6 +20,10 @@ abbrev pub EnabledEventsHaveSteps : Type 0
 EnabledEventsHaveSteps =
     (script : Script) (w : World) (e : Event) → IsSoundScript script → IsReachableWorld script w
     → is_enabled w e ≡ true → IsSome (step w e)
+
+-- A run has at most 32 events for each call of its script.
+abbrev pub RunsAreShort : Type 0
+RunsAreShort = (script : Script) → IsSoundScript script → EachRunIsShort script
 
 -- Something stands beside each world with which the invariant holds.
 abbrev pub WorldsHaveTheInvariant : Type 0

@@ -2,7 +2,7 @@
 //! invariant, which each rule keeps. Nothing runs here.
 #![tactic(auto)]
 
-ghost use Rattle.world_runs.specs.Laws.{JournalsAreLegal, EnabledEventsHaveSteps, WorldsHaveTheInvariant};
+ghost use Rattle.world_runs.specs.Laws.{JournalsAreLegal, EnabledEventsHaveSteps, RunsAreShort, WorldsHaveTheInvariant};
 
 /// The journal of each world that a run leads to is one history of a single POSIX kernel, and each process's calls
 /// stand in it once and in order.
@@ -19,4 +19,9 @@ pub fn enabled_events_have_steps()
 /// Each world that a run leads to has the invariant, with something beside it.
 pub fn worlds_have_the_invariant()
     ensures { WorldsHaveTheInvariant }
+{}
+
+/// A run has at most 32 events for each call of its script.
+pub fn runs_are_short()
+    ensures { RunsAreShort }
 {}

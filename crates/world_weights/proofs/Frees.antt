@@ -14,7 +14,7 @@ use Rattle.kernel_laws.proofs.Plain.{from_some, not_some}
 use Rattle.node_model.specs.declared.held.Held.{Held}
 use Rattle.node_model.specs.declared.held.Held.TheVariants.{Ending, Request}
 use Rattle.node_model.specs.Directory.{At, Coming, Directory, Place, held_for, place_of}
-use Rattle.node_model.specs.Kinds.{is_object, is_same_name}
+use Rattle.node_model.specs.Kinds.{is_object}
 use Rattle.world_model.specs.Node.{Node}
 use Rattle.world_model.specs.Routing.{AfterEnd, IsHeld, Releases, end_by, end_process, exit_here, held_for_all, hold_item, names_in, release_names}
 use Rattle.world_model.specs.Step.{Step, send}
@@ -101,3 +101,18 @@ module _ (script : Script) (name : Name) (parcel : Parcel) (packed : IsPacked pa
       → RemovalsAreOf name items
   frees-no-removal next items h =
       end-place (Releases next items) (place_of (directory_in s) (Proc parcel.parent)) h
+
+-- ---- one call
+
+-- the name that a call removes, if it removes one
+abbrev pub name_removed : Home → Name
+name_removed (homes.Removal name) = name
+name_removed home = Proc 0
+
+-- it removes no other
+pub removes-its-own : (home : Home) → RemovesOnly (name_removed home) home
+removes-its-own (homes.Removal name) = refl
+removes-its-own (homes.At name) = tt
+removes-its-own homes.Own = tt
+removes-its-own homes.Keys = tt
+removes-its-own homes.Parent = tt
