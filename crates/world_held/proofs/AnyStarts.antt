@@ -11,6 +11,7 @@ use Rattle.world_model.specs.World.{World, node_count}
 use Rattle.world_laws.specs.Places.{Beside}
 use Rattle.world_laws.specs.Sights.{node_of}
 use Rattle.world_laws.specs.Invariant.{Holds}
+use Rattle.world_own.proofs.Moved.{AfterRun}
 use Rattle.world_own.proofs.OwnCases.{Keeps}
 use Rattle.world_own.proofs.Runs.{Starts}
 use Rattle.world_hand.proofs.Asks.{NeverWaits}
@@ -22,7 +23,7 @@ use Rattle.world_held.proofs.OtherStarts.{others-start}
 abbrev pub StartsForOthers : Script → World → Beside → ℕ → Type 0
 StartsForOthers script w b p =
     p ≤ node_count script → can_run (node_of w p) ≡ true → (s : Starts script w b p)
-    → is_for_others (home_of (node_of w p).pid s.call) ≡ true → Keeps script w (events.Run p)
+    → is_for_others (home_of (node_of w p).pid s.call) ≡ true → Keeps script w (events.Run p) (AfterRun b p)
 
 -- Any node starts any such call.
 pub any-starts : (script : Script) → IsSoundScript script → (w : World) (b : Beside) → Holds script w [] b

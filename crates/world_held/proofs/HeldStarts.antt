@@ -1,6 +1,6 @@
 -- A node other than the leader starts a call of its process on a name that it holds: it serves the call at once, and
 -- notes the read where the call has read.
-use Rattle.std.proofs.Common.{◌≡◌, ◌≢◌, ℕ, ◌≤◌, true, if◌then◌else◌, [], ap, ◌∙◌, inl}
+use Rattle.std.proofs.Common.{◌≡◌, ◌≢◌, ℕ, ◌≤◌, true, if◌then◌else◌, [], ap, ◌∙◌, inl, inr}
 use Rattle.pico_base.specs.declared.call.Call.{Call}
 use Rattle.pico_base.specs.declared.call.Home.TheVariants as homes
 use Rattle.pico_base.specs.declared.numbers.Name.{Name}
@@ -22,13 +22,14 @@ use Rattle.world_laws.specs.Sights.{is_born_in, is_born_stage, node_of}
 use Rattle.world_laws.specs.Families.{NodeHolds}
 use Rattle.world_laws.specs.Invariant.{HasInvariant, Holds}
 use Rattle.world_laws.proofs.Steps.{run-steps}
+use Rattle.world_own.proofs.Moved.{AfterRun, twice-in}
 use Rattle.world_own.proofs.OwnCases.{Keeps}
 use Rattle.world_own.proofs.Runs.{Starts, run-is}
 use Rattle.world_hand.proofs.Asks.{NeverWaits}
 use Rattle.world_hand.proofs.NobodyRoutes.{on-name-served}
 use Rattle.world_sent.proofs.InHand.{HasInHand}
 use Rattle.world_sent.proofs.NoCheckpoint.{in-table}
-use Rattle.world_sent.proofs.ServeSteps.{EndsIn, ServesInHand, serves-and-suggests, serves-in-hand}
+use Rattle.world_sent.proofs.ServeSteps.{CarriedOut, EndsIn, ServesInHand, serves-and-suggests, serves-in-hand}
 use Rattle.world_first.proofs.Starts.{start-in-hand, started_asked, started_beside, started_node, started-asked-here}
 
 module _ (script : Script) (sound : IsSoundScript script) (w : World) (b : Beside) (holds : Holds script w [] b) (p : ℕ)
@@ -83,21 +84,27 @@ module _ (script : Script) (sound : IsSoundScript script) (w : World) (b : Besid
   served : is_served call ≡ true
   served = on-name-served n.pid call name (inl home) (never p n.caller call s.due_now.due)
 
-  serves : ServesInHand script w p started asked name
+  serves : ServesInHand script w p started asked name in-hand
   serves = serves-in-hand script w p started in-hand asked is-in-hand name home served deed
 
-  ends : EndsIn script w p (serve_asked script (step_to started) name asked)
-  ends = serves-and-suggests script w p started asked name serves low high home other
+  ends : EndsIn script w p (serve_asked script (step_to started) name asked) (CarriedOut in-hand p)
+  ends = serves-and-suggests script w p started asked name in-hand serves low high home other
 
   -- The call is carried out at the node, and it is over; all holds.
-  pub held-call-keeps : Keeps script w (events.Run p)
+  pub held-call-keeps : Keeps script w (events.Run p) (AfterRun b p)
   held-call-keeps =
-      let after : HasInvariant script (world_after w p ends.next) = ends.holds
+      let last : Beside = ends.beside
+      in let m : CarriedOut in-hand p last.call = ends.after
       in record {
-        beside = after.beside;
+        beside = ends.beside;
         keeps = record {
           next = world_after w p ends.next;
           is_step = run-steps script w p ends.next holds.shape low high (rule ∙ ends.is);
-          holds = after.holds;
+          holds = ends.holds;
         };
+        after = inr (record {
+          place = m.place;
+          calls = λ y. twice-in b.call p IsInHand m.place y ∙ m.calls y;
+          fits = tt;
+        });
       }

@@ -22,7 +22,7 @@ use Rattle.world_model.specs.World.{World, node_count, world_after}
 use Rattle.world_laws.specs.Places.{Beside, InTable, IsInHand, call_in}
 use Rattle.world_laws.specs.Sights.{node_of, is_born_in}
 use Rattle.world_laws.specs.Names.{NameHolds, name_sight}
-use Rattle.world_laws.specs.Invariant.{HasInvariant, Holds}
+use Rattle.world_laws.specs.Invariant.{Holds}
 use Rattle.world_laws.proofs.NameFacts.{IsHeldAt, held-there}
 use Rattle.world_laws.proofs.Steps.{run-steps}
 use Rattle.world_own.proofs.Moved.{AfterRun, twice-in}

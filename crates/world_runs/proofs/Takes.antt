@@ -38,7 +38,7 @@ use Rattle.world_makes.proofs.Makes.{lease-keeps}
 use Rattle.world_ends.proofs.Leavings.{leaving-keeps}
 use Rattle.world_ends.proofs.RecallAlls.{any-recall-all-keeps}
 use Rattle.world_exits.proofs.ExitTos.{exit-to-keeps}
-use Rattle.world_bounds.specs.Bounded.{IsBounded, IsGood, NodeIsBounded}
+use Rattle.world_bounds.specs.Bounded.{IsBounded, NodeIsBounded}
 use Rattle.world_bounds.proofs.Parts.{held-are-of-nodes}
 use Rattle.world_bounds.proofs.Ready.{Ready, bounce-is-of-node, bounded-is-ready, forward-is-of-node, taken-is-good}
 use Rattle.world_bounds.proofs.StepParts.{step-to-bounded}
