@@ -1,3 +1,6 @@
 pub mod Sums
 pub mod Shaped
 pub mod Census
+pub mod OneReplay
+pub mod Senders
+pub mod Streams

@@ -91,14 +91,15 @@ pub record HasStream (w : World) (to sender : ℕ) : Type 0 where
   pub row : to - 1 < length w.streams
   pub column : sender - 1 < length (get_or w.streams (to - 1) [])
 
-none-to : (w : World) (to sender : ℕ) → to < 1 → frames_to w to sender ≡ []
+-- none comes to a number that is no node's, and none from one
+pub none-to : (w : World) (to sender : ℕ) → to < 1 → frames_to w to sender ≡ []
 none-to w to sender low = rw (le-ltb 0 to (omega (arith, low))) refl
 
 and-false : (t : Bool) → (t && false) ≡ false
 and-false true = refl
 and-false false = refl
 
-none-from : (w : World) (to sender : ℕ) → sender < 1 → frames_to w to sender ≡ []
+pub none-from : (w : World) (to sender : ℕ) → sender < 1 → frames_to w to sender ≡ []
 none-from w to sender low =
     ap (λ t. if is_number to && t then stream w to sender else []) (le-ltb 0 sender (omega (arith, low)))
     ∙ ap (λ t. if t then stream w to sender else []) (and-false (is_number to))
