@@ -32,7 +32,8 @@ abbrev is_table : DeedPlace → Bool
 is_table (InTable node) = true
 is_table place = false
 
-abbrev is_way : DeedPlace → Bool
+-- in a frame, from which node to which
+abbrev pub is_way : DeedPlace → Bool
 is_way (InCheckpoint c) = true
 is_way (InGrant h) = true
 is_way (InGiveBack h) = true
@@ -40,13 +41,13 @@ is_way (InLeft c) = true
 is_way (InExitTo c x) = true
 is_way place = false
 
-abbrev way_to : DeedPlace → ℕ
+abbrev pub way_to : DeedPlace → ℕ
 way_to (InCheckpoint c) = c
 way_to (InGrant h) = h
 way_to (InExitTo c x) = x
 way_to place = 1
 
-abbrev way_from : (ℕ → ℕ) → DeedPlace → ℕ
+abbrev pub way_from : (ℕ → ℕ) → DeedPlace → ℕ
 way_from forks_it (InCheckpoint c) = forks_it c
 way_from forks_it (InGiveBack h) = h
 way_from forks_it (InLeft c) = c
@@ -79,7 +80,8 @@ table-is (InKept c) body h = refl
 table-is (InHand c) body h = refl
 table-is (InExitTo c x) body h = refl
 
-stream-is : (forks_it : ℕ → ℕ) (d : DeedPlace) (to sender : ℕ)
+-- such a frame is in one stream alone
+pub stream-is : (forks_it : ℕ → ℕ) (d : DeedPlace) (to sender : ℕ)
     → is_stream_of forks_it d to sender ≡ (is_way d && (nat_eq to (way_to d) && nat_eq sender (way_from forks_it d)))
 stream-is forks_it (InTable node) to sender = refl
 stream-is forks_it Unmade to sender = refl
@@ -127,7 +129,8 @@ one-counts : {A : Type 0} (t : Bool) (P : A → Type 0) (test : A → Bool) (xs 
     → count_by test xs ≡ one_if t
 one-counts t P test xs h = sym (length-filter test xs) ∙ one-length t P (filter test xs) h
 
-one-is-some : {A : Type 0} (t : Bool) (P : A → Type 0) (test : A → Bool) (xs : List A) → OneIf t P (filter test xs)
+-- and then something is in the list
+pub one-is-some : {A : Type 0} (t : Bool) (P : A → Type 0) (test : A → Bool) (xs : List A) → OneIf t P (filter test xs)
     → t ≡ true → xs ≢ []
 one-is-some {A} false P test xs h is none = false≢true is
 one-is-some {A} true P test xs h is none = absurd (not-one h.one (sym h.only ∙ ap (filter test) none))

@@ -4,3 +4,4 @@ pub mod Census
 pub mod OneReplay
 pub mod Senders
 pub mod Streams
+pub mod Held
