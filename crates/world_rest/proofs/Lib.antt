@@ -5,3 +5,4 @@ pub mod OneReplay
 pub mod Senders
 pub mod Streams
 pub mod Held
+pub mod Whole
