@@ -6,3 +6,4 @@ pub mod Senders
 pub mod Streams
 pub mod Held
 pub mod Whole
+pub mod Followers
