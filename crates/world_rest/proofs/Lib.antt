@@ -7,3 +7,4 @@ pub mod Streams
 pub mod Held
 pub mod Whole
 pub mod Followers
+pub mod FollowerTurns
