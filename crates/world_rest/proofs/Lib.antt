@@ -8,3 +8,5 @@ pub mod Held
 pub mod Whole
 pub mod Followers
 pub mod FollowerTurns
+pub mod FollowerRuns
+pub mod Worlds
