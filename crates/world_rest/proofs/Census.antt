@@ -1,13 +1,11 @@
 -- Each used name has one owner, and a number that names nothing has none.
-use Rattle.std.proofs.Common.{◌≡◌, ◌≢◌, ◌⊎◌, ℕ, ◌+◌, ◌-◌, ◌<◌, ◌≤◌, Bool, true, false, not, ◌&&◌, nat_eq, cond, if◌then◌else◌, List, [], ◌∷◌, length, filter, slice_get, Option, Some, None, is_some, refl, ap, sym, subst, ◌∙◌, arith}
-use Rattle.std.specs.Prelude.{count_by, sum_by}
+use Rattle.std.proofs.Common.{◌≡◌, ◌≢◌, ℕ, ◌+◌, ◌-◌, ◌≤◌, Bool, true, false, not, ◌&&◌, nat_eq, if◌then◌else◌, List, [], ◌∷◌, length, filter, slice_get, Option, Some, None, is_some, refl, ap, sym, subst, ◌∙◌, arith}
+use Rattle.std.specs.Prelude.{count_by}
 use Rattle.std.proofs.lemmas.Bool.{eq-eqb, eqb-true, ne_eqb, false≢true}
 use Rattle.std.proofs.lemmas.List.Sums.{length-filter}
 use Rattle.pico_base.specs.declared.numbers.Name.{Name}
-use Rattle.pico_base.specs.declared.numbers.Name.TheVariants.{Proc}
 use Rattle.pico_base.specs.declared.script.Script.{Script}
 use Rattle.rpc_frame.specs.declared.frame.Frame.{Frame}
-use Rattle.kernel_laws.proofs.Plain.{not_some}
 use Rattle.kernel_moves.specs.Entering.{is_used_name}
 use Rattle.number_maps.specs.Maps.{Numbered, get}
 use Rattle.number_maps.specs.Rising.{IsRising}
@@ -15,13 +13,13 @@ use Rattle.node_model.specs.Bodies.{Body}
 use Rattle.node_model.specs.declared.held.Held.{Held}
 use Rattle.node_model.specs.Directory.{Place, items_of, is_parcel_with}
 use Rattle.world_model.specs.Census.{brings, held_by_leader, holders, on_the_way, one_if, owners, parcels_with}
-use Rattle.world_model.specs.Node.{Leader, Node, opening_leader}
+use Rattle.world_model.specs.Node.{Leader, Node}
 use Rattle.world_model.specs.Node.{holds as holds_deed}
 use Rattle.world_model.specs.World.{World, node_count}
 use Rattle.world_laws.specs.Invariant.{Holds}
 use Rattle.world_laws.specs.Names.{NameHolds, IsItemWith, NameSight, OneIf, held_as, is_hand_place, is_kept_for, is_stream_of, name_sight, node_in, forker}
 use Rattle.world_laws.specs.Places.{Beside, DeedPlace, Unmade, InTable, InCheckpoint, InGrant, InGiveBack, InLeft, InKept, InHand, InExitTo}
-use Rattle.world_laws.specs.Sights.{frames_to, is_born_in, node_of}
+use Rattle.world_laws.specs.Sights.{frames_to, is_born_in}
 use Rattle.world_rest.specs.Laws.{OthersLeadNothing, leader_at}
 use Rattle.world_rest.proofs.Shaped.{HasStream, frames-at-place, holder-in-range, node-at-place, stream-there}
 use Rattle.world_rest.proofs.Sums.{rising-none, rising-one, square-none, square-one, sum-none, sum-one}
@@ -212,9 +210,6 @@ module _ (script : Script) (w : World) (b : Beside) (holds : Holds script w [] b
       one-counts (is_stream_of (forker script) deed (i + 1) (j + 1)) _ (brings name) (frames_to w (i + 1) (j + 1))
       (known.streams (i + 1) (j + 1))
       ∙ ap one_if (stream-is (forker script) deed (i + 1) (j + 1))
-
-  abbrev way_frames : ℕ → ℕ → ℕ
-  way_frames i j = count_by (brings name) (frames_to w (i + 1) (j + 1))
 
   placed-count : (i j : ℕ) (fs : List Frame) → frames_to w (i + 1) (j + 1) ≡ fs
       → count_by (brings name) fs ≡ one_if (in_stream (i + 1) (j + 1))

@@ -1,10 +1,10 @@
 -- A node other than the leader stays one, and knows nothing of the leader's afterwards that it didn't know before: each
 -- frame that it takes, and its turns.
-use Rattle.std.proofs.Common.{◌≡◌, ℕ, ◌+◌, Bool, true, false, not, ◌&&◌, nat_eq, List, [], ◌∷◌, Option, Some, None, refl, ap, sym, ◌∙◌}
+use Rattle.std.proofs.Common.{◌≡◌, ℕ, Bool, true, false, not, ◌&&◌, nat_eq, Option, Some, None, refl, sym, ◌∙◌}
 use Rattle.std.specs.Prelude.{if◌then◌else◌}
 use Rattle.std.specs.List.{list_all, list_any}
 use Rattle.std.specs.Option.{option_and_then, option_map}
-use Rattle.std.proofs.lemmas.Bool.{and_parts, false≢true}
+use Rattle.std.proofs.lemmas.Bool.{false≢true}
 use Rattle.pico_base.specs.declared.call.Call.{Call}
 use Rattle.pico_base.specs.declared.call.Home.{Home}
 use Rattle.pico_base.specs.declared.call.Home.TheVariants as homes
@@ -25,26 +25,25 @@ use Rattle.kernel_laws.proofs.Plain.{Of, by_test}
 use Rattle.kernel_model.specs.Script.{Vars}
 use Rattle.kernel_model.specs.Waiting.{is_waiting}
 use Rattle.node_model.specs.Bodies.{Body, Living as LivingBody}
-use Rattle.node_model.specs.Cache.{forget}
-use Rattle.node_model.specs.Directory.{Directory, has_more, held_for, is_coming, place_name, upcoming, with_leaving, with_left, with_range}
+use Rattle.node_model.specs.Directory.{has_more, is_coming}
 use Rattle.node_model.specs.Kinds.{get_named, is_object, none_named, put_all}
 use Rattle.node_model.specs.Leases.{leases_hold, refill, takes_number}
 use Rattle.node_model.specs.Parcels.{commit_exit, fitting_bodies, give_all}
 use Rattle.node_model.specs.Spelling.{pack, read_deed}
-use Rattle.world_model.specs.Calls.{answered_by, ask_after, asks_as, bounce, bounce_or_nobody, end_with_reply, forwarded_by, is_for_others, is_from_leader, is_on_name_or_removal, is_to_leader, requested_by, take_answer, take_ask, take_bounce, take_forward, take_not_owner, take_request, with_forgotten, with_learnt}
+use Rattle.world_model.specs.Calls.{answered_by, ask_after, asks_as, bounce, bounce_or_nobody, end_with_reply, forwarded_by, is_for_others, is_from_leader, is_on_name_or_removal, is_to_leader, requested_by, take_answer, take_forward, take_not_owner, take_request, with_forgotten, with_learnt}
 use Rattle.world_model.specs.Grammar.{is_frame, is_sent_frame}
-use Rattle.world_model.specs.Lives.{be_born, born_with, end_released, hand_over, is_end, is_forked_by, is_new_row, is_of_process, may_leave, may_take, place_family, take_checkpoint, take_exit, take_leaving, take_left, take_recall_all}
-use Rattle.world_model.specs.Moves.{come_back, give_back as gives_back, is_new_here, keep, receive_deed, suggest, take_give_back, take_grant, take_recall, take_suggest}
+use Rattle.world_model.specs.Lives.{be_born, born_with, hand_over, is_end, is_forked_by, is_new_row, is_of_process, may_leave, may_take, take_checkpoint, take_exit, take_recall_all}
+use Rattle.world_model.specs.Moves.{give_back as gives_back, is_new_here, keep, receive_deed, take_grant, take_recall}
 use Rattle.world_model.specs.Node.{Left, Node, holds, is_born, is_leader, is_leaving_stage, is_node, is_unborn, under_way_as}
 use Rattle.world_model.specs.Numbers.{make}
-use Rattle.world_model.specs.Ranges.{go_on_with, may_lease, take_lease, take_lease_ask, take_placed}
-use Rattle.world_model.specs.Routing.{enter_exit, exit_here, exit_with, names_in, route_call}
+use Rattle.world_model.specs.Ranges.{go_on_with, may_lease, take_lease}
+use Rattle.world_model.specs.Routing.{enter_exit, exit_here, exit_with, names_in}
 use Rattle.world_model.specs.Serving.{serve_asked, serve_nobody, without_deed}
 use Rattle.world_model.specs.Starting.{run}
-use Rattle.world_model.specs.Step.{Step, send, step_to, with_deeds, with_directory}
+use Rattle.world_model.specs.Step.{Step, send, step_to, with_deeds}
 use Rattle.world_model.specs.Turn.{run_turn, sends_frames, take_frame, take_turn}
 use Rattle.world_bounds.proofs.Parts.{of-map, of-next, of-some, of-test}
-use Rattle.world_rest.proofs.Followers.{Follows, IsFollower, all-sent-follow, ask-follows, entered-follows, from-it, make-follows, run-follows, sent-follows, serve-asked-follows, serve-nobody-follows}
+use Rattle.world_rest.proofs.Followers.{IsFollower, all-sent-follow, ask-follows, entered-follows, from-it, make-follows, run-follows, sent-follows, serve-asked-follows, serve-nobody-follows}
 
 first-of-two : (a b : Bool) → (a && b) ≡ true → a ≡ true
 first-of-two true b h = refl

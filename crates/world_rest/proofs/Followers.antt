@@ -1,8 +1,8 @@
 -- A node other than the leader stays one, and knows nothing of the leader's afterwards that it didn't know before: the
 -- parts of its rules.
-use Rattle.std.proofs.Common.{◌≡◌, ◌≢◌, ℕ, ◌+◌, Bool, true, false, not, ◌&&◌, nat_eq, List, [], ◌∷◌, fold, Option, Some, None, Result, Ok, Err, refl, ap, sym, subst, ◌∙◌}
+use Rattle.std.proofs.Common.{◌≡◌, ℕ, ◌+◌, true, false, not, ◌&&◌, nat_eq, List, [], ◌∷◌, fold, Option, Some, None, Result, Ok, Err, refl, ap, sym, ◌∙◌}
 use Rattle.std.specs.Prelude.{if◌then◌else◌}
-use Rattle.std.specs.Option.{option_and_then, option_map}
+use Rattle.std.specs.Option.{option_and_then}
 use Rattle.std.proofs.lemmas.Bool.{false≢true}
 use Rattle.pico_base.specs.declared.call.Call.{Call}
 use Rattle.pico_base.specs.declared.call.Call.TheVariants as calls
@@ -28,7 +28,7 @@ use Rattle.kernel_model.specs.Row.{Row}
 use Rattle.kernel_model.specs.SemaphoreSet.{SemaphoreSet, new_set}
 use Rattle.kernel_model.specs.Waiting.{is_waiting}
 use Rattle.node_model.specs.Bodies.{AQueue, ASet, Body}
-use Rattle.node_model.specs.Cache.{look, owner_in}
+use Rattle.node_model.specs.Cache.{owner_in}
 use Rattle.node_model.specs.Caller.{caller_place, due_call, start_call}
 use Rattle.node_model.specs.Directory.{place_name, stays}
 use Rattle.node_model.specs.Kinds.{for_kind, put_all, put_named}
@@ -37,8 +37,8 @@ use Rattle.node_model.specs.Serving.{Served, child_body, has_read, no_such_name,
 use Rattle.node_model.specs.Spelling.{pack}
 use Rattle.node_model.specs.Watches.{moves_to, with_read}
 use Rattle.world_model.specs.Lives.{send_to_leader}
-use Rattle.world_model.specs.Node.{Leader, Leaving, Node, asked_here, can_run, holds, is_leader, own_row, under_way_as}
-use Rattle.world_model.specs.Numbers.{Taken, fork_with, make, make_object, make_set, make_taken, make_with, take_first, take_from, take_from_next, take_number, tell_place}
+use Rattle.world_model.specs.Node.{Node, asked_here, can_run, holds, is_leader, own_row, under_way_as}
+use Rattle.world_model.specs.Numbers.{Taken, fork_with, make, make_object, make_set, make_taken, make_with, take_from, take_from_next, take_number, tell_place}
 use Rattle.world_model.specs.Routing.{route_call}
 use Rattle.world_model.specs.Serving.{grant, move_to, note_read, serve_asked, serve_asked_with, serve_nobody}
 use Rattle.world_model.specs.Starting.{act, ask, carry_out_own, end_leader, leave, request, run, start, start_at, start_by, start_due, start_end, start_making, start_own, start_set, with_look}
@@ -63,17 +63,21 @@ module _ (script : Script) (n : Node) (other : is_leader n ≡ false) where
 
   -- ---- what a step is made of
 
+  -- the node itself, changed in what isn't the leader's
   pub from-it : (m : Node) → m.leader ≡ n.leader → m.number ≡ n.number → IsFollower (step_to m)
   from-it m leader number = record { leader = leader; number = number }
 
+  -- a frame is sent
   pub sent-follows : (s : Step) (to : ℕ) (frame : Frame) → IsFollower s → IsFollower (send s to frame)
   sent-follows s to frame k = record { leader = k.leader; number = k.number }
 
+  -- so are many to the leader
   pub all-sent-follow : (frames_sent : List Frame) (s : Step) → IsFollower s
       → IsFollower (fold send_to_leader s frames_sent)
   all-sent-follow [] s k = k
   all-sent-follow (f ∷ fs) s k = all-sent-follow fs (send_to_leader s f) (sent-follows s 1 f k)
 
+  -- an entry is made
   pub entered-follows : (s : Step) (pid : ℕ) (call : Call) (reply : Reply) → IsFollower s
       → IsFollower (enter s pid call reply)
   entered-follows s pid call reply k = record { leader = k.leader; number = k.number }

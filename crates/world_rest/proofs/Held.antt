@@ -1,6 +1,6 @@
 -- At rest the leader holds nothing: a queue or a set is never on its way for good, and of the parcels that are held one
 -- of the smallest node would be held for a process whose deed is in a parcel of a smaller one.
-use Rattle.std.proofs.Common.{◌≡◌, ◌≢◌, ◌⊎◌, ℕ, zero, suc, ◌<◌, ◌≤◌, Bool, true, false, ◌&&◌, ◌||◌, nat_eq, if◌then◌else◌, List, [], ◌∷◌, filter, Contains, Option, Some, None, is_some, refl, ap, sym, subst, ◌∙◌, inl, inr, arith}
+use Rattle.std.proofs.Common.{◌≡◌, ◌≢◌, ℕ, zero, suc, ◌<◌, ◌≤◌, Bool, true, false, ◌&&◌, ◌||◌, nat_eq, if◌then◌else◌, List, [], ◌∷◌, Contains, Option, Some, None, is_some, refl, ap, sym, subst, ◌∙◌, inl, inr, arith}
 use Rattle.std.proofs.lemmas.Bool.{cases_eq, eq-eqb, false≢true}
 use Rattle.pico_base.specs.declared.numbers.Name.{Name}
 use Rattle.pico_base.specs.declared.numbers.Name.TheVariants.{Proc}
@@ -13,15 +13,15 @@ use Rattle.node_model.specs.Bodies.{Body, Deeds}
 use Rattle.node_model.specs.Directory.{At, Coming, Directory, Place, held_for, items_of, is_parcel_with, place_of}
 use Rattle.node_model.specs.Kinds.{get_named, none_named}
 use Rattle.world_model.specs.Census.{brings}
-use Rattle.world_model.specs.Node.{Left, Node, Stage, unborn_node}
+use Rattle.world_model.specs.Node.{Left, Stage}
 use Rattle.world_model.specs.Run.{IsAtRest}
-use Rattle.world_model.specs.World.{World, node_count}
+use Rattle.world_model.specs.World.{World}
 use Rattle.world_laws.specs.Families.{HoldsIn, NodeHolds}
 use Rattle.world_laws.specs.Invariant.{Holds}
 use Rattle.world_laws.specs.Names.{is_hand_place}
 use Rattle.world_laws.specs.Names.{IsBringer, IsItemWith, NameHolds, NameSight, OneIf, OnlyOne, PlaysTo, belief_of, comes_to, forker, held_as, held_at, is_kept_for, is_stream_of, maker_tells, name_sight, node_in}
 use Rattle.world_laws.specs.Places.{Beside, DeedPlace, Unmade, InTable, InCheckpoint, InGrant, InGiveBack, InLeft, InKept, InHand, InExitTo}
-use Rattle.world_laws.specs.Plays.{Belief, Hold, OnTheWay, begin, believed, is_has, is_there, play, plays}
+use Rattle.world_laws.specs.Plays.{Hold, OnTheWay, believed, is_has, is_there, play, plays}
 use Rattle.world_laws.specs.Sights.{directory_of, frames_to, is_born_in, node_of, stage_of}
 use Rattle.world_laws.specs.Ways.{kept}
 use Rattle.world_laws.proofs.NameFacts.{begins-with, has_left}

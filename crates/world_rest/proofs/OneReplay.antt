@@ -1,12 +1,12 @@
 -- A journal replays to one kernel, so each name has one owner in that kernel's words.
-use Rattle.std.proofs.Common.{◌≡◌, ℕ, List, [], ◌∷◌, Some, refl, ap, sym, subst, ◌∙◌}
+use Rattle.std.proofs.Common.{◌≡◌, List, [], ◌∷◌, Some, ap, sym, subst, ◌∙◌}
 use Rattle.pico_base.specs.declared.numbers.Name.{Name}
 use Rattle.pico_base.specs.declared.reply.Entry.{Entry}
 use Rattle.pico_base.specs.declared.script.Script.{Script}
 use Rattle.pico_base.specs.declared.reply.Outcome.{Outcome}
 use Rattle.kernel_laws.proofs.Plain.{from_some}
-use Rattle.kernel_model.specs.Transition.{Successor, successor, transition}
-use Rattle.kernel_model.specs.History.{Replays, number_in}
+use Rattle.kernel_model.specs.Transition.{Successor, successor}
+use Rattle.kernel_model.specs.History.{Replays}
 use Rattle.kernel_model.specs.Kernel.{Kernel, opening}
 use Rattle.kernel_moves.specs.Entering.{is_used_name}
 use Rattle.world_model.specs.Census.{one_if, owners}

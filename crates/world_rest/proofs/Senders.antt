@@ -1,5 +1,5 @@
 -- Whose parcel it is, and that what a parcel carries is of no node below its own.
-use Rattle.std.proofs.Common.{◌≡◌, ◌≢◌, ◌⊎◌, ℕ, ◌<◌, ◌≤◌, true, false, List, [], Option, Some, None, refl, ap, sym, subst, ◌∙◌, inl, inr, arith}
+use Rattle.std.proofs.Common.{◌≡◌, ◌≢◌, ℕ, ◌<◌, ◌≤◌, true, [], Option, Some, None, ap, sym, ◌∙◌, arith}
 use Rattle.std.proofs.lemmas.Bool.{false≢true}
 use Rattle.pico_base.specs.declared.numbers.Name.TheVariants.{Proc}
 use Rattle.pico_base.specs.declared.script.Script.{Script}
@@ -7,13 +7,12 @@ use Rattle.rpc_frame.specs.declared.deed.Parcel.{Parcel}
 use Rattle.kernel_laws.proofs.Plain.{from_some, not_some}
 use Rattle.kernel_model.specs.Kernel.{Process}
 use Rattle.kernel_model.specs.Kernel as kernel
-use Rattle.world_model.specs.Node.{Left, Node}
-use Rattle.world_model.specs.World.{World, node_count}
+use Rattle.world_model.specs.World.{World}
 use Rattle.world_laws.specs.Callers.{is_at_work}
 use Rattle.world_laws.specs.Families.{FamilyHolds, IsBorn, IsItsOwn, IsWhereFor, NodeHolds, RestsBelow, checkpoints_to, is_first_stage}
 use Rattle.world_laws.specs.Invariant.{Holds, process_deed}
 use Rattle.world_laws.specs.Names.{forker}
-use Rattle.world_laws.specs.Places.{Beside, DeedPlace, InTable, InLeft, InKept, InHand, InExitTo}
+use Rattle.world_laws.specs.Places.{Beside, DeedPlace, InLeft, InKept, InHand, InExitTo}
 use Rattle.world_laws.specs.Sights.{is_born_in, is_born_stage, node_of, stage_of}
 use Rattle.world_laws.specs.Ways.{HasSender, IsParcelIn, IsParcelOf, under_way_of}
 use Rattle.world_hand.proofs.Answering.{born-there}

@@ -1,8 +1,8 @@
 -- At rest nothing is on its way: what comes to a node that is born could be taken, and to one that isn't born comes first
 -- what it needs to be born, which could be taken, too.
-use Rattle.std.proofs.Common.{◌≡◌, ◌≢◌, ◌⊎◌, ℕ, zero, suc, ◌-◌, ◌<◌, ◌≤◌, Bool, true, false, not, ◌&&◌, ◌||◌, nat_eq, if◌then◌else◌, cond, List, [], ◌∷◌, ◌++◌, filter, length, get_or, Contains, Option, Some, None, is_some, refl, ap, sym, subst, ◌∙◌, inl, inr, arith}
-use Rattle.std.specs.List.{AllByRecursion, flat_map}
-use Rattle.std.proofs.lemmas.Bool.{cases_eq, cases_lt, eq-eqb, eqb-true, eqb-false, ne_eqb, false≢true, lt-ltb}
+use Rattle.std.proofs.Common.{◌≡◌, ◌≢◌, ◌⊎◌, ℕ, zero, suc, ◌-◌, ◌<◌, ◌≤◌, Bool, true, false, not, ◌&&◌, ◌||◌, nat_eq, if◌then◌else◌, cond, List, [], ◌∷◌, ◌++◌, filter, get_or, Contains, Some, is_some, refl, ap, sym, subst, ◌∙◌, inl, inr, arith}
+use Rattle.std.specs.List.{AllByRecursion}
+use Rattle.std.proofs.lemmas.Bool.{cases_eq, cases_lt, eq-eqb, eqb-false, false≢true, lt-ltb}
 use Rattle.std.proofs.lemmas.List.Elements.{Contains-append_left, Contains-push}
 use Rattle.pico_base.specs.declared.call.Home.{Home}
 use Rattle.pico_base.specs.declared.call.Home.TheVariants as homes
@@ -17,21 +17,20 @@ use Rattle.rpc_frame.specs.declared.deed.Parcel.{Parcel}
 use Rattle.rpc_frame.specs.declared.frame.Frame.{Frame}
 use Rattle.rpc_frame.specs.declared.frame.Frame.TheVariants as frames
 use Rattle.node_model.specs.Bodies.{Body}
-use Rattle.node_model.specs.Directory.{has_deed_of, maker}
+use Rattle.node_model.specs.Directory.{has_deed_of}
 use Rattle.node_model.specs.Kinds.{get_named, is_same_name}
-use Rattle.world_model.specs.Calls.{is_on_name}
 use Rattle.world_model.specs.Census.{brings}
 use Rattle.world_model.specs.Node.{Node, Stage, Unborn, Living, Leaving, Left, Over, is_born, is_unborn, unborn_node}
 use Rattle.world_model.specs.Run.{IsAtRest}
 use Rattle.world_model.specs.World.{World, is_checkpoint, is_enabled, is_number, is_take_enabled, node_at, node_count, stream}
-use Rattle.world_laws.specs.Callers.{CallHolds, CallSight, HasCallOrNone, HasNoCall, IsNowhere, call_sight, is_about}
+use Rattle.world_laws.specs.Callers.{CallHolds, HasCallOrNone, HasNoCall, IsNowhere, call_sight, is_about}
 use Rattle.world_laws.specs.Families.{HoldsIn, NodeHolds, is_first_stage}
 use Rattle.world_laws.specs.Invariant.{FramesFit, Holds, MayBe}
-use Rattle.world_laws.specs.Names.{IsBringer, NameHolds, NameSight, OneIf, PlaysTo, comes_to, forker, held_at, is_stream_of, name_sight}
+use Rattle.world_laws.specs.Names.{IsBringer, NameHolds, NameSight, OneIf, comes_to, forker, held_at, is_stream_of, name_sight}
 use Rattle.world_laws.specs.Places.{Beside, DeedPlace, Unmade, InTable, InCheckpoint, InGrant, InGiveBack, InLeft, InKept, InHand, InExitTo}
-use Rattle.world_laws.specs.Plays.{Comes, Goes, Has, Hold, IsNeeded, Lacks, PlayStep, brings_checkpoint, is_call_on, begin, is_has, is_home_on, is_sent_by_place, needs_deed, play, plays, steps_if, steps_of}
-use Rattle.world_laws.specs.Sights.{directory_of, frames_to, is_born_in, is_born_stage, node_of, stage_of}
-use Rattle.world_laws.specs.Ways.{Way, here, tells, collected, over, gone, IsHere, is_recall_all, knows_parent, sent, way_sight}
+use Rattle.world_laws.specs.Plays.{Comes, Goes, Has, Hold, IsNeeded, Lacks, PlayStep, brings_checkpoint, begin, is_has, is_sent_by_place, play, plays, steps_if, steps_of}
+use Rattle.world_laws.specs.Sights.{frames_to, is_born_in, is_born_stage, node_of, stage_of}
+use Rattle.world_laws.specs.Ways.{Way, here, tells, collected, over, gone, is_recall_all, knows_parent, sent, way_sight}
 use Rattle.world_laws.proofs.NameFacts.{begins-without, play-goes, play-needs}
 use Rattle.world_laws.proofs.Named.{same-name}
 use Rattle.world_laws.proofs.Steps.{Heads, frames-low, node-there}
@@ -44,7 +43,7 @@ use Rattle.world_ends.proofs.Taken.{DropsFirst, drops-first}
 use Rattle.world_sent.proofs.Forwarded.{is-at-maker, is_right_home, on-right-home, sent-by}
 use Rattle.world_bounds.specs.Bounded.{FrameIsBounded, IsBounded, IsNode}
 use Rattle.world_rest.proofs.Senders.{Sender, carrier, carried-by-lower, sender-of}
-use Rattle.world_rest.proofs.Shaped.{HasStream, nobody-there, none-from, none-to, range-cases, stream-there, unborn-has-nothing}
+use Rattle.world_rest.proofs.Shaped.{HasStream, none-from, none-to, range-cases, stream-there, unborn-has-nothing}
 
 -- ---- tests and lists
 
@@ -131,8 +130,12 @@ in-exit forks_it pids name body to sender parcel left deed has one =
     by-place : (d : DeedPlace) → deed ≡ d → (g : Frame) → frames.ExitTo parcel ≡ g → IsBringer pids name body d g
         → is_stream_of forks_it d to sender ≡ true → IsInExit pids d parcel
     by-place (InExitTo c x) at g e h there =
-        record { node = c; carried = refl; pid_is = exit-pid parcel h.parcel (pids c) (e ∙ h.is)
-        (let has = h.has in has.of_process) }
+        record {
+          node = c;
+          carried = refl;
+          pid_is = exit-pid parcel h.parcel (pids c) (e ∙ h.is)
+              (let has = h.has in has.of_process);
+        }
     by-place (InCheckpoint c) at g e h there = absurd (let differ : frames.ExitTo parcel ≡ _ = e ∙ h.is in cc)
     by-place (InGrant c) at g e h there = absurd (let differ : frames.ExitTo parcel ≡ _ = e ∙ h in cc)
     by-place (InGiveBack c) at g e h there = absurd (let differ : frames.ExitTo parcel ≡ _ = e ∙ h in cc)
@@ -295,11 +298,13 @@ module _ (script : Script) (w : World) (b : Beside) (holds : Holds script w [] b
     plays-lacking name f left s e step =
         let known : NameHolds script b.pids (is_born_in w) name (sight name) = holds.names name
         in let old = known.plays p low-node
-        in (old.last,
-        sym (ap (λ h. play h (plays b.call name (frames_to w p 1))) (begins-lacking name)
-        ∙ ap (λ fs. play Lacks (plays b.call name fs)) e
-        ∙ ap (λ ss. play Lacks (ss ++ plays b.call name left)) step)
-        ∙ old.plays)
+        in (
+          old.last,
+          sym (ap (λ h. play h (plays b.call name (frames_to w p 1))) (begins-lacking name)
+              ∙ ap (λ fs. play Lacks (plays b.call name fs)) e
+              ∙ ap (λ ss. play Lacks (ss ++ plays b.call name left)) step)
+              ∙ old.plays,
+        )
 
     -- so it has nothing that a frame needs
     needs-nothing : (name : Name) (f : Frame) (left : List Frame) → frames_to w p 1 ≡ f ∷ left

@@ -6,27 +6,22 @@ use Rattle.std.proofs.lemmas.Bool.{cases_eq, eq-eqb, false≢true, lt-ltb}
 use Rattle.pico_base.specs.declared.call.Call.{Call}
 use Rattle.pico_base.specs.declared.numbers.Name.{Name}
 use Rattle.pico_base.specs.declared.numbers.Name.TheVariants.{Proc}
-use Rattle.pico_base.specs.declared.script.Event.{Event}
 use Rattle.pico_base.specs.declared.script.Event.TheVariants as events
 use Rattle.pico_base.specs.declared.script.Script.{Script}
 use Rattle.pico_base.specs.Home.{home_of}
-use Rattle.rpc_frame.specs.declared.asked.Asked.{Asked}
 use Rattle.rpc_frame.specs.declared.frame.Frame.{Frame}
 use Rattle.kernel_laws.proofs.Plain.{not_some}
 use Rattle.kernel_model.specs.Fitting.{FitsWhole, IsOver, Place, Places}
 use Rattle.kernel_model.specs.Kernel.{Process, alive_in, living_at}
 use Rattle.kernel_model.specs.Kernel as kernel
-use Rattle.kernel_model.specs.Row.{Alive}
 use Rattle.number_maps.specs.Maps.{get}
 use Rattle.number_maps.specs.Rising.{IsRising}
 use Rattle.number_maps.proofs.LookUps.{get-first, get-later}
 use Rattle.number_maps.proofs.Rising.{above-first, get-above, rising-rest}
-use Rattle.node_model.specs.declared.held.Held.{Held}
-use Rattle.node_model.specs.declared.held.Held.TheVariants.{Request}
 use Rattle.node_model.specs.Bodies.{Body, Deeds}
-use Rattle.node_model.specs.Directory.{held_for}
-use Rattle.node_model.specs.Kinds.{get_named, none_named}
-use Rattle.world_model.specs.Node.{Leaving, Left, Living, Node, Over, Stage, Unborn, can_run, is_living, unborn_node}
+use Rattle.node_model.specs.Kinds.{get_named}
+use Rattle.world_model.specs.Lives.{is_end}
+use Rattle.world_model.specs.Node.{Leaving, Left, Living, Node, Over, Stage, Unborn, can_run, is_living}
 use Rattle.world_model.specs.Run.{IsAtRest}
 use Rattle.world_model.specs.World.{World, is_enabled, is_number, is_run_enabled, node_at, node_count}
 use Rattle.world_laws.specs.Callers.{CallHolds, CallSight, FreeIn, HasCall, HasCallOrNone, HasEnded, HasNoCall, IsJustThere, asked_of, call_sight, frame_at, is_about, is_at_work, is_end_place, is_end_stage, is_held_at, is_in_hand, is_in_stream, is_item_about, may_be_in, only_if}
@@ -34,11 +29,12 @@ use Rattle.world_laws.specs.Families.{FamilyHolds, HoldsIn, IsItsOwn, IsWhereFor
 use Rattle.world_laws.specs.Invariant.{Holds, process_deed}
 use Rattle.world_laws.specs.Names.{NameHolds, held_as, held_at, name_sight}
 use Rattle.world_laws.specs.Places.{AsksLease, Beside, CallPlace, DeedPlace, Ends, HasLease, Idle, InAnswer, InAsk, InBounce, InCheckpoint, InExitTo, InGiveBack, InGrant, InHand, InKept, InLeft, InNotOwner, InRequest, InTable, IsHeld, IsInHand, SentByPlace, SentByRange, Unmade}
-use Rattle.world_laws.specs.Sights.{directory_of, frames_to, is_born_in, node_of, stage_of}
+use Rattle.world_laws.specs.Sights.{frames_to, is_born_in, node_of, stage_of}
 use Rattle.world_laws.specs.Ways.{Way, collected, gone, here, is_leaving_frame, is_recall_all, knows_parent, over, tells, under_way_of, way_sight}
 use Rattle.world_laws.proofs.Named.{same-name}
 use Rattle.world_rules.proofs.Nodes.{and-true}
 use Rattle.world_laws.proofs.Steps.{node-there}
+use Rattle.world_ends.proofs.RecallAlls.{ends-by-end}
 use Rattle.world_bounds.specs.Bounded.{IsBounded}
 use Rattle.world_rest.specs.Laws.{IsNodeAtRest, IsQuiet}
 use Rattle.world_rest.proofs.Held.{none-kept, not-in-hand, not-on-way, nothing-held}
@@ -176,15 +172,30 @@ module _ (script : Script) (w : World) (b : Beside) (holds : Holds script w [] b
         by-place (InAnswer h reply) e = no-stream (InAnswer h reply) e refl
 
     -- so it is where a process leaves, or has left
-    call-at-end : (o : Option Call) → under_way_of w p ≡ o → is_end_stage (stage_of w p) ≡ false → o ≡ None
-    call-at-end None e stage = refl
-    call-at-end (Some call) e stage =
+    record EndsHere (call : Call) : Type 0 where
+      stage : is_end_stage (stage_of w p) ≡ true
+      is_an_end : is_end call ≡ true
+
+    call-at-end : (call : Call) → under_way_of w p ≡ Some call → EndsHere call
+    call-at-end call e =
         let has : HasCall script p (is_born_in w) x call =
         subst (λ o. HasCallOrNone script p (is_born_in w) x o) e call-holds.call
-        in absurd (false≢true (sym stage ∙ sym call-holds.ends ∙ ap is_end_place (call-ends call has)))
+        in let place : b.call p ≡ Ends = call-ends call has
+        in record {
+          stage = sym call-holds.ends ∙ ap is_end_place place;
+          is_an_end = ends-by-end (node_of w p).pid call
+              (sym (ap (λ c. may_be_in c (home_of (node_of w p).pid call) call) place) ∙ has.home);
+        }
+
+    -- and nowhere else
+    none-before : (o : Option Call) → under_way_of w p ≡ o → is_end_stage (stage_of w p) ≡ false → o ≡ None
+    none-before None e stage = refl
+    none-before (Some call) e stage =
+        let ends : EndsHere call = call-at-end call e
+        in absurd (false≢true (sym stage ∙ ends.stage))
 
     no-call : is_end_stage (stage_of w p) ≡ false → under_way_of w p ≡ None
-    no-call stage = call-at-end (under_way_of w p) refl stage
+    no-call stage = none-before (under_way_of w p) refl stage
 
     none-free : is_end_stage (stage_of w p) ≡ false → HasNoCall script p x
     none-free stage =
@@ -238,7 +249,13 @@ module _ (script : Script) (w : World) (b : Beside) (holds : Holds script w [] b
 
     -- The node isn't born, has left, or is node 1, whose process is over.
     pub node-at-rest : IsNodeAtRest w p
-    node-at-rest = record { stage = by-stage (stage_of w p) refl; idle = idle (stage_of w p) refl }
+    node-at-rest =
+        record {
+          stage = by-stage (stage_of w p) refl;
+          calls = λ call e.
+              let ends : EndsHere call = call-at-end call e
+              in (has-left (stage_of w p) refl ends.stage, ends.is_an_end);
+        }
       where
         by-stage : (s : Stage) → stage_of w p ≡ s
             → (s ≡ Unborn) ⊎ (s ≡ Left) ⊎ ((p ≡ 1) × (s ≡ Over))
@@ -252,12 +269,10 @@ module _ (script : Script) (w : World) (b : Beside) (holds : Holds script w [] b
               | inr other ↦ absurd (node-holds.others other e)
             ]
 
-        idle : (s : Stage) → stage_of w p ≡ s → s ≢ Left → under_way_of w p ≡ None
-        idle Left e other = absurd (other refl)
-        idle Leaving e other = absurd (not-leaving e)
-        idle Unborn e other = no-call (ap is_end_stage e)
-        idle Living e other = no-call (ap is_end_stage e)
-        idle Over e other = no-call (ap is_end_stage e)
+        has-left : (s : Stage) → stage_of w p ≡ s → is_end_stage s ≡ true → s ≡ Left
+        has-left Left e h = refl
+        has-left Leaving e h = absurd (not-leaving e)
+        has-left s e h = absurd (false≢true h)
 
   -- ---- processes
 
@@ -323,6 +338,17 @@ module _ (script : Script) (w : World) (b : Beside) (holds : Holds script w [] b
       by-process (kernel.Living alive) is at = by-place (b.deed (Proc (b.pids c))) refl at
       by-process (kernel.Ended ending) is at = ap (option_and_then alive_in) is
       by-process kernel.Gone is at = ap (option_and_then alive_in) is
+
+  -- No process lives.
+  pub nobody-lives : (pid : ℕ) → living_at b.kernel pid ≡ None
+  nobody-lives pid = by-process (get b.kernel.processes pid) refl
+    where
+      by-process : (o : Option Process) → get b.kernel.processes pid ≡ o → living_at b.kernel pid ≡ None
+      by-process None is = ap (option_and_then alive_in) is
+      by-process (Some process) is =
+          let pids = holds.pids
+          in let of = pids.there pid process is
+          in sym (ap (living_at b.kernel) of.1) ∙ none-lives of.0 (λ e. of.2 (sym of.1 ∙ e))
 
   -- Each process has made its last call.
   pub place-over : (pid : ℕ) (place : Place) → get b.places pid ≡ Some place → place.left ≡ []
