@@ -1,5 +1,5 @@
 -- Block 1 of a sound script, with all that it forks, comes to no more calls than the script has.
-use Rattle.std.proofs.Common.{◌≡◌, ◌≢◌, ℕ, zero, suc, ◌+◌, ◌-◌, ◌≤◌, ◌<◌, Bool, true, false, ◌&&◌, ◌||◌, nat_eq, List, [], ◌∷◌, ◌++◌, length, map, flat_map, Option, Some, None, refl, ap, sym, subst, ◌∙◌, inl, inr, arith}
+use Rattle.std.proofs.Common.{◌≡◌, ℕ, zero, suc, ◌+◌, ◌-◌, ◌≤◌, ◌<◌, Bool, true, false, ◌||◌, nat_eq, List, [], ◌∷◌, ◌++◌, length, map, Some, refl, ap, sym, subst, ◌∙◌, arith}
 use Rattle.std.specs.Prelude.{if◌then◌else◌, slice_get, sum_by, count_by, nat_le}
 use Rattle.std.specs.List.{AllByRecursion, list_all, enumerate_from}
 use Rattle.std.proofs.lemmas.Bool.{and_parts, eqb-true, leb-true, ne_eqb}
@@ -8,10 +8,9 @@ use Rattle.pico_base.specs.declared.script.Block.{Block}
 use Rattle.pico_base.specs.declared.script.Line.{Line}
 use Rattle.pico_base.specs.declared.script.Script.{Script}
 use Rattle.kernel_model.specs.Numbers.{is_between}
-use Rattle.kernel_model.specs.Script.{Fork, IsSoundScript, calls_in, fork_from, fork_targets, forks_of, is_exit, is_forked_once, is_line, max_calls, with_exit}
+use Rattle.kernel_model.specs.Script.{Fork, IsSoundScript, calls_in, fork_targets, forks_of, is_exit, is_forked_once, is_line, max_calls, with_exit}
 use Rattle.node_model.specs.Caller.{lines_in, lines_of}
-use Rattle.world_model.specs.World.{node_count}
-use Rattle.world_bounds.proofs.Costs.{all-behind, all_tos, cost, cost-is, forks_from, forks_in, line_cost, lines_cost, tos_of}
+use Rattle.world_bounds.proofs.Costs.{all-behind, all_tos, cost, cost-is, forks_from, forks_in, lines_cost, tos_of}
 use Rattle.world_bounds.proofs.Totals.{ranged, times, times-is-count, total, total-append, total-is-sum, total-ranged}
 
 -- ---- each line is tried once at least
@@ -22,6 +21,7 @@ line-tries line h =
     (and_parts (nat_le 1 line.tries) (nat_le line.tries max_calls)
     (and_parts (is_between 1 max_calls line.tries) _ h).0).0
 
+-- each is tried once at least
 abbrev pub AreTried : List Line → Type 0
 AreTried lines = AllByRecursion (λ line. 1 ≤ line.tries) lines
 

@@ -1,25 +1,22 @@
 -- The calls of a sound script: none waits, a message's type has four bytes, and a fork is of a block of the script.
-use Rattle.std.proofs.Common.{◌≡◌, ℕ, zero, suc, ◌<◌, ◌≤◌, ◌^◌, ℤ, pos, negsuc, Bool, true, false, not, ◌&&◌, List, [], ◌∷◌, Option, Some, None, is_some, refl, ap, sym, ◌∙◌, inl, inr, arith}
-use Rattle.std.specs.Prelude.{if◌then◌else◌, int_le, slice_get, FitsSigned}
+use Rattle.std.proofs.Common.{◌≡◌, ℕ, ◌≤◌, ℤ, pos, negsuc, true, false, Option, Some, None, refl, inl, inr, arith}
+use Rattle.std.specs.Prelude.{int_le, FitsSigned}
 use Rattle.std.specs.Int.{w32}
-use Rattle.std.specs.List.{list_all, list_any}
 use Rattle.std.proofs.lemmas.Bool.{and_parts, false≢true, leb-true}
 use Rattle.std.proofs.lemmas.Int.{fits_signed_from_abs}
 use Rattle.pico_base.specs.declared.call.Call.{Call}
 use Rattle.pico_base.specs.declared.call.Call.TheVariants as calls
-use Rattle.pico_base.specs.declared.script.Line.{Line}
 use Rattle.pico_base.specs.declared.script.Script.{Script}
-use Rattle.kernel_model.specs.Fitting.{IsDue, is_killed}
-use Rattle.kernel_model.specs.Script.{IsSoundScript, Vars, call_of, call_from, can_name, is_fork, is_in_range, is_line, is_process_in_range, is_tried_once, is_type, is_variable, max_calls, sets_rightly, value_of, with_target}
-use Rattle.kernel_model.specs.Numbers.{is_between}
+use Rattle.kernel_model.specs.Fitting.{is_killed}
+use Rattle.kernel_model.specs.Script.{IsSoundScript, Vars, call_from, is_in_range, is_type, value_of, with_target}
 use Rattle.kernel_model.specs.Waiting.{is_waiting}
 use Rattle.kernel_moves.proofs.Places.{due-is-fine}
-use Rattle.node_model.specs.Caller.{Caller, caller_place}
 use Rattle.deeds_read.specs.Small.{IsSmallCall}
 use Rattle.world_hand.proofs.Asks.{NeverWaits}
 
 -- ---- none waits
 
+-- an end by a signal doesn't wait
 pub killed-never-waits : (call : Call) → is_killed call ≡ true → is_waiting call ≡ false
 killed-never-waits (calls.Killed sig) h = refl
 killed-never-waits call h = absurd (false≢true h)
@@ -42,6 +39,7 @@ type-fits (negsuc m) h =
     (and_parts (int_le (negsuc 2147483646) (negsuc m)) (int_le (negsuc m) (pos 2147483647)) h).0
     in fits_signed_from_abs w32 (negsuc m) (omega (arith, low))
 
+-- a call in range is small
 pub small-in-range : (call : Call) → is_in_range call ≡ true → IsSmallCall call
 small-in-range (calls.MsgSnd id class text nowait) h =
     type-fits class (and_parts (is_type class) _ (and_parts _ _ h).1).0

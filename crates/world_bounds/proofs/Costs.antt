@@ -1,20 +1,18 @@
 -- How many calls a block may come to, with all that it forks, in a sound script: never more than the script has.
-use Rattle.std.proofs.Common.{◌≡◌, ◌≢◌, ℕ, zero, suc, ◌+◌, ◌-◌, ◌≤◌, ◌<◌, Bool, true, false, ◌&&◌, cond, nat_eq, List, [], ◌∷◌, ◌++◌, length, map, flat_map, Option, Some, None, refl, ap, sym, subst, ◌∙◌, inl, inr, arith}
-use Rattle.std.specs.Prelude.{if◌then◌else◌, slice_get, sum_by, count_by, nat_le, ◌||◌}
+use Rattle.std.proofs.Common.{◌≡◌, ℕ, zero, suc, ◌+◌, ◌-◌, ◌≤◌, ◌<◌, Bool, true, false, List, [], ◌∷◌, ◌++◌, map, flat_map, Option, Some, None, refl, ap, sym, subst, ◌∙◌, arith}
+use Rattle.std.specs.Prelude.{if◌then◌else◌, slice_get}
 use Rattle.std.specs.List.{AllByRecursion, list_all, enumerate_from}
-use Rattle.std.proofs.lemmas.Bool.{and_parts, cases_eq, eqb-true, false≢true, leb-true, ltb-true, ne_eqb}
+use Rattle.std.proofs.lemmas.Bool.{and_parts, leb-true, ltb-true}
 use Rattle.std.proofs.lemmas.List.Folds.{list_all-append}
 use Rattle.std.proofs.lemmas.Option.{slice_get_within}
-use Rattle.pico_base.specs.declared.call.Call.{Call}
 use Rattle.pico_base.specs.declared.script.Block.{Block}
 use Rattle.pico_base.specs.declared.script.Line.{Line}
 use Rattle.pico_base.specs.declared.script.Script.{Script}
 use Rattle.kernel_model.specs.Fitting.{block_at}
-use Rattle.kernel_model.specs.Numbers.{is_between}
-use Rattle.kernel_model.specs.Script.{Fork, IsSoundScript, calls_in, fork_from, fork_targets, forks_of, goes_forward, is_exit, is_forked_once, is_line, max_calls, with_exit}
+use Rattle.kernel_model.specs.Script.{Fork, IsSoundScript, fork_from, fork_targets, goes_forward, is_exit, with_exit}
 use Rattle.node_model.specs.Caller.{lines_in, lines_of}
 use Rattle.world_model.specs.World.{node_count}
-use Rattle.world_bounds.proofs.Totals.{one_if, ranged, times, times-is-count, total, total-append, total-ranged}
+use Rattle.world_bounds.proofs.Totals.{total}
 
 -- ---- what lines cost, where it is known what each block does
 
@@ -22,6 +20,7 @@ use Rattle.world_bounds.proofs.Totals.{one_if, ranged, times, times-is-count, to
 abbrev pub line_cost : (ℕ → ℕ) → Line → ℕ
 line_cost block_cost line = suc (line.tries - 1) + total block_cost (fork_targets line.call)
 
+-- all of these lines
 abbrev pub lines_cost : (ℕ → ℕ) → List Line → ℕ
 lines_cost block_cost lines = total (line_cost block_cost) lines
 
@@ -36,6 +35,7 @@ cost script = cost_to script (suc (node_count script))
 
 -- ---- where lines fork to
 
+-- each block that lines fork is so
 abbrev pub TargetsAre : (ℕ → Type 0) → List Line → Type 0
 TargetsAre P lines = AllByRecursion (λ line. AllByRecursion P (fork_targets line.call)) lines
 
@@ -67,12 +67,15 @@ targets-with-exit P (line ∷ lines) all = by (is_exit line.call) (targets-with-
 abbrev pub tos_of : List Line → List ℕ
 tos_of lines = flat_map (λ line. fork_targets line.call) lines
 
+-- the same for blocks
 abbrev pub all_tos : List Block → List ℕ
 all_tos blocks = flat_map (λ block. tos_of block.lines) blocks
 
+-- the forks to these blocks from one, and those of blocks by number
 abbrev pub forks_in : ℕ → List ℕ → List Fork
 forks_in k tos = map (fork_from k) tos
 
+-- those of all blocks, from this number on
 abbrev pub forks_from : ℕ → List Block → List Fork
 forks_from k blocks = flat_map (λ b. forks_in b.0 (tos_of b.1.lines)) (enumerate_from k blocks)
 
@@ -99,13 +102,15 @@ module _ (script : Script) where
   in-front P [] ys all = (tt, all)
   in-front P (x ∷ xs) ys all = let rest = in-front P xs ys all.1 in ((all.0, rest.0), rest.1)
 
+  -- what all forks of lines are, those of each line are
   pub targets-of-tos : (P : ℕ → Type 0) (lines : List Line) → AllByRecursion P (tos_of lines) → TargetsAre P lines
   targets-of-tos P [] all = tt
   targets-of-tos P (line ∷ lines) all =
       let parts = in-front P (fork_targets line.call) (tos_of lines) all
       in (parts.0, targets-of-tos P lines parts.1)
 
-  parts-of : (k : ℕ) (b : Block) (blocks : List Block) → list_all (goes_forward script) (forks_from k (b ∷ blocks)) ≡ true
+  parts-of : (k : ℕ) (b : Block) (blocks : List Block)
+      → list_all (goes_forward script) (forks_from k (b ∷ blocks)) ≡ true
       → (list_all (goes_forward script) (forks_in k (tos_of b.lines)) ≡ true)
       × (list_all (goes_forward script) (forks_from (k + 1) blocks) ≡ true)
   parts-of k b blocks h =
@@ -113,8 +118,10 @@ module _ (script : Script) where
       (list_all (goes_forward script) (forks_from (k + 1) blocks))
       (sym (list_all-append (goes_forward script) (forks_in k (tos_of b.lines)) (forks_from (k + 1) blocks)) ∙ h)
 
+  -- each block of a script whose forks go forward forks blocks behind it
   pub forward-from : (k : ℕ) (blocks : List Block) → list_all (goes_forward script) (forks_from k blocks) ≡ true
-      → (i : ℕ) (block : Block) → slice_get blocks i ≡ Some block → AllByRecursion (IsBehind (k + i)) (tos_of block.lines)
+      → (i : ℕ) (block : Block) → slice_get blocks i ≡ Some block
+      → AllByRecursion (IsBehind (k + i)) (tos_of block.lines)
   forward-from k [] h i block is = absurd (cc)
   forward-from k (b ∷ blocks) h zero block is =
       let same : b ≡ block = cc
@@ -127,6 +134,7 @@ module _ (script : Script) where
       in subst (λ n. AllByRecursion (IsBehind n) (tos_of block.lines)) same
       (forward-from (k + 1) blocks (parts-of k b blocks h).1 i block is)
 
+  -- so all that they fork is behind the first of them
   pub all-behind : (k : ℕ) (blocks : List Block) → list_all (goes_forward script) (forks_from k blocks) ≡ true
       → AllByRecursion (IsBehind k) (all_tos blocks)
   all-behind k [] h = tt
@@ -156,6 +164,7 @@ module _ (script : Script) (sound : IsSoundScript script) where
       (targets-of-tos script (IsBehind script (1 + (block - 1))) b.lines
       (forward-from script 1 script.blocks sound.forward (block - 1) b is))
 
+  -- the lines of a block, with the exit that ends it, fork blocks behind it
   pub targets-are-behind : (block : ℕ) → TargetsAre (IsBehind script (1 + (block - 1))) (lines_of script block)
   targets-are-behind block = targets-in block (block_at script block) refl
 

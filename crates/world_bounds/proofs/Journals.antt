@@ -1,6 +1,6 @@
 -- A history that fits a sound script has no more entries than the script has calls.
-use Rattle.std.proofs.Common.{◌≡◌, ◌≢◌, ◌⊎◌, ℕ, ◌+◌, ◌≤◌, ◌<◌, List, [], ◌∷◌, length, Option, Some, None, refl, ap, sym, subst, ◌∙◌, inl, inr, arith}
-use Rattle.std.specs.Prelude.{is_some, sum_by}
+use Rattle.std.proofs.Common.{◌≡◌, ℕ, ◌+◌, ◌≤◌, List, [], ◌∷◌, length, Option, Some, ap, sym, subst, ◌∙◌, inl, inr, arith}
+use Rattle.std.specs.Prelude.{sum_by}
 use Rattle.std.proofs.lemmas.Bool.{cases_order}
 use Rattle.pico_base.specs.declared.call.Call.{Call}
 use Rattle.pico_base.specs.declared.call.Call.TheVariants as calls
@@ -13,12 +13,11 @@ use Rattle.number_maps.specs.Maps.{Numbered, get, put}
 use Rattle.number_maps.specs.Rising.{IsRising}
 use Rattle.number_maps.proofs.LookUps.{get-first, get-later, put-equal, put-greater, put-less}
 use Rattle.number_maps.proofs.Rising.{above-first, above-lower, get-above, rising-behind, rising-nothing, rising-put, rising-rest}
-use Rattle.kernel_model.specs.Effect.{reply_alone}
-use Rattle.kernel_model.specs.Fitting.{FitsFrom, HasReplyAlone, IsDue, Place, Places, block_at, block_place, child_vars, move_on, opening_places, places_after, places_after_fork}
+use Rattle.kernel_laws.proofs.Plain.{from_some, not_some}
+use Rattle.kernel_model.specs.Fitting.{FitsFrom, IsDue, Place, Places, block_at, block_place, child_vars, move_on, opening_places, places_after, places_after_fork}
 use Rattle.kernel_model.specs.Script.{IsSoundScript, Vars, calls_in}
-use Rattle.node_model.specs.Caller.{lines_of}
 use Rattle.world_bounds.proofs.Blocks.{first-cost}
-use Rattle.world_bounds.proofs.Costs.{cost, cost-is, lines_cost}
+use Rattle.world_bounds.proofs.Costs.{cost, cost-is}
 use Rattle.world_bounds.proofs.Spending.{block-place-cost, entry-spends, given, place_cost}
 use Rattle.world_bounds.proofs.Totals.{total}
 
@@ -27,12 +26,6 @@ use Rattle.world_bounds.proofs.Totals.{total}
 -- what all that a map has comes to
 abbrev pub total_of : {V : Type 0} → (V → ℕ) → Numbered V → ℕ
 total_of f m = total (λ e. f e.1) m
-
-some-same : {A : Type 0} (x y : A) → Some x ≡ Some y → x ≡ y
-some-same x y h = cc
-
-none-is-not : {A : Type 0} (x : A) → None ≡ Some x → ⊥
-none-is-not x h = cc
 
 total-put : {V : Type 0} (f : V → ℕ) (m : Numbered V) (k : ℕ) (v : V) → total_of f (put m k v) ≤ total_of f m + f v
 total-put f [] k v = omega arith
@@ -57,20 +50,20 @@ total-put f (e ∷ m) k v =
 
 total-changed : {V : Type 0} (f : V → ℕ) (m : Numbered V) (k : ℕ) (v old : V) → IsRising m → get m k ≡ Some old
     → total_of f (put m k v) + f old ≤ total_of f m + f v
-total-changed f [] k v old rises there = absurd (none-is-not old there)
+total-changed f [] k v old rises there = not_some old there
 total-changed f (e ∷ m) k v old rises there =
     elim (cases_order k e.0) [
       | inl same ↦
           let is : total_of f (put (e ∷ m) k v) ≡ f v + total_of f m = ap (total_of f) (put-equal e m k v same)
-          in let was : f e.1 ≡ f old = ap f (some-same e.1 old (sym (get-first e m k same) ∙ there))
+          in let was : f e.1 ≡ f old = ap f (from_some e.1 old (sym (get-first e m k same) ∙ there))
           in omega (arith, is, was)
       | inr c ↦
           elim c [
             | inl less ↦
-                absurd (none-is-not old
+                not_some old
                 (sym (get-later e m k (λ same. omega (arith, same, less))
                 ∙ get-above k m (above-lower k e.0 m less (above-first e m rises)))
-                ∙ there))
+                ∙ there)
             | inr more ↦
                 let is : total_of f (put (e ∷ m) k v) ≡ f e.1 + total_of f (put m k v) =
                 ap (total_of f) (put-greater e m k v more)
@@ -97,7 +90,8 @@ module _ (script : Script) (sound : IsSoundScript script) where
       → left_to_do (places_after_fork script places place call (Some reply))
       ≤ left_to_do places + given (cost script) call reply
   forked-costs places place (calls.Fork block) (replies.Num child) =
-      let put = total-put (place_cost (cost script)) places child (block_place (block_at script block) (child_vars place))
+      let put =
+      total-put (place_cost (cost script)) places child (block_place (block_at script block) (child_vars place))
       in let start = start-costs block (child_vars place)
       in omega (arith, put, start)
   forked-costs places place (calls.Fork block) reply = omega arith
@@ -150,8 +144,8 @@ module _ (script : Script) (sound : IsSoundScript script) where
       in omega (arith, less, rest)
 
   -- A journal that fits the script is no longer than its calls, each line counted as often as it may be tried.
-  pub journal-is-short : (journal : List Entry) (places : Places) → FitsFrom script (opening_places script) journal places
-      → length journal ≤ sum_by calls_in script.blocks
+  pub journal-is-short : (journal : List Entry) (places : Places)
+      → FitsFrom script (opening_places script) journal places → length journal ≤ sum_by calls_in script.blocks
   journal-is-short journal places fits =
       let first =
       spent-along journal (opening_places script) places

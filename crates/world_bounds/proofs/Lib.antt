@@ -10,6 +10,7 @@ pub mod Scripts
 pub mod Smalls
 pub mod Deeds
 pub mod Parts
+pub mod Watched
 pub mod StepParts
 pub mod NewNames
 pub mod Routed

@@ -1,7 +1,5 @@
 -- A number is taken, and a process, queue or set is made with it: bounds stay.
-use Rattle.std.proofs.Common.{◌≡◌, ℕ, Bool, true, false, not, ◌&&◌, nat_eq, List, [], ◌∷◌, Option, Some, None, Result, Ok, Err, refl, ap, sym, subst, ◌∙◌}
-use Rattle.std.specs.Prelude.{if◌then◌else◌}
-use Rattle.std.specs.Option.{option_and_then, option_map}
+use Rattle.std.proofs.Common.{ℕ, not, ◌&&◌, List, [], ◌∷◌, Result, Ok, Err}
 use Rattle.pico_base.specs.declared.call.Call.{Call}
 use Rattle.pico_base.specs.declared.call.Call.TheVariants as calls
 use Rattle.pico_base.specs.declared.numbers.Kind.{Kind}
@@ -46,13 +44,14 @@ module _ (script : Script) where
   take-first-bounded n kind [] k = tt
   take-first-bounded n kind (number ∷ numbers) k =
       with-tables-bounded script n n.deeds n.watches (with_kind n.leases kind numbers) n.stage k k.deeds
+      k.watches
 
   next-range-bounded : (n : Node) (kind : Kind) → NodeIsBounded script n → NodeIsBounded script (with_next_range n kind)
   next-range-bounded n kind k =
       with-directory-bounded script (record n { leases = refill n.leases kind (upcoming n.leader.directory kind) })
       (with_range n.leader.directory kind 1)
       (with-tables-bounded script n n.deeds n.watches (refill n.leases kind (upcoming n.leader.directory kind)) n.stage
-      k k.deeds)
+      k k.deeds k.watches)
       (range-names script n.leader.directory kind 1 k.directory (first-is-node script n.number k.number))
 
   take-from-bounded : (n : Node) (kind : Kind) (numbers : List ℕ) → NodeIsBounded script n

@@ -1,31 +1,30 @@
 -- Changes of a node's tables, of the directory, and of the cache keep their bounds.
-use Rattle.std.proofs.Common.{◌≡◌, ◌≢◌, ℕ, zero, suc, ◌-◌, ◌/◌, Bool, true, false, not, ◌&&◌, cond, nat_eq, List, [], ◌∷◌, ◌++◌, map, filter, take, fold, Option, Some, None, refl, ap, sym, subst, ◌∙◌, inl, inr}
+use Rattle.std.proofs.Common.{◌≡◌, ℕ, zero, suc, ◌-◌, ◌/◌, Bool, true, false, not, ◌&&◌, cond, nat_eq, List, [], ◌∷◌, ◌++◌, filter, take, Option, Some, None, refl, ap, sym, subst, ◌∙◌, inl, inr}
 use Rattle.std.specs.Prelude.{if◌then◌else◌, slice_get}
 use Rattle.std.specs.List.{AllByRecursion}
 use Rattle.std.specs.Option.{option_and_then, option_map}
-use Rattle.std.proofs.lemmas.Bool.{cases_Bool, cases_eq}
+use Rattle.std.proofs.lemmas.Bool.{cases_eq}
 use Rattle.pico_base.specs.declared.numbers.Kind.{Kind}
 use Rattle.pico_base.specs.declared.numbers.Kind.TheVariants as kinds
 use Rattle.pico_base.specs.declared.numbers.Name.{Name}
 use Rattle.pico_base.specs.declared.numbers.Name.TheVariants.{Proc, Msg, Sem}
 use Rattle.pico_base.specs.declared.script.Script.{Script}
 use Rattle.number_maps.specs.Maps.{Numbered, get}
-use Rattle.number_maps.specs.Rising.{IsRising}
 use Rattle.number_maps.proofs.LookUps.{get-first, get-later}
-use Rattle.number_maps.proofs.Rising.{rising-behind, rising-filter, rising-nothing, rising-put}
-use Rattle.kernel_laws.proofs.Plain.{Of, by_test}
+use Rattle.number_maps.proofs.Rising.{rising-filter, rising-nothing, rising-put}
+use Rattle.kernel_laws.proofs.Plain.{Of, by_test, from_some, not_some}
 use Rattle.kernel_moves.proofs.Names.{get-put-other-name, get-put-same-name, name-cases}
 use Rattle.node_model.specs.declared.held.Held.{Held}
 use Rattle.node_model.specs.declared.route.Route.{Route}
 use Rattle.node_model.specs.declared.route.Route.TheVariants as routes
-use Rattle.node_model.specs.Bodies.{Deeds}
 use Rattle.node_model.specs.Cache.{Cache, forget, learn, look, look_by, max_cached, owner_in}
-use Rattle.node_model.specs.Directory.{Directory, Place, At, Coming, all_places_without, arrive, bound_for, destination_of, held_for, hold, hold_at, is_known, items_of, maker, maker_in, maker_stays, place_name, place_of, place_without, places_without, range_size, recall, route, route_by, route_by_maker, stays, with_leaving, with_left, with_place, with_range}
+use Rattle.node_model.specs.Directory.{Directory, Place, At, Coming, arrive, bound_for, destination_of, held_for, hold, hold_at, is_known, items_of, maker, maker_in, maker_stays, place_name, place_of, place_without, places_without, range_size, recall, route, route_by, with_leaving, with_left, with_place, with_range}
 use Rattle.node_model.specs.Kinds.{Named, for_kind, get_named, is_same_name, kind_of, number_of, none_named, put_all, put_named, without_named}
 use Rattle.world_bounds.specs.Bounded.{AllRise, IsNode, ItemIsOfNode, ItemsAreOfNodes, LeadsToNode, NamesNodes, PlaceNamesNodes}
 
 -- ---- lists
 
+-- what holds of all of each holds of all of both
 pub all-both : {A : Type 0} (P : A → Type 0) (xs ys : List A) → AllByRecursion P xs → AllByRecursion P ys
     → AllByRecursion P (xs ++ ys)
 all-both P [] ys a c = c
@@ -37,6 +36,7 @@ pub all-parts : {A : Type 0} (P : A → Type 0) (xs ys : List A) → AllByRecurs
 all-parts P [] ys all = (tt, all)
 all-parts P (x ∷ xs) ys all = let rest = all-parts P xs ys all.1 in ((all.0, rest.0), rest.1)
 
+-- a filter keeps some
 pub all-filtered : {A : Type 0} (P : A → Type 0) (test : A → Bool) (xs : List A) → AllByRecursion P xs
     → AllByRecursion P (filter test xs)
 all-filtered P test [] all = tt
@@ -52,6 +52,7 @@ all-taken P zero xs all = tt
 all-taken P (suc n) [] all = tt
 all-taken P (suc n) (x ∷ xs) all = (all.0, all-taken P n xs all.1)
 
+-- and what holds of all holds of each
 pub all-at : {A : Type 0} (P : A → Type 0) (xs : List A) (i : ℕ) (x : A) → AllByRecursion P xs
     → slice_get xs i ≡ Some x → P x
 all-at P [] i x all is = absurd (cc)
@@ -60,30 +61,28 @@ all-at P (y ∷ ys) (suc i) x all is = all-at P ys i x all.1 is
 
 -- ---- options
 
+-- what comes of an option, where each thing that it may have leads to what holds
 pub of-next : {A B : Type 0} (P : B → Type 0) (o : Option A) (f : A → Option B) → ((x : A) → o ≡ Some x → Of P (f x))
     → Of P (option_and_then f o)
 of-next P None f h = tt
 of-next P (Some x) f h = h x refl
 
+-- the same of a map
 pub of-map : {A B : Type 0} (P : B → Type 0) (o : Option A) (f : A → B) → ((x : A) → o ≡ Some x → P (f x))
     → Of P (option_map f o)
 of-map P None f h = tt
 of-map P (Some x) f h = h x refl
 
+-- the same of a test
 pub of-test : {A : Type 0} (P : A → Type 0) (b : Bool) (o : Option A) → (b ≡ true → Of P o)
     → Of P (if b then o else None)
 of-test P true o h = h refl
 of-test P false o h = tt
 
+-- and what holds of an option holds of what it has
 pub of-some : {A : Type 0} (P : A → Type 0) (o : Option A) (x : A) → Of P o → o ≡ Some x → P x
-of-some P None x h is = absurd (none-is-not is)
-  where
-    none-is-not : None ≡ Some x → ⊥
-    none-is-not e = cc
-of-some P (Some y) x h is = subst P (some-same is) h
-  where
-    some-same : Some y ≡ Some x → y ≡ x
-    some-same e = cc
+of-some P None x h is = not_some x is
+of-some P (Some y) x h is = subst P (from_some y x is) h
 
 -- ---- maps from names
 
@@ -91,6 +90,7 @@ of-some P (Some y) x h is = subst P (some-same is) h
 pub none-rises : {V : Type 0} → AllRise {V = V} none_named
 none-rises {V} = record { processes = rising-nothing V; queues = rising-nothing V; sets = rising-nothing V }
 
+-- so does one with a further value
 pub put-rises : {V : Type 0} (m : Named V) (name : Name) (v : V) → AllRise m → AllRise (put_named m name v)
 put-rises m (Proc n) v r =
     record { processes = rising-put m.processes n v r.processes; queues = r.queues; sets = r.sets }
@@ -99,6 +99,7 @@ put-rises m (Msg n) v r =
 put-rises m (Sem n) v r =
     record { processes = r.processes; queues = r.queues; sets = rising-put m.sets n v r.sets }
 
+-- one with a value less
 pub without-rises : {V : Type 0} (m : Named V) (name : Name) → AllRise m → AllRise (without_named m name)
 without-rises m (Proc n) r =
     record {
@@ -119,6 +120,7 @@ without-rises m (Sem n) r =
       sets = rising-filter (λ e. not (nat_eq n e.0)) m.sets r.sets;
     }
 
+-- and one with several more
 pub put-all-rises : {V : Type 0} (pairs : List (Name × V)) (m : Named V) → AllRise m → AllRise (put_all m pairs)
 put-all-rises [] m r = r
 put-all-rises (pair ∷ pairs) m r =
@@ -130,16 +132,19 @@ module _ (script : Script) where
   abbrev CacheNamesNodes : Cache → Type 0
   CacheNamesNodes cache = AllByRecursion (λ e. IsNode script e.1) cache
 
+  -- a cache without a name
   pub forget-names : (cache : Cache) (name : Name) → CacheNamesNodes cache → CacheNamesNodes (forget cache name)
   forget-names cache name all =
       all-filtered (λ e. IsNode script e.1) (λ e. not (is_same_name name e.0)) cache all
 
+  -- with a further name
   pub learn-names : (cache : Cache) (name : Name) (node : ℕ) → CacheNamesNodes cache → IsNode script node
       → CacheNamesNodes (learn cache name node)
   learn-names cache name node all own =
       all-taken (λ e. IsNode script e.1) max_cached ((name, node) ∷ forget cache name)
       (own, forget-names cache name all)
 
+  -- the owner that it names
   pub owner-is-node : (cache : Cache) (name : Name) → CacheNamesNodes cache → LeadsToNode script (owner_in cache name)
   owner-is-node [] name all = tt
   owner-is-node (e ∷ cache) name all = by (is_same_name name e.0) all.0 (owner-is-node cache name all.1)
@@ -154,42 +159,47 @@ module _ (script : Script) where
   look-by-names cache name None all own = all
   look-by-names cache name (Some node) all own = (own, forget-names cache name all)
 
+  -- and after a look
   pub look-names : (cache : Cache) (name : Name) → CacheNamesNodes cache → CacheNamesNodes (look cache name)
   look-names cache name all = look-by-names cache name (owner_in cache name) all (owner-is-node cache name all)
 
   -- ---- the directory
 
-  abbrev Place-Ok : Option Place → Type 0
-  Place-Ok o = PlaceNamesNodes script o
+  abbrev IsFine : Option Place → Type 0
+  IsFine o = PlaceNamesNodes script o
 
-  pub place-put : (d : Directory) (name : Name) (place : Place) → NamesNodes script d → Place-Ok (Some place)
+  -- the directory with another place of a name
+  pub place-put : (d : Directory) (name : Name) (place : Place) → NamesNodes script d → IsFine (Some place)
       → NamesNodes script (with_place d name place)
   place-put d name place k own =
       record {
         places = λ other. elim (name-cases other name) [
           | inl same ↦
-              subst (λ m. Place-Ok (get_named (put_named d.places name place) m)) (sym same)
-              (subst Place-Ok (sym (get-put-same-name d.places name place)) own)
-          | inr apart ↦ subst Place-Ok (sym (get-put-other-name d.places name place other apart)) (k.places other)
+              subst (λ m. IsFine (get_named (put_named d.places name place) m)) (sym same)
+              (subst IsFine (sym (get-put-same-name d.places name place)) own)
+          | inr apart ↦ subst IsFine (sym (get-put-other-name d.places name place other apart)) (k.places other)
         ];
         ranges = k.ranges;
       }
 
+  -- a name is at a node
   pub arrive-names : (d : Directory) (name : Name) (node : ℕ) → NamesNodes script d → IsNode script node
       → NamesNodes script (arrive d name node)
   arrive-names d name node k own = place-put d name (At node) k own
 
+  -- a new name is placed
   pub place-name-names : (d : Directory) (name : Name) (node : ℕ) → NamesNodes script d → IsNode script node
       → NamesNodes script (place_name d name node)
   place-name-names d name node k own =
       by_test (λ x. NamesNodes script x) (is_known d name) d (with_place d name (At node)) (λ _. k)
       (λ _. place-put d name (At node) k own)
 
+  -- a name is asked back
   pub recall-names : (d : Directory) (name : Name) (to : Option ℕ) → NamesNodes script d → LeadsToNode script to
       → NamesNodes script (recall d name to)
   recall-names d name to k own = place-put d name (Coming to []) k (own, tt)
 
-  hold-at-names : (d : Directory) (name : Name) (item : Held) (o : Option Place) → NamesNodes script d → Place-Ok o
+  hold-at-names : (d : Directory) (name : Name) (item : Held) (o : Option Place) → NamesNodes script d → IsFine o
       → ItemIsOfNode script item → NamesNodes script (hold_at d name item o)
   hold-at-names d name item None k was own = k
   hold-at-names d name item (Some (At node)) k was own = k
@@ -197,10 +207,12 @@ module _ (script : Script) where
       place-put d name (Coming to (items ++ item ∷ [])) k
       (was.0, all-both (ItemIsOfNode script) items (item ∷ []) was.1 (own, tt))
 
+  -- an item is held for a name
   pub hold-names : (d : Directory) (name : Name) (item : Held) → NamesNodes script d → ItemIsOfNode script item
       → NamesNodes script (hold d name item)
   hold-names d name item k own = hold-at-names d name item (place_of d name) k (k.places name) own
 
+  -- a range is given to a node
   pub range-names : (d : Directory) (kind : Kind) (node : ℕ) → NamesNodes script d → IsNode script node
       → NamesNodes script (with_range d kind node)
   range-names d kinds.Proc node k own =
@@ -247,45 +259,50 @@ module _ (script : Script) where
             ∙ sym (ap (option_map (place_without node)) (get-later e m n other))
       ]
 
-  without-names : (node : ℕ) (o : Option Place) → Place-Ok o → Place-Ok (option_map (place_without node) o)
+  without-names : (node : ℕ) (o : Option Place) → IsFine o → IsFine (option_map (place_without node) o)
   without-names node None own = tt
   without-names node (Some (At owner)) own =
-      by_test (λ (p : Place). Place-Ok (Some p)) (nat_eq owner node) (Coming None []) (At owner) (λ _. (tt, tt))
+      by_test (λ (p : Place). IsFine (Some p)) (nat_eq owner node) (Coming None []) (At owner) (λ _. (tt, tt))
       (λ _. own)
   without-names node (Some (Coming to items)) own = own
 
+  -- what was at a node that leaves is on its way
   pub leaving-names : (d : Directory) (node : ℕ) → NamesNodes script d → NamesNodes script (with_leaving d node)
   leaving-names d node k = record { places = places-of; ranges = k.ranges }
     where
-      places-of : (name : Name) → Place-Ok (place_of (with_leaving d node) name)
+      places-of : (name : Name) → IsFine (place_of (with_leaving d node) name)
       places-of (Proc n) =
-          subst Place-Ok (sym (get-mapped node d.places.processes n)) (without-names node _ (k.places (Proc n)))
+          subst IsFine (sym (get-mapped node d.places.processes n)) (without-names node _ (k.places (Proc n)))
       places-of (Msg n) =
-          subst Place-Ok (sym (get-mapped node d.places.queues n)) (without-names node _ (k.places (Msg n)))
+          subst IsFine (sym (get-mapped node d.places.queues n)) (without-names node _ (k.places (Msg n)))
       places-of (Sem n) =
-          subst Place-Ok (sym (get-mapped node d.places.sets n)) (without-names node _ (k.places (Sem n)))
+          subst IsFine (sym (get-mapped node d.places.sets n)) (without-names node _ (k.places (Sem n)))
 
+  -- a node has left
   pub left-names : (d : Directory) (node : ℕ) → NamesNodes script d → NamesNodes script (with_left d node)
   left-names d node k = record { places = k.places; ranges = k.ranges }
 
   -- ---- what the directory says
 
-  items-named : (o : Option Place) → Place-Ok o → ItemsAreOfNodes script (items_of o)
+  items-named : (o : Option Place) → IsFine o → ItemsAreOfNodes script (items_of o)
   items-named None own = tt
   items-named (Some (At node)) own = tt
   items-named (Some (Coming to items)) own = own.1
 
+  -- what is held for a name is of nodes
   pub held-are-of-nodes : (d : Directory) (name : Name) → NamesNodes script d → ItemsAreOfNodes script (held_for d name)
   held-are-of-nodes d name k = items-named (place_of d name) (k.places name)
 
-  bound-named : (o : Option Place) → Place-Ok o → LeadsToNode script (destination_of o)
+  bound-named : (o : Option Place) → IsFine o → LeadsToNode script (destination_of o)
   bound-named None own = tt
   bound-named (Some (At node)) own = tt
   bound-named (Some (Coming to items)) own = own.0
 
+  -- a name is bound for a node
   pub bound-is-node : (d : Directory) (name : Name) → NamesNodes script d → LeadsToNode script (bound_for d name)
   bound-is-node d name k = bound-named (place_of d name) (k.places name)
 
+  -- a call goes to a node, or nowhere
   abbrev pub RouteNamesNode : Route → Type 0
   RouteNamesNode (routes.At node) = IsNode script node
   RouteNamesNode routes.Coming = Unit {0}
@@ -307,7 +324,7 @@ module _ (script : Script) where
   maker-is-node d name k =
       maker-named (for_kind d.ranges (kind_of name)) (number_of name) (k.ranges (kind_of name))
 
-  route-by-names : (o : Option Place) (who_stays : Bool) (made_by : Option ℕ) → Place-Ok o → LeadsToNode script made_by
+  route-by-names : (o : Option Place) (who_stays : Bool) (made_by : Option ℕ) → IsFine o → LeadsToNode script made_by
       → RouteNamesNode (route_by o who_stays made_by)
   route-by-names (Some (At node)) who_stays made_by own made = own
   route-by-names (Some (Coming to items)) who_stays made_by own made = tt

@@ -1,8 +1,7 @@
 -- The leader carries out an end, and releases what it held: bounds stay in every world in the middle of an event.
-use Rattle.std.proofs.Common.{◌≡◌, ℕ, zero, suc, Bool, true, false, nat_eq, List, [], ◌∷◌, ◌++◌, map, fold, flat_map, Option, Some, None, refl, ap, sym, subst, ◌∙◌}
-use Rattle.std.specs.Prelude.{if◌then◌else◌, count_by, ◌+◌}
-use Rattle.std.specs.List.{AllByRecursion}
-use Rattle.std.specs.Option.{option_and_then, option_map}
+use Rattle.std.proofs.Common.{◌≡◌, ℕ, zero, suc, nat_eq, List, [], ◌∷◌, ◌++◌, Option, Some, None}
+use Rattle.std.specs.Prelude.{count_by, ◌+◌}
+use Rattle.std.specs.Option.{option_map}
 use Rattle.pico_base.specs.declared.numbers.Name.{Name}
 use Rattle.pico_base.specs.declared.numbers.Name.TheVariants.{Proc}
 use Rattle.pico_base.specs.declared.reply.Reply.TheVariants as replies
@@ -18,8 +17,8 @@ use Rattle.node_model.specs.Bodies.{Body}
 use Rattle.node_model.specs.Directory.{Directory, Place, At, Coming, arrive, held_for, is_parcel, parcels_held, place_of}
 use Rattle.node_model.specs.Kinds.{get_named, put_all}
 use Rattle.node_model.specs.Parcels.{commit_exit, fitting_bodies}
-use Rattle.world_model.specs.Routing.{AfterEnd, IsHeld, Releases, arrive_all, arrive_at, end_by, end_process, enter_exit, exit_here, exit_with, go_on_after, held_for_all, hold_item, names_in, no_round, release, release_names, release_round, release_rounds, route_call}
-use Rattle.world_model.specs.Step.{Step, enter, send, with_deeds, with_directory, with_node}
+use Rattle.world_model.specs.Routing.{AfterEnd, IsHeld, Releases, arrive_all, end_by, end_process, enter_exit, exit_here, exit_with, go_on_after, held_for_all, names_in, no_round, release, release_names, release_round, release_rounds, route_call}
+use Rattle.world_model.specs.Step.{Step, send, with_deeds, with_directory}
 use Rattle.world_bounds.specs.Bounded.{IsNode, ItemIsOfNode, ItemsAreOfNodes, NamesNodes, PlaceNamesNodes, StepIsBounded}
 use Rattle.world_bounds.proofs.Parts.{all-both, arrive-names, held-are-of-nodes, of-map, of-next, of-some, put-all-rises}
 use Rattle.world_bounds.proofs.Routed.{hold-item-bounded, route-call-bounded}
@@ -98,6 +97,20 @@ module _ (script : Script) where
   end-process-bounded s parcel k =
       end-by-bounded s parcel (place_of s.node.leader.directory (Proc parcel.parent)) k
       (k.node.directory.places (Proc parcel.parent))
+
+  -- ---- the next world in the middle of an event
+
+  -- A step that has routed a call of a node is bounded,
+  pub routed-is-bounded : (s t : Step) (asked : Asked) → StepIsBounded script s → IsNode script asked.caller
+      → route_call script s asked ≡ Some t → StepIsBounded script t
+  routed-is-bounded s t asked k caller is =
+      of-some (StepIsBounded script) (route_call script s asked) t (route-call-bounded script s asked k caller) is
+
+  -- and so is one that has sent an end on, with what that releases.
+  pub ended-is-bounded : (s : Step) (parcel : Parcel) (after : AfterEnd) → StepIsBounded script s
+      → end_process s parcel ≡ Some after → AfterEndIsBounded after
+  ended-is-bounded s parcel after k is =
+      of-some AfterEndIsBounded (end_process s parcel) after (end-process-bounded s parcel k) is
 
   -- ---- to release what was held
 

@@ -1,7 +1,6 @@
 -- The leader routes a call: bounds stay in every world in the middle of an event.
-use Rattle.std.proofs.Common.{◌≡◌, ℕ, Bool, true, false, not, ◌&&◌, ◌||◌, nat_eq, nat_le, List, [], ◌∷◌, length, Option, Some, None, Result, Ok, Err, refl, ap, sym, subst, ◌∙◌}
-use Rattle.std.specs.Prelude.{if◌then◌else◌}
-use Rattle.std.specs.Option.{option_and_then, option_map}
+use Rattle.std.proofs.Common.{ℕ, not, nat_eq, length, Option, Some, None, Result, Ok, Err}
+use Rattle.std.specs.Option.{option_map}
 use Rattle.pico_base.specs.declared.call.Call.{Call}
 use Rattle.pico_base.specs.declared.call.Call.TheVariants as calls
 use Rattle.pico_base.specs.declared.call.Home.{Home}
@@ -14,12 +13,11 @@ use Rattle.pico_base.specs.declared.reply.Reply.TheVariants as replies
 use Rattle.pico_base.specs.declared.script.Script.{Script}
 use Rattle.pico_base.specs.Home.{home_of}
 use Rattle.key_table.specs.KeyMap.{key_answer}
-use Rattle.key_table.specs.declared.Bound.{Bound}
 use Rattle.key_table.specs.declared.KeyAnswer.{KeyAnswer}
 use Rattle.key_table.specs.declared.KeyAnswer.TheVariants as answers
 use Rattle.rpc_frame.specs.declared.asked.Asked.{Asked}
 use Rattle.rpc_frame.specs.declared.frame.Frame.TheVariants as frames
-use Rattle.number_maps.specs.Maps.{Numbered, get}
+use Rattle.number_maps.specs.Maps.{get}
 use Rattle.number_maps.specs.Rising.{IsRising}
 use Rattle.number_maps.proofs.Rising.{rising-filter, rising-put}
 use Rattle.kernel_laws.proofs.Plain.{Of, by_test}
@@ -34,9 +32,9 @@ use Rattle.node_model.specs.Directory.{Directory, hold, place_name, recall, rout
 use Rattle.node_model.specs.Kinds.{put_named}
 use Rattle.world_model.specs.Node.{Leader, Node}
 use Rattle.world_model.specs.Numbers.{Taken, take_number}
-use Rattle.world_model.specs.Routing.{bind, create_set, find_set, forward, get_by_key, get_queue, get_set, hold_item, make_bound, make_queue, make_set, recall_and_hold, recall_from, remove_by, route_by, route_call, route_home, unbind, unbind_name, without_key}
-use Rattle.world_model.specs.Serving.{serve_asked, serve_nobody}
-use Rattle.world_model.specs.Step.{Step, carry_out, with_directory, with_leader, with_node}
+use Rattle.world_model.specs.Routing.{bind, create_set, find_set, forward, get_by_key, get_queue, get_set, hold_item, make_bound, make_queue, make_set, recall_and_hold, recall_from, remove_by, route_by, route_call, route_home, unbind_name, without_key}
+use Rattle.world_model.specs.Serving.{serve_asked}
+use Rattle.world_model.specs.Step.{Step, with_directory, with_leader, with_node}
 use Rattle.world_bounds.specs.Bounded.{IsNode, ItemIsOfNode, LeadsToNode, NamesNodes, NodeIsBounded, StepIsBounded}
 use Rattle.world_bounds.proofs.NewNames.{take-number-bounded}
 use Rattle.world_bounds.proofs.Parts.{RouteNamesNode, hold-names, of-map, of-some, place-name-names, put-rises, recall-names, route-is-node}
@@ -59,7 +57,9 @@ module _ (script : Script) where
         number = k.number;
         parent_node = k.parent_node;
         fork = k.fork;
+        size = k.size;
         deeds = k.deeds;
+        watches = k.watches;
         cache = k.cache;
         directory = own.directory;
         queue_keys = own.queue_keys;
@@ -81,7 +81,9 @@ module _ (script : Script) where
         number = k.node.number;
         parent_node = k.node.parent_node;
         fork = k.node.fork;
+        size = k.node.size;
         deeds = put-rises n.deeds name body k.node.deeds;
+        watches = k.node.watches;
         cache = k.node.cache;
         directory = place-name-names script l.directory name n.number own.directory k.node.number;
         queue_keys = own.queue_keys;
@@ -154,6 +156,7 @@ module _ (script : Script) where
 
   -- ---- calls on a name
 
+  -- an item is held
   pub hold-item-bounded : (s : Step) (name : Name) (item : Held) → StepIsBounded script s → ItemIsOfNode script item
       → StepIsBounded script (hold_item s name item)
   hold-item-bounded s name item k own =
@@ -161,6 +164,7 @@ module _ (script : Script) where
       (with-directory-bounded script s.node (hold s.node.leader.directory name item) k.node
       (hold-names script s.node.leader.directory name item k.node.directory own))
 
+  -- a name is asked back from its owner
   pub recall-from-bounded : (s : Step) (name : Name) (to : Option ℕ) (owner : ℕ) → StepIsBounded script s
       → LeadsToNode script to → IsNode script owner → StepIsBounded script (recall_from s name to owner)
   recall-from-bounded s name to owner k own receiver =
@@ -206,7 +210,8 @@ module _ (script : Script) where
   forward-bounded s to asked k receiver caller = send-bounded script s to (frames.Forward asked) k receiver caller
 
   route-by-bounded : (s : Step) (name : Name) (asked : Asked) (r : Route) → StepIsBounded script s
-      → RouteNamesNode script r → IsNode script asked.caller → Of (StepIsBounded script) (route_by script s name asked r)
+      → RouteNamesNode script r → IsNode script asked.caller
+      → Of (StepIsBounded script) (route_by script s name asked r)
   route-by-bounded s name asked (routes.At node) k at caller =
       by_test (Of (StepIsBounded script)) (nat_eq node s.node.number) (serve_asked script s name asked)
       (Some (forward s node asked)) (λ _. serve-asked-bounded script s name asked k caller)

@@ -1,8 +1,9 @@
 -- The opening world has its bounds, and so has every world that a run leads to.
-use Rattle.std.proofs.Common.{◌≡◌, ◌≢◌, ◌⊎◌, ℕ, zero, suc, ◌+◌, ◌-◌, ◌≤◌, ◌<◌, Bool, true, false, ◌&&◌, nat_eq, List, [], ◌∷◌, length, map, replicate, get_or, slice_get, Option, Some, None, unwrap_or, refl, ap, sym, subst, ◌∙◌, inl, inr, arith}
+use Rattle.std.proofs.Common.{◌≡◌, ℕ, zero, suc, ◌+◌, ◌-◌, ◌≤◌, Bool, true, false, ◌&&◌, nat_eq, List, [], ◌∷◌, map, replicate, get_or, Option, Some, None, unwrap_or, refl, ap, sym, subst, ◌∙◌, inl, inr, arith}
 use Rattle.std.specs.Prelude.{if◌then◌else◌}
 use Rattle.std.specs.List.{AllByRecursion}
 use Rattle.std.proofs.lemmas.Bool.{cases_eq, lt-ltb}
+use Rattle.pico_base.specs.declared.call.Call.TheVariants as calls
 use Rattle.pico_base.specs.declared.numbers.Kind.TheVariants as kinds
 use Rattle.pico_base.specs.declared.numbers.Name.{Name}
 use Rattle.pico_base.specs.declared.numbers.Name.TheVariants.{Proc, Msg, Sem}
@@ -15,21 +16,21 @@ use Rattle.number_maps.proofs.Rising.{rising-nothing}
 use Rattle.kernel_model.specs.Row.{new_row}
 use Rattle.kernel_model.specs.Script.{IsSoundScript}
 use Rattle.node_model.specs.Bodies.{Living as LivingBody}
-use Rattle.node_model.specs.Directory.{At, Place, opening_directory, place_of}
+use Rattle.node_model.specs.Directory.{At, opening_directory, place_of}
 use Rattle.node_model.specs.Caller.{new_caller}
 use Rattle.node_model.specs.Kinds.{for_kind, none_named}
 use Rattle.world_model.specs.Node.{Node, first_node, opening_node, unborn_node}
 use Rattle.world_model.specs.Run.{IsReachableWorld, Runs}
-use Rattle.world_model.specs.World.{World, is_number, node_at, node_count, numbers, opening_world, stream}
+use Rattle.world_model.specs.World.{World, is_number, node_at, node_count, numbers, opening_world}
 use Rattle.world_laws.specs.Invariant.{Holds}
-use Rattle.world_laws.specs.Sights.{frames_to, node_of}
+use Rattle.world_laws.specs.Sights.{frames_to}
 use Rattle.world_rules.proofs.Opening.{opening-holds}
-use Rattle.world_bounds.specs.Bounded.{FrameIsBounded, IsBounded, IsNode, NamesNodes, NodeIsBounded, PlaceNamesNodes}
+use Rattle.world_bounds.specs.Bounded.{FrameIsBounded, IsBounded, IsNode, IsShapedAndBounded, NamesNodes, NodeIsBounded, PlaceNamesNodes}
 use Rattle.world_bounds.proofs.Parts.{all-at, none-rises, put-rises}
-use Rattle.world_bounds.proofs.Ranges.{some-blocks}
 use Rattle.world_bounds.proofs.Scripts.{sound-is-runnable}
-use Rattle.world_bounds.proofs.StepParts.{first-is-node, none-forks}
-use Rattle.world_bounds.proofs.Worlds.{IsShapedAndBounded, event-stays-bounded}
+use Rattle.world_bounds.proofs.StepParts.{first-is-node, none-is}
+use Rattle.world_bounds.proofs.Watched.{none-watched}
+use Rattle.world_bounds.proofs.Worlds.{event-stays-bounded}
 
 -- ---- nothing is on its way
 
@@ -81,8 +82,11 @@ module _ (script : Script) where
       record {
         number = own;
         parent_node = first-is-node script p own;
-        fork = λ block some. absurd (none-forks (new_caller []).under_way block refl some);
+        fork = λ block. none-is (new_caller []).under_way (calls.Fork block) refl;
+        size = λ count create excl.
+            none-is (new_caller []).under_way (calls.SemGet None count create excl) refl;
         deeds = none-rises;
+        watches = none-watched p;
         cache = tt;
         directory = opening-names (first-is-node script p own);
         queue_keys = rising-nothing Bound;
@@ -94,8 +98,11 @@ module _ (script : Script) where
       record {
         number = own;
         parent_node = own;
-        fork = λ block some. absurd (none-forks (new_caller []).under_way block refl some);
+        fork = λ block. none-is (new_caller []).under_way (calls.Fork block) refl;
+        size = λ count create excl.
+            none-is (new_caller []).under_way (calls.SemGet None count create excl) refl;
         deeds = put-rises none_named (Proc 1) (LivingBody new_row) none-rises;
+        watches = none-watched 1;
         cache = tt;
         directory = opening-names own;
         queue_keys = rising-nothing Bound;
@@ -112,11 +119,10 @@ module _ (script : Script) where
   opening-nodes-are-bounded : (n k : ℕ) → 1 ≤ k → k + n ≤ node_count script + 1
       → AllByRecursion (NodeIsBounded script) (map opening_node (numbers k n))
   opening-nodes-are-bounded zero k low high = tt
-  opening-nodes-are-bounded (suc n) k low high =
-      (
-        opening-node-is-bounded k (record { low = low; high = omega (arith, high) }),
-        opening-nodes-are-bounded n (k + 1) (omega (arith, low)) (omega (arith, high)),
-      )
+  opening-nodes-are-bounded (suc n) k low high = (
+    opening-node-is-bounded k (record { low = low; high = omega (arith, high) }),
+    opening-nodes-are-bounded n (k + 1) (omega (arith, low)) (omega (arith, high)),
+  )
 
   opening-node-of : (p : ℕ) → IsNode script p → (o : Option Node) → node_at (opening_world script) p ≡ o
       → NodeIsBounded script (unwrap_or o (unborn_node p))

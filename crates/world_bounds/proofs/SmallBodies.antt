@@ -1,5 +1,5 @@
 -- What an entry of a small call leaves of bodies is small where they were.
-use Rattle.std.proofs.Common.{◌≡◌, ◌≢◌, ℕ, ◌<◌, ◌^◌, Bool, true, false, not, ◌&&◌, ◌||◌, nat_eq, nat_le, List, [], ◌∷◌, fold, Option, Some, None, Result, Ok, Err, refl, ap, sym, subst, ◌∙◌, inl, inr}
+use Rattle.std.proofs.Common.{◌≡◌, ℕ, ◌<◌, ◌^◌, Bool, true, false, not, ◌&&◌, ◌||◌, nat_eq, nat_le, List, [], ◌∷◌, fold, Option, Some, None, Result, Ok, Err, refl, ap, sym, subst, ◌∙◌, inl, inr}
 use Rattle.std.specs.Prelude.{if◌then◌else◌, is_some}
 use Rattle.std.proofs.lemmas.Bool.{cases_Bool, cases_eq, false≢true}
 use Rattle.pico_base.specs.declared.call.Call.{Call}
@@ -8,7 +8,6 @@ use Rattle.pico_base.specs.declared.call.Home.TheVariants as homes
 use Rattle.pico_base.specs.declared.numbers.Name.{Name}
 use Rattle.pico_base.specs.declared.numbers.Name.TheVariants.{Proc, Msg, Sem}
 use Rattle.pico_base.specs.declared.reply.Ending.{Ending}
-use Rattle.pico_base.specs.declared.reply.Ending.TheVariants as endings
 use Rattle.pico_base.specs.declared.reply.EndedChild.{EndedChild}
 use Rattle.pico_base.specs.declared.reply.Errno.{Errno}
 use Rattle.pico_base.specs.declared.reply.Outcome.{Outcome}
@@ -20,18 +19,18 @@ use Rattle.kernel_model.specs.Kernel.{Kernel, Parent, Process, living_at, openin
 use Rattle.kernel_model.specs.Kernel as kernel
 use Rattle.kernel_model.specs.ProcessCalls.{bury, bury_all, end_under, process_after_end, processes_after_end}
 use Rattle.kernel_model.specs.Queue.{Queue, empty_queue}
-use Rattle.kernel_model.specs.QueueCalls.{get_queue, get_queue_at, new_queue}
+use Rattle.kernel_model.specs.QueueCalls.{get_queue_at, new_queue}
 use Rattle.kernel_model.specs.Row.{Alive, Spent, ignores_children, with_ended_child}
 use Rattle.kernel_model.specs.SemaphoreSet.{SemaphoreSet, new_set}
-use Rattle.kernel_model.specs.SetCalls.{find_set, get_set, get_set_at, new_set_of, set_size}
+use Rattle.kernel_model.specs.SetCalls.{find_set, get_set_at, new_set_of, set_size}
 use Rattle.kernel_model.specs.Transition.{effect, finish_call, successor, transition}
 use Rattle.kernel_model.specs.Valid.{IsValid}
 use Rattle.kernel_model.specs.Waiting.{is_waiting}
 use Rattle.kernel_laws.proofs.EndChanges.{parent-is}
 use Rattle.kernel_laws.proofs.People.{each-put, from-living}
-use Rattle.kernel_laws.proofs.Plain.{Of, by_test, of_choice}
+use Rattle.kernel_laws.proofs.Plain.{Of, by_test, from_some, not_some, of_choice}
 use Rattle.kernel_laws.proofs.Steps.{Step, step}
-use Rattle.node_model.specs.Bodies.{Body, Gone, body_in, process_body, queue_body, set_body}
+use Rattle.node_model.specs.Bodies.{body_in, process_body, queue_body, set_body}
 use Rattle.node_model.specs.Carrying.{is_served, makes_or_ends, on_body}
 use Rattle.node_model.specs.Serving.{name_for, name_in}
 use Rattle.serve_laws.specs.Laws.{Follows, IsServed, is_found}
@@ -91,9 +90,6 @@ all-of k t (Sem id) = set-of-table k id (get k.sets id) t.sets refl
 
 -- ---- changes of a table
 
-some-same : {A : Type 0} (x y : A) → Some x ≡ Some y → x ≡ y
-some-same x y h = cc
-
 living-same : (a b : Alive) → kernel.Living a ≡ kernel.Living b → a ≡ b
 living-same a b h = cc
 
@@ -108,7 +104,7 @@ put-thing : {V : Type 0} (P : V → Type 0) (m : Numbered V) (k : ℕ) (v : V) �
 put-thing P m k v each own n x is =
     elim (cases_eq n k) [
       | inl same ↦
-          subst P (some-same v x (sym (get-put-same m k v) ∙ ap (get (put m k v)) (sym same) ∙ is)) own
+          subst P (from_some v x (sym (get-put-same m k v) ∙ ap (get (put m k v)) (sym same) ∙ is)) own
       | inr other ↦ each n x (sym (get-put-other m k v n other) ∙ is)
     ]
 
@@ -151,7 +147,11 @@ module _ (k : Kernel) (pid n : ℕ) (a : Alive) (t : HasSmallTables k) where
   new-queue-small : (keys : Numbered ℕ) → Of IsSmallAfter (new_queue k keys n)
   new-queue-small keys =
       of_choice IsSmallAfter _ (Some _) None
-      (record { rows = t.rows; queues = put-thing IsSmallQueue k.queues n empty_queue t.queues small-empty; sets = t.sets })
+      (record {
+        rows = t.rows;
+        queues = put-thing IsSmallQueue k.queues n empty_queue t.queues small-empty;
+        sets = t.sets;
+      })
       tt
 
   get-queue-small : (key : ℕ) (create excl : Bool) (found : Option ℕ)
@@ -305,16 +305,10 @@ entry-leaves-small k next pid n call outcome all g =
 first-small : HasSmallTables opening
 first-small =
     record {
-      rows = put-living [] 1 _ (λ p a is. absurd (none-lives a is)) small-new;
-      queues = λ id q is. absurd (none-is q is);
-      sets = λ id s is. absurd (none-is s is);
+      rows = put-living [] 1 _ (λ p a is. not_some (kernel.Living a) is) small-new;
+      queues = λ id q is. not_some q is;
+      sets = λ id s is. not_some s is;
     }
-  where
-    none-is : {A : Type 0} (x : A) → None ≡ Some x → ⊥
-    none-is x h = cc
-
-    none-lives : (a : Alive) → None ≡ Some (kernel.Living a) → ⊥
-    none-lives a h = cc
 
 -- At first all bodies are small.
 pub opening-is-small : AreAllSmall opening

@@ -1,9 +1,9 @@
 -- Along a history that fits a sound script all bodies stay small.
-use Rattle.std.proofs.Common.{◌≡◌, ◌≢◌, ℕ, ◌+◌, ◌-◌, ◌<◌, ◌^◌, Bool, true, false, not, ◌&&◌, ◌||◌, List, [], ◌∷◌, ◌++◌, Option, Some, None, is_some, refl, ap, sym, subst, ◌∙◌, inl, inr}
+use Rattle.std.proofs.Common.{◌≡◌, ℕ, ◌-◌, ◌<◌, ◌^◌, Bool, true, false, not, ◌&&◌, ◌||◌, List, [], ◌∷◌, ◌++◌, Option, Some, None, is_some, refl, ap, sym, subst, ◌∙◌, inl, inr}
 use Rattle.std.specs.Prelude.{if◌then◌else◌}
 use Rattle.std.specs.List.{list_all, list_any}
 use Rattle.std.specs.Option.{option_and_then}
-use Rattle.std.proofs.lemmas.Bool.{and_parts, cases_Bool, cases_eq, false≢true, not-true, or_parts}
+use Rattle.std.proofs.lemmas.Bool.{and_parts, cases_Bool, cases_eq, false≢true, or_parts}
 use Rattle.pico_base.specs.declared.call.Call.{Call}
 use Rattle.pico_base.specs.declared.call.Call.TheVariants as calls
 use Rattle.pico_base.specs.declared.reply.Entry.{Entry}
@@ -17,18 +17,17 @@ use Rattle.number_maps.specs.Maps.{get, put}
 use Rattle.number_maps.proofs.LookUps.{get-first, get-later, get-put-same, get-put-other}
 use Rattle.kernel_model.specs.Fitting.{FitsFrom, IsDue, Place, Places, block_at, block_place, child_vars, is_killed, move_on, opening_places, places_after, places_after_fork}
 use Rattle.kernel_model.specs.History.{Replays, number_in}
-use Rattle.kernel_model.specs.Kernel.{Kernel, Process, alive_in, living_at, opening}
+use Rattle.kernel_model.specs.Kernel.{Kernel, Process, alive_in, opening}
 use Rattle.kernel_model.specs.Numbers.{is_between}
 use Rattle.kernel_model.specs.Script.{IsSoundScript, Vars, is_exit, is_in_range, is_line, is_tried_once, max_calls, sets_rightly, with_exit}
 use Rattle.kernel_model.specs.Valid.{IsValid}
 use Rattle.kernel_model.specs.Waiting.{is_waiting}
 use Rattle.kernel_laws.specs.Reachable.{IsReachableKernel}
-use Rattle.kernel_laws.proofs.People.{from-living}
+use Rattle.kernel_laws.proofs.Plain.{from_some, not_some}
 use Rattle.kernel_laws.proofs.Steps.{Step, step}
 use Rattle.kernel_laws.proofs.ValidLaws.{reachable_kernels_are_valid_lemma}
 use Rattle.kernel_moves.proofs.History.{replays-more}
 use Rattle.kernel_moves.proofs.Places.{DueLine, due-line, left-shrinks, waiting-of}
-use Rattle.node_model.specs.Caller.{lines_in}
 use Rattle.deeds_read.specs.Small.{IsSmallCall}
 use Rattle.deeds_read.proofs.Families.{used-is-small}
 use Rattle.world_bounds.proofs.Calls.{killed-never-waits, small-from, small-in-range}
@@ -76,19 +75,13 @@ line-in-range line h =
 abbrev AreFine : Places → Type 0
 AreFine places = (pid : ℕ) (place : Place) → get places pid ≡ Some place → list_any is_bad place.left ≡ false
 
-some-same : {A : Type 0} (x y : A) → Some x ≡ Some y → x ≡ y
-some-same x y h = cc
-
-none-is-not : {A : Type 0} (x : A) → None ≡ Some x → ⊥
-none-is-not x h = cc
-
 fine-put : (places : Places) (k : ℕ) (v : Place) → AreFine places → list_any is_bad v.left ≡ false
     → AreFine (put places k v)
 fine-put places k v fine own pid place is =
     elim (cases_eq pid k) [
       | inl same ↦
           ap (λ (x : Place). list_any is_bad x.left)
-          (some-same place v (sym is ∙ ap (get (put places k v)) same ∙ get-put-same places k v)) ∙ own
+          (from_some place v (sym is ∙ ap (get (put places k v)) same ∙ get-put-same places k v)) ∙ own
       | inr other ↦ fine pid place (sym (get-put-other places k v pid other) ∙ is)
     ]
 
@@ -188,9 +181,9 @@ module _ (script : Script) (sound : IsSoundScript script) where
       elim (cases_eq pid 1) [
         | inl same ↦
             ap (λ (x : Place). list_any is_bad x.left)
-            (some-same place first (sym is ∙ get-first (1, first) [] pid same))
+            (from_some place first (sym is ∙ get-first (1, first) [] pid same))
             ∙ block-is-fine 1 (block_at script 1) [] refl
-        | inr other ↦ absurd (none-is-not place (sym (get-later (1, first) [] pid other) ∙ is))
+        | inr other ↦ not_some place (sym (get-later (1, first) [] pid other) ∙ is)
       ]
     where
       first : Place

@@ -1,24 +1,18 @@
 -- What a process may still do in its block, with all that it forks: each entry spends some of it.
-use Rattle.std.proofs.Common.{◌≡◌, ◌≢◌, ◌⊎◌, ℕ, zero, suc, ◌+◌, ◌-◌, ◌≤◌, ◌<◌, Bool, true, false, ◌&&◌, nat_eq, nat_lt, List, [], ◌∷◌, length, Option, Some, None, refl, ap, sym, subst, ◌∙◌, inl, inr, arith}
+use Rattle.std.proofs.Common.{◌≡◌, ◌⊎◌, ℕ, suc, ◌+◌, ◌-◌, ◌≤◌, Bool, true, false, ◌&&◌, nat_lt, List, [], ◌∷◌, Option, Some, None, refl, ap, sym, ◌∙◌, inl, inr, arith}
 use Rattle.std.specs.Prelude.{if◌then◌else◌}
-use Rattle.std.proofs.lemmas.Bool.{and_parts, cases_eq, cases_Bool, false≢true, ltb-true, ne_eqb}
+use Rattle.std.proofs.lemmas.Bool.{and_parts, false≢true, ltb-true}
 use Rattle.pico_base.specs.declared.call.Call.{Call}
 use Rattle.pico_base.specs.declared.call.Call.TheVariants as calls
 use Rattle.pico_base.specs.declared.reply.Reply.{Reply}
 use Rattle.pico_base.specs.declared.reply.Reply.TheVariants as replies
-use Rattle.pico_base.specs.declared.reply.Entry.{Entry}
 use Rattle.pico_base.specs.declared.script.Block.{Block}
 use Rattle.pico_base.specs.declared.script.Line.{Line}
-use Rattle.pico_base.specs.declared.script.Script.{Script}
-use Rattle.number_maps.specs.Maps.{Numbered, get, put}
-use Rattle.number_maps.specs.Rising.{IsRising}
-use Rattle.number_maps.proofs.LookUps.{get-first, get-later, put-equal, put-greater, put-less}
-use Rattle.number_maps.proofs.Rising.{above-first, get-above, rising-rest}
-use Rattle.kernel_model.specs.Fitting.{IsDue, Place, after_reply, asks_again, block_place, due, is_killed, move_on, place_after, set_variable, value_in}
+use Rattle.kernel_model.specs.Fitting.{IsDue, Place, after_reply, asks_again, block_place, is_killed, move_on, place_after, set_variable, value_in}
 use Rattle.kernel_model.specs.Script.{Vars, call_of, fork_targets}
 use Rattle.kernel_moves.proofs.Places.{DueLine, due-line, fork-of}
 use Rattle.node_model.specs.Caller.{lines_in}
-use Rattle.world_bounds.proofs.Costs.{line_cost, lines_cost}
+use Rattle.world_bounds.proofs.Costs.{lines_cost}
 use Rattle.world_bounds.proofs.Totals.{total}
 
 -- ---- what is left at a place
@@ -30,6 +24,7 @@ module _ (block_cost : ℕ → ℕ) where
   left_cost tried (line ∷ rest) =
       suc (line.tries - (tried + 1)) + total block_cost (fork_targets line.call) + lines_cost block_cost rest
 
+  -- of a process at this place
   abbrev pub place_cost : Place → ℕ
   place_cost place = left_cost place.tried place.left
 
@@ -107,7 +102,8 @@ module _ (block_cost : ℕ → ℕ) where
       killed-gives-nothing c h = refl
   move-test place call reply line rest left (inl ends) false e = absurd (false≢true (sym e ∙ ends))
   move-test place call reply line rest left (inr is) false e =
-      let same : place_cost (place_after place call (Some reply)) ≡ place_cost (after_reply place call reply (line ∷ rest)) =
+      let same : place_cost (place_after place call (Some reply))
+      ≡ place_cost (after_reply place call reply (line ∷ rest)) =
       ap (λ lines. place_cost (after_reply place call reply lines)) left
       in let less = after-test place call reply line rest left is _ refl
       in omega (arith, same, less)

@@ -1,8 +1,7 @@
 -- What a step does to the node, and sends, keeps its bounds.
-use Rattle.std.proofs.Common.{◌≡◌, ◌≢◌, ℕ, ◌+◌, Bool, true, false, not, ◌&&◌, nat_eq, nat_lt, List, [], ◌∷◌, ◌++◌, fold, Option, Some, None, is_some, refl, ap, sym, subst, ◌∙◌, inl, inr, arith}
+use Rattle.std.proofs.Common.{◌≡◌, ℕ, ◌+◌, Bool, true, false, ◌&&◌, nat_eq, nat_lt, [], ◌∷◌, Option, Some, None, Ok, refl, sym, ◌∙◌, arith}
 use Rattle.std.specs.Prelude.{if◌then◌else◌, slice_get}
 use Rattle.std.specs.List.{AllByRecursion}
-use Rattle.std.specs.Option.{option_and_then, option_map}
 use Rattle.pico_base.specs.declared.call.Call.{Call}
 use Rattle.pico_base.specs.declared.call.Call.TheVariants as calls
 use Rattle.pico_base.specs.declared.numbers.Name.{Name}
@@ -14,7 +13,8 @@ use Rattle.rpc_frame.specs.declared.asked.Asked.{Asked}
 use Rattle.rpc_frame.specs.declared.frame.Frame.{Frame}
 use Rattle.rpc_frame.specs.declared.frame.Frame.TheVariants as frames
 use Rattle.kernel_model.specs.Fitting.{asks_again, set_variable, value_in}
-use Rattle.kernel_laws.proofs.Plain.{Of, by_test}
+use Rattle.kernel_laws.proofs.Plain.{Of, by_test, not_some}
+use Rattle.kernel_model.specs.SemaphoreSet.{SemaphoreSet, new_set}
 use Rattle.migrate.specs.Watching.{Watching, move_at, run_with}
 use Rattle.node_model.specs.Bodies.{Body, Deeds}
 use Rattle.node_model.specs.Cache.{Cache}
@@ -24,18 +24,23 @@ use Rattle.node_model.specs.Kinds.{get_named, put_all, without_named}
 use Rattle.node_model.specs.Leases.{Leases}
 use Rattle.node_model.specs.Serving.{Served, has_read, no_such_name, serve}
 use Rattle.node_model.specs.Spelling.{pack}
-use Rattle.node_model.specs.Watches.{Watches, moves_to, watch_over, with_read}
-use Rattle.world_model.specs.Node.{Node, Leader, Stage, is_leader, under_way_as}
+use Rattle.node_model.specs.Watches.{Watches, moves_to, unwatch, watch_over, with_read}
+use Rattle.world_model.specs.Node.{Node, Stage, is_leader, under_way_as}
 use Rattle.world_model.specs.Serving.{grant, grant_held, move_to, note_read, serve_asked, serve_asked_with, serve_nobody, without_deed}
-use Rattle.world_model.specs.Step.{Step, carry_out, enter, reply_here, reply_to, send, step_to, with_deeds, with_directory, with_leader, with_node}
-use Rattle.world_bounds.specs.Bounded.{AllRise, FrameNamesNodes, IsNode, LeadsToNode, NamesNodes, NodeIsBounded, SendIsBounded, StepIsBounded}
+use Rattle.world_model.specs.Step.{Step, carry_out, enter, reply_here, reply_to, send, step_to, with_deeds, with_directory, with_node}
+use Rattle.world_bounds.specs.Bounded.{AllRise, AreWatchedBy, FrameNamesNodes, IsNode, LeadsToNode, NamesNodes, NodeIsBounded, SendIsBounded, StepIsBounded}
+use Rattle.world_bounds.proofs.Watched.{read-watched, unwatched}
 use Rattle.world_bounds.proofs.Parts.{all-both, arrive-names, of-map, put-all-rises, without-rises}
 
 -- ---- a call that is answered is under way no more
 
 answered-by : (c : Caller) (call : Call) (reply : Reply) (line : Line) (again : Bool)
     → (if again then record (end_call c) { tried = c.tried + 1 }
-    else record (end_call c) { line = c.line + 1; tried = 0; vars = set_variable c.vars line.set (value_in (Some reply)) }).under_way
+    else record (end_call c) {
+      line = c.line + 1;
+      tried = 0;
+      vars = set_variable c.vars line.set (value_in (Some reply));
+    }).under_way
     ≡ None
 answered-by c call reply line true = refl
 answered-by c call reply line false = refl
@@ -45,31 +50,39 @@ answered-at c call reply None = refl
 answered-at c call reply (Some line) =
     answered-by c call reply line (asks_again call (Some reply) && nat_lt (c.tried + 1) line.tries)
 
+-- none is under way once the reply is here
 pub answered-none : (script : Script) (block : ℕ) (c : Caller) (call : Call) (reply : Reply)
     → (answer_call script block c call reply).under_way ≡ None
 answered-none script block c call reply = answered-at c call reply (slice_get (lines_of script block) c.line)
 
-pub none-forks : (o : Option Call) (block : ℕ) → o ≡ None → o ≡ Some (calls.Fork block) → ⊥
-none-forks o block none some = let apart : None ≡ Some (calls.Fork block) = sym none ∙ some in absurd (cc)
+-- where none is, no call is
+pub none-is : {A : Type 0} (o : Option Call) (call : Call) → o ≡ None → o ≡ Some call → A
+none-is o call none some = not_some call (sym none ∙ some)
 
 module _ (script : Script) where
   -- ---- a node
 
+  -- another caller
   pub with-caller-bounded : (n : Node) (c : Caller) → NodeIsBounded script n
       → ((block : ℕ) → c.under_way ≡ Some (calls.Fork block) → IsNode script block)
+      → ((count : ℕ) (create excl : Bool) → c.under_way ≡ Some (calls.SemGet None count create excl)
+      → (set : SemaphoreSet) × (new_set count ≡ Ok set))
       → NodeIsBounded script (record n { caller = c })
-  with-caller-bounded n c k forks =
+  with-caller-bounded n c k forks sizes =
       record {
         number = k.number;
         parent_node = k.parent_node;
         fork = forks;
+        size = sizes;
         deeds = k.deeds;
+        watches = k.watches;
         cache = k.cache;
         directory = k.directory;
         queue_keys = k.queue_keys;
         set_keys = k.set_keys;
       }
 
+  -- another directory
   pub with-directory-bounded : (n : Node) (d : Directory) → NodeIsBounded script n → NamesNodes script d
       → NodeIsBounded script (with_directory n d)
   with-directory-bounded n d k names =
@@ -77,29 +90,34 @@ module _ (script : Script) where
         number = k.number;
         parent_node = k.parent_node;
         fork = k.fork;
+        size = k.size;
         deeds = k.deeds;
+        watches = k.watches;
         cache = k.cache;
         directory = names;
         queue_keys = k.queue_keys;
         set_keys = k.set_keys;
       }
 
-  -- deeds, watches and leases, of which the deeds alone matter
+  -- other deeds, watches and leases
   pub with-tables-bounded : (n : Node) (deeds : Deeds) (watches : Watches) (leases : Leases) (stage : Stage)
-      → NodeIsBounded script n → AllRise deeds
+      → NodeIsBounded script n → AllRise deeds → AreWatchedBy n.number watches
       → NodeIsBounded script (record n { stage = stage; deeds = deeds; watches = watches; leases = leases })
-  with-tables-bounded n deeds watches leases stage k rise =
+  with-tables-bounded n deeds watches leases stage k rise watched =
       record {
         number = k.number;
         parent_node = k.parent_node;
         fork = k.fork;
+        size = k.size;
         deeds = rise;
+        watches = watched;
         cache = k.cache;
         directory = k.directory;
         queue_keys = k.queue_keys;
         set_keys = k.set_keys;
       }
 
+  -- another cache
   pub with-cache-bounded : (n : Node) (cache : Cache) → NodeIsBounded script n
       → AllByRecursion (λ e. IsNode script e.1) cache → NodeIsBounded script (record n { cache = cache })
   with-cache-bounded n cache k names =
@@ -107,7 +125,9 @@ module _ (script : Script) where
         number = k.number;
         parent_node = k.parent_node;
         fork = k.fork;
+        size = k.size;
         deeds = k.deeds;
+        watches = k.watches;
         cache = names;
         directory = k.directory;
         queue_keys = k.queue_keys;
@@ -123,19 +143,23 @@ module _ (script : Script) where
       in let high = k.high
       in record { low = omega arith; high = omega (arith, low, high) }
 
+  -- a step that has done nothing yet
   pub step-to-bounded : (n : Node) → NodeIsBounded script n → StepIsBounded script (step_to n)
   step-to-bounded n k = record { node = k; sends = tt }
 
+  -- with another node
   pub with-node-bounded : (s : Step) (n : Node) → StepIsBounded script s → NodeIsBounded script n
       → StepIsBounded script (with_node s n)
   with-node-bounded s n k own = record { node = own; sends = k.sends }
 
+  -- with other deeds
   pub with-deeds-bounded : (s : Step) (deeds : Deeds) → StepIsBounded script s → AllRise deeds
       → StepIsBounded script (with_deeds s deeds)
   with-deeds-bounded s deeds k rise =
       with-node-bounded s (record s.node { deeds = deeds }) k
-      (with-tables-bounded s.node deeds s.node.watches s.node.leases s.node.stage k.node rise)
+      (with-tables-bounded s.node deeds s.node.watches s.node.leases s.node.stage k.node rise k.node.watches)
 
+  -- with a further frame
   pub send-bounded : (s : Step) (to : ℕ) (frame : Frame) → StepIsBounded script s → IsNode script to
       → FrameNamesNodes script frame → StepIsBounded script (send s to frame)
   send-bounded s to frame k receiver says =
@@ -150,6 +174,7 @@ module _ (script : Script) where
       → StepIsBounded script (send s 1 frame)
   send-first-bounded s frame k says = send-bounded s 1 frame k (first-is-node s.node.number k.node.number) says
 
+  -- with a further entry
   pub enter-bounded : (s : Step) (pid : ℕ) (call : Call) (reply : Reply) → StepIsBounded script s
       → StepIsBounded script (enter s pid call reply)
   enter-bounded s pid call reply k = record { node = k.node; sends = k.sends }
@@ -160,10 +185,13 @@ module _ (script : Script) where
   reply-here-bounded s reply (Some call) k =
       with-node-bounded s _ k
       (with-caller-bounded s.node (answer_call script s.node.number s.node.caller call reply) k.node
-      (λ block some.
-      absurd (none-forks (answer_call script s.node.number s.node.caller call reply).under_way block
-      (answered-none script s.node.number s.node.caller call reply) some)))
+      (λ block. none-is (answer_call script s.node.number s.node.caller call reply).under_way (calls.Fork block)
+      (answered-none script s.node.number s.node.caller call reply))
+      (λ count create excl.
+      none-is (answer_call script s.node.number s.node.caller call reply).under_way
+      (calls.SemGet None count create excl) (answered-none script s.node.number s.node.caller call reply)))
 
+  -- with a reply
   pub reply-to-bounded : (s : Step) (asked : Asked) (reply : Reply) → StepIsBounded script s
       → IsNode script asked.caller → StepIsBounded script (reply_to script s asked reply)
   reply-to-bounded s asked reply k caller =
@@ -189,10 +217,12 @@ module _ (script : Script) where
       send-bounded _ to (frames.Grant (pack name body))
       (with-node-bounded s _ k
       (with-directory-bounded (without_deed s.node name) (arrive s.node.leader.directory name to)
-      (with-tables-bounded s.node (without_named s.node.deeds name) _ s.node.leases s.node.stage k.node
-      (without-rises s.node.deeds name k.node.deeds))
+      (with-tables-bounded s.node (without_named s.node.deeds name) (unwatch s.node.watches name) s.node.leases
+      s.node.stage k.node (without-rises s.node.deeds name k.node.deeds)
+      (unwatched s.node.number s.node.watches name k.node.watches))
       (arrive-names script s.node.leader.directory name to k.node.directory receiver))) receiver tt
 
+  -- the leader grants a deed that it holds
   pub grant-bounded : (s : Step) (name : Name) (to : ℕ) → StepIsBounded script s → IsNode script to
       → StepIsBounded script (grant s name to)
   grant-bounded s name to k receiver =
@@ -213,13 +243,14 @@ module _ (script : Script) where
   reader-is-node w reader k =
       by_test (LeadsToNode script) (nat_eq (run_with w reader) 4) (Some reader) None (λ _. k) (λ _. tt)
 
+  -- a read is noted
   pub note-read-bounded : (s : Step) (name : Name) (reader : ℕ) → StepIsBounded script s → IsNode script reader
       → StepIsBounded script (note_read s name reader)
   note-read-bounded s name reader k own =
       move-to-bounded _ name (moves_to s.node.watches s.node.number name reader)
       (with-node-bounded s _ k
       (with-tables-bounded s.node s.node.deeds (with_read s.node.watches s.node.number name reader) s.node.leases
-      s.node.stage k.node k.node.deeds))
+      s.node.stage k.node k.node.deeds (read-watched s.node.number s.node.watches name reader k.node.watches)))
       (reader-is-node (watch_over s.node.watches s.node.number name) reader own)
 
   serve-asked-with-bounded : (s : Step) (name : Name) (asked : Asked) (served : Served) → StepIsBounded script s
@@ -240,6 +271,7 @@ module _ (script : Script) where
       of-map (StepIsBounded script) (serve s.node.deeds asked.pid asked.call) (serve_asked_with script s name asked)
       (λ served _. serve-asked-with-bounded s name asked served k caller)
 
+  -- so is one on a number that names nothing
   pub serve-nobody-bounded : (s : Step) (name : Name) (asked : Asked) → StepIsBounded script s
       → IsNode script asked.caller → StepIsBounded script (serve_nobody script s name asked)
   serve-nobody-bounded s name asked k caller =

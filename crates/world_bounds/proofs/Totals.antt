@@ -1,33 +1,31 @@
 -- Sums over lists by recursion, and the sum over different numbers of a range.
-use Rattle.std.proofs.Common.{◌≡◌, ◌≢◌, ℕ, zero, suc, ◌+◌, ◌*◌, ◌≤◌, ◌<◌, Bool, true, false, cond, not, nat_eq, List, [], ◌∷◌, ◌++◌, map, filter, flat_map, refl, ap, sym, subst, ◌∙◌, inl, inr, arith}
+use Rattle.std.proofs.Common.{◌≡◌, ◌≢◌, ℕ, zero, suc, ◌+◌, ◌*◌, ◌≤◌, ◌<◌, Bool, true, false, cond, not, nat_eq, List, [], ◌∷◌, ◌++◌, map, filter, refl, ap, sym, subst, inl, inr, arith}
 use Rattle.std.specs.Prelude.{sum_by, count_by}
 use Rattle.std.specs.List.{AllByRecursion}
 use Rattle.std.proofs.lemmas.Bool.{cases_eq, eq-eqb, ne_eqb}
 use Rattle.std.proofs.lemmas.List.Recursion.{is_count_by, is_sum_by}
 
+-- what all elements come to
 abbrev pub total : {X : Type 0} → (X → ℕ) → List X → ℕ
 total f [] = 0
 total f (x ∷ xs) = f x + total f xs
 
+-- it is std's sum
 pub total-is-sum : {X : Type 0} (f : X → ℕ) (xs : List X) → total f xs ≡ sum_by f xs
 total-is-sum f xs = is_sum_by (total f) f refl (λ x xs. refl) xs
 
+-- over both of two lists
 pub total-append : {X : Type 0} (f : X → ℕ) (xs ys : List X) → total f (xs ++ ys) ≡ total f xs + total f ys
 total-append f [] ys = omega arith
 total-append f (x ∷ xs) ys = let rest = total-append f xs ys in omega (arith, rest)
 
-pub total-less : {X : Type 0} (f g : X → ℕ) → ((x : X) → f x ≤ g x) → (xs : List X) → total f xs ≤ total g xs
-total-less f g h [] = omega arith
-total-less f g h (x ∷ xs) =
-    let here = h x
-    in let rest = total-less f g h xs
-    in omega (arith, here, rest)
-
 -- ---- how often a number stands in a list
 
+-- 1 where it is so
 abbrev pub one_if : Bool → ℕ
 one_if b = cond b 1 0
 
+-- how often a number is there
 abbrev pub times : ℕ → List ℕ → ℕ
 times k xs = total (λ x. one_if (nat_eq x k)) xs
 
@@ -35,6 +33,7 @@ add-if : (b : Bool) (m : ℕ) → one_if b + m ≡ cond b (1 + m) m
 add-if true m = refl
 add-if false m = omega arith
 
+-- it is std's count
 pub times-is-count : {X : Type 0} (f : X → ℕ) (k : ℕ) (xs : List X)
     → times k (map f xs) ≡ count_by (λ x. nat_eq (f x) k) xs
 times-is-count f k xs =

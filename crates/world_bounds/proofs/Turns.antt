@@ -1,6 +1,6 @@
 -- A node takes a frame: bounds stay, rule by rule.
-use Rattle.std.proofs.Common.{◌≡◌, ℕ, ◌+◌, Bool, true, false, not, ◌&&◌, ◌||◌, nat_eq, nat_lt, List, [], ◌∷◌, ◌++◌, map, fold, Option, Some, None, refl, ap, sym, subst, ◌∙◌, arith}
-use Rattle.std.specs.Prelude.{if◌then◌else◌, nat_le}
+use Rattle.std.proofs.Common.{◌≡◌, ℕ, true, not, ◌&&◌, nat_eq, List, [], ◌∷◌, ◌++◌, map, fold, Option, Some, None, refl}
+use Rattle.std.specs.Prelude.{nat_le}
 use Rattle.std.specs.List.{AllByRecursion, list_all, list_any}
 use Rattle.std.specs.Option.{option_and_then, option_map}
 use Rattle.std.proofs.lemmas.Bool.{and_parts, leb-true}
@@ -19,40 +19,40 @@ use Rattle.rpc_frame.specs.declared.deed.PackedDeed.{PackedDeed}
 use Rattle.rpc_frame.specs.declared.deed.Parcel.{Parcel}
 use Rattle.rpc_frame.specs.declared.frame.Frame.{Frame}
 use Rattle.rpc_frame.specs.declared.frame.Frame.TheVariants as frames
-use Rattle.number_maps.specs.Maps.{Numbered}
 use Rattle.kernel_laws.proofs.Plain.{Of, by_test}
 use Rattle.kernel_model.specs.Script.{IsSoundScript, Vars}
-use Rattle.kernel_model.specs.Row.{Row}
 use Rattle.kernel_model.specs.Waiting.{is_waiting}
 use Rattle.node_model.specs.declared.held.Held.TheVariants.{Ending}
 use Rattle.node_model.specs.Bodies.{AQueue, ASet, Body, Ended, Gone, Removed, Living as LivingBody}
 use Rattle.node_model.specs.Cache.{forget, learn}
 use Rattle.node_model.specs.Caller.{answer_call, new_caller}
-use Rattle.node_model.specs.Directory.{Directory, arrive, bound_for, has_more, held_for, is_coming, is_known, is_leaving, place_name, place_of, recall, stays, upcoming, with_leaving, with_left, with_range}
+use Rattle.node_model.specs.Directory.{Directory, arrive, bound_for, has_more, held_for, is_coming, place_name, place_of, stays, upcoming, with_leaving, with_left, with_range}
 use Rattle.node_model.specs.Kinds.{get_named, is_object, none_named, put_named, without_named}
 use Rattle.node_model.specs.Leases.{leases_hold, refill, takes_number}
 use Rattle.node_model.specs.Parcels.{fitting_bodies, give_all, give_back, pack_all, parcel_of}
 use Rattle.node_model.specs.Spelling.{pack, read_deed}
+use Rattle.node_model.specs.Watches.{unwatch}
 use Rattle.world_model.specs.Calls.{answered_by, ask_after, asks_as, bounce, bounce_or_nobody, end_with_reply, forwarded_by, is_for_others, is_from_leader, is_on_name_or_removal, is_to_leader, requested_by, take_answer, take_ask, take_bounce, take_forward, take_not_owner, take_request, with_forgotten, with_learnt}
 use Rattle.world_model.specs.Lives.{be_born, born_with, end_released, hand_over, is_end, is_forked_by, is_new_row, is_of_process, may_leave, may_take, place_family, send_to_leader, take_checkpoint, take_exit, take_leaving, take_left, take_recall_all}
 use Rattle.world_model.specs.Moves.{come_back, give_back as gives_back, goes_on_to, is_at, is_new_here, keep, pass_on, receive_deed, suggest, take_give_back, take_grant, take_recall, take_suggest}
-use Rattle.world_model.specs.Node.{Left, Living, Node, holds, is_born, is_leader, is_leaving_stage, is_node, is_unborn, under_way_as}
+use Rattle.world_model.specs.Node.{Left, Node, holds, is_born, is_leader, is_leaving_stage, is_node, is_unborn, under_way_as}
 use Rattle.world_model.specs.Numbers.{make}
 use Rattle.world_model.specs.Ranges.{go_on_with, may_lease, take_lease, take_lease_ask, take_placed}
-use Rattle.world_model.specs.Routing.{exit_here, names_in, recall_from, release, route_call}
+use Rattle.world_model.specs.Routing.{exit_here, names_in, recall_from, route_call}
 use Rattle.world_model.specs.Serving.{serve_asked, serve_nobody, without_deed}
-use Rattle.world_model.specs.Starting.{ask, run}
+use Rattle.world_model.specs.Starting.{run}
 use Rattle.world_model.specs.Step.{Step, send, step_to, with_directory}
 use Rattle.world_model.specs.Turn.{run_turn, sends_frames, take_frame, take_turn}
 use Rattle.world_model.specs.Grammar.{is_frame, is_sent_frame}
 use Rattle.world_model.specs.World.{node_count}
 use Rattle.world_bounds.specs.Bounded.{FrameIsBounded, FrameNamesNodes, IsNode, LeadsToNode, NamesNodes, NodeIsBounded, StepIsBounded}
 use Rattle.world_bounds.proofs.NewNames.{ForksNodes, make-bounded}
-use Rattle.world_bounds.proofs.Parts.{arrive-names, bound-is-node, forget-names, held-are-of-nodes, learn-names, leaving-names, left-names, none-rises, of-map, of-next, of-some, of-test, place-name-names, put-rises, range-names, recall-names, without-rises}
+use Rattle.world_bounds.proofs.Parts.{arrive-names, bound-is-node, forget-names, held-are-of-nodes, learn-names, leaving-names, left-names, none-rises, of-map, of-next, of-some, of-test, place-name-names, put-rises, range-names, without-rises}
 use Rattle.world_bounds.proofs.Released.{exit-here-bounded, release-bounded}
 use Rattle.world_bounds.proofs.Routed.{recall-from-bounded, route-call-bounded}
 use Rattle.world_bounds.proofs.Started.{ask-bounded, run-bounded}
-use Rattle.world_bounds.proofs.StepParts.{answered-none, first-is-node, none-forks, send-bounded, send-first-bounded, serve-asked-bounded, serve-nobody-bounded, step-to-bounded, with-cache-bounded, with-caller-bounded, with-directory-bounded, with-tables-bounded}
+use Rattle.world_bounds.proofs.Watched.{none-watched, unwatched}
+use Rattle.world_bounds.proofs.StepParts.{answered-none, first-is-node, none-is, send-bounded, send-first-bounded, serve-asked-bounded, serve-nobody-bounded, step-to-bounded, with-cache-bounded, with-caller-bounded, with-directory-bounded, with-tables-bounded}
 
 module _ (script : Script) where
   abbrev Bounded : Option Step → Type 0
@@ -171,9 +171,12 @@ module _ (script : Script) where
       (λ _. step-to-bounded script (end_with_reply script n sender call reply)
       (with-caller-bounded script (with_learnt n sender (home_of n.pid call))
       (answer_call script n.number n.caller call reply) (learnt-bounded n sender (home_of n.pid call) k own)
-      (λ block some.
-      absurd (none-forks (answer_call script n.number n.caller call reply).under_way block
-      (answered-none script n.number n.caller call reply) some))))
+      (λ block.
+      none-is (answer_call script n.number n.caller call reply).under_way (calls.Fork block)
+      (answered-none script n.number n.caller call reply))
+      (λ count create excl.
+      none-is (answer_call script n.number n.caller call reply).under_way (calls.SemGet None count create excl)
+      (answered-none script n.number n.caller call reply))))
 
   take-answer-bounded : (n : Node) (sender ticket : ℕ) (reply : Reply) → NodeIsBounded script n → IsNode script sender
       → Bounded (take_answer script n sender ticket reply)
@@ -207,7 +210,7 @@ module _ (script : Script) where
       (make script (step_to (record n { leases = refill n.leases kind first })) call kind)
       (λ _. make-bounded script (step_to (record n { leases = refill n.leases kind first })) call kind
       (step-to-bounded script (record n { leases = refill n.leases kind first })
-      (with-tables-bounded script n n.deeds n.watches (refill n.leases kind first) n.stage k k.deeds)) own)
+      (with-tables-bounded script n n.deeds n.watches (refill n.leases kind first) n.stage k k.deeds k.watches)) own)
 
   take-lease-bounded : (n : Node) (sender : ℕ) (kind : Kind) (first : ℕ) → NodeIsBounded script n
       → Bounded (take_lease script n sender kind first)
@@ -252,14 +255,14 @@ module _ (script : Script) where
       (λ _. of-map (StepIsBounded script) (get_named n.deeds name) (gives_back n name)
       (λ body _. send-first-bounded script (step_to (without_deed n name)) (frames.GiveBack (pack name body))
       (step-to-bounded script (without_deed n name)
-      (with-tables-bounded script n (without_named n.deeds name) _ n.leases n.stage k
-      (without-rises n.deeds name k.deeds))) tt))
+      (with-tables-bounded script n (without_named n.deeds name) (unwatch n.watches name) n.leases n.stage k
+      (without-rises n.deeds name k.deeds) (unwatched n.number n.watches name k.watches))) tt))
 
   keep-bounded : (n : Node) (name : Name) (body : Body) → NodeIsBounded script n
       → NodeIsBounded script (keep n name body)
   keep-bounded n name body k =
       with-tables-bounded script n (put_named n.deeds name body) n.watches n.leases n.stage k
-      (put-rises n.deeds name body k.deeds)
+      (put-rises n.deeds name body k.deeds) k.watches
 
   goes-on-to-node : (d : Directory) (o : Option ℕ) → LeadsToNode script o → LeadsToNode script (goes_on_to d o)
   goes-on-to-node d None own = tt
@@ -314,8 +317,11 @@ module _ (script : Script) where
       record {
         number = k.number;
         parent_node = own;
-        fork = λ block some. absurd (none-forks (new_caller vars).under_way block refl some);
+        fork = λ block. none-is (new_caller vars).under_way (calls.Fork block) refl;
+        size = λ count create excl.
+            none-is (new_caller vars).under_way (calls.SemGet None count create excl) refl;
         deeds = put-rises none_named (Proc pid) body none-rises;
+        watches = k.watches;
         cache = k.cache;
         directory = k.directory;
         queue_keys = k.queue_keys;
@@ -379,7 +385,7 @@ module _ (script : Script) where
       (Some (fold send_to_leader (step_to empty) (give_all n.deeds n.pid n.parent call)))
       (λ _. sent-to-leader (give_all n.deeds n.pid n.parent call) (step_to empty)
       (step-to-bounded script empty
-      (with-tables-bounded script n none_named none_named n.leases Left k none-rises))
+      (with-tables-bounded script n none_named none_named n.leases Left k none-rises (none-watched n.number)))
       (given-name (pack_all Msg n.deeds.queues ++ pack_all Sem n.deeds.sets) (parcel_of n.deeds n.pid n.parent call)))
 
   take-recall-all-bounded : (n : Node) (sender : ℕ) → NodeIsBounded script n → Bounded (take_recall_all n sender)
@@ -408,7 +414,8 @@ module _ (script : Script) where
   take-exit-bounded : (n : Node) (sender : ℕ) (parcel : Parcel) → NodeIsBounded script n
       → Bounded (take_exit n sender parcel)
   take-exit-bounded n sender parcel k =
-      of-test (StepIsBounded script) (is_from_leader n sender && not (list_any (leases_hold n.leases) (names_in parcel)))
+      of-test (StepIsBounded script)
+      (is_from_leader n sender && not (list_any (leases_hold n.leases) (names_in parcel)))
       (exit_here (step_to n) parcel)
       (λ _. exit-here-bounded script (step_to n) parcel (step-to-bounded script n k))
 
@@ -420,7 +427,8 @@ module _ (script : Script) where
 
   take-frame-bounded : (n : Node) (to sender : ℕ) (frame : Frame) → NodeIsBounded script n
       → FrameIsBounded script to sender frame → Bounded (take_frame script n sender frame)
-  take-frame-bounded n to sender (frames.Ask ticket pid call) k f = take-ask-bounded n sender ticket pid call k f.sender_is
+  take-frame-bounded n to sender (frames.Ask ticket pid call) k f =
+      take-ask-bounded n sender ticket pid call k f.sender_is
   take-frame-bounded n to sender (frames.Request ticket pid call) k f =
       take-request-bounded n sender ticket pid call k f.sender_is
   take-frame-bounded n to sender (frames.Forward asked) k f = take-forward-bounded n sender asked k f.says
@@ -459,4 +467,5 @@ module _ (script : Script) where
   pub run-turn-bounded : IsSoundScript script → (n : Node) → NodeIsBounded script n → Bounded (run_turn script n)
   run-turn-bounded sound n k =
       of-next (StepIsBounded script) (run script n) sends_frames
-      (λ s is. sent-frames-bounded s (of-some (StepIsBounded script) (run script n) s (run-bounded script sound n k) is))
+      (λ s is. sent-frames-bounded s
+      (of-some (StepIsBounded script) (run script n) s (run-bounded script sound n k) is))

@@ -1,34 +1,33 @@
 -- Bounds stay in every event of the world, and in its middle.
-use Rattle.std.proofs.Common.{◌≡◌, ◌≢◌, ◌⊎◌, ℕ, zero, suc, ◌+◌, ◌-◌, ◌≤◌, ◌<◌, Bool, true, false, ◌&&◌, nat_eq, List, [], ◌∷◌, ◌++◌, length, Option, Some, None, unwrap_or, refl, ap, sym, subst, ◌∙◌, inl, inr, arith}
-use Rattle.std.specs.Prelude.{if◌then◌else◌}
+use Rattle.std.proofs.Common.{◌≡◌, ℕ, Bool, true, false, nat_eq, List, [], ◌∷◌, Option, Some, None, refl, ap, sym, subst, ◌∙◌, inl, inr}
 use Rattle.std.specs.List.{AllByRecursion}
-use Rattle.std.proofs.lemmas.Bool.{cases_eq, eq-eqb, eqb-true, false≢true, ne_eqb}
+use Rattle.std.proofs.lemmas.Bool.{cases_eq, eqb-true}
 use Rattle.pico_base.specs.declared.reply.Entry.{Entry}
 use Rattle.pico_base.specs.declared.script.Event.{Event}
 use Rattle.pico_base.specs.declared.script.Event.TheVariants as events
 use Rattle.pico_base.specs.declared.script.Script.{Script}
 use Rattle.rpc_frame.specs.declared.frame.Frame.{Frame}
-use Rattle.kernel_laws.proofs.Plain.{Of}
 use Rattle.kernel_model.specs.Script.{IsSoundScript}
 use Rattle.node_model.specs.declared.held.Held.{Held}
 use Rattle.world_model.specs.Node.{Node}
 use Rattle.world_model.specs.Step.{Step, step_to}
 use Rattle.world_model.specs.Turn.{run_turn, take_turn}
-use Rattle.world_model.specs.World.{World, after_turn, is_enabled, node_count, runs_at, step, stream, takes_at, with_all_sent, world_after}
+use Rattle.world_model.specs.World.{World, after_turn, is_enabled, node_count, runs_at, step, stream, takes_at, world_after}
 use Rattle.world_laws.specs.Invariant.{IsShaped}
-use Rattle.world_laws.specs.Sights.{frames_to, node_of}
+use Rattle.world_laws.specs.Sights.{node_of}
 use Rattle.world_laws.proofs.Changes.{Changes, frames_if, sent, taken}
 use Rattle.world_laws.proofs.Sends.{AreToNodes, frame_if, frames_with}
 use Rattle.world_laws.proofs.Steps.{Heads, changes-by-run, changes-by-take, frames-low, node-there, world_without}
 use Rattle.world_own.proofs.Enabled.{IsRun, enabled-runs}
 use Rattle.world_rules.proofs.Enabled.{IsTaken, enabled-takes}
-use Rattle.world_bounds.specs.Bounded.{FrameIsBounded, IsBounded, IsNode, ItemsAreOfNodes, NodeIsBounded, SendIsBounded, StepIsBounded}
+use Rattle.world_bounds.specs.Bounded.{FrameIsBounded, IsBounded, IsNode, IsShapedAndBounded, ItemsAreOfNodes, NodeIsBounded, SendIsBounded, StepIsBounded}
 use Rattle.world_bounds.proofs.Parts.{all-both, all-parts, of-some}
 use Rattle.world_bounds.proofs.Turns.{run-turn-bounded, take-turn-bounded}
 
 module _ (script : Script) where
   -- ---- what a node sent
 
+  -- what it sent goes to nodes
   pub to-nodes : (sends : List (ℕ × Frame)) → AllByRecursion (SendIsBounded script) sends
       → AreToNodes (node_count script) sends
   to-nodes [] all = tt
@@ -43,12 +42,14 @@ module _ (script : Script) where
     where
       by : (t : Bool) → nat_eq to s.0 ≡ t → AllByRecursion (FrameIsBounded script to sender) (frame_if t s.1)
       by false e = tt
-      by true e =
-          (record {
-            receiver = subst (IsNode script) (sym (eqb-true to s.0 e)) b.receiver;
-            sender_is = own;
-            says = b.says;
-          }, tt)
+      by true e = (
+        record {
+          receiver = subst (IsNode script) (sym (eqb-true to s.0 e)) b.receiver;
+          sender_is = own;
+          says = b.says;
+        },
+        tt,
+      )
 
   sent-with : (to sender : ℕ) (sends : List (ℕ × Frame)) → AllByRecursion (SendIsBounded script) sends
       → IsNode script sender → AllByRecursion (FrameIsBounded script to sender) (frames_with to sends)
@@ -101,6 +102,7 @@ module _ (script : Script) where
 
   -- ---- a frame is taken
 
+  -- a world without the frame that was taken has its shape
   pub without-is-shaped : (w : World) (p q : ℕ) (frame : Frame) (rest : List Frame) → IsShaped script w
       → Heads script w p q frame rest → IsShaped script (world_without w p q rest)
   without-is-shaped w p q frame rest shape h =
@@ -116,6 +118,7 @@ module _ (script : Script) where
         tries = shape.tries;
       }
 
+  -- and its bounds
   pub without-is-bounded : (w : World) (hand : List Held) (p q : ℕ) (frame : Frame) (rest : List Frame)
       → IsShaped script w → Heads script w p q frame rest → IsBounded script w hand
       → IsBounded script (world_without w p q rest) hand
@@ -137,14 +140,9 @@ module _ (script : Script) where
 
   -- ---- an event
 
-  -- the world has a node for each block and a stream for each pair, and bounds
-  pub record IsShapedAndBounded (w : World) : Type 0 where
-    pub shape : IsShaped script w
-    pub bounded : IsBounded script w []
-
   by-changes : (w w' : World) (p : ℕ) (s : Step) (takes : List (ℕ × Frame))
       → Changes script p w w' s.node takes s.sends s.entries → IsNode script p → IsBounded script w []
-      → StepIsBounded script s → IsShapedAndBounded w'
+      → StepIsBounded script s → IsShapedAndBounded script w'
   by-changes w w' p s takes c own k b =
       record {
         shape = c.shape;
@@ -156,9 +154,9 @@ module _ (script : Script) where
   after-some v next p None h = absurd (cc)
   after-some v next p (Some s) h = let same : next ≡ world_after v p s = cc in (s, refl, same)
 
-  module _ (sound : IsSoundScript script) (w next : World) (k : IsShapedAndBounded w) where
+  module _ (sound : IsSoundScript script) (w next : World) (k : IsShapedAndBounded script w) where
     run-stays : (p : ℕ) → is_enabled w (events.Run p) ≡ true → step w (events.Run p) ≡ Some next
-        → IsShapedAndBounded next
+        → IsShapedAndBounded script next
     run-stays p enabled steps =
         let r : IsRun script w p = enabled-runs script w p k.shape enabled
         in let own : IsNode script p = record { low = r.low; high = r.high }
@@ -170,12 +168,12 @@ module _ (script : Script) where
         in let b : StepIsBounded script found.0 =
         of-some (StepIsBounded script) (run_turn script (node_of w p)) found.0
         (run-turn-bounded script sound (node_of w p) (k.bounded.nodes p r.low r.high)) found.1
-        in subst IsShapedAndBounded (sym found.2)
+        in subst (IsShapedAndBounded script) (sym found.2)
         (by-changes w (world_after w p found.0) p found.0 []
         (changes-by-run script w k.shape p found.0 r.low r.high (to-nodes (found.0).sends b.sends)) own k.bounded b)
 
     take-stays : (p q : ℕ) → is_enabled w (events.Take p q) ≡ true → step w (events.Take p q) ≡ Some next
-        → IsShapedAndBounded next
+        → IsShapedAndBounded script next
     take-stays p q enabled steps =
         let t : IsTaken script w p q = enabled-takes script w p q k.shape enabled
         in let h : Heads script w p q t.frame t.rest = t.heads
@@ -193,12 +191,13 @@ module _ (script : Script) where
         of-some (StepIsBounded script) (take_turn script (node_of w p) q t.frame) found.0
         (take-turn-bounded script (node_of w p) p q t.frame (k.bounded.nodes p h.low h.high)
         (head-is-bounded w [] p q t.frame t.rest h k.bounded)) found.1
-        in subst IsShapedAndBounded (sym found.2)
+        in subst (IsShapedAndBounded script) (sym found.2)
         (by-changes w (world_after (world_without w p q t.rest) p found.0) p found.0 ((q, t.frame) ∷ [])
         (changes-by-take script w k.shape p q t.frame t.rest found.0 h (to-nodes (found.0).sends b.sends)) own
         k.bounded b)
 
     -- Every enabled event of a sound script leaves a bounded world.
-    pub event-stays-bounded : (e : Event) → is_enabled w e ≡ true → step w e ≡ Some next → IsShapedAndBounded next
+    pub event-stays-bounded : (e : Event) → is_enabled w e ≡ true → step w e ≡ Some next
+        → IsShapedAndBounded script next
     event-stays-bounded (events.Run p) enabled steps = run-stays p enabled steps
     event-stays-bounded (events.Take p q) enabled steps = take-stays p q enabled steps

@@ -1,6 +1,7 @@
--- What each world of a run has, with no thought of who owns what: numbers of nodes are those of nodes of the script, and
--- tables stand by rising number. It holds in the middle of an event, too, while the leader has calls and parcels in hand.
-use Rattle.std.specs.Prelude.{◌≡◌, ◌≤◌, ℕ, List, Option, Some, None}
+-- What each world of a run has, with no thought of who owns what: numbers of nodes are those of nodes of the script,
+-- and tables stand by rising number. It holds in the middle of an event, too, while the leader has calls and parcels in
+-- hand.
+use Rattle.std.specs.Prelude.{◌≡◌, ◌≤◌, ℕ, Bool, List, [], Option, Some, None, Ok}
 use Rattle.std.specs.List.{AllByRecursion}
 use Rattle.pico_base.specs.declared.call.Call.TheVariants as calls
 use Rattle.pico_base.specs.declared.numbers.Kind.{Kind}
@@ -9,13 +10,16 @@ use Rattle.pico_base.specs.declared.script.Script.{Script}
 use Rattle.rpc_frame.specs.declared.frame.Frame.{Frame}
 use Rattle.rpc_frame.specs.declared.frame.Frame.TheVariants as frames
 use Rattle.number_maps.specs.Rising.{IsRising}
+use Rattle.kernel_model.specs.SemaphoreSet.{SemaphoreSet, new_set}
 use Rattle.node_model.specs.declared.held.Held.{Held}
 use Rattle.node_model.specs.declared.held.Held.TheVariants.{Request, Ending}
 use Rattle.node_model.specs.Directory.{Directory, Place, At, Coming, place_of}
 use Rattle.node_model.specs.Kinds.{Named, for_kind}
+use Rattle.node_model.specs.Watches.{Watches, watch_over}
 use Rattle.world_model.specs.Node.{Node}
 use Rattle.world_model.specs.Step.{Step}
 use Rattle.world_model.specs.World.{World, node_count}
+use Rattle.world_laws.specs.Invariant.{IsShaped}
 use Rattle.world_laws.specs.Sights.{node_of, frames_to}
 
 -- the number of a node of the script
@@ -53,12 +57,20 @@ pub record NamesNodes (script : Script) (d : Directory) : Type 0 where
   pub places : (name : Name) → PlaceNamesNodes script (place_of d name)
   pub ranges : (kind : Kind) → AllByRecursion (IsNode script) (for_kind d.ranges kind)
 
+-- each of these watches is over what this node owns
+abbrev pub AreWatchedBy : ℕ → Watches → Type 0
+AreWatchedBy owner watches = (name : Name) → (watch_over watches owner name).owner ≡ owner
+
 pub record NodeIsBounded (script : Script) (n : Node) : Type 0 where
   pub number : IsNode script n.number
   pub parent_node : IsNode script n.parent_node
-  -- the fork under way is of a block of the script
+  -- the fork under way is of a block of the script, and a set that is asked for without a key has a size that there is
   pub fork : (block : ℕ) → n.caller.under_way ≡ Some (calls.Fork block) → IsNode script block
+  pub size : (count : ℕ) (create excl : Bool) → n.caller.under_way ≡ Some (calls.SemGet None count create excl)
+      → (set : SemaphoreSet) × (new_set count ≡ Ok set)
   pub deeds : AllRise n.deeds
+  -- the node owns what it watches
+  pub watches : AreWatchedBy n.number n.watches
   pub cache : AllByRecursion (λ e. IsNode script e.1) n.cache
   pub directory : NamesNodes script n.leader.directory
   pub queue_keys : IsRising n.leader.queue_keys
@@ -95,3 +107,16 @@ pub record IsBounded (script : Script) (w : World) (hand : List Held) : Type 0 w
   pub nodes : (p : ℕ) → 1 ≤ p → p ≤ node_count script → NodeIsBounded script (node_of w p)
   pub streams : (to sender : ℕ) → AllByRecursion (FrameIsBounded script to sender) (frames_to w to sender)
   pub in_hand : ItemsAreOfNodes script hand
+
+-- a node for each block, a stream for each pair of nodes, and bounds: each step keeps these by themselves
+pub record IsShapedAndBounded (script : Script) (w : World) : Type 0 where
+  pub shape : IsShaped script w
+  pub bounded : IsBounded script w []
+
+-- A step of the leader in the middle of its event, with this in hand, is good: it is bounded, and so is the world that
+-- the event began with, without the frame that was taken.
+pub record IsGood (script : Script) (v : World) (s : Step) (hand : List Held) : Type 0 where
+  pub shape : IsShaped script v
+  pub bounded : IsBounded script v []
+  pub step_is : StepIsBounded script s
+  pub items : ItemsAreOfNodes script hand

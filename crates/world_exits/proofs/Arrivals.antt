@@ -1,21 +1,20 @@
 -- The leader's directory once the names of a parcel are at a node: nothing is held for them any more, and what was held
 -- is in the leader's hand.
-use Rattle.std.proofs.Common.{◌≡◌, ◌≢◌, ℕ, Bool, true, false, ◌||◌, if◌then◌else◌, List, [], ◌∷◌, ◌++◌, map, filter, flat_map, nat_eq, Option, Some, None, is_some, is_none, not, Contains, refl, ap, sym, subst, ◌∙◌, inl, inr, append-nil}
+use Rattle.std.proofs.Common.{◌≡◌, ℕ, Bool, true, false, ◌||◌, if◌then◌else◌, List, [], ◌∷◌, ◌++◌, map, filter, flat_map, Option, Some, is_some, is_none, not, Contains, refl, ap, sym, subst, ◌∙◌, inl, inr, append-nil}
 use Rattle.std.specs.List.{AllByRecursion, list_any}
-use Rattle.std.proofs.lemmas.Bool.{eq-eqb, or_cases, false≢true}
 use Rattle.std.proofs.lemmas.List.Elements.{filter-append, Contains-append_cases}
 use Rattle.pico_base.specs.declared.numbers.Name.{Name}
-use Rattle.pico_base.specs.declared.numbers.Name.TheVariants.{Proc, Msg, Sem}
+use Rattle.pico_base.specs.declared.numbers.Name.TheVariants.{Proc}
 use Rattle.rpc_frame.specs.declared.deed.PackedDeed.{PackedDeed}
 use Rattle.rpc_frame.specs.declared.deed.Parcel.{Parcel}
-use Rattle.number_maps.specs.Maps.{Numbered, get}
+use Rattle.number_maps.specs.Maps.{Numbered}
 use Rattle.number_maps.specs.Rising.{IsRising}
 use Rattle.number_maps.proofs.Rising.{above-first, rising-rest, get-above}
 use Rattle.kernel_laws.proofs.Members.{contains-cases, contains-none}
 use Rattle.node_model.specs.declared.held.Held.{Held}
 use Rattle.node_model.specs.Kinds.{is_same_name}
 use Rattle.node_model.specs.Bodies.{Body}
-use Rattle.node_model.specs.Directory.{Directory, Place, At, place_of, with_place, items_of, held_for, has_deed_of, is_known, arrive}
+use Rattle.node_model.specs.Directory.{Directory, Place, At, place_of, items_of, held_for, has_deed_of, is_known, arrive}
 use Rattle.node_model.specs.Parcels.{pack_all}
 use Rattle.world_model.specs.Routing.{names_in, held_for_all, arrive_all}
 use Rattle.world_laws.specs.Names.{OneIf, OnlyOne}
@@ -181,7 +180,8 @@ pub none-of-all : {A : Type 0} (f : Name → List A) (names : List Name) → ((n
 none-of-all f [] none = refl
 none-of-all f (m ∷ names) none = ap (λ xs. xs ++ flat_map f names) (none m) ∙ none-of-all f names none
 
-one-with-none : {A : Type 0} (t : Bool) (P : A → Type 0) (xs ys : List A) → ys ≡ [] → OneIf t P xs → OneIf t P (xs ++ ys)
+one-with-none : {A : Type 0} (t : Bool) (P : A → Type 0) (xs ys : List A) → ys ≡ [] → OneIf t P xs
+    → OneIf t P (xs ++ ys)
 one-with-none t P xs ys none one = subst (λ zs. OneIf t P zs) (sym (ap (λ zs. xs ++ zs) none ∙ append-nil xs)) one
 
 -- Where one is made of one name alone, it is made of the list where that has the name.
@@ -192,7 +192,8 @@ one-of-all P f name (m ∷ names) apart one =
     by-test (is_same_name name m) refl (one m) (one-of-all P f name names apart.1 one)
   where
     by-test : (t : Bool) → is_same_name name m ≡ t → OneIf t P (f m)
-        → OneIf (is_one_of name names) P (flat_map f names) → OneIf (t || is_one_of name names) P (flat_map f (m ∷ names))
+        → OneIf (is_one_of name names) P (flat_map f names)
+        → OneIf (t || is_one_of name names) P (flat_map f (m ∷ names))
     by-test true e first rest =
         one-with-none true P (f m) (flat_map f names)
         (subst (λ t. OneIf t P (flat_map f names))
@@ -206,6 +207,7 @@ pub just-one-if : {A : Type 0} (t : Bool) (x : A) (xs : List A) → xs ≡ only_
 just-one-if true x xs e = record { one = x; only = e; holds = refl }
 just-one-if false x xs e = e
 
+-- and back
 pub just-one-is : {A : Type 0} (t : Bool) (x : A) (xs : List A) → OneIf t (λ y. y ≡ x) xs → xs ≡ only_if t x
 just-one-is true x xs one =
     let o : OnlyOne (λ y. y ≡ x) xs = one

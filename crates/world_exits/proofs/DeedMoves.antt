@@ -17,7 +17,7 @@ use Rattle.world_laws.specs.Names.{forker}
 use Rattle.world_laws.specs.Families.{FamilyHolds, IsWhereFor, IsWithParent, CheckpointIn, IsNewAt, IsAwaited}
 use Rattle.world_exits.proofs.Arrivals.{is_one_of}
 use Rattle.world_exits.proofs.Released.{deed_released}
-use Rattle.world_exits.proofs.Parcels.{HasParcel, IsOnItsWay}
+use Rattle.world_exits.proofs.Parcels.{HasParcel}
 
 -- ---- a process that isn't awaited any more, or is as before
 

@@ -1,6 +1,6 @@
 -- The leader ends the process of the first parcel of its hand, in the middle of an event: where the parent's deed is at
 -- another node the parcel goes there, and where it is at the leader the exit is carried out.
-use Rattle.std.proofs.Common.{◌≡◌, ◌≢◌, ℕ, ◌≤◌, Bool, List, [], ◌∷◌, ◌++◌, nat_eq, if◌then◌else◌, Some, option_map, refl, ap, sym, subst, ◌∙◌, arith, append-nil}
+use Rattle.std.proofs.Common.{◌≡◌, ◌≢◌, ℕ, ◌≤◌, List, [], ◌∷◌, ◌++◌, if◌then◌else◌, Some, option_map, refl, ap, sym, subst, ◌∙◌, arith, append-nil}
 use Rattle.std.proofs.lemmas.Bool.{eq-eqb, ne_eqb}
 use Rattle.pico_base.specs.declared.numbers.Name.{Name}
 use Rattle.pico_base.specs.declared.numbers.Name.TheVariants.{Proc}
@@ -105,8 +105,7 @@ module _ (script : Script) (v : World) (s : Step) (parcel : Parcel) (rest : List
         (with_directory m (arrive_all m.leader.directory names x)) [] ((x, frames.ExitTo parcel) ∷ []) [])
         (sym leader-here)
         (changes-now sent_on ((x, frames.ExitTo parcel) ∷ []) []
-        (record { sends_are = refl; entries_are = sym (append-nil s.entries) })
-        (
+        (record { sends_are = refl; entries_are = sym (append-nil s.entries) }) (
           record {
             low = low;
             high = owner-in-range script w (Ending parcel ∷ rest) b holds (Proc parcel.parent) x place two;

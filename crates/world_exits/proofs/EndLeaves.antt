@@ -1,6 +1,6 @@
 -- What the end of a process leaves of the parts of the invariant that look at the kernel and at the places of its
 -- history: the numbers of processes, parents and children, families, and calls.
-use Rattle.std.proofs.Common.{◌≡◌, ◌≢◌, ◌⊎◌, ℕ, Bool, true, false, List, [], ◌∷◌, Option, Some, None, is_some, refl, ap, sym, subst, ◌∙◌, inl, inr}
+use Rattle.std.proofs.Common.{◌≡◌, ◌≢◌, ◌⊎◌, ℕ, Bool, true, false, List, [], Option, Some, None, is_some, refl, ap, sym, subst, ◌∙◌, inl, inr}
 use Rattle.std.specs.List.{list_any}
 use Rattle.std.specs.Option.{option_and_then}
 use Rattle.std.proofs.lemmas.Bool.{cases_eq, false≢true}
@@ -20,7 +20,7 @@ use Rattle.kernel_model.specs.Kernel as kernel
 use Rattle.kernel_model.specs.Fitting.{Place, Places}
 use Rattle.kernel_model.specs.Footprint.{used_of}
 use Rattle.kernel_model.specs.Valid.{IsValid}
-use Rattle.kernel_moves.specs.Entering.{IsChildIn, IsKin, LeavesOthers, SameKind, Same, TurnsTo}
+use Rattle.kernel_moves.specs.Entering.{IsChildIn, IsKin, LeavesOthers, Same, TurnsTo}
 use Rattle.kernel_moves.proofs.Bodies.{body-dead, living-body}
 use Rattle.kernel_moves.proofs.Ends.{EndBodies}
 use Rattle.kernel_moves.proofs.Kin.{kin-end, kin-ended}
@@ -29,7 +29,7 @@ use Rattle.kernel_moves.proofs.Numbers.{process-there}
 use Rattle.kernel_moves.proofs.Others.{others-lived, others-stay-dead, others-still-may}
 use Rattle.node_model.specs.Bodies.{Body, Living as LivingBody, Ended, Gone, AQueue, ASet, Removed, body_in, process_body, is_living_body, free_to_act}
 use Rattle.serve_laws.specs.Ends.{is_among}
-use Rattle.serve_laws.proofs.KernelEnds.{kept_by, left_by, kept_by-dead}
+use Rattle.serve_laws.proofs.KernelEnds.{left_by, kept_by-dead}
 use Rattle.world_model.specs.Lives.{names_block}
 use Rattle.world_model.specs.Node.{Stage}
 use Rattle.world_laws.specs.Places.{DeedPlace, InCheckpoint, Ends}
@@ -124,6 +124,7 @@ module _ (k next : Kernel) (places after : Places) (pid parent : ℕ) (row : Row
         | inr d ↦ inl (sym (l.places_stay q d) ∙ there)
       ]
 
+  -- what holds of them holds afterwards
   pub pids-after-end : (script : Script) (pids : ℕ → ℕ) → PidsHold script pids places k
       → PidsHold script pids after next
   pids-after-end script pids h =

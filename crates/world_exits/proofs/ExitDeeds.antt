@@ -1,6 +1,6 @@
 -- What a node has once an exit was carried out there: the parcel's names and the parent's have the next kernel's parts,
 -- and all other deeds are as they were; the node holds what it should, and deeds are where they may be.
-use Rattle.std.proofs.Common.{◌≡◌, ◌≢◌, ◌⊎◌, ℕ, ◌<◌, ◌≤◌, Bool, true, false, ◌||◌, if◌then◌else◌, List, [], ◌∷◌, nat_eq, Option, Some, None, is_some, Contains, refl, ap, sym, subst, ◌∙◌, inl, inr, arith}
+use Rattle.std.proofs.Common.{◌≡◌, ◌≢◌, ◌⊎◌, ℕ, ◌<◌, Bool, true, false, ◌||◌, if◌then◌else◌, List, [], ◌∷◌, nat_eq, Option, Some, None, is_some, Contains, refl, ap, sym, subst, ◌∙◌, inl, inr, arith}
 use Rattle.std.proofs.lemmas.Bool.{cases_eq, eq-eqb, ne_eqb, false≢true}
 use Rattle.pico_base.specs.declared.call.Call.{Call}
 use Rattle.pico_base.specs.declared.numbers.Name.{Name}
@@ -11,13 +11,11 @@ use Rattle.pico_base.specs.declared.script.Script.{Script}
 use Rattle.rpc_frame.specs.declared.deed.Parcel.{Parcel}
 use Rattle.number_maps.specs.Maps.{Numbered, get}
 use Rattle.number_maps.proofs.LookUps.{get-first, get-later}
-use Rattle.kernel_laws.proofs.People.{from-living}
 use Rattle.kernel_model.specs.Row.{Alive, Row, ended_child}
 use Rattle.kernel_model.specs.Kernel.{Kernel, Process, living_at, alive_in}
 use Rattle.kernel_model.specs.Kernel as kernel
 use Rattle.kernel_model.specs.Effect.{reply_alone}
-use Rattle.kernel_model.specs.Valid.{ListsEnded}
-use Rattle.kernel_moves.specs.Entering.{HasRow, IsChildIn, MayMake}
+use Rattle.kernel_moves.specs.Entering.{HasRow, IsChildIn}
 use Rattle.kernel_moves.proofs.Bodies.{body-living, living-body}
 use Rattle.kernel_moves.proofs.Ends.{among-kept}
 use Rattle.kernel_moves.proofs.Kin.{kept-among}
@@ -26,11 +24,11 @@ use Rattle.kernel_moves.proofs.Others.{others-lived, others-still-may}
 use Rattle.node_model.specs.declared.held.Held.{Held}
 use Rattle.node_model.specs.Kinds.{get_named, none_named}
 use Rattle.node_model.specs.Directory.{has_deed_of}
-use Rattle.node_model.specs.Bodies.{Body, Living as LivingBody, Ended, Gone, Deeds, body_in, process_body}
+use Rattle.node_model.specs.Bodies.{Body, Living as LivingBody, Gone, Deeds, body_in, process_body}
 use Rattle.node_model.specs.Parcels.{ending_of}
 use Rattle.serve_laws.specs.Ends.{IsEnded, is_among, is_brought, concerns}
-use Rattle.world_model.specs.Node.{Node, Stage, Unborn, Living, Leaving, Left, Over, unborn_node}
-use Rattle.world_model.specs.World.{World, node_count}
+use Rattle.world_model.specs.Node.{Node, Stage, Unborn, Living, Leaving, Left, Over}
+use Rattle.world_model.specs.World.{World}
 use Rattle.world_laws.specs.Places.{DeedPlace, Unmade, InTable, InCheckpoint, Beside}
 use Rattle.world_laws.specs.Sights.{node_of, stage_of, is_born_in}
 use Rattle.world_laws.specs.Names.{NameHolds, name_sight, forker}
@@ -41,9 +39,9 @@ use Rattle.world_laws.proofs.NameFacts.{IsHeldAt, held-there}
 use Rattle.world_ends.proofs.RecallAlls.{deeds_at}
 use Rattle.world_ends.proofs.Taken.{each_with}
 use Rattle.world_exits.proofs.DeedMoves.{ComesAsBefore, deed_by, together-by, comes-by}
-use Rattle.world_exits.proofs.Parcels.{HasParcel, IsOnItsWay, bodies, part, has-body, no-object-in, own-in-parcel, parcel-forked, in-parcel-made, is-used-there, low-node, own-lives, own-living, living-own}
+use Rattle.world_exits.proofs.Parcels.{HasParcel, IsOnItsWay, bodies, part, has-body, own-in-parcel, parcel-forked, in-parcel-made, is-used-there, low-node, not-first, living-own}
 use Rattle.world_exits.proofs.EndLeaves.{EndLeaves, RestsAfter, end-dead}
-use Rattle.world_exits.proofs.Exits.{end_row, parent_body, exit_is, next, deeds_then, places_then, exit-leaves, may-exit, none-here, parent-here, parent-not-in, pid-is, parent-is, not-first, own-row, gets, child-in}
+use Rattle.world_exits.proofs.Exits.{end_row, parent_body, exit_is, next, deeds_then, places_then, exit-leaves, none-here, parent-here, parent-not-in, pid-is, parent-is, own-row, gets, child-in}
 
 some-same : {A : Type 0} {u v : A} → Some u ≡ Some v → u ≡ v
 some-same e = cc
@@ -423,7 +421,7 @@ module _ (script : Script) (w : World) (hand : List Held) (b : Beside) (holds : 
   below =
       let pids = holds.pids
       in let up = pids.forked c (parcel-forked script w hand b holds parcel c call place parcel_is)
-      (not-first script w hand b holds parcel c call place parcel_is reads x parent_at)
+      (not-first script w hand b holds parcel c call place parcel_is)
       in let its_family : FamilyHolds script b.pids b.places k (process_deed b.deed)
       (checkpoints_to script w (forker script c)) (stage_of w (forker script c)) (forker script c) =
       holds.families (forker script c) up.0

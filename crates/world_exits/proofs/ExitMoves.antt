@@ -1,5 +1,5 @@
 -- An event that carries out an exit at a node: all holds after it, where it holds for the names and the calls.
-use Rattle.std.proofs.Common.{◌≡◌, ◌≢◌, ℕ, ◌+◌, ◌≤◌, Bool, true, false, cond, List, [], ◌∷◌, ◌++◌, length, sum_by, filter, flat_map, Some, Contains, refl, ap, sym, subst, ◌∙◌, inl, inr, arith}
+use Rattle.std.proofs.Common.{◌≡◌, ◌≢◌, ℕ, ◌+◌, ◌≤◌, Bool, true, false, cond, List, [], ◌∷◌, length, sum_by, filter, refl, ap, sym, subst, ◌∙◌, inl, inr, arith}
 use Rattle.std.specs.List.{AllByRecursion}
 use Rattle.std.proofs.lemmas.Bool.{cases_eq, false≢true}
 use Rattle.std.proofs.lemmas.List.{length-append}
@@ -22,16 +22,16 @@ use Rattle.number_maps.specs.Maps.{Numbered}
 use Rattle.node_model.specs.declared.held.Held.{Held}
 use Rattle.node_model.specs.Kinds.{for_kind}
 use Rattle.node_model.specs.Caller.{Caller}
-use Rattle.node_model.specs.Directory.{Directory, is_known}
+use Rattle.node_model.specs.Directory.{is_known}
 use Rattle.node_model.specs.Parcels.{ending_of}
 use Rattle.world_model.specs.Node.{Node}
 use Rattle.world_model.specs.World.{World, numbers, node_count}
 use Rattle.world_laws.specs.Places.{DeedPlace, InTable, CallPlace, Beside}
 use Rattle.world_laws.specs.Sights.{node_of, frames_to, directory_of, stage_of, is_born_in, is_born_stage}
 use Rattle.world_laws.specs.Names.{NameHolds, name_sight, forker}
-use Rattle.world_laws.specs.Callers.{CallHolds, CallSight, call_sight}
+use Rattle.world_laws.specs.Callers.{CallHolds, call_sight}
 use Rattle.world_laws.specs.Ways.{way_sight, knows_parent, is_leaving_frame, is_recall_all, is_left_frame, IsParcelIn}
-use Rattle.world_laws.specs.Ranges.{KindHolds, kind_sight, FewRanges, KeysHold, has_lease, leases_on_way, one_for, lease_in}
+use Rattle.world_laws.specs.Ranges.{FewRanges, KeysHold, has_lease, leases_on_way, one_for, lease_in}
 use Rattle.world_laws.specs.Families.{NodeHolds, FamilyHolds, IsWhereFor, checkpoints_to, is_checkpoint_frame}
 use Rattle.world_laws.specs.Invariant.{Holds, IsLeading, process_deed}
 use Rattle.world_laws.specs.Deeds.{DeedsAreRead}

@@ -1,11 +1,11 @@
 -- The end of a parcel's process at the node where its parent's deed is: the exit is carried out there, as the kernel's,
 -- and the node has the deeds of the parcel's names and of the parent afterwards, with the next kernel's parts.
-use Rattle.std.proofs.Common.{◌≡◌, ◌≢◌, ◌⊎◌, ℕ, ◌≤◌, Bool, true, false, ◌||◌, List, [], ◌∷◌, ◌++◌, nat_eq, Option, Some, None, is_some, option_map, option_and_then, Contains, refl, ap, sym, subst, ◌∙◌, inl, inr, arith}
-use Rattle.std.proofs.lemmas.Bool.{cases_eq, eq-eqb, ne_eqb, false≢true}
+use Rattle.std.proofs.Common.{◌≡◌, ◌≢◌, ℕ, Bool, true, false, List, [], ◌∷◌, ◌++◌, Option, Some, None, is_some, option_map, Contains, refl, ap, sym, subst, ◌∙◌, inl, inr}
+use Rattle.std.proofs.lemmas.Bool.{false≢true}
 use Rattle.pico_base.specs.declared.call.Call.{Call}
 use Rattle.pico_base.specs.declared.call.Call.TheVariants as calls
 use Rattle.pico_base.specs.declared.numbers.Name.{Name}
-use Rattle.pico_base.specs.declared.numbers.Name.TheVariants.{Proc, Msg, Sem}
+use Rattle.pico_base.specs.declared.numbers.Name.TheVariants.{Proc}
 use Rattle.pico_base.specs.declared.reply.Ending.{Ending}
 use Rattle.pico_base.specs.declared.reply.Reply.TheVariants as replies
 use Rattle.pico_base.specs.declared.reply.Entry.{Entry}
@@ -19,39 +19,34 @@ use Rattle.kernel_model.specs.Kernel as kernel
 use Rattle.kernel_model.specs.Fitting.{Place, Places, IsDue, move_on, places_after}
 use Rattle.kernel_model.specs.Script.{is_fork}
 use Rattle.kernel_moves.specs.Entering.{HasHistory, HasRow, IsChildIn, IsChildOf, MayMake, entry_of}
-use Rattle.kernel_moves.proofs.Bodies.{body-living, living-body}
+use Rattle.kernel_moves.proofs.Bodies.{body-living}
 use Rattle.kernel_moves.proofs.Ends.{MayEnd, EndsHere, ends-here, exit_changes, commits}
 use Rattle.kernel_moves.proofs.History.{history-goes-on, may-make-from, place-moves, places-stay}
-use Rattle.kernel_moves.proofs.Kin.{kept-among}
-use Rattle.kernel_moves.proofs.Others.{goes, others-lived, others-still-may}
+use Rattle.kernel_moves.proofs.Others.{goes}
 use Rattle.kernel_moves.proofs.Places.{end-is-last}
 use Rattle.kernel_moves.proofs.Places as places_of
 use Rattle.node_model.specs.declared.held.Held.{Held}
-use Rattle.node_model.specs.Kinds.{is_object, get_named, put_all}
+use Rattle.node_model.specs.Kinds.{get_named, put_all}
 use Rattle.node_model.specs.Caller.{Caller, caller_place}
 use Rattle.node_model.specs.Directory.{has_deed_of}
-use Rattle.node_model.specs.Bodies.{Body, Living as LivingBody, Ended, Gone, Deeds, body_in, process_body}
-use Rattle.node_model.specs.Parcels.{ending_of, fits_bodies, fitting_bodies, commit_exit, is_over_but_for}
-use Rattle.serve_laws.specs.Ends.{IsEnded, is_among, is_brought}
-use Rattle.serve_laws.specs.Ends as ends
-use Rattle.world_model.specs.Node.{Node, Left}
+use Rattle.node_model.specs.Bodies.{Body, Living as LivingBody, Deeds, body_in, process_body}
+use Rattle.node_model.specs.Parcels.{ending_of, fitting_bodies}
 use Rattle.world_model.specs.Step.{Step, with_deeds, enter}
 use Rattle.world_model.specs.Lives.{is_end}
 use Rattle.world_model.specs.Routing.{enter_exit, exit_with, exit_here}
-use Rattle.world_model.specs.World.{World, node_count}
+use Rattle.world_model.specs.World.{World}
 use Rattle.world_laws.specs.Places.{DeedPlace, InTable, Beside}
 use Rattle.world_laws.specs.Sights.{node_of, stage_of, is_born_in}
-use Rattle.world_laws.specs.Names.{NameHolds, name_sight, held_as, held_at, forker}
+use Rattle.world_laws.specs.Names.{NameHolds, name_sight, held_as, forker}
 use Rattle.world_laws.specs.Callers.{call_sight, IsToBeMade}
-use Rattle.world_laws.specs.Families.{NodeHolds, FamilyHolds, IsWhereFor, IsWithParent, checkpoints_to, is_first_stage}
+use Rattle.world_laws.specs.Families.{FamilyHolds, IsWithParent, checkpoints_to}
 use Rattle.world_laws.specs.Invariant.{Holds, process_deed}
 use Rattle.world_laws.specs.Deeds.{DeedsAreRead}
-use Rattle.world_laws.proofs.NameFacts.{IsHeldAt, held-there, held-here}
-use Rattle.world_laws.proofs.Named.{name-cases}
+use Rattle.world_laws.proofs.NameFacts.{held-here}
 use Rattle.world_ends.proofs.RecallAlls.{deeds_at}
 use Rattle.world_ends.proofs.Taken.{each_with, each-gets}
-use Rattle.world_exits.proofs.Parcels.{HasParcel, IsOnItsWay, bodies, part, is_of, has-body, in-parcel, no-object-in, own-in-parcel, parcel-forked, low-node, high-node, OwnLives, own-lives, own-living, own-part, own-family, end-to-be-made, is-an-end, living-own, parcel-fits, parcel-reads}
-use Rattle.world_exits.proofs.EndLeaves.{EndLeaves, end-dead}
+use Rattle.world_exits.proofs.Parcels.{HasParcel, IsOnItsWay, bodies, part, has-body, own-in-parcel, parcel-forked, not-first, OwnLives, own-lives, own-living, own-part, own-family, end-to-be-made, is-an-end, parcel-fits, parcel-reads}
+use Rattle.world_exits.proofs.EndLeaves.{EndLeaves}
 
 some-same : {A : Type 0} {u v : A} → Some u ≡ Some v → u ≡ v
 some-same e = cc
@@ -63,12 +58,13 @@ living-same : {r s : Row} → LivingBody r ≡ LivingBody s → r ≡ s
 living-same e = cc
 
 -- an end is its process's last call, and no fork
-ends-last : (call : Call) → is_end call ≡ true → places_of.is_end call ≡ true
+pub ends-last : (call : Call) → is_end call ≡ true → places_of.is_end call ≡ true
 ends-last (calls.Exit status) h = refl
 ends-last (calls.Killed sig) h = refl
 ends-last call h = absurd (false≢true h)
 
-end-no-fork : (call : Call) → is_end call ≡ true → is_fork call ≡ false
+-- it forks nothing
+pub end-no-fork : (call : Call) → is_end call ≡ true → is_fork call ≡ false
 end-no-fork (calls.Exit status) h = refl
 end-no-fork (calls.Killed sig) h = refl
 end-no-fork call h = absurd (false≢true h)
@@ -99,9 +95,11 @@ module _ (script : Script) (w : World) (hand : List Held) (b : Beside) (holds : 
   abbrev lives : OwnLives script w hand b holds parcel c call place parcel_is
   lives = own-lives script w hand b holds parcel c call place parcel_is
 
+  -- the row of the parcel's process
   abbrev pub end_row : Row
   end_row = lives.alive.row
 
+  -- and its parent's body
   abbrev pub parent_body : Body
   parent_body = of parcel.parent
 
@@ -133,16 +131,6 @@ module _ (script : Script) (w : World) (hand : List Held) (b : Beside) (holds : 
           absurd (none-is-some parent_body (sym (none-here parcel.parent e) ∙ parent-here))
 
   -- ---- the process
-
-  -- its node isn't the leader
-  pub not-first : c ≢ 1
-  not-first e =
-      let node : NodeHolds script b.pids (is_born_in w) 1 (node_of w 1) =
-      holds.nodes 1 (omega arith)
-      (subst (λ y. y ≤ node_count script) e (high-node script w hand b holds parcel c call place parcel_is))
-      in false≢true
-      (sym (ap is_first_stage parcel_is.stage)
-      ∙ ap (λ y. is_first_stage (stage_of w y)) e ∙ node.first refl)
 
   -- its parent is the process of the node that forked it
   pub parent-is : parcel.parent ≡ b.pids (forker script c)
@@ -212,7 +200,8 @@ module _ (script : Script) (w : World) (hand : List Held) (b : Beside) (holds : 
             let a : HasRow k parcel.parent row = body-living k parcel.parent row is
             in ap (λ (r : Row). lists r.family parcel.pid) (sym a.row_is)
             ∙ ap (lists a.alive.row.family) pid-is
-            ∙ its-child family.process family.is (family.child not-first) a.alive
+            ∙ its-child family.process family.is
+            (family.child (not-first script w hand b holds parcel c call place parcel_is)) a.alive
             (ap (living_at k) (sym parent-is) ∙ a.lives);
         only = λ p a is_living lists_it.
             let is = from-living k.processes p a is_living
@@ -261,6 +250,7 @@ module _ (script : Script) (w : World) (hand : List Held) (b : Beside) (holds : 
   abbrev pub exit_is : EndsHere k deeds parcel (each_with of its) end_row parent_body
   exit_is = ends-here k deeds parcel (each_with of its) end_row parent_body may-exit may-end
 
+  -- the next kernel
   abbrev pub next : Kernel
   next = exit_is.next
 
@@ -297,6 +287,7 @@ module _ (script : Script) (w : World) (hand : List Held) (b : Beside) (holds : 
   abbrev pub exit_entry : Entry
   exit_entry = entry_of x parcel.pid parcel.call replies.Ended
 
+  -- and the places then
   abbrev pub places_then : Places
   places_then = places_after script b.places exit_entry was
 

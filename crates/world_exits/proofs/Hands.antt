@@ -1,9 +1,9 @@
 -- The leader's hand once the names of its first parcel are at a node: what was held for them is in it, in front of the
 -- rest.
-use Rattle.std.proofs.Common.{◌≡◌, ◌≢◌, ℕ, Bool, true, false, cond, if◌then◌else◌, List, [], ◌∷◌, ◌++◌, filter, flat_map, Option, Some, Contains, refl, ap, sym, subst, ◌∙◌, inl, inr}
+use Rattle.std.proofs.Common.{◌≡◌, ℕ, Bool, true, false, cond, if◌then◌else◌, List, [], ◌∷◌, ◌++◌, filter, flat_map, Some, Contains, refl, ap, sym, subst, ◌∙◌, inl, inr}
 use Rattle.std.specs.List.{AllByRecursion}
 use Rattle.std.proofs.lemmas.Bool.{false≢true}
-use Rattle.std.proofs.lemmas.List.Elements.{filter-append, Contains-append_left, Contains-append_right, Contains-append_cases, Contains-push}
+use Rattle.std.proofs.lemmas.List.Elements.{filter-append, Contains-append_right, Contains-append_cases}
 use Rattle.pico_base.specs.declared.numbers.Name.{Name}
 use Rattle.pico_base.specs.declared.numbers.Name.TheVariants.{Proc, Msg, Sem}
 use Rattle.pico_base.specs.declared.script.Script.{Script}
@@ -14,18 +14,19 @@ use Rattle.node_model.specs.Kinds.{is_object}
 use Rattle.node_model.specs.Directory.{Directory, At, place_of, held_for, has_deed_of, is_parcel_with}
 use Rattle.world_model.specs.Routing.{names_in, held_for_all}
 use Rattle.world_model.specs.World.{World}
-use Rattle.world_laws.specs.Places.{DeedPlace, InHand, Beside}
+use Rattle.world_laws.specs.Places.{Beside}
 use Rattle.world_laws.specs.Sights.{directory_of, is_born_in}
 use Rattle.world_laws.specs.Names.{NameSight, name_sight, NameHolds, OneIf, IsItemFor, IsItemWith, is_kept_for, node_in, forker}
-use Rattle.world_laws.specs.Callers.{CallSight, call_sight, is_item_about}
-use Rattle.world_laws.specs.Ways.{IsParcelIn, left as left_in, sent as sent_in, kept as kept_in, at_hand}
+use Rattle.world_laws.specs.Callers.{is_item_about}
+use Rattle.world_laws.specs.Ways.{IsParcelIn, kept as kept_in, at_hand}
 use Rattle.world_laws.specs.Invariant.{Holds}
-use Rattle.world_exits.proofs.Arrivals.{is_one_of, has-is-one, Arrives, AreApart, held-kept, still-there, kept-of-all, held-for-one, none-of-all, each-of-all, names-apart}
+use Rattle.world_exits.proofs.Arrivals.{is_one_of, has-is-one, Arrives, AreApart, held-kept, kept-of-all, held-for-one, none-of-all, each-of-all, names-apart}
 use Rattle.world_exits.proofs.Released.{IsSeenHeld}
-use Rattle.world_exits.proofs.Parcels.{HasParcel, hand-sender, parcel-in-hand, others-lack}
+use Rattle.world_exits.proofs.Parcels.{hand-sender, parcel-in-hand, others-lack}
 
 -- no process ends for a queue or a set
-no-ending-for : (name other : Name) → is_object name ≡ true → (items : List Held) → AllByRecursion (IsItemFor name) items
+no-ending-for : (name other : Name) → is_object name ≡ true → (items : List Held)
+    → AllByRecursion (IsItemFor name) items
     → filter (is_parcel_with other) items ≡ []
 no-ending-for name other object [] all = refl
 no-ending-for name other object (Request asked ∷ items) all = no-ending-for name other object items all.1
@@ -33,12 +34,15 @@ no-ending-for name other object (Ending parcel ∷ items) all = absurd (false≢
 
 module _ (script : Script) (w : World) (items : List Held) (parcel : Parcel) (b : Beside)
     (holds : Holds script w (Ending parcel ∷ items) b) where
+  -- what is in hand
   abbrev pub hand : List Held
   hand = Ending parcel ∷ items
 
+  -- the names of the first parcel
   abbrev pub names : List Name
   names = names_in parcel
 
+  -- what the leader knows
   abbrev pub d : Directory
   d = directory_of w
 

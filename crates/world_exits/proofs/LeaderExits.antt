@@ -1,23 +1,19 @@
 -- The exit of the first parcel in the leader's hand is carried out at the leader, where the parent's deed is: the
 -- parcel's names rest there, and what was held for them is in the hand.
-use Rattle.std.proofs.Common.{◌≡◌, ◌≢◌, ℕ, ◌≤◌, Bool, true, false, ◌&&◌, not, cond, if◌then◌else◌, List, [], ◌∷◌, ◌++◌, filter, flat_map, nat_eq, Option, Some, None, is_none, is_some, Contains, refl, ap, sym, subst, ◌∙◌, inl, inr, arith}
+use Rattle.std.proofs.Common.{◌≡◌, ◌≢◌, ℕ, ◌≤◌, Bool, true, false, ◌&&◌, not, if◌then◌else◌, List, [], ◌∷◌, filter, flat_map, nat_eq, Option, Some, None, is_none, is_some, Contains, refl, ap, sym, subst, ◌∙◌, inl, inr, arith}
 use Rattle.std.proofs.lemmas.Bool.{cases_eq, ne_eqb, false≢true}
-use Rattle.pico_base.specs.declared.call.Call.{Call}
-use Rattle.pico_base.specs.declared.numbers.Kind.{Kind}
 use Rattle.pico_base.specs.declared.numbers.Name.{Name}
 use Rattle.pico_base.specs.declared.numbers.Name.TheVariants.{Proc, Msg, Sem}
 use Rattle.pico_base.specs.declared.reply.Entry.{Entry}
 use Rattle.pico_base.specs.declared.script.Script.{Script}
 use Rattle.rpc_frame.specs.declared.deed.Parcel.{Parcel}
-use Rattle.rpc_frame.specs.declared.frame.Frame.{Frame}
 use Rattle.rpc_frame.specs.declared.frame.Frame.TheVariants as frames
 use Rattle.number_maps.specs.Maps.{get, is_used}
 use Rattle.kernel_model.specs.Kernel.{Kernel, Process}
-use Rattle.kernel_moves.specs.Entering.{is_used_name}
 use Rattle.node_model.specs.declared.held.Held.{Held}
 use Rattle.node_model.specs.declared.held.Held.TheVariants.{Ending}
 use Rattle.node_model.specs.Kinds.{kind_of, number_of, is_object, get_named, for_kind}
-use Rattle.node_model.specs.Directory.{Directory, At, place_of, maker, maker_in, stays, has_deed_of, is_parcel_with, held_for, is_known, destination_of}
+use Rattle.node_model.specs.Directory.{Directory, At, place_of, maker, maker_in, stays, has_deed_of, is_parcel_with, held_for, is_known}
 use Rattle.node_model.specs.Bodies.{Body, Deeds, body_in}
 use Rattle.world_model.specs.Node.{Node}
 use Rattle.world_model.specs.Step.{with_directory}
@@ -25,8 +21,8 @@ use Rattle.world_model.specs.Census.{brings}
 use Rattle.world_model.specs.World.{World, node_count}
 use Rattle.world_laws.specs.Places.{DeedPlace, Unmade, InTable, InHand, CallPlace, Beside}
 use Rattle.world_laws.specs.Sights.{node_of, frames_to, directory_of, stage_of, is_born_in}
-use Rattle.world_laws.specs.Plays.{Hold, PlayStep, plays, begin, is_there, is_checkpoint_of, has_any, believed, placed_in, news}
-use Rattle.world_laws.specs.Names.{NameSight, name_sight, NameHolds, OneIf, IsBringer, PlaysTo, is_stream_of, may_be_at, held_as, held_at, comes_to, range_steps_of, forker, is_maker, belief_of, maker_tells}
+use Rattle.world_laws.specs.Plays.{Hold, plays, begin, is_there, is_checkpoint_of, has_any, believed, placed_in, news}
+use Rattle.world_laws.specs.Names.{NameSight, name_sight, NameHolds, PlaysTo, held_as, held_at, comes_to, range_steps_of, forker, is_maker, maker_tells}
 use Rattle.world_laws.specs.Callers.{CallHolds, call_sight, is_about, is_item_about}
 use Rattle.world_laws.specs.Ways.{IsParcelIn, left as left_in, sent as sent_in, kept as kept_in, at_hand, under_way_of, HasSender}
 use Rattle.world_laws.specs.Families.{NodeHolds, IsWhereFor}
@@ -38,7 +34,7 @@ use Rattle.world_laws.proofs.NameFacts.{IsHeldAt, held-there, held-here, held-el
 use Rattle.world_laws.proofs.LeftAlone.{was-there}
 use Rattle.world_laws.proofs.Stays.{IsMore, SameName, SameCall, name-stays, call-stays}
 use Rattle.world_rules.proofs.Nodes.{node-with-directory}
-use Rattle.world_own.proofs.Rebodied.{rebodied, name-rebodied}
+use Rattle.world_own.proofs.Rebodied.{name-rebodied}
 use Rattle.world_exits.proofs.Arrivals.{Arrives, arrived-known, held-kept, still-there}
 use Rattle.world_exits.proofs.Released.{call_released, deed_released, released_name, name-released, released_call, call-comes}
 use Rattle.world_exits.proofs.Parcels.{HasParcel, hand-sender, parcel-in-hand, is-used-there, in-parcel-made, no-object-in}
@@ -46,7 +42,7 @@ use Rattle.world_exits.proofs.Hands.{names, hand_then, parcel-apart, held_with, 
 use Rattle.world_exits.proofs.Onward.{plays-released, ranges-released}
 use Rattle.world_exits.proofs.SentOn.{hand-not-brought, hand-plays}
 use Rattle.world_exits.proofs.SentAll.{no-lease-released}
-use Rattle.world_exits.proofs.DeedMoves.{ComesAsBefore, where-released, comes-released}
+use Rattle.world_exits.proofs.DeedMoves.{where-released, comes-released}
 use Rattle.world_exits.proofs.Exits.{next, exit_entry, deeds_then, exit-leaves}
 use Rattle.world_exits.proofs.ExitDeeds.{node_then, node-after-exit, then-in-parcel, then-parent, then-other, body-other}
 use Rattle.world_exits.proofs.ExitMoves.{IsExitMove, exit_beside, exit-born, between, calls-between, exit-keeps}
@@ -66,6 +62,7 @@ rested x body begins =
       begins = begins;
     }
 
+-- what there is to show for it
 pub record RestsHere (x : NameSight) (begins : ℕ → Hold) : Type 0 where
   pub used : x.used ≡ true
   pub brought : (to sender : ℕ) → x.brought to sender ≡ []
@@ -135,6 +132,7 @@ module _ (script : Script) (w : World) (items : List Held) (parcel : Parcel) (b 
   abbrev c : ℕ
   c = sender.node
 
+  -- the first parcel in hand
   abbrev pub leader_parcel : HasParcel script w b parcel c sender.call (InHand c)
   leader_parcel = parcel-in-hand script w items parcel b holds
 

@@ -12,3 +12,8 @@ pub mod ExitDeeds
 pub mod ExitMoves
 pub mod LeaderExits
 pub mod EndKeeps
+pub mod SentParcels
+pub mod ExitTos
+pub mod NoForker
+pub mod FirstEnds
+pub mod HandEnds

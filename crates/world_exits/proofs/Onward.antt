@@ -1,5 +1,5 @@
 -- A parcel goes on to a node: the plays there of the names that it has, and all that holds of such a name.
-use Rattle.std.proofs.Common.{◌≡◌, ◌≢◌, ℕ, ◌≤◌, Bool, true, false, ◌&&◌, ◌||◌, cond, if◌then◌else◌, List, [], ◌∷◌, ◌++◌, flat_map, nat_eq, Option, Some, None, is_some, refl, ap, sym, subst, ◌∙◌, inl, inr, append-nil}
+use Rattle.std.proofs.Common.{◌≡◌, ◌≢◌, ℕ, ◌≤◌, Bool, true, false, ◌&&◌, ◌||◌, cond, if◌then◌else◌, List, [], ◌∷◌, ◌++◌, flat_map, nat_eq, Some, None, is_some, refl, ap, sym, subst, ◌∙◌, inl, inr, append-nil}
 use Rattle.std.specs.List.{list_any}
 use Rattle.std.proofs.lemmas.Bool.{cases_eq, eq-eqb, ne_eqb, false≢true}
 use Rattle.pico_base.specs.declared.numbers.Name.{Name}
@@ -8,10 +8,10 @@ use Rattle.rpc_frame.specs.declared.deed.Parcel.{Parcel}
 use Rattle.rpc_frame.specs.declared.frame.Frame.{Frame}
 use Rattle.rpc_frame.specs.declared.frame.Frame.TheVariants as frames
 use Rattle.node_model.specs.Kinds.{is_object}
-use Rattle.node_model.specs.Directory.{At, destination_of}
+use Rattle.node_model.specs.Directory.{At}
 use Rattle.world_model.specs.Node.{Stage, Unborn, Living, Leaving, Left, Over}
-use Rattle.world_laws.specs.Places.{CallPlace, IsHeld, IsInHand, DeedPlace, Unmade, InHand, InExitTo}
-use Rattle.world_laws.specs.Plays.{Hold, Has, Lacks, Done, PlayStep, Comes, Goes, AllGo, IsNeeded, play, play_on, plays, steps_of, steps_if, begin, is_has, is_there, is_call_on, is_sent_by_place}
+use Rattle.world_laws.specs.Places.{CallPlace, IsHeld, IsInHand, Unmade, InHand, InExitTo}
+use Rattle.world_laws.specs.Plays.{Hold, Has, Lacks, Done, PlayStep, Comes, Goes, AllGo, IsNeeded, play, play_on, plays, steps_of, steps_if, begin, is_has, is_call_on, is_sent_by_place}
 use Rattle.world_laws.specs.Names.{NameSight, NameHolds, PlaysTo, HasDeed, IsExitOf, range_steps_of, range_steps_if, IsSentThere, is_sent_by_range, held_as, may_be_at}
 use Rattle.world_laws.specs.Ways.{is_recall_all}
 use Rattle.world_laws.proofs.NameFacts.{has_left, one-if-sent}
@@ -21,10 +21,12 @@ use Rattle.world_exits.proofs.Released.{call_released}
 
 -- ---- where a play ends
 
+-- nothing will be held any more
 abbrev pub is_done : Hold → Bool
 is_done Done = true
 is_done hold = false
 
+-- all are asked for
 abbrev pub is_all_go : PlayStep → Bool
 is_all_go AllGo = true
 is_all_go s = false
@@ -184,6 +186,7 @@ pub record GoesOnward (pids : ℕ → ℕ) (name : Name) (x : NameSight) (c node
   pub others : (h : ℕ) → 2 ≤ h → PlaysTo (x.begins h) (x.steps h) false
   pub lacks : play (x.begins node) (x.steps node) ≡ Some Lacks
 
+-- it is on its way there now
 abbrev pub gone_onward : NameSight → ℕ → ℕ → Parcel → NameSight
 gone_onward x c node parcel =
     record x {

@@ -1,8 +1,8 @@
 -- A parcel in the leader's hand, or on its way to a node: where the deeds of its names are, and what it is of. Where it
 -- comes to a node it fits, and is read as what the kernel has of its processes.
-use Rattle.std.proofs.Common.{◌≡◌, ◌≢◌, ◌⊎◌, ℕ, ◌<◌, ◌≤◌, Bool, true, false, ◌&&◌, if◌then◌else◌, List, [], ◌∷◌, filter, Option, Some, None, is_none, is_some, option_and_then, Contains, refl, ap, sym, subst, ◌∙◌, inl, inr, arith}
+use Rattle.std.proofs.Common.{◌≡◌, ◌≢◌, ◌⊎◌, ℕ, ◌<◌, ◌≤◌, Bool, true, false, ◌&&◌, if◌then◌else◌, List, [], ◌∷◌, filter, Some, None, is_none, is_some, option_and_then, Contains, refl, ap, sym, subst, ◌∙◌, inl, inr, arith}
 use Rattle.std.specs.List.{list_any, list_all}
-use Rattle.std.proofs.lemmas.Bool.{eq-eqb, false≢true}
+use Rattle.std.proofs.lemmas.Bool.{false≢true}
 use Rattle.std.proofs.lemmas.List.Elements.{Contains-append_left, Contains-push}
 use Rattle.pico_base.specs.declared.call.Call.{Call}
 use Rattle.pico_base.specs.declared.numbers.Name.{Name}
@@ -24,16 +24,16 @@ use Rattle.node_model.specs.Directory.{has_deed_of, is_parcel_with}
 use Rattle.node_model.specs.Bodies.{Body, Living as LivingBody, Deeds, body_in, process_body}
 use Rattle.node_model.specs.Spelling.{pack, read_deed}
 use Rattle.node_model.specs.Parcels.{read_deeds, fits_bodies, fits_if, fitting_bodies, has_own_row, may_end_with, is_over_but_for, is_held_none, are_rising}
-use Rattle.world_model.specs.Node.{Node, Left}
+use Rattle.world_model.specs.Node.{Left}
 use Rattle.world_model.specs.Lives.{is_end}
 use Rattle.world_model.specs.World.{World, node_count}
 use Rattle.world_laws.specs.Places.{DeedPlace, Unmade, InCheckpoint, InHand, InExitTo, Ends, Beside}
-use Rattle.world_laws.specs.Sights.{node_of, frames_to, stage_of, is_born_in}
+use Rattle.world_laws.specs.Sights.{node_of, stage_of, is_born_in}
 use Rattle.world_laws.specs.Names.{NameHolds, name_sight, HasDeed, held_as, may_be_at}
 use Rattle.world_laws.specs.Callers.{call_sight, HasCall, IsSoFar, IsToBeMade, HasEnded, is_end_stage, may_be_in}
 use Rattle.world_laws.specs.Ways.{IsParcelOf, at_hand, under_way_of, HasSender}
 use Rattle.world_laws.specs.Ranges.{kind_sight}
-use Rattle.world_laws.specs.Families.{NodeHolds, FamilyHolds, IsItsOwn, RestsBelow, IsWhereFor, checkpoints_to}
+use Rattle.world_laws.specs.Families.{NodeHolds, FamilyHolds, IsItsOwn, RestsBelow, IsWhereFor, checkpoints_to, is_first_stage}
 use Rattle.world_laws.specs.Invariant.{Holds, process_deed}
 use Rattle.world_laws.specs.Deeds.{DeedsAreRead}
 use Rattle.world_laws.proofs.Numbers.{zero-is-unused}
@@ -169,12 +169,14 @@ four-true p q r s e1 e2 e3 e4 = rw (e1, e2, e3, e4) refl
 module _ (script : Script) (w : World) (hand : List Held) (b : Beside) (holds : Holds script w hand b)
     (parcel : Parcel) (c : ℕ) (call : Call) (place : DeedPlace)
     (parcel_is : HasParcel script w b parcel c call place) where
+  -- what it is of
   abbrev pub is_of : IsParcelOf script b.pids c call parcel
   is_of = parcel_is.is_of
 
   on_way : IsOnItsWay c place
   on_way = parcel_is.on_way
 
+  -- what is in it
   abbrev pub bodies : Numbered Body
   bodies = parcel_is.is_of.bodies
 
@@ -220,11 +222,22 @@ module _ (script : Script) (w : World) (hand : List Held) (b : Beside) (holds : 
   pub low-node : 1 ≤ c
   low-node = let pids = holds.pids in (pids.nodes c parcel-forked).0
 
+  -- and is a node of the script
   pub high-node : c ≤ node_count script
   high-node = let pids = holds.pids in (pids.nodes c parcel-forked).1
 
+  -- and isn't the leader
+  pub not-first : c ≢ 1
+  not-first e =
+      let node : NodeHolds script b.pids (is_born_in w) 1 (node_of w 1) =
+      holds.nodes 1 (omega arith) (subst (λ y. y ≤ node_count script) e high-node)
+      in false≢true
+      (sym (ap is_first_stage parcel_is.stage)
+      ∙ ap (λ y. is_first_stage (stage_of w y)) e ∙ node.first refl)
+
   -- ---- the process
 
+  -- the process lives
   pub record OwnLives : Type 0 where
     pub alive : Alive
     pub there : get b.kernel.processes (b.pids c) ≡ Some (kernel.Living alive)
@@ -246,6 +259,7 @@ module _ (script : Script) (w : World) (hand : List Held) (b : Beside) (holds : 
       by-process (kernel.Ended ending) is at = let lower = on_way.below c at in absurd (omega (arith, lower))
       by-process kernel.Gone is at = let lower = on_way.below c at in absurd (omega (arith, lower))
 
+  -- the kernel says so
   pub own-living : living_at b.kernel (b.pids c) ≡ Some own-lives.alive
   own-living = ap (option_and_then alive_in) own-lives.there
 
@@ -261,9 +275,11 @@ module _ (script : Script) (w : World) (hand : List Held) (b : Beside) (holds : 
   call-same : ends.call ≡ call
   call-same = some-same (sym ends.is ∙ parcel_is.under_way)
 
+  -- the call that ends it is under way at the node
   pub own-call : HasCall script c (is_born_in w) (call_sight w hand b c) call
   own-call = subst (λ z. HasCall script c (is_born_in w) (call_sight w hand b c) z) call-same ends.has
 
+  -- where it ends its process
   pub own-place : b.call c ≡ Ends
   own-place = ends.place
 

@@ -1,6 +1,6 @@
 -- What is held for names that have come to a node is in the leader's hand: a call that was held, and the deeds in a
 -- parcel that was held. All holds of them as before.
-use Rattle.std.proofs.Common.{◌≡◌, ◌≢◌, ◌⊎◌, ℕ, Bool, true, false, if◌then◌else◌, List, [], ◌∷◌, ◌++◌, flat_map, nat_eq, Option, Some, None, refl, ap, sym, subst, ◌∙◌, inl, inr, append-nil}
+use Rattle.std.proofs.Common.{◌≡◌, ◌≢◌, ℕ, Bool, true, false, if◌then◌else◌, List, [], ◌++◌, flat_map, nat_eq, Option, Some, None, refl, ap, sym, subst, ◌∙◌, inl, inr, append-nil}
 use Rattle.std.proofs.lemmas.Bool.{ne_eqb, false≢true}
 use Rattle.pico_base.specs.declared.call.Call.{Call}
 use Rattle.pico_base.specs.declared.call.Home.{Home}
@@ -10,7 +10,6 @@ use Rattle.pico_base.specs.declared.numbers.Name.TheVariants.{Proc, Msg, Sem}
 use Rattle.pico_base.specs.declared.script.Script.{Script}
 use Rattle.rpc_frame.specs.declared.asked.Asked.{Asked}
 use Rattle.rpc_frame.specs.declared.frame.Frame.{Frame}
-use Rattle.rpc_frame.specs.declared.frame.Frame.TheVariants as frames
 use Rattle.node_model.specs.declared.held.Held.{Held}
 use Rattle.node_model.specs.declared.held.Held.TheVariants.{Request}
 use Rattle.node_model.specs.Kinds.{is_same_name}
@@ -18,10 +17,10 @@ use Rattle.node_model.specs.Bodies.{Body}
 use Rattle.node_model.specs.Leases.{Leases}
 use Rattle.world_model.specs.Node.{Stage, Unborn, Living, Leaving, Left, Over}
 use Rattle.world_model.specs.Calls.{is_for_others}
-use Rattle.world_laws.specs.Places.{DeedPlace, Unmade, InTable, InCheckpoint, InGrant, InGiveBack, InLeft, InKept, InHand, InExitTo, CallPlace, Idle, AsksLease, HasLease, IsHeld, IsInHand, InAnswer, Ends}
+use Rattle.world_laws.specs.Places.{DeedPlace, Unmade, InTable, InCheckpoint, InGrant, InGiveBack, InLeft, InKept, InHand, InExitTo, CallPlace, IsHeld, IsInHand, InAnswer, Ends}
 use Rattle.world_laws.specs.Names.{NameSight, NameHolds, OneIf, IsBringer, IsItemWith, held_as, is_stream_of, is_kept_for, is_hand_place, node_in, may_be_at, forker}
 use Rattle.world_laws.specs.Callers.{CallSight, CallHolds, HasCall, HasNoCall, HasCallOrNone, IsFree, FreeIn, HasEnded, IsJustThere, IsNowhere, IsSoFar, IsToBeMade, IsBetween, asked_of, only_if, is_in_stream, frame_at, is_held_at, is_in_hand, is_on, may_be_in, lease_is_over, is_end_place}
-use Rattle.world_laws.proofs.Named.{same-name, other-name, same-name-is}
+use Rattle.world_laws.proofs.Named.{other-name}
 use Rattle.world_exits.proofs.Arrivals.{is_one_of, AreApart, one-of-all, none-of-all, just-one-if, just-one-is}
 
 -- ---- where they are now
@@ -230,6 +229,7 @@ module _ (script : Script) (pids : ℕ → ℕ) (names : List Name) where
     pub queues : (id : ℕ) → f (Msg id) ≡ []
     pub sets : (id : ℕ) → f (Sem id) ≡ []
 
+  -- the name, as it is seen then
   abbrev pub released_name : NameSight → (Name → List Held) → NameSight
   released_name x f =
       record x {
@@ -306,7 +306,8 @@ module _ (names : List Name) where
       held-for-call m name item xs e (is_one_of m names) refl (is_one_of name names) refl
   call-held-still c name item xs e = none-of (is_one_of name names) xs e
 
-  in-hand-by : (m : Name) (item : Held) (t : Bool) → only_if t item ≡ only_if (is_in_hand (if t then IsInHand else IsHeld m)) item
+  in-hand-by : (m : Name) (item : Held) (t : Bool)
+      → only_if t item ≡ only_if (is_in_hand (if t then IsInHand else IsHeld m)) item
   in-hand-by m item true = refl
   in-hand-by m item false = refl
 
@@ -337,7 +338,8 @@ module _ (names : List Name) where
       by-test false = h
   home-still c home call h = h
 
-  used-up-still : (c : CallPlace) (leases : Leases) → lease_is_over c leases → lease_is_over (call_released names c) leases
+  used-up-still : (c : CallPlace) (leases : Leases) → lease_is_over c leases
+      → lease_is_over (call_released names c) leases
   used-up-still (IsHeld m) leases h = by-test (is_one_of m names)
     where
       by-test : (t : Bool) → lease_is_over (if t then IsInHand else IsHeld m) leases
@@ -345,7 +347,8 @@ module _ (names : List Name) where
       by-test false = tt
   used-up-still c leases h = h
 
-  between-still : (c : CallPlace) (p : ℕ) (born : ℕ → Bool) → IsBetween p born c → IsBetween p born (call_released names c)
+  between-still : (c : CallPlace) (p : ℕ) (born : ℕ → Bool) → IsBetween p born c
+      → IsBetween p born (call_released names c)
   between-still (IsHeld m) p born h = by-test (is_one_of m names)
     where
       by-test : (t : Bool) → IsBetween p born (if t then IsInHand else IsHeld m)
@@ -362,6 +365,7 @@ module _ (names : List Name) where
       by-test false = refl
   end-place-still c = refl
 
+  -- the call, as it is seen then
   abbrev pub released_call : CallSight → CallSight
   released_call x =
       record x {

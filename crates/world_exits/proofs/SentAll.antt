@@ -1,6 +1,6 @@
 -- The first parcel in the leader's hand goes on to the node where its parent's deed is, and all holds as before.
-use Rattle.std.proofs.Common.{◌≡◌, ◌≢◌, ℕ, ◌≤◌, Bool, true, false, not, cond, if◌then◌else◌, List, [], ◌∷◌, ◌++◌, filter, flat_map, nat_eq, Option, Some, Contains, refl, ap, sym, subst, ◌∙◌, inl, inr, arith, append-nil}
-use Rattle.std.proofs.lemmas.Bool.{cases_eq, ne_eqb}
+use Rattle.std.proofs.Common.{◌≡◌, ◌≢◌, ℕ, ◌≤◌, Bool, true, false, if◌then◌else◌, List, [], ◌∷◌, filter, Some, Contains, refl, ap, sym, subst, ◌∙◌, inl, inr, arith, append-nil}
+use Rattle.std.proofs.lemmas.Bool.{cases_eq}
 use Rattle.std.proofs.lemmas.List.Elements.{Contains-append_left, Contains-push}
 use Rattle.pico_base.specs.declared.numbers.Kind.{Kind}
 use Rattle.pico_base.specs.declared.numbers.Name.{Name}
@@ -20,15 +20,15 @@ use Rattle.node_model.specs.Directory.{Directory, At, place_of, has_deed_of, hel
 use Rattle.world_model.specs.Node.{Node}
 use Rattle.world_model.specs.Step.{with_directory}
 use Rattle.world_model.specs.World.{World, node_count}
-use Rattle.world_laws.specs.Places.{DeedPlace, InHand, InExitTo, InCheckpoint, CallPlace, HasLease, IsHeld, IsInHand, Beside}
-use Rattle.world_laws.specs.Sights.{node_of, frames_to, directory_of, stage_of, is_born_in}
+use Rattle.world_laws.specs.Places.{InHand, InExitTo, InCheckpoint, CallPlace, IsHeld, IsInHand, Beside}
+use Rattle.world_laws.specs.Sights.{node_of, directory_of, stage_of, is_born_in}
 use Rattle.world_laws.specs.Names.{forker}
-use Rattle.world_laws.specs.Callers.{CallSight, CallHolds, call_sight, is_about, is_item_about}
+use Rattle.world_laws.specs.Callers.{CallHolds, call_sight, is_about, is_item_about}
 use Rattle.world_laws.specs.Ways.{way_sight, knows_parent, is_leaving_frame, is_recall_all, is_left_frame, IsParcelIn, left as left_in, sent as sent_in, kept as kept_in, at_hand, under_way_of, HasSender}
-use Rattle.world_laws.specs.Ranges.{KeysHold, kind_sight, has_lease}
+use Rattle.world_laws.specs.Ranges.{KeysHold, has_lease}
 use Rattle.world_laws.specs.Families.{NodeHolds, FamilyHolds, IsWhereFor, checkpoints_to, is_checkpoint_frame}
 use Rattle.world_laws.specs.Invariant.{Holds, IsLeading, process_deed}
-use Rattle.world_laws.proofs.Changes.{Changes, filter-is-list-map, flat_map-is-list-map, made-same, still-born, read-same}
+use Rattle.world_laws.proofs.Changes.{Changes, filter-is-list-map, made-same, still-born, read-same}
 use Rattle.world_laws.proofs.LeftAlone.{was-there, sender-stays, kind-left-alone, other-node-stays, frames-still-fit, few-still}
 use Rattle.world_laws.proofs.Stays.{IsMore, SameCall, SameWay, node-born, call-stays, way-stays, kind-stays}
 use Rattle.world_rules.proofs.Nodes.{node-with-directory}
@@ -37,7 +37,7 @@ use Rattle.world_exits.proofs.Released.{call_released, deed_released, released_c
 use Rattle.world_exits.proofs.Parcels.{HasParcel, hand-sender, parcel-in-hand}
 use Rattle.world_exits.proofs.Hands.{names, hand_then, parcel-apart, call-in-hand, parcel-was}
 use Rattle.world_exits.proofs.SentOn.{sent_beside, sent-names}
-use Rattle.world_exits.proofs.DeedMoves.{MovesDeeds, family-moved, where-released, comes-released, has-same, together-by, comes-by}
+use Rattle.world_exits.proofs.DeedMoves.{MovesDeeds, family-moved, where-released, comes-released, together-by, comes-by}
 
 -- a call that comes into the hand brings no lease
 pub no-lease-released : (which : List Name) (kind : Kind) (c : CallPlace)

@@ -1,8 +1,7 @@
 -- The first parcel in the leader's hand goes on to the node where its parent's deed is: its names are there from then
 -- on, and what was held for them is in the hand.
-use Rattle.std.proofs.Common.{◌≡◌, ◌≢◌, ◌⊎◌, ℕ, ◌≤◌, Bool, true, false, ◌&&◌, not, cond, if◌then◌else◌, List, [], ◌∷◌, ◌++◌, filter, flat_map, nat_eq, Option, Some, None, is_none, is_some, Contains, refl, ap, sym, subst, ◌∙◌, inl, inr, arith, append-nil}
-use Rattle.std.proofs.lemmas.Bool.{cases_eq, eq-eqb, false≢true}
-use Rattle.pico_base.specs.declared.numbers.Kind.{Kind}
+use Rattle.std.proofs.Common.{◌≡◌, ◌≢◌, ℕ, ◌≤◌, Bool, true, false, ◌&&◌, not, cond, if◌then◌else◌, List, [], ◌∷◌, ◌++◌, filter, flat_map, nat_eq, Some, None, is_none, is_some, refl, ap, sym, subst, ◌∙◌, inl, inr, arith, append-nil}
+use Rattle.std.proofs.lemmas.Bool.{eq-eqb, false≢true}
 use Rattle.pico_base.specs.declared.numbers.Name.{Name}
 use Rattle.pico_base.specs.declared.numbers.Name.TheVariants.{Proc}
 use Rattle.pico_base.specs.declared.script.Script.{Script}
@@ -10,42 +9,35 @@ use Rattle.rpc_frame.specs.declared.deed.Parcel.{Parcel}
 use Rattle.rpc_frame.specs.declared.frame.Frame.{Frame}
 use Rattle.rpc_frame.specs.declared.frame.Frame.TheVariants as frames
 use Rattle.number_maps.specs.Maps.{get}
-use Rattle.kernel_model.specs.Kernel.{Process}
-use Rattle.kernel_model.specs.Kernel as kernel
-use Rattle.kernel_moves.specs.Entering.{HasHistory}
 use Rattle.node_model.specs.declared.held.Held.{Held}
 use Rattle.node_model.specs.declared.held.Held.TheVariants.{Ending}
 use Rattle.node_model.specs.Kinds.{kind_of, number_of, is_same_name, get_named, for_kind}
-use Rattle.node_model.specs.Directory.{Directory, At, place_of, maker, maker_in, stays, has_deed_of, is_parcel_with, held_for, is_known}
+use Rattle.node_model.specs.Directory.{Directory, At, place_of, maker, maker_in, stays, has_deed_of, is_parcel_with, held_for}
 use Rattle.world_model.specs.Node.{Node}
 use Rattle.world_model.specs.Step.{with_directory}
 use Rattle.world_model.specs.Census.{brings}
-use Rattle.world_model.specs.World.{World, node_count}
+use Rattle.world_model.specs.World.{World}
 use Rattle.world_laws.specs.Places.{DeedPlace, InHand, InExitTo, CallPlace, Beside}
 use Rattle.world_laws.specs.Sights.{node_of, frames_to, directory_of, stage_of, is_born_in}
 use Rattle.world_laws.specs.Plays.{Hold, Has, Lacks, Done, PlayStep, Comes, IsNeeded, plays, steps_of, steps_if, begin, is_has, is_there, is_checkpoint_of, has_any, believed, placed_in, news}
 use Rattle.world_laws.specs.Names.{NameSight, name_sight, NameHolds, OneIf, IsBringer, PlaysTo, RangeStep, is_stream_of, held_as, held_at, comes_to, range_steps_of, forker, is_maker, belief_of, maker_tells}
-use Rattle.world_laws.specs.Callers.{CallSight, CallHolds, call_sight, is_about, is_item_about}
-use Rattle.world_laws.specs.Ways.{way_sight, knows_parent, is_leaving_frame, is_recall_all, is_left_frame, IsParcelIn, left as left_in, sent as sent_in, kept as kept_in, at_hand, under_way_of, HasSender}
-use Rattle.world_laws.specs.Ranges.{KeysHold, kind_sight, has_lease}
-use Rattle.world_laws.specs.Families.{NodeHolds, FamilyHolds, IsWhereFor, IsWithParent, CheckpointIn, IsNewAt, IsAwaited, checkpoints_to, is_checkpoint_frame}
-use Rattle.world_laws.specs.Invariant.{Holds, process_deed}
-use Rattle.world_laws.proofs.Changes.{Changes, sent, frames_if, IsListMap, filter-is-list-map, flat_map-is-list-map, made-after, made-same, stayed, still-born, read-same}
+use Rattle.world_laws.specs.Ways.{under_way_of, HasSender}
+use Rattle.world_laws.specs.Invariant.{Holds}
+use Rattle.world_laws.proofs.Changes.{Changes, sent, frames_if, filter-is-list-map, flat_map-is-list-map, made-after, made-same, stayed, still-born, read-same}
 use Rattle.world_laws.proofs.Heads.{kept-of-sent}
 use Rattle.world_laws.proofs.Sends.{frame_if}
 use Rattle.world_laws.proofs.Named.{name-cases, same-name, other-name}
-use Rattle.world_laws.proofs.LeftAlone.{was-there, sender-stays, kind-left-alone, other-node-stays, frames-still-fit, few-still}
-use Rattle.world_laws.proofs.Stays.{IsMore, SameName, SameCall, SameWay, name-stays, node-born, call-stays, way-stays, kind-stays}
-use Rattle.world_rules.proofs.Nodes.{node-with-directory}
+use Rattle.world_laws.proofs.Stays.{IsMore, SameName, name-stays}
 use Rattle.world_hand.proofs.Forwards.{name-sent-for, steps_as, ranges_as}
 use Rattle.world_ends.proofs.Taken.{fewer-none, play-without, plays-without, begin-without}
 use Rattle.world_exits.proofs.Arrivals.{either-way, Arrives}
-use Rattle.world_exits.proofs.Released.{call_released, deed_released, released_name, name-released, released_call, call-comes}
+use Rattle.world_exits.proofs.Released.{call_released, deed_released, released_name, name-released}
 use Rattle.world_exits.proofs.Parcels.{HasParcel, hand-sender, parcel-in-hand, is-used-there, in-parcel-made}
-use Rattle.world_exits.proofs.Hands.{hand, names, d, hand_then, parcel-apart, held_with, seen-held, in-hand-then, none-in-hand, kept-then, none-kept-then, place-then, place-still, call-in-hand, parcel-was}
+use Rattle.world_exits.proofs.Hands.{names, hand_then, parcel-apart, held_with, seen-held, in-hand-then, none-in-hand, kept-then, none-kept-then, place-then, place-still}
 use Rattle.world_exits.proofs.Onward.{is_done, done-together, lacks-is, plays-released, ranges-released, GoesOnward, gone_onward, name-gone-onward}
 
-checkpoints-bring : (name : Name) (frame : Frame) → is_checkpoint_of name frame ≡ true → brings name frame ≡ true
+-- a Checkpoint of a name brings its deed
+pub checkpoints-bring : (name : Name) (frame : Frame) → is_checkpoint_of name frame ≡ true → brings name frame ≡ true
 checkpoints-bring name (frames.Checkpoint pid parent deed vars) h = h
 checkpoints-bring name frame h = absurd (false≢true h)
 
@@ -150,6 +142,7 @@ module _ (script : Script) (w : World) (items : List Held) (parcel : Parcel) (b 
   abbrev calls_now : ℕ → CallPlace
   calls_now p = call_released of (b.call p)
 
+  -- what is beside the world then
   abbrev pub sent_beside : Beside
   sent_beside = record b { deed = deeds_now; call = calls_now }
 
@@ -350,7 +343,8 @@ module _ (script : Script) (w : World) (items : List Held) (parcel : Parcel) (b 
       of-another isnt =
           name-stays script b.pids (is_born_in w) (is_born_in w') name _ _ more
           (seen-with s.steps s.ranges
-          (λ q. sym (ap (λ ss. s.steps q ++ ss) (either-way {A = List PlayStep} (nat_eq q x) []) ∙ append-nil (s.steps q))
+          (λ q. sym (ap (λ ss. s.steps q ++ ss) (either-way {A = List PlayStep} (nat_eq q x) [])
+          ∙ append-nil (s.steps q))
           ∙ steps-now [] (steps-of-frame false (other-name name (Proc parcel.parent) isnt)) q)
           ranges-now) released
 

@@ -1,3 +1,4 @@
+pub mod Watches
 pub mod AnsweredHere
 pub mod KeptHere
 pub mod ServedHere

@@ -1,5 +1,5 @@
 -- Something new in the leader's table, where the leader knows it: what holds of its name.
-use Rattle.std.proofs.Common.{◌≡◌, ℕ, ◌≤◌, Bool, true, false, if◌then◌else◌, nat_eq, List, [], Contains, Option, Some, None, is_some, refl, ap, sym, subst, ◌∙◌, arith}
+use Rattle.std.proofs.Common.{◌≡◌, ℕ, ◌≤◌, Bool, true, false, if◌then◌else◌, nat_eq, [], Contains, Option, Some, None, refl, ap, sym, subst, ◌∙◌, arith}
 use Rattle.std.proofs.lemmas.Bool.{ne_eqb, false≢true}
 use Rattle.pico_base.specs.declared.numbers.Name.{Name}
 use Rattle.pico_base.specs.declared.script.Script.{Script}
@@ -8,6 +8,7 @@ use Rattle.node_model.specs.Directory.{Place, At}
 use Rattle.world_laws.specs.Places.{DeedPlace, Unmade, InTable}
 use Rattle.world_laws.specs.Plays.{Hold, Has, Nowhere, believed, is_there, told}
 use Rattle.world_laws.specs.Names.{IsBringer, IsItemWith, IsTold, NameHolds, NameSight, OneIf, PlaysTo, belief_of, forker, held_as, is_hand_place, is_kept_for, is_stream_of, maker_tells, node_in}
+use Rattle.world_own.proofs.NewNames.{is-unplaced}
 use Rattle.world_keys.proofs.Refills.{none-tells}
 
 -- the leader has it in its table, and knows that
@@ -30,10 +31,6 @@ known-not place h = cc
 
 none-bound : (to : ℕ) → None ≡ Some to → ⊥
 none-bound to h = cc
-
-is-unplaced : {A : Type 0} (o : Option A) → (is_some o ≡ true → ⊥) → o ≡ None
-is-unplaced None h = refl
-is-unplaced (Some a) h = absurd (h refl)
 
 module _ (script : Script) (pids : ℕ → ℕ) (born : ℕ → Bool) (name : Name) (x : NameSight)
     (h : NameHolds script pids born name x) (body : Body) (unused : x.used ≡ false) where

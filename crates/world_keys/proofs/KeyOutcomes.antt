@@ -1,6 +1,6 @@
 -- What a get by a key comes to at the leader, whoever asked for it: it has a reply and changes nothing else, or a queue
 -- or a set is made, and the key leads to it.
-use Rattle.std.proofs.Common.{◌≡◌, ◌⊎◌, ℕ, ◌≤◌, Bool, true, false, ◌==◌, if◌then◌else◌, List, length, Option, Some, None, Ok, Err, Result, option_map, refl, ap, sym, subst, ◌∙◌, inl, inr, arith}
+use Rattle.std.proofs.Common.{◌≡◌, ◌⊎◌, ℕ, ◌≤◌, Bool, true, false, List, length, Some, None, Ok, Err, Result, option_map, refl, ap, sym, subst, ◌∙◌, inl, inr, arith}
 use Rattle.std.proofs.lemmas.Bool.{false≢true}
 use Rattle.pico_base.specs.declared.call.Call.{Call}
 use Rattle.pico_base.specs.declared.call.Call.TheVariants as calls
@@ -9,13 +9,13 @@ use Rattle.pico_base.specs.declared.call.Home.TheVariants as homes
 use Rattle.pico_base.specs.declared.numbers.Kind.{Kind}
 use Rattle.pico_base.specs.declared.numbers.Kind.TheVariants as kinds
 use Rattle.pico_base.specs.declared.numbers.Name.{Name}
-use Rattle.pico_base.specs.declared.numbers.Name.TheVariants.{Proc, Msg, Sem}
+use Rattle.pico_base.specs.declared.numbers.Name.TheVariants.{Msg, Sem}
 use Rattle.pico_base.specs.declared.reply.Errno.{Errno}
 use Rattle.pico_base.specs.declared.reply.Reply.{Reply}
 use Rattle.pico_base.specs.declared.reply.Reply.TheVariants as replies
 use Rattle.pico_base.specs.declared.script.Script.{Script}
 use Rattle.pico_base.specs.declared.signal.SigArg.TheVariants.{Zero, Is, Bad}
-use Rattle.pico_base.specs.Home.{home_of, home_of_kill}
+use Rattle.pico_base.specs.Home.{home_of}
 use Rattle.key_table.specs.KeyMap.{key_answer}
 use Rattle.key_table.specs.declared.Bound.{Bound}
 use Rattle.key_table.specs.declared.KeyAnswer.{KeyAnswer}
@@ -32,9 +32,9 @@ use Rattle.node_model.specs.declared.held.Held.{Held}
 use Rattle.node_model.specs.Bodies.{AQueue, ASet, Body}
 use Rattle.node_model.specs.Directory.{Directory, has_more, place_name}
 use Rattle.node_model.specs.Kinds.{number_of, put_named}
-use Rattle.world_model.specs.Node.{Leader, Node}
+use Rattle.world_model.specs.Node.{Node}
 use Rattle.world_model.specs.Step.{Step, carry_out, with_node}
-use Rattle.world_model.specs.Numbers.{Taken, take_number}
+use Rattle.world_model.specs.Numbers.{take_number}
 use Rattle.world_model.specs.Routing.{create_set, get_by_key, get_queue, get_set, make_queue, make_set}
 use Rattle.world_model.specs.World.{World, node_count}
 use Rattle.world_laws.specs.Places.{Beside}
@@ -42,6 +42,7 @@ use Rattle.world_laws.specs.Sights.{directory_of, is_born_in, node_of}
 use Rattle.world_laws.specs.Families.{NodeHolds}
 use Rattle.world_laws.specs.Invariant.{Holds}
 use Rattle.world_hand.proofs.Answering.{IsPlainCall}
+use Rattle.world_keys.proofs.NumberKinds.{kill-is}
 use Rattle.world_keys.proofs.MadeHere.{MakesOf, Tables, made_node}
 use Rattle.world_keys.proofs.Taking.{TakesNumber, takes-number, without_number}
 
@@ -56,21 +57,14 @@ abbrev is_keys : Home → Bool
 is_keys homes.Keys = true
 is_keys home = false
 
-kill-not : (pid other : ℕ) → is_keys (home_of_kill pid other) ≡ false
-kill-not pid other = by-test (other == pid)
-  where
-    by-test : (t : Bool) → is_keys (if t then homes.Own else homes.At (Proc other)) ≡ false
-    by-test true = refl
-    by-test false = refl
-
 by-home : (pid : ℕ) (call : Call) → is_keys (home_of pid call) ≡ true → IsKeyed call
 by-home pid (calls.MsgGet (Some key) create excl) h = GetsQueue key create excl refl
 by-home pid (calls.SemGet (Some key) count create excl) h = GetsSet key count create excl refl
 by-home pid (calls.MsgGet None create excl) h = absurd (false≢true h)
 by-home pid (calls.SemGet None count create excl) h = absurd (false≢true h)
 by-home pid (calls.Kill other Bad) h = absurd (false≢true h)
-by-home pid (calls.Kill other Zero) h = absurd (false≢true (sym (kill-not pid other) ∙ h))
-by-home pid (calls.Kill other (Is sig)) h = absurd (false≢true (sym (kill-not pid other) ∙ h))
+by-home pid (calls.Kill other Zero) h = absurd (false≢true (sym (kill-is is_keys false pid other refl refl) ∙ h))
+by-home pid (calls.Kill other (Is sig)) h = absurd (false≢true (sym (kill-is is_keys false pid other refl refl) ∙ h))
 by-home pid call h = absurd (false≢true h)
 
 -- a call that belongs to the keys is one of them

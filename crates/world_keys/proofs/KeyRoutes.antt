@@ -1,5 +1,5 @@
 -- The leader routes a get by a key, of another node.
-use Rattle.std.proofs.Common.{◌≡◌, ◌≢◌, ℕ, ◌≤◌, Bool, true, false, if◌then◌else◌, List, [], ◌∷◌, Some, refl, ap, sym, ◌∙◌, inl, inr, arith}
+use Rattle.std.proofs.Common.{◌≡◌, ◌≢◌, ◌≤◌, true, if◌then◌else◌, List, [], ◌∷◌, Some, refl, ap, ◌∙◌, inl, inr, arith}
 use Rattle.std.proofs.lemmas.Bool.{ne_eqb}
 use Rattle.pico_base.specs.declared.call.Home.TheVariants as homes
 use Rattle.pico_base.specs.declared.numbers.Kind.{Kind}

@@ -1,3 +1,4 @@
+pub mod NumberKinds
 pub mod Refills
 pub mod AtLeader
 pub mod Taking

@@ -1,9 +1,8 @@
--- A call in hand, of another node, makes a queue or a set at the leader: the entry is made, and the reply is on its way.
-use Rattle.std.proofs.Common.{◌≡◌, ◌≢◌, ◌⊎◌, ℕ, ◌≤◌, Bool, true, false, ◌&&◌, cond, if◌then◌else◌, List, [], ◌∷◌, ◌++◌, Contains, filter, flat_map, nat_eq, Some, refl, ap, sym, subst, ◌∙◌, inl, inr, arith}
-use Rattle.std.specs.List.{AllByRecursion}
+-- A call in hand, of another node, makes a queue or a set at the leader: the entry is made, and the reply is on its
+-- way.
+use Rattle.std.proofs.Common.{◌≡◌, ◌≢◌, ℕ, ◌≤◌, Bool, true, false, ◌&&◌, cond, if◌then◌else◌, List, [], ◌∷◌, ◌++◌, filter, nat_eq, Some, refl, ap, sym, subst, ◌∙◌, inl, inr, arith}
 use Rattle.std.proofs.lemmas.Bool.{cases_eq, eq-eqb, ne_eqb, false≢true}
 use Rattle.std.proofs.lemmas.List.Elements.{Contains-append_right}
-use Rattle.pico_base.specs.declared.call.Call.{Call}
 use Rattle.pico_base.specs.declared.numbers.Kind.{Kind}
 use Rattle.pico_base.specs.declared.numbers.Name.{Name}
 use Rattle.pico_base.specs.declared.numbers.Name.TheVariants.{Proc}
@@ -19,25 +18,23 @@ use Rattle.rpc_frame.specs.declared.frame.Frame.TheVariants as frames
 use Rattle.number_maps.specs.Maps.{get}
 use Rattle.kernel_model.specs.Kernel.{Kernel, living_at}
 use Rattle.kernel_model.specs.Fitting.{Place, Places, place_after, places_after}
-use Rattle.kernel_moves.specs.Entering.{HasHistory, HasKeys, entry_of, is_used_name}
+use Rattle.kernel_moves.specs.Entering.{HasHistory, HasKeys, entry_of}
 use Rattle.kernel_moves.proofs.Fresh.{MakesObject}
 use Rattle.kernel_moves.proofs.History.{history-goes-on, moved-is, place-moves}
 use Rattle.kernel_moves.proofs.Numbers.{used-others}
 use Rattle.node_model.specs.declared.held.Held.{Held}
 use Rattle.node_model.specs.declared.held.Held.TheVariants.{Request, Ending}
 use Rattle.node_model.specs.Kinds.{number_of}
-use Rattle.node_model.specs.Bodies.{Body, body_in}
+use Rattle.node_model.specs.Bodies.{Body}
 use Rattle.node_model.specs.Caller.{Caller, caller_place}
 use Rattle.node_model.specs.Directory.{Directory, held_for, place_name}
-use Rattle.node_model.specs.Leases.{Leases}
 use Rattle.world_model.specs.Calls.{is_for_others}
 use Rattle.world_model.specs.Node.{Leader, Node, Stage, Unborn}
 use Rattle.world_model.specs.World.{World, node_count}
-use Rattle.world_laws.specs.Places.{AsksLease, Beside, CallPlace, DeedPlace, HasLease, InAnswer, InCheckpoint, InTable, call_in, deed_in}
+use Rattle.world_laws.specs.Places.{Beside, CallPlace, DeedPlace, InAnswer, InTable, call_in, deed_in}
 use Rattle.world_laws.specs.Sights.{directory_of, frames_to, is_born_in, is_born_stage, node_of, stage_of}
-use Rattle.world_laws.specs.Plays.{plays}
-use Rattle.world_laws.specs.Names.{forker, range_steps_of}
-use Rattle.world_laws.specs.Callers.{CallHolds, CallSight, HasCall, HasCallOrNone, IsBetween, IsSoFar, IsToBeMade, asked_of, call_sight, is_about, is_end_place, is_item_about, lease_is_over, only_if}
+use Rattle.world_laws.specs.Names.{forker}
+use Rattle.world_laws.specs.Callers.{CallHolds, CallSight, HasCall, HasCallOrNone, IsSoFar, IsToBeMade, asked_of, call_sight, is_about, is_end_place, is_item_about, only_if}
 use Rattle.world_laws.specs.Ways.{IsParcelIn, at_hand, knows_parent, way_sight, left as left_in, sent as sent_in, kept as kept_in}
 use Rattle.world_laws.specs.Ranges.{has_lease}
 use Rattle.world_laws.specs.Families.{FamilyHolds, IsAwaited, NodeHolds, checkpoints_to}
@@ -45,20 +42,19 @@ use Rattle.world_laws.specs.Invariant.{FramesFit, Holds, process_deed}
 use Rattle.world_laws.proofs.Changes.{Changes, filter-is-list-map, frames_if, made-after, made-same, sent, stayed, still-born}
 use Rattle.world_laws.proofs.Frames.{IsSameBut, plays-of-others, ranges-of-all-others}
 use Rattle.world_laws.proofs.LeftAlone.{LeavesCall, call-left-alone, family-left-alone, frames-still-fit, other-node-stays, parcel-was-there, sender-stays, way-left-alone}
-use Rattle.world_laws.proofs.Named.{same-name}
 use Rattle.world_laws.proofs.Sends.{frame_if}
 use Rattle.world_laws.proofs.Stays.{IsMore, SameCall, call-stays, node-born, way-stays}
 use Rattle.world_rules.proofs.CallMoves.{SameButCall}
 use Rattle.world_rules.proofs.Nodes.{leader-stage, object-is-no-process}
 use Rattle.world_own.proofs.Entries.{EntryLeaves, others-go-on, pids-after}
-use Rattle.world_own.proofs.Objects.{processes-stay-leaves}
+use Rattle.world_own.proofs.Objects.{process-apart, processes-stay-leaves}
 use Rattle.world_own.proofs.Others.{call-goes-on, family-after}
 use Rattle.world_hand.proofs.Answering.{IsPlainCall, answered_at, caller-born, caller-forked, due-in-hand, has-history, may-make-in-hand, pid-in-hand, place-in-hand}
 use Rattle.world_hand.proofs.HandMoves.{IsFirst, first, held-for-none, in-hand-for-others, in-no-stream}
 use Rattle.world_keys.proofs.MadeHere.{MakesOf, Tables, directory-now, made_node, node-now}
-use Rattle.world_keys.proofs.MadeNames.{LeavesFrames, directory-is, made_beside, made-names}
+use Rattle.world_keys.proofs.MadeNames.{LeavesFrames, made-names}
 use Rattle.world_keys.proofs.MadeNumbers.{made-few, made-kinds}
-use Rattle.world_keys.proofs.NewPlaces.{KnowsNew, knows-but-call}
+use Rattle.world_keys.proofs.NewPlaces.{knows-but-call}
 use Rattle.world_keys.proofs.OtherLeases.{other-leases}
 
 module _ (script : Script) (w : World) (asked : Asked) (rest : List Held) (b : Beside)
@@ -128,8 +124,7 @@ module _ (script : Script) (w : World) (asked : Asked) (rest : List Held) (b : B
   -- ---- the entry
 
   no-process : (q : ℕ) → Proc q ≢ name
-  no-process q e =
-      false≢true (sym (object-is-no-process name q m.object) ∙ same-name name (Proc q) (sym e))
+  no-process q = process-apart name q m.object
 
   by-pid : EntryLeaves k b.places asked.pid made.next places-now
   by-pid =

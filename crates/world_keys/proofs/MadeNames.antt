@@ -1,6 +1,5 @@
 -- The leader has made a queue or a set, whoever asked for it: all holds of each name afterwards.
-use Rattle.std.proofs.Common.{◌≡◌, ◌≢◌, ◌⊎◌, ℕ, ◌≤◌, Bool, true, false, ◌&&◌, ◌||◌, not, if◌then◌else◌, List, [], ◌∷◌, filter, flat_map, nat_eq, Option, Some, None, is_none, is_some, refl, ap, sym, subst, ◌∙◌, inl, inr, arith}
-use Rattle.std.specs.List.{AllByRecursion}
+use Rattle.std.proofs.Common.{◌≡◌, ◌≢◌, ◌⊎◌, ℕ, ◌≤◌, Bool, true, false, ◌&&◌, not, if◌then◌else◌, List, [], filter, flat_map, nat_eq, Some, None, is_none, is_some, refl, ap, sym, subst, ◌∙◌, inl, inr, arith}
 use Rattle.std.proofs.lemmas.Bool.{cases_eq, eq-eqb, ne_eqb}
 use Rattle.pico_base.specs.declared.call.Call.{Call}
 use Rattle.pico_base.specs.declared.numbers.Kind.{Kind}
@@ -10,7 +9,6 @@ use Rattle.pico_base.specs.declared.reply.Entry.{Entry}
 use Rattle.pico_base.specs.declared.reply.Reply.TheVariants as replies
 use Rattle.pico_base.specs.declared.script.Script.{Script}
 use Rattle.rpc_frame.specs.declared.frame.Frame.{Frame}
-use Rattle.number_maps.specs.Maps.{get}
 use Rattle.kernel_model.specs.Kernel.{Kernel}
 use Rattle.kernel_model.specs.Fitting.{Places}
 use Rattle.kernel_moves.specs.Entering.{is_used_name}
@@ -20,13 +18,13 @@ use Rattle.node_model.specs.declared.held.Held.{Held}
 use Rattle.node_model.specs.Kinds.{for_kind, get_named, kind_of, number_of}
 use Rattle.node_model.specs.Bodies.{Body, body_in}
 use Rattle.node_model.specs.Caller.{Caller}
-use Rattle.node_model.specs.Directory.{At, Directory, held_for, is_parcel_with, maker, maker_in, place_name, place_of, stays}
+use Rattle.node_model.specs.Directory.{Directory, held_for, is_parcel_with, maker, maker_in, place_name, place_of, stays}
 use Rattle.world_model.specs.Census.{brings}
 use Rattle.world_model.specs.Node.{Node}
 use Rattle.world_model.specs.World.{World, node_count}
 use Rattle.world_laws.specs.Places.{Beside, CallPlace, DeedPlace, InTable, Unmade, deed_in}
 use Rattle.world_laws.specs.Sights.{directory_of, frames_to, is_born_in, node_of, stage_of}
-use Rattle.world_laws.specs.Plays.{Has, Hold, begin, has_any, is_checkpoint_of, news, placed_in, plays}
+use Rattle.world_laws.specs.Plays.{Has, begin, has_any, is_checkpoint_of, news, placed_in, plays}
 use Rattle.world_laws.specs.Names.{NameHolds, NameSight, comes_to, forker, held_as, held_at, is_maker, name_sight, range_steps_of}
 use Rattle.world_laws.specs.Invariant.{Holds}
 use Rattle.world_laws.proofs.Changes.{Changes, filter-is-list-map, flat_map-is-list-map, made-same, only-stayed, read-same, stayed}

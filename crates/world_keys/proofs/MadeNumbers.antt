@@ -1,5 +1,5 @@
 -- The leader has made a queue or a set, whoever asked for it: what holds of the numbers afterwards.
-use Rattle.std.proofs.Common.{◌≡◌, ◌≢◌, ◌⊎◌, ℕ, ◌+◌, ◌≤◌, Bool, true, false, ◌&&◌, ◌||◌, if◌then◌else◌, List, [], ◌∷◌, length, flat_map, sum_by, nat_eq, Some, refl, ap, sym, subst, ◌∙◌, inl, inr, arith}
+use Rattle.std.proofs.Common.{◌≡◌, ℕ, ◌+◌, ◌≤◌, Bool, true, false, ◌&&◌, ◌||◌, if◌then◌else◌, List, [], ◌∷◌, length, flat_map, sum_by, nat_eq, Some, refl, ap, sym, subst, ◌∙◌, inl, inr, arith}
 use Rattle.std.specs.List.{AllByRecursion}
 use Rattle.std.proofs.lemmas.Bool.{cases_eq, eq-eqb, ne_eqb}
 use Rattle.std.proofs.lemmas.List.{length-append}
@@ -16,10 +16,10 @@ use Rattle.kernel_model.specs.Kernel.{Kernel}
 use Rattle.kernel_moves.proofs.Fresh.{MakesObject}
 use Rattle.kernel_moves.proofs.Numbers.{used-at}
 use Rattle.node_model.specs.declared.held.Held.{Held}
-use Rattle.node_model.specs.Kinds.{for_kind, is_same_kind, kind_of, number_of}
+use Rattle.node_model.specs.Kinds.{for_kind, is_same_kind, number_of}
 use Rattle.node_model.specs.Bodies.{Body}
 use Rattle.node_model.specs.Caller.{Caller}
-use Rattle.node_model.specs.Directory.{Directory, place_name}
+use Rattle.node_model.specs.Directory.{Directory}
 use Rattle.world_model.specs.Node.{Node}
 use Rattle.world_model.specs.World.{World, node_count, numbers}
 use Rattle.world_laws.specs.Places.{Beside, CallPlace}
@@ -31,7 +31,8 @@ use Rattle.world_laws.proofs.Frames.{all-weaker, no-lease}
 use Rattle.world_laws.proofs.LeftAlone.{kind-left-alone}
 use Rattle.world_laws.proofs.Stays.{IsMore, SameKind, kind-stays}
 use Rattle.world_own.proofs.NewNumbers.{taken-at}
-use Rattle.world_keys.proofs.MadeHere.{MakesOf, Tables, for-other, for-with, kind-is, kind-itself, made_node, ranges-now}
+use Rattle.world_own.proofs.Objects.{for-other, for-with, kind-is, kind-itself}
+use Rattle.world_keys.proofs.MadeHere.{MakesOf, Tables, made_node, ranges-now}
 use Rattle.world_keys.proofs.Taking.{TakesNumber, to_be_taken}
 
 module _ (script : Script) (w w' : World) (hand : List Held) (b : Beside) (holds : Holds script w hand b)

@@ -1,6 +1,5 @@
 -- The leader's directory once it knows a new name, which is at the leader itself.
-use Rattle.std.proofs.Common.{◌≡◌, ◌≢◌, ℕ, Bool, true, not, if◌then◌else◌, is_none, is_some, List, filter, Contains, Option, Some, None, refl, ap, sym, subst, ◌∙◌}
-use Rattle.std.proofs.lemmas.Bool.{false≢true}
+use Rattle.std.proofs.Common.{◌≡◌, ◌≢◌, ℕ, true, not, if◌then◌else◌, is_none, List, filter, Contains, Option, Some, None, ap, sym, subst, ◌∙◌}
 use Rattle.pico_base.specs.declared.numbers.Kind.{Kind}
 use Rattle.pico_base.specs.declared.numbers.Name.{Name}
 use Rattle.pico_base.specs.declared.numbers.Name.TheVariants.{Proc}

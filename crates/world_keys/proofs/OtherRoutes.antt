@@ -1,6 +1,6 @@
--- Each call in hand of another node than the leader has a route that keeps all; so an Ask and a Bounce have a step. What
--- is asked of the leader besides stands as a premise by name.
-use Rattle.std.proofs.Common.{◌≡◌, ◌≢◌, ℕ, ◌≤◌, true, List, [], ◌∷◌, Some, refl, ap, sym, subst, ◌∙◌}
+-- Each call in hand of another node than the leader has a route that keeps all; so an Ask and a Bounce have a step.
+-- What is asked of the leader besides stands as a premise by name.
+use Rattle.std.proofs.Common.{◌≡◌, ◌≢◌, ℕ, ◌≤◌, true, List, [], ◌∷◌, Some, sym, subst}
 use Rattle.pico_base.specs.declared.call.Call.{Call}
 use Rattle.pico_base.specs.declared.numbers.Kind.{Kind}
 use Rattle.pico_base.specs.declared.numbers.Name.{Name}
@@ -15,9 +15,8 @@ use Rattle.world_model.specs.Node.{Leader, Node}
 use Rattle.world_model.specs.Step.{Step, step_to}
 use Rattle.world_model.specs.World.{World, node_count, world_after}
 use Rattle.world_laws.specs.Places.{Beside, IsInHand, call_in}
-use Rattle.world_laws.specs.Sights.{directory_of, node_of}
+use Rattle.world_laws.specs.Sights.{node_of}
 use Rattle.world_laws.specs.Invariant.{Holds}
-use Rattle.world_laws.proofs.Changes.{Changes}
 use Rattle.world_laws.proofs.Steps.{Heads, changes-by-take, world_without}
 use Rattle.world_laws.proofs.Heads.{head-from-another}
 use Rattle.world_hand.proofs.Asks.{NeverWaits, ask-in-hand}
@@ -28,8 +27,8 @@ use Rattle.world_keys.proofs.KeyRoutes.{route-to-keys}
 use Rattle.world_keys.proofs.RemovalRoutes.{route-to-removal}
 use Rattle.world_keys.proofs.Removals.{AreRising}
 
--- what is asked of the leader besides: its places name nodes, its tables of keys are by rising number, and each kind has
--- numbers left
+-- what is asked of the leader besides: its places name nodes, its tables of keys are by rising number, and each kind
+-- has numbers left
 pub record IsOrderly (l : Leader) : Type 0 where
   pub nodes : (name : Name) (node : ℕ) → place_of l.directory name ≡ Some (At node) → 1 ≤ node
   pub keys : AreRising l

@@ -1,19 +1,19 @@
 -- A node gives itself the next range of a kind, as the leader does: what holds of the kind, and of an unused name whose
 -- number is in the range.
-use Rattle.std.proofs.Common.{◌≡◌, ◌≢◌, ◌⊎◌, ℕ, ◌≤◌, Bool, true, false, ◌||◌, not, if◌then◌else◌, List, [], ◌∷◌, ◌++◌, nat_eq, Contains, Option, Some, None, is_some, refl, ap, sym, subst, ◌∙◌, inl, inr}
+use Rattle.std.proofs.Common.{◌≡◌, ◌⊎◌, ℕ, ◌≤◌, Bool, true, false, ◌||◌, not, if◌then◌else◌, List, [], ◌∷◌, ◌++◌, nat_eq, Contains, Option, Some, None, is_some, refl, ap, sym, subst, ◌∙◌, inl, inr}
 use Rattle.std.specs.List.{list_any}
 use Rattle.std.proofs.lemmas.Bool.{eq-eqb, eqb-true, false≢true}
 use Rattle.std.proofs.lemmas.List.Elements.{Contains-push_cases}
 use Rattle.pico_base.specs.declared.numbers.Name.{Name}
 use Rattle.pico_base.specs.declared.script.Script.{Script}
-use Rattle.kernel_laws.proofs.Members.{contains-first}
 use Rattle.node_model.specs.Directory.{maker_in}
 use Rattle.node_model.specs.Leases.{lease_of}
 use Rattle.world_laws.specs.Plays.{believed, is_there}
-use Rattle.world_laws.specs.Names.{IsTold, NameHolds, NameSight, PlaysTo, IsSentThere, belief_of, maker_tells}
+use Rattle.world_laws.specs.Names.{IsTold, NameHolds, NameSight, PlaysTo, belief_of, maker_tells}
 use Rattle.world_laws.specs.Ranges.{IsRangeOf, IsRestOf, KindHolds, KindSight, is_given, is_in_lease}
 use Rattle.world_laws.proofs.Numbers.{maker-in-range}
 use Rattle.world_laws.proofs.NewRanges.{maker-elsewhere, maker-stays, range-of-next, unmade-next, upcoming_in}
+use Rattle.world_own.proofs.NewNames.{nobody-in}
 
 -- ---- the kind
 
@@ -113,13 +113,9 @@ module _ (script : Script) (pids : ℕ → ℕ) (born : ℕ → Bool) (name : Na
   not-used : x.used ≡ true → ⊥
   not-used e = false≢true (sym unused ∙ e)
 
-  empty : (xs : List ℕ) → ((v : ℕ) → Contains xs v → ⊥) → xs ≡ []
-  empty [] none = refl
-  empty (v ∷ xs) none = absurd (none v (contains-first v xs))
-
   -- nobody tells the place of an unused name
   pub none-tells : (q : ℕ) → x.placed q ≡ []
-  none-tells q = empty (x.placed q) (λ v there. tells-not q v there)
+  none-tells q = nobody-in (x.placed q) (λ v there. tells-not q v there)
     where
       tells-not : (q v : ℕ) → Contains (x.placed q) v → ⊥
       tells-not q v there =

@@ -1,7 +1,7 @@
 -- The leader routes a removal, of another node, of a name that it holds: it serves the call, and no key leads to the
 -- name any more.
-use Rattle.std.proofs.Common.{◌≡◌, ◌≢◌, ℕ, ◌≤◌, Bool, true, false, if◌then◌else◌, List, [], ◌∷◌, Option, Some, None, option_map, refl, ap, sym, subst, ◌∙◌, inl, inr, arith}
-use Rattle.std.proofs.lemmas.Bool.{eq-eqb, ne_eqb, false≢true}
+use Rattle.std.proofs.Common.{◌≡◌, ◌≢◌, ℕ, ◌≤◌, if◌then◌else◌, List, [], ◌∷◌, Some, option_map, refl, ap, sym, subst, ◌∙◌, inl, inr, arith}
+use Rattle.std.proofs.lemmas.Bool.{eq-eqb, ne_eqb}
 use Rattle.pico_base.specs.declared.call.Home.TheVariants as homes
 use Rattle.pico_base.specs.declared.numbers.Name.{Name}
 use Rattle.pico_base.specs.declared.numbers.Name.TheVariants.{Proc}
@@ -14,7 +14,6 @@ use Rattle.kernel_model.specs.Kernel.{Kernel}
 use Rattle.kernel_model.specs.Fitting.{Place, Places, places_after}
 use Rattle.kernel_moves.specs.Entering.{MayMake, entry_of}
 use Rattle.kernel_moves.proofs.Holding.{ServesHere, served_deeds}
-use Rattle.kernel_moves.proofs.Served.{Carried}
 use Rattle.node_model.specs.declared.held.Held.{Held}
 use Rattle.node_model.specs.declared.held.Held.TheVariants.{Request}
 use Rattle.node_model.specs.Bodies.{Deeds, body_in}
@@ -23,25 +22,25 @@ use Rattle.node_model.specs.Directory.{At, Directory, maker, maker_stays, place_
 use Rattle.node_model.specs.Kinds.{get_named}
 use Rattle.node_model.specs.Serving.{has_read, serve}
 use Rattle.serve_laws.specs.Served.{served_as}
-use Rattle.world_model.specs.Node.{Leader, Node, under_way_as}
+use Rattle.world_model.specs.Node.{Node, under_way_as}
 use Rattle.world_model.specs.Step.{Step, carry_out, enter, reply_here, send, with_deeds}
 use Rattle.world_model.specs.Serving.{note_read, serve_asked, serve_asked_with}
 use Rattle.world_model.specs.Routing.{recall_and_hold, remove_by, route_home, unbind_name, without_key}
 use Rattle.world_model.specs.World.{World, node_count, world_after}
-use Rattle.world_laws.specs.Places.{Beside, InAnswer, InCheckpoint, InTable, call_in}
+use Rattle.world_laws.specs.Places.{Beside, InAnswer, call_in}
 use Rattle.world_laws.specs.Sights.{directory_of, is_born_in, node_of}
 use Rattle.world_laws.specs.Names.{NameHolds, name_sight}
 use Rattle.world_laws.specs.Invariant.{Holds}
 use Rattle.world_laws.proofs.Changes.{Changes}
 use Rattle.world_laws.proofs.Middles.{changes-further}
-use Rattle.world_laws.proofs.Named.{name-cases, same-name}
-use Rattle.world_rules.proofs.Nodes.{object-is-no-process}
+use Rattle.world_laws.proofs.Named.{name-cases}
 use Rattle.world_own.proofs.Entries.{EntryLeaves}
 use Rattle.world_own.proofs.Served.{served-leaves}
 use Rattle.world_hand.proofs.Answering.{LeaderAnswers, answered-keeps, due-in-hand, may-make-in-hand, name-not-served, name-served, place-in-hand, served-plain}
 use Rattle.world_hand.proofs.ReadRoutes.{HasRoute}
 use Rattle.world_hand.proofs.Routes.{leader-here, leader-number}
 use Rattle.world_hand.proofs.Served.{IsAtLeader}
+use Rattle.world_own.proofs.Objects.{process-apart}
 use Rattle.world_keys.proofs.Removals.{AreRising, IsRemoval, Removes, at, body-elsewhere, held-elsewhere, keys-unbound-now, known, removal, removed-node-holds, same-directory-unbound, serves}
 
 module _ (script : Script) (v : World) (s : Step) (asked : Asked) (rest : List Held) (b : Beside)
@@ -171,8 +170,7 @@ module _ (script : Script) (v : World) (s : Step) (asked : Asked) (rest : List H
       (due-in-hand script w asked rest b holds low high)
 
   no-process : (q : ℕ) → Proc q ≢ name
-  no-process q e =
-      false≢true (sym (object-is-no-process name q is.object) ∙ same-name name (Proc q) (sym e))
+  no-process q = process-apart name q is.object
 
   body-of-others : (m : Name) → m ≢ name → body_in next_kernel m ≡ body_in k m
   unfolding served

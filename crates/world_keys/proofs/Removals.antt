@@ -1,6 +1,6 @@
 -- The leader removes a queue or a set that it holds, whoever asked for it: what it serves, and what its table and its
 -- keys are afterwards.
-use Rattle.std.proofs.Common.{◌≡◌, ◌≢◌, ℕ, ◌≤◌, Bool, true, false, ◌==◌, if◌then◌else◌, List, Option, Some, None, refl, ap, sym, subst, ◌∙◌, arith}
+use Rattle.std.proofs.Common.{◌≡◌, ◌≢◌, ℕ, ◌≤◌, true, false, List, Option, Some, None, refl, ap, sym, subst, ◌∙◌, arith}
 use Rattle.std.proofs.lemmas.Bool.{false≢true}
 use Rattle.pico_base.specs.declared.call.Call.{Call}
 use Rattle.pico_base.specs.declared.call.Call.TheVariants as calls
@@ -12,7 +12,7 @@ use Rattle.pico_base.specs.declared.reply.Reply.{Reply}
 use Rattle.pico_base.specs.declared.reply.Reply.TheVariants as replies
 use Rattle.pico_base.specs.declared.script.Script.{Script}
 use Rattle.pico_base.specs.declared.signal.SigArg.TheVariants.{Zero, Is, Bad}
-use Rattle.pico_base.specs.Home.{home_of, home_of_get, home_of_kill}
+use Rattle.pico_base.specs.Home.{home_of, home_of_get}
 use Rattle.number_maps.specs.Maps.{Numbered, get}
 use Rattle.number_maps.specs.Rising.{IsRising}
 use Rattle.kernel_model.specs.Fitting.{is_waitpid}
@@ -24,11 +24,10 @@ use Rattle.kernel_moves.proofs.Served.{Carried, carried-keys, carried-rest}
 use Rattle.node_model.specs.declared.held.Held.{Held}
 use Rattle.node_model.specs.Bodies.{Body, Deeds, body_in}
 use Rattle.node_model.specs.Carrying.{is_served}
-use Rattle.node_model.specs.Directory.{At, Directory, place_of}
+use Rattle.node_model.specs.Directory.{At, place_of}
 use Rattle.node_model.specs.Kinds.{get_named, is_object, put_named}
 use Rattle.node_model.specs.Serving.{has_read, name_for}
 use Rattle.serve_laws.specs.Laws.{is_found}
-use Rattle.serve_laws.specs.Served.{found_gone}
 use Rattle.world_model.specs.Node.{Leader, Node}
 use Rattle.world_model.specs.Routing.{without_key}
 use Rattle.world_model.specs.World.{World, node_count}
@@ -38,9 +37,11 @@ use Rattle.world_laws.specs.Families.{NodeHolds}
 use Rattle.world_laws.specs.Invariant.{Holds}
 use Rattle.world_rules.proofs.Nodes.{holds-stay, leader-stage, processes-with}
 use Rattle.world_hand.proofs.Served.{IsAtLeader, at-leader}
+use Rattle.world_keys.proofs.NumberKinds.{kill-is}
 
 -- ---- which calls these are
 
+-- the call removes the queue, or the set, of this name
 pub data Removes (call : Call) (name : Name) : Type 0 where
   RemovesQueue : (id : ℕ) → call ≡ calls.MsgRmid id → name ≡ Msg id → Removes call name
   RemovesSet : (id : ℕ) → call ≡ calls.SemRmid id → name ≡ Sem id → Removes call name
@@ -55,13 +56,6 @@ not-removed name h = cc
 name-is : (a c : Name) → Some a ≡ Some c → c ≡ a
 name-is a c h = cc
 
-kill-not : (pid other : ℕ) → removed_in (home_of_kill pid other) ≡ None
-kill-not pid other = by-test (other == pid)
-  where
-    by-test : (t : Bool) → removed_in (if t then homes.Own else homes.At (Proc other)) ≡ None
-    by-test true = refl
-    by-test false = refl
-
 get-not : (key : Option ℕ) → removed_in (home_of_get key) ≡ None
 get-not None = refl
 get-not (Some key) = refl
@@ -72,8 +66,10 @@ by-home pid (calls.SemRmid id) name h = RemovesSet id refl (name-is (Sem id) nam
 by-home pid (calls.MsgGet key create excl) name h = absurd (not-removed name (sym (get-not key) ∙ h))
 by-home pid (calls.SemGet key count create excl) name h = absurd (not-removed name (sym (get-not key) ∙ h))
 by-home pid (calls.Kill other Bad) name h = absurd (not-removed name h)
-by-home pid (calls.Kill other Zero) name h = absurd (not-removed name (sym (kill-not pid other) ∙ h))
-by-home pid (calls.Kill other (Is sig)) name h = absurd (not-removed name (sym (kill-not pid other) ∙ h))
+by-home pid (calls.Kill other Zero) name h =
+    absurd (not-removed name (sym (kill-is removed_in None pid other refl refl) ∙ h))
+by-home pid (calls.Kill other (Is sig)) name h =
+    absurd (not-removed name (sym (kill-is removed_in None pid other refl refl) ∙ h))
 by-home pid call name h = absurd (not-removed name h)
 
 -- a removal is of a queue or of a set
@@ -178,10 +174,11 @@ module _ (script : Script) (w : World) (hand : List Held) (b : Beside) (holds : 
   not-found : (m : Name) → is_found carries.reply m ≡ false
   not-found m = none-found carries.reply finds-none m
 
-  -- Every other name has its body, and its deed is where it was.
+  -- Every other name has its body.
   pub body-elsewhere : (m : Name) → m ≢ name → body_in carries.next m ≡ body_in k m
   body-elsewhere m d = carried-rest k pid call name carries m d (not-found m)
 
+  -- And the leader holds of it what it held.
   pub held-elsewhere : (m : Name) → m ≢ name → get_named deeds_now m ≡ get_named n.deeds m
   held-elsewhere m d = serves.others m d (not-found m)
 

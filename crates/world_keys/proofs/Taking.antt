@@ -1,6 +1,6 @@
 -- The leader takes a number of its lease for something new. Where the lease is used up it gives itself the next range
 -- first.
-use Rattle.std.proofs.Common.{◌≡◌, ◌≢◌, ◌⊎◌, ℕ, ◌+◌, ◌≤◌, ◌<◌, Bool, true, false, ◌&&◌, ◌||◌, not, if◌then◌else◌, List, [], ◌∷◌, ◌++◌, length, flat_map, nat_eq, nat_lt, Option, Some, None, is_none, is_some, refl, ap, sym, subst, ◌∙◌, inl, inr, arith, length-append}
+use Rattle.std.proofs.Common.{◌≡◌, ◌≢◌, ◌⊎◌, ℕ, ◌+◌, ◌≤◌, ◌<◌, Bool, true, false, ◌&&◌, ◌||◌, not, if◌then◌else◌, List, [], ◌∷◌, ◌++◌, length, flat_map, nat_eq, Option, Some, None, is_none, is_some, refl, ap, sym, ◌∙◌, inl, inr, arith, length-append}
 use Rattle.std.specs.List.{list_any, range_with_len}
 use Rattle.std.proofs.lemmas.Bool.{cases_eq, eq-eqb, ltb-true, ne_eqb, false≢true}
 use Rattle.pico_base.specs.declared.numbers.Kind.{Kind}
@@ -16,11 +16,11 @@ use Rattle.node_model.specs.declared.held.Held.{Held}
 use Rattle.node_model.specs.Kinds.{for_kind, is_same_kind, kind_of, name_of, number_of, with_kind}
 use Rattle.node_model.specs.Directory.{Directory, Place, has_more, is_known, maker, maker_in, max_ranges, place_of, upcoming, with_range}
 use Rattle.node_model.specs.Leases.{Leases, lease_of}
-use Rattle.world_model.specs.Node.{Node, is_leader}
+use Rattle.world_model.specs.Node.{Node}
 use Rattle.world_model.specs.Numbers.{Taken, knows_any, take_first, take_from, take_from_next, take_number, with_next_range}
 use Rattle.world_model.specs.World.{World, node_count}
 use Rattle.world_laws.specs.Places.{Beside}
-use Rattle.world_laws.specs.Sights.{directory_of, frames_to, is_born_in, node_of}
+use Rattle.world_laws.specs.Sights.{directory_of, is_born_in, node_of}
 use Rattle.world_laws.specs.Names.{NameHolds, leases_name, name_sight}
 use Rattle.world_laws.specs.Ranges.{KindHolds, KindSight, is_given, kind_sight, lease_at, lease_in}
 use Rattle.world_laws.specs.Families.{NodeHolds}
@@ -31,6 +31,8 @@ use Rattle.world_laws.proofs.Numbers.{maker-in-range}
 use Rattle.world_rules.proofs.Nodes.{leader-stage}
 use Rattle.world_own.proofs.Made.{number-is-low}
 use Rattle.world_own.proofs.NewNumbers.{kind-taken, taken-at, taken-maker, taken-unused}
+use Rattle.world_own.proofs.Objects.{kind-is}
+use Rattle.world_keys.proofs.NumberKinds.{leased-twice, range-now, range-still, same-kind-turned}
 use Rattle.world_keys.proofs.Refills.{kind-refilled, refilled}
 
 -- ---- what it comes to
@@ -78,53 +80,7 @@ pub record TakesNumber (w : World) (k : Kernel) (kind : Kind) : Type 0 where
   pub taken : KindHolds (is_born_in w)
       (taken-at (to_be_taken w k kind (number ∷ numbers) directory) 1 number numbers)
 
--- ---- kinds
-
-kind-is : (a c : Kind) → is_same_kind a c ≡ true → a ≡ c
-kind-is kinds.Proc kinds.Proc h = refl
-kind-is kinds.Msg kinds.Msg h = refl
-kind-is kinds.Sem kinds.Sem h = refl
-kind-is kinds.Proc kinds.Msg h = absurd (false≢true h)
-kind-is kinds.Proc kinds.Sem h = absurd (false≢true h)
-kind-is kinds.Msg kinds.Proc h = absurd (false≢true h)
-kind-is kinds.Msg kinds.Sem h = absurd (false≢true h)
-kind-is kinds.Sem kinds.Proc h = absurd (false≢true h)
-kind-is kinds.Sem kinds.Msg h = absurd (false≢true h)
-
-range-now : (d : Directory) (kind : Kind) (node : ℕ)
-    → for_kind (with_range d kind node).ranges kind ≡ for_kind d.ranges kind ++ node ∷ []
-range-now d kinds.Proc node = refl
-range-now d kinds.Msg node = refl
-range-now d kinds.Sem node = refl
-
-range-still : (d : Directory) (kind other : Kind) (node : ℕ) → is_same_kind kind other ≡ false
-    → for_kind (with_range d kind node).ranges other ≡ for_kind d.ranges other
-range-still d kinds.Proc kinds.Msg node h = refl
-range-still d kinds.Proc kinds.Sem node h = refl
-range-still d kinds.Msg kinds.Proc node h = refl
-range-still d kinds.Msg kinds.Sem node h = refl
-range-still d kinds.Sem kinds.Proc node h = refl
-range-still d kinds.Sem kinds.Msg node h = refl
-range-still d kinds.Proc kinds.Proc node h = absurd (false≢true (sym h))
-range-still d kinds.Msg kinds.Msg node h = absurd (false≢true (sym h))
-range-still d kinds.Sem kinds.Sem node h = absurd (false≢true (sym h))
-
-same-kind-turned : (a c : Kind) → is_same_kind a c ≡ is_same_kind c a
-same-kind-turned kinds.Proc kinds.Proc = refl
-same-kind-turned kinds.Msg kinds.Msg = refl
-same-kind-turned kinds.Sem kinds.Sem = refl
-same-kind-turned kinds.Proc kinds.Msg = refl
-same-kind-turned kinds.Proc kinds.Sem = refl
-same-kind-turned kinds.Msg kinds.Proc = refl
-same-kind-turned kinds.Msg kinds.Sem = refl
-same-kind-turned kinds.Sem kinds.Proc = refl
-same-kind-turned kinds.Sem kinds.Msg = refl
-
-leased-twice : (m : Leases) (kind : Kind) (few many : List ℕ)
-    → with_kind (with_kind m kind many) kind few ≡ with_kind m kind few
-leased-twice m kinds.Proc few many = refl
-leased-twice m kinds.Msg few many = refl
-leased-twice m kinds.Sem few many = refl
+-- ---- numbers of a range
 
 -- a number of the range makes a name of the range
 name-leased : (kind : Kind) (number first : ℕ) → list_any (nat_eq number) (lease_of first) ≡ true
@@ -312,8 +268,8 @@ module _ (script : Script) (w : World) (hand : List Held) (b : Beside) (holds : 
     next-is =
         ap (take_from n kind) used_up
         ∙ ap (λ t. if t then take_from_next n kind else None) (eq-eqb n.number 1 node-holds.number)
-        ∙ ap (λ t. if t && not (knows_any d kind (lease_of up)) then take_first (with_next_range n kind) kind (lease_of up)
-        else None) enough
+        ∙ ap (λ t. if t && not (knows_any d kind (lease_of up))
+        then take_first (with_next_range n kind) kind (lease_of up) else None) enough
         ∙ ap (λ t. if not t then take_first (with_next_range n kind) kind (lease_of up) else None) knows-none
         ∙ ap (λ (l : Leases). Some (taken_with (record n { leases = l; leader = record n.leader { directory = d' } })))
         (leased-twice n.leases kind numbers (lease_of up))

@@ -1,2 +1,3 @@
-//! The routes of the leader's hand for gets by a key and for removals of what the leader holds, of calls of other nodes.
+//! The leader routes gets by a key, and removals of what it holds, for other nodes: so each call in its hand of another
+//! node has a route, and what holds in every world that a run leads to still holds.
 #![tactic(auto)]

@@ -1,5 +1,5 @@
 -- A node's own call is carried out at once: the step of it, and the caller afterwards, with no call under way.
-use Rattle.std.proofs.Common.{◌≡◌, ℕ, ◌+◌, ◌≤◌, Bool, true, false, List, [], ◌∷◌, ◌++◌, nat_eq, if◌then◌else◌, Option, Some, None, refl, ap, sym, subst, ◌∙◌, arith}
+use Rattle.std.proofs.Common.{◌≡◌, ℕ, ◌+◌, ◌≤◌, Bool, true, false, [], ◌∷◌, ◌++◌, nat_eq, if◌then◌else◌, Option, Some, None, refl, ap, sym, subst, ◌∙◌, arith}
 use Rattle.std.proofs.lemmas.Bool.{eq-eqb}
 use Rattle.pico_base.specs.declared.call.Call.{Call}
 use Rattle.pico_base.specs.declared.reply.Reply.{Reply}
@@ -10,7 +10,7 @@ use Rattle.kernel_model.specs.Row.{Alive}
 use Rattle.node_model.specs.Caller.{Caller, answer_call, caller_place}
 use Rattle.world_model.specs.Node.{Stage, Living, asked_here}
 use Rattle.world_model.specs.Step.{Step, carry_out, entry_by, reply_here}
-use Rattle.world_laws.specs.Places.{CallPlace, Idle}
+use Rattle.world_laws.specs.Places.{Idle}
 use Rattle.world_laws.specs.Callers.{CallHolds, CallSight, FreeIn, HasCallOrNone, HasTries, HasTryLeft, IsFree, IsNowhere, is_end_place, is_end_stage, tries_made}
 use Rattle.world_laws.proofs.Lines.{IsAnswered, answered, due-at-line}
 

@@ -15,7 +15,7 @@ use Rattle.kernel_model.specs.Footprint.{used_of}
 use Rattle.kernel_model.specs.Kernel.{Kernel}
 use Rattle.kernel_moves.specs.Entering.{Enters}
 use Rattle.kernel_moves.proofs.Numbers.{used-at}
-use Rattle.node_model.specs.Directory.{Directory, with_range}
+use Rattle.node_model.specs.Directory.{Directory}
 use Rattle.node_model.specs.Kinds.{for_kind, is_same_kind, kind_of, number_of, with_kind}
 use Rattle.world_model.specs.Node.{Node}
 use Rattle.world_model.specs.World.{World, node_count, numbers as numbers_from}
@@ -23,15 +23,14 @@ use Rattle.world_laws.specs.Places.{Beside, CallPlace, Idle}
 use Rattle.world_laws.specs.Sights.{directory_of, frames_to, is_born_in, node_of}
 use Rattle.world_laws.specs.Invariant.{Holds}
 use Rattle.world_laws.specs.Ranges.{FewRanges, KindHolds, KindSight, first_if, has_lease, kind_sight, lease_at, lease_in, leases_on_way, one_for}
-use Rattle.world_laws.proofs.Changes.{Changes, flat_map-is-list-map, only-stayed, taken}
+use Rattle.world_laws.proofs.Changes.{Changes, flat_map-is-list-map, only-stayed}
 use Rattle.world_laws.proofs.Frames.{all-weaker, no-lease}
 use Rattle.world_laws.proofs.LeftAlone.{kind-left-alone}
 use Rattle.world_laws.proofs.NewRanges.{no-lease-about}
-use Rattle.world_laws.proofs.Stays.{IsMore, SameKind, kind-stays}
+use Rattle.world_laws.proofs.Stays.{IsMore, kind-stays}
 use Rattle.world_laws.proofs.Steps.{taken-not-to}
 use Rattle.world_own.proofs.NewNumbers.{kind-taken, taken-at}
 use Rattle.world_own.proofs.Objects.{for-other, for-with, kind-is, kind-itself}
-use Rattle.world_makes.proofs.Directories.{IsAfter}
 use Rattle.world_makes.proofs.Ready.{calls-now, left-alone, others-same}
 use Rattle.world_makes.proofs.Sources.{Comes, InLease, Next, Origin, Source, directory_by, ready_kind, takes_by}
 

@@ -1,13 +1,12 @@
 -- The leader's directory after a new name: the leader places it itself, or the maker tells it. And the node that the
 -- name is told by, or placed at.
 use Rattle.std.proofs.Common.{◌≡◌, ◌≢◌, ℕ, Bool, true, false, not, if◌then◌else◌, List, [], ◌∷◌, ◌++◌, filter, nat_eq, is_none, Contains, Option, Some, None, refl, ap, sym, subst, ◌∙◌, inl, inr, append-nil}
-use Rattle.std.proofs.lemmas.Bool.{cases_eq, ne_eqb, false≢true}
+use Rattle.std.proofs.lemmas.Bool.{cases_eq, ne_eqb}
 use Rattle.pico_base.specs.declared.numbers.Kind.{Kind}
 use Rattle.pico_base.specs.declared.numbers.Name.{Name}
 use Rattle.pico_base.specs.declared.numbers.Name.TheVariants.{Proc}
 use Rattle.pico_base.specs.declared.reply.Entry.{Entry}
 use Rattle.pico_base.specs.declared.script.Script.{Script}
-use Rattle.rpc_frame.specs.declared.deed.Parcel.{Parcel}
 use Rattle.rpc_frame.specs.declared.frame.Frame.{Frame}
 use Rattle.rpc_frame.specs.declared.frame.Frame.TheVariants as frames
 use Rattle.number_maps.specs.Maps.{get}
@@ -22,20 +21,21 @@ use Rattle.world_laws.specs.Callers.{is_item_about}
 use Rattle.world_laws.specs.Invariant.{IsLeading}
 use Rattle.world_laws.specs.Sights.{directory_of, node_of}
 use Rattle.world_laws.proofs.Changes.{Changes, directory-same}
-use Rattle.world_laws.proofs.Named.{name-cases}
 use Rattle.world_rules.proofs.CallMoves.{SameButCall}
 use Rattle.world_rules.proofs.Places.{place-with-other, place-with-same, with-place-keeps}
 use Rattle.world_makes.proofs.Sources.{Comes, InLease, Next, Origin, directory_by, takes_by}
 
 -- ---- the step
 
--- what the leader has then, and what any other maker sends
+-- what the leader has then
 abbrev pub placed_if : Bool → Directory → Name → ℕ → Directory
 placed_if t d name at = if t then place_name d name at else d
 
+-- what any other maker sends
 abbrev pub tells_if : Bool → Name → ℕ → List (ℕ × Frame)
 tells_if t name at = if t then [] else (1, frames.Placed name at) ∷ []
 
+-- where the name is known then
 abbrev pub place_if : Bool → ℕ → Option Place
 place_if t at = if t then Some (At at) else None
 
@@ -127,6 +127,7 @@ placed-is d mid name at a =
       leads = still.leads;
     }
 
+-- in any case the directory is so afterwards
 pub after-is : (d : Directory) (kind : Kind) (o : Origin) (name : Name) (at : ℕ) (t : Bool) → place_of d name ≡ None
     → IsLeading d
     → IsAfter d (directory_by d kind o) (placed_if t (directory_by d kind o) name at) name (place_if t at)

@@ -1,8 +1,7 @@
--- After a fork each process's family holds: the new process is its parent's child, on its way to its node, and the others
--- are whose children they were.
-use Rattle.std.proofs.Common.{◌≡◌, ◌≢◌, ◌⊎◌, ℕ, Bool, true, false, List, [], ◌∷◌, Some, None, is_some, refl, ap, sym, subst, ◌∙◌, inl, inr}
+-- After a fork each process's family holds: the new process is its parent's child, on its way to its node, and the
+-- others are whose children they were.
+use Rattle.std.proofs.Common.{◌≡◌, ◌≢◌, ◌⊎◌, ℕ, List, [], ◌∷◌, Some, is_some, refl, ap, sym, subst, ◌∙◌, inl, inr}
 use Rattle.std.proofs.lemmas.Bool.{cases_eq}
-use Rattle.pico_base.specs.declared.numbers.Name.TheVariants.{Proc}
 use Rattle.pico_base.specs.declared.script.Script.{Script}
 use Rattle.rpc_frame.specs.declared.deed.PackedDeed.{PackedDeed}
 use Rattle.rpc_frame.specs.declared.frame.Frame.{Frame}
@@ -17,7 +16,7 @@ use Rattle.kernel_laws.proofs.People.{from-living}
 use Rattle.kernel_moves.specs.Entering.{IsChildIn, IsKin, Same, TurnsTo}
 use Rattle.kernel_moves.proofs.Kin.{kin-fork, kin-new}
 use Rattle.kernel_moves.proofs.Listed.{ListsOne, listed-fork, listed-new, listed-same}
-use Rattle.node_model.specs.Bodies.{body_in, process_body}
+use Rattle.node_model.specs.Bodies.{process_body}
 use Rattle.world_model.specs.Node.{Stage, Unborn}
 use Rattle.world_laws.specs.Places.{DeedPlace, InCheckpoint, InExitTo, InGiveBack, InGrant, InHand, InKept, InLeft, InTable, Unmade}
 use Rattle.world_laws.specs.Names.{forker}
@@ -87,8 +86,7 @@ module _ (script : Script) (k : Kernel) (places : Places) (pids : ℕ → ℕ) (
         where_it_is = subst (λ d. IsWhereFor block d (kernel.Living l.child_lives.alive)) (sym deed-is) refl;
         with_parent = tt;
         checkpoint = subst (λ d. CheckpointIn script now after block
-            (frames.Checkpoint child (pids p) packed vars ∷ []) d) (sym deed-is)
-            (
+            (frames.Checkpoint child (pids p) packed vars ∷ []) d) (sym deed-is) (
               frames.Checkpoint child (pids p) packed vars,
               refl,
               record {
@@ -191,13 +189,12 @@ module _ (script : Script) (k : Kernel) (places : Places) (pids : ℕ → ℕ) (
             elim (listed-fork k next (pids p) child other row l.fork.own l.fork.parent
             (subst (λ q. ListsOne next q other) e one)) [
               | inl was ↦ old (subst (λ q. ListsOne k q other) (sym e) was)
-              | inr new ↦
-                  (
-                    block,
-                    l.from_here.forker_is ∙ sym (l.apart c p forked e),
-                    now-there script k places pids p block child row vars next after l ∙ sym new,
-                    λ none. l.some_child (sym new ∙ none),
-                  )
+              | inr new ↦ (
+                block,
+                l.from_here.forker_is ∙ sym (l.apart c p forked e),
+                now-there script k places pids p block child row vars next after l ∙ sym new,
+                λ none. l.some_child (sym new ∙ none),
+              )
             ]
 
     -- the family of another holds

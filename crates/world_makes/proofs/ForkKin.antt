@@ -1,5 +1,5 @@
--- What a fork leaves: one more node's process has a number, and a place in the history where its block begins; and it is
--- a child of the one that forked it.
+-- What a fork leaves: one more node's process has a number, and a place in the history where its block begins; and
+-- it is a child of the one that forked it.
 use Rattle.std.proofs.Common.{◌≡◌, ◌≢◌, ◌⊎◌, ℕ, ◌<◌, ◌≤◌, Bool, true, false, if◌then◌else◌, List, [], ◌∷◌, nat_eq, get_or, ◌-◌, Option, Some, None, is_some, option_and_then, refl, ap, sym, subst, ◌∙◌, inl, inr, arith}
 use Rattle.std.specs.List.{list_any}
 use Rattle.std.proofs.lemmas.Bool.{cases_eq, eq-eqb, ne_eqb, false≢true}
@@ -8,8 +8,6 @@ use Rattle.pico_base.specs.declared.numbers.Name.TheVariants.{Proc}
 use Rattle.pico_base.specs.declared.script.Block.{Block}
 use Rattle.pico_base.specs.declared.script.Line.{Line}
 use Rattle.pico_base.specs.declared.script.Script.{Script}
-use Rattle.rpc_frame.specs.declared.frame.Frame.{Frame}
-use Rattle.rpc_frame.specs.declared.frame.Frame.TheVariants as frames
 use Rattle.number_maps.specs.Maps.{get}
 use Rattle.kernel_model.specs.Fitting.{Place, Places, block_at, block_place}
 use Rattle.kernel_model.specs.Kernel.{Kernel, Process, living_at}
@@ -18,28 +16,24 @@ use Rattle.kernel_model.specs.Row.{Alive, Row}
 use Rattle.kernel_model.specs.Script.{Vars, implied_exit, is_exit, with_exit}
 use Rattle.kernel_model.specs.Valid.{IsValid}
 use Rattle.kernel_laws.proofs.People.{from-living}
-use Rattle.kernel_moves.specs.Entering.{IsChildIn, IsKin, LeavesOthers, Same, TurnsTo, is_used_name}
-use Rattle.kernel_moves.proofs.Kin.{LeavesFork, kin-fork, kin-new}
-use Rattle.kernel_moves.proofs.Listed.{ListsOne, listed-fork, listed-new, listed-same}
+use Rattle.kernel_moves.specs.Entering.{LeavesOthers, is_used_name}
+use Rattle.kernel_moves.proofs.Kin.{LeavesFork}
 use Rattle.kernel_moves.proofs.Numbers.{process-there}
 use Rattle.kernel_moves.proofs.Others.{Lived, others-lived, others-stay-dead, others-still-may}
-use Rattle.node_model.specs.Bodies.{body_in, process_body}
 use Rattle.node_model.specs.Caller.{lines_in, lines_of}
 use Rattle.world_model.specs.Lives.{is_new_row}
-use Rattle.world_model.specs.Node.{Stage, Unborn}
 use Rattle.world_model.specs.World.{node_count}
-use Rattle.world_laws.specs.Places.{DeedPlace, InCheckpoint, InTable}
 use Rattle.world_laws.specs.Names.{forker}
-use Rattle.world_laws.specs.Families.{CheckpointIn, FamilyHolds, IsAwaited, IsCheckpointFor, IsItsOwn, IsNewAt, IsWhereFor, IsWithParent, PidsHold}
+use Rattle.world_laws.specs.Families.{PidsHold}
 use Rattle.world_own.proofs.Entries.{MayStill, StillLives}
-use Rattle.world_own.proofs.Others.{GoesOn, Leads, both-live, checkpoint-still, fresh-still, leads-by, turned-on, where-still, with-parent-still}
-use Rattle.world_makes.proofs.Forkers.{IsForkedFrom, first-not-forked, names_in_line}
+use Rattle.world_makes.proofs.Forkers.{IsForkedFrom, names_in_line}
 use Rattle.world_makes.proofs.WithinLines.{block-lines}
 
 -- the block's process has this number now
 abbrev pub with_pid : (ℕ → ℕ) → ℕ → ℕ → ℕ → ℕ
 with_pid pids block child c = if nat_eq c block then child else pids c
 
+-- the block's process has it
 pub with-pid-there : (pids : ℕ → ℕ) (block child : ℕ) → with_pid pids block child block ≡ child
 with-pid-there pids block child = ap (λ t. if t then child else pids block) (eq-eqb block block refl)
 
@@ -109,12 +103,15 @@ module _ (script : Script) (k : Kernel) (places : Places) (pids : ℕ → ℕ) (
   pub other-block : (c : ℕ) → pids c ≢ 0 → c ≢ block
   other-block c some same = some (ap pids same ∙ l.unforked)
 
+  -- so it has the number that it had
   pub now-other : (c : ℕ) → pids c ≢ 0 → now c ≡ pids c
   now-other c some = with-pid-other pids block child c (other-block c some)
 
+  -- and so has its parent
   pub now-parent : (c : ℕ) → pids c ≢ 0 → now (forker script c) ≡ pids (forker script c)
   now-parent c some = with-pid-other pids block child (forker script c) (l.parents c some)
 
+  -- the block's has the new one
   pub now-there : now block ≡ child
   now-there = with-pid-there pids block child
 
@@ -341,8 +338,7 @@ module _ (script : Script) (k : Kernel) (places : Places) (pids : ℕ → ℕ) (
     forked-now c some later =
         elim (cases_eq c block) [
           | inl e ↦
-              subst (λ z. (now (forker script z) ≢ 0) × (forker script z < z)) (sym e)
-              (
+              subst (λ z. (now (forker script z) ≢ 0) × (forker script z < z)) (sym e) (
                 λ none. l.forked (sym now-parent-of-child ∙ none),
                 subst (λ f. f < block) (sym l.from_here.forker_is) l.from_here.before,
               )
@@ -383,11 +379,10 @@ module _ (script : Script) (k : Kernel) (places : Places) (pids : ℕ → ℕ) (
     place-now : (c : ℕ) → now c ≢ 0 → (place : Place) × (get after (now c) ≡ Some place)
     place-now c some =
         elim (cases_eq c block) [
-          | inl e ↦
-              (
-                block_place (block_at script block) vars,
-                ap (λ z. get after (now z)) e ∙ ap (get after) now-there ∙ l.begins,
-              )
+          | inl e ↦ (
+            block_place (block_at script block) vars,
+            ap (λ z. get after (now z)) e ∙ ap (get after) now-there ∙ l.begins,
+          )
           | inr d ↦
               let is : now c ≡ pids c = with-pid-other pids block child c d
               in by-process is (λ none. some (is ∙ none)) (cases_eq (pids c) (pids p))

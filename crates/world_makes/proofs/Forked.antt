@@ -1,8 +1,7 @@
 -- A fork that is due, with a number that nothing has: what its entry leaves of the kernel and of the places.
-use Rattle.std.proofs.Common.{◌≡◌, ◌≢◌, ◌⊎◌, ℕ, ◌<◌, ◌≤◌, ◌&&◌, nat_lt, Bool, true, false, List, [], ◌∷◌, Option, Some, None, refl, ap, sym, subst, ◌∙◌, inl, inr, arith}
+use Rattle.std.proofs.Common.{◌≡◌, ◌≢◌, ℕ, ◌<◌, ◌&&◌, nat_lt, Bool, true, false, List, [], Some, refl, ap, sym, ◌∙◌, inl, inr, arith}
 use Rattle.std.specs.List.{list_any}
 use Rattle.std.proofs.lemmas.Bool.{cases_eq, false≢true, ltb-true}
-use Rattle.pico_base.specs.declared.call.Call.{Call}
 use Rattle.pico_base.specs.declared.call.Call.TheVariants as calls
 use Rattle.pico_base.specs.declared.numbers.Kind.{Kind}
 use Rattle.pico_base.specs.declared.numbers.Kind.TheVariants as kinds
@@ -10,16 +9,16 @@ use Rattle.pico_base.specs.declared.numbers.Name.TheVariants.{Proc}
 use Rattle.pico_base.specs.declared.reply.Reply.TheVariants as replies
 use Rattle.pico_base.specs.declared.script.Event.{Event}
 use Rattle.pico_base.specs.declared.script.Script.{Script}
-use Rattle.number_maps.specs.Maps.{get, is_used}
-use Rattle.kernel_model.specs.Fitting.{Place, Places, block_at, block_place, child_vars, place_after, places_after}
+use Rattle.number_maps.specs.Maps.{is_used}
+use Rattle.kernel_model.specs.Fitting.{Place, child_vars, place_after, places_after}
 use Rattle.kernel_model.specs.Footprint.{used_of}
 use Rattle.kernel_model.specs.Kernel.{Kernel, living_at}
 use Rattle.kernel_model.specs.Numbers.{is_positive_u32, is_u32}
-use Rattle.kernel_model.specs.Row.{Alive, Row}
-use Rattle.kernel_model.specs.Script.{IsSoundScript, Vars}
+use Rattle.kernel_model.specs.Row.{Alive}
+use Rattle.kernel_model.specs.Script.{IsSoundScript}
 use Rattle.kernel_moves.specs.Entering.{entry_of}
 use Rattle.kernel_moves.proofs.Bodies.{body-living}
-use Rattle.kernel_moves.proofs.ForkedOnce.{fork-line-once, forks_in_line}
+use Rattle.kernel_moves.proofs.ForkedOnce.{fork-line-once}
 use Rattle.kernel_moves.proofs.Fresh.{Forks, forks}
 use Rattle.kernel_moves.proofs.History.{ForkPlaces, fork-places}
 use Rattle.kernel_moves.proofs.Kin.{forks-leave}
@@ -27,13 +26,13 @@ use Rattle.kernel_moves.proofs.Numbers.{used-others}
 use Rattle.kernel_moves.proofs.Others.{goes}
 use Rattle.kernel_moves.proofs.Places.{ForkPasses, goes-on}
 use Rattle.node_model.specs.Bodies.{Body, Living as LivingBody, body_in}
-use Rattle.node_model.specs.Caller.{caller_place, lines_of}
+use Rattle.node_model.specs.Caller.{caller_place}
 use Rattle.node_model.specs.Kinds.{get_named}
 use Rattle.node_model.specs.Leases.{takes_number}
 use Rattle.world_model.specs.Lives.{is_new_row}
 use Rattle.world_model.specs.Node.{Node}
-use Rattle.world_model.specs.World.{World, node_count}
-use Rattle.world_laws.specs.Places.{Beside, DeedPlace, InTable}
+use Rattle.world_model.specs.World.{World}
+use Rattle.world_laws.specs.Places.{Beside, DeedPlace}
 use Rattle.world_laws.specs.Sights.{is_born_in, node_of}
 use Rattle.world_laws.specs.Names.{NameHolds, forker, held_as, name_sight}
 use Rattle.world_laws.specs.Invariant.{Holds}
@@ -63,6 +62,7 @@ module _ (script : Script) (sound : IsSoundScript script) (w : World) (b : Besid
   abbrev pid : ℕ
   pid = b.pids p
 
+  -- where the history is
   abbrev pub fork-place : Place
   fork-place = caller_place script p s.caller
 

@@ -1,12 +1,11 @@
 -- A node takes a Lease, and its call goes on with the first of the numbers.
-use Rattle.std.proofs.Common.{Contains, ◌≡◌, ◌≢◌, ◌⊎◌, ℕ, zero, suc, ◌+◌, ◌*◌, ◌<◌, ◌≤◌, Bool, true, false, ◌&&◌, ◌||◌, not, cond, if◌then◌else◌, List, [], ◌∷◌, ◌++◌, length, filter, flat_map, nat_eq, nat_lt, sum_by, Option, Some, None, is_some, option_and_then, refl, ap, sym, subst, ◌∙◌, inl, inr, arith}
+use Rattle.std.proofs.Common.{Contains, ◌≡◌, ◌≢◌, ℕ, zero, suc, ◌+◌, ◌<◌, ◌≤◌, Bool, true, false, ◌&&◌, ◌||◌, not, cond, if◌then◌else◌, List, [], ◌∷◌, ◌++◌, length, filter, flat_map, nat_eq, nat_lt, sum_by, Some, None, is_some, option_and_then, refl, ap, sym, subst, ◌∙◌, inl, inr, arith}
 use Rattle.std.specs.List.{list_any, range_with_len}
 use Rattle.std.proofs.lemmas.Bool.{cases_eq, eq-eqb, lt-ltb, ne_eqb, false≢true}
-use Rattle.std.proofs.lemmas.List.Sums.{sum_by-cons, sum_by-le-sum_by}
+use Rattle.std.proofs.lemmas.List.Sums.{sum_by-cons}
 use Rattle.pico_base.specs.declared.call.Call.{Call}
 use Rattle.pico_base.specs.declared.numbers.Kind.{Kind}
 use Rattle.pico_base.specs.declared.numbers.Kind.TheVariants as kinds
-use Rattle.pico_base.specs.declared.numbers.Name.{Name}
 use Rattle.pico_base.specs.declared.numbers.Name.TheVariants.{Proc}
 use Rattle.pico_base.specs.declared.script.Event.TheVariants as events
 use Rattle.pico_base.specs.declared.script.Script.{Script}
@@ -22,7 +21,7 @@ use Rattle.number_maps.proofs.LookUps.{get-first, get-later}
 use Rattle.number_maps.proofs.Rising.{above-first, get-above, rising-rest}
 use Rattle.kernel_model.specs.Footprint.{used_of}
 use Rattle.kernel_model.specs.Kernel.{living_at}
-use Rattle.kernel_model.specs.Numbers.{is_positive_u32, is_u32}
+use Rattle.kernel_model.specs.Numbers.{is_u32}
 use Rattle.kernel_model.specs.Row.{Alive, Row, lists}
 use Rattle.kernel_model.specs.Valid.{IsValid}
 use Rattle.kernel_model.specs.Kernel as kernel
@@ -30,28 +29,28 @@ use Rattle.kernel_laws.proofs.Members.{contains-first}
 use Rattle.kernel_laws.proofs.People.{from-living}
 use Rattle.kernel_laws.proofs.ValidLaws.{reachable_kernels_are_valid_lemma}
 use Rattle.kernel_moves.specs.Entering.{is_used_name}
-use Rattle.kernel_moves.proofs.Bodies.{body-living, living-body}
+use Rattle.kernel_moves.proofs.Bodies.{body-living}
 use Rattle.kernel_moves.proofs.History.{may-make-from}
 use Rattle.kernel_moves.proofs.Numbers.{process-there}
 use Rattle.node_model.specs.declared.held.Held.TheVariants.{Request}
 use Rattle.node_model.specs.Bodies.{Body, Living as LivingBody, body_in}
 use Rattle.node_model.specs.Directory.{max_ranges}
-use Rattle.node_model.specs.Kinds.{for_kind, get_named, is_same_kind, kind_of, name_of, number_of, with_kind}
+use Rattle.node_model.specs.Kinds.{for_kind, get_named, name_of, number_of}
 use Rattle.node_model.specs.Leases.{is_used_up, lease_of, refill, takes_number}
 use Rattle.world_model.specs.Node.{Living, Node, Stage, Unborn, Leaving, Left, Over, holds as node_holds}
 use Rattle.world_model.specs.Numbers.{make, make_taken, make_with, take_from}
 use Rattle.world_model.specs.Ranges.{go_on_with, is_listed_here, is_there, lists_child, may_lease, take_lease}
 use Rattle.world_model.specs.Step.{Step, step_to}
 use Rattle.world_model.specs.World.{World, node_count, numbers as numbers_from, world_after}
-use Rattle.world_laws.specs.Places.{AsksLease, Beside, CallPlace, Ends, HasLease, Idle, InAnswer, InAsk, InBounce, InNotOwner, InRequest, InTable, IsHeld, IsInHand, SentByPlace, SentByRange, call_in}
+use Rattle.world_laws.specs.Places.{AsksLease, Beside, CallPlace, Ends, HasLease, Idle, InAnswer, InAsk, InBounce, InNotOwner, InRequest, IsHeld, IsInHand, SentByPlace, SentByRange, call_in}
 use Rattle.world_laws.specs.Sights.{directory_of, frames_to, is_born_in, node_of}
 use Rattle.world_laws.specs.Callers.{CallHolds, CallSight, HasCall, IsBetween, IsJustThere, IsSoFar, IsToBeMade, asked_of, call_sight, frame_at, is_about, is_at_work, is_call_of_kind, is_end_place, is_end_stage, is_held_at, is_in_stream, lease_is_over, may_be_in, only_if}
-use Rattle.world_laws.specs.Families.{BornIn, FamilyHolds, HoldsIn, HoldsRow, IsBorn, NodeHolds}
+use Rattle.world_laws.specs.Families.{BornIn, HoldsIn, HoldsRow, IsBorn, NodeHolds}
 use Rattle.world_laws.specs.Invariant.{Holds}
-use Rattle.world_laws.specs.Names.{NameHolds, held_at, name_sight}
+use Rattle.world_laws.specs.Names.{NameHolds, name_sight}
 use Rattle.world_laws.specs.Ranges.{IsRangeOf, KindHolds, first_if, has_lease, is_given, is_in_lease, kind_sight, lease_in, leases_on_way, one_for}
 use Rattle.world_laws.proofs.Changes.{frames_if, taken}
-use Rattle.world_laws.proofs.Heads.{head-from-another, head-is, kept-of-sent}
+use Rattle.world_laws.proofs.Heads.{head-is}
 use Rattle.world_laws.proofs.NameFacts.{IsHeldAt, held-there}
 use Rattle.world_laws.proofs.NewRanges.{in-lease-again, no-lease-about}
 use Rattle.world_laws.proofs.Numbers.{maker-in-range}
@@ -62,8 +61,9 @@ use Rattle.world_own.proofs.Asks.{Takes}
 use Rattle.world_own.proofs.Made.{number-is-low}
 use Rattle.world_own.proofs.Objects.{for-with, kind-itself}
 use Rattle.world_makes.proofs.FromNext.{kind-of-name, none-passes, number-of-name, with-with}
+use Rattle.world_makes.proofs.Making.{HasSize, Making, making-of, making-takes}
 use Rattle.world_makes.proofs.NewOnes.{held-nowhere}
-use Rattle.world_makes.proofs.Sources.{Comes, Gives, Source, kind-come, ready_kind, ready_node, takes_by}
+use Rattle.world_makes.proofs.Sources.{Comes, Gives, Source, kind-come, ready_node, takes_by}
 
 -- ---- what a Lease says of the call
 
@@ -71,6 +71,7 @@ abbrev is_lease : Frame → Bool
 is_lease (frames.Lease kind first) = true
 is_lease frame = false
 
+-- the call is where its numbers are on their way, in this frame alone
 pub record IsLeaseOf (place : CallPlace) (kind : Kind) (first : ℕ) (fs : List Frame) : Type 0 where
   pub place_is : place ≡ HasLease kind first
   pub alone : fs ≡ []
@@ -181,7 +182,7 @@ all-true a c d e h g i j = rw (h, g, i, j) refl
 module _ (script : Script) (w : World) (b : Beside) (holds : Holds script w [] b) (p : ℕ) (kind : Kind) (first : ℕ)
     (rest : List Frame) (h : Heads script w p 1 (frames.Lease kind first) rest)
     (rising : IsRising (node_of w p).deeds.processes)
-    (sized : (call : Call) → (node_of w p).caller.under_way ≡ Some call → takes_number kind call ≡ true → Takes kind call)
+    (sized : (call : Call) → (node_of w p).caller.under_way ≡ Some call → HasSize call)
     (enough : length (for_kind (directory_of w).ranges kind) ≤ max_ranges) where
   abbrev frame : Frame
   frame = frames.Lease kind first
@@ -248,8 +249,11 @@ module _ (script : Script) (w : World) (b : Beside) (holds : Holds script w [] b
       by-home homes.Parent e = absurd (false≢true e)
 
   -- it is one that a number of the kind is taken for
-  pub takes : Takes kind call
-  takes = sized call found.is takes-kind
+  pub making : Making kind call
+  making = making-of kind call takes-kind (sized call found.is)
+
+  takes : Takes kind call
+  takes = making-takes kind call making
 
   holds-row : HoldsRow n.deeds n.pid
   holds-row = subst (λ (s : Stage). HoldsIn p n s) is-living node-there.holds

@@ -1,44 +1,34 @@
 -- A node starts its call with a number that is left in its lease.
-use Rattle.std.proofs.Common.{◌≡◌, ◌≢◌, ◌⊎◌, ℕ, suc, ◌+◌, ◌<◌, ◌≤◌, Bool, true, false, ◌&&◌, ◌||◌, not, if◌then◌else◌, List, [], ◌∷◌, ◌++◌, length, filter, flat_map, nat_eq, nat_lt, sum_by, Some, None, is_none, option_and_then, refl, ap, sym, subst, ◌∙◌, inl, inr, arith, length-append}
-use Rattle.std.specs.List.{list_any, range_with_len}
-use Rattle.std.proofs.lemmas.Bool.{cases_eq, eq-eqb, ltb-true, ne_eqb, or_left, or_right, false≢true}
+use Rattle.std.proofs.Common.{◌≡◌, ℕ, ◌≤◌, Bool, true, false, ◌&&◌, not, if◌then◌else◌, List, [], ◌∷◌, length, filter, flat_map, nat_eq, sum_by, Some, option_and_then, refl, ap, sym, subst, ◌∙◌, inl, inr, arith}
+use Rattle.std.proofs.lemmas.Bool.{cases_eq, eq-eqb, ne_eqb}
 use Rattle.pico_base.specs.declared.call.Call.{Call}
 use Rattle.pico_base.specs.declared.numbers.Kind.{Kind}
-use Rattle.pico_base.specs.declared.numbers.Kind.TheVariants as kinds
-use Rattle.pico_base.specs.declared.numbers.Name.{Name}
 use Rattle.pico_base.specs.declared.script.Event.TheVariants as events
 use Rattle.pico_base.specs.declared.script.Script.{Script}
-use Rattle.rpc_frame.specs.declared.frame.Frame.{Frame}
 use Rattle.rpc_frame.specs.declared.frame.Frame.TheVariants as frames
 use Rattle.kernel_model.specs.Script.{IsSoundScript}
-use Rattle.kernel_moves.specs.Entering.{is_used_name}
 use Rattle.node_model.specs.Caller.{Caller, start_call}
-use Rattle.node_model.specs.Directory.{Directory, has_more, is_known, max_ranges, upcoming, with_range}
-use Rattle.node_model.specs.Kinds.{for_kind, kind_of, name_of, number_of, with_kind}
-use Rattle.node_model.specs.Leases.{Leases, is_used_up, lease_of}
+use Rattle.node_model.specs.Directory.{max_ranges}
+use Rattle.node_model.specs.Kinds.{for_kind}
+use Rattle.node_model.specs.Leases.{is_used_up}
 use Rattle.world_model.specs.Node.{Node, can_run, is_leader}
-use Rattle.world_model.specs.Numbers.{Taken, knows_any, make, make_taken, make_with, take_first, take_from, with_next_range}
+use Rattle.world_model.specs.Numbers.{make_taken, make_with, take_from}
 use Rattle.world_model.specs.Starting.{run, start_by, start_making}
-use Rattle.world_model.specs.Step.{Step, send, step_to, with_node}
+use Rattle.world_model.specs.Step.{Step, send, step_to}
 use Rattle.world_model.specs.World.{World, node_count, numbers as numbers_from, world_after}
 use Rattle.world_laws.specs.Places.{Beside, Idle, call_in}
-use Rattle.world_laws.specs.Sights.{directory_of, frames_to, is_born_in, is_born_stage, node_of}
-use Rattle.world_laws.specs.Names.{name_sight}
+use Rattle.world_laws.specs.Sights.{directory_of, frames_to, is_born_in, node_of}
 use Rattle.world_laws.specs.Families.{NodeHolds}
 use Rattle.world_laws.specs.Invariant.{Holds}
-use Rattle.number_maps.specs.Maps.{is_used}
-use Rattle.kernel_model.specs.Footprint.{used_of}
 use Rattle.world_laws.specs.Callers.{is_about}
-use Rattle.world_laws.specs.Ranges.{KindHolds, has_lease, is_given, kind_sight, lease_in, leases_on_way, one_for}
+use Rattle.world_laws.specs.Ranges.{has_lease, kind_sight, lease_in, leases_on_way, one_for}
 use Rattle.world_laws.proofs.Changes.{Changes, frames_if}
-use Rattle.world_laws.proofs.NewRanges.{no-lease-about, unmade-next, upcoming_in}
+use Rattle.world_laws.proofs.NewRanges.{no-lease-about}
 use Rattle.world_laws.proofs.Sends.{AreToNodes}
 use Rattle.world_laws.proofs.Steps.{changes-by-run, run-steps}
 use Rattle.world_own.proofs.Asks.{Takes}
-use Rattle.world_own.proofs.Objects.{for-with}
 use Rattle.world_own.proofs.Runs.{Starts, run-is}
-use Rattle.world_makes.proofs.NewOnes.{nothing-known}
-use Rattle.world_makes.proofs.Sources.{Gives, InLease, Next, Origin, Source, kind-at-hand, kind-next, ready_kind, ready_node, takes_by}
+use Rattle.world_makes.proofs.Sources.{Gives, InLease, Origin, Source, kind-at-hand, ready_node, takes_by}
 
 -- none of no frames
 pub frames-of-none : (t : Bool) → frames_if t [] ≡ []
@@ -76,7 +66,8 @@ module _ (script : Script) (sound : IsSoundScript script) (w : World) (b : Besid
   -- a call that starts so is the node's step
   pub given-by : (numbers : List ℕ) (number : ℕ) (o : Origin) → takes_by kind o ≡ [] → (after : Step)
       → AreToNodes (node_count script) after.sends
-      → start_making script first call kind ≡ make_with script (step_to (ready_node n started kind numbers o)) call number
+      → start_making script first call kind
+      ≡ make_with script (step_to (ready_node n started kind numbers o)) call number
       → make_with script (step_to (ready_node n started kind numbers o)) call number ≡ Some after
       → Gives script w p (events.Run p) (takes_by kind o) after
   given-by numbers number o none after to_nodes starts makes =

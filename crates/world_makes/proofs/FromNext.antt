@@ -1,14 +1,12 @@
--- The leader starts its own call where its lease is used up: it gives itself the next range, and takes the first number.
-use Rattle.std.proofs.Common.{◌≡◌, ◌≢◌, ◌⊎◌, ℕ, suc, ◌+◌, ◌<◌, ◌≤◌, Bool, true, false, ◌&&◌, ◌||◌, not, if◌then◌else◌, List, [], ◌∷◌, ◌++◌, length, filter, flat_map, nat_eq, nat_lt, sum_by, Some, None, is_none, option_and_then, refl, ap, sym, subst, ◌∙◌, inl, inr, arith, length-append}
+-- The leader starts its own call where its lease is used up: it gives itself the next range, and takes the first
+-- number.
+use Rattle.std.proofs.Common.{◌≡◌, ℕ, ◌+◌, ◌≤◌, Bool, true, false, ◌&&◌, ◌||◌, not, if◌then◌else◌, List, [], ◌∷◌, ◌++◌, length, filter, nat_eq, Some, None, is_none, option_and_then, refl, ap, sym, subst, ◌∙◌, arith, length-append}
 use Rattle.std.specs.List.{list_any, range_with_len}
-use Rattle.std.proofs.lemmas.Bool.{cases_eq, eq-eqb, ltb-true, ne_eqb, or_left, or_right, false≢true}
-use Rattle.pico_base.specs.declared.call.Call.{Call}
+use Rattle.std.proofs.lemmas.Bool.{eq-eqb, ltb-true, or_left, or_right}
 use Rattle.pico_base.specs.declared.numbers.Kind.{Kind}
 use Rattle.pico_base.specs.declared.numbers.Kind.TheVariants as kinds
-use Rattle.pico_base.specs.declared.numbers.Name.{Name}
 use Rattle.pico_base.specs.declared.script.Event.TheVariants as events
 use Rattle.pico_base.specs.declared.script.Script.{Script}
-use Rattle.rpc_frame.specs.declared.frame.Frame.{Frame}
 use Rattle.rpc_frame.specs.declared.frame.Frame.TheVariants as frames
 use Rattle.kernel_model.specs.Script.{IsSoundScript}
 use Rattle.kernel_moves.specs.Entering.{is_used_name}
@@ -17,11 +15,11 @@ use Rattle.node_model.specs.Directory.{Directory, has_more, is_known, max_ranges
 use Rattle.node_model.specs.Kinds.{for_kind, kind_of, name_of, number_of, with_kind}
 use Rattle.node_model.specs.Leases.{Leases, is_used_up, lease_of}
 use Rattle.world_model.specs.Node.{Node, can_run, is_leader}
-use Rattle.world_model.specs.Numbers.{Taken, knows_any, make, make_taken, make_with, take_first, take_from, with_next_range}
-use Rattle.world_model.specs.Starting.{run, start_by, start_making}
-use Rattle.world_model.specs.Step.{Step, send, step_to, with_node}
-use Rattle.world_model.specs.World.{World, node_count, numbers as numbers_from, world_after}
-use Rattle.world_laws.specs.Places.{Beside, Idle, call_in}
+use Rattle.world_model.specs.Numbers.{knows_any, make_taken, make_with, take_first, take_from, with_next_range}
+use Rattle.world_model.specs.Starting.{start_making}
+use Rattle.world_model.specs.Step.{Step, send, step_to}
+use Rattle.world_model.specs.World.{World, node_count}
+use Rattle.world_laws.specs.Places.{Beside}
 use Rattle.world_laws.specs.Sights.{directory_of, frames_to, is_born_in, is_born_stage, node_of}
 use Rattle.world_laws.specs.Names.{name_sight}
 use Rattle.world_laws.specs.Families.{NodeHolds}
@@ -29,20 +27,18 @@ use Rattle.world_laws.specs.Invariant.{Holds}
 use Rattle.number_maps.specs.Maps.{is_used}
 use Rattle.kernel_model.specs.Footprint.{used_of}
 use Rattle.world_laws.specs.Callers.{is_about}
-use Rattle.world_laws.specs.Ranges.{KindHolds, has_lease, is_given, kind_sight, lease_in, leases_on_way, one_for}
-use Rattle.world_laws.proofs.Changes.{Changes, frames_if}
-use Rattle.world_laws.proofs.NewRanges.{no-lease-about, unmade-next, upcoming_in}
-use Rattle.world_laws.proofs.Sends.{AreToNodes}
-use Rattle.world_laws.proofs.Steps.{changes-by-run, run-steps}
+use Rattle.world_laws.specs.Ranges.{KindHolds, has_lease, is_given, kind_sight}
+use Rattle.world_laws.proofs.NewRanges.{no-lease-about, unmade-next}
 use Rattle.world_own.proofs.Asks.{Takes}
 use Rattle.world_own.proofs.Objects.{for-with}
-use Rattle.world_own.proofs.Runs.{Starts, run-is}
+use Rattle.world_own.proofs.Runs.{Starts}
 use Rattle.world_makes.proofs.NewOnes.{nothing-known}
-use Rattle.world_makes.proofs.Sources.{Gives, InLease, Next, Origin, Source, kind-at-hand, kind-next, ready_kind, ready_node, takes_by}
+use Rattle.world_makes.proofs.Sources.{Next, Source, kind-next, ready_kind, ready_node}
 use Rattle.world_makes.proofs.FromLease.{frames-of-none, given-by, on-way-still}
 
 -- the lease that was put last is the node's
-pub with-with : (m : Leases) (kind : Kind) (ns ms : List ℕ) → with_kind (with_kind m kind ns) kind ms ≡ with_kind m kind ms
+pub with-with : (m : Leases) (kind : Kind) (ns ms : List ℕ)
+    → with_kind (with_kind m kind ns) kind ms ≡ with_kind m kind ms
 with-with m kinds.Proc ns ms = refl
 with-with m kinds.Msg ns ms = refl
 with-with m kinds.Sem ns ms = refl
@@ -53,6 +49,7 @@ kind-of-name kinds.Proc number = refl
 kind-of-name kinds.Msg number = refl
 kind-of-name kinds.Sem number = refl
 
+-- and this number
 pub number-of-name : (kind : Kind) (number : ℕ) → number_of (name_of kind number) ≡ number
 number-of-name kinds.Proc number = refl
 number-of-name kinds.Msg number = refl
@@ -133,8 +130,9 @@ module _ (script : Script) (sound : IsSoundScript script) (w : World) (b : Besid
       then take_first (with_next_range first.node kind) kind (lease_of up) else None)) more
       ∙ ap (λ t. option_and_then (make_taken script first s.call)
       (if not t then take_first (with_next_range first.node kind) kind (lease_of up) else None)) none-known
-      ∙ ap (λ leases. make_with script (step_to (record (ready_node n started kind later Next) { leases = leases })) s.call
-      up) (with-with n.leases kind (lease_of up) later)
+      ∙ ap (λ leases. make_with script
+      (step_to (record (ready_node n started kind later Next) { leases = leases })) s.call up)
+      (with-with n.leases kind (lease_of up) later)
 
   ranges-now : for_kind (with_range d kind 1).ranges kind ≡ were ++ 1 ∷ []
   ranges-now = for-with d.ranges kind (were ++ 1 ∷ [])
@@ -175,7 +173,10 @@ module _ (script : Script) (sound : IsSoundScript script) (w : World) (b : Besid
             in let same = on-way-still script sound w b holds 1 low high can s kind takes
             in let count = counted
             in omega (arith, old, same, count);
-        enough = let count = counted in let fewer = ltb-true (length were) max_ranges more in omega (arith, count, fewer);
+        enough =
+            let count = counted
+            in let fewer = ltb-true (length were) max_ranges more
+            in omega (arith, count, fewer);
         gives = λ after to_nodes makes. given-by script sound w b holds 1 low high can s kind takes later up Next refl
             after to_nodes starts-so makes;
       }

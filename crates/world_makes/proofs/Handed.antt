@@ -1,20 +1,17 @@
 -- A deed in a parcel is of a node that has left, so that node's process was forked.
-use Rattle.std.proofs.Common.{Contains, ◌≡◌, ◌≢◌, ℕ, ◌≤◌, Bool, true, false, ◌&&◌, List, [], ◌∷◌, filter, nat_eq, Some, None, refl, ap, sym, subst, ◌∙◌}
+use Rattle.std.proofs.Common.{Contains, ◌≡◌, ◌≢◌, ℕ, Bool, true, false, ◌&&◌, List, [], ◌∷◌, filter, nat_eq, Some, None, refl, ap, sym, subst, ◌∙◌}
 use Rattle.std.proofs.lemmas.Bool.{eq-eqb, false≢true}
 use Rattle.pico_base.specs.declared.numbers.Name.{Name}
 use Rattle.pico_base.specs.declared.numbers.Name.TheVariants.{Proc}
 use Rattle.pico_base.specs.declared.script.Script.{Script}
 use Rattle.rpc_frame.specs.declared.deed.Parcel.{Parcel}
-use Rattle.rpc_frame.specs.declared.frame.Frame.{Frame}
-use Rattle.rpc_frame.specs.declared.frame.Frame.TheVariants as frames
 use Rattle.kernel_laws.proofs.Members.{contains-filtered, contains-first}
 use Rattle.node_model.specs.declared.held.Held.{Held}
-use Rattle.node_model.specs.declared.held.Held.TheVariants.{Ending}
 use Rattle.node_model.specs.Bodies.{body_in}
 use Rattle.node_model.specs.Directory.{held_for, is_parcel_with}
 use Rattle.world_model.specs.Census.{brings}
 use Rattle.world_model.specs.Node.{Left, Node, Stage}
-use Rattle.world_model.specs.World.{World, node_count}
+use Rattle.world_model.specs.World.{World}
 use Rattle.world_laws.specs.Places.{Beside, DeedPlace, InCheckpoint, InExitTo, InGiveBack, InGrant, InHand, InKept, InLeft, InTable, Unmade}
 use Rattle.world_laws.specs.Sights.{directory_of, frames_to, is_born_in, is_born_stage, node_of, stage_of}
 use Rattle.world_laws.specs.Names.{HasDeed, IsBringer, IsExitOf, IsItemWith, IsLeftOf, NameHolds, NameSight, OneIf, OnlyOne, forker, is_hand_place, is_kept_for, is_stream_of, name_sight, node_in}

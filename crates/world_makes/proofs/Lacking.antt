@@ -1,6 +1,6 @@
--- A name that nothing has, at a node that doesn't leave: it isn't there, and nothing on its way from the leader is about
--- it.
-use Rattle.std.proofs.Common.{◌≡◌, ℕ, ◌≤◌, Bool, true, false, ◌&&◌, ◌||◌, not, cond, List, [], ◌∷◌, filter, nat_eq, is_some, refl, ap, sym, subst, ◌∙◌, inl, inr}
+-- A name that nothing has, at a node that doesn't leave: it isn't there, and nothing on its way from the leader is
+-- about it.
+use Rattle.std.proofs.Common.{◌≡◌, ℕ, ◌≤◌, Bool, true, false, ◌&&◌, ◌||◌, not, cond, List, [], ◌∷◌, filter, nat_eq, is_some, refl, ap, sym, ◌∙◌, inl, inr}
 use Rattle.pico_base.specs.declared.numbers.Name.{Name}
 use Rattle.pico_base.specs.declared.script.Script.{Script}
 use Rattle.rpc_frame.specs.declared.frame.Frame.{Frame}
@@ -45,6 +45,7 @@ module _ (script : Script) (w : World) (b : Beside) (holds : Holds script w [] b
   known : NameHolds script b.pids (is_born_in w) name x
   known = holds.names name
 
+  -- none comes to a node
   pub comes-none : (q : ℕ) → comes_to script w name q ≡ false
   comes-none q =
       ap (λ fs. not (nat_eq (forker script q) 1) && has_any fs)

@@ -20,3 +20,5 @@ pub mod ForkFamilies
 pub mod Forked
 pub mod MorePids
 pub mod NewForks
+pub mod Making
+pub mod Makes

@@ -1,19 +1,18 @@
 -- One more node's process has a number: nodes, ways and parcels hold with it as before.
-use Rattle.std.proofs.Common.{◌≡◌, ◌≢◌, ℕ, Bool, [], ◌∷◌, Option, Some, refl, ap, sym, subst, ◌∙◌}
+use Rattle.std.proofs.Common.{◌≡◌, ◌≢◌, ℕ, Bool, [], ◌∷◌, Option, ap, sym, subst, ◌∙◌}
 use Rattle.pico_base.specs.declared.call.Call.{Call}
 use Rattle.pico_base.specs.declared.script.Script.{Script}
 use Rattle.rpc_frame.specs.declared.deed.Parcel.{Parcel}
-use Rattle.rpc_frame.specs.declared.frame.Frame.{Frame}
 use Rattle.rpc_frame.specs.declared.frame.Frame.TheVariants as frames
 use Rattle.number_maps.specs.Maps.{get}
-use Rattle.node_model.specs.Bodies.{Body, Living as LivingBody}
+use Rattle.node_model.specs.Bodies.{Body}
 use Rattle.node_model.specs.Parcels.{is_over_but_for}
 use Rattle.std.specs.Prelude.{true}
 use Rattle.std.specs.List.{AllByRecursion}
 use Rattle.world_model.specs.Node.{Leaving, Left, Living, Node, Over, Stage, Unborn}
 use Rattle.world_laws.specs.Names.{forker}
 use Rattle.world_laws.specs.Families.{BornIn, IsBorn, NodeHolds}
-use Rattle.world_laws.specs.Ways.{HasSender, IsHere, IsParcelOf, Way, WaySight, collected, gone, here, over, tells}
+use Rattle.world_laws.specs.Ways.{HasSender, Way, WaySight, collected, gone, here, over, tells}
 
 born-one : (script : Script) (pids now : ℕ → ℕ) (p pid parent parent_node : ℕ)
     → (pids p ≢ 0 → now p ≡ pids p) → (pids p ≢ 0 → now (forker script p) ≡ pids (forker script p))

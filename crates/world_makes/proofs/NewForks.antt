@@ -1,9 +1,8 @@
--- A node's process forks, whatever the number's source: its row lists the child, whose deed goes to the block's node in a
--- Checkpoint, and the child's place is told, or placed.
-use Rattle.std.proofs.Common.{◌≡◌, ◌≢◌, ◌⊎◌, ℕ, ◌+◌, ◌<◌, ◌≤◌, Bool, true, false, ◌&&◌, ◌||◌, cond, not, if◌then◌else◌, List, [], ◌∷◌, ◌++◌, filter, flat_map, nat_eq, Contains, Option, Some, None, is_none, is_some, option_map, refl, ap, sym, subst, ◌∙◌, inl, inr, arith, append-nil}
+-- A node's process forks, whatever the number's source: its row lists the child, whose deed goes to the block's node
+-- in a Checkpoint, and the child's place is told, or placed.
+use Rattle.std.proofs.Common.{◌≡◌, ◌≢◌, ◌⊎◌, ℕ, ◌≤◌, Bool, true, false, ◌&&◌, cond, not, if◌then◌else◌, List, [], ◌∷◌, ◌++◌, filter, flat_map, nat_eq, Contains, Option, Some, None, is_some, option_map, refl, ap, sym, subst, ◌∙◌, inl, inr, arith, append-nil}
 use Rattle.std.specs.List.{AllByRecursion}
 use Rattle.std.proofs.lemmas.Bool.{cases_eq, eq-eqb, eqb-true, ne_eqb, false≢true}
-use Rattle.std.proofs.lemmas.List.Elements.{filter-append}
 use Rattle.pico_base.specs.declared.call.Call.{Call}
 use Rattle.pico_base.specs.declared.call.Call.TheVariants as calls
 use Rattle.pico_base.specs.declared.numbers.Kind.{Kind}
@@ -19,18 +18,18 @@ use Rattle.rpc_frame.specs.declared.deed.PackedDeed.{PackedDeed}
 use Rattle.rpc_frame.specs.declared.frame.Frame.{Frame}
 use Rattle.rpc_frame.specs.declared.frame.Frame.TheVariants as frames
 use Rattle.number_maps.specs.Maps.{get}
-use Rattle.kernel_model.specs.Fitting.{Place, Places, block_at, block_place, child_vars, place_after, places_after}
-use Rattle.kernel_model.specs.Kernel.{Kernel, living_at}
+use Rattle.kernel_model.specs.Fitting.{Place, Places, child_vars, places_after}
+use Rattle.kernel_model.specs.Kernel.{living_at}
 use Rattle.kernel_model.specs.Row.{Row}
-use Rattle.kernel_model.specs.Script.{IsSoundScript, Vars}
+use Rattle.kernel_model.specs.Script.{IsSoundScript}
 use Rattle.kernel_moves.specs.Entering.{entry_of, is_used_name}
 use Rattle.kernel_moves.proofs.Fresh.{Forks}
 use Rattle.kernel_moves.proofs.History.{ForkPlaces, fork-places}
 use Rattle.kernel_moves.proofs.Numbers.{used-made, used-others}
-use Rattle.node_model.specs.Bodies.{Body, Deeds, Living as LivingBody, body_in, row_of}
+use Rattle.node_model.specs.Bodies.{Body, Living as LivingBody, body_in, row_of}
 use Rattle.node_model.specs.Caller.{answer_call, caller_place}
-use Rattle.node_model.specs.Directory.{Directory, held_for, is_known, is_parcel_with, maker, place_of}
-use Rattle.node_model.specs.Kinds.{for_kind, get_named, is_same_name, kind_of, number_of, put_named, with_kind}
+use Rattle.node_model.specs.Directory.{Directory, is_known, is_parcel_with, maker}
+use Rattle.node_model.specs.Kinds.{get_named, put_named, with_kind}
 use Rattle.node_model.specs.Serving.{child_body, parent_body}
 use Rattle.node_model.specs.Spelling.{pack}
 use Rattle.world_model.specs.Census.{brings}
@@ -38,8 +37,8 @@ use Rattle.world_model.specs.Node.{Node, Stage, Living, Left, Unborn, unborn_nod
 use Rattle.world_model.specs.Numbers.{fork_with, make_with, tell_place}
 use Rattle.world_model.specs.Step.{Step, send, step_to}
 use Rattle.world_model.specs.World.{World, node_count}
-use Rattle.world_laws.specs.Places.{Beside, CallPlace, DeedPlace, Idle, InCheckpoint, InTable, Unmade, deed_in}
-use Rattle.world_laws.specs.Sights.{directory_of, frames_to, is_born_in, is_born_stage, node_of, stage_of}
+use Rattle.world_laws.specs.Places.{Beside, CallPlace, DeedPlace, InCheckpoint, InTable, Unmade, deed_in}
+use Rattle.world_laws.specs.Sights.{directory_of, frames_to, is_born_in, node_of, stage_of}
 use Rattle.world_laws.specs.Names.{IsBringer, IsCheckpointOf, NameHolds, NameSight, OneIf, PlaysTo, SaysOf, comes_to, forker, held_as, held_at, is_hand_place, is_kept_for, is_stream_of, may_be_at, name_sight, range_steps_of}
 use Rattle.world_laws.specs.Ranges.{kind_sight}
 use Rattle.world_laws.specs.Families.{FamilyHolds, HoldsIn, NodeHolds, checkpoints_to, is_checkpoint_frame}
@@ -67,7 +66,7 @@ use Rattle.world_makes.proofs.Counts.{few-now, kinds-now}
 use Rattle.world_makes.proofs.ForkFamilies.{family-new, family-still}
 use Rattle.world_makes.proofs.Directories.{IsAfter, after-is, directory-now, place_if, placed_if, tell-is, tells_if}
 use Rattle.world_makes.proofs.ForkKin.{ForkLeaves, apart-child, now-other, now-parent, now-there, others-go-on, pids-forked, with-pid-other, with_pid}
-use Rattle.world_makes.proofs.Forked.{fork-entry, fork-kind, fork-leaves, own-row}
+use Rattle.world_makes.proofs.Forked.{fork-entry, fork-kind, fork-leaves}
 use Rattle.world_makes.proofs.Forkers.{IsForkedFrom}
 use Rattle.world_makes.proofs.MorePids.{born-with, node-with, sender-with, way-with}
 use Rattle.world_makes.proofs.FromLease.{frames-of-none}
@@ -83,22 +82,22 @@ use Rattle.world_makes.proofs.Unforked.{from-here, is-unborn, no-births, not-for
 module _ (script : Script) (sound : IsSoundScript script) (w : World) (b : Beside) (holds : Holds script w [] b) (p : ℕ)
     (block : ℕ) (kind : Kind) (number : ℕ) (numbers : List ℕ) (o : Origin) (e : Event)
     (s : Source script w b p (calls.Fork block) kind number numbers o e) where
-  abbrev pub n : Node
+  abbrev n : Node
   n = node_of w p
 
-  abbrev pub pid : ℕ
+  abbrev pid : ℕ
   pid = b.pids p
 
-  abbrev pub call : Call
+  abbrev call : Call
   call = calls.Fork block
 
-  abbrev pub reply : Reply
+  abbrev reply : Reply
   reply = replies.Num number
 
-  abbrev pub name : Name
+  abbrev name : Name
   name = Proc number
 
-  abbrev pub place : Place
+  abbrev place : Place
   place = caller_place script p s.caller
 
   node-holds : NodeHolds script b.pids (is_born_in w) p n
@@ -106,14 +105,14 @@ module _ (script : Script) (sound : IsSoundScript script) (w : World) (b : Besid
 
   -- ---- the step
 
-  abbrev pub packed : PackedDeed
+  abbrev packed : PackedDeed
   packed = pack name (child_body s.row)
 
   abbrev checkpoint-with : ℕ → ℕ → Frame
   checkpoint-with q process =
       frames.Checkpoint number process packed (child_vars (caller_place script q s.caller))
 
-  abbrev pub checkpoint : Frame
+  abbrev checkpoint : Frame
   checkpoint = frames.Checkpoint number pid packed (child_vars place)
 
   abbrev step-with : ℕ → ℕ → Step
@@ -133,7 +132,7 @@ module _ (script : Script) (sound : IsSoundScript script) (w : World) (b : Besid
         sends = (block, checkpoint-with q process) ∷ tells_if (nat_eq p 1) name block;
       }
 
-  abbrev pub after-node : Node
+  abbrev after-node : Node
   after-node =
       record n {
         caller = answer_call script p s.caller call reply;
@@ -143,16 +142,16 @@ module _ (script : Script) (sound : IsSoundScript script) (w : World) (b : Besid
             record n.leader { directory = placed_if (nat_eq p 1) (directory_by n.leader.directory kind o) name block };
       }
 
-  abbrev pub births : List (ℕ × Frame)
+  abbrev births : List (ℕ × Frame)
   births = (block, checkpoint) ∷ []
 
-  abbrev pub sends : List (ℕ × Frame)
+  abbrev sends : List (ℕ × Frame)
   sends = births ++ tells_if (nat_eq p 1) name block
 
-  abbrev pub entries : List Entry
+  abbrev entries : List Entry
   entries = entry_of p pid call reply ∷ []
 
-  abbrev pub after : Step
+  abbrev after : Step
   after = record { node = after-node; entries = entries; sends = sends }
 
   abbrev ready : Node
@@ -186,11 +185,11 @@ module _ (script : Script) (sound : IsSoundScript script) (w : World) (b : Besid
       ∙ ap (λ process. Some (step-with p process)) s.birth.pid_is
 
   -- the block is one behind this node's
-  pub from : IsForkedFrom script p block
+  from : IsForkedFrom script p block
   from = from-here script sound w b holds p block kind number numbers o e s
 
   -- a fact of what is sent
-  pub of-sends : (P : ℕ × Frame → Type 0) → P (block, checkpoint) → (p ≢ 1 → P (1, frames.Placed name block))
+  of-sends : (P : ℕ × Frame → Type 0) → P (block, checkpoint) → (p ≢ 1 → P (1, frames.Placed name block))
       → AllByRecursion P sends
   of-sends P first h = (first, by-test (nat_eq p 1) refl)
     where
@@ -204,13 +203,14 @@ module _ (script : Script) (sound : IsSoundScript script) (w : World) (b : Besid
       (record { low = let low = from.low in omega (arith, low); high = from.high })
       (λ other. record { low = omega arith; high = some-node script w b holds p call kind number numbers o e s })
 
+  -- which is the event's
   pub given : Gives script w p e (takes_by kind o) after
   given = s.gives after to-nodes rule
 
-  abbrev pub next : World
+  abbrev next : World
   next = given.next
 
-  abbrev pub changes : Changes script p w next after-node (takes_by kind o) sends entries
+  abbrev changes : Changes script p w next after-node (takes_by kind o) sends entries
   changes = given.changes
 
   -- ---- beside the world
@@ -218,23 +218,24 @@ module _ (script : Script) (sound : IsSoundScript script) (w : World) (b : Besid
   pub forks : Forks b.kernel pid block number s.row
   forks = fork-entry script sound w b holds p block kind number numbers o e s
 
-  abbrev pub places-now : Places
+  abbrev places-now : Places
   places-now = places_after script b.places (entry_of p pid call reply) place
 
-  abbrev pub pids-now : ℕ → ℕ
+  abbrev pids-now : ℕ → ℕ
   pids-now = with_pid b.pids block number
 
-  abbrev pub deed-now : Name → DeedPlace
+  abbrev deed-now : Name → DeedPlace
   deed-now = deed_in b.deed name (InCheckpoint block)
 
-  abbrev pub calls-after : ℕ → CallPlace
+  abbrev calls-after : ℕ → CallPlace
   calls-after = calls-now script w b holds p call kind number numbers o e s next after-node sends entries changes
 
+  -- what stands beside the world then
   abbrev pub moved : Beside
   moved =
       record { kernel = forks.next; places = places-now; pids = pids-now; deed = deed-now; call = calls-after }
 
-  pub leaves : ForkLeaves script b.kernel b.places b.pids p block number s.row (child_vars place) forks.next places-now
+  leaves : ForkLeaves script b.kernel b.places b.pids p block number s.row (child_vars place) forks.next places-now
   unfolding forks
   leaves = fork-leaves script sound w b holds p block kind number numbers o e s
 
@@ -243,16 +244,16 @@ module _ (script : Script) (sound : IsSoundScript script) (w : World) (b : Besid
   kind-is : kinds.Proc ≡ kind
   kind-is = fork-kind kind block s.takes.takes
 
-  pub unused : is_used_name b.kernel name ≡ false
+  unused : is_used_name b.kernel name ≡ false
   unused = name-unused script w b holds p call kind number numbers o e s name kind-is refl
 
-  pub made : maker (directory_by (directory_of w) kind o) name ≡ Some p
+  made : maker (directory_by (directory_of w) kind o) name ≡ Some p
   made = name-maker script w b holds p call kind number numbers o e s name kind-is refl
 
   directory-is : directory_of next ≡ placed_if (nat_eq p 1) (directory_by (directory_of w) kind o) name block
   directory-is = directory-now script w next p kind o after-node sends entries name block changes s.at_leader refl
 
-  pub is-after : IsAfter (directory_of w) (directory_by (directory_of w) kind o) (directory_of next) name
+  is-after : IsAfter (directory_of w) (directory_by (directory_of w) kind o) (directory_of next) name
       (place_if (nat_eq p 1) block)
   is-after =
       subst (λ (d : Directory). IsAfter (directory_of w) (directory_by (directory_of w) kind o) d name
@@ -261,35 +262,36 @@ module _ (script : Script) (sound : IsSoundScript script) (w : World) (b : Besid
       (name-unknown script w b holds p call kind number numbers o e s name kind-is refl) holds.leading)
 
   -- the same nodes are born
-  pub more : IsMore (is_born_in w) (is_born_in next)
+  more : IsMore (is_born_in w) (is_born_in next)
   more = still-born script p w next after-node (takes_by kind o) sends entries changes (λ h. h)
 
   -- numbers that are there stay
-  pub now-same : (c : ℕ) → b.pids c ≢ 0 → pids-now c ≡ b.pids c
+  now-same : (c : ℕ) → b.pids c ≢ 0 → pids-now c ≡ b.pids c
   now-same c some = now-other script b.kernel b.places b.pids p block number s.row (child_vars place) forks.next
       places-now leaves c some
 
-  pub parent-same : (c : ℕ) → b.pids c ≢ 0 → pids-now (forker script c) ≡ b.pids (forker script c)
+  parent-same : (c : ℕ) → b.pids c ≢ 0 → pids-now (forker script c) ≡ b.pids (forker script c)
   parent-same c some = now-parent script b.kernel b.places b.pids p block number s.row (child_vars place) forks.next
       places-now leaves c some
 
-  pub not-child : (c : ℕ) → b.pids c ≢ number
-  not-child c = apart-child script b.kernel b.places b.pids p block number s.row (child_vars place) forks.next places-now
-      leaves c
+  not-child : (c : ℕ) → b.pids c ≢ number
+  not-child c =
+      apart-child script b.kernel b.places b.pids p block number s.row (child_vars place) forks.next places-now leaves c
 
-  pub child-there : pids-now block ≡ number
+  child-there : pids-now block ≡ number
   child-there = now-there script b.kernel b.places b.pids p block number s.row (child_vars place) forks.next places-now
       leaves
 
   -- ---- the node
 
   row-there : (pid : ℕ) → n.pid ≡ pid
-      → get_named (put_named n.deeds (Proc pid) (parent_body s.row number)) (Proc n.pid) ≡ Some (parent_body s.row number)
+      → get_named (put_named n.deeds (Proc pid) (parent_body s.row number)) (Proc n.pid)
+      ≡ Some (parent_body s.row number)
   row-there pid is =
       ap (λ q. get_named (put_named n.deeds (Proc pid) (parent_body s.row number)) (Proc q)) is
       ∙ get-put-same-name n.deeds (Proc pid) (parent_body s.row number)
 
-  pub node-now : NodeHolds script pids-now (is_born_in w) p after-node
+  node-now : NodeHolds script pids-now (is_born_in w) p after-node
   node-now =
       record {
         number = node-holds.number;
@@ -387,7 +389,8 @@ module _ (script : Script) (sound : IsSoundScript script) (w : World) (b : Besid
 
   held-now : (q : ℕ) → held_at next name q ≡ None
   held-now q =
-      read-same script p w next after-node (takes_by kind o) sends entries changes (λ (z : Node). get_named z.deeds name)
+      read-same script p w next after-node (takes_by kind o) sends entries changes
+      (λ (z : Node). get_named z.deeds name)
       (get-put-other-name n.deeds (Proc pid) (parent_body s.row number) name not-parent) q
       ∙ held-nowhere script b.pids (is_born_in w) name x known unused q
 
@@ -695,11 +698,12 @@ module _ (script : Script) (sound : IsSoundScript script) (w : World) (b : Besid
           ∙ ap (λ (d : DeedPlace). is_some (held_as d (body_in b.kernel (Proc pid)) q)) s.deed)
 
   -- each name holds
-  pub names-now : (m : Name) → NameHolds script pids-now (is_born_in next) m (name_sight script next [] moved m)
+  names-now : (m : Name) → NameHolds script pids-now (is_born_in next) m (name_sight script next [] moved m)
   names-now m =
       elim (name-cases name m) [
         | inl i ↦
-            subst (λ z. NameHolds script pids-now (is_born_in next) z (name_sight script next [] moved z)) i new-name-now
+            subst (λ z. NameHolds script pids-now (is_born_in next) z (name_sight script next [] moved z)) i
+            new-name-now
         | inr d ↦
             elim (name-cases (Proc pid) m) [
               | inl i ↦
@@ -916,8 +920,8 @@ module _ (script : Script) (sound : IsSoundScript script) (w : World) (b : Besid
         is_step = given.is_step;
         holds = record {
           shape = changes.shape;
-          history = history-after script w b holds p call kind number numbers o e s next after-node sends reply forks.next
-              changes forks.enters.makes;
+          history = history-after script w b holds p call kind number numbers o e s next after-node sends reply
+              forks.next changes forks.enters.makes;
           leading = is-after.leads;
           pids = pids-forked script b.kernel b.places b.pids p block number s.row (child_vars place) forks.next
               places-now leaves holds.pids;

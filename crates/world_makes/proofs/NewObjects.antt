@@ -1,63 +1,58 @@
--- A node makes a queue or set without a key, whatever the number's source: it holds it, and places it or tells its place.
-use Rattle.std.proofs.Common.{◌≡◌, ◌≢◌, ◌⊎◌, ℕ, ◌+◌, ◌≤◌, Bool, true, false, ◌&&◌, ◌||◌, not, if◌then◌else◌, List, [], ◌∷◌, ◌++◌, filter, flat_map, nat_eq, Contains, Option, Some, None, is_none, is_some, refl, ap, sym, subst, ◌∙◌, inl, inr, arith, append-nil}
+-- A node makes a queue or set without a key, whatever the number's source: it holds it, and places it or tells its
+-- place.
+use Rattle.std.proofs.Common.{◌≡◌, ◌≢◌, ℕ, ◌≤◌, Bool, true, false, ◌&&◌, not, if◌then◌else◌, List, [], ◌∷◌, filter, nat_eq, Some, None, is_some, refl, ap, sym, subst, ◌∙◌, inl, inr, arith}
 use Rattle.std.specs.List.{AllByRecursion}
-use Rattle.std.proofs.lemmas.Bool.{cases_eq, eq-eqb, ne_eqb, false≢true}
+use Rattle.std.proofs.lemmas.Bool.{cases_eq, eq-eqb, false≢true}
 use Rattle.pico_base.specs.declared.call.Call.{Call}
 use Rattle.pico_base.specs.declared.numbers.Kind.{Kind}
 use Rattle.pico_base.specs.declared.numbers.Name.{Name}
 use Rattle.pico_base.specs.declared.numbers.Name.TheVariants.{Proc, Msg, Sem}
-use Rattle.pico_base.specs.declared.reply.Entry.{Entry}
 use Rattle.pico_base.specs.declared.reply.Reply.{Reply}
 use Rattle.pico_base.specs.declared.reply.Reply.TheVariants as replies
 use Rattle.pico_base.specs.declared.script.Event.{Event}
 use Rattle.pico_base.specs.declared.script.Script.{Script}
 use Rattle.rpc_frame.specs.declared.frame.Frame.{Frame}
 use Rattle.rpc_frame.specs.declared.frame.Frame.TheVariants as frames
-use Rattle.number_maps.specs.Maps.{get}
-use Rattle.kernel_model.specs.Fitting.{Place, Places, place_after, places_after}
+use Rattle.kernel_model.specs.Fitting.{Place, Places, places_after}
 use Rattle.kernel_model.specs.Kernel.{Kernel}
-use Rattle.kernel_moves.specs.Entering.{Enters, HasHistory, entry_of, is_used_name}
+use Rattle.kernel_moves.specs.Entering.{Enters, entry_of, is_used_name}
 use Rattle.kernel_moves.proofs.Fresh.{MakesObject}
-use Rattle.kernel_moves.proofs.History.{history-goes-on, moved-is, place-moves}
-use Rattle.kernel_moves.proofs.Keys.{keys-kept}
+use Rattle.kernel_moves.proofs.History.{moved-is, place-moves}
 use Rattle.kernel_moves.proofs.Numbers.{used-made, used-others}
 use Rattle.node_model.specs.Bodies.{Body, Deeds, Living as LivingBody, body_in}
 use Rattle.node_model.specs.Caller.{answer_call, caller_place}
-use Rattle.node_model.specs.Directory.{Directory, Place as DirectoryPlace, held_for, is_parcel_with, maker, maker_in, place_of}
-use Rattle.node_model.specs.Kinds.{for_kind, get_named, is_object, kind_of, number_of, put_named, with_kind}
+use Rattle.node_model.specs.Directory.{Directory, is_parcel_with, maker, place_of}
+use Rattle.node_model.specs.Kinds.{get_named, is_object, put_named, with_kind}
 use Rattle.world_model.specs.Census.{brings}
 use Rattle.world_model.specs.Node.{Node, Stage, Living, Left}
-use Rattle.world_model.specs.Numbers.{make_object, make_with, tell_place}
+use Rattle.world_model.specs.Numbers.{make_with, tell_place}
 use Rattle.world_model.specs.Step.{Step, step_to}
 use Rattle.world_model.specs.World.{World, node_count}
-use Rattle.world_laws.specs.Places.{Beside, CallPlace, DeedPlace, Idle, InTable, Unmade, deed_in}
+use Rattle.world_laws.specs.Places.{Beside, CallPlace, DeedPlace, InTable, Unmade, deed_in}
 use Rattle.world_laws.specs.Sights.{directory_of, frames_to, is_born_in, is_born_stage, node_of, stage_of}
-use Rattle.world_laws.specs.Plays.{Has, Lacks, begin, has_any, is_checkpoint_of, placed_in, play, plays}
-use Rattle.world_laws.specs.Names.{IsBringer, NameHolds, NameSight, OneIf, PlaysTo, SaysOf, comes_to, forker, held_as, held_at, is_kept_for, is_hand_place, is_stream_of, may_be_at, name_sight, range_steps_of}
-use Rattle.world_laws.specs.Callers.{CallHolds, call_sight, is_about}
+use Rattle.world_laws.specs.Plays.{Has, begin, has_any, is_checkpoint_of, placed_in, play, plays}
+use Rattle.world_laws.specs.Names.{IsBringer, NameHolds, NameSight, OneIf, PlaysTo, SaysOf, comes_to, forker, held_as, held_at, is_kept_for, is_hand_place, is_stream_of, may_be_at, name_sight}
+use Rattle.world_laws.specs.Callers.{CallHolds, call_sight}
 use Rattle.world_laws.specs.Families.{HoldsIn, NodeHolds}
-use Rattle.world_laws.specs.Invariant.{Holds, MayBe}
-use Rattle.world_laws.specs.Ranges.{KeysHold, KindSight, kind_sight, lease_at, lease_in}
+use Rattle.world_laws.specs.Invariant.{Holds}
+use Rattle.world_laws.specs.Ranges.{lease_in}
 use Rattle.world_laws.specs.Ways.{IsHere, knows_parent, way_sight}
 use Rattle.world_laws.proofs.Changes.{Changes, filter-is-list-map, flat_map-is-list-map, made-same, only-stayed, read-same, MakesNothing}
-use Rattle.world_laws.proofs.Frames.{ArePlain, BringNoBirth}
-use Rattle.world_laws.proofs.LeftAlone.{AreNotAbout}
 use Rattle.world_laws.proofs.Named.{get-put-other-name, get-put-same-name, name-cases, other-name, same-name}
-use Rattle.world_laws.proofs.NameFacts.{begins-with, has_left, held-elsewhere, held-here}
+use Rattle.world_laws.proofs.NameFacts.{held-elsewhere, held-here}
 use Rattle.world_laws.proofs.Sends.{AreToNodes}
-use Rattle.world_laws.proofs.Stays.{IsMore, SameName, name-stays}
+use Rattle.world_laws.proofs.Stays.{IsMore, name-stays}
 use Rattle.world_laws.proofs.Steps.{KeepsAs}
 use Rattle.world_rules.proofs.Nodes.{object-is-no-process}
 use Rattle.world_own.proofs.EntryMoves.{IsEntryMove, entry-born, entry-keeps}
-use Rattle.world_own.proofs.NewNumbers.{taken-maker, taken-unused}
-use Rattle.world_own.proofs.Objects.{MakesOne, here-way, process-apart, processes-stay-leaves, two-or-more}
-use Rattle.world_makes.proofs.CallsOver.{call-over, carried-here}
+use Rattle.world_own.proofs.Objects.{MakesOne, here-way, process-apart, processes-stay-leaves}
+use Rattle.world_makes.proofs.CallsOver.{carried-here}
 use Rattle.world_makes.proofs.Counts.{few-now, kinds-now}
 use Rattle.world_makes.proofs.Directories.{IsAfter, after-is, directory-now, moves-none, place_if, placed_if, tell-is, tells_if}
 use Rattle.world_makes.proofs.Lacking.{nothing-played}
 use Rattle.world_makes.proofs.NewOnes.{IsNew, brought-nowhere, held-nowhere, name-new}
-use Rattle.world_makes.proofs.Ready.{calls-now, left-alone, left-steps, name-is-ready, nothing-by, other-seen, others-same, ready-name}
-use Rattle.world_makes.proofs.Sources.{Comes, Gives, InLease, Next, Origin, Source, directory_by, ready_kind, ready_node, takes_by}
+use Rattle.world_makes.proofs.Ready.{calls-now, left-steps, name-is-ready, nothing-by, other-seen, others-same, ready-name}
+use Rattle.world_makes.proofs.Sources.{Gives, Origin, Source, directory_by, ready_node, takes_by}
 use Rattle.world_makes.proofs.Taken.{call-after, history-after, keys-after, name-maker, name-unknown, name-unused, some-node, taken-no-birth, taken-of-no-other, taken-plain}
 use Rattle.world_makes.proofs.Told.{belief-now, bound-now, found-now, items-now, leased-now, ranged-now, told-now, unplaced-now}
 
@@ -143,6 +138,7 @@ module _ (script : Script) (w : World) (b : Beside) (holds : Holds script w [] b
       by-test false =
           (record { low = omega arith; high = some-node script w b holds p call kind number numbers o e s }, tt)
 
+  -- which is the event's
   pub given : Gives script w p e (takes_by kind o) after
   given = s.gives after to-nodes rule
 
@@ -161,6 +157,7 @@ module _ (script : Script) (w : World) (b : Beside) (holds : Holds script w [] b
   abbrev calls : ℕ → CallPlace
   calls = calls-now script w b holds p call kind number numbers o e s next after.node after.sends after.entries changes
 
+  -- what stands beside the world then
   abbrev pub moved : Beside
   moved = record { kernel = made.next; places = places-now; pids = b.pids; deed = deed-now; call = calls }
 
@@ -218,8 +215,8 @@ module _ (script : Script) (w : World) (b : Beside) (holds : Holds script w [] b
         owners = node-holds.owners;
       }
 
-  move : IsEntryMove script w next [] [] b made.next places-now deed-now calls p after.node (takes_by kind o) after.sends
-      p
+  move : IsEntryMove script w next [] [] b made.next places-now deed-now calls p after.node (takes_by kind o)
+      after.sends p
   move =
       record {
         entry = processes-stay-leaves k pid call reply made.next s.may enters.makes made.caller
@@ -264,8 +261,8 @@ module _ (script : Script) (w : World) (b : Beside) (holds : Holds script w [] b
   call-now : CallHolds script p (is_born_in next) (call_sight next [] moved p)
   call-now =
       call-after script w b holds p call kind number numbers o e s next after.node after.sends reply made.next changes
-      (is_born_in next) places-now b.pids deed-now made.caller.alive name (place_if (nat_eq p 1) p) is-after refl s.stage
-      (place-moves script b.places p pid call reply place g.no_fork
+      (is_born_in next) places-now b.pids deed-now made.caller.alive name (place_if (nat_eq p 1) p) is-after refl
+      s.stage (place-moves script b.places p pid call reply place g.no_fork
       ∙ ap Some (moved-is place call (Some reply) g.not_killed)) made.caller.lives (of-tells _ (λ other. refl))
 
   -- ---- other names
@@ -288,7 +285,9 @@ module _ (script : Script) (w : World) (b : Beside) (holds : Holds script w [] b
   -- ---- its name
 
   abbrev x : NameSight
-  x = ready-name script w b holds p call kind number numbers o e s next after.node after.sends after.entries changes name
+  x =
+      ready-name script w b holds p call kind number numbers o e s next after.node after.sends after.entries changes
+      name
 
   known : NameHolds script b.pids (is_born_in w) name x
   known =
@@ -384,13 +383,14 @@ module _ (script : Script) (w : World) (b : Beside) (holds : Holds script w [] b
         there = there-now;
         begins = begins-elsewhere;
         steps = λ q d. steps-same q;
-        told = told-now script w b holds p call kind number numbers o e s next after.node [] after.entries name p changes
-            is-after unused is-maker made.next places-now b.pids deed-now used none-placed (says-itself name g.object)
+        told = told-now script w b holds p call kind number numbers o e s next after.node [] after.entries name p
+            changes is-after unused is-maker made.next places-now b.pids deed-now used none-placed
+            (says-itself name g.object)
             (λ other. other);
         found = found-now script w b holds p call kind number numbers o e s next after.node [] after.entries name p
             changes is-after unused is-maker made.next places-now b.pids deed-now used none-placed (λ flag. tt);
-        unplaced = unplaced-now script w b holds p call kind number numbers o e s next after.node [] after.entries name p
-            changes is-after unused is-maker made.next places-now b.pids deed-now used none-placed;
+        unplaced = unplaced-now script w b holds p call kind number numbers o e s next after.node [] after.entries name
+            p changes is-after unused is-maker made.next places-now b.pids deed-now used none-placed;
         ranged = ranged-now script w b holds p call kind number numbers o e s next after.node [] after.entries name p
             changes is-after unused is-maker made.next places-now b.pids deed-now used none-placed
             (of-tells _ (λ other. refl));

@@ -1,17 +1,16 @@
--- What holds of a name: once it is new; while its number is made ready; and where one more node's process has a number.
-use Rattle.std.proofs.Common.{◌≡◌, ◌≢◌, ◌⊎◌, ℕ, ◌≤◌, Bool, true, false, List, [], ◌∷◌, nat_eq, ◌&&◌, Contains, Option, Some, None, is_some, refl, ap, sym, subst, ◌∙◌, inl, inr}
+-- What holds of a name: once it is new; while its number is made ready; and where one more node's process has a
+-- number.
+use Rattle.std.proofs.Common.{◌≡◌, ◌≢◌, ◌⊎◌, ℕ, ◌≤◌, Bool, true, false, List, [], nat_eq, Contains, Option, Some, None, is_some, refl, ap, sym, subst, ◌∙◌, inl, inr}
 use Rattle.std.specs.List.{AllByRecursion}
 use Rattle.std.proofs.lemmas.Bool.{cases_eq, eq-eqb, ne_eqb, false≢true}
 use Rattle.pico_base.specs.declared.numbers.Name.{Name}
-use Rattle.pico_base.specs.declared.numbers.Name.TheVariants.{Proc, Msg, Sem}
 use Rattle.pico_base.specs.declared.script.Script.{Script}
 use Rattle.rpc_frame.specs.declared.frame.Frame.{Frame}
-use Rattle.node_model.specs.Bodies.{Body}
-use Rattle.node_model.specs.Directory.{Place, destination_of, items_of}
+use Rattle.node_model.specs.Directory.{destination_of, items_of}
 use Rattle.node_model.specs.Kinds.{is_object}
 use Rattle.world_laws.specs.Places.{DeedPlace, InCheckpoint, InExitTo, InGiveBack, InGrant, InHand, InKept, InLeft, InTable, Unmade}
 use Rattle.world_laws.specs.Plays.{Nowhere, Somewhere, believed, finds_place, is_there, told}
-use Rattle.world_laws.specs.Names.{HasMakerThatStays, IsBringer, IsExitOf, IsItemFor, IsItemWith, IsLeftOf, IsTold, NameHolds, NameSight, OneIf, OnlyOne, PlaysTo, RangeStep, SaysOf, IsSentThere, belief_of, forker, held_as, is_hand_place, is_kept_for, is_nowhere, is_stream_of, leases_first, maker_tells, may_be_at, node_in}
+use Rattle.world_laws.specs.Names.{HasMakerThatStays, IsBringer, IsExitOf, IsItemFor, IsItemWith, IsLeftOf, IsTold, NameHolds, NameSight, OneIf, PlaysTo, RangeStep, SaysOf, IsSentThere, belief_of, forker, held_as, is_hand_place, is_kept_for, is_nowhere, is_stream_of, leases_first, maker_tells, may_be_at, node_in}
 use Rattle.world_own.proofs.NewNames.{is-unplaced, nobody-in}
 
 -- ---- a name that nothing has
@@ -55,12 +54,13 @@ module _ (script : Script) (pids : ℕ → ℕ) (born : ℕ → Bool) (name : Na
       subst (λ (d : DeedPlace). OneIf (is_stream_of (forker script) d to sender)
       (IsBringer pids name x.body d) (x.brought to sender)) deed-nowhere (h.streams to sender)
 
-  -- nor is it held, or in hand
+  -- nor is it held
   pub kept-nowhere : (pid : ℕ) → x.kept pid ≡ []
   kept-nowhere pid =
       subst (λ (d : DeedPlace). OneIf (is_kept_for (forker script) pids d pid)
       (IsItemWith name x.body (pids (node_in d))) (x.kept pid)) deed-nowhere (h.kept pid)
 
+  -- nor in hand
   pub hand-nowhere : x.hand ≡ []
   hand-nowhere =
       subst (λ (d : DeedPlace). OneIf (is_hand_place d) (IsItemWith name x.body (pids (node_in d))) x.hand)

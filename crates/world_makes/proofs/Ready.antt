@@ -1,7 +1,7 @@
--- A call takes its number, and the frame that brought that is gone: what is left on its way, and what holds of each name
--- then. Nothing is on its way for the call any more.
-use Rattle.std.proofs.Common.{◌≡◌, ◌≢◌, ◌⊎◌, ℕ, ◌≤◌, Bool, true, false, ◌&&◌, not, if◌then◌else◌, List, [], ◌∷◌, ◌++◌, filter, flat_map, nat_eq, Contains, Option, Some, None, is_none, is_some, refl, ap, sym, subst, ◌∙◌, inl, inr}
-use Rattle.std.specs.List.{AllByRecursion, list_any}
+-- A call takes its number, and the frame that brought that is gone: what is left on its way, and what holds of each
+-- name then. Nothing is on its way for the call any more.
+use Rattle.std.proofs.Common.{◌≡◌, ◌≢◌, ◌⊎◌, ℕ, Bool, true, false, ◌&&◌, not, if◌then◌else◌, List, [], ◌∷◌, ◌++◌, filter, flat_map, nat_eq, Contains, Option, None, is_none, is_some, refl, ap, sym, subst, ◌∙◌, inl, inr}
+use Rattle.std.specs.List.{AllByRecursion}
 use Rattle.std.proofs.lemmas.Bool.{ne_eqb}
 use Rattle.std.proofs.lemmas.List.Elements.{Contains-append_right}
 use Rattle.pico_base.specs.declared.call.Call.{Call}
@@ -17,8 +17,8 @@ use Rattle.kernel_model.specs.Kernel.{Kernel}
 use Rattle.kernel_model.specs.Fitting.{Places}
 use Rattle.kernel_moves.specs.Entering.{is_used_name}
 use Rattle.node_model.specs.Bodies.{Body, body_in}
-use Rattle.node_model.specs.Directory.{Directory, Place, held_for, is_parcel_with, maker, maker_in, stays, with_range}
-use Rattle.node_model.specs.Kinds.{for_kind, get_named, is_same_kind, kind_of, number_of}
+use Rattle.node_model.specs.Directory.{Directory, Place, is_parcel_with, maker, maker_in, with_range}
+use Rattle.node_model.specs.Kinds.{for_kind, is_same_kind, kind_of, number_of}
 use Rattle.world_model.specs.Census.{brings}
 use Rattle.world_model.specs.Node.{Node}
 use Rattle.world_model.specs.World.{World}
@@ -28,12 +28,11 @@ use Rattle.world_laws.specs.Plays.{begin, has_any, is_checkpoint_of, news, place
 use Rattle.world_laws.specs.Names.{IsLeased, IsSentThere, NameHolds, NameSight, RangeStep, comes_to, forker, held_at, is_maker, leases_first, leases_name, name_sight, range_steps_if, range_steps_of}
 use Rattle.world_laws.specs.Callers.{is_about}
 use Rattle.world_laws.specs.Invariant.{Holds}
-use Rattle.world_laws.specs.Ranges.{KindHolds, is_given, is_in_lease, kind_sight, lease_in}
+use Rattle.world_laws.specs.Ranges.{KindHolds, is_given, is_in_lease, kind_sight}
 use Rattle.world_laws.proofs.Changes.{Changes, IsListMap, MakesNothing, filter-is-list-map, flat_map-is-list-map, frames_if, made-before, made-same, only-stayed, read-same, stayed, taken}
 use Rattle.world_laws.proofs.Frames.{all-weaker, no-checkpoint, no-deed, no-news, no-places, no-ranges, no-steps, plays-of-others, ranges-of-all-others, IsSameBut}
 use Rattle.world_laws.proofs.LeftAlone.{AreNotAbout}
 use Rattle.world_laws.proofs.NewRanges.{maker-elsewhere, unmade-next, upcoming_in}
-use Rattle.world_laws.proofs.Sends.{frame_if}
 use Rattle.world_laws.proofs.Stays.{SameName}
 use Rattle.world_own.proofs.Objects.{for-other, for-with, kind-is}
 use Rattle.world_makes.proofs.Directories.{IsAfter}
@@ -141,6 +140,7 @@ module _ (script : Script) (w : World) (b : Beside) (holds : Holds script w [] b
   abbrev pub calls-now : ℕ → CallPlace
   calls-now = call_in b.call p Idle
 
+  -- the calls of others are where they were
   pub others-same : IsSameBut p b.call calls-now
   others-same y d = ap (λ t. if t then Idle else b.call y) (ne_eqb p y (λ g. d (sym g)))
 
@@ -173,7 +173,10 @@ module _ (script : Script) (w : World) (b : Beside) (holds : Holds script w [] b
   -- the name where its number is made ready
   abbrev pub ready-name : Name → NameSight
   ready-name m =
-      record (name_sight script w [] b m) { maker = maker (directory_by (directory_of w) kind o) m; ranges = ranges-left m }
+      record (name_sight script w [] b m) {
+        maker = maker (directory_by (directory_of w) kind o) m;
+        ranges = ranges-left m;
+      }
 
   ranges-were : (m : Name) (h : ℕ) → flat_map (range_steps_of b.call m) (frames_to w h 1)
       ≡ flat_map (range_steps_of b.call m) (taken p (takes_by kind o) h 1) ++ ranges-left m h
@@ -209,6 +212,7 @@ module _ (script : Script) (w : World) (b : Beside) (holds : Holds script w [] b
 
   -- ---- a name that no frame is about
 
+  -- it is seen with this body where it is held, and else as when its number is ready
   pub other-seen : (k : Kernel) (places : Places) (pids : ℕ → ℕ) (deed : Name → DeedPlace) (name : Name)
       (place : Option Place) (m : Name) (body : Body) (held : ℕ → Option Body)
       → IsAfter (directory_of w) (directory_by (directory_of w) kind o) (directory_of next) name place → m ≢ name

@@ -1,8 +1,9 @@
--- Where a number comes from that a call takes: it is left in the node's lease, or in the lease that has just come, or in
--- the next range, which the leader gives itself. In each case the numbers of the kind are so that the node has it next.
-use Rattle.std.proofs.Common.{◌≡◌, ◌≢◌, ◌⊎◌, ℕ, ◌+◌, ◌≤◌, Bool, true, false, not, ◌||◌, cond, if◌then◌else◌, List, [], ◌∷◌, ◌++◌, length, nat_eq, filter, Contains, Option, Some, None, refl, ap, sym, subst, ◌∙◌, inl, inr, arith, append-nil}
+-- Where a number comes from that a call takes: it is left in the node's lease, or in the lease that has just come,
+-- or in the next range, which the leader gives itself. In each case the numbers of the kind are so that the node has
+-- it next.
+use Rattle.std.proofs.Common.{◌≡◌, ◌≢◌, ◌⊎◌, ℕ, ◌+◌, ◌≤◌, Bool, true, false, not, ◌||◌, cond, if◌then◌else◌, List, [], ◌∷◌, ◌++◌, length, nat_eq, filter, Contains, Option, Some, None, refl, ap, sym, subst, ◌∙◌, inr, arith, append-nil}
 use Rattle.std.specs.List.{list_any}
-use Rattle.std.proofs.lemmas.Bool.{cases_eq, eq-eqb, eqb-true, ne_eqb, false≢true}
+use Rattle.std.proofs.lemmas.Bool.{eq-eqb, eqb-true}
 use Rattle.pico_base.specs.declared.call.Call.{Call}
 use Rattle.pico_base.specs.declared.numbers.Kind.{Kind}
 use Rattle.pico_base.specs.declared.numbers.Name.{Name}
@@ -33,11 +34,12 @@ use Rattle.world_laws.specs.Ranges.{IsRangeOf, IsRestOf, KindHolds, KindSight, h
 use Rattle.world_laws.proofs.Changes.{Changes, taken}
 use Rattle.world_laws.proofs.NewRanges.{kind-leased, leased, upcoming_in}
 use Rattle.world_laws.proofs.Sends.{AreToNodes}
-use Rattle.world_laws.proofs.Stays.{SameKind, kind-stays}
+use Rattle.world_laws.proofs.Stays.{kind-stays}
 use Rattle.world_own.proofs.Asks.{Takes}
 
 -- ---- where it comes from
 
+-- left in the lease, brought by a frame, or the first of the next range
 pub data Origin : Type 0 where
   InLease : Origin
   Comes : (first : ℕ) → Origin
@@ -78,8 +80,8 @@ pub record Gives (script : Script) (w : World) (p : ℕ) (e : Event) (takes : Li
     pub is_step : step w e ≡ Some next
     pub changes : Changes script p w next after.node takes after.sends after.entries
 
--- A node's process lives, and its call, which is due and takes a number of the kind, has this one to take, and is on its
--- way nowhere once the frame with it is taken. What the call is made with is the event's step.
+-- A node's process lives, and its call, which is due and takes a number of the kind, has this one to take, and is on
+-- its way nowhere once the frame with it is taken. What the call is made with is the event's step.
 pub record Source (script : Script) (w : World) (b : Beside) (p : ℕ) (call : Call) (kind : Kind) (number : ℕ)
     (numbers : List ℕ) (o : Origin) (e : Event) : Type 0 where
   pub low : 1 ≤ p

@@ -1,6 +1,6 @@
--- A number that a call takes, whatever its source: nothing has it, it is the node's, and nobody knows a name with it. And
--- what the call's entry leaves of the history, of the keys, and of the call itself.
-use Rattle.std.proofs.Common.{◌≡◌, ◌≢◌, ℕ, ◌≤◌, Bool, true, false, if◌then◌else◌, List, [], ◌∷◌, ◌++◌, filter, flat_map, nat_eq, Option, Some, None, refl, ap, sym, subst, ◌∙◌, arith}
+-- A number that a call takes, whatever its source: nothing has it, it is the node's, and nobody knows a name with
+-- it. And what the call's entry leaves of the history, of the keys, and of the call itself.
+use Rattle.std.proofs.Common.{◌≡◌, ◌≢◌, ℕ, ◌≤◌, Bool, true, false, if◌then◌else◌, List, [], ◌∷◌, filter, flat_map, Option, Some, None, refl, ap, sym, subst, ◌∙◌, arith}
 use Rattle.std.specs.List.{AllByRecursion}
 use Rattle.std.proofs.lemmas.Bool.{eq-eqb, ne_eqb}
 use Rattle.pico_base.specs.declared.call.Call.{Call}
@@ -21,7 +21,7 @@ use Rattle.kernel_moves.specs.Entering.{HasHistory, HasKeys, KeepsKeys, Makes, e
 use Rattle.kernel_moves.proofs.History.{history-goes-on}
 use Rattle.kernel_moves.proofs.Keys.{keys-kept}
 use Rattle.node_model.specs.Caller.{answer_call, caller_place}
-use Rattle.node_model.specs.Directory.{Directory, Place as DirectoryPlace, maker, maker_in, place_of}
+use Rattle.node_model.specs.Directory.{Place as DirectoryPlace, maker, maker_in, place_of}
 use Rattle.node_model.specs.Kinds.{for_kind, kind_of, number_of}
 use Rattle.world_model.specs.Node.{Leader, Living, Node}
 use Rattle.world_model.specs.World.{World, node_count}
@@ -89,6 +89,7 @@ module _ (script : Script) (w : World) (b : Beside) (holds : Holds script w [] b
   number-positive =
       number-is-low (for_kind (directory_by (directory_of w) kind o).ranges kind) number p s.enough number-maker
 
+  -- there is a node
   pub some-node : 1 ≤ node_count script
   some-node = let low = s.low in let high = s.high in omega (arith, low, high)
 

@@ -1,13 +1,11 @@
--- The place of a new name is told by the node that made it, or placed at once where that is the leader: what is believed
--- of it, and what is on its way about it.
-use Rattle.std.proofs.Common.{◌≡◌, ◌≢◌, ◌⊎◌, ℕ, ◌≤◌, Bool, true, false, ◌&&◌, if◌then◌else◌, List, [], ◌∷◌, ◌++◌, filter, flat_map, nat_eq, Contains, Option, Some, None, is_none, is_some, refl, ap, sym, subst, ◌∙◌, inl, inr, append-nil}
-use Rattle.std.specs.List.{AllByRecursion}
+-- The place of a new name is told by the node that made it, or placed at once where that is the leader: what is
+-- believed of it, and what is on its way about it.
+use Rattle.std.proofs.Common.{◌≡◌, ◌≢◌, ◌⊎◌, ℕ, ◌≤◌, Bool, true, false, ◌&&◌, if◌then◌else◌, List, [], ◌∷◌, ◌++◌, flat_map, nat_eq, Contains, Some, None, is_none, is_some, refl, ap, sym, subst, ◌∙◌, inl, inr, append-nil}
 use Rattle.std.proofs.lemmas.Bool.{cases_eq, eq-eqb, eqb-true, ne_eqb, false≢true}
 use Rattle.kernel_laws.proofs.Members.{contains-none}
 use Rattle.pico_base.specs.declared.call.Call.{Call}
 use Rattle.pico_base.specs.declared.numbers.Kind.{Kind}
 use Rattle.pico_base.specs.declared.numbers.Name.{Name}
-use Rattle.pico_base.specs.declared.numbers.Name.TheVariants.{Proc}
 use Rattle.pico_base.specs.declared.reply.Entry.{Entry}
 use Rattle.pico_base.specs.declared.script.Event.{Event}
 use Rattle.pico_base.specs.declared.script.Script.{Script}
@@ -16,10 +14,9 @@ use Rattle.rpc_frame.specs.declared.frame.Frame.TheVariants as frames
 use Rattle.kernel_model.specs.Fitting.{Places}
 use Rattle.kernel_model.specs.Kernel.{Kernel}
 use Rattle.kernel_moves.specs.Entering.{is_used_name}
-use Rattle.node_model.specs.Directory.{Directory, At, Place, destination_of, held_for, is_parcel_with, items_of, maker, place_of, stays}
-use Rattle.node_model.specs.Kinds.{is_same_name}
+use Rattle.node_model.specs.Directory.{destination_of, items_of, maker, place_of, stays}
 use Rattle.world_model.specs.Node.{Node}
-use Rattle.world_model.specs.World.{World, node_count}
+use Rattle.world_model.specs.World.{World}
 use Rattle.world_laws.specs.Places.{Beside, CallPlace, DeedPlace}
 use Rattle.world_laws.specs.Sights.{directory_of, frames_to, is_born_in}
 use Rattle.world_laws.specs.Plays.{News, Somewhere, Tells, believed, finds_place, news, news_if, placed_in, told}
@@ -34,7 +31,7 @@ use Rattle.world_own.proofs.NewNames.{only-in}
 use Rattle.world_own.proofs.Objects.{here-way, no-news, two-or-more}
 use Rattle.world_makes.proofs.Directories.{IsAfter, place_if, tells_if}
 use Rattle.world_makes.proofs.NewOnes.{nothing-known, nothing-told}
-use Rattle.world_makes.proofs.Ready.{calls-now, left-same, name-is-ready, ranges-left, ready-name}
+use Rattle.world_makes.proofs.Ready.{calls-now, left-same, name-is-ready, ready-name}
 use Rattle.world_makes.proofs.Sources.{Origin, Source, directory_by, takes_by}
 
 -- what was sent is what was sent first, and then the rest
@@ -51,6 +48,7 @@ sent-append p xs ys to sender = by-test (nat_eq sender p)
 abbrev pub told_if : Bool → Bool → ℕ → List ℕ
 told_if t u at = if t then [] else (if u then at ∷ [] else [])
 
+-- and what that is for what needs the place
 abbrev pub news_told : Bool → Bool → List News
 news_told t u = if t then [] else (if u then Tells ∷ [] else [])
 
@@ -223,7 +221,8 @@ module _ (script : Script) (w : World) (b : Beside) (holds : Holds script w [] b
     found-now none q low =
         ap (λ place. finds_place (is_some place)
         (news name (is_used_name k name && is_maker (maker (directory_of next) name) q) (frames_to next 1 q))) a.itself
-        ∙ ap (λ flag. finds_place (is_some (place_if (nat_eq p 1) at)) (news name flag (frames_to next 1 q))) (flag-now q)
+        ∙ ap (λ flag. finds_place (is_some (place_if (nat_eq p 1) at)) (news name flag (frames_to next 1 q)))
+        (flag-now q)
         ∙ ap (finds_place (is_some (place_if (nat_eq p 1) at))) (news-now none (nat_eq p q) q)
         ∙ by-test (nat_eq p 1) refl (cases_eq q p)
       where
@@ -269,6 +268,7 @@ module _ (script : Script) (w : World) (b : Beside) (holds : Holds script w [] b
         by-test true = refl
         by-test false = refl
 
+    -- and no item waits
     pub items-now : items_of (place_of (directory_of next) name) ≡ []
     items-now = ap items_of a.itself ∙ by-test (nat_eq p 1)
       where

@@ -1,19 +1,18 @@
--- A fork that is due: its block is forked by this node alone, and not yet, so nothing is on its way to that block's node.
-use Rattle.std.proofs.Common.{Contains, ◌≡◌, ◌≢◌, ◌⊎◌, ℕ, ◌<◌, ◌≤◌, Bool, true, false, ◌&&◌, ◌||◌, cond, List, [], ◌∷◌, filter, nat_eq, Option, Some, None, is_some, refl, ap, sym, subst, ◌∙◌, inl, inr, arith}
+-- A fork that is due: its block is forked by this node alone, and not yet, so nothing is on its way to that block's
+-- node.
+use Rattle.std.proofs.Common.{Contains, ◌≡◌, ◌≢◌, ℕ, ◌≤◌, Bool, true, false, cond, List, [], ◌∷◌, filter, Option, Some, None, is_some, refl, ap, sym, subst, ◌∙◌, inl, inr}
 use Rattle.std.specs.List.{list_any}
-use Rattle.std.proofs.lemmas.Bool.{eq-eqb, eqb-true, or_left, false≢true}
-use Rattle.pico_base.specs.declared.call.Call.{Call}
+use Rattle.std.proofs.lemmas.Bool.{eq-eqb, or_left, false≢true}
 use Rattle.pico_base.specs.declared.call.Call.TheVariants as calls
 use Rattle.pico_base.specs.declared.numbers.Kind.{Kind}
 use Rattle.pico_base.specs.declared.numbers.Name.{Name}
 use Rattle.pico_base.specs.declared.numbers.Name.TheVariants.{Msg, Proc, Sem}
 use Rattle.pico_base.specs.declared.script.Event.{Event}
-use Rattle.pico_base.specs.declared.script.Line.{Line}
 use Rattle.pico_base.specs.declared.script.Script.{Script}
 use Rattle.rpc_frame.specs.declared.frame.Frame.{Frame}
 use Rattle.rpc_frame.specs.declared.frame.Frame.TheVariants as frames
 use Rattle.number_maps.specs.Maps.{get}
-use Rattle.kernel_model.specs.Fitting.{Place, due, is_killed}
+use Rattle.kernel_model.specs.Fitting.{Place, due}
 use Rattle.kernel_model.specs.Kernel.{Process}
 use Rattle.kernel_model.specs.Kernel as kernel
 use Rattle.kernel_model.specs.Script.{IsSoundScript}
@@ -25,17 +24,15 @@ use Rattle.kernel_moves.proofs.Numbers.{process-there}
 use Rattle.kernel_moves.proofs.Places.{ForkPasses, fork-passes}
 use Rattle.node_model.specs.Bodies.{body_in}
 use Rattle.node_model.specs.Caller.{caller_place, lines_of}
-use Rattle.node_model.specs.Kinds.{is_object}
-use Rattle.node_model.specs.Spelling.{pack}
 use Rattle.world_model.specs.Census.{brings}
 use Rattle.world_model.specs.Lives.{names_block}
 use Rattle.world_model.specs.Node.{Leaving, Left, Living, Node, Over, Stage, Unborn, unborn_node}
 use Rattle.world_model.specs.World.{World, node_count}
-use Rattle.world_laws.specs.Places.{Beside, DeedPlace, InCheckpoint, InExitTo, InGiveBack, InGrant, InHand, InKept, InLeft, InTable, Unmade}
+use Rattle.world_laws.specs.Places.{Beside, InCheckpoint, Unmade}
 use Rattle.world_laws.specs.Sights.{frames_to, is_born_in, node_of, stage_of}
-use Rattle.world_laws.specs.Names.{IsBringer, IsExitOf, IsLeftOf, NameHolds, OneIf, OnlyOne, forker, is_stream_of, may_be_at, name_sight}
-use Rattle.world_laws.specs.Callers.{CallHolds, HasCallOrNone, HasNoCall, IsNowhere, call_sight}
-use Rattle.world_laws.specs.Families.{BornIn, FamilyHolds, HoldsIn, IsBorn, IsWhereFor, NodeHolds, checkpoints_to, is_checkpoint_frame}
+use Rattle.world_laws.specs.Names.{IsBringer, NameHolds, OneIf, OnlyOne, forker, is_stream_of, may_be_at, name_sight}
+use Rattle.world_laws.specs.Callers.{CallHolds, HasCallOrNone, HasNoCall, call_sight}
+use Rattle.world_laws.specs.Families.{BornIn, FamilyHolds, HoldsIn, IsWhereFor, NodeHolds, checkpoints_to, is_checkpoint_frame}
 use Rattle.world_laws.specs.Invariant.{Holds, process_deed}
 use Rattle.world_laws.specs.Ways.{IsHere, Way, WaySight, collected, gone, here, knows_parent, over, tells, way_sight}
 use Rattle.world_laws.proofs.Named.{same-name}
@@ -84,6 +81,7 @@ module _ (script : Script) (w : World) (b : Beside) (holds : Holds script w [] b
   pub is-unborn : node_of w c ≡ unborn_node c
   is-unborn = by-stage (stage_of w c) node-there.holds node-there.birth
 
+  -- that is its stage
   pub unborn-stage : stage_of w c ≡ Unborn
   unborn-stage = ap (λ (n : Node). n.stage) is-unborn
 
@@ -121,8 +119,9 @@ module _ (script : Script) (w : World) (b : Beside) (holds : Holds script w [] b
       in let it = some-process (get b.kernel.processes pid)
       (process-there b.kernel pid valid ∙ used (is_used_name b.kernel (Proc pid)) refl name.made.1)
       in let owner = holds.pids.there pid it.0 it.1
-      in let family : FamilyHolds script b.pids b.places b.kernel (process_deed b.deed) (checkpoints_to script w owner.0)
-      (stage_of w owner.0) owner.0 = holds.families owner.0 (λ none. owner.2 (sym owner.1 ∙ none))
+      in let family : FamilyHolds script b.pids b.places b.kernel (process_deed b.deed)
+      (checkpoints_to script w owner.0) (stage_of w owner.0) owner.0 =
+      holds.families owner.0 (λ none. owner.2 (sym owner.1 ∙ none))
       in let same : c ≡ owner.0 =
       own-node owner.0 family.process
       (subst (λ d. IsWhereFor owner.0 d family.process) (ap (λ q. b.deed (Proc q)) owner.1 ∙ is) family.where_it_is)
@@ -164,7 +163,8 @@ module _ (script : Script) (w : World) (b : Beside) (holds : Holds script w [] b
       in let it : Frame = frames.Checkpoint pid parent deed vars
       in let in_it : Contains (filter (brings m) (frames_to w c sender)) it =
       contains-filter (brings m) (frames_to w c sender) it there (same-name m m refl)
-      in let one : OnlyOne (IsBringer b.pids m (body_in b.kernel m) (b.deed m)) (filter (brings m) (frames_to w c sender)) =
+      in let one : OnlyOne (IsBringer b.pids m (body_in b.kernel m) (b.deed m))
+      (filter (brings m) (frames_to w c sender)) =
       one-of (is_stream_of (forker script) (b.deed m) c sender) (IsBringer b.pids m (body_in b.kernel m) (b.deed m))
       (filter (brings m) (frames_to w c sender)) it in_it (name.streams c sender)
       in let same : one.one ≡ it = just-one one.one it (subst (λ fs. Contains fs it) one.only in_it)
@@ -203,12 +203,15 @@ module _ (script : Script) (sound : IsSoundScript script) (w : World) (b : Besid
   pub fork-due : due place ≡ Some (calls.Fork block)
   fork-due = elim s.is_due [ inl is ↦ is | inr killed ↦ absurd (false≢true killed.0) ]
 
+  -- it is the first that is left
   pub fork-line : ForkPasses place block number
   fork-line = fork-passes place block number fork-due
 
+  -- and names the block
   pub names-line : names_in_line block fork-line.line ≡ true
   names-line = ap (names_block block) fork-line.call_is ∙ eq-eqb block block refl
 
+  -- so one of those left does
   pub names-left : list_any (names_in_line block) place.left ≡ true
   names-left =
       ap (list_any (names_in_line block)) fork-line.left

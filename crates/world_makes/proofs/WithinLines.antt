@@ -1,5 +1,5 @@
 -- Where a process is in the history, its lines left are among its node's.
-use Rattle.std.proofs.Common.{◌≡◌, ◌≢◌, ◌⊎◌, ◌≤◌, ℕ, zero, suc, Bool, true, false, ◌||◌, List, [], ◌∷◌, drop, Option, Some, None, refl, ap, sym, subst, ◌∙◌, inl, inr}
+use Rattle.std.proofs.Common.{◌≡◌, ◌≢◌, ◌≤◌, ℕ, zero, suc, Bool, true, List, [], ◌∷◌, drop, Option, Some, None, refl, ap, sym, subst, ◌∙◌, inl, inr}
 use Rattle.std.specs.List.{list_any}
 use Rattle.std.proofs.lemmas.Bool.{or_right, false≢true}
 use Rattle.pico_base.specs.declared.call.Call.{Call}
@@ -16,15 +16,15 @@ use Rattle.kernel_model.specs.Row.{Alive}
 use Rattle.kernel_model.specs.Script.{Vars}
 use Rattle.kernel_laws.proofs.People.{from-living}
 use Rattle.kernel_moves.proofs.Places.{after-cases}
-use Rattle.node_model.specs.Bodies.{Body, body_in}
+use Rattle.node_model.specs.Bodies.{body_in}
 use Rattle.node_model.specs.Caller.{Caller, caller_place, lines_in, lines_of}
 use Rattle.node_model.specs.Kinds.{get_named}
 use Rattle.world_model.specs.Node.{Leaving, Left, Living, Node, Over, Stage, Unborn, unborn_node}
 use Rattle.world_model.specs.World.{World, node_count}
 use Rattle.world_laws.specs.Places.{AsksLease, Beside, CallPlace, DeedPlace, Ends, HasLease, Idle, InAnswer, InAsk, InBounce, InCheckpoint, InExitTo, InGiveBack, InGrant, InHand, InKept, InLeft, InNotOwner, InRequest, InTable, IsHeld, IsInHand, SentByPlace, SentByRange, Unmade}
 use Rattle.world_laws.specs.Sights.{is_born_in, node_of, stage_of}
-use Rattle.world_laws.specs.Names.{NameHolds, forker, held_as, name_sight}
-use Rattle.world_laws.specs.Callers.{CallHolds, CallSight, FreeIn, HasCallOrNone, HasEnded, IsMade, IsSoFar, IsToBeMade, call_sight}
+use Rattle.world_laws.specs.Names.{NameHolds, held_as, name_sight}
+use Rattle.world_laws.specs.Callers.{CallHolds, CallSight, FreeIn, HasCallOrNone, HasEnded, IsSoFar, IsToBeMade, call_sight}
 use Rattle.world_laws.specs.Families.{CheckpointIn, FamilyHolds, HoldsIn, IsCheckpointFor, IsItsOwn, IsWhereFor, NodeHolds, checkpoints_to}
 use Rattle.world_laws.specs.Invariant.{Holds, process_deed}
 use Rattle.world_laws.proofs.NameFacts.{held-here}
@@ -108,7 +108,8 @@ module _ (script : Script) (w : World) (b : Beside) (holds : Holds script w [] b
       (subst (λ c. stage_of w c ≡ Left) own (handed-has-left script w b holds (Proc pid) g is))
       (ap (λ (m : Node). m.stage) unborn)
 
-  family : FamilyHolds script b.pids b.places b.kernel (process_deed b.deed) (checkpoints_to script w q) (stage_of w q) q
+  family : FamilyHolds script b.pids b.places b.kernel (process_deed b.deed) (checkpoints_to script w q) (stage_of w q)
+      q
   family = holds.families q forked
 
   -- its process lives, and its node isn't born: its Checkpoint is on its way

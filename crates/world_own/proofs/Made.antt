@@ -36,7 +36,7 @@ use Rattle.world_own.proofs.Objects.{MakesOne, moved, object-made}
 use Rattle.world_own.proofs.Runs.{Starts}
 
 -- a new queue
-makes-queue : (script : Script) (k : Kernel) (pid number : ℕ) (create excl : Bool)
+pub makes-queue : (script : Script) (k : Kernel) (pid number : ℕ) (create excl : Bool)
     → MayMake k pid (calls.MsgGet None create excl) → is_used k.used_queues number ≡ false
     → is_positive_u32 number ≡ true
     → MakesOne script k pid (calls.MsgGet None create excl) kinds.Msg number (Msg number) (AQueue empty_queue)
@@ -54,7 +54,7 @@ makes-queue script k pid number create excl may unused low =
     }
 
 -- a new set
-makes-set : (script : Script) (k : Kernel) (pid number count : ℕ) (create excl : Bool) (set : SemaphoreSet)
+pub makes-set : (script : Script) (k : Kernel) (pid number count : ℕ) (create excl : Bool) (set : SemaphoreSet)
     → MayMake k pid (calls.SemGet None count create excl) → new_set count ≡ Ok set
     → is_used k.used_sets number ≡ false → is_positive_u32 number ≡ true
     → MakesOne script k pid (calls.SemGet None count create excl) kinds.Sem number (Sem number) (ASet set)

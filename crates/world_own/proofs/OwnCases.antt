@@ -30,7 +30,7 @@ use Rattle.world_own.proofs.Refused.{refused-keeps}
 use Rattle.world_own.proofs.Runs.{Starts}
 
 -- what a call of one's own is
-data OwnCase (call : Call) : Type 0 where
+pub data OwnCase (call : Call) : Type 0 where
   serves : is_served call ≡ true → OwnCase call
   forks : (block : ℕ) → call ≡ calls.Fork block → OwnCase call
   makes-queue : (create excl : Bool) → call ≡ calls.MsgGet None create excl → OwnCase call
@@ -50,7 +50,8 @@ set-case : (count : ℕ) (create excl : Bool) (r : Result SemaphoreSet Errno) �
 set-case count create excl (Ok set) is = makes-set count create excl set refl is
 set-case count create excl (Err error) is = is-refused count create excl error refl is
 
-own-case : (pid : ℕ) (call : Call) → is_own pid call ≡ true → is_waiting call ≡ false → OwnCase call
+-- each own call is one of these
+pub own-case : (pid : ℕ) (call : Call) → is_own pid call ≡ true → is_waiting call ≡ false → OwnCase call
 own-case pid (calls.Fork block) own h = forks block refl
 own-case pid (calls.MsgGet None create excl) own h = makes-queue create excl refl
 own-case pid (calls.MsgGet (Some key) create excl) own h = absurd (false≢true own)
