@@ -30,7 +30,7 @@ abbrev is_table : DeedPlace → Bool
 is_table (InTable node) = true
 is_table place = false
 
--- in a frame, from which node to which
+-- a deed is in a frame
 abbrev pub is_way : DeedPlace → Bool
 is_way (InCheckpoint c) = true
 is_way (InGrant h) = true
@@ -39,12 +39,14 @@ is_way (InLeft c) = true
 is_way (InExitTo c x) = true
 is_way place = false
 
+-- the node that it goes to
 abbrev pub way_to : DeedPlace → ℕ
 way_to (InCheckpoint c) = c
 way_to (InGrant h) = h
 way_to (InExitTo c x) = x
 way_to place = 1
 
+-- and the one that it comes from
 abbrev pub way_from : (ℕ → ℕ) → DeedPlace → ℕ
 way_from forks_it (InCheckpoint c) = forks_it c
 way_from forks_it (InGiveBack h) = h

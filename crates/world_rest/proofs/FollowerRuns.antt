@@ -18,7 +18,8 @@ use Rattle.world_laws.proofs.Steps.{Heads, node-there, world_without}
 use Rattle.world_own.proofs.Enabled.{IsRun, enabled-runs}
 use Rattle.world_rules.proofs.Enabled.{IsTaken, enabled-takes}
 use Rattle.world_bounds.proofs.Runs.{opening-is-shaped-and-bounded}
-use Rattle.world_bounds.proofs.Worlds.{IsShapedAndBounded, event-stays-bounded}
+use Rattle.world_bounds.specs.Bounded.{IsShapedAndBounded}
+use Rattle.world_bounds.proofs.Worlds.{event-stays-bounded}
 use Rattle.world_rest.specs.Laws.{OthersLeadNothing}
 use Rattle.world_rest.proofs.Followers.{IsFollower}
 use Rattle.world_rest.proofs.FollowerTurns.{run-turn-follows, take-turn-follows}

@@ -266,7 +266,8 @@ module _ (script : Script) (n : Node) (other : is_leader n ≡ false) where
   sends-frames-follows s k = of-test Is (list_all is_sent_frame s.sends) (Some s) (λ _. k)
 
   -- A node that takes a frame stays without what the leader knows.
-  pub take-turn-follows : (sender : ℕ) (frame : Frame) → Of (IsFollower script n other) (take_turn script n sender frame)
+  pub take-turn-follows : (sender : ℕ) (frame : Frame)
+      → Of (IsFollower script n other) (take_turn script n sender frame)
   take-turn-follows sender frame =
       of-test Is (is_frame frame) (option_and_then sends_frames (take_frame script n sender frame))
       (λ _. of-next Is (take_frame script n sender frame) sends_frames

@@ -90,7 +90,8 @@ module _ (script : Script) (n : Node) (other : is_leader n ≡ false) where
   reply-to-follows : (s : Step) (asked : Asked) (reply : Reply) → IsFollower s
       → IsFollower (reply_to script s asked reply)
   reply-to-follows s asked reply k =
-      by_test IsFollower (nat_eq asked.caller s.node.number) (reply_here script s reply (under_way_as s.node asked.ticket))
+      by_test IsFollower (nat_eq asked.caller s.node.number)
+      (reply_here script s reply (under_way_as s.node asked.ticket))
       (send s asked.caller (frames.Answer asked.ticket reply))
       (λ _. reply-here-follows s reply (under_way_as s.node asked.ticket) k)
       (λ _. sent-follows s asked.caller (frames.Answer asked.ticket reply) k)
@@ -168,7 +169,8 @@ module _ (script : Script) (n : Node) (other : is_leader n ≡ false) where
       (child_vars (caller_place script m.number m.caller))
       in tell-place-follows (send done block birth) (Proc child) block
       (sent-follows done block birth
-      (carry-out-follows held (asked_here m call) (replies.Num child) (record { leader = k.leader; number = k.number })))
+      (carry-out-follows held (asked_here m call) (replies.Num child)
+      (record { leader = k.leader; number = k.number })))
 
   make-object-follows : (s : Step) (call : Call) (name : Name) (body : Body) (number : ℕ) → IsFollower s
       → IsFollower (make_object script s call name body number)
@@ -176,7 +178,8 @@ module _ (script : Script) (n : Node) (other : is_leader n ≡ false) where
       let m : Node = s.node
       in let held : Step = with_deeds s (put_named m.deeds name body)
       in tell-place-follows (carry_out script held (asked_here m call) (replies.Num number)) name m.number
-      (carry-out-follows held (asked_here m call) (replies.Num number) (record { leader = k.leader; number = k.number }))
+      (carry-out-follows held (asked_here m call) (replies.Num number)
+      (record { leader = k.leader; number = k.number }))
 
   make-set-follows : (s : Step) (call : Call) (number : ℕ) (r : Result SemaphoreSet Errno) → IsFollower s
       → Follows (make_set script s call number r)

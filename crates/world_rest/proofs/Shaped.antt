@@ -91,7 +91,7 @@ pub record HasStream (w : World) (to sender : ℕ) : Type 0 where
   pub row : to - 1 < length w.streams
   pub column : sender - 1 < length (get_or w.streams (to - 1) [])
 
--- none comes to a number that is no node's, and none from one
+-- nothing comes to a number that is no node's
 pub none-to : (w : World) (to sender : ℕ) → to < 1 → frames_to w to sender ≡ []
 none-to w to sender low = rw (le-ltb 0 to (omega (arith, low))) refl
 
@@ -99,6 +99,7 @@ and-false : (t : Bool) → (t && false) ≡ false
 and-false true = refl
 and-false false = refl
 
+-- and nothing from one
 pub none-from : (w : World) (to sender : ℕ) → sender < 1 → frames_to w to sender ≡ []
 none-from w to sender low =
     ap (λ t. if is_number to && t then stream w to sender else []) (le-ltb 0 sender (omega (arith, low)))

@@ -1,5 +1,5 @@
--- At rest nothing is on its way: what comes to a node that is born could be taken, and to one that isn't born comes first
--- what it needs to be born, which could be taken, too.
+-- At rest nothing is on its way: what comes to a node that is born could be taken, and to one that isn't born comes
+-- first what it needs to be born, which could be taken, too.
 use Rattle.std.proofs.Common.{◌≡◌, ◌≢◌, ◌⊎◌, ℕ, zero, suc, ◌-◌, ◌<◌, ◌≤◌, Bool, true, false, not, ◌&&◌, ◌||◌, nat_eq, if◌then◌else◌, cond, List, [], ◌∷◌, ◌++◌, filter, get_or, Contains, Some, is_some, refl, ap, sym, subst, ◌∙◌, inl, inr, arith}
 use Rattle.std.specs.List.{AllByRecursion}
 use Rattle.std.proofs.lemmas.Bool.{cases_eq, cases_lt, eq-eqb, eqb-false, false≢true, lt-ltb}
@@ -146,11 +146,13 @@ in-exit forks_it pids name body to sender parcel left deed has one =
     by-place Unmade at g e h there = absurd (false≢true there)
 
     by-test : (t : Bool) → is_stream_of forks_it deed to sender ≡ t
-        → OneIf t (IsBringer pids name body deed) (filter (brings name) (frames.ExitTo parcel ∷ left)) → IsInExit pids deed parcel
+        → OneIf t (IsBringer pids name body deed) (filter (brings name) (frames.ExitTo parcel ∷ left))
+        → IsInExit pids deed parcel
     by-test true there h =
         by-place deed refl h.one (first-of (brings name) (frames.ExitTo parcel) h.one left has h.only) h.holds there
     by-test false there h =
-        let drops : DropsFirst (brings name) (frames.ExitTo parcel) left = drops-first (brings name) (frames.ExitTo parcel) left h
+        let drops : DropsFirst (brings name) (frames.ExitTo parcel) left =
+        drops-first (brings name) (frames.ExitTo parcel) left h
         in absurd (false≢true (sym drops.first ∙ has))
 
 -- ---- a frame that could be taken
@@ -348,7 +350,9 @@ module _ (script : Script) (w : World) (b : Beside) (holds : Holds script w [] b
         by-test : (t : Bool) → has_deed_of (Proc parcel.parent) parcel ≡ t → ⊥
         by-test false h =
             needs-nothing (Proc parcel.parent) (frames.ExitTo parcel) left e
-            (ap (λ t. if t then Comes ∷ [] else steps_if (is_same_name (Proc parcel.parent) (Proc parcel.parent)) IsNeeded) h
+            (ap
+            (λ t. if t then Comes ∷ [] else steps_if (is_same_name (Proc parcel.parent) (Proc parcel.parent)) IsNeeded)
+            h
             ∙ ap (λ t. steps_if t IsNeeded) (same-name (Proc parcel.parent) (Proc parcel.parent) refl))
         by-test true h =
             let known : NameHolds script b.pids (is_born_in w) (Proc parcel.parent) (sight (Proc parcel.parent)) =

@@ -1,4 +1,5 @@
--- Sums in which one place counts, or none does: over a list, over a square of streams, and over a table by rising number.
+-- Sums in which one place counts, or none does: over a list, over a square of streams, and over a table by rising
+-- number.
 use Rattle.std.proofs.Common.{◌≡◌, ◌≢◌, ℕ, zero, suc, ◌<◌, List, [], ◌∷◌, length, get_or, slice_get, Some, refl, ap, sym, subst, ◌∙◌, inl, inr, arith}
 use Rattle.std.specs.Prelude.{sum_by}
 use Rattle.std.proofs.lemmas.Bool.{cases_eq}

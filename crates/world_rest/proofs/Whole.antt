@@ -1,5 +1,5 @@
--- At rest no call is under way but the ends of processes that have left, each process has ended, and the journal has the
--- calls of each to its end.
+-- At rest no call is under way but the ends of processes that have left, each process has ended, and the journal has
+-- the calls of each to its end.
 use Rattle.std.proofs.Common.{◌≡◌, ◌≢◌, ◌⊎◌, ℕ, ◌≤◌, Bool, true, false, not, ◌&&◌, nat_eq, if◌then◌else◌, List, [], ◌∷◌, filter, Option, Some, None, is_some, option_and_then, refl, ap, sym, subst, ◌∙◌, inl, inr, arith}
 use Rattle.std.specs.List.{AllByRecursion}
 use Rattle.std.proofs.lemmas.Bool.{cases_eq, eq-eqb, false≢true, lt-ltb}

@@ -3,7 +3,7 @@ use Rattle.std.proofs.Common.{[], ap, ◌∙◌}
 use Rattle.kernel_model.specs.Kernel.{Kernel, living_at, opening}
 use Rattle.world_laws.specs.Invariant.{HasInvariant, Holds}
 use Rattle.world_bounds.proofs.Runs.{reachable-is-bounded}
-use Rattle.world_bounds.proofs.Worlds.{IsShapedAndBounded}
+use Rattle.world_bounds.specs.Bounded.{IsShapedAndBounded}
 use Rattle.world_rest.specs.Laws.{NamesHaveOneOwner, NoneLivesAtRest, RestIsQuiet, RestIsWhole, WorldsHold}
 use Rattle.world_rest.proofs.FollowerRuns.{others-lead-nothing}
 use Rattle.world_rest.proofs.OneReplay.{one-replay, owners-by-journal}

@@ -45,8 +45,8 @@ OthersLeadNothing w = (p : ℕ) → p ≢ 1 → leader_at w p ≡ opening_leader
 
 -- ---- at rest
 
--- A node's process isn't there yet, or the node has left, or node 1 goes on. No call is under way but the one that ended
--- the process of a node that has left.
+-- A node's process isn't there yet, or the node has left, or node 1 goes on. No call is under way but the one that
+-- ended the process of a node that has left.
 pub record IsNodeAtRest (w : World) (p : ℕ) : Type 0 where
   pub stage : (stage_of w p ≡ Unborn) ⊎ (stage_of w p ≡ Left) ⊎ ((p ≡ 1) × (stage_of w p ≡ Over))
   pub calls : (call : Call) → under_way_of w p ≡ Some call → (stage_of w p ≡ Left) × (is_end call ≡ true)
