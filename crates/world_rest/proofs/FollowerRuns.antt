@@ -10,7 +10,8 @@ use Rattle.kernel_model.specs.Script.{IsSoundScript}
 use Rattle.world_model.specs.Node.{Node, first_node, is_leader, opening_leader, opening_node, unborn_node}
 use Rattle.world_model.specs.Run.{IsReachableWorld, Runs}
 use Rattle.world_model.specs.Step.{Step}
-use Rattle.world_model.specs.Turn.{run_turn, take_turn}
+use Rattle.world_model.specs.Starting.{run}
+use Rattle.world_model.specs.Turn.{take_frame}
 use Rattle.world_model.specs.World.{World, after_turn, is_enabled, node_at, node_count, numbers, opening_world, runs_at, step, stream, takes_at, world_after}
 use Rattle.world_laws.specs.Invariant.{IsShaped}
 use Rattle.world_laws.specs.Sights.{node_of}
@@ -101,9 +102,9 @@ module _ (script : Script) (sound : IsSoundScript script) where
       let r : IsRun script w p = enabled-runs script w p b.shape enabled
       in let shape : IsShaped script w = b.shape
       in turn-leaves script w k p r.low (subst (λ n. p ≤ n) (sym shape.nodes) r.high) next
-      (run_turn script (node_of w p))
+      (run script (node_of w p))
       (sym (ap (runs_at w p) (node-there script w shape p r.low r.high)
-      ∙ ap (λ (x : Script). after_turn w p (run_turn x (node_of w p))) shape.of_script)
+      ∙ ap (λ (x : Script). after_turn w p (run x (node_of w p))) shape.of_script)
       ∙ steps)
       (λ other. run-turn-follows script (node_of w p) other)
   event-leaves w next (events.Take p q) b k enabled steps =
@@ -111,10 +112,10 @@ module _ (script : Script) (sound : IsSoundScript script) where
       in let h : Heads script w p q t.frame t.rest = t.heads
       in let shape : IsShaped script w = b.shape
       in turn-leaves script (world_without w p q t.rest) k p h.low (subst (λ n. p ≤ n) (sym shape.nodes) h.high) next
-      (take_turn script (node_of w p) q t.frame)
+      (take_frame script (node_of w p) q t.frame)
       (sym (ap (λ o. takes_at w p q o (stream w p q)) (node-there script w shape p h.low h.high)
       ∙ ap (takes_at w p q (Some (node_of w p))) h.head
-      ∙ ap (λ (x : Script). after_turn (world_without w p q t.rest) p (take_turn x (node_of w p) q t.frame))
+      ∙ ap (λ (x : Script). after_turn (world_without w p q t.rest) p (take_frame x (node_of w p) q t.frame))
       shape.of_script)
       ∙ steps)
       (λ other. take-turn-follows script (node_of w p) other q t.frame)

@@ -31,7 +31,6 @@ use Rattle.node_model.specs.Leases.{leases_hold, refill, takes_number}
 use Rattle.node_model.specs.Parcels.{commit_exit, fitting_bodies, give_all}
 use Rattle.node_model.specs.Spelling.{pack, read_deed}
 use Rattle.world_model.specs.Calls.{answered_by, ask_after, asks_as, bounce, bounce_or_nobody, end_with_reply, forwarded_by, is_for_others, is_from_leader, is_on_name_or_removal, is_to_leader, requested_by, take_answer, take_forward, take_not_owner, take_request, with_forgotten, with_learnt}
-use Rattle.world_model.specs.Grammar.{is_frame, is_sent_frame}
 use Rattle.world_model.specs.Lives.{be_born, born_with, hand_over, is_end, is_forked_by, is_new_row, is_of_process, may_leave, may_take, take_checkpoint, take_exit, take_recall_all}
 use Rattle.world_model.specs.Moves.{give_back as gives_back, is_new_here, keep, receive_deed, take_grant, take_recall}
 use Rattle.world_model.specs.Node.{Left, Node, holds, is_born, is_leader, is_leaving_stage, is_node, is_unborn, under_way_as}
@@ -41,7 +40,7 @@ use Rattle.world_model.specs.Routing.{enter_exit, exit_here, exit_with, names_in
 use Rattle.world_model.specs.Serving.{serve_asked, serve_nobody, without_deed}
 use Rattle.world_model.specs.Starting.{run}
 use Rattle.world_model.specs.Step.{Step, send, step_to, with_deeds}
-use Rattle.world_model.specs.Turn.{run_turn, sends_frames, take_frame, take_turn}
+use Rattle.world_model.specs.Turn.{take_frame}
 use Rattle.world_bounds.proofs.Parts.{of-map, of-next, of-some, of-test}
 use Rattle.world_rest.proofs.Followers.{IsFollower, all-sent-follow, ask-follows, entered-follows, from-it, make-follows, run-follows, sent-follows, serve-asked-follows, serve-nobody-follows}
 
@@ -235,47 +234,35 @@ module _ (script : Script) (n : Node) (other : is_leader n ≡ false) where
 
   -- ---- a turn
 
-  take-frame-follows : (sender : ℕ) (frame : Frame) → Stays (take_frame script n sender frame)
-  take-frame-follows sender (frames.Ask ticket pid call) =
-      to-leader-only sender (asks_as is_for_others pid call) _
-  take-frame-follows sender (frames.Request ticket pid call) = take-request-follows sender ticket pid call
-  take-frame-follows sender (frames.Forward asked) = take-forward-follows sender asked
-  take-frame-follows sender (frames.Bounce asked) =
-      to-leader-only sender (is_node script asked.caller && asks_as is_on_name_or_removal asked.pid asked.call) _
-  take-frame-follows sender (frames.Answer ticket reply) = take-answer-follows sender ticket reply
-  take-frame-follows sender (frames.NotOwner ticket) = take-not-owner-follows ticket
-  take-frame-follows sender (frames.LeaseAsk kind) = to-leader-only sender (has_more n.leader.directory kind) _
-  take-frame-follows sender (frames.Lease kind first) = take-lease-follows sender kind first
-  take-frame-follows sender (frames.Placed name node) =
-      to-leader-only sender (is_node script node && (not (nat_eq node 1) && not (leases_hold n.leases name))) _
-  take-frame-follows sender (frames.Checkpoint pid parent deed vars) =
-      take-checkpoint-follows sender pid parent deed vars
-  take-frame-follows sender (frames.Suggest name node) =
-      to-leader-only sender (is_node script node && is_object name) _
-  take-frame-follows sender (frames.Recall name) = take-recall-follows sender name
-  take-frame-follows sender (frames.GiveBack deed) =
-      leader-only (is_coming n.leader.directory deed.name && is_new_here n deed.name) _
-  take-frame-follows sender (frames.Grant deed) = take-grant-follows sender deed
-  take-frame-follows sender (frames.Leaving pid parent parent_node) =
-      to-leader-only sender (may_leave script n sender pid parent parent_node) _
-  take-frame-follows sender frames.RecallAll = take-recall-all-follows sender
-  take-frame-follows sender (frames.Left parcel) = leader-only (may_take n sender parcel) _
-  take-frame-follows sender (frames.ExitTo parcel) = take-exit-follows sender parcel
-
-  sends-frames-follows : (s : Step) → Is s → Stays (sends_frames s)
-  sends-frames-follows s k = of-test Is (list_all is_sent_frame s.sends) (Some s) (λ _. k)
-
   -- A node that takes a frame stays without what the leader knows.
   pub take-turn-follows : (sender : ℕ) (frame : Frame)
-      → Of (IsFollower script n other) (take_turn script n sender frame)
-  take-turn-follows sender frame =
-      of-test Is (is_frame frame) (option_and_then sends_frames (take_frame script n sender frame))
-      (λ _. of-next Is (take_frame script n sender frame) sends_frames
-      (λ s is. sends-frames-follows s
-      (of-some Is (take_frame script n sender frame) s (take-frame-follows sender frame) is)))
+      → Of (IsFollower script n other) (take_frame script n sender frame)
+  take-turn-follows sender (frames.Ask ticket pid call) =
+      to-leader-only sender (asks_as is_for_others pid call) _
+  take-turn-follows sender (frames.Request ticket pid call) = take-request-follows sender ticket pid call
+  take-turn-follows sender (frames.Forward asked) = take-forward-follows sender asked
+  take-turn-follows sender (frames.Bounce asked) =
+      to-leader-only sender (is_node script asked.caller && asks_as is_on_name_or_removal asked.pid asked.call) _
+  take-turn-follows sender (frames.Answer ticket reply) = take-answer-follows sender ticket reply
+  take-turn-follows sender (frames.NotOwner ticket) = take-not-owner-follows ticket
+  take-turn-follows sender (frames.LeaseAsk kind) = to-leader-only sender (has_more n.leader.directory kind) _
+  take-turn-follows sender (frames.Lease kind first) = take-lease-follows sender kind first
+  take-turn-follows sender (frames.Placed name node) =
+      to-leader-only sender (is_node script node && (not (nat_eq node 1) && not (leases_hold n.leases name))) _
+  take-turn-follows sender (frames.Checkpoint pid parent deed vars) =
+      take-checkpoint-follows sender pid parent deed vars
+  take-turn-follows sender (frames.Suggest name node) =
+      to-leader-only sender (is_node script node && is_object name) _
+  take-turn-follows sender (frames.Recall name) = take-recall-follows sender name
+  take-turn-follows sender (frames.GiveBack deed) =
+      leader-only (is_coming n.leader.directory deed.name && is_new_here n deed.name) _
+  take-turn-follows sender (frames.Grant deed) = take-grant-follows sender deed
+  take-turn-follows sender (frames.Leaving pid parent parent_node) =
+      to-leader-only sender (may_leave script n sender pid parent parent_node) _
+  take-turn-follows sender frames.RecallAll = take-recall-all-follows sender
+  take-turn-follows sender (frames.Left parcel) = leader-only (may_take n sender parcel) _
+  take-turn-follows sender (frames.ExitTo parcel) = take-exit-follows sender parcel
 
   -- So does one that starts a call.
-  pub run-turn-follows : Of (IsFollower script n other) (run_turn script n)
-  run-turn-follows =
-      of-next Is (run script n) sends_frames
-      (λ s is. sends-frames-follows s (of-some Is (run script n) s (run-follows script n other) is))
+  pub run-turn-follows : Of (IsFollower script n other) (run script n)
+  run-turn-follows = run-follows script n other

@@ -15,14 +15,8 @@ use Rattle.world_model.specs.Lives.{is_end}
 use Rattle.world_model.specs.Node.{Node, Leader, Unborn, Left, Over, opening_leader}
 use Rattle.world_model.specs.Run.{IsReachableWorld, IsAtRest}
 use Rattle.world_model.specs.World.{World, node_count, stream}
-use Rattle.world_laws.specs.Invariant.{HasInvariant}
 use Rattle.world_laws.specs.Sights.{node_of, directory_of, stage_of}
 use Rattle.world_laws.specs.Ways.{under_way_of}
-
--- the invariant holds in every world that a run leads to
-abbrev pub WorldsHold : Type 0
-WorldsHold =
-    (script : Script) (w : World) → IsSoundScript script → IsReachableWorld script w → HasInvariant script w
 
 -- ---- owners
 
