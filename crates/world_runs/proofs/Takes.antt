@@ -1,5 +1,5 @@
 -- Each frame that a node may take has a step, and keeps all.
-use Rattle.std.proofs.Common.{◌≡◌, ℕ, Bool, true, false, ◌||◌, List, [], ◌∷◌, refl, sym, subst, inl, inr}
+use Rattle.std.proofs.Common.{◌≡◌, ℕ, Bool, true, false, ◌||◌, List, [], ◌∷◌, refl, sym, subst, inl, inr, arith}
 use Rattle.std.proofs.lemmas.Bool.{cases_eq}
 use Rattle.pico_base.specs.declared.call.Call.{Call}
 use Rattle.pico_base.specs.declared.numbers.Kind.{Kind}
@@ -46,6 +46,7 @@ use Rattle.world_release.proofs.GiveBacks.{give-back-goes-on}
 use Rattle.world_exits.proofs.ExitTos.{exit-to-keeps}
 use Rattle.world_bounds.specs.Bounded.{IsBounded, IsGood, NodeIsBounded}
 use Rattle.world_bounds.proofs.Parts.{held-are-of-nodes}
+use Rattle.world_bounds.proofs.Ranges.{some-blocks}
 use Rattle.world_bounds.proofs.Ready.{Ready, bounce-is-of-node, bounded-is-ready, forward-is-of-node, taken-is-good}
 use Rattle.world_bounds.proofs.StepParts.{step-to-bounded}
 use Rattle.world_bounds.proofs.Turns.{left-noted-bounded, passed-on-bounded}
@@ -89,9 +90,8 @@ module _ (script : Script) (sound : IsSoundScript script) (w : World) (b : Besid
 
   -- ---- at the leader, with something for its hand
 
-  module _ (q : ℕ) (frame : Frame) (rest : List Frame) (h : Heads script w 1 q frame rest) where
-    leader-bounded : NodeIsBounded script (node_of w 1)
-    leader-bounded = bounded.nodes 1 h.low h.high
+  leader-bounded : NodeIsBounded script (node_of w 1)
+  leader-bounded = bounded.nodes 1 (omega arith) (some-blocks script sound)
 
   ask-taken : (q ticket pid : ℕ) (call : Call) (rest : List Frame)
       → Heads script w 1 q (frames.Ask ticket pid call) rest → Keeps script w (events.Take 1 q)
@@ -101,7 +101,7 @@ module _ (script : Script) (sound : IsSoundScript script) (w : World) (b : Besid
       ready.never_waits
       (taken-is-good script w q (frames.Ask ticket pid call) rest (step_to (node_of w 1))
       (Request (record { caller = q; ticket = ticket; pid = pid; call = call }) ∷ []) holds.shape bounded h
-      (step-to-bounded script (node_of w 1) (leader-bounded q (frames.Ask ticket pid call) rest h))
+      (step-to-bounded script (node_of w 1) leader-bounded)
       (record { low = h.low_from; high = h.high_from }, tt)))
 
   bounce-taken : (q : ℕ) (asked : Asked) (rest : List Frame) → Heads script w 1 q (frames.Bounce asked) rest
@@ -113,13 +113,13 @@ module _ (script : Script) (sound : IsSoundScript script) (w : World) (b : Besid
       ready.never_waits
       (taken-is-good script w q (frames.Bounce asked) rest (step_to (node_of w 1)) (Request asked ∷ []) holds.shape
       bounded h
-      (step-to-bounded script (node_of w 1) (leader-bounded q (frames.Bounce asked) rest h)) (own, tt)))
+      (step-to-bounded script (node_of w 1) leader-bounded) (own, tt)))
 
   give-back-taken : (q : ℕ) (packed : PackedDeed) (rest : List Frame) → Heads script w 1 q (frames.GiveBack packed) rest
       → Keeps script w (events.Take 1 q)
   give-back-taken q packed rest h =
       let n : Node = node_of w 1
-      in let own : NodeIsBounded script n = leader-bounded q (frames.GiveBack packed) rest h
+      in let own : NodeIsBounded script n = leader-bounded
       in by-leader script w q
       (give-back-goes-on script w b holds ready.at_nodes ready.reads q packed rest h (IsGood script)
       (hand-goes-on script sound)
@@ -137,8 +137,8 @@ module _ (script : Script) (sound : IsSoundScript script) (w : World) (b : Besid
       (left-goes-on script (IsGood script) (hand-goes-on script sound) w b holds q rest parcel h ready.at_nodes
       ready.reads
       (taken-is-good script w q (frames.Left parcel) rest
-      (step_to (with_directory (node_of w 1) (with_left (directory_of w) q))) (Ending parcel ∷ [])
-      holds.shape bounded h (left-noted-bounded script (node_of w 1) q (leader-bounded q (frames.Left parcel) rest h)) (tt, tt)))
+      (step_to (with_directory (node_of w 1) (with_left (directory_of w) q))) (Ending parcel ∷ []) holds.shape bounded h
+      (left-noted-bounded script (node_of w 1) q leader-bounded) (tt, tt)))
 
   -- ---- other frames
 
