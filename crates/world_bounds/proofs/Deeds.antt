@@ -127,7 +127,8 @@ module _ (script : Script) (sound : IsSoundScript script) (w : World) (hand : Li
             | inr ended ↦ inr (ended-among r.alive.row.family.ended q ended)
           ]
 
-  rows-have-bytes : (pid : ℕ) (row : Row) → body_in b.kernel (Proc pid) ≡ LivingBody row → HasFamilyBytes row.family
+  -- Each living process's family has bytes.
+  pub rows-have-bytes : (pid : ℕ) (row : Row) → body_in b.kernel (Proc pid) ≡ LivingBody row → HasFamilyBytes row.family
   rows-have-bytes pid row is =
       let r : HasRow b.kernel pid row = body-living b.kernel pid row is
       in let there = from-living b.kernel.processes pid r.alive r.lives
