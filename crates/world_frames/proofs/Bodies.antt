@@ -4,6 +4,7 @@ use Rattle.std.specs.Prelude.{sum_by}
 use Rattle.std.specs.List.{flat_map}
 use Rattle.std.specs.Int.{w32, to_be_bytes}
 use Rattle.std.proofs.lemmas.List.{length-append, length-map}
+use Rattle.std.proofs.lemmas.List.Sums.{sum_by-cons}
 use Rattle.pico_base.specs.declared.numbers.Name.{Name}
 use Rattle.pico_base.specs.declared.numbers.Name.TheVariants.{Proc, Msg, Sem}
 use Rattle.pico_base.specs.declared.reply.Ending.{Ending}
@@ -89,9 +90,7 @@ messages-length [] = omega arith
 messages-length (m ∷ ms) =
     let rest = messages-length ms
     in let whole = length-append m.text (flat_map message_field ms)
-    in let texts : sum_by (λ (x : Message). length x.text) (m ∷ ms)
-    ≡ length m.text + sum_by (λ (x : Message). length x.text) ms =
-    refl
+    in let texts = sum_by-cons (λ (x : Message). length x.text) m ms
     in omega (arith, rest, whole, texts)
 
 queue-is-short : (k : Kernel) → IsReachableKernel k → (id : ℕ) (o : Option Queue) → get k.queues id ≡ o

@@ -6,3 +6,4 @@ pub mod CallFrames
 pub mod Names
 pub mod Bodies
 pub mod Deeds
+pub mod Recalls
