@@ -7,3 +7,4 @@ pub mod Names
 pub mod Bodies
 pub mod Deeds
 pub mod Recalls
+pub mod Vars
