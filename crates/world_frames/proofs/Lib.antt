@@ -8,3 +8,4 @@ pub mod Bodies
 pub mod Deeds
 pub mod Recalls
 pub mod Vars
+pub mod Checkpoints
