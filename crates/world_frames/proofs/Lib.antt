@@ -9,3 +9,4 @@ pub mod Deeds
 pub mod Recalls
 pub mod Vars
 pub mod Checkpoints
+pub mod Parcels
