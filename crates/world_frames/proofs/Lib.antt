@@ -10,3 +10,4 @@ pub mod Recalls
 pub mod Vars
 pub mod Checkpoints
 pub mod Parcels
+pub mod ParcelFrames

@@ -60,12 +60,13 @@ found-at (x ∷ m) e r there =
     ]
 
 -- so there is one for a number
-one-entry : {V : Type 0} (m : Numbered V) (e f : ℕ × V) → IsRising m → Contains m e → Contains m f → e.0 ≡ f.0
+pub one-entry : {V : Type 0} (m : Numbered V) (e f : ℕ × V) → IsRising m → Contains m e → Contains m f → e.0 ≡ f.0
     → e.1 ≡ f.1
 one-entry m e f r here there same =
     from_some e.1 f.1 (sym (found-at m e r here) ∙ ap (get m) same ∙ found-at m f r there)
 
-each-of : {A : Type 0} (P : A → Type 0) (xs : List A) → ((x : A) → Contains xs x → P x) → AllByRecursion P xs
+-- what holds of each holds of all
+pub each-of : {A : Type 0} (P : A → Type 0) (xs : List A) → ((x : A) → Contains xs x → P x) → AllByRecursion P xs
 each-of P [] h = tt
 each-of P (x ∷ xs) h =
     (h x (contains-first x xs), each-of P xs (λ y there. h y (contains-later x xs y there)))
@@ -77,14 +78,16 @@ apart-above n (e ∷ m) above =
     let first = above.0
     in (ne_eqb n e.0 (λ same. omega (arith, first, same)), apart-above n m above.1)
 
-distinct-numbers : {V : Type 0} (m : Numbered V) → IsRising m → IsDistinct nat_eq (map (λ e. e.0) m)
+-- no number comes twice
+pub distinct-numbers : {V : Type 0} (m : Numbered V) → IsRising m → IsDistinct nat_eq (map (λ e. e.0) m)
 unfolding IsDistinct
 distinct-numbers [] r = tt
 distinct-numbers (e ∷ m) r =
     IsDistinct-cons nat_eq e.0 (map (λ x. x.0) m) (apart-above e.0 m (above-first e m r))
     (distinct-numbers m (rising-rest e m r))
 
-number-among : {V : Type 0} (m : Numbered V) (q : ℕ) → list_any (nat_eq q) (map (λ e. e.0) m) ≡ true
+-- a number among those of the entries is one entry's
+pub number-among : {V : Type 0} (m : Numbered V) (q : ℕ) → list_any (nat_eq q) (map (λ e. e.0) m) ≡ true
     → (v : V) × Contains m (q, v)
 number-among [] q h = absurd (false≢true h)
 number-among (e ∷ m) q h =
@@ -99,7 +102,7 @@ number-among (e ∷ m) q h =
 -- ---- packed
 
 -- a body that is packed is of a deed that a parcel has
-packed-among : (bodies : Numbered Body) (e : ℕ × Body) → Contains bodies e
+pub packed-among : (bodies : Numbered Body) (e : ℕ × Body) → Contains bodies e
     → list_any (λ deed. is_same_name (Proc e.0) deed.name) (pack_all Proc bodies) ≡ true
 packed-among [] e there = absurd (contains-none e there)
 packed-among (x ∷ bodies) e there =
@@ -112,7 +115,7 @@ packed-among (x ∷ bodies) e there =
     ]
 
 -- and each deed that is packed is of one
-unpacked : (bodies : Numbered Body) (deed : PackedDeed) → Contains (pack_all Proc bodies) deed
+pub unpacked : (bodies : Numbered Body) (deed : PackedDeed) → Contains (pack_all Proc bodies) deed
     → (e : ℕ × Body) × Contains bodies e × (pack (Proc e.0) e.1 ≡ deed)
 unpacked [] deed there = absurd (contains-none deed there)
 unpacked (x ∷ bodies) deed there =
