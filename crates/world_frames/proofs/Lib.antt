@@ -11,3 +11,4 @@ pub mod Vars
 pub mod Checkpoints
 pub mod Parcels
 pub mod ParcelFrames
+pub mod Every
