@@ -12,3 +12,4 @@ pub mod Checkpoints
 pub mod Parcels
 pub mod ParcelFrames
 pub mod Every
+pub mod StepEntries
