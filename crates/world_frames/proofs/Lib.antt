@@ -13,3 +13,4 @@ pub mod Parcels
 pub mod ParcelFrames
 pub mod Every
 pub mod StepEntries
+pub mod RoutedEntries
