@@ -14,3 +14,4 @@ pub mod ParcelFrames
 pub mod Every
 pub mod StepEntries
 pub mod RoutedEntries
+pub mod StartedEntries
