@@ -15,3 +15,4 @@ pub mod Every
 pub mod StepEntries
 pub mod RoutedEntries
 pub mod StartedEntries
+pub mod TurnEntries
