@@ -16,3 +16,4 @@ pub mod StepEntries
 pub mod RoutedEntries
 pub mod StartedEntries
 pub mod TurnEntries
+pub mod WorldEntries
