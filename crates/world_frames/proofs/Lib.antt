@@ -17,3 +17,4 @@ pub mod RoutedEntries
 pub mod StartedEntries
 pub mod TurnEntries
 pub mod WorldEntries
+pub mod Replies
