@@ -18,3 +18,5 @@ pub mod StartedEntries
 pub mod TurnEntries
 pub mod WorldEntries
 pub mod Replies
+pub mod ReadNames
+pub mod Reachable
