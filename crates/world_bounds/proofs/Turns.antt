@@ -425,7 +425,8 @@ module _ (script : Script) where
   sent-frames-bounded s k =
       of-test (StepIsBounded script) (list_all is_sent_frame s.sends) (Some s) (λ _. k)
 
-  take-frame-bounded : (n : Node) (to sender : ℕ) (frame : Frame) → NodeIsBounded script n
+  -- Each frame's rule leaves a bounded step.
+  pub take-frame-bounded : (n : Node) (to sender : ℕ) (frame : Frame) → NodeIsBounded script n
       → FrameIsBounded script to sender frame → Bounded (take_frame script n sender frame)
   take-frame-bounded n to sender (frames.Ask ticket pid call) k f =
       take-ask-bounded n sender ticket pid call k f.sender_is

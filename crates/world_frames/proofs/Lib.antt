@@ -20,3 +20,4 @@ pub mod WorldEntries
 pub mod Replies
 pub mod ReadNames
 pub mod Reachable
+pub mod SentFrames

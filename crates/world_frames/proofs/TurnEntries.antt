@@ -318,7 +318,8 @@ module _ (script : Script) where
   sent-frames-entered : (s : Step) → IsStepEntered s → Entered (sends_frames s)
   sent-frames-entered s k = of-test IsStepEntered (list_all is_sent_frame s.sends) (Some s) (λ _. k)
 
-  take-frame-entered : (n : Node) (sender : ℕ) (frame : Frame) → HasTicket n
+  -- Each frame's rule enters what it answers.
+  pub take-frame-entered : (n : Node) (sender : ℕ) (frame : Frame) → HasTicket n
       → Entered (take_frame script n sender frame)
   take-frame-entered n sender (frames.Ask ticket pid call) k = take-ask-entered n sender ticket pid call k
   take-frame-entered n sender (frames.Request ticket pid call) k = take-request-entered n sender ticket pid call k

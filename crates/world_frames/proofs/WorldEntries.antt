@@ -59,7 +59,8 @@ sent-by es more false to sends all = tt
 sent-by es more true to sends all = sent-with es more to sends all
 
 module _ (script : Script) where
-  changed-is-entered : (w w' : World) (p : ℕ) (n : Node) (takes sends : List (ℕ × Frame)) (entries : List Entry)
+  -- A node with a ticket that has sent what it entered leaves the world so.
+  pub changed-is-entered : (w w' : World) (p : ℕ) (n : Node) (takes sends : List (ℕ × Frame)) (entries : List Entry)
       → Changes script p w w' n takes sends entries → IsWorldEntered script w → HasTicket n → AreSent entries sends
       → IsWorldEntered script w'
   changed-is-entered w w' p n takes sends entries c k node all =
