@@ -35,7 +35,8 @@ use Rattle.world_bounds.proofs.Smalls.{history-leaves-small}
 -- ---- members of lists
 
 -- what one makes of a number is among what is made of all
-pub is-among : (f : ℕ → ℕ) (d : ℕ) (ns : List ℕ) → list_any (nat_eq d) ns ≡ true → list_any (nat_eq (f d)) (map f ns) ≡ true
+pub is-among : (f : ℕ → ℕ) (d : ℕ) (ns : List ℕ) → list_any (nat_eq d) ns ≡ true
+    → list_any (nat_eq (f d)) (map f ns) ≡ true
 is-among f d [] h = absurd (false≢true h)
 is-among f d (n ∷ ns) h =
     elim (or_cases (nat_eq d n) (list_any (nat_eq d) ns) h) [

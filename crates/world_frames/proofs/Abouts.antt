@@ -1,23 +1,16 @@
 -- A frame about a node's call says what the call's place says, and is within the limits: Ask, Request, Forward, Bounce,
 -- Answer, NotOwner, LeaseAsk and Lease.
-use Rattle.std.proofs.Common.{◌≡◌, ℕ, ◌+◌, ◌≤◌, Bool, true, false, List, [], ◌∷◌, length, filter, Option, Some, None, refl, ap, sym, subst, ◌∙◌, inl, inr, arith}
-use Rattle.std.specs.Prelude.{Contains}
+use Rattle.std.proofs.Common.{◌≡◌, ℕ, ◌≤◌, true, refl, arith}
 use Rattle.std.proofs.lemmas.Bool.{and_from, false≢true}
-use Rattle.pico_base.specs.declared.call.Call.{Call}
 use Rattle.pico_base.specs.declared.call.Home.{Home}
 use Rattle.pico_base.specs.declared.call.Home.TheVariants as homes
 use Rattle.pico_base.specs.declared.reply.Reply.{Reply}
-use Rattle.pico_base.specs.declared.script.Script.{Script}
 use Rattle.pico_base.specs.Home.{home_of}
 use Rattle.rpc_frame.specs.declared.asked.Asked.{Asked}
-use Rattle.rpc_frame.specs.declared.frame.Frame.{Frame}
 use Rattle.rpc_frame.specs.declared.frame.Frame.TheVariants as frames
-use Rattle.kernel_laws.proofs.Members.{contains-cases, contains-filter, contains-none}
 use Rattle.world_model.specs.Calls.{is_for_others, is_on_name, is_on_name_or_removal}
-use Rattle.world_laws.specs.Callers.{CallHolds, CallSight, HasCall, HasCallOrNone, HasNoCall, IsSoFar, asked_of, frame_at, is_about, is_in_stream, is_on, may_be_in, only_if}
-use Rattle.world_laws.specs.Places.{CallPlace, Idle, AsksLease, HasLease, InAsk, InRequest, InNotOwner, SentByPlace, SentByRange, InBounce, IsHeld, IsInHand, InAnswer, Ends}
-use Rattle.frame_bytes.specs.Replies.{reply_bytes}
-use Rattle.frame_bytes.specs.Calls.{call_bytes}
+use Rattle.world_laws.specs.Callers.{frame_at, may_be_in}
+use Rattle.world_laws.specs.Places.{CallPlace, AsksLease, HasLease, InAsk, InRequest, InNotOwner, SentByPlace, SentByRange, InBounce, InAnswer}
 use Rattle.frame_bytes.specs.LimitTests.{is_call, is_frame, is_reply}
 use Rattle.world_frames.specs.Within.{IsReplyShort}
 use Rattle.world_frames.proofs.Calls.{IsSpellable, call-is-short, call-is-within}

@@ -1,5 +1,5 @@
 -- How many bytes the bodies of a kernel that a history leads to have.
-use Rattle.std.proofs.Common.{◌≡◌, ℕ, suc, ◌+◌, ◌*◌, ◌≤◌, List, [], ◌∷◌, ◌++◌, length, map, Option, Some, None, refl, ap, sym, subst, ◌∙◌, arith}
+use Rattle.std.proofs.Common.{◌≡◌, ℕ, suc, ◌+◌, ◌*◌, ◌≤◌, List, [], ◌∷◌, length, map, Option, Some, None, refl, ap, arith}
 use Rattle.std.specs.Prelude.{sum_by}
 use Rattle.std.specs.List.{flat_map}
 use Rattle.std.specs.Int.{w32, to_be_bytes}
@@ -12,7 +12,7 @@ use Rattle.pico_base.specs.declared.reply.Ending.TheVariants.{Exited, Killed}
 use Rattle.number_maps.specs.Maps.{get}
 use Rattle.kernel_model.specs.Kernel.{Kernel, Process}
 use Rattle.kernel_model.specs.Kernel as kernel
-use Rattle.kernel_model.specs.Queue.{Message, Queue, bytes_in}
+use Rattle.kernel_model.specs.Queue.{Message, Queue}
 use Rattle.kernel_model.specs.Row.{EndedChild, Family, Row}
 use Rattle.kernel_model.specs.SemaphoreSet.{SemaphoreSet}
 use Rattle.kernel_model.specs.Signals.{Signals}
@@ -22,14 +22,11 @@ use Rattle.kernel_laws.specs.Sets.{IsSetWithinLimits}
 use Rattle.kernel_laws.proofs.QueueLaws.{queues_are_within_limits_lemma}
 use Rattle.kernel_laws.proofs.SetLaws.{sets_are_within_limits_lemma}
 use Rattle.signal_state.specs.Spelling.{signal_bytes}
-use Rattle.fork_wait.specs.Children.{children}
 use Rattle.fork_wait.specs.Spelling.{ended_bytes, ending_bytes, family_bytes}
 use Rattle.fork_wait.specs.Spelling.{HasBytes as HasFamilyBytes}
-use Rattle.sysv_msg.specs.Body.{message_field, queue_code}
-use Rattle.sysv_msg.specs.Body.{body as queue_bytes}
+use Rattle.sysv_msg.specs.Body.{message_field}
 use Rattle.sysv_sem.specs.Body.{semaphore_field}
-use Rattle.sysv_sem.specs.Body.{body as set_bytes}
-use Rattle.node_model.specs.Bodies.{Body, Living, Ended, Gone, AQueue, ASet, Removed, body_in, process_body, queue_body, set_body}
+use Rattle.node_model.specs.Bodies.{Living, Ended, body_in, process_body, queue_body, set_body}
 use Rattle.node_model.specs.Spelling.{body_bytes, row_bytes}
 use Rattle.world_frames.proofs.Plain.{fields-length}
 

@@ -1,27 +1,23 @@
 -- Each frame about a call is within the limits: Ask, Request, Forward, Bounce, Answer, NotOwner, LeaseAsk and Lease.
-use Rattle.std.proofs.Common.{◌≡◌, ◌⊎◌, ℕ, ◌≤◌, Bool, true, false, List, [], ◌∷◌, filter, Option, Some, None, refl, ap, sym, subst, ◌∙◌, inl, inr}
+use Rattle.std.proofs.Common.{◌≡◌, ◌⊎◌, ℕ, ◌≤◌, Bool, true, false, List, [], Option, Some, None, refl, ap, sym, subst, ◌∙◌, inl, inr}
 use Rattle.std.specs.Prelude.{Contains}
-use Rattle.std.proofs.lemmas.Bool.{eq-eqb}
 use Rattle.pico_base.specs.declared.call.Call.{Call}
-use Rattle.pico_base.specs.declared.reply.Reply.{Reply}
 use Rattle.pico_base.specs.declared.script.Script.{Script}
 use Rattle.rpc_frame.specs.declared.asked.Asked.{Asked}
 use Rattle.rpc_frame.specs.declared.frame.Frame.{Frame}
-use Rattle.rpc_frame.specs.declared.frame.Frame.TheVariants as frames
 use Rattle.kernel_laws.proofs.Members.{contains-cases, contains-filter, contains-none}
 use Rattle.kernel_model.specs.Fitting.{IsDue}
 use Rattle.kernel_model.specs.Script.{IsSoundScript}
 use Rattle.node_model.specs.Caller.{caller_place}
 use Rattle.node_model.specs.declared.held.Held.{Held}
 use Rattle.world_model.specs.World.{World, node_count}
-use Rattle.world_laws.specs.Callers.{CallHolds, CallSight, HasCall, HasCallOrNone, HasEnded, HasNoCall, IsMade, IsSoFar, IsToBeMade, asked_of, call_sight, frame_at, is_about, is_in_stream, only_if}
+use Rattle.world_laws.specs.Callers.{CallHolds, CallSight, HasCall, HasCallOrNone, IsSoFar, asked_of, call_sight, frame_at, is_about, is_in_stream, only_if}
 use Rattle.world_laws.specs.Invariant.{Holds}
 use Rattle.world_laws.specs.Places.{Beside, CallPlace, Idle, AsksLease, HasLease, InAsk, InRequest, InNotOwner, SentByPlace, SentByRange, InBounce, IsHeld, IsInHand, InAnswer, Ends}
 use Rattle.world_laws.specs.Sights.{frames_to, is_born_in, node_of}
 use Rattle.frame_bytes.specs.LimitTests.{is_frame}
-use Rattle.world_frames.specs.Within.{HasGoodFrames, IsReplyShort}
-use Rattle.world_frames.proofs.Abouts.{MayBeSaid, said-is-frame}
-use Rattle.world_frames.proofs.Calls.{IsSpellable}
+use Rattle.world_frames.specs.Within.{HasGoodFrames}
+use Rattle.world_frames.proofs.Abouts.{said-is-frame}
 use Rattle.world_frames.proofs.Lines.{due-is-spellable}
 
 -- the only frame that there may be

@@ -1,6 +1,6 @@
 -- A Checkpoint on its way is within the limits: its deed is the new process's, and its variables are those of the
 -- process's place in the history.
-use Rattle.std.proofs.Common.{◌≡◌, ◌≢◌, ℕ, ◌+◌, ◌*◌, ◌≤◌, Bool, true, false, not, ◌&&◌, nat_eq, List, [], ◌∷◌, ◌++◌, length, filter, Option, Some, None, is_some, refl, ap, sym, subst, ◌∙◌, inl, inr, arith}
+use Rattle.std.proofs.Common.{◌≡◌, ◌≢◌, ℕ, ◌≤◌, true, not, nat_eq, List, [], length, Option, Some, None, is_some, refl, ap, sym, subst, ◌∙◌, inl, inr, arith}
 use Rattle.std.specs.Prelude.{Contains}
 use Rattle.std.proofs.lemmas.Bool.{and_from, and_parts, eqb-true, false≢true}
 use Rattle.std.proofs.lemmas.List.{length-append}
@@ -14,7 +14,7 @@ use Rattle.rpc_frame.specs.declared.frame.Frame.TheVariants as frames
 use Rattle.number_maps.specs.Maps.{get}
 use Rattle.kernel_laws.proofs.Members.{contains-cases, contains-filter, contains-none}
 use Rattle.kernel_laws.proofs.ValidLaws.{reachable_kernels_are_valid_lemma}
-use Rattle.kernel_model.specs.Fitting.{Place, block_at, block_place}
+use Rattle.kernel_model.specs.Fitting.{block_at, block_place}
 use Rattle.kernel_model.specs.Kernel.{Process}
 use Rattle.kernel_model.specs.Kernel as kernel
 use Rattle.kernel_model.specs.Script.{IsSoundScript, Vars}
@@ -103,7 +103,8 @@ checkpoint-fits pid parent deed vars within short fine =
     in let each = fields-length value_field 6 vars (λ _. refl)
     in let whole = length-append deed.body (vars_field vars)
     in fields-are-frame (frames.Checkpoint pid parent deed vars)
-    (and_from (is_deed deed) (are_vars vars) within (vars-are-within vars fine)) (omega (arith, few, each, whole, short))
+    (and_from (is_deed deed) (are_vars vars) within (vars-are-within vars fine))
+    (omega (arith, few, each, whole, short))
 
 -- ---- a world
 

@@ -1,12 +1,10 @@
 -- A deed that is on its way alone is within the limits: GiveBack and Grant.
-use Rattle.std.proofs.Common.{◌≡◌, ℕ, ◌+◌, ◌^◌, ◌≤◌, Bool, true, false, ◌&&◌, List, [], ◌∷◌, length, refl, ap, sym, subst, ◌∙◌, inl, inr, arith}
+use Rattle.std.proofs.Common.{◌≡◌, ℕ, ◌^◌, ◌≤◌, true, List, length, sym, subst, arith}
 use Rattle.std.specs.Prelude.{Contains}
 use Rattle.std.proofs.lemmas.Bool.{and_from, false≢true, lt-ltb}
 use Rattle.pico_base.specs.declared.numbers.Name.{Name}
-use Rattle.pico_base.specs.declared.numbers.Name.TheVariants.{Proc}
 use Rattle.pico_base.specs.declared.script.Script.{Script}
 use Rattle.rpc_frame.specs.declared.deed.PackedDeed.{PackedDeed}
-use Rattle.rpc_frame.specs.declared.frame.Frame.{Frame}
 use Rattle.rpc_frame.specs.declared.frame.Frame.TheVariants as frames
 use Rattle.kernel_laws.specs.Reachable.{IsReachableKernel}
 use Rattle.kernel_model.specs.Script.{IsSoundScript}
@@ -17,12 +15,11 @@ use Rattle.node_model.specs.declared.held.Held.{Held}
 use Rattle.node_model.specs.Spelling.{body_bytes, pack}
 use Rattle.world_model.specs.World.{World}
 use Rattle.world_laws.specs.Invariant.{Holds}
-use Rattle.world_laws.specs.Names.{IsBringer, IsCheckpointOf, IsExitOf, IsLeftOf, forker, is_stream_of}
+use Rattle.world_laws.specs.Names.{IsBringer, forker, is_stream_of}
 use Rattle.world_laws.specs.Places.{Beside, DeedPlace, Unmade, InTable, InCheckpoint, InGrant, InGiveBack, InLeft, InKept, InHand, InExitTo}
 use Rattle.world_laws.specs.Sights.{frames_to}
 use Rattle.world_bounds.proofs.Deeds.{rows-have-bytes}
 use Rattle.frame_bytes.specs.Fields.{name_number}
-use Rattle.frame_bytes.specs.Frames.{deed_field}
 use Rattle.frame_bytes.specs.LimitTests.{is_deed, is_frame}
 use Rattle.world_frames.proofs.Bodies.{body-is-short}
 use Rattle.world_frames.proofs.Names.{Brought, brought-is, used-is-nonzero}

@@ -8,9 +8,8 @@
 --   Checkpoint: a used name, a short body, and variables by rising number, from the place in the history
 --   GiveBack, Grant: a used name and a short body, the kernel's
 --   Left, ExitTo: a call that ends a process, and few deeds by rising number, of processes of the script's nodes
-use Rattle.std.proofs.Common.{◌≡◌, ℕ, ◌≤◌, true, List, refl, sym, subst, arith}
+use Rattle.std.proofs.Common.{◌≡◌, ℕ, true, List, refl, arith}
 use Rattle.std.specs.Prelude.{Contains}
-use Rattle.std.specs.List.{AllByRecursion}
 use Rattle.std.proofs.lemmas.Bool.{eq-eqb}
 use Rattle.std.proofs.lemmas.List.Elements.{All-contains, All-from_recursion}
 use Rattle.pico_base.specs.declared.script.Script.{Script}
@@ -69,8 +68,8 @@ module _ (script : Script) (sound : IsSoundScript script) (w : World) (hand : Li
       there (eq-eqb asked.caller asked.caller refl)
   every-frame-is-within to sender (frames.Answer ticket reply) there =
       let own = of-receiver to sender (frames.Answer ticket reply) there
-      in about-is-frame script sound w hand b holds good to to sender (frames.Answer ticket reply) own.low own.high there
-      (eq-eqb to to refl)
+      in about-is-frame script sound w hand b holds good to to sender (frames.Answer ticket reply) own.low own.high
+      there (eq-eqb to to refl)
   every-frame-is-within to sender (frames.NotOwner ticket) there =
       let own = of-receiver to sender (frames.NotOwner ticket) there
       in about-is-frame script sound w hand b holds good to to sender (frames.NotOwner ticket) own.low own.high there

@@ -1,5 +1,5 @@
 -- The lines of a sound script, and the call that is due at a place of one of its blocks.
-use Rattle.std.proofs.Common.{◌≡◌, ℕ, zero, suc, ◌-◌, Bool, true, false, ◌&&◌, List, [], ◌∷◌, drop, Option, Some, None, refl, ap, sym, subst, ◌∙◌, inl, inr}
+use Rattle.std.proofs.Common.{◌≡◌, ℕ, zero, suc, ◌-◌, Bool, true, false, List, [], ◌∷◌, drop, Option, Some, None, refl, subst, inl, inr}
 use Rattle.std.specs.Prelude.{if◌then◌else◌, is_some}
 use Rattle.std.specs.List.{AllByRecursion, list_all}
 use Rattle.std.proofs.lemmas.Bool.{and_parts, false≢true}
@@ -27,7 +27,8 @@ line-is-fine line h =
     in let once = and_parts (is_tried_once line) _ tries.1
     in let sets = and_parts (sets_rightly line) _ once.1
     in let ranged = and_parts (is_in_range line.call) _ sets.1
-    in let named = and_parts (if is_some line.from then can_name line.call else is_process_in_range line.call) _ ranged.1
+    in let named =
+    and_parts (if is_some line.from then can_name line.call else is_process_in_range line.call) _ ranged.1
     in record {
       call = range-is-spellable line.call ranged.0;
       variable = (and_parts (is_variable line.set) _ named.1).0;

@@ -1,8 +1,8 @@
 -- Names in frames: a used name's number isn't 0, and a frame brings a name's deed as the invariant says it.
-use Rattle.std.proofs.Common.{◌≡◌, ℕ, zero, suc, ◌≤◌, Bool, true, false, List, [], ◌∷◌, filter, Option, Some, None, refl, ap, sym, subst, ◌∙◌, inl, inr, arith}
+use Rattle.std.proofs.Common.{◌≡◌, ℕ, zero, ◌≤◌, Bool, true, false, List, [], ◌∷◌, filter, refl, ap, sym, subst, ◌∙◌, inl, inr, arith}
 use Rattle.std.specs.Prelude.{Contains, if◌then◌else◌}
 use Rattle.std.specs.List.{flat_map}
-use Rattle.std.proofs.lemmas.Bool.{cases_Bool, false≢true}
+use Rattle.std.proofs.lemmas.Bool.{false≢true}
 use Rattle.std.proofs.lemmas.List.Elements.{Contains-append_left, Contains-append_right}
 use Rattle.pico_base.specs.declared.numbers.Name.{Name}
 use Rattle.pico_base.specs.declared.numbers.Name.TheVariants.{Proc, Msg, Sem}
@@ -13,15 +13,15 @@ use Rattle.kernel_laws.proofs.Members.{contains-cases, contains-filter, contains
 use Rattle.kernel_moves.specs.Entering.{is_used_name}
 use Rattle.kernel_moves.proofs.Names.{same-name}
 use Rattle.node_model.specs.Bodies.{body_in}
-use Rattle.node_model.specs.Directory.{Directory, maker, maker_in}
+use Rattle.node_model.specs.Directory.{maker, maker_in}
 use Rattle.node_model.specs.declared.held.Held.{Held}
 use Rattle.node_model.specs.Kinds.{for_kind, kind_of, number_of}
 use Rattle.world_model.specs.Census.{brings}
 use Rattle.world_model.specs.World.{World}
-use Rattle.world_laws.specs.Invariant.{Holds, MayBe}
-use Rattle.world_laws.specs.Names.{IsBringer, IsTold, NameHolds, OneIf, OnlyOne, forker, is_stream_of, name_sight}
-use Rattle.world_laws.specs.Places.{Beside, DeedPlace, Unmade}
-use Rattle.world_laws.specs.Plays.{placed_by, placed_in}
+use Rattle.world_laws.specs.Invariant.{Holds}
+use Rattle.world_laws.specs.Names.{IsBringer, IsTold, NameHolds, OneIf, forker, is_stream_of, name_sight}
+use Rattle.world_laws.specs.Places.{Beside, Unmade}
+use Rattle.world_laws.specs.Plays.{placed_by}
 use Rattle.world_laws.specs.Ranges.{KindHolds, is_given, kind_sight}
 use Rattle.world_laws.specs.Sights.{directory_of, frames_to, is_born_in}
 use Rattle.frame_bytes.specs.Fields.{name_number}
@@ -97,17 +97,18 @@ module _ (script : Script) (w : World) (hand : List Held) (b : Beside) (holds : 
 
   brought-by : (name : Name) (to sender : ℕ) (f : Frame) (t : Bool)
       → is_stream_of (forker script) (b.deed name) to sender ≡ t
-      → OneIf t (IsBringer b.pids name (body_in b.kernel name) (b.deed name)) (filter (brings name) (frames_to w to sender))
+      → OneIf t (IsBringer b.pids name (body_in b.kernel name) (b.deed name))
+      (filter (brings name) (frames_to w to sender))
       → Contains (filter (brings name) (frames_to w to sender)) f → Brought name to sender f
   brought-by name to sender f false is one there = absurd (contains-none f (subst (λ fs. Contains fs f) one there))
   brought-by name to sender f true is one there =
       elim (contains-cases one.one [] f (subst (λ fs. Contains fs f) one.only there)) [
         | inl same ↦ record {
-            used = used-where-made name (is_used_name b.kernel name) refl
-                (λ unmade. false≢true (sym (ap (λ place. is_stream_of (forker script) place to sender) unmade) ∙ is));
-            in_stream = is;
-            bringer = subst (IsBringer b.pids name (body_in b.kernel name) (b.deed name)) same one.holds;
-          }
+          used = used-where-made name (is_used_name b.kernel name) refl
+              (λ unmade. false≢true (sym (ap (λ place. is_stream_of (forker script) place to sender) unmade) ∙ is));
+          in_stream = is;
+          bringer = subst (IsBringer b.pids name (body_in b.kernel name) (b.deed name)) same one.holds;
+        }
         | inr later ↦ absurd (contains-none f later)
       ]
 

@@ -1,5 +1,5 @@
 -- The parcels on their way have few short deeds, so that Left and ExitTo are within the limits.
-use Rattle.std.proofs.Common.{◌≡◌, ◌≢◌, ℕ, ◌+◌, ◌-◌, ◌≤◌, Bool, true, false, nat_eq, List, [], ◌∷◌, length, map, Option, Some, None, is_some, refl, ap, sym, subst, ◌∙◌, inl, inr, arith}
+use Rattle.std.proofs.Common.{◌≡◌, ℕ, ◌≤◌, true, nat_eq, List, length, map, Option, Some, None, is_some, refl, ap, sym, subst, ◌∙◌, arith}
 use Rattle.std.specs.Prelude.{Contains}
 use Rattle.std.specs.Cmp.{nat_eq_equiv}
 use Rattle.std.specs.List.{list_any}
@@ -11,7 +11,6 @@ use Rattle.pico_base.specs.declared.numbers.Name.TheVariants.{Proc}
 use Rattle.pico_base.specs.declared.script.Script.{Script}
 use Rattle.rpc_frame.specs.declared.deed.PackedDeed.{PackedDeed}
 use Rattle.rpc_frame.specs.declared.deed.Parcel.{Parcel}
-use Rattle.rpc_frame.specs.declared.frame.Frame.{Frame}
 use Rattle.rpc_frame.specs.declared.frame.Frame.TheVariants as frames
 use Rattle.number_maps.specs.Maps.{get}
 use Rattle.kernel_laws.proofs.ValidLaws.{reachable_kernels_are_valid_lemma}
@@ -23,14 +22,14 @@ use Rattle.node_model.specs.Bodies.{Body, body_in}
 use Rattle.node_model.specs.Directory.{has_deed_of}
 use Rattle.node_model.specs.declared.held.Held.{Held}
 use Rattle.node_model.specs.Kinds.{is_same_name, number_of}
-use Rattle.node_model.specs.Parcels.{may_end_with, pack_all}
+use Rattle.node_model.specs.Parcels.{may_end_with}
 use Rattle.node_model.specs.Spelling.{body_bytes, pack}
 use Rattle.world_model.specs.World.{World, node_count, numbers}
 use Rattle.world_laws.specs.Invariant.{Holds}
 use Rattle.world_laws.specs.Names.{HasDeed, IsBringer, IsExitOf, IsLeftOf, forker, is_stream_of}
 use Rattle.world_laws.specs.Places.{Beside, DeedPlace, Unmade, InTable, InCheckpoint, InGrant, InGiveBack, InLeft, InKept, InHand, InExitTo}
 use Rattle.world_laws.specs.Sights.{frames_to, stage_of}
-use Rattle.world_laws.specs.Ways.{HasSender, IsParcelIn, IsParcelOf, left, sent, under_way_of}
+use Rattle.world_laws.specs.Ways.{HasSender, IsParcelOf, left, sent, under_way_of}
 use Rattle.world_bounds.proofs.Deeds.{in-numbers, is-among, length-of-numbers, rows-have-bytes}
 use Rattle.world_bounds.proofs.Ranges.{few-blocks}
 use Rattle.frame_bytes.specs.LimitTests.{is_frame}

@@ -1,21 +1,16 @@
--- A parcel on its way is within the limits: Left and ExitTo. Its deeds are of processes of the script's nodes, by rising
--- number, each with the kernel's body.
-use Rattle.std.proofs.Common.{◌≡◌, ◌≢◌, ◌⊎◌, ℕ, zero, suc, ◌+◌, ◌*◌, ◌<◌, ◌^◌, ◌≤◌, Bool, true, false, ◌&&◌, ◌||◌, nat_eq, nat_lt, List, [], ◌∷◌, ◌++◌, length, map, Option, Some, None, is_some, refl, ap, sym, subst, ◌∙◌, inl, inr, arith}
+-- A parcel on its way is within the limits: Left and ExitTo. Its deeds are of processes of the script's nodes, by
+-- rising number, each with the kernel's body.
+use Rattle.std.proofs.Common.{◌≡◌, ℕ, ◌+◌, ◌*◌, ◌<◌, ◌^◌, ◌≤◌, true, false, ◌||◌, nat_eq, List, [], ◌∷◌, length, map, Some, refl, ap, sym, subst, ◌∙◌, inl, inr, arith}
 use Rattle.std.specs.Prelude.{Contains, nat_le}
-use Rattle.std.specs.Cmp.{nat_eq_equiv}
 use Rattle.std.specs.List.{AllByRecursion, IsDistinct, flat_map, list_all, list_any}
-use Rattle.std.proofs.lemmas.Bool.{and_from, cases_eq, eqb-true, false≢true, le-leb, lt-ltb, ne_eqb, or_cases, or_right}
+use Rattle.std.proofs.lemmas.Bool.{and_from, eqb-true, false≢true, le-leb, lt-ltb, ne_eqb, or_cases, or_right}
 use Rattle.std.proofs.lemmas.List.{length-append, length-map}
 use Rattle.std.proofs.lemmas.Map.Keys.{IsDistinct-cons}
-use Rattle.std.proofs.lemmas.Map.Made.{length-le_from_is_member}
 use Rattle.pico_base.specs.declared.call.Call.{Call}
 use Rattle.pico_base.specs.declared.call.Call.TheVariants as calls
-use Rattle.pico_base.specs.declared.numbers.Name.{Name}
 use Rattle.pico_base.specs.declared.numbers.Name.TheVariants.{Proc}
-use Rattle.pico_base.specs.declared.script.Script.{Script}
 use Rattle.rpc_frame.specs.declared.deed.PackedDeed.{PackedDeed}
 use Rattle.rpc_frame.specs.declared.deed.Parcel.{Parcel}
-use Rattle.rpc_frame.specs.declared.frame.Frame.{Frame}
 use Rattle.rpc_frame.specs.declared.frame.Frame.TheVariants as frames
 use Rattle.number_maps.specs.Maps.{Numbered, get}
 use Rattle.number_maps.specs.Rising.{IsRising}
@@ -25,13 +20,10 @@ use Rattle.kernel_laws.proofs.Members.{contains-cases, contains-first, contains-
 use Rattle.kernel_laws.proofs.Plain.{from_some}
 use Rattle.kernel_model.specs.Row.{Row}
 use Rattle.kernel_moves.proofs.Names.{same-name}
-use Rattle.node_model.specs.Bodies.{Body, body_in}
-use Rattle.node_model.specs.Directory.{has_deed_of}
+use Rattle.node_model.specs.Bodies.{Body}
 use Rattle.node_model.specs.Kinds.{is_same_name}
 use Rattle.node_model.specs.Parcels.{may_end_with, pack_all}
 use Rattle.node_model.specs.Spelling.{body_bytes, pack}
-use Rattle.world_laws.specs.Names.{IsBringer, IsExitOf, IsLeftOf, is_stream_of}
-use Rattle.world_laws.specs.Places.{DeedPlace, Unmade, InTable, InCheckpoint, InGrant, InGiveBack, InLeft, InKept, InHand, InExitTo}
 use Rattle.frame_bytes.specs.Calls.{call_bytes}
 use Rattle.frame_bytes.specs.Fields.{rise_from}
 use Rattle.frame_bytes.specs.Frames.{are_processes, deed_field, deeds_field, process_of}

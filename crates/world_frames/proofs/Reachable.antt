@@ -1,5 +1,5 @@
 -- In each world of a run in which the invariant holds, every frame on its way is within the limits of frames.
-use Rattle.std.proofs.Common.{◌≡◌, ℕ, ◌≤◌, true, List, [], ◌∷◌, ◌++◌, Option, Some, None, refl, ap, sym, subst, ◌∙◌, inl, inr}
+use Rattle.std.proofs.Common.{◌≡◌, ℕ, ◌≤◌, true, List, [], ◌∷◌, ◌++◌, refl, ap, subst, ◌∙◌, inl, inr}
 use Rattle.std.specs.Prelude.{Contains}
 use Rattle.std.proofs.lemmas.List.Elements.{All-contains, All-from_recursion}
 use Rattle.pico_base.specs.declared.numbers.Name.{Name}
@@ -10,7 +10,7 @@ use Rattle.rpc_frame.specs.declared.frame.Frame.{Frame}
 use Rattle.rpc_frame.specs.declared.frame.Frame.TheVariants as frames
 use Rattle.kernel_laws.specs.Reachable.{IsReachableKernel}
 use Rattle.kernel_laws.proofs.Members.{contains-cases, contains-none}
-use Rattle.kernel_laws.proofs.Plain.{Of, from_some}
+use Rattle.kernel_laws.proofs.Plain.{from_some}
 use Rattle.kernel_laws.proofs.Steps.{Step, step}
 use Rattle.kernel_model.specs.Effect.{Effect}
 use Rattle.kernel_model.specs.History.{Replays, number_in}

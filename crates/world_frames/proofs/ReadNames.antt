@@ -1,13 +1,11 @@
 -- A queue or set that a call has read has a number that isn't 0, since it was fresh once.
-use Rattle.std.proofs.Common.{◌≡◌, ℕ, ◌≤◌, Bool, true, false, not, ◌&&◌, nat_lt, List, [], ◌∷◌, Option, Some, None, is_some, refl, ap, sym, subst, ◌∙◌, inl, inr, arith}
-use Rattle.std.specs.Prelude.{if◌then◌else◌}
+use Rattle.std.proofs.Common.{◌≡◌, ℕ, ◌≤◌, true, false, not, nat_lt, List, Option, Some, None, is_some, refl, ap, sym, subst, ◌∙◌, inl, inr, arith}
 use Rattle.std.specs.List.{list_any}
 use Rattle.std.proofs.lemmas.Bool.{and_parts, cases_eq, false≢true, ltb-true}
 use Rattle.pico_base.specs.declared.call.Call.{Call}
 use Rattle.pico_base.specs.declared.call.Call.TheVariants as calls
-use Rattle.pico_base.specs.declared.call.SemStep.{SemStep}
 use Rattle.pico_base.specs.declared.numbers.Name.{Name}
-use Rattle.pico_base.specs.declared.numbers.Name.TheVariants.{Proc, Msg, Sem}
+use Rattle.pico_base.specs.declared.numbers.Name.TheVariants.{Msg, Sem}
 use Rattle.pico_base.specs.declared.reply.Errno.{Errno}
 use Rattle.pico_base.specs.declared.reply.Reply.TheVariants as replies
 use Rattle.pico_base.specs.Home.{home_of}
@@ -24,7 +22,7 @@ use Rattle.kernel_model.specs.Queue.{Queue, receive}
 use Rattle.kernel_model.specs.QueueCalls.{receive_effect}
 use Rattle.kernel_model.specs.Row.{Alive}
 use Rattle.kernel_model.specs.SemaphoreSet.{SemaphoreSet, op}
-use Rattle.kernel_model.specs.SetCalls.{change_set, operate}
+use Rattle.kernel_model.specs.SetCalls.{change_set}
 use Rattle.kernel_model.specs.Transition.{effect}
 use Rattle.kernel_model.specs.Valid.{IsValid}
 use Rattle.kernel_model.specs.Waiting.{may_wait}
@@ -104,12 +102,14 @@ module _ (k : Kernel) (reachable : IsReachableKernel k) where
   HasNumber call id e = has_read call e.reply ≡ true → 1 ≤ id
 
   received-has-number : (id pid : ℕ) (call : Call) (o : Option Queue) (f : Queue → Effect)
-      → get k.queues id ≡ o → ((e : Errno) → has_read call (replies.Fail e) ≡ false) → HasNumber call id (on_named k o f)
+      → get k.queues id ≡ o → ((e : Errno) → has_read call (replies.Fail e) ≡ false)
+      → HasNumber call id (on_named k o f)
   received-has-number id pid call None f is refused = λ reads. absurd (false≢true (sym (refused _) ∙ reads))
   received-has-number id pid call (Some q) f is refused = λ reads. queue-has-number id q is
 
   operated-has-number : (id : ℕ) (call : Call) (o : Option SemaphoreSet) (f : SemaphoreSet → Effect)
-      → get k.sets id ≡ o → ((e : Errno) → has_read call (replies.Fail e) ≡ false) → HasNumber call id (on_named k o f)
+      → get k.sets id ≡ o → ((e : Errno) → has_read call (replies.Fail e) ≡ false)
+      → HasNumber call id (on_named k o f)
   operated-has-number id call None f is refused = λ reads. absurd (false≢true (sym (refused _) ∙ reads))
   operated-has-number id call (Some s) f is refused = λ reads. set-has-number id s is
 

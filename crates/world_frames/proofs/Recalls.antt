@@ -1,6 +1,6 @@
 -- A Recall on its way is of a name that is used, and within the limits: where a name is unused nothing brings its deed,
 -- and a play fails at a Recall.
-use Rattle.std.proofs.Common.{◌≡◌, ℕ, ◌≤◌, Bool, true, false, not, ◌&&◌, ◌||◌, nat_eq, cond, List, [], ◌∷◌, ◌++◌, filter, Option, Some, None, is_some, refl, ap, sym, subst, ◌∙◌, inl, inr, arith}
+use Rattle.std.proofs.Common.{◌≡◌, ℕ, ◌≤◌, Bool, true, false, not, nat_eq, cond, List, [], ◌∷◌, filter, Option, Some, None, is_some, refl, ap, sym, subst, ◌∙◌, inl, inr, arith}
 use Rattle.std.specs.Prelude.{Contains, if◌then◌else◌}
 use Rattle.std.specs.List.{AllByRecursion}
 use Rattle.std.proofs.lemmas.Bool.{and_right, cases_eq, false≢true}
@@ -21,9 +21,9 @@ use Rattle.world_model.specs.Census.{brings}
 use Rattle.world_model.specs.Node.{Stage, Unborn, Living, Leaving, Left, Over}
 use Rattle.world_model.specs.World.{World}
 use Rattle.world_laws.specs.Invariant.{Holds}
-use Rattle.world_laws.specs.Names.{IsBringer, NameHolds, NameSight, OneIf, PlaysTo, comes_to, forker, held_as, held_at, is_stream_of, name_sight}
-use Rattle.world_laws.specs.Places.{Beside, CallPlace, DeedPlace, Unmade}
-use Rattle.world_laws.specs.Plays.{Hold, Has, Lacks, Done, PlayStep, Comes, Goes, AllGo, IsNeeded, begin, brings_checkpoint, has_any, is_checkpoint_of, is_has, needs_deed, play, play_on, play_step, plays, steps_if, steps_of}
+use Rattle.world_laws.specs.Names.{IsBringer, NameHolds, OneIf, PlaysTo, comes_to, forker, held_as, held_at, is_stream_of, name_sight}
+use Rattle.world_laws.specs.Places.{Beside, CallPlace, Unmade}
+use Rattle.world_laws.specs.Plays.{Hold, Has, Lacks, Done, Comes, Goes, IsNeeded, begin, brings_checkpoint, has_any, is_checkpoint_of, is_has, needs_deed, play, play_on, plays, steps_if, steps_of}
 use Rattle.world_laws.specs.Sights.{frames_to, is_born_in, stage_of}
 use Rattle.world_laws.proofs.Played.{play-append, play-none}
 use Rattle.frame_bytes.specs.Fields.{name_number}

@@ -1,36 +1,29 @@
 -- What the kernel replies to a call that others carry out is short, and what a call has read has a number.
-use Rattle.std.proofs.Common.{◌≡◌, ℕ, ℤ, ◌+◌, ◌*◌, ◌^◌, ◌≤◌, Bool, true, false, not, ◌&&◌, ◌||◌, nat_eq, nat_lt, List, [], ◌∷◌, length, map, take, min, Option, Some, None, is_some, Result, Ok, Err, refl, ap, sym, subst, ◌∙◌, inl, inr, arith}
-use Rattle.std.specs.Prelude.{All, if◌then◌else◌, nat_le, slice_get}
+use Rattle.std.proofs.Common.{◌≡◌, ℕ, ℤ, ◌^◌, ◌≤◌, Bool, true, false, ◌&&◌, ◌||◌, nat_eq, List, length, Option, Some, None, Result, Ok, Err, refl, subst, arith}
+use Rattle.std.specs.Prelude.{All, nat_le, slice_get}
 use Rattle.std.specs.List.{list_any}
-use Rattle.std.proofs.lemmas.Bool.{and_parts, cases_eq, false≢true, lt-ltb, ltb-true}
+use Rattle.std.proofs.lemmas.Bool.{false≢true, lt-ltb}
 use Rattle.std.proofs.lemmas.List.{length-map, length-take}
 use Rattle.std.proofs.lemmas.List.Elements.{All-get_or}
 use Rattle.std.proofs.lemmas.Option.{get_or_from_slice_get, slice_get_within}
 use Rattle.pico_base.specs.declared.call.Call.{Call}
 use Rattle.pico_base.specs.declared.call.Call.TheVariants as calls
 use Rattle.pico_base.specs.declared.call.SemStep.{SemStep}
-use Rattle.pico_base.specs.declared.numbers.Name.{Name}
-use Rattle.pico_base.specs.declared.numbers.Name.TheVariants.{Proc, Msg, Sem}
 use Rattle.pico_base.specs.declared.reply.Errno.{Errno}
-use Rattle.pico_base.specs.declared.reply.Reply.{Reply}
 use Rattle.pico_base.specs.declared.reply.Reply.TheVariants as replies
 use Rattle.pico_base.specs.declared.signal.SigArg.{SigArg}
 use Rattle.pico_base.specs.declared.signal.SigArg.TheVariants.{Zero, Is, Bad}
 use Rattle.pico_base.specs.Home.{home_of}
-use Rattle.number_maps.specs.Maps.{Numbered, get, put, is_used, used_with}
-use Rattle.number_maps.proofs.Sets.{used-with-other}
+use Rattle.number_maps.specs.Maps.{Numbered, get, put}
 use Rattle.kernel_laws.specs.Queues.{IsMessage, IsQueueWithinLimits}
 use Rattle.kernel_laws.specs.Reachable.{IsReachableKernel}
 use Rattle.kernel_laws.specs.Sets.{IsSetWithinLimits}
-use Rattle.kernel_laws.proofs.Histories.{Kept, kept-along}
 use Rattle.kernel_laws.proofs.Plain.{Of, by_test}
 use Rattle.kernel_laws.proofs.QueueLaws.{queues_are_within_limits_lemma}
 use Rattle.kernel_laws.proofs.SetLaws.{sets_are_within_limits_lemma}
-use Rattle.kernel_laws.proofs.ValidLaws.{reachable_kernels_are_valid_lemma}
 use Rattle.kernel_model.specs.Effect.{Effect, is_fresh, look_up, on_named, refuse, reply_with}
 use Rattle.kernel_model.specs.Kernel.{Kernel, Process, opening}
 use Rattle.kernel_model.specs.Kernel as kernel
-use Rattle.kernel_model.specs.Numbers.{is_positive_u32, is_u32}
 use Rattle.kernel_model.specs.ProcessCalls.{kill, kill_at, signal_living}
 use Rattle.kernel_model.specs.Queue.{Message, Queue, Received, receive, receive_at, receive_from, select, send, set_qbytes, take_message}
 use Rattle.kernel_model.specs.QueueCalls.{change_queue, get_queue_at, new_queue, receive_effect, remove_queue, stat_effect}
@@ -38,14 +31,9 @@ use Rattle.kernel_model.specs.Row.{Alive}
 use Rattle.kernel_model.specs.SemaphoreSet.{Semaphore, SemaphoreSet, last_at, new_set, op, set_all, set_value, value_at, values_of, waiting_at}
 use Rattle.kernel_model.specs.SetCalls.{all_values, change_set, find_set, get_set_at, new_set_of, operate, remove_set, set_size}
 use Rattle.kernel_model.specs.Transition.{effect}
-use Rattle.kernel_model.specs.Valid.{IsValid}
 use Rattle.kernel_model.specs.Waiting.{may_wait}
-use Rattle.kernel_moves.proofs.Names.{same-name-is}
-use Rattle.node_model.specs.Kinds.{is_same_name}
-use Rattle.node_model.specs.Serving.{has_read}
 use Rattle.world_model.specs.Calls.{is_for_others}
-use Rattle.world_laws.specs.Plays.{is_home_on}
-use Rattle.frame_bytes.specs.Fields.{name_number, word}
+use Rattle.frame_bytes.specs.Fields.{word}
 use Rattle.world_frames.specs.Within.{IsReplyShort}
 use Rattle.world_frames.proofs.Plain.{fields-length}
 
@@ -93,7 +81,8 @@ message-at ms i m all is =
     subst IsMessage (get_or_from_slice_get ms i m m is) (All-get_or IsMessage ms i m (slice_get_within ms i m is) all)
 
 received-at-is-short : (q : Queue) (pid size : ℕ) (noerror : Bool) (place : ℕ) (o : Option Message)
-    → All IsMessage q.messages → slice_get q.messages place ≡ o → IsShortReceived (receive_at q pid size noerror place o)
+    → All IsMessage q.messages → slice_get q.messages place ≡ o
+    → IsShortReceived (receive_at q pid size noerror place o)
 received-at-is-short q pid size noerror place None all is = tt
 received-at-is-short q pid size noerror place (Some m) all is =
     by_test IsShortReceived (nat_le (length m.text) size || noerror) (Ok (take_message q pid size place m)) _
@@ -105,7 +94,8 @@ received-from-is-short q pid size noerror None all = tt
 received-from-is-short q pid size noerror (Some place) all =
     received-at-is-short q pid size noerror place (slice_get q.messages place) all refl
 
-receive-is-short : (k : Kernel) (id : ℕ) (r : Result Received Errno) → IsShortReceived r → IsShort (receive_effect k id r)
+receive-is-short : (k : Kernel) (id : ℕ) (r : Result Received Errno) → IsShortReceived r
+    → IsShort (receive_effect k id r)
 receive-is-short k id (Ok r) short =
     record { within = lt-ltb (length r.message.text) (2 ^ 32) (omega (arith, short)); short = omega (arith, short) }
 receive-is-short k id (Err e) short = fail-is-short e

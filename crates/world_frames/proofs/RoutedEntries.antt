@@ -1,6 +1,7 @@
--- The leader routes calls, carries out ends, and releases what it held: Answers and Suggests are of entries of the step.
-use Rattle.std.proofs.Common.{◌≡◌, ℕ, zero, suc, ◌+◌, Bool, true, false, not, ◌&&◌, nat_eq, List, [], ◌∷◌, ◌++◌, length, Option, Some, None, Result, Ok, Err, refl, ap, ◌∙◌}
-use Rattle.std.specs.Prelude.{count_by, if◌then◌else◌}
+-- The leader routes calls, carries out ends, and releases what it held: Answers and Suggests are of entries of the
+-- step.
+use Rattle.std.proofs.Common.{◌≡◌, ℕ, zero, suc, ◌+◌, true, not, ◌&&◌, nat_eq, List, [], ◌∷◌, ◌++◌, length, Option, Some, None, Result, Ok, Err, refl, ap, ◌∙◌}
+use Rattle.std.specs.Prelude.{count_by}
 use Rattle.std.specs.Option.{option_map}
 use Rattle.pico_base.specs.declared.call.Call.{Call}
 use Rattle.pico_base.specs.declared.call.Call.TheVariants as calls
@@ -30,7 +31,7 @@ use Rattle.node_model.specs.declared.held.Held.TheVariants.{Request, Ending}
 use Rattle.node_model.specs.declared.route.Route.{Route}
 use Rattle.node_model.specs.declared.route.Route.TheVariants as routes
 use Rattle.node_model.specs.Bodies.{AQueue, ASet, Body}
-use Rattle.node_model.specs.Directory.{Directory, Place, At, Coming, has_more, is_parcel, parcels_held, place_of, route, upcoming}
+use Rattle.node_model.specs.Directory.{Place, At, Coming, has_more, is_parcel, parcels_held, place_of, route, upcoming}
 use Rattle.node_model.specs.Kinds.{for_kind, get_named, put_all}
 use Rattle.node_model.specs.Leases.{lease_of}
 use Rattle.node_model.specs.Parcels.{commit_exit, fitting_bodies}
@@ -39,7 +40,7 @@ use Rattle.world_model.specs.Node.{Leader, Node, is_leader}
 use Rattle.world_model.specs.Numbers.{Taken, knows_any, take_first, take_from, take_from_next, take_number, with_next_range}
 use Rattle.world_model.specs.Routing.{AfterEnd, IsHeld, Releases, bind, create_set, end_by, end_process, enter_exit, exit_here, exit_with, find_set, forward, get_by_key, get_queue, get_set, go_on_after, hold_item, make_bound, make_queue, make_set, no_round, recall_and_hold, recall_from, release, release_names, release_round, release_rounds, remove_by, route_by, route_call, route_home, unbind_name}
 use Rattle.world_model.specs.Serving.{serve_asked}
-use Rattle.world_model.specs.Step.{Step, send, with_deeds, with_directory, with_leader, with_node}
+use Rattle.world_model.specs.Step.{Step, send, with_deeds, with_node}
 use Rattle.world_laws.specs.Plays.{is_home_on}
 use Rattle.world_bounds.proofs.Parts.{of-map, of-next, of-some}
 use Rattle.world_frames.specs.Entered.{IsStepEntered}
@@ -48,6 +49,7 @@ use Rattle.world_frames.proofs.StepEntries.{carry-out-entered, enter-entered, se
 
 -- ---- a number is taken
 
+-- the node that a number was taken at keeps its ticket
 abbrev pub IsTakenWell : Taken → Type 0
 IsTakenWell t = HasTicket t.node
 

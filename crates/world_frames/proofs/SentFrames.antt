@@ -1,6 +1,6 @@
 -- What a rule sends is within the limits of frames, where the world that it leaves has the invariant: so that an event
 -- may send all that its rule says.
-use Rattle.std.proofs.Common.{◌≡◌, ℕ, ◌≤◌, Bool, true, nat_eq, List, [], ◌∷◌, ◌++◌, Option, Some, None, refl, ap, sym, subst, ◌∙◌, inl, inr}
+use Rattle.std.proofs.Common.{◌≡◌, ℕ, ◌≤◌, Bool, true, nat_eq, List, [], ◌∷◌, Some, refl, sym, subst, inl, inr}
 use Rattle.std.specs.Prelude.{Contains}
 use Rattle.std.specs.List.{list_all}
 use Rattle.std.proofs.lemmas.Bool.{and_from, eq-eqb}
@@ -18,7 +18,7 @@ use Rattle.world_model.specs.Turn.{take_frame}
 use Rattle.world_model.specs.World.{World, node_count, world_after}
 use Rattle.world_laws.specs.Invariant.{Holds}
 use Rattle.world_laws.specs.Places.{Beside}
-use Rattle.world_laws.specs.Sights.{frames_to, node_of}
+use Rattle.world_laws.specs.Sights.{node_of}
 use Rattle.world_laws.proofs.Changes.{Changes, frames_if, sent}
 use Rattle.world_laws.proofs.Sends.{frame_if, frames_with}
 use Rattle.world_laws.proofs.Steps.{Heads, changes-by-run, changes-by-take, world_without}

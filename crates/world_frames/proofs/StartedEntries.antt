@@ -1,6 +1,5 @@
 -- A node starts its process's next call: Answers and Suggests are of entries of the step.
-use Rattle.std.proofs.Common.{◌≡◌, ℕ, ◌+◌, ◌≤◌, Bool, true, false, not, ◌&&◌, nat_eq, List, Option, Some, None, Result, Ok, Err, refl, ap, ◌∙◌, arith}
-use Rattle.std.specs.Prelude.{if◌then◌else◌}
+use Rattle.std.proofs.Common.{◌≡◌, ℕ, ◌+◌, not, ◌&&◌, nat_eq, Option, Some, None, Result, Ok, Err, refl, ap, ◌∙◌, arith}
 use Rattle.std.specs.Option.{option_and_then}
 use Rattle.pico_base.specs.declared.call.Call.{Call}
 use Rattle.pico_base.specs.declared.call.Call.TheVariants as calls
@@ -11,7 +10,6 @@ use Rattle.pico_base.specs.declared.numbers.Kind.TheVariants as kinds
 use Rattle.pico_base.specs.declared.numbers.Name.{Name}
 use Rattle.pico_base.specs.declared.numbers.Name.TheVariants.{Proc, Msg, Sem}
 use Rattle.pico_base.specs.declared.reply.Errno.{Errno}
-use Rattle.pico_base.specs.declared.reply.Reply.{Reply}
 use Rattle.pico_base.specs.declared.reply.Reply.TheVariants as replies
 use Rattle.pico_base.specs.declared.script.Script.{Script}
 use Rattle.pico_base.specs.Home.{home_of}
@@ -32,7 +30,7 @@ use Rattle.node_model.specs.Leases.{is_used_up}
 use Rattle.node_model.specs.Parcels.{end_first}
 use Rattle.node_model.specs.Serving.{parent_body, serve}
 use Rattle.world_model.specs.Node.{Leaving, Node, Over, asked_here, can_run, holds, is_leader, own_row}
-use Rattle.world_model.specs.Numbers.{Taken, fork_with, make, make_object, make_set, make_taken, make_with, take_number, tell_place}
+use Rattle.world_model.specs.Numbers.{fork_with, make, make_object, make_set, make_taken, make_with, take_number, tell_place}
 use Rattle.world_model.specs.Routing.{route_call}
 use Rattle.world_model.specs.Serving.{serve_asked}
 use Rattle.world_model.specs.Starting.{act, ask, carry_out_own, end_leader, leave, request, run, start, start_at, start_by, start_due, start_end, start_making, start_own, start_set, with_look}
@@ -40,7 +38,6 @@ use Rattle.world_model.specs.Step.{Step, carry_out, send, step_to, with_deeds, w
 use Rattle.world_laws.specs.Plays.{is_home_on}
 use Rattle.world_bounds.proofs.Parts.{of-map, of-next, of-some, of-test}
 use Rattle.world_frames.specs.Entered.{IsStepEntered}
-use Rattle.world_frames.specs.Within.{HasTicket}
 use Rattle.world_frames.proofs.RoutedEntries.{IsTakenWell, route-call-entered, take-number-entered}
 use Rattle.world_frames.proofs.StepEntries.{carry-own-entered, send-entered, serve-asked-entered, step-to-entered, with-deeds-entered, with-node-entered}
 

@@ -1,6 +1,6 @@
--- What a step does to the node, enters and sends keeps that a call under way has a ticket, and that Answers and Suggests
--- are of entries of the step.
-use Rattle.std.proofs.Common.{◌≡◌, ℕ, ◌+◌, ◌≤◌, Bool, true, false, nat_eq, List, [], ◌∷◌, ◌++◌, Option, Some, None, refl, ap, sym, subst, ◌∙◌, inl, inr, arith}
+-- What a step does to the node, enters and sends keeps that a call under way has a ticket, and that Answers and
+-- Suggests are of entries of the step.
+use Rattle.std.proofs.Common.{◌≡◌, ℕ, true, false, nat_eq, List, [], ◌∷◌, ◌++◌, Option, Some, None, refl, sym, subst, ◌∙◌}
 use Rattle.std.specs.Prelude.{Contains, if◌then◌else◌}
 use Rattle.std.specs.List.{AllByRecursion}
 use Rattle.std.proofs.lemmas.Bool.{eq-eqb, false≢true}
@@ -20,7 +20,7 @@ use Rattle.rpc_frame.specs.declared.frame.Frame.TheVariants as frames
 use Rattle.kernel_laws.proofs.Members.{contains-first}
 use Rattle.kernel_laws.proofs.Plain.{Of, by_test}
 use Rattle.node_model.specs.Bodies.{Body, Deeds}
-use Rattle.node_model.specs.Caller.{Caller, answer_call}
+use Rattle.node_model.specs.Caller.{answer_call}
 use Rattle.node_model.specs.Directory.{stays}
 use Rattle.node_model.specs.Kinds.{get_named, put_all}
 use Rattle.node_model.specs.Serving.{Served, has_read, no_such_name, serve}
@@ -81,6 +81,7 @@ frame-entered-behind es more (frames.Suggest name node) k =
     }
 frame-entered-behind es more f k = tt
 
+-- what was sent is of these entries
 abbrev pub AreSent : List Entry → List (ℕ × Frame) → Type 0
 AreSent es sends = AllByRecursion (λ (to_and_frame : ℕ × Frame). IsFrameEntered es to_and_frame.1) sends
 

@@ -1,5 +1,5 @@
 -- A node takes a frame, or starts a call: Answers and Suggests are of entries of the step, rule by rule.
-use Rattle.std.proofs.Common.{◌≡◌, ℕ, ◌≤◌, true, not, ◌&&◌, nat_eq, List, [], ◌∷◌, ◌++◌, map, fold, Option, Some, None, refl, ap, ◌∙◌}
+use Rattle.std.proofs.Common.{◌≡◌, ℕ, true, not, ◌&&◌, nat_eq, List, [], ◌∷◌, ◌++◌, map, fold, Option, Some, None, refl, ap, ◌∙◌}
 use Rattle.std.specs.List.{AllByRecursion, list_all, list_any}
 use Rattle.std.specs.Option.{option_and_then, option_map}
 use Rattle.pico_base.specs.declared.call.Call.{Call}
@@ -7,7 +7,7 @@ use Rattle.pico_base.specs.declared.call.Home.{Home}
 use Rattle.pico_base.specs.declared.call.Home.TheVariants as homes
 use Rattle.pico_base.specs.declared.numbers.Kind.{Kind}
 use Rattle.pico_base.specs.declared.numbers.Name.{Name}
-use Rattle.pico_base.specs.declared.numbers.Name.TheVariants.{Proc, Msg, Sem}
+use Rattle.pico_base.specs.declared.numbers.Name.TheVariants.{Msg, Sem}
 use Rattle.pico_base.specs.declared.reply.Reply.{Reply}
 use Rattle.pico_base.specs.declared.script.Script.{Script}
 use Rattle.pico_base.specs.Home.{home_of}
@@ -150,7 +150,8 @@ module _ (script : Script) where
       none-is (answer_call script n.number n.caller call reply).under_way other
       (answered-none script n.number n.caller call reply)))
 
-  take-answer-entered : (n : Node) (sender ticket : ℕ) (reply : Reply) → Entered (take_answer script n sender ticket reply)
+  take-answer-entered : (n : Node) (sender ticket : ℕ) (reply : Reply)
+      → Entered (take_answer script n sender ticket reply)
   take-answer-entered n sender ticket reply =
       of-next IsStepEntered (under_way_as n ticket) (answered_by script n sender reply)
       (λ call _. answered-entered n sender reply call)
@@ -288,7 +289,8 @@ module _ (script : Script) where
       in of-test IsStepEntered (is_end call)
       (Some (fold send_to_leader (step_to empty) (give_all n.deeds n.pid n.parent call)))
       (λ _. sent-to-leader (give_all n.deeds n.pid n.parent call) (step_to empty) (step-to-entered empty k)
-      (given-entered (pack_all Msg n.deeds.queues ++ pack_all Sem n.deeds.sets) (parcel_of n.deeds n.pid n.parent call)))
+      (given-entered (pack_all Msg n.deeds.queues ++ pack_all Sem n.deeds.sets)
+      (parcel_of n.deeds n.pid n.parent call)))
 
   take-recall-all-entered : (n : Node) (sender : ℕ) → HasTicket n → Entered (take_recall_all n sender)
   take-recall-all-entered n sender k =

@@ -1,7 +1,7 @@
--- Along a history that fits a sound script the variables of each place stand by rising number, none above 2,885, so that
--- a Checkpoint has room for them.
-use Rattle.std.proofs.Common.{◌≡◌, ℕ, zero, suc, ◌+◌, ◌<◌, ◌^◌, ◌≤◌, Bool, true, false, ◌&&◌, nat_lt, List, [], ◌∷◌, length, map, Option, Some, None, refl, ap, sym, subst, ◌∙◌, inl, inr, arith}
-use Rattle.std.specs.Prelude.{nat_le, if◌then◌else◌}
+-- Along a history that fits a sound script the variables of each place stand by rising number, none above 2,885, so
+-- that a Checkpoint has room for them.
+use Rattle.std.proofs.Common.{◌≡◌, ℕ, ◌+◌, ◌^◌, ◌≤◌, true, ◌&&◌, nat_lt, List, [], ◌∷◌, length, map, Option, Some, None, refl, ap, sym, subst, ◌∙◌, inl, inr, arith}
+use Rattle.std.specs.Prelude.{nat_le}
 use Rattle.std.specs.List.{AllByRecursion}
 use Rattle.std.proofs.lemmas.Bool.{and_from, cases_eq, cases_order, le-leb, leb-true, lt-ltb}
 use Rattle.pico_base.specs.declared.call.Call.{Call}
@@ -13,12 +13,12 @@ use Rattle.pico_base.specs.declared.reply.Reply.TheVariants as replies
 use Rattle.pico_base.specs.declared.script.Block.{Block}
 use Rattle.pico_base.specs.declared.script.Line.{Line}
 use Rattle.pico_base.specs.declared.script.Script.{Script}
-use Rattle.number_maps.specs.Maps.{Numbered, get, put}
+use Rattle.number_maps.specs.Maps.{get, put}
 use Rattle.number_maps.specs.Rising.{IsRising}
 use Rattle.number_maps.proofs.LookUps.{get-first, get-later, get-put-other, get-put-same, put-equal, put-greater, put-less}
 use Rattle.number_maps.proofs.Rising.{Above, above-first, rising-nothing, rising-put, rising-rest}
 use Rattle.kernel_laws.proofs.Plain.{by_test, from_some, not_some}
-use Rattle.kernel_model.specs.Fitting.{FitsFrom, Place, Places, after_line, after_reply, asks_again, block_at, block_place, child_vars, child_vars_at, is_killed, move_on, opening_places, place_after, places_after, places_after_fork, set_variable, value_in}
+use Rattle.kernel_model.specs.Fitting.{FitsFrom, Place, Places, after_reply, asks_again, block_at, block_place, child_vars, child_vars_at, is_killed, move_on, opening_places, place_after, places_after, places_after_fork, set_variable, value_in}
 use Rattle.kernel_model.specs.Script.{IsSoundScript, Vars, is_variable}
 use Rattle.frame_bytes.specs.Fields.{rise_from}
 use Rattle.frame_bytes.specs.Frames.{have_order}

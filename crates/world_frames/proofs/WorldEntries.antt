@@ -1,6 +1,6 @@
 -- In each world that a run of a sound script leads to, a call under way has a ticket, and Answers and Suggests on their
 -- way are of entries of the journal.
-use Rattle.std.proofs.Common.{◌≡◌, ℕ, zero, suc, ◌+◌, ◌-◌, ◌≤◌, Bool, true, false, nat_eq, List, [], ◌∷◌, ◌++◌, map, Option, Some, None, unwrap_or, refl, ap, sym, subst, ◌∙◌, inl, inr, arith}
+use Rattle.std.proofs.Common.{◌≡◌, ℕ, ◌-◌, Bool, true, false, nat_eq, List, [], ◌∷◌, ◌++◌, map, Option, Some, None, unwrap_or, refl, ap, sym, subst, ◌∙◌, inl, inr, arith}
 use Rattle.std.specs.Prelude.{if◌then◌else◌}
 use Rattle.std.specs.List.{AllByRecursion}
 use Rattle.std.proofs.lemmas.Bool.{cases_eq, lt-ltb}
@@ -22,7 +22,7 @@ use Rattle.world_laws.proofs.Sends.{frame_if, frames_with}
 use Rattle.world_laws.proofs.Steps.{Heads, changes-by-run, changes-by-take, node-there, world_without}
 use Rattle.world_own.proofs.Enabled.{IsRun, enabled-runs}
 use Rattle.world_rules.proofs.Enabled.{IsTaken, enabled-takes}
-use Rattle.world_bounds.specs.Bounded.{IsNode, IsShapedAndBounded, StepIsBounded}
+use Rattle.world_bounds.specs.Bounded.{IsShapedAndBounded, StepIsBounded}
 use Rattle.world_bounds.proofs.Parts.{all-at, all-both, all-parts, of-some}
 use Rattle.world_bounds.proofs.Runs.{nothing-on-its-way, opening-is-shaped-and-bounded}
 use Rattle.world_bounds.proofs.StepParts.{none-is}

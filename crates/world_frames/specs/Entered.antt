@@ -1,5 +1,5 @@
--- What each world of a run has, with no thought of the invariant: a call under way has a ticket, an Answer's reply is one
--- that an entry of the journal has, and a name that is suggested is one that an entry has read.
+-- What each world of a run has, with no thought of the invariant: a call under way has a ticket, an Answer's reply is
+-- one that an entry of the journal has, and a name that is suggested is one that an entry has read.
 use Rattle.std.specs.Prelude.{◌≡◌, ◌≤◌, ℕ, true, List, Some, Contains}
 use Rattle.std.specs.List.{AllByRecursion}
 use Rattle.pico_base.specs.declared.numbers.Name.{Name}
