@@ -1,4 +1,5 @@
 pub mod Plain
+pub mod Rises
 pub mod Calls
 pub mod Abouts
 pub mod Lines

@@ -28,6 +28,7 @@ use Rattle.frame_bytes.specs.Calls.{call_bytes}
 use Rattle.frame_bytes.specs.Fields.{rise_from}
 use Rattle.frame_bytes.specs.Frames.{are_processes, deed_field, deeds_field, process_of}
 use Rattle.frame_bytes.specs.LimitTests.{are_deeds, is_deed, is_frame, is_last_call}
+use Rattle.world_frames.proofs.Rises.{AreFrom, above-from}
 use Rattle.world_frames.proofs.Plain.{fields-are-frame, some-nonzero}
 
 -- ---- entries by rising number
@@ -131,14 +132,6 @@ each-is-deed (e ∷ bodies) all =
     in and_from _ (list_all is_deed (pack_all Proc bodies))
     (and_from _ _ (some-nonzero e.0 (all.0).0)
     (lt-ltb (length (body_bytes e.1)) (2 ^ 32) (omega (arith, short)))) (each-is-deed bodies all.1)
-
--- each number is at least this one
-abbrev AreFrom : ℕ → Numbered Body → Type 0
-AreFrom low bodies = AllByRecursion (λ (e : ℕ × Body). low ≤ e.0) bodies
-
-above-from : (n : ℕ) (bodies : Numbered Body) → Above n bodies → AreFrom (n + 1) bodies
-above-from n [] above = tt
-above-from n (e ∷ bodies) above = let first = above.0 in (omega (arith, first), above-from n bodies above.1)
 
 packed-rise : (low : ℕ) (bodies : Numbered Body) → IsRising bodies → AreFrom low bodies
     → rise_from low (map (λ deed. process_of deed.name) (pack_all Proc bodies)) ≡ true

@@ -30,6 +30,8 @@ use Rattle.world_bounds.proofs.Parts.{of-some}
 use Rattle.world_bounds.proofs.Runs.{reachable-is-bounded}
 use Rattle.frame_bytes.specs.Fields.{name_number}
 use Rattle.frame_bytes.specs.LimitTests.{is_frame}
+use Rattle.frame_bytes.specs.Limits.{IsWithinLimits}
+use Rattle.frame_bytes.proofs.LimitTestLaws.{frame-passes}
 use Rattle.world_frames.specs.Entered.{IsEntered, IsFrameEntered, IsRead, IsWorldEntered}
 use Rattle.world_frames.specs.Within.{HasGoodFrames, IsReplyShort}
 use Rattle.world_frames.proofs.Every.{every-frame-is-within}
@@ -121,3 +123,10 @@ frames-on-their-way-are-within script w b sound run holds to sender f there =
     let bounded : IsShapedAndBounded script w = reachable-is-bounded script sound w run
     in every-frame-is-within script sound w [] b holds bounded.bounded
     (entered-is-good script w [] b holds (reachable-is-entered script sound w run)) to sender f there
+
+-- So each has a spelling: it may be encoded.
+pub frames-on-their-way-have-a-spelling : (script : Script) (w : World) (b : Beside) → IsSoundScript script
+    → IsReachableWorld script w → Holds script w [] b
+    → (to sender : ℕ) (f : Frame) → Contains (frames_to w to sender) f → IsWithinLimits f
+frames-on-their-way-have-a-spelling script w b sound run holds to sender f there =
+    frame-passes f (frames-on-their-way-are-within script w b sound run holds to sender f there)

@@ -16,13 +16,14 @@ use Rattle.pico_base.specs.declared.script.Script.{Script}
 use Rattle.number_maps.specs.Maps.{get, put}
 use Rattle.number_maps.specs.Rising.{IsRising}
 use Rattle.number_maps.proofs.LookUps.{get-first, get-later, get-put-other, get-put-same, put-equal, put-greater, put-less}
-use Rattle.number_maps.proofs.Rising.{Above, above-first, rising-nothing, rising-put, rising-rest}
+use Rattle.number_maps.proofs.Rising.{above-first, rising-nothing, rising-put, rising-rest}
 use Rattle.kernel_laws.proofs.Plain.{by_test, from_some, not_some}
 use Rattle.kernel_model.specs.Fitting.{FitsFrom, Place, Places, after_reply, asks_again, block_at, block_place, child_vars, child_vars_at, is_killed, move_on, opening_places, place_after, places_after, places_after_fork, set_variable, value_in}
 use Rattle.kernel_model.specs.Script.{IsSoundScript, Vars, is_variable}
 use Rattle.frame_bytes.specs.Fields.{rise_from}
 use Rattle.frame_bytes.specs.Frames.{have_order}
 use Rattle.frame_bytes.specs.LimitTests.{are_vars}
+use Rattle.world_frames.proofs.Rises.{AreFrom, above-from}
 use Rattle.world_frames.proofs.Lines.{IsFineLine, block-is-fine}
 
 -- ---- variables
@@ -61,14 +62,6 @@ none-is-fine : AreFineVars []
 none-is-fine = record { rising = rising-nothing ℕ; variables = tt }
 
 -- ---- in frames
-
--- each index is at least this one
-abbrev AreFrom : ℕ → Vars → Type 0
-AreFrom low vars = AllByRecursion (λ (v : ℕ × ℕ). low ≤ v.0) vars
-
-above-from : (n : ℕ) (vars : Vars) → Above n vars → AreFrom (n + 1) vars
-above-from n [] above = tt
-above-from n (v ∷ vars) above = let first = above.0 in (omega (arith, first), above-from n vars above.1)
 
 rising-rises : (low : ℕ) (vars : Vars) → IsRising vars → AreFrom low vars
     → rise_from low (map (λ v. v.0) vars) ≡ true
