@@ -15,24 +15,22 @@ use Rattle.kernel_laws.proofs.Steps.{Step, step}
 use Rattle.kernel_model.specs.Effect.{Effect}
 use Rattle.kernel_model.specs.History.{Replays, number_in}
 use Rattle.kernel_model.specs.Kernel.{Kernel, opening}
-use Rattle.kernel_model.specs.Script.{IsSoundScript}
 use Rattle.kernel_model.specs.Transition.{effect}
 use Rattle.kernel_moves.proofs.History.{replays-more}
 use Rattle.node_model.specs.declared.held.Held.{Held}
 use Rattle.node_model.specs.Serving.{has_read}
-use Rattle.world_model.specs.Run.{IsReachableWorld}
 use Rattle.world_model.specs.World.{World}
-use Rattle.world_laws.specs.Invariant.{Holds}
+use Rattle.world_laws.specs.Invariant.{HasInvariant, Holds}
 use Rattle.world_laws.specs.Places.{Beside}
 use Rattle.world_laws.specs.Sights.{frames_to}
 use Rattle.world_bounds.specs.Bounded.{IsShapedAndBounded}
 use Rattle.world_bounds.proofs.Parts.{of-some}
 use Rattle.world_bounds.proofs.Runs.{reachable-is-bounded}
 use Rattle.frame_bytes.specs.Fields.{name_number}
-use Rattle.frame_bytes.specs.LimitTests.{is_frame}
-use Rattle.frame_bytes.specs.Limits.{IsWithinLimits}
 use Rattle.frame_bytes.proofs.LimitTestLaws.{frame-passes}
+use Rattle.world_runs.proofs.Runs.{worlds_have_the_invariant_lemma}
 use Rattle.world_frames.specs.Entered.{IsEntered, IsFrameEntered, IsRead, IsWorldEntered}
+use Rattle.world_frames.specs.Laws.{FramesAreWithinLimits}
 use Rattle.world_frames.specs.Within.{HasGoodFrames, IsReplyShort}
 use Rattle.world_frames.proofs.Every.{every-frame-is-within}
 use Rattle.world_frames.proofs.ReadNames.{read-has-number}
@@ -115,18 +113,11 @@ module _ (script : Script) (w : World) (hand : List Held) (b : Beside) (holds : 
             (entered to sender (frames.Suggest name node) there);
       }
 
--- In a world that a run of a sound script leads to, with the invariant, every frame on its way is within the limits.
-pub frames-on-their-way-are-within : (script : Script) (w : World) (b : Beside) → IsSoundScript script
-    → IsReachableWorld script w → Holds script w [] b
-    → (to sender : ℕ) (f : Frame) → Contains (frames_to w to sender) f → is_frame f ≡ true
-frames-on-their-way-are-within script w b sound run holds to sender f there =
-    let bounded : IsShapedAndBounded script w = reachable-is-bounded script sound w run
-    in every-frame-is-within script sound w [] b holds bounded.bounded
-    (entered-is-good script w [] b holds (reachable-is-entered script sound w run)) to sender f there
-
--- So each has a spelling: it may be encoded.
-pub frames-on-their-way-have-a-spelling : (script : Script) (w : World) (b : Beside) → IsSoundScript script
-    → IsReachableWorld script w → Holds script w [] b
-    → (to sender : ℕ) (f : Frame) → Contains (frames_to w to sender) f → IsWithinLimits f
-frames-on-their-way-have-a-spelling script w b sound run holds to sender f there =
-    frame-passes f (frames-on-their-way-are-within script w b sound run holds to sender f there)
+-- In a world that a run of a sound script leads to, every frame on its way is within the limits: it has a spelling.
+pub frames_are_within_limits_lemma : FramesAreWithinLimits
+frames_are_within_limits_lemma script w sound run to sender f there =
+    let i : HasInvariant script w = worlds_have_the_invariant_lemma script w sound run
+    in let bounded : IsShapedAndBounded script w = reachable-is-bounded script sound w run
+    in let good : HasGoodFrames script w =
+    entered-is-good script w [] i.beside i.holds (reachable-is-entered script sound w run)
+    in frame-passes f (every-frame-is-within script sound w [] i.beside i.holds bounded.bounded good to sender f there)

@@ -25,7 +25,7 @@ use Rattle.world_laws.proofs.Steps.{Heads, changes-by-run, changes-by-take, worl
 use Rattle.world_bounds.specs.Bounded.{IsBounded, IsNode, IsShapedAndBounded, StepIsBounded}
 use Rattle.world_bounds.proofs.Parts.{of-some}
 use Rattle.world_bounds.proofs.Started.{run-bounded}
-use Rattle.world_bounds.proofs.Turns.{take-frame-bounded}
+use Rattle.world_bounds.proofs.Turns.{take-turn-bounded}
 use Rattle.world_bounds.proofs.Worlds.{changed-is-bounded, head-is-bounded, to-nodes}
 use Rattle.frame_bytes.specs.LimitTests.{is_frame}
 use Rattle.world_frames.specs.Entered.{IsStepEntered, IsWorldEntered}
@@ -33,7 +33,7 @@ use Rattle.world_frames.specs.Within.{HasGoodFrames}
 use Rattle.world_frames.proofs.Every.{every-frame-is-within}
 use Rattle.world_frames.proofs.Reachable.{entered-is-good}
 use Rattle.world_frames.proofs.StartedEntries.{run-entered}
-use Rattle.world_frames.proofs.TurnEntries.{take-frame-entered}
+use Rattle.world_frames.proofs.TurnEntries.{take-turn-entered}
 use Rattle.world_frames.proofs.WorldEntries.{changed-is-entered}
 
 -- a frame that is sent is within the limits
@@ -112,11 +112,11 @@ module _ (script : Script) (sound : IsSoundScript script) where
     take-sends-are-within p q frame rest s h rule holds =
         let bounded : StepIsBounded script s =
         of-some (StepIsBounded script) (take_frame script (node_of w p) q frame) s
-        (take-frame-bounded script (node_of w p) p q frame (k.bounded.nodes p h.low h.high)
+        (take-turn-bounded script (node_of w p) p q frame (k.bounded.nodes p h.low h.high)
         (head-is-bounded script w [] p q frame rest h k.bounded)) rule
         in let entered : IsStepEntered s =
         of-some IsStepEntered (take_frame script (node_of w p) q frame) s
-        (take-frame-entered script (node_of w p) q frame (e.nodes p h.low h.high)) rule
+        (take-turn-entered script (node_of w p) q frame (e.nodes p h.low h.high)) rule
         in by-changes (world_after (world_without w p q rest) p s) p s ((q, frame) ∷ [])
         (changes-by-take script w k.shape p q frame rest s h (to-nodes script s.sends bounded.sends))
         (record { low = h.low; high = h.high }) bounded entered holds

@@ -29,7 +29,6 @@ use Rattle.node_model.specs.Leases.{leases_hold, refill, takes_number}
 use Rattle.node_model.specs.Parcels.{fitting_bodies, give_all, give_back, pack_all, parcel_of}
 use Rattle.node_model.specs.Spelling.{pack, read_deed}
 use Rattle.world_model.specs.Calls.{answered_by, ask_after, asks_as, bounce, bounce_or_nobody, end_with_reply, forwarded_by, is_for_others, is_from_leader, is_on_name_or_removal, is_to_leader, requested_by, take_answer, take_ask, take_bounce, take_forward, take_not_owner, take_request, with_forgotten}
-use Rattle.world_model.specs.Grammar.{is_frame, is_sent_frame}
 use Rattle.world_model.specs.Lives.{be_born, born_with, end_released, hand_over, is_end, is_forked_by, is_new_row, is_of_process, may_leave, may_take, place_family, send_to_leader, take_checkpoint, take_exit, take_leaving, take_left, take_recall_all}
 use Rattle.world_model.specs.Moves.{come_back, give_back as gives_back, goes_on_to, is_at, is_new_here, keep, pass_on, receive_deed, suggest, take_give_back, take_grant, take_recall, take_suggest}
 use Rattle.world_model.specs.Node.{Left, Node, holds, is_born, is_leader, is_leaving_stage, is_node, is_unborn, under_way_as}
@@ -39,7 +38,7 @@ use Rattle.world_model.specs.Routing.{exit_here, names_in, recall_from, route_ca
 use Rattle.world_model.specs.Serving.{serve_asked, serve_nobody, without_deed}
 use Rattle.world_model.specs.Starting.{run}
 use Rattle.world_model.specs.Step.{Step, send, step_to, with_directory}
-use Rattle.world_model.specs.Turn.{run_turn, sends_frames, take_frame, take_turn}
+use Rattle.world_model.specs.Turn.{take_frame}
 use Rattle.world_laws.specs.Plays.{is_home_on}
 use Rattle.world_bounds.proofs.Parts.{of-map, of-next, of-some, of-test}
 use Rattle.world_bounds.proofs.StepParts.{answered-none, none-is}
@@ -317,44 +316,30 @@ module _ (script : Script) where
 
   -- ---- a turn
 
-  sent-frames-entered : (s : Step) → IsStepEntered s → Entered (sends_frames s)
-  sent-frames-entered s k = of-test IsStepEntered (list_all is_sent_frame s.sends) (Some s) (λ _. k)
-
-  -- Each frame's rule enters what it answers.
-  pub take-frame-entered : (n : Node) (sender : ℕ) (frame : Frame) → HasTicket n
-      → Entered (take_frame script n sender frame)
-  take-frame-entered n sender (frames.Ask ticket pid call) k = take-ask-entered n sender ticket pid call k
-  take-frame-entered n sender (frames.Request ticket pid call) k = take-request-entered n sender ticket pid call k
-  take-frame-entered n sender (frames.Forward asked) k = take-forward-entered n sender asked k
-  take-frame-entered n sender (frames.Bounce asked) k = take-bounce-entered n sender asked k
-  take-frame-entered n sender (frames.Answer ticket reply) k = take-answer-entered n sender ticket reply
-  take-frame-entered n sender (frames.NotOwner ticket) k = take-not-owner-entered n ticket k
-  take-frame-entered n sender (frames.LeaseAsk kind) k = take-lease-ask-entered n sender kind k
-  take-frame-entered n sender (frames.Lease kind first) k = take-lease-entered n sender kind first k
-  take-frame-entered n sender (frames.Placed name node) k = take-placed-entered n sender name node k
-  take-frame-entered n sender (frames.Checkpoint pid parent deed vars) k =
-      take-checkpoint-entered n sender pid parent deed vars
-  take-frame-entered n sender (frames.Suggest name node) k = take-suggest-entered n sender name node k
-  take-frame-entered n sender (frames.Recall name) k = take-recall-entered n sender name k
-  take-frame-entered n sender (frames.GiveBack deed) k = take-give-back-entered n sender deed k
-  take-frame-entered n sender (frames.Grant deed) k = take-grant-entered n sender deed k
-  take-frame-entered n sender (frames.Leaving pid parent parent_node) k =
-      take-leaving-entered n sender pid parent parent_node k
-  take-frame-entered n sender frames.RecallAll k = take-recall-all-entered n sender k
-  take-frame-entered n sender (frames.Left parcel) k = take-left-entered n sender parcel k
-  take-frame-entered n sender (frames.ExitTo parcel) k = take-exit-entered n sender parcel k
-
   -- A node that takes a frame enters what it answers.
   pub take-turn-entered : (n : Node) (sender : ℕ) (frame : Frame) → HasTicket n
-      → Entered (take_turn script n sender frame)
-  take-turn-entered n sender frame k =
-      of-test IsStepEntered (is_frame frame) (option_and_then sends_frames (take_frame script n sender frame))
-      (λ _. of-next IsStepEntered (take_frame script n sender frame) sends_frames
-      (λ s is. sent-frames-entered s
-      (of-some IsStepEntered (take_frame script n sender frame) s (take-frame-entered n sender frame k) is)))
+      → Entered (take_frame script n sender frame)
+  take-turn-entered n sender (frames.Ask ticket pid call) k = take-ask-entered n sender ticket pid call k
+  take-turn-entered n sender (frames.Request ticket pid call) k = take-request-entered n sender ticket pid call k
+  take-turn-entered n sender (frames.Forward asked) k = take-forward-entered n sender asked k
+  take-turn-entered n sender (frames.Bounce asked) k = take-bounce-entered n sender asked k
+  take-turn-entered n sender (frames.Answer ticket reply) k = take-answer-entered n sender ticket reply
+  take-turn-entered n sender (frames.NotOwner ticket) k = take-not-owner-entered n ticket k
+  take-turn-entered n sender (frames.LeaseAsk kind) k = take-lease-ask-entered n sender kind k
+  take-turn-entered n sender (frames.Lease kind first) k = take-lease-entered n sender kind first k
+  take-turn-entered n sender (frames.Placed name node) k = take-placed-entered n sender name node k
+  take-turn-entered n sender (frames.Checkpoint pid parent deed vars) k =
+      take-checkpoint-entered n sender pid parent deed vars
+  take-turn-entered n sender (frames.Suggest name node) k = take-suggest-entered n sender name node k
+  take-turn-entered n sender (frames.Recall name) k = take-recall-entered n sender name k
+  take-turn-entered n sender (frames.GiveBack deed) k = take-give-back-entered n sender deed k
+  take-turn-entered n sender (frames.Grant deed) k = take-grant-entered n sender deed k
+  take-turn-entered n sender (frames.Leaving pid parent parent_node) k =
+      take-leaving-entered n sender pid parent parent_node k
+  take-turn-entered n sender frames.RecallAll k = take-recall-all-entered n sender k
+  take-turn-entered n sender (frames.Left parcel) k = take-left-entered n sender parcel k
+  take-turn-entered n sender (frames.ExitTo parcel) k = take-exit-entered n sender parcel k
 
   -- So does one that starts a call.
-  pub run-turn-entered : (n : Node) → Entered (run_turn script n)
-  run-turn-entered n =
-      of-next IsStepEntered (run script n) sends_frames
-      (λ s is. sent-frames-entered s (of-some IsStepEntered (run script n) s (run-entered script n) is))
+  pub run-turn-entered : (n : Node) → Entered (run script n)
+  run-turn-entered n = run-entered script n

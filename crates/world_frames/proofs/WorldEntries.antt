@@ -14,7 +14,8 @@ use Rattle.node_model.specs.Caller.{new_caller}
 use Rattle.world_model.specs.Node.{Node, first_node, opening_node, unborn_node}
 use Rattle.world_model.specs.Run.{IsReachableWorld, Runs}
 use Rattle.world_model.specs.Step.{Step}
-use Rattle.world_model.specs.Turn.{run_turn, take_turn}
+use Rattle.world_model.specs.Starting.{run}
+use Rattle.world_model.specs.Turn.{take_frame}
 use Rattle.world_model.specs.World.{World, after_turn, is_enabled, node_at, node_count, numbers, opening_world, runs_at, step, stream, takes_at, world_after}
 use Rattle.world_laws.specs.Sights.{node_of, frames_to}
 use Rattle.world_laws.proofs.Changes.{Changes, frames_if, sent, taken}
@@ -93,17 +94,17 @@ module _ (script : Script) where
         → IsWorldEntered script next
     run-stays p enabled steps =
         let r : IsRun script w p = enabled-runs script w p b.shape enabled
-        in let after : after_turn w p (run_turn script (node_of w p)) ≡ Some next =
+        in let after : after_turn w p (run script (node_of w p)) ≡ Some next =
         sym (ap (runs_at w p) (node-there script w b.shape p r.low r.high)
-        ∙ ap (λ (x : Script). after_turn w p (run_turn x (node_of w p))) b.shape.of_script)
+        ∙ ap (λ (x : Script). after_turn w p (run x (node_of w p))) b.shape.of_script)
         ∙ steps
-        in let found = after-some w next p (run_turn script (node_of w p)) after
+        in let found = after-some w next p (run script (node_of w p)) after
         in let s : Step = found.0
         in let bounded : StepIsBounded script s =
-        of-some (StepIsBounded script) (run_turn script (node_of w p)) s
+        of-some (StepIsBounded script) (run script (node_of w p)) s
         (run-turn-bounded script sound (node_of w p) (b.bounded.nodes p r.low r.high)) found.1
         in let entered : IsStepEntered s =
-        of-some IsStepEntered (run_turn script (node_of w p)) s (run-turn-entered script (node_of w p)) found.1
+        of-some IsStepEntered (run script (node_of w p)) s (run-turn-entered script (node_of w p)) found.1
         in subst (IsWorldEntered script) (sym found.2)
         (changed-is-entered w (world_after w p s) p s.node [] s.sends s.entries
         (changes-by-run script w b.shape p s r.low r.high (to-nodes script s.sends bounded.sends)) k entered.node
@@ -114,22 +115,22 @@ module _ (script : Script) where
     take-stays p q enabled steps =
         let t : IsTaken script w p q = enabled-takes script w p q b.shape enabled
         in let h : Heads script w p q t.frame t.rest = t.heads
-        in let after : after_turn (world_without w p q t.rest) p (take_turn script (node_of w p) q t.frame)
+        in let after : after_turn (world_without w p q t.rest) p (take_frame script (node_of w p) q t.frame)
         ≡ Some next =
         sym (ap (λ o. takes_at w p q o (stream w p q)) (node-there script w b.shape p h.low h.high)
         ∙ ap (takes_at w p q (Some (node_of w p))) h.head
-        ∙ ap (λ (x : Script). after_turn (world_without w p q t.rest) p (take_turn x (node_of w p) q t.frame))
+        ∙ ap (λ (x : Script). after_turn (world_without w p q t.rest) p (take_frame x (node_of w p) q t.frame))
         b.shape.of_script)
         ∙ steps
         in let found =
-        after-some (world_without w p q t.rest) next p (take_turn script (node_of w p) q t.frame) after
+        after-some (world_without w p q t.rest) next p (take_frame script (node_of w p) q t.frame) after
         in let s : Step = found.0
         in let bounded : StepIsBounded script s =
-        of-some (StepIsBounded script) (take_turn script (node_of w p) q t.frame) s
+        of-some (StepIsBounded script) (take_frame script (node_of w p) q t.frame) s
         (take-turn-bounded script (node_of w p) p q t.frame (b.bounded.nodes p h.low h.high)
         (head-is-bounded script w [] p q t.frame t.rest h b.bounded)) found.1
         in let entered : IsStepEntered s =
-        of-some IsStepEntered (take_turn script (node_of w p) q t.frame) s
+        of-some IsStepEntered (take_frame script (node_of w p) q t.frame) s
         (take-turn-entered script (node_of w p) q t.frame (k.nodes p h.low h.high)) found.1
         in subst (IsWorldEntered script) (sym found.2)
         (changed-is-entered w (world_after (world_without w p q t.rest) p s) p s.node ((q, t.frame) ∷ []) s.sends
