@@ -1,11 +1,11 @@
 -- A name that is at a node is at another one at once.
-use Rattle.std.proofs.Common.{◌≡◌, [], ℕ, Option, Some, None, IsTrue, refl, ap}
+use Rattle.std.proofs.Common.{◌≡◌, [], ℕ, Option, Some, IsTrue, ap}
 use Rattle.pico_base.specs.declared.numbers.Name.{Name}
 use Rattle.pico_base.specs.declared.numbers.Name.TheVariants.{Proc, Msg, Sem}
 use Rattle.number_maps.proofs.LookUps.{get-put-same}
 use Rattle.number_maps.proofs.Changes.{put-put}
 use Rattle.node_model.specs.Kinds.{Named, get_named, put_named}
-use Rattle.node_model.specs.Directory.{Directory, Place, Coming, arrive, is_coming, is_coming_to, recall}
+use Rattle.node_model.specs.Directory.{Directory, Coming, arrive, is_coming, is_coming_to, recall}
 
 put-twice : {V : Type 0} (m : Named V) (name : Name) (u v : V) → put_named (put_named m name u) name v ≡ put_named m name v
 put-twice m (Proc pid) u v = ap (λ x. record m { processes = x }) (put-put m.processes pid u v)
