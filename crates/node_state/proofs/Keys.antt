@@ -26,6 +26,7 @@ opens = rw bindings-none refl
 
 -- the leader as it begins
 pub leader-opens : (d : Directory) (queues sets : KeyMap) → d ≡ opening_directory → queues ≡ map.empty
-    → sets ≡ map.empty → record { directory = d; queue_keys = bindings queues; set_keys = bindings sets } ≡ opening_leader
+    → sets ≡ map.empty
+    → record { directory = d; queue_keys = bindings queues; set_keys = bindings sets } ≡ opening_leader
 unfolding with_keys
 leader-opens d queues sets is no_queues no_sets = rw (is, no_queues, no_sets) opens

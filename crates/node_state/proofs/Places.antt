@@ -7,7 +7,8 @@ use Rattle.number_maps.proofs.Changes.{put-put}
 use Rattle.node_model.specs.Kinds.{Named, get_named, put_named}
 use Rattle.node_model.specs.Directory.{Directory, Coming, arrive, is_coming, is_coming_to, recall}
 
-put-twice : {V : Type 0} (m : Named V) (name : Name) (u v : V) → put_named (put_named m name u) name v ≡ put_named m name v
+put-twice : {V : Type 0} (m : Named V) (name : Name) (u v : V)
+    → put_named (put_named m name u) name v ≡ put_named m name v
 put-twice m (Proc pid) u v = ap (λ x. record m { processes = x }) (put-put m.processes pid u v)
 put-twice m (Msg id) u v = ap (λ x. record m { queues = x }) (put-put m.queues id u v)
 put-twice m (Sem id) u v = ap (λ x. record m { sets = x }) (put-put m.sets id u v)
