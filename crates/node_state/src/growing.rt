@@ -1,4 +1,8 @@
 //! A step that grows.
+ghost use Rattle.std.specs.Prelude.{◌≡◌, OnOk};
+ghost use Rattle.world_model.specs.Step.{enter, send};
+ghost use Rattle.node_state.specs.State.{step_of};
+
 use crate::state::State;
 use pico_base::{Call, Entries, Entry, Memory, Node, Outcome, Pid, Reply, Script, Sequence};
 use rpc_frame::{Asked, Frame};
@@ -17,12 +21,16 @@ pub struct Growing {
 
 impl Growing {
     /// Sends a frame.
-    pub fn send(&mut self, to: Node, frame: Frame) -> Result<(), Memory> {
+    pub fn send(&mut self, to: Node, frame: Frame) -> Result<(), Memory>
+        ensures { OnOk result (step_of self.new ≡ send (step_of self.old) to frame) }
+    {
         self.sends.push((to, frame))
     }
 
     /// The entry of a call that is carried out here.
-    pub fn enter(&mut self, pid: Pid, call: Call, reply: Reply) -> Result<(), Memory> {
+    pub fn enter(&mut self, pid: Pid, call: Call, reply: Reply) -> Result<(), Memory>
+        ensures { OnOk result (step_of self.new ≡ enter (step_of self.old) pid call reply) }
+    {
         let outcome = Outcome::reply(self.node.alloc, reply);
         self.entries.push(Entry {
             pid,

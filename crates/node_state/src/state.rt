@@ -1,4 +1,10 @@
 //! The state of a node that isn't spent.
+ghost use Rattle.std.specs.Prelude.{◌≡◌, IfOk, OnOk, nat_eq, is_some};
+ghost use Rattle.std.specs.Option.{option_copied};
+ghost use Rattle.world_model.specs.Node.{asked_here, can_run, holds, is_born, is_leader, opening_node, under_way_as};
+ghost use Rattle.world_model.specs.Calls.{is_from_leader, is_to_leader};
+ghost use Rattle.node_state.specs.State.{node_of};
+
 use crate::leader::Leader;
 use crate::leases::Leases;
 use crate::watches::Watches;
@@ -64,6 +70,18 @@ fn put(deeds: &mut Deeds<Body>, deed: Deed<Body>) {
     }
 }
 
+/// The deed of a name that is held goes away, as bytes. A refusal for want of memory changes nothing.
+fn take_packed(
+    alloc: Global,
+    deeds: &mut Deeds<Body>,
+    name: &Name,
+) -> Result<PackedDeed, Memory> {
+    match deeds.take(*name) {
+        Some(deed) => pack(alloc, deeds, deed),
+        None => unreachable!(),
+    }
+}
+
 /// The deed as bytes, or it is put back.
 fn pack(
     alloc: Global,
@@ -100,22 +118,30 @@ impl State {
     }
 
     /// Whether it is node 1.
-    pub fn is_leader(&self) -> bool {
+    pub fn is_leader(&self) -> bool
+        ensures { result ≡ is_leader (node_of self.now) }
+    {
         self.number == LEADER
     }
 
     /// Whether its Checkpoint has come, or it is node 1.
-    pub fn is_born(&self) -> bool {
-        self.stage != Stage::Unborn
+    pub fn is_born(&self) -> bool
+        ensures { result ≡ is_born (node_of self.now) }
+    {
+        !matches!(self.stage, Stage::Unborn)
     }
 
     /// Whether its process can start a call: it makes calls, and none is under way.
-    pub fn can_run(&self) -> bool {
-        self.stage == Stage::Living && self.caller.under_way().is_none()
+    pub fn can_run(&self) -> bool
+        ensures { result ≡ can_run (node_of self.now) }
+    {
+        matches!(self.stage, Stage::Living) && self.caller.under_way().is_none()
     }
 
     /// Whether the name's deed is held here.
-    pub fn holds(&self, name: Name) -> bool {
+    pub fn holds(&self, name: Name) -> bool
+        ensures { result ≡ holds (node_of self.now) name }
+    {
         self.deeds.has(name)
     }
 
@@ -128,7 +154,9 @@ impl State {
     }
 
     /// The call under way, where it has this ticket.
-    pub fn under_way_as(&self, ticket: u32) -> Option<&Call> {
+    pub fn under_way_as(&self, ticket: u32) -> Option<&Call>
+        ensures { option_copied result ≡ under_way_as (node_of self.now) ticket }
+    {
         if ticket == self.caller.ticket() {
             self.caller.under_way()
         } else {
@@ -137,7 +165,9 @@ impl State {
     }
 
     /// The call under way, as others are asked for it.
-    pub fn asked_here(&self, call: Call) -> Asked {
+    pub fn asked_here(&self, call: Call) -> Asked
+        ensures { result ≡ asked_here (node_of self.now) call }
+    {
         Asked {
             caller: self.number,
             ticket: self.caller.ticket(),
@@ -147,12 +177,16 @@ impl State {
     }
 
     /// Whether it is node 1, and the frame is from another node.
-    pub fn is_to_leader(&self, from: Node) -> bool {
+    pub fn is_to_leader(&self, from: Node) -> bool
+        ensures { result ≡ is_to_leader (node_of self.now) from }
+    {
         self.is_leader() && from != LEADER
     }
 
     /// Whether it is born and not node 1, and the frame is from node 1.
-    pub fn is_from_leader(&self, from: Node) -> bool {
+    pub fn is_from_leader(&self, from: Node) -> bool
+        ensures { result ≡ is_from_leader (node_of self.now) from }
+    {
         !self.is_leader() && self.is_born() && from == LEADER
     }
 
@@ -177,10 +211,7 @@ impl State {
 
     /// A deed that is held here goes away, and its watch with it.
     pub fn take_deed(&mut self, name: Name) -> Result<PackedDeed, Memory> {
-        let Some(deed) = self.deeds.take(name) else {
-            unreachable!()
-        };
-        let packed = pack(self.alloc, &mut self.deeds, deed)?;
+        let packed = take_packed(self.alloc, &mut self.deeds, &name)?;
         self.watches.unwatch(name);
         Ok(packed)
     }
