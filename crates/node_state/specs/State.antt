@@ -2,9 +2,8 @@
 use Rattle.world_model.specs.Node as nodes
 use Rattle.world_model.specs.Step as steps
 use Rattle.node_serve.specs.Bodies.{bodies_of}
-use Rattle.node_state.specs.Keys.{bindings}
+use Rattle.node_state.specs.Leader.{leader_of}
 use Rattle.node_state.specs.declared.growing.Growing.{Growing}
-use Rattle.node_state.specs.declared.leader.Leader.{Leader}
 use Rattle.node_state.specs.declared.state.Stage.{Stage}
 use Rattle.node_state.specs.declared.state.Stage.TheVariants.{Unborn, Living, Leaving, Left, Over}
 use Rattle.node_state.specs.declared.state.State.{State}
@@ -15,10 +14,6 @@ stage_of Living = nodes.Living
 stage_of Leaving = nodes.Leaving
 stage_of Left = nodes.Left
 stage_of Over = nodes.Over
-
-abbrev pub leader_of : Leader → nodes.Leader
-leader_of l =
-    record { directory = l.directory; queue_keys = bindings l.queue_keys; set_keys = bindings l.set_keys }
 
 abbrev pub node_of : State → nodes.Node
 node_of s =

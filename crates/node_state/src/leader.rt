@@ -3,13 +3,12 @@ ghost use Rattle.std.specs.Prelude.{◌≡◌, IfOk, IsTrue, None};
 ghost use Rattle.world_model.specs.Node.{opening_leader};
 ghost use Rattle.node_model.specs.Directory.{arrive, is_coming, is_known, place_of, recall};
 ghost use Rattle.lease_leader.specs.Places.{is_at as is_placed};
-ghost use Rattle.node_state.specs.Leader.{is_at};
-ghost use Rattle.node_state.specs.State.{leader_of};
+ghost use Rattle.node_state.specs.Leader.{is_at, leader_of};
 
 use key_table::Keys;
 use lease_leader::Directory;
-use pico_base::{Memory, Name, Node};
 use node_model::Route;
+use pico_base::{Memory, Name, Node};
 use std::alloc::Global;
 
 /// The directory, and the keys of queues and of sets.

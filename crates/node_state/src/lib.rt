@@ -1,5 +1,5 @@
 //! What a node is: its life, its process's calls, the deeds that it holds with the watches over them, the numbers that
-//! it may give, its cache of owners, and what the leader knows besides. And a step that grows: what all rules share.
+//! it may give, its cache of owners, and what the leader has besides. And a step that grows.
 #![tactic(auto)]
 
 mod growing;

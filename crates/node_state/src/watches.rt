@@ -92,12 +92,7 @@ impl Watches {
     }
 
     /// A node reads a name that this node owns. The node to which the name moves then.
-    pub fn read(
-        &mut self,
-        owner: Node,
-        name: Name,
-        reader: Node,
-    ) -> Result<Option<Node>, Memory>
+    pub fn read(&mut self, owner: Node, name: Name, reader: Node) -> Result<Option<Node>, Memory>
         ensures moves { IfOk result (λ to. to ≡ moves_to self.old owner name reader) }
         ensures noted { OnOk result (self.new ≡ with_read self.old owner name reader) }
     {
