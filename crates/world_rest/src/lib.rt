@@ -4,14 +4,14 @@
 
 ghost use Rattle.world_rest.specs.Laws.{NamesHaveOneOwner, NoneLivesAtRest, RestIsQuiet, RestIsWhole};
 
-/// In each world that a run leads to, a process, a queue or a set has exactly one owner from the entry on that makes it, and a
-/// number that names nothing has none.
+/// In each world that a run leads to, a process, a queue or a set has exactly one owner from the entry on that makes
+/// it, and a number that names nothing has none.
 pub fn names_have_one_owner()
     ensures { NamesHaveOneOwner }
 {}
 
-/// Where no event is enabled any more, nothing is on its way, the leader holds nothing, and each node has left, or was never
-/// born; node 1 goes on.
+/// Where no event is enabled any more, nothing is on its way, the leader holds nothing, and each node has left, or was
+/// never born; node 1 goes on.
 pub fn rest_is_quiet()
     ensures { RestIsQuiet }
 {}
