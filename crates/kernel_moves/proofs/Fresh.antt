@@ -90,7 +90,9 @@ nothing_at (Proc pid) = Gone
 nothing_at (Msg id) = Removed
 nothing_at (Sem id) = Removed
 
-pub unused-body : (k : Kernel) (name : Name) → IsValid k → is_used_name k name ≡ false → body_in k name ≡ nothing_at name
+-- nothing has the part of a name whose number isn't used
+pub unused-body : (k : Kernel) (name : Name) → IsValid k → is_used_name k name ≡ false
+    → body_in k name ≡ nothing_at name
 unused-body k (Proc n) valid unused = ap process_body (unused-process k n valid unused)
 unused-body k (Msg n) valid unused = ap queue_body (unused-queue k n valid unused)
 unused-body k (Sem n) valid unused = ap set_body (unused-set k n valid unused)

@@ -63,6 +63,13 @@ impl Lease {
         Some(number)
     }
 
+    /// Whether no number is left.
+    pub fn is_used_up(&self) -> bool
+        ensures { IsTrue result ↔ (self.now ≡ []) }
+    {
+        self.next == self.end
+    }
+
     /// Whether the number is still to be taken.
     pub fn holds(&self, number: u32) -> bool
         ensures { IsTrue result ↔ Contains self.now number }

@@ -34,7 +34,9 @@ use Rattle.world_bounds.proofs.Smalls.{history-leaves-small}
 
 -- ---- members of lists
 
-is-among : (f : ℕ → ℕ) (d : ℕ) (ns : List ℕ) → list_any (nat_eq d) ns ≡ true → list_any (nat_eq (f d)) (map f ns) ≡ true
+-- what one makes of a number is among what is made of all
+pub is-among : (f : ℕ → ℕ) (d : ℕ) (ns : List ℕ) → list_any (nat_eq d) ns ≡ true
+    → list_any (nat_eq (f d)) (map f ns) ≡ true
 is-among f d [] h = absurd (false≢true h)
 is-among f d (n ∷ ns) h =
     elim (or_cases (nat_eq d n) (list_any (nat_eq d) ns) h) [
@@ -44,7 +46,8 @@ is-among f d (n ∷ ns) h =
           or_right (nat_eq (f d) (f n)) (list_any (nat_eq (f d)) (map f ns)) (is-among f d ns later)
     ]
 
-in-numbers : (n k d : ℕ) → k ≤ d → d < k + n → list_any (nat_eq d) (numbers k n) ≡ true
+-- the numbers from one on have each of these
+pub in-numbers : (n k d : ℕ) → k ≤ d → d < k + n → list_any (nat_eq d) (numbers k n) ≡ true
 in-numbers zero k d low high = absurd (omega (arith, low, high))
 in-numbers (suc n) k d low high =
     elim (cases_eq d k) [
@@ -54,7 +57,8 @@ in-numbers (suc n) k d low high =
           (in-numbers n (k + 1) d (omega (arith, low, other)) (omega (arith, high)))
     ]
 
-length-of-numbers : (f : ℕ → ℕ) (n k : ℕ) → length (map f (numbers k n)) ≡ n
+-- and they are so many
+pub length-of-numbers : (f : ℕ → ℕ) (n k : ℕ) → length (map f (numbers k n)) ≡ n
 length-of-numbers f zero k = refl
 length-of-numbers f (suc n) k = ap suc (length-of-numbers f n (k + 1))
 
@@ -127,7 +131,8 @@ module _ (script : Script) (sound : IsSoundScript script) (w : World) (hand : Li
             | inr ended ↦ inr (ended-among r.alive.row.family.ended q ended)
           ]
 
-  rows-have-bytes : (pid : ℕ) (row : Row) → body_in b.kernel (Proc pid) ≡ LivingBody row → HasFamilyBytes row.family
+  -- Each living process's family has bytes.
+  pub rows-have-bytes : (pid : ℕ) (row : Row) → body_in b.kernel (Proc pid) ≡ LivingBody row → HasFamilyBytes row.family
   rows-have-bytes pid row is =
       let r : HasRow b.kernel pid row = body-living b.kernel pid row is
       in let there = from-living b.kernel.processes pid r.alive r.lives

@@ -52,7 +52,8 @@ none-if true = refl
 none-if false = refl
 
 module _ (script : Script) where
-  nothing-on-its-way : (to sender : ℕ) → frames_to (opening_world script) to sender ≡ []
+  -- At first nothing is on its way.
+  pub nothing-on-its-way : (to sender : ℕ) → frames_to (opening_world script) to sender ≡ []
   nothing-on-its-way to sender =
       ap (λ fs. if is_number to && is_number sender then fs else [])
       (nothing-at (node_count script) (node_count script) (to - 1) (sender - 1))

@@ -95,7 +95,8 @@ module _ (script : Script) (v : World) (s : Step) (ticket pid : ℕ) (call : Cal
     leaves =
         unchanged-leaves b.kernel pid call reply
         (may-make-in-hand script w (own_asked ticket pid call) rest b holds low high) l plain.no_fork plain.no_exit
-        plain.not_killed script b.places s.node.number 1 n.caller (place-in-hand script w (own_asked ticket pid call) rest b holds low high)
+        plain.not_killed script b.places s.node.number 1 n.caller
+        (place-in-hand script w (own_asked ticket pid call) rest b holds low high)
         (due-in-hand script w (own_asked ticket pid call) rest b holds low high)
 
     keys-now : KeysHold n.leader l.next

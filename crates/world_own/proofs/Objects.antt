@@ -1,5 +1,5 @@
--- What a call makes that makes a queue or set without a key. Its entry leaves the processes as they are; and facts about
--- news of a name, ways, kinds and leases that stand by themselves.
+-- What a call makes that makes a queue or set without a key. Its entry leaves the processes as they are; and facts
+-- about news of a name, ways, kinds and leases that stand by themselves.
 use Rattle.std.proofs.Common.{◌≡◌, ◌≢◌, ℕ, ◌≤◌, Bool, true, false, if◌then◌else◌, [], ◌∷◌, filter, Some, refl, ap, sym, ◌∙◌, inl, inr, arith, is_some, zero, suc, List, ◌++◌}
 use Rattle.std.proofs.lemmas.Bool.{false≢true}
 use Rattle.pico_base.specs.declared.call.Call.{Call}

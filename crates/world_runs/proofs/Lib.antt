@@ -1,7 +1,5 @@
 pub mod Hands
 pub mod Takes
-pub mod StartedInHand
-pub mod HeldStarts
 pub mod LeavingStarts
 pub mod LeavingNames
 pub mod Leaves

@@ -40,6 +40,7 @@ use Rattle.world_ends.proofs.RecallAlls.{any-recall-all-keeps}
 use Rattle.world_exits.proofs.ExitTos.{exit-to-keeps}
 use Rattle.world_bounds.specs.Bounded.{IsBounded, NodeIsBounded}
 use Rattle.world_bounds.proofs.Parts.{held-are-of-nodes}
+use Rattle.world_bounds.proofs.Ranges.{some-blocks}
 use Rattle.world_bounds.proofs.Ready.{Ready, bounce-is-of-node, bounded-is-ready, forward-is-of-node, taken-is-good}
 use Rattle.world_bounds.proofs.StepParts.{step-to-bounded}
 use Rattle.world_bounds.proofs.Turns.{left-noted-bounded, passed-on-bounded}
@@ -133,9 +134,8 @@ module _ (script : Script) (sound : IsSoundScript script) (w : World) (b : Besid
 
   -- ---- at the leader, with something for its hand
 
-  module _ (q : ℕ) (frame : Frame) (rest : List Frame) (h : Heads script w 1 q frame rest) where
-    leader-bounded : NodeIsBounded script (node_of w 1)
-    leader-bounded = bounded.nodes 1 h.low h.high
+  leader-bounded : NodeIsBounded script (node_of w 1)
+  leader-bounded = bounded.nodes 1 (omega arith) (some-blocks script sound)
 
   ask-taken : (q ticket pid : ℕ) (call : Call) (rest : List Frame)
       → Heads script w 1 q (frames.Ask ticket pid call) rest → Lightly 1 q
@@ -146,7 +146,7 @@ module _ (script : Script) (sound : IsSoundScript script) (w : World) (b : Besid
       ticket pid call h ready.never_waits
       (taken-is-good script w q (frames.Ask ticket pid call) rest (step_to (node_of w 1)) (Request asked ∷ [])
       holds.shape bounded h
-      (step-to-bounded script (node_of w 1) (leader-bounded q (frames.Ask ticket pid call) rest h))
+      (step-to-bounded script (node_of w 1) leader-bounded)
       (record { low = h.low_from; high = h.high_from }, tt), (removes-its-own (home_of pid call), tt))
 
   bounce-taken : (q : ℕ) (asked : Asked) (rest : List Frame) → Heads script w 1 q (frames.Bounce asked) rest
@@ -158,14 +158,14 @@ module _ (script : Script) (sound : IsSoundScript script) (w : World) (b : Besid
       asked h own.low own.high ready.never_waits
       (taken-is-good script w q (frames.Bounce asked) rest (step_to (node_of w 1)) (Request asked ∷ []) holds.shape
       bounded h
-      (step-to-bounded script (node_of w 1) (leader-bounded q (frames.Bounce asked) rest h)) (own, tt),
+      (step-to-bounded script (node_of w 1) leader-bounded) (own, tt),
       (removes-its-own (home_of asked.pid asked.call), tt))
 
   give-back-taken : (q : ℕ) (packed : PackedDeed) (rest : List Frame) → Heads script w 1 q (frames.GiveBack packed) rest
       → Lightly 1 q
   give-back-taken q packed rest h =
       let n : Node = node_of w 1
-      in let own : NodeIsBounded script n = leader-bounded q (frames.GiveBack packed) rest h
+      in let own : NodeIsBounded script n = leader-bounded
       in let its : NameHolds script b.pids (is_born_in w) packed.name (name_sight script w [] b packed.name) =
       holds.names packed.name
       in give-back-goes-lightly script packed (IsGoodFor script sound packed.name)
@@ -185,7 +185,7 @@ module _ (script : Script) (sound : IsSoundScript script) (w : World) (b : Besid
       rest parcel h ready.at_nodes ready.reads
       (taken-is-good script w q (frames.Left parcel) rest
       (step_to (with_directory (node_of w 1) (with_left (directory_of w) q))) (Ending parcel ∷ [])
-      holds.shape bounded h (left-noted-bounded script (node_of w 1) q (leader-bounded q (frames.Left parcel) rest h))
+      holds.shape bounded h (left-noted-bounded script (node_of w 1) q leader-bounded)
       (tt, tt), (tt, tt))
 
   -- ---- other frames

@@ -1,0 +1,4 @@
+mod Keys
+mod Lists
+mod Places
+mod Watching

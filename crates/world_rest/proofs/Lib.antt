@@ -1,0 +1,12 @@
+pub mod Sums
+pub mod Shaped
+pub mod Census
+pub mod OneReplay
+pub mod Senders
+pub mod Streams
+pub mod Held
+pub mod Whole
+pub mod Followers
+pub mod FollowerTurns
+pub mod FollowerRuns
+pub mod Worlds
