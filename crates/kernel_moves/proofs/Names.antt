@@ -13,11 +13,13 @@ use Rattle.node_model.specs.Serving.{parts_in}
 
 -- ---- names
 
+-- a name is the same as itself
 pub same-name : (a : Name) → is_same_name a a ≡ true
 same-name (Proc n) = eq-eqb n n refl
 same-name (Msg n) = eq-eqb n n refl
 same-name (Sem n) = eq-eqb n n refl
 
+-- names that are the same by the test are equal
 pub same-name-is : (a b : Name) → is_same_name a b ≡ true → a ≡ b
 same-name-is (Proc m) (Proc n) h = ap Proc (eqb-true m n h)
 same-name-is (Msg m) (Msg n) h = ap Msg (eqb-true m n h)
@@ -50,11 +52,13 @@ name-cases a b =
 
 -- ---- maps from names
 
+-- a map from names has what was put in
 pub get-put-same-name : {V : Type 0} (m : Named V) (a : Name) (v : V) → get_named (put_named m a v) a ≡ Some v
 get-put-same-name m (Proc n) v = get-put-same m.processes n v
 get-put-same-name m (Msg n) v = get-put-same m.queues n v
 get-put-same-name m (Sem n) v = get-put-same m.sets n v
 
+-- and at other names what it had
 pub get-put-other-name : {V : Type 0} (m : Named V) (a : Name) (v : V) (b : Name) → b ≢ a
     → get_named (put_named m a v) b ≡ get_named m b
 get-put-other-name m (Proc n) v (Proc q) d = get-put-other m.processes n v q (λ e. d (ap Proc e))

@@ -162,6 +162,7 @@ due-by place call [] is h = absurd (cc)
 due-by place call (line ∷ rest) is h =
     record { line = line; rest = rest; left = is; call_is = some-is (call_of line place.vars) call h }
 
+-- a call that is due is that of the line
 pub due-line : (place : Place) (call : Call) → due place ≡ Some call → DueLine place call
 due-line place call h = due-by place call place.left refl h
 
@@ -196,6 +197,7 @@ pub killed-of : (call : Call) (vars : Vars) (o : Option ℕ) → is_killed (call
 killed-of call vars None = refl
 killed-of call vars (Some v) = killed-target call (value_of vars v)
 
+-- a variable doesn't make a call wait
 pub waiting-of : (call : Call) (vars : Vars) (o : Option ℕ) → is_waiting (call_from call vars o) ≡ is_waiting call
 waiting-of call vars None = refl
 waiting-of call vars (Some v) = waiting-target call (value_of vars v)
@@ -204,6 +206,7 @@ fork-target : (call : Call) (n block : ℕ) → with_target call n ≡ calls.For
 fork-target (calls.Fork b) n block h = h
 fork-target call n block h = absurd (cc)
 
+-- nor does it make a fork of another call
 pub fork-of : (call : Call) (vars : Vars) (o : Option ℕ) (block : ℕ) → call_from call vars o ≡ calls.Fork block
     → call ≡ calls.Fork block
 fork-of call vars None block h = h
@@ -280,6 +283,7 @@ is_end (calls.Exit status) = true
 is_end (calls.Killed sig) = true
 is_end call = false
 
+-- behind the call that ends a process no line is left
 pub end-is-last : (script : Script) (p : ℕ) (c : Caller) (call : Call) → IsDue (caller_place script p c) call
     → is_end call ≡ true → (move_on (caller_place script p c) call (Some replies.Ended)).left ≡ []
 end-is-last script p c (calls.Exit status) (inl h) ends = exit-ends script p c status h
@@ -320,6 +324,7 @@ pub record ForkPasses (place : Place) (block child : ℕ) : Type 0 where
   pub call_is : line.call ≡ calls.Fork block
   pub after : (place_after place (calls.Fork block) (Some (replies.Num child))).left ≡ rest
 
+-- a fork that is carried out is behind its process
 pub fork-passes : (place : Place) (block child : ℕ) → due place ≡ Some (calls.Fork block)
     → ForkPasses place block child
 fork-passes place block child h =
@@ -390,6 +395,7 @@ pub record IsFineCall (call : Call) : Type 0 where
   pub not_killed : is_killed call ≡ false
   pub not_waiting : is_waiting call ≡ false
 
+-- a call that is due in a sound script is within the ranges of its types
 pub due-is-fine : (script : Script) (p : ℕ) (c : Caller) (call : Call) → IsSoundScript script
     → due (caller_place script p c) ≡ Some call → IsFineCall call
 due-is-fine script p c call sound h =

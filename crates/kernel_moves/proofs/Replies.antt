@@ -29,6 +29,7 @@ use Rattle.kernel_moves.specs.Entering.{family_after}
 
 -- ---- children that are found
 
+-- a reply that found a child
 abbrev pub finds : Reply → Bool
 finds (replies.Child child ending) = true
 finds reply = false
@@ -53,6 +54,7 @@ found-process r (Sem id) h = absurd (false≢true (sym (sem-not r id) ∙ h))
     sem-not (replies.Child child ending) id = refl
     sem-not r id = refl
 
+-- no set is found as a child
 pub set-not-found : (r : Reply) (id : ℕ) → is_found r (Sem id) ≡ false
 set-not-found (replies.Child child ending) id = refl
 set-not-found r id = refl

@@ -55,9 +55,11 @@ pub record Carried (k : Kernel) (pid : ℕ) (call : Call) (name : Name) : Type 0
   -- the caller lives on
   pub caller : Lived next pid
 
+-- what is in two equal options is the same
 pub some-is : {A : Type 0} (x y : A) → Some x ≡ Some y → x ≡ y
 some-is x y h = cc
 
+-- who lived still lives once the call is over
 pub lived-finished : (k : Kernel) (pid : ℕ) → Lived k pid → Lived (finished k pid) pid
 lived-finished k pid h =
     let same = (finished-is-like k pid).bodies (Proc pid)
@@ -66,6 +68,7 @@ lived-finished k pid h =
 
 -- ---- keys
 
+-- a key of nothing doesn't lead to this identifier
 pub absent-other : {V : Type 0} (keys : Numbered ℕ) (things : Numbered V) (id key : ℕ) → AreKeys keys things
     → get things id ≡ None → get keys key ≡ option_and_then (other_than id) (get keys key)
 absent-other keys things id key are none = by (get keys key) refl
@@ -261,6 +264,7 @@ found-by k pid (calls.WaitPid which nohang) name m r child ending named is does 
 found-by k pid call name m r child ending named is does =
     absurd (false≢true (sym (ap finds does ∙ body-none name (body_in k name) pid call refl) ∙ ap finds is))
 
+-- a reply that found a child has found one that its parent kept
 pub carried-finds : (k : Kernel) (pid : ℕ) (call : Call) (name : Name) (m : MayMake k pid call)
     (c : Carried k pid call name) (child : ℕ) (ending : Ending) → name_for pid call ≡ Some name
     → c.reply ≡ replies.Child child ending → FindsChild k pid name m.alive child ending
