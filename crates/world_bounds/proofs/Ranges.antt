@@ -1,19 +1,17 @@
 -- The numbers of each kind last: there are more ranges than a sound script has calls and nodes.
-use Rattle.std.proofs.Common.{◌≡◌, ℕ, zero, suc, ◌+◌, ◌*◌, ◌-◌, ◌/◌, ◌≤◌, ◌<◌, Bool, true, false, List, length, slice_get, nat_eq, Some, None, ap, sym, ◌∙◌, arith}
-use Rattle.std.specs.Prelude.{if◌then◌else◌, nat_le, sum_by}
-use Rattle.std.proofs.lemmas.Bool.{and_parts, leb-true, lt-ltb, ne_eqb}
-use Rattle.std.proofs.lemmas.Option.{slice_get_within}
+use Rattle.std.proofs.Common.{◌≡◌, ℕ, zero, suc, ◌+◌, ◌≤◌, Bool, true, false, List, length, arith}
+use Rattle.std.specs.Prelude.{nat_le, sum_by}
+use Rattle.std.proofs.lemmas.Bool.{and_parts, leb-true, lt-ltb}
 use Rattle.pico_base.specs.declared.numbers.Kind.{Kind}
 use Rattle.pico_base.specs.declared.script.Script.{Script}
-use Rattle.kernel_model.specs.Numbers.{is_u32, number_end}
 use Rattle.kernel_model.specs.Script.{IsSoundScript, calls_in, max_calls}
 use Rattle.node_model.specs.declared.held.Held.{Held}
-use Rattle.node_model.specs.Directory.{has_more, maker_in, max_ranges, range_size}
+use Rattle.node_model.specs.Directory.{has_more, max_ranges}
 use Rattle.node_model.specs.Kinds.{for_kind}
 use Rattle.world_model.specs.World.{World, node_count, numbers}
 use Rattle.world_laws.specs.Places.{Beside, CallPlace}
 use Rattle.world_laws.specs.Sights.{directory_of}
-use Rattle.world_laws.specs.Ranges.{IsRangeOf, has_lease, leases_on_way, one_for}
+use Rattle.world_laws.specs.Ranges.{has_lease, leases_on_way, one_for}
 use Rattle.world_laws.specs.Invariant.{Holds}
 use Rattle.world_bounds.proofs.Journals.{journal-is-short}
 use Rattle.world_bounds.proofs.Totals.{total, total-is-sum}
@@ -76,22 +74,3 @@ module _ (script : Script) (sound : IsSoundScript script) (w : World) (hand : Li
   few-ranges kind =
       let within = ranges-within kind
       in omega (arith, within)
-
-  -- A range that is given out begins with a number, and ends below four bytes.
-  pub range-is-low : (kind : Kind) (first node : ℕ) → IsRangeOf (for_kind (directory_of w).ranges kind) first node
-      → (0 < first) × (is_u32 (first + 7) ≡ true)
-  range-is-low kind first node r =
-      let few = few-ranges kind
-      in let is = r.first_is
-      in let within =
-      index-within (for_kind (directory_of w).ranges kind) r.index node (sym (ap (maker_in _) is) ∙ r.maker)
-      in (omega (arith, is), lt-ltb (first + 7) number_end (omega (arith, is, few, within)))
-    where
-      index-within : (ranges : List ℕ) (i h : ℕ) → maker_in ranges (i * range_size + 1) ≡ Some h → i < length ranges
-      index-within ranges i h made =
-          let place : (i * range_size + 1 - 1) / range_size ≡ i = omega arith
-          in let apart : nat_eq (i * range_size + 1) 0 ≡ false = ne_eqb (i * range_size + 1) 0 (λ e. omega (arith, e))
-          in slice_get_within ranges i h
-          (sym (ap (slice_get ranges) place)
-          ∙ sym (ap (λ t. if t then None else slice_get ranges ((i * range_size + 1 - 1) / range_size)) apart)
-          ∙ made)

@@ -1,9 +1,7 @@
 -- A node takes a frame: bounds stay, rule by rule.
-use Rattle.std.proofs.Common.{◌≡◌, ℕ, true, not, ◌&&◌, nat_eq, List, [], ◌∷◌, ◌++◌, map, fold, Option, Some, None, refl}
-use Rattle.std.specs.Prelude.{nat_le}
-use Rattle.std.specs.List.{AllByRecursion, list_all, list_any}
+use Rattle.std.proofs.Common.{◌≡◌, ℕ, not, ◌&&◌, nat_eq, List, [], ◌∷◌, ◌++◌, map, fold, Option, Some, None, refl}
+use Rattle.std.specs.List.{AllByRecursion, list_any}
 use Rattle.std.specs.Option.{option_and_then, option_map}
-use Rattle.std.proofs.lemmas.Bool.{and_parts, leb-true}
 use Rattle.pico_base.specs.declared.call.Call.{Call}
 use Rattle.pico_base.specs.declared.call.Call.TheVariants as calls
 use Rattle.pico_base.specs.declared.call.Home.{Home}
@@ -43,10 +41,9 @@ use Rattle.world_model.specs.Serving.{serve_asked, serve_nobody, without_deed}
 use Rattle.world_model.specs.Starting.{run}
 use Rattle.world_model.specs.Step.{Step, send, step_to, with_directory}
 use Rattle.world_model.specs.Turn.{take_frame}
-use Rattle.world_model.specs.World.{node_count}
 use Rattle.world_bounds.specs.Bounded.{FrameIsBounded, FrameNamesNodes, IsNode, LeadsToNode, NamesNodes, NodeIsBounded, StepIsBounded}
 use Rattle.world_bounds.proofs.NewNames.{ForksNodes, make-bounded}
-use Rattle.world_bounds.proofs.Parts.{arrive-names, bound-is-node, forget-names, held-are-of-nodes, learn-names, leaving-names, left-names, none-rises, of-map, of-next, of-some, of-test, place-name-names, put-rises, range-names, without-rises}
+use Rattle.world_bounds.proofs.Parts.{arrive-names, bound-is-node, forget-names, held-are-of-nodes, learn-names, leaving-names, left-names, none-rises, of-map, of-next, of-test, place-name-names, put-rises, range-names, without-rises}
 use Rattle.world_bounds.proofs.Released.{exit-here-bounded, release-bounded}
 use Rattle.world_bounds.proofs.Routed.{recall-from-bounded, route-call-bounded}
 use Rattle.world_bounds.proofs.Started.{ask-bounded, run-bounded}
@@ -56,11 +53,6 @@ use Rattle.world_bounds.proofs.StepParts.{answered-none, first-is-node, none-is,
 module _ (script : Script) where
   abbrev Bounded : Option Step → Type 0
   Bounded o = Of (StepIsBounded script) o
-
-  node-of-test : (p : ℕ) → is_node script p ≡ true → IsNode script p
-  node-of-test p h =
-      let parts = and_parts (nat_le 1 p) (nat_le p (node_count script)) h
-      in record { low = leb-true 1 p parts.0; high = leb-true p (node_count script) parts.1 }
 
   -- ---- frames about a call
 

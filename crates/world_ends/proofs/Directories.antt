@@ -204,15 +204,3 @@ there-without h node (Some (At owner)) tells none = was-at h node owner tells
 -- where the leader knows a name at a node, that is one
 abbrev pub KnowsNodes : Directory → Type 0
 KnowsNodes d = (name : Name) (node : ℕ) → place_of d name ≡ Some (At node) → 1 ≤ node
-
--- a name that is still at a node was there
-pub at-without : (c node : ℕ) (o : Option Place) → option_map (place_without c) o ≡ Some (At node)
-    → o ≡ Some (At node)
-at-without c node None e = absurd (cc)
-at-without c node (Some (Coming to items)) e = absurd (cc)
-at-without c node (Some (At owner)) e = by-test (nat_eq owner c) e
-  where
-    by-test : (t : Bool) → Some (if t then Coming None [] else At owner) ≡ Some (At node)
-        → Some (At owner) ≡ Some (At node)
-    by-test true g = absurd (cc)
-    by-test false g = g

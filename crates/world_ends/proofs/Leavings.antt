@@ -44,9 +44,7 @@ use Rattle.world_laws.proofs.Steps.{KeepsAs, Heads, world_without, take-steps, c
 use Rattle.world_laws.proofs.Heads.{head-is, head-may-be, head-from-another, rest-stays, others-stay}
 use Rattle.world_rules.proofs.Quiet.{SameButPlaces}
 use Rattle.world_rules.proofs.Nodes.{node-with-directory, and-true}
-use Rattle.world_ends.proofs.Directories.{known_as, place-of-placed, place-of-other, place-name-keeps, keeps-both, place-of-leaving, KnowsNodes, at-without, leading-leaving, stays-leaving, items-without}
-use Rattle.world_ends.proofs.Given.{AreRising}
-use Rattle.world_ends.proofs.RecallAlls.{deeds_at}
+use Rattle.world_ends.proofs.Directories.{known_as, place-of-placed, place-of-other, place-name-keeps, keeps-both, place-of-leaving, leading-leaving, stays-leaving, items-without}
 use Rattle.world_ends.proofs.Asked.{last_if, asked_for, IsAskedFor, name-asked-for}
 
 is-not-empty : {A : Type 0} (x : A) (xs : List A) → x ∷ xs ≡ [] → ⊥
@@ -767,30 +765,6 @@ module _ (script : Script) (w : World) (b : Beside) (holds : Holds script w [] b
               (refl, tt) (holds.families y is_forked);
         };
       }
-
-  -- What each node holds still rises.
-  pub leaving-rises : ((q : ℕ) → AreRising (deeds_at w q)) → (q : ℕ) → AreRising (deeds_at next q)
-  leaving-rises all q =
-      subst AreRising
-      (sym (read-same script 1 w next after.node takes after.sends [] changes (λ (m : Node). m.deeds) refl q))
-      (all q)
-
-  -- The leader still knows names at nodes alone.
-  pub leaving-at-nodes : KnowsNodes d → KnowsNodes (directory_of next)
-  leaving-at-nodes k name node e =
-      elim (place-between name) [
-        | inl same ↦ k name node (sym same ∙ was)
-        | inr new ↦
-            let pids = holds.pids
-            in let range = pids.nodes new.node new.is_forked
-            in subst (λ q. 1 ≤ q) (at-same new.node node (sym new.now ∙ was)) range.0
-      ]
-    where
-      was : place_of d1 name ≡ Some (At node)
-      was = at-without c node (place_of d1 name) (sym (place-now name) ∙ e)
-
-      at-same : (i j : ℕ) → Some (At i) ≡ Some (At j) → i ≡ j
-      at-same i j g = cc
 
 -- ---- any Leaving
 

@@ -39,9 +39,6 @@ use Rattle.world_laws.proofs.LeftAlone.{DirectoryLeaves, name-left-alone, Leaves
 use Rattle.world_laws.proofs.Steps.{Heads, world_without, changes-by-take}
 use Rattle.world_laws.proofs.Heads.{head-there, head-from-another, rest-stays, others-stay}
 use Rattle.world_rules.proofs.Nodes.{node-with-directory}
-use Rattle.world_ends.proofs.Directories.{KnowsNodes}
-use Rattle.world_ends.proofs.Given.{AreRising}
-use Rattle.world_ends.proofs.RecallAlls.{deeds_at}
 
 -- ---- where the deeds are
 
@@ -710,13 +707,3 @@ module _ (script : Script) (w : World) (b : Beside) (holds : Holds script w [] b
         keys = keys-now;
         families = families-now;
       }
-
-  -- What each node holds still rises.
-  pub left-rises : ((q : ℕ) → AreRising (deeds_at w q)) → (q : ℕ) → AreRising (deeds_at middle q)
-  left-rises all q =
-      subst AreRising
-      (sym (read-same script 1 w middle after.node takes [] [] changes (λ (m : Node). m.deeds) refl q)) (all q)
-
-  -- The leader still knows names at nodes alone.
-  pub left-at-nodes : KnowsNodes d → KnowsNodes (directory_of middle)
-  left-at-nodes k = subst (λ (z : Directory). KnowsNodes z) (sym directory-now) k

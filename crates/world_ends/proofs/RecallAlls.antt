@@ -53,8 +53,6 @@ use Rattle.world_laws.proofs.LeftAlone.{LeavesCall, call-left-alone, was-there, 
 use Rattle.world_laws.proofs.Steps.{KeepsAs, Heads, world_without, take-steps, changes-by-take}
 use Rattle.world_laws.proofs.NameFacts.{held-elsewhere, IsHeldAt, held-there}
 use Rattle.world_laws.proofs.Heads.{head-is, head-may-be, head-from-another, rest-stays, others-stay}
-use Rattle.number_maps.proofs.Rising.{rising-nothing}
-use Rattle.world_ends.proofs.Directories.{KnowsNodes}
 use Rattle.world_ends.proofs.Given.{AreRising, to_leader, fold-sends, kept-of-all-sent, all-given, frame_of, gives-name, gives-left, packed-there, all-of-map}
 use Rattle.world_ends.proofs.Handed.{handed_to, is_in_table, handed, in-table-is, not-in-table, left_by, name-left-by, handed_over, name-handed-over, brings-handed, where-handed, parent-handed, checkpoint-handed, fresh-handed, awaited-handed, not-awaited}
 
@@ -884,21 +882,6 @@ module _ (script : Script) (w : World) (b : Beside) (holds : Holds script w [] b
           families = families-now;
         };
       }
-
-  -- What each node holds still rises.
-  pub recall-all-rises : ((q : ℕ) → AreRising (deeds_at w q)) → (q : ℕ) → AreRising (deeds_at next q)
-  recall-all-rises all q =
-      elim (cases_eq q p) [
-        | inl e ↦
-            subst (λ y. AreRising (deeds_at next y)) (sym e)
-            (subst (λ (m : Node). AreRising m.deeds) (sym changes.here)
-            (record { processes = rising-nothing Body; queues = rising-nothing Body; sets = rising-nothing Body }))
-        | inr d ↦ subst (λ (m : Node). AreRising m.deeds) (sym (changes.others q d)) (all q)
-      ]
-
-  -- The leader knows names at nodes alone, as before.
-  pub recall-all-at-nodes : KnowsNodes (directory_of w) → KnowsNodes (directory_of next)
-  recall-all-at-nodes k = subst (λ (z : Directory). KnowsNodes z) (sym same-there) k
 
 -- whoever is asked, and by whomever
 pub any-recall-all-keeps : (script : Script) (w : World) (b : Beside) → Holds script w [] b → (p q : ℕ)

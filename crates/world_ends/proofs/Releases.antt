@@ -51,7 +51,8 @@ use Rattle.world_ends.proofs.Leavings.{IsToldOf, told-first}
 use Rattle.world_ends.proofs.Lefts.{IsBroughtHere, is-brought, way-was}
 use Rattle.world_ends.proofs.Taken.{any-none, none-kept, fewer-none, packed-same, each_with, read-packed, each-gets, each-rises, each-passes, names-pass, play-without, plays-without, begin-without}
 
-checkpoints-bring : (name : Name) (frame : Frame) → is_checkpoint_of name frame ≡ true → brings name frame ≡ true
+-- a Checkpoint of a name brings its deed
+pub checkpoints-bring : (name : Name) (frame : Frame) → is_checkpoint_of name frame ≡ true → brings name frame ≡ true
 checkpoints-bring name (frames.Checkpoint pid parent deed vars) h = h
 checkpoints-bring name frame h = absurd (false≢true h)
 

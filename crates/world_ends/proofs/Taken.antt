@@ -33,12 +33,6 @@ pub any-none : {A : Type 0} (test : A → Bool) (xs : List A) → AllByRecursion
 any-none test [] all = refl
 any-none test (x ∷ xs) all = ap (λ t. t || list_any test xs) all.0 ∙ any-none test xs all.1
 
--- all pass where each does
-pub all-pass : {A : Type 0} (test : A → Bool) (xs : List A) → AllByRecursion (λ x. test x ≡ true) xs
-    → list_all test xs ≡ true
-all-pass test [] all = refl
-all-pass test (x ∷ xs) all = ap (λ t. t && list_all test xs) all.0 ∙ all-pass test xs all.1
-
 -- the first is dropped, and so are the others
 pub record DropsFirst {A : Type 0} (test : A → Bool) (x : A) (xs : List A) : Type 0 where
   pub first : test x ≡ false

@@ -54,9 +54,6 @@ some-same e = cc
 none-is-some : {A : Type 0} (a : A) → None ≡ Some a → ⊥
 none-is-some a e = cc
 
-living-same : {r s : Row} → LivingBody r ≡ LivingBody s → r ≡ s
-living-same e = cc
-
 -- an end is its process's last call, and no fork
 pub ends-last : (call : Call) → is_end call ≡ true → places_of.is_end call ≡ true
 ends-last (calls.Exit status) h = refl

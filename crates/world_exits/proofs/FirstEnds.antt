@@ -117,9 +117,6 @@ gone-not-ended e h = cc
 some-same : {A : Type 0} {u v : A} → Some u ≡ Some v → u ≡ v
 some-same e = cc
 
-proc-same : (a c : ℕ) → Proc a ≡ Proc c → a ≡ c
-proc-same a c e = cc
-
 not-awaited : (to : ℕ) → InTable 1 ≡ InCheckpoint to → ⊥
 not-awaited to e = cc
 

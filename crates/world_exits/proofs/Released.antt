@@ -41,17 +41,11 @@ apart-names : (names : List Name) (a b : Name) → is_one_of a names ≡ true �
 apart-names names a b in_it not_in e =
     false≢true (sym not_in ∙ ap (λ n. is_one_of n names) (sym e) ∙ in_it)
 
-proc-same : (a b : ℕ) → Proc a ≡ Proc b → a ≡ b
-proc-same a b e = cc
-
 -- ---- a deed
 
 module _ (script : Script) (pids : ℕ → ℕ) (names : List Name) where
   abbrev now : DeedPlace → DeedPlace
   now = deed_released script pids names
-
-  kept-parent : ℕ → Name
-  kept-parent g = Proc (pids (forker script g))
 
   unmade-only : (d : DeedPlace) → now d ≡ Unmade → d ≡ Unmade
   unmade-only (InKept g) e = absurd (by-test (is_one_of (Proc (pids (forker script g))) names) e)

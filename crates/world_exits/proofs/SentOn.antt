@@ -30,23 +30,16 @@ use Rattle.world_laws.proofs.Named.{name-cases, same-name, other-name}
 use Rattle.world_laws.proofs.Stays.{IsMore, SameName, name-stays}
 use Rattle.world_hand.proofs.Forwards.{name-sent-for, steps_as, ranges_as}
 use Rattle.world_ends.proofs.Taken.{fewer-none, play-without, plays-without, begin-without}
+use Rattle.world_ends.proofs.Releases.{checkpoints-bring}
 use Rattle.world_exits.proofs.Arrivals.{either-way, Arrives}
 use Rattle.world_exits.proofs.Released.{call_released, deed_released, released_name, name-released}
 use Rattle.world_exits.proofs.Parcels.{HasParcel, hand-sender, parcel-in-hand, is-used-there, in-parcel-made}
 use Rattle.world_exits.proofs.Hands.{names, hand_then, parcel-apart, held_with, seen-held, in-hand-then, none-in-hand, kept-then, none-kept-then, place-then, place-still}
 use Rattle.world_exits.proofs.Onward.{is_done, done-together, lacks-is, plays-released, ranges-released, GoesOnward, gone_onward, name-gone-onward}
 
--- a Checkpoint of a name brings its deed
-pub checkpoints-bring : (name : Name) (frame : Frame) → is_checkpoint_of name frame ≡ true → brings name frame ≡ true
-checkpoints-bring name (frames.Checkpoint pid parent deed vars) h = h
-checkpoints-bring name frame h = absurd (false≢true h)
-
 and-false : (t : Bool) → (t && false) ≡ false
 and-false true = refl
 and-false false = refl
-
-some-same : {A : Type 0} {a c : A} → Some a ≡ Some c → a ≡ c
-some-same e = cc
 
 has-is : (hold : Hold) → is_has hold ≡ true → is_done hold ≡ false
 has-is Has h = refl
@@ -154,9 +147,6 @@ module _ (script : Script) (w : World) (items : List Held) (parcel : Parcel) (b 
 
   more : IsMore (is_born_in w) (is_born_in w')
   more = still-born script 1 w w' after [] sends [] changes (λ g. g)
-
-  stage-same : (q : ℕ) → stage_of w' q ≡ stage_of w q
-  stage-same q = read-same script 1 w w' after [] sends [] changes (λ (m : Node). m.stage) refl q
 
   -- ---- the names
 

@@ -34,9 +34,9 @@ use Rattle.world_laws.proofs.NameFacts.{IsHeldAt, held-there, begin-has, has_lef
 use Rattle.world_laws.proofs.Steps.{Heads}
 use Rattle.world_ends.proofs.KeptItems.{kept-is-there, not-left-out, has-its-own}
 use Rattle.world_ends.proofs.Taken.{fewer-none}
+use Rattle.world_ends.proofs.Releases.{checkpoints-bring}
 use Rattle.world_exits.proofs.Parcels.{HasParcel, sent-on-way, has-number, own-lives, not-first}
 use Rattle.world_exits.proofs.ExitMoves.{is_exit}
-use Rattle.world_exits.proofs.SentOn.{checkpoints-bring}
 
 some-same : {A : Type 0} {u v : A} → Some u ≡ Some v → u ≡ v
 some-same e = cc

@@ -101,10 +101,6 @@ module _ (script : Script) (w : World) (ticket pid : ℕ) (call : Call) (rest : 
   pub own-ticket : ticket ≡ was.ticket
   own-ticket = ap (λ (a : Asked). a.ticket) is-first.asked_is
 
-  -- and of this process
-  pub own-pid : pid ≡ (node_of w 1).pid
-  own-pid = ap (λ (a : Asked). a.pid) is-first.asked_is
-
   node-holds : NodeHolds script b.pids (is_born_in w) 1 (node_of w 1)
   node-holds = holds.nodes 1 one-low high
 

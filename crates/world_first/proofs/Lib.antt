@@ -1,4 +1,3 @@
-pub mod Watches
 pub mod AnsweredHere
 pub mod KeptHere
 pub mod ServedHere
@@ -15,4 +14,3 @@ pub mod OwnRoutes
 pub mod Starts
 pub mod OwnStarts
 pub mod NotOwners
-pub mod WithoutNumber

@@ -1,10 +1,8 @@
 -- The leader serves a call of its own process on a name that it holds, in the middle of an event, and notes the read,
 -- which moves nothing.
 use Rattle.std.proofs.Common.{◌≡◌, ℕ, ◌+◌, ◌≤◌, Bool, true, false, ◌==◌, if◌then◌else◌, List, [], ◌∷◌, ◌++◌, Some, None, option_map, refl, ap, sym, subst, ◌∙◌, arith, append-nil}
-use Rattle.std.proofs.lemmas.Bool.{eq-eqb, false≢true}
+use Rattle.std.proofs.lemmas.Bool.{eq-eqb}
 use Rattle.pico_base.specs.declared.call.Call.{Call}
-use Rattle.pico_base.specs.declared.call.Call.TheVariants as calls
-use Rattle.pico_base.specs.declared.call.Home.{Home}
 use Rattle.pico_base.specs.declared.call.Home.TheVariants as homes
 use Rattle.pico_base.specs.declared.numbers.Name.{Name}
 use Rattle.pico_base.specs.declared.reply.Entry.{Entry}
@@ -18,7 +16,6 @@ use Rattle.kernel_model.specs.Fitting.{places_after}
 use Rattle.node_model.specs.Bodies.{Body}
 use Rattle.node_model.specs.Caller.{answer_call, caller_place}
 use Rattle.node_model.specs.Carrying.{is_served}
-use Rattle.node_model.specs.Directory.{Directory}
 use Rattle.node_model.specs.Serving.{has_read, serve}
 use Rattle.node_model.specs.Watches.{Watches, moves_to, watch_over, with_read}
 use Rattle.world_model.specs.Node.{Node, Leader}
@@ -26,10 +23,10 @@ use Rattle.world_model.specs.Step.{Step, carry_out, with_deeds}
 use Rattle.world_model.specs.Serving.{move_to, note_read, serve_asked, serve_asked_with}
 use Rattle.world_model.specs.World.{World, node_count, world_after}
 use Rattle.serve_laws.specs.Served.{served_as}
-use Rattle.kernel_moves.specs.Entering.{entry_of, removed_queue, removed_set}
+use Rattle.kernel_moves.specs.Entering.{entry_of}
 use Rattle.kernel_moves.proofs.Holding.{ServesHere, served_deeds}
 use Rattle.world_laws.specs.Places.{Beside, Idle, call_in}
-use Rattle.world_laws.specs.Sights.{node_of, directory_of}
+use Rattle.world_laws.specs.Sights.{node_of}
 use Rattle.world_laws.specs.Ranges.{KeysHold}
 use Rattle.world_laws.specs.Invariant.{Holds}
 use Rattle.world_laws.proofs.Changes.{Changes}
@@ -39,6 +36,7 @@ use Rattle.world_hand.proofs.Asks.{NeverWaits}
 use Rattle.world_hand.proofs.NobodyRoutes.{on-name-served}
 use Rattle.world_hand.proofs.Served.{IsAtLeader}
 use Rattle.world_hand.proofs.Routes.{IsOn}
+use Rattle.world_hand.proofs.ServedRoutes.{is_at_home, keeps-queue, keeps-set}
 use Rattle.world_first.specs.Watching.{WatchesAsOwner}
 use Rattle.world_first.proofs.AnsweredHere.{own_asked}
 use Rattle.world_first.proofs.ServedHere.{own_next, own_node, own_reply, own-keys, own-serve-is-so, own-served-keeps, own-serves}
@@ -68,9 +66,6 @@ module _ (script : Script) (v : World) (s : Step) (ticket pid : ℕ) (call : Cal
 
   abbrev n : Node
   n = node_of w 1
-
-  abbrev d : Directory
-  d = directory_of w
 
   low : 1 ≤ 1
   low = omega arith
@@ -187,18 +182,6 @@ module _ (script : Script) (v : World) (s : Step) (ticket pid : ℕ) (call : Cal
         (change n.leader) same keys (world_after v 1 (own_served_step watched change)) changes
 
 -- ---- calls on a name that it keeps
-
-abbrev is_at_home : Home → Bool
-is_at_home (homes.At name) = true
-is_at_home home = false
-
-keeps-queue : (pid : ℕ) (call : Call) → is_at_home (home_of pid call) ≡ true → removed_queue call ≡ None
-keeps-queue pid (calls.MsgRmid id) h = absurd (false≢true h)
-keeps-queue pid call h = refl
-
-keeps-set : (pid : ℕ) (call : Call) → is_at_home (home_of pid call) ≡ true → removed_set call ≡ None
-keeps-set pid (calls.SemRmid id) h = absurd (false≢true h)
-keeps-set pid call h = refl
 
 -- a call that asks for a name removes nothing, so that the keys stay
 pub own-keys-stay : (script : Script) (w : World) (ticket pid : ℕ) (call : Call) (rest : List Held) (b : Beside)

@@ -26,8 +26,8 @@ use Rattle.world_laws.specs.Invariant.{Holds}
 use Rattle.world_laws.proofs.Changes.{Changes}
 use Rattle.world_laws.proofs.Middles.{changes-further}
 use Rattle.world_own.proofs.Entries.{EntryLeaves}
+use Rattle.world_own.proofs.Refused.{unchanged-leaves}
 use Rattle.world_hand.proofs.Answering.{IsPlainCall, due-in-hand, may-make-in-hand, place-in-hand}
-use Rattle.world_hand.proofs.Nobody.{unchanged-leaves}
 use Rattle.world_hand.proofs.ReadRoutes.{HasRoute}
 use Rattle.world_hand.proofs.Routes.{leader-here, leader-number}
 use Rattle.world_first.proofs.AnsweredHere.{own_asked, own-living, own-ticket, own-under-way}
@@ -93,8 +93,9 @@ module _ (script : Script) (v : World) (s : Step) (ticket pid : ℕ) (call : Cal
         (places_after script b.places (entry_of s.node.number pid call reply) place)
     leaves =
         unchanged-leaves b.kernel pid call reply
-        (may-make-in-hand script w (own_asked ticket pid call) rest b holds low high) l plain script b.places
-        s.node.number 1 n.caller (place-in-hand script w (own_asked ticket pid call) rest b holds low high)
+        (may-make-in-hand script w (own_asked ticket pid call) rest b holds low high) l plain.no_fork plain.no_exit
+        plain.not_killed script b.places s.node.number 1 n.caller
+        (place-in-hand script w (own_asked ticket pid call) rest b holds low high)
         (due-in-hand script w (own_asked ticket pid call) rest b holds low high)
 
     keys-now : KeysHold n.leader l.next

@@ -1,8 +1,7 @@
 -- The first call of the hand, of another node, has a route that keeps all: by its home, the name's place, and who has
 -- its number's range. What is still to be shown of the keys and of a removal at the leader stands as premises.
-use Rattle.std.proofs.Common.{◌≡◌, ◌≢◌, ◌⊎◌, ℕ, ◌≤◌, Bool, true, false, ◌&&◌, not, if◌then◌else◌, List, [], ◌∷◌, nat_eq, Option, Some, None, refl, ap, ◌∙◌, inl, inr}
+use Rattle.std.proofs.Common.{◌≡◌, ◌≢◌, ◌⊎◌, ℕ, ◌≤◌, Bool, true, false, ◌&&◌, not, if◌then◌else◌, List, ◌∷◌, nat_eq, Option, Some, None, refl, ap, ◌∙◌, inl, inr}
 use Rattle.std.proofs.lemmas.Bool.{cases_eq, eq-eqb, false≢true}
-use Rattle.pico_base.specs.declared.call.Call.{Call}
 use Rattle.pico_base.specs.declared.call.Home.{Home}
 use Rattle.pico_base.specs.declared.call.Home.TheVariants as homes
 use Rattle.pico_base.specs.declared.numbers.Name.{Name}
@@ -10,22 +9,18 @@ use Rattle.pico_base.specs.declared.script.Script.{Script}
 use Rattle.pico_base.specs.declared.script.Event.TheVariants as events
 use Rattle.pico_base.specs.Home.{home_of}
 use Rattle.rpc_frame.specs.declared.asked.Asked.{Asked}
-use Rattle.rpc_frame.specs.declared.frame.Frame.{Frame}
-use Rattle.rpc_frame.specs.declared.frame.Frame.TheVariants as frames
 use Rattle.node_model.specs.declared.held.Held.{Held}
 use Rattle.node_model.specs.declared.held.Held.TheVariants.{Request}
 use Rattle.node_model.specs.declared.route.Route.TheVariants as routes
 use Rattle.node_model.specs.Directory.{Directory, Place, At, Coming, maker, maker_stays, place_of, route, route_by, stays}
 use Rattle.world_model.specs.Calls.{is_for_others}
-use Rattle.world_model.specs.Step.{Step, step_to}
+use Rattle.world_model.specs.Step.{Step}
 use Rattle.world_model.specs.World.{World, node_count, world_after}
-use Rattle.world_laws.specs.Places.{Beside, IsInHand, call_in}
-use Rattle.world_laws.specs.Sights.{node_of, directory_of}
+use Rattle.world_laws.specs.Places.{Beside}
+use Rattle.world_laws.specs.Sights.{directory_of}
 use Rattle.world_laws.specs.Invariant.{Holds}
-use Rattle.world_laws.proofs.Steps.{KeepsAs, Heads, world_without}
-use Rattle.world_laws.proofs.Heads.{head-from-another}
-use Rattle.world_hand.proofs.Asks.{NeverWaits, ask-in-hand, ask-keeps}
-use Rattle.world_hand.proofs.Bounces.{bounce-in-hand, bounce-keeps}
+use Rattle.world_laws.proofs.Steps.{KeepsAs}
+use Rattle.world_hand.proofs.Asks.{NeverWaits}
 use Rattle.world_hand.proofs.HandMoves.{in-hand-for-others}
 use Rattle.world_hand.proofs.NobodyRoutes.{route-to-nobody}
 use Rattle.world_hand.proofs.ReadRoutes.{HasRoute, route-to-leader-too}
@@ -123,43 +118,9 @@ module _ (script : Script) (v : World) (s : Step) (asked : Asked) (rest : List H
   pub hand-has-route : HasRoute script v s asked rest
   hand-has-route = by-home home refl (in-hand-for-others script w asked rest b holds low high)
 
--- ---- an Ask
+-- ---- a frame with a call
 
 -- the event has a step that keeps all, with something beside the world
 pub record KeepsSo (script : Script) (w : World) (q : ℕ) : Type 0 where
   pub beside : Beside
   pub keeps : KeepsAs script w (events.Take 1 q) beside
-
--- So an Ask has a step, and keeps all.
-pub ask-has-step : (script : Script) (w : World) (b : Beside) (holds : Holds script w [] b) (q ticket pid : ℕ)
-    (call : Call) (rest : List Frame) → Heads script w 1 q (frames.Ask ticket pid call) rest → NeverWaits script
-    → RoutesLeft script (world_without w 1 q rest) (step_to (node_of w 1))
-    (record { caller = q; ticket = ticket; pid = pid; call = call }) []
-    → KeepsSo script w q
-ask-has-step script w b holds q ticket pid call rest h never left =
-    let r : HasRoute script (world_without w 1 q rest) (step_to (node_of w 1))
-    (record { caller = q; ticket = ticket; pid = pid; call = call }) [] =
-    hand-has-route script (world_without w 1 q rest) (step_to (node_of w 1))
-    (record { caller = q; ticket = ticket; pid = pid; call = call }) []
-    (record b { call = call_in b.call q IsInHand }) (ask-in-hand script w b holds q ticket pid call rest h) h.low_from
-    h.high_from (head-from-another script w 1 q (frames.Ask ticket pid call) rest h _ holds.frames_fit) never left
-    in record {
-      beside = r.beside;
-      keeps = ask-keeps script w b holds q ticket pid call rest h never r.beside r.keeps;
-    }
-
--- So has a Bounce of another node's call.
-pub bounce-has-step : (script : Script) (w : World) (b : Beside) (holds : Holds script w [] b) (q : ℕ) (asked : Asked)
-    (rest : List Frame) → Heads script w 1 q (frames.Bounce asked) rest → (low : 1 ≤ asked.caller)
-    (high : asked.caller ≤ node_count script) → asked.caller ≢ 1 → NeverWaits script
-    → RoutesLeft script (world_without w 1 q rest) (step_to (node_of w 1)) asked []
-    → KeepsSo script w q
-bounce-has-step script w b holds q asked rest h low high other never left =
-    let r : HasRoute script (world_without w 1 q rest) (step_to (node_of w 1)) asked [] =
-    hand-has-route script (world_without w 1 q rest) (step_to (node_of w 1)) asked []
-    (record b { call = call_in b.call asked.caller IsInHand }) (bounce-in-hand script w b holds q asked rest h low high)
-    low high other never left
-    in record {
-      beside = r.beside;
-      keeps = bounce-keeps script w b holds q asked rest h low high never r.beside r.keeps;
-    }

@@ -29,7 +29,7 @@ use Rattle.node_model.specs.Serving.{name_for, name_in}
 use Rattle.world_model.specs.Node.{Node, Stage, Unborn, Living, Leaving, Left, Over}
 use Rattle.world_model.specs.World.{World, node_count}
 use Rattle.serve_laws.specs.Laws.{is_found}
-use Rattle.kernel_moves.specs.Entering.{HasKeys, MayMake, entry_of, removed_queue, removed_set, unless_removed}
+use Rattle.kernel_moves.specs.Entering.{MayMake, entry_of, removed_queue, removed_set, unless_removed}
 use Rattle.kernel_moves.proofs.Bodies.{body-living, living-body}
 use Rattle.kernel_moves.proofs.Holding.{ServesHere, served_deeds, serves-here}
 use Rattle.kernel_moves.proofs.Keys.{keys-kept}

@@ -40,15 +40,18 @@ use Rattle.world_hand.proofs.Served.{serves, served-keeps}
 
 -- ---- calls on a name that it keeps
 
-abbrev is_at_home : Home → Bool
+-- a call on a name that stays where it is
+abbrev pub is_at_home : Home → Bool
 is_at_home (homes.At name) = true
 is_at_home home = false
 
-keeps-queue : (pid : ℕ) (call : Call) → is_at_home (home_of pid call) ≡ true → removed_queue call ≡ None
+-- such a call removes no queue
+pub keeps-queue : (pid : ℕ) (call : Call) → is_at_home (home_of pid call) ≡ true → removed_queue call ≡ None
 keeps-queue pid (calls.MsgRmid id) h = absurd (false≢true h)
 keeps-queue pid call h = refl
 
-keeps-set : (pid : ℕ) (call : Call) → is_at_home (home_of pid call) ≡ true → removed_set call ≡ None
+-- and no set
+pub keeps-set : (pid : ℕ) (call : Call) → is_at_home (home_of pid call) ≡ true → removed_set call ≡ None
 keeps-set pid (calls.SemRmid id) h = absurd (false≢true h)
 keeps-set pid call h = refl
 

@@ -1,5 +1,5 @@
 -- The leader takes a frame with a call, and the call is in its hand now.
-use Rattle.std.proofs.Common.{◌≡◌, ◌≢◌, ◌⊎◌, ℕ, ◌≤◌, Bool, true, false, ◌&&◌, not, cond, if◌then◌else◌, List, [], ◌∷◌, ◌++◌, filter, flat_map, nat_eq, Contains, is_some, Some, refl, ap, sym, subst, ◌∙◌, inl, inr, arith}
+use Rattle.std.proofs.Common.{◌≡◌, ◌≢◌, ◌⊎◌, ℕ, ◌≤◌, Bool, true, false, ◌&&◌, not, cond, if◌then◌else◌, List, [], ◌∷◌, ◌++◌, filter, flat_map, nat_eq, is_some, Some, refl, ap, sym, subst, ◌∙◌, inl, inr}
 use Rattle.std.proofs.lemmas.Bool.{cases_eq, eq-eqb, ne_eqb, false≢true}
 use Rattle.std.proofs.lemmas.List.Elements.{Contains-push_cases}
 use Rattle.pico_base.specs.declared.call.Call.{Call}
@@ -82,9 +82,6 @@ rest-same x y xs ys h = cc
 
 request-no-parcel : (asked : Asked) (parcel : Parcel) → Request asked ≡ Ending parcel → ⊥
 request-no-parcel asked parcel e = false≢true (ap is_parcel e)
-
-none-held : (item : Held) → Contains [] item → ⊥
-none-held item there = omega (arith, there.1)
 
 and-false : (t : Bool) → (t && false) ≡ false
 and-false true = refl

@@ -62,9 +62,6 @@ module _ (script : Script) (w : World) (hand : List Held) (b : Beside) (holds : 
   abbrev t : TakesNumber w b.kernel kind
   t = m.takes
 
-  abbrev made : MakesObject b.kernel pid call name body
-  made = m.made
-
   -- Its number was unused.
   pub unused : is_used_name b.kernel name ≡ false
   unused =

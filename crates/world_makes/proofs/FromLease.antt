@@ -18,7 +18,6 @@ use Rattle.world_model.specs.Step.{Step, send, step_to}
 use Rattle.world_model.specs.World.{World, node_count, numbers as numbers_from, world_after}
 use Rattle.world_laws.specs.Places.{Beside, Idle, call_in}
 use Rattle.world_laws.specs.Sights.{directory_of, frames_to, is_born_in, node_of}
-use Rattle.world_laws.specs.Families.{NodeHolds}
 use Rattle.world_laws.specs.Invariant.{Holds}
 use Rattle.world_laws.specs.Callers.{is_about}
 use Rattle.world_laws.specs.Ranges.{has_lease, kind_sight, lease_in, leases_on_way, one_for}
@@ -49,9 +48,6 @@ module _ (script : Script) (sound : IsSoundScript script) (w : World) (b : Besid
 
   abbrev first : Step
   first = step_to (record n { caller = started })
-
-  node-holds : NodeHolds script b.pids (is_born_in w) p n
-  node-holds = holds.nodes p low high
 
   none-coming : flat_map (lease_in kind) (frames_to w p 1) ≡ []
   none-coming = no-lease-about kind p (frames_to w p 1) (s.nowhere.in_streams p 1)

@@ -141,10 +141,6 @@ kind-at-hand born x p numbers k lease none =
     coming-at h true e = ap x.coming (eqb-true h p e) ∙ none
     coming-at h false e = refl
 
-or-false : (t : Bool) → (t || false) ≡ t
-or-false true = refl
-or-false false = refl
-
 -- numbers that have come
 pub kind-come : (born : ℕ → Bool) (x : KindSight) (p first : ℕ) → KindHolds born x → x.leases p ≡ []
     → x.coming p ≡ first ∷ [] → KindHolds born (ready_kind x p (lease_of first) x.ranges)

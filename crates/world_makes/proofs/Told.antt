@@ -76,9 +76,6 @@ told-news p q name flag at false = by-test (nat_eq q p)
     by-test true = ap (λ v. news_if v Tells ++ []) (same-name name name refl)
     by-test false = refl
 
-none-is-some : {A : Type 0} (a : A) → None ≡ Some a → ⊥
-none-is-some a h = cc
-
 module _ (script : Script) (w : World) (b : Beside) (holds : Holds script w [] b) (p : ℕ) (call : Call) (kind : Kind)
     (number : ℕ) (numbers : List ℕ) (o : Origin) (e : Event) (s : Source script w b p call kind number numbers o e)
     (next : World) (n : Node) (births : List (ℕ × Frame)) (entries : List Entry) (name : Name) (at : ℕ)

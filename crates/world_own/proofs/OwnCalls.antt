@@ -25,7 +25,7 @@ use Rattle.kernel_model.specs.Row.{Row}
 use Rattle.kernel_model.specs.Script.{IsSoundScript}
 use Rattle.serve_laws.specs.Laws.{is_found}
 use Rattle.serve_laws.specs.Served.{served_as}
-use Rattle.kernel_moves.specs.Entering.{HasHistory, HasKeys, KeepsKeys, entry_of, removed_queue, removed_set, unless_removed}
+use Rattle.kernel_moves.specs.Entering.{HasHistory, KeepsKeys, entry_of, removed_queue, removed_set, unless_removed}
 use Rattle.kernel_moves.proofs.Bodies.{living-body}
 use Rattle.kernel_moves.proofs.History.{history-goes-on}
 use Rattle.kernel_moves.proofs.Holding.{ServesHere, served_deeds, serves-here}

@@ -16,7 +16,7 @@ use Rattle.number_maps.specs.Maps.{get, is_used}
 use Rattle.kernel_model.specs.Fitting.{Place, Places, place_after, places_after, IsDue, due, is_killed, move_on}
 use Rattle.kernel_model.specs.Kernel.{Kernel}
 use Rattle.kernel_model.specs.Script.{IsSoundScript, is_exit, is_fork}
-use Rattle.kernel_moves.specs.Entering.{HasHistory, HasKeys, entry_of, LeavesOthers, MayMake, Same}
+use Rattle.kernel_moves.specs.Entering.{HasHistory, entry_of, LeavesOthers, MayMake, Same}
 use Rattle.kernel_moves.proofs.History.{history-goes-on, moved-is, place-moves, places-stay}
 use Rattle.kernel_moves.proofs.Keys.{keys-kept}
 use Rattle.kernel_moves.proofs.Numbers.{used-kept, process-there}

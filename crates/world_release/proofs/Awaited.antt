@@ -5,8 +5,6 @@ use Rattle.std.proofs.lemmas.List.Elements.{Contains-append_left, Contains-push}
 use Rattle.pico_base.specs.declared.numbers.Name.{Name}
 use Rattle.pico_base.specs.declared.numbers.Name.TheVariants.{Proc, Msg, Sem}
 use Rattle.pico_base.specs.declared.script.Script.{Script}
-use Rattle.rpc_frame.specs.declared.frame.Frame.{Frame}
-use Rattle.rpc_frame.specs.declared.frame.Frame.TheVariants as frames
 use Rattle.node_model.specs.declared.held.Held.{Held}
 use Rattle.node_model.specs.Kinds.{is_object, kind_of, number_of}
 use Rattle.node_model.specs.Leases.{leases_hold}
@@ -24,10 +22,7 @@ use Rattle.world_laws.specs.Invariant.{Holds}
 use Rattle.world_laws.proofs.Numbers.{used-is-taken}
 use Rattle.world_ends.proofs.Directories.{KnowsNodes}
 use Rattle.world_ends.proofs.Taken.{fewer-none, play-without, plays-without, begin-without}
-
-checkpoints-bring : (name : Name) (frame : Frame) → is_checkpoint_of name frame ≡ true → brings name frame ≡ true
-checkpoints-bring name (frames.Checkpoint pid parent deed vars) h = h
-checkpoints-bring name frame h = absurd (false≢true h)
+use Rattle.world_ends.proofs.Releases.{checkpoints-bring}
 
 -- what is told of a queue or set is told of the teller
 says-itself : (pids : ℕ → ℕ) (name : Name) (sender node : ℕ) → is_object name ≡ true → SaysOf pids name sender node

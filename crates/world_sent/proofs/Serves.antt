@@ -28,7 +28,7 @@ use Rattle.node_model.specs.Serving.{name_for, name_in}
 use Rattle.world_model.specs.Node.{Node, Stage, Unborn, Living, Leaving, Left, Over}
 use Rattle.world_model.specs.World.{World}
 use Rattle.serve_laws.specs.Laws.{is_found}
-use Rattle.kernel_moves.specs.Entering.{MayMake, entry_of, removed_queue, removed_set, unless_removed}
+use Rattle.kernel_moves.specs.Entering.{MayMake, entry_of, unless_removed}
 use Rattle.kernel_moves.proofs.Bodies.{body-living, living-body}
 use Rattle.kernel_moves.proofs.Holding.{ServesHere, served_deeds, serves-here}
 use Rattle.kernel_moves.proofs.Keys.{keys-kept}
@@ -49,26 +49,13 @@ use Rattle.world_rules.proofs.Nodes.{born-stage}
 use Rattle.world_own.proofs.Entries.{EntryLeaves, there-same}
 use Rattle.world_own.proofs.Served.{served-leaves}
 use Rattle.world_hand.proofs.Answering.{due-in-hand, may-make-in-hand, place-in-hand, served-plain}
+use Rattle.world_hand.proofs.ServedRoutes.{is_at_home, keeps-queue, keeps-set}
 use Rattle.world_sent.proofs.InHand.{HasInHand}
 use Rattle.world_sent.proofs.Replied.{IsCarriedOut, IsNodeAfter, IsReplied, name-changed, name-not-changed, replied-keeps}
 use Rattle.world_sent.proofs.InAnswers.{call-in-answer, in-answer}
 use Rattle.world_sent.proofs.EndedHere.{call-ended-here, ended-here}
 
 -- ---- calls on a name
-
-abbrev is_at_home : Home → Bool
-is_at_home (homes.At name) = true
-is_at_home home = false
-
--- such a call removes no queue
-keeps-queue : (pid : ℕ) (call : Call) → is_at_home (home_of pid call) ≡ true → removed_queue call ≡ None
-keeps-queue pid (calls.MsgRmid id) h = absurd (false≢true h)
-keeps-queue pid call h = refl
-
--- and no set
-keeps-set : (pid : ℕ) (call : Call) → is_at_home (home_of pid call) ≡ true → removed_set call ≡ None
-keeps-set pid (calls.SemRmid id) h = absurd (false≢true h)
-keeps-set pid call h = refl
 
 abbrev is_own_home : Home → Bool
 is_own_home homes.Own = true

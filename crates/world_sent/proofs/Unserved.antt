@@ -24,8 +24,8 @@ use Rattle.world_laws.specs.Invariant.{Holds}
 use Rattle.world_laws.proofs.Changes.{Changes}
 use Rattle.world_laws.proofs.LeftAlone.{SameCaller}
 use Rattle.world_laws.proofs.Middles.{changes-further}
+use Rattle.world_own.proofs.Refused.{unchanged-leaves}
 use Rattle.world_hand.proofs.Answering.{IsPlainCall, due-in-hand, may-make-in-hand, place-in-hand}
-use Rattle.world_hand.proofs.Nobody.{unchanged-leaves}
 use Rattle.world_sent.proofs.InHand.{HasInHand}
 use Rattle.world_sent.proofs.Replied.{IsCarriedOut, IsNodeAfter, IsReplied, name-not-changed, replied-keeps}
 use Rattle.world_sent.proofs.InAnswers.{call-in-answer, in-answer}
@@ -55,7 +55,8 @@ module _ (script : Script) (w : World) (b : Beside) (p : ℕ) (asked : Asked) (g
         next = l.next;
         enters = l.enters;
         leaves = unchanged-leaves b.kernel asked.pid asked.call reply
-            (may-make-in-hand script w asked [] b holds g.low g.high) l plain script b.places node asked.caller caller
+            (may-make-in-hand script w asked [] b holds g.low g.high) l plain.no_fork plain.no_exit plain.not_killed
+            script b.places node asked.caller caller
             (place-in-hand script w asked [] b holds g.low g.high)
             (due-in-hand script w asked [] b holds g.low g.high);
         plain = plain;
