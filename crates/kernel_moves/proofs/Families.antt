@@ -55,9 +55,6 @@ any-append-not m x (y ∷ ys) apart h =
 pub lists-child-not : (f : Family) (child c : ℕ) → c ≢ child → lists f c ≡ false → lists (with_child f child) c ≡ false
 lists-child-not f child c apart h = any-append-not c child f.living apart h
 
-pub lists-nobody : (c : ℕ) → lists no_family c ≡ false
-lists-nobody c = refl
-
 -- ---- ends
 
 any-others-on : (n : ℕ) (ns : List ℕ) (m : ℕ) → m ≢ n → list_any (nat_eq m) ns ≡ true

@@ -228,21 +228,6 @@ carried-keys queue_keys set_keys k pid call name c named rises rises_too h =
 
 -- ---- families
 
--- a process whose name the call is on
-pub carried-family : (k : Kernel) (pid : ℕ) (call : Call) (p : ℕ) (c : Carried k pid call (Proc p)) (row : Row)
-    → body_in k (Proc p) ≡ Living row → HasFamily c.next p (family_after c.reply row.family)
-carried-family k pid call p c row lives =
-    let does = on_row row pid call
-    in let is : body_in c.next (Proc p) ≡ Living does.left =
-    c.follows.there ∙ ap (λ (b : Body). (on_body (Proc p) b pid call).left) lives
-    in let answer : c.reply ≡ does.reply =
-    c.follows.reply ∙ ap (λ (b : Body). (on_body (Proc p) b pid call).reply) lives
-    in record {
-      row = does.left;
-      is = is;
-      family_is = row-family row pid call ∙ ap (λ (r : Reply). family_after r row.family) (sym answer);
-    }
-
 -- A child that is found is the caller's: the call is its own, and it kept the child's ending.
 pub record FindsChild (k : Kernel) (pid : ℕ) (name : Name) (a : Alive) (child : ℕ) (ending : Ending) : Type 0 where
   pub own : name ≡ Proc pid
@@ -270,9 +255,3 @@ pub carried-finds : (k : Kernel) (pid : ℕ) (call : Call) (name : Name) (m : Ma
     → c.reply ≡ replies.Child child ending → FindsChild k pid name m.alive child ending
 carried-finds k pid call name m c child ending named is =
     found-by k pid call name m c.reply child ending named is c.follows.reply
-
--- a call that isn't `waitpid` finds none
-pub carried-finds-none : (k : Kernel) (pid : ℕ) (call : Call) (name : Name) (c : Carried k pid call name)
-    → is_waitpid call ≡ false → (m : Name) → is_found c.reply m ≡ false
-carried-finds-none k pid call name c not m =
-    none-found c.reply (ap finds c.follows.reply ∙ body-none name (body_in k name) pid call not) m
