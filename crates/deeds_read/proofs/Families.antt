@@ -93,6 +93,7 @@ pub used-is-positive : (k : Kernel) → IsReachableKernel k → (n : ℕ) → is
     → is_positive_u32 n ≡ true
 used-is-positive k r = kept-along HasPositive positive-kept r.0 opening k r.1 first-positive
 
+-- a used number of a process has four bytes
 pub used-is-small : (k : Kernel) → IsReachableKernel k → (n : ℕ) → is_used k.used_processes n ≡ true → n < 2 ^ 32
 used-is-small k r n h = ltb-true n number_end (and-second (nat_lt 0 n) (is_u32 n) (used-is-positive k r n h))
 

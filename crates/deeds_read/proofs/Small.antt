@@ -98,6 +98,7 @@ none-counted g =
     at-small (everywhere 0) (2 ^ 32) (omega arith) (omega arith) (omega arith) (omega arith) (omega arith) (omega arith)
     (omega arith) (omega arith) (omega arith) (omega arith) g
 
+-- new signals are small
 pub small-new : AreSmallSignals new_signals
 small-new = record { no_kill = refl; counts = none-counted }
 
@@ -215,6 +216,7 @@ abbrev KeepsReceived : Result Received Errno → Type 0
 KeepsReceived (Ok r) = IsSmallQueue r.queue
 KeepsReceived (Err e) = Unit {0}
 
+-- so is an empty queue
 pub small-empty : IsSmallQueue empty_queue
 small-empty = record { types = All-nil HasSmallType; sender = omega arith; receiver = omega arith }
 
@@ -286,6 +288,7 @@ abbrev KeepsSet : Result SemaphoreSet Errno → Type 0
 KeepsSet (Ok s) = IsSmallSet s
 KeepsSet (Err e) = Unit {0}
 
+-- and a new set
 pub small-made : (count : ℕ) → KeepsSet (new_set count)
 small-made count =
     by_test KeepsSet (is_bad_count count) (Err Einval) _ (λ _. tt)

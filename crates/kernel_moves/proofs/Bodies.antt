@@ -30,31 +30,6 @@ row_from k p row (Some (kernel.Living a)) there is =
 pub body-living : (k : Kernel) (p : ℕ) (row : Row) → body_in k (Proc p) ≡ Living row → HasRow k p row
 body-living k p row is = row_from k p row (get k.processes p) refl is
 
-ended_from : (k : Kernel) (p : ℕ) (ending : Ending) (o : Option Process) → get k.processes p ≡ o
-    → process_body o ≡ Ended ending → get k.processes p ≡ Some (kernel.Ended ending)
-ended_from k p ending None there is = absurd (cc)
-ended_from k p ending (Some (kernel.Living a)) there is = absurd (cc)
-ended_from k p ending (Some kernel.Gone) there is = absurd (cc)
-ended_from k p ending (Some (kernel.Ended e)) there is =
-    let same : e ≡ ending = cc in there ∙ ap (λ (x : Ending). Some (kernel.Ended x)) same
-
--- a body that says how its process ended
-pub body-ended : (k : Kernel) (p : ℕ) (ending : Ending) → body_in k (Proc p) ≡ Ended ending
-    → get k.processes p ≡ Some (kernel.Ended ending)
-body-ended k p ending is = ended_from k p ending (get k.processes p) refl is
-
-gone_from : (k : Kernel) (p : ℕ) (o : Option Process) → get k.processes p ≡ o → process_body o ≡ Gone
-    → is_some o ≡ true → get k.processes p ≡ Some kernel.Gone
-gone_from k p None there is used = absurd (cc)
-gone_from k p (Some (kernel.Living a)) there is used = absurd (cc)
-gone_from k p (Some (kernel.Ended e)) there is used = absurd (cc)
-gone_from k p (Some kernel.Gone) there is used = there
-
--- a body that is gone, of a number that leads to a process
-pub body-gone : (k : Kernel) (p : ℕ) → body_in k (Proc p) ≡ Gone → is_some (get k.processes p) ≡ true
-    → get k.processes p ≡ Some kernel.Gone
-body-gone k p is used = gone_from k p (get k.processes p) refl is used
-
 dead_from : (k : Kernel) (p : ℕ) (o : Option Process) → get k.processes p ≡ o
     → ((row : Row) → process_body o ≡ Living row → ⊥) → living_at k p ≡ None
 dead_from k p None there none = ap (option_and_then alive_in) there
@@ -65,19 +40,3 @@ dead_from k p (Some kernel.Gone) there none = ap (option_and_then alive_in) ther
 -- a body that is no row is that of no living process
 pub body-dead : (k : Kernel) (p : ℕ) → ((row : Row) → body_in k (Proc p) ≡ Living row → ⊥) → living_at k p ≡ None
 body-dead k p none = dead_from k p (get k.processes p) refl none
-
-none_some : (k : Kernel) (p : ℕ) (a : Alive) → living_at k p ≡ None → living_at k p ≡ Some a → ⊥
-none_some k p a dead lives = absurd (cc)
-
--- who doesn't live has no row
-pub dead-body : (k : Kernel) (p : ℕ) (row : Row) → living_at k p ≡ None → body_in k (Proc p) ≡ Living row → ⊥
-dead-body k p row dead is = let h = body-living k p row is in none_some k p h.alive dead h.lives
-
--- with the same body a process lives in both kernels, with the same row, or in neither
-pub same-body-lives : (j k : Kernel) (p : ℕ) (a : Alive) → body_in j (Proc p) ≡ body_in k (Proc p)
-    → living_at k p ≡ Some a → HasRow j p a.row
-same-body-lives j k p a same lives = body-living j p a.row (same ∙ living-body k p a lives)
-
-pub same-body-dead : (j k : Kernel) (p : ℕ) → body_in j (Proc p) ≡ body_in k (Proc p) → living_at k p ≡ None
-    → living_at j p ≡ None
-same-body-dead j k p same dead = body-dead j p (λ row is. dead-body k p row dead (sym same ∙ is))

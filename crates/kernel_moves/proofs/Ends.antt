@@ -105,6 +105,7 @@ exit_changes parcel bodies parent =
     ++ parts_in (kernel_after_end parcel.pid parcel.parent parent (ending_of parcel.call))
     (names_after_end parcel.pid parcel.parent parent)
 
+-- an end that may be carried out is, with these changes
 pub commits : (k : Kernel) (deeds : Deeds) (parcel : Parcel) (bodies : Numbered Body) (row : Row) (parent : Body)
     → MayEnd k deeds parcel bodies row parent
     → commit_exit parcel bodies parent ≡ Some (exit_changes parcel bodies parent)
@@ -137,6 +138,7 @@ all-at test (e ∷ es) q b h there =
       | inr other ↦ all-at test es q b (and-second (test e) (list_all test es) h) (sym (get-later e es q other) ∙ there)
     ]
 
+-- who is among ended children was kept with an ending
 pub among-kept : (es : List EndedChild) (q : ℕ) → is_among es q ≡ true → (e : Ending) × Contains es (ended_child q e)
 among-kept [] q h = absurd (false≢true h)
 among-kept (x ∷ xs) q h =
@@ -194,6 +196,7 @@ pub record EndsHere (k : Kernel) (deeds : Deeds) (parcel : Parcel) (bodies : Num
   pub bodies_are : EndBodies k next parcel.pid parcel.parent row parent (ending_of parcel.call)
   pub keys : KeepsKeys k next
 
+-- where the parent's deed is held, the end of a process is the kernel's
 pub ends-here : (k : Kernel) (deeds : Deeds) (parcel : Parcel) (bodies : Numbered Body) (row : Row) (parent : Body)
     → MayMake k parcel.pid parcel.call → MayEnd k deeds parcel bodies row parent
     → EndsHere k deeds parcel bodies row parent
@@ -299,6 +302,7 @@ first-processes k pid a row ending rows none =
     ∙ ap (λ ps. put ps pid kernel.Gone) (buried-each row.family.ended k.processes)
     ∙ sym (each-append (map (λ e. e.pid) row.family.ended) (pid ∷ []) k.processes)
 
+-- the first process's end is the kernel's
 pub ends-first : (k : Kernel) (pid : ℕ) (call : Call) (row : Row) → MayMake k pid call
     → body_in k (Proc pid) ≡ Living row → may_end_with row call ≡ true
     → ((p : ℕ) (a : Alive) → living_at k p ≡ Some a → lists a.row.family pid ≡ true → ⊥)
@@ -342,6 +346,7 @@ pub first-held : (pid : ℕ) (row : Row) (deeds : Deeds) (name : Name) → is_go
     → get_named (put_all deeds (end_first pid row)) name ≡ Some Gone
 first-held pid row deeds name h = gone-in (gone_with pid row) deeds name h
 
+-- the first process's end leaves all other names
 pub first-kept : (pid : ℕ) (row : Row) (deeds : Deeds) (name : Name) → is_gone_of (gone_with pid row) name ≡ false
     → get_named (put_all deeds (end_first pid row)) name ≡ get_named deeds name
 first-kept pid row deeds name h = gone-out (gone_with pid row) deeds name h

@@ -36,6 +36,7 @@ any-last m (x ∷ xs) = or_right (nat_eq m x) (list_any (nat_eq m) (xs ++ m ∷ 
 pub lists-child-on : (f : Family) (child c : ℕ) → lists f c ≡ true → lists (with_child f child) c ≡ true
 lists-child-on f child c h = any-append c f.living (child ∷ []) h
 
+-- a new child is listed
 pub lists-child-new : (f : Family) (child : ℕ) → lists (with_child f child) child ≡ true
 lists-child-new f child = any-last child f.living
 
@@ -53,9 +54,6 @@ any-append-not m x (y ∷ ys) apart h =
 -- and nobody else
 pub lists-child-not : (f : Family) (child c : ℕ) → c ≢ child → lists f c ≡ false → lists (with_child f child) c ≡ false
 lists-child-not f child c apart h = any-append-not c child f.living apart h
-
-pub lists-nobody : (c : ℕ) → lists no_family c ≡ false
-lists-nobody c = refl
 
 -- ---- ends
 
@@ -87,6 +85,7 @@ pub lists-end-on : (f : Family) (n : ℕ) (e : Ending) (ignored : Bool) (c : ℕ
     → lists (family_after_end f n e ignored) c ≡ true
 lists-end-on f n e ignored c apart h = any-others-on n f.living c apart h
 
+-- a child that has ended isn't listed as living
 pub lists-end-not : (f : Family) (n : ℕ) (e : Ending) (ignored : Bool)
     → lists (family_after_end f n e ignored) n ≡ false
 lists-end-not f n e ignored = by (lists (family_after_end f n e ignored) n) refl
@@ -149,6 +148,7 @@ orphan-by k pid valid none (Some p) is =
     let w = parent-is pid k.processes valid.processes p is
     in absurd (none p.pid p.alive (to-living k.processes p.pid p.alive w.0) w.1)
 
+-- who is listed by nobody has no parent
 pub no-parent : (k : Kernel) (pid : ℕ) → IsValid k
     → ((p : ℕ) (a : Alive) → living_at k p ≡ Some a → lists a.row.family pid ≡ true → ⊥)
     → parent_in pid k.processes ≡ None

@@ -18,6 +18,7 @@ abbrev pub forks_block : ℕ → Call → Bool
 forks_block block (calls.Fork to) = nat_eq to block
 forks_block block call = false
 
+-- a line forks a block
 abbrev pub forks_in_line : ℕ → Line → Bool
 forks_in_line block line = forks_block block line.call
 

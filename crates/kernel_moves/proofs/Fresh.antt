@@ -166,6 +166,7 @@ pub record Forks (k : Kernel) (pid block child : ℕ) (row : Row) : Type 0 where
   pub absent : get k.processes child ≡ None
   pub caller : Lived next pid
 
+-- a number of four bytes that isn't used is fresh
 pub fresh-is : (used : List ℕ) (n : ℕ) → is_positive_u32 n ≡ true → is_used used n ≡ false → is_fresh used n ≡ true
 fresh-is used n low unused =
     ap (λ (b : Bool). b && not (is_used used n)) low ∙ ap (λ (b : Bool). not b) unused
@@ -190,6 +191,7 @@ fork-rest k pid a n (Proc p) apart new =
     (λ (e : p ≡ pid). apart (ap Proc e))
     ∙ get-put-other k.processes n (kernel.Living (new_child a)) p (λ (e : p ≡ n). new (ap Proc e)))
 
+-- a fork with an unused number is the kernel's
 pub forks : (k : Kernel) (pid block child : ℕ) (row : Row) → MayMake k pid (calls.Fork block)
     → body_in k (Proc pid) ≡ Living row → is_used k.used_processes child ≡ false → is_positive_u32 child ≡ true
     → Forks k pid block child row
@@ -251,16 +253,19 @@ pub record MakesPrivate (k : Kernel) (pid : ℕ) (call : Call) (name : Name) (bo
   pub object : MakesObject k pid call name body
   pub keys : KeepsKeys k object.next
 
+-- the kernel with one more queue
 abbrev pub with_new_queue : Kernel → Numbered ℕ → ℕ → Kernel
 with_new_queue k keys n =
     record k { queues = put k.queues n empty_queue; queue_keys = keys; used_queues = used_with k.used_queues n }
 
+-- one more number of queues is used then
 pub queue-used : (k : Kernel) (keys : Numbered ℕ) (n : ℕ) (kind : Kind)
     → used_of (with_new_queue k keys n) kind ≡ used_after (Some (Msg n)) kind (used_of k kind)
 queue-used k keys n kinds.Proc = refl
 queue-used k keys n kinds.Msg = refl
 queue-used k keys n kinds.Sem = refl
 
+-- all other names have what they had
 pub queue-rest : (k : Kernel) (keys : Numbered ℕ) (n : ℕ) (m : Name) → m ≢ Msg n
     → body_in (with_new_queue k keys n) m ≡ body_in k m
 queue-rest k keys n (Proc p) other = refl
@@ -290,16 +295,19 @@ makes-private-queue k pid n create excl m unused low =
           (record { queues = λ key. refl; sets = λ key. refl; sizes = λ key id bound. refl });
     }
 
+-- the kernel with one more set
 abbrev pub with_new_set : Kernel → Numbered ℕ → ℕ → SemaphoreSet → Kernel
 with_new_set k keys n set =
     record k { sets = put k.sets n set; set_keys = keys; used_sets = used_with k.used_sets n }
 
+-- one more number of sets is used then
 pub set-used : (k : Kernel) (keys : Numbered ℕ) (n : ℕ) (set : SemaphoreSet) (kind : Kind)
     → used_of (with_new_set k keys n set) kind ≡ used_after (Some (Sem n)) kind (used_of k kind)
 set-used k keys n set kinds.Proc = refl
 set-used k keys n set kinds.Msg = refl
 set-used k keys n set kinds.Sem = refl
 
+-- all other names have what they had
 pub set-rest : (k : Kernel) (keys : Numbered ℕ) (n : ℕ) (set : SemaphoreSet) (m : Name) → m ≢ Sem n
     → body_in (with_new_set k keys n set) m ≡ body_in k m
 set-rest k keys n set (Proc p) other = refl

@@ -46,6 +46,7 @@ may-make-from script journal k places pid call a h lives may =
 
 -- ---- one more entry
 
+-- a replay goes on by one entry
 pub replays-more : (k mid next : Kernel) (entries : List Entry) (e : Entry) → Replays k entries mid
     → transition mid e.pid e.call (number_in e.outcome.own) ≡ Some (successor next e.outcome)
     → Replays k (entries ++ e ∷ []) next
@@ -111,6 +112,7 @@ pub no-fork-places : (s : Script) (ps : Places) (place : Place) (call : Call) (r
 no-fork-places s ps place (calls.Fork block) reply h = absurd (false≢true (sym h))
 no-fork-places s ps place call reply h = refl
 
+-- a call that isn't the end of a doomed process moves the place by its reply
 pub moved-is : (place : Place) (call : Call) (reply : Option Reply) → is_killed call ≡ false
     → move_on place call reply ≡ place_after place call reply
 moved-is place call reply h = rw h refl
@@ -139,6 +141,7 @@ pub record ForkPlaces (s : Script) (places : Places) (pid block child : ℕ) (pl
   pub child_is : get after child ≡ Some (block_place (block_at s block) (child_vars place))
   pub others : (p : ℕ) → p ≢ pid → p ≢ child → get after p ≡ get places p
 
+-- what a fork leaves of the places
 pub fork-places : (s : Script) (places : Places) (node pid block child : ℕ) (place : Place) → child ≢ pid
     → ForkPlaces s places pid block child place
     (places_after s places (entry_of node pid (calls.Fork block) (replies.Num child)) place)

@@ -155,6 +155,7 @@ serve-is deeds pid call name body served named held =
 done_with : Body → Reply → Done Body
 done_with left reply = record { left = left; reply = reply }
 
+-- a node that holds the deed serves the call as the kernel does
 pub serves-here : (k : Kernel) (pid : ℕ) (call : Call) (name : Name) (deeds : Deeds) → MayMake k pid call
     → is_served call ≡ true → name_for pid call ≡ Some name → get_named deeds name ≡ Some (body_in k name)
     → ServesHere k pid call name deeds

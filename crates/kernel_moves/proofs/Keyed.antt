@@ -74,6 +74,7 @@ queue-creates k key n false excl (Some i) h = absurd (cc)
 
 -- ---- msgget by a key
 
+-- a get whose key is bound finds the queue
 pub finds-queue : (queue_keys set_keys : Numbered Bound) (k : Kernel) (pid key : ℕ) (create excl : Bool) (id count : ℕ)
     → MayMake k pid (calls.MsgGet (Some key) create excl) → HasKeys queue_keys set_keys k
     → key_answer (get queue_keys key) create excl ≡ answers.Found id count
@@ -83,6 +84,7 @@ finds-queue queue_keys set_keys k pid key create excl id count m h answer =
     (queue-found k key id create excl (get k.queue_keys key) id count
     (answered queue_keys key create excl _ _ (h.queues key) answer))
 
+-- one that the tables refuse is refused by the kernel
 pub refuses-queue : (queue_keys set_keys : Numbered Bound) (k : Kernel) (pid key : ℕ) (create excl : Bool)
     (error : Errno) → MayMake k pid (calls.MsgGet (Some key) create excl) → HasKeys queue_keys set_keys k
     → key_answer (get queue_keys key) create excl ≡ answers.Fail error
@@ -98,6 +100,7 @@ pub record MakesBound (k : Kernel) (pid : ℕ) (call : Call) (name : Name)
   pub object : MakesObject k pid call name body
   pub keys : HasKeys queue_keys set_keys object.next
 
+-- one that is to create makes a queue, and binds its key
 pub makes-keyed-queue : (queue_keys set_keys : Numbered Bound) (k : Kernel) (pid key n : ℕ) (create excl : Bool)
     → MayMake k pid (calls.MsgGet (Some key) create excl) → HasKeys queue_keys set_keys k
     → key_answer (get queue_keys key) create excl ≡ answers.Create
@@ -187,6 +190,7 @@ set-creates k key count n true true (Some i) h = absurd (cc)
 set-creates k key count n true false (Some i) h = absurd (cc)
 set-creates k key count n false excl (Some i) h = absurd (cc)
 
+-- a get whose key is bound finds the set, if it has enough semaphores
 pub finds-set : (queue_keys set_keys : Numbered Bound) (k : Kernel) (pid key count : ℕ) (create excl : Bool)
     (id size : ℕ) → MayMake k pid (calls.SemGet (Some key) count create excl) → HasKeys queue_keys set_keys k
     → key_answer (get set_keys key) create excl ≡ answers.Found id size
@@ -196,6 +200,7 @@ finds-set queue_keys set_keys k pid key count create excl id size m h answer =
     (set-found k key count (number_in (Some (found_set id size count))) create excl (get k.set_keys key) id size
     (answered set_keys key create excl _ _ (h.sets key) answer))
 
+-- one that the tables refuse is refused by the kernel
 pub refuses-set : (queue_keys set_keys : Numbered Bound) (k : Kernel) (pid key count : ℕ) (create excl : Bool)
     (error : Errno) → MayMake k pid (calls.SemGet (Some key) count create excl) → HasKeys queue_keys set_keys k
     → key_answer (get set_keys key) create excl ≡ answers.Fail error
@@ -216,6 +221,7 @@ refuses-size queue_keys set_keys k pid key count create excl error m h answer ba
     (answered set_keys key create excl _ _ (h.sets key) answer)
     ∙ ap (new_set_of k (put k.set_keys key 0) 0) bad)
 
+-- one that is to create makes a set, and binds its key
 pub makes-keyed-set : (queue_keys set_keys : Numbered Bound) (k : Kernel) (pid key n count : ℕ) (create excl : Bool)
     (set : SemaphoreSet) → MayMake k pid (calls.SemGet (Some key) count create excl) → HasKeys queue_keys set_keys k
     → key_answer (get set_keys key) create excl ≡ answers.Create → new_set count ≡ Ok set

@@ -41,12 +41,14 @@ get-filtered f id m key rises =
     (IsDistinct-from_sorted nat_cmp _ rises)
     ∙ filtered-is f id (get m key)
 
+-- what a key leads to once an identifier is unbound
 pub get-unbound : (keys : Numbered ℕ) (id key : ℕ) → IsRising keys
     → get (unbind keys id) key ≡ option_and_then (other_than id) (get keys key)
 get-unbound keys id key rises = get-filtered (λ v. v) id keys key rises
 
 -- ---- sizes
 
+-- how many semaphores a body has
 unfoldable pub size_in : Body → ℕ
 size_in (ASet set) = length set.semaphores
 size_in body = 0
@@ -56,6 +58,7 @@ unfolding size_in
 size-by None = refl
 size-by (Some s) = refl
 
+-- a set's size is that of its body
 pub size-by-body : (j k : Kernel) (id : ℕ) → size_in (body_in j (Sem id)) ≡ size_in (body_in k (Sem id))
     → set_size j id ≡ set_size k id
 size-by-body j k id same = size-by (get j.sets id) ∙ same ∙ sym (size-by (get k.sets id))

@@ -672,6 +672,7 @@ carried-found k pid call name m c child ending named is =
           (ap (λ (r : Reply). is_found r (Proc p)) is ∙ ne_eqb child p (λ same. away (sym same)));
     }
 
+-- what a fork leaves of parents and children
 pub forks-leave : (k : Kernel) (pid block child : ℕ) (row : Row) (f : Forks k pid block child row)
     → body_in k (Proc pid) ≡ Living row → LeavesFork k f.next pid child row
 forks-leave k pid block child row f own = record {

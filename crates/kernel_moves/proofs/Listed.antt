@@ -61,6 +61,7 @@ forked-in f n child (inl h) =
     elim (lists-child f n child h) [ inl old ↦ inl (inl old) | inr new ↦ inr new ]
 forked-in f n child (inr h) = inl (inr h)
 
+-- whom the parent lists after a fork it listed before, or it is the new child
 pub listed-fork : (k next : Kernel) (pid n child : ℕ) (row : Row) → body_in k (Proc pid) ≡ Living row
     → body_in next (Proc pid) ≡ parent_body row n → ListsOne next pid child
     → ListsOne k pid child ⊎ (child ≡ n)
@@ -101,6 +102,7 @@ ended-in f n ending ignored child listed (inr h) =
       | inr new ↦ inl (subst (λ (c : ℕ). lists f c ≡ true) new.0 listed)
     ]
 
+-- whom the parent lists after an end it listed before
 pub listed-end : (k next : Kernel) (parent pid child : ℕ) (row after : Row) (ending : Ending)
     → body_in k (Proc parent) ≡ Living row → lists row.family pid ≡ true → body_in next (Proc parent) ≡ Living after
     → after.family ≡ family_after_end row.family pid ending (ignores_children row)

@@ -78,6 +78,7 @@ finish-by k pid (Some a) lives = by (is_some a.row.signals.doom)
       sets = refl;
     }
 
+-- what a process may still do is no part of bodies, numbers and keys
 pub finished-is-like : (k : Kernel) (pid : ℕ) → IsLike k (finished k pid)
 finished-is-like k pid = finish-by k pid (living_at k pid) refl
 
@@ -93,6 +94,7 @@ makes-by k pid call e m gives =
           ∙ ap (outcome_of pid) gives;
     }
 
+-- an effect of a call that may be made is an entry
 pub enters-by : (k : Kernel) (pid : ℕ) (call : Call) (e : Effect) (made : Option Name) (m : MayMake k pid call)
     → effect k pid m.alive call (number_in (Some e.reply)) ≡ Some e
     → ((kind : Kind) → used_of e.kernel kind ≡ used_after made kind (used_of k kind))
@@ -106,6 +108,7 @@ pub size-is : (j k : Kernel) (id : ℕ) → j.sets ≡ k.sets → set_size j id 
 size-is j k id same =
     ap (λ sets. option_map_or (λ set. length set.semaphores) (get sets id) 0) same
 
+-- keys that are kept are so once the call is over
 pub keys-finished : (k j : Kernel) (pid : ℕ) → KeepsKeys k j → KeepsKeys k (finished j pid)
 keys-finished k j pid h =
     let like = finished-is-like j pid
@@ -115,5 +118,6 @@ keys-finished k j pid h =
       sizes = λ key id bound. size-is (finished j pid) j id like.sets ∙ h.sizes key id bound;
     }
 
+-- the same kernel keeps its keys
 pub keys-same : (k : Kernel) → KeepsKeys k k
 keys-same k = record { queues = λ key. refl; sets = λ key. refl; sizes = λ key id bound. refl }

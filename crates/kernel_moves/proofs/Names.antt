@@ -13,11 +13,13 @@ use Rattle.node_model.specs.Serving.{parts_in}
 
 -- ---- names
 
+-- a name is the same as itself
 pub same-name : (a : Name) → is_same_name a a ≡ true
 same-name (Proc n) = eq-eqb n n refl
 same-name (Msg n) = eq-eqb n n refl
 same-name (Sem n) = eq-eqb n n refl
 
+-- names that are the same by the test are equal
 pub same-name-is : (a b : Name) → is_same_name a b ≡ true → a ≡ b
 same-name-is (Proc m) (Proc n) h = ap Proc (eqb-true m n h)
 same-name-is (Msg m) (Msg n) h = ap Msg (eqb-true m n h)
@@ -50,11 +52,13 @@ name-cases a b =
 
 -- ---- maps from names
 
+-- a map from names has what was put in
 pub get-put-same-name : {V : Type 0} (m : Named V) (a : Name) (v : V) → get_named (put_named m a v) a ≡ Some v
 get-put-same-name m (Proc n) v = get-put-same m.processes n v
 get-put-same-name m (Msg n) v = get-put-same m.queues n v
 get-put-same-name m (Sem n) v = get-put-same m.sets n v
 
+-- and at other names what it had
 pub get-put-other-name : {V : Type 0} (m : Named V) (a : Name) (v : V) (b : Name) → b ≢ a
     → get_named (put_named m a v) b ≡ get_named m b
 get-put-other-name m (Proc n) v (Proc q) d = get-put-other m.processes n v q (λ e. d (ap Proc e))
@@ -67,58 +71,7 @@ get-put-other-name m (Msg n) v (Sem q) d = refl
 get-put-other-name m (Sem n) v (Proc q) d = refl
 get-put-other-name m (Sem n) v (Msg q) d = refl
 
-pub put-all-append : {V : Type 0} (m : Named V) (xs ys : List (Name × V))
-    → put_all m (xs ++ ys) ≡ put_all (put_all m xs) ys
-put-all-append m xs ys = fold-append put_pair m xs ys
-
 -- ---- the names that are put with a kernel's bodies
 
 abbrev pub is_among : Name → List Name → Bool
 is_among name names = list_any (is_same_name name) names
-
-among-first : (name x : Name) (xs : List Name) → is_same_name name x ≡ true → is_among name (x ∷ xs) ≡ true
-among-first name x xs h = ap (λ (t : Bool). t || is_among name xs) h
-
-among-later : (name x : Name) (xs : List Name) → is_same_name name x ≡ false
-    → is_among name (x ∷ xs) ≡ is_among name xs
-among-later name x xs h = ap (λ (t : Bool). t || is_among name xs) h
-
--- a name that isn't put keeps its value
-pub put-parts-kept : (k : Kernel) (names : List Name) (deeds : Deeds) (name : Name) → is_among name names ≡ false
-    → get_named (put_all deeds (parts_in k names)) name ≡ get_named deeds name
-put-parts-kept k [] deeds name h = refl
-put-parts-kept k (x ∷ xs) deeds name h =
-    elim (cases_Bool (is_same_name name x)) [
-      | inl t ↦ absurd (false≢true (sym h ∙ among-first name x xs t))
-      | inr f ↦
-          put-parts-kept k xs (put_named deeds x (body_in k x)) name (sym (among-later name x xs f) ∙ h)
-          ∙ get-put-other-name deeds x (body_in k x) name (λ e. other-name-is name x f (sym e))
-    ]
-
-parts-hold : (k : Kernel) (names : List Name) (deeds : Deeds) (name : Name)
-    → get_named deeds name ≡ Some (body_in k name)
-    → get_named (put_all deeds (parts_in k names)) name ≡ Some (body_in k name)
-parts-hold k [] deeds name h = h
-parts-hold k (x ∷ xs) deeds name h =
-    parts-hold k xs (put_named deeds x (body_in k x)) name
-    (elim (cases_Bool (is_same_name name x)) [
-      | inl t ↦
-          let same : name ≡ x = same-name-is name x t
-          in subst (λ (y : Name). get_named (put_named deeds x (body_in k x)) y ≡ Some (body_in k y)) (sym same)
-          (get-put-same-name deeds x (body_in k x))
-      | inr f ↦ get-put-other-name deeds x (body_in k x) name (λ e. other-name-is name x f (sym e)) ∙ h
-    ])
-
--- a name that is put has the kernel's body
-pub put-parts : (k : Kernel) (names : List Name) (deeds : Deeds) (name : Name) → is_among name names ≡ true
-    → get_named (put_all deeds (parts_in k names)) name ≡ Some (body_in k name)
-put-parts k [] deeds name h = absurd (false≢true h)
-put-parts k (x ∷ xs) deeds name h =
-    elim (cases_Bool (is_same_name name x)) [
-      | inl t ↦
-          let same : name ≡ x = same-name-is name x t
-          in parts-hold k xs (put_named deeds x (body_in k x)) name
-          (subst (λ (y : Name). get_named (put_named deeds x (body_in k x)) y ≡ Some (body_in k y)) (sym same)
-          (get-put-same-name deeds x (body_in k x)))
-      | inr f ↦ put-parts k xs (put_named deeds x (body_in k x)) name (sym (among-later name x xs f) ∙ h)
-    ]

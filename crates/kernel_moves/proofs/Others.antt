@@ -106,10 +106,6 @@ turns-same o p same = subst (λ (q : Option Process). TurnsTo o q) (sym same) (t
 abbrev Turned : Numbered Process → ℕ → Kernel → Type 0
 Turned ps p j = TurnsTo (get ps p) (get j.processes p)
 
-turns-put : (ps qs : Numbered Process) (p n : ℕ) (v : Process) → p ≢ n → get qs p ≡ get ps p
-    → get (put qs n v) p ≡ get ps p
-turns-put ps qs p n v other same = get-put-other qs n v p other ∙ same
-
 alive-turns : (o p : Option Process) (a b : Alive) → o ≡ Some (kernel.Living a) → p ≡ Some (kernel.Living b)
     → IsAsFree a b → TurnsTo o p
 alive-turns o p a b was is f =

@@ -34,42 +34,6 @@ drop-at [] i line there = absurd (cc)
 drop-at (x ∷ xs) zero line there = let same : x ≡ line = cc in ap (λ (y : Line). y ∷ xs) same
 drop-at (x ∷ xs) (suc i) line there = drop-at xs i line there
 
-drop-past : (lines : List Line) (i : ℕ) → slice_get lines i ≡ None → drop i lines ≡ []
-drop-past [] zero none = refl
-drop-past [] (suc i) none = refl
-drop-past (x ∷ xs) zero none = absurd (cc)
-drop-past (x ∷ xs) (suc i) none = drop-past xs i none
-
-place_with : List Line → ℕ → Vars → Place
-place_with left tried vars = record { left = left; tried = tried; vars = vars }
-
-moved-by : (again : Bool) (lines : List Line) (c : Caller) (line : Line) (n : ℕ)
-    → place_in lines (if again then record (end_call c) { tried = c.tried + 1 }
-    else record (end_call c) { line = c.line + 1; tried = 0; vars = set_variable c.vars line.set n })
-    ≡ (if again then record (place_in lines c) { tried = c.tried + 1 }
-    else record { left = drop (suc c.line) lines; tried = 0; vars = set_variable c.vars line.set n })
-unfolding place_with
-moved-by true lines c line n = refl
-moved-by false lines c line n =
-    let more : c.line + 1 ≡ suc c.line = omega arith
-    in ap (λ (i : ℕ). place_with (drop i lines) 0 (set_variable c.vars line.set n)) more
-
-moves-at : (lines : List Line) (c : Caller) (call : Call) (reply : Reply) (o : Option Line)
-    → slice_get lines c.line ≡ o
-    → place_in lines (answer_at c call reply o) ≡ place_after (place_in lines c) call (Some reply)
-moves-at lines c call reply None there =
-    sym (ap (after_line (place_in lines c) call (Some reply)) (drop-past lines c.line there))
-moves-at lines c call reply (Some line) there =
-    moved-by (asks_again call (Some reply) && nat_lt (c.tried + 1) line.tries) lines c line (value_in (Some reply))
-    ∙ ap (after_line (place_in lines c) call (Some reply)) (sym (drop-at lines c.line line there))
-
--- once the reply is here, the node's place is where the history's is
-pub answers-move : (script : Script) (p : ℕ) (c : Caller) (call : Call) (reply : Reply)
-    → caller_place script p (answer_call script p c call reply)
-    ≡ place_after (caller_place script p c) call (Some reply)
-answers-move script p c call reply =
-    moves-at (lines_of script p) c call reply (slice_get (lines_of script p) c.line) refl
-
 -- ---- the lines of a block
 
 -- exit stands last, and only there
@@ -162,6 +126,7 @@ due-by place call [] is h = absurd (cc)
 due-by place call (line ∷ rest) is h =
     record { line = line; rest = rest; left = is; call_is = some-is (call_of line place.vars) call h }
 
+-- a call that is due is that of the line
 pub due-line : (place : Place) (call : Call) → due place ≡ Some call → DueLine place call
 due-line place call h = due-by place call place.left refl h
 
@@ -196,6 +161,7 @@ pub killed-of : (call : Call) (vars : Vars) (o : Option ℕ) → is_killed (call
 killed-of call vars None = refl
 killed-of call vars (Some v) = killed-target call (value_of vars v)
 
+-- a variable doesn't make a call wait
 pub waiting-of : (call : Call) (vars : Vars) (o : Option ℕ) → is_waiting (call_from call vars o) ≡ is_waiting call
 waiting-of call vars None = refl
 waiting-of call vars (Some v) = waiting-target call (value_of vars v)
@@ -204,6 +170,7 @@ fork-target : (call : Call) (n block : ℕ) → with_target call n ≡ calls.For
 fork-target (calls.Fork b) n block h = h
 fork-target call n block h = absurd (cc)
 
+-- nor does it make a fork of another call
 pub fork-of : (call : Call) (vars : Vars) (o : Option ℕ) (block : ℕ) → call_from call vars o ≡ calls.Fork block
     → call ≡ calls.Fork block
 fork-of call vars None block h = h
@@ -269,17 +236,13 @@ exit-ends script p c status h =
     sym (exit-of d.line.call place.vars d.line.from) ∙ ap is_exit d.call_is
     in passes place (calls.Exit status) replies.Ended d.line d.rest d.left refl ∙ last-exit d.line d.rest ends exits
 
--- and so is the end by a signal
-pub killed-ends : (place : Place) (sig : Sig) (reply : Option Reply)
-    → (move_on place (calls.Killed sig) reply).left ≡ []
-killed-ends place sig reply = refl
-
 -- a call that ends its process is its last one
 abbrev pub is_end : Call → Bool
 is_end (calls.Exit status) = true
 is_end (calls.Killed sig) = true
 is_end call = false
 
+-- behind the call that ends a process no line is left
 pub end-is-last : (script : Script) (p : ℕ) (c : Caller) (call : Call) → IsDue (caller_place script p c) call
     → is_end call ≡ true → (move_on (caller_place script p c) call (Some replies.Ended)).left ≡ []
 end-is-last script p c (calls.Exit status) (inl h) ends = exit-ends script p c status h
@@ -320,6 +283,7 @@ pub record ForkPasses (place : Place) (block child : ℕ) : Type 0 where
   pub call_is : line.call ≡ calls.Fork block
   pub after : (place_after place (calls.Fork block) (Some (replies.Num child))).left ≡ rest
 
+-- a fork that is carried out is behind its process
 pub fork-passes : (place : Place) (block child : ℕ) → due place ≡ Some (calls.Fork block)
     → ForkPasses place block child
 fork-passes place block child h =
@@ -390,6 +354,7 @@ pub record IsFineCall (call : Call) : Type 0 where
   pub not_killed : is_killed call ≡ false
   pub not_waiting : is_waiting call ≡ false
 
+-- a call that is due in a sound script is within the ranges of its types
 pub due-is-fine : (script : Script) (p : ℕ) (c : Caller) (call : Call) → IsSoundScript script
     → due (caller_place script p c) ≡ Some call → IsFineCall call
 due-is-fine script p c call sound h =

@@ -29,6 +29,7 @@ use Rattle.kernel_moves.specs.Entering.{family_after}
 
 -- ---- children that are found
 
+-- a reply that found a child
 abbrev pub finds : Reply → Bool
 finds (replies.Child child ending) = true
 finds reply = false
@@ -38,21 +39,7 @@ pub none-found : (r : Reply) → finds r ≡ false → (m : Name) → is_found r
 none-found (replies.Child child ending) h m = absurd (false≢true (sym h))
 none-found r h m = refl
 
-pub found-process : (r : Reply) (m : Name) → is_found r m ≡ true → (child : ℕ) × (m ≡ Proc child)
-found-process r (Proc p) h = (p, refl)
-found-process (replies.Child child ending) (Msg id) h = absurd (false≢true h)
-found-process (replies.Child child ending) (Sem id) h = absurd (false≢true h)
-found-process r (Msg id) h = absurd (false≢true (sym (msg-not r id) ∙ h))
-  where
-    msg-not : (r : Reply) (id : ℕ) → is_found r (Msg id) ≡ false
-    msg-not (replies.Child child ending) id = refl
-    msg-not r id = refl
-found-process r (Sem id) h = absurd (false≢true (sym (sem-not r id) ∙ h))
-  where
-    sem-not : (r : Reply) (id : ℕ) → is_found r (Sem id) ≡ false
-    sem-not (replies.Child child ending) id = refl
-    sem-not r id = refl
-
+-- no set is found as a child
 pub set-not-found : (r : Reply) (id : ℕ) → is_found r (Sem id) ≡ false
 set-not-found (replies.Child child ending) id = refl
 set-not-found r id = refl

@@ -55,9 +55,11 @@ pub record Carried (k : Kernel) (pid : ℕ) (call : Call) (name : Name) : Type 0
   -- the caller lives on
   pub caller : Lived next pid
 
+-- what is in two equal options is the same
 pub some-is : {A : Type 0} (x y : A) → Some x ≡ Some y → x ≡ y
 some-is x y h = cc
 
+-- who lived still lives once the call is over
 pub lived-finished : (k : Kernel) (pid : ℕ) → Lived k pid → Lived (finished k pid) pid
 lived-finished k pid h =
     let same = (finished-is-like k pid).bodies (Proc pid)
@@ -66,6 +68,7 @@ lived-finished k pid h =
 
 -- ---- keys
 
+-- a key of nothing doesn't lead to this identifier
 pub absent-other : {V : Type 0} (keys : Numbered ℕ) (things : Numbered V) (id key : ℕ) → AreKeys keys things
     → get things id ≡ None → get keys key ≡ option_and_then (other_than id) (get keys key)
 absent-other keys things id key are none = by (get keys key) refl
@@ -225,21 +228,6 @@ carried-keys queue_keys set_keys k pid call name c named rises rises_too h =
 
 -- ---- families
 
--- a process whose name the call is on
-pub carried-family : (k : Kernel) (pid : ℕ) (call : Call) (p : ℕ) (c : Carried k pid call (Proc p)) (row : Row)
-    → body_in k (Proc p) ≡ Living row → HasFamily c.next p (family_after c.reply row.family)
-carried-family k pid call p c row lives =
-    let does = on_row row pid call
-    in let is : body_in c.next (Proc p) ≡ Living does.left =
-    c.follows.there ∙ ap (λ (b : Body). (on_body (Proc p) b pid call).left) lives
-    in let answer : c.reply ≡ does.reply =
-    c.follows.reply ∙ ap (λ (b : Body). (on_body (Proc p) b pid call).reply) lives
-    in record {
-      row = does.left;
-      is = is;
-      family_is = row-family row pid call ∙ ap (λ (r : Reply). family_after r row.family) (sym answer);
-    }
-
 -- A child that is found is the caller's: the call is its own, and it kept the child's ending.
 pub record FindsChild (k : Kernel) (pid : ℕ) (name : Name) (a : Alive) (child : ℕ) (ending : Ending) : Type 0 where
   pub own : name ≡ Proc pid
@@ -261,14 +249,9 @@ found-by k pid (calls.WaitPid which nohang) name m r child ending named is does 
 found-by k pid call name m r child ending named is does =
     absurd (false≢true (sym (ap finds does ∙ body-none name (body_in k name) pid call refl) ∙ ap finds is))
 
+-- a reply that found a child has found one that its parent kept
 pub carried-finds : (k : Kernel) (pid : ℕ) (call : Call) (name : Name) (m : MayMake k pid call)
     (c : Carried k pid call name) (child : ℕ) (ending : Ending) → name_for pid call ≡ Some name
     → c.reply ≡ replies.Child child ending → FindsChild k pid name m.alive child ending
 carried-finds k pid call name m c child ending named is =
     found-by k pid call name m c.reply child ending named is c.follows.reply
-
--- a call that isn't `waitpid` finds none
-pub carried-finds-none : (k : Kernel) (pid : ℕ) (call : Call) (name : Name) (c : Carried k pid call name)
-    → is_waitpid call ≡ false → (m : Name) → is_found c.reply m ≡ false
-carried-finds-none k pid call name c not m =
-    none-found c.reply (ap finds c.follows.reply ∙ body-none name (body_in k name) pid call not) m

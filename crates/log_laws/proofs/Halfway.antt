@@ -13,6 +13,7 @@ use Rattle.log_laws.specs.Logs.{IsNode, StampedFrame, frame_of, Logged, Log, Lea
 use Rattle.log_laws.specs.Merge.{NodeTurn, AreInOrder, log_of}
 use Rattle.log_laws.proofs.Lists.{get-set-same, get-set-other, map-append, frames-of-sends, log-of-own, log-of-other}
 
+-- each node as it stands
 abbrev pub Nodes : Type 0
 Nodes = ℕ → Node
 
@@ -42,12 +43,14 @@ pub record IsHalfway (script : Script) (ends : Ends) (w : World) (now : Nodes) (
 
 -- ---- after a turn
 
+-- one of them after its turn
 abbrev pub nodes_after : Nodes → NodeTurn → Nodes
 nodes_after now t p = if nat_eq t.node p then t.turn.step.node else now p
 
 abbrev pub sends_if : Bool → ℕ → Logged → List StampedFrame
 sends_if b to turn = if b then sends_of to turn else []
 
+-- what is on its way after a turn
 abbrev pub on_way_after : OnWay → NodeTurn → OnWay
 on_way_after on_way t to from = on_way to from ++ sends_if (nat_eq t.node from) to t.turn
 

@@ -8,11 +8,13 @@ use Rattle.log_laws.specs.Merge.{NodeTurn, turn_if, log_of}
 
 -- ---- a list after a change
 
+-- a list has what was set at a place
 pub get-set-same : {X : Type 0} (xs : List X) (i : ℕ) (x : X) → i < length xs → slice_get (set xs i x) i ≡ Some x
 get-set-same [] i x h = absurd (omega arith)
 get-set-same (y ∷ xs) zero x h = refl
 get-set-same (y ∷ xs) (suc i) x h = get-set-same xs i x (omega arith)
 
+-- and elsewhere what it had
 pub get-set-other : {X : Type 0} (xs : List X) (i j : ℕ) (x : X) → j ≢ i → slice_get (set xs i x) j ≡ slice_get xs j
 get-set-other [] i j x h = refl
 get-set-other (y ∷ xs) zero zero x h = absurd (h refl)
@@ -20,10 +22,12 @@ get-set-other (y ∷ xs) zero (suc j) x h = refl
 get-set-other (y ∷ xs) (suc i) zero x h = refl
 get-set-other (y ∷ xs) (suc i) (suc j) x h = get-set-other xs i j x (λ e. h (ap suc e))
 
+-- a map of two lists behind each other
 pub map-append : {X Y : Type 0} (f : X → Y) (xs ys : List X) → map f (xs ++ ys) ≡ map f xs ++ map f ys
 map-append f [] ys = refl
 map-append {Y = Y} f (x ∷ xs) ys = ap (λ (zs : List Y). f x ∷ zs) (map-append f xs ys)
 
+-- what holds of all of two lists holds of all of both
 pub append-all : {X : Type 0} (P : X → Type 0) (xs ys : List X) → AllByRecursion P xs → AllByRecursion P ys
     → AllByRecursion P (xs ++ ys)
 append-all P [] ys a b = b
@@ -47,9 +51,11 @@ own-turn b turn rest h = ap (λ c. turn_if c turn ++ rest) h
 others-turn : (b : Bool) (turn : Logged) (rest : Log) → b ≡ false → turn_if b turn ++ rest ≡ rest
 others-turn b turn rest h = ap (λ c. turn_if c turn ++ rest) h
 
+-- a node's log begins with its turn
 pub log-of-own : (t : NodeTurn) (ts : List NodeTurn) (p : ℕ) → t.node ≡ p → log_of p (t ∷ ts) ≡ t.turn ∷ log_of p ts
 log-of-own t ts p e = own-turn (nat_eq t.node p) t.turn (log_of p ts) (eq-eqb t.node p e)
 
+-- the turn of another isn't in it
 pub log-of-other : (t : NodeTurn) (ts : List NodeTurn) (p : ℕ) → t.node ≢ p → log_of p (t ∷ ts) ≡ log_of p ts
 log-of-other t ts p d = others-turn (nat_eq t.node p) t.turn (log_of p ts) (ne_eqb t.node p d)
 

@@ -281,11 +281,3 @@ BringNoLease pairs = (kind : Kind) → AllByRecursion (λ s. lease_in kind s.1 �
 -- no Lease of the kind
 pub no-lease : (kind : Kind) (frame : Frame) → lease_in kind frame ≡ [] → flat_map (lease_in kind) (frame ∷ []) ≡ []
 no-lease kind frame h = just-one (lease_in kind) frame h
-
--- no parcel to the leader
-pub no-parcel-left : (frame : Frame) (parcel : Parcel) → is_plain frame ≡ true → frame ≢ frames.Left parcel
-no-parcel-left frame parcel h e = false≢true (subst (λ f. is_plain f ≡ true) e h)
-
--- no parcel from it
-pub no-parcel-sent : (frame : Frame) (parcel : Parcel) → is_plain frame ≡ true → frame ≢ frames.ExitTo parcel
-no-parcel-sent frame parcel h e = false≢true (subst (λ f. is_plain f ≡ true) e h)

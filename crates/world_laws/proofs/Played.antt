@@ -21,19 +21,3 @@ pub flat_map-append : {A B : Type 0} (f : A → List B) (xs ys : List A)
 flat_map-append f [] ys = refl
 flat_map-append f (x ∷ xs) ys =
     ap (λ zs. f x ++ zs) (flat_map-append f xs ys) ∙ sym (append_assoc (f x) (flat_map f xs) (flat_map f ys))
-
--- what needs the place finds it, once what tells it was taken
-pub found-after-told : (ns : List News) → finds_place true ns ≡ true
-found-after-told ns = refl
-
--- and with something at the end: where the place is known, or told in front
-pub found-with-tells : (known : Bool) (ns : List News) → finds_place known ns ≡ true
-    → finds_place known (ns ++ Tells ∷ []) ≡ true
-found-with-tells true ns h = refl
-found-with-tells false [] h = refl
-found-with-tells false (Tells ∷ ns) h = refl
-found-with-tells false (NeedsPlace ∷ ns) h = h
-
--- where the place is known all is found
-pub found-behind : (ns : List News) (n : News) → finds_place true (ns ++ n ∷ []) ≡ true
-found-behind ns n = refl
