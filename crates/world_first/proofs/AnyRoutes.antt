@@ -26,15 +26,15 @@ use Rattle.world_hand.proofs.Routes.{IsOn, RouteKeeps, range-is, route-by-range,
 -- name that the leader holds, as a removal of one that it holds, and on a key.
 pub record RoutesHere (script : Script) (v : World) (s : Step) (asked : Asked) (rest : List Held) (b : Beside) : Type 0
   where
-  pub nodes : (name : Name) (node : ℕ) → place_of (directory_of (world_after v 1 s)) name ≡ Some (At node) → 1 ≤ node
-  pub nobody : (name : Name) → IsOn name (home_of asked.pid asked.call)
-      → place_of (directory_of (world_after v 1 s)) name ≡ None
-      → route (directory_of (world_after v 1 s)) name ≡ routes.Nobody → HasRoute script v s asked rest b
-  pub served : (name : Name) → home_of asked.pid asked.call ≡ homes.At name
-      → place_of (directory_of (world_after v 1 s)) name ≡ Some (At 1) → HasRoute script v s asked rest b
-  pub removed : (name : Name) → home_of asked.pid asked.call ≡ homes.Removal name
-      → place_of (directory_of (world_after v 1 s)) name ≡ Some (At 1) → HasRoute script v s asked rest b
-  pub keys : home_of asked.pid asked.call ≡ homes.Keys → HasRoute script v s asked rest b
+    pub nodes : (name : Name) (node : ℕ) → place_of (directory_of (world_after v 1 s)) name ≡ Some (At node) → 1 ≤ node
+    pub nobody : (name : Name) → IsOn name (home_of asked.pid asked.call)
+        → place_of (directory_of (world_after v 1 s)) name ≡ None
+        → route (directory_of (world_after v 1 s)) name ≡ routes.Nobody → HasRoute script v s asked rest b
+    pub served : (name : Name) → home_of asked.pid asked.call ≡ homes.At name
+        → place_of (directory_of (world_after v 1 s)) name ≡ Some (At 1) → HasRoute script v s asked rest b
+    pub removed : (name : Name) → home_of asked.pid asked.call ≡ homes.Removal name
+        → place_of (directory_of (world_after v 1 s)) name ≡ Some (At 1) → HasRoute script v s asked rest b
+    pub keys : home_of asked.pid asked.call ≡ homes.Keys → HasRoute script v s asked rest b
 
 module _ (script : Script) (v : World) (s : Step) (asked : Asked) (rest : List Held) (b : Beside)
     (holds : Holds script (world_after v 1 s) (Request asked ∷ rest) b) (low : 1 ≤ asked.caller)

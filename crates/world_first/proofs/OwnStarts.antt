@@ -153,7 +153,8 @@ module _ (script : Script) (sound : IsSoundScript script) (w : World) (b : Besid
   own-key-starts is = routed n.cache node-was.owners (ap is_for_others is) (rule-by homes.Keys is)
 
   -- Node 1 starts a removal.
-  pub own-removal-starts : (name : Name) → home_of n.pid call ≡ homes.Removal name → Keeps script w (events.Run 1) (AfterRun b 1)
+  pub own-removal-starts : (name : Name) → home_of n.pid call ≡ homes.Removal name
+      → Keeps script w (events.Run 1) (AfterRun b 1)
   own-removal-starts name is = routed n.cache node-was.owners (ap is_for_others is) (rule-by (homes.Removal name) is)
 
   -- ---- on a name
@@ -287,7 +288,8 @@ module _ (script : Script) (sound : IsSoundScript script) (w : World) (b : Besid
         within : (1 ≤ owner) × (owner ≤ node_count script)
         within = born-in-range script w holds.shape owner its.0
 
-    by-owner : node_holds n name ≡ false → (o : Option ℕ) → owner_in n.cache name ≡ o → Keeps script w (events.Run 1) (AfterRun b 1)
+    by-owner : node_holds n name ≡ false → (o : Option ℕ) → owner_in n.cache name ≡ o
+        → Keeps script w (events.Run 1) (AfterRun b 1)
     by-owner elsewhere (Some owner) found = asked-owner elsewhere owner found
     by-owner elsewhere None found =
         routed looked-at owners-now others
@@ -305,7 +307,8 @@ module _ (script : Script) (sound : IsSoundScript script) (w : World) (b : Besid
   pub first-starts : is_for_others (home_of n.pid call) ≡ true → Keeps script w (events.Run 1) (AfterRun b 1)
   first-starts others = by-home (home_of n.pid call) refl others
     where
-      by-home : (home : Home) → home_of n.pid call ≡ home → is_for_others home ≡ true → Keeps script w (events.Run 1) (AfterRun b 1)
+      by-home : (home : Home) → home_of n.pid call ≡ home → is_for_others home ≡ true
+          → Keeps script w (events.Run 1) (AfterRun b 1)
       by-home (homes.At name) is h = own-at-starts name is
       by-home (homes.Removal name) is h = own-removal-starts name is
       by-home homes.Keys is h = own-key-starts is

@@ -31,10 +31,10 @@ use Rattle.world_hand.proofs.Routes.{IsOn, RouteKeeps, range-is, route-by-range,
 -- their routes
 pub record RoutesLeft (script : Script) (v : World) (s : Step) (asked : Asked) (rest : List Held) (b : Beside) : Type 0
   where
-  pub nodes : (name : Name) (node : ℕ) → place_of (directory_of (world_after v 1 s)) name ≡ Some (At node) → 1 ≤ node
-  pub keys : home_of asked.pid asked.call ≡ homes.Keys → HasRoute script v s asked rest b
-  pub removal_here : (name : Name) → home_of asked.pid asked.call ≡ homes.Removal name
-      → place_of (directory_of (world_after v 1 s)) name ≡ Some (At 1) → HasRoute script v s asked rest b
+    pub nodes : (name : Name) (node : ℕ) → place_of (directory_of (world_after v 1 s)) name ≡ Some (At node) → 1 ≤ node
+    pub keys : home_of asked.pid asked.call ≡ homes.Keys → HasRoute script v s asked rest b
+    pub removal_here : (name : Name) → home_of asked.pid asked.call ≡ homes.Removal name
+        → place_of (directory_of (world_after v 1 s)) name ≡ Some (At 1) → HasRoute script v s asked rest b
 
 module _ (script : Script) (v : World) (s : Step) (asked : Asked) (rest : List Held) (b : Beside)
     (holds : Holds script (world_after v 1 s) (Request asked ∷ rest) b) (low : 1 ≤ asked.caller)

@@ -142,7 +142,8 @@ module _ (script : Script) (v : World) (s : Step) (hand : List Held) (b : Beside
   held-here : get_named s.node.deeds name ≡ Some (body_in b.kernel name)
   held-here = ap (λ (m : Node). get_named m.deeds name) (sym here) ∙ at.held
 
-  granted-keeps : stays s.node.leader.directory reader ≡ true → HoldsAfter script v (grant noted name reader) hand b.call
+  granted-keeps : stays s.node.leader.directory reader ≡ true
+      → HoldsAfter script v (grant noted name reader) hand b.call
   granted-keeps stays_there =
       subst (λ o. HoldsAfter script v (grant_held noted name reader o) hand b.call) (sym held-here)
       (record {

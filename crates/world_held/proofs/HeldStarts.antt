@@ -17,7 +17,7 @@ use Rattle.world_model.specs.Serving.{serve_asked}
 use Rattle.world_model.specs.Starting.{request, run, start_by}
 use Rattle.world_model.specs.Step.{step_to}
 use Rattle.world_model.specs.World.{World, node_count, world_after}
-use Rattle.world_laws.specs.Places.{Beside, InTable}
+use Rattle.world_laws.specs.Places.{Beside, IsInHand, InTable}
 use Rattle.world_laws.specs.Sights.{is_born_in, is_born_stage, node_of}
 use Rattle.world_laws.specs.Families.{NodeHolds}
 use Rattle.world_laws.specs.Invariant.{HasInvariant, Holds}

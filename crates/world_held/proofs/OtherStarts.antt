@@ -75,5 +75,6 @@ module _ (script : Script) (sound : IsSoundScript script) (w : World) (b : Besid
   by-home homes.Parent is h = absurd (false≢true h)
 
   -- Such a node starts any call that others may carry out.
-  pub others-start : is_for_others (home_of (node_of w p).pid s.call) ≡ true → Keeps script w (events.Run p) (AfterRun b p)
+  pub others-start : is_for_others (home_of (node_of w p).pid s.call) ≡ true
+      → Keeps script w (events.Run p) (AfterRun b p)
   others-start others = by-home (home_of n.pid s.call) refl others

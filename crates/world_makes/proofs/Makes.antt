@@ -155,7 +155,8 @@ module _ (script : Script) (sound : IsSoundScript script) (w : World) (b : Besid
           → Keeps script w (events.Run q) (AfterRun b q)
       at-leader q i =
           subst (λ z. 1 ≤ z → z ≤ node_count script → can_run (node_of w z) ≡ true → (t : Starts script w b z)
-          → Making kind t.call → for_kind (node_of w z).leases kind ≡ [] → Keeps script w (events.Run z) (AfterRun b z)) (sym i)
+          → Making kind t.call → for_kind (node_of w z).leases kind ≡ []
+          → Keeps script w (events.Run z) (AfterRun b z)) (sym i)
           (λ low_z high_z can_z t m over.
           by-run script w b 1 (events.Run 1)
           (made-with script sound w b holds 1 kind _ _ _ (events.Run 1) t.call m

@@ -143,11 +143,13 @@ module _ (script : Script) (sound : IsSoundScript script) (w : World) (b : Besid
       let asked : Asked = record { caller = q; ticket = ticket; pid = pid; call = call }
       in let name : Name = name_removed (home_of pid call)
       in ask-goes-lightly script name (IsGoodFor script sound name) (hand-goes-on script sound name) w b holds q rest
-      ticket pid call h ready.never_waits
-      (taken-is-good script w q (frames.Ask ticket pid call) rest (step_to (node_of w 1)) (Request asked ∷ [])
-      holds.shape bounded h
-      (step-to-bounded script (node_of w 1) leader-bounded)
-      (record { low = h.low_from; high = h.high_from }, tt), (removes-its-own (home_of pid call), tt))
+      ticket pid call h ready.never_waits (
+        taken-is-good script w q (frames.Ask ticket pid call) rest (step_to (node_of w 1)) (Request asked ∷ [])
+            holds.shape bounded h
+            (step-to-bounded script (node_of w 1) leader-bounded)
+            (record { low = h.low_from; high = h.high_from }, tt),
+        (removes-its-own (home_of pid call), tt),
+      )
 
   bounce-taken : (q : ℕ) (asked : Asked) (rest : List Frame) → Heads script w 1 q (frames.Bounce asked) rest
       → Lightly 1 q
@@ -155,11 +157,12 @@ module _ (script : Script) (sound : IsSoundScript script) (w : World) (b : Besid
       let own = bounce-is-of-node script w [] b ready 1 q asked rest h
       in let name : Name = name_removed (home_of asked.pid asked.call)
       in bounce-goes-lightly script name (IsGoodFor script sound name) (hand-goes-on script sound name) w b holds q rest
-      asked h own.low own.high ready.never_waits
-      (taken-is-good script w q (frames.Bounce asked) rest (step_to (node_of w 1)) (Request asked ∷ []) holds.shape
-      bounded h
-      (step-to-bounded script (node_of w 1) leader-bounded) (own, tt),
-      (removes-its-own (home_of asked.pid asked.call), tt))
+      asked h own.low own.high ready.never_waits (
+        taken-is-good script w q (frames.Bounce asked) rest (step_to (node_of w 1)) (Request asked ∷ []) holds.shape
+            bounded h
+            (step-to-bounded script (node_of w 1) leader-bounded) (own, tt),
+        (removes-its-own (home_of asked.pid asked.call), tt),
+      )
 
   give-back-taken : (q : ℕ) (packed : PackedDeed) (rest : List Frame) → Heads script w 1 q (frames.GiveBack packed) rest
       → Lightly 1 q
@@ -169,24 +172,27 @@ module _ (script : Script) (sound : IsSoundScript script) (w : World) (b : Besid
       in let its : NameHolds script b.pids (is_born_in w) packed.name (name_sight script w [] b packed.name) =
       holds.names packed.name
       in give-back-goes-lightly script packed (IsGoodFor script sound packed.name)
-      (hand-goes-on script sound packed.name) w b holds q rest h ready.at_nodes ready.reads (held-of-nodes packed.name)
-      (taken-is-good script w q (frames.GiveBack packed) rest
-      (pass_on n packed.name (body_in b.kernel packed.name)
-      (goes_on_to (directory_of w) (bound_for (directory_of w) packed.name)))
-      (held_for (directory_of w) packed.name) holds.shape bounded h
-      (passed-on-bounded script n packed.name (body_in b.kernel packed.name) own)
-      (held-are-of-nodes script (directory_of w) packed.name own.directory),
-      items-only packed.name (held_for (directory_of w) packed.name) its.items)
+      (hand-goes-on script sound packed.name) w b holds q rest h ready.at_nodes ready.reads (held-of-nodes packed.name) (
+        taken-is-good script w q (frames.GiveBack packed) rest
+            (pass_on n packed.name (body_in b.kernel packed.name)
+            (goes_on_to (directory_of w) (bound_for (directory_of w) packed.name)))
+            (held_for (directory_of w) packed.name) holds.shape bounded h
+            (passed-on-bounded script n packed.name (body_in b.kernel packed.name) own)
+            (held-are-of-nodes script (directory_of w) packed.name own.directory),
+        items-only packed.name (held_for (directory_of w) packed.name) its.items,
+      )
 
   left-taken : (q : ℕ) (parcel : Parcel) (rest : List Frame) → Heads script w 1 q (frames.Left parcel) rest
       → Lightly 1 q
   left-taken q parcel rest h =
-      left-goes-lightly script (Proc 0) (IsGoodFor script sound (Proc 0)) (hand-goes-on script sound (Proc 0)) w b holds q
-      rest parcel h ready.at_nodes ready.reads
-      (taken-is-good script w q (frames.Left parcel) rest
-      (step_to (with_directory (node_of w 1) (with_left (directory_of w) q))) (Ending parcel ∷ [])
-      holds.shape bounded h (left-noted-bounded script (node_of w 1) q leader-bounded)
-      (tt, tt), (tt, tt))
+      left-goes-lightly script (Proc 0) (IsGoodFor script sound (Proc 0)) (hand-goes-on script sound (Proc 0)) w b holds
+      q rest parcel h ready.at_nodes ready.reads (
+        taken-is-good script w q (frames.Left parcel) rest
+            (step_to (with_directory (node_of w 1) (with_left (directory_of w) q))) (Ending parcel ∷ [])
+            holds.shape bounded h (left-noted-bounded script (node_of w 1) q leader-bounded)
+            (tt, tt),
+        (tt, tt),
+      )
 
   -- ---- other frames
 
@@ -209,8 +215,11 @@ module _ (script : Script) (sound : IsSoundScript script) (w : World) (b : Besid
             at-leader p q (frames.NotOwner ticket) rest h first
             (λ g. by-rule 1 q (frames.NotOwner ticket) rest g tt
             (moved-so 1 q (frames.NotOwner ticket) rest g 1 (IsRoutedAgain w) (IsAskedAgain w 1)
-            (λ place fits. inr (refl, (λ call is. placed-light (directory_of w)
-            (let n : Node = node_of w 1 in home_of n.pid call) place (fits call is))))
+            (λ place fits. inr (
+              refl,
+              (λ call is. placed-light (directory_of w)
+                  (let n : Node = node_of w 1 in home_of n.pid call) place (fits call is)),
+            ))
             (not-owner-has-step script w b holds q ticket rest g ready.never_waits
             (leader-is-ready script sound w [] b ready))))
         | inr other ↦

@@ -56,8 +56,8 @@ module _ (script : Script) (sound : IsSoundScript script) where
       in record {
         beside = k.beside;
         keeps = k.keeps;
-        falls = each-run-falls script w b holds (in-order script sound w b holds within.bounded) p r.low r.high after.call
-            k.after;
+        falls = each-run-falls script w b holds (in-order script sound w b holds within.bounded) p r.low r.high
+            after.call k.after;
       }
 
   -- Each enabled event has a step that keeps all, and lowers the weight.

@@ -234,8 +234,8 @@ module _ (script : Script) (w : World) (b : Beside) (holds : Holds script w [] b
             is = refl;
             beside = record moved { call = call_in moved.call asked.caller (InBounce p) };
             holds = bounced-keeps script middle moved p asked g other name on.on used
-                  (ap (λ (m : Node). maker m.leader.directory name) (nodes-same 1) ∙ made)
-                  (world_after v p (bounce n asked)) changes;
+                (ap (λ (m : Node). maker m.leader.directory name) (nodes-same 1) ∙ made)
+                (world_after v p (bounce n asked)) changes;
             after = record {
               place = InBounce p;
               calls = λ y. refl;
@@ -281,7 +281,8 @@ module _ (script : Script) (w : World) (b : Beside) (holds : Holds script w [] b
 
       by-deed-of-removal : home ≡ homes.Removal name → (t : Bool) → holds_deed n name ≡ t
           → Ends (if t then Some (bounce n asked) else Some (bounce_or_nobody script n asked name))
-      by-deed-of-removal is true e = bounces (subst (IsNotServed n) (sym is) tt) (used-there (in-table script w [] b holds p is-born name e))
+      by-deed-of-removal is true e =
+          bounces (subst (IsNotServed n) (sym is) tt) (used-there (in-table script w [] b holds p is-born name e))
       by-deed-of-removal is false e = elsewhere (subst (IsNotServed n) (sym is) tt) (leases_hold n.leases name) refl
 
       ranged-ends : Ends (forwarded_by script n asked home)

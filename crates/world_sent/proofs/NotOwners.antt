@@ -236,8 +236,8 @@ module _ (script : Script) (w : World) (b : Beside) (holds : Holds script w [] b
         is = refl;
         beside = record moved { call = call_in moved.call p InAsk };
         holds = sent-keeps script middle moved p asked g InAsk 1 asks (record m { cache = forget m.cache name })
-              goes-to-leader (world_after v p after) changes
-              (λ y. name-not-sent script middle moved p asked g InAsk 1 asks
-              (record m { cache = forget m.cache name }) goes-to-leader (world_after v p after) changes y refl);
+            goes-to-leader (world_after v p after) changes
+            (λ y. name-not-sent script middle moved p asked g InAsk 1 asks
+            (record m { cache = forget m.cache name }) goes-to-leader (world_after v p after) changes y refl);
         after = record { place = InAsk; calls = λ y. refl; fits = refl };
       }))

@@ -270,9 +270,9 @@ module _ (script : Script) (w : World) (b : Beside) (holds : Holds script w [] b
         is = refl;
         beside = record moved { call = call_in moved.call q (InNotOwner p) };
         holds = sent-keeps script middle moved p asked g (InNotOwner p) q (frames.NotOwner ticket) (node_of middle p)
-              goes-back (world_after v p told) told-changes
-              (λ m. name-not-sent script middle moved p asked g (InNotOwner p) q (frames.NotOwner ticket)
-              (node_of middle p) goes-back (world_after v p told) told-changes m refl);
+            goes-back (world_after v p told) told-changes
+            (λ m. name-not-sent script middle moved p asked g (InNotOwner p) q (frames.NotOwner ticket)
+            (node_of middle p) goes-back (world_after v p told) told-changes m refl);
         after = record { place = InNotOwner p; calls = λ y. refl; fits = inr (refl, lacks) };
       }
 
@@ -299,7 +299,8 @@ module _ (script : Script) (w : World) (b : Beside) (holds : Holds script w [] b
       → Keeps script w (events.Take p q) (λ after. IsMoved b.call after q (IsRequested w p asked))
   request-taken never not_leader =
       taken-by never
-      (λ deed. serves-and-suggests script v p n asked name moved (serves-request never deed) h.low h.high on.is not_leader)
+      (λ deed. serves-and-suggests script v p n asked name moved (serves-request never deed) h.low h.high on.is
+      not_leader)
 
 -- ---- the leader
 

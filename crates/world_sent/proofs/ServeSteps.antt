@@ -39,21 +39,21 @@ use Rattle.world_sent.proofs.Serves.{after_node, holder-born, served_beside, ser
 use Rattle.world_sent.proofs.Suggested.{read-suggested-keeps}
 
 -- this comes to a step of node p after which all holds, with calls in such places
-pub record EndsIn (script : Script) (v : World) (p : ℕ) (result : Option Step) (After : (ℕ → CallPlace) → Type 0) : Type 0
-  where
-    pub next : Step
-    pub is : result ≡ Some next
-    pub beside : Beside
-    pub holds : Holds script (world_after v p next) [] beside
-    pub after : After beside.call
+pub record EndsIn (script : Script) (v : World) (p : ℕ) (result : Option Step) (After : (ℕ → CallPlace) → Type 0)
+    : Type 0 where
+  pub next : Step
+  pub is : result ≡ Some next
+  pub beside : Beside
+  pub holds : Holds script (world_after v p next) [] beside
+  pub after : After beside.call
 
 -- the call that was in hand is carried out
 abbrev pub CarriedOut : Beside → ℕ → (ℕ → CallPlace) → Type 0
 CarriedOut b c after = IsMoved b.call after c IsCarriedOut
 
 -- The node serves the call, and notes who read where it has; before that all holds, too.
-pub record ServesInHand (script : Script) (v : World) (p : ℕ) (n : Node) (asked : Asked) (name : Name) (b : Beside) : Type 0
-  where
+pub record ServesInHand (script : Script) (v : World) (p : ℕ) (n : Node) (asked : Asked) (name : Name) (b : Beside)
+    : Type 0 where
   pub reply : Reply
   pub done : Step
   pub is : serve_asked script (step_to n) name asked

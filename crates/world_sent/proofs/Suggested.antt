@@ -104,19 +104,19 @@ module _ (script : Script) (v : World) (p : ℕ) (s : Step) (b : Beside) (holds 
     silent-keeps : Holds script w' [] b
     silent-keeps =
         quiet-keeps script w w' [] b b.deed p n [] sends low high holds c quiet
-              (λ m. name-stays script b.pids (is_born_in w) (is_born_in w') m _ _ more
-              (name-left-alone script p w w' n [] sends [] c [] [] b b m
-              (record {
-                directory = same-directory (directory_of w) (directory_of w') same-there m;
-                used_is = refl;
-                body_is = refl;
-                deed_is = refl;
-                held_is = refl;
-                begins_is = λ holds_it comes. refl;
-                hand_is = refl;
-                steps_are = λ y. refl;
-                ranges_are = λ y. refl;
-              }) tt (silent.not_about m)) (holds.names m))
+        (λ m. name-stays script b.pids (is_born_in w) (is_born_in w') m _ _ more
+        (name-left-alone script p w w' n [] sends [] c [] [] b b m
+        (record {
+          directory = same-directory (directory_of w) (directory_of w') same-there m;
+          used_is = refl;
+          body_is = refl;
+          deed_is = refl;
+          held_is = refl;
+          begins_is = λ holds_it comes. refl;
+          hand_is = refl;
+          steps_are = λ y. refl;
+          ranges_are = λ y. refl;
+        }) tt (silent.not_about m)) (holds.names m))
 
   -- a step that notes the read, and sends these
   noted-by : (t : Step) (sends : List (ℕ × Frame)) → AreSilent script w p sends

@@ -165,7 +165,8 @@ module _ (script : Script) (v : World) (p : ℕ) (n : Node) (b : Beside) (asked 
       (entry ∷ []) middle-holds.shape g.low_node g.high_node (record { low = g.low; high = g.high }, tt)
       (record { sends_are = refl; entries_are = refl }))
 
-  refuses-other : asked.caller ≢ p → EndsIn script v p (Some (carry_out script (step_to n) asked reply)) (CarriedOut b asked.caller)
+  refuses-other : asked.caller ≢ p
+      → EndsIn script v p (Some (carry_out script (step_to n) asked reply)) (CarriedOut b asked.caller)
   refuses-other other =
       record {
         next = answered;
@@ -191,7 +192,8 @@ module _ (script : Script) (v : World) (p : ℕ) (n : Node) (b : Beside) (asked 
       (changes-further script v p (step_to n) (ended-with next-caller) [] (entry ∷ []) middle-holds.shape g.low_node
       g.high_node tt (record { sends_are = refl; entries_are = refl }))
 
-  refuses-own : asked.caller ≡ p → EndsIn script v p (Some (carry_out script (step_to n) asked reply)) (CarriedOut b asked.caller)
+  refuses-own : asked.caller ≡ p
+      → EndsIn script v p (Some (carry_out script (step_to n) asked reply)) (CarriedOut b asked.caller)
   refuses-own own =
       record {
         next = ended-with next-caller;

@@ -36,7 +36,8 @@ pub record RoutesLightly (script : Script) (name : Name) (Good : World → Step 
   pub good_held : (v : World) (s next : Step) (parcel : Parcel) (rest : List Held) → Good v s (Ending parcel ∷ rest)
       → end_process s parcel ≡ Some (IsHeld next) → Good v next rest
   pub good_released : (v : World) (s next : Step) (parcel : Parcel) (items rest : List Held) (b : Beside)
-      → Holds script (world_after v 1 s) (Ending parcel ∷ rest) b → Good v s (Ending parcel ∷ rest) → end_process s parcel ≡ Some (Releases next items)
+      → Holds script (world_after v 1 s) (Ending parcel ∷ rest) b → Good v s (Ending parcel ∷ rest)
+      → end_process s parcel ≡ Some (Releases next items)
       → Good v next (items ++ rest)
   pub of_nodes : (v : World) (s : Step) (hand : List Held) → Good v s hand → IsOfNodes script s hand
   pub one_name : (v : World) (s : Step) (hand : List Held) → Good v s hand → RemovalsAreOf name hand

@@ -80,7 +80,8 @@ limit-low d homes.Keys = omega arith
 limit-low d homes.Parent = omega arith
 
 -- a call on a name may weigh what the name's route allows
-limit-on : (d : Directory) (name : Name) (home : Home) → IsOn name home → place_limit d home ≡ routed_weight (route d name)
+limit-on : (d : Directory) (name : Name) (home : Home) → IsOn name home
+    → place_limit d home ≡ routed_weight (route d name)
 limit-on d name home (inl e) = ap (place_limit d) e
 limit-on d name home (inr e) = ap (place_limit d) e
 
