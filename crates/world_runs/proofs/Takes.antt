@@ -172,7 +172,8 @@ module _ (script : Script) (sound : IsSoundScript script) (w : World) (b : Besid
       in let its : NameHolds script b.pids (is_born_in w) packed.name (name_sight script w [] b packed.name) =
       holds.names packed.name
       in give-back-goes-lightly script packed (IsGoodFor script sound packed.name)
-      (hand-goes-on script sound packed.name) w b holds q rest h ready.at_nodes ready.reads (held-of-nodes packed.name) (
+      (hand-goes-on script sound packed.name) w b holds q rest h ready.at_nodes ready.reads
+      (held-of-nodes packed.name) (
         taken-is-good script w q (frames.GiveBack packed) rest
             (pass_on n packed.name (body_in b.kernel packed.name)
             (goes_on_to (directory_of w) (bound_for (directory_of w) packed.name)))
