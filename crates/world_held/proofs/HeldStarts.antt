@@ -20,7 +20,7 @@ use Rattle.world_model.specs.World.{World, node_count, world_after}
 use Rattle.world_laws.specs.Places.{Beside, IsInHand, InTable}
 use Rattle.world_laws.specs.Sights.{is_born_in, is_born_stage, node_of}
 use Rattle.world_laws.specs.Families.{NodeHolds}
-use Rattle.world_laws.specs.Invariant.{HasInvariant, Holds}
+use Rattle.world_laws.specs.Invariant.{Holds}
 use Rattle.world_laws.proofs.Steps.{run-steps}
 use Rattle.world_own.proofs.Moved.{AfterRun, twice-in}
 use Rattle.world_own.proofs.OwnCases.{Keeps}

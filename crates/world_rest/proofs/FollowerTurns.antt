@@ -2,7 +2,7 @@
 -- frame that it takes, and its turns.
 use Rattle.std.proofs.Common.{◌≡◌, ℕ, Bool, true, false, not, ◌&&◌, nat_eq, Option, Some, None, refl, sym, ◌∙◌}
 use Rattle.std.specs.Prelude.{if◌then◌else◌}
-use Rattle.std.specs.List.{list_all, list_any}
+use Rattle.std.specs.List.{list_any}
 use Rattle.std.specs.Option.{option_and_then, option_map}
 use Rattle.std.proofs.lemmas.Bool.{false≢true}
 use Rattle.pico_base.specs.declared.call.Call.{Call}
@@ -41,7 +41,7 @@ use Rattle.world_model.specs.Serving.{serve_asked, serve_nobody, without_deed}
 use Rattle.world_model.specs.Starting.{run}
 use Rattle.world_model.specs.Step.{Step, send, step_to, with_deeds}
 use Rattle.world_model.specs.Turn.{take_frame}
-use Rattle.world_bounds.proofs.Parts.{of-map, of-next, of-some, of-test}
+use Rattle.world_bounds.proofs.Parts.{of-map, of-next, of-test}
 use Rattle.world_rest.proofs.Followers.{IsFollower, all-sent-follow, ask-follows, entered-follows, from-it, make-follows, run-follows, sent-follows, serve-asked-follows, serve-nobody-follows}
 
 first-of-two : (a b : Bool) → (a && b) ≡ true → a ≡ true

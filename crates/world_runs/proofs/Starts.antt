@@ -12,7 +12,7 @@ use Rattle.world_model.specs.Calls.{is_for_others}
 use Rattle.world_model.specs.Node.{can_run}
 use Rattle.world_model.specs.World.{World, is_enabled, node_count}
 use Rattle.world_laws.specs.Invariant.{Holds}
-use Rattle.world_laws.specs.Places.{Beside, CallPlace, InAsk, InRequest, call_in}
+use Rattle.world_laws.specs.Places.{Beside}
 use Rattle.world_laws.specs.Sights.{node_of}
 use Rattle.world_own.proofs.Enabled.{IsRun, enabled-runs, enabled-starts}
 use Rattle.world_own.proofs.Moved.{AfterRun}
