@@ -6,3 +6,4 @@ pub mod Leaves
 pub mod Starts
 pub mod Worlds
 pub mod Runs
+pub mod Schedules

@@ -1,11 +1,12 @@
 -- What holds of every run of the whole machine with a sound script, whatever the schedule.
-use Rattle.std.specs.Prelude.{◌≡◌, true, IsSome}
+use Rattle.std.specs.Prelude.{◌≡◌, true, List, IsSome}
 use Rattle.pico_base.specs.declared.script.Event.{Event}
 use Rattle.pico_base.specs.declared.script.Script.{Script}
 use Rattle.kernel_model.specs.Fitting.{Fits}
 use Rattle.kernel_model.specs.History.{IsLegal}
 use Rattle.kernel_model.specs.Script.{IsSoundScript}
-use Rattle.world_model.specs.Run.{IsReachableWorld}
+use Rattle.world_model.specs.Run.{IsReachableWorld, Runs}
+use Rattle.world_model.specs.Schedule.{Schedule, Follows}
 use Rattle.world_model.specs.World.{World, is_enabled, step}
 use Rattle.world_laws.specs.Invariant.{HasInvariant}
 use Rattle.world_weights.specs.Runs.{RunsAreShort as EachRunIsShort}
@@ -29,3 +30,9 @@ RunsAreShort = (script : Script) → IsSoundScript script → EachRunIsShort scr
 abbrev pub WorldsHaveTheInvariant : Type 0
 WorldsHaveTheInvariant =
     (script : Script) (w : World) → IsSoundScript script → IsReachableWorld script w → HasInvariant script w
+
+-- What a schedule takes is a run.
+abbrev pub SchedulesAreRuns : Type 0
+SchedulesAreRuns =
+    (w last : World) (schedule : Schedule) (events : List Event) → Follows w schedule events last
+    → Runs w events last

@@ -2,7 +2,7 @@
 //! invariant, which each rule keeps. Nothing runs here.
 #![tactic(auto)]
 
-ghost use Rattle.world_runs.specs.Laws.{JournalsAreLegal, EnabledEventsHaveSteps, RunsAreShort, WorldsHaveTheInvariant};
+ghost use Rattle.world_runs.specs.Laws.{JournalsAreLegal, EnabledEventsHaveSteps, RunsAreShort, WorldsHaveTheInvariant, SchedulesAreRuns};
 
 /// The journal of each world that a run leads to is one history of a single POSIX kernel, and each process's calls
 /// stand in it once and in order.
@@ -24,4 +24,9 @@ pub fn worlds_have_the_invariant()
 /// A run has at most 32 events for each call of its script.
 pub fn runs_are_short()
     ensures { RunsAreShort }
+{}
+
+/// What a schedule takes is a run: it chooses among the enabled events.
+pub fn schedules_are_runs()
+    ensures { SchedulesAreRuns }
 {}
