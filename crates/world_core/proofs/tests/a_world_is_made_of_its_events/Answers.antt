@@ -13,7 +13,7 @@ forked = unwrap_or (step (opening_world asks_its_number) (Run 1)) (opening_world
 
 forks : IsRunOf asks_its_number (Run 1 ∷ []) forked
 unfolding forked
-forks = (refl, forked, refl, refl)
+forks = record { enabled = refl; next = forked; steps = refl; rest = refl }
 
 pub of_logs-requires-clause-run : goal.of_logs-requires-clause-run
 of_logs-requires-clause-run g c = (
