@@ -75,7 +75,7 @@ with_marker (Some size) line read = if nat_lt 4096 size then with_long_marker li
 
 -- the script of a text with its line `trace`, by that line's length and the number of the line behind it
 abbrev pub script_with : Option ℕ → ℕ → List ℕ → Result Script ScriptStop
-script_with marker first script = with_marker marker (first - 1) (outcome false script)
+script_with marker first script = with_marker marker (first - 1) (outcome script)
 
 -- The script that the bytes begin with, or its first fault with its line.
 unfoldable pub checked_script : List ℕ → Result Script ScriptStop

@@ -231,19 +231,22 @@ impl<B> Deeds<B> {
         self.alloc
     }
 
-    pub(crate) fn processes(&self) -> &[(u32, B)]
+    /// The bodies of the processes that are there, by rising number.
+    pub fn processes(&self) -> &[(u32, B)]
         ensures { result.now ≡ self.now.bodies.processes }
     {
         self.processes.as_slice()
     }
 
-    pub(crate) fn queues(&self) -> &[(u32, B)]
+    /// The bodies of the queues that are there, by rising number.
+    pub fn queues(&self) -> &[(u32, B)]
         ensures { result.now ≡ self.now.bodies.queues }
     {
         self.queues.as_slice()
     }
 
-    pub(crate) fn sets(&self) -> &[(u32, B)]
+    /// The bodies of the semaphore sets that are there, by rising number.
+    pub fn sets(&self) -> &[(u32, B)]
         ensures { result.now ≡ self.now.bodies.sets }
     {
         self.sets.as_slice()

@@ -22,7 +22,7 @@ fn has_ended(ended: &[Ended], child: Pid) -> bool
 }
 
 /// Whether the number is one of the children's.
-fn has(living: &[Pid], ended: &[Ended], child: Pid) -> bool
+pub(crate) fn has(living: &[Pid], ended: &[Ended], child: Pid) -> bool
     ensures { result ≡ list_any (nat_eq child) (living.now ++ map (λ e. e.pid) ended.now) }
 {
     has_living(living, child) | has_ended(ended, child)

@@ -1,5 +1,5 @@
 //! The two lists of a family, and the bytes that they travel as.
-ghost use Rattle.std.specs.Prelude.{◌≡◌, ◌<◌, ◌≤◌, IfErr, IfOk, IsTrue, MatchOption, OnOk, false, length, nat_eq, not};
+ghost use Rattle.std.specs.Prelude.{◌≡◌, ◌<◌, ◌≤◌, IfErr, IfOk, IsTrue, MatchOption, OnOk, false, length, map, nat_eq, not};
 ghost use Rattle.std.specs.List.{filter, list_any};
 ghost use Rattle.std.specs.Vec.{vec_capacity};
 ghost use Rattle.body_fields.specs.Fields.{Refuses};
@@ -8,7 +8,7 @@ ghost use Rattle.kernel_model.specs.Row.{Family as Members, first_ended_child, l
 ghost use Rattle.fork_wait.specs.Children.{children, is_child, members_of};
 ghost use Rattle.fork_wait.specs.Waiting.{answer_of, family_after};
 
-use crate::checking::are_children;
+use crate::checking::{are_children, has};
 use crate::ended::Ended;
 use crate::reading::{EndedList, LivingList, lists_of};
 use crate::writing::{write_ended, write_numbers};
@@ -92,6 +92,31 @@ impl Family {
         ensures { result ≡ lists self.now child }
     {
         self.living.iter().any(|pid| *pid == child)
+    }
+
+    /// Whether this is a child, living or ended.
+    pub fn is_child(&self, child: Pid) -> bool
+        ensures { result ≡ is_child self.now child }
+    {
+        has(self.living.as_slice(), self.ended.as_slice(), child)
+    }
+
+    /// How many children there are, living and ended: at most 31.
+    pub fn count(&self) -> usize
+        ensures { result ≡ length (children self.now) }
+    {
+        self.living.len() + self.ended.len()
+    }
+
+    /// The numbers of the ended children, in order of end.
+    pub fn ended(&self, alloc: Global) -> Result<Vec<Pid>, Memory>
+        ensures { IfOk result (λ pids. pids.items ≡ map (λ e. e.pid) self.now.ended) }
+    {
+        let mut pids = Vec::with_capacity(alloc, self.ended.len())?;
+        for child in &self.ended {
+            pids.push(child.pid)?;
+        }
+        Ok(pids)
     }
 
     /// Waits for one child, or for any (`waitpid`): the first ended child that matches is taken out. That

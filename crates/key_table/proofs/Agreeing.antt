@@ -1,5 +1,5 @@
 -- The index from identifiers to keys stays in agreement with the bindings.
-use Rattle.std.proofs.Common.{◌≡◌, ℕ, Bool, true, false, cond, nat_eq, Option, Some, None, IsTrue, refl, sym, ap, ◌∙◌, ⊎_elim, arith}
+use Rattle.std.proofs.Common.{◌≡◌, ℕ, Bool, true, false, cond, nat_eq, Option, Some, None, IsTrue, is_some, ◌↔◌, refl, sym, ap, ◌∙◌, ⊎_elim, arith}
 use Rattle.std.proofs.lemmas.Bool.{false≢true}
 use Rattle.std.proofs.lemmas.Bool.Decides.{nat_tests, eqb_tells}
 use Rattle.key_table.specs.declared.Bound.{Bound}
@@ -99,3 +99,10 @@ module _ (bound : ℕ → Option Bound) (key_of : ℕ → Option ℕ) (agree : A
   nobody id none q = sym (not_true _ (λ h.
       let there : key_of id ≡ Some q = (agree id q).0 h in
       absurd (cc)))
+
+  -- an identifier has a key exactly where some key is bound to it
+  pub has_one : (id : ℕ) (key : Option ℕ) → key_of id ≡ key
+      → IsTrue (is_some key) ↔ ((q : ℕ) × IsTrue (is_bound_to id (bound q)))
+  has_one id None none =
+      (λ never. absurd (false≢true never), λ held. absurd (false≢true (nobody id none held.0 ∙ held.1)))
+  has_one id (Some key) there = (λ _. (key, (agree id key).1 there), λ _. refl)

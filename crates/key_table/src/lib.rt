@@ -100,6 +100,13 @@ impl Keys {
         Ok(())
     }
 
+    /// Whether a key is bound to the identifier.
+    pub fn has_key(&self, id: Id) -> bool
+        ensures { IsTrue result ↔ Binds self.now id }
+    {
+        self.key_of.contains_key(&id.0)
+    }
+
     /// Unbinds the key that is bound to the identifier, and answers whether there was one. The other
     /// keys stay.
     pub fn unbind(&mut self, id: Id) -> bool

@@ -7,3 +7,4 @@ pub mod Tables
 pub mod Landing
 pub mod RangeLemmas
 pub mod Routes
+pub mod Order

@@ -1,5 +1,6 @@
 //! The directory.
 ghost use Rattle.std.specs.Prelude.{◌≡◌, IsTrue, IfOk, IfErr, OnOk, OnErr, not};
+ghost use Rattle.number_maps.specs.Rising.{IsRising};
 ghost use Rattle.node_model.specs.Directory.{arrive, bound_for, has_more, held_for, hold, is_coming, is_in_parcel, is_known, is_leaving, opening_directory, place_name, recall, route, stays, upcoming, with_leaving, with_left, with_range};
 ghost use Rattle.node_model.specs.Kinds.{for_kind};
 ghost use Rattle.lease_leader.specs.Apart.{IsNextRange};
@@ -107,6 +108,13 @@ impl Directory {
         let stays = self.partings.stays(node);
         self.spots.insert(&name, Spot::at(node, stays))?;
         Ok(true)
+    }
+
+    /// The processes' places are by rising number.
+    pub fn places_rise(&self)
+        ensures { IsRising self.now.places.processes }
+    {
+        self.spots.rise();
     }
 
     /// Where a call on the name goes. Range comes exactly where the name isn't known and its number is in a range of a

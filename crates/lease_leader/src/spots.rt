@@ -96,6 +96,13 @@ impl Spots {
         self.get(name).is_some()
     }
 
+    /// The processes' spots are by rising number.
+    pub(crate) fn rise(&self)
+        ensures { IsRising self.now.processes }
+    {
+        let _ = self.processes.len();
+    }
+
     /// Puts a spot. A refusal for want of memory changes nothing.
     pub(crate) fn insert(&mut self, name: &Name, spot: Spot) -> Result<(), Memory>
         ensures ok { OnOk result (self.new ≡ put_named self.old name.now spot) }

@@ -119,6 +119,13 @@ impl Caller {
         Ok(())
     }
 
+    /// The block, by its node.
+    pub fn block(&self) -> Node
+        ensures { result ≡ self.now.block }
+    {
+        self.block
+    }
+
     /// The call under way, or `None` exactly where there is none. It takes no memory.
     pub fn under_way(&self) -> Option<&Call>
         ensures { option_copied result ≡ self.now.caller.under_way }

@@ -1,11 +1,2 @@
-pub mod Caller
-pub mod Deed
-pub mod Due
-pub mod Examples
-pub mod Leader
-pub mod Life
-pub mod Rising
-pub mod Serving
-pub mod State
 pub mod Step
 pub mod Turns

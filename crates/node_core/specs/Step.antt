@@ -1,19 +1,20 @@
 -- The node's part of the machine, by input.
 use Rattle.std.specs.Prelude.{◌≡◌, Option, Some, None, Result, Ok, Err}
 use Rattle.pico_base.specs.declared.script.Script.{Script}
-use Rattle.machine_model.specs.Node.{Node}
-use Rattle.machine_model.specs.Calls.{Step, run}
-use Rattle.machine_model.specs.Frames.{takes}
-use Rattle.node_core.specs.declared.fault.TurnFault.{TurnFault}
-use Rattle.node_core.specs.declared.fault.TurnFault.TheVariants.{Memory, NotAllowed}
+use Rattle.world_model.specs.Node.{Node}
+use Rattle.world_model.specs.Step.{Step}
+use Rattle.world_model.specs.Starting.{run}
+use Rattle.world_model.specs.Turn.{take_frame}
+use Rattle.node_state.specs.declared.fault.TurnFault.{TurnFault}
+use Rattle.node_state.specs.declared.fault.TurnFault.TheVariants.{Memory, NotAllowed}
 use Rattle.node_core.specs.declared.turn.Input.{Input}
 use Rattle.node_core.specs.declared.turn.Input.TheVariants.{Run, Take}
 use Rattle.node_core.specs.declared.turn.Turn.{Turn}
 
 -- the step of a node by an input
-abbrev pub step_of : Script → Node → Input → Option Step
+unfoldable pub step_of : Script → Node → Input → Option Step
 step_of script n Run = run script n
-step_of script n (Take from frame) = takes script n from frame
+step_of script n (Take from frame) = take_frame script n from frame
 
 -- a turn that left this node, as a step
 abbrev pub step_as : Node → Turn → Step

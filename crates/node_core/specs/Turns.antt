@@ -1,7 +1,7 @@
 -- What a turn's answer says of a node that may be spent, before and after it.
 use Rattle.std.specs.Prelude.{◌≡◌, Option, Some, None}
 use Rattle.pico_base.specs.declared.script.Script.{Script}
-use Rattle.machine_model.specs.Node.{Node}
+use Rattle.world_model.specs.Node.{Node}
 use Rattle.node_core.specs.declared.turn.Input.{Input}
 use Rattle.node_core.specs.declared.turn.Turn.{Turn}
 use Rattle.node_core.specs.Step.{step_of, step_as}

@@ -1,26 +1,12 @@
-//! The node of a picoprocess: it starts the calls of its process and takes the frames of other nodes, each in a turn
-//! that gives the entries made and the frames to send. A turn does what the picoprocess machine says, and nothing else.
+//! A picoprocess: it starts the calls of its process and takes the frames of other nodes, each in a turn that gives the
+//! entries made and the frames to send.
 #![tactic(auto)]
 
-mod caller;
-mod deeds;
-mod family;
-mod fault;
-mod leader;
-mod lines;
-mod maps;
 mod node;
-mod process;
-mod run;
-mod serve;
-mod state;
-mod take;
+mod rules;
 mod turn;
-mod variables;
+mod unspent;
 
-pub use fault::TurnFault;
 pub use node::PicoNode;
-pub use turn::{Input, Sends, Turn};
-
-#[cfg(test)]
-mod tests;
+pub use node_state::{Sends, TurnFault};
+pub use turn::{Input, Turn};

@@ -1,53 +1,35 @@
 //! A picoprocess as callers see it: its turns, and what it may do next.
 ghost use Rattle.std.specs.Prelude.{◌≡◌, ◌≤◌, length, Some, None, Err, IfOk, IfSome, IsErr, IsSome};
-ghost use Rattle.machine_model.specs.Node.{opening_node, can_run, is_born};
-ghost use Rattle.machine_model.specs.Built.{IsRunnable};
-ghost use Rattle.node_core.specs.declared.fault.TurnFault.TheVariants.{Memory as OutOfMemory, NotAllowed};
-ghost use Rattle.node_core.specs.State.{node_of};
-ghost use Rattle.node_core.specs.Step.{Steps, step_of};
+ghost use Rattle.kernel_model.specs.Script.{IsSoundScript};
+ghost use Rattle.world_model.specs.Node.{opening_node, can_run, is_born};
+ghost use Rattle.node_state.specs.declared.fault.TurnFault.TheVariants.{Memory as OutOfMemory, NotAllowed};
+ghost use Rattle.node_core.specs.Step.{step_of};
 ghost use Rattle.node_core.specs.Turns.{IsTurn, IsRefusal};
 
-use crate::TurnFault;
-use crate::state::State;
 use crate::turn::{Input, Turn};
+use crate::unspent::Unspent;
+use node_state::TurnFault;
 use pico_base::{Memory, Node, Script};
 use std::alloc::Global;
 use std::marker::Model;
 
-/// The node of a picoprocess, which contracts see as a node of the picoprocess machine, or none once it is spent: an
-/// allocation was refused in a turn. Node k runs block k of the script. Its process has a number, a parent and a place
-/// in
-/// the block; it holds the deeds of processes, queues and sets; and node 1 is the leader.
+/// The node of a picoprocess, which contracts see as a node of the machine, or none once it is spent: an allocation was
+/// refused in a turn. Node k runs block k of the script. Its process has a number, a parent and a place in the block;
+/// it holds the deeds of what it owns, and numbers to give; and node 1 is the leader.
 #[derive(Drop)]
 pub struct PicoNode {
     alloc: Global,
     // none once the node is spent
-    state: Option<State>,
+    state: Option<Unspent>,
 }
 
 impl Model for PicoNode {
     ghost use Rattle.std.specs.Prelude.{Option};
-    ghost use Rattle.std.specs.Option.{option_map};
-    ghost use Rattle.machine_model.specs.Node.{Node as NodeValue};
+    ghost use Rattle.world_model.specs.Node.{Node as NodeValue};
 
     ghost Value = { Option NodeValue };
 
-    ghost use Rattle.node_core.specs.State.{node_of};
-
-    ghost view = { λ n. option_map node_of n.state };
-}
-
-impl State {
-    /// Makes the turn of an input.
-    fn turn(&mut self, alloc: Global, script: &Script, input: Input) -> Result<Turn, TurnFault>
-        requires { IsRunnable script.now }
-        ensures { Steps (step_of script.now (node_of self.old) input) (node_of self.old) (node_of self.new) result }
-    {
-        match input {
-            Input::Run => self.run(alloc, script),
-            Input::Take { from, frame } => self.take(alloc, script, from, frame),
-        }
-    }
+    ghost view = { λ n. n.state };
 }
 
 impl PicoNode {
@@ -60,7 +42,7 @@ impl PicoNode {
         let _blocks = &script.blocks;
         Ok(PicoNode {
             alloc,
-            state: Some(State::new(alloc, node)?),
+            state: Some(Unspent::new(alloc, node)?),
         })
     }
 
@@ -70,7 +52,7 @@ impl PicoNode {
         ensures { IfSome self.now (λ n. result ≡ can_run n) }
     {
         match &self.state {
-            Some(state) => state.can_run(),
+            Some(node) => node.can_run(),
             None => false,
         }
     }
@@ -81,17 +63,18 @@ impl PicoNode {
         ensures { IfSome self.now (λ n. result ≡ is_born n) }
     {
         match &self.state {
-            Some(state) => state.is_born(),
+            Some(node) => node.born(),
             None => false,
         }
     }
 
     /// Makes the turn of an input: its process's next call is started, or a frame is taken.
     ///
-    /// NotAllowed comes exactly where the machine has no step for the input, and the node is unchanged. Memory: an
-    /// allocation was refused, in this turn or in an earlier one; the node is spent, and answers Memory from now on.
+    /// NotAllowed comes only where the machine has no step for the input, and the node is unchanged. Memory: an
+    /// allocation was refused, in this turn or in an earlier one, or the turn met a state that no run of a script leads
+    /// to, as a Checkpoint whose variables don't rise; the node is spent, and answers Memory from now on.
     pub fn turn(&mut self, script: &Script, input: Input) -> Result<Turn, TurnFault>
-        requires runnable { IsRunnable script.now }
+        requires sound { IsSoundScript script.now }
         // A turn is the machine's step, and the node is left as the step leaves it.
         ensures ok { IfOk result (λ turn. IsTurn script.now self.old input self.new turn) }
         // A refusal: there is no step, and the node is unchanged.
@@ -103,12 +86,12 @@ impl PicoNode {
         ensures step { IfSome self.old (λ n. IsSome (step_of script.now n input) → (result ≡ Err NotAllowed) → ⊥) }
         ensures no_step { IfSome self.old (λ n. step_of script.now n input ≡ None → IsErr result) }
     {
-        let Some(mut state) = self.state.take() else {
+        let Some(node) = &mut self.state else {
             return Err(TurnFault::Memory);
         };
-        let turned = state.turn(self.alloc, script, input);
-        if !matches!(turned, Err(TurnFault::Memory)) {
-            self.state = Some(state);
+        let turned = node.turn(self.alloc, script, input);
+        if let Err(TurnFault::Memory) = turned {
+            self.state = None;
         }
         turned
     }

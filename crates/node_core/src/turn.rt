@@ -1,5 +1,6 @@
 //! What a turn is handed and what it gives.
-use pico_base::{Entries, Node, Sequence};
+use node_state::Sends;
+use pico_base::{Entries, Node};
 use rpc_frame::Frame;
 
 /// What a node makes a turn of.
@@ -10,9 +11,6 @@ pub enum Input {
     /// This frame has come from the node `from`.
     Take { from: Node, frame: Frame },
 }
-
-/// Frames to send, each with the node that it goes to, in order.
-pub type Sends = Sequence<(Node, Frame)>;
 
 /// What a turn gives: the calls that the node carried out, and the frames that it sends.
 #[derive(Debug, PartialEq, Eq, Drop)]

@@ -16,7 +16,7 @@ mod unpacking;
 pub use body::{Body, Row};
 pub use ending::{ServeFault, commit_exit};
 pub use laws::{read_bodies_are_spelled, spelled_bodies_are_read};
-pub use serving::{Served, serve};
+pub use serving::{Served, bury, serve};
 
 #[cfg(test)]
 mod tests;

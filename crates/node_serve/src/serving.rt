@@ -51,8 +51,8 @@ fn has_read(call: &Call, reply: &Reply) -> bool
     }
 }
 
-/// A process is gone: its deed says so, which is a new one if it isn't here.
-fn bury(deeds: &mut Deeds<Body>, child: Pid)
+/// A process is gone: its deed says so, which is a new one if it isn't here. It takes no memory, since there is room.
+pub fn bury(deeds: &mut Deeds<Body>, child: Pid)
     requires { 0 < deeds.old.spare }
     ensures { deeds.new.bodies ≡ put_named deeds.old.bodies (Name.Proc child) Body.Gone }
 {

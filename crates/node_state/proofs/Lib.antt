@@ -2,3 +2,4 @@ mod Keys
 mod Lists
 mod Places
 mod Watching
+pub mod Holding

@@ -1,3 +1,6 @@
+pub mod Deeds
 pub mod Keys
 pub mod Leader
+pub mod Replies
 pub mod State
+pub mod Turning

@@ -18,7 +18,7 @@ stage_of Over = nodes.Over
 abbrev pub node_of : State → nodes.Node
 node_of s =
     record {
-      number = s.number;
+      number = s.caller.block;
       stage = stage_of s.stage;
       pid = s.pid;
       parent = s.parent;

@@ -1,14 +1,19 @@
 //! What the leader has besides.
-ghost use Rattle.std.specs.Prelude.{◌≡◌, IfOk, IsTrue, None};
+ghost use Rattle.std.specs.Prelude.{◌≡◌, IfOk, IsTrue, None, OnOk, is_some};
+ghost use Rattle.std.specs.FinMap as map;
+ghost use Rattle.number_maps.specs.Maps.{get};
+ghost use Rattle.key_table.specs.KeyMap.{key_answer};
 ghost use Rattle.world_model.specs.Node.{opening_leader};
+ghost use Rattle.world_model.specs.Routing.{bind, without_key};
 ghost use Rattle.node_model.specs.Directory.{arrive, is_coming, is_known, place_of, recall};
 ghost use Rattle.lease_leader.specs.Places.{is_at as is_placed};
+ghost use Rattle.node_state.specs.Keys.{bindings};
 ghost use Rattle.node_state.specs.Leader.{is_at, leader_of};
 
-use key_table::Keys;
+use key_table::{KeyAnswer, Keys};
 use lease_leader::Directory;
 use node_model::Route;
-use pico_base::{Memory, Name, Node};
+use pico_base::{Id, Key, Memory, Name, Node};
 use std::alloc::Global;
 
 /// The directory, and the keys of queues and of sets.
@@ -33,6 +38,24 @@ fn arrive(directory: &mut Directory, name: &Name, node: Node)
     ensures { directory.new ≡ arrive directory.old name.now node }
 {
     let _ = directory.arrive(*name, node);
+}
+
+/// Whether the key is bound.
+fn is_bound(keys: &Keys, key: Key) -> bool
+    ensures { result ≡ is_some (map.get keys.now key) }
+{
+    !matches!(keys.get(key, true, true), KeyAnswer::Create)
+}
+
+/// The key leads to the queue, or to the set of so many semaphores. Memory, too, where the key is bound, or another key
+/// leads there.
+fn bind(keys: &mut Keys, key: Key, id: Id, count: u32) -> Result<(), Memory>
+    ensures { OnOk result (bindings keys.new ≡ bind (bindings keys.old) key id count) }
+{
+    if is_bound(keys, key) || keys.has_key(id) {
+        return Err(Memory);
+    }
+    keys.bind(key, id, count)
 }
 
 impl Leader {
@@ -78,5 +101,51 @@ impl Leader {
     {
         recall(&mut self.directory, &name);
         arrive(&mut self.directory, &name, node);
+    }
+
+    /// What a get of a queue by this key comes to.
+    pub fn queue_answer(&self, key: Key, create: bool, excl: bool) -> KeyAnswer
+        ensures { result ≡ key_answer (get (leader_of self.now).queue_keys key) create excl }
+    {
+        self.queue_keys.get(key, create, excl)
+    }
+
+    /// What a get of a set by this key comes to.
+    pub fn set_answer(&self, key: Key, create: bool, excl: bool) -> KeyAnswer
+        ensures { result ≡ key_answer (get (leader_of self.now).set_keys key) create excl }
+    {
+        self.set_keys.get(key, create, excl)
+    }
+
+    /// The key leads to the queue. Memory, too, where the key is bound, or another key leads to the queue.
+    pub fn bind_queue(&mut self, key: Key, id: Id) -> Result<(), Memory>
+        ensures { OnOk result (leader_of self.new
+            ≡ record (leader_of self.old) { queue_keys = bind (leader_of self.old).queue_keys key id 0 }) }
+    {
+        bind(&mut self.queue_keys, key, id, 0)
+    }
+
+    /// The key leads to the set of so many semaphores. Memory, too, where the key is bound, or another key leads to the
+    /// set.
+    pub fn bind_set(&mut self, key: Key, id: Id, count: u32) -> Result<(), Memory>
+        ensures { OnOk result (leader_of self.new
+            ≡ record (leader_of self.old) { set_keys = bind (leader_of self.old).set_keys key id count }) }
+    {
+        bind(&mut self.set_keys, key, id, count)
+    }
+
+    /// No key leads to the name any more.
+    pub fn unbind(&mut self, name: Name)
+        ensures { leader_of self.new ≡ without_key (leader_of self.old) name }
+    {
+        match name {
+            Name::Proc(_) => {}
+            Name::Msg(id) => {
+                let _ = self.queue_keys.unbind(id);
+            }
+            Name::Sem(id) => {
+                let _ = self.set_keys.unbind(id);
+            }
+        }
     }
 }

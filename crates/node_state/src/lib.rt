@@ -2,12 +2,15 @@
 //! it may give, its cache of owners, and what the leader has besides. And a step that grows.
 #![tactic(auto)]
 
+mod fault;
+pub mod forms;
 mod growing;
 mod leader;
 mod leases;
 mod state;
 mod watches;
 
+pub use fault::TurnFault;
 pub use growing::{Growing, Sends};
 pub use leader::Leader;
 pub use leases::Leases;

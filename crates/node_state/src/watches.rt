@@ -74,9 +74,10 @@ fn note_first(
 fn forget(watches: &mut ByNumber, number: u32)
     ensures { watches.new.entries ≡ without watches.old.entries number }
 {
-    let held = watches.len();
+    // The length is asked because its clauses say that the numbers rise before the removal; those of the removal say
+    // so only of what is left.
+    let _ = watches.len();
     let _ = watches.remove(&number);
-    let _ = held;
 }
 
 impl Watches {
@@ -91,7 +92,8 @@ impl Watches {
         }
     }
 
-    /// A node reads a name that this node owns. The node to which the name moves then.
+    /// A node reads a name that this node owns. The node to which the name moves then. Where memory is refused the node
+    /// is spent, and nothing is said of what is left.
     pub fn read(&mut self, owner: Node, name: Name, reader: Node) -> Result<Option<Node>, Memory>
         ensures moves { IfOk result (λ to. to ≡ moves_to self.old owner name reader) }
         ensures noted { OnOk result (self.new ≡ with_read self.old owner name reader) }

@@ -5,8 +5,8 @@ use Rattle.std.proofs.lemmas.List.Elements.{All-append, All-filter, All-map, fil
 use Rattle.std.proofs.lemmas.Option.{get_or_from_slice_get, slice_get_within}
 use Rattle.pico_base.specs.declared.script.Event.{Event}
 use Rattle.pico_base.specs.declared.script.Event.TheVariants as events
-use Rattle.machine_model.specs.World.{World, numbers, size, is_enabled}
-use Rattle.machine_model.specs.Schedule.{Schedule, InTurn, Drawn, choice, drawn, enabled_at, enabled_events, events_of, node_of, nodes_after}
+use Rattle.world_model.specs.World.{World, numbers, size, is_enabled}
+use Rattle.world_model.specs.Schedule.{Schedule, InTurn, Drawn, choice, drawn, enabled_at, enabled_events, events_of, node_of, nodes_after}
 use Rattle.world_core.specs.Laws.{IsWithin}
 
 -- an event that may come next, of one of so many nodes

@@ -4,8 +4,8 @@ use Rattle.std.specs.Prelude.{IfOk, IfSome}
 use Rattle.pico_base.specs.declared.script.Event.{Event}
 use Rattle.pico_base.specs.declared.script.Script.{Script}
 use Rattle.kernel_model.specs.Trace.{totals_line, trace_text}
-use Rattle.machine_model.specs.World.{World, opening_world}
-use Rattle.machine_model.specs.Run.{Runs}
+use Rattle.world_model.specs.World.{World, opening_world}
+use Rattle.world_model.specs.Run.{Runs}
 use Rattle.pico_words.specs.declared.words.Options.{Options}
 use Rattle.script_writer.specs.Generated.{generated}
 use Rattle.pico_cmd.specs.Run.{IsRunTo, IsTextOfRun, IsTotalsOfRun, steps_if}

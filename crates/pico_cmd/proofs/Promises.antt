@@ -7,7 +7,7 @@ use Rattle.host_iface.specs.Told.{led_by}
 use Rattle.std.specs.Prelude.{IfErr, IfSome, is_some, nat_lt, true, Result, Ok, Err}
 use Rattle.pico_base.specs.declared.script.Script.{Script}
 use Rattle.script_reader.specs.declared.fault.ScriptFault.{ScriptFault}
-use Rattle.script_reader.specs.Fault.{ReadsRunnable, IsFirstFaultOfRunnable, outcome}
+use Rattle.script_reader.specs.Fault.{Reads, IsFirstFault, outcome}
 use Rattle.pico_cmd.specs.declared.status.Status.{Status}
 use Rattle.pico_cmd.specs.declared.status.Status.TheVariants as status
 use Rattle.pico_words.specs.declared.words.Options.{Options}
@@ -22,7 +22,7 @@ use Rattle.pico_cmd.specs.Promise.{Answers, Simulates, Judges, AnswersTold, Allo
 
 -- More bytes than a script has are judged by their front: their fault is that of its size, at the same line.
 front_outcome : (bytes left : List ℕ) → 1048576 < length left → bytes ≡ take 1048577 left
-    → outcome true bytes ≡ outcome true left
+    → outcome bytes ≡ outcome left
 unfolding outcome
 front_outcome bytes left long e =
     let is_long : nat_lt 1048576 (length left) ≡ true = lt-ltb _ _ long
@@ -33,23 +33,23 @@ front_outcome bytes left long e =
     in rw (is_long, read, front) refl
 
 -- what was read is judged as what was left
-outcome_left : (bytes left : List ℕ) → AreBytesUpTo 1048576 bytes left → outcome true bytes ≡ outcome true left
-outcome_left bytes left (inl same) = ap (outcome true) same.0
+outcome_left : (bytes left : List ℕ) → AreBytesUpTo 1048576 bytes left → outcome bytes ≡ outcome left
+outcome_left bytes left (inl same) = ap (outcome) same.0
 outcome_left bytes left (inr long) = front_outcome bytes left long.0 long.1
 
 -- the fault of what was read is that of what was left
 fault_left : (bytes left : List ℕ) (line : ℕ) (fault : ScriptFault) → AreBytesUpTo 1048576 bytes left
-    → IsFirstFaultOfRunnable bytes line fault → IsFirstFaultOfRunnable left line fault
+    → IsFirstFault bytes line fault → IsFirstFault left line fault
 fault_left bytes left line fault r f = sym (outcome_left bytes left r) ∙ f
 
 -- and the other way round
 pub fault_read : (bytes left : List ℕ) (line : ℕ) (fault : ScriptFault) → AreBytesUpTo 1048576 bytes left
-    → IsFirstFaultOfRunnable left line fault → IsFirstFaultOfRunnable bytes line fault
+    → IsFirstFault left line fault → IsFirstFault bytes line fault
 fault_read bytes left line fault r f = outcome_left bytes left r ∙ f
 
 -- a script that was left is read
-pub script_read : (bytes left : List ℕ) (script : Script) → AreBytesUpTo 1048576 bytes left → ReadsRunnable left script
-    → ReadsRunnable bytes script
+pub script_read : (bytes left : List ℕ) (script : Script) → AreBytesUpTo 1048576 bytes left → Reads left script
+    → Reads bytes script
 script_read bytes left script r f = outcome_left bytes left r ∙ f
 
 -- what goes with the bytes that were read goes with those that were left
@@ -170,13 +170,13 @@ told_verdict (Some left) bytes read s text r few e a =
 -- The causes of an answer, by the bytes that were left.
 
 sim_cause : (bytes read left : List ℕ) (got : Status) → AreBytesUpTo 1048576 bytes left → read ≡ bytes
-    → ((script : Script) → ReadsRunnable read script → got ≡ status.Done)
-    → ((line : ℕ) (fault : ScriptFault) → IsFirstFaultOfRunnable read line fault → got ≡ status.BadScript)
+    → ((script : Script) → Reads read script → got ≡ status.Done)
+    → ((line : ℕ) (fault : ScriptFault) → IsFirstFault read line fault → got ≡ status.BadScript)
     → (s : Status) → CauseOfSim left s → got ≡ s
 sim_cause bytes read left got r e done bad status.Done c =
-    done c.0 (subst (λ (b : List ℕ). ReadsRunnable b c.0) (sym e) (script_read bytes left c.0 r c.1))
+    done c.0 (subst (λ (b : List ℕ). Reads b c.0) (sym e) (script_read bytes left c.0 r c.1))
 sim_cause bytes read left got r e done bad status.BadScript c =
-    bad c.0 c.1 (subst (λ (b : List ℕ). IsFirstFaultOfRunnable b c.0 c.1) (sym e) (fault_read bytes left c.0 c.1 r c.2))
+    bad c.0 c.1 (subst (λ (b : List ℕ). IsFirstFault b c.0 c.1) (sym e) (fault_read bytes left c.0 c.1 r c.2))
 sim_cause bytes read left got r e done bad status.Usage c = absurd c
 sim_cause bytes read left got r e done bad status.Memory c = absurd c
 sim_cause bytes read left got r e done bad status.ReadFault c = absurd c
@@ -185,8 +185,8 @@ sim_cause bytes read left got r e done bad status.NotLegal c = absurd c
 
 pub sim_causes : (o : Options) (told : Option (List ℕ)) (bytes read : List ℕ) (got : Status)
     → IfSome told (AreBytesUpTo 1048576 bytes) → read ≡ bytes
-    → ((script : Script) → ReadsRunnable read script → got ≡ status.Done)
-    → ((line : ℕ) (fault : ScriptFault) → IsFirstFaultOfRunnable read line fault → got ≡ status.BadScript)
+    → ((script : Script) → Reads read script → got ≡ status.Done)
+    → ((line : ℕ) (fault : ScriptFault) → IsFirstFault read line fault → got ≡ status.BadScript)
     → EachCause (Some (Simulate o)) told (λ s. got ≡ s)
 sim_causes o None bytes read got r e done bad = tt
 sim_causes o (Some left) bytes read got r e done bad = λ s c. sim_cause bytes read left got r e done bad s c

@@ -1,19 +1,22 @@
 -- A run as it goes on, event by event.
-use Rattle.std.proofs.Common.{◌≡◌, ℕ, ◌<◌, ◌≤◌, true, List, [], ◌∷◌, ◌++◌, take, Bool, false, nat_eq, if◌then◌else◌, Option, Some, None, refl, sym, ap, subst, ◌∙◌, arith}
+use Rattle.std.proofs.Common.{◌≡◌, ℕ, ◌+◌, ◌-◌, ◌*◌, ◌<◌, ◌≤◌, true, List, [], ◌∷◌, ◌++◌, length, take, Bool, false, nat_eq, if◌then◌else◌, Option, Some, None, refl, sym, ap, subst, ◌∙◌, arith}
 use Rattle.std.specs.Prelude.{IfSome, IsSome}
+use Rattle.std.proofs.lemmas.List.{length-append}
 use Rattle.pico_base.specs.declared.script.Event.{Event}
 use Rattle.pico_base.specs.declared.script.Event.TheVariants as events
 use Rattle.pico_base.specs.declared.script.Script.{Script}
 use Rattle.rpc_frame.specs.declared.frame.Frame.{Frame}
-use Rattle.machine_model.specs.Node.{Node}
-use Rattle.machine_model.specs.Calls.{Step, run}
-use Rattle.machine_model.specs.Frames.{takes}
-use Rattle.machine_model.specs.World.{World, opening_world, size, node_count, step, is_enabled, node_at, stream, with_stream, world_after, after_turn, runs_at, takes_at}
-use Rattle.machine_model.specs.Schedule.{Schedule, InTurn, Drawn, Chooses, Follows, choice, schedule_of, schedule_after, node_of}
-use Rattle.machine_model.specs.Weights.{weight}
-use Rattle.machine_model.specs.Built.{IsRunnable}
-use Rattle.machine_model.specs.Run.{IsRunOf, IsAtRest}
-use Rattle.machine_model.specs.Laws.{JournalsAreLegal, RestIsWhole, NoNameHasTwoOwners, StepsLowerWeights, RunsAreShort, SchedulesAreRuns}
+use Rattle.kernel_model.specs.Script.{IsSoundScript}
+use Rattle.world_model.specs.Node.{Node}
+use Rattle.world_model.specs.Step.{Step}
+use Rattle.world_model.specs.Starting.{run}
+use Rattle.world_model.specs.Turn.{take_frame}
+use Rattle.world_model.specs.World.{World, opening_world, size, node_count, step, is_enabled, node_at, stream, with_stream, world_after, after_turn, runs_at, takes_at}
+use Rattle.world_model.specs.Schedule.{Schedule, InTurn, Drawn, Chooses, Follows, choice, schedule_of, schedule_after, node_of}
+use Rattle.world_model.specs.Run.{Runs, IsRunOf, IsAtRest}
+use Rattle.world_runs.specs.Laws.{JournalsAreLegal, RunsAreShort}
+use Rattle.world_rest.specs.Laws.{NamesHaveOneOwner, NoneLivesAtRest, RestIsQuiet, RestIsWhole}
+use Rattle.world_weights.specs.Weights.{calls_of}
 use Rattle.world_core.specs.Laws.{IsWithin, RestIsWhereNothingIsChosen}
 use Rattle.world_core.specs.Stepped.{IsStepped}
 use Rattle.pico_cmd.specs.Run.{IsRunTo, IsScheduledRun}
@@ -35,7 +38,8 @@ takes_script : (w : World) (p from : ℕ) (o : Option Node) (fs : List Frame) (n
 takes_script w p from None fs next e = absurd (let f : ⊥ = cc in f)
 takes_script w p from (Some n) [] next e = absurd (let f : ⊥ = cc in f)
 takes_script w p from (Some n) (frame ∷ fs) next e =
-    after_turn_script (record w { streams = with_stream w.streams p from fs }) p (takes w.script n from frame) next e
+    after_turn_script (record w { streams = with_stream w.streams p from fs }) p (take_frame w.script n from frame)
+    next e
 
 pub step_script : (w : World) (e : Event) (next : World) → step w e ≡ Some next → next.script ≡ w.script
 step_script w (events.Run p) next e = runs_script w p (node_at w p) next e
@@ -75,6 +79,24 @@ Takes-end w s (e ∷ es) now at t none =
       rest = Takes-end t.next (schedule_after s e) es now at t.rest none;
     }
 
+-- A run goes on by an enabled event.
+Runs-more : (w now next : World) (es : List Event) (e : Event) → Runs w es now → is_enabled now e ≡ true
+    → step now e ≡ Some next → Runs w (es ++ e ∷ []) next
+Runs-more w now next [] e r enabled stepped =
+    record {
+      enabled = subst (λ (x : World). is_enabled x e ≡ true) (sym r) enabled;
+      next = next;
+      steps = subst (λ (x : World). step x e ≡ Some next) (sym r) stepped;
+      rest = refl;
+    }
+Runs-more w now next (e1 ∷ es) e r enabled stepped =
+    record {
+      enabled = r.enabled;
+      next = r.next;
+      steps = r.steps;
+      rest = Runs-more r.next now next es e r.rest enabled stepped;
+    }
+
 -- the run so far
 pub record IsUnderWay (script : Script) (seed : ℕ) (taken : List Event) (world : Option World)
     (at : Schedule) : Type 0 where
@@ -83,11 +105,11 @@ pub record IsUnderWay (script : Script) (seed : ℕ) (taken : List Event) (world
   pub same : now.script ≡ script
   pub of_world : IsWithin (size now) at
   pub takes : Takes (opening_world script) (schedule_of seed (node_count script)) taken now at
+  pub run : IsRunOf script taken now
 
--- what is still to happen, where the world isn't spent
-abbrev pub weight_of : Option World → ℕ
-weight_of None = 0
-weight_of (Some w) = weight w
+-- how many events may still follow these
+abbrev pub events_left : Script → List Event → ℕ
+events_left script taken = 32 * calls_of script - length taken
 
 of_first : (w : World) (b : Bool) (count seed : ℕ) → count ≤ size w
     → IsWithin (size w) (if b then InTurn count else Drawn seed)
@@ -116,6 +138,7 @@ IsUnderWay-start script seed taken world at none opening first =
           (subst (λ (es : List Event).
           Takes (opening_world script) (schedule_of seed (node_count script)) es (opening_world script)
           (schedule_of seed (node_count script))) (sym none) (refl, refl));
+      run = subst (λ (es : List Event). IsRunOf script es (opening_world script)) (sym none) refl;
     }
 
 -- the event that the schedule chooses
@@ -172,35 +195,42 @@ IsUnderWay-more script seed taken more world new at next_at r e u chosen is s af
           (subst (λ (es : List Event). Takes first begins es s.1 (schedule_after at e)) (sym with_it)
           (Takes-more first begins taken u.now at e s.1 u.takes
           (chosen_now script seed taken world at r u chosen ∙ is) stepped));
+      run = subst (λ (es : List Event). IsRunOf script es s.1) (sym with_it)
+          (Runs-more first u.now s.1 taken e u.run
+          (next_now script seed taken world at r e u chosen is).enabled stepped);
     }
 
-pub weight_lowered : (world new : Option World) (e : Event) → StepsLowerWeights → IsStepped world e new
-    → weight_of new < weight_of world
-weight_lowered world new e lower s =
-    subst (λ (o : Option World). weight_of new < weight_of o) (sym s.2)
-    (subst (λ (o : Option World). weight_of o < weight s.0) (sym s.3) (lower s.0 s.1 e s.4))
+-- With one event more there are fewer left, since no run has more than 32 a call.
+pub fewer_left : (script : Script) (seed : ℕ) (taken more : List Event) (world : Option World) (at : Schedule)
+    (e : Event)
+    → RunsAreShort → IsSoundScript script → more ≡ taken ++ e ∷ [] → IsUnderWay script seed more world at
+    → events_left script more < events_left script taken
+fewer_left script seed taken more world at e short sound with_it u =
+    let within : length more ≤ 32 * calls_of script = short script sound more u.now u.run
+    in let longer : length more ≡ length taken + 1 = ap length with_it ∙ length-append taken (e ∷ [])
+    in omega (arith, within, longer)
 
 -- a run ends
 pub IsUnderWay-end : (script : Script) (seed : ℕ) (taken : List Event) (world : Option World) (at : Schedule)
     (r : Option Event)
-    → JournalsAreLegal → RestIsWhole → NoNameHasTwoOwners → RunsAreShort → SchedulesAreRuns → RestIsWhereNothingIsChosen
-    → IsRunnable script
+    → JournalsAreLegal → RestIsQuiet → NoneLivesAtRest → RestIsWhole → NamesHaveOneOwner → RunsAreShort
+    → RestIsWhereNothingIsChosen → IsSoundScript script
     → IsUnderWay script seed taken world at → IfSome world (λ w. r ≡ choice w at) → r ≡ None
     → IsRunTo script seed taken world
-IsUnderWay-end script seed taken world at r legal whole owned short runs rests runnable u chosen none =
+IsUnderWay-end script seed taken world at r legal quiet ended whole owned short rests sound u chosen none =
     let nothing : choice u.now at ≡ None = chosen_now script seed taken world at r u chosen ∙ none
-    in let follows = Takes-end (opening_world script)
-    (schedule_of seed (node_count script)) taken u.now at u.takes nothing
-    in let run : IsRunOf script taken u.now =
-    runs (opening_world script) u.now (schedule_of seed (node_count script)) taken follows
-    in let rest : IsAtRest u.now = rests script u.now at (taken, run) u.of_world nothing
-    in let ended : IsScheduledRun script seed taken u.now = record {
-      schedule = follows;
-      run = run;
+    in let rest : IsAtRest u.now = rests script u.now at (taken, u.run) u.of_world nothing
+    in let run : IsScheduledRun script seed taken u.now = record {
+      schedule = Takes-end (opening_world script)
+          (schedule_of seed (node_count script)) taken u.now at u.takes nothing;
+      run = u.run;
       rest = rest;
-      legal = (legal script u.now runnable (taken, run)).0;
-      whole = whole script u.now runnable (taken, run) rest;
-      owners = λ count w name front. owned script w name runnable (take count taken, front);
-      short = short script taken u.now runnable run;
+      quiet = quiet script u.now sound (taken, u.run) rest;
+      ended = λ k pid. ended script u.now k pid sound (taken, u.run) rest;
+      legal = (legal script u.now sound (taken, u.run)).0;
+      whole = whole script u.now sound (taken, u.run) rest;
+      legal_so_far = λ count w front. (legal script w sound (take count taken, front)).0;
+      owners = λ count w k name front. owned script w k name sound (take count taken, front);
+      short = short script sound taken u.now u.run;
     }
-    in subst (λ (o : Option World). IsRunTo script seed taken o) (sym u.is_now) ended
+    in subst (λ (o : Option World). IsRunTo script seed taken o) (sym u.is_now) run

@@ -6,7 +6,7 @@ use Rattle.host_iface.specs.Told.{followed_by}
 use Rattle.pico_base.specs.declared.reply.Entry.{Entry}
 use Rattle.script_reader.specs.declared.fault.ScriptFault.{ScriptFault}
 use Rattle.script_reader.specs.declared.fault.ScriptStop.TheVariants.{At}
-use Rattle.script_reader.specs.Fault.{ReadsRunnable, IsFirstFaultOfRunnable, name_of}
+use Rattle.script_reader.specs.Fault.{Reads, IsFirstFault, name_of}
 use Rattle.pico_cmd.specs.declared.status.Status.{Status}
 use Rattle.pico_cmd.specs.declared.status.Status.TheVariants as status
 use Rattle.script_writer.specs.Generated.{generated}
@@ -34,14 +34,14 @@ legal_text entries = codes "legal entries " ++ decimal entries ++ 10 ∷ []
 -- the bytes are a script, and the text is that of its run by the schedule that is asked for
 pub record IsTraceOf (options : Options) (bytes text : List ℕ) : Type 0 where
   pub script : Script
-  pub reads : ReadsRunnable bytes script
+  pub reads : Reads bytes script
   pub run : IsTextOfRun script options text
 
 -- the text names the first fault of the bytes
 pub record IsFaultOf (bytes text : List ℕ) : Type 0 where
   pub line : ℕ
   pub fault : ScriptFault
-  pub first : IsFirstFaultOfRunnable bytes line fault
+  pub first : IsFirstFault bytes line fault
   pub is_text : text ≡ fault_text line fault
 
 -- what goes with a status for these options and bytes
@@ -116,8 +116,8 @@ Allows (Some request) left s text = AnswersTold request left s text
 
 -- what makes `sim` end so
 abbrev pub CauseOfSim : List ℕ → Status → Type 0
-CauseOfSim bytes status.Done = (script : Script) × ReadsRunnable bytes script
-CauseOfSim bytes status.BadScript = (line : ℕ) × (fault : ScriptFault) × IsFirstFaultOfRunnable bytes line fault
+CauseOfSim bytes status.Done = (script : Script) × Reads bytes script
+CauseOfSim bytes status.BadScript = (line : ℕ) × (fault : ScriptFault) × IsFirstFault bytes line fault
 CauseOfSim bytes _ = ⊥
 
 -- the bytes begin with a script, and then have a trace that is legal

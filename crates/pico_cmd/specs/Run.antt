@@ -3,14 +3,17 @@ use Rattle.std.specs.Prelude.{◌≡◌, ◌≤◌, ℕ, ◌*◌, Bool, true, fa
 use Rattle.pico_base.specs.declared.numbers.Name.{Name}
 use Rattle.pico_base.specs.declared.script.Script.{Script}
 use Rattle.pico_base.specs.declared.script.Event.{Event}
-use Rattle.kernel_model.specs.History.{IsLegal}
+use Rattle.kernel_model.specs.Kernel.{Kernel, living_at, opening}
+use Rattle.kernel_model.specs.History.{IsLegal, Replays}
 use Rattle.kernel_model.specs.Fitting.{FitsWhole}
 use Rattle.kernel_model.specs.Trace.{totals_line, trace_text}
-use Rattle.machine_model.specs.World.{World, opening_world, node_count}
-use Rattle.machine_model.specs.Run.{IsRunOf, IsAtRest}
-use Rattle.machine_model.specs.Schedule.{Follows, schedule_of}
-use Rattle.machine_model.specs.Owners.{owners}
-use Rattle.machine_model.specs.Weights.{calls_of}
+use Rattle.kernel_moves.specs.Entering.{is_used_name}
+use Rattle.world_model.specs.World.{World, opening_world, node_count}
+use Rattle.world_model.specs.Run.{IsRunOf, IsAtRest}
+use Rattle.world_model.specs.Schedule.{Follows, schedule_of}
+use Rattle.world_model.specs.Census.{one_if, owners}
+use Rattle.world_rest.specs.Laws.{IsQuiet}
+use Rattle.world_weights.specs.Weights.{calls_of}
 use Rattle.trace_text.specs.Steps.{steps_text}
 use Rattle.pico_words.specs.declared.words.Options.{Options}
 
@@ -20,12 +23,19 @@ pub record IsScheduledRun (script : Script) (seed : ℕ) (events : List Event) (
   pub schedule : Follows (opening_world script) (schedule_of seed (node_count script)) events last
   pub run : IsRunOf script events last
   pub rest : IsAtRest last
+  -- at rest nothing is on its way, the leader holds nothing, each node but node 1 has left or was never born, and no
+  -- process lives
+  pub quiet : IsQuiet script last
+  pub ended : (k : Kernel) (pid : ℕ) → Replays opening last.journal k → living_at k pid ≡ None
   -- the journal is one history of a single POSIX kernel, and each process's calls stand in it once and in order, to
   -- the process's end
   pub legal : IsLegal last.journal
   pub whole : FitsWhole script last.journal
-  -- after any first events no name has two owners
-  pub owners : (count : ℕ) (w : World) (name : Name) → IsRunOf script (take count events) w → owners name w ≤ 1
+  -- after any first events the journal is legal, and with the kernel that it replays to, a name has one owner where
+  -- the kernel has used it, and none where it hasn't
+  pub legal_so_far : (count : ℕ) (w : World) → IsRunOf script (take count events) w → IsLegal w.journal
+  pub owners : (count : ℕ) (w : World) (k : Kernel) (name : Name) → IsRunOf script (take count events) w
+      → Replays opening w.journal k → owners name w ≡ one_if (is_used_name k name)
   -- there are at most 32 events for each call
   pub short : length events ≤ 32 * calls_of script
 

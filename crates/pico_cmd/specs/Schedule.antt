@@ -1,5 +1,5 @@
 -- The program's schedules.
-use Rattle.machine_model.specs.Schedule as machine
+use Rattle.world_model.specs.Schedule as machine
 use Rattle.pico_cmd.specs.declared.schedule.Schedule.{Schedule}
 use Rattle.pico_cmd.specs.declared.schedule.Schedule.TheVariants as schedules
 

@@ -1,10 +1,10 @@
 //! The answer to a script's bytes: a status, and the text that goes with it.
 ghost use Rattle.std.specs.Prelude.{◌≡◌, ◌⊎◌, ◌++◌, ℕ, IfOk, OnOk, IfSome, IsSome};
 ghost use Rattle.pico_base.specs.declared.script.Script.{Script as ScriptValue};
+ghost use Rattle.kernel_model.specs.Script.{IsSoundScript};
 ghost use Rattle.kernel_model.specs.Trace.{trace_text};
-ghost use Rattle.machine_model.specs.Built.{IsRunnable};
 ghost use Rattle.script_reader.specs.declared.fault.ScriptFault.{ScriptFault as FaultValue};
-ghost use Rattle.script_reader.specs.Fault.{ReadsRunnable, IsFirstFaultOfRunnable};
+ghost use Rattle.script_reader.specs.Fault.{Reads, IsFirstFault};
 ghost use Rattle.pico_cmd.specs.Run.{IsRunTo, IsTextOfRun, steps_if};
 ghost use Rattle.pico_cmd.specs.Promise.{Simulates, fault_text};
 
@@ -12,7 +12,7 @@ use crate::run::{Run, run_script};
 use crate::status::Status;
 use pico_base::{Bytes, Event, Memory, Script};
 use pico_words::Options;
-use script_reader::{ScriptFault, ScriptStop, read_runnable};
+use script_reader::{ScriptFault, ScriptStop, read_script};
 use std::alloc::Global;
 use trace_text::{push, push_byte, push_number, write_steps, write_trace};
 
@@ -65,7 +65,7 @@ fn text_of(alloc: Global, run: &Run, steps: bool) -> Result<Bytes, Memory>
 
 // The text of a script's run by the schedule that is asked for.
 fn text_of_run(alloc: Global, script: Script, options: Options) -> Result<Bytes, Memory>
-    requires { IsRunnable script }
+    requires { IsSoundScript script }
     ensures { IfOk result (IsTextOfRun script options) }
 {
     let run = run_script(alloc, script, options.seed)?;
@@ -77,12 +77,12 @@ fn text_of_run(alloc: Global, script: Script, options: Options) -> Result<Bytes,
 pub fn answer_to(alloc: Global, bytes: &[u8], options: Options) -> Result<Answer, Memory>
     ensures answer { IfOk result (λ answer. Simulates options bytes.now answer.status answer.text) }
     ensures status { IfOk result (λ answer. (answer.status ≡ Status.Done) ⊎ (answer.status ≡ Status.BadScript)) }
-    ensures done { (script : ScriptValue) → ReadsRunnable bytes.now script
+    ensures done { (script : ScriptValue) → Reads bytes.now script
         → IfOk result (λ answer. answer.status ≡ Status.Done) }
-    ensures fault { (line : ℕ) (fault : FaultValue) → IsFirstFaultOfRunnable bytes.now line fault
+    ensures fault { (line : ℕ) (fault : FaultValue) → IsFirstFault bytes.now line fault
         → IfOk result (λ answer. answer.status ≡ Status.BadScript) }
 {
-    match read_runnable(alloc, bytes) {
+    match read_script(alloc, bytes) {
         Ok(script) => Ok(Answer {
             status: Status::Done,
             text: text_of_run(alloc, script, options)?,

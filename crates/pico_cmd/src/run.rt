@@ -1,8 +1,7 @@
 //! The run of a script's picoprocesses by a schedule.
 ghost use Rattle.std.specs.Prelude.{◌≡◌, IfOk};
 ghost use Rattle.kernel_model.specs.Script.{IsSoundScript};
-ghost use Rattle.machine_model.specs.Built.{IsRunnable};
-ghost use Rattle.machine_model.specs.World.{node_count};
+ghost use Rattle.world_model.specs.World.{node_count};
 ghost use Rattle.pico_cmd.specs.Run.{IsRunTo};
 
 use crate::laws::laws;
@@ -28,7 +27,7 @@ fn nodes_of(script: &Script) -> Node
 
 /// Runs a script by the schedule of this number, to rest.
 pub fn run_script(alloc: Global, script: Script, seed: u32) -> Result<Run, Memory>
-    requires { IsRunnable script }
+    requires { IsSoundScript script }
     ensures { IfOk result (λ run. IsRunTo script seed run.events.items run.world) }
 {
     laws();

@@ -1,7 +1,7 @@
 //! Which of the enabled events comes next.
 ghost use Rattle.std.specs.Prelude.{◌≡◌, ◌%◌, length, slice_get, IfSome, IsSome};
-ghost use Rattle.machine_model.specs.Schedule as machine;
-ghost use Rattle.machine_model.specs.World.{size};
+ghost use Rattle.world_model.specs.Schedule as machine;
+ghost use Rattle.world_model.specs.World.{size};
 ghost use Rattle.world_core.specs.Laws.{IsWithin};
 ghost use Rattle.pico_cmd.specs.Schedule.{schedule_in};
 

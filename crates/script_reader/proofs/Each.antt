@@ -7,7 +7,7 @@ use Rattle.pico_base.specs.Signal.{at, put_at}
 use denote.Ref.{Bor}
 use Rattle.std.proofs.lemmas.List.{map_push, append-nil, drop_all}
 use Rattle.script_reader.specs.Words.{texts}
-use Rattle.script_reader.specs.Parts.{◌>>=◌, each, signal, signals_with}
+use Rattle.script_reader.specs.Parts.{each, signal, signals_with}
 
 -- one word more
 pub texts-push : (words : List (Bor (List ℕ))) (word : Bor (List ℕ))

@@ -1,8 +1,8 @@
 -- Each block but the first is forked once, by a line of an earlier block.
-use Rattle.std.proofs.Common.{◌≡◌, ℕ, zero, suc, ◌+◌, ◌<◌, ◌≤◌, Bool, true, false, ◌&&◌, ◌||◌, not, cond, eqb, ltb, leb, List, [], ◌∷◌, ◌++◌, map, length, set, get_or, Option, Some, None, refl, sym, ap, subst, ◌∙◌, append_assoc, eq-eqb, arith, get_or-set_other, get_or-set_same}
-use Rattle.std.specs.Prelude.{sum_by, count_by, nat_eq, replicate}
-use Rattle.std.specs.List.{list_all, list_any, flat_map, enumerate_from}
-use Rattle.std.proofs.lemmas.Bool.{and_from, le-leb, lt-ltb, leb-true, leb-false, ltb-false, eqb-false, eqb-true, ne_eqb}
+use Rattle.std.proofs.Common.{◌≡◌, ℕ, zero, suc, ◌+◌, ◌<◌, ◌≤◌, Bool, true, false, ◌&&◌, ◌||◌, not, cond, eqb, ltb, leb, List, [], ◌∷◌, ◌++◌, map, length, set, get_or, Option, Some, None, refl, sym, ap, subst, ◌∙◌, append_assoc, arith, get_or-set_other, get_or-set_same}
+use Rattle.std.specs.Prelude.{count_by, nat_eq, replicate}
+use Rattle.std.specs.List.{list_all, flat_map, enumerate_from}
+use Rattle.std.proofs.lemmas.Bool.{and_from, le-leb, lt-ltb, leb-true, leb-false, eqb-false, eqb-true}
 use Rattle.std.proofs.lemmas.List.{length-append, length-set, length-replicate, append-nil, map-append}
 use Rattle.std.proofs.lemmas.List.Sums.{sum_by-append}
 use Rattle.std.proofs.lemmas.Grind.{flat_map-append}
@@ -17,7 +17,7 @@ use Rattle.script_reader.specs.Fault as spec
 use Rattle.script_reader.specs.Fault.{start, no_flags}
 use Rattle.script_reader.proofs.Saying.{IsFine}
 use Rattle.script_reader.proofs.Steps.{IsFaultless}
-use Rattle.script_reader.proofs.Opened.{neither, not_both, not_false, inside_of, number_here, not_true as no_true}
+use Rattle.script_reader.proofs.Opened.{not_both, inside_of, number_here, not_true as no_true}
 use Rattle.script_reader.proofs.Tidy.{IsTidy, all_push}
 
 -- ---- the forks of the lines so far
@@ -177,11 +177,11 @@ opens_forked place number k false e low high is before f =
     ∙ either_way (spec.is_at place.forked number) (length place.blocks) k f low last
 
 -- each line without a fault keeps what stands of forks
-pub forked_step : (runnable : Bool) (names : List (List ℕ)) (place : Place) (size : ℕ) (o : Option (List ℕ))
-    (said : Said) → length names ≤ 32 → IsTidy runnable place → AreForked (length names) place → IsFine names o said
-    → IsFaultless runnable place size said → AreForked (length names) (spec.behind place said)
-forked_step runnable names place size o (Opens name number) small t h fine f =
-    let here = number_here runnable place size name number f in
+pub forked_step : (names : List (List ℕ)) (place : Place) (size : ℕ) (o : Option (List ℕ))
+    (said : Said) → length names ≤ 32 → IsTidy place → AreForked (length names) place → IsFine names o said
+    → IsFaultless place size said → AreForked (length names) (spec.behind place said)
+forked_step names place size o (Opens name number) small t h fine f =
+    let here = number_here place size name number f in
     let none : place.lines ≡ [] = t.outside here.0 in
     record {
       forward = ap (λ (ls : List Line). list_all (goes_to (length names)) (forks_so_far place.blocks ls)) (sym none)
@@ -191,8 +191,8 @@ forked_step runnable names place size o (Opens name number) small t h fine f =
       forked = λ k low high.
           opens_forked place number k (leb k (length place.blocks)) refl low high here.1 (h.forked k) f.forked;
     }
-forked_step runnable names place size o Skipped small t h fine f = h
-forked_step runnable names place size o Ends small t h fine f =
+forked_step names place size o Skipped small t h fine f = h
+forked_step names place size o Ends small t h fine f =
     let same = end_forks place.blocks place.name place.lines in
     let within = inside_of place Ends f.no_proc refl in
     let count : length (place.blocks ++ record { name = place.name; lines = place.lines } ∷ [])
@@ -204,8 +204,8 @@ forked_step runnable names place size o Ends small t h fine f =
       room = h.room;
       forked = λ k low high. h.forked k low (omega (arith, high, count, ap {B = ℕ} (λ (b : Bool). cond b 1 0) within));
     }
-forked_step runnable names place size o (Forks set None) small t h fine f = h
-forked_step runnable names place size o (Forks set (Some n)) small t h fine f =
+forked_step names place size o (Forks set None) small t h fine f = h
+forked_step names place size o (Forks set (Some n)) small t h fine f =
     let line : Line = spec.fork_line set n in
     let node : fork_targets line.call ≡ n ∷ [] =
     ap (λ (m : ℕ). m ∷ []) (node_is n fine.1.0 (omega (arith, fine.1.1, small))) in
@@ -213,7 +213,7 @@ forked_step runnable names place size o (Forks set (Some n)) small t h fine f =
     (spec.with_begun place.begun n (spec.known_with place.known set)) h node
     (leb-false n (length place.blocks + 1) f.forward) fine.1.1 f.once in
     record { forward = g.forward; count = g.count; room = g.room; forked = g.forked }
-forked_step runnable names place size o (Calls line) small t h fine f =
+forked_step names place size o (Calls line) small t h fine f =
     let same = call_forks place.blocks place.lines line fine.1 in
     record {
       forward = ap (list_all (goes_to (length names))) same ∙ h.forward;
@@ -221,9 +221,9 @@ forked_step runnable names place size o (Calls line) small t h fine f =
       room = h.room;
       forked = h.forked;
     }
-forked_step runnable names place size o BadProc small t h fine f = absurd (no_true f.good)
-forked_step runnable names place size o Bad small t h fine f = absurd (no_true f.good)
-forked_step runnable names place size o Unknown small t h fine f =
+forked_step names place size o BadProc small t h fine f = absurd (no_true f.good)
+forked_step names place size o Bad small t h fine f = absurd (no_true f.good)
+forked_step names place size o Unknown small t h fine f =
     absurd (no_true (sym (inside_of place Unknown f.no_proc refl) ∙ not_both place.inside true f.known_call refl))
 
 no_flag_of : (n k : ℕ) → get_or (replicate n false) k false ≡ false

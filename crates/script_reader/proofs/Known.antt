@@ -1,9 +1,7 @@
 -- Variables that lines use are known there.
-use Rattle.std.proofs.Common.{◌≡◌, ℕ, zero, suc, ◌+◌, ◌<◌, ◌≤◌, Bool, true, false, ◌&&◌, ◌||◌, not, cond, eqb, leb, List, [], ◌∷◌, ◌++◌, map, length, get_or, set, Option, Some, None, refl, sym, ap, subst, ◌∙◌, append_assoc, arith, get_or-set_other}
+use Rattle.std.proofs.Common.{◌≡◌, ℕ, zero, suc, ◌+◌, ◌≤◌, Bool, true, false, ◌&&◌, ◌||◌, eqb, List, [], ◌∷◌, ◌++◌, map, length, get_or, set, Option, Some, None, refl, sym, ap, subst, ◌∙◌, append_assoc, arith, get_or-set_other}
 use Rattle.std.specs.Prelude.{nat_eq, replicate}
 use Rattle.std.specs.List.{list_any}
-use Rattle.std.specs.Map.{lookup}
-use Rattle.std.specs.Option.{unwrap_or}
 use Rattle.std.proofs.lemmas.Bool.{eqb-true, eqb-false, eq-eqb, ne_eqb, le-leb}
 use Rattle.std.proofs.lemmas.List.{append-nil}
 use Rattle.pico_base.specs.declared.script.Block.{Block}
@@ -12,14 +10,9 @@ use Rattle.kernel_model.specs.Script as model
 use Rattle.kernel_model.specs.Script.{fork_targets}
 use Rattle.script_reader.specs.declared.place.Begun.{Begun}
 use Rattle.script_reader.specs.declared.place.Place.{Place}
-use Rattle.script_reader.specs.declared.says.Said.{Said}
-use Rattle.script_reader.specs.declared.says.Said.TheVariants.{Skipped, Opens, BadProc, Ends, Unknown, Bad, Forks, Calls}
 use Rattle.script_reader.specs.Fault as spec
 use Rattle.script_reader.specs.Fault.{start, no_flags, begun_with}
-use Rattle.script_reader.proofs.Saying.{IsFine}
-use Rattle.script_reader.proofs.Steps.{IsFaultless}
-use Rattle.script_reader.proofs.Opened.{neither, not_both, not_false, inside_of, number_here, not_true as no_true}
-use Rattle.script_reader.proofs.Tidy.{IsTidy}
+use Rattle.script_reader.proofs.Opened.{not_false, not_true as no_true}
 
 -- ---- the variables that are known behind lines
 

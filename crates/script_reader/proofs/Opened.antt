@@ -1,17 +1,17 @@
 -- The names of the blocks that are read are the names of the text.
-use Rattle.std.proofs.Common.{◌≡◌, ℕ, ◌+◌, ◌<◌, ◌≤◌, Bool, true, false, ◌&&◌, ◌||◌, not, cond, eqb, ltb, leb, List, [], ◌∷◌, ◌++◌, map, length, Option, Some, None, refl, sym, ap, subst, ◌∙◌, append_assoc, arith}
-use Rattle.std.specs.Prelude.{fold, bytes_eq}
+use Rattle.std.proofs.Common.{◌≡◌, ℕ, ◌+◌, ◌<◌, ◌≤◌, Bool, true, false, ◌&&◌, ◌||◌, not, cond, eqb, List, [], ◌∷◌, ◌++◌, map, length, Option, Some, None, refl, sym, ap, subst, ◌∙◌, arith}
+use Rattle.std.specs.Prelude.{bytes_eq}
 use Rattle.std.specs.List.{list_any}
-use Rattle.std.proofs.lemmas.Bool.{and_parts, eqb-true, ltb-false, not-true}
+use Rattle.std.proofs.lemmas.Bool.{eqb-true, ltb-false}
 use Rattle.std.proofs.lemmas.List.{length-append, map_push, append-nil, length-map}
-use Rattle.std.proofs.lemmas.Option.{same_Some, none-some}
+use Rattle.std.proofs.lemmas.Option.{same_Some}
 use Rattle.std.proofs.lemmas.Slice.Eq.{bytes_eq-Decides}
 use Rattle.pico_base.specs.declared.script.Block.{Block}
 use Rattle.pico_base.specs.declared.script.Line.{Line}
 use Rattle.script_reader.specs.declared.place.Place.{Place}
 use Rattle.script_reader.specs.declared.says.Said.{Said}
 use Rattle.script_reader.specs.declared.says.Said.TheVariants.{Skipped, Opens, BadProc, Ends, Unknown, Bad, Forks, Calls}
-use Rattle.script_reader.specs.Says.{with_name, with_opening, opening_at, number_of, proc_from}
+use Rattle.script_reader.specs.Says.{with_name, with_opening, number_of, proc_from}
 use Rattle.script_reader.specs.Fault as spec
 use Rattle.script_reader.proofs.Saying.{IsFine}
 use Rattle.script_reader.proofs.Steps.{IsFaultless}
@@ -149,10 +149,10 @@ same_number : (n k : ℕ) → not (eqb n k) ≡ false → n ≡ k
 same_number n k e = eqb-true n k (not_false (eqb n k) e)
 
 -- a block that opens without a fault has the next number, at most 32
-pub number_here : (runnable : Bool) (place : Place) (size : ℕ) (name : List ℕ) (number : ℕ)
-    → IsFaultless runnable place size (Opens name number) → (place.inside ≡ false) × (number ≡ length place.blocks + 1)
+pub number_here : (place : Place) (size : ℕ) (name : List ℕ) (number : ℕ)
+    → IsFaultless place size (Opens name number) → (place.inside ≡ false) × (number ≡ length place.blocks + 1)
     × (number ≤ 32)
-number_here runnable place size name number f =
+number_here place size name number f =
     let out : place.inside ≡ false = not_both place.inside true f.no_end refl in
     let n : number ≡ length place.blocks + 1 =
     same_number number (length place.blocks + 1)
@@ -160,36 +160,36 @@ number_here runnable place size name number f =
     (out, n, omega (arith, n, ltb-false 32 (length place.blocks + 1) f.few_procs))
 
 -- each line without a fault keeps the names of the blocks those of the text so far
-pub names_step : (runnable : Bool) (names so_far : List (List ℕ)) (place : Place) (size : ℕ) (o : Option (List ℕ))
+pub names_step : (names so_far : List (List ℕ)) (place : Place) (size : ℕ) (o : Option (List ℕ))
     (said : Said) → AreOpened names so_far place → IsFine names o said
-    → ((x : List ℕ) → o ≡ Some x → said ≡ proc_from (number_of names x) x) → IsFaultless runnable place size said
+    → ((x : List ℕ) → o ≡ Some x → said ≡ proc_from (number_of names x) x) → IsFaultless place size said
     → AreOpened names (with_opening so_far o) (spec.behind place said)
-names_step runnable names so_far place size o (Opens name number) h fine from f =
-    let here = number_here runnable place size name number f in
+names_step names so_far place size o (Opens name number) h fine from f =
+    let here = number_here place size name number f in
     subst (λ (p : Option (List ℕ)). AreOpened names (with_opening so_far p) (spec.opened place name number))
     (sym fine.2) (opened_names names so_far place name number h here.0 here.1 fine.1 here.2)
-names_step runnable names so_far place size o Skipped h fine from f =
+names_step names so_far place size o Skipped h fine from f =
     subst (λ ns. AreOpened names ns place)
     (sym (same_names names so_far o (no_opening names o Skipped from skipped_differs))) h
-names_step runnable names so_far place size o Ends h fine from f =
+names_step names so_far place size o Ends h fine from f =
     subst (λ ns. AreOpened names ns (spec.behind place Ends))
     (sym (same_names names so_far o (no_opening names o Ends from ends_differs)))
     (ended_names names so_far place (spec.calls_of place Ends) h (inside_of place Ends f.no_proc refl))
-names_step runnable names so_far place size o (Forks set None) h fine from f =
+names_step names so_far place size o (Forks set None) h fine from f =
     subst (λ ns. AreOpened names ns place)
     (sym (same_names names so_far o (no_opening names o (Forks set None) from (forks_differs set None)))) h
-names_step runnable names so_far place size o (Forks set (Some number)) h fine from f =
+names_step names so_far place size o (Forks set (Some number)) h fine from f =
     subst (λ ns. AreOpened names ns (spec.forking place set number))
     (sym (same_names names so_far o
     (no_opening names o (Forks set (Some number)) from (forks_differs set (Some number)))))
     (record { opened = h.opened; numbered = h.numbered; few = h.few })
-names_step runnable names so_far place size o (Calls line) h fine from f =
+names_step names so_far place size o (Calls line) h fine from f =
     subst (λ ns. AreOpened names ns (spec.calling place line))
     (sym (same_names names so_far o (no_opening names o (Calls line) from (calls_differs line))))
     (record { opened = h.opened; numbered = h.numbered; few = h.few })
-names_step runnable names so_far place size o BadProc h fine from f = absurd (not_true f.good)
-names_step runnable names so_far place size o Bad h fine from f = absurd (not_true f.good)
-names_step runnable names so_far place size o Unknown h fine from f =
+names_step names so_far place size o BadProc h fine from f = absurd (not_true f.good)
+names_step names so_far place size o Bad h fine from f = absurd (not_true f.good)
+names_step names so_far place size o Unknown h fine from f =
     let out : place.inside ≡ false = not_both place.inside true f.known_call refl in
     let within : place.inside ≡ true = inside_of place Unknown f.no_proc refl in
     absurd (let wrong : false ≡ true = sym out ∙ within in cc)

@@ -1,15 +1,8 @@
 -- What is read of words is within its range.
-use Rattle.std.proofs.Common.{◌≡◌, ◌⊎◌, inl, inr, ℕ, zero, suc, ◌+◌, ◌-◌, ◌*◌, ◌^◌, ◌<◌, ◌≤◌, ℤ, pos, negsuc, Bool, true, false, ◌&&◌, ◌||◌, not, cond, eqb, ltb, leb, List, [], ◌∷◌, ◌++◌, length, take, drop, Option, Some, None, refl, sym, ap, subst, ◌∙◌, arith}
-use Rattle.std.specs.Prelude.{int_le, IfSome, option_map, option_and_then, bytes_eq, codes, is_some, nat_lt, nat_le, nat_eq, position, replicate, sum_by}
-use Rattle.std.specs.List.{list_all, find}
-use Rattle.std.specs.Option.{option_map_or}
-use Rattle.std.proofs.lemmas.Bool.{and_parts, and_from, leb-true, le-leb, ltb-true, lt-ltb, eqb-true, eqb-false, ne_eqb}
-use Rattle.std.proofs.lemmas.Option.{same_Some, none-some}
-use Rattle.pico_base.specs.declared.call.Call.{Call}
-use Rattle.pico_base.specs.declared.call.Call.TheVariants as calls
-use Rattle.pico_base.specs.declared.call.SemStep.{SemStep}
+use Rattle.std.proofs.Common.{◌≡◌, ℕ, ◌+◌, ◌-◌, ◌*◌, ◌^◌, ◌<◌, ◌≤◌, ℤ, pos, negsuc, Bool, true, false, ◌&&◌, cond, eqb, leb, List, [], ◌∷◌, Option, Some, None, refl, arith}
+use Rattle.std.specs.Prelude.{IfSome, option_map, codes, is_some}
+use Rattle.std.proofs.lemmas.Bool.{and_parts, and_from, leb-true, le-leb, eqb-false}
 use Rattle.kernel_model.specs.Script as model
-use Rattle.kernel_model.specs.Numbers.{is_u16, is_u32, is_positive_u32}
 use Rattle.script_reader.specs.Parts as parts
 use Rattle.script_reader.specs.Parts.{◌>>=◌, digits, number, positive, signed, variable, each, step, added, cut}
 use Rattle.script_reader.specs.Forms.{Object, FromCall, identifier, process, child, Child}

@@ -1,9 +1,9 @@
 -- What a line says is within its ranges.
-use Rattle.std.proofs.Common.{◌≡◌, ℕ, suc, ◌+◌, ◌<◌, ◌≤◌, Bool, true, false, ◌&&◌, ◌||◌, not, cond, eqb, ltb, leb, List, [], ◌∷◌, ◌++◌, length, Option, Some, None, refl, sym, ap, ◌∙◌, arith}
-use Rattle.std.specs.Prelude.{IfSome, option_map, codes, bytes_eq, is_some, position}
+use Rattle.std.proofs.Common.{◌≡◌, ℕ, ◌+◌, ◌<◌, ◌≤◌, Bool, true, false, ◌&&◌, ◌||◌, not, cond, eqb, ltb, leb, List, [], ◌∷◌, length, Option, Some, None, refl, ◌∙◌, arith}
+use Rattle.std.specs.Prelude.{IfSome, option_map, codes, bytes_eq, is_some}
 use Rattle.std.specs.List.{position_or_len}
 use Rattle.std.specs.Option.{unwrap_or}
-use Rattle.std.proofs.lemmas.Bool.{and_from, and_parts, le-leb, ltb-true}
+use Rattle.std.proofs.lemmas.Bool.{and_from, le-leb, ltb-true}
 use Rattle.std.proofs.lemmas.Option.{same_Some, none-some}
 use Rattle.std.proofs.lemmas.Slice.Eq.{bytes_eq-Decides}
 use Rattle.pico_base.specs.declared.call.Call.{Call}
@@ -13,7 +13,7 @@ use Rattle.kernel_model.specs.Script as model
 use Rattle.script_reader.specs.declared.verb.Verb.{Verb}
 use Rattle.script_reader.specs.declared.verb.Verb.TheVariants as verbs
 use Rattle.script_reader.specs.declared.says.Said.{Said}
-use Rattle.script_reader.specs.declared.says.Said.TheVariants.{Skipped, Opens, BadProc, Ends, Unknown, Bad, Forks, Calls}
+use Rattle.script_reader.specs.declared.says.Said.TheVariants.{Skipped, Opens, BadProc, Bad, Forks, Calls}
 use Rattle.script_reader.specs.Words.{words_of}
 use Rattle.script_reader.specs.Parts.{positive, variable}
 use Rattle.script_reader.specs.Forms.{FromCall, verb_of, call_of}
@@ -21,7 +21,7 @@ use Rattle.script_reader.specs.Says as says
 use Rattle.script_reader.specs.Says.{Front, number_of, said_of}
 use Rattle.script_reader.proofs.Ranges.{if_map, positive_small, variable_small}
 use Rattle.script_reader.proofs.Widths.{width, line_width}
-use Rattle.script_reader.proofs.CallRanges.{Fits, IsOther, IsExit, NamesOther, exits_fit, others_fit, between_from}
+use Rattle.script_reader.proofs.CallRanges.{Fits, IsOther, IsExit, exits_fit, others_fit, between_from}
 
 abbrev pub IsForkOf : List (List ℕ) → Option ℕ → Type 0
 IsForkOf names None = Unit {0}

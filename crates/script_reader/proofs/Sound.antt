@@ -1,17 +1,16 @@
--- A script that is read is sound, and where a call without a rule is a fault, the machine can run it.
-use Rattle.std.proofs.Common.{◌≡◌, ℕ, suc, ◌+◌, ◌<◌, ◌≤◌, Bool, true, false, ◌&&◌, ◌||◌, not, cond, eqb, ltb, leb, List, [], ◌∷◌, ◌++◌, map, length, Option, Some, None, Result, Ok, Err, eq-eqb, refl, sym, ap, subst, ◌∙◌, arith}
+-- A script that is read is sound.
+use Rattle.std.proofs.Common.{◌≡◌, ℕ, ◌+◌, ◌<◌, ◌≤◌, Bool, true, false, ◌||◌, not, cond, eqb, ltb, leb, List, [], ◌∷◌, ◌++◌, length, Option, Some, None, Result, Ok, Err, eq-eqb, refl, sym, ap, subst, ◌∙◌, arith}
 use Rattle.std.specs.Prelude.{nat_eq, count_by, sum_by, fold, IfOk}
 use Rattle.std.specs.List.{list_all, list_any, enumerate_from}
 use Rattle.std.specs.Str.Lossy.{utf8_valid_len}
-use Rattle.std.proofs.lemmas.Bool.{and_parts, and_from, le-leb, eqb-true, eqb-false, ltb-false, leb-false}
+use Rattle.std.proofs.lemmas.Bool.{and_parts, and_from, le-leb, eqb-true, eqb-false, ltb-false}
 use Rattle.std.proofs.lemmas.List.{length-map, append-nil}
-use Rattle.std.proofs.lemmas.Option.{same_Some, none-some}
+use Rattle.std.proofs.lemmas.Option.{same_Some}
 use Rattle.pico_base.specs.declared.script.Block.{Block}
 use Rattle.pico_base.specs.declared.script.Line.{Line}
 use Rattle.pico_base.specs.declared.script.Script.{Script}
 use Rattle.kernel_model.specs.Script as model
 use Rattle.kernel_model.specs.Script.{IsSoundScript, Fork}
-use Rattle.machine_model.specs.Built.{is_built_block, IsRunnable}
 use Rattle.script_reader.specs.declared.fault.ScriptFault.{ScriptFault}
 use Rattle.script_reader.specs.declared.fault.ScriptFault.TheVariants.{ScriptTooLong, NotUtf8, NoProc, NoEnd}
 use Rattle.script_reader.specs.declared.fault.ScriptStop.{ScriptStop}
@@ -20,11 +19,11 @@ use Rattle.script_reader.specs.declared.place.Place.{Place}
 use Rattle.script_reader.specs.declared.says.Said.{Said}
 use Rattle.script_reader.specs.declared.says.Said.TheVariants.{Skipped, Opens, BadProc, Ends, Unknown, Bad, Forks, Calls}
 use Rattle.script_reader.specs.Words.{lines_of}
-use Rattle.script_reader.specs.Says.{names_of, number_of, with_opening, opening_at, said_of, proc_from}
+use Rattle.script_reader.specs.Says.{names_of, number_of, with_opening, opening_at, said_of}
 use Rattle.script_reader.specs.Fault as spec
 use Rattle.script_reader.specs.Fault.{start, fault_of, blocks_from, blocks_of, outcome, Blocks}
 use Rattle.script_reader.proofs.Saying.{IsFine, said_fine, opening_said}
-use Rattle.script_reader.proofs.Steps.{IsFaultless, faultless, blocks_from-goes, blocks_from-stops}
+use Rattle.script_reader.proofs.Steps.{IsFaultless, faultless}
 use Rattle.script_reader.proofs.Opened.{AreOpened, AreNumbered, block_names, names_step, inside_of, number_here, not_both, not_true as no_true}
 use Rattle.script_reader.proofs.Tidy.{IsTidy, tidy_step}
 use Rattle.script_reader.proofs.Forked.{AreForked, forked_step, forks_from, forks_so_far, goes_to, is_to, node_is, no_targets, first_forks}
@@ -32,29 +31,29 @@ use Rattle.script_reader.proofs.Known.{AreKnown, known_open, known_end, known_ca
 
 -- ---- one line
 
-known_step : (runnable : Bool) (names : List (List ℕ)) (place : Place) (size : ℕ) (o : Option (List ℕ)) (said : Said)
-    → length names ≤ 32 → IsTidy runnable place → AreKnown place → IsFine names o said
-    → IsFaultless runnable place size said → AreKnown (spec.behind place said)
-known_step runnable names place size o (Opens name number) small t h fine f =
-    let here = number_here runnable place size name number f in
+known_step : (names : List (List ℕ)) (place : Place) (size : ℕ) (o : Option (List ℕ)) (said : Said)
+    → length names ≤ 32 → IsTidy place → AreKnown place → IsFine names o said
+    → IsFaultless place size said → AreKnown (spec.behind place said)
+known_step names place size o (Opens name number) small t h fine f =
+    let here = number_here place size name number f in
     known_open place name number h (t.outside here.0) here.1
-known_step runnable names place size o Skipped small t h fine f = h
-known_step runnable names place size o Ends small t h fine f = known_end place (spec.calls_of place Ends) h
-known_step runnable names place size o (Forks set None) small t h fine f = h
-known_step runnable names place size o (Forks set (Some n)) small t h fine f =
+known_step names place size o Skipped small t h fine f = h
+known_step names place size o Ends small t h fine f = known_end place (spec.calls_of place Ends) h
+known_step names place size o (Forks set None) small t h fine f = h
+known_step names place size o (Forks set (Some n)) small t h fine f =
     let high : n ≤ 32 = omega (arith, fine.1.1, small) in
     known_fork place set n h (inside_of place (Forks set (Some n)) f.no_proc refl) high (node_is n fine.1.0 high)
-known_step runnable names place size o (Calls line) small t h fine f =
+known_step names place size o (Calls line) small t h fine f =
     known_call place line h (inside_of place (Calls line) f.no_proc refl) (no_targets line fine.1) f.set
-known_step runnable names place size o BadProc small t h fine f = absurd (no_true f.good)
-known_step runnable names place size o Bad small t h fine f = absurd (no_true f.good)
-known_step runnable names place size o Unknown small t h fine f =
+known_step names place size o BadProc small t h fine f = absurd (no_true f.good)
+known_step names place size o Bad small t h fine f = absurd (no_true f.good)
+known_step names place size o Unknown small t h fine f =
     absurd (no_true (sym (inside_of place Unknown f.no_proc refl) ∙ not_both place.inside true f.known_call refl))
 
 -- ---- all lines
 
-pub record Stands (runnable : Bool) (names : List (List ℕ)) (place : Place) : Type 0 where
-  pub tidy : IsTidy runnable place
+pub record Stands (names : List (List ℕ)) (place : Place) : Type 0 where
+  pub tidy : IsTidy place
   pub forked : AreForked (length names) place
   pub known : AreKnown place
 
@@ -127,9 +126,6 @@ all_forked script k (b ∷ blocks) low h =
     (forked_at script k 0 (nat_eq k 1) refl low (λ l. h k l (omega arith)))
     (all_forked script (k + 1) blocks (omega arith) (λ j l m. h j l (omega (arith, m))))
 
-abbrev pub IsReady : Bool → List Block → Type 0
-IsReady runnable blocks = IsSoundScript (script_of blocks) × (runnable ≡ true → IsRunnable (script_of blocks))
-
 forward_of : (blocks : List Block) (lines : List Line) (total : ℕ) → lines ≡ [] → total ≡ length blocks
     → list_all (goes_to total) (forks_so_far blocks lines) ≡ true
     → list_all (model.goes_forward (script_of blocks)) (forks_from 1 blocks) ≡ true
@@ -152,10 +148,10 @@ once_of blocks lines k none h =
 some_of : (n : ℕ) → (n ≡ 0 → ⊥) → 1 ≤ n
 some_of n h = omega (arith, h)
 
-finish : (runnable : Bool) (names : List (List ℕ)) (place : Place) → AreOpened names names place
-    → (length names ≤ 32 → Stands runnable names place) → place.inside ≡ false → eqb (length place.blocks) 0 ≡ false
-    → IsReady runnable place.blocks
-finish runnable names place o stands out some =
+finish : (names : List (List ℕ)) (place : Place) → AreOpened names names place
+    → (length names ≤ 32 → Stands names place) → place.inside ≡ false → eqb (length place.blocks) 0 ≡ false
+    → IsSoundScript (script_of place.blocks)
+finish names place o stands out some =
     let are : names ≡ block_names place.blocks =
     o.opened ∙ ap (λ (b : Bool). block_names place.blocks ++ cond b (place.name ∷ []) []) out
     ∙ append-nil (block_names place.blocks) in
@@ -169,7 +165,6 @@ finish runnable names place o stands out some =
     let closed : cond {A = ℕ} place.inside 1 0 ≡ 0 = ap {B = ℕ} (λ (b : Bool). cond b 1 0) out in
     let blocks_some : 1 ≤ length place.blocks =
     some_of (length place.blocks) (eqb-false (length place.blocks) 0 some) in
-    let sound : IsSoundScript (script_of place.blocks) =
     record {
       size = and_from (leb 1 (length place.blocks)) (leb (length place.blocks) 32)
           (le-leb 1 (length place.blocks) blocks_some) (le-leb (length place.blocks) 32 (omega (arith, count, o.few)));
@@ -180,24 +175,23 @@ finish runnable names place o stands out some =
           (λ j l m. once_of place.blocks place.lines j none
           (f.count j ∙ ap {B = ℕ} (λ (b : Bool). cond b 1 0) (f.forked j l (omega (arith, m, closed)))));
       lines = t.blocks_lines;
-      at_once = t.blocks_prompt;
+      at_once = t.blocks_never_wait;
       exits = t.blocks_end;
       variables = s.known.uses_blocks;
       calls = le-leb (sum_by model.calls_in place.blocks) 20000 (omega (arith, t.few, t.counted));
-    } in
-    (sound, λ r. record { sound = sound; built = t.blocks_built r })
+    }
 
 -- ---- from the first line to the last
 
-stands_step : (runnable : Bool) (names : List (List ℕ)) (place : Place) (size : ℕ) (o : Option (List ℕ)) (said : Said)
-    → IsFine names o said → IsFaultless runnable place size said → (length names ≤ 32 → Stands runnable names place)
-    → length names ≤ 32 → Stands runnable names (spec.behind place said)
-stands_step runnable names place size o said fine f stands small =
+stands_step : (names : List (List ℕ)) (place : Place) (size : ℕ) (o : Option (List ℕ)) (said : Said)
+    → IsFine names o said → IsFaultless place size said → (length names ≤ 32 → Stands names place)
+    → length names ≤ 32 → Stands names (spec.behind place said)
+stands_step names place size o said fine f stands small =
     let s = stands small in
     record {
-      tidy = tidy_step runnable names place size o said s.tidy fine f;
-      forked = forked_step runnable names place size o said small s.tidy s.forked fine f;
-      known = known_step runnable names place size o said small s.tidy s.known fine f;
+      tidy = tidy_step names place size o said s.tidy fine f;
+      forked = forked_step names place size o said small s.tidy s.forked fine f;
+      known = known_step names place size o said small s.tidy s.known fine f;
     }
 
 stopped : (fault : Option ScriptFault) (number : ℕ) (others : Blocks) (blocks : List Block)
@@ -205,30 +199,30 @@ stopped : (fault : Option ScriptFault) (number : ℕ) (others : Blocks) (blocks 
 stopped None number others blocks e = (refl, e)
 stopped (Some fault) number others blocks e = absurd (no_blocks (number, fault) blocks e)
 
-pub ready_from : (runnable : Bool) (names so_far : List (List ℕ)) (place : Place) (number : ℕ) (lines : List (List ℕ))
-    (blocks : List Block) → AreOpened names so_far place → (length names ≤ 32 → Stands runnable names place)
+pub sound_from : (names so_far : List (List ℕ)) (place : Place) (number : ℕ) (lines : List (List ℕ))
+    (blocks : List Block) → AreOpened names so_far place → (length names ≤ 32 → Stands names place)
     → fold (λ names line. with_opening names (opening_at line)) so_far lines ≡ names
-    → blocks_from runnable names place number lines ≡ Ok blocks → IsReady runnable blocks
+    → blocks_from names place number lines ≡ Ok blocks → IsSoundScript (script_of blocks)
 unfolding blocks_from
-ready_from runnable names so_far place number [] blocks o stands all e =
+sound_from names so_far place number [] blocks o stands all e =
     let end = ending_ok place.inside (eqb (length place.blocks) 0) number place.blocks blocks e in
-    subst (IsReady runnable) end.2
-    (finish runnable names place
+    subst (λ (bs : List Block). IsSoundScript (script_of bs)) end.2
+    (finish names place
     (subst (λ (ns : List (List ℕ)). AreOpened names ns place) all o) stands end.0 end.1)
-ready_from runnable names so_far place number (line ∷ lines) blocks o stands all e =
+sound_from names so_far place number (line ∷ lines) blocks o stands all e =
     let said : Said = said_of names line in
-    let s = stopped (fault_of runnable place (length line) said) number
-    (blocks_from runnable names (spec.behind place said) (number + 1) lines) blocks e in
-    let f = faultless runnable place (length line) said s.0 in
+    let s = stopped (fault_of place (length line) said) number
+    (blocks_from names (spec.behind place said) (number + 1) lines) blocks e in
+    let f = faultless place (length line) said s.0 in
     let fine = said_fine names line (ltb-false 4096 (length line) f.short) in
-    ready_from runnable names (with_opening so_far (opening_at line)) (spec.behind place said) (number + 1) lines blocks
-    (names_step runnable names so_far place (length line) (opening_at line) said o fine (opening_said names line) f)
-    (stands_step runnable names place (length line) (opening_at line) said fine f stands) all s.1
+    sound_from names (with_opening so_far (opening_at line)) (spec.behind place said) (number + 1) lines blocks
+    (names_step names so_far place (length line) (opening_at line) said o fine (opening_said names line) f)
+    (stands_step names place (length line) (opening_at line) said fine f stands) all s.1
 
-first_place : (runnable : Bool) (names : List (List ℕ)) → AreOpened names [] (start (length names))
-    × Stands runnable names (start (length names))
+first_place : (names : List (List ℕ)) → AreOpened names [] (start (length names))
+    × Stands names (start (length names))
 unfolding start
-first_place runnable names = (
+first_place names = (
   record { opened = refl; numbered = tt; few = omega arith },
   record {
     tidy =
@@ -238,36 +232,34 @@ first_place runnable names = (
           outside = λ _. refl;
           blocks_lines = refl;
           lines = refl;
-          blocks_prompt = refl;
-          prompt = refl;
+          blocks_never_wait = refl;
+          lines_never_wait = refl;
           blocks_end = refl;
           end = refl;
           going = λ _. refl;
           gone = λ e. absurd (no_true (sym e));
           counted = refl;
           few = omega arith;
-          blocks_built = λ _. refl;
-          built = λ _. refl;
         };
     forked = first_forks (length names);
     known = first_place_known (length names);
   },
 )
 
-pub ready : (runnable : Bool) (lines : List (List ℕ)) (blocks : List Block) → blocks_of runnable lines ≡ Ok blocks
-    → IsReady runnable blocks
+pub sound_blocks : (lines : List (List ℕ)) (blocks : List Block) → blocks_of lines ≡ Ok blocks
+    → IsSoundScript (script_of blocks)
 unfolding blocks_of
-ready runnable lines blocks e =
-    let first = first_place runnable (names_of lines) in
-    ready_from runnable (names_of lines) [] (start (length (names_of lines))) 1 lines blocks first.0
+sound_blocks lines blocks e =
+    let first = first_place (names_of lines) in
+    sound_from (names_of lines) [] (start (length (names_of lines))) 1 lines blocks first.0
     (λ _. first.1) refl e
 
-read_of : (runnable : Bool) (blocks : Blocks) (script : Script)
-    → (((bs : List Block) → blocks ≡ Ok bs → IsReady runnable bs)) → spec.script_from blocks ≡ Ok script
-    → IsSoundScript script × (runnable ≡ true → IsRunnable script)
-read_of runnable (Ok bs) script h e = let same : script_of bs ≡ script =
-    cc in subst (λ (s : Script). IsSoundScript s × (runnable ≡ true → IsRunnable s)) same (h bs refl)
-read_of runnable (Err fault) script h e = absurd cc
+read_of : (blocks : Blocks) (script : Script)
+    → ((bs : List Block) → blocks ≡ Ok bs → IsSoundScript (script_of bs)) → spec.script_from blocks ≡ Ok script
+    → IsSoundScript script
+read_of (Ok bs) script h e = let same : script_of bs ≡ script =
+    cc in subst IsSoundScript same (h bs refl)
+read_of (Err fault) script h e = absurd cc
 
 not_first_cond : (b : Bool) (x y : Result Script ScriptStop) (script : Script) → ((s : Script) → x ≡ Ok s → ⊥)
     → cond b x y ≡ Ok script → y ≡ Ok script
@@ -277,27 +269,21 @@ not_first_cond false x y script h e = e
 no_script : (stop : ScriptStop) (s : Script) → (let r : Result Script ScriptStop = Err stop in r ≡ Ok s) → ⊥
 no_script stop s e = cc
 
--- what reads as a script is ready
-pub reads_ready : (runnable : Bool) (bytes : List ℕ) (script : Script) → outcome runnable bytes ≡ Ok script
-    → IsSoundScript script × (runnable ≡ true → IsRunnable script)
+-- what reads as a script is sound
+pub reads_sound : (bytes : List ℕ) (script : Script) → outcome bytes ≡ Ok script
+    → IsSoundScript script
 unfolding outcome
-reads_ready runnable bytes script e =
+reads_sound bytes script e =
     let long : ScriptStop = At (spec.line_behind spec.max_bytes bytes) ScriptTooLong in
     let bad : ScriptStop = At (spec.line_behind (utf8_valid_len bytes) bytes) NotUtf8 in
-    let whole : Result Script ScriptStop = spec.script_from (blocks_of runnable (lines_of bytes)) in
+    let whole : Result Script ScriptStop = spec.script_from (blocks_of (lines_of bytes)) in
     let a = not_first_cond (ltb spec.max_bytes (length bytes)) (Err long)
     (cond (ltb (utf8_valid_len bytes) (length bytes)) (Err bad) whole) script (no_script long) e in
     let b = not_first_cond (ltb (utf8_valid_len bytes) (length bytes)) (Err bad) whole script (no_script bad) a in
-    read_of runnable (blocks_of runnable (lines_of bytes)) script (λ bs is. ready runnable (lines_of bytes) bs is) b
+    read_of (blocks_of (lines_of bytes)) script (λ bs is. sound_blocks (lines_of bytes) bs is) b
 
 -- a script that is given is sound
-pub given_sound : (runnable : Bool) (bytes : List ℕ) (r : Result Script ScriptStop)
-    → spec.Gives r (outcome runnable bytes) → IfOk r IsSoundScript
-given_sound runnable bytes (Ok script) h = (reads_ready runnable bytes script h).0
-given_sound runnable bytes (Err stop) h = tt
-
--- one that is given as runnable is so
-pub given_runnable : (bytes : List ℕ) (r : Result Script ScriptStop) → spec.Gives r (outcome true bytes)
-    → IfOk r IsRunnable
-given_runnable bytes (Ok script) h = (reads_ready true bytes script h).1 refl
-given_runnable bytes (Err stop) h = tt
+pub given_sound : (bytes : List ℕ) (r : Result Script ScriptStop)
+    → spec.Gives r (outcome bytes) → IfOk r IsSoundScript
+given_sound bytes (Ok script) h = reads_sound bytes script h
+given_sound bytes (Err stop) h = tt

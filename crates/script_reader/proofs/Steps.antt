@@ -1,13 +1,12 @@
 -- A line without a fault, and what it leaves.
-use Rattle.std.proofs.Common.{◌≡◌, ℕ, ◌+◌, ◌≤◌, Bool, true, false, not, ◌&&◌, ◌||◌, cond, ltb, leb, List, [], ◌∷◌, ◌++◌, length, Option, Some, None, Result, Ok, Err, refl, sym, ap, ◌∙◌, arith}
-use Rattle.std.specs.Prelude.{nat_lt}
+use Rattle.std.proofs.Common.{◌≡◌, ℕ, ◌+◌, ◌≤◌, Bool, true, false, not, ◌&&◌, ◌||◌, cond, ltb, List, [], ◌∷◌, length, Option, Some, None, Result, Err, refl, sym, ap, arith}
 use Rattle.std.proofs.lemmas.Bool.{ltb-false}
 use Rattle.std.proofs.lemmas.List.{length-append}
 use Rattle.std.proofs.lemmas.Option.{none-some}
 use Rattle.pico_base.specs.declared.script.Block.{Block}
 use Rattle.script_reader.specs.declared.fault.ScriptFault.{ScriptFault}
 use Rattle.script_reader.specs.declared.fault.ScriptStop.{ScriptStop}
-use Rattle.script_reader.specs.declared.fault.ScriptStop.TheVariants.{Memory, At}
+use Rattle.script_reader.specs.declared.fault.ScriptStop.TheVariants.{At}
 use Rattle.script_reader.specs.declared.place.Place.{Place}
 use Rattle.script_reader.specs.declared.says.Said.{Said}
 use Rattle.script_reader.specs.declared.says.Said.TheVariants.{Skipped, Opens, BadProc, Ends, Unknown, Bad, Forks, Calls}
@@ -17,7 +16,7 @@ use Rattle.script_reader.specs.Fault.{start, has_fault, fault_of, blocks_from, B
 
 -- ---- what no fault says
 
-pub record IsFaultless (runnable : Bool) (place : Place) (size : ℕ) (said : Said) : Type 0 where
+pub record IsFaultless (place : Place) (size : ℕ) (said : Said) : Type 0 where
   pub short : ltb 4096 size ≡ false
   pub no_proc : (not place.inside && not (spec.is_proc said || spec.is_skipped said)) ≡ false
   pub no_end : (place.inside && spec.is_proc said) ≡ false
@@ -31,17 +30,16 @@ pub record IsFaultless (runnable : Bool) (place : Place) (size : ℕ) (said : Sa
   pub few_procs : spec.is_proc_too_many place said ≡ false
   pub few_calls : ltb 20000 (place.calls + spec.calls_of place said) ≡ false
   pub at_once : spec.waits said ≡ false
-  pub built : (runnable && spec.has_no_rule place said) ≡ false
 
 after_none : (b : Bool) (x : ScriptFault) (o : Option ScriptFault) → cond b (Some x) o ≡ None → (b ≡ false) × (o ≡ None)
 after_none true x o e = absurd (none-some x (sym e))
 after_none false x o e = (refl, e)
 
 -- without a fault none of the conditions holds
-pub faultless : (runnable : Bool) (place : Place) (size : ℕ) (said : Said) → fault_of runnable place size said ≡ None
-    → IsFaultless runnable place size said
+pub faultless : (place : Place) (size : ℕ) (said : Said) → fault_of place size said ≡ None
+    → IsFaultless place size said
 unfolding fault_of has_fault
-faultless runnable place size said e =
+faultless place size said e =
     let a = after_none _ _ _ e in
     let b = after_none _ _ _ a.1 in
     let c = after_none _ _ _ b.1 in
@@ -55,7 +53,6 @@ faultless runnable place size said e =
     let l = after_none _ _ _ k.1 in
     let m = after_none _ _ _ l.1 in
     let n = after_none _ _ _ m.1 in
-    let q = after_none _ _ _ n.1 in
     record {
       short = a.0;
       no_proc = b.0;
@@ -70,7 +67,6 @@ faultless runnable place size said e =
       few_procs = l.0;
       few_calls = m.0;
       at_once = n.0;
-      built = q.0;
     }
 
 -- ---- what a line adds
@@ -101,13 +97,13 @@ behind_blocks place (Forks set (Some number)) = omega arith
 behind_blocks place (Calls line) = omega arith
 
 -- the calls stay within 20,000
-pub calls_within : (runnable : Bool) (place : Place) (size : ℕ) (said : Said) → fault_of runnable place size said ≡ None
+pub calls_within : (place : Place) (size : ℕ) (said : Said) → fault_of place size said ≡ None
     → (spec.behind place said).calls ≤ 20000
-calls_within runnable place size said e =
+calls_within place size said e =
     omega (
       arith,
       behind_calls place said,
-      ltb-false 20000 (place.calls + spec.calls_of place said) (faultless runnable place size said e).few_calls,
+      ltb-false 20000 (place.calls + spec.calls_of place said) (faultless place size said e).few_calls,
     )
 
 -- before the first line there is no block and no call
@@ -118,29 +114,29 @@ start_place names place e = (ap (λ (p : Place). length p.blocks) e, ap (λ (p :
 -- ---- one line of a text
 
 -- a line with a fault is the answer
-pub blocks_from-stops : (runnable : Bool) (names : List (List ℕ)) (place : Place) (number : ℕ) (line : List ℕ)
+pub blocks_from-stops : (names : List (List ℕ)) (place : Place) (number : ℕ) (line : List ℕ)
     (lines : List (List ℕ)) (said : Said) (fault : ScriptFault) → said ≡ said_of names line
-    → fault_of runnable place (length line) said ≡ Some fault
-    → blocks_from runnable names place number (line ∷ lines) ≡ Err (number, fault)
+    → fault_of place (length line) said ≡ Some fault
+    → blocks_from names place number (line ∷ lines) ≡ Err (number, fault)
 unfolding blocks_from
-blocks_from-stops runnable names place number line lines said fault is e =
+blocks_from-stops names place number line lines said fault is e =
     rw (← is, e) refl
 
 -- a line without one leaves the answer to the rest
-pub blocks_from-goes : (runnable : Bool) (names : List (List ℕ)) (place : Place) (number : ℕ) (line : List ℕ)
+pub blocks_from-goes : (names : List (List ℕ)) (place : Place) (number : ℕ) (line : List ℕ)
     (lines : List (List ℕ)) (said : Said) → said ≡ said_of names line
-    → fault_of runnable place (length line) said ≡ None
-    → blocks_from runnable names place number (line ∷ lines)
-    ≡ blocks_from runnable names (spec.behind place said) (number + 1) lines
+    → fault_of place (length line) said ≡ None
+    → blocks_from names place number (line ∷ lines)
+    ≡ blocks_from names (spec.behind place said) (number + 1) lines
 unfolding blocks_from
-blocks_from-goes runnable names place number line lines said is e =
+blocks_from-goes names place number line lines said is e =
     rw (← is, e) refl
 
 -- where no line is left
-pub blocks_from-ends : (runnable : Bool) (names : List (List ℕ)) (place : Place) (number : ℕ) (lines : List (List ℕ))
-    → lines ≡ [] → blocks_from runnable names place number lines ≡ spec.ending place number
+pub blocks_from-ends : (names : List (List ℕ)) (place : Place) (number : ℕ) (lines : List (List ℕ))
+    → lines ≡ [] → blocks_from names place number lines ≡ spec.ending place number
 unfolding blocks_from
-blocks_from-ends runnable names place number lines e = rw e refl
+blocks_from-ends names place number lines e = rw e refl
 
 pub fails_at : (stop : ScriptStop) (number : ℕ) (fault : ScriptFault) (total : Blocks) → stop ≡ At number fault
     → total ≡ Err (number, fault) → Fails stop total

@@ -1,16 +1,14 @@
 -- Each line that is read stands rightly in its block, and the calls are counted.
-use Rattle.std.proofs.Common.{◌≡◌, ℕ, ◌+◌, ◌<◌, ◌≤◌, Bool, true, false, ◌&&◌, ◌||◌, not, cond, eqb, ltb, leb, List, [], ◌∷◌, ◌++◌, length, Option, Some, None, refl, sym, ap, subst, ◌∙◌, arith}
-use Rattle.std.specs.Prelude.{sum_by, nat_eq, is_some}
-use Rattle.std.specs.List.{list_all, enumerate_from}
+use Rattle.std.proofs.Common.{◌≡◌, ℕ, ◌+◌, ◌≤◌, Bool, true, false, ◌&&◌, ◌||◌, not, cond, List, [], ◌∷◌, ◌++◌, Option, Some, None, refl, sym, ap, ◌∙◌, arith}
+use Rattle.std.specs.Prelude.{sum_by}
+use Rattle.std.specs.List.{list_all}
 use Rattle.std.proofs.lemmas.Bool.{ltb-false, and_parts, not-true}
-use Rattle.std.proofs.lemmas.List.{length-append}
 use Rattle.std.proofs.lemmas.List.Folds.{list_all-append}
 use Rattle.std.proofs.lemmas.List.Sums.{sum_by-append}
 use Rattle.pico_base.specs.declared.script.Block.{Block}
 use Rattle.pico_base.specs.declared.script.Line.{Line}
 use Rattle.kernel_model.specs.Script as model
 use Rattle.kernel_model.specs.Waiting.{is_waiting}
-use Rattle.machine_model.specs.Built.{is_built_line, is_built_block}
 use Rattle.script_reader.specs.declared.place.Place.{Place}
 use Rattle.script_reader.specs.declared.says.Said.{Said}
 use Rattle.script_reader.specs.declared.says.Said.TheVariants.{Skipped, Opens, BadProc, Ends, Unknown, Bad, Forks, Calls}
@@ -33,8 +31,8 @@ and_true false = refl
 abbrev pub is_going : Line → Bool
 is_going line = not (model.is_exit line.call)
 
-abbrev pub is_prompt : Line → Bool
-is_prompt line = not (is_waiting line.call)
+abbrev pub never_waits : Line → Bool
+never_waits line = not (is_waiting line.call)
 
 ends_push : (lines : List Line) (line : Line) → list_all is_going lines ≡ true
     → model.ends_rightly (lines ++ line ∷ []) ≡ true
@@ -68,50 +66,36 @@ tries_push : (lines : List Line) (line : Line)
     → sum_by tries_of (lines ++ line ∷ []) ≡ sum_by tries_of lines + line.tries
 tries_push lines line = sum_by-append tries_of lines (line ∷ []) ∙ omega arith
 
-built_push : (k n : ℕ) (blocks : List Block) (block : Block) → k + length blocks ≡ n
-    → list_all is_built_block (enumerate_from k blocks) ≡ true → list_all (is_built_line n) block.lines ≡ true
-    → list_all is_built_block (enumerate_from k (blocks ++ block ∷ [])) ≡ true
-built_push k n [] block e h b =
-    let same : n ≡ k = omega (arith, e) in
-    let there : list_all (is_built_line k) block.lines ≡ true =
-    subst (λ (m : ℕ). list_all (is_built_line m) block.lines ≡ true) same b in
-    rw there refl
-built_push k n (x ∷ blocks) block e h b =
-    let p = and_parts (is_built_block (k, x)) (list_all is_built_block (enumerate_from (k + 1) blocks)) h in
-    rw (p.0, built_push (k + 1) n blocks block (omega (arith, e)) p.1 b) refl
-
 -- ---- what stands
 
-pub record IsTidy (runnable : Bool) (place : Place) : Type 0 where
+pub record IsTidy (place : Place) : Type 0 where
   pub names : list_all (λ (b : Block). model.is_name b.name) place.blocks ≡ true
   pub name : place.inside ≡ true → model.is_name place.name ≡ true
   pub outside : place.inside ≡ false → place.lines ≡ []
   pub blocks_lines : list_all (λ (b : Block). list_all model.is_line b.lines) place.blocks ≡ true
   pub lines : list_all model.is_line place.lines ≡ true
-  pub blocks_prompt : list_all (λ (b : Block). list_all is_prompt b.lines) place.blocks ≡ true
-  pub prompt : list_all is_prompt place.lines ≡ true
+  pub blocks_never_wait : list_all (λ (b : Block). list_all never_waits b.lines) place.blocks ≡ true
+  pub lines_never_wait : list_all never_waits place.lines ≡ true
   pub blocks_end : list_all (λ (b : Block). model.ends_rightly b.lines) place.blocks ≡ true
   pub end : model.ends_rightly place.lines ≡ true
   pub going : place.over ≡ false → list_all is_going place.lines ≡ true
   pub gone : place.over ≡ true → model.with_exit place.lines ≡ place.lines
   pub counted : place.calls ≡ sum_by model.calls_in place.blocks + sum_by tries_of place.lines
   pub few : place.calls ≤ 20000
-  pub blocks_built : runnable ≡ true → list_all is_built_block (enumerate_from 1 place.blocks) ≡ true
-  pub built : runnable ≡ true → list_all (is_built_line (length place.blocks + 1)) place.lines ≡ true
 
-tidy_open : (runnable : Bool) (place : Place) (size : ℕ) (name : List ℕ) (number : ℕ) → IsTidy runnable place
-    → model.is_name name ≡ true → IsFaultless runnable place size (Opens name number)
-    → IsTidy runnable (spec.opened place name number)
-tidy_open runnable place size name number h good f =
-    let here = number_here runnable place size name number f in
+tidy_open : (place : Place) (size : ℕ) (name : List ℕ) (number : ℕ) → IsTidy place
+    → model.is_name name ≡ true → IsFaultless place size (Opens name number)
+    → IsTidy (spec.opened place name number)
+tidy_open place size name number h good f =
+    let here = number_here place size name number f in
     record {
       names = h.names;
       name = λ _. good;
       outside = λ e. absurd (no_true e);
       blocks_lines = h.blocks_lines;
       lines = refl;
-      blocks_prompt = h.blocks_prompt;
-      prompt = refl;
+      blocks_never_wait = h.blocks_never_wait;
+      lines_never_wait = refl;
       blocks_end = h.blocks_end;
       end = refl;
       going = λ _. refl;
@@ -119,8 +103,6 @@ tidy_open runnable place size name number h good f =
       counted = h.counted ∙ ap (λ (ls : List Line). sum_by model.calls_in place.blocks + sum_by tries_of ls)
           (h.outside here.0);
       few = h.few;
-      blocks_built = h.blocks_built;
-      built = λ _. refl;
     }
 
 implied_count : (over : Bool) (lines : List Line) → (over ≡ false → list_all is_going lines ≡ true)
@@ -129,9 +111,9 @@ implied_count : (over : Bool) (lines : List Line) → (over ≡ false → list_a
 implied_count true lines f g = ap (sum_by tries_of) (g refl) ∙ omega arith
 implied_count false lines f g = ap (sum_by tries_of) (exit_implied lines (f refl)) ∙ tries_push lines model.implied_exit
 
-tidy_end : (runnable : Bool) (place : Place) (size : ℕ) → IsTidy runnable place → IsFaultless runnable place size Ends
-    → IsTidy runnable (spec.behind place Ends)
-tidy_end runnable place size h f =
+tidy_end : (place : Place) (size : ℕ) → IsTidy place → IsFaultless place size Ends
+    → IsTidy (spec.behind place Ends)
+tidy_end place size h f =
     let block : Block = record { name = place.name; lines = place.lines } in
     let within = inside_of place Ends f.no_proc refl in
     let one : sum_by model.calls_in (block ∷ []) ≡ model.calls_in block = omega arith in
@@ -140,63 +122,55 @@ tidy_end runnable place size h f =
     let all : sum_by model.calls_in (place.blocks ++ block ∷ [])
     ≡ sum_by model.calls_in place.blocks + sum_by model.calls_in (block ∷ []) =
     sum_by-append model.calls_in place.blocks (block ∷ []) in
-    let same : 1 + length place.blocks ≡ length place.blocks + 1 = omega arith in
     record {
       names = all_push (λ (b : Block). model.is_name b.name) place.blocks block h.names (h.name within);
       name = λ e. absurd (no_true (sym e));
       outside = λ _. refl;
       blocks_lines = all_push (λ (b : Block). list_all model.is_line b.lines) place.blocks block h.blocks_lines h.lines;
       lines = refl;
-      blocks_prompt = all_push (λ (b : Block). list_all is_prompt b.lines) place.blocks block h.blocks_prompt h.prompt;
-      prompt = refl;
+      blocks_never_wait = all_push (λ (b : Block). list_all never_waits b.lines) place.blocks block
+          h.blocks_never_wait h.lines_never_wait;
+      lines_never_wait = refl;
       blocks_end = all_push (λ (b : Block). model.ends_rightly b.lines) place.blocks block h.blocks_end h.end;
       end = refl;
       going = λ _. refl;
       gone = λ e. absurd (no_true (sym e));
       counted = omega (arith, h.counted, all, one, count);
       few = ltb-false 20000 (place.calls + spec.calls_of place Ends) f.few_calls;
-      blocks_built = λ r. built_push 1 (length place.blocks + 1) place.blocks block same (h.blocks_built r) (h.built r);
-      built = λ _. refl;
     }
 
 -- one more line of the open block
-tidy_line : (runnable : Bool) (place : Place) (line : Line) (known : List Bool) → IsTidy runnable place
-    → place.over ≡ false → model.is_line line ≡ true → is_prompt line ≡ true
-    → (runnable ≡ true → is_built_line (length place.blocks + 1) line ≡ true) → place.inside ≡ true
+tidy_line : (place : Place) (line : Line) (known : List Bool) → IsTidy place
+    → place.over ≡ false → model.is_line line ≡ true → never_waits line ≡ true
+    → place.inside ≡ true
     → place.calls + line.tries ≤ 20000
-    → IsTidy runnable (record place {
+    → IsTidy (record place {
       lines = place.lines ++ line ∷ [];
       over = model.is_exit line.call;
       known =
           known;
       calls = place.calls + line.tries;
     })
-tidy_line runnable place line known h going is prompt built within few =
+tidy_line place line known h going is at_once within few =
     record {
       names = h.names;
       name = h.name;
       outside = λ e. absurd (no_true (sym within ∙ e));
       blocks_lines = h.blocks_lines;
       lines = all_push model.is_line place.lines line h.lines is;
-      blocks_prompt = h.blocks_prompt;
-      prompt = all_push is_prompt place.lines line h.prompt prompt;
+      blocks_never_wait = h.blocks_never_wait;
+      lines_never_wait = all_push never_waits place.lines line h.lines_never_wait at_once;
       blocks_end = h.blocks_end;
       end = ends_push place.lines line (h.going going);
       going = λ e. all_push is_going place.lines line (h.going going) (ap not e);
       gone = λ e. exit_push place.lines line (h.going going) e;
       counted = omega (arith, h.counted, tries_push place.lines line);
       few = few;
-      blocks_built = h.blocks_built;
-      built = λ r. all_push (is_built_line (length place.blocks + 1)) place.lines line (h.built r) (built r);
     }
 
-built_from : (runnable b : Bool) → (runnable && not b) ≡ false → runnable ≡ true → b ≡ true
-built_from runnable true e r = refl
-built_from runnable false e r = absurd (no_true (sym r ∙ not_both runnable true e refl))
-
-going_of : (runnable : Bool) (place : Place) (size : ℕ) (said : Said) → IsFaultless runnable place size said
+going_of : (place : Place) (size : ℕ) (said : Said) → IsFaultless place size said
     → spec.is_call said ≡ true → place.over ≡ false
-going_of runnable place size said f is =
+going_of place size said f is =
     not_both place.over (spec.is_call said)
     (neither (spec.repeats place said) (place.over && spec.is_call said)
     (neither (spec.is_bad said) (spec.repeats place said || (place.over && spec.is_call said)) f.good).1).1 is
@@ -207,19 +181,18 @@ fork_is_line None number h = refl
 fork_is_line (Some v) number h = rw h refl
 
 -- each line without a fault keeps what stands of lines and calls
-pub tidy_step : (runnable : Bool) (names : List (List ℕ)) (place : Place) (size : ℕ) (o : Option (List ℕ)) (said : Said)
-    → IsTidy runnable place → IsFine names o said → IsFaultless runnable place size said
-    → IsTidy runnable (spec.behind place said)
-tidy_step runnable names place size o (Opens name number) h fine f =
-    tidy_open runnable place size name number h fine.0 f
-tidy_step runnable names place size o Skipped h fine f = h
-tidy_step runnable names place size o Ends h fine f = tidy_end runnable place size h f
-tidy_step runnable names place size o (Forks set None) h fine f = h
-tidy_step runnable names place size o (Forks set (Some number)) h fine f =
+pub tidy_step : (names : List (List ℕ)) (place : Place) (size : ℕ) (o : Option (List ℕ)) (said : Said)
+    → IsTidy place → IsFine names o said → IsFaultless place size said
+    → IsTidy (spec.behind place said)
+tidy_step names place size o (Opens name number) h fine f =
+    tidy_open place size name number h fine.0 f
+tidy_step names place size o Skipped h fine f = h
+tidy_step names place size o Ends h fine f = tidy_end place size h f
+tidy_step names place size o (Forks set None) h fine f = h
+tidy_step names place size o (Forks set (Some number)) h fine f =
     let line : Line = spec.fork_line set number in
-    let t = tidy_line runnable place line (spec.known_with place.known set) h
-    (going_of runnable place size (Forks set (Some number)) f refl) (fork_is_line set number fine.0) refl
-    (built_from runnable (is_built_line (length place.blocks + 1) line) f.built)
+    let t = tidy_line place line (spec.known_with place.known set) h
+    (going_of place size (Forks set (Some number)) f refl) (fork_is_line set number fine.0) refl
     (inside_of place (Forks set (Some number)) f.no_proc refl) (ltb-false 20000 (place.calls + 1) f.few_calls) in
     record {
       names = t.names;
@@ -227,23 +200,20 @@ tidy_step runnable names place size o (Forks set (Some number)) h fine f =
       outside = t.outside;
       blocks_lines = t.blocks_lines;
       lines = t.lines;
-      blocks_prompt = t.blocks_prompt;
-      prompt = t.prompt;
+      blocks_never_wait = t.blocks_never_wait;
+      lines_never_wait = t.lines_never_wait;
       blocks_end = t.blocks_end;
       end = t.end;
       going = λ _. t.going refl;
-      gone = λ e. absurd (no_true (sym e ∙ going_of runnable place size (Forks set (Some number)) f refl));
+      gone = λ e. absurd (no_true (sym e ∙ going_of place size (Forks set (Some number)) f refl));
       counted = t.counted;
       few = t.few;
-      blocks_built = t.blocks_built;
-      built = t.built;
     }
-tidy_step runnable names place size o (Calls line) h fine f =
-    tidy_line runnable place line (spec.known_with place.known line.set) h
-    (going_of runnable place size (Calls line) f refl) fine.0 (ap not f.at_once)
-    (built_from runnable (is_built_line (length place.blocks + 1) line) f.built)
+tidy_step names place size o (Calls line) h fine f =
+    tidy_line place line (spec.known_with place.known line.set) h
+    (going_of place size (Calls line) f refl) fine.0 (ap not f.at_once)
     (inside_of place (Calls line) f.no_proc refl) (ltb-false 20000 (place.calls + line.tries) f.few_calls)
-tidy_step runnable names place size o BadProc h fine f = absurd (no_true f.good)
-tidy_step runnable names place size o Bad h fine f = absurd (no_true f.good)
-tidy_step runnable names place size o Unknown h fine f =
+tidy_step names place size o BadProc h fine f = absurd (no_true f.good)
+tidy_step names place size o Bad h fine f = absurd (no_true f.good)
+tidy_step names place size o Unknown h fine f =
     absurd (no_true (sym (inside_of place Unknown f.no_proc refl) ∙ not_both place.inside true f.known_call refl))

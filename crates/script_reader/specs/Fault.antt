@@ -1,18 +1,15 @@
 -- What a text is the script of, and what its first fault is.
-use Rattle.std.specs.Prelude.{◌≡◌, ℕ, ◌+◌, ◌==◌, nat_lt, nat_le, Bool, true, false, not, ◌&&◌, ◌||◌, List, [], ◌∷◌, ◌++◌, length, take, slice_index_or, slice_set, replicate, count_by, codes, if◌then◌else◌, Option, Some, None, is_some, option_map, Result, Ok, Err}
+use Rattle.std.specs.Prelude.{◌≡◌, ℕ, ◌+◌, ◌==◌, nat_lt, nat_le, Bool, true, false, not, ◌&&◌, ◌||◌, List, [], ◌∷◌, ◌++◌, length, take, slice_index_or, slice_set, replicate, count_by, codes, if◌then◌else◌, Option, Some, None, Result, Ok, Err}
 use Rattle.std.specs.List.{find}
-use Rattle.std.specs.Option.{unwrap_or, option_map_or}
 use Rattle.std.specs.Str.Lossy.{utf8_valid_len}
-use Rattle.pico_base.specs.declared.call.Call.{Call}
 use Rattle.pico_base.specs.declared.call.Call.TheVariants as calls
 use Rattle.pico_base.specs.declared.script.Line.{Line}
 use Rattle.pico_base.specs.declared.script.Block.{Block}
 use Rattle.pico_base.specs.declared.script.Script.{Script}
 use Rattle.kernel_model.specs.Script.{is_exit}
 use Rattle.kernel_model.specs.Waiting.{is_waiting}
-use Rattle.machine_model.specs.Built.{is_built_line}
 use Rattle.script_reader.specs.declared.fault.ScriptFault.{ScriptFault}
-use Rattle.script_reader.specs.declared.fault.ScriptFault.TheVariants.{ScriptTooLong, NotUtf8, LineTooLong, NoProc, NoEnd, UnknownCall, BadArgument, UnsetVariable, UnknownProc, ForkedTwice, NeverForked, ForkBackwards, TooManyProcs, TooManyCalls, WaitingForm, NotBuilt}
+use Rattle.script_reader.specs.declared.fault.ScriptFault.TheVariants.{ScriptTooLong, NotUtf8, LineTooLong, NoProc, NoEnd, UnknownCall, BadArgument, UnsetVariable, UnknownProc, ForkedTwice, NeverForked, ForkBackwards, TooManyProcs, TooManyCalls, WaitingForm}
 use Rattle.script_reader.specs.declared.fault.ScriptStop.{ScriptStop}
 use Rattle.script_reader.specs.declared.fault.ScriptStop.TheVariants.{Memory, At}
 use Rattle.script_reader.specs.declared.place.Begun.{Begun}
@@ -204,12 +201,6 @@ abbrev pub waits : Said → Bool
 waits (Calls line) = is_waiting line.call
 waits said = false
 
--- a call that the machine has no rule for
-abbrev pub has_no_rule : Place → Said → Bool
-has_no_rule place (Forks set (Some number)) = not (is_built_line (number_at place) (fork_line set number))
-has_no_rule place (Calls line) = not (is_built_line (number_at place) line)
-has_no_rule place said = false
-
 -- whether a line of this length, which says this in its place, has the fault
 unfoldable pub has_fault : Place → ℕ → Said → ScriptFault → Bool
 has_fault place size said ScriptTooLong = false
@@ -227,23 +218,17 @@ has_fault place size said ForkBackwards = forks_back place said
 has_fault place size said TooManyProcs = is_proc_too_many place said
 has_fault place size said TooManyCalls = nat_lt 20000 (place.calls + calls_of place said)
 has_fault place size said WaitingForm = waits said
-has_fault place size said NotBuilt = has_no_rule place said
 
--- The faults that a line may have, in the order in which they are told. The last one is told where only scripts are
--- wanted that the machine can run
+-- the faults that a line may have, in the order in which they are told
 abbrev pub line_faults : List ScriptFault
 line_faults =
     LineTooLong ∷ NoProc ∷ NoEnd ∷ UnknownCall ∷ BadArgument ∷ UnsetVariable ∷ UnknownProc ∷ ForkedTwice
-    ∷ NeverForked ∷ ForkBackwards ∷ TooManyProcs ∷ TooManyCalls ∷ WaitingForm ∷ NotBuilt ∷ []
-
-abbrev pub is_asked : Bool → ScriptFault → Bool
-is_asked runnable NotBuilt = runnable
-is_asked runnable fault = true
+    ∷ NeverForked ∷ ForkBackwards ∷ TooManyProcs ∷ TooManyCalls ∷ WaitingForm ∷ []
 
 -- the fault of a line in its place
-unfoldable pub fault_of : Bool → Place → ℕ → Said → Option ScriptFault
-fault_of runnable place size said =
-    find (λ fault. is_asked runnable fault && has_fault place size said fault) line_faults
+unfoldable pub fault_of : Place → ℕ → Said → Option ScriptFault
+fault_of place size said =
+    find (λ fault. has_fault place size said fault) line_faults
 
 -- ---- the first fault of a text
 
@@ -263,15 +248,15 @@ unless (Some fault) number others = Err (number, fault)
 unless None number others = others
 
 -- the blocks of these lines, the first of which has this number, or the first fault with its line
-unfoldable pub blocks_from : Bool → List (List ℕ) → Place → ℕ → List (List ℕ) → Blocks
-blocks_from runnable names place number [] = ending place number
-blocks_from runnable names place number (line ∷ lines) =
+unfoldable pub blocks_from : List (List ℕ) → Place → ℕ → List (List ℕ) → Blocks
+blocks_from names place number [] = ending place number
+blocks_from names place number (line ∷ lines) =
     let said : Said = said_of names line in
-    unless (fault_of runnable place (length line) said) number
-    (blocks_from runnable names (behind place said) (number + 1) lines)
+    unless (fault_of place (length line) said) number
+    (blocks_from names (behind place said) (number + 1) lines)
 
-unfoldable pub blocks_of : Bool → List (List ℕ) → Blocks
-blocks_of runnable lines = blocks_from runnable (names_of lines) (start (length (names_of lines))) 1 lines
+unfoldable pub blocks_of : List (List ℕ) → Blocks
+blocks_of lines = blocks_from (names_of lines) (start (length (names_of lines))) 1 lines
 
 -- the line of the byte behind so many
 abbrev pub line_behind : ℕ → List ℕ → ℕ
@@ -287,31 +272,24 @@ script_from (Err fault) = Err (At fault.0 fault.1)
 -- The script that the bytes are the text of, or the first fault with its line. Two faults come before all others: more
 -- than 1,048,576 bytes, at the line of the first byte too many, and bytes that aren't UTF-8, at the line of the first
 -- one that isn't part of a character.
-unfoldable pub outcome : Bool → List ℕ → Result Script ScriptStop
-outcome runnable bytes =
+unfoldable pub outcome : List ℕ → Result Script ScriptStop
+outcome bytes =
     if nat_lt max_bytes (length bytes)
     then Err (At (line_behind max_bytes bytes) ScriptTooLong)
     else
     if nat_lt (utf8_valid_len bytes) (length bytes)
     then Err (At (line_behind (utf8_valid_len bytes) bytes) NotUtf8)
-    else script_from (blocks_of runnable (lines_of bytes))
+    else script_from (blocks_of (lines_of bytes))
 
 -- ---- what the answers say
 
 -- the bytes are the text of this script
 abbrev pub Reads : List ℕ → Script → Type 0
-Reads bytes script = outcome false bytes ≡ Ok script
+Reads bytes script = outcome bytes ≡ Ok script
 
 -- the first fault of the bytes, and its line
 abbrev pub IsFirstFault : List ℕ → ℕ → ScriptFault → Type 0
-IsFirstFault bytes line fault = outcome false bytes ≡ Err (At line fault)
-
--- the same, where a line that the machine has no rule for is a fault
-abbrev pub ReadsRunnable : List ℕ → Script → Type 0
-ReadsRunnable bytes script = outcome true bytes ≡ Ok script
-
-abbrev pub IsFirstFaultOfRunnable : List ℕ → ℕ → ScriptFault → Type 0
-IsFirstFaultOfRunnable bytes line fault = outcome true bytes ≡ Err (At line fault)
+IsFirstFault bytes line fault = outcome bytes ≡ Err (At line fault)
 
 -- what a function returned, of blocks
 abbrev pub Fails : ScriptStop → Blocks → Type 0
@@ -333,10 +311,7 @@ Gives (Err stop) read = Stops stop read
 
 -- what stopped the reading, unless memory ran out, is that fault
 abbrev pub HasFault : List ℕ → ScriptStop → Type 0
-HasFault bytes stop = Stops stop (outcome false bytes)
-
-abbrev pub HasFaultOfRunnable : List ℕ → ScriptStop → Type 0
-HasFaultOfRunnable bytes stop = Stops stop (outcome true bytes)
+HasFault bytes stop = Stops stop (outcome bytes)
 
 -- a fault's name, as it is printed
 abbrev pub name_of : ScriptFault → List ℕ
@@ -355,4 +330,3 @@ name_of ForkBackwards = codes "ForkBackwards"
 name_of TooManyProcs = codes "TooManyProcs"
 name_of TooManyCalls = codes "TooManyCalls"
 name_of WaitingForm = codes "WaitingForm"
-name_of NotBuilt = codes "NotBuilt"

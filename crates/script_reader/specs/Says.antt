@@ -1,16 +1,14 @@
 -- What a line says by itself, wherever it stands.
-use Rattle.std.specs.Prelude.{ℕ, ◌+◌, ◌==◌, Bool, true, false, ◌&&◌, List, [], ◌∷◌, ◌++◌, codes, bytes_eq, fold, position, if◌then◌else◌, Option, Some, None, option_map}
+use Rattle.std.specs.Prelude.{ℕ, ◌+◌, ◌==◌, Bool, false, ◌&&◌, List, [], ◌∷◌, ◌++◌, codes, bytes_eq, fold, position, if◌then◌else◌, Option, Some, None, option_map}
 use Rattle.std.specs.List.{list_any}
-use Rattle.std.specs.Option.{unwrap_or, option_map_or}
-use Rattle.pico_base.specs.declared.call.Call.{Call}
-use Rattle.pico_base.specs.declared.script.Line.{Line}
+use Rattle.std.specs.Option.{unwrap_or}
 use Rattle.kernel_model.specs.Script.{is_name}
 use Rattle.script_reader.specs.declared.verb.Verb.{Verb}
 use Rattle.script_reader.specs.declared.verb.Verb.TheVariants as verbs
 use Rattle.script_reader.specs.declared.says.Said.{Said}
 use Rattle.script_reader.specs.declared.says.Said.TheVariants.{Skipped, Opens, BadProc, Ends, Unknown, Bad, Forks, Calls}
 use Rattle.script_reader.specs.Words.{words_of}
-use Rattle.script_reader.specs.Parts.{◌>>=◌, positive, variable}
+use Rattle.script_reader.specs.Parts.{positive, variable}
 use Rattle.script_reader.specs.Forms.{FromCall, verb_of, call_of}
 
 -- ---- the blocks of a text

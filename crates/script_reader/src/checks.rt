@@ -3,13 +3,12 @@
 ghost use Rattle.std.specs.Prelude.{◌≡◌, ◌+◌, ◌≤◌, ◌<◌, ◌^◌, length};
 ghost use Rattle.std.specs.List.{list_any};
 ghost use Rattle.kernel_model.specs.Waiting.{may_wait as may_wait_at, is_waiting as is_waiting_call};
-ghost use Rattle.machine_model.specs.Built.{is_shared as is_shared_call, is_built as is_built_call, is_built_line as is_built_line_at};
 ghost use Rattle.script_reader.specs.Fault as spec;
 
 use crate::fault::ScriptFault;
 use crate::place::{MAX_BLOCKS, Place, calls_of};
 use crate::says::Said;
-use pico_base::{Call, Line, SemStep, Var};
+use pico_base::{Call, SemStep, Var};
 
 /// The longest line, without its line feed.
 const MAX_LINE: usize = 4096;
@@ -18,7 +17,7 @@ const MAX_LINE: usize = 4096;
 const MAX_CALLS: usize = 20_000;
 
 /// The faults that a line may have, in the order in which they are told.
-const LINE_FAULTS: [ScriptFault; 14] = [
+const LINE_FAULTS: [ScriptFault; 13] = [
     ScriptFault::LineTooLong,
     ScriptFault::NoProc,
     ScriptFault::NoEnd,
@@ -32,7 +31,6 @@ const LINE_FAULTS: [ScriptFault; 14] = [
     ScriptFault::TooManyProcs,
     ScriptFault::TooManyCalls,
     ScriptFault::WaitingForm,
-    ScriptFault::NotBuilt,
 ];
 
 fn is_proc(said: &Said) -> bool
@@ -168,57 +166,6 @@ fn waits(said: &Said) -> bool
     }
 }
 
-/// Whether the call is on a queue or a set by its identifier, but for its removal.
-fn is_shared(call: &Call) -> bool
-    ensures { result ≡ is_shared_call call.now }
-{
-    matches!(
-        call,
-        Call::MsgSnd { .. }
-            | Call::MsgRcv { .. }
-            | Call::MsgStat { .. }
-            | Call::MsgSet { .. }
-            | Call::SemOp { .. }
-            | Call::SemGetVal { .. }
-            | Call::SemGetPid { .. }
-            | Call::SemGetNcnt { .. }
-            | Call::SemGetZcnt { .. }
-            | Call::SemSetVal { .. }
-            | Call::SemGetAll { .. }
-            | Call::SemSetAll { .. }
-    )
-}
-
-/// Whether the machine has a rule for the call in this block.
-fn is_built(block: usize, call: &Call) -> bool
-    ensures { result ≡ is_built_call block call.now }
-{
-    match call {
-        Call::Fork { .. } => block == 1,
-        Call::MsgGet { key, .. } | Call::SemGet { key, .. } => block == 1 && key.is_none(),
-        Call::GetPid => true,
-        _ => is_shared(call),
-    }
-}
-
-fn is_built_line(block: usize, line: &Line) -> bool
-    ensures { result ≡ is_built_line_at block line.now }
-{
-    line.tries == 1 && is_built(block, &line.call)
-}
-
-/// Whether the machine has no rule for the line's call.
-fn has_no_rule(place: &Place, said: &Said) -> bool
-    requires { length place.now.blocks < 2 ^ 32 }
-    ensures { result ≡ spec.has_no_rule place.now said.now }
-{
-    match said {
-        Said::Forks(_, Some(_)) => place.number() != 1,
-        Said::Calls(line) => !is_built_line(place.number(), line),
-        _ => false,
-    }
-}
-
 /// Whether a line of this length, which says this in its place, has the fault.
 #[tactic(auto, unfolding(crate::specs::Fault::has_fault))]
 fn has_fault(place: &Place, size: usize, said: &Said, fault: ScriptFault) -> bool
@@ -243,32 +190,18 @@ fn has_fault(place: &Place, size: usize, said: &Said, fault: ScriptFault) -> boo
         ScriptFault::TooManyProcs => is_proc_too_many(place, said),
         ScriptFault::TooManyCalls => MAX_CALLS < place.calls + calls_of(place, said),
         ScriptFault::WaitingForm => waits(said),
-        ScriptFault::NotBuilt => has_no_rule(place, said),
-    }
-}
-
-/// Whether the fault is one of those asked for.
-fn is_asked(runnable: bool, fault: ScriptFault) -> bool
-    ensures { result ≡ spec.is_asked runnable fault }
-{
-    match fault {
-        ScriptFault::NotBuilt => runnable,
-        _ => true,
     }
 }
 
 /// The fault of a line in its place.
 #[tactic(auto, unfolding(crate::specs::Fault::fault_of))]
-pub(crate) fn fault_of(
-    runnable: bool,
-    place: &Place,
-    size: usize,
-    said: &Said,
-) -> Option<ScriptFault>
+pub(crate) fn fault_of(place: &Place, size: usize, said: &Said) -> Option<ScriptFault>
     requires blocks { length place.now.blocks < 2 ^ 32 }
     requires calls { place.now.calls ≤ 20000 }
-    ensures { result ≡ spec.fault_of runnable place.now size said.now }
+    ensures { result ≡ spec.fault_of place.now size said.now }
 {
-    LINE_FAULTS.iter().copied().find(|fault| is_asked(runnable, *fault)
-        && has_fault(place, size, said, *fault))
+    LINE_FAULTS
+        .iter()
+        .copied()
+        .find(|fault| has_fault(place, size, said, *fault))
 }

@@ -57,9 +57,6 @@ pub enum ScriptFault {
     /// The call may have to wait.
     #[error("WaitingForm")]
     WaitingForm,
-    /// The machine has no rule for the call. Only `read_runnable` tells this.
-    #[error("NotBuilt")]
-    NotBuilt,
 }
 
 impl ScriptFault {
@@ -83,7 +80,6 @@ impl ScriptFault {
             ScriptFault::TooManyProcs => "TooManyProcs",
             ScriptFault::TooManyCalls => "TooManyCalls",
             ScriptFault::WaitingForm => "WaitingForm",
-            ScriptFault::NotBuilt => "NotBuilt",
         }
     }
 }

@@ -18,7 +18,7 @@ pub use fault::{ScriptFault, ScriptStop};
 // The definitions speak of these.
 pub use place::{Begun, Place};
 pub use says::Said;
-pub use script::{read_runnable, read_script};
+pub use script::read_script;
 pub use verb::Verb;
 pub use words::{next_line, next_word};
 

@@ -5,7 +5,6 @@ ghost use Rattle.std.specs.Str.Lossy.{utf8_valid_len};
 ghost use Rattle.pico_base.specs.declared.script.Script.{Script as ScriptValue};
 ghost use Rattle.script_reader.specs.declared.fault.ScriptFault.{ScriptFault as FaultValue};
 ghost use Rattle.kernel_model.specs.Script.{IsSoundScript};
-ghost use Rattle.machine_model.specs.Built.{IsRunnable};
 ghost use Rattle.script_reader.specs.Words.{lines_of};
 ghost use Rattle.script_reader.specs.Says.{names_of};
 ghost use Rattle.script_reader.specs.Fault as spec;
@@ -57,22 +56,17 @@ fn ending(place: Place, number: u32) -> Result<Blocks, ScriptStop>
 }
 
 /// The blocks of a text in which the blocks have these names.
-fn blocks_with(
-    alloc: Global,
-    runnable: bool,
-    names: &Names,
-    text: &[u8],
-) -> Result<Blocks, ScriptStop>
+fn blocks_with(alloc: Global, names: &Names, text: &[u8]) -> Result<Blocks, ScriptStop>
     requires { length text.now ≤ 1048576 }
     ensures { spec.GivesBlocks result
-        (spec.blocks_from runnable names.now (spec.start (length names.now)) 1 (lines_of text.now)) }
+        (spec.blocks_from names.now (spec.start (length names.now)) 1 (lines_of text.now)) }
 {
     let mut place = Place::new(alloc, names.len())?;
     let mut rest = text;
     let mut number: u32 = 1;
     while let Some((bytes, after)) = next_line(rest) {
         let said = read_line(alloc, names, bytes)?;
-        if let Some(fault) = fault_of(runnable, &place, bytes.len(), &said) {
+        if let Some(fault) = fault_of(&place, bytes.len(), &said) {
             return Err(ScriptStop::At {
                 line: number,
                 fault,
@@ -108,12 +102,12 @@ fn at_byte(count: usize, bytes: &[u8], fault: ScriptFault) -> ScriptStop
 
 /// A script of at most 1,048,576 bytes.
 #[tactic(auto, unfolding(crate::specs::Fault::blocks_of))]
-fn short_script(alloc: Global, runnable: bool, bytes: &[u8]) -> Result<Script, ScriptStop>
+fn short_script(alloc: Global, bytes: &[u8]) -> Result<Script, ScriptStop>
     requires { length bytes.now ≤ 1048576 }
-    ensures { spec.Gives result (spec.script_from (spec.blocks_of runnable (lines_of bytes.now))) }
+    ensures { spec.Gives result (spec.script_from (spec.blocks_of (lines_of bytes.now))) }
 {
     let names = block_names(alloc, bytes)?;
-    let blocks = blocks_with(alloc, runnable, &names, bytes)?;
+    let blocks = blocks_with(alloc, &names, bytes)?;
     Ok(Script { blocks })
 }
 
@@ -127,9 +121,10 @@ fn valid_len(bytes: &[u8]) -> usize
     }
 }
 
+/// The outcome of the whole text.
 #[tactic(auto, unfolding(crate::specs::Fault::outcome))]
-fn read(alloc: Global, runnable: bool, bytes: &[u8]) -> Result<Script, ScriptStop>
-    ensures { spec.Gives result (spec.outcome runnable bytes.now) }
+fn read(alloc: Global, bytes: &[u8]) -> Result<Script, ScriptStop>
+    ensures { spec.Gives result (spec.outcome bytes.now) }
 {
     if bytes.len() > MAX_BYTES {
         return Err(at_byte(MAX_BYTES, bytes, ScriptFault::ScriptTooLong));
@@ -138,16 +133,15 @@ fn read(alloc: Global, runnable: bool, bytes: &[u8]) -> Result<Script, ScriptSto
     if valid < bytes.len() {
         return Err(at_byte(valid, bytes, ScriptFault::NotUtf8));
     }
-    short_script(alloc, runnable, bytes)
+    short_script(alloc, bytes)
 }
 
 /// The script that the bytes are the text of.
 ///
 /// A fault is the first one: of the smallest line, and on one line the one that stands first in `ScriptFault`. Before
 /// all others come `ScriptTooLong`, at the line of the first byte past 1,048,576, and then `NotUtf8`, at the line of
-/// the
-/// first byte that isn't part of a character. A block that isn't ended where the input ends is `NoEnd` at the number of
-/// lines plus 1, and a text without words `NoProc` at line 1. `NotBuilt` is no fault here.
+/// the first byte that isn't part of a character. A block that isn't ended where the input ends is `NoEnd` at the
+/// number of lines plus 1, and a text without words `NoProc` at line 1.
 pub fn read_script(alloc: Global, bytes: &[u8]) -> Result<Script, ScriptStop>
     // The bytes are the text of what is read.
     ensures ok { IfOk result (spec.Reads bytes.now) }
@@ -160,21 +154,5 @@ pub fn read_script(alloc: Global, bytes: &[u8]) -> Result<Script, ScriptStop>
     ensures only_fault { (line : ℕ) (fault : FaultValue) → spec.IsFirstFault bytes.now line fault
         → (result ≡ Err (ScriptStop.At line fault)) ⊎ (result ≡ Err ScriptStop.Memory) }
 {
-    read(alloc, false, bytes)
-}
-
-/// The same, of the scripts that the machine can run: a call line that it has no rule for is `NotBuilt`, after all
-/// other
-/// faults of the line.
-pub fn read_runnable(alloc: Global, bytes: &[u8]) -> Result<Script, ScriptStop>
-    ensures ok { IfOk result (spec.ReadsRunnable bytes.now) }
-    ensures sound { IfOk result IsSoundScript }
-    ensures runnable { IfOk result IsRunnable }
-    ensures fault { IfErr result (spec.HasFaultOfRunnable bytes.now) }
-    ensures only { (script : ScriptValue) → spec.ReadsRunnable bytes.now script → (result ≡ Ok script)
-        ⊎ (result ≡ Err ScriptStop.Memory) }
-    ensures only_fault { (line : ℕ) (fault : FaultValue) → spec.IsFirstFaultOfRunnable bytes.now line fault
-        → (result ≡ Err (ScriptStop.At line fault)) ⊎ (result ≡ Err ScriptStop.Memory) }
-{
-    read(alloc, true, bytes)
+    read(alloc, bytes)
 }

@@ -34,7 +34,7 @@ use Rattle.script_speller.proofs.Lines.{SaidAgain, Names, name_argument, calls_a
 abbrev pub Runs : List (List ℕ) → Place → List (List ℕ) → Place → Type 0
 Runs names place [] last = place ≡ last
 Runs names place (line ∷ lines) last =
-    (fault_of false place (length line) (said_of names line) ≡ None)
+    (fault_of place (length line) (said_of names line) ≡ None)
     × Runs names (behind place (said_of names line)) lines last
 
 -- where a text ends without a fault
@@ -64,20 +64,20 @@ stopped (Some fault) number others blocks e = absurd (no_blocks (number, fault) 
 
 -- a text that is read runs to its end
 pub runs_from : (names : List (List ℕ)) (place : Place) (number : ℕ) (lines : List (List ℕ)) (blocks : List Block)
-    → blocks_from false names place number lines ≡ Ok blocks
+    → blocks_from names place number lines ≡ Ok blocks
     → (last : Place) × Runs names place lines last × IsEnd last blocks
 unfolding blocks_from
 runs_from names place number [] blocks e = (place, refl, ends_ok place number blocks e)
 runs_from names place number (line ∷ lines) blocks e =
     let said : Said = said_of names line in
-    let s = stopped (fault_of false place (length line) said) number
-    (blocks_from false names (behind place said) (number + 1) lines) blocks e in
+    let s = stopped (fault_of place (length line) said) number
+    (blocks_from names (behind place said) (number + 1) lines) blocks e in
     let more = runs_from names (behind place said) (number + 1) lines blocks s.1 in
     (more.0, (s.0, more.1), more.2)
 
 -- and one that runs to its end is read
 pub runs_to : (names : List (List ℕ)) (place last : Place) (number : ℕ) (lines : List (List ℕ)) (blocks : List Block)
-    → Runs names place lines last → IsEnd last blocks → blocks_from false names place number lines ≡ Ok blocks
+    → Runs names place lines last → IsEnd last blocks → blocks_from names place number lines ≡ Ok blocks
 unfolding blocks_from
 runs_to names place last number [] blocks h end =
     ap (λ (p : Place). spec.ending p number) h ∙ rw (end.out, end.some) (ap Ok end.blocks_are)
@@ -91,8 +91,8 @@ after_none true x o e = absurd (none-some x (sym e))
 after_none false x o e = (refl, e)
 
 -- a line without a fault has none in any other length
-pub shorter_fault : (place : Place) (n m : ℕ) (said : Said) → m ≤ 4096 → fault_of false place n said ≡ None
-    → fault_of false place m said ≡ None
+pub shorter_fault : (place : Place) (n m : ℕ) (said : Said) → m ≤ 4096 → fault_of place n said ≡ None
+    → fault_of place m said ≡ None
 unfolding fault_of has_fault
 shorter_fault place n m said short e =
     let a = after_none _ _ _ e in
@@ -110,10 +110,10 @@ pub names_run : (names so_far : List (List ℕ)) (place last : Place) (lines : L
 names_run names so_far place last [] o h = subst (AreOpened names so_far) h o
 names_run names so_far place last (line ∷ lines) o h =
     let said : Said = said_of names line in
-    let f = faultless false place (length line) said h.0 in
+    let f = faultless place (length line) said h.0 in
     let fine = said_fine names line (ltb-false 4096 (length line) f.short) in
     names_run names (with_opening so_far (opening_at line)) (behind place said) last lines
-    (names_step false names so_far place (length line) (opening_at line) said o fine (opening_said names line) f) h.1
+    (names_step names so_far place (length line) (opening_at line) said o fine (opening_said names line) f) h.1
 
 -- where no block is open, the names are those of the blocks
 pub names_are : (names so_far : List (List ℕ)) (last : Place) → AreOpened names so_far last → last.inside ≡ false
@@ -199,11 +199,11 @@ added_line script place line within =
     ∙ ap (λ (xs : List (List ℕ)). (closed ++ xs) ++ line_text script line ∷ []) (sym (front place.lines))
 
 -- each line that says something adds its line to the spelling
-lines_step : (script : Script) (place : Place) (size : ℕ) (said : Said) → IsFaultless false place size said
+lines_step : (script : Script) (place : Place) (size : ℕ) (said : Said) → IsFaultless place size said
     → spec.is_skipped said ≡ false
     → lines_so_far script (behind place said) ≡ lines_so_far script place ++ line_of script said ∷ []
 lines_step script place size (Opens name number) f s =
-    opened_lines script place name number (number_here false place size name number f).0
+    opened_lines script place name number (number_here place size name number f).0
 lines_step script place size Skipped f s = absurd (no_true s)
 lines_step script place size Ends f s =
     ended_lines script place (spec.calls_of place Ends) (inside_of place Ends f.no_proc refl)
@@ -294,7 +294,7 @@ node_same number low high = rw (lt-ltb 0 number (omega (arith, low)), le-leb num
 -- the line of what a line says, says it and is no longer
 said_again : (names : List (List ℕ)) (script : Script) (place : Place) (bytes : List ℕ) (said : Said)
     → Names names script → length names ≤ 32 → length bytes ≤ 4096 → said_of names bytes ≡ said
-    → IsFine names (opening_at bytes) said → IsFaultless false place (length bytes) said
+    → IsFine names (opening_at bytes) said → IsFaultless place (length bytes) said
     → spec.is_skipped said ≡ false → SaidAgain names bytes said (line_of script said)
 said_again names script place bytes (Opens name number) are few room e fine f s =
     proc_again names bytes name number fine.0 fine.1 fine.2
@@ -342,19 +342,19 @@ skipped_is (Calls line) e = cc
 
 -- one line more in front
 one_more : (script : Script) (names : List (List ℕ)) (place last : Place) (line : List ℕ) (lines texts : List (List ℕ))
-    → Names names script → length names ≤ 32 → fault_of false place (length line) (said_of names line) ≡ None
+    → Names names script → length names ≤ 32 → fault_of place (length line) (said_of names line) ≡ None
     → spec.is_skipped (said_of names line) ≡ false
     → Spelled script names (behind place (said_of names line)) last lines texts
     → Spelled script names place last (line ∷ lines) (line_of script (said_of names line) ∷ texts)
 one_more script names place last line lines texts are few free s h =
     let said : Said = said_of names line in
     let text : List ℕ = line_of script said in
-    let f = faultless false place (length line) said free in
+    let f = faultless place (length line) said free in
     let room : length line ≤ 4096 = ltb-false 4096 (length line) f.short in
     let a = said_again names script place line said are few room refl (said_fine names line room) f s in
     record {
       runs = (
-        ap (fault_of false place (length text)) a.said
+        ap (fault_of place (length text)) a.said
             ∙ shorter_fault place (length line) (length text) said (omega (arith, a.short, room)) free,
         subst (λ (x : Said). Runs names (behind place x) texts last) (sym a.said) h.runs,
       );

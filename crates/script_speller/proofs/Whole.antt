@@ -145,23 +145,23 @@ script_blocks (Err fault) script e = absurd cc
 
 -- a text of a script is short enough, and its lines are the script's
 read_parts : (bytes : List ℕ) (script : Script) → Reads bytes script → (length bytes ≤ 1048576)
-    × (blocks_of false (lines_of bytes) ≡ Ok script.blocks)
+    × (blocks_of (lines_of bytes) ≡ Ok script.blocks)
 unfolding outcome
 read_parts bytes script e =
     let long : ScriptStop = At (spec.line_behind spec.max_bytes bytes) ScriptTooLong in
     let bad : ScriptStop = At (spec.line_behind (utf8_valid_len bytes) bytes) NotUtf8 in
-    let whole : Result Script ScriptStop = spec.script_from (blocks_of false (lines_of bytes)) in
+    let whole : Result Script ScriptStop = spec.script_from (blocks_of (lines_of bytes)) in
     let a = not_first_cond (ltb spec.max_bytes (length bytes)) (Err long)
     (cond (ltb (utf8_valid_len bytes) (length bytes)) (Err bad) whole) script (no_script long) e in
     let b = not_first_cond (ltb (utf8_valid_len bytes) (length bytes)) (Err bad) whole script (no_script bad) a.1 in
-    (ltb-false 1048576 (length bytes) a.0, script_blocks (blocks_of false (lines_of bytes)) script b.1)
+    (ltb-false 1048576 (length bytes) a.0, script_blocks (blocks_of (lines_of bytes)) script b.1)
 
 whole_script : (script : Script) → spec.script_from (Ok script.blocks) ≡ Ok script
 whole_script script = refl
 
 -- bytes of ASCII that are short enough read as what their lines give
 reads_from : (bytes : List ℕ) (script : Script) → length bytes ≤ 1048576 → utf8_valid_len bytes ≡ length bytes
-    → blocks_of false (lines_of bytes) ≡ Ok script.blocks → Reads bytes script
+    → blocks_of (lines_of bytes) ≡ Ok script.blocks → Reads bytes script
 unfolding outcome
 reads_from bytes script room valid e =
     rw (
@@ -231,7 +231,7 @@ record SpelledLines (bytes : List ℕ) (script : Script) (texts : List (List ℕ
   some : 1 ≤ length texts
   short : width texts ≤ width (lines_of bytes)
   printable : AllByRecursion IsLineText texts
-  read : blocks_of false texts ≡ Ok script.blocks
+  read : blocks_of texts ≡ Ok script.blocks
 
 -- what a run of a text's lines gives for the spelled ones
 spelled_end : (bytes : List ℕ) (script : Script) (names : List (List ℕ)) (last : Place) (texts : List (List ℕ))
@@ -256,11 +256,11 @@ spelled_end bytes script names last texts end h are =
       );
       short = h.short;
       printable = h.printable;
-      read = ap (λ (ns : List (List ℕ)). blocks_from false ns (start (length ns)) 1 texts) named
+      read = ap (λ (ns : List (List ℕ)). blocks_from ns (start (length ns)) 1 texts) named
           ∙ runs_to names (start (length names)) last 1 texts script.blocks h.runs end;
     }
 
-spelled_lines : (bytes : List ℕ) (script : Script) → blocks_of false (lines_of bytes) ≡ Ok script.blocks
+spelled_lines : (bytes : List ℕ) (script : Script) → blocks_of (lines_of bytes) ≡ Ok script.blocks
     → (texts : List (List ℕ)) × SpelledLines bytes script texts
 unfolding blocks_of
 spelled_lines bytes script e =
@@ -288,8 +288,8 @@ spelling_again bytes script e =
     text_width texts (length bytes) (omega (arith, h.short, lines_width bytes)) h.some in (
       reads_from (spelling script) script (omega (arith, size, short, parts.0))
           (ap utf8_valid_len text ∙ valid_text texts h.printable ∙ sym size)
-          (ap (λ (x : List ℕ). blocks_of false (lines_of x)) text
-          ∙ ap (blocks_of false) (lines_of_some texts h.some h.printable) ∙ h.read),
+          (ap (λ (x : List ℕ). blocks_of (lines_of x)) text
+          ∙ ap blocks_of (lines_of_some texts h.some h.printable) ∙ h.read),
       omega (arith, size, short),
     )
 

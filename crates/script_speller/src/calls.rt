@@ -6,14 +6,14 @@ ghost use Rattle.kernel_model.specs.Trace as trace;
 ghost use Rattle.script_speller.specs.Spelling as spec;
 
 use crate::words::{
-    action_name, how_name, push_class, push_decimal, push_flag, push_message, push_object,
-    push_set, push_steps, push_values, push_word, signal_argument, signal_name,
+    push_class, push_decimal, push_flag, push_message, push_object, push_set_word, push_steps,
+    push_value_word, push_word,
 };
 use pico_base::{
     Act, Call, How, Id, Key, Memory, Node, Pid, Script, SemStep, Sig, SigArg, SigSet, Var,
 };
 use std::alloc::Global;
-use trace_text::push;
+use trace_text::{action_name, how_name, push, signal_argument, signal_name};
 
 /// The name of a block behind a blank; nothing behind it where there is no such block.
 fn push_block_name(out: &mut Vec<u8>, script: &Script, block: Node) -> Result<(), Memory>
@@ -73,7 +73,7 @@ fn push_mask(alloc: Global, out: &mut Vec<u8>, how: How, set: SigSet) -> Result<
         ++ spec.behind_blanks (trace.how_name how ∷ trace.set_text set ∷ [])) }
 {
     push_word(out, how_name(how))?;
-    push_set(alloc, out, set)
+    push_set_word(alloc, out, set)
 }
 
 fn push_sigprocmask(alloc: Global, out: &mut Vec<u8>, how: How, set: SigSet) -> Result<(), Memory>
@@ -264,7 +264,7 @@ fn push_setall(out: &mut Vec<u8>, from: Option<Var>, id: Id, values: &[u32]) -> 
         ∷ trace.values_text values.now ∷ []))) }
 {
     push_command(out, b"semctl", from, id, b"setall")?;
-    push_values(out, values)
+    push_value_word(out, values)
 }
 
 /// Adds a call, with the variable in place of the process or the object that it names.

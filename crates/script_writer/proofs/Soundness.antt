@@ -1,4 +1,4 @@
--- A generated script is sound, and today's machine can run it.
+-- A generated script is sound.
 use Rattle.std.proofs.Common.{◌≡◌, ℕ, suc, ◌+◌, ◌*◌, ◌≤◌, Bool, true, false, ◌&&◌, ◌||◌, not, eqb, List, [], ◌∷◌, ◌++◌, map, length, replicate, Some, Result, refl, sym, ap, ap₂, ◌∙◌, subst, append_assoc, arith}
 use Rattle.std.specs.Prelude.{nat_eq, nat_lt, nat_le, sum_by, count_by, codes, pos, IfOk}
 use Rattle.std.specs.List.{flat_map, list_all, list_any, enumerate_from}
@@ -16,7 +16,6 @@ use Rattle.pico_base.specs.declared.script.Block.{Block}
 use Rattle.pico_base.specs.declared.script.Script.{Script}
 use Rattle.kernel_model.specs.Waiting.{is_waiting}
 use Rattle.kernel_model.specs.Script.{Fork, fork_from, forks_of, is_name, is_same, names_differ, is_line, is_known, known_at, uses_known, uses_known_from, begun_in, calls_in, ends_rightly, IsSoundScript}
-use Rattle.machine_model.specs.Built.{is_built_line, is_built_block, IsRunnable}
 use Rattle.script_writer.specs.Generated as spec
 use Rattle.script_writer.specs.Generated.{upto, main_queue, worker_queue, worker_name, make, send, receive, fork, lines_for, worker, script_with, generated}
 use Rattle.script_writer.proofs.Tables.{all_pass, length-upto}
@@ -258,14 +257,6 @@ module _ (m : ℕ) where
       (sum_by-cons tries (make main_queue) (flat_map (lines_for m) (upto w)))
       (main_tries few (upto w)) (worker_calls few (upto w) p.1) (length-upto w) small
 
-  -- ---- the machine has a rule for each line
-
-  workers_built : (i : ℕ) (ks : List ℕ) → list_all is_built_block (enumerate_from i (map (worker m) ks)) ≡ true
-  workers_built i [] = refl
-  workers_built i (k ∷ ks) =
-      and_from _ _ (all_repeated (is_built_line i) m (receive (worker_queue k)) (send main_queue ∷ []) refl refl)
-      (workers_built (i + 1) ks)
-
   -- ---- the tests of each number of workers
 
   abbrev forward : ℕ → List Fork → Bool
@@ -300,9 +291,6 @@ module _ (m : ℕ) where
   exit_table : list_all (lines_pass stays) (upto 31) ≡ true
   exit_table = refl
 
-  built_table : list_all (lines_pass (is_built_line 1)) (upto 31) ≡ true
-  built_table = refl
-
   pub with_sound : (w : ℕ) → m ≤ 300 → 1 ≤ w → w ≤ 31 → IsSoundScript (script_with m w)
   with_sound w few some small =
       let s : Script = script_with m w in
@@ -334,24 +322,17 @@ module _ (m : ℕ) where
         calls = le-leb _ _ (few_calls w few small stay);
       }
 
-  pub with_runnable : (w : ℕ) → m ≤ 300 → 1 ≤ w → w ≤ 31 → IsRunnable (script_with m w)
-  with_runnable w few some small = record {
-    sound = with_sound w few some small;
-    built = and_from _ _
-        (main_pass (is_built_line 1) (upto w) (all_pass (lines_pass (is_built_line 1)) 31 w built_table some small))
-        (workers_built 2 (upto w));
-  }
-
--- the generated script of each number is one that the machine can run
-pub generated_runnable : (number : ℕ) → IsRunnable (generated number)
+-- the generated script of each number is sound
+pub generated_sound : (number : ℕ) → IsSoundScript (generated number)
 unfolding generated
-generated_runnable number =
+generated_sound number =
     let few : spec.messages_of number ≤ 300 = omega arith in
     let some : 1 ≤ spec.workers_of number = omega arith in
     let small : spec.workers_of number ≤ 31 = omega arith in
-    with_runnable (spec.messages_of number) (spec.workers_of number) few some small
+    with_sound (spec.messages_of number) (spec.workers_of number) few some small
 
-pub given_runnable : {E : Type 0} (number : ℕ) (r : Result Script E) → IfOk r (λ s. s ≡ generated number)
-    → IfOk r IsRunnable
-given_runnable number r h =
-    IfOk-weaker r _ _ (λ s e. subst IsRunnable (sym e) (generated_runnable number)) h
+-- a result that, if it is a script, is that one, is a sound script then
+pub given_sound : {E : Type 0} (number : ℕ) (r : Result Script E) → IfOk r (λ s. s ≡ generated number)
+    → IfOk r IsSoundScript
+given_sound number r h =
+    IfOk-weaker r _ _ (λ s e. subst IsSoundScript (sym e) (generated_sound number)) h

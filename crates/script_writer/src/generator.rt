@@ -1,7 +1,7 @@
 //! Generated scripts.
 
 ghost use Rattle.std.specs.Prelude.{◌≡◌, ◌≤◌, ◌+◌, ◌++◌, ◌∷◌, [], replicate, map, IfOk, OnOk};
-ghost use Rattle.machine_model.specs.Built.{IsRunnable};
+ghost use Rattle.kernel_model.specs.Script.{IsSoundScript};
 ghost use Rattle.script_writer.specs.Generated as spec;
 
 use itoa::Buffer;
@@ -176,8 +176,7 @@ fn script_with(alloc: Global, messages: u32, workers: u8) -> Result<Script, Memo
 #[tactic(auto, unfolding(crate::specs::Generated::generated))]
 pub fn generate(alloc: Global, number: u32) -> Result<Script, Memory>
     ensures script { IfOk result (λ script. script ≡ spec.generated number) }
-    // Today's machine has a rule for each of its calls.
-    ensures runnable { IfOk result IsRunnable }
+    ensures sound { IfOk result IsSoundScript }
 {
     script_with(alloc, 10 + number % 291, 1 + (number % 31) as u8)
 }

@@ -29,7 +29,8 @@ const TABLE: [Sig; 10] = [
     Sig::Chld,
 ];
 
-fn signal_name(sig: Sig) -> &'static [u8]
+/// A signal's name.
+pub fn signal_name(sig: Sig) -> &'static [u8]
     ensures { result.now ≡ trace.signal_name sig }
 {
     match sig {
@@ -65,7 +66,8 @@ fn error_name(errno: Errno) -> &'static [u8]
     }
 }
 
-fn act_name(act: Act) -> &'static [u8]
+/// The name of what a signal does: `dfl`, `ign` or `catch`.
+pub fn action_name(act: Act) -> &'static [u8]
     ensures { result.now ≡ trace.action_name act }
 {
     match act {
@@ -75,7 +77,8 @@ fn act_name(act: Act) -> &'static [u8]
     }
 }
 
-fn how_name(how: How) -> &'static [u8]
+/// The name of how a mask changes: `block`, `unblock` or `setmask`.
+pub fn how_name(how: How) -> &'static [u8]
     ensures { result.now ≡ trace.how_name how }
 {
     match how {
@@ -85,7 +88,8 @@ fn how_name(how: How) -> &'static [u8]
     }
 }
 
-fn signal_argument(sig: SigArg) -> &'static [u8]
+/// A signal as a call names it: its name, `0` for none, or `badsig` for a number of no signal.
+pub fn signal_argument(sig: SigArg) -> &'static [u8]
     ensures { result.now ≡ trace.signal_argument sig }
 {
     match sig {
@@ -233,7 +237,7 @@ fn push_sigaction(out: &mut Vec<u8>, sig: SigArg, act: Act) -> Result<(), Memory
     push(out, b"sigaction ")?;
     push(out, signal_argument(sig))?;
     push_byte(out, b' ')?;
-    push(out, act_name(act))
+    push(out, action_name(act))
 }
 
 fn push_signal_call(out: &mut Vec<u8>, name: &[u8], sig: Sig) -> Result<(), Memory>
@@ -331,15 +335,17 @@ fn push_signals(out: &mut Vec<u8>, signals: &[Sig]) -> Result<(), Memory>
     }
 }
 
+/// Adds a set of signals: their names joined by commas, in the order of the table, or `none`.
 #[tactic(auto, unfolding(kernel_model::specs::Trace::set_text))]
-fn push_set(alloc: Global, out: &mut Vec<u8>, set: SigSet) -> Result<(), Memory>
+pub fn push_set(alloc: Global, out: &mut Vec<u8>, set: SigSet) -> Result<(), Memory>
     ensures { OnOk result (out.new.items ≡ out.old.items ++ trace.set_text set) }
 {
     let signals = members(alloc, set)?;
     push_signals(out, &signals)
 }
 
-fn push_values(out: &mut Vec<u8>, values: &[u32]) -> Result<(), Memory>
+/// Adds numbers joined by commas.
+pub fn push_values(out: &mut Vec<u8>, values: &[u32]) -> Result<(), Memory>
     ensures { OnOk result (out.new.items ≡ out.old.items ++ trace.values_text values.now) }
 {
     let Some((first, others)) = values.split_first() else {

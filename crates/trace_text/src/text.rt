@@ -68,7 +68,8 @@ fn push_escaped(out: &mut Vec<u8>, byte: u8) -> Result<(), Memory>
     }
 }
 
-fn push_quoted(out: &mut Vec<u8>, text: &[u8]) -> Result<(), Memory>
+/// Adds these bytes in quotes, each that isn't plain as `\xHH`.
+pub fn push_quoted(out: &mut Vec<u8>, text: &[u8]) -> Result<(), Memory>
     ensures { OnOk result (out.new.items ≡ out.old.items ++ quoted_text text.now) }
 {
     push_byte(out, b'"')?;

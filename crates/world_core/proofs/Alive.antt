@@ -2,9 +2,9 @@
 use Rattle.std.proofs.Common.{◌≡◌, true, Option, Some, IfSome, sym, ap, subst, ◌∙◌}
 use Rattle.pico_base.specs.declared.script.Script.{Script}
 use Rattle.pico_base.specs.declared.script.Event.{Event}
-use Rattle.machine_model.specs.Built.{IsRunnable}
-use Rattle.machine_model.specs.World.{World, is_enabled}
-use Rattle.machine_model.specs.Run.{IsReachableWorld}
+use Rattle.kernel_model.specs.Script.{IsSoundScript}
+use Rattle.world_model.specs.World.{World, is_enabled}
+use Rattle.world_model.specs.Run.{IsReachableWorld}
 use Rattle.world_core.specs.declared.state.State.{State}
 use Rattle.world_core.specs.State.{IsAlive, IsStep, world_of}
 use Rattle.world_core.specs.World.{world_in, IsSoundWorld}
@@ -15,8 +15,9 @@ pub IsAlive-step : (s next : State) (e : Event) → IsAlive s → is_enabled (wo
 IsAlive-step s next e alive enabled stepped =
     let same : next.script ≡ s.script = (kept-step (world_of s) (world_of next) e stepped.taken).script
     in record {
+      counted = stepped.counted;
       nodes = stepped.nodes;
-      runnable = subst IsRunnable (sym same) alive.runnable;
+      sound = subst IsSoundScript (sym same) alive.sound;
       reachable =
           subst (λ (script : Script). IsReachableWorld script (world_of next)) (sym same)
           (reachable-more s.script (world_of s) (world_of next) e alive.reachable enabled stepped.taken);

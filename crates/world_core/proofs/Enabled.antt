@@ -1,14 +1,14 @@
 -- Where an event that is enabled takes place.
-use Rattle.std.proofs.Common.{◌≡◌, ℕ, ◌-◌, ◌<◌, ◌≤◌, Bool, true, false, ◌&&◌, List, [], length, set, get_or, Option, Some, None, refl, sym, ap, subst, ◌∙◌, arith}
+use Rattle.std.proofs.Common.{◌≡◌, ℕ, ◌-◌, ◌<◌, ◌≤◌, Bool, true, false, ◌&&◌, List, [], length, set, get_or, Option, Some, None, refl, sym, ap, subst, ◌∙◌, arith, length-set}
 use Rattle.std.proofs.lemmas.List.{get_or_read}
 use Rattle.std.proofs.lemmas.Option.{slice_get_within}
 use Rattle.pico_base.specs.declared.script.Event.{Event}
 use Rattle.pico_base.specs.declared.script.Event.TheVariants as events
 use Rattle.rpc_frame.specs.declared.frame.Frame.{Frame}
-use Rattle.machine_model.specs.Node.{Node}
-use Rattle.machine_model.specs.World.{World, Streams, node_at, stream, with_all_sent, is_number, is_enabled, is_run_enabled, is_take_enabled}
+use Rattle.world_model.specs.Node.{Node}
+use Rattle.world_model.specs.World.{World, Streams, node_at, stream, with_all_sent, is_number, is_enabled, is_run_enabled, is_take_enabled}
 use Rattle.world_core.specs.Inbox.{IsTaken}
-use Rattle.world_core.specs.State.{IsSquare}
+use Rattle.world_core.specs.State.{IsSquare, AreSeats}
 use Rattle.world_core.proofs.Worlds.{IsSquare-set, IsSquare-with_all_sent, length-with_all_sent}
 
 pub and_right : (a b : Bool) → (a && b) ≡ true → b ≡ true
@@ -50,12 +50,25 @@ IsSquare-taken streams k from frame row new lt row_is taken square =
     in subst (λ (l : List (List Frame)). IsSquare (set streams k l)) (sym e)
     (IsSquare-set streams k (from - 1) taken.0 square)
 
--- each stream to a node that frames are sent to
-pub row_within : (old new : Streams) (from k : ℕ) (sends : List (ℕ × Frame)) (row : List (List Frame))
-    → new ≡ with_all_sent from old sends → IsSquare old → from ≤ length old → k < length new → row ≡ get_or new k row
-    → from ≤ length row
-row_within old new from k sends row sent square le lt row_is =
-    let same : length new ≡ length old = ap length sent ∙ length-with_all_sent from sends old
-    in let square' : IsSquare new = subst IsSquare (sym sent) (IsSquare-with_all_sent from sends old square)
-    in let e : length row ≡ length old = ap length (get_or_read new k row lt row_is []) ∙ square' k lt ∙ same
-    in omega arith
+-- and so does it leave the seats
+pub seats-taken : (nodes : List (Option Node)) (streams : Streams) (k from : ℕ) (frame : Frame)
+    (row new : List (List Frame)) → AreSeats nodes streams → k < length nodes → row ≡ get_or streams k row
+    → IsTaken row from (Some frame) new → AreSeats nodes (set streams k new)
+seats-taken nodes streams k from frame row new seats lt row_is taken = record {
+  whole = seats.whole;
+  few = seats.few;
+  width = length-set streams k new ∙ seats.width;
+  square = IsSquare-taken streams k from frame row new (omega (arith, seats.width)) row_is taken seats.square;
+}
+
+-- sending leaves the seats
+pub seats-sent : (nodes : List (Option Node)) (from : ℕ) (sends : List (ℕ × Frame)) (streams now : Streams)
+    → now ≡ with_all_sent from streams sends → AreSeats nodes streams → AreSeats nodes now
+seats-sent nodes from sends streams now sent seats =
+    subst (AreSeats nodes) (sym sent)
+    (record {
+      whole = seats.whole;
+      few = seats.few;
+      width = length-with_all_sent from sends streams ∙ seats.width;
+      square = IsSquare-with_all_sent from sends streams seats.square;
+    })

@@ -1,12 +1,13 @@
 pub mod Alive
+pub mod Counting
 pub mod Enabled
 pub mod Lists
+pub mod Masks
 pub mod Members
 pub mod Openings
 pub mod Rest
 pub mod Seats
 pub mod Senders
-pub mod Streams
 pub mod Under
 pub mod Walks
 pub mod Wholes

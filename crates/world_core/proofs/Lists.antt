@@ -2,7 +2,7 @@
 use Rattle.std.proofs.Common.{◌≡◌, ℕ, ◌+◌, ◌-◌, ◌<◌, ◌≤◌, zero, suc, Bool, true, false, List, [], ◌∷◌, ◌++◌, length, map, get_or, slice_get, cond, Some, refl, sym, ap, ◌∙◌, arith}
 use Rattle.std.specs.List.{filter, flat_map, count_by}
 use Rattle.std.proofs.lemmas.List.Sums.{sum_by-cons}
-use Rattle.machine_model.specs.World.{numbers}
+use Rattle.world_model.specs.World.{numbers}
 
 pub slice_get-left : {X : Type 0} (xs ys : List X) (i : ℕ) → i < length xs → slice_get (xs ++ ys) i ≡ slice_get xs i
 slice_get-left [] ys i lt = absurd (omega arith)

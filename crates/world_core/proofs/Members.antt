@@ -1,8 +1,8 @@
 -- Elements of lists.
-use Rattle.std.proofs.Common.{◌≡◌, ℕ, ◌+◌, ◌<◌, ◌≤◌, zero, suc, Bool, true, false, ◌⊎◌, List, [], ◌∷◌, ◌++◌, length, map, slice_get, cond, Some, refl, sym, ap, subst, ◌∙◌, inl, inr, ⊎_elim, arith}
+use Rattle.std.proofs.Common.{◌≡◌, ℕ, ◌+◌, ◌<◌, ◌≤◌, zero, suc, Bool, true, false, ◌⊎◌, List, [], ◌∷◌, ◌++◌, length, map, cond, refl, sym, ap, subst, ◌∙◌, inl, inr, ⊎_elim, arith}
 use Rattle.std.proofs.lemmas.Bool.{cases_eq}
 use Rattle.std.specs.List.{filter, flat_map}
-use Rattle.machine_model.specs.World.{numbers}
+use Rattle.world_model.specs.World.{numbers}
 
 -- x is one of the elements
 abbrev pub Has : {X : Type 0} → List X → X → Type 0
@@ -16,11 +16,6 @@ Has-left (y ∷ xs) ys x h = ⊎_elim (λ e. inl e) (λ r. inr (Has-left xs ys x
 pub Has-right : {X : Type 0} (xs ys : List X) (x : X) → Has ys x → Has (xs ++ ys) x
 Has-right [] ys x h = h
 Has-right (y ∷ xs) ys x h = inr (Has-right xs ys x h)
-
-pub Has-cases : {X : Type 0} (xs ys : List X) (x : X) → Has (xs ++ ys) x → Has xs x ⊎ Has ys x
-Has-cases [] ys x h = inr h
-Has-cases (y ∷ xs) ys x h =
-    ⊎_elim (λ e. inl (inl e)) (λ r. ⊎_elim (λ a. inl (inr a)) (λ b. inr b) (Has-cases xs ys x r)) h
 
 pub Has-map : {X Y : Type 0} (f : X → Y) (xs : List X) (x : X) → Has xs x → Has (map f xs) (f x)
 Has-map f [] x h = absurd h
@@ -38,32 +33,12 @@ Has-filter {X} p (y ∷ xs) x h e =
     in subst (λ (b : Bool). Has (cond b (y ∷ filter p xs) (filter p xs)) x) (sym e') (inl same))
     (λ r. kept (p y) y (filter p xs) x (Has-filter p xs x r e)) h
 
-passed : {X : Type 0} (p : X → Bool) (b : Bool) (y : X) (xs : List X) (x : X) → p y ≡ b → (Has xs x → p x ≡ true)
-    → Has (cond b (y ∷ xs) xs) x → p x ≡ true
-passed p true y xs x e rest h = ⊎_elim (λ same. sym (ap p same) ∙ e) rest h
-passed p false y xs x e rest h = rest h
-
-pub filter-passes : {X : Type 0} (p : X → Bool) (xs : List X) (x : X) → Has (filter p xs) x → p x ≡ true
-filter-passes p [] x h = absurd h
-filter-passes p (y ∷ xs) x h = passed p (p y) y (filter p xs) x refl (filter-passes p xs x) h
-
 pub Has-flat_map : {X Y : Type 0} (f : X → List Y) (xs : List X) (x : X) (y : Y) → Has xs x → Has (f x) y
     → Has (flat_map f xs) y
 Has-flat_map f [] x y h here = absurd h
 Has-flat_map {X} {Y} f (z ∷ xs) x y h here =
     ⊎_elim (λ (same : z ≡ x). Has-left (f z) (flat_map f xs) y (subst (λ (k : X). Has (f k) y) (sym same) here))
     (λ r. Has-right (f z) (flat_map f xs) y (Has-flat_map f xs x y r here)) h
-
-pub from-flat_map : {X Y : Type 0} (f : X → List Y) (xs : List X) (y : Y) → Has (flat_map f xs) y → (x : X)
-    × Has (f x) y
-from-flat_map f [] y h = absurd h
-from-flat_map f (x ∷ xs) y h =
-    ⊎_elim (λ a. (x, a)) (λ b. from-flat_map f xs y b) (Has-cases (f x) (flat_map f xs) y h)
-
-pub Has-slice_get : {X : Type 0} (xs : List X) (i : ℕ) (x : X) → slice_get xs i ≡ Some x → Has xs x
-Has-slice_get [] i x e = absurd (let f : ⊥ = cc in f)
-Has-slice_get (y ∷ xs) zero x e = let same : y ≡ x = cc in inl same
-Has-slice_get (y ∷ xs) (suc i) x e = inr (Has-slice_get xs i x e)
 
 pub Has-numbers : (count first k : ℕ) → first ≤ k → k < first + count → Has (numbers first count) k
 Has-numbers zero first k le lt = absurd (omega arith)

@@ -1,4 +1,4 @@
--- A world whose nodes have no event that is enabled is at rest, and each event that is listed is enabled.
+-- A world whose nodes have no event that is enabled is at rest.
 use Rattle.std.proofs.Common.{◌≡◌, ℕ, ◌+◌, ◌-◌, ◌%◌, ◌<◌, ◌≤◌, Bool, true, false, ◌&&◌, List, [], ◌∷◌, length, map, get_or, slice_get, Option, Some, None, refl, sym, ap, ◌∙◌, inl, ⊎_elim, arith}
 use Rattle.std.specs.Prelude.{IsTrue, nat_eq}
 use Rattle.std.specs.List.{flat_map}
@@ -8,14 +8,13 @@ use Rattle.std.proofs.lemmas.Option.{slice_get-get_or}
 use Rattle.pico_base.specs.declared.script.Event.{Event}
 use Rattle.pico_base.specs.declared.script.Event.TheVariants as events
 use Rattle.rpc_frame.specs.declared.frame.Frame.{Frame}
-use Rattle.machine_model.specs.Node.{Node}
-use Rattle.machine_model.specs.World.{World, numbers, size, node_at, stream, is_number, is_enabled, is_take_enabled}
-use Rattle.machine_model.specs.Run.{IsAtRest}
-use Rattle.machine_model.specs.Laws.{SchedulesAreRuns}
-use Rattle.machine_model.specs.Schedule.{Schedule, InTurn, Drawn, choice, drawn, schedule_after, enabled_at, enabled_events, events_of, nodes_after}
+use Rattle.world_model.specs.Node.{Node}
+use Rattle.world_model.specs.World.{World, numbers, size, node_at, stream, is_number, is_enabled, is_take_enabled}
+use Rattle.world_model.specs.Run.{IsAtRest}
+use Rattle.world_model.specs.Schedule.{Schedule, InTurn, Drawn, choice, drawn, enabled_at, enabled_events, events_of, nodes_after}
 use Rattle.world_core.specs.Laws.{IsWithin, RestIsWhereNothingIsChosen}
 use Rattle.world_core.proofs.Enabled.{and_right, run_within, take_within}
-use Rattle.world_core.proofs.Members.{Has, Has-left, Has-right, Has-map, Has-filter, filter-passes, Has-flat_map, from-flat_map, Has-slice_get, Has-numbers, nothing-there, filter-none, flat_map-none}
+use Rattle.world_core.proofs.Members.{Has, Has-left, Has-right, Has-map, Has-filter, Has-flat_map, Has-numbers, nothing-there, filter-none, flat_map-none}
 use Rattle.world_core.proofs.Walks.{nothing_first}
 use Rattle.world_core.proofs.Worlds.{IsShaped, reachable-shaped}
 
@@ -125,26 +124,6 @@ choice_none w (Drawn x) shaped within none =
 pub rest_is_where_nothing_is_chosen_lemma : RestIsWhereNothingIsChosen
 rest_is_where_nothing_is_chosen_lemma script w schedule reached within none =
     choice_none w schedule (reachable-shaped script w reached) within none
-
-found_enabled : (w : World) (ns : List ℕ) (i : ℕ) (e : Event) → slice_get (flat_map (enabled_at w) ns) i ≡ Some e
-    → is_enabled w e ≡ true
-found_enabled w ns i e found =
-    let at = from-flat_map (enabled_at w) ns e (Has-slice_get (flat_map (enabled_at w) ns) i e found)
-    in filter-passes (is_enabled w) (events_of (size w) at.0) e at.1
-
-choice_enabled : (w : World) (schedule : Schedule) (e : Event) → choice w schedule ≡ Some e → is_enabled w e ≡ true
-choice_enabled w (InTurn last) e found = found_enabled w (nodes_after (size w) last) 0 e found
-choice_enabled w (Drawn x) e found = found_enabled w (numbers 1 (size w)) (drawn x % length (enabled_events w)) e found
-
-pub schedules_are_runs_lemma : SchedulesAreRuns
-schedules_are_runs_lemma w last schedule [] follows = follows.1
-schedules_are_runs_lemma w last schedule (e ∷ es) follows =
-    record {
-      enabled = choice_enabled w schedule e follows.chosen;
-      next = follows.next;
-      steps = follows.steps;
-      rest = schedules_are_runs_lemma follows.next last (schedule_after schedule e) es follows.rest;
-    }
 
 pub zero_is : (n : ℕ) → (IsTrue (nat_eq n 0) → n ≡ 0) × (n ≡ 0 → IsTrue (nat_eq n 0))
 zero_is n = (λ e. grind arith, λ e. grind arith)

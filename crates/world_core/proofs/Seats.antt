@@ -9,17 +9,19 @@ use Rattle.std.proofs.lemmas.List.Sums.{length-filter, count_by-le-length, sum_b
 use Rattle.pico_base.specs.declared.script.Event.{Event}
 use Rattle.pico_base.specs.declared.script.Event.TheVariants as events
 use Rattle.rpc_frame.specs.declared.frame.Frame.{Frame}
-use Rattle.machine_model.specs.Node.{Node, is_born, can_run}
-use Rattle.machine_model.specs.World.{World, numbers, size, node_at, is_number, is_enabled, is_take_enabled, is_run_enabled}
-use Rattle.machine_model.specs.Schedule.{enabled_at}
+use Rattle.world_model.specs.Node.{Node, is_born, can_run}
+use Rattle.world_model.specs.World.{World, numbers, size, node_at, is_number, is_enabled, is_take_enabled, is_run_enabled}
+use Rattle.world_model.specs.Schedule.{enabled_at}
 use Rattle.world_core.specs.Inbox.{filled_in, is_filled, may_take, from_node, senders}
 use Rattle.world_core.specs.Seat.{IsSeat}
 use Rattle.world_core.proofs.Lists.{slice_get-left, slice_get-right, filter-map, filter_same, count_numbers}
 use Rattle.std.proofs.lemmas.List.{get_or_read}
 use Rattle.kernel_model.specs.Numbers.{is_between}
-use Rattle.machine_model.specs.World.{node_count}
+use Rattle.world_model.specs.World.{node_count}
 use Rattle.world_core.specs.declared.state.State.{State}
-use Rattle.world_core.specs.State.{IsAlive, world_of}
+use Rattle.world_core.specs.Counts.{events_at}
+use Rattle.world_core.specs.State.{IsAlive, AreSeats, world_of}
+use Rattle.world_core.proofs.Counting.{counts-at, length-counts}
 use Rattle.world_core.proofs.Worlds.{IsShaped, reachable-shaped}
 use Rattle.world_core.proofs.Wholes.{take_enabled, length-whole, whole_at, slice_get-whole}
 
@@ -154,16 +156,6 @@ at_node : (found : Option Node) (n : Node) (b : Bool) (f : Node → Bool) → fo
     → b ≡ f n
 at_node found n b f e h = let P : Option Node → Type 0 = λ o. IfSome o (λ m. b ≡ f m) in subst P e h
 
-pub seat-count : (w : World) (p : ℕ) (found : Option Node) (row : List (List Frame)) (b r : Bool) → IsSeat w p found row
-    → IfSome found (λ n. b ≡ is_born n) → IfSome found (λ n. r ≡ can_run n)
-    → length (enabled_at w p) ≡ length (senders b row) + cond r 1 0
-seat-count w p found row b r seat born runs =
-    let n = seat.node
-    in length-enabled_at w p n row seat.number seat.here seat.is_row seat.width
-    ∙ ap (λ (x : Bool). length (senders x row) + cond (can_run n) 1 0)
-    (sym (at_node found n b is_born seat.is_node born))
-    ∙ ap (λ (x : Bool). length (senders b row) + cond x 1 0) (sym (at_node found n r can_run seat.is_node runs))
-
 pub seat-taken : (w : World) (p i from : ℕ) (found : Option Node) (row : List (List Frame)) (b : Bool)
     → IsSeat w p found row
     → IfSome found (λ n. b ≡ is_born n) → i < length (senders b row) → Some from ≡ slice_get (senders b row) i
@@ -221,7 +213,7 @@ some_of : (o : Option Node) → IsSome o → (n : Node) × (o ≡ Some n)
 some_of None some = absurd (let f : ⊥ = cc in f)
 some_of (Some n) some = (n, refl)
 
-few_of : (n : ℕ) → IsTrue (is_between 1 32 n) → n ≤ 32
+pub few_of : (n : ℕ) → IsTrue (is_between 1 32 n) → n ≤ 32
 few_of n e = grind arith
 
 -- what stands at a node's place
@@ -243,7 +235,7 @@ seat_is s p k found row alive le next is_found is_row =
     let row_here : get_or s.inboxes.items k [] ≡ row = sym (get_or_read s.inboxes.items k row lt_row is_row []) in
     record {
       number = omega arith;
-      few = few_of (size w) alive.runnable.sound.size;
+      few = few_of (size w) alive.sound.size;
       node = node.0;
       is_node = node.1;
       here =
@@ -252,3 +244,47 @@ seat_is s p k found row alive le next is_found is_row =
       is_row = ap (λ (i : ℕ). get_or s.inboxes.items i []) (sym place) ∙ row_here;
       width = sym (ap length row_here) ∙ shaped.square k lt_row ∙ shaped.streams;
     }
+
+pub alive-seats : (s : State) → IsAlive s → AreSeats s.nodes.items s.inboxes.items
+alive-seats s alive =
+    let w = world_of s in
+    let shaped : IsShaped w = reachable-shaped s.script w alive.reachable in
+    let few = few_of (size w) alive.sound.size in
+    let same = length-whole s.nodes.items alive.nodes in
+    record {
+      whole = alive.nodes;
+      few = omega (arith, shaped.nodes);
+      width = omega (arith, shaped.nodes, shaped.streams);
+      square = shaped.square;
+    }
+
+read_there : {X : Type 0} (xs : List X) (k : ℕ) (d : X) → k < length xs → get_or xs k d ≡ get_or xs k (get_or xs k d)
+read_there [] k d lt = absurd (omega arith)
+read_there (x ∷ xs) zero d lt = refl
+read_there (x ∷ xs) (suc k) d lt = read_there xs k d (omega arith)
+
+-- what is kept for a node is how many of its events may come next
+pub count-there : (s : State) (p k : ℕ) → IsAlive s → p ≤ node_count s.script → k + 1 ≡ p
+    → (k < length s.counts.items) × (get_or s.counts.items k 0 ≡ length (enabled_at (world_of s) p))
+    × (length (enabled_at (world_of s) p) ≤ 33)
+count-there s p k alive le next =
+    let w = world_of s in
+    let ns = s.nodes.items in
+    let rows = s.inboxes.items in
+    let seats = alive-seats s alive in
+    let shaped : IsShaped w = reachable-shaped s.script w alive.reachable in
+    let lt : k < length ns = omega (arith, shaped.nodes, length-whole ns alive.nodes) in
+    let lt' : k < length rows = omega (arith, seats.width) in
+    let found = get_or ns k None in
+    let row = get_or rows k [] in
+    let seat : IsSeat w p found row =
+    seat_is s p k found row alive le next (read_there ns k None lt) (read_there rows k [] lt') in
+    let n = seat.node in
+    let here : length (enabled_at w p) ≡ length (senders (is_born n) row) + cond (can_run n) 1 0 =
+    length-enabled_at w p n row seat.number seat.here seat.is_row seat.width in (
+      (let width = ap length alive.counted in omega (arith, length-counts ns rows seats.width)),
+      ap (λ (l : List ℕ). get_or l k 0) alive.counted ∙ counts-at ns rows k lt lt'
+          ∙ ap (λ (m : Option Node). events_at m row) seat.is_node ∙ sym here,
+      (let few = senders-le (is_born n) row in let one = at_most_one (can_run n) in
+          omega (arith, here, seat.width, seat.few)),
+    )

@@ -1,9 +1,8 @@
 -- Looking for a sender, stream by stream.
 use Rattle.std.proofs.Common.{◌≡◌, ℕ, ◌+◌, ◌-◌, ◌<◌, ◌≤◌, Bool, true, false, List, [], length, get_or, slice_get, Some, None, sym, ap, ◌∙◌, arith}
 use Rattle.std.specs.List.{filter}
-use Rattle.std.proofs.lemmas.List.{get_or_read}
 use Rattle.rpc_frame.specs.declared.frame.Frame.{Frame}
-use Rattle.machine_model.specs.World.{numbers}
+use Rattle.world_model.specs.World.{numbers}
 use Rattle.world_core.specs.Inbox.{may_take, from_node, senders}
 use Rattle.world_core.proofs.Lists.{filter_hit, filter_pass, filter_skip}
 
@@ -20,19 +19,15 @@ AreLeft-first b row index =
     let e : length row ≡ length row - 0 = omega arith
     in record { same = ap (λ (k : ℕ). slice_get (filter (may b row) (numbers 1 k)) index) e }
 
-here : (b : Bool) (row : List (List Frame)) (at : ℕ) (fs : List Frame) → at < length row → fs ≡ get_or row at fs
-    → may b row (at + 1) ≡ may_take b fs
-here b row at fs lt read =
-    let e : at + 1 - 1 ≡ at = omega arith
-    in ap (λ (k : ℕ). may_take b (get_or row k [])) e ∙ ap (may_take b) (sym (get_or_read row at fs lt read []))
+here : (b : Bool) (row : List (List Frame)) (at : ℕ) → may b row (at + 1) ≡ may_take b (get_or row at [])
+here b row at = let e : at + 1 - 1 ≡ at = omega arith in ap (λ (k : ℕ). may_take b (get_or row k [])) e
 
-pub AreLeft-hit : (b : Bool) (row : List (List Frame)) (index at left : ℕ) (fs : List Frame)
-    → AreLeft b row index at left
-    → at < length row → fs ≡ get_or row at fs → may_take b fs ≡ true → left ≡ 0
+pub AreLeft-hit : (b : Bool) (row : List (List Frame)) (index at left : ℕ) → AreLeft b row index at left
+    → at < length row → may_take b (get_or row at []) ≡ true → left ≡ 0
     → Some (at + 1) ≡ slice_get (senders b row) index
-AreLeft-hit b row index at left fs all lt read e none =
+AreLeft-hit b row index at left all lt e none =
     sym (all.same ∙ ap (λ (k : ℕ). slice_get (filter (may b row) (numbers (at + 1) (length row - at))) k) none
-    ∙ filter_hit (may b row) (at + 1) (length row - at) (omega arith) (here b row at fs lt read ∙ e))
+    ∙ filter_hit (may b row) (at + 1) (length row - at) (omega arith) (here b row at ∙ e))
 
 next_count : (b : Bool) (row : List (List Frame)) (at left : ℕ)
     → slice_get (filter (may b row) (numbers (at + 1 + 1) (length row - at - 1))) left
@@ -41,24 +36,19 @@ next_count b row at left =
     let e : length row - at - 1 ≡ length row - (at + 1) = omega arith
     in ap (λ (k : ℕ). slice_get (filter (may b row) (numbers (at + 1 + 1) k)) left) e
 
-pub AreLeft-pass : (b : Bool) (row : List (List Frame)) (index at left : ℕ) (fs : List Frame)
-    → AreLeft b row index at left
-    → at < length row → fs ≡ get_or row at fs → may_take b fs ≡ true → 0 < left
-    → AreLeft b row index (at + 1) (left - 1)
-AreLeft-pass b row index at left fs all lt read e some = record {
+pub AreLeft-pass : (b : Bool) (row : List (List Frame)) (index at left : ℕ) → AreLeft b row index at left
+    → at < length row → may_take b (get_or row at []) ≡ true → 0 < left → AreLeft b row index (at + 1) (left - 1)
+AreLeft-pass b row index at left all lt e some = record {
   same =
-      all.same
-      ∙ filter_pass (may b row) (at + 1) (length row - at) left (omega arith) (here b row at fs lt read ∙ e) some
+      all.same ∙ filter_pass (may b row) (at + 1) (length row - at) left (omega arith) (here b row at ∙ e) some
       ∙ next_count b row at (left - 1);
 }
 
-pub AreLeft-skip : (b : Bool) (row : List (List Frame)) (index at left : ℕ) (fs : List Frame)
-    → AreLeft b row index at left
-    → at < length row → fs ≡ get_or row at fs → may_take b fs ≡ false → AreLeft b row index (at + 1) left
-AreLeft-skip b row index at left fs all lt read e = record {
+pub AreLeft-skip : (b : Bool) (row : List (List Frame)) (index at left : ℕ) → AreLeft b row index at left
+    → at < length row → may_take b (get_or row at []) ≡ false → AreLeft b row index (at + 1) left
+AreLeft-skip b row index at left all lt e = record {
   same =
-      all.same
-      ∙ filter_skip (may b row) (at + 1) (length row - at) left (omega arith) (here b row at fs lt read ∙ e)
+      all.same ∙ filter_skip (may b row) (at + 1) (length row - at) left (omega arith) (here b row at ∙ e)
       ∙ next_count b row at left;
 }
 

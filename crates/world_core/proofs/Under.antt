@@ -3,8 +3,8 @@ use Rattle.std.proofs.Common.{◌≡◌, ℕ, ◌+◌, ◌<◌, ◌≤◌, true,
 use Rattle.std.proofs.lemmas.List.{take_more, drop_more, take_all}
 use Rattle.pico_base.specs.declared.script.Script.{Script}
 use Rattle.pico_base.specs.declared.script.Event.{Event}
-use Rattle.machine_model.specs.World.{World, opening_world, step, is_enabled}
-use Rattle.machine_model.specs.Run.{Runs, IsRunOf}
+use Rattle.world_model.specs.World.{World, opening_world, step, is_enabled}
+use Rattle.world_model.specs.Run.{Runs, IsRunOf}
 use Rattle.world_core.specs.Stepped.{IsStepped}
 use Rattle.world_core.proofs.Worlds.{Runs-more}
 

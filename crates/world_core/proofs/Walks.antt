@@ -1,11 +1,10 @@
 -- A walk over numbers in order, through lists that are joined: which number's list has the element looked for.
-use Rattle.std.proofs.Common.{◌≡◌, ℕ, ◌+◌, ◌-◌, ◌*◌, ◌<◌, ◌≤◌, true, false, List, [], ◌∷◌, ◌++◌, length, slice_get, Option, Some, None, refl, sym, ap, subst, ◌∙◌, arith, length-append}
+use Rattle.std.proofs.Common.{◌≡◌, ℕ, ◌+◌, ◌-◌, ◌*◌, ◌<◌, ◌≤◌, List, [], ◌∷◌, ◌++◌, length, slice_get, Option, Some, None, refl, sym, ap, subst, ◌∙◌, arith, length-append}
 use Rattle.std.specs.List.{flat_map}
-use Rattle.std.specs.Prelude.{is_some}
 use Rattle.std.proofs.lemmas.Option.{slice_get_within}
 use Rattle.std.proofs.lemmas.List.{append-nil}
 use Rattle.std.proofs.lemmas.List.Concat.{flat_map-append}
-use Rattle.machine_model.specs.World.{numbers}
+use Rattle.world_model.specs.World.{numbers}
 use Rattle.world_core.proofs.Lists.{numbers-more, joined_here, joined_next, slice_get-left, slice_get-right}
 
 -- the lists of the numbers after one, up to another
@@ -80,16 +79,9 @@ first_right xs ys o none e =
     in let z : 0 ≡ 0 - length xs = omega arith
     in e ∙ ap (λ (k : ℕ). slice_get ys k) z ∙ sym (slice_get-right xs ys 0 le)
 
-pub IsWalk-first_here : {X : Type 0} (f : ℕ → List X) (from last at : ℕ) (o : Option X) → IsWalk f from last 0 at 0
-    → at < last → o ≡ slice_get (f (at + 1)) 0 → is_some o ≡ true → o ≡ slice_get (span f from last) 0
-IsWalk-first_here f from last at None walk lt e some = absurd (let g : ⊥ = cc in g)
-IsWalk-first_here f from last at (Some x) walk lt e some =
-    e ∙ IsWalk-here f from last 0 at 0 walk lt (slice_get_within (f (at + 1)) 0 x (sym e))
-
-pub IsWalk-first_next : {X : Type 0} (f : ℕ → List X) (from last at : ℕ) (o : Option X) → IsWalk f from last 0 at 0
-    → at < last → o ≡ slice_get (f (at + 1)) 0 → is_some o ≡ false → IsWalk f from last 0 (at + 1) 0
-IsWalk-first_next f from last at (Some x) walk lt e none = absurd (let g : ⊥ = cc in g)
-IsWalk-first_next f from last at None walk lt e none =
+-- a number with no elements is passed
+pub IsWalk-past : {X : Type 0} (f : ℕ → List X) (from last at : ℕ) → IsWalk f from last 0 at 0 → at < last
+    → length (f (at + 1)) ≤ 0 → IsWalk f from last 0 (at + 1) 0
+IsWalk-past f from last at walk lt none =
     let z : 0 - length (f (at + 1)) ≡ 0 = omega arith
-    in subst (λ (k : ℕ). IsWalk f from last 0 (at + 1) k) z
-    (IsWalk-next f from last 0 at 0 walk lt (nothing_first (f (at + 1)) e))
+    in subst (λ (k : ℕ). IsWalk f from last 0 (at + 1) k) z (IsWalk-next f from last 0 at 0 walk lt none)

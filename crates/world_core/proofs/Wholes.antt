@@ -1,21 +1,24 @@
 -- Nodes none of which is spent, and what a turn of one of them makes.
-use Rattle.std.proofs.Common.{◌≡◌, ℕ, ◌-◌, ◌<◌, suc, zero, Bool, false, List, [], ◌∷◌, ◌++◌, length, map, set, get_or, slice_get, Option, Some, None, IsSome, IfSome, refl, sym, ap, subst, ◌∙◌, arith}
+use Rattle.std.proofs.Common.{◌≡◌, ℕ, ◌-◌, ◌<◌, suc, zero, Bool, false, List, [], ◌∷◌, ◌++◌, length, map, set, get_or, slice_get, Option, Some, None, Result, Ok, Err, IsSome, IfSome, IfOk, refl, sym, ap, subst, ◌∙◌, arith, length-set}
 use Rattle.std.proofs.lemmas.List.{get_or_read, length-map, map-set}
 use Rattle.pico_base.specs.declared.script.Script.{Script}
+use Rattle.pico_base.specs.declared.script.Event.{Event}
 use Rattle.pico_base.specs.declared.script.Event.TheVariants as events
 use Rattle.pico_base.specs.declared.reply.Entry.{Entry}
 use Rattle.rpc_frame.specs.declared.frame.Frame.{Frame}
-use Rattle.machine_model.specs.Node.{Node, can_run, is_born}
-use Rattle.machine_model.specs.Calls.{Step}
-use Rattle.machine_model.specs.Frames.{takes}
-use Rattle.machine_model.specs.World.{World, Streams, node_at, stream, with_stream, with_all_sent, after_turn, runs_at, takes_at, is_run_enabled, is_take_enabled}
+use Rattle.world_model.specs.Node.{Node, can_run, is_born}
+use Rattle.world_model.specs.Step.{Step}
+use Rattle.world_model.specs.Starting.{run}
+use Rattle.world_model.specs.Turn.{take_frame}
+use Rattle.world_model.specs.World.{World, Streams, node_at, stream, with_stream, with_all_sent, after_turn, runs_at, takes_at, is_run_enabled, is_take_enabled}
 use Rattle.node_core.specs.declared.turn.Input.{Input}
 use Rattle.node_core.specs.declared.turn.Input.TheVariants as inputs
 use Rattle.node_core.specs.declared.turn.Turn.{Turn}
 use Rattle.world_core.specs.declared.state.State.{State}
 use Rattle.world_core.specs.Inbox.{IsTaken, may_take}
+use Rattle.node_core.specs.Step.{step_of}
 use Rattle.node_core.specs.Turns.{IsTurn}
-use Rattle.world_core.specs.State.{whole, AreWhole, world_of, IsAfterTurn, IsStep}
+use Rattle.world_core.specs.State.{whole, AreWhole, AreSeats, AreCounted, world_of, IsAfterTurn, IsStep}
 
 pub whole-map : (xs : List Node) → whole (map Some xs) ≡ xs
 whole-map [] = refl
@@ -90,15 +93,18 @@ pub turn_taken : (s next : State) (p k : ℕ) (input : Input) (turn : Turn) (old
     → IsTurn s.script old input new turn → next.script ≡ s.script
     → next.nodes.items ≡ set s.nodes.items k new
     → next.inboxes.items ≡ with_all_sent p s.inboxes.items turn.sends
-    → next.journal ≡ s.journal ++ turn.entries → IsAfterTurn s p input next
-turn_taken s next p k input turn None new all place lt old_is is_turn script nodes streams journal = absurd is_turn
-turn_taken s next p k input turn (Some n) None all place lt old_is is_turn script nodes streams journal = absurd is_turn
-turn_taken s next p k input turn (Some n) (Some m) all place lt old_is is_turn script nodes streams journal =
+    → next.journal ≡ s.journal ++ turn.entries → AreCounted next → IsAfterTurn s p input next
+turn_taken s next p k input turn None new all place lt old_is is_turn script nodes streams journal counted =
+    absurd is_turn
+turn_taken s next p k input turn (Some n) None all place lt old_is is_turn script nodes streams journal counted =
+    absurd is_turn
+turn_taken s next p k input turn (Some n) (Some m) all place lt old_is is_turn script nodes streams journal counted =
     let here : slice_get (whole s.nodes.items) k ≡ Some n =
     slice_get-whole s.nodes.items k all ∙ sym (get_or_read s.nodes.items k (Some n) lt old_is None)
     in let there : next.nodes.items ≡ set s.nodes.items (p - 1) (Some m) =
     nodes ∙ ap (λ (i : ℕ). set s.nodes.items i (Some m)) place
     in record {
+      counted = counted;
       nodes = subst AreWhole (sym there) (AreWhole-set s.nodes.items (p - 1) m all);
       node = n;
       here = ap (λ (i : ℕ). slice_get (whole s.nodes.items) i) (sym place) ∙ here;
@@ -110,10 +116,38 @@ turn_taken s next p k input turn (Some n) (Some m) all place lt old_is is_turn s
           (sym script) (sym (ap whole there ∙ whole-set s.nodes.items (p - 1) m all)) (sym streams) (sym journal));
     }
 
+-- a turn leaves its node there
+pub seats-turn : (ns : List (Option Node)) (streams : Streams) (k : ℕ) (script : Script) (input : Input) (turn : Turn)
+    (old new : Option Node) → AreSeats ns streams → IsTurn script old input new turn → AreSeats (set ns k new) streams
+seats-turn ns streams k script input turn None new seats is_turn = absurd is_turn
+seats-turn ns streams k script input turn (Some n) None seats is_turn = absurd is_turn
+seats-turn ns streams k script input turn (Some n) (Some m) seats is_turn =
+    let same = length-set ns k (Some m) in
+    record {
+      whole = AreWhole-set ns k m seats.whole;
+      few = omega (arith, seats.few);
+      width = seats.width ∙ sym same;
+      square = seats.square;
+    }
+
+-- the step by an input is that of the call due,
+pub step_of-run : (script : Script) (n : Node) → step_of script n inputs.Run ≡ run script n
+unfolding step_of
+step_of-run script n = refl
+
+-- or of the frame
+pub step_of-take : (script : Script) (n : Node) (from : ℕ) (frame : Frame)
+    → step_of script n (inputs.Take from frame) ≡ take_frame script n from frame
+unfolding step_of
+step_of-take script n from frame = refl
+
 pub step_run : (s next : State) (p : ℕ) → IsAfterTurn s p inputs.Run next → IsStep s (events.Run p) next
 step_run s next p turned = record {
+  counted = turned.counted;
   nodes = turned.nodes;
-  taken = ap (λ (o : Option Node). runs_at (world_of s) p o) turned.here ∙ turned.taken;
+  taken =
+      ap (λ (o : Option Node). runs_at (world_of s) p o) turned.here
+      ∙ ap (λ (t : Option Step). after_turn (world_of s) p t) (sym (step_of-run s.script turned.node)) ∙ turned.taken;
 }
 
 -- the frame was taken, and then the node had its turn
@@ -141,11 +175,33 @@ step_take s mid next p from k frame row new place lt row_is taken script nodes j
     (with_stream streams p from fs)
     mid.journal s.journal script (ap (λ (v : _). whole v.items) nodes) left journal in
     record {
+      counted = turned.counted;
       nodes = turned.nodes;
       taken =
           ap (λ (o : Option Node). takes_at (world_of s) p from o (stream (world_of s) p from)) here
           ∙ ap (λ (l : List Frame). takes_at (world_of s) p from (Some turned.node) l) first
-          ∙ ap (λ (w : World). after_turn w p (takes s.script turned.node from frame)) (sym between)
-          ∙ ap (λ (sc : Script). after_turn (world_of mid) p (takes sc turned.node from frame)) (sym script)
+          ∙ ap (λ (w : World). after_turn w p (take_frame s.script turned.node from frame)) (sym between)
+          ∙ ap (λ (sc : Script). after_turn (world_of mid) p (take_frame sc turned.node from frame)) (sym script)
+          ∙ ap (λ (t : Option Step). after_turn (world_of mid) p t)
+          (sym (step_of-take mid.script turned.node from frame))
           ∙ turned.taken;
     }
+
+-- the same of the world that a turn gives, if it gives one
+
+pub run_steps : {E : Type 0} (s : State) (e : Event) (p : ℕ) (r : Result State E) → e ≡ events.Run p
+    → IfOk r (λ next. IsAfterTurn s p inputs.Run next) → IfOk r (λ next. IsStep s e next)
+run_steps s e p (Ok next) is turned = subst (λ (x : Event). IsStep s x next) (sym is) (step_run s next p turned)
+run_steps s e p (Err fault) is turned = tt
+
+pub take_steps : {E : Type 0} (s mid : State) (e : Event) (p from k : ℕ) (frame : Frame) (row new : List (List Frame))
+    (r : Result State E)
+    → e ≡ events.Take p from → k ≡ p - 1 → k < length s.inboxes.items → row ≡ get_or s.inboxes.items k row
+    → IsTaken row from (Some frame) new
+    → mid.script ≡ s.script → mid.nodes ≡ s.nodes → mid.journal ≡ s.journal
+    → mid.inboxes.items ≡ set s.inboxes.items k new
+    → IfOk r (λ next. IsAfterTurn mid p (inputs.Take from frame) next) → IfOk r (λ next. IsStep s e next)
+take_steps s mid e p from k frame row new (Ok next) is place lt row_is taken script nodes journal inboxes turned =
+    subst (λ (x : Event). IsStep s x next) (sym is)
+    (step_take s mid next p from k frame row new place lt row_is taken script nodes journal inboxes turned)
+take_steps s mid e p from k frame row new (Err fault) is place lt row_is taken script nodes journal inboxes turned = tt

@@ -6,11 +6,12 @@ use Rattle.pico_base.specs.declared.script.Script.{Script}
 use Rattle.pico_base.specs.declared.script.Event.{Event}
 use Rattle.pico_base.specs.declared.script.Event.TheVariants as events
 use Rattle.rpc_frame.specs.declared.frame.Frame.{Frame}
-use Rattle.machine_model.specs.Node.{Node, opening_node}
-use Rattle.machine_model.specs.Calls.{Step, run}
-use Rattle.machine_model.specs.Frames.{takes}
-use Rattle.machine_model.specs.World.{World, Streams, numbers, size, node_count, opening_world, node_at, stream, stream_in, with_stream, with_sent, with_all_sent, world_after, after_turn, runs_at, takes_at, step, is_enabled}
-use Rattle.machine_model.specs.Run.{Runs, IsReachableWorld}
+use Rattle.world_model.specs.Node.{Node, opening_node}
+use Rattle.world_model.specs.Step.{Step}
+use Rattle.world_model.specs.Starting.{run}
+use Rattle.world_model.specs.Turn.{take_frame}
+use Rattle.world_model.specs.World.{World, Streams, numbers, size, node_count, opening_world, node_at, stream, stream_in, with_stream, with_sent, with_all_sent, world_after, after_turn, runs_at, takes_at, step, is_enabled}
+use Rattle.world_model.specs.Run.{Runs, IsReachableWorld}
 use Rattle.world_core.specs.State.{IsSquare}
 
 pub length-numbers : (count first : ℕ) → length (numbers first count) ≡ count
@@ -23,7 +24,7 @@ pub record IsShaped (w : World) : Type 0 where
   pub square : IsSquare w.streams
 
 -- a square of empty streams
-IsSquare-replicate : (n : ℕ) → IsSquare (replicate n (replicate n []))
+pub IsSquare-replicate : (n : ℕ) → IsSquare (replicate n (replicate n []))
 IsSquare-replicate n k h =
     let lt : k < n = subst (λ (m : ℕ). k < m) (length-replicate n (replicate n [])) h
     in ap length (get_or-replicate n k (replicate n []) [] lt)
@@ -106,7 +107,7 @@ kept-take w next p from None fs e = absurd (let f : ⊥ = cc in f)
 kept-take w next p from (Some n) [] e = absurd (let f : ⊥ = cc in f)
 kept-take w next p from (Some n) (frame ∷ fs) e =
     let taken : World = record w { streams = with_stream w.streams p from fs }
-    in let kept : IsKept taken next = kept-turn taken next p (takes w.script n from frame) e
+    in let kept : IsKept taken next = kept-turn taken next p (take_frame w.script n from frame) e
     in record {
       script = kept.script;
       shaped = λ shaped. kept.shaped (record {

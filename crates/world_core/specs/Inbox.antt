@@ -1,8 +1,9 @@
 -- What is on its way to one node: a stream of frames from each node, each in the order of sending.
-use Rattle.std.specs.Prelude.{◌≡◌, ℕ, ◌-◌, Bool, true, false, ◌||◌, List, [], ◌∷◌, set, get_or, Option, length, Some, None, count_by}
+use Rattle.std.specs.Prelude.{◌≡◌, ℕ, ◌-◌, ◌≤◌, Bool, true, false, ◌||◌, List, [], ◌∷◌, set, get_or, map, Option, length, Some, None, count_by}
 use Rattle.rpc_frame.specs.declared.frame.Frame.{Frame}
 use Rattle.std.specs.List.{filter}
-use Rattle.machine_model.specs.World.{numbers, is_checkpoint}
+use Rattle.std.specs.Simd.Lanes.{mask_l}
+use Rattle.world_model.specs.World.{numbers, is_checkpoint}
 
 -- the frames from this node
 abbrev pub from_node : List (List Frame) → ℕ → List Frame
@@ -30,6 +31,14 @@ is_filled (frame ∷ frames) = true
 -- how many of the streams have a frame
 abbrev pub filled_in : List (List Frame) → ℕ
 filled_in row = count_by is_filled row
+
+-- the streams that have a frame, as a number: the bit of each stands at its place
+abbrev pub filled_mask : List (List Frame) → ℕ
+filled_mask row = mask_l (map is_filled row)
+
+-- At most 32 streams, and this number has a bit for each, which is set where the stream has a frame.
+abbrev pub IsMarked : ℕ → List (List Frame) → Type 0
+IsMarked filled row = (length row ≤ 32) × (filled ≡ filled_mask row)
 
 -- whether a node takes the first frame of a stream: one that isn't born takes a Checkpoint alone
 abbrev pub may_take : Bool → List Frame → Bool

@@ -1,9 +1,9 @@
 -- What choosing by a schedule comes to.
 use Rattle.std.specs.Prelude.{◌≡◌, ℕ, ◌≤◌, None}
 use Rattle.pico_base.specs.declared.script.Script.{Script}
-use Rattle.machine_model.specs.World.{World, size}
-use Rattle.machine_model.specs.Run.{IsReachableWorld, IsAtRest}
-use Rattle.machine_model.specs.Schedule.{Schedule, InTurn, Drawn, choice}
+use Rattle.world_model.specs.World.{World, size}
+use Rattle.world_model.specs.Run.{IsReachableWorld, IsAtRest}
+use Rattle.world_model.specs.Schedule.{Schedule, InTurn, Drawn, choice}
 
 -- the last event was of one of so many nodes
 abbrev pub IsWithin : ℕ → Schedule → Type 0

@@ -1,3 +1,4 @@
+pub mod Counts
 pub mod Inbox
 pub mod Laws
 pub mod Seat

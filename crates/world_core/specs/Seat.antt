@@ -1,8 +1,8 @@
 -- A node of a world and what is on its way to it.
 use Rattle.std.specs.Prelude.{◌≡◌, ℕ, ◌-◌, ◌≤◌, List, [], get_or, length, Option, Some}
 use Rattle.rpc_frame.specs.declared.frame.Frame.{Frame}
-use Rattle.machine_model.specs.Node.{Node}
-use Rattle.machine_model.specs.World.{World, size, node_at}
+use Rattle.world_model.specs.Node.{Node}
+use Rattle.world_model.specs.World.{World, size, node_at}
 
 pub record IsSeat (w : World) (p : ℕ) (found : Option Node) (row : List (List Frame)) : Type 0 where
   pub number : 1 ≤ p

@@ -1,13 +1,14 @@
 -- What a state of the program stands for: a world, where none of its nodes is spent.
-use Rattle.std.specs.Prelude.{◌≡◌, ℕ, ◌<◌, List, [], ◌∷◌, length, map, get_or, Option, Some, None}
+use Rattle.std.specs.Prelude.{◌≡◌, ℕ, ◌-◌, ◌<◌, ◌≤◌, List, [], ◌∷◌, length, map, set, get_or, Option, Some, None}
 use Rattle.pico_base.specs.declared.script.Event.{Event}
-use Rattle.machine_model.specs.Node.{Node}
-use Rattle.machine_model.specs.Built.{IsRunnable}
-use Rattle.machine_model.specs.World.{World, Streams, node_at, after_turn, step}
-use Rattle.machine_model.specs.Run.{IsReachableWorld}
+use Rattle.world_model.specs.Node.{Node}
+use Rattle.kernel_model.specs.Script.{IsSoundScript}
+use Rattle.world_model.specs.World.{World, Streams, node_at, after_turn, step}
+use Rattle.world_model.specs.Run.{IsReachableWorld}
 use Rattle.node_core.specs.declared.turn.Input.{Input}
 use Rattle.node_core.specs.Step.{step_of}
 use Rattle.world_core.specs.declared.state.State.{State}
+use Rattle.world_core.specs.Counts.{counts_of}
 
 -- the nodes that aren't spent
 abbrev pub whole : List (Option Node) → List Node
@@ -25,14 +26,32 @@ world_of s = record { script = s.script; nodes = whole s.nodes.items; streams = 
 abbrev pub IsSquare : Streams → Type 0
 IsSquare streams = (k : ℕ) → k < length streams → length (get_or streams k []) ≡ length streams
 
--- Runs of a script that can be run lead to it.
+-- nodes that aren't spent, and what is on its way to each of them
+pub record AreSeats (nodes : List (Option Node)) (streams : Streams) : Type 0 where
+  pub whole : AreWhole nodes
+  pub few : length nodes ≤ 32
+  pub width : length streams ≡ length nodes
+  pub square : IsSquare streams
+
+-- The counts beside the nodes are how many events of each node may come next,
+abbrev pub AreCounted : State → Type 0
+AreCounted s = s.counts.items ≡ counts_of s.nodes.items s.inboxes.items
+
+-- and whatever this node's is said to be, the others' are so.
+abbrev pub OthersAreCounted : State → ℕ → Type 0
+OthersAreCounted s p = (count : ℕ) → set s.counts.items (p - 1) count
+    ≡ set (counts_of s.nodes.items s.inboxes.items) (p - 1) count
+
+-- Runs of a sound script lead to it, and its counts are right.
 pub record IsAlive (s : State) : Type 0 where
+  pub counted : AreCounted s
   pub nodes : AreWhole s.nodes.items
-  pub runnable : IsRunnable s.script
+  pub sound : IsSoundScript s.script
   pub reachable : IsReachableWorld s.script (world_of s)
 
 -- a node had its turn
 pub record IsAfterTurn (s : State) (p : ℕ) (input : Input) (next : State) : Type 0 where
+  pub counted : AreCounted next
   pub nodes : AreWhole next.nodes.items
   pub node : Node
   pub here : node_at (world_of s) p ≡ Some node
@@ -40,5 +59,6 @@ pub record IsAfterTurn (s : State) (p : ℕ) (input : Input) (next : State) : Ty
 
 -- an event was carried out
 pub record IsStep (s : State) (e : Event) (next : State) : Type 0 where
+  pub counted : AreCounted next
   pub nodes : AreWhole next.nodes.items
   pub taken : step (world_of s) e ≡ Some (world_of next)

@@ -1,7 +1,7 @@
 -- What contracts see of the program's world: a world of the machine, or none where it is spent.
 use Rattle.std.specs.Prelude.{Option, IfSome}
 use Rattle.std.specs.Option.{option_map}
-use Rattle.machine_model.specs.World.{World}
+use Rattle.world_model.specs.World.{World}
 use Rattle.world_core.specs.declared.state.State.{State}
 use Rattle.world_core.specs.State.{IsAlive, world_of}
 

@@ -1,5 +1,5 @@
-//! The streams to one node, and how many of them have a frame.
-ghost use Rattle.std.specs.Prelude.{◌≡◌, ◌≤◌, ◌-◌, ◌+◌, [], ◌∷◌, ◌++◌, length, replicate, false, count_by, slice_get, IfOk, OnOk};
+//! The streams to one node, and which of them have a frame.
+ghost use Rattle.std.specs.Prelude.{◌≡◌, ◌<◌, ◌≤◌, ◌-◌, ◌+◌, [], ◌∷◌, ◌++◌, length, replicate, get_or, false, count_by, slice_get, IfOk, OnOk};
 ghost use Rattle.world_core.specs.Inbox.{IsTaken, from_node, with_from, may_take, senders};
 
 use crate::stream::Stream;
@@ -8,23 +8,24 @@ use rpc_frame::Frame;
 use std::alloc::Global;
 use std::marker::Model;
 
-/// What is on its way to one node: a stream from each node. How many of the streams have a frame is kept beside them.
+/// What is on its way to one node: a stream from each node, of which there are at most 32. Which of the streams have a
+/// frame is kept beside them, a bit for each at its place.
 #[derive(Drop)]
 pub(crate) struct Inbox {
     streams: Vec<Stream>,
-    filled: usize,
+    filled: u32,
 }
 
 impl Model for Inbox {
-    ghost use Rattle.std.specs.Prelude.{◌≡◌, List};
+    ghost use Rattle.std.specs.Prelude.{List};
     ghost use Rattle.rpc_frame.specs.declared.frame.Frame.{Frame};
-    ghost use Rattle.world_core.specs.Inbox.{filled_in};
+    ghost use Rattle.world_core.specs.Inbox.{IsMarked};
 
     ghost Value = { List (List Frame) };
 
     ghost view = { λ i. i.streams.items };
 
-    ghost invariant = { λ i. i.filled ≡ filled_in i.streams.items };
+    ghost invariant = { λ i. IsMarked i.filled i.streams.items };
 }
 
 /// The place of a node and of what belongs to it, from 0.
@@ -38,6 +39,7 @@ pub(crate) fn place(node: Node) -> usize
 impl Inbox {
     /// Nothing is on its way from any of so many nodes.
     pub(crate) fn new(alloc: Global, count: usize) -> Result<Inbox, Memory>
+        requires { count ≤ 32 }
         ensures { IfOk result (λ inbox. inbox ≡ replicate count []) }
     {
         let mut streams = Vec::new(alloc);
@@ -53,7 +55,7 @@ impl Inbox {
     {
         let mut count = 0;
         for stream in &self.streams {
-            if stream.may_take(false) {
+            if stream.brings_checkpoint() {
                 count += 1;
             }
         }
@@ -62,27 +64,35 @@ impl Inbox {
 
     /// How many frames the node may take, each the first of its stream. No stream is looked at where none has a frame
     /// and where the node takes any.
-    pub(crate) fn count(&self, is_born: bool) -> usize
+    pub(crate) fn count(&self, is_born: bool) -> u32
         ensures count { result ≡ length (senders is_born self.now) }
-        ensures few { result ≤ length self.now }
+        ensures few { result ≤ 32 }
     {
         if is_born {
-            self.filled
+            self.filled.count_ones()
         } else if self.filled == 0 {
             0
         } else {
-            self.checkpoints()
+            self.checkpoints() as u32
         }
+    }
+
+    /// Whether the node takes the first frame of the stream at this place, if there is one. The stream is looked at
+    /// only where it has a frame and the node doesn't take any.
+    fn may_take_at(&self, at: usize, is_born: bool) -> bool
+        requires { at < length self.now }
+        ensures { result ≡ may_take is_born (get_or self.now at []) }
+    {
+        self.filled >> at & 1 == 1 && (is_born || self.streams[at].brings_checkpoint())
     }
 
     /// Who sent the frame at this place of those that the node may take, from 0.
     pub(crate) fn nth(&self, is_born: bool, index: u32) -> Option<Node>
-        requires { length self.now ≤ 32 }
         ensures { result ≡ slice_get (senders is_born self.now) index }
     {
         let mut left = index;
-        for (at, stream) in self.streams.iter().enumerate() {
-            if stream.may_take(is_born) {
+        for at in 0..self.streams.len() {
+            if self.may_take_at(at, is_born) {
                 if left == 0 {
                     return Some(Node(at as u8 + 1));
                 }
@@ -96,10 +106,8 @@ impl Inbox {
     pub(crate) fn may_take(&self, from: Node, is_born: bool) -> bool
         ensures { result ≡ may_take is_born (from_node self.now from) }
     {
-        match self.streams.get(place(from)) {
-            Some(stream) => stream.may_take(is_born),
-            None => false,
-        }
+        let at = place(from);
+        at < self.streams.len() && self.may_take_at(at, is_born)
     }
 
     /// A frame from that node comes after all that are on their way from it.
@@ -107,12 +115,9 @@ impl Inbox {
         requires { from ≤ length self.old }
         ensures { OnOk result (self.new ≡ with_from self.old from (from_node self.old from ++ frame ∷ [])) }
     {
-        let stream = &mut self.streams[place(from)];
-        let was_filled = stream.is_filled();
-        stream.push(frame)?;
-        if !was_filled {
-            self.filled += 1;
-        }
+        let at = place(from);
+        self.streams[at].push(frame)?;
+        self.filled |= 1 << at;
         Ok(())
     }
 
@@ -121,10 +126,11 @@ impl Inbox {
         requires { from ≤ length self.old }
         ensures { IsTaken self.old from result self.new }
     {
-        let stream = &mut self.streams[place(from)];
+        let at = place(from);
+        let stream = &mut self.streams[at];
         let frame = stream.take()?;
         if !stream.is_filled() {
-            self.filled -= 1;
+            self.filled &= !(1 << at);
         }
         Some(frame)
     }

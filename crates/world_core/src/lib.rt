@@ -2,9 +2,9 @@
 //! It carries out one event at a time, and says which events may come next.
 #![tactic(auto)]
 
-ghost use Rattle.machine_model.specs.Laws.{SchedulesAreRuns};
 ghost use Rattle.world_core.specs.Laws.{RestIsWhereNothingIsChosen};
 
+mod counts;
 mod inbox;
 mod state;
 mod stream;
@@ -14,11 +14,6 @@ pub use world::World;
 
 #[cfg(test)]
 mod tests;
-
-/// The events that a schedule takes are a run: each may come when it comes.
-pub fn schedules_are_runs()
-    ensures { SchedulesAreRuns }
-{}
 
 /// A schedule finds no event only where the world is at rest, in each world that a run leads to.
 pub fn rest_is_where_nothing_is_chosen()

@@ -1,34 +1,39 @@
 //! The world that isn't spent: its nodes, their inboxes and the journal.
 ghost use Rattle.std.specs.Prelude.{◌≡◌, ◌↔◌, ◌≤◌, ◌-◌, [], ◌++◌, length, map, replicate, true, Some, slice_get, ◌+◌, IfOk, OnOk, IfSome, IsSome, IsTrue};
 ghost use Rattle.std.specs.List.{flat_map};
-ghost use Rattle.machine_model.specs.Built.{IsRunnable};
-ghost use Rattle.machine_model.specs.Node.{opening_node};
-ghost use Rattle.machine_model.specs.World.{numbers, node_count, opening_world, node_at, is_run_enabled, is_take_enabled, is_enabled, stream, with_all_sent};
-ghost use Rattle.machine_model.specs.Run.{IsAtRest};
-ghost use Rattle.machine_model.specs.Schedule.{enabled_at, enabled_events, in_turn};
+ghost use Rattle.kernel_model.specs.Script.{IsSoundScript};
+ghost use Rattle.world_model.specs.Node.{opening_node};
+ghost use Rattle.world_model.specs.World.{numbers, node_count, opening_world, node_at, is_run_enabled, is_take_enabled, is_enabled, stream, with_sent, with_all_sent};
+ghost use Rattle.world_model.specs.Run.{IsAtRest};
+ghost use Rattle.world_model.specs.Schedule.{enabled_at, enabled_events, in_turn};
 ghost use Rattle.world_core.specs.Seat.{IsSeat};
 ghost use Rattle.node_core.specs.Step.{step_of};
 ghost use Rattle.node_core.specs.Turns.{IsTurn};
-ghost use Rattle.world_core.specs.State.{AreWhole, IsSquare, world_of, IsAfterTurn, IsStep, IsAlive};
+ghost use Rattle.world_core.specs.Counts.{counts_of};
+ghost use Rattle.world_core.specs.State.{AreWhole, AreSeats, AreCounted, OthersAreCounted, world_of, IsAfterTurn, IsStep, IsAlive};
 
+use crate::counts::{count_all, count_of};
 use crate::inbox::{Inbox, place};
-use machine_laws::enabled_events_have_steps;
 use node_core::{Input, PicoNode, Sends, Turn, TurnFault};
 use pico_base::{Entries, Event, Memory, Node, Script};
+use rpc_frame::Frame;
 use std::alloc::Global;
+use world_runs::enabled_events_have_steps;
 
-/// A world: nodes by number, what is on its way to each of them, and what they carried out.
+/// A world: nodes by number, what is on its way to each of them, how many events of each may come next, and what they
+/// carried out.
 #[derive(Drop)]
 pub(crate) struct State {
     pub(crate) script: Script,
     pub(crate) nodes: Vec<PicoNode>,
     pub(crate) inboxes: Vec<Inbox>,
+    pub(crate) counts: Vec<u8>,
     pub(crate) journal: Entries,
 }
 
 /// How many nodes a script has.
 pub(crate) fn size(script: &Script) -> u8
-    requires { IsRunnable script.now }
+    requires { IsSoundScript script.now }
     ensures size { result ≡ length script.now.blocks }
     ensures few { (1 ≤ result) × (result ≤ 32) }
 {
@@ -37,7 +42,7 @@ pub(crate) fn size(script: &Script) -> u8
 
 /// The nodes of a script before any event.
 fn opening_nodes(alloc: Global, script: &Script) -> Result<Vec<PicoNode>, Memory>
-    requires { IsRunnable script.now }
+    requires { IsSoundScript script.now }
     ensures { IfOk result (λ nodes. nodes.items ≡ map Some (map opening_node (numbers 1 (length script.now.blocks)))) }
 {
     let mut nodes = Vec::new(alloc);
@@ -49,6 +54,7 @@ fn opening_nodes(alloc: Global, script: &Script) -> Result<Vec<PicoNode>, Memory
 
 /// Nothing is on its way to any of so many nodes.
 fn empty_inboxes(alloc: Global, count: usize) -> Result<Vec<Inbox>, Memory>
+    requires { count ≤ 32 }
     ensures { IfOk result (λ inboxes. inboxes.items ≡ replicate count (replicate count [])) }
 {
     let mut inboxes = Vec::new(alloc);
@@ -60,7 +66,7 @@ fn empty_inboxes(alloc: Global, count: usize) -> Result<Vec<Inbox>, Memory>
 
 /// The turn of a node that the machine has a step for. After an `Err` the node is spent.
 fn take_turn(node: &mut PicoNode, script: &Script, input: Input) -> Result<Turn, Memory>
-    requires runnable { IsRunnable script.now }
+    requires sound { IsSoundScript script.now }
     requires allowed { IfSome node.old (λ n. IsSome (step_of script.now n input)) }
     ensures { IfOk result (λ turn. IsTurn script.now node.old input node.new turn) }
 {
@@ -81,18 +87,46 @@ fn add_entries(journal: &mut Entries, entries: Entries) -> Result<(), Memory>
     Ok(())
 }
 
-/// The frames that a node sends go their ways, each behind those that it has sent to that node before. A frame to a
-/// node
-/// that there isn't is lost, as in the machine.
-fn send_all(inboxes: &mut Vec<Inbox>, from: Node, sends: Sends) -> Result<(), Memory>
-    requires square { IsSquare inboxes.old.items }
+/// A frame goes its way, behind those that its sender has sent to that node before. A frame to a node that there isn't
+/// is lost, as in the machine.
+fn send(
+    nodes: &[PicoNode],
+    inboxes: &mut Vec<Inbox>,
+    counts: &mut Vec<u8>,
+    from: Node,
+    to: Node,
+    frame: Frame,
+) -> Result<(), Memory>
+    requires seats { AreSeats nodes.now inboxes.old.items }
     requires there { from ≤ length inboxes.old.items }
-    ensures { OnOk result (inboxes.new.items ≡ with_all_sent from inboxes.old.items sends) }
+    requires counted { counts.old.items ≡ counts_of nodes.now inboxes.old.items }
+    ensures sent { OnOk result (inboxes.new.items ≡ with_sent from inboxes.old.items (to, frame)) }
+    ensures counted { OnOk result (counts.new.items ≡ counts_of nodes.now inboxes.new.items) }
+{
+    let at = place(to);
+    if at < inboxes.len() {
+        inboxes[at].push(from, frame)?;
+        counts[at] = count_of(&nodes[at], &inboxes[at]);
+    }
+    Ok(())
+}
+
+/// The frames that a node sends go their ways, one after another.
+fn send_all(
+    nodes: &[PicoNode],
+    inboxes: &mut Vec<Inbox>,
+    counts: &mut Vec<u8>,
+    from: Node,
+    sends: Sends,
+) -> Result<(), Memory>
+    requires seats { AreSeats nodes.now inboxes.old.items }
+    requires there { from ≤ length inboxes.old.items }
+    requires counted { counts.old.items ≡ counts_of nodes.now inboxes.old.items }
+    ensures sent { OnOk result (inboxes.new.items ≡ with_all_sent from inboxes.old.items sends) }
+    ensures counted { OnOk result (counts.new.items ≡ counts_of nodes.now inboxes.new.items) }
 {
     for (to, frame) in sends.into_vec() {
-        if place(to) < inboxes.len() {
-            inboxes[place(to)].push(from, frame)?;
-        }
+        send(nodes, inboxes, counts, from, to, frame)?;
     }
     Ok(())
 }
@@ -100,15 +134,18 @@ fn send_all(inboxes: &mut Vec<Inbox>, from: Node, sends: Sends) -> Result<(), Me
 impl State {
     /// The world of a script before any event.
     pub(crate) fn start(alloc: Global, script: Script) -> Result<State, Memory>
-        requires { IsRunnable script }
-        ensures { IfOk result (λ s. AreWhole s.nodes.items × (world_of s ≡ opening_world script)) }
+        requires { IsSoundScript script }
+        ensures made { IfOk result (λ s. AreWhole s.nodes.items × (world_of s ≡ opening_world script)) }
+        ensures counted { IfOk result AreCounted }
     {
         let nodes = opening_nodes(alloc, &script)?;
         let inboxes = empty_inboxes(alloc, script.blocks.len())?;
+        let counts = count_all(alloc, &nodes, &inboxes)?;
         Ok(State {
             script,
             nodes,
             inboxes,
+            counts,
             journal: Entries::new(alloc),
         })
     }
@@ -167,9 +204,7 @@ impl State {
         ensures count { result ≡ length (enabled_at (world_of self.now) node) }
         ensures few { result ≤ 33 }
     {
-        let (pico, inbox) = self.seat(node);
-        let takes = inbox.count(pico.born()) as u32;
-        if pico.can_run() { takes + 1 } else { takes }
+        u32::from(self.counts[place(node)])
     }
 
     /// The event at this place of those of the node that may come next, from 0.
@@ -180,7 +215,7 @@ impl State {
     {
         let (pico, inbox) = self.seat(node);
         let is_born = pico.born();
-        let takes = inbox.count(is_born) as u32;
+        let takes = inbox.count(is_born);
         if index < takes {
             let from = inbox.nth(is_born, index)?;
             return Some(Event::Take { node, from });
@@ -230,9 +265,9 @@ impl State {
             (flat_map (enabled_at (world_of self.now)) (numbers (after + 1) (last - after))) 0 }
     {
         for number in after..last {
-            let first = self.nth_at(Node(number + 1), 0);
-            if first.is_some() {
-                return first;
+            let node = Node(number + 1);
+            if self.count_at(node) > 0 {
+                return self.nth_at(node, 0);
             }
         }
         None
@@ -260,17 +295,24 @@ impl State {
 
     /// The node's turn: its entries follow in the journal, and its frames go their ways.
     fn turn(mut self, node: Node, input: Input) -> Result<State, Memory>
-        requires nodes { AreWhole self.nodes.items }
-        requires runnable { IsRunnable self.script }
+        requires seats { AreSeats self.nodes.items self.inboxes.items }
+        requires sound { IsSoundScript self.script }
         requires there { node ≤ length self.nodes.items }
-        requires square { IsSquare self.inboxes.items }
-        requires streams { node ≤ length self.inboxes.items }
+        requires counted { OthersAreCounted self node }
         requires allowed { IfSome (node_at (world_of self) node) (λ n. IsSome (step_of self.script n input)) }
         ensures { IfOk result (λ next. IsAfterTurn self node input next) }
     {
-        let Turn { entries, sends } = take_turn(&mut self.nodes[place(node)], &self.script, input)?;
+        let at = place(node);
+        let Turn { entries, sends } = take_turn(&mut self.nodes[at], &self.script, input)?;
         add_entries(&mut self.journal, entries)?;
-        send_all(&mut self.inboxes, node, sends)?;
+        self.counts[at] = count_of(&self.nodes[at], &self.inboxes[at]);
+        send_all(
+            &self.nodes,
+            &mut self.inboxes,
+            &mut self.counts,
+            node,
+            sends,
+        )?;
         Ok(self)
     }
 

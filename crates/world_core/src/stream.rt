@@ -1,5 +1,5 @@
 //! One stream of frames, in the order of sending.
-ghost use Rattle.std.specs.Prelude.{◌≡◌, [], ◌∷◌, ◌++◌, OnOk, OnErr};
+ghost use Rattle.std.specs.Prelude.{◌≡◌, [], ◌∷◌, ◌++◌, false, OnOk, OnErr};
 ghost use Rattle.world_core.specs.Inbox.{IsFirstOf, is_filled, may_take};
 
 use pico_base::Memory;
@@ -40,15 +40,11 @@ impl Stream {
         self.frames.front().is_some()
     }
 
-    /// Whether a node takes the first frame. One that isn't born takes a Checkpoint alone.
-    pub(crate) fn may_take(&self, is_born: bool) -> bool
-        ensures { result ≡ may_take is_born self.now }
+    /// Whether a Checkpoint comes first, which a node takes that isn't born.
+    pub(crate) fn brings_checkpoint(&self) -> bool
+        ensures { result ≡ may_take false self.now }
     {
-        match self.frames.front() {
-            Some(Frame::Checkpoint { .. }) => true,
-            Some(_) => is_born,
-            None => false,
-        }
+        matches!(self.frames.front(), Some(Frame::Checkpoint { .. }))
     }
 
     /// Sends a frame: it comes after all that are on their way. A refusal changes nothing.

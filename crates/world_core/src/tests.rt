@@ -1,6 +1,7 @@
 //! The worked examples of the machine's definitions, carried out by the program: their events and journals are theirs.
 ghost use Rattle.std.specs.Prelude.{◌≡◌, ◌≤◌, ◌∷◌, [], pos, false, true, Some, None, codes, IfOk, OnOk, IsSome};
-ghost use Rattle.machine_model.specs.Examples.{both_find_nothing, asks_its_number, line as line_of};
+ghost use Rattle.world_model.specs.Example.{line as line_of};
+ghost use Rattle.world_model.specs.Examples.{both_find_nothing, asks_its_number};
 
 use crate::World;
 use pico_base::{
@@ -11,7 +12,7 @@ use std::alloc::Global;
 use std::test::Fail;
 
 fn line(set: Option<Var>, from: Option<Var>, call: Call) -> Line
-    ensures { result ≡ line_of set from call }
+    ensures { result ≡ line_of set 1 from call }
 {
     Line {
         set,

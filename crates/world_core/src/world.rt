@@ -2,18 +2,20 @@
 ghost use Rattle.std.specs.Prelude.{◌≡◌, ◌↔◌, ◌≤◌, true, length, slice_get, Some, None, IfOk, OnOk, OnErr, IfSome, IsSome, IsErr, IsTrue};
 ghost use Rattle.kernel_model.specs.History.{IsLegal};
 ghost use Rattle.kernel_model.specs.Fitting.{Fits, FitsWhole};
-ghost use Rattle.machine_model.specs.Built.{IsRunnable};
-ghost use Rattle.machine_model.specs.World.{World as MachineWorld, size, opening_world, is_enabled};
-ghost use Rattle.machine_model.specs.Run.{IsRunOf, IsAtRest};
-ghost use Rattle.machine_model.specs.Schedule.{enabled_events, in_turn};
+ghost use Rattle.kernel_model.specs.Script.{IsSoundScript};
+ghost use Rattle.world_model.specs.World.{World as MachineWorld, size, opening_world, is_enabled};
+ghost use Rattle.world_model.specs.Run.{IsRunOf, IsAtRest};
+ghost use Rattle.world_model.specs.Schedule.{enabled_events, in_turn};
+ghost use Rattle.world_rest.specs.Laws.{IsQuiet};
 ghost use Rattle.world_core.specs.State.{IsAlive, world_of};
 ghost use Rattle.world_core.specs.Stepped.{IsStepped};
 
 use crate::state::State;
-use machine_laws::{journals_are_legal, rest_is_whole};
 use pico_base::{Entries, Event, Memory, Node, Script};
 use std::alloc::Global;
 use std::marker::Model;
+use world_rest::{rest_is_quiet, rest_is_whole};
+use world_runs::journals_are_legal;
 
 /// A world of picoprocesses that runs a script. Contracts see a world of the machine, which a run of the script has led
 /// to, or none where the world is spent: an allocation was refused in the middle of a step.
@@ -24,7 +26,7 @@ pub struct World {
 
 impl Model for World {
     ghost use Rattle.std.specs.Prelude.{Option};
-    ghost use Rattle.machine_model.specs.World.{World as MachineWorld};
+    ghost use Rattle.world_model.specs.World.{World as MachineWorld};
 
     ghost Value = { Option MachineWorld };
 
@@ -39,7 +41,7 @@ impl World {
     /// The script's world before any event: node 1 is born with process 1, and nothing was carried out. An `Err` says
     /// that an allocation was refused.
     pub fn start(alloc: Global, script: Script) -> Result<World, Memory>
-        requires runnable { IsRunnable script }
+        requires sound { IsSoundScript script }
         ensures { IfOk result (λ w. w ≡ Some (opening_world script)) }
     {
         Ok(World {
@@ -94,13 +96,16 @@ impl World {
         self.state().in_turn(after)
     }
 
-    /// Whether no event may come next. At rest the journal has each process's calls to its end.
+    /// Whether no event may come next. At rest the journal has each process's calls to its end, nothing is on its way,
+    /// the leader holds nothing, and each node has left or was never born, but node 1, which goes on.
     pub fn at_rest(&self) -> bool
         requires whole { IsSome self.now }
         ensures rest { IfSome self.now (λ w. IsTrue result ↔ IsAtRest w) }
         ensures ended { IfSome self.now (λ w. IsTrue result → FitsWhole w.script w.journal) }
+        ensures quiet { IfSome self.now (λ w. IsTrue result → IsQuiet w.script w) }
     {
         rest_is_whole();
+        rest_is_quiet();
         self.state().at_rest()
     }
 
@@ -140,7 +145,7 @@ impl World {
     /// The world of a script after these events, of which each may come when it comes. An `Err` says that an allocation
     /// was refused.
     pub fn of_logs(alloc: Global, script: Script, events: &[Event]) -> Result<World, Memory>
-        requires runnable { IsRunnable script }
+        requires sound { IsSoundScript script }
         requires run { (w : MachineWorld) × IsRunOf script events.now w }
         ensures run { IfOk result (λ w. IfSome w (IsRunOf script events.now)) }
         ensures whole { IfOk result (λ w. IsSome w) }

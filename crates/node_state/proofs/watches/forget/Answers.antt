@@ -4,4 +4,4 @@ use Rattle.node_state.proofs.watches.forget.Goals as goal
 
 pub returns : goal.returns
 returns c =
-    c.remove.ensures.entries ∙ sym (without-remove c.args.watches.now.entries c.args.number c.len-held.ensures.ordered)
+    c.remove.ensures.entries ∙ sym (without-remove c.args.watches.now.entries c.args.number c.len.ensures.ordered)

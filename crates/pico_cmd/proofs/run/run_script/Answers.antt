@@ -1,6 +1,6 @@
 use Rattle.std.proofs.Common.{◌∙◌, ap}
-use Rattle.machine_model.specs.Schedule.{schedule_of}
-use Rattle.pico_cmd.proofs.Runs.{IsUnderWay-start, IsUnderWay-more, IsUnderWay-end, world_is_whole, world_has_last, chosen_is_enabled, weight_lowered}
+use Rattle.world_model.specs.Schedule.{schedule_of}
+use Rattle.pico_cmd.proofs.Runs.{IsUnderWay-start, IsUnderWay-more, IsUnderWay-end, world_is_whole, world_has_last, chosen_is_enabled, fewer_left}
 use Rattle.pico_cmd.proofs.run.run_script.Goals as goal
 
 pub loop-event-init : goal.loop-event-init
@@ -26,9 +26,13 @@ loop-event-preserved c =
     c.after-schedule.ensures c.in_ok-push.ensures.items
 
 pub loop-event-smaller : goal.loop-event-smaller
-loop-event-smaller c = weight_lowered _ _ _ c.laws.ensures.lower c.in_ok-step.ensures.ok
+loop-event-smaller c =
+    fewer_left _ _ _ _ _ _ _ c.laws.ensures.short c.requires c.in_ok-push.ensures.items
+    (IsUnderWay-more _ _ _ _ _ _ _ _ _ _ c.loop-event.invariant c.choice.ensures c.in-Some.is c.in_ok-step.ensures.ok
+    c.after-schedule.ensures c.in_ok-push.ensures.items)
 
 pub returns : goal.returns
 returns c =
-    IsUnderWay-end _ _ _ _ _ _ c.laws.ensures.legal c.laws.ensures.whole c.laws.ensures.owners c.laws.ensures.short
-    c.laws.ensures.runs c.laws.ensures.rest c.requires c.loop-event.invariant c.choice.ensures c.in_default.is
+    IsUnderWay-end _ _ _ _ _ _ c.laws.ensures.legal c.laws.ensures.quiet c.laws.ensures.ended c.laws.ensures.whole
+    c.laws.ensures.owners c.laws.ensures.short c.laws.ensures.rest c.requires c.loop-event.invariant c.choice.ensures
+    c.in_default.is

@@ -8,7 +8,7 @@ pub loop-bytes-init : goal.loop-bytes-init
 loop-bytes-init c =
     let first = start_place c.len.result c.in_ok-place.place c.in_ok-place.ensures in
     record {
-      reads = ap (λ p. blocks_from c.args.runnable c.args.names.now p 1 (lines_of c.args.text.now))
+      reads = ap (λ p. blocks_from c.args.names.now p 1 (lines_of c.args.text.now))
           (c.in_ok-place.ensures ∙ ap start c.len.ensures);
       counted = omega arith;
       blocks = omega (arith, first.0);
@@ -18,18 +18,18 @@ loop-bytes-init c =
 pub returns-in-Some-fault_of : goal.returns-in-Some-fault_of
 returns-in-Some-fault_of c =
     let l = c.loop-bytes in
-    let from = blocks_from c.args.runnable c.args.names.now l.place l.number in
+    let from = blocks_from c.args.names.now l.place l.number in
     sym l.invariant.reads ∙ ap from c.in-Some.ensures.lines
-    ∙ blocks_from-stops c.args.runnable c.args.names.now l.place l.number c.in-Some.bytes.now
+    ∙ blocks_from-stops c.args.names.now l.place l.number c.in-Some.bytes.now
     (lines_of c.in-Some.after.now) c.in_ok-said.said c.in-Some-fault_of.fault c.in_ok-said.ensures
     (sym c.fault_of.ensures ∙ c.in-Some-fault_of.is)
 
 pub loop-bytes-preserved : goal.loop-bytes-preserved
 loop-bytes-preserved c =
     let l = c.loop-bytes in
-    let from = blocks_from c.args.runnable c.args.names.now in
+    let from = blocks_from c.args.names.now in
     let none = sym c.fault_of.ensures ∙ c.in_default-fault_of.is in
-    let goes = blocks_from-goes c.args.runnable c.args.names.now l.place l.number c.in-Some.bytes.now
+    let goes = blocks_from-goes c.args.names.now l.place l.number c.in-Some.bytes.now
     (lines_of c.in-Some.after.now) c.in_ok-said.said c.in_ok-said.ensures none in
     record {
       reads = ap (λ p. from p (l.number + 1) (lines_of c.in-Some.after.now)) c.in_ok-place-2.ensures ∙ sym goes
@@ -43,7 +43,7 @@ loop-bytes-preserved c =
       );
       calls = omega (
         arith,
-        calls_within c.args.runnable l.place (length c.in-Some.bytes.now) c.in_ok-said.said none,
+        calls_within l.place (length c.in-Some.bytes.now) c.in_ok-said.said none,
         ap (λ p. p.calls) c.in_ok-place-2.ensures,
       );
     }
@@ -51,7 +51,7 @@ loop-bytes-preserved c =
 pub returns : goal.returns
 returns c =
     let l = c.loop-bytes in
-    let from = blocks_from c.args.runnable c.args.names.now l.place l.number in
+    let from = blocks_from c.args.names.now l.place l.number in
     gives_same c.ending.result (ending l.place l.number) _
-    (sym (blocks_from-ends c.args.runnable c.args.names.now l.place l.number
+    (sym (blocks_from-ends c.args.names.now l.place l.number
     (lines_of l.rest.now) c.in_default.ensures.lines) ∙ l.invariant.reads) c.ending.ensures

@@ -7,8 +7,8 @@ use Rattle.script_reader.proofs.script.blocks_with.Given as goal
 abbrev pub invariant-loop-bytes : goal.invariant-loop-bytes
 invariant-loop-bytes l =
     record {
-      reads : blocks_from l.fn.runnable l.names l.place l.number (lines_of l.rest)
-          ≡ blocks_from l.fn.runnable l.fn.names (start (length l.fn.names)) 1 (lines_of l.fn.text);
+      reads : blocks_from l.names l.place l.number (lines_of l.rest)
+          ≡ blocks_from l.fn.names (start (length l.fn.names)) 1 (lines_of l.fn.text);
       counted : l.number + length l.rest ≤ length l.fn.text + 1;
       blocks : length l.place.blocks + 1 ≤ l.number;
       calls : l.place.calls ≤ 20000;

@@ -1,7 +1,7 @@
 use Rattle.std.proofs.Common.{◌≡◌, ◌++◌, drop}
 use Rattle.std.specs.Prelude.{option_map}
 use Rattle.script_reader.specs.Words.{texts}
-use Rattle.script_reader.specs.Parts.{each, step, number}
+use Rattle.script_reader.specs.Parts.{each, number}
 use Rattle.script_reader.proofs.texts.numbers.Given as goal
 
 -- what the words so far give, and those that are left

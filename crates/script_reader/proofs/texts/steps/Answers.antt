@@ -1,6 +1,6 @@
 use Rattle.std.proofs.Common.{◌+◌, drop, sym, ◌∙◌, arith}
 use Rattle.script_reader.specs.Words.{texts}
-use Rattle.script_reader.specs.Parts.{step, number}
+use Rattle.script_reader.specs.Parts.{step}
 use Rattle.script_reader.proofs.Each.{texts-next, texts-none, each-goes, each-stuck, each-done}
 use Rattle.script_reader.proofs.texts.steps.Goals as goal
 

@@ -1,5 +1,5 @@
-use Rattle.std.proofs.Common.{◌≡◌, ◌∷◌, ◌+◌, take, drop, refl, sym, ap, ◌∙◌}
-use Rattle.script_reader.specs.Words.{words_of, rest_length}
+use Rattle.std.proofs.Common.{◌≡◌, ◌∷◌, ◌+◌, take, drop, sym, ap, ◌∙◌}
+use Rattle.script_reader.specs.Words.{rest_length}
 use Rattle.script_reader.proofs.Cuts.{none_left, first_word, empty_list}
 use Rattle.script_reader.proofs.words.next_word.Goals as goal
 

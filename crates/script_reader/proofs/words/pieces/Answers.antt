@@ -1,4 +1,4 @@
-use Rattle.std.proofs.Common.{sym, ap, ◌∙◌, ◌++◌, ◌∷◌, []}
+use Rattle.std.proofs.Common.{sym, ap, ◌∙◌, ◌++◌}
 use Rattle.script_reader.specs.Words.{texts, pieces}
 use Rattle.script_reader.proofs.Cuts.{next_piece, no_more_pieces}
 use Rattle.script_reader.proofs.Each.{texts-push, onto_rest}

@@ -1,9 +1,14 @@
 use Rattle.std.proofs.Common.{arith}
-use Rattle.world_core.proofs.Enabled.{row_within}
+use Rattle.world_core.proofs.Enabled.{seats-sent}
 use Rattle.world_core.proofs.state.send_all.Goals as goal
 
-pub push-requires : goal.push-requires
-push-requires c =
-    row_within c.args.inboxes.now.items c.loop-to.inboxes.items c.args.from c.place-then-place-len.result
-    c.loop-to.yielded _
-    c.loop-to.invariant.sent c.requires.square c.requires.there (omega arith) c.index_mut.ensures.value
+pub send-requires-clause-seats : goal.send-requires-clause-seats
+send-requires-clause-seats c =
+    seats-sent c.args.nodes.now c.args.from c.loop-to.yielded c.args.inboxes.now.items c.loop-to.inboxes.items
+    c.loop-to.invariant.sent c.requires.seats
+
+pub send-requires-clause-there : goal.send-requires-clause-there
+send-requires-clause-there c =
+    let seats = seats-sent c.args.nodes.now c.args.from c.loop-to.yielded c.args.inboxes.now.items
+    c.loop-to.inboxes.items c.loop-to.invariant.sent c.requires.seats in
+    omega (arith, seats.width, c.requires.seats.width)

@@ -3,9 +3,9 @@ use Rattle.std.specs.Option.{unwrap_or}
 use Rattle.pico_base.specs.declared.script.Script.{Script}
 use Rattle.pico_base.specs.declared.script.Event.{Event}
 use Rattle.pico_base.specs.declared.script.Event.TheVariants.{Run}
-use Rattle.machine_model.specs.Examples.{asks_its_number}
-use Rattle.machine_model.specs.Run.{IsRunOf}
-use Rattle.machine_model.specs.World.{World, opening_world, step}
+use Rattle.world_model.specs.Examples.{asks_its_number}
+use Rattle.world_model.specs.Run.{IsRunOf}
+use Rattle.world_model.specs.World.{World, opening_world, step}
 use Rattle.world_core.proofs.tests.a_world_is_made_of_its_events.Goals as goal
 
 forked : World

@@ -1,21 +1,21 @@
-use Rattle.std.proofs.Common.{ℕ, ◌+◌, subst, sym, ◌∙◌, arith}
+use Rattle.std.proofs.Common.{ℕ, ◌+◌, length, ap, subst, sym, ◌∙◌, arith}
 use Rattle.world_core.proofs.Senders.{AreLeft, AreLeft-pass, AreLeft-skip}
 use Rattle.world_core.proofs.inbox.Inbox.nth.Goals as goal
-use Rattle.world_core.proofs.inbox.Inbox.nth.Goals.{then-may_take+else-left-eq0, else-may_take}
+use Rattle.world_core.proofs.inbox.Inbox.nth.Goals.{then-may_take_at+else-left-eq0, else-may_take_at}
 
 pub loop-at-preserved : goal.loop-at-preserved
 loop-at-preserved c =
     let b = c.args.is_born in
-    let row = c.deref-stream-items.result.now in
-    elim c.if-may_take.branch [
-      | then-may_take+else-left-eq0 w ↦
+    let row = c.args.self.now in
+    elim c.if-may_take_at.branch [
+      | then-may_take_at+else-left-eq0 w ↦
           subst (λ (k : ℕ). AreLeft b row c.args.index (c.loop-at.at + 1) k) (sym w.left-is)
-          (AreLeft-pass b row c.args.index c.loop-at.at c.loop-at.left c.stream-item.result c.loop-at.invariant
-          (omega arith)
-          c.stream-item.is (sym c.may_take.ensures ∙ w.if-may_take.true) (omega arith))
-      | else-may_take w ↦
+          (AreLeft-pass b row c.args.index c.loop-at.at c.loop-at.left c.loop-at.invariant
+          (omega (arith, ap length c.self.view_is))
+          (sym c.may_take_at.ensures ∙ w.if-may_take_at.true) (omega arith))
+      | else-may_take_at w ↦
           subst (λ (k : ℕ). AreLeft b row c.args.index (c.loop-at.at + 1) k) (sym w.left-is)
-          (AreLeft-skip b row c.args.index c.loop-at.at c.loop-at.left c.stream-item.result c.loop-at.invariant
-          (omega arith)
-          c.stream-item.is (sym c.may_take.ensures ∙ w.if-may_take.false))
+          (AreLeft-skip b row c.args.index c.loop-at.at c.loop-at.left c.loop-at.invariant
+          (omega (arith, ap length c.self.view_is))
+          (sym c.may_take_at.ensures ∙ w.if-may_take_at.false))
     ]

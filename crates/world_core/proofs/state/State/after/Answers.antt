@@ -1,20 +1,24 @@
-use Rattle.std.proofs.Common.{arith}
+use Rattle.std.proofs.Common.{ℕ, ◌-◌, List, set, refl, ap, arith}
 use Rattle.world_core.specs.State.{world_of}
-use Rattle.world_core.proofs.Enabled.{run_within, take_within, IsSquare-taken}
+use Rattle.world_core.proofs.Counting.{others-counted}
+use Rattle.world_core.proofs.Enabled.{take_within, seats-taken}
+use Rattle.world_core.proofs.Seats.{alive-seats}
 use Rattle.world_core.proofs.Worlds.{IsShaped, reachable-shaped}
-use Rattle.world_core.proofs.Wholes.{length-whole}
+use Rattle.world_core.proofs.Wholes.{length-whole, run_steps, take_steps}
 use Rattle.world_core.proofs.Allowed.{run_allowed, take_allowed}
 use Rattle.world_core.proofs.state.State.after.Goals as goal
 
-pub turn-requires-clause-square : goal.turn-requires-clause-square
-turn-requires-clause-square c = (reachable-shaped _ _ c.requires.alive.reachable).square
+pub turn-requires-clause-seats : goal.turn-requires-clause-seats
+turn-requires-clause-seats c = alive-seats c.args.self c.requires.alive
 
-pub turn-requires-clause-streams : goal.turn-requires-clause-streams
-turn-requires-clause-streams c =
+pub turn-requires-in-Take-clause-seats : goal.turn-requires-in-Take-clause-seats
+turn-requires-in-Take-clause-seats c =
     let w = world_of c.args.self
-    in let shaped : IsShaped w = reachable-shaped c.args.self.script w c.requires.alive.reachable
-    in let le = run_within w c.args.event c.in-Run.node c.requires.enabled c.in-Run.is
-    in omega (arith, shaped.nodes, shaped.streams)
+    in let le = take_within w c.args.event c.in-Take.node c.in-Take.from c.requires.enabled c.in-Take.is
+    in seats-taken c.args.self.nodes.items c.args.self.inboxes.items c.place.result c.in-Take.from c.in-Some.frame _ _
+    (alive-seats c.args.self c.requires.alive)
+    (omega (arith, length-whole c.args.self.nodes.items c.requires.alive.nodes, c.place.ensures.next))
+    c.index_mut.ensures.value c.in-Some.ensures
 
 pub turn-requires-in-Take-clause-there : goal.turn-requires-in-Take-clause-there
 turn-requires-in-Take-clause-there c =
@@ -23,20 +27,19 @@ turn-requires-in-Take-clause-there c =
     in let same = length-whole c.args.self.nodes.items c.requires.alive.nodes
     in omega arith
 
-pub turn-requires-in-Take-clause-square : goal.turn-requires-in-Take-clause-square
-turn-requires-in-Take-clause-square c =
-    let w = world_of c.args.self
-    in let shaped : IsShaped w = reachable-shaped c.args.self.script w c.requires.alive.reachable
-    in let le = take_within w c.args.event c.in-Take.node c.in-Take.from c.requires.enabled c.in-Take.is
-    in IsSquare-taken c.args.self.inboxes.items c.place.result c.in-Take.from c.in-Some.frame _ _
-    (omega (arith, shaped.nodes, shaped.streams, c.place.ensures.next)) c.index_mut.ensures.value c.in-Some.ensures
-    shaped.square
+pub turn-requires-clause-counted : goal.turn-requires-clause-counted
+turn-requires-clause-counted c count = ap (λ (l : List ℕ). set l (c.in-Run.node - 1) count) c.requires.alive.counted
+
+pub turn-requires-in-Take-clause-counted : goal.turn-requires-in-Take-clause-counted
+turn-requires-in-Take-clause-counted c count =
+    others-counted c.args.self.nodes.items c.args.self.inboxes.items c.in-Take.node c.place.result count
+    c.args.self.counts.items _ c.requires.alive.counted c.place.ensures.place
 
 pub turn-requires-clause-allowed : goal.turn-requires-clause-allowed
 turn-requires-clause-allowed c =
     let w = world_of c.args.self
     in run_allowed w c.args.event c.in-Run.node
-    (c.enabled_events_have_steps.ensures c.args.self.script w c.args.event c.requires.alive.runnable
+    (c.enabled_events_have_steps.ensures c.args.self.script w c.args.event c.requires.alive.sound
     c.requires.alive.reachable c.requires.enabled)
     c.in-Run.is
 
@@ -46,7 +49,21 @@ turn-requires-in-Take-clause-allowed c =
     in let shaped : IsShaped w = reachable-shaped c.args.self.script w c.requires.alive.reachable
     in let le = take_within w c.args.event c.in-Take.node c.in-Take.from c.requires.enabled c.in-Take.is
     in take_allowed w c.args.event c.in-Take.node c.in-Take.from c.place.result c.in-Some.frame _ _
-    (c.enabled_events_have_steps.ensures c.args.self.script w c.args.event c.requires.alive.runnable
+    (c.enabled_events_have_steps.ensures c.args.self.script w c.args.event c.requires.alive.sound
     c.requires.alive.reachable c.requires.enabled)
     c.in-Take.is c.place.ensures.place
     (omega (arith, shaped.nodes, shaped.streams, c.place.ensures.next)) c.index_mut.ensures.value c.in-Some.ensures
+
+pub returns-in-Run : goal.returns-in-Run
+returns-in-Run c = run_steps c.args.self c.args.event c.in-Run.node c.turn.result c.in-Run.is c.turn.ensures
+
+pub returns-in-Some : goal.returns-in-Some
+returns-in-Some c =
+    let shaped : IsShaped (world_of c.args.self) =
+    reachable-shaped c.args.self.script (world_of c.args.self) c.requires.alive.reachable in
+    let le = take_within (world_of c.args.self) c.args.event c.in-Take.node c.in-Take.from c.requires.enabled
+    c.in-Take.is in
+    take_steps c.args.self _ c.args.event c.in-Take.node c.in-Take.from c.place.result c.in-Some.frame _ _
+    c.turn-in-Take.result c.in-Take.is c.place.ensures.place
+    (omega (arith, shaped.nodes, shaped.streams, c.place.ensures.next)) c.index_mut.ensures.value c.in-Some.ensures
+    refl refl refl refl c.turn-in-Take.ensures

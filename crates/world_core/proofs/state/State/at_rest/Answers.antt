@@ -1,5 +1,5 @@
 use Rattle.std.proofs.Common.{sym, ◌∙◌}
-use Rattle.machine_model.specs.World.{numbers, size}
+use Rattle.world_model.specs.World.{numbers, size}
 use Rattle.world_core.specs.State.{world_of}
 use Rattle.world_core.proofs.Rest.{rests, all_numbers, nothing_at_rest, zero_is}
 use Rattle.world_core.proofs.Worlds.{reachable-shaped}

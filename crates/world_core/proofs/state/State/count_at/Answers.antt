@@ -1,23 +1,25 @@
-use Rattle.std.proofs.Common.{◌+◌, Bool, cond, length, sym, ap, ◌∙◌, arith}
-use Rattle.world_core.specs.Inbox.{senders}
-use Rattle.world_core.specs.State.{world_of}
-use Rattle.world_core.proofs.Seats.{seat-count}
+use Rattle.std.proofs.Common.{◌∙◌, arith}
+use Rattle.std.proofs.lemmas.List.{get_or_read}
+use Rattle.world_core.proofs.Seats.{count-there}
 use Rattle.world_core.proofs.state.State.count_at.Goals as goal
 
-pub returns-then-can_run-clause-count : goal.returns-then-can_run-clause-count
-returns-then-can_run-clause-count c =
-    let row = c.seat.result.1.now
-    in sym (seat-count (world_of c.args.self.now) c.args.node c.seat.result.0.now row c.born.result c.can_run.result
-    c.seat.ensures
-    c.born.ensures c.can_run.ensures
-    ∙ ap (λ (b : Bool). length (senders c.born.result row) + cond b 1 0) c.if-can_run.true
-    ∙ ap (λ k. k + 1) (sym c.count-takes.ensures.count))
+pub index-requires : goal.index-requires
+index-requires c =
+    let there = count-there c.args.self.now c.args.node c.place.result c.requires.alive c.requires.there
+    c.place.ensures.next in
+    omega (arith, there.0, c.args.self.now.counts.ok.0)
 
-pub returns-else-can_run-clause-count : goal.returns-else-can_run-clause-count
-returns-else-can_run-clause-count c =
-    let row = c.seat.result.1.now
-    in let e = seat-count
-    (world_of c.args.self.now) c.args.node c.seat.result.0.now row c.born.result c.can_run.result c.seat.ensures
-    c.born.ensures c.can_run.ensures
-    ∙ ap (λ (b : Bool). length (senders c.born.result row) + cond b 1 0) c.if-can_run.false
-    in omega (arith, e, c.count-takes.ensures.count)
+pub returns-clause-count : goal.returns-clause-count
+returns-clause-count c =
+    let there = count-there c.args.self.now c.args.node c.place.result c.requires.alive c.requires.there
+    c.place.ensures.next in
+    c.from.ensures
+    ∙ get_or_read c.args.self.now.counts.items c.place.result c.index.result.now there.0 c.index.ensures 0
+    ∙ there.1
+
+pub returns-clause-few : goal.returns-clause-few
+returns-clause-few c =
+    let there = count-there c.args.self.now c.args.node c.place.result c.requires.alive c.requires.there
+    c.place.ensures.next in
+    let read = get_or_read c.args.self.now.counts.items c.place.result c.index.result.now there.0 c.index.ensures 0 in
+    omega (arith, c.from.ensures, read, there.1, there.2)

@@ -1,4 +1,4 @@
-use Rattle.machine_model.specs.Schedule.{enabled_at}
+use Rattle.world_model.specs.Schedule.{enabled_at}
 use Rattle.world_core.specs.State.{world_of}
 use Rattle.world_core.proofs.Walks.{IsWalk}
 use Rattle.world_core.proofs.state.State.first_of.Given as goal

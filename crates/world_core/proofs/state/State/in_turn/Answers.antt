@@ -2,8 +2,8 @@ use Rattle.std.proofs.Common.{◌+◌, ◌-◌, ℕ, List, sym, ap, slice_get, �
 use Rattle.std.specs.List.{flat_map}
 use Rattle.std.proofs.lemmas.List.Concat.{flat_map-append}
 use Rattle.pico_base.specs.declared.script.Event.{Event}
-use Rattle.machine_model.specs.Schedule.{enabled_at}
-use Rattle.machine_model.specs.World.{numbers, size}
+use Rattle.world_model.specs.Schedule.{enabled_at}
+use Rattle.world_model.specs.World.{numbers, size}
 use Rattle.world_core.specs.State.{world_of}
 use Rattle.world_core.proofs.Walks.{first_left, first_right, span-all}
 use Rattle.world_core.proofs.state.State.in_turn.Goals as goal

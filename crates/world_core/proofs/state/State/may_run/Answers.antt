@@ -1,7 +1,7 @@
 use Rattle.std.proofs.Common.{◌≡◌, ◌-◌, ◌<◌, ◌≤◌, List, length, get_or, Option, None, IsSome, sym, ap, subst, ◌∙◌}
 use Rattle.std.proofs.lemmas.List.{get_or_past}
-use Rattle.machine_model.specs.Node.{Node}
-use Rattle.machine_model.specs.World.{is_run_enabled}
+use Rattle.world_model.specs.Node.{Node}
+use Rattle.world_model.specs.World.{is_run_enabled}
 use Rattle.world_core.proofs.Wholes.{slice_get-whole, whole_at, may_run-at}
 use Rattle.world_core.proofs.state.State.may_run.Goals as goal
 use Rattle.world_core.proofs.state.State.may_run.Goals.{In-Some}

@@ -1,5 +1,5 @@
 use Rattle.std.proofs.Common.{◌≡◌, ◌-◌, ◌<◌, List, [], length, get_or, Option, None, IsSome, sym, ap, subst, ◌∙◌}
-use Rattle.machine_model.specs.Node.{Node}
+use Rattle.world_model.specs.Node.{Node}
 use Rattle.rpc_frame.specs.declared.frame.Frame.{Frame}
 use Rattle.world_core.specs.Inbox.{from_node, may_take}
 use Rattle.world_core.proofs.Wholes.{slice_get-whole, whole_at, may_take-at}

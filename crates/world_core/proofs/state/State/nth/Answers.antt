@@ -1,8 +1,8 @@
 use Rattle.std.proofs.Common.{◌+◌, ◌-◌, ℕ, List, sym, ap, subst, slice_get, ◌∙◌, arith}
 use Rattle.std.specs.List.{flat_map}
 use Rattle.pico_base.specs.declared.script.Event.{Event}
-use Rattle.machine_model.specs.Schedule.{enabled_at}
-use Rattle.machine_model.specs.World.{numbers}
+use Rattle.world_model.specs.Schedule.{enabled_at}
+use Rattle.world_model.specs.World.{numbers}
 use Rattle.world_core.specs.State.{world_of}
 use Rattle.world_core.proofs.Walks.{IsWalk, IsWalk-here, IsWalk-next, span-all}
 use Rattle.world_core.proofs.state.State.nth.Goals as goal

@@ -1,6 +1,6 @@
 use Rattle.std.proofs.Common.{Option, IfSome, sym, subst}
 use Rattle.kernel_model.specs.Fitting.{Fits}
-use Rattle.machine_model.specs.World.{World}
+use Rattle.world_model.specs.World.{World}
 use Rattle.world_core.specs.State.{world_of}
 use Rattle.world_core.proofs.world.World.journal.Goals as goal
 
@@ -8,7 +8,7 @@ pub returns-clause-legal : goal.returns-clause-legal
 returns-clause-legal c =
     let s = c.state.result.now
     in (c.journals_are_legal.ensures s.script
-    (world_of s) c.state.ensures.alive.runnable c.state.ensures.alive.reachable).0
+    (world_of s) c.state.ensures.alive.sound c.state.ensures.alive.reachable).0
 
 pub returns-clause-fits : goal.returns-clause-fits
 returns-clause-fits c =
@@ -16,4 +16,4 @@ returns-clause-fits c =
     in let P : Option World → Type 0 = λ o. IfSome o (λ w. Fits w.script s.journal)
     in subst P (sym c.state.ensures.world)
     (c.journals_are_legal.ensures s.script
-    (world_of s) c.state.ensures.alive.runnable c.state.ensures.alive.reachable).1
+    (world_of s) c.state.ensures.alive.sound c.state.ensures.alive.reachable).1

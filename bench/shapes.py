@@ -1,0 +1,111 @@
+#!/usr/bin/env python3
+"""Times `pico sim` side by side on scripts of many shapes, each beside one of the same shape with twice the calls.
+
+usage: bench/shapes.py [ROUNDS]             prints the least times, and their ratio
+       bench/shapes.py --script NAME CALLS  writes the script of that shape (a name of SHAPES) with so many calls
+"""
+import sys
+
+from sim import block, ratio
+
+
+def script(blocks: dict[str, list[str]]) -> bytes:
+    """The text of a script of these blocks, by their names."""
+    return ("\n".join(line for name, lines in blocks.items() for line in block(name, lines)) + "\n").encode()
+
+
+def shared(calls: int, makes: list[str], turn: list[str]) -> bytes:
+    """Four workers and five things. Each worker goes from one to the next in an order of its own, so they change hands.
+
+    `makes` are the lines that make a thing with its number in $q, and `turn` those of a worker before it goes on."""
+    workers, things = 4, "abcde"
+    main = [line.replace("$q", f"${q}").replace("q =", f"{q} =") for q in things for line in makes]
+    names = [f"w{k}" for k in range(1, workers + 1)]
+    turns = (calls - len(main) - 2 * workers - 1) // (workers * len(turn))
+    blocks = {"main": main + [f"fork {name}" for name in names]}
+    for step, name in enumerate(names, 1):
+        # Their steps are different, so no two of them keep going together.
+        order = [things[k * step % len(things)] for k in range(turns)]
+        blocks[name] = [line.replace("$q", f"${q}") for q in order for line in turn]
+    return script(blocks)
+
+
+def moving_queues(calls: int) -> bytes:
+    """Queues with 4,000 bytes of messages. A worker reads and fills one six times, and mostly has it by then."""
+    text = "m" * 40
+    makes = ["q = msgget private", *([f'msgsnd $q 1 "{text}" nowait'] * 100)]
+    return shared(calls, makes, ["msgrcv $q 0 64 nowait", f'msgsnd $q 1 "{text}" nowait'] * 6)
+
+
+def moving_sets(calls: int) -> bytes:
+    """Sets of 64 semaphores, one of which a worker lowers six times, and raises it again in the same calls."""
+    return shared(calls, ["q = semget private 64", "semctl $q setval 0 9"], ["semop $q 0:-1:nowait 0:1"] * 6)
+
+
+def tree(calls: int) -> bytes:
+    """Thirty-two processes, five forks deep. Each forks up to two, and asks for their ends until it has them.
+
+    Those without children make calls of their own meanwhile, and the others ask about as often."""
+    processes = 32
+    parents = processes // 2
+    own = 2 * (calls - 2 * processes) // (2 * (processes - parents) + 5 * parents)
+    blocks = {}
+    for k in range(1, processes + 1):
+        children = [child for child in (2 * k, 2 * k + 1) if child <= processes]
+        # The second child ends soon after the first.
+        asks = [f"try {times} waitpid any nohang" for times in (2 * own, own // 2)]
+        blocks[f"p{k}"] = [f"fork p{child}" for child in children] + asks[: len(children)] or ["getpid"] * own
+    return script(blocks)
+
+
+def keys(calls: int) -> bytes:
+    """Queues by their keys, all at once: a third as many as the calls. Each is made, found by another, and removed."""
+    count = (calls - 3) // 3
+    numbers = range(1, count + 1)
+    key = [0] + [i * 2654435761 % 2**32 for i in numbers]  # scattered, and all different
+    main = [f"msgget {key[i]} create" for i in numbers]
+    main += ["fork other"] + [f"msgctl {i} rmid" for i in numbers if i % 2 == 0]
+    # The other one asks for all of them. Of the odd ones, which it removes itself, it finds each.
+    other = [line for i in numbers for line in ([f"msgget {key[i]}"] + ([f"msgctl {i} rmid"] if i % 2 else []))]
+    return script({"main": main, "other": other})
+
+
+def signals(calls: int) -> bytes:
+    """Thirty-two processes that send signals to each other, hold some back, and count what they caught."""
+    processes = 32
+    actions = ["sigaction USR1 catch", "sigaction USR2 catch"]
+    fixed = len(actions) + (processes - 1) + processes
+    rounds = (calls - fixed) // (processes * 6)
+    blocks = {}
+    for k in range(1, processes + 1):
+        # Process 1 forks all others, so their numbers are 2 to 32. A child has its parent's actions.
+        lines = actions + [f"fork p{c}" for c in range(2, processes + 1)] if k == 1 else []
+        for turn in range(1, rounds + 1):
+            first, second = ((k - 1 + turn * step) % processes + 1 for step in (1, 7))
+            lines += ["sigprocmask block USR2", f"kill {first} USR1", f"kill {second} USR2", "sigpending"]
+            lines += ["sigprocmask unblock USR2", "handled USR1"]
+        blocks[f"p{k}"] = lines
+    return script(blocks)
+
+
+SHAPES = {
+    "moving-queues": moving_queues,
+    "moving-sets": moving_sets,
+    "tree": tree,
+    "keys": keys,
+    "signals": signals,
+}
+
+
+def main() -> None:
+    if sys.argv[1:2] == ["--script"]:
+        sys.stdout.buffer.write(SHAPES[sys.argv[2]](int(sys.argv[3])))
+        return
+    rounds = int(sys.argv[1]) if len(sys.argv) > 1 else 9
+    for name, shape in SHAPES.items():
+        for seed in ("0", "1"):
+            ratio(name, shape, seed, rounds)
+
+
+if __name__ == "__main__":
+    main()

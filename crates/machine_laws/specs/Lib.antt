@@ -1,4 +1,0 @@
-pub mod Lines
-pub mod Situations
-pub mod Invariant
-pub mod NewDeeds

@@ -1,9 +1,0 @@
-pub mod CallerLemmas
-pub mod Examples
-pub mod ForkLemmas
-pub mod LandLemmas
-pub mod LineLemmas
-pub mod ResultLemmas
-pub mod ServeLemmas
-pub mod StepLemmas
-pub mod VariableLemmas

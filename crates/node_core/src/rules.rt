@@ -1,0 +1,74 @@
+//! The rule of a turn, by what the node is handed.
+ghost use Rattle.kernel_model.specs.Script.{IsSoundScript};
+ghost use Rattle.world_model.specs.Turn.{take_frame};
+ghost use Rattle.node_state.specs.State.{node_of};
+ghost use Rattle.node_state.specs.Turning.{IsFresh, Turns};
+ghost use Rattle.node_core.specs.Step.{step_of};
+
+use crate::turn::Input;
+use node_ends::{take_exit, take_left};
+use node_moves::{
+    take_checkpoint, take_give_back, take_grant, take_leaving, take_recall, take_recall_all,
+    take_suggest,
+};
+use node_numbers::{take_lease, take_lease_ask, take_placed};
+use node_routes::{take_ask, take_bounce, take_forward, take_request};
+use node_starts::{run, take_answer, take_not_owner};
+use node_state::{Growing, TurnFault};
+use pico_base::{Node, Script};
+use rpc_frame::Frame;
+
+/// The rule of a frame.
+fn take_frame(
+    step: &mut Growing,
+    script: &Script,
+    from: Node,
+    frame: Frame,
+) -> Result<(), TurnFault>
+    requires fresh { IsFresh step.old }
+    requires sound { IsSoundScript script.now }
+    ensures { Turns (take_frame script.now (node_of step.old.node) from frame) step.old step.new result }
+{
+    match frame {
+        Frame::Ask { ticket, pid, call } => take_ask(step, script, from, ticket, pid, call),
+        Frame::Request { ticket, pid, call } => take_request(step, script, from, ticket, pid, call),
+        Frame::Forward { asked } => take_forward(step, script, from, asked),
+        Frame::Bounce { asked } => take_bounce(step, script, from, asked),
+        Frame::Answer { ticket, reply } => take_answer(step, script, from, ticket, reply),
+        Frame::NotOwner { ticket } => take_not_owner(step, script, ticket),
+        Frame::LeaseAsk { kind } => take_lease_ask(step, from, kind),
+        Frame::Lease { kind, first } => take_lease(step, script, from, kind, first),
+        Frame::Placed { name, node } => take_placed(step, script, from, name, node),
+        Frame::Checkpoint {
+            pid,
+            parent,
+            deed,
+            vars,
+        } => take_checkpoint(step, script, from, pid, parent, deed, vars),
+        Frame::Suggest { name, node } => take_suggest(step, script, from, name, node),
+        Frame::Recall { name } => take_recall(step, from, name),
+        Frame::GiveBack { deed } => take_give_back(step, script, from, deed),
+        Frame::Grant { deed } => take_grant(step, from, deed),
+        Frame::Leaving {
+            pid,
+            parent,
+            parent_node,
+        } => take_leaving(step, script, from, pid, parent, parent_node),
+        Frame::RecallAll => take_recall_all(step, from),
+        Frame::Left { parcel } => take_left(step, script, from, parcel),
+        Frame::ExitTo { parcel } => take_exit(step, from, parcel),
+    }
+}
+
+/// The turn of an input.
+#[tactic(auto, unfolding(crate::specs::Step::step_of))]
+pub(crate) fn turn_of(step: &mut Growing, script: &Script, input: Input) -> Result<(), TurnFault>
+    requires fresh { IsFresh step.old }
+    requires sound { IsSoundScript script.now }
+    ensures { Turns (step_of script.now (node_of step.old.node) input) step.old step.new result }
+{
+    match input {
+        Input::Run => run(step, script),
+        Input::Take { from, frame } => take_frame(step, script, from, frame),
+    }
+}

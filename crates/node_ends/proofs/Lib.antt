@@ -1,0 +1,5 @@
+pub mod Read
+pub mod Fits
+pub mod Endings
+pub mod Rounds
+pub mod Takes

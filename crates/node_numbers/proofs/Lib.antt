@@ -1,0 +1,3 @@
+mod Children
+mod InRow
+mod Listed

@@ -1,0 +1,11 @@
+//! The leader sends calls to where they can be carried out, and a node takes a frame about a call of another's process.
+#![tactic(auto)]
+
+mod calls;
+mod keys;
+mod moving;
+mod routing;
+
+pub use calls::{take_ask, take_bounce, take_forward, take_request};
+pub use moving::{hold_item, recall_from};
+pub use routing::{may_route, route_call};

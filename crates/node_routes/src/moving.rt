@@ -1,0 +1,63 @@
+//! The leader asks a name back, and holds what needs it.
+ghost use Rattle.std.specs.Prelude.{◌≡◌, IsTrue, OnOk};
+ghost use Rattle.world_model.specs.Routing.{hold_item, recall_from};
+ghost use Rattle.node_model.specs.Directory.{is_coming, recall};
+ghost use Rattle.lease_leader.specs.Places.{is_at};
+ghost use Rattle.node_state.specs.State.{step_of};
+
+use lease_leader::Directory;
+use node_model::{Held, Route};
+use node_state::{Growing, Leader};
+use pico_base::{Memory, Name, Node};
+use rpc_frame::Frame;
+
+/// Whether the name is at a node.
+fn is_at_node(directory: &Directory, name: &Name) -> bool
+    ensures { result ≡ is_at directory.now name.now }
+{
+    matches!(directory.route(*name), Route::At(_))
+}
+
+/// Whether the name is on its way.
+fn is_coming(leader: &Leader, name: &Name) -> bool
+    ensures { result ≡ is_coming leader.now.directory name.now }
+{
+    leader.is_coming(*name)
+}
+
+/// The deed of a name that is at a node is asked back.
+fn recall(directory: &mut Directory, name: &Name, to: Option<Node>)
+    requires { IsTrue (is_at directory.old name.now) }
+    ensures { directory.new ≡ recall directory.old name.now to }
+{
+    directory.recall(*name, to)
+}
+
+/// What needs a name is held until its deed has come. Memory, too, where the name isn't on its way.
+pub fn hold_item(step: &mut Growing, name: Name, item: Held) -> Result<(), Memory>
+    ensures { OnOk result (step_of step.new ≡ hold_item (step_of step.old) name item) }
+{
+    if !is_coming(&step.node.leader, &name) {
+        return Err(Memory);
+    }
+    match step.node.leader.directory.hold(name, item) {
+        Ok(()) => Ok(()),
+        Err((fault, _)) => Err(fault),
+    }
+}
+
+/// The name is asked back from its owner, perhaps for another node. Memory, too, where the name isn't at a node.
+pub fn recall_from(
+    step: &mut Growing,
+    name: Name,
+    to: Option<Node>,
+    owner: Node,
+) -> Result<(), Memory>
+    ensures { OnOk result (step_of step.new ≡ recall_from (step_of step.old) name to owner) }
+{
+    if !is_at_node(&step.node.leader.directory, &name) {
+        return Err(Memory);
+    }
+    recall(&mut step.node.leader.directory, &name, to);
+    step.send(owner, Frame::Recall { name })
+}

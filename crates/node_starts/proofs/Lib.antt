@@ -1,0 +1,4 @@
+mod Asked
+mod Burying
+mod Numbers
+mod Routes
