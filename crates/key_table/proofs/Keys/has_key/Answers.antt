@@ -16,9 +16,9 @@ pub returns : goal.returns
 returns c =
     let id = c.args.id in
     let one = has_one (get nat_eq c.self.inside.by_key) (get nat_eq c.self.inside.key_of) c.self.invariant id
-        (get nat_eq c.self.inside.key_of id) refl in
+    (get nat_eq c.self.inside.key_of id) refl in
     let is : c.contains_key.result ≡ is_some (get nat_eq c.self.inside.key_of id) =
-        c.contains_key.ensures ∙ ap (λ (k : ℕ). is_some (get nat_eq c.self.inside.key_of k)) c.id.view_is in (
+    c.contains_key.ensures ∙ ap (λ (k : ℕ). is_some (get nat_eq c.self.inside.key_of k)) c.id.view_is in (
       λ t. let k = one.0 (sym is ∙ t) in (k.0, seen c k.0 ∙ k.1),
       λ held. is ∙ one.1 (held.0, sym (seen c held.0) ∙ held.1),
     )
