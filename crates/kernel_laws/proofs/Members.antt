@@ -29,6 +29,7 @@ contains-cases x xs y h = contains-at x xs y h.0 h.1 h.2
 pub contains-none : {X : Type 0} (y : X) → Contains [] y → ⊥
 contains-none y h = let l : h.0 < 0 = h.1 in absurd (omega arith)
 
+-- what a filtered list has, the whole list has, and it passes the test
 pub contains-filtered : {X : Type 0} (p : X → Bool) (xs : List X) (x : X) → Contains (filter p xs) x → Contains xs x
     × (p x ≡ true)
 contains-filtered p xs x h = (
@@ -36,6 +37,7 @@ contains-filtered p xs x h = (
   All-contains (λ y. p y ≡ true) (filter p xs) x (filter_passes p xs) h,
 )
 
+-- what the whole list has and passes the test, the filtered list has
 pub contains-filter : {X : Type 0} (p : X → Bool) (xs : List X) (x : X) → Contains xs x → p x ≡ true
     → Contains (filter p xs) x
 contains-filter p [] x h t = absurd (contains-none x h)

@@ -47,6 +47,7 @@ pub rising-behind : {V : Type 0} (e : ℕ × V) (m : Numbered V) → Above e.0 m
 unfolding IsStrictlySortedBy
 rising-behind e m a r = (by_order-above e.0 m a, r)
 
+-- what is above a number is above each lower one
 pub above-lower : {V : Type 0} (n k : ℕ) (m : Numbered V) → n < k → Above k m → Above n m
 above-lower n k [] h a = tt
 above-lower n k (e ∷ m) h a = (let f : k < e.0 = a.0 in omega arith, above-lower n k m h a.1)

@@ -123,10 +123,12 @@ length_take (suc n) (e ∷ es) = omega (arith, length_take n es)
 
 -- ---- the calls
 
+-- a cache that forgets a name stays within its places
 pub forget_within : (es : Cache) (places : ℕ) (n : Name) → IsWithin es places → IsWithin (forget es n) places
 forget_within es places n h =
     record { cap = h.cap; size = omega (arith, length_forget es n, h.size); once = once_forget es n h.once }
 
+-- a cache that learns a name's node stays within its places
 pub learn_within : (es : Cache) (places : ℕ) (n : Name) (v : ℕ) → IsWithin es places → IsWithin (learn es n v) places
 learn_within es places n v h =
     record {
@@ -145,6 +147,7 @@ look_by_within es places n (Some v) is h =
       once = (forgotten es n, once_forget es n h.once);
     }
 
+-- a cache that is asked for a name stays within its places
 pub look_within : (es : Cache) (places : ℕ) (n : Name) → IsWithin es places → IsWithin (look es n) places
 look_within es places n h = look_by_within es places n (owner_in es n) refl h
 

@@ -13,10 +13,12 @@ use Rattle.script_reader.specs.Words.{lines_of}
 abbrev pub Plain : List ℕ → Type 0
 Plain xs = AllByRecursion (λ b. eqb b 10 ≡ false) xs
 
+-- a text whose first line feed stands here has what is before it as its first line
 pub lines_of-feed : (xs ys : List ℕ) → Plain xs → lines_of (xs ++ 10 ∷ ys) ≡ xs ∷ lines_of ys
 lines_of-feed [] ys h = refl
 lines_of-feed (x ∷ xs) ys h = rw (h.0, lines_of-feed xs ys h.1) refl
 
+-- a text that isn't empty and has no line feed is one line
 pub lines_of-plain : (x : ℕ) (xs : List ℕ) → Plain (x ∷ xs) → lines_of (x ∷ xs) ≡ (x ∷ xs) ∷ []
 lines_of-plain x [] h = rw h.0 refl
 lines_of-plain x (y ∷ ys) h = rw (h.0, lines_of-plain y ys h.1) refl

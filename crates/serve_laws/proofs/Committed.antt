@@ -21,6 +21,7 @@ use Rattle.serve_laws.proofs.Puts.{put_each}
 abbrev pub kept_under : Row → Ending → Body
 kept_under row ending = process_body (Some (process_after_end (ignores_children row) ending))
 
+-- the body of the parent once it has noted its child's end
 abbrev pub parent_after : Row → ℕ → Ending → Body
 parent_after row pid ending = Living (with_ended_child (free_to_act row) pid ending).row
 

@@ -155,6 +155,7 @@ kill_other k pid target sig call apart own rows (Some (kernel.Living b)) there =
 
 -- ---- all calls
 
+-- the effect is what the call on this name's body does, seen in the kernel
 unfoldable pub Serves : Kernel → ℕ → Call → Name → Effect → Type 0
 Serves k pid call name e = Acts k name (on_body name (body_in k name) pid call) e
 

@@ -170,6 +170,7 @@ pub record Fits (deeds : Deeds) (parcel : Parcel) (bodies : Numbered Body) : Typ
   pub over : list_all (is_over_but_for parcel.pid) bodies ≡ true
   pub absent : list_all (is_held_none deeds) bodies ≡ true
 
+-- a parcel that fits, by the parts of the test
 pub fits-parts : (deeds : Deeds) (parcel : Parcel) (bodies : Numbered Body) → fits_bodies deeds parcel bodies ≡ true
     → Fits deeds parcel bodies
 fits-parts deeds parcel bodies h =
@@ -253,6 +254,7 @@ not-among es bodies q brought unused = by (is_among es q) refl
 flip : (a b : ℕ) → nat_eq a b ≡ false → nat_eq b a ≡ false
 flip a b h = grind arith
 
+-- the end of a process, carried out beside its parent's deed, is the kernel's
 pub ends-are-the-kernels : EndsAreTheKernels
 ends-are-the-kernels k deeds parcel bodies changes n next outcome valid fits agrees made gives =
     let f = fits-parts deeds parcel bodies fits

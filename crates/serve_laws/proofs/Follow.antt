@@ -23,6 +23,7 @@ use Rattle.node_model.specs.Bodies.{Body, Living, Gone, AQueue, ASet, Removed, b
 use Rattle.node_model.specs.Carrying.{Done, done, change, look, take_message, in_body, is_removal, on_body, on_queue, on_set}
 use Rattle.serve_laws.specs.Laws.{Follows, is_found}
 
+-- the effect leaves what was done to the name's body, with its reply
 abbrev pub Acts : Kernel → Name → Done Body → Effect → Type 0
 Acts k name d e = Follows k name d e.kernel e.reply
 
@@ -79,27 +80,32 @@ set_put k id s r none = record {
 
 -- ---- by the kernel's words
 
+-- a call that changes a queue or is refused
 pub queue-changes : (k : Kernel) (id : ℕ) (q : Queue) (r : Result Queue Errno) → get k.queues id ≡ Some q
     → Acts k (Msg id) (in_body AQueue (change q r)) (change_queue k id r)
 queue-changes k id q (Ok w) there = queue_put k id w (replies.Num 0) (λ other. refl)
 queue-changes k id q (Err e) there = stays k (Msg id) (AQueue q) (replies.Fail e) (λ other. refl) (ap queue_body there)
 
+-- a receive that takes a message or is refused
 pub queue-receives : (k : Kernel) (id : ℕ) (q : Queue) (r : Result Received Errno) → get k.queues id ≡ Some q
     → Acts k (Msg id) (in_body AQueue (take_message q r)) (receive_effect k id r)
 queue-receives k id q (Ok w) there =
     queue_put k id w.queue (replies.Message w.message.class w.message.text) (λ other. refl)
 queue-receives k id q (Err e) there = stays k (Msg id) (AQueue q) (replies.Fail e) (λ other. refl) (ap queue_body there)
 
+-- a call that changes a set or is refused
 pub set-changes : (k : Kernel) (id : ℕ) (s : SemaphoreSet) (r : Result SemaphoreSet Errno) → get k.sets id ≡ Some s
     → Acts k (Sem id) (in_body ASet (change s r)) (change_set k id r)
 set-changes k id s (Ok w) there = set_put k id w (replies.Num 0) (λ other. refl)
 set-changes k id s (Err e) there = stays k (Sem id) (ASet s) (replies.Fail e) (λ other. refl) (ap set_body there)
 
+-- a call that looks at a set or is refused
 pub set-looks : (k : Kernel) (id : ℕ) (s : SemaphoreSet) (r : Result ℕ Errno) → get k.sets id ≡ Some s
     → Acts k (Sem id) (in_body ASet (look s r)) (look_up k r)
 set-looks k id s (Ok n) there = stays k (Sem id) (ASet s) (replies.Num n) (λ other. refl) (ap set_body there)
 set-looks k id s (Err e) there = stays k (Sem id) (ASet s) (replies.Fail e) (λ other. refl) (ap set_body there)
 
+-- the removal of a queue
 pub queue-removed : (k : Kernel) (id : ℕ) → Acts k (Msg id) (done Removed (replies.Num 0)) (remove_queue k id)
 queue-removed k id = record {
   reply = refl;
@@ -114,6 +120,7 @@ queue-removed k id = record {
     others (Sem s) apart not_found = refl
     others (Msg i) apart not_found = ap queue_body (get-without-other k.queues id i (λ (e : i ≡ id). apart (ap Msg e)))
 
+-- the removal of a set
 pub set-removed : (k : Kernel) (id : ℕ) → Acts k (Sem id) (done Removed (replies.Num 0)) (remove_set k id)
 set-removed k id = record {
   reply = refl;
@@ -137,6 +144,7 @@ at-queue k id pid call f acts None there =
     stays k (Msg id) Removed (replies.Fail Einval) (λ other. refl) (ap queue_body there)
 at-queue k id pid call f acts (Some q) there = acts q there
 
+-- a call on a set, by whether the kernel has the set
 pub at-set : (k : Kernel) (id pid : ℕ) (call : Call) (f : SemaphoreSet → Effect)
     → ((s : SemaphoreSet) → get k.sets id ≡ Some s → Acts k (Sem id) (on_body (Sem id) (ASet s) pid call) (f s))
     → (o : Option SemaphoreSet) → get k.sets id ≡ o
@@ -147,6 +155,7 @@ at-set k id pid call f acts (Some s) there = acts s there
 
 -- ---- processes
 
+-- who is found alive is in the kernel as one who lives
 pub same_living : (o : Option Process) (a : Alive) → option_and_then alive_in o ≡ Some a → o ≡ Some (kernel.Living a)
 same_living None a h = absurd (cc)
 same_living (Some (kernel.Living b)) a h = let same : b ≡ a = cc in ap (λ (x : Alive). Some (kernel.Living x)) same

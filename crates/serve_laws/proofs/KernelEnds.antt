@@ -106,6 +106,7 @@ pub record LivesAs (o : Option Process) (row : Row) : Type 0 where
 pub living-same : (r s : Row) → Living r ≡ Living s → r ≡ s
 living-same r s is = cc
 
+-- whoever has a living row as body lives in the kernel with that row
 pub lives-as : (o : Option Process) (row : Row) → process_body o ≡ Living row → LivesAs o row
 lives-as None row is = absurd (cc)
 lives-as (Some (kernel.Ended e)) row is = absurd (cc)
@@ -153,6 +154,7 @@ abbrev pub kept_by : Body → Ending → Body
 kept_by (Living row) ending = kept_under row ending
 kept_by body ending = Gone
 
+-- the parent's body once its child has ended: it notes the end if it lives, and else stays
 abbrev pub left_by : Body → ℕ → Ending → Body
 left_by (Living row) pid ending = parent_after row pid ending
 left_by body pid ending = body
@@ -226,6 +228,7 @@ effect-of-end k pid n a row (calls.Exit status) h = refl
 effect-of-end k pid n a row (calls.Killed sig) h = refl
 effect-of-end k pid n a row call h = absurd (cc)
 
+-- whoever has no living body isn't found alive
 pub not-living : (o : Option Process) (b : Body) → process_body o ≡ b → is_living_body b ≡ false
     → option_and_then alive_in o ≡ None
 not-living None b is not = refl

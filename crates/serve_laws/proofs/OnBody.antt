@@ -174,12 +174,14 @@ module _ (name : Name) (caller : ℕ) (call : Call) (served : is_served call ≡
       → serve_on name body caller call ≡ Some (served_as name (on_body name body caller call))
   on-body body fits makes = by-effect body (actor body) fits (λ own. own-call body (makes own) own)
 
+-- a served call is the call on its name's body
 pub served-is-on_body : ServedIsOnBody
 served-is-on_body name body caller call served named fits makes =
     on-body name caller call served named body fits makes
 
 -- ---- a body carries no allowance
 
+-- the bodies that are seen of a kernel don't depend on anyone's allowance
 pub no-allowance : BodiesCarryNoAllowance
 no-allowance k pid alive a b (Msg i) = refl
 no-allowance k pid alive a b (Sem i) = refl

@@ -59,6 +59,7 @@ put-apart m k j v w apart =
 
 -- ---- the same value at many numbers
 
+-- the same value at each of these numbers
 abbrev pub put_each : {V : Type 0} → V → Numbered V → List ℕ → Numbered V
 put_each v m [] = m
 put_each v m (n ∷ ns) = put_each v (put m n v) ns

@@ -96,6 +96,7 @@ module _ (k : Kernel) (pid n : ℕ) (call : Call) (name : Name) (next : Kernel) 
   of_living None lives gives = absurd (cc)
   of_living (Some a) lives gives = of_may a (may_make a call) lives gives
 
+-- a served call is the kernel's transition
 pub served-calls : ServedCallsAreTheKernels
 served-calls k pid n call name next outcome valid served named gives =
     of_living k pid n call name next outcome valid served named (living_at k pid) refl gives

@@ -108,6 +108,7 @@ fields_again q bytes is =
       rest,
     ) refl
 
+-- bytes that are read as a queue are its spelling
 pub queue_takes : (bytes : List ℕ) (q : Queue) → IsBytes bytes → queue_at bytes ≡ Some q → IsBodyOf q bytes
 unfolding queue_at
 queue_takes [] q fits e = absurd cc
@@ -116,6 +117,7 @@ queue_takes (code ∷ bytes) q fits e =
     let is : code ≡ queue_code = eqb-true _ _ g.0 in
     rw is (fields_take bytes q (IsBytes-rest code bytes fits) g.1)
 
+-- a queue's spelling is read as that queue
 pub queue_again : (q : Queue) (bytes : List ℕ) → IsBodyOf q bytes → queue_at bytes ≡ Some q
 unfolding queue_at
 queue_again q [] is = absurd cc

@@ -143,6 +143,7 @@ set_takes (code ∷ count ∷ bytes) set fits e =
     let is : code ≡ set_code = eqb-true _ _ g.0 in
     rw is (counted_takes count bytes set (IsBytes-rest count bytes (IsBytes-rest code (count ∷ bytes) fits)) g.1)
 
+-- a set's spelling is read as that set
 pub set_again : (set : SemaphoreSet) (bytes : List ℕ) → IsBodyOf set bytes → set_at bytes ≡ Some set
 unfolding set_at
 set_again set bytes is = ap set_at is.spelled ∙ counted_again set.semaphores is.limits is.processes

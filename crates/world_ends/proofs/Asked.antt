@@ -10,6 +10,7 @@ use Rattle.world_laws.specs.Names.{NameSight, NameHolds, PlaysTo, HasMakerThatSt
 use Rattle.world_laws.proofs.Played.{play-append}
 use Rattle.world_ends.proofs.Directories.{known-without, items-without, bound-without, nowhere-without, there-without}
 
+-- that all goes is still to be played, if this is so
 abbrev pub last_if : Bool → List PlayStep
 last_if true = AllGo ∷ []
 last_if false = []

@@ -35,6 +35,7 @@ pub record AreRising (deeds : Deeds) : Type 0 where
 
 -- ---- all to the leader
 
+-- these frames, each sent to node 1
 abbrev pub to_leader : List Frame → List (ℕ × Frame)
 to_leader fs = map (λ f. (1, f)) fs
 

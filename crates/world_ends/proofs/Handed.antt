@@ -22,10 +22,12 @@ use Rattle.world_ends.proofs.Given.{frame_of}
 
 -- ---- where the deed goes
 
+-- where a deed is that its node hands over: an object by itself, a process in the parcel
 abbrev pub handed_to : ℕ → Bool → DeedPlace
 handed_to p true = InGiveBack p
 handed_to p false = InLeft p
 
+-- whether the deed is in this node's table
 abbrev pub is_in_table : ℕ → DeedPlace → Bool
 is_in_table p (InTable q) = nat_eq q p
 is_in_table p place = false
@@ -76,6 +78,7 @@ module _ (x : NameSight) (p : ℕ) (rest : List PlayStep) (steps : x.steps p ≡
 
 -- ---- a name that isn't there
 
+-- what is seen of a name that isn't there, once the node has handed over what it had
 abbrev pub left_by : NameSight → ℕ → List PlayStep → NameSight
 left_by x p rest =
     record x {
@@ -110,6 +113,7 @@ name-left-by script pids born name x h p rest steps =
 
 -- ---- a name that is there
 
+-- what is seen of a name whose deed is on its way in this frame
 abbrev pub handed_over : NameSight → ℕ → Bool → Frame → List PlayStep → NameSight
 handed_over x p object frame rest =
     record x {

@@ -111,6 +111,7 @@ ends-by script p born y h stage = by-call y.caller.under_way refl h.call
         in absurd (false≢true (ap is_end_place (sym n.idle ∙ place-is)))
     by-call (Some call) e some = record { call = call; is = e; has = some; place = place-is }
 
+-- the deeds at this node
 abbrev pub deeds_at : World → ℕ → Deeds
 deeds_at w p =
     let n : Node = node_of w p

@@ -84,6 +84,7 @@ at-work-born Leaving h = refl
 at-work-born Left h = refl
 at-work-born Over h = refl
 
+-- a node that is at work is born
 pub born-there : (script : Script) (pids : ℕ → ℕ) (p pid parent parent_node : ℕ) (stage : Stage)
     → is_at_work stage ≡ true → BornIn script pids p pid parent parent_node stage
     → IsBorn script pids p pid parent parent_node

@@ -28,6 +28,7 @@ pub record IsOrderly (l : Leader) : Type 0 where
   pub keys : AreRising l
   pub enough : (kind : Kind) → has_more l.directory kind ≡ true
 
+-- what the leader knows is in order
 abbrev pub LeaderIsOrderly : World → Type 0
 LeaderIsOrderly w = let n : Node = node_of w 1 in IsOrderly n.leader
 

@@ -7,6 +7,7 @@ use Rattle.node_model.specs.Leases.{lease_of}
 use Rattle.world_laws.specs.Ranges.{IsRestOf, KindHolds, KindSight, is_given, is_in_lease}
 use Rattle.world_laws.proofs.Numbers.{maker-of-rest}
 
+-- what is seen of a kind once this node has taken a number and has these left
 abbrev pub taken-at : KindSight → ℕ → ℕ → List ℕ → KindSight
 taken-at x p number numbers =
     record x {

@@ -42,6 +42,7 @@ served-no-exit : (call : Call) → is_served call ≡ true → is_exit call ≡ 
 served-no-exit (calls.Exit status) h = absurd (false≢true h)
 served-no-exit call h = refl
 
+-- a served call is no end by a signal
 pub served-not-killed : (call : Call) → is_served call ≡ true → is_killed call ≡ false
 served-not-killed (calls.Killed sig) h = absurd (false≢true h)
 served-not-killed call h = refl

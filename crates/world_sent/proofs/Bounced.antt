@@ -66,6 +66,7 @@ found-at-end false [] h some = absurd (some refl refl)
 found-at-end false (Tells ∷ ns) h some = refl
 found-at-end false (NeedsPlace ∷ ns) h some = absurd (false≢true h)
 
+-- a place that isn't there is None
 pub none-known : (place : Option Place) → is_some place ≡ false → place ≡ None
 none-known None h = refl
 none-known (Some place) h = absurd (false≢true (sym h))
