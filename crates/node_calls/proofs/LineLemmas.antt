@@ -50,11 +50,13 @@ written-end_in : (b : Option Block) (i : ℕ) → slice_get (written_in b) i ≡
 written-end_in None i there within = absurd (omega arith)
 written-end_in (Some block) i there within = reached_end block.lines i there within
 
+-- where a line is written at a place that can be reached, it is the line reached there
 pub reached-written : (script : Script) (block i : ℕ) (line : Line)
     → slice_get (written_lines script block) i ≡ Some line
     → i < length (lines_of script block) → slice_get (lines_of script block) i ≡ Some line
 reached-written script block i line there within = written-line_in (block_at script block) i line there within
 
+-- where none is written at a place that can be reached, the exit that the end stands for is there
 pub reached-implied : (script : Script) (block i : ℕ) → slice_get (written_lines script block) i ≡ None
     → i < length (lines_of script block) → slice_get (lines_of script block) i ≡ Some implied_exit
 reached-implied script block i there within = written-end_in (block_at script block) i there within
@@ -77,6 +79,7 @@ behind_last_in : (b : Option Block) (i : ℕ) → slice_get (written_in b) i ≡
 behind_last_in None i there within = absurd (omega arith)
 behind_last_in (Some block) i there within = behind_last block.lines i there within
 
+-- a place that can be reached and has no written line is right behind the last of them
 pub implied-last : (script : Script) (block i : ℕ) → slice_get (written_lines script block) i ≡ None
     → i < length (lines_of script block) → length (written_lines script block) ≡ i
 implied-last script block i there within = behind_last_in (block_at script block) i there within
@@ -174,6 +177,7 @@ reached_before (x ∷ xs) (suc i) within h =
     goes_on true line rest i h later = absurd (cc)
     goes_on false line rest i h later = omega arith
 
+-- a place, at most right behind the written lines, can be reached where no line before it is an exit
 pub is-reached : (script : Script) (node i : ℕ) (block : Block) (own : List Line) → Some block ≡ block_at script node
     → own ≡ block.lines
     → i ≤ length own → list_any (λ (l : Line). is_exit l.call) (take i own) ≡ false → i < length (lines_of script node)
@@ -182,6 +186,7 @@ is-reached script node i block own there is within h =
     in subst (λ (b : Option Block). i < length (lines_in b)) there
     (subst (λ (ls : List Line). i < length (with_exit ls)) is low)
 
+-- a truth value that is not true is false
 pub from-not : (b : Bool) → not b ≡ true → b ≡ false
 from-not true h = absurd (cc)
 from-not false h = refl

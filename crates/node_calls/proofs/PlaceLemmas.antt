@@ -77,6 +77,7 @@ moves_at lines c call reply line there =
     ∙ moved_by (asks_again call (Some reply) && nat_lt (c.tried + 1) line.tries) lines c line (value_in (Some reply))
     ∙ ap (after_line (place_at lines c) call (Some reply)) (sym (drop-at lines c.line line there))
 
+-- a reply moves a caller whose line is there to the place that follows in a history
 pub place-moves : (script : Script) (c : BlockCaller) (call : Call) (reply : Reply) → HasLine script c
     → place_of script (answered script c call reply) ≡ place_after (place_of script c) call (Some reply)
 unfolding place_at
@@ -146,6 +147,7 @@ answered_as script c set tries call reply again line is =
     at_block : BlockCaller → Caller → BlockCaller
     at_block c caller = record c { caller = caller }
 
+-- where the reply is tried again, the answered caller is the old one with another try and no call under way
 pub again-answers : (script : Script) (c : BlockCaller) (block line tried ticket tries : ℕ) (vars : Vars)
     (set : Option ℕ) (under_way : Option Call)
     (call : Call) (reply : Reply) → caller_of block line tried vars ticket under_way ≡ c → under_way ≡ Some call
@@ -163,6 +165,7 @@ again-answers script c block line tried ticket tries vars set under_way call rep
     (answered_as script was set tries call reply true (reached (lines_of script block) line set tries low terms)
     (sym again)))
 
+-- where the reply isn't tried again, the answered caller is at its next line, with the old line's variable set
 pub next-answers : (script : Script) (c : BlockCaller) (block line tried ticket tries : ℕ) (vars : Vars)
     (set : Option ℕ) (under_way : Option Call)
     (call : Call) (reply : Reply) → caller_of block line tried vars ticket under_way ≡ c → under_way ≡ Some call
@@ -216,6 +219,7 @@ unfolding Dues
 dues_line script c line (Ok call) there is = line-due script c line call there is
 dues_line script c line (Err e) there is = tt
 
+-- a call made from the written line at a caller's place is due, where no signal dooms the caller
 pub due-line : (script : Script) (c : BlockCaller) (block line tried ticket : ℕ) (vars : Vars) (under_way : Option Call)
     (written : Line)
     (doom : Option Sig) (r : Result Call Memory) → caller_of block line tried vars ticket under_way ≡ c
@@ -230,6 +234,7 @@ due-line script c block line tried ticket vars under_way written doom r view wit
     (subst (Dues script None r) view
     (dues_line script was written r (reached-written script block line written (sym at) low) called))
 
+-- behind the written lines an exit with status 0 is due, where no signal dooms the caller
 pub due-end : (script : Script) (c : BlockCaller) (block line tried ticket : ℕ) (vars : Vars) (under_way : Option Call)
     (doom : Option Sig) → caller_of block line tried vars ticket under_way ≡ c → HasLine script c → doom ≡ None
     → None ≡ slice_get (written_lines script block) line → call_due script c doom ≡ Some (Exit 0)
@@ -251,6 +256,7 @@ unfolding Begins
 begins script c set tries (Ok vars) within terms is = is ∙ child-vars-are script c set tries within terms
 begins script c set tries (Err e) within terms is = tt
 
+-- a forked child begins with the caller's variables, the one that the line sets being 0
 pub begun-are : (script : Script) (c : BlockCaller) (block line tried ticket tries : ℕ) (vars : Vars) (set : Option ℕ)
     (under_way : Option Call)
     (r : Result Vars Memory) → caller_of block line tried vars ticket under_way ≡ c → HasLine script c

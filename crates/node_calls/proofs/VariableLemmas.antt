@@ -95,6 +95,7 @@ gap-found vars k low high was end =
       greater = λ i le inside. was.greater i (omega arith) inside;
     }
 
+-- an entry that was read at a place holds the variable of that place
 pub read-at : (vars : Vars) (middle : ℕ) (d : ℕ × ℕ) → middle < length vars → d ≡ get_or vars middle d
     → variable_at vars middle ≡ d.0
 read-at vars middle d within is =
@@ -178,16 +179,19 @@ first_with k x v vars Less is h = rw (is_below k v.0 (grind arith)) h
 first_with k x v vars Equal is h = h
 first_with k x v vars Greater is h = rise_put v.0 k x vars (grind arith) h
 
+-- rising variables still rise after one was put among them
 pub rising-put : (vars : Vars) (k x : ℕ) → are_rising vars ≡ true → are_rising (put vars k x) ≡ true
 rising-put [] k x h = refl
 rising-put (v ∷ vars) k x h = first_with k x v vars (nat_cmp k v.0) refl h
 
 -- As the code has it.
 
+-- to write over the entry at a variable's place is to put the variable
 pub put-at : (vars : Vars) (k x place : ℕ) → are_rising vars ≡ true → IsAt vars k place
     → set vars place (k, x) ≡ put vars k x
 put-at vars k x place h at = put_here vars k x place h at.within at.here
 
+-- to insert an entry in a variable's gap is to put the variable
 pub put-in_gap : (vars : Vars) (k x place : ℕ) → IsGapFor vars k place → insert vars place (k, x) ≡ put vars k x
 put-in_gap vars k x place gap = put_gap vars k x place gap.within gap.smaller gap.greater
 
@@ -201,6 +205,7 @@ value-in_gap vars k place gap = rw (get_gap vars k place gap.within gap.smaller 
 alone : (k x : ℕ) → value_of ((k, x) ∷ []) k ≡ x
 alone k x = rw (same k)
 
+-- an entry alone, with the value read at the variable's place, gives it the same value as all the variables do
 pub only-at : (vars own : Vars) (k x place : ℕ) (d : ℕ × ℕ) → are_rising own ≡ true → own ≡ vars → IsAt own k place
     → d ≡ get_or own place d → x ≡ d.1
     → value_of ((k, x) ∷ []) k ≡ value_of vars k
@@ -209,9 +214,11 @@ only-at vars own k x place d h is at read x_is =
     in alone k x ∙ x_is ∙ ap (λ (e : ℕ × ℕ). e.1) there ∙ sym (value-at own k place h at)
     ∙ ap (λ (vs : Vars). value_of vs k) is
 
+-- a variable that would go into a gap has the value 0
 pub none-in_gap : (vars own : Vars) (k place : ℕ) → own ≡ vars → IsGapFor own k place → 0 ≡ value_of vars k
 none-in_gap vars own k place is gap = sym (value-in_gap own k place gap) ∙ ap (λ (vs : Vars). value_of vs k) is
 
+-- rising variables still rise after an attempt to put one, which leaves them alone where it fails
 pub rising-set : (vars new : Vars) (k x : ℕ) (r : Result (Unit {0}) Memory) → are_rising vars ≡ true
     → OnOk r (new ≡ put vars k x)
     → OnErr r (new ≡ vars) → are_rising new ≡ true

@@ -12,6 +12,7 @@ use Rattle.node_serve.specs.declared.body.Row.{Row}
 use Rattle.node_serve.specs.Spelled.{IsRow}
 use Rattle.node_serve.specs.Laws.{row-front, row-rest}
 
+-- fewer than 55 bytes are no row's
 pub row-long : (row : Row) (bytes : List ℕ) → IsRow row bytes → length bytes < 55 → ⊥
 row-long row bytes is short =
     absurd (omega (
@@ -21,6 +22,7 @@ row-long row bytes is short =
       signal_bytes-length row.signals,
     ))
 
+-- bytes are no row's where the first 55 of them are the spelling of no signals
 pub no-signals : (row : Row) (bytes front : List ℕ) → front ≡ take 55 bytes
     → ((s : Signals) → HasSignalBytes s → front ≡ signal_bytes s → None ≡ Some s) → IsRow row bytes → ⊥
 no-signals row bytes front cut only is = differ (only row.signals is.signals (cut ∙ row-front row bytes is))

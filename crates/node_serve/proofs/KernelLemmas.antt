@@ -111,6 +111,7 @@ pub numbered-get : (m : Numbered Body) (k : ℕ) → get (numbered_of m) k ≡ o
 numbered-get [] k = refl
 numbered-get (e ∷ es) k = get-by k e es _ (numbered-get es k)
 
+-- a body that is put under a name is put there in the definitions' bodies, too
 pub bodies-put : (m : Named Body) (name : Name) (v : Body)
     → bodies_of (put_named m name v) ≡ put_named (bodies_of m) name (body_of v)
 bodies-put m (Proc p) v =
@@ -120,6 +121,7 @@ bodies-put m (Msg p) v =
 bodies-put m (Sem p) v =
     ap (λ (x : Numbered model.Body). record (bodies_of m) { sets = x }) (numbered-put m.sets p v)
 
+-- under each name the definitions' bodies have the held body, as the definitions see it
 pub bodies-get : (m : Named Body) (name : Name) → get_named (bodies_of m) name ≡ option_map body_of (get_named m name)
 bodies-get m (Proc p) = numbered-get m.processes p
 bodies-get m (Msg p) = numbered-get m.queues p

@@ -61,6 +61,7 @@ unfoldable pub Apart : List ℕ → Type 0
 Apart [] = Unit {0}
 Apart (n ∷ ns) = (is_used ns n ≡ false) × Apart ns
 
+-- among rising numbers none stands twice
 pub rise-apart : (ns : List ℕ) → rise ns ≡ true → Apart ns
 unfolding Apart
 rise-apart [] h = tt
@@ -96,6 +97,7 @@ pub record FitsAsRead (parcel : Parcel) : Type 0 where
   pub own : list_any (is_same_name (Proc parcel.pid)) (names_of parcel.deeds) ≡ true
   pub each : list_all (λ deed. may_be_read parcel deed.name (read_deed deed)) parcel.deeds ≡ true
 
+-- a parcel that fits as read passes each part of the test
 pub read-parts : (parcel : Parcel) → fits_as_read parcel ≡ true → FitsAsRead parcel
 read-parts parcel h =
     let a = both (rise (map (λ deed. number_of deed.name) parcel.deeds)) _ h
@@ -137,12 +139,14 @@ known parcel deed packed (Proc pid) None is named read was may =
 known parcel deed packed (Msg id) body is named read was may = differ may
 known parcel deed packed (Sem id) body is named read was may = differ may
 
+-- the deeds and the packed ones are as many, and each is of a process that may be in the parcel
 unfoldable pub AllKnown : Parcel → List (Name × Body) → List PackedDeed → Type 0
 AllKnown parcel [] [] = Unit {0}
 AllKnown parcel [] (p ∷ ps) = ⊥
 AllKnown parcel (d ∷ ds) [] = ⊥
 AllKnown parcel (d ∷ ds) (p ∷ ps) = Known parcel d p × AllKnown parcel ds ps
 
+-- deeds that were unpacked from ones that pass the test are of processes that may be in the parcel
 pub all-known : (parcel : Parcel) (ds : List (Name × Body)) (ps : List PackedDeed)
     → ArePackedDeeds suits IsSpelled ds ps
     → list_all (λ deed. may_be_read parcel deed.name (read_deed deed)) ps ≡ true → AllKnown parcel ds ps
@@ -161,6 +165,7 @@ all-known parcel (d ∷ ds) (p ∷ ps) packed each =
 abbrev pub numbered : List (Name × Body) → Numbered model.Body
 numbered deeds = map (λ d. (number_of d.0, body_of d.1)) deeds
 
+-- their numbers alone
 abbrev pub numbers : List (Name × Body) → List ℕ
 numbers deeds = map (λ d. number_of d.0) deeds
 

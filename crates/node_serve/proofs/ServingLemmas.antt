@@ -34,6 +34,7 @@ kept_at m (Sem p) b there (Proc q) = refl
 kept_at m (Sem p) b there (Msg q) = refl
 kept_at m (Sem p) b there (Sem q) = put_back m.sets p b q there
 
+-- after a failure, putting back an unchanged body leaves each name the body that it had
 pub kept-as-before : {X E : Type 0} (r : Result X E) (m : Named Body) (name : Name) (old new : Body)
     → get_named m name ≡ Some old → new ≡ old
     → OnErr r (AreSame m (put_named m name new))

@@ -439,6 +439,7 @@ fits-there deeds parcel (Some read) bodies h = by (fits_bodies deeds parcel read
         subst (λ (m : Numbered model.Body). fits_bodies deeds parcel m ≡ true) (some_same read bodies same) is
     by false is same = absurd (cc)
 
+-- the deeds after a parcel's commit, and its reply, are those of the kernel's transition
 pub commits-as-the-kernel : (old new : Named Body) (parcel : Parcel) (outcome : Outcome)
     → outcome ≡ reply_alone replies.Ended → Commits old parcel new → EndsAsInKernels old parcel new outcome
 commits-as-the-kernel old new parcel outcome alone c =
@@ -465,6 +466,7 @@ pub on-ok : {X E : Type 0} {P Q : Type 0} (r : Result X E) → (P → Q) → OnO
 on-ok (Ok x) f h = f h
 on-ok (Err e) f h = tt
 
+-- what follows from the value and from the success together holds of a value that was handed on
 pub if-ok-both : {X E : Type 0} (P : Type 0) (Q R : X → Type 0) (r : Result X E) → ((x : X) → Q x → P → R x)
     → OnOk r P → IfOk r Q → IfOk r R
 if-ok-both P Q R (Ok x) f h g = f x g h

@@ -20,6 +20,7 @@ pub not_chosen : {A : Type 0} (b : Bool) (o : Option A) (y : A) → cond b None 
 not_chosen true o y e = absurd cc
 not_chosen false o y e = (refl, e)
 
+-- an option that can't hold any value is empty
 pub none_from : {A : Type 0} (o : Option A) → ((x : A) → o ≡ Some x → ⊥) → o ≡ None
 none_from None h = refl
 none_from (Some x) h = absurd (h x refl)
@@ -30,6 +31,7 @@ between_true low high b e =
     let p = and_parts (leb low b) (leb b high) e in
     (leb-true low b p.0, leb-true b high p.1)
 
+-- a number from the low bound to the high one passes the test
 pub between_from : (low high b : ℕ) → low ≤ b → b ≤ high → (leb low b && leb b high) ≡ true
 between_from low high b l h = and_from (leb low b) (leb b high) (le-leb low b l) (le-leb b high h)
 

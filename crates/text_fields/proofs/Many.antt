@@ -4,6 +4,7 @@ use Rattle.std.specs.List.{AllByRecursion, flat_map}
 use Rattle.std.proofs.lemmas.List.{append-nil, length-append}
 use Rattle.text_fields.specs.Fields.{in_front, many}
 
+-- the parts read so far in front of those that follow, with the bytes that are left
 abbrev pub onto : {A : Type 0} → List A → List A × List ℕ → List A × List ℕ
 onto so_far xs = (so_far ++ xs.0, xs.1)
 

@@ -13,6 +13,7 @@ use Rattle.text_fields.specs.Fields.{strip, is_digit, digit_at, digits_front, nu
 use Rattle.text_fields.proofs.Chains.{chosen, between_true, none_from}
 use Rattle.text_fields.proofs.Strips.{strip_takes, strip_again}
 
+-- each byte is a decimal digit
 abbrev pub AreDigits : List ℕ → Type 0
 AreDigits ds = all_ascii_digits ds ≡ true
 
@@ -48,6 +49,7 @@ IsWithin limit (negsuc n) = suc n ≤ limit
 
 -- ---- the loop over digits
 
+-- a digit that keeps the value within the limit is taken into it, and the loop goes on
 pub front-more : (limit value d : ℕ) (rest after : List ℕ) → Some (d, after) ≡ digit_at rest → value * 10 + d ≤ limit
     → digits_front limit value rest ≡ digits_front limit (value * 10 + d) after
 unfolding digits_front digit_at
@@ -59,6 +61,7 @@ front-more limit value d (b ∷ rest) after e small =
     let left : rest ≡ after = ap (λ (q : ℕ × List ℕ). q.1) p in
     rw (t.0, number, le-leb (value * 10 + d) limit small, left) refl
 
+-- a digit that takes the value past the limit leaves no number
 pub front-past : (limit value d : ℕ) (rest after : List ℕ) → Some (d, after) ≡ digit_at rest → limit < value * 10 + d
     → digits_front limit value rest ≡ None
 unfolding digits_front digit_at
@@ -77,6 +80,7 @@ unchosen : (b : Bool) (x : ℕ × List ℕ) → cond b (Some x) None ≡ None �
 unchosen true x e = absurd (none-some x (sym e))
 unchosen false x e = refl
 
+-- where no digit stands in front, the value so far is the number
 pub front-stop : (limit value : ℕ) (rest : List ℕ) → digit_at rest ≡ None
     → digits_front limit value rest ≡ Some (value, rest)
 unfolding digits_front digit_at
@@ -127,6 +131,7 @@ number_at_of limit (b ∷ ds) rest n h v small some lead stop =
         rw e (front_again limit (b - 48) ds rest p.1 (omega (arith, value, small)) stop
         ∙ ap (λ (k : ℕ). Some (k, rest)) value)
 
+-- a number up to the limit is read from its spelling, where no digit follows
 pub front_number_again : (limit n : ℕ) (rest : List ℕ) → n ≤ limit → limit ≤ 4294967295 → digit_at rest ≡ None
     → number_at limit (decimal n ++ rest) ≡ Some (n, rest)
 front_number_again limit n rest small bound stop =
@@ -141,6 +146,7 @@ digit_first : (w rest : List ℕ) → AreDigits w → 0 < length w → (48 ≤ g
 digit_first [] rest h some = absurd (omega (arith, some))
 digit_first (b ∷ w) rest h some = between_true 48 57 b (and_parts (is_digit b) (all_ascii_digits w) h).0
 
+-- the first byte of a number's spelling is a digit
 pub decimal_first : (n : ℕ) (rest : List ℕ) → n ≤ 4294967295 → (48 ≤ get_or (decimal n ++ rest) 0 0)
     × (get_or (decimal n ++ rest) 0 0 ≤ 57)
 decimal_first n rest small =
@@ -157,6 +163,7 @@ not_before_number b n rest small low = none_from (strip (b ∷ []) (decimal n ++
       low,
     ))
 
+-- a number with its sign is read from its spelling, where it is within the limit and no digit follows
 pub signed_again : (limit : ℕ) (z : ℤ) (rest : List ℕ) → limit ≤ 4294967295 → IsWithin limit z → digit_at rest ≡ None
     → signed_at limit (signed_decimal z ++ rest) ≡ Some (z, rest)
 unfolding signed_at

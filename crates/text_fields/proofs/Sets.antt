@@ -18,6 +18,7 @@ use Rattle.kernel_model.specs.Trace.{signal_name, signal_argument, action_name, 
 use Rattle.text_fields.specs.Fields.{strip, named_at, signal_at, argument_at, action_at, how_at, error_at, all_at, behind_comma, joined_at, set_at}
 use Rattle.text_fields.proofs.Many.{many-again, parts-room}
 
+-- a signal's name is read as that signal, whatever follows it
 pub signal_again : (g : Sig) (rest : List ℕ) → signal_at (signal_name g ++ rest) ≡ Some (g, rest)
 unfolding named_at strip
 signal_again Hup rest = refl
@@ -31,6 +32,7 @@ signal_again Alrm rest = refl
 signal_again Term rest = refl
 signal_again Chld rest = refl
 
+-- a signal's name, `0` or `badsig` is read as the argument that it stands for, whatever follows it
 pub argument_again : (g : SigArg) (rest : List ℕ) → argument_at (signal_argument g ++ rest) ≡ Some (g, rest)
 unfolding argument_at named_at strip
 argument_again Zero rest = refl
@@ -46,12 +48,14 @@ argument_again (Is Alrm) rest = refl
 argument_again (Is Term) rest = refl
 argument_again (Is Chld) rest = refl
 
+-- an action's name is read as that action, whatever follows it
 pub action_again : (a : Act) (rest : List ℕ) → action_at (action_name a ++ rest) ≡ Some (a, rest)
 unfolding named_at strip
 action_again Dfl rest = refl
 action_again Ign rest = refl
 action_again Catch rest = refl
 
+-- the name of a change of the mask is read as that change, whatever follows it
 pub how_again : (h : How) (rest : List ℕ) → how_at (how_name h ++ rest) ≡ Some (h, rest)
 unfolding named_at strip
 how_again Block rest = refl
@@ -176,6 +180,7 @@ listed_again s (g ∷ gs) more e =
     ∙ not_none g (flat_map more_text gs ++ 32 ∷ more) in
     rw (other, joined_again g gs more) (ap (λ (x : PerSignal Bool). Some (x, 32 ∷ more)) e)
 
+-- a set's spelling is read as that set, where a blank follows
 pub set_again : (s : PerSignal Bool) (more : List ℕ) → set_at (set_text s ++ 32 ∷ more) ≡ Some (s, 32 ∷ more)
 unfolding set_text
 set_again s more = listed_again s (filter (at s) all_signals) more (members_of s)

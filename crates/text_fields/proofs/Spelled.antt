@@ -202,6 +202,7 @@ blank_first : (steps : List SemStep) (more : List ℕ) → IsBlankFirst (flat_ma
 blank_first [] more = (61 ∷ more, refl)
 blank_first (step ∷ steps) more = (_, refl)
 
+-- the spelling of operations within their ranges is read as these operations, where ` =` follows
 pub steps_again : (steps : List SemStep) (more : List ℕ) → AllByRecursion IsStep steps
     → all_at step_at (flat_map step_text steps ++ 32 ∷ 61 ∷ more) ≡ (steps, 32 ∷ 61 ∷ more)
 steps_again steps more h =

@@ -24,6 +24,7 @@ strip_takes p s rest e =
     let front : take (length p) s ≡ p = (bytes_eq-Decides (take (length p) s) p).0 g.0 in
     sym (take-append-drop (length p) s) ∙ rw (front, g.1) refl
 
+-- the prefix is taken off, and what stands behind it is left
 pub strip_again : (p rest : List ℕ) → strip p (p ++ rest) ≡ Some rest
 unfolding strip
 strip_again p rest =
