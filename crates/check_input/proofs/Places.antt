@@ -53,6 +53,7 @@ from_zero (Some k) =
     let e : k ≡ 0 + k = omega arith in
     ap (λ (n : ℕ). Some n) e
 
+-- before the first line no line and no byte were passed
 pub at_start : (bytes : List ℕ) → IsAt bytes 0 0 bytes
 unfolding size_of marker_place
 at_start bytes = record {

@@ -98,6 +98,7 @@ one-more d name parcel (Some (Coming to items)) e r =
       ap (λ o. parcels_among (items_of o)) e,
     ))
 
+-- with an end that is held there is at most one parcel more among those held
 pub held-counts : (s : Step) (parcel : Parcel) (name : Name) → PlacesRise s.node.leader.directory
     → parcels_in (hold_item s name (Ending parcel)) ≤ parcels_in s + 1
 held-counts s parcel name rises =

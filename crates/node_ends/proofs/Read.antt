@@ -106,8 +106,10 @@ not-held bodies pid held is =
 
 -- ---- one test behind another
 
+-- where the first test is passed, the second one's answer is that of both
 pub and-on : (a b x y : Bool) → a ≡ true → a ≡ x → b ≡ y → b ≡ (x && y)
 and-on a b x y is first second = second ∙ ap (λ t. t && y) (sym is ∙ first)
 
+-- where the first test isn't passed, its answer is that of both
 pub and-off : (a x y : Bool) → a ≡ false → a ≡ x → a ≡ (x && y)
 and-off a x y is first = is ∙ ap (λ t. t && y) (sym is ∙ first)

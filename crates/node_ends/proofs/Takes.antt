@@ -106,6 +106,7 @@ none-of-each f (Some x) each = each x
 
 -- ---- the names of a parcel
 
+-- a name that passes a test is among the deeds' names just where a deed has such a name
 pub any-name : (test : Name → Bool) (deeds : List PackedDeed)
     → list_any test (map (λ deed. deed.name) deeds) ≡ list_any (λ deed. test deed.name) deeds
 any-name test [] = refl

@@ -54,6 +54,7 @@ found-as-bound [] key = refl
 found-as-bound (e ∷ entries) key =
     ap (cond (is_at (nat_cmp key) e.0) (Some e.1)) (found-as-bound entries key)
 
+-- a key leads to the same by the table and by its bindings
 pub key-as-bound : (keys : KeyMap) (key : ℕ) → map.get keys key ≡ get (bindings keys) key
 key-as-bound keys key = map.get-entries keys key ∙ found-as-bound (bindings keys) key
 

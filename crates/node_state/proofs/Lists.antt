@@ -5,6 +5,7 @@ use Rattle.std.proofs.lemmas.Map.Views.{list_any-from_Contains, Contains-from_an
 use Rattle.number_maps.proofs.Order.{same-from-nat_eq}
 use Rattle.std.specs.Cmp.{nat_eq_equiv}
 
+-- a truth value that holds just where the list has the number is the answer of a search for it
 pub contained-as-found : (b : Bool) (xs : List ℕ) (n : ℕ) → (IsTrue b → Contains xs n) → (Contains xs n → IsTrue b)
     → b ≡ list_any (nat_eq n) xs
 contained-as-found true xs n has only = sym (list_any-from_Contains nat_eq_equiv n xs (has refl))

@@ -8,6 +8,7 @@ use Rattle.number_maps.specs.Rising.{IsRising}
 use Rattle.number_maps.proofs.Changes.{set_value-put}
 use Rattle.migrate.specs.Watching.{Watching, watching_after}
 
+-- writing the watch after a read over the old one puts it into the map
 pub noted-lands : (watches new : Numbered Watching) (n : ℕ) (anew was is : Watching) (reader : ℕ) → IsRising watches
     → get watches n ≡ Some was → is ≡ watching_after was reader
     → new ≡ set_value (is_at (nat_cmp n)) watches is

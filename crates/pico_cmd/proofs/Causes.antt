@@ -31,16 +31,19 @@ written_or_stops : (got : Status) (text : List ℕ) (old new : Option (List ℕ)
 written_or_stops got text old new cause r s (inl w) e = inl (inl (w.status ∙ e))
 written_or_stops got text old new cause r s (inr c) e = inl (inr (inr c.status))
 
+-- where a text with the causes' status is written, the status told is theirs or one in its place
 pub exactly_written : (asked : Option Request) (left : Option (List ℕ)) (got : Status) (text : List ℕ)
     (old new : Option (List ℕ)) (cause : Type 0) (r : Status) → EachCause asked left (λ s. got ≡ s)
     → IsWritten got text old new cause r → EachCause asked left (IsOrStops r)
 exactly_written asked left got text old new cause r h w =
     each_cause asked left (λ s. got ≡ s) (IsOrStops r) (λ s e. written_or_stops got text old new cause r s w e) h
 
+-- want of memory may stand in the place of each cause's status
 pub exactly_memory : (asked : Option Request) (left : Option (List ℕ))
     → EachCause asked left (IsOrStops status.Memory)
 exactly_memory asked left = each_always asked left (IsOrStops status.Memory) (λ s. inl (inr (inl refl)))
 
+-- a read that failed may stand in the place of each cause's status
 pub exactly_read_fault : (asked : Option Request) (left : Option (List ℕ))
     → EachCause asked left (IsOrStops status.ReadFault)
 exactly_read_fault asked left = each_always asked left (IsOrStops status.ReadFault) (λ s. inr refl)
@@ -53,12 +56,14 @@ written_whole : (got : Status) (text : List ℕ) (old new : Option (List ℕ)) (
 written_whole got text old new cause r s (inl w) n e = inl (w.status ∙ e)
 written_whole got text old new cause r s (inr c) n e = absurd (n c.cause_is)
 
+-- where nothing can make the write fail, the status told is the causes' or want of memory
 pub complete_written : (asked : Option Request) (left : Option (List ℕ)) (got : Status) (text : List ℕ)
     (old new : Option (List ℕ)) (cause : Type 0) (r : Status) → EachCause asked left (λ s. got ≡ s)
     → IsWritten got text old new cause r → (cause → ⊥) → EachCause asked left (λ s. (r ≡ s) ⊎ (r ≡ status.Memory))
 complete_written asked left got text old new cause r h w n =
     each_cause asked left (λ s. got ≡ s) (IsOrMemory r) (λ s e. written_whole got text old new cause r s w n e) h
 
+-- want of memory may stand in the place of each cause's status, also where no write or read can fail
 pub complete_memory : (asked : Option Request) (left : Option (List ℕ))
     → EachCause asked left (λ s. (status.Memory ≡ s) ⊎ (status.Memory ≡ status.Memory))
 complete_memory asked left = each_always asked left (IsOrMemory status.Memory) (λ s. inr refl)

@@ -50,6 +50,7 @@ next_among w count (p ∷ nodes) h =
 found : (P : Event → Type 0) (xs : List Event) (i : ℕ) (e : Event) → All P xs → slice_get xs i ≡ Some e → P e
 found P xs i e all is = subst P (get_or_from_slice_get xs i e e is) (all i e (slice_get_within xs i e is))
 
+-- an event that a schedule within the world chooses is enabled, and of one of its nodes
 pub choice_next : (w : World) (s : Schedule) (e : Event) → IsWithin (size w) s → choice w s ≡ Some e
     → IsNext w (size w) e
 choice_next w (InTurn last) e le is =

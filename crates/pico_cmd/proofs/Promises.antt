@@ -83,6 +83,7 @@ read_told (Err ReadFault) = tt
 
 -- What is left behind what was read.
 
+-- a source read to its end, within the limit, has left what is behind the limit, which is nothing
 pub left_at_end : (limit : ℕ) (old new : Option (List ℕ)) (bytes : List ℕ) → IfSome old (λ left. bytes ≡ left)
     → IfSome new (λ left. left ≡ [])
     → length bytes ≤ limit → is_some new ≡ is_some old → new ≡ left_behind (limit + 1) old
@@ -92,6 +93,7 @@ left_at_end limit (Some l) None bytes whole end within told = absurd (let f : �
 left_at_end limit (Some l) (Some n) bytes whole end within told =
     ap Some (end ∙ sym (drop_all (limit + 1) l (omega (arith, within, ap length whole))))
 
+-- a source of which one byte more than the limit was read has left what is behind these bytes
 pub left_past_limit : (limit : ℕ) (old new : Option (List ℕ)) (read : List ℕ) → old ≡ led_by read new
     → length read ≡ limit + 1 → new ≡ left_behind (limit + 1) old
 left_past_limit limit old None read led is = sym (ap (left_behind (limit + 1)) led)
@@ -137,6 +139,7 @@ wrote_front asked left s text old new cause r a (inr c) e =
 
 -- The same where the source may tell nothing.
 
+-- what goes with the bytes read for `sim` goes with the source, whether it tells its bytes or not
 pub told_answer : (o : Options) (told : Option (List ℕ)) (bytes read : List ℕ) (s : Status) (text : List ℕ)
     → IfSome told (AreBytesUpTo 1048576 bytes)
     → read ≡ bytes → Simulates o read s text → AnswersTold (Simulate o) told s text
@@ -149,6 +152,7 @@ told_answer o (Some left) bytes read s text r e a =
           Simulates-left o bytes left s text r (subst (λ (b : List ℕ). Simulates o b s text) e a);
     }
 
+-- what goes with the bytes read for `check` goes with the source, whether it tells its bytes or not
 pub told_verdict : (told : Option (List ℕ)) (bytes read : List ℕ) (s : Status) (text : List ℕ)
     → IfSome told (AreBytesUpTo 68161537 bytes) → length bytes ≤ 68161538
     → read ≡ bytes → Judges read s text → AnswersTold Check told s text
@@ -183,6 +187,7 @@ sim_cause bytes read left got r e done bad status.ReadFault c = absurd c
 sim_cause bytes read left got r e done bad status.WriteFault c = absurd c
 sim_cause bytes read left got r e done bad status.NotLegal c = absurd c
 
+-- a status that follows from what `sim` read follows from what the source had left
 pub sim_causes : (o : Options) (told : Option (List ℕ)) (bytes read : List ℕ) (got : Status)
     → IfSome told (AreBytesUpTo 1048576 bytes) → read ≡ bytes
     → ((script : Script) → Reads read script → got ≡ status.Done)
@@ -191,6 +196,7 @@ pub sim_causes : (o : Options) (told : Option (List ℕ)) (bytes read : List ℕ
 sim_causes o None bytes read got r e done bad = tt
 sim_causes o (Some left) bytes read got r e done bad = λ s c. sim_cause bytes read left got r e done bad s c
 
+-- a status that follows from what `check` read follows from what the source had left
 pub check_causes : (told : Option (List ℕ)) (bytes read : List ℕ) (got : Status)
     → IfSome told (AreBytesUpTo 68161537 bytes) → read ≡ bytes
     → ((s : Status) → CauseOfCheck read s → got ≡ s) → EachCause (Some Check) told (λ s. got ≡ s)
@@ -207,6 +213,7 @@ gen_cause got e status.ReadFault c = absurd c
 gen_cause got e status.WriteFault c = absurd c
 gen_cause got e status.NotLegal c = absurd c
 
+-- for a generated script each cause's status is the one of success
 pub gen_causes : (o : Options) (told : Option (List ℕ)) (got : Status) → got ≡ status.Done
     → EachCause (Some (Generate o)) told (λ s. got ≡ s)
 gen_causes o told got e = λ s c. gen_cause got e s c
@@ -221,17 +228,20 @@ told_totals o (Some left) s text h e =
 
 -- what is left of the source, where a status is told
 
+-- what is left of the source is as said, whatever else is supposed
 pub rest_told : (asked : Option Request) (old new : Option (List ℕ)) (A B : Type 0)
     → IfSome asked (λ request. new ≡ left_behind (most_read request) old)
     → IfSome asked (λ request. A → B → new ≡ left_behind (most_read request) old)
 rest_told None old new A B h = tt
 rest_told (Some request) old new A B h = λ a b. h
 
+-- of what is left of the source nothing is to be shown where memory ran out
 pub rest_memory : (asked : Option Request) (old new : Option (List ℕ)) (A : Type 0)
     → IfSome asked (λ request. A → (status.Memory ≡ status.Memory → ⊥) → new ≡ left_behind (most_read request) old)
 rest_memory None old new A = tt
 rest_memory (Some request) old new A = λ a b. absurd (b refl)
 
+-- of what is left of the source nothing is to be shown where a read failed
 pub rest_read_fault : (asked : Option Request) (old new : Option (List ℕ)) (B : Type 0)
     → IfSome asked
     (λ request. (status.ReadFault ≡ status.ReadFault → ⊥) → B → new ≡ left_behind (most_read request) old)

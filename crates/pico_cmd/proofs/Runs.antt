@@ -41,6 +41,7 @@ takes_script w p from (Some n) (frame ∷ fs) next e =
     after_turn_script (record w { streams = with_stream w.streams p from fs }) p (take_frame w.script n from frame)
     next e
 
+-- the world after a step has the script of the one before
 pub step_script : (w : World) (e : Event) (next : World) → step w e ≡ Some next → next.script ≡ w.script
 step_script w (events.Run p) next e = runs_script w p (node_at w p) next e
 step_script w (events.Take p from) next e = takes_script w p from (node_at w p) (stream w p from) next e
@@ -154,15 +155,18 @@ next_now : (script : Script) (seed : ℕ) (taken : List Event) (world : Option W
 next_now script seed taken world at r e u chosen is =
     choice_next u.now at e u.of_world (chosen_now script seed taken world at r u chosen ∙ is)
 
+-- the world of a run that is under way is there
 pub world_is_whole : (script : Script) (seed : ℕ) (taken : List Event) (world : Option World) (at : Schedule)
     → IsUnderWay script seed taken world at → IsSome world
 world_is_whole script seed taken world at u = subst IsSome (sym u.is_now) refl
 
+-- the last event of the schedule was of one of the world's nodes
 pub world_has_last : (script : Script) (seed : ℕ) (taken : List Event) (world : Option World) (at : Schedule)
     → IsUnderWay script seed taken world at → IfSome world (λ w. IsWithin (size w) at)
 world_has_last script seed taken world at u =
     subst (λ (o : Option World). IfSome o (λ w. IsWithin (size w) at)) (sym u.is_now) u.of_world
 
+-- the event that was chosen is enabled in the world
 pub chosen_is_enabled : (script : Script) (seed : ℕ) (taken : List Event) (world : Option World) (at : Schedule)
     (r : Option Event) (e : Event)
     → IsUnderWay script seed taken world at → IfSome world (λ w. r ≡ choice w at) → r ≡ Some e

@@ -98,6 +98,7 @@ refusal_unless_memory (NotATrace line) h = tt
 refusal_unless_memory (Illegal line kernel trace) h = tt
 refusal_unless_memory (NotTheScript line due found) h = tt
 
+-- a refusal that was given is the verdict itself
 pub refused_first : (f : CheckFault) (v : Result Legal CheckFault) → IsRefusal f → GivesFault f v → v ≡ Err f
 refused_first Memory v r h = absurd r
 refused_first (NotATrace line) v r h = h

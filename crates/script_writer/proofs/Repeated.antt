@@ -14,11 +14,13 @@ use Rattle.script_writer.specs.Generated.{line}
 abbrev pub targets : Line → List ℕ
 targets line = fork_targets line.call
 
+-- a line that forks nothing, however often it is repeated, adds no block to those forked
 pub no_targets : (n : ℕ) (x : Line) (rest : List Line) → targets x ≡ []
     → flat_map targets (replicate n x ++ rest) ≡ flat_map targets rest
 no_targets zero x rest e = refl
 no_targets (suc n) x rest e = rw e (no_targets n x rest e)
 
+-- lines pass a test with one of them repeated in front, where that one and the rest do
 pub all_repeated : (test : Line → Bool) (n : ℕ) (x : Line) (rest : List Line) → test x ≡ true
     → list_all test rest ≡ true → list_all test (replicate n x ++ rest) ≡ true
 all_repeated test zero x rest e h = h
@@ -29,12 +31,14 @@ pub record IsSteady (known : List ℕ) (from : Option ℕ) (call : Call) : Type 
   pub uses : is_known known from ≡ true
   pub forks : fork_targets call ≡ []
 
+-- steady calls in front leave it to the rest whether each line uses what is known
 pub uses_repeated : (known : List ℕ) (n : ℕ) (from : Option ℕ) (call : Call) (rest : List Line)
     → IsSteady known from call
     → uses_known known (replicate n (line None from call) ++ rest) ≡ uses_known known rest
 uses_repeated known zero from call rest h = refl
 uses_repeated known (suc n) from call rest h = rw h.uses (uses_repeated known n from call rest h)
 
+-- steady calls in front begin no further block
 pub begun_repeated : (known : List ℕ) (n : ℕ) (from : Option ℕ) (call : Call) (rest : List Line)
     → IsSteady known from call
     → begun_in known (replicate n (line None from call) ++ rest) ≡ begun_in known rest
@@ -45,6 +49,7 @@ begun_repeated known (suc n) from call rest h = rw h.forks (begun_repeated known
 abbrev pub tries_in : List Line → ℕ
 tries_in lines = sum_by (λ (x : Line). x.tries) lines
 
+-- a line that is tried once adds one try each time that it is repeated
 pub tries_repeated : (n : ℕ) (x : Line) (rest : List Line) → x.tries ≡ 1
     → tries_in (replicate n x ++ rest) ≡ n + tries_in rest
 tries_repeated n x rest e =
@@ -59,6 +64,7 @@ tries_repeated n x rest e =
 abbrev pub stays : Line → Bool
 stays line = not (is_exit line.call)
 
+-- where no line is an exit, none stands before the last
 pub ends_rightly_without_exit : (lines : List Line) → list_all stays lines ≡ true → ends_rightly lines ≡ true
 ends_rightly_without_exit [] h = refl
 ends_rightly_without_exit (line ∷ lines) h =

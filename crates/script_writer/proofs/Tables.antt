@@ -19,6 +19,7 @@ all_pass test (suc n) k h low high =
           subst (λ x. test x ≡ true) same (and_parts (test (suc n)) true p.1).0
     ]
 
+-- there are n numbers from 1 to n
 pub length-upto : (n : ℕ) → length (upto n) ≡ n
 length-upto zero = refl
 length-upto (suc n) =

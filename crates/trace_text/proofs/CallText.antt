@@ -41,6 +41,7 @@ blank-place (b ∷ name) rest h =
     let later : position_or_len is_blank (name ++ 32 ∷ rest) ≡ length name = blank-place name rest p.1 in
     rw (name-byte b p.0) (omega (arith, later))
 
+-- a search that stops before the end of the list finds the place where it stops
 pub position-is : {A : Type 0} (test : A → Bool) (xs : List A) (i : ℕ) → position_or_len test xs ≡ i → i < length xs
     → position test xs ≡ Some i
 position-is test xs i e low = rw (e, lt-ltb i (length xs) low) refl
@@ -198,6 +199,7 @@ first-named : (bs : List Block) (i : ℕ) (block : Block) → names_differ bs �
 first-named bs i block apart there =
     position-is (λ b. bytes_eq b.name block.name) bs i (first-place bs i block apart there) (within bs i block there)
 
+-- where the names of all blocks are well formed, that of each block is
 pub name-at : (bs : List Block) (i : ℕ) (block : Block) → list_all (λ b. is_name b.name) bs ≡ true
     → slice_get bs i ≡ Some block → is_name block.name ≡ true
 name-at [] i block h there = absurd (cc)
@@ -230,6 +232,7 @@ fork-again script k rest sound h =
 
 -- ---- each call
 
+-- a call in the grammar is read from its text, where ` =` follows
 pub call-again : (script : Script) (c : Call) (more : List ℕ) → IsSoundScript script → is_call script c ≡ true
     → call_at script (call_text script c ++ tail more) ≡ Some (c, tail more)
 call-again script (calls.Fork k) more sound h = at-fork script _ ∙ fork-again script k (61 ∷ more) sound h

@@ -128,6 +128,7 @@ module _ (script : Script) where
                 high = high;
               }
 
+-- what passes the test for a line is that line and a line feed
 pub line-tested : (printed line : List ℕ) → is_line printed line ≡ true → printed ≡ line ++ 10 ∷ []
 line-tested printed line h = of (strip line printed) refl h
   where
@@ -137,6 +138,7 @@ line-tested printed line h = of (strip line printed) refl h
     of (Some rest) e t = strip_takes line printed rest e
         ∙ ap (λ (x : List ℕ). line ++ x) ((bytes_eq-Decides rest (10 ∷ [])).0 t)
 
+-- a line and a line feed pass the test for that line
 pub line-again : (line : List ℕ) → is_line (line ++ 10 ∷ []) line ≡ true
 line-again line = rw (strip_again line (10 ∷ [])) refl
 

@@ -37,6 +37,7 @@ use Rattle.trace_text.specs.Grammar.{is_call, is_reply, is_ending, is_text}
 use Rattle.trace_text.proofs.Ranges.{u32-bound, u16-bound, byte-bound, type-within, step-within, all-from}
 use Rattle.trace_text.proofs.CallText.{name-at, name-bytes}
 
+-- a byte that isn't a line feed
 abbrev pub is_other : ℕ → Bool
 is_other b = not (eqb b 10)
 
@@ -44,12 +45,14 @@ is_other b = not (eqb b 10)
 abbrev pub IsFree : List ℕ → Type 0
 IsFree bytes = list_all is_other bytes ≡ true
 
+-- two texts without a line feed have none when joined
 pub both : (xs ys : List ℕ) → IsFree xs → IsFree ys → IsFree (xs ++ ys)
 both [] ys h k = k
 both (x ∷ xs) ys h k =
     let p = and_parts (is_other x) (list_all is_other xs) h in
     and_from (is_other x) (list_all is_other (xs ++ ys)) p.0 (both xs ys p.1 k)
 
+-- a byte that isn't a line feed may stand in front of a text that has none
 pub behind : (b : ℕ) (xs : List ℕ) → is_other b ≡ true → IsFree xs → IsFree (b ∷ xs)
 behind b xs h k = and_from (is_other b) (list_all is_other xs) h k
 
@@ -62,6 +65,7 @@ digit-other (d ∷ ds) h =
     other : (d : ℕ) → (leb 48 d && leb d 57) ≡ true → is_other d ≡ true
     other d h = grind arith
 
+-- a number's spelling has no line feed
 pub number : (n : ℕ) → n ≤ 4294967295 → IsFree (decimal n)
 number n small = digit-other (decimal n) (decimal-digits n small)
 
@@ -226,6 +230,7 @@ ending : (e : Ending) → is_ending e ≡ true → IsFree (ending_text e)
 ending (Exited s) h = both (codes " exited ") (decimal s) refl (number s (omega (arith, byte-bound s h)))
 ending (Killed g) h = both (codes " killed ") (signal_name g) refl (signal g)
 
+-- the text of a reply in the grammar has no line feed
 pub reply : (r : Reply) → is_reply r ≡ true → IsFree (reply_text r)
 reply (replies.Num n) h = number n (u32-bound n h)
 reply (replies.Child pid e) h =
@@ -283,6 +288,7 @@ on : (name : List ℕ) (id : ℕ) (command : List ℕ) → IsFree name → is_u3
     → IsFree (name ++ decimal id ++ command)
 on name id command n h c = both (name ++ decimal id) command (named name id n (u32-bound id h)) c
 
+-- the text of a call in the grammar has no line feed
 pub call : (script : Script) (c : Call) → IsSoundScript script → is_call script c ≡ true → IsFree (call_text script c)
 call script (calls.Fork k) sound h =
     both (codes "fork ") (name_of_block (block_at script k)) refl (block-name script k sound)

@@ -14,15 +14,19 @@ use Rattle.text_fields.proofs.Numerals.{IsWithin, decimal_first}
 use Rattle.text_fields.proofs.Spelled.{IsStep}
 use Rattle.trace_text.specs.Grammar.{is_text}
 
+-- a number of 32 bits is at most the greatest of them
 pub u32-bound : (n : ℕ) → is_u32 n ≡ true → n ≤ 4294967295
 u32-bound n h = omega (arith, ltb-true n 4294967296 h)
 
+-- a number of 16 bits is at most the greatest of them
 pub u16-bound : (n : ℕ) → is_u16 n ≡ true → n ≤ 65535
 u16-bound n h = leb-true n 65535 h
 
+-- a byte is at most 255
 pub byte-bound : (n : ℕ) → is_byte n ≡ true → n ≤ 255
 byte-bound n h = leb-true n 255 h
 
+-- a message's type is within the greatest number of 31 bits, on either side of 0
 pub type-within : (class : ℤ) → is_type class ≡ true → IsWithin 2147483647 class
 type-within (pos n) h =
     leb-true n 2147483647 (and_parts (int_le (negsuc 2147483646) (pos n)) (int_le (pos n) (pos 2147483647)) h).1
@@ -39,11 +43,13 @@ add-within (negsuc m) h =
     leb-true m 65534 (and_parts (int_le (negsuc 65534) (negsuc m)) (int_le (negsuc m) (pos 65535)) h).0 in
     omega arith
 
+-- an operation that passes the test is within its ranges
 pub step-within : (step : SemStep) → is_step_in_range step ≡ true → IsStep step
 step-within step h =
     let p = and_parts (is_u16 step.num) (int_le (negsuc 65534) step.add && int_le step.add (pos 65535)) h in
     record { num = u16-bound step.num p.0; add = add-within step.add p.1 }
 
+-- of each element of a list that passes a test holds what the test says
 pub all-from : {A : Type 0} (test : A → Bool) (P : A → Type 0) → ((x : A) → test x ≡ true → P x) → (xs : List A)
     → list_all test xs ≡ true → AllByRecursion P xs
 all-from test P says [] h = tt
@@ -54,6 +60,7 @@ pub record IsTextInRange (text : List ℕ) : Type 0 where
   pub bytes : AllByRecursion (λ b. b ≤ 255) text
   pub few : is_repeated text ≡ true → length text ≤ 8192
 
+-- a text that passes the test is of bytes, and of at most 8192 where one byte is repeated
 pub text-in-range : (text : List ℕ) → is_text text ≡ true → IsTextInRange text
 text-in-range text h =
     let p = and_parts (list_all is_byte text) (not (is_repeated text) || leb (length text) 8192) h in

@@ -73,9 +73,11 @@ no-totals done (b ∷ line) h = of (is_line (totals_line done) (b ∷ line)) ref
         absurd (cc)
     of false e = e
 
+-- a text has ended where no byte is left
 pub ended-is : (bytes : List ℕ) → has_ended bytes ≡ eqb (length bytes) 0
 ended-is [] = refl
 ended-is (b ∷ bytes) = grind arith
 
+-- a line that fits is shorter than what is left
 pub fits-room : (left : ℕ) (line : List ℕ) → fits left line ≡ true → length line < left
 fits-room left line h = ltb-true (length line) left (and_parts (leb (length line) 65536) (ltb (length line) left) h).1

@@ -16,6 +16,7 @@ use Rattle.trace_text.specs.declared.fault.CheckFault.{CheckFault}
 use Rattle.trace_text.specs.Read.{has_line, IsTraceOf, next_line, fits, read_line, read_from, read_of, Gives}
 use Rattle.trace_text.proofs.EntryLaws.{line-tested, entry-takes}
 
+-- a line feed
 abbrev pub is_feed : ℕ → Bool
 is_feed b = eqb b 10
 

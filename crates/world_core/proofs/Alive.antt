@@ -23,6 +23,7 @@ IsAlive-step s next e alive enabled stepped =
           (reachable-more s.script (world_of s) (world_of next) e alive.reachable enabled stepped.taken);
     }
 
+-- an enabled event of a sound world leads to a state that is alive
 pub IsAlive-next : (found : Option State) (old : Option World) (s next : State) (e : Event)
     → found ≡ Some s → IsSoundWorld found → world_in found ≡ old → IfSome old (λ w. is_enabled w e ≡ true)
     → IsStep s e next → IsAlive next

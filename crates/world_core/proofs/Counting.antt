@@ -64,6 +64,7 @@ counting-next ns rows i count counts more n row so_far lt lt' read read' is_coun
     ∙ ap (λ (k : ℕ). take i (counts_of ns rows) ++ k ∷ []) here
     ∙ sym (take_more (counts_of ns rows) i 0 (counts-within ns rows i lt lt'))
 
+-- there is a count for each node, where each has its row of streams
 pub length-counts : (ns : List (Option Node)) (rows : Streams) → length rows ≡ length ns
     → length (counts_of ns rows) ≡ length ns
 length-counts [] rows e = refl

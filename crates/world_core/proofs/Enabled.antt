@@ -11,6 +11,7 @@ use Rattle.world_core.specs.Inbox.{IsTaken}
 use Rattle.world_core.specs.State.{IsSquare, AreSeats}
 use Rattle.world_core.proofs.Worlds.{IsSquare-set, IsSquare-with_all_sent, length-with_all_sent}
 
+-- where both hold, the second does
 pub and_right : (a b : Bool) → (a && b) ≡ true → b ≡ true
 and_right true b e = e
 and_right false b e = absurd (let f : ⊥ = cc in f)
@@ -26,12 +27,14 @@ take_some (Some n) fs e = (n, refl)
 within : (w : World) (p : ℕ) (n : Node) → node_at w p ≡ Some n → p ≤ length w.nodes
 within w p n e = let lt = slice_get_within w.nodes (p - 1) n e in omega arith
 
+-- a node whose run is enabled is one of the world's
 pub run_within : (w : World) (e : Event) (p : ℕ) → is_enabled w e ≡ true → e ≡ events.Run p → p ≤ length w.nodes
 run_within w e p enabled is =
     let found = run_some (node_at w p)
     (and_right (is_number p) _ (sym (ap (λ (x : Event). is_enabled w x) is) ∙ enabled))
     in within w p found.0 found.1
 
+-- a node that may take a frame is one of the world's
 pub take_within : (w : World) (e : Event) (p from : ℕ) → is_enabled w e ≡ true → e ≡ events.Take p from
     → p ≤ length w.nodes
 take_within w e p from enabled is =

@@ -4,11 +4,13 @@ use Rattle.std.specs.List.{filter, flat_map, count_by}
 use Rattle.std.proofs.lemmas.List.Sums.{sum_by-cons}
 use Rattle.world_model.specs.World.{numbers}
 
+-- an element that the first of two joined lists has is found there
 pub slice_get-left : {X : Type 0} (xs ys : List X) (i : ℕ) → i < length xs → slice_get (xs ++ ys) i ≡ slice_get xs i
 slice_get-left [] ys i lt = absurd (omega arith)
 slice_get-left (x ∷ xs) ys zero lt = refl
 slice_get-left (x ∷ xs) ys (suc i) lt = slice_get-left xs ys i (omega arith)
 
+-- an element behind the first of two joined lists is found in the second
 pub slice_get-right : {X : Type 0} (xs ys : List X) (i : ℕ) → length xs ≤ i
     → slice_get (xs ++ ys) i ≡ slice_get ys (i - length xs)
 slice_get-right [] ys i le = let e : i ≡ i - 0 = omega arith in ap (λ (n : ℕ). slice_get ys n) e
@@ -22,6 +24,7 @@ numbers-next first zero lt = absurd (omega arith)
 numbers-next first (suc count) lt =
     let e : count ≡ suc count - 1 = omega arith in ap (λ (n : ℕ). first ∷ numbers (first + 1) n) e
 
+-- one number more is the next one, at the end
 pub numbers-more : (count first : ℕ) → numbers first (count + 1) ≡ numbers first count ++ (first + count) ∷ []
 numbers-more zero first = let e : first ≡ first + 0 = omega arith in ap (λ (n : ℕ). n ∷ []) e
 numbers-more (suc count) first =
@@ -36,6 +39,7 @@ cond-cons : {X Y : Type 0} (g : X → Y) (b : Bool) (x : X) (xs : List X)
 cond-cons g true x xs = refl
 cond-cons g false x xs = refl
 
+-- what passes a test once it is mapped is the same, filtered before or after
 pub filter-map : {X Y : Type 0} (g : X → Y) (p : Y → Bool) (xs : List X)
     → filter p (map g xs) ≡ map g (filter (λ x. p (g x)) xs)
 filter-map g p [] = refl
@@ -43,6 +47,7 @@ filter-map {X} {Y} g p (x ∷ xs) =
     ap (λ (l : List Y). cond (p (g x)) (g x ∷ l) l) (filter-map g p xs)
     ∙ cond-cons g (p (g x)) x (filter (λ y. p (g y)) xs)
 
+-- tests that agree on all numbers from 1 on leave the same numbers
 pub filter_same : (f g : ℕ → Bool) (count first : ℕ) → 1 ≤ first → ((k : ℕ) → 1 ≤ k → f k ≡ g k)
     → filter f (numbers first count) ≡ filter g (numbers first count)
 filter_same f g zero first le same = refl
@@ -51,6 +56,7 @@ filter_same f g (suc count) first le same =
     (same first le)
     ∙ ap (λ (l : List ℕ). cond (g first) (first ∷ l) l) (filter_same f g count (first + 1) (omega arith) same)
 
+-- as many numbers pass their test as elements pass theirs, where each number's is that of its element
 pub count_numbers : {X : Type 0} (f : X → Bool) (g : ℕ → Bool) (d : X) (xs : List X) (first : ℕ)
     → ((j : ℕ) → g (first + j) ≡ f (get_or xs j d)) → count_by g (numbers first (length xs)) ≡ count_by f xs
 count_numbers f g d [] first same = refl
@@ -66,6 +72,7 @@ count_numbers {X} f g d (x ∷ xs) first same =
 -- an element of a filtered list of numbers: the first number passes and is the one, passes and is passed by, or doesn't
 -- pass
 
+-- where the first number passes, it is the first that is left
 pub filter_hit : (g : ℕ → Bool) (first count : ℕ) → 0 < count → g first ≡ true
     → slice_get (filter g (numbers first count)) 0 ≡ Some first
 filter_hit g first count lt e =
@@ -73,6 +80,7 @@ filter_hit g first count lt e =
     in ap (λ (l : List ℕ). slice_get (filter g l) 0) (numbers-next first count lt)
     ∙ ap (λ (b : Bool). slice_get (cond b (first ∷ rest) rest) 0) e
 
+-- where the first number passes, a later place is found behind it, one less away
 pub filter_pass : (g : ℕ → Bool) (first count i : ℕ) → 0 < count → g first ≡ true → 0 < i
     → slice_get (filter g (numbers first count)) i ≡ slice_get (filter g (numbers (first + 1) (count - 1))) (i - 1)
 filter_pass g first count zero lt e pos = absurd (omega arith)
@@ -82,6 +90,7 @@ filter_pass g first count (suc i) lt e pos =
     in ap (λ (l : List ℕ). slice_get (filter g l) (suc i)) (numbers-next first count lt)
     ∙ ap (λ (b : Bool). slice_get (cond b (first ∷ rest) rest) (suc i)) e ∙ ap (λ (n : ℕ). slice_get rest n) same
 
+-- where the first number doesn't pass, the place is found behind it, as far away
 pub filter_skip : (g : ℕ → Bool) (first count i : ℕ) → 0 < count → g first ≡ false
     → slice_get (filter g (numbers first count)) i ≡ slice_get (filter g (numbers (first + 1) (count - 1))) i
 filter_skip g first count i lt e =
@@ -91,12 +100,14 @@ filter_skip g first count i lt e =
 
 -- the same of lists joined for each number
 
+-- a place that the first number's list has is found there
 pub joined_here : {X : Type 0} (f : ℕ → List X) (first count i : ℕ) → 0 < count → i < length (f first)
     → slice_get (flat_map f (numbers first count)) i ≡ slice_get (f first) i
 joined_here f first count i lt within =
     ap (λ (l : List ℕ). slice_get (flat_map f l) i) (numbers-next first count lt)
     ∙ slice_get-left (f first) (flat_map f (numbers (first + 1) (count - 1))) i within
 
+-- a place behind the first number's list is found in the others, nearer by the length of that list
 pub joined_next : {X : Type 0} (f : ℕ → List X) (first count i : ℕ) → 0 < count → length (f first) ≤ i
     → slice_get (flat_map f (numbers first count)) i
     ≡ slice_get (flat_map f (numbers (first + 1) (count - 1))) (i - length (f first))

@@ -13,6 +13,7 @@ use Rattle.std.proofs.lemmas.Simd.{mask_l-mod, bit_mask_l, ones-mask_l}
 use Rattle.rpc_frame.specs.declared.frame.Frame.{Frame}
 use Rattle.world_core.specs.Inbox.{is_filled, filled_in, filled_mask, may_take, IsMarked}
 
+-- where no stream has a frame, no bit is set
 pub mask-empty : (count : ℕ) → filled_mask (replicate count []) ≡ 0
 mask-empty zero = refl
 mask-empty (suc count) = let e = mask-empty count in omega arith
@@ -129,12 +130,14 @@ takes-none : (b : Bool) (fs : List Frame) → ◌≢◌ {A = ℕ} (cond (is_fill
 takes-none b [] e = refl
 takes-none b (f ∷ fs) e = absurd (e refl)
 
+-- where a stream's bit is set, a node that is born may take a frame from it
 pub born-takes : (filled : ℕ) (row : List (List Frame)) (k : ℕ) (b : Bool) → filled ≡ filled_mask row
     → bit_and (filled / 2 ^ k) 1 ≡ 1 → b ≡ true → b ≡ may_take b (get_or row k [])
 born-takes filled row k b marked e born =
     born ∙ takes-all (get_or row k []) (sym (tested filled row k marked) ∙ e)
     ∙ sym (ap (λ (x : Bool). may_take x (get_or row k [])) born)
 
+-- where a stream's bit isn't set, nothing may be taken from it
 pub empty-takes : (filled : ℕ) (row : List (List Frame)) (k : ℕ) (b : Bool) → filled ≡ filled_mask row
     → bit_and (filled / 2 ^ k) 1 ≢ 1 → nat_eq (bit_and (filled / 2 ^ k) 1) 1 ≡ may_take b (get_or row k [])
 empty-takes filled row k b marked e =

@@ -11,6 +11,7 @@ use Rattle.world_core.proofs.Seats.{few_of}
 use Rattle.world_core.proofs.Wholes.{AreWhole-map}
 use Rattle.world_core.proofs.Worlds.{IsSquare-replicate, length-numbers}
 
+-- the opened nodes with the next one, opened as well, are those of one number more
 pub opening_more : (k : ℕ) (nodes more : List (Option Node)) (node : Option Node)
     → nodes ≡ map Some (map opening_node (numbers 1 k)) → node ≡ Some (opening_node (k + 1)) → more ≡ nodes ++ node ∷ []
     → more ≡ map Some (map opening_node (numbers 1 (k + 1)))

@@ -82,12 +82,14 @@ not_true : (b : Bool) → (b ≡ true → ⊥) → b ≡ false
 not_true true h = absurd (h refl)
 not_true false h = refl
 
+-- a world is at rest where nodes that include all of its own have no enabled event
 pub rests : (w : World) (ns : List ℕ) → IsShaped w → ((p : ℕ) → 1 ≤ p → p ≤ size w → Has ns p)
     → length (flat_map (enabled_at w) ns) ≡ 0 → IsAtRest w
 rests w ns shaped all none e =
     not_true (is_enabled w e)
     (λ enabled. nothing-there (flat_map (enabled_at w) ns) e none (listed w ns e shaped all enabled))
 
+-- each of the world's nodes is among the numbers from 1 to its size
 pub all_numbers : (w : World) (p : ℕ) → 1 ≤ p → p ≤ size w → Has (numbers 1 (size w)) p
 all_numbers w p pos le = Has-numbers (size w) 1 p pos (omega arith)
 
@@ -100,6 +102,7 @@ all_after w last p within pos le =
     Has-right (numbers (last + 1) (size w - last)) (numbers 1 last) p (Has-numbers last 1 p pos (omega arith)))
     (cases_lt last p)
 
+-- a world at rest has no enabled event to list
 pub nothing_at_rest : (w : World) → IsAtRest w → length (enabled_events w) ≡ 0
 nothing_at_rest w rest =
     ap length (flat_map-none (enabled_at w) (numbers 1 (size w))
@@ -121,9 +124,11 @@ choice_none w (InTurn last) shaped within none =
 choice_none w (Drawn x) shaped within none =
     rests w (numbers 1 (size w)) shaped (all_numbers w) (drawn_none (enabled_events w) (drawn x) none)
 
+-- a reachable world in which a schedule chooses nothing is at rest
 pub rest_is_where_nothing_is_chosen_lemma : RestIsWhereNothingIsChosen
 rest_is_where_nothing_is_chosen_lemma script w schedule reached within none =
     choice_none w schedule (reachable-shaped script w reached) within none
 
+-- the test for 0 holds just of 0
 pub zero_is : (n : ℕ) → (IsTrue (nat_eq n 0) → n ≡ 0) × (n ≡ 0 → IsTrue (nat_eq n 0))
 zero_is n = (λ e. grind arith, λ e. grind arith)

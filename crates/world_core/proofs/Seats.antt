@@ -134,15 +134,18 @@ run_at w p i n row le here is_row width past =
 
 -- how many frames a node may take
 
+-- a node that is born may take a frame from each stream that has one
 pub takes_born : (b : Bool) (row : List (List Frame)) → b ≡ true → filled_in row ≡ length (senders b row)
 takes_born b row e =
     sym (count-born row) ∙ ap (λ (x : Bool). count_by (may_take x) row) (sym e) ∙ sym (length-senders b row)
 
+-- where no stream has a frame, none may be taken
 pub takes_none : (b : Bool) (row : List (List Frame)) → filled_in row ≡ 0 → 0 ≡ length (senders b row)
 takes_none b row none =
     let few = count-le-filled b row in let e : 0 ≡ count_by (may_take b) row =
     omega arith in e ∙ sym (length-senders b row)
 
+-- a node that isn't born may take from as many streams as have a frame for such a node first
 pub takes_unborn : (b : Bool) (row : List (List Frame)) → b ≡ false
     → count_by (may_take false) row ≡ length (senders b row)
 takes_unborn b row e = ap (λ (x : Bool). count_by (may_take x) row) (sym e) ∙ sym (length-senders b row)
@@ -156,6 +159,7 @@ at_node : (found : Option Node) (n : Node) (b : Bool) (f : Node → Bool) → fo
     → b ≡ f n
 at_node found n b f e h = let P : Option Node → Type 0 = λ o. IfSome o (λ m. b ≡ f m) in subst P e h
 
+-- the first events of a node are to take a frame of each sender, in order
 pub seat-taken : (w : World) (p i from : ℕ) (found : Option Node) (row : List (List Frame)) (b : Bool)
     → IsSeat w p found row
     → IfSome found (λ n. b ≡ is_born n) → i < length (senders b row) → Some from ≡ slice_get (senders b row) i
@@ -180,6 +184,7 @@ seat-run_of w p i found row b r seat born runs le =
     ∙ ap (λ (x : Bool). slice_get (run_of x p) (i - length (senders b row)))
     (sym (at_node found n r can_run seat.is_node runs))
 
+-- behind these stands the run of a node that can run
 pub seat-run : (w : World) (p i : ℕ) (found : Option Node) (row : List (List Frame)) (b r : Bool) → IsSeat w p found row
     → IfSome found (λ n. b ≡ is_born n) → IfSome found (λ n. r ≡ can_run n) → i ≡ length (senders b row) → r ≡ true
     → Some (events.Run p) ≡ slice_get (enabled_at w p) i
@@ -193,6 +198,7 @@ run_past true p zero lt = absurd (omega arith)
 run_past true p (suc k) lt = refl
 run_past false p k lt = refl
 
+-- behind its run a node has no event
 pub seat-past : (w : World) (p i : ℕ) (found : Option Node) (row : List (List Frame)) (b r : Bool)
     → IsSeat w p found row
     → IfSome found (λ n. b ≡ is_born n) → IfSome found (λ n. r ≡ can_run n) → length (senders b row) < i
@@ -201,6 +207,7 @@ seat-past w p i found row b r seat born runs lt =
     run_past r p (i - length (senders b row)) (omega arith)
     ∙ sym (seat-run_of w p i found row b r seat born runs (omega arith))
 
+-- a node that can't run has no event but to take frames
 pub seat-rests : (w : World) (p i : ℕ) (found : Option Node) (row : List (List Frame)) (b r : Bool)
     → IsSeat w p found row
     → IfSome found (λ n. b ≡ is_born n) → IfSome found (λ n. r ≡ can_run n) → length (senders b row) ≤ i → r ≡ false
@@ -213,6 +220,7 @@ some_of : (o : Option Node) → IsSome o → (n : Node) × (o ≡ Some n)
 some_of None some = absurd (let f : ⊥ = cc in f)
 some_of (Some n) some = (n, refl)
 
+-- a number that passes the test for 1 to 32 is at most 32
 pub few_of : (n : ℕ) → IsTrue (is_between 1 32 n) → n ≤ 32
 few_of n e = grind arith
 
@@ -245,6 +253,7 @@ seat_is s p k found row alive le next is_found is_row =
       width = sym (ap length row_here) ∙ shaped.square k lt_row ∙ shaped.streams;
     }
 
+-- in a state that is alive no node is spent, and each has a stream from each
 pub alive-seats : (s : State) → IsAlive s → AreSeats s.nodes.items s.inboxes.items
 alive-seats s alive =
     let w = world_of s in

@@ -36,6 +36,7 @@ next_count b row at left =
     let e : length row - at - 1 ≡ length row - (at + 1) = omega arith
     in ap (λ (k : ℕ). slice_get (filter (may b row) (numbers (at + 1 + 1) k)) left) e
 
+-- a stream with a frame to take is passed, and one sender fewer is left to pass
 pub AreLeft-pass : (b : Bool) (row : List (List Frame)) (index at left : ℕ) → AreLeft b row index at left
     → at < length row → may_take b (get_or row at []) ≡ true → 0 < left → AreLeft b row index (at + 1) (left - 1)
 AreLeft-pass b row index at left all lt e some = record {
@@ -44,6 +45,7 @@ AreLeft-pass b row index at left all lt e some = record {
       ∙ next_count b row at (left - 1);
 }
 
+-- a stream with no frame to take is passed, and as many senders are left to pass
 pub AreLeft-skip : (b : Bool) (row : List (List Frame)) (index at left : ℕ) → AreLeft b row index at left
     → at < length row → may_take b (get_or row at []) ≡ false → AreLeft b row index (at + 1) left
 AreLeft-skip b row index at left all lt e = record {

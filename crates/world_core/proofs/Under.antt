@@ -42,6 +42,7 @@ IsUnder-enabled script events i world e u lt read =
     let P : Option World → Type 0 = λ o. IfSome o (λ w. is_enabled w e ≡ true)
     in subst P (sym u.is_now) (left_next script events i world e u lt read).enabled
 
+-- a run of given events goes on by the next of them
 pub IsUnder-next : (script : Script) (events : List Event) (i : ℕ) (world next : Option World) (e : Event)
     → IsUnder script events i world → i < length events → e ≡ get_or events i e → IsStepped world e next
     → IsUnder script events (i + 1) next

@@ -18,11 +18,13 @@ pub record IsWalk {X : Type 0} (f : ℕ → List X) (from last index at left : �
 pub IsWalk-first : {X : Type 0} (f : ℕ → List X) (from last index : ℕ) → IsWalk f from last index from index
 IsWalk-first f from last index = record { same = refl }
 
+-- where the next number's list goes far enough, it has the element looked for
 pub IsWalk-here : {X : Type 0} (f : ℕ → List X) (from last index at left : ℕ) → IsWalk f from last index at left
     → at < last → left < length (f (at + 1)) → slice_get (f (at + 1)) left ≡ slice_get (span f from last) index
 IsWalk-here f from last index at left walk lt within =
     sym (walk.same ∙ joined_here f (at + 1) (last - at) left (omega arith) within)
 
+-- a next number's list that doesn't go far enough is passed, with all its elements
 pub IsWalk-next : {X : Type 0} (f : ℕ → List X) (from last index at left : ℕ) → IsWalk f from last index at left
     → at < last → length (f (at + 1)) ≤ left → IsWalk f from last index (at + 1) (left - length (f (at + 1)))
 IsWalk-next f from last index at left walk lt past =
@@ -48,6 +50,7 @@ pub record IsCount {X : Type 0} (f : ℕ → List X) (at count : ℕ) : Type 0 w
   pub same : count ≡ length (flat_map f (numbers 1 at))
   pub few : count ≤ 33 * at
 
+-- with one number more, its list's elements are counted as well
 pub IsCount-next : {X : Type 0} (f : ℕ → List X) (at count here : ℕ) → IsCount f at count → here ≡ length (f (at + 1))
     → here ≤ 33
     → IsCount f (at + 1) (count + here)
@@ -68,10 +71,12 @@ pub first_left : {X : Type 0} (xs ys : List X) (x : X) → Some x ≡ slice_get 
 first_left xs ys x e =
     let lt = slice_get_within xs 0 x (sym e) in e ∙ sym (slice_get-left xs ys 0 lt)
 
+-- a list without a first element is empty
 pub nothing_first : {X : Type 0} (xs : List X) → None ≡ slice_get xs 0 → length xs ≤ 0
 nothing_first [] e = omega arith
 nothing_first (x ∷ xs) e = absurd (let f : ⊥ = cc in f)
 
+-- where the first of two lists has no first element, that of the second is the first of both
 pub first_right : {X : Type 0} (xs ys : List X) (o : Option X) → None ≡ slice_get xs 0 → o ≡ slice_get ys 0
     → o ≡ slice_get (xs ++ ys) 0
 first_right xs ys o none e =

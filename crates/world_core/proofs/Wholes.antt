@@ -20,13 +20,16 @@ use Rattle.node_core.specs.Step.{step_of}
 use Rattle.node_core.specs.Turns.{IsTurn}
 use Rattle.world_core.specs.State.{whole, AreWhole, AreSeats, AreCounted, world_of, IsAfterTurn, IsStep}
 
+-- of nodes that are all there, none is left out
 pub whole-map : (xs : List Node) → whole (map Some xs) ≡ xs
 whole-map [] = refl
 whole-map (x ∷ xs) = ap (λ (l : List Node). x ∷ l) (whole-map xs)
 
+-- of nodes that are all there, none is spent
 pub AreWhole-map : (xs : List Node) → AreWhole (map Some xs)
 AreWhole-map xs = sym (ap (λ (l : List Node). map Some l) (whole-map xs))
 
+-- where no node is spent, there are as many as places
 pub length-whole : (ns : List (Option Node)) → AreWhole ns → length (whole ns) ≡ length ns
 length-whole ns all = sym (length-map (whole ns) Some) ∙ sym (ap length all)
 
@@ -35,6 +38,7 @@ slice_get-some [] i = refl
 slice_get-some (x ∷ xs) zero = refl
 slice_get-some (x ∷ xs) (suc i) = slice_get-some xs i
 
+-- where no node is spent, each is found at its place
 pub slice_get-whole : (ns : List (Option Node)) (i : ℕ) → AreWhole ns → slice_get (whole ns) i ≡ get_or ns i None
 slice_get-whole ns i all = slice_get-some (whole ns) i ∙ sym (ap (λ (l : List (Option Node)). get_or l i None) all)
 
@@ -43,20 +47,24 @@ some_at [] i h = absurd (omega arith)
 some_at (x ∷ xs) zero h = refl
 some_at (x ∷ xs) (suc i) h = some_at xs i (omega arith)
 
+-- where no node is spent, there is one at each place
 pub whole_at : (ns : List (Option Node)) (i : ℕ) → AreWhole ns → i < length ns → IsSome (get_or ns i None)
 whole_at ns i all h =
     let P : List (Option Node) → Type 0 = λ l. i < length l → IsSome (get_or l i None)
     in subst P (sym all) (some_at (whole ns) i) h
 
+-- whether the node at a place can run is whether its run is enabled
 pub may_run-at : (slot o : Option Node) (r : Bool)
     → o ≡ slot → IsSome slot → IfSome slot (λ n. r ≡ can_run n) → r ≡ is_run_enabled o
 may_run-at None o r same some e = absurd (let f : ⊥ = cc in f)
 may_run-at (Some n) o r same some e = e ∙ sym (ap is_run_enabled same)
 
+-- a node may take a frame just where that is enabled
 pub take_enabled : (n : Node) (fs : List Frame) → may_take (is_born n) fs ≡ is_take_enabled (Some n) fs
 take_enabled n [] = refl
 take_enabled n (f ∷ fs) = refl
 
+-- whether the node at a place may take a frame is whether that is enabled
 pub may_take-at : (slot o : Option Node) (r b : Bool) (fs : List Frame)
     → o ≡ slot → IsSome slot → IfSome slot (λ n. b ≡ is_born n) → r ≡ may_take b fs → r ≡ is_take_enabled o fs
 may_take-at None o r b fs same some born e = absurd (let f : ⊥ = cc in f)
@@ -81,6 +89,7 @@ whole-set ns i m all =
     ap (λ (l : List (Option Node)). whole (set l i (Some m))) all
     ∙ ap whole (sym (map-set Some (whole ns) i m)) ∙ whole-map (set (whole ns) i m)
 
+-- worlds whose parts are the same are the same
 pub same_world : (script other : Script) (nodes nodes' : List Node) (streams streams' : Streams)
     (journal journal' : List Entry)
     → script ≡ other → nodes ≡ nodes' → streams ≡ streams' → journal ≡ journal'
@@ -88,6 +97,7 @@ pub same_world : (script other : Script) (nodes nodes' : List Node) (streams str
     (record { script = other; nodes = nodes'; streams = streams'; journal = journal' })
 same_world script other nodes nodes' streams streams' journal journal' a b c d = cc
 
+-- a state with the node, sends and entries of a turn is the one after that turn
 pub turn_taken : (s next : State) (p k : ℕ) (input : Input) (turn : Turn) (old new : Option Node)
     → AreWhole s.nodes.items → k ≡ p - 1 → k < length s.nodes.items → old ≡ get_or s.nodes.items k old
     → IsTurn s.script old input new turn → next.script ≡ s.script
@@ -189,11 +199,13 @@ step_take s mid next p from k frame row new place lt row_is taken script nodes j
 
 -- the same of the world that a turn gives, if it gives one
 
+-- a node's turn without a frame carries out its run
 pub run_steps : {E : Type 0} (s : State) (e : Event) (p : ℕ) (r : Result State E) → e ≡ events.Run p
     → IfOk r (λ next. IsAfterTurn s p inputs.Run next) → IfOk r (λ next. IsStep s e next)
 run_steps s e p (Ok next) is turned = subst (λ (x : Event). IsStep s x next) (sym is) (step_run s next p turned)
 run_steps s e p (Err fault) is turned = tt
 
+-- a node's turn with a frame that is off its stream carries out the taking of it
 pub take_steps : {E : Type 0} (s mid : State) (e : Event) (p from k : ℕ) (frame : Frame) (row new : List (List Frame))
     (r : Result State E)
     → e ≡ events.Take p from → k ≡ p - 1 → k < length s.inboxes.items → row ≡ get_or s.inboxes.items k row

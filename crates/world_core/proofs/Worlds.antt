@@ -14,6 +14,7 @@ use Rattle.world_model.specs.World.{World, Streams, numbers, size, node_count, o
 use Rattle.world_model.specs.Run.{Runs, IsReachableWorld}
 use Rattle.world_core.specs.State.{IsSquare}
 
+-- there are as many numbers as are asked for
 pub length-numbers : (count first : ℕ) → length (numbers first count) ≡ count
 length-numbers zero first = refl
 length-numbers (suc count) first = ap (λ n. suc n) (length-numbers count (first + 1))
@@ -54,6 +55,7 @@ pub length-with_stream : (streams : Streams) (to from : ℕ) (fs : List Frame)
     → length (with_stream streams to from fs) ≡ length streams
 length-with_stream streams to from fs = length-set streams (to - 1) (set (get_or streams (to - 1) []) (from - 1) fs)
 
+-- with another stream in a place, a square is still one
 pub IsSquare-set : (streams : Streams) (i j : ℕ) (fs : List Frame)
     → IsSquare streams → IsSquare (set streams i (set (get_or streams i []) j fs))
 IsSquare-set streams i j fs square k lt =
@@ -65,6 +67,7 @@ pub IsSquare-with_stream : (streams : Streams) (to from : ℕ) (fs : List Frame)
     → IsSquare streams → IsSquare (with_stream streams to from fs)
 IsSquare-with_stream streams to from fs square = IsSquare-set streams (to - 1) (from - 1) fs square
 
+-- after frames are sent, there are as many rows of streams
 pub length-with_all_sent : (from : ℕ) (sends : List (ℕ × Frame)) (streams : Streams)
     → length (with_all_sent from streams sends) ≡ length streams
 length-with_all_sent from [] streams = refl
@@ -72,6 +75,7 @@ length-with_all_sent from (sent ∷ sends) streams =
     length-with_all_sent from sends (with_sent from streams sent)
     ∙ length-with_stream streams sent.0 from (stream_in streams sent.0 from ++ sent.1 ∷ [])
 
+-- after frames are sent, a square is still one
 pub IsSquare-with_all_sent : (from : ℕ) (sends : List (ℕ × Frame)) (streams : Streams)
     → IsSquare streams → IsSquare (with_all_sent from streams sends)
 IsSquare-with_all_sent from [] streams square = square
@@ -117,6 +121,7 @@ kept-take w next p from (Some n) (frame ∷ fs) e =
       });
     }
 
+-- a step keeps the script, and the shape of a world that has it
 pub kept-step : (w next : World) (e : Event) → step w e ≡ Some next → IsKept w next
 kept-step w next (events.Run p) e = kept-run w next p (node_at w p) e
 kept-step w next (events.Take p from) e = kept-take w next p from (node_at w p) (stream w p from) e
@@ -131,6 +136,7 @@ kept-runs w last (e ∷ es) runs =
 pub reachable-script : (script : Script) (w : World) → IsReachableWorld script w → w.script ≡ script
 reachable-script script w reached = (kept-runs (opening_world script) w reached.0 reached.1).script
 
+-- a reachable world has as many nodes as its script says, and a stream from each to each
 pub reachable-shaped : (script : Script) (w : World) → IsReachableWorld script w → IsShaped w
 reachable-shaped script w reached =
     (kept-runs (opening_world script) w reached.0 reached.1).shaped (IsShaped-opening script)
@@ -149,6 +155,7 @@ Runs-more (first ∷ es) w mid next e runs enabled taken =
       rest = Runs-more es runs.next mid next e runs.rest enabled taken;
     }
 
+-- an enabled event leads from a reachable world to a reachable one
 pub reachable-more : (script : Script) (w next : World) (e : Event)
     → IsReachableWorld script w → is_enabled w e ≡ true → step w e ≡ Some next → IsReachableWorld script next
 reachable-more script w next e reached enabled taken =
