@@ -3,3 +3,4 @@ mod Lists
 mod Places
 mod Watching
 pub mod Holding
+pub mod Replied
