@@ -3,4 +3,3 @@ mod Lists
 mod Places
 mod Watching
 pub mod Holding
-pub mod Replied

@@ -98,20 +98,8 @@ impl Growing {
             pid,
             call,
         } = asked;
-        if caller == self.node.number() {
-            // No copy of the reply is made, since nobody else is told.
-            self.reply_here(script, ticket, &reply)?;
-            self.enter(pid, call, reply)
-        } else {
-            let answer = reply.try_copy(self.node.alloc)?;
-            self.enter(pid, call, reply)?;
-            self.send(
-                caller,
-                Frame::Answer {
-                    ticket,
-                    reply: answer,
-                },
-            )
-        }
+        let answer = reply.try_copy(self.node.alloc)?;
+        self.enter(pid, call, reply)?;
+        self.reply_at(script, caller, ticket, answer)
     }
 }
