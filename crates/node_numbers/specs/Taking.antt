@@ -15,23 +15,23 @@ use Rattle.node_model.specs.Leases.{leases_hold, takes_number}
 use Rattle.node_model.specs.Serving.{parent_body}
 use Rattle.world_model.specs.Node.{Node, asked_here, is_node, own_row}
 use Rattle.world_model.specs.Calls.{is_to_leader}
+use Rattle.world_model.specs.Moves.{keep}
 use Rattle.world_model.specs.Numbers.{Taken, tell_place}
 use Rattle.world_model.specs.Step.{Step, carry_out}
-use Rattle.node_state.specs.Deeds.{with_body}
 
 abbrev pub taken : ℕ → Node → Taken
 taken number n = record { number = number; node = n }
 
 -- a new queue is held here under this number
 abbrev pub IsNewQueue : Node → ℕ → Node → Name → Type 0
-IsNewQueue old number new name = (name ≡ Msg number) × (new ≡ with_body old (Msg number) (AQueue empty_queue))
+IsNewQueue old number new name = (name ≡ Msg number) × (new ≡ keep old (Msg number) (AQueue empty_queue))
 
 -- a new set of so many semaphores is held here under this number
 pub record IsNewSet (old : Node) (number count : ℕ) (new : Node) (name : Name) : Type 0 where
   pub set : SemaphoreSet
   pub is : new_set count ≡ Ok set
   pub named : name ≡ Sem number
-  pub after : new ≡ with_body old (Sem number) (ASet set)
+  pub after : new ≡ keep old (Sem number) (ASet set)
 
 -- a process that lives has forked: its row lists the child, whose row is made from it
 pub record IsForkedBody (old : Body) (child : ℕ) (new : Body) (made : Row) : Type 0 where
@@ -45,7 +45,7 @@ pub record IsForked (old : Node) (child : ℕ) (new : Node) (made : Row) : Type 
   pub row : Row
   pub own : own_row old ≡ Some row
   pub is : made ≡ child_row row
-  pub after : new ≡ with_body old (Proc old.pid) (parent_body row child)
+  pub after : new ≡ keep old (Proc old.pid) (parent_body row child)
 
 -- the call is carried out that made what is held here under this name, and its place is told
 abbrev pub with_made : Script → Step → Call → Name → ℕ → Step

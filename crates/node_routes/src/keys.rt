@@ -5,7 +5,6 @@ ghost use Rattle.pico_base.specs.declared.numbers.Kind.TheVariants as kinds;
 ghost use Rattle.pico_base.specs.declared.script.Script.{Script as Scripted};
 ghost use Rattle.rpc_frame.specs.declared.asked.Asked.{Asked as AskedCall};
 ghost use Rattle.kernel_model.specs.Script.{IsSoundScript};
-ghost use Rattle.kernel_model.specs.SemaphoreSet.{is_bad_count};
 ghost use Rattle.world_model.specs.Numbers.{take_number};
 ghost use Rattle.world_model.specs.Routing.{find_set, get_by_key, get_queue, get_set, make_queue};
 ghost use Rattle.node_state.specs.State.{node_of, step_of};
@@ -14,18 +13,9 @@ ghost use Rattle.node_routes.specs.Making.{create_sized, put_in_place};
 use key_table::KeyAnswer;
 use node_numbers::{may_take_number, new_queue, new_set, take_number};
 use node_state::Growing;
+use node_state::forms::is_bad_count;
 use pico_base::{Call, Errno, Id, Key, Kind, Memory, Name, Reply, Script};
 use rpc_frame::Asked;
-
-/// How many semaphores a set has at most.
-const MAX_SEMAPHORES: u32 = 64;
-
-/// Whether no set has so many semaphores.
-fn is_bad_count(count: u32) -> bool
-    ensures { result ≡ is_bad_count count }
-{
-    count == 0 || count > MAX_SEMAPHORES
-}
 
 /// A new queue or set is at this node, and the call is carried out with its number.
 fn put_in_place(

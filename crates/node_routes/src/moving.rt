@@ -6,17 +6,10 @@ ghost use Rattle.lease_leader.specs.Places.{is_at};
 ghost use Rattle.node_state.specs.State.{step_of};
 
 use lease_leader::Directory;
-use node_model::{Held, Route};
+use node_model::Held;
 use node_state::{Growing, Leader};
 use pico_base::{Memory, Name, Node};
 use rpc_frame::Frame;
-
-/// Whether the name is at a node.
-fn is_at_node(directory: &Directory, name: &Name) -> bool
-    ensures { result ≡ is_at directory.now name.now }
-{
-    matches!(directory.route(*name), Route::At(_))
-}
 
 /// Whether the name is on its way.
 fn is_coming(leader: &Leader, name: &Name) -> bool
@@ -55,7 +48,7 @@ pub fn recall_from(
 ) -> Result<(), Memory>
     ensures { OnOk result (step_of step.new ≡ recall_from (step_of step.old) name to owner) }
 {
-    if !is_at_node(&step.node.leader.directory, &name) {
+    if !step.node.leader.is_placed(name) {
         return Err(Memory);
     }
     recall(&mut step.node.leader.directory, &name, to);

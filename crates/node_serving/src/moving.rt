@@ -1,29 +1,19 @@
 //! A name moves to the node that reads it.
 ghost use Rattle.std.specs.Prelude.{◌≡◌, OnOk, Some, if◌then◌else◌};
-ghost use Rattle.lease_leader.specs.Places.{is_at};
 ghost use Rattle.node_model.specs.Directory.{stays};
 ghost use Rattle.world_model.specs.Serving.{grant, move_to, note_read};
 ghost use Rattle.node_state.specs.State.{step_of};
 
-use lease_leader::Directory;
-use node_model::Route;
 use node_state::{Growing, LEADER};
 use pico_base::{Memory, Name, Node};
 use rpc_frame::Frame;
-
-/// Whether the name is known, and at a node.
-fn is_placed(directory: &Directory, name: Name) -> bool
-    ensures { result ≡ is_at directory.now name }
-{
-    matches!(directory.route(name), Route::At(_))
-}
 
 /// The leader sends a deed that it holds to a node, which is the name's place from now on.
 fn grant_held(step: &mut Growing, name: &Name, to: Node) -> Result<(), Memory>
     ensures { OnOk result (step_of step.new ≡ grant (step_of step.old) name.now to) }
 {
     let deed = step.node.take_deed(*name)?;
-    if !is_placed(&step.node.leader.directory, *name) {
+    if !step.node.leader.is_placed(*name) {
         return Err(Memory);
     }
     step.node.leader.move_to(*name, to);

@@ -3,7 +3,7 @@ ghost use Rattle.std.specs.Prelude.{◌≡◌, OnOk, false};
 ghost use Rattle.pico_base.specs.declared.reply.Errno.TheVariants.{Einval as Invalid};
 ghost use Rattle.pico_base.specs.declared.script.Script.{Script as Scripted};
 ghost use Rattle.kernel_model.specs.Script.{IsSoundScript};
-ghost use Rattle.kernel_model.specs.SemaphoreSet.{is_bad_count, new_set};
+ghost use Rattle.kernel_model.specs.SemaphoreSet.{new_set};
 ghost use Rattle.world_model.specs.Node.{asked_here};
 ghost use Rattle.world_model.specs.Starting.{start_making, start_own, start_set};
 ghost use Rattle.world_model.specs.Step.{carry_out};
@@ -12,19 +12,10 @@ ghost use Rattle.node_starts.specs.Started.{started};
 
 use node_numbers::{make, may_take_number};
 use node_serving::act;
+use node_state::forms::is_bad_count;
 use node_state::{Growing, LEADER};
 use pico_base::{Call, Errno, Kind, Memory, Reply, Script};
 use rpc_frame::Frame;
-
-/// How many semaphores a set has at most.
-const MAX_SEMAPHORES: u32 = 64;
-
-/// Whether no set has so many semaphores.
-fn is_bad_count(count: u32) -> bool
-    ensures { result ≡ is_bad_count count }
-{
-    count == 0 || count > MAX_SEMAPHORES
-}
 
 /// Whether a call that takes a number of the kind can be carried out, or the leader asked for more numbers.
 fn may_make(step: &Growing, call: &Call, kind: Kind) -> bool

@@ -3,23 +3,20 @@ use Rattle.std.specs.Prelude.{◌≡◌, Bool, true, false, Some, None}
 use Rattle.pico_base.specs.declared.numbers.Name.{Name}
 use Rattle.rpc_frame.specs.declared.deed.PackedDeed.{PackedDeed}
 use Rattle.deed_box.specs.Packing.{IsPackedDeed}
-use Rattle.node_model.specs.Kinds.{Named, get_named, put_named, without_named}
+use Rattle.node_model.specs.Kinds.{Named, get_named, without_named}
 use Rattle.node_model.specs.Bodies.{Body}
 use Rattle.node_model.specs.Spelling.{pack, read_deed}
 use Rattle.node_serve.specs.declared.body.Body as held
 use Rattle.node_serve.specs.Spelled.{IsSpelled, suits}
+use Rattle.world_model.specs.Moves.{keep}
 use Rattle.world_model.specs.Node.{Node}
 use Rattle.world_model.specs.Serving.{without_deed}
-
--- the name has this body here
-abbrev pub with_body : Node → Name → Body → Node
-with_body n name body = record n { deeds = put_named n.deeds name body }
 
 -- the deed that has come is kept
 pub record IsKept (old : Node) (deed : PackedDeed) (new : Node) : Type 0 where
   pub body : Body
   pub read : read_deed deed ≡ Some body
-  pub after : new ≡ with_body old deed.name body
+  pub after : new ≡ keep old deed.name body
 
 -- it is kept, or its bytes spell no body that goes with its name
 abbrev pub Keeps : Node → PackedDeed → Node → Bool → Type 0

@@ -1,8 +1,8 @@
 //! Questions about calls, names and scripts.
-ghost use Rattle.std.specs.Prelude.{◌≡◌, ◌↔◌, IsTrue, MatchOption, Some, None, true, false, if◌then◌else◌};
+ghost use Rattle.std.specs.Prelude.{◌≡◌, ◌↔◌, IsTrue, MatchOption, Some, None, true, false};
 ghost use Rattle.std.specs.Option.{option_copied};
-ghost use Rattle.pico_base.specs.Home.{home_of};
 ghost use Rattle.std.specs.List.{list_any};
+ghost use Rattle.kernel_model.specs.SemaphoreSet.{is_bad_count};
 ghost use Rattle.kernel_model.specs.Waiting.{is_waiting, may_wait};
 ghost use Rattle.kernel_model.specs.Fitting.{block_at};
 ghost use Rattle.node_model.specs.Kinds.{is_object, name_of};
@@ -11,7 +11,7 @@ ghost use Rattle.world_model.specs.Node.{is_node};
 ghost use Rattle.world_model.specs.Calls.{is_for_others, is_on_name_or_removal};
 ghost use Rattle.world_model.specs.Lives.{is_end, is_forked_by, names_block};
 
-use pico_base::{Block, Call, Home, Kind, Line, Name, Node, Pid, Script, SemStep, home};
+use pico_base::{Block, Call, Home, Kind, Line, Name, Node, Pid, Script, SemStep};
 
 /// Whether one of the operations may have to wait: it isn't positive, and has no IPC_NOWAIT.
 fn may_wait(steps: &[SemStep]) -> bool
@@ -124,13 +124,12 @@ pub fn is_forked_by(script: &Script, from: Node, node: Node) -> bool
     }
 }
 
-/// The home of a call that isn't of a waiting form.
-pub fn home_of_ready(pid: Pid, call: &Call) -> Option<Home>
-    ensures { result ≡ (if is_waiting call.now then None else Some (home_of pid call.now)) }
+/// How many semaphores a set has at most (profile).
+const MAX_SEMAPHORES: u32 = 64;
+
+/// Whether no set has so many semaphores (POSIX.1-2017, semget: EINVAL).
+pub fn is_bad_count(count: u32) -> bool
+    ensures { result ≡ is_bad_count count }
 {
-    if is_waiting(call) {
-        None
-    } else {
-        Some(home(pid, call))
-    }
+    count == 0 || count > MAX_SEMAPHORES
 }

@@ -3,12 +3,13 @@ ghost use Rattle.std.specs.Prelude.{◌≡◌, IfOk, IsTrue, None, OnOk, is_some
 ghost use Rattle.std.specs.FinMap as map;
 ghost use Rattle.number_maps.specs.Maps.{get};
 ghost use Rattle.key_table.specs.KeyMap.{key_answer};
+ghost use Rattle.world_model.specs.Moves.{is_at};
 ghost use Rattle.world_model.specs.Node.{opening_leader};
 ghost use Rattle.world_model.specs.Routing.{bind, without_key};
 ghost use Rattle.node_model.specs.Directory.{arrive, is_coming, is_known, place_of, recall};
 ghost use Rattle.lease_leader.specs.Places.{is_at as is_placed};
 ghost use Rattle.node_state.specs.Keys.{bindings};
-ghost use Rattle.node_state.specs.Leader.{is_at, leader_of};
+ghost use Rattle.node_state.specs.Leader.{leader_of};
 
 use key_table::{KeyAnswer, Keys};
 use lease_leader::Directory;
@@ -75,6 +76,13 @@ impl Leader {
         ensures { result ≡ is_known self.now.directory name }
     {
         matches!(self.directory.route(name), Route::At(_) | Route::Coming)
+    }
+
+    /// Whether the name is at a node.
+    pub fn is_placed(&self, name: Name) -> bool
+        ensures { result ≡ is_placed self.now.directory name }
+    {
+        matches!(self.directory.route(name), Route::At(_))
     }
 
     /// Whether the name is on its way to the leader.

@@ -11,7 +11,8 @@ ghost use Rattle.node_serve.specs.Bodies.{bodies_of, body_of, row_of};
 ghost use Rattle.node_serve.specs.Spelled.{IsSpelled, suits};
 ghost use Rattle.world_model.specs.Node.{asked_here, can_run, first_node, holds, is_born, is_leader, opening_node, own_row, unborn_node, under_way_as};
 ghost use Rattle.world_model.specs.Calls.{is_from_leader, is_to_leader};
-ghost use Rattle.node_state.specs.Deeds.{IsTaken, IsTakenOut, Keeps, with_body};
+ghost use Rattle.node_state.specs.Deeds.{IsTaken, IsTakenOut, Keeps};
+ghost use Rattle.world_model.specs.Moves.{keep};
 ghost use Rattle.node_state.specs.State.{node_of};
 
 use crate::leader::Leader;
@@ -286,7 +287,7 @@ impl State {
     /// The deed of a new name, which is held here from now on. Memory, too, where the name is held already or the body
     /// doesn't go with it.
     pub fn create(&mut self, name: Name, body: Body) -> Result<(), Memory>
-        ensures { OnOk result (node_of self.new ≡ with_body (node_of self.old) name (body_of body)) }
+        ensures { OnOk result (node_of self.new ≡ keep (node_of self.old) name (body_of body)) }
     {
         create(&mut self.deeds, &name, body)
     }
