@@ -2,5 +2,6 @@ pub mod Body
 pub mod Limits
 pub mod Lowest
 pub mod Measured
+pub mod Packed
 pub mod Reading
 pub mod Refusals

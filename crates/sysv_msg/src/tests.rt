@@ -205,6 +205,7 @@ fn packed_and_unpacked(rt: HostRuntime) -> Result<(), Fail> {
     let mut queue = Queue::new(rt.alloc())?;
     send(rt.alloc(), &mut queue, 258, b"hi")?;
     assert_eq!(rt; queue.pack(rt.alloc())?.as_slice(), BODY);
+    assert!(rt; Queue::is_packed(BODY));
     let mut again = Queue::unpack(rt.alloc(), BODY)?;
     assert!(rt; gives(&mut again, 0, 258, b"hi"));
     Ok(())
@@ -230,5 +231,6 @@ fn refused_bodies(rt: HostRuntime) {
             Some(UnpackFault::NotABody),
             "{bytes:?}"
         );
+        assert!(rt; !Queue::is_packed(bytes), "{bytes:?}");
     }
 }

@@ -7,6 +7,7 @@ ghost use Rattle.sysv_msg.specs.Body.{IsBodyOf};
 ghost use Rattle.body_fields.specs.Fields.{Reads, Refuses, number_upto};
 ghost use Rattle.sysv_msg.specs.Reading.{text_at, class_at, message_at, messages_at, fields_at, queue_at, messages_in};
 ghost use Rattle.sysv_msg.specs.Measured.{Measures, HasBody, HasFields};
+ghost use Rattle.sysv_msg.specs.Packed.{TellsPacked};
 
 use crate::pack::CODE;
 use crate::queue::{MAX_BYTES, MAX_MESSAGES, MAX_TEXT};
@@ -129,7 +130,7 @@ fn copied(alloc: Global, count: u16, bytes: &[u8]) -> Result<VecDeque<Message>, 
     ensures { IfOk result
         (λ messages. messages_in (messages_at count max_queue_bytes bytes.now) ≡ Some messages.items) }
 {
-    let mut messages = VecDeque::new(alloc);
+    let mut messages = VecDeque::with_capacity(alloc, usize::from(count))?;
     let mut room = MAX_BYTES;
     let mut rest = bytes;
     for _ in 0..count {
@@ -143,6 +144,13 @@ fn copied(alloc: Global, count: u16, bytes: &[u8]) -> Result<VecDeque<Message>, 
 }
 
 impl Queue {
+    /// Whether the bytes are the packed form of a queue. It takes no memory.
+    pub fn is_packed(bytes: &[u8]) -> bool
+        ensures { TellsPacked bytes.now result }
+    {
+        unpacked(bytes).is_some()
+    }
+
     /// The queue whose packed form the bytes are. NotABody exactly where they are the packed form of no queue, so
     /// Memory comes only where they are one's.
     pub fn unpack(alloc: Global, bytes: &[u8]) -> Result<Queue, UnpackFault>
