@@ -12,16 +12,15 @@ ghost use Rattle.world_model.specs.Moves.{come_back, give_back, goes_on_to, is_a
 ghost use Rattle.world_model.specs.Moves.{suggest, take_give_back, take_grant, take_recall, take_suggest};
 ghost use Rattle.node_state.specs.State.{node_of, step_of};
 ghost use Rattle.node_state.specs.Turning.{IsFresh, Turns};
-ghost use Rattle.node_moves.specs.Coming.{IsDeed, TellsDeed, deed_of, sent_on, with_held};
+ghost use Rattle.node_moves.specs.Coming.{IsDeed, TellsDeed, sent_on, with_held};
 
-use deed_box::Shared;
 use lease_leader::HeldList;
 use node_ends::release;
 use node_routes::recall_from;
-use node_serve::Body;
+use node_serve::is_body;
 use node_state::forms::{is_node, is_object};
 use node_state::{Growing, LEADER, State, TurnFault};
-use pico_base::{Memory, Name, Node, Script, UnpackFault};
+use pico_base::{Memory, Name, Node, Script};
 use rpc_frame::{Frame, PackedDeed};
 use std::alloc::Global;
 
@@ -110,17 +109,6 @@ fn is_new_here(node: &State, name: &Name) -> bool
     ensures { result ≡ is_new_here (node_of node.now) name.now }
 {
     is_object(name) && !node.holds(*name) && !node.leases.holds(*name)
-}
-
-/// Whether the bytes are those of a body that goes with the name.
-fn is_body(alloc: Global, name: Name, bytes: &[u8]) -> Result<bool, Memory>
-    ensures { IfOk result (TellsDeed (deed_of name bytes.now)) }
-{
-    match <Body as Shared>::unpack(alloc, name, bytes) {
-        Ok(_) => Ok(true),
-        Err(UnpackFault::NotABody) => Ok(false),
-        Err(UnpackFault::Memory) => Err(Memory),
-    }
 }
 
 /// Whether the deed's bytes are those of a body that goes with its name.

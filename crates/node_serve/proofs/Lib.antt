@@ -5,3 +5,4 @@ pub mod Reading
 pub mod ReadTaken
 pub mod ServingLemmas
 pub mod Taken
+mod Told

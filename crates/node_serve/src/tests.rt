@@ -8,7 +8,7 @@ ghost use Rattle.node_serve.specs.Ending.{fits_as_read, lets};
 ghost use Rattle.node_serve.specs.Spelled.{suits};
 
 use crate::carrying::on_body;
-use crate::{Body, Row, commit_exit};
+use crate::{Body, Row, commit_exit, is_body};
 use deed_box::{Deed, Deeds, Shared};
 use fork_wait::Family;
 use pico_base::{
@@ -39,6 +39,7 @@ fn replies(
 /// The body's bytes are those of the body that they are read as.
 fn comes_back(rt: &impl Abort, alloc: Global, body: &Body, name: Name) -> Result<(), Fail> {
     let bytes = body.pack(alloc)?;
+    assert!(rt; is_body(alloc, name, bytes.as_slice())?);
     let again = Body::unpack(alloc, name, bytes.as_slice())?;
     assert_eq!(rt; again.pack(alloc)?, bytes);
     Ok(())
@@ -130,6 +131,7 @@ fn carries_out_a_queue_s_calls(rt: HostRuntime) -> Result<(), Fail> {
         Body::unpack(alloc, Name::Proc(Pid(1)), &[6]).err(),
         Some(UnpackFault::NotABody)
     );
+    assert!(rt; !is_body(alloc, name, &[6, 6])?);
     Ok(())
 }
 

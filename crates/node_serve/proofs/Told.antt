@@ -1,0 +1,21 @@
+-- Whether bytes are those of a body, from what is told of a queue's.
+use Rattle.std.proofs.Common.{◌≡◌, ℕ, Bool, true, false, List, [], ◌∷◌, IsTrue, refl}
+use Rattle.pico_base.specs.declared.numbers.Name.TheVariants.{Msg}
+use Rattle.sysv_msg.specs.Packed.{TellsPacked}
+use Rattle.node_serve.specs.declared.body.Body.{Body}
+use Rattle.node_serve.specs.declared.body.Body.TheVariants.{Living, Ended, Gone, Queue, Set, Removed}
+use Rattle.node_serve.specs.Spelled.{IsSpelled, TellsBody, suits}
+
+-- bytes other than those of what was removed are a body's that goes with a queue's name where they are a queue's
+pub queue-told : (id : ℕ) (bytes : List ℕ) (is : Bool) → (bytes ≡ 6 ∷ [] → ⊥) → TellsPacked bytes is
+    → TellsBody (Msg id) bytes is
+queue-told id bytes true other told = record { body = Queue told.queue; goes = refl; spelled = told.is_body }
+queue-told id bytes false other never = none
+  where
+    none : (body : Body) → IsTrue (suits body (Msg id)) → IsSpelled body bytes → ⊥
+    none (Living row) goes spelled = cc
+    none (Ended ending) goes spelled = cc
+    none Gone goes spelled = cc
+    none (Queue queue) goes spelled = never queue spelled
+    none (Set semaphores) goes spelled = cc
+    none Removed goes spelled = other spelled
