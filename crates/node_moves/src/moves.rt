@@ -12,7 +12,7 @@ ghost use Rattle.world_model.specs.Moves.{come_back, give_back, goes_on_to, is_a
 ghost use Rattle.world_model.specs.Moves.{suggest, take_give_back, take_grant, take_recall, take_suggest};
 ghost use Rattle.node_state.specs.State.{node_of, step_of};
 ghost use Rattle.node_state.specs.Turning.{IsFresh, Turns};
-ghost use Rattle.node_moves.specs.Coming.{IsDeed, TellsDeed, sent_on, with_held};
+ghost use Rattle.node_moves.specs.Coming.{IsDeed, TellsDeed, deed_of, sent_on, with_held};
 
 use lease_leader::HeldList;
 use node_ends::release;
@@ -111,11 +111,18 @@ fn is_new_here(node: &State, name: &Name) -> bool
     is_object(name) && !node.holds(*name) && !node.leases.holds(*name)
 }
 
+/// Whether the bytes are those of a body that goes with the name.
+fn are_body(alloc: Global, name: Name, bytes: &[u8]) -> Result<bool, Memory>
+    ensures { IfOk result (TellsDeed (deed_of name bytes.now)) }
+{
+    is_body(alloc, name, bytes)
+}
+
 /// Whether the deed's bytes are those of a body that goes with its name.
 fn is_deed(alloc: Global, deed: &PackedDeed) -> Result<bool, Memory>
     ensures { IfOk result (TellsDeed deed.now) }
 {
-    is_body(alloc, deed.name, deed.body.as_slice())
+    are_body(alloc, deed.name, deed.body.as_slice())
 }
 
 /// The node that the deed of a coming name goes on to: where it is bound for, if that stays and isn't node 1.
