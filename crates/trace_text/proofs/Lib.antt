@@ -3,6 +3,7 @@ pub mod Appends
 pub mod CallLaws
 pub mod CallText
 pub mod EntryLaws
+pub mod Escapes
 pub mod Feeds
 pub mod ReadLaws
 pub mod Ranges

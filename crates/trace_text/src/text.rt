@@ -8,6 +8,7 @@ use itoa::Buffer;
 use pico_base::Memory;
 
 /// Adds these bytes.
+#[inline]
 pub fn push(out: &mut Vec<u8>, bytes: &[u8]) -> Result<(), Memory>
     ensures { OnOk result (out.new.items ≡ out.old.items ++ bytes.now) }
 {
@@ -16,6 +17,7 @@ pub fn push(out: &mut Vec<u8>, bytes: &[u8]) -> Result<(), Memory>
 }
 
 /// Adds one byte.
+#[inline]
 pub fn push_byte(out: &mut Vec<u8>, byte: u8) -> Result<(), Memory>
     ensures { OnOk result (out.new.items ≡ out.old.items ++ byte ∷ []) }
 {
@@ -24,9 +26,14 @@ pub fn push_byte(out: &mut Vec<u8>, byte: u8) -> Result<(), Memory>
 }
 
 /// Adds a number in decimal digits.
+#[tactic(auto, using(std::proofs::lemmas::Fmt::decimal_digit))]
 pub fn push_number(out: &mut Vec<u8>, number: u64) -> Result<(), Memory>
     ensures { OnOk result (out.new.items ≡ out.old.items ++ decimal number) }
 {
+    // Most numbers of a trace have one digit.
+    if number < 10 {
+        return push_byte(out, b'0' + number as u8);
+    }
     push(out, Buffer::new().format(number).as_bytes())
 }
 
@@ -34,6 +41,9 @@ pub fn push_number(out: &mut Vec<u8>, number: u64) -> Result<(), Memory>
 pub fn push_signed(out: &mut Vec<u8>, number: i32) -> Result<(), Memory>
     ensures { OnOk result (out.new.items ≡ out.old.items ++ signed_decimal number) }
 {
+    if number >= 0 {
+        return push_number(out, number as u64);
+    }
     push(out, Buffer::new().format(number).as_bytes())
 }
 
@@ -68,14 +78,32 @@ fn push_escaped(out: &mut Vec<u8>, byte: u8) -> Result<(), Memory>
     }
 }
 
+fn all_plain(text: &[u8]) -> bool
+    ensures { result ≡ list_all is_plain text.now }
+{
+    text.iter().all(|byte| plain(*byte))
+}
+
+// Most texts have no byte to escape, and are added at once.
+#[tactic(auto, using(crate::proofs::Escapes::plain_text))]
+fn push_escapes(out: &mut Vec<u8>, text: &[u8]) -> Result<(), Memory>
+    ensures { OnOk result (out.new.items ≡ out.old.items ++ flat_map escape text.now) }
+{
+    if all_plain(text) {
+        return push(out, text);
+    }
+    for byte in text {
+        push_escaped(out, *byte)?;
+    }
+    Ok(())
+}
+
 /// Adds these bytes in quotes, each that isn't plain as `\xHH`.
 pub fn push_quoted(out: &mut Vec<u8>, text: &[u8]) -> Result<(), Memory>
     ensures { OnOk result (out.new.items ≡ out.old.items ++ quoted_text text.now) }
 {
     push_byte(out, b'"')?;
-    for byte in text {
-        push_escaped(out, *byte)?;
-    }
+    push_escapes(out, text)?;
     push_byte(out, b'"')
 }
 
