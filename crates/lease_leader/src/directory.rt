@@ -1,8 +1,8 @@
 //! The directory.
-ghost use Rattle.std.specs.Prelude.{◌≡◌, IsTrue, IfOk, IfErr, OnOk, OnErr, not};
+ghost use Rattle.std.specs.Prelude.{◌≡◌, ◌≤◌, ◌↔◌, ℕ, IsTrue, IfOk, IfErr, OnOk, OnErr, false, not};
 ghost use Rattle.number_maps.specs.Rising.{IsRising};
 ghost use Rattle.node_model.specs.Directory.{arrive, bound_for, has_more, held_for, hold, is_coming, is_in_parcel, is_known, is_leaving, opening_directory, place_name, recall, route, stays, upcoming, with_leaving, with_left, with_range};
-ghost use Rattle.node_model.specs.Kinds.{for_kind};
+ghost use Rattle.node_model.specs.Kinds.{for_kind, name_of};
 ghost use Rattle.lease_leader.specs.Apart.{IsNextRange};
 ghost use Rattle.lease_leader.specs.Places.{is_at};
 
@@ -108,6 +108,13 @@ impl Directory {
         let stays = self.partings.stays(node);
         self.spots.insert(&name, Spot::at(node, stays))?;
         Ok(true)
+    }
+
+    /// Whether no name of the kind with this number or a greater one is known.
+    pub fn is_past(&self, kind: Kind, number: u32) -> bool
+        ensures { IsTrue result ↔ ((q : ℕ) → number ≤ q → is_known self.now (name_of kind q) ≡ false) }
+    {
+        self.spots.are_below(kind, number)
     }
 
     /// The processes' places are by rising number.

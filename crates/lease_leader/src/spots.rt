@@ -1,14 +1,14 @@
 //! What the leader keeps of the known names, by name.
-ghost use Rattle.std.specs.Prelude.{◌≡◌, Some, IsSome, IfSome, OnOk, OnErr, IfErr, is_some};
+ghost use Rattle.std.specs.Prelude.{◌≡◌, ◌≤◌, ◌↔◌, ℕ, Some, None, IsTrue, IsSome, IfSome, OnOk, OnErr, IfErr, is_some};
 ghost use Rattle.std.specs.Option.{option_copied};
 ghost use Rattle.number_maps.specs.Maps.{get, put};
 ghost use Rattle.number_maps.specs.Rising.{IsRising};
-ghost use Rattle.node_model.specs.Kinds.{get_named, none_named, put_named};
+ghost use Rattle.node_model.specs.Kinds.{for_kind, get_named, none_named, put_named};
 ghost use Rattle.lease_leader.specs.Places.{with_item};
 
 use crate::spot::Spot;
 use node_model::Held;
-use pico_base::{Memory, Name};
+use pico_base::{Kind, Memory, Name};
 use std::alloc::Global;
 use std::collections::BTreeMap;
 use std::marker::Model;
@@ -36,6 +36,23 @@ impl Model for Spots {
       queues = s.queues.entries;
       sets = s.sets.entries;
     } };
+}
+
+/// Whether each of these numbers is below this one.
+fn are_below(spots: &Numbers, number: u32) -> bool
+    ensures { IsTrue result ↔ ((q : ℕ) → number ≤ q → get spots.now.entries q ≡ None) }
+{
+    match spots.last_key_value() {
+        Some((last, _)) => *last < number,
+        None => true,
+    }
+}
+
+/// Whether the number is there. A new one is mostly above all others, which takes no search.
+fn has_at(spots: &Numbers, number: u32) -> bool
+    ensures { result ≡ is_some (get spots.now.entries number) }
+{
+    !are_below(spots, number) && spots.contains_key(&number)
 }
 
 /// Puts another spot in the place of one that is there, which it gives back.
@@ -93,7 +110,22 @@ impl Spots {
     pub(crate) fn has(&self, name: &Name) -> bool
         ensures { result ≡ is_some (get_named self.now name.now) }
     {
-        self.get(name).is_some()
+        match name {
+            Name::Proc(pid) => has_at(&self.processes, pid.0),
+            Name::Msg(id) => has_at(&self.queues, id.0),
+            Name::Sem(id) => has_at(&self.sets, id.0),
+        }
+    }
+
+    /// Whether each known name of the kind has a number below this one.
+    pub(crate) fn are_below(&self, kind: Kind, number: u32) -> bool
+        ensures { IsTrue result ↔ ((q : ℕ) → number ≤ q → get (for_kind self.now kind) q ≡ None) }
+    {
+        match kind {
+            Kind::Proc => are_below(&self.processes, number),
+            Kind::Msg => are_below(&self.queues, number),
+            Kind::Sem => are_below(&self.sets, number),
+        }
     }
 
     /// The processes' spots are by rising number.

@@ -51,9 +51,7 @@ impl Cache {
         ensures owner { result ≡ owner_in self.old name }
         ensures used { self.new ≡ look self.old name }
     {
-        let owner = self.owners.peek(&name).copied();
-        let _ = self.owners.promote(&name);
-        owner
+        self.owners.get(&name).copied()
     }
 
     /// Notes that this node has answered for the name, which is then the one used last. Past 64 names the one used

@@ -8,13 +8,13 @@ pub invariant_of-self : goal.invariant_of-self
 invariant_of-self c =
     let name = c.args.name in
     rw (
-      c.promote.ensures.entries,
+      c.get.follows.holds-at-none,
       promote_is name _ (tests_same name) c.self.inside.owners.entries c.self.invariant.once,
     )
     (look_within c.self.inside.owners.entries c.self.inside.owners.cap name c.self.invariant)
 
 pub returns-clause-used : goal.returns-clause-used
 returns-clause-used c =
-    ap (λ l. l.entries) c.promote.ensures.entries
+    ap (λ l. l.entries) c.get.follows.holds-at-none
     ∙ promote_is c.args.name _ (tests_same c.args.name) c.self.inside.owners.entries c.self.invariant.once
     ∙ ap (λ es. look es c.args.name) c.self.view_is
