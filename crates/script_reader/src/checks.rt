@@ -16,23 +16,6 @@ const MAX_LINE: usize = 4096;
 /// The most calls of a script.
 const MAX_CALLS: usize = 20_000;
 
-/// The faults that a line may have, in the order in which they are told.
-const LINE_FAULTS: [ScriptFault; 13] = [
-    ScriptFault::LineTooLong,
-    ScriptFault::NoProc,
-    ScriptFault::NoEnd,
-    ScriptFault::UnknownCall,
-    ScriptFault::BadArgument,
-    ScriptFault::UnsetVariable,
-    ScriptFault::UnknownProc,
-    ScriptFault::ForkedTwice,
-    ScriptFault::NeverForked,
-    ScriptFault::ForkBackwards,
-    ScriptFault::TooManyProcs,
-    ScriptFault::TooManyCalls,
-    ScriptFault::WaitingForm,
-];
-
 fn is_proc(said: &Said) -> bool
     ensures { result ≡ spec.is_proc said.now }
 {
@@ -200,8 +183,34 @@ pub(crate) fn fault_of(place: &Place, size: usize, said: &Said) -> Option<Script
     requires calls { place.now.calls ≤ 20000 }
     ensures { result ≡ spec.fault_of place.now size said.now }
 {
-    LINE_FAULTS
-        .iter()
-        .copied()
-        .find(|fault| has_fault(place, size, said, *fault))
+    // Each fault is asked for by its name: the tests of the others then fall away where this is compiled.
+    if has_fault(place, size, said, ScriptFault::LineTooLong) {
+        Some(ScriptFault::LineTooLong)
+    } else if has_fault(place, size, said, ScriptFault::NoProc) {
+        Some(ScriptFault::NoProc)
+    } else if has_fault(place, size, said, ScriptFault::NoEnd) {
+        Some(ScriptFault::NoEnd)
+    } else if has_fault(place, size, said, ScriptFault::UnknownCall) {
+        Some(ScriptFault::UnknownCall)
+    } else if has_fault(place, size, said, ScriptFault::BadArgument) {
+        Some(ScriptFault::BadArgument)
+    } else if has_fault(place, size, said, ScriptFault::UnsetVariable) {
+        Some(ScriptFault::UnsetVariable)
+    } else if has_fault(place, size, said, ScriptFault::UnknownProc) {
+        Some(ScriptFault::UnknownProc)
+    } else if has_fault(place, size, said, ScriptFault::ForkedTwice) {
+        Some(ScriptFault::ForkedTwice)
+    } else if has_fault(place, size, said, ScriptFault::NeverForked) {
+        Some(ScriptFault::NeverForked)
+    } else if has_fault(place, size, said, ScriptFault::ForkBackwards) {
+        Some(ScriptFault::ForkBackwards)
+    } else if has_fault(place, size, said, ScriptFault::TooManyProcs) {
+        Some(ScriptFault::TooManyProcs)
+    } else if has_fault(place, size, said, ScriptFault::TooManyCalls) {
+        Some(ScriptFault::TooManyCalls)
+    } else if has_fault(place, size, said, ScriptFault::WaitingForm) {
+        Some(ScriptFault::WaitingForm)
+    } else {
+        None
+    }
 }

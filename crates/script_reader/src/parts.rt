@@ -93,20 +93,6 @@ pub(crate) fn is_text_part(byte: u8) -> bool
     byte >= b' ' && byte <= b'~' && byte != b'"' && byte != b'\\'
 }
 
-// The table of signals, in order.
-const SIGNALS: [Sig; 10] = [
-    Sig::Hup,
-    Sig::Int,
-    Sig::Quit,
-    Sig::Kill,
-    Sig::Usr1,
-    Sig::Usr2,
-    Sig::Pipe,
-    Sig::Alrm,
-    Sig::Term,
-    Sig::Chld,
-];
-
 fn name_of_signal(sig: Sig) -> &'static [u8]
     ensures { result.now ≡ signal_name sig }
 {
@@ -144,12 +130,34 @@ fn name_of_how(how: How) -> &'static [u8]
     }
 }
 
-/// The signal of this name.
+/// The signal of this name. Each name is tried as a constant.
 #[tactic(auto, unfolding(crate::specs::Parts::signal))]
 pub(crate) fn signal(word: &[u8]) -> Option<Sig>
     ensures { result ≡ signal_of word.now }
 {
-    SIGNALS.iter().copied().find(|g| name_of_signal(*g) == word)
+    if name_of_signal(Sig::Hup) == word {
+        Some(Sig::Hup)
+    } else if name_of_signal(Sig::Int) == word {
+        Some(Sig::Int)
+    } else if name_of_signal(Sig::Quit) == word {
+        Some(Sig::Quit)
+    } else if name_of_signal(Sig::Kill) == word {
+        Some(Sig::Kill)
+    } else if name_of_signal(Sig::Usr1) == word {
+        Some(Sig::Usr1)
+    } else if name_of_signal(Sig::Usr2) == word {
+        Some(Sig::Usr2)
+    } else if name_of_signal(Sig::Pipe) == word {
+        Some(Sig::Pipe)
+    } else if name_of_signal(Sig::Alrm) == word {
+        Some(Sig::Alrm)
+    } else if name_of_signal(Sig::Term) == word {
+        Some(Sig::Term)
+    } else if name_of_signal(Sig::Chld) == word {
+        Some(Sig::Chld)
+    } else {
+        None
+    }
 }
 
 /// A signal's name, `0` or `badsig`.

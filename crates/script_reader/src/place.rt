@@ -116,31 +116,28 @@ impl Place {
         self.blocks.len() + 1
     }
 
-    fn open(self, alloc: Global, name: Bytes, number: usize) -> Result<Place, Memory>
-        ensures { IfOk result (λ place. place ≡ spec.opened self name number) }
+    fn open(&mut self, alloc: Global, name: Bytes, number: usize) -> Result<(), Memory>
+        ensures { IfOk result (λ _. self.new ≡ spec.opened self.old name number) }
     {
-        let known = begun_with(alloc, self.begun.as_slice(), number)?;
-        let mut place = self;
-        place.inside = true;
-        place.name = name;
-        place.lines = Sequence::new(alloc);
-        place.over = false;
-        place.known = known;
-        Ok(place)
+        self.known = begun_with(alloc, self.begun.as_slice(), number)?;
+        self.inside = true;
+        self.name = name;
+        self.lines = Sequence::new(alloc);
+        self.over = false;
+        Ok(())
     }
 
-    fn end(self, alloc: Global, implied: usize) -> Result<Place, Memory>
-        requires { self.calls + implied < 2 ^ 64 }
-        ensures { IfOk result (λ place. place ≡ spec.ended self implied) }
+    fn end(&mut self, alloc: Global, implied: usize) -> Result<(), Memory>
+        requires { self.old.calls + implied < 2 ^ 64 }
+        ensures { IfOk result (λ _. self.new ≡ spec.ended self.old implied) }
     {
-        let mut place = self;
-        place.calls += implied;
-        place.inside = false;
-        place.over = false;
-        let name = std::mem::replace(&mut place.name, Sequence::new(alloc));
-        let lines = std::mem::replace(&mut place.lines, Sequence::new(alloc));
-        place.blocks.push(Block { name, lines })?;
-        Ok(place)
+        self.calls += implied;
+        self.inside = false;
+        self.over = false;
+        let name = std::mem::replace(&mut self.name, Sequence::new(alloc));
+        let lines = std::mem::replace(&mut self.lines, Sequence::new(alloc));
+        self.blocks.push(Block { name, lines })?;
+        Ok(())
     }
 
     /// Notes what the block of a number begins with, where it may be a block.
@@ -154,12 +151,11 @@ impl Place {
         Ok(())
     }
 
-    fn fork(self, alloc: Global, set: Option<Var>, number: usize) -> Result<Place, Memory>
-        requires { self.calls < 2 ^ 32 }
-        ensures { IfOk result (λ place. place ≡ spec.forking self set number) }
+    fn fork(&mut self, alloc: Global, set: Option<Var>, number: usize) -> Result<(), Memory>
+        requires { self.old.calls < 2 ^ 32 }
+        ensures { IfOk result (λ _. self.new ≡ spec.forking self.old set number) }
     {
-        let mut place = self;
-        place.calls += 1;
+        self.calls += 1;
         let line = Line {
             set,
             tries: 1,
@@ -168,29 +164,27 @@ impl Place {
                 block: node(number),
             },
         };
-        place.known.note(line.set);
-        place.lines.push(line)?;
-        place.forked.set(number);
-        place.note_begun(alloc, number)?;
-        Ok(place)
+        self.known.note(line.set);
+        self.lines.push(line)?;
+        self.forked.set(number);
+        self.note_begun(alloc, number)
     }
 
-    fn call(self, line: Line) -> Result<Place, Memory>
-        requires { self.calls + line.tries < 2 ^ 64 }
-        ensures { IfOk result (λ place. place ≡ spec.calling self line) }
+    fn call(&mut self, line: Line) -> Result<(), Memory>
+        requires { self.old.calls + line.tries < 2 ^ 64 }
+        ensures { IfOk result (λ _. self.new ≡ spec.calling self.old line) }
     {
-        let mut place = self;
-        place.calls += line.tries as usize;
-        place.over = is_exit(&line.call);
-        place.known.note(line.set);
-        place.lines.push(line)?;
-        Ok(place)
+        self.calls += line.tries as usize;
+        self.over = is_exit(&line.call);
+        self.known.note(line.set);
+        self.lines.push(line)?;
+        Ok(())
     }
 
-    /// The place behind a line without a fault.
-    pub(crate) fn behind(self, alloc: Global, said: Said) -> Result<Place, Memory>
-        requires { self.calls ≤ 20000 }
-        ensures { IfOk result (λ place. place ≡ spec.behind self said) }
+    /// Goes behind a line without a fault.
+    pub(crate) fn go_behind(&mut self, alloc: Global, said: Said) -> Result<(), Memory>
+        requires { self.old.calls ≤ 20000 }
+        ensures { IfOk result (λ _. self.new ≡ spec.behind self.old said) }
     {
         match said {
             Said::Opens(name, number) => self.open(alloc, name, number),
@@ -200,10 +194,10 @@ impl Place {
             }
             Said::Forks(set, forked) => match forked {
                 Some(number) => self.fork(alloc, set, number),
-                None => Ok(self),
+                None => Ok(()),
             },
             Said::Calls(line) => self.call(line),
-            _ => Ok(self),
+            _ => Ok(()),
         }
     }
 }

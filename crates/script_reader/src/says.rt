@@ -1,7 +1,7 @@
 //! What a line says by itself, wherever it stands.
 
-ghost use Rattle.std.specs.Prelude.{◌≡◌, ◌≤◌, IfOk, IfSome, option_copied};
-ghost use Rattle.script_reader.specs.Words.{texts};
+ghost use Rattle.std.specs.Prelude.{◌≡◌, ◌≤◌, ◌==◌, ◌||◌, false, None, IfOk, IfSome, option_copied};
+ghost use Rattle.script_reader.specs.Words.{is_blank as is_blank_of, texts};
 ghost use Rattle.script_reader.specs.Says as says;
 
 use crate::forms::{FromCall, call};
@@ -9,7 +9,7 @@ use crate::numbers::positive;
 use crate::parts::{is_block_name, variable};
 use crate::tables::Names;
 use crate::verb::Verb;
-use crate::words::{next_word, words};
+use crate::words::{is_blank, next_word, put_words};
 use pico_base::{Bytes, Line, Memory, Var};
 use std::alloc::Global;
 
@@ -222,12 +222,34 @@ fn words_line(alloc: Global, names: &Names, words: &[&[u8]]) -> Result<Said, Mem
     }
 }
 
-/// What the line says, in a text whose blocks have these names.
-pub(crate) fn read_line(alloc: Global, names: &Names, bytes: &[u8]) -> Result<Said, Memory>
+/// What the line says, in a text whose blocks have these names. Its words are put where those of other lines were.
+pub(crate) fn read_line<'a>(
+    alloc: Global,
+    names: &Names,
+    words: &mut Vec<&'a [u8]>,
+    bytes: &'a [u8],
+) -> Result<Said, Memory>
     ensures { IfOk result (λ said. said ≡ says.said_of names.now bytes.now) }
 {
-    let words = words(alloc, bytes)?;
+    put_words(words, bytes)?;
     words_line(alloc, names, words.as_slice())
+}
+
+/// Whether a line `proc NAME` may begin with the byte.
+fn is_opener(byte: u8) -> bool
+    ensures { result ≡ (byte == 112 || is_blank_of byte) }
+{
+    byte == b'p' || is_blank(byte)
+}
+
+/// Whether the first byte leaves it open that this is a line `proc NAME`. Most lines are told by it.
+fn may_open(bytes: &[u8]) -> bool
+    ensures { result ≡ false → says.opening_at bytes.now ≡ None }
+{
+    match bytes.split_first() {
+        None => true,
+        Some((first, _)) => is_opener(*first),
+    }
 }
 
 /// The name in a line `proc NAME`.
@@ -235,6 +257,9 @@ pub(crate) fn read_line(alloc: Global, names: &Names, bytes: &[u8]) -> Result<Sa
 pub(crate) fn opening(bytes: &[u8]) -> Option<&[u8]>
     ensures { option_copied result ≡ says.opening_at bytes.now }
 {
+    if !may_open(bytes) {
+        return None;
+    }
     let (head, rest) = next_word(bytes)?;
     if head != b"proc".as_slice() {
         return None;

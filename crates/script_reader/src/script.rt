@@ -62,17 +62,18 @@ fn blocks_with(alloc: Global, names: &Names, text: &[u8]) -> Result<Blocks, Scri
         (spec.blocks_from names.now (spec.start (length names.now)) 1 (lines_of text.now)) }
 {
     let mut place = Place::new(alloc, names.len())?;
+    let mut words = Vec::new(alloc);
     let mut rest = text;
     let mut number: u32 = 1;
     while let Some((bytes, after)) = next_line(rest) {
-        let said = read_line(alloc, names, bytes)?;
+        let said = read_line(alloc, names, &mut words, bytes)?;
         if let Some(fault) = fault_of(&place, bytes.len(), &said) {
             return Err(ScriptStop::At {
                 line: number,
                 fault,
             });
         }
-        place = place.behind(alloc, said)?;
+        place.go_behind(alloc, said)?;
         rest = after;
         number += 1;
     }

@@ -1,6 +1,6 @@
 //! Lines and words.
 
-ghost use Rattle.std.specs.Prelude.{◌≡◌, ◌<◌, ◌≤◌, ◌+◌, ◌==◌, not, drop, position, [], ◌∷◌, IfOk, IfSome, MatchOption, length};
+ghost use Rattle.std.specs.Prelude.{◌≡◌, ◌<◌, ◌≤◌, ◌+◌, ◌==◌, not, drop, position, [], ◌∷◌, IfOk, OnOk, IfSome, MatchOption, length};
 ghost use Rattle.std.specs.List.{position_or_len};
 ghost use Rattle.script_reader.specs.Words.{lines_of, is_blank as is_blank_of, rest_length, words_of, pieces as pieces_of, texts};
 
@@ -30,7 +30,7 @@ pub fn next_line(bytes: &[u8]) -> Option<(&[u8], &[u8])>
     }
 }
 
-fn is_blank(byte: u8) -> bool
+pub(crate) fn is_blank(byte: u8) -> bool
     ensures { result ≡ is_blank_of byte }
 {
     byte == b' ' || byte == b'\t' || byte == b'\r'
@@ -109,17 +109,17 @@ pub fn next_word(bytes: &[u8]) -> Option<(&[u8], &[u8])>
     Some(word.split_at(1 + rest_len(*first, rest)))
 }
 
-/// The words of a line.
-pub(crate) fn words(alloc: Global, line: &[u8]) -> Result<Vec<&[u8]>, Memory>
-    ensures { IfOk result (λ words. texts words.items ≡ words_of line.now) }
+/// Puts the words of a line in the place of others.
+pub(crate) fn put_words<'a>(words: &mut Vec<&'a [u8]>, line: &'a [u8]) -> Result<(), Memory>
+    ensures { OnOk result (texts words.new.items ≡ words_of line.now) }
 {
-    let mut words = Vec::new(alloc);
+    words.clear();
     let mut rest = line;
     while let Some((word, after)) = next_word(rest) {
         words.push(word)?;
         rest = after;
     }
-    Ok(words)
+    Ok(())
 }
 
 /// The pieces of a word between each two of these bytes.

@@ -32,19 +32,19 @@ loop-bytes-preserved c =
     let goes = blocks_from-goes c.args.names.now l.place l.number c.in-Some.bytes.now
     (lines_of c.in-Some.after.now) c.in_ok-said.said c.in_ok-said.ensures none in
     record {
-      reads = ap (λ p. from p (l.number + 1) (lines_of c.in-Some.after.now)) c.in_ok-place-2.ensures ∙ sym goes
+      reads = ap (λ p. from p (l.number + 1) (lines_of c.in-Some.after.now)) c.in_ok-go_behind.ensures ∙ sym goes
           ∙ sym (ap (from l.place l.number) c.in-Some.ensures.lines) ∙ l.invariant.reads;
       counted = omega (arith, c.in-Some.ensures.shorter, l.invariant.counted);
       blocks = omega (
         arith,
         l.invariant.blocks,
         behind_blocks l.place c.in_ok-said.said,
-        ap (λ p. length p.blocks) c.in_ok-place-2.ensures,
+        ap (λ p. length p.blocks) c.in_ok-go_behind.ensures,
       );
       calls = omega (
         arith,
         calls_within l.place (length c.in-Some.bytes.now) c.in_ok-said.said none,
-        ap (λ p. p.calls) c.in_ok-place-2.ensures,
+        ap (λ p. p.calls) c.in_ok-go_behind.ensures,
       );
     }
 
