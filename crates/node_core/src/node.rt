@@ -91,8 +91,18 @@ impl PicoNode {
         };
         let turned = node.turn(self.alloc, script, input);
         if let Err(TurnFault::Memory) = turned {
-            self.state = None;
+            self.spend();
         }
         turned
+    }
+
+    /// The node is spent. This stands apart because a function clears the room of all its locals as it begins, and the
+    /// state that is put here has a node's size.
+    #[cold]
+    #[inline(never)]
+    fn spend(&mut self)
+        ensures { self.new ≡ None }
+    {
+        self.state = None;
     }
 }
