@@ -17,6 +17,9 @@ fn knows_any(leader: &Leader, kind: Kind, first: u32) -> bool
     requires { first + 7 < 2 ^ 32 }
     ensures { result ≡ knows_any leader.now.directory kind (lease_of first) }
 {
+    if leader.directory.is_past(kind, first) {
+        return false;
+    }
     for place in 0..LEASE {
         if leader.knows(name_of(kind, first + place)) {
             return true;
