@@ -139,8 +139,12 @@ fn may_route_by(node: &State, name: &Name, call: &Call) -> bool
     ensures { result
         ≡ may_route_by (node_of node.now) name.now call.now (route node.now.leader.directory name.now) }
 {
+    // Where the call can be carried out here, the directory isn't asked.
+    if node.holds(*name) && !is_waiting(call) {
+        return true;
+    }
     match route_of(node, name) {
-        Route::At(owner) => !is_here(node, owner) || (node.holds(*name) && !is_waiting(call)),
+        Route::At(owner) => !is_here(node, owner),
         _ => true,
     }
 }
