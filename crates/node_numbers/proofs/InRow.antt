@@ -1,5 +1,5 @@
 -- Numbers in a row that are looked at one after another.
-use Rattle.std.proofs.Common.{◌≡◌, ◌∙◌, ℕ, zero, suc, ◌+◌, ◌<◌, ◌||◌, ◌++◌, List, [], ◌∷◌, Bool, true, false, arith, refl, sym, ap, length, add-one}
+use Rattle.std.proofs.Common.{◌≡◌, ◌∙◌, ℕ, zero, suc, ◌+◌, ◌≤◌, ◌<◌, ◌||◌, ◌++◌, List, [], ◌∷◌, Bool, true, false, arith, refl, sym, ap, length, add-one}
 use Rattle.std.proofs.lemmas.List.Folds.{list_any-append, list_any_at}
 use Rattle.std.proofs.lemmas.List.FromFn.{length-range_with_len, get_or-range_with_len}
 use Rattle.std.specs.List.{list_any, range_with_len}
@@ -33,3 +33,12 @@ none-in-more p first place before next =
     ap (list_any p) (range-more first place)
     ∙ list_any-append p (range_with_len first place) ((first + place) ∷ [])
     ∙ none-by (list_any p (range_with_len first place)) (p (first + place)) before next
+
+-- where none from a number on passes, none of those in a row from it on does
+pub none-from : (p : ℕ → Bool) (first count : ℕ) → ((q : ℕ) → first ≤ q → p q ≡ false)
+    → list_any p (range_with_len first count) ≡ false
+none-from p first zero none = refl
+none-from p first (suc count) none =
+    let here : first ≤ first = omega arith
+    in ap (λ b. b || list_any p (range_with_len (first + 1) count)) (none first here)
+    ∙ none-from p (first + 1) count (λ q above. let from : first ≤ q = omega (arith, above) in none q from)
