@@ -1,5 +1,6 @@
 -- The invariant of a world, after an event.
-use Rattle.std.proofs.Common.{◌≡◌, true, Option, Some, IfSome, sym, ap, subst, ◌∙◌}
+use Rattle.std.proofs.Common.{◌≡◌, true, false, Option, Some, IfSome, Result, Ok, Err, OnOk, sym, ap, subst, ◌∙◌}
+use Rattle.std.specs.Result.{is_err}
 use Rattle.pico_base.specs.declared.script.Script.{Script}
 use Rattle.pico_base.specs.declared.script.Event.{Event}
 use Rattle.kernel_model.specs.Script.{IsSoundScript}
@@ -32,3 +33,8 @@ IsAlive-next found old s next e is sound view enabled stepped =
     in let there : Some (world_of s) ≡ old = sym (ap world_in is) ∙ view
     in let P : Option World → Type 0 = λ o. IfSome o (λ w. is_enabled w e ≡ true)
     in IsAlive-step s next e alive (subst P (sym there) enabled) stepped
+
+-- what is said of success holds where nothing failed
+pub went-well : {T E P : Type 0} (r : Result T E) → is_err r ≡ false → OnOk r P → P
+went-well (Ok x) e p = p
+went-well (Err fault) e p = absurd (let f : ⊥ = cc in f)

@@ -1,5 +1,5 @@
 -- Lists: elements of lists joined end to end, filters, and numbers in order.
-use Rattle.std.proofs.Common.{◌≡◌, ℕ, ◌+◌, ◌-◌, ◌<◌, ◌≤◌, zero, suc, Bool, true, false, List, [], ◌∷◌, ◌++◌, length, map, get_or, slice_get, cond, Some, refl, sym, ap, ◌∙◌, arith}
+use Rattle.std.proofs.Common.{◌≡◌, ℕ, ◌+◌, ◌-◌, ◌<◌, ◌≤◌, zero, suc, Bool, true, false, List, [], ◌∷◌, ◌++◌, length, map, get_or, slice_get, cond, Some, None, refl, sym, ap, ◌∙◌, arith}
 use Rattle.std.specs.List.{filter, flat_map, count_by}
 use Rattle.std.proofs.lemmas.List.Sums.{sum_by-cons}
 use Rattle.world_model.specs.World.{numbers}
@@ -18,6 +18,12 @@ slice_get-right (x ∷ xs) ys zero le = absurd (omega arith)
 slice_get-right (x ∷ xs) ys (suc i) le =
     let e : i - length xs ≡ suc i - suc (length xs) = omega arith
     in slice_get-right xs ys i (omega arith) ∙ ap (λ (n : ℕ). slice_get ys n) e
+
+-- a place where nothing is found is past the end
+pub past_of-none : {X : Type 0} (xs : List X) (i : ℕ) → None ≡ slice_get xs i → length xs ≤ i
+past_of-none [] i none = omega arith
+past_of-none (x ∷ xs) zero none = absurd (let f : ⊥ = cc in f)
+past_of-none (x ∷ xs) (suc i) none = let rest = past_of-none xs i none in omega arith
 
 pub numbers-next : (first count : ℕ) → 0 < count → numbers first count ≡ first ∷ numbers (first + 1) (count - 1)
 numbers-next first zero lt = absurd (omega arith)

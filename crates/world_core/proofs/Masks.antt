@@ -1,14 +1,14 @@
 -- A bit for each stream, set where it has a frame.
 use Rattle.std.proofs.Common.{◌≡◌, ◌≢◌, ℕ, ◌*◌, ◌/◌, ◌%◌, ◌^◌, ◌<◌, ◌≤◌, suc, zero, Bool, true, false, List, [], ◌∷◌, ◌++◌, length, map, replicate, set, get_or, cond, refl, sym, ap, ◌∙◌, ⊎_elim, arith, get_or-set_same, get_or-set_other, length-set, w32}
 use Rattle.std.specs.Prelude.{bit_and, bit_or, count_ones, nat_eq}
-use Rattle.std.specs.Int.{bit_at, bit_not}
+use Rattle.std.specs.Int.{bit_at, bit_not, trailing_zeros}
 use Rattle.std.specs.Simd.Lanes.{mask_l}
 use Rattle.std.proofs.Math.ListN.{get_or-map}
 use Rattle.std.proofs.Math.Seq.{map-set_same}
 use Rattle.std.proofs.lemmas.Bool.{cases_eq}
 use Rattle.std.proofs.lemmas.List.{get_or_read, length-map}
 use Rattle.std.proofs.lemmas.Nat.{and_le_l, ones_le_self}
-use Rattle.std.proofs.lemmas.Nat.Bits.{bit_at_set_same, bit_at_set_other, bit_at_clear_same, bit_at_clear_other, shr_and_one, same_from_bits, same_from_bits_below}
+use Rattle.std.proofs.lemmas.Nat.Bits.{bit_at-trailing_zeros, bit_at-zero, bit_at_set_same, bit_at_set_other, bit_at_clear_same, bit_at_clear_other, shr_and_one, same_from_bits, same_from_bits_below}
 use Rattle.std.proofs.lemmas.Simd.{mask_l-mod, bit_mask_l, ones-mask_l}
 use Rattle.rpc_frame.specs.declared.frame.Frame.{Frame}
 use Rattle.world_core.specs.Inbox.{is_filled, filled_in, filled_mask, may_take, IsMarked}
@@ -143,3 +143,21 @@ pub empty-takes : (filled : ℕ) (row : List (List Frame)) (k : ℕ) (b : Bool) 
 empty-takes filled row k b marked e =
     let same = tested filled row k marked in
     ap (λ (n : ℕ). nat_eq n 1) same ∙ takes-none b (get_or row k []) (λ one. e (same ∙ one))
+
+-- ---- the lowest bit
+
+no-bit-below : (n i : ℕ) → n < 2 ^ 32 → i < trailing_zeros w32 n → bit_at n i ≡ 0
+no-bit-below zero i small lt = bit_at-zero i
+no-bit-below (suc n) i small lt = (bit_at-trailing_zeros w32 (suc n) (omega arith) small).2 i lt
+
+nothing-taken : (b : Bool) (fs : List Frame) → ◌≡◌ {A = ℕ} (cond (is_filled fs) 1 0) 0 → may_take b fs ≡ false
+nothing-taken b [] e = refl
+nothing-taken b (f ∷ fs) e = absurd (omega arith)
+
+-- no stream before the lowest bit that is set has a frame to take
+pub none-before : (filled : ℕ) (row : List (List Frame)) (b : Bool) → filled ≡ filled_mask row → length row ≤ 32
+    → (i : ℕ) → i < trailing_zeros w32 filled → may_take b (get_or row i []) ≡ false
+none-before filled row b marked few i lt =
+    nothing-taken b (get_or row i [])
+    (sym (mask-at row i) ∙ sym (ap (λ (n : ℕ). bit_at n i) marked)
+    ∙ no-bit-below filled i (let small = mask-below row few in omega (arith, marked)) lt)

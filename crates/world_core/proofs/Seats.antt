@@ -1,9 +1,9 @@
 -- The events of a node that are enabled: the frames that it may take, by rising sender, and its run.
-use Rattle.std.proofs.Common.{◌≡◌, ℕ, ◌+◌, ◌-◌, ◌<◌, ◌≤◌, zero, suc, Bool, true, false, ◌&&◌, List, [], ◌∷◌, ◌++◌, length, map, get_or, slice_get, cond, Option, Some, None, IfSome, IsSome, IsTrue, refl, sym, ap, subst, ◌∙◌, arith, length-append}
+use Rattle.std.proofs.Common.{◌≡◌, ◌≢◌, ℕ, ◌+◌, ◌-◌, ◌<◌, ◌≤◌, zero, suc, Bool, true, false, ◌&&◌, List, [], ◌∷◌, ◌++◌, length, map, get_or, slice_get, cond, Option, Some, None, IfSome, IsSome, IsTrue, refl, sym, ap, subst, ◌∙◌, arith, length-append}
 use Rattle.std.specs.List.{filter, count_by}
 use Rattle.std.specs.Option.{option_map}
 use Rattle.std.proofs.lemmas.List.{length-map}
-use Rattle.std.proofs.lemmas.Option.{slice_get-map}
+use Rattle.std.proofs.lemmas.Option.{slice_get-map, slice_get_past, slice_get_within}
 use Rattle.std.proofs.lemmas.List.Elements.{filter-append}
 use Rattle.std.proofs.lemmas.List.Sums.{length-filter, count_by-le-length, sum_by-le-sum_by}
 use Rattle.pico_base.specs.declared.script.Event.{Event}
@@ -14,7 +14,7 @@ use Rattle.world_model.specs.World.{World, numbers, size, node_at, is_number, is
 use Rattle.world_model.specs.Schedule.{enabled_at}
 use Rattle.world_core.specs.Inbox.{filled_in, is_filled, may_take, from_node, senders}
 use Rattle.world_core.specs.Seat.{IsSeat}
-use Rattle.world_core.proofs.Lists.{slice_get-left, slice_get-right, filter-map, filter_same, count_numbers}
+use Rattle.world_core.proofs.Lists.{slice_get-left, slice_get-right, filter-map, filter_same, count_numbers, past_of-none}
 use Rattle.std.proofs.lemmas.List.{get_or_read}
 use Rattle.kernel_model.specs.Numbers.{is_between}
 use Rattle.world_model.specs.World.{node_count}
@@ -162,59 +162,74 @@ at_node found n b f e h = let P : Option Node → Type 0 = λ o. IfSome o (λ m.
 -- the first events of a node are to take a frame of each sender, in order
 pub seat-taken : (w : World) (p i from : ℕ) (found : Option Node) (row : List (List Frame)) (b : Bool)
     → IsSeat w p found row
-    → IfSome found (λ n. b ≡ is_born n) → i < length (senders b row) → Some from ≡ slice_get (senders b row) i
+    → IfSome found (λ n. b ≡ is_born n) → Some from ≡ slice_get (senders b row) i
     → Some (events.Take p from) ≡ slice_get (enabled_at w p) i
-seat-taken w p i from found row b seat born lt is_from =
+seat-taken w p i from found row b seat born is_from =
     let n = seat.node
+    in let lt = slice_get_within (senders b row) i from (sym is_from)
     in let e : b ≡ is_born n = at_node found n b is_born seat.is_node born
     in let lt' : i < length (senders (is_born n) row) = subst (λ (x : Bool). i < length (senders x row)) e lt
     in ap (option_map (λ k. events.Take p k)) is_from
     ∙ ap (λ (x : Bool). option_map (λ k. events.Take p k) (slice_get (senders x row) i)) e
     ∙ sym (taken_at w p i n row seat.number seat.here seat.is_row seat.width lt')
 
-seat-run_of : (w : World) (p i : ℕ) (found : Option Node) (row : List (List Frame)) (b r : Bool) → IsSeat w p found row
-    → IfSome found (λ n. b ≡ is_born n) → IfSome found (λ n. r ≡ can_run n) → length (senders b row) ≤ i
-    → slice_get (enabled_at w p) i ≡ slice_get (run_of r p) (i - length (senders b row))
-seat-run_of w p i found row b r seat born runs le =
+-- a node's events are the frames that it may take, and its run where it can run
+seat-count : (w : World) (p : ℕ) (found : Option Node) (row : List (List Frame)) (r : Bool) (seat : IsSeat w p found row)
+    → IfSome found (λ n. r ≡ can_run n)
+    → length (enabled_at w p) ≡ length (senders (is_born seat.node) row) + cond r 1 0
+seat-count w p found row r seat runs =
     let n = seat.node
-    in let e : b ≡ is_born n = at_node found n b is_born seat.is_node born
-    in let le' : length (senders (is_born n) row) ≤ i = subst (λ (x : Bool). length (senders x row) ≤ i) e le
-    in run_at w p i n row seat.number seat.here seat.is_row seat.width le'
-    ∙ ap (λ (x : Bool). slice_get (run_of (can_run n) p) (i - length (senders x row))) (sym e)
-    ∙ ap (λ (x : Bool). slice_get (run_of x p) (i - length (senders b row)))
+    in length-enabled_at w p n row seat.number seat.here seat.is_row seat.width
+    ∙ ap (λ (x : Bool). length (senders (is_born n) row) + cond x 1 0)
     (sym (at_node found n r can_run seat.is_node runs))
 
--- behind these stands the run of a node that can run
-pub seat-run : (w : World) (p i : ℕ) (found : Option Node) (row : List (List Frame)) (b r : Bool) → IsSeat w p found row
-    → IfSome found (λ n. b ≡ is_born n) → IfSome found (λ n. r ≡ can_run n) → i ≡ length (senders b row) → r ≡ true
-    → Some (events.Run p) ≡ slice_get (enabled_at w p) i
-seat-run w p i found row b r seat born runs at may =
-    let e : i - length (senders b row) ≡ 0 = omega arith
-    in sym (seat-run_of w p i found row b r seat born runs (omega arith)
-    ∙ ap (λ (k : ℕ). slice_get (run_of r p) k) e ∙ ap (λ (x : Bool). slice_get (run_of x p) 0) may)
+seat-more : (w : World) (p : ℕ) (found : Option Node) (row : List (List Frame)) (r : Bool) (seat : IsSeat w p found row)
+    → IfSome found (λ n. r ≡ can_run n) → r ≡ true
+    → length (enabled_at w p) ≡ length (senders (is_born seat.node) row) + 1
+seat-more w p found row r seat runs may =
+    seat-count w p found row r seat runs
+    ∙ ap (λ (x : Bool). length (senders (is_born seat.node) row) + cond x 1 0) may
 
-run_past : (r : Bool) (p k : ℕ) → 0 < k → None ≡ slice_get (run_of r p) k
-run_past true p zero lt = absurd (omega arith)
-run_past true p (suc k) lt = refl
-run_past false p k lt = refl
+-- a node's last event is its run, where it can run
+pub seat-run : (w : World) (p i count : ℕ) (found : Option Node) (row : List (List Frame)) (r : Bool)
+    → IsSeat w p found row → IfSome found (λ n. r ≡ can_run n) → count ≡ length (enabled_at w p) → r ≡ true
+    → i ≡ count - 1 → Some (events.Run p) ≡ slice_get (enabled_at w p) i
+seat-run w p i count found row r seat runs counted may last =
+    let n = seat.node
+    in let more = seat-more w p found row r seat runs may
+    in let e : can_run n ≡ true = sym (at_node found n r can_run seat.is_node runs) ∙ may
+    in let here : i - length (senders (is_born n) row) ≡ 0 = omega (arith, counted)
+    in sym (run_at w p i n row seat.number seat.here seat.is_row seat.width (omega (arith, counted))
+    ∙ ap (λ (k : ℕ). slice_get (run_of (can_run n) p) k) here ∙ ap (λ (x : Bool). slice_get (run_of x p) 0) e)
 
--- behind its run a node has no event
-pub seat-past : (w : World) (p i : ℕ) (found : Option Node) (row : List (List Frame)) (b r : Bool)
-    → IsSeat w p found row
-    → IfSome found (λ n. b ≡ is_born n) → IfSome found (λ n. r ≡ can_run n) → length (senders b row) < i
+-- a place with no sender is past them all
+seat-taken_all : (w : World) (p i : ℕ) (found : Option Node) (row : List (List Frame)) (b : Bool)
+    (seat : IsSeat w p found row)
+    → IfSome found (λ n. b ≡ is_born n) → None ≡ slice_get (senders b row) i
+    → length (senders (is_born seat.node) row) ≤ i
+seat-taken_all w p i found row b seat born none =
+    let e : b ≡ is_born seat.node = at_node found seat.node b is_born seat.is_node born
+    in subst (λ (x : Bool). length (senders x row) ≤ i) e (past_of-none (senders b row) i none)
+
+-- past its frames to take, and where its run isn't, a node that can run has no event,
+pub seat-past : (w : World) (p i count : ℕ) (found : Option Node) (row : List (List Frame)) (b r : Bool)
+    → IsSeat w p found row → IfSome found (λ n. b ≡ is_born n) → IfSome found (λ n. r ≡ can_run n)
+    → count ≡ length (enabled_at w p) → r ≡ true → i ≢ count - 1 → None ≡ slice_get (senders b row) i
     → None ≡ slice_get (enabled_at w p) i
-seat-past w p i found row b r seat born runs lt =
-    run_past r p (i - length (senders b row)) (omega arith)
-    ∙ sym (seat-run_of w p i found row b r seat born runs (omega arith))
+seat-past w p i count found row b r seat born runs counted may other none =
+    let more = seat-more w p found row r seat runs may
+    in let le = seat-taken_all w p i found row b seat born none
+    in sym (slice_get_past (enabled_at w p) i (omega (arith, counted)))
 
--- a node that can't run has no event but to take frames
+-- and neither has one that can't run
 pub seat-rests : (w : World) (p i : ℕ) (found : Option Node) (row : List (List Frame)) (b r : Bool)
-    → IsSeat w p found row
-    → IfSome found (λ n. b ≡ is_born n) → IfSome found (λ n. r ≡ can_run n) → length (senders b row) ≤ i → r ≡ false
-    → None ≡ slice_get (enabled_at w p) i
-seat-rests w p i found row b r seat born runs le rests =
-    sym (seat-run_of w p i found row b r seat born runs le
-    ∙ ap (λ (x : Bool). slice_get (run_of x p) (i - length (senders b row))) rests)
+    → IsSeat w p found row → IfSome found (λ n. b ≡ is_born n) → IfSome found (λ n. r ≡ can_run n) → r ≡ false
+    → None ≡ slice_get (senders b row) i → None ≡ slice_get (enabled_at w p) i
+seat-rests w p i found row b r seat born runs rests none =
+    let all = seat-count w p found row r seat runs
+    ∙ ap (λ (x : Bool). length (senders (is_born seat.node) row) + cond x 1 0) rests
+    in let le = seat-taken_all w p i found row b seat born none
+    in sym (slice_get_past (enabled_at w p) i (omega arith))
 
 some_of : (o : Option Node) → IsSome o → (n : Node) × (o ≡ Some n)
 some_of None some = absurd (let f : ⊥ = cc in f)

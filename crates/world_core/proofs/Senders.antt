@@ -1,6 +1,7 @@
 -- Looking for a sender, stream by stream.
-use Rattle.std.proofs.Common.{◌≡◌, ℕ, ◌+◌, ◌-◌, ◌<◌, ◌≤◌, Bool, true, false, List, [], length, get_or, slice_get, Some, None, sym, ap, ◌∙◌, arith}
+use Rattle.std.proofs.Common.{◌≡◌, ℕ, ◌+◌, ◌-◌, ◌<◌, ◌≤◌, suc, zero, Bool, true, false, List, [], length, get_or, slice_get, Some, None, sym, ap, subst, ◌∙◌, ⊎_elim, arith}
 use Rattle.std.specs.List.{filter}
+use Rattle.std.proofs.lemmas.Bool.{cases_lt}
 use Rattle.rpc_frame.specs.declared.frame.Frame.{Frame}
 use Rattle.world_model.specs.World.{numbers}
 use Rattle.world_core.specs.Inbox.{may_take, from_node, senders}
@@ -53,6 +54,29 @@ AreLeft-skip b row index at left all lt e = record {
       all.same ∙ filter_skip (may b row) (at + 1) (length row - at) left (omega arith) (here b row at ∙ e)
       ∙ next_count b row at left;
 }
+
+-- behind the last stream nothing is left to pass
+AreLeft-past : (b : Bool) (row : List (List Frame)) (index at left : ℕ) → AreLeft b row index at left
+    → length row ≤ at → AreLeft b row index (at + 1) left
+AreLeft-past b row index at left all le =
+    let here : length row - at ≡ 0 = omega arith in
+    let next : length row - (at + 1) ≡ 0 = omega arith in
+    record {
+      same =
+          all.same ∙ ap (λ (k : ℕ). slice_get (filter (may b row) (numbers (at + 1) k)) left) here
+          ∙ sym (ap (λ (k : ℕ). slice_get (filter (may b row) (numbers (at + 1 + 1) k)) left) next);
+    }
+
+-- streams with no frame to take are passed at once
+pub AreLeft-after : (b : Bool) (row : List (List Frame)) (index at : ℕ)
+    → ((i : ℕ) → i < at → may_take b (get_or row i []) ≡ false) → AreLeft b row index at index
+AreLeft-after b row index zero none = AreLeft-first b row index
+AreLeft-after b row index (suc at) none =
+    let before = AreLeft-after b row index at (λ i lt. none i (omega arith)) in
+    let e : at + 1 ≡ suc at = omega arith in
+    subst (λ (k : ℕ). AreLeft b row index k index) e
+    (⊎_elim (λ lt. AreLeft-skip b row index at index before lt (none at (omega arith)))
+    (λ le. AreLeft-past b row index at index before le) (cases_lt at (length row)))
 
 pub AreLeft-none : (b : Bool) (row : List (List Frame)) (index at left : ℕ) → AreLeft b row index at left
     → length row ≤ at → None ≡ slice_get (senders b row) index

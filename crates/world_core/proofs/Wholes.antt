@@ -1,5 +1,5 @@
 -- Nodes none of which is spent, and what a turn of one of them makes.
-use Rattle.std.proofs.Common.{◌≡◌, ℕ, ◌-◌, ◌<◌, suc, zero, Bool, false, List, [], ◌∷◌, ◌++◌, length, map, set, get_or, slice_get, Option, Some, None, Result, Ok, Err, IsSome, IfSome, IfOk, refl, sym, ap, subst, ◌∙◌, arith, length-set}
+use Rattle.std.proofs.Common.{◌≡◌, ℕ, ◌-◌, ◌<◌, suc, zero, Bool, false, List, [], ◌∷◌, ◌++◌, length, map, set, get_or, slice_get, Option, Some, None, Result, Ok, Err, IsSome, IfSome, OnOk, refl, sym, ap, subst, ◌∙◌, arith, length-set}
 use Rattle.std.proofs.lemmas.List.{get_or_read, length-map, map-set}
 use Rattle.pico_base.specs.declared.script.Script.{Script}
 use Rattle.pico_base.specs.declared.script.Event.{Event}
@@ -18,6 +18,7 @@ use Rattle.world_core.specs.declared.state.State.{State}
 use Rattle.world_core.specs.Inbox.{IsTaken, may_take}
 use Rattle.node_core.specs.Step.{step_of}
 use Rattle.node_core.specs.Turns.{IsTurn}
+use Rattle.world_core.specs.Counts.{counts_of}
 use Rattle.world_core.specs.State.{whole, AreWhole, AreSeats, AreCounted, world_of, IsAfterTurn, IsStep}
 
 -- of nodes that are all there, none is left out
@@ -126,6 +127,21 @@ turn_taken s next p k input turn (Some n) (Some m) all place lt old_is is_turn s
           (sym script) (sym (ap whole there ∙ whole-set s.nodes.items (p - 1) m all)) (sym streams) (sym journal));
     }
 
+-- the same where the sends went their ways, if memory sufficed
+pub turn_sent : {T E : Type 0} (r : Result T E) (s next : State) (p k : ℕ) (input : Input) (turn : Turn)
+    (old new : Option Node) (ns : List (Option Node))
+    → AreWhole s.nodes.items → k ≡ p - 1 → k < length s.nodes.items → old ≡ get_or s.nodes.items k old
+    → IsTurn s.script old input new turn → next.script ≡ s.script
+    → next.nodes.items ≡ set s.nodes.items k new → next.journal ≡ s.journal ++ turn.entries → ns ≡ next.nodes.items
+    → OnOk r (next.inboxes.items ≡ with_all_sent p s.inboxes.items turn.sends)
+    → OnOk r (next.counts.items ≡ counts_of ns next.inboxes.items) → OnOk r (IsAfterTurn s p input next)
+turn_sent (Ok x) s next p k input turn old new ns all place lt old_is is_turn script nodes journal same sent counted =
+    turn_taken s next p k input turn old new all place lt old_is is_turn script nodes sent journal
+    (counted ∙ ap (λ (l : List (Option Node)). counts_of l next.inboxes.items) same)
+turn_sent (Err fault) s next p k input turn old new ns all place lt old_is is_turn script nodes journal same sent
+    counted =
+    tt
+
 -- a turn leaves its node there
 pub seats-turn : (ns : List (Option Node)) (streams : Streams) (k : ℕ) (script : Script) (input : Input) (turn : Turn)
     (old new : Option Node) → AreSeats ns streams → IsTurn script old input new turn → AreSeats (set ns k new) streams
@@ -197,23 +213,18 @@ step_take s mid next p from k frame row new place lt row_is taken script nodes j
           ∙ turned.taken;
     }
 
--- the same of the world that a turn gives, if it gives one
-
 -- a node's turn without a frame carries out its run
-pub run_steps : {E : Type 0} (s : State) (e : Event) (p : ℕ) (r : Result State E) → e ≡ events.Run p
-    → IfOk r (λ next. IsAfterTurn s p inputs.Run next) → IfOk r (λ next. IsStep s e next)
-run_steps s e p (Ok next) is turned = subst (λ (x : Event). IsStep s x next) (sym is) (step_run s next p turned)
-run_steps s e p (Err fault) is turned = tt
+pub run_steps : (s next : State) (e : Event) (p : ℕ) → e ≡ events.Run p → IsAfterTurn s p inputs.Run next
+    → IsStep s e next
+run_steps s next e p is turned = subst (λ (x : Event). IsStep s x next) (sym is) (step_run s next p turned)
 
 -- a node's turn with a frame that is off its stream carries out the taking of it
-pub take_steps : {E : Type 0} (s mid : State) (e : Event) (p from k : ℕ) (frame : Frame) (row new : List (List Frame))
-    (r : Result State E)
+pub take_steps : (s mid next : State) (e : Event) (p from k : ℕ) (frame : Frame) (row new : List (List Frame))
     → e ≡ events.Take p from → k ≡ p - 1 → k < length s.inboxes.items → row ≡ get_or s.inboxes.items k row
     → IsTaken row from (Some frame) new
     → mid.script ≡ s.script → mid.nodes ≡ s.nodes → mid.journal ≡ s.journal
     → mid.inboxes.items ≡ set s.inboxes.items k new
-    → IfOk r (λ next. IsAfterTurn mid p (inputs.Take from frame) next) → IfOk r (λ next. IsStep s e next)
-take_steps s mid e p from k frame row new (Ok next) is place lt row_is taken script nodes journal inboxes turned =
+    → IsAfterTurn mid p (inputs.Take from frame) next → IsStep s e next
+take_steps s mid next e p from k frame row new is place lt row_is taken script nodes journal inboxes turned =
     subst (λ (x : Event). IsStep s x next) (sym is)
     (step_take s mid next p from k frame row new place lt row_is taken script nodes journal inboxes turned)
-take_steps s mid e p from k frame row new (Err fault) is place lt row_is taken script nodes journal inboxes turned = tt

@@ -86,12 +86,13 @@ impl Inbox {
         self.filled >> at & 1 == 1 && (is_born || self.streams[at].brings_checkpoint())
     }
 
-    /// Who sent the frame at this place of those that the node may take, from 0.
+    /// Who sent the frame at this place of those that the node may take, from 0. The streams before the first that has
+    /// a frame are passed at once.
     pub(crate) fn nth(&self, is_born: bool, index: u32) -> Option<Node>
         ensures { result ≡ slice_get (senders is_born self.now) index }
     {
         let mut left = index;
-        for at in 0..self.streams.len() {
+        for at in self.filled.trailing_zeros() as usize..self.streams.len() {
             if self.may_take_at(at, is_born) {
                 if left == 0 {
                     return Some(Node(at as u8 + 1));

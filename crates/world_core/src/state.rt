@@ -207,25 +207,18 @@ impl State {
         u32::from(self.counts[place(node)])
     }
 
-    /// The event at this place of those of the node that may come next, from 0.
+    /// The event at this place of those of the node that may come next, from 0. Its run comes last.
     fn nth_at(&self, node: Node, index: u32) -> Option<Event>
         requires alive { IsAlive self.now }
         requires there { node ≤ node_count self.now.script }
         ensures { result ≡ slice_get (enabled_at (world_of self.now) node) index }
     {
         let (pico, inbox) = self.seat(node);
-        let is_born = pico.born();
-        let takes = inbox.count(is_born);
-        if index < takes {
-            let from = inbox.nth(is_born, index)?;
-            return Some(Event::Take { node, from });
+        if pico.can_run() && index == self.count_at(node) - 1 {
+            return Some(Event::Run(node));
         }
-        let may_run = pico.can_run();
-        if may_run && index == takes {
-            Some(Event::Run(node))
-        } else {
-            None
-        }
+        let from = inbox.nth(pico.born(), index)?;
+        Some(Event::Take { node, from })
     }
 
     /// How many events may come next.
@@ -294,13 +287,13 @@ impl State {
     }
 
     /// The node's turn: its entries follow in the journal, and its frames go their ways.
-    fn turn(mut self, node: Node, input: Input) -> Result<State, Memory>
-        requires seats { AreSeats self.nodes.items self.inboxes.items }
-        requires sound { IsSoundScript self.script }
-        requires there { node ≤ length self.nodes.items }
-        requires counted { OthersAreCounted self node }
-        requires allowed { IfSome (node_at (world_of self) node) (λ n. IsSome (step_of self.script n input)) }
-        ensures { IfOk result (λ next. IsAfterTurn self node input next) }
+    fn turn(&mut self, node: Node, input: Input) -> Result<(), Memory>
+        requires seats { AreSeats self.old.nodes.items self.old.inboxes.items }
+        requires sound { IsSoundScript self.old.script }
+        requires there { node ≤ length self.old.nodes.items }
+        requires counted { OthersAreCounted self.old node }
+        requires allowed { IfSome (node_at (world_of self.old) node) (λ n. IsSome (step_of self.old.script n input)) }
+        ensures { OnOk result (IsAfterTurn self.old node input self.new) }
     {
         let at = place(node);
         let Turn { entries, sends } = take_turn(&mut self.nodes[at], &self.script, input)?;
@@ -312,15 +305,14 @@ impl State {
             &mut self.counts,
             node,
             sends,
-        )?;
-        Ok(self)
+        )
     }
 
-    /// The world after an event.
-    pub(crate) fn after(mut self, event: Event) -> Result<State, Memory>
-        requires alive { IsAlive self }
-        requires enabled { is_enabled (world_of self) event ≡ true }
-        ensures { IfOk result (λ next. IsStep self event next) }
+    /// Carries out an event that may come next.
+    pub(crate) fn step(&mut self, event: Event) -> Result<(), Memory>
+        requires alive { IsAlive self.old }
+        requires enabled { is_enabled (world_of self.old) event ≡ true }
+        ensures { OnOk result (IsStep self.old event self.new) }
     {
         enabled_events_have_steps();
         match event {

@@ -37,6 +37,14 @@ impl Model for World {
     ghost invariant = { λ w. IsSoundWorld w.state };
 }
 
+/// Memory ran out in the middle of a step.
+#[cold]
+fn spend(state: &mut Option<State>)
+    ensures { state.new ≡ None }
+{
+    *state = None;
+}
+
 impl World {
     /// The script's world before any event: node 1 is born with process 1, and nothing was carried out. An `Err` says
     /// that an allocation was refused.
@@ -137,9 +145,14 @@ impl World {
         ensures err { OnErr result (self.new ≡ None) }
         ensures spent { self.old ≡ None → IsErr result }
     {
-        let state = self.state.take().ok_or(Memory)?;
-        self.state = Some(state.after(event)?);
-        Ok(())
+        let Some(state) = &mut self.state else {
+            return Err(Memory);
+        };
+        let stepped = state.step(event);
+        if stepped.is_err() {
+            spend(&mut self.state);
+        }
+        stepped
     }
 
     /// The world of a script after these events, of which each may come when it comes. An `Err` says that an allocation

@@ -1,7 +1,16 @@
 use Rattle.std.proofs.Common.{ℕ, ◌+◌, length, ap, subst, sym, ◌∙◌, arith}
-use Rattle.world_core.proofs.Senders.{AreLeft, AreLeft-pass, AreLeft-skip}
+use Rattle.world_core.specs.Inbox.{filled_mask}
+use Rattle.world_core.proofs.Masks.{none-before}
+use Rattle.world_core.proofs.Senders.{AreLeft, AreLeft-after, AreLeft-pass, AreLeft-skip}
 use Rattle.world_core.proofs.inbox.Inbox.nth.Goals as goal
 use Rattle.world_core.proofs.inbox.Inbox.nth.Goals.{then-may_take_at+else-left-eq0, else-may_take_at}
+
+pub loop-at-init : goal.loop-at-init
+loop-at-init c =
+    let row = c.args.self.now in
+    AreLeft-after c.args.is_born row c.args.index _
+    (none-before c.self.inside.filled row c.args.is_born (c.self.invariant.1 ∙ ap filled_mask c.self.view_is)
+    (omega (arith, c.self.invariant.0, ap length c.self.view_is)))
 
 pub loop-at-preserved : goal.loop-at-preserved
 loop-at-preserved c =

@@ -1,9 +1,9 @@
 use Rattle.std.proofs.Common.{sym, ◌∙◌}
-use Rattle.world_core.proofs.Alive.{IsAlive-next}
+use Rattle.world_core.proofs.Alive.{IsAlive-next, went-well}
 use Rattle.world_core.proofs.world.World.step.Goals as goal
 
-pub invariant_of-self-2 : goal.invariant_of-self-2
-invariant_of-self-2 c =
-    IsAlive-next c.self.inside.state c.args.self.now c.in_ok-state.state c.in_ok-after.field-0 c.args.event
-    (sym c.take.ensures.value
-    ∙ c.in_ok-state.ensures.ok_part) c.self.invariant c.self.view_is c.requires.enabled c.in_ok-after.ensures
+pub invariant_of-self-else-is_err : goal.invariant_of-self-else-is_err
+invariant_of-self-else-is_err c =
+    IsAlive-next c.self.inside.state c.args.self.now c.in-Some.state c.step-stepped.new.self c.args.event c.in-Some.is
+    c.self.invariant c.self.view_is c.requires.enabled
+    (went-well c.step-stepped.result (sym c.is_err.ensures.value ∙ c.if-is_err.false) c.step-stepped.ensures)

@@ -1,30 +1,36 @@
 use Rattle.std.proofs.Common.{ℕ, ◌-◌, List, set, refl, ap, arith}
+use Rattle.std.proofs.lemmas.Result.{on_ok_weaker}
 use Rattle.world_core.specs.State.{world_of}
 use Rattle.world_core.proofs.Counting.{others-counted}
-use Rattle.world_core.proofs.Enabled.{take_within, seats-taken}
+use Rattle.world_core.proofs.Enabled.{run_within, take_within, seats-taken}
 use Rattle.world_core.proofs.Seats.{alive-seats}
 use Rattle.world_core.proofs.Worlds.{IsShaped, reachable-shaped}
 use Rattle.world_core.proofs.Wholes.{length-whole, run_steps, take_steps}
 use Rattle.world_core.proofs.Allowed.{run_allowed, take_allowed}
-use Rattle.world_core.proofs.state.State.after.Goals as goal
+use Rattle.world_core.proofs.state.State.step.Goals as goal
 
 pub turn-requires-clause-seats : goal.turn-requires-clause-seats
-turn-requires-clause-seats c = alive-seats c.args.self c.requires.alive
+turn-requires-clause-seats c = alive-seats c.args.self.now c.requires.alive
 
 pub turn-requires-in-Take-clause-seats : goal.turn-requires-in-Take-clause-seats
 turn-requires-in-Take-clause-seats c =
-    let w = world_of c.args.self
+    let w = world_of c.args.self.now
     in let le = take_within w c.args.event c.in-Take.node c.in-Take.from c.requires.enabled c.in-Take.is
-    in seats-taken c.args.self.nodes.items c.args.self.inboxes.items c.place.result c.in-Take.from c.in-Some.frame _ _
-    (alive-seats c.args.self c.requires.alive)
-    (omega (arith, length-whole c.args.self.nodes.items c.requires.alive.nodes, c.place.ensures.next))
+    in seats-taken c.args.self.now.nodes.items c.args.self.now.inboxes.items c.place.result c.in-Take.from c.in-Some.frame _ _
+    (alive-seats c.args.self.now c.requires.alive)
+    (omega (arith, length-whole c.args.self.now.nodes.items c.requires.alive.nodes, c.place.ensures.next))
     c.index_mut.ensures.value c.in-Some.ensures
+
+pub turn-requires-clause-there : goal.turn-requires-clause-there
+turn-requires-clause-there c =
+    let le = run_within (world_of c.args.self.now) c.args.event c.in-Run.node c.requires.enabled c.in-Run.is in
+    omega (arith, length-whole c.args.self.now.nodes.items c.requires.alive.nodes)
 
 pub turn-requires-in-Take-clause-there : goal.turn-requires-in-Take-clause-there
 turn-requires-in-Take-clause-there c =
-    let w = world_of c.args.self
+    let w = world_of c.args.self.now
     in let le = take_within w c.args.event c.in-Take.node c.in-Take.from c.requires.enabled c.in-Take.is
-    in let same = length-whole c.args.self.nodes.items c.requires.alive.nodes
+    in let same = length-whole c.args.self.now.nodes.items c.requires.alive.nodes
     in omega arith
 
 pub turn-requires-clause-counted : goal.turn-requires-clause-counted
@@ -32,38 +38,40 @@ turn-requires-clause-counted c count = ap (λ (l : List ℕ). set l (c.in-Run.no
 
 pub turn-requires-in-Take-clause-counted : goal.turn-requires-in-Take-clause-counted
 turn-requires-in-Take-clause-counted c count =
-    others-counted c.args.self.nodes.items c.args.self.inboxes.items c.in-Take.node c.place.result count
-    c.args.self.counts.items _ c.requires.alive.counted c.place.ensures.place
+    others-counted c.args.self.now.nodes.items c.args.self.now.inboxes.items c.in-Take.node c.place.result count
+    c.args.self.now.counts.items _ c.requires.alive.counted c.place.ensures.place
 
 pub turn-requires-clause-allowed : goal.turn-requires-clause-allowed
 turn-requires-clause-allowed c =
-    let w = world_of c.args.self
+    let w = world_of c.args.self.now
     in run_allowed w c.args.event c.in-Run.node
-    (c.enabled_events_have_steps.ensures c.args.self.script w c.args.event c.requires.alive.sound
+    (c.enabled_events_have_steps.ensures c.args.self.now.script w c.args.event c.requires.alive.sound
     c.requires.alive.reachable c.requires.enabled)
     c.in-Run.is
 
 pub turn-requires-in-Take-clause-allowed : goal.turn-requires-in-Take-clause-allowed
 turn-requires-in-Take-clause-allowed c =
-    let w = world_of c.args.self
-    in let shaped : IsShaped w = reachable-shaped c.args.self.script w c.requires.alive.reachable
+    let w = world_of c.args.self.now
+    in let shaped : IsShaped w = reachable-shaped c.args.self.now.script w c.requires.alive.reachable
     in let le = take_within w c.args.event c.in-Take.node c.in-Take.from c.requires.enabled c.in-Take.is
     in take_allowed w c.args.event c.in-Take.node c.in-Take.from c.place.result c.in-Some.frame _ _
-    (c.enabled_events_have_steps.ensures c.args.self.script w c.args.event c.requires.alive.sound
+    (c.enabled_events_have_steps.ensures c.args.self.now.script w c.args.event c.requires.alive.sound
     c.requires.alive.reachable c.requires.enabled)
     c.in-Take.is c.place.ensures.place
     (omega (arith, shaped.nodes, shaped.streams, c.place.ensures.next)) c.index_mut.ensures.value c.in-Some.ensures
 
 pub returns-in-Run : goal.returns-in-Run
-returns-in-Run c = run_steps c.args.self c.args.event c.in-Run.node c.turn.result c.in-Run.is c.turn.ensures
+returns-in-Run c =
+    on_ok_weaker c.turn.result (run_steps c.args.self.now _ c.args.event c.in-Run.node c.in-Run.is) c.turn.ensures
 
 pub returns-in-Some : goal.returns-in-Some
 returns-in-Some c =
-    let shaped : IsShaped (world_of c.args.self) =
-    reachable-shaped c.args.self.script (world_of c.args.self) c.requires.alive.reachable in
-    let le = take_within (world_of c.args.self) c.args.event c.in-Take.node c.in-Take.from c.requires.enabled
-    c.in-Take.is in
-    take_steps c.args.self _ c.args.event c.in-Take.node c.in-Take.from c.place.result c.in-Some.frame _ _
-    c.turn-in-Take.result c.in-Take.is c.place.ensures.place
+    let w = world_of c.args.self.now in
+    let shaped : IsShaped w = reachable-shaped c.args.self.now.script w c.requires.alive.reachable in
+    let le = take_within w c.args.event c.in-Take.node c.in-Take.from c.requires.enabled c.in-Take.is in
+    on_ok_weaker c.turn-in-Take.result
+    (take_steps c.args.self.now _ _ c.args.event c.in-Take.node c.in-Take.from c.place.result c.in-Some.frame _ _
+    c.in-Take.is c.place.ensures.place
     (omega (arith, shaped.nodes, shaped.streams, c.place.ensures.next)) c.index_mut.ensures.value c.in-Some.ensures
-    refl refl refl refl c.turn-in-Take.ensures
+    refl refl refl refl)
+    c.turn-in-Take.ensures
