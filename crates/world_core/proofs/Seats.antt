@@ -174,8 +174,8 @@ seat-taken w p i from found row b seat born is_from =
     ∙ sym (taken_at w p i n row seat.number seat.here seat.is_row seat.width lt')
 
 -- a node's events are the frames that it may take, and its run where it can run
-seat-count : (w : World) (p : ℕ) (found : Option Node) (row : List (List Frame)) (r : Bool) (seat : IsSeat w p found row)
-    → IfSome found (λ n. r ≡ can_run n)
+seat-count : (w : World) (p : ℕ) (found : Option Node) (row : List (List Frame)) (r : Bool)
+    (seat : IsSeat w p found row) → IfSome found (λ n. r ≡ can_run n)
     → length (enabled_at w p) ≡ length (senders (is_born seat.node) row) + cond r 1 0
 seat-count w p found row r seat runs =
     let n = seat.node
@@ -183,8 +183,8 @@ seat-count w p found row r seat runs =
     ∙ ap (λ (x : Bool). length (senders (is_born n) row) + cond x 1 0)
     (sym (at_node found n r can_run seat.is_node runs))
 
-seat-more : (w : World) (p : ℕ) (found : Option Node) (row : List (List Frame)) (r : Bool) (seat : IsSeat w p found row)
-    → IfSome found (λ n. r ≡ can_run n) → r ≡ true
+seat-more : (w : World) (p : ℕ) (found : Option Node) (row : List (List Frame)) (r : Bool)
+    (seat : IsSeat w p found row) → IfSome found (λ n. r ≡ can_run n) → r ≡ true
     → length (enabled_at w p) ≡ length (senders (is_born seat.node) row) + 1
 seat-more w p found row r seat runs may =
     seat-count w p found row r seat runs

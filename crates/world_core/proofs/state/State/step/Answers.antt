@@ -16,8 +16,8 @@ pub turn-requires-in-Take-clause-seats : goal.turn-requires-in-Take-clause-seats
 turn-requires-in-Take-clause-seats c =
     let w = world_of c.args.self.now
     in let le = take_within w c.args.event c.in-Take.node c.in-Take.from c.requires.enabled c.in-Take.is
-    in seats-taken c.args.self.now.nodes.items c.args.self.now.inboxes.items c.place.result c.in-Take.from c.in-Some.frame _ _
-    (alive-seats c.args.self.now c.requires.alive)
+    in seats-taken c.args.self.now.nodes.items c.args.self.now.inboxes.items c.place.result c.in-Take.from
+    c.in-Some.frame _ _ (alive-seats c.args.self.now c.requires.alive)
     (omega (arith, length-whole c.args.self.now.nodes.items c.requires.alive.nodes, c.place.ensures.next))
     c.index_mut.ensures.value c.in-Some.ensures
 
