@@ -19,6 +19,3 @@ pub use joiner::Joiner;
 pub use laws::{
     a_stream_has_one_reading, limits_are_a_test, no_spelling_begins_another, pieces_do_not_matter,
 };
-
-#[cfg(test)]
-mod tests;

@@ -17,6 +17,3 @@ mod standing;
 pub use fault::CallFault;
 pub use kernel::Kernel;
 pub use standing::Standing;
-
-#[cfg(test)]
-mod tests;

@@ -4,6 +4,3 @@
 mod words;
 
 pub use words::{Options, Request, request_of};
-
-#[cfg(test)]
-mod tests;

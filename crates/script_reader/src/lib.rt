@@ -21,6 +21,3 @@ pub use says::Said;
 pub use script::read_script;
 pub use verb::Verb;
 pub use words::{next_line, next_word};
-
-#[cfg(test)]
-mod tests;

@@ -12,6 +12,3 @@ mod tally;
 
 pub use check::{Legal, check_trace};
 pub use refusal::write_refusal;
-
-#[cfg(test)]
-mod tests;

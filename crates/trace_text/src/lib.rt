@@ -23,6 +23,3 @@ pub use print::{
 pub use read::{MAX_TRACE, begins_like_totals, fits, next_line, read_trace};
 pub use steps::write_steps;
 pub use text::{push, push_byte, push_number, push_quoted, push_signed};
-
-#[cfg(test)]
-mod tests;

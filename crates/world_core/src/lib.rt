@@ -12,8 +12,6 @@ mod world;
 
 pub use world::World;
 
-#[cfg(test)]
-mod tests;
 
 /// A schedule finds no event only where the world is at rest, in each world that a run leads to.
 pub fn rest_is_where_nothing_is_chosen()

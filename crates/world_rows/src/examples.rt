@@ -3,13 +3,13 @@ ghost use Rattle.std.specs.Prelude.{◌≡◌, ◌≤◌, ◌∷◌, [], pos, fa
 ghost use Rattle.world_model.specs.Example.{line as line_of};
 ghost use Rattle.world_model.specs.Examples.{both_find_nothing, asks_its_number};
 
-use crate::World;
 use pico_base::{
     Block, Blocks, Bytes, Call, Entries, Entry, Errno, Event, Id, Line, Lines, Memory, Node,
     Outcome, Pid, Reply, Script, Var,
 };
 use std::alloc::Global;
 use std::test::Fail;
+use world_core::World;
 
 fn line(set: Option<Var>, from: Option<Var>, call: Call) -> Line
     ensures { result ≡ line_of set 1 from call }

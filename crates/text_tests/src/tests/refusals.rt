@@ -1,8 +1,8 @@
 //! The lines that say why a trace isn't legal.
-use super::*;
 use pico_base::{Block, Bytes, Call, Errno, Lines, Reply, Script, Sequence};
 use std::alloc::Global;
 use std::test::Fail;
+use trace_check::write_refusal;
 use trace_text::CheckFault;
 
 /// A script of one block without lines.

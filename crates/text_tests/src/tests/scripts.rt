@@ -1,6 +1,6 @@
 //! Scripts and their first faults.
-use super::*;
 use pico_base::{Block, Bytes, Call, Id, Line, Memory, Script, Sequence, Var};
+use script_reader::{ScriptFault, ScriptStop, read_script};
 use std::alloc::Global;
 use std::test::Fail;
 

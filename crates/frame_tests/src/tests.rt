@@ -1,7 +1,7 @@
 //! Frames byte by byte, cut anywhere, and bytes that are none.
 ghost use Rattle.frame_bytes.specs.Limits.{IsWithinLimits};
 
-use crate::{FrameFault, Joiner, encode};
+use frame_bytes::{FrameFault, Joiner, encode};
 use pico_base::{Bytes, Call, Errno, Id, Kind, Name, Node, Pid, Reply};
 use rpc_frame::Frame;
 use std::alloc::Global;

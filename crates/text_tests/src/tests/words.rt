@@ -1,5 +1,5 @@
 //! Words in order and out of order.
-use crate::{Options, Request, request_of};
+use pico_words::{Options, Request, request_of};
 use std::test::Fail;
 
 // What these words ask for.

@@ -1,28 +1,20 @@
 //! A history and a list of events, and what is written of them.
-use super::*;
-use crate::read::read;
-use pico_base::{
-    Block, Bytes, Call, Entries, Entry, Errno, Event, Id, Lines, Node, Outcome, Pid, Reply, Script,
-    Sequence,
-};
+ghost use Rattle.std.specs.Prelude.{IfOk};
+ghost use Rattle.kernel_model.specs.Script.{IsSoundScript};
+
+use pico_base::{Call, Entries, Entry, Errno, Event, Id, Node, Outcome, Pid, Reply, Script};
+use script_reader::read_script;
 use std::alloc::Global;
 use std::test::Fail;
+use trace_text::{
+    push, push_byte, push_number, read_trace, write_steps, write_totals, write_trace,
+};
 
-fn bytes_of(alloc: Global, text: &str) -> Result<Bytes, Fail> {
-    Ok(Bytes::from_slice(alloc, text.as_bytes())?)
-}
-
-// A script with two blocks, of which no line is asked for.
-fn two_blocks(alloc: Global) -> Result<Script, Fail> {
-    let mut blocks = Vec::new(alloc);
-    for name in ["main", "child"] {
-        let name = bytes_of(alloc, name)?;
-        let lines = Lines::new(alloc);
-        blocks.push(Block { name, lines })?;
-    }
-    Ok(Script {
-        blocks: Sequence::from_vec(blocks),
-    })
+// A script with two blocks, of which the first forks the second.
+fn two_blocks(alloc: Global) -> Result<Script, Fail>
+    ensures { IfOk result IsSoundScript }
+{
+    Ok(read_script(alloc, b"proc main\nfork child\nend\nproc child\nend\n")?)
 }
 
 fn made_by_first(alloc: Global, call: Call, reply: Reply) -> Entry {
@@ -143,8 +135,7 @@ const TRACE: &str = concat!(
 fn a_trace_is_read_and_written_again(rt: HostRuntime) -> Result<(), Fail> {
     let alloc = rt.alloc();
     let script = two_blocks(alloc)?;
-    assert!(rt; script.blocks.len() <= 32);
-    let entries = read(alloc, &script, TRACE.as_bytes(), 1)?;
+    let entries = read_trace(alloc, &script, TRACE.as_bytes(), 1)?;
     assert_eq!(rt; entries.len(), 33);
     let text = write_trace(alloc, &script, &entries)?;
     assert_eq!(rt; text.as_slice(), TRACE.as_bytes());

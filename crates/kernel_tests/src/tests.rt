@@ -1,5 +1,5 @@
 //! Calls and their replies, one process's after another's, as a journal has them.
-use crate::{CallFault, Kernel, Standing};
+use mono_kernel::{CallFault, Kernel, Standing};
 use pico_base::{
     Act, Bytes, Call, Ending, Errno, How, Id, Key, Node, Pid, Reply, SemStep, Sig, SigArg, SigSet,
     Steps, Values,
