@@ -12,7 +12,6 @@ mod world;
 
 pub use world::World;
 
-
 /// A schedule finds no event only where the world is at rest, in each world that a run leads to.
 pub fn rest_is_where_nothing_is_chosen()
     ensures { RestIsWhereNothingIsChosen }
