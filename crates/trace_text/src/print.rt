@@ -1,5 +1,5 @@
 //! The text of a history: a line for each entry, and the totals.
-ghost use Rattle.std.specs.Prelude.{◌≡◌, ◌+◌, ◌<◌, ◌≤◌, ◌^◌, [], ◌∷◌, ◌++◌, codes, length, count_by, sum_by, Some, if◌then◌else◌, IfOk, OnOk};
+ghost use Rattle.std.specs.Prelude.{◌≡◌, ◌+◌, ◌<◌, ◌≤◌, ◌^◌, [], ◌∷◌, ◌++◌, codes, length, map, count_by, sum_by, Some, if◌then◌else◌, IfOk, OnOk};
 ghost use Rattle.std.specs.List.{flat_map, filter, list_any};
 ghost use Rattle.pico_base.specs.Signal.{at, all_signals};
 ghost use Rattle.std.specs.Fmt.{decimal, signed_decimal};
@@ -309,16 +309,35 @@ fn push_member(out: &mut Vec<u8>, begun: bool, sig: Sig) -> Result<(), Memory>
     push(out, signal_name(sig))
 }
 
+// Which signals of the table are in the set.
+fn marks_of(set: SigSet) -> [bool; 10]
+    ensures { result ≡ map (at set) all_signals }
+{
+    [
+        set.has(Sig::Hup),
+        set.has(Sig::Int),
+        set.has(Sig::Quit),
+        set.has(Sig::Kill),
+        set.has(Sig::Usr1),
+        set.has(Sig::Usr2),
+        set.has(Sig::Pipe),
+        set.has(Sig::Alrm),
+        set.has(Sig::Term),
+        set.has(Sig::Chld),
+    ]
+}
+
 // Adds the names of a set's signals joined by commas, and gives whether there are any.
 fn push_members(out: &mut Vec<u8>, set: SigSet) -> Result<bool, Memory>
     ensures names { OnOk result
         (out.new.items ≡ out.old.items ++ trace.commas trace.signal_name (filter (at set) all_signals)) }
     ensures any { IfOk result (λ any. any ≡ list_any (at set) all_signals) }
 {
+    let marks = marks_of(set);
     let mut begun = false;
-    for sig in &TABLE {
-        if set.has(*sig) {
-            push_member(out, begun, *sig)?;
+    for place in 0..TABLE.len() {
+        if marks[place] {
+            push_member(out, begun, TABLE[place])?;
             begun = true;
         }
     }

@@ -129,8 +129,8 @@ pub fn push_quoted(out: &mut Vec<u8>, text: &[u8]) -> Result<(), Memory>
     push_byte(out, b'"')
 }
 
-// Whether a text of this first byte and this rest is the same letter or digit, 17 or more times. It is the same
-// throughout where the rest, byte by byte, is the text itself.
+// Whether 17 or more bytes, these and one before them, are the same letter or digit. They are the same where each is as
+// the one before it, and to compare two slices is quicker than to look at each byte.
 #[tactic(auto, using(crate::proofs::Runs::same_throughout))]
 fn is_run(text: &[u8], first: u8, rest: &[u8]) -> bool
     requires { text.now ≡ first ∷ rest.now }

@@ -5,8 +5,9 @@ use Rattle.kernel_model.specs.Trace as trace
 use Rattle.trace_text.proofs.print.push_members.Given as goal
 
 -- the members so far
-abbrev pub invariant-loop-sig : goal.invariant-loop-sig
-invariant-loop-sig l = record {
-  names : l.out.items ≡ l.initial.out.items ++ trace.commas trace.signal_name (filter (at l.set) (take l.sig-index all_signals));
-  begun : l.begun ≡ list_any (at l.set) (take l.sig-index all_signals);
+abbrev pub invariant-loop-place : goal.invariant-loop-place
+invariant-loop-place l = record {
+  names : l.out.items
+      ≡ l.initial.out.items ++ trace.commas trace.signal_name (filter (at l.fn.set) (take l.place all_signals));
+  begun : l.begun ≡ list_any (at l.fn.set) (take l.place all_signals);
 }
