@@ -1,7 +1,7 @@
 -- The names of a set's signals, one after another.
 use Rattle.std.proofs.Common.{◌≡◌, ℕ, ◌+◌, ◌<◌, Bool, true, false, List, [], ◌∷◌, ◌++◌, length, map, take, get_or, refl, ap, sym, ◌∙◌, append_assoc, arith, rules}
 use Rattle.std.specs.Prelude.{if◌then◌else◌, codes}
-use Rattle.std.specs.List.{flat_map, filter, list_any}
+use Rattle.std.specs.List.{filter, list_any}
 use Rattle.std.proofs.lemmas.List.{append-nil, take_more, get_or-map}
 use Rattle.std.proofs.lemmas.List.Elements.{filter-append}
 use Rattle.std.proofs.lemmas.List.Folds.{list_any_more}

@@ -1,4 +1,4 @@
-use Rattle.std.proofs.Common.{◌≡◌, ◌++◌, ap, sym, ◌∙◌}
+use Rattle.std.proofs.Common.{◌++◌, ap, sym, ◌∙◌}
 use Rattle.pico_base.specs.declared.signal.Sig.TheVariants.{Hup}
 use Rattle.pico_base.specs.Signal.{at, all_signals}
 use Rattle.kernel_model.specs.Trace.{commas, signal_name}
