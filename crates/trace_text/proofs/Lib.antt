@@ -3,9 +3,12 @@ pub mod Appends
 pub mod CallLaws
 pub mod CallText
 pub mod EntryLaws
+pub mod Digits
 pub mod Escapes
 pub mod Feeds
+pub mod Members
 pub mod ReadLaws
 pub mod Ranges
+pub mod Runs
 pub mod Whole
 pub mod ReplyLaws

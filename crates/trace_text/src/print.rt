@@ -1,6 +1,6 @@
 //! The text of a history: a line for each entry, and the totals.
-ghost use Rattle.std.specs.Prelude.{◌≡◌, ◌+◌, ◌<◌, ◌≤◌, ◌^◌, [], ◌∷◌, ◌++◌, codes, length, count_by, sum_by, Some, if◌then◌else◌, IfOk, OnOk};
-ghost use Rattle.std.specs.List.{flat_map, filter};
+ghost use Rattle.std.specs.Prelude.{◌≡◌, ◌+◌, ◌<◌, ◌≤◌, ◌^◌, [], ◌∷◌, ◌++◌, codes, length, map, count_by, sum_by, Some, if◌then◌else◌, IfOk, OnOk};
+ghost use Rattle.std.specs.List.{flat_map, filter, list_any};
 ghost use Rattle.pico_base.specs.Signal.{at, all_signals};
 ghost use Rattle.std.specs.Fmt.{decimal, signed_decimal};
 ghost use Rattle.kernel_model.specs.Fitting.{block_at};
@@ -99,15 +99,11 @@ pub fn signal_argument(sig: SigArg) -> &'static [u8]
     }
 }
 
-// A word behind a space, where it is wanted.
+// A word, with the space before it, where it is wanted.
 fn push_word(out: &mut Vec<u8>, wanted: bool, word: &[u8]) -> Result<(), Memory>
-    ensures { OnOk result (out.new.items ≡ out.old.items ++ trace.word wanted word.now) }
+    ensures { OnOk result (out.new.items ≡ out.old.items ++ (if wanted then word.now else [])) }
 {
-    if wanted {
-        push_byte(out, b' ')?;
-        push(out, word)?;
-    }
-    Ok(())
+    if wanted { push(out, word) } else { Ok(()) }
 }
 
 // A label and a number.
@@ -139,8 +135,8 @@ fn push_id(out: &mut Vec<u8>, id: Id) -> Result<(), Memory>
 fn push_create_words(out: &mut Vec<u8>, create: bool, excl: bool) -> Result<(), Memory>
     ensures { OnOk result (out.new.items ≡ out.old.items ++ trace.create_words create excl) }
 {
-    push_word(out, create, b"create")?;
-    push_word(out, excl, b"excl")
+    push_word(out, create, b" create")?;
+    push_word(out, excl, b" excl")
 }
 
 fn push_msgget(out: &mut Vec<u8>, key: Option<Key>, create: bool, excl: bool) -> Result<(), Memory>
@@ -175,7 +171,7 @@ fn push_msgsnd(
 {
     push_queue_words(out, b"msgsnd ", id, class)?;
     push_message(out, text)?;
-    push_word(out, nowait, b"nowait")
+    push_word(out, nowait, b" nowait")
 }
 
 fn push_msgrcv(
@@ -190,8 +186,8 @@ fn push_msgrcv(
 {
     push_queue_words(out, b"msgrcv ", id, class)?;
     push_number(out, u64::from(size))?;
-    push_word(out, noerror, b"noerror")?;
-    push_word(out, nowait, b"nowait")
+    push_word(out, noerror, b" noerror")?;
+    push_word(out, nowait, b" nowait")
 }
 
 fn push_exit(out: &mut Vec<u8>, status: u16) -> Result<(), Memory>
@@ -257,7 +253,7 @@ fn push_waitpid(out: &mut Vec<u8>, child: Option<Pid>, nohang: bool) -> Result<(
         None => push(out, b"any")?,
         Some(pid) => push_pid(out, pid)?,
     }
-    push_word(out, nohang, b"nohang")
+    push_word(out, nohang, b" nohang")
 }
 
 fn push_msgctl(out: &mut Vec<u8>, id: Id, command: &[u8]) -> Result<(), Memory>
@@ -303,45 +299,59 @@ fn push_received(out: &mut Vec<u8>, class: i32, text: &[u8]) -> Result<(), Memor
     push_message(out, text)
 }
 
-fn members(alloc: Global, set: SigSet) -> Result<Vec<Sig>, Memory>
-    ensures { IfOk result (λ v. v.items ≡ filter (at set) all_signals) }
+// A signal's name, behind a comma where a name stands before it.
+fn push_member(out: &mut Vec<u8>, begun: bool, sig: Sig) -> Result<(), Memory>
+    ensures { OnOk result (out.new.items ≡ out.old.items ++ (if begun then 44 ∷ [] else []) ++ trace.signal_name sig) }
 {
-    Ok(
-        TABLE
-            .iter()
-            .copied()
-            .filter(|sig| set.has(*sig))
-            .collect(alloc)?,
-    )
-}
-
-fn push_names(out: &mut Vec<u8>, first: Sig, others: &[Sig]) -> Result<(), Memory>
-    ensures { OnOk result (out.new.items ≡ out.old.items ++ trace.commas trace.signal_name (first ∷ others.now)) }
-{
-    push(out, signal_name(first))?;
-    for sig in others {
+    if begun {
         push_byte(out, b',')?;
-        push(out, signal_name(*sig))?;
     }
-    Ok(())
+    push(out, signal_name(sig))
 }
 
-fn push_signals(out: &mut Vec<u8>, signals: &[Sig]) -> Result<(), Memory>
-    ensures { OnOk result (out.new.items ≡ out.old.items ++ trace.signals_text signals.now) }
+// Which signals of the table are in the set.
+fn marks_of(set: SigSet) -> [bool; 10]
+    ensures { result ≡ map (at set) all_signals }
 {
-    match signals.split_first() {
-        None => push(out, b"none"),
-        Some((first, others)) => push_names(out, *first, others),
+    [
+        set.has(Sig::Hup),
+        set.has(Sig::Int),
+        set.has(Sig::Quit),
+        set.has(Sig::Kill),
+        set.has(Sig::Usr1),
+        set.has(Sig::Usr2),
+        set.has(Sig::Pipe),
+        set.has(Sig::Alrm),
+        set.has(Sig::Term),
+        set.has(Sig::Chld),
+    ]
+}
+
+// Adds the names of a set's signals joined by commas, and gives whether there are any.
+fn push_members(out: &mut Vec<u8>, set: SigSet) -> Result<bool, Memory>
+    ensures names { OnOk result
+        (out.new.items ≡ out.old.items ++ trace.commas trace.signal_name (filter (at set) all_signals)) }
+    ensures any { IfOk result (λ any. any ≡ list_any (at set) all_signals) }
+{
+    let marks = marks_of(set);
+    let mut begun = false;
+    for place in 0..TABLE.len() {
+        if marks[place] {
+            push_member(out, begun, TABLE[place])?;
+            begun = true;
+        }
     }
+    Ok(begun)
 }
 
 /// Adds a set of signals: their names joined by commas, in the order of the table, or `none`.
-#[tactic(auto, unfolding(kernel_model::specs::Trace::set_text))]
-pub fn push_set(alloc: Global, out: &mut Vec<u8>, set: SigSet) -> Result<(), Memory>
+pub fn push_set(_alloc: Global, out: &mut Vec<u8>, set: SigSet) -> Result<(), Memory>
     ensures { OnOk result (out.new.items ≡ out.old.items ++ trace.set_text set) }
 {
-    let signals = members(alloc, set)?;
-    push_signals(out, &signals)
+    if push_members(out, set)? {
+        return Ok(());
+    }
+    push(out, b"none")
 }
 
 /// Adds numbers joined by commas.

@@ -1,5 +1,5 @@
 //! Bytes and numbers put at the end of a text.
-ghost use Rattle.std.specs.Prelude.{◌≡◌, ◌+◌, ◌/◌, ◌%◌, ◌^◌, ◌<◌, [], ◌∷◌, ◌++◌, codes, length, IfSome, IfNone, OnOk, true, false, nat_lt, if◌then◌else◌, nat_eq, ◌&&◌, nat_le};
+ghost use Rattle.std.specs.Prelude.{◌≡◌, ◌+◌, ◌/◌, ◌%◌, ◌^◌, ◌<◌, ◌≤◌, [], ◌∷◌, ◌++◌, codes, length, IfSome, IfNone, OnOk, true, false, nat_lt, if◌then◌else◌, nat_eq, ◌&&◌, nat_le};
 ghost use Rattle.std.specs.List.{flat_map, list_all};
 ghost use Rattle.std.specs.Fmt.{decimal, signed_decimal};
 ghost use Rattle.kernel_model.specs.Texts.{escape, hex_digit, is_plain, is_letter_or_digit, is_repeated, message_text, quoted_text, repeated_text};
@@ -25,8 +25,30 @@ pub fn push_byte(out: &mut Vec<u8>, byte: u8) -> Result<(), Memory>
     Ok(())
 }
 
+// Adds a number of two digits.
+#[tactic(auto, using(crate::proofs::Digits::two_digits))]
+fn push_two_digits(out: &mut Vec<u8>, number: u8) -> Result<(), Memory>
+    requires { (10 ≤ number) × (number < 100) }
+    ensures { OnOk result (out.new.items ≡ out.old.items ++ decimal number) }
+{
+    push(out, &[b'0' + number / 10, b'0' + number % 10])
+}
+
+// Adds a number of more than one digit.
+#[inline(never)]
+fn push_digits(out: &mut Vec<u8>, number: u64) -> Result<(), Memory>
+    requires { 10 ≤ number }
+    ensures { OnOk result (out.new.items ≡ out.old.items ++ decimal number) }
+{
+    if number < 100 {
+        return push_two_digits(out, number as u8);
+    }
+    push(out, Buffer::new().format(number).as_bytes())
+}
+
 /// Adds a number in decimal digits.
 #[tactic(auto, using(std::proofs::lemmas::Fmt::decimal_digit))]
+#[inline]
 pub fn push_number(out: &mut Vec<u8>, number: u64) -> Result<(), Memory>
     ensures { OnOk result (out.new.items ≡ out.old.items ++ decimal number) }
 {
@@ -34,7 +56,7 @@ pub fn push_number(out: &mut Vec<u8>, number: u64) -> Result<(), Memory>
     if number < 10 {
         return push_byte(out, b'0' + number as u8);
     }
-    push(out, Buffer::new().format(number).as_bytes())
+    push_digits(out, number)
 }
 
 /// Adds a signed number in decimal digits.
@@ -107,17 +129,14 @@ pub fn push_quoted(out: &mut Vec<u8>, text: &[u8]) -> Result<(), Memory>
     push_byte(out, b'"')
 }
 
-fn all_are(byte: u8, bytes: &[u8]) -> bool
-    ensures { result ≡ list_all (nat_eq byte) bytes.now }
-{
-    bytes.iter().all(|other| byte == *other)
-}
-
-// Whether 17 or more bytes, these and one before them, are the same letter or digit.
-fn is_run(first: u8, rest: &[u8]) -> bool
+// Whether 17 or more bytes, these and one before them, are the same letter or digit. They are the same where each is as
+// the one before it, and to compare two slices is quicker than to look at each byte.
+#[tactic(auto, using(crate::proofs::Runs::same_throughout))]
+fn is_run(text: &[u8], first: u8, rest: &[u8]) -> bool
+    requires { text.now ≡ first ∷ rest.now }
     ensures { result ≡ (is_letter_or_digit first && (nat_le 16 (length rest.now) && list_all (nat_eq first) rest.now)) }
 {
-    letter_or_digit(first) && 16 <= rest.len() && all_are(first, rest)
+    letter_or_digit(first) && 16 <= rest.len() && rest == &text[..rest.len()]
 }
 
 // Whether the text is printed by the one letter or digit that it repeats.
@@ -126,7 +145,7 @@ pub(crate) fn is_repeat(text: &[u8]) -> bool
 {
     match text.split_first() {
         None => false,
-        Some((first, rest)) => is_run(*first, rest),
+        Some((first, rest)) => is_run(text, *first, rest),
     }
 }
 
