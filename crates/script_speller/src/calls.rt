@@ -12,7 +12,6 @@ use crate::words::{
 use pico_base::{
     Act, Call, How, Id, Key, Memory, Node, Pid, Script, SemStep, Sig, SigArg, SigSet, Var,
 };
-use std::alloc::Global;
 use trace_text::{action_name, how_name, push, signal_argument, signal_name};
 
 /// The name of a block behind a blank; nothing behind it where there is no such block.
@@ -68,20 +67,20 @@ fn push_sigaction(out: &mut Vec<u8>, sig: SigArg, act: Act) -> Result<(), Memory
     push_word(out, action_name(act))
 }
 
-fn push_mask(alloc: Global, out: &mut Vec<u8>, how: How, set: SigSet) -> Result<(), Memory>
+fn push_mask(out: &mut Vec<u8>, how: How, set: SigSet) -> Result<(), Memory>
     ensures { OnOk result (out.new.items ≡ out.old.items
         ++ spec.behind_blanks (trace.how_name how ∷ trace.set_text set ∷ [])) }
 {
     push_word(out, how_name(how))?;
-    push_set_word(alloc, out, set)
+    push_set_word(out, set)
 }
 
-fn push_sigprocmask(alloc: Global, out: &mut Vec<u8>, how: How, set: SigSet) -> Result<(), Memory>
+fn push_sigprocmask(out: &mut Vec<u8>, how: How, set: SigSet) -> Result<(), Memory>
     ensures { OnOk result (out.new.items ≡ out.old.items
         ++ (codes "sigprocmask" ++ spec.behind_blanks (trace.how_name how ∷ trace.set_text set ∷ []))) }
 {
     push(out, b"sigprocmask")?;
-    push_mask(alloc, out, how, set)
+    push_mask(out, how, set)
 }
 
 fn push_child(out: &mut Vec<u8>, from: Option<Var>, child: Option<Pid>) -> Result<(), Memory>
@@ -269,7 +268,6 @@ fn push_setall(out: &mut Vec<u8>, from: Option<Var>, id: Id, values: &[u32]) -> 
 
 /// Adds a call, with the variable in place of the process or the object that it names.
 pub(crate) fn push_call(
-    alloc: Global,
     out: &mut Vec<u8>,
     script: &Script,
     from: Option<Var>,
@@ -285,7 +283,7 @@ pub(crate) fn push_call(
         Call::GetPid => push(out, b"getpid"),
         Call::Kill { pid, sig } => push_kill(out, from, *pid, *sig),
         Call::SigAction { sig, act } => push_sigaction(out, *sig, *act),
-        Call::SigProcMask { how, set } => push_sigprocmask(alloc, out, *how, *set),
+        Call::SigProcMask { how, set } => push_sigprocmask(out, *how, *set),
         Call::SigPending => push(out, b"sigpending"),
         Call::Handled { sig } => push_signal(out, b"handled", *sig),
         Call::WaitPid { child, nohang } => push_waitpid(out, from, *child, *nohang),

@@ -32,77 +32,57 @@ fn push_tries_front(out: &mut Vec<u8>, tries: u32) -> Result<(), Memory>
 }
 
 #[tactic(auto, unfolding(crate::specs::Spelling::line_text))]
-fn push_line(alloc: Global, out: &mut Vec<u8>, script: &Script, line: &Line) -> Result<(), Memory>
+fn push_line(out: &mut Vec<u8>, script: &Script, line: &Line) -> Result<(), Memory>
     ensures { OnOk result (out.new.items ≡ out.old.items ++ spec.line_text script.now line.now) }
 {
     push_set_front(out, line.set)?;
     push_tries_front(out, line.tries)?;
-    push_call(alloc, out, script, line.from, &line.call)
+    push_call(out, script, line.from, &line.call)
 }
 
 /// Adds lines, each behind a line feed.
-fn push_lines(
-    alloc: Global,
-    out: &mut Vec<u8>,
-    script: &Script,
-    lines: &[Line],
-) -> Result<(), Memory>
+fn push_lines(out: &mut Vec<u8>, script: &Script, lines: &[Line]) -> Result<(), Memory>
     ensures { OnOk result (out.new.items ≡ out.old.items
         ++ flat_map (spec.behind_feed script.now) lines.now) }
 {
     for line in lines {
         push_byte(out, b'\n')?;
-        push_line(alloc, out, script, line)?;
+        push_line(out, script, line)?;
     }
     Ok(())
 }
 
 #[tactic(auto, unfolding(crate::specs::Spelling::block_text))]
-fn push_block(
-    alloc: Global,
-    out: &mut Vec<u8>,
-    script: &Script,
-    block: &Block,
-) -> Result<(), Memory>
+fn push_block(out: &mut Vec<u8>, script: &Script, block: &Block) -> Result<(), Memory>
     ensures { OnOk result (out.new.items ≡ out.old.items ++ spec.block_text script.now block.now) }
 {
     push(out, b"proc ")?;
     push(out, block.name.as_slice())?;
-    push_lines(alloc, out, script, block.lines.as_slice())?;
+    push_lines(out, script, block.lines.as_slice())?;
     push(out, b"\nend")
 }
 
 /// Adds blocks, each behind a line feed.
-fn push_further(
-    alloc: Global,
-    out: &mut Vec<u8>,
-    script: &Script,
-    blocks: &[Block],
-) -> Result<(), Memory>
+fn push_further(out: &mut Vec<u8>, script: &Script, blocks: &[Block]) -> Result<(), Memory>
     ensures { OnOk result (out.new.items ≡ out.old.items
         ++ flat_map (spec.block_behind script.now) blocks.now) }
 {
     for block in blocks {
         push_byte(out, b'\n')?;
-        push_block(alloc, out, script, block)?;
+        push_block(out, script, block)?;
     }
     Ok(())
 }
 
-fn push_blocks(
-    alloc: Global,
-    out: &mut Vec<u8>,
-    script: &Script,
-    blocks: &[Block],
-) -> Result<(), Memory>
+fn push_blocks(out: &mut Vec<u8>, script: &Script, blocks: &[Block]) -> Result<(), Memory>
     ensures { OnOk result (out.new.items ≡ out.old.items
         ++ spec.blocks_text script.now blocks.now) }
 {
     match blocks {
         [] => Ok(()),
         [first, rest @ ..] => {
-            push_block(alloc, out, script, first)?;
-            push_further(alloc, out, script, rest)
+            push_block(out, script, first)?;
+            push_further(out, script, rest)
         }
     }
 }
@@ -119,6 +99,6 @@ pub fn script_text(alloc: Global, script: &Script) -> Result<Bytes, Memory>
     ensures spelling { IfOk result (λ text. text ≡ spec.spelling script.now) }
 {
     let mut out = Vec::new(alloc);
-    push_blocks(alloc, &mut out, script, script.blocks.as_slice())?;
+    push_blocks(&mut out, script, script.blocks.as_slice())?;
     Ok(Bytes::from_vec(out))
 }

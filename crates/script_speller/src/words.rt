@@ -7,7 +7,6 @@ ghost use Rattle.kernel_model.specs.Trace as trace;
 ghost use Rattle.script_speller.specs.Spelling as spec;
 
 use pico_base::{Memory, SemStep, SigSet, Var};
-use std::alloc::Global;
 use trace_text::{push, push_byte, push_number, push_quoted, push_set, push_signed, push_values};
 
 /// Adds a word.
@@ -174,9 +173,9 @@ pub(crate) fn push_value_word(out: &mut Vec<u8>, values: &[u32]) -> Result<(), M
 }
 
 /// Adds a set of signals.
-pub(crate) fn push_set_word(alloc: Global, out: &mut Vec<u8>, set: SigSet) -> Result<(), Memory>
+pub(crate) fn push_set_word(out: &mut Vec<u8>, set: SigSet) -> Result<(), Memory>
     ensures { OnOk result (out.new.items ≡ out.old.items ++ 32 ∷ trace.set_text set) }
 {
     push_byte(out, b' ')?;
-    push_set(alloc, out, set)
+    push_set(out, set)
 }

@@ -11,7 +11,6 @@ use crate::cursor::Cursor;
 use crate::same::{Texts, is_same_call};
 use mono_kernel::{Kernel, Standing};
 use pico_base::{Call, Memory, Pid, Script, Sig};
-use std::alloc::Global;
 use std::collections::BTreeMap;
 
 /// Process 1 and the forked processes, by number.
@@ -62,7 +61,6 @@ fn is_killed(call: &Call) -> bool
 
 /// Whether the call found is the one that is due, or an end by a signal in place of the script's call.
 pub(crate) fn may_stand(
-    alloc: Global,
     script: &Script,
     doom: Option<Sig>,
     due: &Option<Call>,
@@ -77,7 +75,7 @@ pub(crate) fn may_stand(
     if is_killed(found) && doom.is_none() {
         return Ok(true);
     }
-    is_same_call(alloc, script, call, found, texts)
+    is_same_call(script, call, found, texts)
 }
 
 /// The process of the smallest number that has not ended.

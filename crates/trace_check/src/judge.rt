@@ -62,7 +62,6 @@ fn outcome_of(
 
 /// The kernel carries the call out, and replies the same as the line. The line's reply comes back.
 fn carry_out(
-    alloc: Global,
     kernel: &mut Kernel,
     line: u32,
     pid: Pid,
@@ -81,7 +80,7 @@ fn carry_out(
             trace: reply,
         });
     };
-    if is_same_reply(alloc, &outcome.own, &reply, texts)? {
+    if is_same_reply(&outcome.own, &reply, texts)? {
         Ok(reply)
     } else {
         Err(CheckFault::Illegal {
@@ -224,22 +223,14 @@ impl Judge {
     {
         let doom = last_doom(&self.kernel, pid);
         let due = due_in(script, &self.cursors, pid, doom)?;
-        if !may_stand(self.alloc, script, doom, &due, &call, &mut self.texts)? {
+        if !may_stand(script, doom, &due, &call, &mut self.texts)? {
             return Err(CheckFault::NotTheScript {
                 line,
                 due,
                 found: Some(call),
             });
         }
-        let reply = match carry_out(
-            self.alloc,
-            &mut self.kernel,
-            line,
-            pid,
-            &call,
-            reply,
-            &mut self.texts,
-        ) {
+        let reply = match carry_out(&mut self.kernel, line, pid, &call, reply, &mut self.texts) {
             Ok(reply) => reply,
             Err(fault) => return Err(fault),
         };

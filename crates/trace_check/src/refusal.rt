@@ -19,7 +19,6 @@ fn push_not_legal(out: &mut Vec<u8>, line: u32) -> Result<(), Memory>
 
 /// A call, or a word where there is none.
 fn push_call_or(
-    alloc: Global,
     out: &mut Vec<u8>,
     script: &Script,
     word: &[u8],
@@ -28,24 +27,23 @@ fn push_call_or(
     ensures { OnOk result (out.new.items ≡ out.old.items ++ spec.call_or script.now word.now call.now) }
 {
     match call {
-        Some(call) => push_call(alloc, out, script, call),
+        Some(call) => push_call(out, script, call),
         None => push(out, word),
     }
 }
 
 /// The kernel's reply, or `none`.
-fn push_reply_or_none(alloc: Global, out: &mut Vec<u8>, reply: &Option<Reply>) -> Result<(), Memory>
+fn push_reply_or_none(out: &mut Vec<u8>, reply: &Option<Reply>) -> Result<(), Memory>
     ensures { OnOk result (out.new.items ≡ out.old.items ++ spec.reply_or_none reply.now) }
 {
     match reply {
-        Some(reply) => push_reply(alloc, out, reply),
+        Some(reply) => push_reply(out, reply),
         None => push(out, b"none"),
     }
 }
 
 /// Which call was due, and which was found.
 fn push_calls(
-    alloc: Global,
     out: &mut Vec<u8>,
     script: &Script,
     due: &Option<Call>,
@@ -54,34 +52,24 @@ fn push_calls(
     ensures { OnOk result (out.new.items ≡ out.old.items ++ spec.calls_text script.now due.now found.now) }
 {
     push(out, b"due ")?;
-    push_call_or(alloc, out, script, b"nothing", due)?;
+    push_call_or(out, script, b"nothing", due)?;
     push(out, b" found ")?;
-    push_call_or(alloc, out, script, b"totals", found)?;
+    push_call_or(out, script, b"totals", found)?;
     push_byte(out, b'\n')
 }
 
 /// What the kernel replies, and what the trace has.
-fn push_replies(
-    alloc: Global,
-    out: &mut Vec<u8>,
-    kernel: &Option<Reply>,
-    trace: &Reply,
-) -> Result<(), Memory>
+fn push_replies(out: &mut Vec<u8>, kernel: &Option<Reply>, trace: &Reply) -> Result<(), Memory>
     ensures { OnOk result (out.new.items ≡ out.old.items ++ spec.replies_text kernel.now trace.now) }
 {
     push(out, b"kernel ")?;
-    push_reply_or_none(alloc, out, kernel)?;
+    push_reply_or_none(out, kernel)?;
     push(out, b" trace ")?;
-    push_reply(alloc, out, trace)?;
+    push_reply(out, trace)?;
     push_byte(out, b'\n')
 }
 
-fn push_refusal(
-    alloc: Global,
-    out: &mut Vec<u8>,
-    script: &Script,
-    fault: &CheckFault,
-) -> Result<(), Memory>
+fn push_refusal(out: &mut Vec<u8>, script: &Script, fault: &CheckFault) -> Result<(), Memory>
     ensures { OnOk result (out.new.items ≡ out.old.items ++ refusal_text script.now fault.now) }
 {
     match fault {
@@ -92,7 +80,7 @@ fn push_refusal(
         }
         CheckFault::NotTheScript { line, due, found } => {
             push_not_legal(out, *line)?;
-            push_calls(alloc, out, script, due, found)
+            push_calls(out, script, due, found)
         }
         CheckFault::Illegal {
             line,
@@ -100,7 +88,7 @@ fn push_refusal(
             trace,
         } => {
             push_not_legal(out, *line)?;
-            push_replies(alloc, out, kernel, trace)
+            push_replies(out, kernel, trace)
         }
     }
 }
@@ -113,6 +101,6 @@ pub fn write_refusal(alloc: Global, script: &Script, fault: &CheckFault) -> Resu
     ensures { IfOk result (λ text. text ≡ refusal_text script.now fault.now) }
 {
     let mut out = Vec::new(alloc);
-    push_refusal(alloc, &mut out, script, fault)?;
+    push_refusal(&mut out, script, fault)?;
     Ok(Bytes::from_vec(out))
 }

@@ -24,7 +24,6 @@ impl Texts {
 
 /// Whether the call is in the grammar of a trace, and has the text of the other.
 pub(crate) fn is_same_call(
-    alloc: Global,
     script: &Script,
     call: &Call,
     other: &Call,
@@ -37,14 +36,13 @@ pub(crate) fn is_same_call(
     }
     texts.first.clear();
     texts.second.clear();
-    push_call(alloc, &mut texts.first, script, call)?;
-    push_call(alloc, &mut texts.second, script, other)?;
+    push_call(&mut texts.first, script, call)?;
+    push_call(&mut texts.second, script, other)?;
     Ok(texts.first.as_slice() == texts.second.as_slice())
 }
 
 /// Whether the kernel's reply is in the grammar of a trace, and has the text of the other.
 pub(crate) fn is_same_reply(
-    alloc: Global,
     reply: &Option<Reply>,
     other: &Reply,
     texts: &mut Texts,
@@ -59,7 +57,7 @@ pub(crate) fn is_same_reply(
     }
     texts.first.clear();
     texts.second.clear();
-    push_reply(alloc, &mut texts.first, reply)?;
-    push_reply(alloc, &mut texts.second, other)?;
+    push_reply(&mut texts.first, reply)?;
+    push_reply(&mut texts.second, other)?;
     Ok(texts.first.as_slice() == texts.second.as_slice())
 }

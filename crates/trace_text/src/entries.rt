@@ -119,7 +119,7 @@ pub fn entry_in(
         return Ok(None);
     }
     scratch.clear();
-    push_entry(alloc, scratch, script, &entry)?;
+    push_entry(scratch, script, &entry)?;
     if is_line(scratch, line) {
         Ok(Some(entry))
     } else {

@@ -345,7 +345,7 @@ fn push_members(out: &mut Vec<u8>, set: SigSet) -> Result<bool, Memory>
 }
 
 /// Adds a set of signals: their names joined by commas, in the order of the table, or `none`.
-pub fn push_set(_alloc: Global, out: &mut Vec<u8>, set: SigSet) -> Result<(), Memory>
+pub fn push_set(out: &mut Vec<u8>, set: SigSet) -> Result<(), Memory>
     ensures { OnOk result (out.new.items ≡ out.old.items ++ trace.set_text set) }
 {
     if push_members(out, set)? {
@@ -453,20 +453,15 @@ fn push_how(out: &mut Vec<u8>, how: How) -> Result<(), Memory>
     push_byte(out, b' ')
 }
 
-fn push_sigprocmask(alloc: Global, out: &mut Vec<u8>, how: How, set: SigSet) -> Result<(), Memory>
+fn push_sigprocmask(out: &mut Vec<u8>, how: How, set: SigSet) -> Result<(), Memory>
     ensures { OnOk result (out.new.items ≡ out.old.items ++ trace.sigprocmask_text how set) }
 {
     push_how(out, how)?;
-    push_set(alloc, out, set)
+    push_set(out, set)
 }
 
 /// Adds a call as a script would have it, with actual numbers.
-pub fn push_call(
-    alloc: Global,
-    out: &mut Vec<u8>,
-    script: &Script,
-    call: &Call,
-) -> Result<(), Memory>
+pub fn push_call(out: &mut Vec<u8>, script: &Script, call: &Call) -> Result<(), Memory>
     ensures { OnOk result (out.new.items ≡ out.old.items ++ trace.call_text script.now call.now) }
 {
     match call {
@@ -476,7 +471,7 @@ pub fn push_call(
         Call::GetPid => push(out, b"getpid"),
         Call::Kill { pid, sig } => push_kill(out, *pid, *sig),
         Call::SigAction { sig, act } => push_sigaction(out, *sig, *act),
-        Call::SigProcMask { how, set } => push_sigprocmask(alloc, out, *how, *set),
+        Call::SigProcMask { how, set } => push_sigprocmask(out, *how, *set),
         Call::SigPending => push(out, b"sigpending"),
         Call::Handled { sig } => push_signal_call(out, b"handled ", *sig),
         Call::WaitPid { child, nohang } => push_waitpid(out, *child, *nohang),
@@ -538,14 +533,14 @@ fn push_all(out: &mut Vec<u8>, values: &[u32]) -> Result<(), Memory>
 }
 
 /// Adds a reply as a trace has it.
-pub fn push_reply(alloc: Global, out: &mut Vec<u8>, reply: &Reply) -> Result<(), Memory>
+pub fn push_reply(out: &mut Vec<u8>, reply: &Reply) -> Result<(), Memory>
     ensures { OnOk result (out.new.items ≡ out.old.items ++ trace.reply_text reply.now) }
 {
     match reply {
         Reply::Num(number) => push_number(out, u64::from(*number)),
         Reply::Child { pid, ending } => push_child(out, *pid, *ending),
         Reply::Message { class, text } => push_received(out, *class, text.as_slice()),
-        Reply::Bits(set) => push_set(alloc, out, *set),
+        Reply::Bits(set) => push_set(out, *set),
         Reply::Stat {
             qnum,
             qbytes,
@@ -558,76 +553,60 @@ pub fn push_reply(alloc: Global, out: &mut Vec<u8>, reply: &Reply) -> Result<(),
     }
 }
 
-fn push_own(alloc: Global, out: &mut Vec<u8>, own: &Option<Reply>) -> Result<(), Memory>
+fn push_own(out: &mut Vec<u8>, own: &Option<Reply>) -> Result<(), Memory>
     ensures { OnOk result (out.new.items ≡ out.old.items ++ trace.own_text own.now) }
 {
     match own {
         None => push(out, b"parked"),
-        Some(reply) => push_reply(alloc, out, reply),
+        Some(reply) => push_reply(out, reply),
     }
 }
 
 // Who made which call.
-fn push_made(
-    alloc: Global,
-    out: &mut Vec<u8>,
-    script: &Script,
-    pid: Pid,
-    call: &Call,
-) -> Result<(), Memory>
+fn push_made(out: &mut Vec<u8>, script: &Script, pid: Pid, call: &Call) -> Result<(), Memory>
     ensures { OnOk result (out.new.items ≡ out.old.items ++ trace.made_text script.now pid call.now) }
 {
     push_pid(out, pid)?;
     push_byte(out, b' ')?;
-    push_call(alloc, out, script, call)
+    push_call(out, script, call)
 }
 
 // A caller that is woken, with its reply.
-fn push_wake(alloc: Global, out: &mut Vec<u8>, pid: Pid, reply: &Reply) -> Result<(), Memory>
+fn push_wake(out: &mut Vec<u8>, pid: Pid, reply: &Reply) -> Result<(), Memory>
     ensures { OnOk result (out.new.items ≡ out.old.items ++ trace.wake_text (pid, reply.now)) }
 {
     push(out, b" wakes ")?;
     push_pid(out, pid)?;
     push_byte(out, b' ')?;
-    push_reply(alloc, out, reply)
+    push_reply(out, reply)
 }
 
-fn push_wakes(alloc: Global, out: &mut Vec<u8>, woken: &[(Pid, Reply)]) -> Result<(), Memory>
+fn push_wakes(out: &mut Vec<u8>, woken: &[(Pid, Reply)]) -> Result<(), Memory>
     ensures { OnOk result (out.new.items ≡ out.old.items ++ flat_map trace.wake_text woken.now) }
 {
     for (pid, reply) in woken {
-        push_wake(alloc, out, *pid, reply)?;
+        push_wake(out, *pid, reply)?;
     }
     Ok(())
 }
 
 // Who carried it out, and whom that woke.
-fn push_by(
-    alloc: Global,
-    out: &mut Vec<u8>,
-    node: Node,
-    woken: &[(Pid, Reply)],
-) -> Result<(), Memory>
+fn push_by(out: &mut Vec<u8>, node: Node, woken: &[(Pid, Reply)]) -> Result<(), Memory>
     ensures { OnOk result (out.new.items ≡ out.old.items ++ trace.by_text node woken.now) }
 {
     push(out, b" by ")?;
     push_node(out, node)?;
-    push_wakes(alloc, out, woken)?;
+    push_wakes(out, woken)?;
     push_byte(out, b'\n')
 }
 
-pub(crate) fn push_entry(
-    alloc: Global,
-    out: &mut Vec<u8>,
-    script: &Script,
-    entry: &Entry,
-) -> Result<(), Memory>
+pub(crate) fn push_entry(out: &mut Vec<u8>, script: &Script, entry: &Entry) -> Result<(), Memory>
     ensures { OnOk result (out.new.items ≡ out.old.items ++ trace.entry_line script.now entry.now) }
 {
-    push_made(alloc, out, script, entry.pid, &entry.call)?;
+    push_made(out, script, entry.pid, &entry.call)?;
     push(out, b" = ")?;
-    push_own(alloc, out, &entry.outcome.own)?;
-    push_by(alloc, out, entry.by, entry.outcome.woken.as_slice())
+    push_own(out, &entry.outcome.own)?;
+    push_by(out, entry.by, entry.outcome.woken.as_slice())
 }
 
 fn is_fork(entry: &Entry) -> bool
@@ -784,7 +763,7 @@ pub fn write_trace(alloc: Global, script: &Script, journal: &Entries) -> Result<
 {
     let mut out = Vec::new(alloc);
     for entry in journal.as_slice() {
-        push_entry(alloc, &mut out, script, entry)?;
+        push_entry(&mut out, script, entry)?;
     }
     push_totals(&mut out, journal.as_slice())?;
     Ok(Bytes::from_vec(out))
