@@ -1,17 +1,25 @@
 -- Where words end, and what they are cut into.
-use Rattle.std.proofs.Common.{◌≡◌, ℕ, suc, ◌+◌, ◌<◌, ◌≤◌, Bool, true, false, not, cond, eqb, ltb, List, [], ◌∷◌, length, take, drop, Option, Some, None, refl, sym, ap, subst, ◌∙◌, arith}
+use Rattle.std.proofs.Common.{◌≡◌, ℕ, suc, ◌+◌, ◌<◌, ◌≤◌, Bool, true, false, not, cond, eqb, ltb, List, [], ◌∷◌, length, get_or, take, drop, Option, Some, None, refl, sym, ap, subst, ◌∙◌, arith}
 use Rattle.std.specs.Prelude.{position, option_map}
 use Rattle.std.specs.List.{position_or_len, onto_first, slice_split}
 use Rattle.std.specs.Option.{unwrap_or}
-use Rattle.std.proofs.lemmas.Bool.{ltb-true, ltb-false, eqb-true}
+use Rattle.std.proofs.lemmas.Bool.{ltb-true, ltb-false, lt-ltb, le-ltb, eqb-true}
 use Rattle.std.proofs.lemmas.List.{length-drop}
-use Rattle.std.proofs.lemmas.List.Sums.{prefix_len-le-length}
+use Rattle.std.proofs.lemmas.List.Sums.{prefix_len-le-length, prefix_len_is}
 use Rattle.std.proofs.lemmas.Option.{same_Some, none-some}
+use Rattle.memchr.specs.Find.{IsFirstByte, Passes}
 use Rattle.script_reader.specs.Words.{is_blank, words_in, words_of, rest_length, pieces}
 use Rattle.script_reader.specs.Words.Stretch.{between, plain, quoted}
 use Rattle.script_reader.specs.Parts.{cut}
 
 -- ---- the first place that passes, or the length
+
+not_passed : (p : ℕ → Bool) (xs : List ℕ) (k : ℕ) → ¬ Passes p xs k → not (p (get_or xs k 0)) ≡ true
+not_passed p xs k h = failed (p (get_or xs k 0)) h
+  where
+    failed : (b : Bool) → ¬ (b ≡ true) → not b ≡ true
+    failed true h = absurd (h refl)
+    failed false h = refl
 
 pub place_within : (p : ℕ → Bool) (xs : List ℕ) → position_or_len p xs ≤ length xs
 place_within p xs = prefix_len-le-length (λ x. not (p x)) xs
@@ -24,6 +32,24 @@ pub else_length : (p : ℕ → Bool) (xs : List ℕ) → unwrap_or (position p x
 else_length p xs =
     else_length_of (ltb (position_or_len p xs) (length xs)) (position_or_len p xs) (length xs)
     (λ e. omega (arith, ltb-false (position_or_len p xs) (length xs) e, place_within p xs))
+
+position_found : (p : ℕ → Bool) (xs : List ℕ) (i j : ℕ) → position_or_len p xs ≡ j → j ≡ i → i < length xs
+    → Some i ≡ position p xs
+position_found p xs i j is same inside = rw (is, same, lt-ltb i (length xs) inside) refl
+
+position_missed : (p : ℕ → Bool) (xs : List ℕ) (j : ℕ) → position_or_len p xs ≡ j → j ≡ length xs → None ≡ position p xs
+position_missed p xs j is same = rw (is, same, le-ltb (length xs) (length xs) (omega arith)) refl
+
+-- what a search for the first byte that passes gives is the position
+pub position_of_first : (p : ℕ → Bool) (xs : List ℕ) (r : Option ℕ) → IsFirstByte p xs r → r ≡ position p xs
+position_of_first p xs None h =
+    position_missed p xs (position_or_len p xs) refl
+    (prefix_len_is (λ x. not (p x)) xs (length xs) 0 (omega arith) (λ k lt. not_passed p xs k (h k (omega arith) lt))
+    (λ lt. absurd (omega (arith, lt))))
+position_of_first p xs (Some i) h =
+    position_found p xs i (position_or_len p xs) refl
+    (prefix_len_is (λ x. not (p x)) xs i 0 (omega (arith, h.0.high))
+    (λ k lt. not_passed p xs k (h.0.before k (omega arith) lt)) (λ lt. ap not h.1)) h.0.high
 
 -- ---- words
 

@@ -5,6 +5,7 @@ ghost use Rattle.std.specs.List.{position_or_len};
 ghost use Rattle.script_reader.specs.Words.{lines_of, is_blank as is_blank_of, rest_length, words_of, pieces as pieces_of, texts};
 
 use crate::parts::cut;
+use memchr::memchr;
 use pico_base::Memory;
 use std::alloc::Global;
 
@@ -12,7 +13,7 @@ use std::alloc::Global;
 fn line_end(bytes: &[u8]) -> Option<usize>
     ensures { result ≡ position (λ b. b == 10) bytes.now }
 {
-    bytes.iter().position(|b| *b == b'\n')
+    memchr(b'\n', bytes)
 }
 
 /// The first line of a text without its line feed, and what follows that; none where there is no byte. The last line
@@ -47,7 +48,7 @@ fn first_blank(bytes: &[u8]) -> Option<usize>
 fn first_quote(bytes: &[u8]) -> Option<usize>
     ensures { result ≡ position (λ b. b == 34) bytes.now }
 {
-    bytes.iter().position(|b| *b == b'"')
+    memchr(b'"', bytes)
 }
 
 /// Where the first byte is that isn't blank.
