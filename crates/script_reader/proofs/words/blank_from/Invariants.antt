@@ -1,4 +1,4 @@
-use Rattle.std.proofs.Common.{◌≡◌, ◌+◌, ◌-◌, ◌≤◌, not, drop, length}
+use Rattle.std.proofs.Common.{◌≡◌, ◌+◌, ◌-◌, ◌≤◌, drop, length}
 use Rattle.std.specs.List.{position_or_len}
 use Rattle.script_reader.specs.Words.{is_blank}
 use Rattle.script_reader.proofs.words.blank_from.Given as goal

@@ -1,4 +1,4 @@
-use Rattle.std.proofs.Common.{◌∙◌, sym, arith}
+use Rattle.std.proofs.Common.{◌<◌, ◌∙◌, length, sym, arith}
 use Rattle.script_reader.proofs.Cuts.{none_left, next_word_at}
 use Rattle.script_reader.proofs.words.word_from.Goals as goal
 
@@ -8,5 +8,7 @@ returns-then-start-line-clause-words c =
 
 pub returns-else-start-line-clause-words : goal.returns-else-start-line-clause-words
 returns-else-start-line-clause-words c =
-    next_word_at c.args.line.now c.args.from c.solid_from-start.result c.word_end.result
-    c.solid_from-start.ensures.value (omega (arith, c.solid_from-start.ensures.within, c.if-start-line.false)) c.word_end.ensures.value
+    let start = c.solid_from-start in
+    let inside : start.result < length c.args.line.now = omega (arith, start.ensures.within, c.if-start-line.false) in
+    next_word_at c.args.line.now c.args.from start.result c.word_end.result start.ensures.value inside
+    c.word_end.ensures.value
