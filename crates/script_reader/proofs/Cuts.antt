@@ -1,17 +1,25 @@
 -- Where words end, and what they are cut into.
-use Rattle.std.proofs.Common.{◌≡◌, ℕ, suc, ◌+◌, ◌<◌, ◌≤◌, Bool, true, false, not, cond, eqb, ltb, List, [], ◌∷◌, length, take, drop, Option, Some, None, refl, sym, ap, subst, ◌∙◌, arith}
+use Rattle.std.proofs.Common.{◌≡◌, ℕ, suc, ◌+◌, ◌-◌, ◌<◌, ◌≤◌, Bool, true, false, not, cond, eqb, ltb, List, [], ◌∷◌, length, get_or, take, drop, Option, Some, None, drop-drop, refl, sym, ap, subst, ◌∙◌, arith}
 use Rattle.std.specs.Prelude.{position, option_map}
 use Rattle.std.specs.List.{position_or_len, onto_first, slice_split}
 use Rattle.std.specs.Option.{unwrap_or}
-use Rattle.std.proofs.lemmas.Bool.{ltb-true, ltb-false, eqb-true}
-use Rattle.std.proofs.lemmas.List.{length-drop}
-use Rattle.std.proofs.lemmas.List.Sums.{prefix_len-le-length}
+use Rattle.std.proofs.lemmas.Bool.{ltb-true, ltb-false, lt-ltb, le-ltb, eqb-true}
+use Rattle.std.proofs.lemmas.List.{drop_all, drop_more}
+use Rattle.std.proofs.lemmas.List.Sums.{prefix_len-le-length, prefix_len_is}
 use Rattle.std.proofs.lemmas.Option.{same_Some, none-some}
+use Rattle.memchr.specs.Find.{IsFirstByte, Passes}
 use Rattle.script_reader.specs.Words.{is_blank, words_in, words_of, rest_length, pieces}
 use Rattle.script_reader.specs.Words.Stretch.{between, plain, quoted}
 use Rattle.script_reader.specs.Parts.{cut}
 
 -- ---- the first place that passes, or the length
+
+not_passed : (p : ℕ → Bool) (xs : List ℕ) (k : ℕ) → ¬ Passes p xs k → not (p (get_or xs k 0)) ≡ true
+not_passed p xs k h = failed (p (get_or xs k 0)) h
+  where
+    failed : (b : Bool) → ¬ (b ≡ true) → not b ≡ true
+    failed true h = absurd (h refl)
+    failed false h = refl
 
 pub place_within : (p : ℕ → Bool) (xs : List ℕ) → position_or_len p xs ≤ length xs
 place_within p xs = prefix_len-le-length (λ x. not (p x)) xs
@@ -24,6 +32,24 @@ pub else_length : (p : ℕ → Bool) (xs : List ℕ) → unwrap_or (position p x
 else_length p xs =
     else_length_of (ltb (position_or_len p xs) (length xs)) (position_or_len p xs) (length xs)
     (λ e. omega (arith, ltb-false (position_or_len p xs) (length xs) e, place_within p xs))
+
+position_found : (p : ℕ → Bool) (xs : List ℕ) (i j : ℕ) → position_or_len p xs ≡ j → j ≡ i → i < length xs
+    → Some i ≡ position p xs
+position_found p xs i j is same inside = rw (is, same, lt-ltb i (length xs) inside) refl
+
+position_missed : (p : ℕ → Bool) (xs : List ℕ) (j : ℕ) → position_or_len p xs ≡ j → j ≡ length xs → None ≡ position p xs
+position_missed p xs j is same = rw (is, same, le-ltb (length xs) (length xs) (omega arith)) refl
+
+-- what a search for the first byte that passes gives is the position
+pub position_of_first : (p : ℕ → Bool) (xs : List ℕ) (r : Option ℕ) → IsFirstByte p xs r → r ≡ position p xs
+position_of_first p xs None h =
+    position_missed p xs (position_or_len p xs) refl
+    (prefix_len_is (λ x. not (p x)) xs (length xs) 0 (omega arith) (λ k lt. not_passed p xs k (h k (omega arith) lt))
+    (λ lt. absurd (omega (arith, lt))))
+position_of_first p xs (Some i) h =
+    position_found p xs i (position_or_len p xs) refl
+    (prefix_len_is (λ x. not (p x)) xs i 0 (omega (arith, h.0.high))
+    (λ k lt. not_passed p xs k (h.0.before k (omega arith) lt)) (λ lt. ap not h.1)) h.0.high
 
 -- ---- words
 
@@ -94,18 +120,17 @@ unfolding words_in
 skip_blanks [] = refl
 skip_blanks (x ∷ xs) = blanks_step (is_blank x) x xs (position_or_len is_solid xs) refl (skip_blanks xs)
 
--- a list of length 0 is empty
-pub empty_list : (xs : List ℕ) → length xs ≡ 0 → xs ≡ []
-empty_list [] e = refl
-empty_list (x ∷ xs) e = absurd (omega (arith, e))
-
 no_words : words_in between [] ≡ []
 unfolding words_in
 no_words = refl
 
 -- nothing but blanks
-pub none_left : (line word : List ℕ) → word ≡ drop (position_or_len is_solid line) line → word ≡ [] → words_of line ≡ []
-none_left line word e none = skip_blanks line ∙ ap (words_in between) (sym e ∙ none) ∙ no_words
+pub none_left : (line : List ℕ) (from : ℕ) → from + position_or_len is_solid (drop from line) ≡ length line
+    → words_of (drop from line) ≡ []
+none_left line from all =
+    let k : ℕ = position_or_len is_solid (drop from line) in
+    skip_blanks (drop from line)
+    ∙ ap (words_in between) (drop-drop k from line ∙ drop_all (from + k) line (omega (arith, all))) ∙ no_words
 
 first_word_of : (b : Bool) (x : ℕ) (xs : List ℕ) → is_quote x ≡ b → is_blank x ≡ false
     → words_in between (x ∷ xs) ≡ take (1 + rest_length x xs) (x ∷ xs)
@@ -131,19 +156,30 @@ solid_first (y ∷ ys) x xs e = solid_step (is_blank y) y ys x xs refl e (solid_
     solid_step false y ys x xs b e h = let same : y ≡ x = cc in ap is_blank (sym same) ∙ b
 
 -- the first word of a line, and what follows
-pub first_word : (line : List ℕ) (x : ℕ) (xs : List ℕ) → drop (position_or_len is_solid line) line ≡ x ∷ xs
+first_word : (line : List ℕ) (x : ℕ) (xs : List ℕ) → drop (position_or_len is_solid line) line ≡ x ∷ xs
     → words_of line ≡ take (1 + rest_length x xs) (x ∷ xs) ∷ words_of (drop (1 + rest_length x xs) (x ∷ xs))
 first_word line x xs e =
     skip_blanks line ∙ ap (words_in between) e ∙ first_word_of (is_quote x) x xs refl (solid_first line x xs e)
 
-rest_within_of : (b : Bool) (x : ℕ) (xs : List ℕ) → is_quote x ≡ b → rest_length x xs ≤ length xs
-rest_within_of true x xs e =
-    let q : ℕ = position_or_len is_quote xs in
-    rw e (omega (arith, place_within is_quote xs, place_within is_blank (drop q xs), length-drop q xs))
-rest_within_of false x xs e = rw e (place_within is_blank xs)
-
-pub rest_within : (x : ℕ) (xs : List ℕ) → rest_length x xs ≤ length xs
-rest_within x xs = rest_within_of (is_quote x) x xs refl
+-- the first word from a place on, and what follows
+pub next_word_at : (line : List ℕ) (from start end : ℕ)
+    → start ≡ from + position_or_len is_solid (drop from line) → start < length line
+    → end ≡ start + 1 + rest_length (get_or line start 0) (drop (start + 1) line)
+    → words_of (drop from line) ≡ take (end - start) (drop start line) ∷ words_of (drop end line)
+next_word_at line from start end begins inside ends =
+    let x : ℕ = get_or line start 0 in
+    let xs : List ℕ = drop (start + 1) line in
+    let r : ℕ = rest_length x xs in
+    let split : drop start line ≡ x ∷ xs = drop_more line start 0 inside in
+    let long : end - start ≡ 1 + r = omega (arith, ends) in
+    let on : end ≡ start + (1 + r) = omega (arith, ends) in
+    let here : drop (position_or_len is_solid (drop from line)) (drop from line) ≡ x ∷ xs =
+    drop-drop (position_or_len is_solid (drop from line)) from line ∙ ap (λ n. drop n line) (sym begins) ∙ split in
+    first_word (drop from line) x xs here
+    ∙ ap (λ ys. take (1 + r) ys ∷ words_of (drop (1 + r) ys)) (sym split)
+    ∙ ap (λ n. take n (drop start line) ∷ words_of (drop (1 + r) (drop start line))) (sym long)
+    ∙ ap (λ ys. take (end - start) (drop start line) ∷ words_of ys)
+    (drop-drop (1 + r) start line ∙ ap (λ n. drop n line) (sym on))
 
 -- ---- pieces
 

@@ -1,6 +1,6 @@
 -- Lists of words, and what reading each word gives.
-use Rattle.std.proofs.Common.{◌≡◌, ℕ, suc, ◌+◌, ◌<◌, ◌≤◌, Bool, true, false, List, [], ◌∷◌, ◌++◌, length, get_or, drop, drop-cons, Option, Some, None, refl, sym, ap, ◌∙◌, append_assoc, arith}
-use Rattle.std.specs.Prelude.{option_map}
+use Rattle.std.proofs.Common.{◌≡◌, ℕ, suc, ◌+◌, ◌<◌, ◌≤◌, Bool, true, false, cond, List, [], ◌∷◌, ◌++◌, length, get_or, drop, drop-cons, Option, Some, None, refl, sym, ap, ◌∙◌, append_assoc, arith}
+use Rattle.std.specs.Prelude.{option_map, option_and_then}
 use Rattle.pico_base.specs.declared.signal.Sig.{Sig}
 use Rattle.pico_base.specs.declared.signal.PerSignal.{PerSignal}
 use Rattle.pico_base.specs.Signal.{at, put_at}
@@ -31,28 +31,27 @@ texts-next words i d h = let more : suc i ≡ i + 1 = omega arith in ap texts (d
 pub texts-none : (words : List (Bor (List ℕ))) (i : ℕ) → length words ≤ i → texts (drop i words) ≡ []
 texts-none words i h = ap texts (drop_all i words h)
 
--- a word that is no signal
-pub signals-stuck : (set : PerSignal Bool) (all rest : List (List ℕ)) (x : List ℕ) → all ≡ x ∷ rest → signal x ≡ None
-    → None ≡ signals_with set all
+first_signal : (o : Option Sig) (set : PerSignal Bool) (xs : List (List ℕ))
+    → option_and_then (λ g. cond (at set g) None (signals_with (put_at set g true) xs)) o
+    ≡ option_and_then (λ s. signals_with s xs)
+    (option_and_then (λ g. cond (at set g) None (signals_with (put_at set g true) [])) o)
 unfolding signals_with
-signals-stuck set all rest x e g = rw (e, g) refl
+first_signal None set xs = refl
+first_signal (Some g) set xs = new_of (at set g) (put_at set g true) xs
+  where
+    new_of : (b : Bool) (more : PerSignal Bool) (xs : List (List ℕ)) → cond b None (signals_with more xs)
+        ≡ option_and_then (λ s. signals_with s xs) (cond b None (Some more))
+    new_of true more xs = refl
+    new_of false more xs = refl
 
--- a signal that is there already
-pub signals-again : (set : PerSignal Bool) (all rest : List (List ℕ)) (x : List ℕ) (g : Sig) → all ≡ x ∷ rest
-    → signal x ≡ Some g → at set g ≡ true → None ≡ signals_with set all
+-- the first of the names, and the others
+pub signals-next : (set : PerSignal Bool) (x : List ℕ) (xs all : List (List ℕ)) (r : Option (PerSignal Bool))
+    → all ≡ x ∷ xs → r ≡ signals_with set (x ∷ [])
+    → option_and_then (λ s. signals_with s xs) r ≡ signals_with set all
 unfolding signals_with
-signals-again set all rest x g e h there = rw (e, h, there) refl
-
--- a signal that is new
-pub signals-goes : (set more : PerSignal Bool) (all rest : List (List ℕ)) (x : List ℕ) (g : Sig) → all ≡ x ∷ rest
-    → signal x ≡ Some g → at set g ≡ false → more ≡ put_at set g true → signals_with more rest ≡ signals_with set all
-unfolding signals_with
-signals-goes set more all rest x g e h there same = rw (e, h, there, same) refl
-
--- no word is left
-pub signals-done : (set : PerSignal Bool) (all : List (List ℕ)) → all ≡ [] → Some set ≡ signals_with set all
-unfolding signals_with
-signals-done set all e = rw e refl
+signals-next set x xs all r split e =
+    ap (λ o. option_and_then (λ s. signals_with s xs) o) e ∙ sym (first_signal (signal x) set xs)
+    ∙ ap (signals_with set) (sym split)
 
 module _ {A B : Type 0} (f : A → Option B) where
   onto_one : (so_far : List B) (y : B) (o : Option (List B))

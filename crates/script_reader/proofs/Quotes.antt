@@ -1,10 +1,9 @@
 -- Texts between quotes, byte after byte and at once.
-use Rattle.std.proofs.Common.{◌≡◌, ℕ, zero, suc, ◌+◌, ◌-◌, ◌<◌, ◌≤◌, Bool, true, false, not, cond, eqb, List, [], ◌∷◌, ◌++◌, length, take, drop, Option, Some, None, refl, sym, ap, subst, ◌∙◌, append_assoc, arith}
+use Rattle.std.proofs.Common.{◌≡◌, ℕ, zero, suc, ◌-◌, ◌<◌, ◌≤◌, Bool, true, false, cond, eqb, List, [], ◌∷◌, ◌++◌, length, length-append, Option, Some, None, refl, sym, ap, subst, ◌∙◌, append_assoc, arith}
 use Rattle.std.specs.Prelude.{codes, option_map, bytes_eq}
-use Rattle.std.specs.List.{position_or_len}
+use Rattle.std.specs.List.{list_all}
 use Rattle.std.proofs.lemmas.List.{append-nil}
-use Rattle.std.proofs.lemmas.Bool.{eqb-true}
-use Rattle.std.proofs.lemmas.Slice.Eq.{bytes_eq-Decides}
+use Rattle.std.proofs.lemmas.Bool.{eqb-true, and_parts}
 use Rattle.script_reader.specs.Parts.{is_text_byte, text_byte_at, closed_at, with_byte, quoted_at}
 
 onto_byte : (so_far : List ℕ) (b : ℕ) (o : Option (List ℕ))
@@ -44,9 +43,6 @@ quoted-full so_far rest (suc n) e = absurd (omega (arith, e))
 
 -- ---- a text without escapes, which is copied at once
 
-abbrev is_other : ℕ → Bool
-is_other b = not (is_text_byte b)
-
 closing : (n : ℕ) → quoted_at n (34 ∷ []) ≡ Some []
 unfolding quoted_at text_byte_at
 closing zero = refl
@@ -64,31 +60,18 @@ unfolding text_byte_at
 plain_byte b rest true e t = absurd (backslash b e t)
 plain_byte b rest false e t = rw (t, e) refl
 
-same_suc : (i n : ℕ) → i ≤ n → suc i ≤ suc n
-same_suc i n h = omega (arith, h)
-
-abbrev IsPlainText : List ℕ → ℕ → Type 0
-IsPlainText xs k = (n : ℕ) → k ≤ n → drop k xs ≡ 34 ∷ [] → quoted_at n xs ≡ Some (take k xs)
-
-plain_step : (t : Bool) (b : ℕ) (xs : List ℕ) (k n : ℕ) → is_text_byte b ≡ t → IsPlainText xs k
-    → cond (not (not t)) (1 + k) 0 ≤ n → drop (cond (not (not t)) (1 + k) 0) (b ∷ xs) ≡ 34 ∷ []
-    → quoted_at n (b ∷ xs) ≡ Some (take (cond (not (not t)) (1 + k) 0) (b ∷ xs))
+plain_text : (xs : List ℕ) (n : ℕ) → length xs ≤ n → list_all is_text_byte xs ≡ true
+    → quoted_at n (xs ++ 34 ∷ []) ≡ Some xs
 unfolding quoted_at
-plain_step false b xs k n t again h e = ap (quoted_at n) e ∙ closing n
-plain_step true b xs k zero t again h e = absurd (omega (arith, h))
-plain_step true b xs k (suc n) t again h e =
-    let one : 1 + k ≡ suc k = omega arith in
-    rw (plain_byte b xs (eqb b 92) refl t, one, again n (omega (arith, h)) (rw one at e)) refl
-
--- the bytes before the first that doesn't stand for itself, where that is the closing quote
-plain_text : (xs : List ℕ) → IsPlainText xs (position_or_len is_other xs)
-plain_text [] n h e = cc
-plain_text (b ∷ xs) n h e = plain_step (is_text_byte b) b xs (position_or_len is_other xs) n refl (plain_text xs) h e
+plain_text [] n h e = closing n
+plain_text (b ∷ xs) zero h e = absurd (omega (arith, h))
+plain_text (b ∷ xs) (suc n) h e =
+    let both = and_parts (is_text_byte b) (list_all is_text_byte xs) e in
+    rw (plain_byte b (xs ++ 34 ∷ []) (eqb b 92) refl both.0, plain_text xs n (omega (arith, h)) both.1) refl
 
 -- the bytes before the closing quote, where each stands for itself
-pub quoted_at_once : (xs front rest : List ℕ) (k : ℕ) → k ≡ position_or_len is_other xs → k ≤ length xs
-    → front ≡ take k xs → rest ≡ drop k xs → bytes_eq rest (codes "\"") ≡ true → Some front ≡ quoted_at (length xs) xs
-quoted_at_once xs front rest k is within f r e =
-    let last : rest ≡ 34 ∷ [] = (bytes_eq-Decides rest (codes "\"")).0 e in
-    let at_close : drop (position_or_len is_other xs) xs ≡ 34 ∷ [] = ap (λ n. drop n xs) (sym is) ∙ sym r ∙ last in
-    ap Some (f ∙ ap (λ n. take n xs) is) ∙ sym (plain_text xs (length xs) (omega (arith, is, within)) at_close)
+pub quoted_at_once : (xs front : List ℕ) → xs ≡ front ++ 34 ∷ [] → list_all is_text_byte front ≡ true
+    → Some front ≡ quoted_at (length xs) xs
+quoted_at_once xs front split plain =
+    let long : length front ≤ length (front ++ 34 ∷ []) = omega (arith, length-append front (34 ∷ [])) in
+    sym (ap (λ ys. quoted_at (length ys) ys) split ∙ plain_text front (length (front ++ 34 ∷ [])) long plain)

@@ -152,20 +152,16 @@ fn sigaction(words: &[&[u8]]) -> Option<FromCall>
 
 /// `sigprocmask H M`.
 #[tactic(auto, unfolding(crate::specs::Forms::sigprocmask_of))]
-fn sigprocmask(alloc: Global, words: &[&[u8]]) -> Result<Option<FromCall>, Memory>
-    ensures { IfOk result (λ call. call ≡ forms.sigprocmask_of (texts words.now)) }
+fn sigprocmask(words: &[&[u8]]) -> Option<FromCall>
+    ensures { result ≡ forms.sigprocmask_of (texts words.now) }
 {
     match words {
         [h, m] => {
-            let Some(how) = how(h) else {
-                return Ok(None);
-            };
-            let Some(set) = signal_set(alloc, m)? else {
-                return Ok(None);
-            };
-            Ok(Some((None, Call::SigProcMask { how, set })))
+            let how = how(h)?;
+            let set = signal_set(m)?;
+            Some((None, Call::SigProcMask { how, set }))
         }
-        _ => Ok(None),
+        _ => None,
     }
 }
 
@@ -538,7 +534,7 @@ pub(crate) fn call(alloc: Global, verb: Verb, words: &[&[u8]]) -> Result<Option<
         Verb::GetPid => Ok(getpid(words)),
         Verb::Kill => Ok(kill(words)),
         Verb::SigAction => Ok(sigaction(words)),
-        Verb::SigProcMask => sigprocmask(alloc, words),
+        Verb::SigProcMask => Ok(sigprocmask(words)),
         Verb::SigPending => Ok(sigpending(words)),
         Verb::Handled => Ok(handled(words)),
         Verb::WaitPid => Ok(waitpid(words)),

@@ -1,16 +1,14 @@
 //! Words that are variables, names or signals.
 
-ghost use Rattle.std.specs.Prelude.{◌≡◌, ◌≤◌, ◌==◌, false, IfOk, IfSome, option_map, option_copied, position, length, ◌<◌};
+ghost use Rattle.std.specs.Prelude.{◌≡◌, ◌≤◌, ◌==◌, [], ◌∷◌, false, IfSome, option_map, option_copied, position, length, ◌<◌};
 ghost use Rattle.std.specs.List.{list_all, find};
 ghost use Rattle.pico_base.specs.Signal.{everywhere};
 ghost use Rattle.kernel_model.specs.Script.{is_name, is_name_byte};
 ghost use Rattle.kernel_model.specs.Trace.{signal_name, action_name, how_name};
-ghost use Rattle.script_reader.specs.Words.{texts};
+ghost use Rattle.script_reader.specs.Words.{pieces};
 ghost use Rattle.script_reader.specs.Parts.{strip, cut as cut_of, is_text_byte, letter_index as index_of_letter, variable as variable_of, signal as signal_of, signal_argument as signal_argument_of, action as action_of, how as how_of, signals_with, signal_set as signal_set_of};
 
-use crate::words::pieces;
-use pico_base::{Act, How, Memory, Sig, SigArg, SigSet, Var};
-use std::alloc::Global;
+use pico_base::{Act, How, Sig, SigArg, SigSet, Var};
 
 /// What follows this prefix.
 pub(crate) fn strip_front<'a>(bytes: &'a [u8], prefix: &[u8]) -> Option<&'a [u8]>
@@ -197,30 +195,40 @@ pub(crate) fn how(word: &[u8]) -> Option<How>
         .find(|h| name_of_how(*h) == word)
 }
 
-/// The set of the signals of these names, which are to be different.
+/// The set with the signal of this name, which isn't in it yet.
 #[tactic(auto, unfolding(crate::specs::Parts::signals_with))]
-fn signals(words: &[&[u8]]) -> Option<SigSet>
-    ensures { result ≡ signals_with (everywhere false) (texts words.now) }
+fn with_signal(set: SigSet, name: &[u8]) -> Option<SigSet>
+    ensures { result ≡ signals_with set (name.now ∷ []) }
+{
+    let sig = signal(name)?;
+    if set.has(sig) {
+        None
+    } else {
+        Some(set.with(sig))
+    }
+}
+
+/// The set of the signals whose names are joined by commas, and are to be different.
+fn signals(word: &[u8]) -> Option<SigSet>
+    ensures { result ≡ signals_with (everywhere false) (pieces 44 word.now) }
 {
     let mut set = SigSet::empty();
-    for word in words {
-        let sig = signal(word)?;
-        if set.has(sig) {
-            return None;
-        }
-        set = set.with(sig);
+    let mut rest = word;
+    while let Some((name, after)) = cut(b',', rest) {
+        let more = with_signal(set, name)?;
+        set = more;
+        rest = after;
     }
-    Some(set)
+    with_signal(set, rest)
 }
 
 /// `none`, or different signals joined by commas.
 #[tactic(auto, unfolding(crate::specs::Parts::signal_set))]
-pub(crate) fn signal_set(alloc: Global, word: &[u8]) -> Result<Option<SigSet>, Memory>
-    ensures { IfOk result (λ set. set ≡ signal_set_of word.now) }
+pub(crate) fn signal_set(word: &[u8]) -> Option<SigSet>
+    ensures { result ≡ signal_set_of word.now }
 {
     if word == b"none".as_slice() {
-        return Ok(Some(SigSet::empty()));
+        return Some(SigSet::empty());
     }
-    let names = pieces(alloc, b',', word)?;
-    Ok(signals(names.as_slice()))
+    signals(word)
 }

@@ -1,7 +1,7 @@
 //! Words that are texts of messages, operations and values.
 
-ghost use Rattle.std.specs.Prelude.{◌≡◌, ◌≤◌, not, IfOk, IfSome, option_map, length, position};
-ghost use Rattle.std.specs.List.{position_or_len};
+ghost use Rattle.std.specs.Prelude.{◌≡◌, ◌≤◌, IfOk, IfSome, option_map, length};
+ghost use Rattle.std.specs.List.{list_all};
 ghost use Rattle.script_reader.specs.Words.{texts};
 ghost use Rattle.script_reader.specs.Parts.{is_text_byte, is_alphanumeric as is_alphanumeric_of, hex_at, escape_at, text_byte_at, closed_at, quoted_at, letter as letter_of, counted as counted_of, repetition as repetition_of, text as text_of, added as added_of, step as step_of, each, number as number_of, values as values_of};
 
@@ -94,29 +94,25 @@ fn escaped(alloc: Global, bytes: &[u8]) -> Result<Option<Bytes>, Memory>
     Ok(closed(text, rest))
 }
 
-/// Where the first byte is that doesn't stand for itself.
-fn first_other(bytes: &[u8]) -> Option<usize>
-    ensures { result ≡ position (λ b. not (is_text_byte b)) bytes.now }
+/// Whether each byte stands for itself. It looks at all of them, which takes many at a time where this is compiled.
+fn is_plain(bytes: &[u8]) -> bool
+    ensures { result ≡ list_all is_text_byte bytes.now }
 {
-    bytes.iter().position(|b| !is_text_part(*b))
-}
-
-/// How many bytes stand for themselves before the first that doesn't.
-#[tactic(auto, using(crate::proofs::Cuts::else_length, crate::proofs::Cuts::place_within))]
-fn plain_len(bytes: &[u8]) -> usize
-    ensures value { result ≡ position_or_len (λ b. not (is_text_byte b)) bytes.now }
-    ensures within { result ≤ length bytes.now }
-{
-    first_other(bytes).unwrap_or(bytes.len())
+    let mut plain = true;
+    for byte in bytes {
+        plain &= is_text_part(*byte);
+    }
+    plain
 }
 
 /// A text behind its opening quote. Most have no escape, and are copied at once.
 fn quoted(alloc: Global, bytes: &[u8]) -> Result<Option<Bytes>, Memory>
     ensures { IfOk result (λ text. text ≡ quoted_at (length bytes.now) bytes.now) }
 {
-    let (plain, rest) = bytes.split_at(plain_len(bytes));
-    if rest == b"\"".as_slice() {
-        return Ok(Some(Bytes::from_slice(alloc, plain)?));
+    if let Some((last, plain)) = bytes.split_last() {
+        if *last == b'"' && is_plain(plain) {
+            return Ok(Some(Bytes::from_slice(alloc, plain)?));
+        }
     }
     escaped(alloc, bytes)
 }

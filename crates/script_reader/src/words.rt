@@ -1,10 +1,11 @@
 //! Lines and words.
 
-ghost use Rattle.std.specs.Prelude.{◌≡◌, ◌<◌, ◌≤◌, ◌+◌, ◌==◌, not, drop, position, [], ◌∷◌, IfOk, OnOk, IfSome, MatchOption, length};
+ghost use Rattle.std.specs.Prelude.{◌≡◌, ◌<◌, ◌≤◌, ◌+◌, ◌-◌, ◌==◌, not, drop, take, slice_index, position, [], ◌∷◌, IfOk, OnOk, IfSome, MatchOption, length};
 ghost use Rattle.std.specs.List.{position_or_len};
 ghost use Rattle.script_reader.specs.Words.{lines_of, is_blank as is_blank_of, rest_length, words_of, pieces as pieces_of, texts};
 
 use crate::parts::cut;
+use memchr::memchr;
 use pico_base::Memory;
 use std::alloc::Global;
 
@@ -12,7 +13,7 @@ use std::alloc::Global;
 fn line_end(bytes: &[u8]) -> Option<usize>
     ensures { result ≡ position (λ b. b == 10) bytes.now }
 {
-    bytes.iter().position(|b| *b == b'\n')
+    memchr(b'\n', bytes)
 }
 
 /// The first line of a text without its line feed, and what follows that; none where there is no byte. The last line
@@ -36,34 +37,11 @@ pub(crate) fn is_blank(byte: u8) -> bool
     byte == b' ' || byte == b'\t' || byte == b'\r'
 }
 
-/// Where the first blank is.
-fn first_blank(bytes: &[u8]) -> Option<usize>
-    ensures { result ≡ position is_blank_of bytes.now }
-{
-    bytes.iter().position(|b| is_blank(*b))
-}
-
 /// Where the first quote is.
 fn first_quote(bytes: &[u8]) -> Option<usize>
     ensures { result ≡ position (λ b. b == 34) bytes.now }
 {
-    bytes.iter().position(|b| *b == b'"')
-}
-
-/// Where the first byte is that isn't blank.
-fn first_solid(bytes: &[u8]) -> Option<usize>
-    ensures { result ≡ position (λ b. not (is_blank_of b)) bytes.now }
-{
-    bytes.iter().position(|b| !is_blank(*b))
-}
-
-/// How many bytes stand before the first blank.
-#[tactic(auto, using(crate::proofs::Cuts::else_length, crate::proofs::Cuts::place_within))]
-fn plain_len(bytes: &[u8]) -> usize
-    ensures value { result ≡ position_or_len is_blank_of bytes.now }
-    ensures within { result ≤ length bytes.now }
-{
-    first_blank(bytes).unwrap_or(bytes.len())
+    memchr(b'"', bytes)
 }
 
 /// How many bytes stand before the first quote.
@@ -75,26 +53,58 @@ fn quote_len(bytes: &[u8]) -> usize
     first_quote(bytes).unwrap_or(bytes.len())
 }
 
-/// How many bytes stand before the first one that isn't blank.
-#[tactic(auto, using(crate::proofs::Cuts::else_length, crate::proofs::Cuts::place_within))]
-fn blank_len(bytes: &[u8]) -> usize
-    ensures value { result ≡ position_or_len (λ b. not (is_blank_of b)) bytes.now }
-    ensures within { result ≤ length bytes.now }
+/// Where the first byte from here on is that isn't blank, or the length.
+fn solid_from(line: &[u8], start: usize) -> usize
+    requires { start ≤ length line.now }
+    ensures value { result ≡ start + position_or_len (λ b. not (is_blank_of b)) (drop start line.now) }
+    ensures within { result ≤ length line.now }
 {
-    first_solid(bytes).unwrap_or(bytes.len())
+    let mut at = start;
+    while at < line.len() && is_blank(line[at]) {
+        at += 1;
+    }
+    at
 }
 
-/// The length of the word whose bytes behind its first one these are.
-fn rest_len(first: u8, bytes: &[u8]) -> usize
-    ensures value { result ≡ rest_length first bytes.now }
-    ensures within { result ≤ length bytes.now }
+/// Where the first blank from here on is, or the length.
+fn blank_from(line: &[u8], start: usize) -> usize
+    requires { start ≤ length line.now }
+    ensures value { result ≡ start + position_or_len is_blank_of (drop start line.now) }
+    ensures within { result ≤ length line.now }
 {
-    if first == b'"' {
-        let quote = quote_len(bytes);
-        let (_, behind) = bytes.split_at(quote);
-        quote + plain_len(behind)
+    let mut at = start;
+    while at < line.len() && !is_blank(line[at]) {
+        at += 1;
+    }
+    at
+}
+
+/// Where the word ends that begins here.
+fn word_end(line: &[u8], start: usize) -> usize
+    requires { start < length line.now }
+    ensures value { result ≡ start + 1 + rest_length (slice_index line.now start) (drop (start + 1) line.now) }
+    ensures within { result ≤ length line.now }
+{
+    let behind = start + 1;
+    if line[start] == b'"' {
+        blank_from(line, behind + quote_len(&line[behind..]))
     } else {
-        plain_len(bytes)
+        blank_from(line, behind)
+    }
+}
+
+/// Where the first word from here on begins and ends; none where there are only blanks.
+fn word_from(line: &[u8], from: usize) -> Option<(usize, usize)>
+    requires { from ≤ length line.now }
+    ensures words { MatchOption result (words_of (drop from line.now) ≡ [])
+        (λ x. words_of (drop from line.now) ≡ take (x.1 - x.0) (drop x.0 line.now) ∷ words_of (drop x.1 line.now)) }
+    ensures order { IfSome result (λ x. (from ≤ x.0) × (x.0 < x.1) × (x.1 ≤ length line.now)) }
+{
+    let start = solid_from(line, from);
+    if start == line.len() {
+        None
+    } else {
+        Some((start, word_end(line, start)))
     }
 }
 
@@ -104,9 +114,8 @@ pub fn next_word(bytes: &[u8]) -> Option<(&[u8], &[u8])>
         (λ x. words_of bytes.now ≡ x.0.now ∷ words_of x.1.now) }
     ensures shorter { IfSome result (λ x. length x.1.now < length bytes.now) }
 {
-    let (_, word) = bytes.split_at(blank_len(bytes));
-    let (first, rest) = word.split_first()?;
-    Some(word.split_at(1 + rest_len(*first, rest)))
+    let (start, end) = word_from(bytes, 0)?;
+    Some((&bytes[start..end], &bytes[end..]))
 }
 
 /// Puts the words of a line in the place of others.
@@ -114,10 +123,10 @@ pub(crate) fn put_words<'a>(words: &mut Vec<&'a [u8]>, line: &'a [u8]) -> Result
     ensures { OnOk result (texts words.new.items ≡ words_of line.now) }
 {
     words.clear();
-    let mut rest = line;
-    while let Some((word, after)) = next_word(rest) {
-        words.push(word)?;
-        rest = after;
+    let mut at = 0;
+    while let Some((start, end)) = word_from(line, at) {
+        words.push(&line[start..end])?;
+        at = end;
     }
     Ok(())
 }

@@ -1,37 +1,29 @@
-use Rattle.std.proofs.Common.{◌+◌, drop, sym, ◌∙◌, arith}
-use Rattle.script_reader.specs.Words.{texts}
-use Rattle.script_reader.proofs.Each.{texts-next, texts-none, signals-goes, signals-stuck, signals-again, signals-done}
+use Rattle.std.proofs.Common.{sym, ◌∙◌, ap}
+use Rattle.script_reader.specs.Words.{pieces}
+use Rattle.script_reader.specs.Parts.{signals_with}
+use Rattle.script_reader.proofs.Cuts.{next_piece, no_more_pieces}
+use Rattle.script_reader.proofs.Each.{signals-next}
 use Rattle.script_reader.proofs.parts.signals.Goals as goal
 
-pub returns-in_err-sig : goal.returns-in_err-sig
-returns-in_err-sig c =
-    let l = c.loop-word in
-    let words = c.args.words.now in
+pub loop-name-preserved : goal.loop-name-preserved
+loop-name-preserved c =
+    let l = c.loop-name in
+    signals-next l.set c.in-Some.name.now (pieces 44 c.in-Some.after.now) (pieces 44 l.rest.now) _
+    (next_piece 44 l.rest.now c.in-Some.name.now c.in-Some.after.now c.in-Some.ensures.value)
+    (sym c.in_ok-more.was ∙ c.with_signal.ensures)
+    ∙ l.invariant
+
+pub returns-in_err-more : goal.returns-in_err-more
+returns-in_err-more c =
+    let l = c.loop-name in
     c.from_residual.ensures
-    ∙ signals-stuck l.set (texts (drop l.word-index words)) (texts (drop (l.word-index + 1) words)) _
-    (texts-next words l.word-index _ (omega (arith, c.loop-word-test.true)))
-    (sym c.signal.ensures ∙ c.in_err-sig.was) ∙ l.invariant
-
-pub returns-then-has : goal.returns-then-has
-returns-then-has c =
-    let l = c.loop-word in
-    let words = c.args.words.now in
-    signals-again l.set (texts (drop l.word-index words)) (texts (drop (l.word-index + 1) words)) _ c.in_ok-sig.sig
-    (texts-next words l.word-index _ (omega (arith, c.loop-word-test.true)))
-    (sym c.signal.ensures ∙ c.in_ok-sig.was) (sym c.has.ensures ∙ c.if-has.true) ∙ l.invariant
-
-pub loop-word-preserved : goal.loop-word-preserved
-loop-word-preserved c =
-    let l = c.loop-word in
-    let words = c.args.words.now in
-    signals-goes l.set c.with-set.result (texts (drop l.word-index words))
-    (texts (drop (l.word-index + 1) words)) _ c.in_ok-sig.sig
-    (texts-next words l.word-index _ (omega (arith, c.loop-word-test.true)))
-    (sym c.signal.ensures ∙ c.in_ok-sig.was) (sym c.has.ensures ∙ c.if-has.false) c.with-set.ensures ∙ l.invariant
+    ∙ signals-next l.set c.in-Some.name.now (pieces 44 c.in-Some.after.now) (pieces 44 l.rest.now) _
+    (next_piece 44 l.rest.now c.in-Some.name.now c.in-Some.after.now c.in-Some.ensures.value)
+    (sym c.in_err-more.was ∙ c.with_signal.ensures)
+    ∙ l.invariant
 
 pub returns : goal.returns
 returns c =
-    let l = c.loop-word in
-    let words = c.args.words.now in
-    signals-done l.set (texts (drop l.word-index words)) (texts-none words l.word-index c.loop-word-test.false)
+    let l = c.loop-name in
+    c.with_signal-2.ensures ∙ ap (signals_with l.set) (sym (no_more_pieces 44 l.rest.now c.in_default.ensures.value))
     ∙ l.invariant
