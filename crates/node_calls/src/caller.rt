@@ -136,7 +136,8 @@ impl Caller {
     /// One more call is started. The count stays at 4294967295.
     fn count(&mut self)
         ensures { self.new ≡ record self.old {
-            caller = record self.old.caller { ticket = count_up self.old.caller.ticket } } }
+          caller = record self.old.caller { ticket = count_up self.old.caller.ticket };
+        } }
     {
         self.ticket = self.ticket.saturating_add(1);
     }
