@@ -86,7 +86,7 @@ place-moves script c call reply reached =
     in moves_at lines c.caller call reply (get_or lines c.caller.line implied_exit)
     (slice_get-get_or lines c.caller.line implied_exit reached)
 
--- As the code has it: what each way out of a reply leaves.
+-- As the code has it: the parts of a caller in its fields.
 
 abbrev caller_of : ℕ → ℕ → ℕ → Vars → ℕ → Option Call → BlockCaller
 caller_of block line tried vars ticket under_way =
@@ -95,97 +95,6 @@ caller_of block line tried vars ticket under_way =
       caller =
           record { line = line; tried = tried; vars = vars; ticket = ticket; under_way = under_way };
     }
-
-Answers : Script → Reply → BlockCaller → BlockCaller → Type 0
-Answers script reply new c = IfSome c.caller.under_way (λ call. new ≡ answered script c call reply)
-
-here_with : (script : Script) (c : BlockCaller) (new : BlockCaller) (u : Option Call) (call : Call) (reply : Reply)
-    → u ≡ Some call
-    → new ≡ answered script c call reply → IfSome u (λ call. new ≡ answered script c call reply)
-here_with script c new u call reply is answer = rw is answer
-
--- the reply to a line that is reached, by whether it is tried again
-tried_on : Bool → BlockCaller → Option ℕ → ℕ → BlockCaller
-tried_on again c set n =
-    if again then record c { caller = record (end_call c.caller) { tried = c.caller.tried + 1 } }
-    else record c {
-      caller =
-          record (end_call c.caller) { line = c.caller.line + 1; tried = 0; vars = set_variable c.caller.vars set n };
-    }
-
-tried_in : (again : Bool) (c : BlockCaller) (line : Line) (n : ℕ)
-    → record c {
-      caller = if again then record (end_call c.caller) { tried = c.caller.tried + 1 }
-          else record (end_call c.caller) {
-            line = c.caller.line + 1;
-            tried = 0;
-            vars =
-                set_variable c.caller.vars line.set n;
-          };
-    }
-    ≡ tried_on again c line.set n
-unfolding tried_on
-tried_in true c line n = refl
-tried_in false c line n = refl
-
-answered_as : (script : Script) (c : BlockCaller) (set : Option ℕ) (tries : ℕ) (call : Call) (reply : Reply)
-    (again : Bool)
-    → IsReached (lines_of script c.block) c.caller.line set tries
-    → again ≡ (asks_again call (Some reply) && nat_lt (c.caller.tried + 1) tries)
-    → tried_on again c set (value_in (Some reply)) ≡ answered script c call reply
-answered_as script c set tries call reply again line is =
-    sym (ap (λ (o : Option Line). at_block c (answer_at c.caller call reply o)) line.there
-    ∙ tried_in (asks_again call (Some reply) && nat_lt (c.caller.tried + 1) line.line.tries) c line.line
-    (value_in (Some reply))
-    ∙ ap (λ (s : Option ℕ).
-    tried_on (asks_again call (Some reply) && nat_lt (c.caller.tried + 1) line.line.tries) c s
-    (value_in (Some reply))) (sym line.sets)
-    ∙ ap (λ (m : ℕ). tried_on (asks_again call (Some reply) && nat_lt (c.caller.tried + 1) m) c set
-    (value_in (Some reply))) (sym line.tried)
-    ∙ ap (λ (b : Bool). tried_on b c set (value_in (Some reply))) (sym is))
-  where
-    at_block : BlockCaller → Caller → BlockCaller
-    at_block c caller = record c { caller = caller }
-
--- where the reply is tried again, the answered caller is the old one with another try and no call under way
-pub again-answers : (script : Script) (c : BlockCaller) (block line tried ticket tries : ℕ) (vars : Vars)
-    (set : Option ℕ) (under_way : Option Call)
-    (call : Call) (reply : Reply) → caller_of block line tried vars ticket under_way ≡ c → under_way ≡ Some call
-    → HasLine script c
-    → IfSome (slice_get (lines_of script block) line) (λ l. (set ≡ l.set) × (tries ≡ l.tries))
-    → (asks_again call (Some reply) && nat_lt (tried + 1) tries) ≡ true
-    → IfSome c.caller.under_way
-    (λ call. caller_of block line (tried + 1) vars ticket None ≡ answered script c call reply)
-unfolding Answers Terms tried_on
-again-answers script c block line tried ticket tries vars set under_way call reply view is within terms again =
-    let was = caller_of block line tried vars ticket under_way
-    in let low : line < length (lines_of script block) = subst (HasLine script) (sym view) within
-    in subst (Answers script reply (caller_of block line (tried + 1) vars ticket None)) view
-    (here_with script was (caller_of block line (tried + 1) vars ticket None) under_way call reply is
-    (answered_as script was set tries call reply true (reached (lines_of script block) line set tries low terms)
-    (sym again)))
-
--- where the reply isn't tried again, the answered caller is at its next line, with the old line's variable set
-pub next-answers : (script : Script) (c : BlockCaller) (block line tried ticket tries : ℕ) (vars : Vars)
-    (set : Option ℕ) (under_way : Option Call)
-    (call : Call) (reply : Reply) → caller_of block line tried vars ticket under_way ≡ c → under_way ≡ Some call
-    → HasLine script c
-    → IfSome (slice_get (lines_of script block) line) (λ l. (set ≡ l.set) × (tries ≡ l.tries))
-    → (asks_again call (Some reply) && nat_lt (tried + 1) tries) ≡ false
-    → IfSome c.caller.under_way
-    (λ call. caller_of block (line + 1) 0 (set_variable vars set (value_in (Some reply))) ticket None
-    ≡ answered script c call reply)
-unfolding Answers Terms tried_on
-next-answers script c block line tried ticket tries vars set under_way call reply view is within terms once =
-    let was = caller_of block line tried vars ticket under_way
-    in let low : line < length (lines_of script block) = subst (HasLine script) (sym view) within
-    in subst (Answers script reply
-    (caller_of block (line + 1) 0 (set_variable vars set (value_in (Some reply))) ticket None)) view
-    (here_with script was
-    (caller_of block (line + 1) 0 (set_variable vars set (value_in (Some reply))) ticket None) under_way call reply
-    is
-    (answered_as script was set tries call reply false (reached (lines_of script block) line set tries low terms)
-    (sym once)))
 
 -- What is due, and what a child begins with, by the line that is reached.
 

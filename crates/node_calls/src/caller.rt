@@ -3,6 +3,7 @@ ghost use Rattle.std.specs.Prelude.{◌≡◌, ◌↔◌, None, Some, IfOk, IfSo
 ghost use Rattle.std.specs.Option.{option_copied};
 ghost use Rattle.kernel_model.specs.Script.{IsSoundScript};
 ghost use Rattle.kernel_model.specs.Fitting.{child_vars};
+ghost use Rattle.kernel_model.specs.Signals.{count_up};
 ghost use Rattle.node_calls.specs.Caller.{BlockCaller, HasLine, are_rising, answered, beginning, call_due, place_of, started};
 
 #[cfg(test)]
@@ -89,7 +90,7 @@ impl Caller {
         ensures started { self.new ≡ started self.old call }
         ensures ticket { result ≡ self.new.caller.ticket }
     {
-        self.ticket = self.ticket.saturating_add(1);
+        self.count();
         self.under_way = Some(call);
         self.ticket
     }
@@ -104,9 +105,50 @@ impl Caller {
             (IfSome self.old.caller.under_way (λ call. self.new ≡ answered script.now self.old call reply.now)) }
         ensures err { OnErr result (self.new ≡ self.old) }
     {
-        let Some(call) = &self.under_way else {
+        let Some(call) = self.under_way.take() else {
             return Ok(());
         };
+        let ended = self.end(script, &call, reply);
+        if ended.is_err() {
+            self.under_way = Some(call);
+        }
+        ended
+    }
+
+    /// A call is started and has its reply at once, as `start` and `answered` have it, so that it is never kept. A
+    /// refusal changes nothing.
+    pub fn answered_at_once(
+        &mut self,
+        script: &Script,
+        call: &Call,
+        reply: &Reply,
+    ) -> Result<(), Memory>
+        requires reached { HasLine script.now self.old }
+        requires none { self.old.caller.under_way ≡ None }
+        ensures ok { OnOk result (self.new ≡ answered script.now (started self.old call.now) call.now reply.now) }
+        ensures err { OnErr result (self.new ≡ self.old) }
+    {
+        self.end(script, call, reply)?;
+        self.count();
+        Ok(())
+    }
+
+    /// One more call is started. The count stays at 4294967295.
+    fn count(&mut self)
+        ensures { self.new ≡ record self.old {
+          caller = record self.old.caller { ticket = count_up self.old.caller.ticket };
+        } }
+    {
+        self.ticket = self.ticket.saturating_add(1);
+    }
+
+    /// The line is due once more after this reply to its call, or its variable is set and the next line is due.
+    fn end(&mut self, script: &Script, call: &Call, reply: &Reply) -> Result<(), Memory>
+        requires reached { HasLine script.now self.old }
+        requires none { self.old.caller.under_way ≡ None }
+        ensures ok { OnOk result (self.new ≡ answered script.now self.old call.now reply.now) }
+        ensures err { OnErr result (self.new ≡ self.old) }
+    {
         let terms = terms_at(script, self.block, self.line);
         if tries_again(call, reply, self.tried, terms.tries) {
             self.tried += 1;
@@ -115,7 +157,6 @@ impl Caller {
             self.line = terms.next;
             self.tried = 0;
         }
-        self.under_way = None;
         Ok(())
     }
 

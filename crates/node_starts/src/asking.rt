@@ -1,16 +1,18 @@
 //! A call that others carry out: the leader is asked to route it, or the owner that the cache names to carry it out.
-ghost use Rattle.std.specs.Prelude.{◌≡◌, None, OnOk, Some, false};
+ghost use Rattle.std.specs.Prelude.{◌≡◌, IsTrue, None, OnOk, Some, false};
 ghost use Rattle.pico_base.specs.declared.script.Script.{Script as Scripted};
 ghost use Rattle.kernel_model.specs.Script.{IsSoundScript};
-ghost use Rattle.node_model.specs.Cache.{Cache as Owners};
+ghost use Rattle.node_model.specs.Cache.{Cache as Owners, owner_in};
 ghost use Rattle.node_model.specs.Caller.{Caller as Calling};
-ghost use Rattle.world_model.specs.Starting.{ask, request, start_at};
-ghost use Rattle.world_model.specs.Step.{send};
+ghost use Rattle.world_model.specs.Starting.{ask, request, start_at, with_look};
+ghost use Rattle.world_model.specs.Step.{send, with_node};
+ghost use Rattle.node_state.specs.Started.{can_start, started};
 ghost use Rattle.node_state.specs.State.{node_of, step_of};
 ghost use Rattle.node_starts.specs.Started.{aside};
 
+use crate::beginning::begin;
 use node_routes::{may_route, route_call};
-use node_serving::serve_asked;
+use node_serving::serve_at_once;
 use node_state::{Growing, LEADER};
 use pico_base::{Call, Memory, Name, Node, Script};
 use rpc_frame::Frame;
@@ -76,7 +78,31 @@ fn request(
     }
 }
 
-/// A call on a name that is held here is served; else the owner is asked.
+/// The call is under way, and the leader routes it, or is asked to.
+pub(crate) fn start_ask(step: &mut Growing, script: &Script, call: Call) -> Result<(), Memory>
+    requires sound { IsSoundScript script.now }
+    requires can_start { IsTrue (can_start (node_of step.old.node)) }
+    ensures { OnOk result (ask script.now (started (step_of step.old) call) call ≡ Some (step_of step.new)) }
+{
+    begin(step, &call)?;
+    ask(step, script, call)
+}
+
+/// The call is under way, and the owner of its name is asked, which the cache may know.
+fn start_request(step: &mut Growing, script: &Script, call: Call, name: &Name) -> Result<(), Memory>
+    requires sound { IsSoundScript script.now }
+    requires can_start { IsTrue (can_start (node_of step.old.node)) }
+    ensures { OnOk result
+        (request script.now
+        (with_node (started (step_of step.old) call) (with_look (started (step_of step.old) call).node name.now)) call
+        (owner_in (node_of step.old.node).cache name.now) ≡ Some (step_of step.new)) }
+{
+    begin(step, &call)?;
+    let owner = step.node.cache.look(*name);
+    request(step, script, call, owner)
+}
+
+/// A call on a name that is held here is served; else it is under way, and the owner is asked.
 pub(crate) fn start_at(
     step: &mut Growing,
     script: &Script,
@@ -84,13 +110,13 @@ pub(crate) fn start_at(
     name: &Name,
 ) -> Result<(), Memory>
     requires sound { IsSoundScript script.now }
-    ensures { OnOk result (start_at script.now (step_of step.old) call name.now ≡ Some (step_of step.new)) }
+    requires can_start { IsTrue (can_start (node_of step.old.node)) }
+    ensures { OnOk result
+        (start_at script.now (started (step_of step.old) call) call name.now ≡ Some (step_of step.new)) }
 {
     if step.node.holds(*name) {
-        let asked = step.node.asked_here(call);
-        serve_asked(step, script, *name, asked)
+        serve_at_once(step, script, *name, call)
     } else {
-        let owner = step.node.cache.look(*name);
-        request(step, script, call, owner)
+        start_request(step, script, call, name)
     }
 }

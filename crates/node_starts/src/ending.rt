@@ -1,5 +1,5 @@
 //! A process makes its last call.
-ghost use Rattle.std.specs.Prelude.{◌≡◌, IfOk, OnOk, Some};
+ghost use Rattle.std.specs.Prelude.{◌≡◌, IfOk, IsTrue, OnOk, Some};
 ghost use Rattle.kernel_model.specs.Row.{Row as AtRow};
 ghost use Rattle.kernel_model.specs.Script.{IsSoundScript};
 ghost use Rattle.node_model.specs.Kinds.{put_all};
@@ -7,8 +7,10 @@ ghost use Rattle.node_model.specs.Parcels.{all_gone, end_first};
 ghost use Rattle.world_model.specs.Node.{own_row};
 ghost use Rattle.world_model.specs.Starting.{end_leader, leave, start_end};
 ghost use Rattle.node_serve.specs.Bodies.{bodies_of, row_of};
+ghost use Rattle.node_state.specs.Started.{can_start, started};
 ghost use Rattle.node_state.specs.State.{node_of, step_of};
 
+use crate::beginning::begin;
 use deed_box::Deeds;
 use node_serve::{Body, Row, bury};
 use node_state::{Growing, LEADER, Stage, State};
@@ -74,7 +76,7 @@ fn leave(step: &mut Growing) -> Result<(), Memory>
 }
 
 /// The process ends: at once at the leader, and any other node leaves. Memory, too, where its row isn't here.
-pub(crate) fn start_end(step: &mut Growing, script: &Script, call: Call) -> Result<(), Memory>
+fn end(step: &mut Growing, script: &Script, call: Call) -> Result<(), Memory>
     requires sound { IsSoundScript script.now }
     ensures { OnOk result ((row : AtRow) → own_row (node_of step.old.node) ≡ Some row
         → step_of step.new ≡ start_end script.now (step_of step.old) call row) }
@@ -84,4 +86,15 @@ pub(crate) fn start_end(step: &mut Growing, script: &Script, call: Call) -> Resu
     } else {
         leave(step)
     }
+}
+
+/// The last call is under way, and the process ends. Memory, too, where its row isn't here.
+pub(crate) fn start_end(step: &mut Growing, script: &Script, call: Call) -> Result<(), Memory>
+    requires sound { IsSoundScript script.now }
+    requires can_start { IsTrue (can_start (node_of step.old.node)) }
+    ensures { OnOk result ((row : AtRow) → own_row (node_of step.old.node) ≡ Some row
+        → step_of step.new ≡ start_end script.now (started (step_of step.old) call) call row) }
+{
+    begin(step, &call)?;
+    end(step, script, call)
 }

@@ -3,6 +3,7 @@
 
 mod answers;
 mod asking;
+mod beginning;
 mod ending;
 mod making;
 mod starting;

@@ -1,5 +1,5 @@
 //! A call of a process on itself is carried out, with a new number where it takes one.
-ghost use Rattle.std.specs.Prelude.{◌≡◌, OnOk, false};
+ghost use Rattle.std.specs.Prelude.{◌≡◌, IsTrue, OnOk, false};
 ghost use Rattle.pico_base.specs.declared.reply.Errno.TheVariants.{Einval as Invalid};
 ghost use Rattle.pico_base.specs.declared.script.Script.{Script as Scripted};
 ghost use Rattle.kernel_model.specs.Script.{IsSoundScript};
@@ -7,11 +7,12 @@ ghost use Rattle.kernel_model.specs.SemaphoreSet.{new_set};
 ghost use Rattle.world_model.specs.Node.{asked_here};
 ghost use Rattle.world_model.specs.Starting.{start_making, start_own, start_set};
 ghost use Rattle.world_model.specs.Step.{carry_out};
+ghost use Rattle.node_state.specs.Started.{can_start, started};
 ghost use Rattle.node_state.specs.State.{node_of, step_of};
-ghost use Rattle.node_starts.specs.Started.{started};
 
+use crate::beginning::begin;
 use node_numbers::{make, may_take_number};
-use node_serving::act;
+use node_serving::act_at_once;
 use node_state::forms::is_bad_count;
 use node_state::{Growing, LEADER};
 use pico_base::{Call, Errno, Kind, Memory, Reply, Script};
@@ -78,18 +79,41 @@ fn start_set(step: &mut Growing, script: &Script, call: Call, count: u32) -> Res
     }
 }
 
-/// A call of the process on itself is carried out, or the leader is asked for the number that it takes.
+/// The call is under way, and takes a number of the kind.
+fn begin_making(step: &mut Growing, script: &Script, call: Call, kind: Kind) -> Result<(), Memory>
+    requires sound { IsSoundScript script.now }
+    requires can_start { IsTrue (can_start (node_of step.old.node)) }
+    ensures { OnOk result
+        (start_making script.now (started (step_of step.old) call) call kind ≡ Some (step_of step.new)) }
+{
+    begin(step, &call)?;
+    start_making(step, script, call, kind)
+}
+
+/// The call is under way, and makes a set of so many semaphores.
+fn begin_set(step: &mut Growing, script: &Script, call: Call, count: u32) -> Result<(), Memory>
+    requires sound { IsSoundScript script.now }
+    requires can_start { IsTrue (can_start (node_of step.old.node)) }
+    ensures { OnOk result
+        (start_set script.now (started (step_of step.old) call) call (new_set count) ≡ Some (step_of step.new)) }
+{
+    begin(step, &call)?;
+    start_set(step, script, call, count)
+}
+
+/// A call of the process on itself is started and carried out, or the leader is asked for the number that it takes.
 pub(crate) fn start_own(step: &mut Growing, script: &Script, call: Call) -> Result<(), Memory>
     requires sound { IsSoundScript script.now }
-    ensures { OnOk result (start_own script.now (step_of step.old) call ≡ Some (step_of step.new)) }
+    requires can_start { IsTrue (can_start (node_of step.old.node)) }
+    ensures { OnOk result (start_own script.now (started (step_of step.old) call) call ≡ Some (step_of step.new)) }
 {
     match &call {
-        Call::Fork { .. } => start_making(step, script, call, Kind::Proc),
-        Call::MsgGet { .. } => start_making(step, script, call, Kind::Msg),
+        Call::Fork { .. } => begin_making(step, script, call, Kind::Proc),
+        Call::MsgGet { .. } => begin_making(step, script, call, Kind::Msg),
         Call::SemGet { count, .. } => {
             let count = *count;
-            start_set(step, script, call, count)
+            begin_set(step, script, call, count)
         }
-        _ => act(step, script, call),
+        _ => act_at_once(step, script, call),
     }
 }

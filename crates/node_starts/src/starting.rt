@@ -7,11 +7,11 @@ ghost use Rattle.kernel_model.specs.Script.{IsSoundScript};
 ghost use Rattle.node_model.specs.Caller.{due_call};
 ghost use Rattle.world_model.specs.Node.{own_row};
 ghost use Rattle.world_model.specs.Starting.{run, start, start_by};
+ghost use Rattle.node_state.specs.Started.{can_start, started};
 ghost use Rattle.node_state.specs.State.{node_of, step_of};
 ghost use Rattle.node_state.specs.Turning.{IsFresh, Turns};
-ghost use Rattle.node_starts.specs.Started.{can_start, started};
 
-use crate::asking::{ask, may_ask, start_at};
+use crate::asking::{may_ask, start_ask, start_at};
 use crate::ending::start_end;
 use crate::making::{may_start_own, start_own};
 use node_state::forms::is_waiting;
@@ -41,16 +41,6 @@ fn due_call(node: &State, script: &Script, doom: Option<Sig>) -> Result<Option<C
     }
 }
 
-/// The call is under way.
-fn begin(step: &mut Growing, call: &Call) -> Result<(), Memory>
-    requires { IsTrue (can_start (node_of step.old.node)) }
-    ensures { OnOk result (step_of step.new ≡ started (step_of step.old) call.now) }
-{
-    let call = call.try_copy(step.node.alloc)?;
-    let _ticket = step.node.caller.start(call);
-    Ok(())
-}
-
 /// Whether the call can be started. No run leads to a node that can't start one on a name, so that isn't asked.
 fn may_start(step: &Growing, call: &Call, home: &Home) -> bool
     ensures { (script : Scripted) (row : AtRow) → result ≡ false
@@ -63,29 +53,19 @@ fn may_start(step: &Growing, call: &Call, home: &Home) -> bool
     }
 }
 
-/// The call under way is carried out here, or others are asked to.
-fn start_by(step: &mut Growing, script: &Script, call: Call, home: Home) -> Result<(), Memory>
-    requires sound { IsSoundScript script.now }
-    ensures { OnOk result ((row : AtRow) → own_row (node_of step.old.node) ≡ Some row
-        → start_by script.now (step_of step.old) call row home ≡ Some (step_of step.new)) }
-{
-    match home {
-        Home::Own => start_own(step, script, call),
-        Home::At(name) => start_at(step, script, call, &name),
-        Home::Keys | Home::Removal(_) => ask(step, script, call),
-        Home::Parent => start_end(step, script, call),
-    }
-}
-
 /// The call is under way, and is carried out here, or others are asked to.
-fn begin_by(step: &mut Growing, script: &Script, call: Call, home: Home) -> Result<(), Memory>
+fn start_by(step: &mut Growing, script: &Script, call: Call, home: Home) -> Result<(), Memory>
     requires sound { IsSoundScript script.now }
     requires can_start { IsTrue (can_start (node_of step.old.node)) }
     ensures { OnOk result ((row : AtRow) → own_row (node_of step.old.node) ≡ Some row
         → start_by script.now (started (step_of step.old) call) call row home ≡ Some (step_of step.new)) }
 {
-    begin(step, &call)?;
-    start_by(step, script, call, home)
+    match home {
+        Home::Own => start_own(step, script, call),
+        Home::At(name) => start_at(step, script, call, &name),
+        Home::Keys | Home::Removal(_) => start_ask(step, script, call),
+        Home::Parent => start_end(step, script, call),
+    }
 }
 
 /// The call due is started.
@@ -103,7 +83,7 @@ fn start(step: &mut Growing, script: &Script, call: Call) -> Result<(), TurnFaul
     if !may_start(step, &call, &home) {
         return Err(TurnFault::NotAllowed);
     }
-    Ok(begin_by(step, script, call, home)?)
+    Ok(start_by(step, script, call, home)?)
 }
 
 /// The run rule: the node's process starts its call due, which is carried out here or asked for.

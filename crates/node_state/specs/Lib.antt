@@ -4,3 +4,4 @@ pub mod Leader
 pub mod Replies
 pub mod State
 pub mod Turning
+pub mod Started

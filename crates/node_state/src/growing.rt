@@ -1,10 +1,11 @@
 //! A step that grows.
-ghost use Rattle.std.specs.Prelude.{◌≡◌, OnOk};
+ghost use Rattle.std.specs.Prelude.{◌≡◌, IsTrue, OnOk};
 ghost use Rattle.kernel_model.specs.Script.{IsSoundScript};
-ghost use Rattle.world_model.specs.Node.{under_way_as};
+ghost use Rattle.world_model.specs.Node.{asked_here, under_way_as};
 ghost use Rattle.world_model.specs.Step.{carry_out, enter, reply_here, reply_to, send};
 ghost use Rattle.node_state.specs.State.{node_of, step_of};
 ghost use Rattle.node_state.specs.Replies.{reply_at};
+ghost use Rattle.node_state.specs.Started.{can_start, started};
 
 use crate::state::State;
 use pico_base::{Call, Entries, Entry, Memory, Node, Outcome, Pid, Reply, Script, Sequence};
@@ -101,5 +102,24 @@ impl Growing {
         let answer = reply.try_copy(self.node.alloc)?;
         self.enter(pid, call, reply)?;
         self.reply_at(script, caller, ticket, answer)
+    }
+    /// A call of this node's process is started and carried out here at once: an entry, and the call's end, with no
+    /// copy of the call kept meanwhile. Memory, too, where its line isn't there.
+    pub fn carry_out_at_once(
+        &mut self,
+        script: &Script,
+        call: Call,
+        reply: Reply,
+    ) -> Result<(), Memory>
+        requires sound { IsSoundScript script.now }
+        requires can_start { IsTrue (can_start (node_of self.old.node)) }
+        ensures { OnOk result (step_of self.new ≡ carry_out script.now (started (step_of self.old) call)
+            (asked_here (started (step_of self.old) call).node call) reply) }
+    {
+        if !self.node.caller.has_line(script) {
+            return Err(Memory);
+        }
+        self.node.caller.answered_at_once(script, &call, &reply)?;
+        self.enter(self.node.pid, call, reply)
     }
 }

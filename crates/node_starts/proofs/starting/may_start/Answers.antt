@@ -1,6 +1,6 @@
 use Rattle.node_model.specs.Caller.{start_call}
 use Rattle.node_state.specs.State.{step_of}
-use Rattle.node_starts.specs.Started.{started}
+use Rattle.node_state.specs.Started.{started}
 use Rattle.node_starts.proofs.Asked.{not-started}
 use Rattle.node_starts.proofs.starting.may_start.Goals as goal
 
