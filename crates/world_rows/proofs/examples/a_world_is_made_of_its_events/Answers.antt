@@ -6,7 +6,7 @@ use Rattle.pico_base.specs.declared.script.Event.TheVariants.{Run}
 use Rattle.world_model.specs.Examples.{asks_its_number}
 use Rattle.world_model.specs.Run.{IsRunOf}
 use Rattle.world_model.specs.World.{World, opening_world, step}
-use Rattle.world_core.proofs.tests.a_world_is_made_of_its_events.Goals as goal
+use Rattle.world_rows.proofs.examples.a_world_is_made_of_its_events.Goals as goal
 
 forked : World
 forked = unwrap_or (step (opening_world asks_its_number) (Run 1)) (opening_world asks_its_number)
