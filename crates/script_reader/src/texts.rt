@@ -1,6 +1,6 @@
 //! Words that are texts of messages, operations and values.
 
-ghost use Rattle.std.specs.Prelude.{◌≡◌, ◌≤◌, IfOk, IfSome, option_map, length};
+ghost use Rattle.std.specs.Prelude.{◌≡◌, ℕ, ◌<◌, ◌≤◌, ◌+◌, true, slice_index, IfOk, IfSome, option_map, length};
 ghost use Rattle.std.specs.List.{list_all};
 ghost use Rattle.script_reader.specs.Words.{texts};
 ghost use Rattle.script_reader.specs.Parts.{is_text_byte, is_alphanumeric as is_alphanumeric_of, hex_at, escape_at, text_byte_at, closed_at, quoted_at, letter as letter_of, counted as counted_of, repetition as repetition_of, text as text_of, added as added_of, step as step_of, each, number as number_of, values as values_of};
@@ -10,6 +10,7 @@ use crate::parts::{cut, is_text_part, strip_front};
 use crate::words::pieces;
 use pico_base::{Bytes, Memory, SemStep, Sequence, Steps, Values};
 use std::alloc::Global;
+use std::simd::prelude::*;
 
 /// The longest text of `rep:N:C`.
 const MAX_REPEATED: u32 = 8192;
@@ -94,15 +95,45 @@ fn escaped(alloc: Global, bytes: &[u8]) -> Result<Option<Bytes>, Memory>
     Ok(closed(text, rest))
 }
 
-/// Whether each byte stands for itself. It looks at all of them, which takes many at a time where this is compiled.
-fn is_plain(bytes: &[u8]) -> bool
+/// How many bytes are looked at together.
+const LANES: usize = 16;
+
+/// Whether each of so many bytes from here on stands for itself.
+fn are_plain_lanes(bytes: &[u8], at: usize) -> bool
+    requires { at + 16 ≤ length bytes.now }
+    ensures { result ≡ true → (k : ℕ) → at ≤ k → k < at + 16 → is_text_byte (slice_index bytes.now k) ≡ true }
+{
+    let lanes = u8x16::from_slice(&bytes[at..]);
+    let others = lanes.simd_lt(u8x16::splat(b' '))
+        | lanes.simd_gt(u8x16::splat(b'~'))
+        | lanes.simd_eq(u8x16::splat(b'"'))
+        | lanes.simd_eq(u8x16::splat(b'\\'));
+    others.to_bitmask() == 0
+}
+
+/// Whether each byte stands for itself, byte after byte.
+fn are_plain(bytes: &[u8]) -> bool
     ensures { result ≡ list_all is_text_byte bytes.now }
 {
-    let mut plain = true;
-    for byte in bytes {
-        plain &= is_text_part(*byte);
+    bytes.iter().all(|byte| is_text_part(*byte))
+}
+
+/// Whether each byte is known to stand for itself. The last bytes that are looked at together may overlap others.
+fn is_plain(bytes: &[u8]) -> bool
+    ensures { result ≡ true → list_all is_text_byte bytes.now ≡ true }
+{
+    if bytes.len() < LANES {
+        return are_plain(bytes);
     }
-    plain
+    let last = bytes.len() - LANES;
+    let mut at = 0;
+    while at < last {
+        if !are_plain_lanes(bytes, at) {
+            return false;
+        }
+        at += LANES;
+    }
+    are_plain_lanes(bytes, last)
 }
 
 /// A text behind its opening quote. Most have no escape, and are copied at once.

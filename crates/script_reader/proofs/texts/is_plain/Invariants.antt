@@ -1,9 +1,15 @@
-use Rattle.std.proofs.Common.{◌≡◌, ◌&&◌, drop}
-use Rattle.std.specs.List.{list_all}
+use Rattle.std.proofs.Common.{◌-◌, ◌≤◌, length}
 use Rattle.script_reader.specs.Parts.{is_text_byte}
+use Rattle.script_reader.proofs.Lanes.{AllPass}
 use Rattle.script_reader.proofs.texts.is_plain.Given as goal
 
--- the bytes so far, and those that are left
-abbrev pub invariant-loop-byte : goal.invariant-loop-byte
-invariant-loop-byte l =
-    (l.plain && list_all is_text_byte (drop l.byte-index l.bytes)) ≡ list_all is_text_byte l.bytes
+-- the bytes so far
+abbrev pub invariant-loop-at : goal.invariant-loop-at
+invariant-loop-at l =
+    record {
+      passed : AllPass is_text_byte l.bytes 0 l.at;
+      within : l.at ≤ length l.bytes;
+    }
+
+abbrev pub decreases-loop-at : goal.decreases-loop-at
+decreases-loop-at l = length l.bytes - l.at

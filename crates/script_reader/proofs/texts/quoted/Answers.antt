@@ -1,4 +1,4 @@
-use Rattle.std.proofs.Common.{◌≡◌, ◌∷◌, [], ◌++◌, sym, ap, ◌∙◌}
+use Rattle.std.proofs.Common.{◌≡◌, ◌∷◌, [], ◌++◌, ap, ◌∙◌}
 use Rattle.script_reader.proofs.Quotes.{quoted_at_once}
 use Rattle.script_reader.proofs.texts.quoted.Goals as goal
 
@@ -8,4 +8,4 @@ returns-then-is_plain c =
     let split : c.args.bytes.now ≡ plain ++ 34 ∷ [] =
     c.in-Some.ensures.cases.0 ∙ ap (λ b. plain ++ b ∷ []) c.if-last-eq34.true in
     rw c.in_ok-from_slice.ensures
-    (quoted_at_once c.args.bytes.now plain split (sym c.is_plain.ensures ∙ c.if-is_plain.true))
+    (quoted_at_once c.args.bytes.now plain split (c.is_plain.ensures c.if-is_plain.true))
