@@ -1,6 +1,6 @@
 //! The calls by their words.
 
-ghost use Rattle.std.specs.Prelude.{◌≡◌, ◌≤◌, IfOk, IfSome};
+ghost use Rattle.std.specs.Prelude.{◌≡◌, ◌≤◌, IfOk, OnOk, IfSome};
 ghost use Rattle.script_reader.specs.Words.{texts};
 ghost use Rattle.script_reader.specs.Forms as forms;
 
@@ -524,26 +524,126 @@ fn semctl(alloc: Global, words: &[&[u8]]) -> Result<Option<FromCall>, Memory>
     }
 }
 
-/// The call of this name with these words behind it, but for `fork`.
-pub(crate) fn call(alloc: Global, verb: Verb, words: &[&[u8]]) -> Result<Option<FromCall>, Memory>
-    ensures { IfOk result (λ call. call ≡ forms.call_of verb (texts words.now)) }
+fn put_exit(words: &[&[u8]], call: &mut Option<FromCall>)
+    ensures { call.new ≡ forms.exit_of (texts words.now) }
+{
+    *call = exit(words);
+}
+
+fn put_getpid(words: &[&[u8]], call: &mut Option<FromCall>)
+    ensures { call.new ≡ forms.getpid_of (texts words.now) }
+{
+    *call = getpid(words);
+}
+
+fn put_kill(words: &[&[u8]], call: &mut Option<FromCall>)
+    ensures { call.new ≡ forms.kill_of (texts words.now) }
+{
+    *call = kill(words);
+}
+
+fn put_sigaction(words: &[&[u8]], call: &mut Option<FromCall>)
+    ensures { call.new ≡ forms.sigaction_of (texts words.now) }
+{
+    *call = sigaction(words);
+}
+
+fn put_sigprocmask(words: &[&[u8]], call: &mut Option<FromCall>)
+    ensures { call.new ≡ forms.sigprocmask_of (texts words.now) }
+{
+    *call = sigprocmask(words);
+}
+
+fn put_sigpending(words: &[&[u8]], call: &mut Option<FromCall>)
+    ensures { call.new ≡ forms.sigpending_of (texts words.now) }
+{
+    *call = sigpending(words);
+}
+
+fn put_handled(words: &[&[u8]], call: &mut Option<FromCall>)
+    ensures { call.new ≡ forms.handled_of (texts words.now) }
+{
+    *call = handled(words);
+}
+
+fn put_waitpid(words: &[&[u8]], call: &mut Option<FromCall>)
+    ensures { call.new ≡ forms.waitpid_of (texts words.now) }
+{
+    *call = waitpid(words);
+}
+
+fn put_msgget(words: &[&[u8]], call: &mut Option<FromCall>)
+    ensures { call.new ≡ forms.msgget_of (texts words.now) }
+{
+    *call = msgget(words);
+}
+
+fn put_msgsnd(alloc: Global, words: &[&[u8]], call: &mut Option<FromCall>) -> Result<(), Memory>
+    ensures { OnOk result (call.new ≡ forms.msgsnd_of (texts words.now)) }
+{
+    *call = msgsnd(alloc, words)?;
+    Ok(())
+}
+
+fn put_msgrcv(words: &[&[u8]], call: &mut Option<FromCall>)
+    ensures { call.new ≡ forms.msgrcv_of (texts words.now) }
+{
+    *call = msgrcv(words);
+}
+
+fn put_msgctl(words: &[&[u8]], call: &mut Option<FromCall>)
+    ensures { call.new ≡ forms.msgctl_of (texts words.now) }
+{
+    *call = msgctl(words);
+}
+
+fn put_semget(words: &[&[u8]], call: &mut Option<FromCall>)
+    ensures { call.new ≡ forms.semget_of (texts words.now) }
+{
+    *call = semget(words);
+}
+
+fn put_semop(alloc: Global, words: &[&[u8]], call: &mut Option<FromCall>) -> Result<(), Memory>
+    ensures { OnOk result (call.new ≡ forms.semop_of (texts words.now)) }
+{
+    *call = semop(alloc, words)?;
+    Ok(())
+}
+
+fn put_semctl(alloc: Global, words: &[&[u8]], call: &mut Option<FromCall>) -> Result<(), Memory>
+    ensures { OnOk result (call.new ≡ forms.semctl_of (texts words.now)) }
+{
+    *call = semctl(alloc, words)?;
+    Ok(())
+}
+
+/// Puts the call of this name with these words behind it, but for `fork`, in the place of another. What is read goes
+/// there at once, since a long value is dear to hand on.
+pub(crate) fn put_call(
+    alloc: Global,
+    verb: Verb,
+    words: &[&[u8]],
+    call: &mut Option<FromCall>,
+) -> Result<(), Memory>
+    ensures { OnOk result (call.new ≡ forms.call_of verb (texts words.now)) }
 {
     match verb {
-        Verb::Fork => Ok(None),
-        Verb::Exit => Ok(exit(words)),
-        Verb::GetPid => Ok(getpid(words)),
-        Verb::Kill => Ok(kill(words)),
-        Verb::SigAction => Ok(sigaction(words)),
-        Verb::SigProcMask => Ok(sigprocmask(words)),
-        Verb::SigPending => Ok(sigpending(words)),
-        Verb::Handled => Ok(handled(words)),
-        Verb::WaitPid => Ok(waitpid(words)),
-        Verb::MsgGet => Ok(msgget(words)),
-        Verb::MsgSnd => msgsnd(alloc, words),
-        Verb::MsgRcv => Ok(msgrcv(words)),
-        Verb::MsgCtl => Ok(msgctl(words)),
-        Verb::SemGet => Ok(semget(words)),
-        Verb::SemOp => semop(alloc, words),
-        Verb::SemCtl => semctl(alloc, words),
+        Verb::Fork => *call = None,
+        Verb::Exit => put_exit(words, call),
+        Verb::GetPid => put_getpid(words, call),
+        Verb::Kill => put_kill(words, call),
+        Verb::SigAction => put_sigaction(words, call),
+        Verb::SigProcMask => put_sigprocmask(words, call),
+        Verb::SigPending => put_sigpending(words, call),
+        Verb::Handled => put_handled(words, call),
+        Verb::WaitPid => put_waitpid(words, call),
+        Verb::MsgGet => put_msgget(words, call),
+        Verb::MsgSnd => put_msgsnd(alloc, words, call)?,
+        Verb::MsgRcv => put_msgrcv(words, call),
+        Verb::MsgCtl => put_msgctl(words, call),
+        Verb::SemGet => put_semget(words, call),
+        Verb::SemOp => put_semop(alloc, words, call)?,
+        Verb::SemCtl => put_semctl(alloc, words, call)?,
     }
+    Ok(())
 }

@@ -4,7 +4,7 @@ ghost use Rattle.std.specs.Prelude.{◌≡◌, ◌≤◌, ◌==◌, ◌||◌, fa
 ghost use Rattle.script_reader.specs.Words.{is_blank as is_blank_of, texts};
 ghost use Rattle.script_reader.specs.Says as says;
 
-use crate::forms::{FromCall, call};
+use crate::forms::{FromCall, put_call};
 use crate::numbers::positive;
 use crate::parts::{is_block_name, variable};
 use crate::tables::Names;
@@ -130,10 +130,12 @@ fn verb_line(
 ) -> Result<Said, Memory>
     ensures { IfOk result (λ said. said ≡ says.verb_said names.now set tries verb (texts words.now)) }
 {
+    let mut call = None;
+    put_call(alloc, verb, words, &mut call)?;
     Ok(match verb {
         Verb::Fork => fork(names, set, tries, words),
-        Verb::Exit => exit(set, tries, call(alloc, verb, words)?),
-        _ => other(set, tries, call(alloc, verb, words)?),
+        Verb::Exit => exit(set, tries, call),
+        _ => other(set, tries, call),
     })
 }
 
