@@ -1,6 +1,6 @@
 //! The calls by their words.
 
-ghost use Rattle.std.specs.Prelude.{◌≡◌, ◌≤◌, IfOk, OnOk, IfSome};
+ghost use Rattle.std.specs.Prelude.{◌≡◌, ◌≤◌, IfOk, OnOk, IfSome, bytes_eq, codes};
 ghost use Rattle.script_reader.specs.Words.{texts};
 ghost use Rattle.script_reader.specs.Forms as forms;
 
@@ -80,6 +80,52 @@ fn two_optional(first: &[u8], second: &[u8], words: &[&[u8]]) -> Option<(bool, b
             }
         }
         [one, two] if *one == first && *two == second => Some((true, true)),
+        _ => None,
+    }
+}
+
+/// Whether a word is `nowait`. Most messages' lines end in it, so its bytes are told one by one, without a call.
+fn is_nowait(word: &[u8]) -> bool
+    ensures { result ≡ bytes_eq word.now (codes "nowait") }
+{
+    match word {
+        [n, o, w, a, i, t] => {
+            (*n == b'n')
+                & ((*o == b'o') & ((*w == b'w') & ((*a == b'a') & ((*i == b'i') & (*t == b't')))))
+        }
+        _ => false,
+    }
+}
+
+/// No word, or `nowait`.
+#[tactic(auto, unfolding(crate::specs::Forms::optional))]
+fn optional_nowait(words: &[&[u8]]) -> Option<bool>
+    ensures { result ≡ forms.optional (codes "nowait") (texts words.now) }
+{
+    match words {
+        [] => Some(false),
+        [only] if is_nowait(only) => Some(true),
+        _ => None,
+    }
+}
+
+/// At most `noerror` and `nowait`, in this order.
+#[tactic(auto, unfolding(crate::specs::Forms::two_optional))]
+fn noerror_nowait(words: &[&[u8]]) -> Option<(bool, bool)>
+    ensures { result ≡ forms.two_optional (codes "noerror") (codes "nowait") (texts words.now) }
+{
+    match words {
+        [] => Some((false, false)),
+        [only] => {
+            if *only == b"noerror".as_slice() {
+                Some((true, false))
+            } else if is_nowait(only) {
+                Some((false, true))
+            } else {
+                None
+            }
+        }
+        [one, two] if *one == b"noerror".as_slice() && is_nowait(two) => Some((true, true)),
         _ => None,
     }
 }
@@ -263,7 +309,7 @@ fn msgsnd(alloc: Global, words: &[&[u8]]) -> Result<Option<FromCall>, Memory>
             let Some(class) = signed(MAX_TYPE, t) else {
                 return Ok(None);
             };
-            let Some(nowait) = optional(b"nowait", more) else {
+            let Some(nowait) = optional_nowait(more) else {
                 return Ok(None);
             };
             let Some(text) = text(alloc, x)? else {
@@ -293,7 +339,7 @@ fn msgrcv(words: &[&[u8]]) -> Option<FromCall>
             let (from, id) = identifier(q)?;
             let class = signed(MAX_TYPE, t)?;
             let size = number(MAX_NUMBER, z)?;
-            let (noerror, nowait) = two_optional(b"noerror", b"nowait", more)?;
+            let (noerror, nowait) = noerror_nowait(more)?;
             Some((
                 from,
                 Call::MsgRcv {
