@@ -1,11 +1,13 @@
 //! The calls by their words.
 
-ghost use Rattle.std.specs.Prelude.{◌≡◌, ◌≤◌, IfOk, OnOk, IfSome, bytes_eq, codes};
+ghost use Rattle.std.specs.Prelude.{◌≡◌, ◌≤◌, IfOk, OnOk, IfSome, codes};
 ghost use Rattle.script_reader.specs.Words.{texts};
 ghost use Rattle.script_reader.specs.Forms as forms;
 
 use crate::numbers::{MAX_NUMBER, index, number, positive, signed};
-use crate::parts::{action, how, signal, signal_argument, signal_set, strip_front, variable};
+use crate::parts::{
+    action, how, is_nowait, signal, signal_argument, signal_set, strip_front, variable,
+};
 use crate::texts::{steps, text, values};
 use crate::verb::Verb;
 use pico_base::{Call, Id, Key, Memory, Pid, Var};
@@ -81,19 +83,6 @@ fn two_optional(first: &[u8], second: &[u8], words: &[&[u8]]) -> Option<(bool, b
         }
         [one, two] if *one == first && *two == second => Some((true, true)),
         _ => None,
-    }
-}
-
-/// Whether a word is `nowait`. Most messages' lines end in it, so its bytes are told one by one, without a call.
-fn is_nowait(word: &[u8]) -> bool
-    ensures { result ≡ bytes_eq word.now (codes "nowait") }
-{
-    match word {
-        [n, o, w, a, i, t] => {
-            (*n == b'n')
-                & ((*o == b'o') & ((*w == b'w') & ((*a == b'a') & ((*i == b'i') & (*t == b't')))))
-        }
-        _ => false,
     }
 }
 

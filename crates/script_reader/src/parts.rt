@@ -1,6 +1,6 @@
 //! Words that are variables, names or signals.
 
-ghost use Rattle.std.specs.Prelude.{◌≡◌, ◌≤◌, ◌==◌, [], ◌∷◌, false, IfSome, option_map, option_copied, position, length, ◌<◌};
+ghost use Rattle.std.specs.Prelude.{◌≡◌, ◌≤◌, ◌==◌, [], ◌∷◌, false, IfSome, option_map, option_copied, position, length, ◌<◌, bytes_eq, codes};
 ghost use Rattle.std.specs.List.{list_all, find};
 ghost use Rattle.pico_base.specs.Signal.{everywhere};
 ghost use Rattle.kernel_model.specs.Script.{is_name, is_name_byte};
@@ -91,20 +91,28 @@ pub(crate) fn is_text_part(byte: u8) -> bool
     byte >= b' ' && byte <= b'~' && byte != b'"' && byte != b'\\'
 }
 
-fn name_of_signal(sig: Sig) -> &'static [u8]
-    ensures { result.now ≡ signal_name sig }
+/// Whether a word is `nowait`. Many lines end in it, so its bytes are told one by one, without a call.
+pub(crate) fn is_nowait(word: &[u8]) -> bool
+    ensures { result ≡ bytes_eq word.now (codes "nowait") }
 {
-    match sig {
-        Sig::Hup => b"HUP",
-        Sig::Int => b"INT",
-        Sig::Quit => b"QUIT",
-        Sig::Kill => b"KILL",
-        Sig::Usr1 => b"USR1",
-        Sig::Usr2 => b"USR2",
-        Sig::Pipe => b"PIPE",
-        Sig::Alrm => b"ALRM",
-        Sig::Term => b"TERM",
-        Sig::Chld => b"CHLD",
+    match word {
+        [n, o, w, a, i, t] => {
+            (*n == b'n')
+                & ((*o == b'o') & ((*w == b'w') & ((*a == b'a') & ((*i == b'i') & (*t == b't')))))
+        }
+        _ => false,
+    }
+}
+
+/// Whether the word is this one of four bytes. They are told one by one, as most signals' names have so many.
+fn is_four(name: [u8; 4], word: &[u8]) -> bool
+    ensures { result ≡ bytes_eq name word.now }
+{
+    match word {
+        [a, b, c, d] => {
+            (name[0] == *a) & ((name[1] == *b) & ((name[2] == *c) & (name[3] == *d)))
+        }
+        _ => false,
     }
 }
 
@@ -133,25 +141,25 @@ fn name_of_how(how: How) -> &'static [u8]
 pub(crate) fn signal(word: &[u8]) -> Option<Sig>
     ensures { result ≡ signal_of word.now }
 {
-    if name_of_signal(Sig::Hup) == word {
+    if b"HUP".as_slice() == word {
         Some(Sig::Hup)
-    } else if name_of_signal(Sig::Int) == word {
+    } else if b"INT".as_slice() == word {
         Some(Sig::Int)
-    } else if name_of_signal(Sig::Quit) == word {
+    } else if is_four(*b"QUIT", word) {
         Some(Sig::Quit)
-    } else if name_of_signal(Sig::Kill) == word {
+    } else if is_four(*b"KILL", word) {
         Some(Sig::Kill)
-    } else if name_of_signal(Sig::Usr1) == word {
+    } else if is_four(*b"USR1", word) {
         Some(Sig::Usr1)
-    } else if name_of_signal(Sig::Usr2) == word {
+    } else if is_four(*b"USR2", word) {
         Some(Sig::Usr2)
-    } else if name_of_signal(Sig::Pipe) == word {
+    } else if is_four(*b"PIPE", word) {
         Some(Sig::Pipe)
-    } else if name_of_signal(Sig::Alrm) == word {
+    } else if is_four(*b"ALRM", word) {
         Some(Sig::Alrm)
-    } else if name_of_signal(Sig::Term) == word {
+    } else if is_four(*b"TERM", word) {
         Some(Sig::Term)
-    } else if name_of_signal(Sig::Chld) == word {
+    } else if is_four(*b"CHLD", word) {
         Some(Sig::Chld)
     } else {
         None

@@ -6,7 +6,7 @@ ghost use Rattle.script_reader.specs.Words.{texts};
 ghost use Rattle.script_reader.specs.Parts.{is_text_byte, is_alphanumeric as is_alphanumeric_of, hex_at, escape_at, text_byte_at, closed_at, quoted_at, letter as letter_of, counted as counted_of, repetition as repetition_of, text as text_of, added as added_of, step as step_of, each, number as number_of, values as values_of};
 
 use crate::numbers::{MAX_NUMBER, index, number, signed};
-use crate::parts::{cut, is_text_part, strip_front};
+use crate::parts::{cut, is_nowait, is_text_part, strip_front};
 use crate::words::pieces;
 use pico_base::{Bytes, Memory, SemStep, Sequence, Steps, Values};
 use std::alloc::Global;
@@ -216,7 +216,7 @@ fn added(word: &[u8]) -> Option<(i32, bool)>
         }
         Some((add, nowait)) => {
             let add = signed(MAX_NUMBER, add)?;
-            if nowait == b"nowait".as_slice() {
+            if is_nowait(nowait) {
                 Some((add, true))
             } else {
                 None

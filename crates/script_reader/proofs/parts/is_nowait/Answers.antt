@@ -1,6 +1,6 @@
 use Rattle.std.proofs.Common.{◌≡◌, ℕ, ◌<◌, ◌≤◌, Bool, true, false, ◌&&◌, eqb, List, [], ◌∷◌, length, get_or, refl, arith}
 use Rattle.std.specs.Prelude.{codes, bytes_eq}
-use Rattle.script_reader.proofs.forms.is_nowait.Goals as goal
+use Rattle.script_reader.proofs.parts.is_nowait.Goals as goal
 
 last : (c : Bool) → c ≡ (c && true)
 last true = refl
