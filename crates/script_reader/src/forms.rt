@@ -559,6 +559,9 @@ fn semctl(alloc: Global, words: &[&[u8]]) -> Result<Option<FromCall>, Memory>
     }
 }
 
+// Each of these puts its call in the place of another. A function that had a long value for each of the calls would
+// clear all of them at its start.
+
 fn put_exit(words: &[&[u8]], call: &mut Option<FromCall>)
     ensures { call.new ≡ forms.exit_of (texts words.now) }
 {
