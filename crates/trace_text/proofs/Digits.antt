@@ -8,3 +8,7 @@ pub two_digits : (n : ℕ) → 10 ≤ n → n < 100 → decimal n ≡ (48 + n / 
 two_digits n least most =
     decimal_step n least (omega (arith, most))
     ∙ ap (λ tens. tens ++ (48 + n % 10) ∷ []) (decimal_digit (n / 10) (omega (arith, most)))
+
+-- a number of one digit with a byte behind it
+pub digit_then : (n b : ℕ) → n < 10 → decimal n ++ b ∷ [] ≡ (48 + n) ∷ b ∷ []
+digit_then n b most = ap (λ digits. digits ++ b ∷ []) (decimal_digit n most)
