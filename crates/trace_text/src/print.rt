@@ -1,12 +1,12 @@
 //! The text of a history: a line for each entry, and the totals.
-ghost use Rattle.std.specs.Prelude.{◌≡◌, ◌+◌, ◌<◌, ◌≤◌, ◌^◌, [], ◌∷◌, ◌++◌, codes, length, map, count_by, sum_by, Some, if◌then◌else◌, IfOk, OnOk};
+ghost use Rattle.std.specs.Prelude.{◌≡◌, ◌+◌, ◌<◌, ◌≤◌, ◌^◌, [], ◌∷◌, ◌++◌, codes, length, map, count_by, sum_by, Some, None, if◌then◌else◌, IfOk, IfSome, OnOk, nat_lt};
 ghost use Rattle.std.specs.List.{flat_map, filter, list_any};
 ghost use Rattle.pico_base.specs.Signal.{at, all_signals};
 ghost use Rattle.std.specs.Fmt.{decimal, signed_decimal};
 ghost use Rattle.kernel_model.specs.Fitting.{block_at};
 ghost use Rattle.kernel_model.specs.Trace as trace;
 ghost use Rattle.kernel_model.specs.Texts.{message_text};
-ghost use Rattle.pico_base.specs.declared.reply.Reply.TheVariants.{Stat};
+ghost use Rattle.pico_base.specs.declared.reply.Reply.TheVariants.{Num, Stat};
 
 use crate::text::{
     push, push_byte, push_message, push_number, push_number_then, push_signed,
@@ -205,6 +205,7 @@ fn push_msgget(out: &mut Vec<u8>, key: Option<Key>, create: bool, excl: bool) ->
 }
 
 // A call's name, the queue and the type of message.
+#[inline(always)]
 fn push_queue_words(out: &mut Vec<u8>, name: &[u8], id: Id, class: i32) -> Result<(), Memory>
     ensures { OnOk result (out.new.items ≡ out.old.items ++ trace.queue_words name.now id class) }
 {
@@ -534,6 +535,7 @@ fn push_sigprocmask(out: &mut Vec<u8>, how: How, set: SigSet) -> Result<(), Memo
 pub fn push_call(out: &mut Vec<u8>, script: &Script, call: &Call) -> Result<(), Memory>
     ensures { OnOk result (out.new.items ≡ out.old.items ++ trace.call_text script.now call.now) }
 {
+    // The functions of the forms aren't inlined, so that this match saves no registers for them.
     match call {
         Call::Fork { block } => push_fork(out, script, *block),
         Call::Exit { status } => push_exit(out, *status),
@@ -681,13 +683,72 @@ fn push_by(out: &mut Vec<u8>, node: Node, woken: &[(Pid, Reply)]) -> Result<(), 
     push_byte(out, b'\n')
 }
 
+// The number as a byte, where it has one digit.
+fn digit(number: u32) -> Option<u8>
+    ensures { result ≡ (if nat_lt number 10 then Some number else None) }
+{
+    if number < 10 {
+        Some(number as u8)
+    } else {
+        None
+    }
+}
+
+// The number that a caller gets, where it has one digit.
+fn digit_of(own: &Option<Reply>) -> Option<u8>
+    ensures below { IfSome result (λ number. number < 10) }
+    ensures own { IfSome result (λ number. own.now ≡ Some (Num number)) }
+{
+    match own {
+        Some(Reply::Num(number)) => digit(*number),
+        _ => None,
+    }
+}
+
+// The end of most lines, at once: a number of one digit, a node of one digit, and nobody woken.
+fn push_short_end(out: &mut Vec<u8>, number: u8, node: u8) -> Result<(), Memory>
+    requires { (number < 10) × (node < 10) }
+    ensures { OnOk result
+        (out.new.items ≡ out.old.items ++ (codes " = " ++ decimal number ++ trace.by_text node [])) }
+{
+    let (first, last) = (b'0' + number, b'0' + node);
+    push(
+        out,
+        &[b' ', b'=', b' ', first, b' ', b'b', b'y', b' ', last, b'\n'],
+    )
+}
+
+// The end of any line.
+#[inline(never)]
+fn push_long_end(out: &mut Vec<u8>, outcome: &Outcome, node: Node) -> Result<(), Memory>
+    ensures { OnOk result
+        (out.new.items ≡ out.old.items
+        ++ (codes " = " ++ trace.own_text outcome.now.own ++ trace.by_text node outcome.now.woken)) }
+{
+    push(out, b" = ")?;
+    push_own(out, &outcome.own)?;
+    push_by(out, node, outcome.woken.as_slice())
+}
+
+// What a call came to, and who carried it out.
+fn push_end(out: &mut Vec<u8>, outcome: &Outcome, node: Node) -> Result<(), Memory>
+    ensures { OnOk result
+        (out.new.items ≡ out.old.items
+        ++ (codes " = " ++ trace.own_text outcome.now.own ++ trace.by_text node outcome.now.woken)) }
+{
+    if node.0 < 10 && outcome.woken.as_slice().is_empty() {
+        if let Some(number) = digit_of(&outcome.own) {
+            return push_short_end(out, number, node.0);
+        }
+    }
+    push_long_end(out, outcome, node)
+}
+
 pub(crate) fn push_entry(out: &mut Vec<u8>, script: &Script, entry: &Entry) -> Result<(), Memory>
     ensures { OnOk result (out.new.items ≡ out.old.items ++ trace.entry_line script.now entry.now) }
 {
     push_made(out, script, entry.pid, &entry.call)?;
-    push(out, b" = ")?;
-    push_own(out, &entry.outcome.own)?;
-    push_by(out, entry.by, entry.outcome.woken.as_slice())
+    push_end(out, &entry.outcome, entry.by)
 }
 
 fn is_fork(entry: &Entry) -> bool

@@ -67,13 +67,25 @@ pub fn push_number(out: &mut Vec<u8>, number: u64) -> Result<(), Memory>
     push_digits(out, number)
 }
 
+// Adds a number of two digits, and a byte behind it.
+#[tactic(auto, using(crate::proofs::Digits::two_digits_then))]
+fn push_two_digits_then(out: &mut Vec<u8>, number: u8, byte: u8) -> Result<(), Memory>
+    requires { (10 ≤ number) × (number < 100) }
+    ensures { OnOk result (out.new.items ≡ out.old.items ++ (decimal number ++ byte ∷ [])) }
+{
+    push(out, &[b'0' + number / 10, b'0' + number % 10, byte])
+}
+
 // Adds a number of more than one digit, and a byte behind it.
 #[inline(never)]
 fn push_digits_then(out: &mut Vec<u8>, number: u64, byte: u8) -> Result<(), Memory>
     requires { 10 ≤ number }
     ensures { OnOk result (out.new.items ≡ out.old.items ++ (decimal number ++ byte ∷ [])) }
 {
-    push_digits(out, number)?;
+    if number < 100 {
+        return push_two_digits_then(out, number as u8, byte);
+    }
+    push_long_number(out, number)?;
     push_byte(out, byte)
 }
 
@@ -213,6 +225,37 @@ pub(crate) fn is_repeat(text: &[u8]) -> bool
     }
 }
 
+// Adds a byte that stands less than a hundred times, at once.
+fn push_short_repeat(out: &mut Vec<u8>, count: u8, byte: u8) -> Result<(), Memory>
+    requires { (10 ≤ count) × (count < 100) }
+    ensures { OnOk result
+        (out.new.items ≡ out.old.items ++ (codes "rep:" ++ decimal count ++ 58 ∷ byte ∷ [])) }
+{
+    let (tens, units) = (b'0' + count / 10, b'0' + count % 10);
+    push(out, &[b'r', b'e', b'p', b':', tens, units, b':', byte])
+}
+
+#[inline(never)]
+fn push_long_repeat(out: &mut Vec<u8>, count: u64, byte: u8) -> Result<(), Memory>
+    ensures { OnOk result
+        (out.new.items ≡ out.old.items ++ (codes "rep:" ++ decimal count ++ 58 ∷ byte ∷ [])) }
+{
+    push(out, b"rep:")?;
+    push_number(out, count)?;
+    push(out, &[b':', byte])
+}
+
+// Adds a byte that stands so many times.
+fn push_repeat(out: &mut Vec<u8>, count: usize, byte: u8) -> Result<(), Memory>
+    ensures { OnOk result
+        (out.new.items ≡ out.old.items ++ (codes "rep:" ++ decimal count ++ 58 ∷ byte ∷ [])) }
+{
+    if (10..100).contains(&count) {
+        return push_short_repeat(out, count as u8, byte);
+    }
+    push_long_repeat(out, count as u64, byte)
+}
+
 /// Adds a message's text, in quotes or by the byte that it repeats.
 pub fn push_message(out: &mut Vec<u8>, text: &[u8]) -> Result<(), Memory>
     ensures { OnOk result (out.new.items ≡ out.old.items ++ message_text text.now) }
@@ -220,7 +263,5 @@ pub fn push_message(out: &mut Vec<u8>, text: &[u8]) -> Result<(), Memory>
     if !is_repeat(text) {
         return push_quoted(out, text);
     }
-    push(out, b"rep:")?;
-    push_number(out, text.len() as u64)?;
-    push(out, &[b':', text[0]])
+    push_repeat(out, text.len(), text[0])
 }
