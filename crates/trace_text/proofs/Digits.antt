@@ -19,6 +19,11 @@ pub short_end : (number node : ℕ) → number < 10 → node < 10
     ≡ 32 ∷ 61 ∷ 32 ∷ (48 + number) ∷ 32 ∷ 98 ∷ 121 ∷ 32 ∷ (48 + node) ∷ 10 ∷ []
 short_end number node small least = rw (decimal_digit number small, decimal_digit node least) refl
 
+-- the same up to the node
+pub digit_and_by : (number : ℕ) → number < 10
+    → codes " = " ++ decimal number ++ codes " by " ≡ 32 ∷ 61 ∷ 32 ∷ (48 + number) ∷ 32 ∷ 98 ∷ 121 ∷ 32 ∷ []
+digit_and_by number small = rw (decimal_digit number small) refl
+
 -- a byte that stands a number of times of two digits
 pub short_repeat : (count b : ℕ) → 10 ≤ count → count < 100 → codes "rep:" ++ decimal count ++ 58 ∷ b ∷ []
     ≡ 114 ∷ 101 ∷ 112 ∷ 58 ∷ (48 + count / 10) ∷ (48 + count % 10) ∷ 58 ∷ b ∷ []

@@ -718,6 +718,28 @@ fn push_short_end(out: &mut Vec<u8>, number: u8, node: u8) -> Result<(), Memory>
     )
 }
 
+fn push_digit_and_by(out: &mut Vec<u8>, number: u8) -> Result<(), Memory>
+    requires { number < 10 }
+    ensures { OnOk result
+        (out.new.items ≡ out.old.items ++ (codes " = " ++ decimal number ++ codes " by ")) }
+{
+    let digit = b'0' + number;
+    push(out, &[b' ', b'=', b' ', digit, b' ', b'b', b'y', b' '])
+}
+
+// The same by any node.
+fn push_digit_end(out: &mut Vec<u8>, number: u8, node: Node) -> Result<(), Memory>
+    requires { number < 10 }
+    ensures { OnOk result
+        (out.new.items ≡ out.old.items ++ (codes " = " ++ decimal number ++ trace.by_text node [])) }
+{
+    if node.0 < 10 {
+        return push_short_end(out, number, node.0);
+    }
+    push_digit_and_by(out, number)?;
+    push_number_then(out, u64::from(node.0), b'\n')
+}
+
 // The end of any line.
 #[inline(never)]
 fn push_long_end(out: &mut Vec<u8>, outcome: &Outcome, node: Node) -> Result<(), Memory>
@@ -736,9 +758,9 @@ fn push_end(out: &mut Vec<u8>, outcome: &Outcome, node: Node) -> Result<(), Memo
         (out.new.items ≡ out.old.items
         ++ (codes " = " ++ trace.own_text outcome.now.own ++ trace.by_text node outcome.now.woken)) }
 {
-    if node.0 < 10 && outcome.woken.as_slice().is_empty() {
+    if outcome.woken.as_slice().is_empty() {
         if let Some(number) = digit_of(&outcome.own) {
-            return push_short_end(out, number, node.0);
+            return push_digit_end(out, number, node);
         }
     }
     push_long_end(out, outcome, node)
