@@ -1,14 +1,17 @@
 //! The text of a history: a line for each entry, and the totals.
-ghost use Rattle.std.specs.Prelude.{◌≡◌, ◌+◌, ◌<◌, ◌≤◌, ◌^◌, [], ◌∷◌, ◌++◌, codes, length, map, count_by, sum_by, Some, if◌then◌else◌, IfOk, OnOk};
+ghost use Rattle.std.specs.Prelude.{◌≡◌, ◌+◌, ◌<◌, ◌≤◌, ◌^◌, [], ◌∷◌, ◌++◌, codes, length, map, count_by, sum_by, Some, None, if◌then◌else◌, IfOk, IfSome, OnOk, nat_lt};
 ghost use Rattle.std.specs.List.{flat_map, filter, list_any};
 ghost use Rattle.pico_base.specs.Signal.{at, all_signals};
 ghost use Rattle.std.specs.Fmt.{decimal, signed_decimal};
 ghost use Rattle.kernel_model.specs.Fitting.{block_at};
 ghost use Rattle.kernel_model.specs.Trace as trace;
 ghost use Rattle.kernel_model.specs.Texts.{message_text};
-ghost use Rattle.pico_base.specs.declared.reply.Reply.TheVariants.{Stat};
+ghost use Rattle.pico_base.specs.declared.reply.Reply.TheVariants.{Num, Stat};
 
-use crate::text::{push, push_byte, push_message, push_number, push_signed};
+use crate::text::{
+    push, push_byte, push_message, push_number, push_number_then, push_signed,
+    push_signed_and_space,
+};
 use pico_base::{
     Act, Block, Bytes, Call, Ending, Entries, Entry, Errno, How, Id, Key, Memory, Node, Outcome,
     Pid, Reply, Script, SemStep, Sig, SigArg, SigSet,
@@ -47,22 +50,43 @@ pub fn signal_name(sig: Sig) -> &'static [u8]
     }
 }
 
-fn error_name(errno: Errno) -> &'static [u8]
-    ensures { result.now ≡ trace.error_name errno }
+// Adds a signal's name. Here and below a name is added as a constant: bytes of a number known to the compiler are
+// stored, and others are copied by a call.
+#[inline(never)]
+fn push_signal_name(out: &mut Vec<u8>, sig: Sig) -> Result<(), Memory>
+    ensures { OnOk result (out.new.items ≡ out.old.items ++ trace.signal_name sig) }
+{
+    match sig {
+        Sig::Hup => push(out, b"HUP"),
+        Sig::Int => push(out, b"INT"),
+        Sig::Quit => push(out, b"QUIT"),
+        Sig::Kill => push(out, b"KILL"),
+        Sig::Usr1 => push(out, b"USR1"),
+        Sig::Usr2 => push(out, b"USR2"),
+        Sig::Pipe => push(out, b"PIPE"),
+        Sig::Alrm => push(out, b"ALRM"),
+        Sig::Term => push(out, b"TERM"),
+        Sig::Chld => push(out, b"CHLD"),
+    }
+}
+
+#[inline(never)]
+fn push_error_name(out: &mut Vec<u8>, errno: Errno) -> Result<(), Memory>
+    ensures { OnOk result (out.new.items ≡ out.old.items ++ trace.error_name errno) }
 {
     match errno {
-        Errno::Esrch => b"ESRCH",
-        Errno::Einval => b"EINVAL",
-        Errno::Echild => b"ECHILD",
-        Errno::Enoent => b"ENOENT",
-        Errno::Eexist => b"EEXIST",
-        Errno::Enomsg => b"ENOMSG",
-        Errno::Eagain => b"EAGAIN",
-        Errno::E2big => b"E2BIG",
-        Errno::Efbig => b"EFBIG",
-        Errno::Erange => b"ERANGE",
-        Errno::Eidrm => b"EIDRM",
-        Errno::Eintr => b"EINTR",
+        Errno::Esrch => push(out, b"ESRCH"),
+        Errno::Einval => push(out, b"EINVAL"),
+        Errno::Echild => push(out, b"ECHILD"),
+        Errno::Enoent => push(out, b"ENOENT"),
+        Errno::Eexist => push(out, b"EEXIST"),
+        Errno::Enomsg => push(out, b"ENOMSG"),
+        Errno::Eagain => push(out, b"EAGAIN"),
+        Errno::E2big => push(out, b"E2BIG"),
+        Errno::Efbig => push(out, b"EFBIG"),
+        Errno::Erange => push(out, b"ERANGE"),
+        Errno::Eidrm => push(out, b"EIDRM"),
+        Errno::Eintr => push(out, b"EINTR"),
     }
 }
 
@@ -77,6 +101,16 @@ pub fn action_name(act: Act) -> &'static [u8]
     }
 }
 
+fn push_action_name(out: &mut Vec<u8>, act: Act) -> Result<(), Memory>
+    ensures { OnOk result (out.new.items ≡ out.old.items ++ trace.action_name act) }
+{
+    match act {
+        Act::Dfl => push(out, b"dfl"),
+        Act::Ign => push(out, b"ign"),
+        Act::Catch => push(out, b"catch"),
+    }
+}
+
 /// The name of how a mask changes: `block`, `unblock` or `setmask`.
 pub fn how_name(how: How) -> &'static [u8]
     ensures { result.now ≡ trace.how_name how }
@@ -88,6 +122,16 @@ pub fn how_name(how: How) -> &'static [u8]
     }
 }
 
+fn push_how_name(out: &mut Vec<u8>, how: How) -> Result<(), Memory>
+    ensures { OnOk result (out.new.items ≡ out.old.items ++ trace.how_name how) }
+{
+    match how {
+        How::Block => push(out, b"block"),
+        How::Unblock => push(out, b"unblock"),
+        How::SetMask => push(out, b"setmask"),
+    }
+}
+
 /// A signal as a call names it: its name, `0` for none, or `badsig` for a number of no signal.
 pub fn signal_argument(sig: SigArg) -> &'static [u8]
     ensures { result.now ≡ trace.signal_argument sig }
@@ -96,6 +140,16 @@ pub fn signal_argument(sig: SigArg) -> &'static [u8]
         SigArg::Zero => b"0",
         SigArg::Is(sig) => signal_name(sig),
         SigArg::Bad => b"badsig",
+    }
+}
+
+fn push_signal_argument(out: &mut Vec<u8>, sig: SigArg) -> Result<(), Memory>
+    ensures { OnOk result (out.new.items ≡ out.old.items ++ trace.signal_argument sig) }
+{
+    match sig {
+        SigArg::Zero => push(out, b"0"),
+        SigArg::Is(sig) => push_signal_name(out, sig),
+        SigArg::Bad => push(out, b"badsig"),
     }
 }
 
@@ -139,6 +193,7 @@ fn push_create_words(out: &mut Vec<u8>, create: bool, excl: bool) -> Result<(), 
     push_word(out, excl, b" excl")
 }
 
+#[inline(never)]
 fn push_msgget(out: &mut Vec<u8>, key: Option<Key>, create: bool, excl: bool) -> Result<(), Memory>
     ensures { OnOk result (out.new.items ≡ out.old.items ++ trace.msgget_text key create excl) }
 {
@@ -150,16 +205,16 @@ fn push_msgget(out: &mut Vec<u8>, key: Option<Key>, create: bool, excl: bool) ->
 }
 
 // A call's name, the queue and the type of message.
+#[inline(always)]
 fn push_queue_words(out: &mut Vec<u8>, name: &[u8], id: Id, class: i32) -> Result<(), Memory>
     ensures { OnOk result (out.new.items ≡ out.old.items ++ trace.queue_words name.now id class) }
 {
     push(out, name)?;
-    push_id(out, id)?;
-    push_byte(out, b' ')?;
-    push_signed(out, class)?;
-    push_byte(out, b' ')
+    push_number_then(out, u64::from(id.0), b' ')?;
+    push_signed_and_space(out, class)
 }
 
+#[inline(never)]
 fn push_msgsnd(
     out: &mut Vec<u8>,
     id: Id,
@@ -174,6 +229,7 @@ fn push_msgsnd(
     push_word(out, nowait, b" nowait")
 }
 
+#[inline(never)]
 fn push_msgrcv(
     out: &mut Vec<u8>,
     id: Id,
@@ -190,6 +246,7 @@ fn push_msgrcv(
     push_word(out, nowait, b" nowait")
 }
 
+#[inline(never)]
 fn push_exit(out: &mut Vec<u8>, status: u16) -> Result<(), Memory>
     ensures { OnOk result (out.new.items ≡ out.old.items ++ codes "exit " ++ decimal status) }
 {
@@ -207,6 +264,7 @@ fn push_block_name(out: &mut Vec<u8>, script: &Script, block: Node) -> Result<()
     }
 }
 
+#[inline(never)]
 fn push_fork(out: &mut Vec<u8>, script: &Script, block: Node) -> Result<(), Memory>
     ensures { OnOk result
         (out.new.items ≡ out.old.items ++ codes "fork " ++ trace.name_of_block (block_at script.now block)) }
@@ -215,34 +273,37 @@ fn push_fork(out: &mut Vec<u8>, script: &Script, block: Node) -> Result<(), Memo
     push_block_name(out, script, block)
 }
 
+#[inline(never)]
 fn push_kill(out: &mut Vec<u8>, pid: Pid, sig: SigArg) -> Result<(), Memory>
     ensures { OnOk result
         (out.new.items ≡ out.old.items ++ codes "kill " ++ decimal pid ++ 32 ∷ trace.signal_argument sig) }
 {
     push(out, b"kill ")?;
-    push_pid(out, pid)?;
-    push_byte(out, b' ')?;
-    push(out, signal_argument(sig))
+    push_number_then(out, u64::from(pid.0), b' ')?;
+    push_signal_argument(out, sig)
 }
 
+#[inline(never)]
 fn push_sigaction(out: &mut Vec<u8>, sig: SigArg, act: Act) -> Result<(), Memory>
     ensures { OnOk result
         (out.new.items ≡ out.old.items ++ codes "sigaction " ++ trace.signal_argument sig ++ 32
         ∷ trace.action_name act) }
 {
     push(out, b"sigaction ")?;
-    push(out, signal_argument(sig))?;
+    push_signal_argument(out, sig)?;
     push_byte(out, b' ')?;
-    push(out, action_name(act))
+    push_action_name(out, act)
 }
 
+#[inline(never)]
 fn push_signal_call(out: &mut Vec<u8>, name: &[u8], sig: Sig) -> Result<(), Memory>
     ensures { OnOk result (out.new.items ≡ out.old.items ++ name.now ++ trace.signal_name sig) }
 {
     push(out, name)?;
-    push(out, signal_name(sig))
+    push_signal_name(out, sig)
 }
 
+#[inline(never)]
 fn push_waitpid(out: &mut Vec<u8>, child: Option<Pid>, nohang: bool) -> Result<(), Memory>
     ensures { OnOk result
         (out.new.items ≡ out.old.items ++ codes "waitpid " ++ trace.child_text child
@@ -256,6 +317,7 @@ fn push_waitpid(out: &mut Vec<u8>, child: Option<Pid>, nohang: bool) -> Result<(
     push_word(out, nohang, b" nohang")
 }
 
+#[inline(never)]
 fn push_msgctl(out: &mut Vec<u8>, id: Id, command: &[u8]) -> Result<(), Memory>
     ensures { OnOk result (out.new.items ≡ out.old.items ++ codes "msgctl " ++ decimal id ++ command.now) }
 {
@@ -264,6 +326,7 @@ fn push_msgctl(out: &mut Vec<u8>, id: Id, command: &[u8]) -> Result<(), Memory>
     push(out, command)
 }
 
+#[inline(never)]
 fn push_msgset(out: &mut Vec<u8>, id: Id, qbytes: u32) -> Result<(), Memory>
     ensures { OnOk result
         (out.new.items ≡ out.old.items ++ codes "msgctl " ++ decimal id ++ codes " set " ++ decimal qbytes) }
@@ -284,6 +347,7 @@ fn push_ending(out: &mut Vec<u8>, ending: Ending) -> Result<(), Memory>
     }
 }
 
+#[inline(never)]
 fn push_child(out: &mut Vec<u8>, pid: Pid, ending: Ending) -> Result<(), Memory>
     ensures { OnOk result (out.new.items ≡ out.old.items ++ decimal pid ++ trace.ending_text ending) }
 {
@@ -291,11 +355,11 @@ fn push_child(out: &mut Vec<u8>, pid: Pid, ending: Ending) -> Result<(), Memory>
     push_ending(out, ending)
 }
 
+#[inline(never)]
 fn push_received(out: &mut Vec<u8>, class: i32, text: &[u8]) -> Result<(), Memory>
     ensures { OnOk result (out.new.items ≡ out.old.items ++ signed_decimal class ++ 32 ∷ message_text text.now) }
 {
-    push_signed(out, class)?;
-    push_byte(out, b' ')?;
+    push_signed_and_space(out, class)?;
     push_message(out, text)
 }
 
@@ -306,7 +370,7 @@ fn push_member(out: &mut Vec<u8>, begun: bool, sig: Sig) -> Result<(), Memory>
     if begun {
         push_byte(out, b',')?;
     }
-    push(out, signal_name(sig))
+    push_signal_name(out, sig)
 }
 
 // Which signals of the table are in the set.
@@ -383,6 +447,7 @@ fn push_step(out: &mut Vec<u8>, step: SemStep) -> Result<(), Memory>
     }
 }
 
+#[inline(never)]
 fn push_semop(out: &mut Vec<u8>, id: Id, steps: &[SemStep]) -> Result<(), Memory>
     ensures { OnOk result
         (out.new.items ≡ out.old.items ++ codes "semop " ++ decimal id ++ flat_map trace.step_text steps.now) }
@@ -395,6 +460,7 @@ fn push_semop(out: &mut Vec<u8>, id: Id, steps: &[SemStep]) -> Result<(), Memory
     Ok(())
 }
 
+#[inline(never)]
 fn push_semctl(out: &mut Vec<u8>, id: Id, command: &[u8]) -> Result<(), Memory>
     ensures { OnOk result (out.new.items ≡ out.old.items ++ codes "semctl " ++ decimal id ++ command.now) }
 {
@@ -403,6 +469,7 @@ fn push_semctl(out: &mut Vec<u8>, id: Id, command: &[u8]) -> Result<(), Memory>
     push(out, command)
 }
 
+#[inline(never)]
 fn push_semctl_at(out: &mut Vec<u8>, id: Id, command: &[u8], num: u16) -> Result<(), Memory>
     ensures { OnOk result (out.new.items ≡ out.old.items ++ trace.semctl_at id command.now num) }
 {
@@ -410,6 +477,7 @@ fn push_semctl_at(out: &mut Vec<u8>, id: Id, command: &[u8], num: u16) -> Result
     push_number(out, u64::from(num))
 }
 
+#[inline(never)]
 fn push_semget(
     out: &mut Vec<u8>,
     key: Option<Key>,
@@ -427,6 +495,7 @@ fn push_semget(
     push_create_words(out, create, excl)
 }
 
+#[inline(never)]
 fn push_setval(out: &mut Vec<u8>, id: Id, num: u16, value: u32) -> Result<(), Memory>
     ensures { OnOk result
         (out.new.items ≡ out.old.items ++ trace.semctl_at id (codes " setval ") num ++ 32 ∷ decimal value) }
@@ -436,6 +505,7 @@ fn push_setval(out: &mut Vec<u8>, id: Id, num: u16, value: u32) -> Result<(), Me
     push_number(out, u64::from(value))
 }
 
+#[inline(never)]
 fn push_setall(out: &mut Vec<u8>, id: Id, values: &[u32]) -> Result<(), Memory>
     ensures { OnOk result
         (out.new.items ≡ out.old.items ++ codes "semctl " ++ decimal id ++ codes " setall "
@@ -449,10 +519,11 @@ fn push_how(out: &mut Vec<u8>, how: How) -> Result<(), Memory>
     ensures { OnOk result (out.new.items ≡ out.old.items ++ trace.how_words how) }
 {
     push(out, b"sigprocmask ")?;
-    push(out, how_name(how))?;
+    push_how_name(out, how)?;
     push_byte(out, b' ')
 }
 
+#[inline(never)]
 fn push_sigprocmask(out: &mut Vec<u8>, how: How, set: SigSet) -> Result<(), Memory>
     ensures { OnOk result (out.new.items ≡ out.old.items ++ trace.sigprocmask_text how set) }
 {
@@ -464,6 +535,7 @@ fn push_sigprocmask(out: &mut Vec<u8>, how: How, set: SigSet) -> Result<(), Memo
 pub fn push_call(out: &mut Vec<u8>, script: &Script, call: &Call) -> Result<(), Memory>
     ensures { OnOk result (out.new.items ≡ out.old.items ++ trace.call_text script.now call.now) }
 {
+    // The functions of the forms aren't inlined, so that this match saves no registers for them.
     match call {
         Call::Fork { block } => push_fork(out, script, *block),
         Call::Exit { status } => push_exit(out, *status),
@@ -510,6 +582,7 @@ pub fn push_call(out: &mut Vec<u8>, script: &Script, call: &Call) -> Result<(), 
     }
 }
 
+#[inline(never)]
 fn push_stat(
     out: &mut Vec<u8>,
     qnum: u32,
@@ -525,6 +598,7 @@ fn push_stat(
     push_labelled(out, b" lrpid ", u64::from(lrpid.0))
 }
 
+#[inline(never)]
 fn push_all(out: &mut Vec<u8>, values: &[u32]) -> Result<(), Memory>
     ensures { OnOk result (out.new.items ≡ out.old.items ++ codes "all " ++ trace.values_text values.now) }
 {
@@ -549,7 +623,7 @@ pub fn push_reply(out: &mut Vec<u8>, reply: &Reply) -> Result<(), Memory>
         } => push_stat(out, *qnum, *qbytes, *lspid, *lrpid),
         Reply::All(values) => push_all(out, values.as_slice()),
         Reply::Ended => push(out, b"ended"),
-        Reply::Fail(errno) => push(out, error_name(*errno)),
+        Reply::Fail(errno) => push_error_name(out, *errno),
     }
 }
 
@@ -566,8 +640,7 @@ fn push_own(out: &mut Vec<u8>, own: &Option<Reply>) -> Result<(), Memory>
 fn push_made(out: &mut Vec<u8>, script: &Script, pid: Pid, call: &Call) -> Result<(), Memory>
     ensures { OnOk result (out.new.items ≡ out.old.items ++ trace.made_text script.now pid call.now) }
 {
-    push_pid(out, pid)?;
-    push_byte(out, b' ')?;
+    push_number_then(out, u64::from(pid.0), b' ')?;
     push_call(out, script, call)
 }
 
@@ -576,8 +649,7 @@ fn push_wake(out: &mut Vec<u8>, pid: Pid, reply: &Reply) -> Result<(), Memory>
     ensures { OnOk result (out.new.items ≡ out.old.items ++ trace.wake_text (pid, reply.now)) }
 {
     push(out, b" wakes ")?;
-    push_pid(out, pid)?;
-    push_byte(out, b' ')?;
+    push_number_then(out, u64::from(pid.0), b' ')?;
     push_reply(out, reply)
 }
 
@@ -590,23 +662,115 @@ fn push_wakes(out: &mut Vec<u8>, woken: &[(Pid, Reply)]) -> Result<(), Memory>
     Ok(())
 }
 
+// Who carried it out, where that woke nobody.
+fn push_by_alone(out: &mut Vec<u8>, node: Node) -> Result<(), Memory>
+    ensures { OnOk result (out.new.items ≡ out.old.items ++ trace.by_text node []) }
+{
+    push(out, b" by ")?;
+    push_number_then(out, u64::from(node.0), b'\n')
+}
+
 // Who carried it out, and whom that woke.
 fn push_by(out: &mut Vec<u8>, node: Node, woken: &[(Pid, Reply)]) -> Result<(), Memory>
     ensures { OnOk result (out.new.items ≡ out.old.items ++ trace.by_text node woken.now) }
 {
+    if woken.is_empty() {
+        return push_by_alone(out, node);
+    }
     push(out, b" by ")?;
     push_node(out, node)?;
     push_wakes(out, woken)?;
     push_byte(out, b'\n')
 }
 
+// The number as a byte, where it has one digit.
+fn digit(number: u32) -> Option<u8>
+    ensures { result ≡ (if nat_lt number 10 then Some number else None) }
+{
+    if number < 10 {
+        Some(number as u8)
+    } else {
+        None
+    }
+}
+
+// The number that a caller gets, where it has one digit.
+fn digit_of(own: &Option<Reply>) -> Option<u8>
+    ensures below { IfSome result (λ number. number < 10) }
+    ensures own { IfSome result (λ number. own.now ≡ Some (Num number)) }
+{
+    match own {
+        Some(Reply::Num(number)) => digit(*number),
+        _ => None,
+    }
+}
+
+// The end of most lines, at once: a number of one digit, a node of one digit, and nobody woken.
+fn push_short_end(out: &mut Vec<u8>, number: u8, node: u8) -> Result<(), Memory>
+    requires { (number < 10) × (node < 10) }
+    ensures { OnOk result
+        (out.new.items ≡ out.old.items ++ (codes " = " ++ decimal number ++ trace.by_text node [])) }
+{
+    let (first, last) = (b'0' + number, b'0' + node);
+    push(
+        out,
+        &[b' ', b'=', b' ', first, b' ', b'b', b'y', b' ', last, b'\n'],
+    )
+}
+
+fn push_digit_and_by(out: &mut Vec<u8>, number: u8) -> Result<(), Memory>
+    requires { number < 10 }
+    ensures { OnOk result
+        (out.new.items ≡ out.old.items ++ (codes " = " ++ decimal number ++ codes " by ")) }
+{
+    let digit = b'0' + number;
+    push(out, &[b' ', b'=', b' ', digit, b' ', b'b', b'y', b' '])
+}
+
+// The same by any node.
+fn push_digit_end(out: &mut Vec<u8>, number: u8, node: Node) -> Result<(), Memory>
+    requires { number < 10 }
+    ensures { OnOk result
+        (out.new.items ≡ out.old.items ++ (codes " = " ++ decimal number ++ trace.by_text node [])) }
+{
+    if node.0 < 10 {
+        return push_short_end(out, number, node.0);
+    }
+    push_digit_and_by(out, number)?;
+    push_number_then(out, u64::from(node.0), b'\n')
+}
+
+// The end of any line.
+#[inline(never)]
+fn push_long_end(out: &mut Vec<u8>, outcome: &Outcome, node: Node) -> Result<(), Memory>
+    ensures { OnOk result
+        (out.new.items ≡ out.old.items
+        ++ (codes " = " ++ trace.own_text outcome.now.own ++ trace.by_text node outcome.now.woken)) }
+{
+    push(out, b" = ")?;
+    push_own(out, &outcome.own)?;
+    push_by(out, node, outcome.woken.as_slice())
+}
+
+// What a call came to, and who carried it out.
+fn push_end(out: &mut Vec<u8>, outcome: &Outcome, node: Node) -> Result<(), Memory>
+    ensures { OnOk result
+        (out.new.items ≡ out.old.items
+        ++ (codes " = " ++ trace.own_text outcome.now.own ++ trace.by_text node outcome.now.woken)) }
+{
+    if outcome.woken.as_slice().is_empty() {
+        if let Some(number) = digit_of(&outcome.own) {
+            return push_digit_end(out, number, node);
+        }
+    }
+    push_long_end(out, outcome, node)
+}
+
 pub(crate) fn push_entry(out: &mut Vec<u8>, script: &Script, entry: &Entry) -> Result<(), Memory>
     ensures { OnOk result (out.new.items ≡ out.old.items ++ trace.entry_line script.now entry.now) }
 {
     push_made(out, script, entry.pid, &entry.call)?;
-    push(out, b" = ")?;
-    push_own(out, &entry.outcome.own)?;
-    push_by(out, entry.by, entry.outcome.woken.as_slice())
+    push_end(out, &entry.outcome, entry.by)
 }
 
 fn is_fork(entry: &Entry) -> bool

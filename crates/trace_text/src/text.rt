@@ -34,6 +34,14 @@ fn push_two_digits(out: &mut Vec<u8>, number: u8) -> Result<(), Memory>
     push(out, &[b'0' + number / 10, b'0' + number % 10])
 }
 
+// Adds any number. It stands apart, so that numbers of few digits need no buffer.
+#[inline(never)]
+fn push_long_number(out: &mut Vec<u8>, number: u64) -> Result<(), Memory>
+    ensures { OnOk result (out.new.items ≡ out.old.items ++ decimal number) }
+{
+    push(out, Buffer::new().format(number).as_bytes())
+}
+
 // Adds a number of more than one digit.
 #[inline(never)]
 fn push_digits(out: &mut Vec<u8>, number: u64) -> Result<(), Memory>
@@ -43,7 +51,7 @@ fn push_digits(out: &mut Vec<u8>, number: u64) -> Result<(), Memory>
     if number < 100 {
         return push_two_digits(out, number as u8);
     }
-    push(out, Buffer::new().format(number).as_bytes())
+    push_long_number(out, number)
 }
 
 /// Adds a number in decimal digits.
@@ -59,14 +67,77 @@ pub fn push_number(out: &mut Vec<u8>, number: u64) -> Result<(), Memory>
     push_digits(out, number)
 }
 
+// Adds a number of two digits, and a byte behind it.
+#[tactic(auto, using(crate::proofs::Digits::two_digits_then))]
+fn push_two_digits_then(out: &mut Vec<u8>, number: u8, byte: u8) -> Result<(), Memory>
+    requires { (10 ≤ number) × (number < 100) }
+    ensures { OnOk result (out.new.items ≡ out.old.items ++ (decimal number ++ byte ∷ [])) }
+{
+    push(out, &[b'0' + number / 10, b'0' + number % 10, byte])
+}
+
+// Adds a number of more than one digit, and a byte behind it.
+#[inline(never)]
+fn push_digits_then(out: &mut Vec<u8>, number: u64, byte: u8) -> Result<(), Memory>
+    requires { 10 ≤ number }
+    ensures { OnOk result (out.new.items ≡ out.old.items ++ (decimal number ++ byte ∷ [])) }
+{
+    if number < 100 {
+        return push_two_digits_then(out, number as u8, byte);
+    }
+    push_long_number(out, number)?;
+    push_byte(out, byte)
+}
+
+// Adds a number of one digit, and a byte behind it.
+#[tactic(auto, using(crate::proofs::Digits::digit_then))]
+fn push_digit_then(out: &mut Vec<u8>, digit: u8, byte: u8) -> Result<(), Memory>
+    requires { digit < 10 }
+    ensures { OnOk result (out.new.items ≡ out.old.items ++ (decimal digit ++ byte ∷ [])) }
+{
+    push(out, &[b'0' + digit, byte])
+}
+
+// Adds a number in decimal digits, and a byte behind it.
+#[inline]
+pub(crate) fn push_number_then(out: &mut Vec<u8>, number: u64, byte: u8) -> Result<(), Memory>
+    ensures { OnOk result (out.new.items ≡ out.old.items ++ (decimal number ++ byte ∷ [])) }
+{
+    if number < 10 {
+        return push_digit_then(out, number as u8, byte);
+    }
+    push_digits_then(out, number, byte)
+}
+
+// Adds any signed number.
+#[inline(never)]
+fn push_long_signed(out: &mut Vec<u8>, number: i32) -> Result<(), Memory>
+    ensures { OnOk result (out.new.items ≡ out.old.items ++ signed_decimal number) }
+{
+    push(out, Buffer::new().format(number).as_bytes())
+}
+
 /// Adds a signed number in decimal digits.
+#[inline]
 pub fn push_signed(out: &mut Vec<u8>, number: i32) -> Result<(), Memory>
     ensures { OnOk result (out.new.items ≡ out.old.items ++ signed_decimal number) }
 {
     if number >= 0 {
         return push_number(out, number as u64);
     }
-    push(out, Buffer::new().format(number).as_bytes())
+    push_long_signed(out, number)
+}
+
+// Adds a signed number in decimal digits, and a space.
+#[inline]
+pub(crate) fn push_signed_and_space(out: &mut Vec<u8>, number: i32) -> Result<(), Memory>
+    ensures { OnOk result (out.new.items ≡ out.old.items ++ (signed_decimal number ++ 32 ∷ [])) }
+{
+    if number >= 0 {
+        return push_number_then(out, number as u64, b' ');
+    }
+    push_long_signed(out, number)?;
+    push_byte(out, b' ')
 }
 
 // Whether a byte stands for itself between quotes.
@@ -100,10 +171,15 @@ fn push_escaped(out: &mut Vec<u8>, byte: u8) -> Result<(), Memory>
     }
 }
 
+// Each byte is tested, also behind one that isn't plain: so the loop has no early end and becomes vector code.
 fn all_plain(text: &[u8]) -> bool
     ensures { result ≡ list_all is_plain text.now }
 {
-    text.iter().all(|byte| plain(*byte))
+    let mut all = true;
+    for byte in text {
+        all &= plain(*byte);
+    }
+    all
 }
 
 // Most texts have no byte to escape, and are added at once.
@@ -149,6 +225,37 @@ pub(crate) fn is_repeat(text: &[u8]) -> bool
     }
 }
 
+// Adds a byte that stands less than a hundred times, at once.
+fn push_short_repeat(out: &mut Vec<u8>, count: u8, byte: u8) -> Result<(), Memory>
+    requires { (10 ≤ count) × (count < 100) }
+    ensures { OnOk result
+        (out.new.items ≡ out.old.items ++ (codes "rep:" ++ decimal count ++ 58 ∷ byte ∷ [])) }
+{
+    let (tens, units) = (b'0' + count / 10, b'0' + count % 10);
+    push(out, &[b'r', b'e', b'p', b':', tens, units, b':', byte])
+}
+
+#[inline(never)]
+fn push_long_repeat(out: &mut Vec<u8>, count: u64, byte: u8) -> Result<(), Memory>
+    ensures { OnOk result
+        (out.new.items ≡ out.old.items ++ (codes "rep:" ++ decimal count ++ 58 ∷ byte ∷ [])) }
+{
+    push(out, b"rep:")?;
+    push_number(out, count)?;
+    push(out, &[b':', byte])
+}
+
+// Adds a byte that stands so many times.
+fn push_repeat(out: &mut Vec<u8>, count: usize, byte: u8) -> Result<(), Memory>
+    ensures { OnOk result
+        (out.new.items ≡ out.old.items ++ (codes "rep:" ++ decimal count ++ 58 ∷ byte ∷ [])) }
+{
+    if (10..100).contains(&count) {
+        return push_short_repeat(out, count as u8, byte);
+    }
+    push_long_repeat(out, count as u64, byte)
+}
+
 /// Adds a message's text, in quotes or by the byte that it repeats.
 pub fn push_message(out: &mut Vec<u8>, text: &[u8]) -> Result<(), Memory>
     ensures { OnOk result (out.new.items ≡ out.old.items ++ message_text text.now) }
@@ -156,7 +263,5 @@ pub fn push_message(out: &mut Vec<u8>, text: &[u8]) -> Result<(), Memory>
     if !is_repeat(text) {
         return push_quoted(out, text);
     }
-    push(out, b"rep:")?;
-    push_number(out, text.len() as u64)?;
-    push(out, &[b':', text[0]])
+    push_repeat(out, text.len(), text[0])
 }
