@@ -1,12 +1,15 @@
--- The first message of the lowest type that isn't above a bound, among the messages from a place on.
-use Rattle.std.specs.Prelude.{◌≡◌, ℕ, ◌+◌, ℤ, ◌≤ℤ◌, List, Option, Some, None, option_map}
-use Rattle.kernel_model.specs.Queue.{Message, lowest_upto, first_of}
+-- Walking along messages in order, and keeping the place of the first one of the lowest type so far.
+use Rattle.std.specs.Prelude.{ℕ, ◌+◌, ℤ, List, [], ◌∷◌, Option, Some, None, int_lt, if◌then◌else◌}
+use Rattle.kernel_model.specs.Queue.{Message, lower_of}
 
-pub record IsLowestOf (bound : ℤ) (start : ℕ) (rest : List Message) (class : ℤ) (place : ℕ) : Type 0 where
-  pub lowest : lowest_upto bound rest ≡ Some class
-  pub first : option_map (λ k. start + k) (first_of class rest) ≡ Some place
-  pub within : class ≤ℤ bound
+-- the lowest type below a bound
+abbrev pub lowest_below : ℤ → List Message → Option ℤ
+lowest_below above [] = None
+lowest_below above (m ∷ ms) =
+    if int_lt m.class above then Some (lower_of m.class (lowest_below above ms)) else lowest_below above ms
 
-abbrev pub IsLowest : ℤ → ℕ → List Message → Option (ℤ × ℕ) → Type 0
-IsLowest bound start rest None = lowest_upto bound rest ≡ None
-IsLowest bound start rest (Some best) = IsLowestOf bound start rest best.0 best.1
+-- the place at the end of the messages from a place on, where a type below the bound takes the place kept so far
+abbrev pub walked : ℤ → ℕ → ℕ → List Message → ℕ
+walked above at place [] = place
+walked above at place (m ∷ ms) =
+    if int_lt m.class above then walked m.class (at + 1) at ms else walked above (at + 1) place ms

@@ -9,6 +9,3 @@ mod unpack;
 
 pub use message::Message;
 pub use queue::{Queue, SendFault};
-
-#[cfg(test)]
-mod tests;

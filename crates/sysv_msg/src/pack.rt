@@ -18,21 +18,35 @@ fn push_message(out: &mut Vec<u8>, message: &Message) -> Result<(), Memory>
     requires { length message.now.text ≤ max_text }
     ensures { OnOk result (out.new.items ≡ out.old.items ++ message_field message.now) }
 {
-    out.extend_from_slice(&message.class.to_be_bytes())?;
-    out.extend_from_slice(&(message.text.len() as u32).to_be_bytes())?;
+    let class = message.class.to_be_bytes();
+    let length = (message.text.len() as u32).to_be_bytes();
+    let head = [
+        class[0], class[1], class[2], class[3], length[0], length[1], length[2], length[3],
+    ];
+    out.extend_from_slice(&head)?;
     out.extend_from_slice(message.text.as_slice())?;
     Ok(())
 }
 
 /// Adds messages at the end.
-fn push_messages(out: &mut Vec<u8>, messages: &VecDeque<Message>) -> Result<(), Memory>
+fn push_messages(out: &mut Vec<u8>, messages: &[Message]) -> Result<(), Memory>
+    requires { AllByRecursion IsSendable messages.now }
+    ensures { OnOk result (out.new.items ≡ out.old.items ++ flat_map message_field messages.now) }
+{
+    for message in messages {
+        push_message(out, message)?;
+    }
+    Ok(())
+}
+
+/// Adds the messages of a queue at the end.
+fn push_all(out: &mut Vec<u8>, messages: &VecDeque<Message>) -> Result<(), Memory>
     requires { AllByRecursion IsSendable messages.now.items }
     ensures { OnOk result (out.new.items ≡ out.old.items ++ flat_map message_field messages.now.items) }
 {
-    for place in 0..messages.len() {
-        push_message(out, &messages[place])?;
-    }
-    Ok(())
+    let (front, back) = messages.as_slices();
+    push_messages(out, front)?;
+    push_messages(out, back)
 }
 
 impl Queue {
@@ -48,7 +62,7 @@ impl Queue {
         out.extend_from_slice(&self.last_sender.0.to_be_bytes())?;
         out.extend_from_slice(&self.last_receiver.0.to_be_bytes())?;
         out.extend_from_slice(&(self.messages.len() as u16).to_be_bytes())?;
-        push_messages(&mut out, &self.messages)?;
+        push_all(&mut out, &self.messages)?;
         Ok(Bytes::from_vec(out))
     }
 }

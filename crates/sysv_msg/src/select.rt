@@ -1,37 +1,79 @@
 //! Which message a receive asks for (POSIX.1-2017, msgrcv).
-ghost use Rattle.std.specs.Prelude.{◌≡◌, ◌+◌, ◌<◌, List, ◌∷◌, IfSome, length};
+ghost use Rattle.std.specs.Prelude.{◌≡◌, ◌+◌, ◌<◌, ◌^◌, List, ◌∷◌, ◌++◌, IfSome, length};
+ghost use Rattle.std.specs.List.{AllByRecursion};
 ghost use Rattle.kernel_model.specs.Queue as definition;
-ghost use Rattle.sysv_msg.specs.Lowest.{IsLowest};
+ghost use Rattle.sysv_msg.specs.Limits.{IsSendable};
+ghost use Rattle.sysv_msg.specs.Lowest.{lowest_below, walked};
 
 use crate::Message;
 use std::collections::VecDeque;
 
-/// The lowest type that isn't above a bound and the place of its first message, if there is one.
-type Lowest = Option<(i32, usize)>;
+/// How many messages are walked along before it is asked whether a lower type can come at all.
+const AT_ONCE: usize = 64;
 
-/// What is the lowest when a message of this type at this place stands in front.
-fn with_one_in_front(behind: Lowest, class: i32, place: usize, bound: i64) -> Lowest
+/// The type that a lower one takes the place of, and the place.
+type Lowest = (i64, usize);
+
+/// What is kept behind a message of this type at this place.
+fn lower_of(kept: Lowest, class: i32, place: usize) -> Lowest
+    requires { place + 1 < 2 ^ 64 }
     ensures { (m : definition.Message) (rest : List definition.Message) → m.class ≡ class
-        → IsLowest bound (place + 1) rest behind → IsLowest bound place (m ∷ rest) result }
+        → walked result.0 (place + 1) result.1 rest ≡ walked kept.0 place kept.1 (m ∷ rest) }
 {
-    if i64::from(class) > bound {
-        return behind;
-    }
-    match behind {
-        Some((lowest, _)) if lowest < class => behind,
-        _ => Some((class, place)),
+    if i64::from(class) < kept.0 {
+        (i64::from(class), place)
+    } else {
+        kept
     }
 }
 
-/// The place of the first message of the lowest type that isn't above a bound.
-fn first_of_lowest(messages: &VecDeque<Message>, bound: i64) -> Option<usize>
-    ensures { result ≡ definition.first_of_some (definition.lowest_upto bound messages.now.items) messages.now.items }
+/// What is kept behind messages from a place on.
+fn lowest_behind(start: usize, messages: &[Message], kept: Lowest) -> Lowest
+    requires { start + length messages.now < 2 ^ 64 }
+    ensures { (rest : List definition.Message)
+        → walked result.0 (start + length messages.now) result.1 rest
+        ≡ walked kept.0 start kept.1 (messages.now ++ rest) }
 {
-    let mut lowest = None;
-    for place in (0..messages.len()).rev() {
-        lowest = with_one_in_front(lowest, messages[place].class, place, bound);
+    let mut lowest = kept;
+    for (index, message) in messages.iter().enumerate() {
+        lowest = lower_of(lowest, message.class, start + index);
     }
-    lowest.map(|(_, place)| place)
+    lowest
+}
+
+/// The same, up to a type of 1, which none takes the place of.
+fn lowest_of_all(start: usize, messages: &[Message], kept: Lowest) -> Lowest
+    requires fits { start + length messages.now < 2 ^ 64 }
+    requires sendable { AllByRecursion IsSendable messages.now }
+    ensures { (rest : List definition.Message) → AllByRecursion IsSendable rest
+        → walked result.0 (start + length messages.now) result.1 rest
+        ≡ walked kept.0 start kept.1 (messages.now ++ rest) }
+{
+    let mut lowest = kept;
+    let mut at = start;
+    let mut rest = messages;
+    while !rest.is_empty() && lowest.0 > 1 {
+        let (now, after) = rest.split_at(rest.len().min(AT_ONCE));
+        lowest = lowest_behind(at, now, lowest);
+        at += now.len();
+        rest = after;
+    }
+    lowest
+}
+
+/// The place of the first message of the lowest type below a bound.
+fn first_of_lowest(messages: &VecDeque<Message>, above: i64) -> Option<usize>
+    requires { AllByRecursion IsSendable messages.now.items }
+    ensures { result ≡ definition.first_of_some (lowest_below above messages.now.items) messages.now.items }
+{
+    let (front, back) = messages.as_slices();
+    let lowest = lowest_of_all(0, front, (above, messages.len()));
+    let (_, place) = lowest_of_all(front.len(), back, lowest);
+    if place < messages.len() {
+        Some(place)
+    } else {
+        None
+    }
 }
 
 /// The place of the first message of a type.
@@ -46,11 +88,12 @@ fn first_of(messages: &VecDeque<Message>, class: i32) -> Option<usize>
 /// where it is negative. None where there is none.
 #[tactic(auto, using(crate::proofs::Selected::selections))]
 pub(crate) fn place_of(messages: &VecDeque<Message>, class: i32) -> Option<usize>
+    requires { AllByRecursion IsSendable messages.now.items }
     ensures selected { result ≡ definition.select messages.now.items class }
     ensures within { IfSome result (λ place. place < length messages.now.items) }
 {
     if class < 0 {
-        first_of_lowest(messages, -i64::from(class))
+        first_of_lowest(messages, 1 - i64::from(class))
     } else if class > 0 {
         first_of(messages, class)
     } else if messages.is_empty() {

@@ -130,17 +130,17 @@ fn copied(alloc: Global, count: u16, bytes: &[u8]) -> Result<VecDeque<Message>, 
     ensures { IfOk result
         (λ messages. messages_in (messages_at count max_queue_bytes bytes.now) ≡ Some messages.items) }
 {
-    let mut messages = VecDeque::with_capacity(alloc, usize::from(count))?;
+    let mut messages = Vec::with_capacity(alloc, usize::from(count))?;
     let mut room = MAX_BYTES;
     let mut rest = bytes;
     for _ in 0..count {
         let (class, text, after) = message_of(room, rest).unwrap();
         room -= text.len() as u32;
         let text = Bytes::from_slice(alloc, text)?;
-        messages.push_back(Message { class, text })?;
+        messages.push(Message { class, text })?;
         rest = after;
     }
-    Ok(messages)
+    Ok(VecDeque::from_vec(messages))
 }
 
 impl Queue {

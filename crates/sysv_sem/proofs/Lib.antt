@@ -1,6 +1,6 @@
+pub mod Carried
 mod Examples
 pub mod Loop
 pub mod Rows
 pub mod Semaphores
-pub mod Trials
 pub mod Within

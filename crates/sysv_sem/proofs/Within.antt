@@ -1,5 +1,5 @@
 -- What is carried out on a set within the limits leaves one.
-use Rattle.std.proofs.Common.{◌≡◌, ℕ, zero, suc, ◌+◌, ◌-◌, ◌≤◌, Bool, true, false, cond, eqb, ltb, leb, ◌||◌, ℤ, pos, negsuc, List, [], ◌∷◌, Option, Some, None, Result, Ok, Err, ◌++◌, take, drop, length, set, refl, sym, ap, subst, ◌∙◌, arith}
+use Rattle.std.proofs.Common.{◌≡◌, ℕ, zero, suc, ◌+◌, ◌-◌, ◌≤◌, Bool, true, false, cond, eqb, ltb, leb, ℤ, pos, negsuc, List, [], ◌∷◌, Option, Some, None, Result, Ok, Err, ◌++◌, take, drop, length, set, refl, sym, ap, subst, ◌∙◌, arith}
 use Rattle.std.specs.Prelude.{fold, slice_get, IfOk, IfSome, OnErr}
 use Rattle.std.specs.List.{AllByRecursion, list_any}
 use Rattle.std.proofs.lemmas.Bool.{leb-true, ltb-false, eqb-true, or_parts}
@@ -209,22 +209,15 @@ whole size xs ys = take size (xs ++ drop (length xs) ys)
 
 -- a set after `semop` is within its limits
 pub set_after_op : {E : Type 0} (r : Result E Errno) (old new : List Semaphore) (pid : ℕ) (steps : List SemStep)
-    (scratch trial : List ℕ) (size room : ℕ)
+    (size : ℕ)
     → IfOk r (λ _. op (set_of old) pid steps ≡ Ok (set_of new)) → OnErr r (new ≡ old) → length old ≡ size
-    → length scratch ≡ room → length new ≡ length old → length trial ≡ length scratch
-    → (length scratch ≡ length old) × IsWithinLimits (set_of old)
-    → (length (whole room trial scratch) ≡ length (whole size new old))
-    × IsWithinLimits (set_of (whole size new old))
-set_after_op r old new pid steps scratch trial size room done same size_is room_is len trial_len h =
-    rw (rejoined size new old (omega arith), rejoined room trial scratch (omega arith))
-    (omega arith, kept_by_op r old new pid steps done same h.1)
+    → length new ≡ length old → IsWithinLimits (set_of old) → IsWithinLimits (set_of (whole size new old))
+set_after_op r old new pid steps size done same size_is len h =
+    rw (rejoined size new old (omega arith)) (kept_by_op r old new pid steps done same h)
 
 -- a set after SETALL is within its limits
-pub set_after_set_all : {E : Type 0} (r : Result E Errno) (old new : List Semaphore) (values scratch : List ℕ)
-    (size : ℕ)
+pub set_after_set_all : {E : Type 0} (r : Result E Errno) (old new : List Semaphore) (values : List ℕ) (size : ℕ)
     → IfOk r (λ _. set_all (set_of old) values ≡ Ok (set_of new)) → OnErr r (new ≡ old) → length old ≡ size
-    → length new ≡ length old
-    → (length scratch ≡ length old) × IsWithinLimits (set_of old) → (length scratch ≡ length (whole size new old))
-    × IsWithinLimits (set_of (whole size new old))
-set_after_set_all r old new values scratch size done same size_is len h =
-    rw (rejoined size new old (omega arith)) (omega arith, kept_by_set_all r old new values done same h.1)
+    → length new ≡ length old → IsWithinLimits (set_of old) → IsWithinLimits (set_of (whole size new old))
+set_after_set_all r old new values size done same size_is len h =
+    rw (rejoined size new old (omega arith)) (kept_by_set_all r old new values done same h)

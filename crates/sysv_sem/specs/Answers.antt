@@ -1,8 +1,9 @@
--- What a trial comes to, as an answer.
-use Rattle.std.specs.Prelude.{ℕ, List, Result, Ok, Err}
+-- What operations come to, as an answer.
+use Rattle.std.specs.Prelude.{ℕ, List, [], ◌∷◌, Result, Ok, Err, option_map, slice_get, slice_set}
+use Rattle.pico_base.specs.declared.call.SemStep.{SemStep}
 use Rattle.pico_base.specs.declared.reply.Errno.{Errno}
 use Rattle.pico_base.specs.declared.reply.Errno.TheVariants.{Eagain, Erange}
-use Rattle.kernel_model.specs.SemaphoreSet.{Moved, To, Waits, TooHigh, Tried, Done, StopsAt, OutOfRange}
+use Rattle.kernel_model.specs.SemaphoreSet.{Semaphore, move_at, Moved, To, Waits, TooHigh}
 
 -- of one operation
 abbrev pub answer_of : Moved → Result ℕ Errno
@@ -10,8 +11,14 @@ answer_of (To value) = Ok value
 answer_of Waits = Err Eagain
 answer_of TooHigh = Err Erange
 
--- of all
-abbrev pub trial_of : Tried → Result (List ℕ) Errno
-trial_of (Done values) = Ok values
-trial_of (StopsAt index) = Err Eagain
-trial_of OutOfRange = Err Erange
+-- what there is to do with a value
+abbrev pub on_value : Result ℕ Errno → (ℕ → Result (List Semaphore) Errno) → Result (List Semaphore) Errno
+on_value (Ok value) further = further value
+on_value (Err e) further = Err e
+
+-- the semaphores after operations by a process, each of which is carried out on what the one before it left
+abbrev pub carried : ℕ → List Semaphore → List SemStep → Result (List Semaphore) Errno
+carried pid set [] = Ok set
+carried pid set (step ∷ steps) =
+    on_value (answer_of (move_at step.add (option_map (λ s. s.value) (slice_get set step.num))))
+    (λ value. carried pid (slice_set set step.num (record { value = value; last = pid })) steps)

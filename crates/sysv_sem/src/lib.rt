@@ -11,6 +11,3 @@ mod unpack;
 
 pub use fault::NewFault;
 pub use set::SemSet;
-
-#[cfg(test)]
-mod tests;

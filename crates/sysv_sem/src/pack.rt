@@ -17,9 +17,9 @@ fn push_semaphore(out: &mut Vec<u8>, semaphore: &Semaphore) -> Result<(), Memory
     ensures field { OnOk result (out.new.items ≡ out.old.items ++ semaphore_field semaphore.now) }
     ensures process { HasProcess semaphore.now }
 {
-    let last = semaphore.last.0;
-    out.extend_from_slice(&(semaphore.value as u16).to_be_bytes())?;
-    out.extend_from_slice(&last.to_be_bytes())?;
+    let value = (semaphore.value as u16).to_be_bytes();
+    let last = semaphore.last.0.to_be_bytes();
+    out.extend_from_slice(&[value[0], value[1], last[0], last[1], last[2], last[3]])?;
     Ok(())
 }
 

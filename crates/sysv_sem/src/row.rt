@@ -1,12 +1,12 @@
 //! The semaphores of a set, one by one.
-ghost use Rattle.std.specs.Prelude.{◌≡◌, ◌<◌, length, All, fold, replicate, nat_le, nat_lt, Ok, Err, IfOk, IfErr, OnErr};
+ghost use Rattle.std.specs.Prelude.{◌≡◌, ◌<◌, length, All, replicate, nat_le, nat_lt, Ok, Err, IfOk, IfErr, OnErr};
 ghost use Rattle.std.specs.Bool.{OnFalse};
 ghost use Rattle.std.specs.List.{list_any};
 ghost use Rattle.kernel_model.specs.SemaphoreSet as definition;
 
 use crate::semaphore::Semaphore;
 use crate::set::{MAX_OPERATIONS, MAX_VALUE};
-use crate::trial::try_steps;
+use crate::trial::carry_out;
 use pico_base::{Errno, Pid, SemStep};
 use std::alloc::{AllocError, Global};
 
@@ -42,17 +42,6 @@ fn write_values(set: &mut [Semaphore], values: &[u32])
     }
 }
 
-/// Makes the process the last one of each semaphore that an operation names.
-fn mark(set: &mut [Semaphore], pid: Pid, steps: &[SemStep])
-    requires { All (λ step. step.num < length set.old) steps.now }
-    ensures { set.new ≡ fold (definition.mark pid) set.old steps.now }
-{
-    for step in steps {
-        let semaphore = &mut set[step.num as usize];
-        semaphore.last = pid;
-    }
-}
-
 /// Whether an operation names a semaphore that isn't in a set of this size.
 fn names_outside(size: usize, steps: &[SemStep]) -> bool
     ensures value { result ≡ list_any (λ step. nat_le size step.num) steps.now }
@@ -61,15 +50,9 @@ fn names_outside(size: usize, steps: &[SemStep]) -> bool
     steps.iter().any(|step| step.num as usize >= size)
 }
 
-/// Carries out all operations in order, or none. Their trial is made on `values`. E2BIG: there are more than 32.
-/// EFBIG: one names a semaphore that isn't there. EAGAIN and ERANGE: as in the trial.
-pub(crate) fn operate(
-    set: &mut [Semaphore],
-    values: &mut [u32],
-    pid: Pid,
-    steps: &[SemStep],
-) -> Result<(), Errno>
-    requires { length values.old ≡ length set.old }
+/// Carries out all operations in order, or none. E2BIG: there are more than 32. EFBIG: one names a semaphore that
+/// isn't there. EAGAIN and ERANGE: the first that can't go on would have to wait, or make too great a value.
+pub(crate) fn operate(set: &mut [Semaphore], pid: Pid, steps: &[SemStep]) -> Result<(), Errno>
     ensures done { IfOk result
         (λ _. definition.op (definition.set_of set.old) pid steps.now ≡ Ok (definition.set_of set.new)) }
     ensures refused { IfErr result (λ e. definition.op (definition.set_of set.old) pid steps.now ≡ Err e) }
@@ -81,11 +64,7 @@ pub(crate) fn operate(
     if names_outside(set.len(), steps) {
         return Err(Errno::Efbig);
     }
-    copy_values(set, values);
-    try_steps(values, steps)?;
-    write_values(set, values);
-    mark(set, pid, steps);
-    Ok(())
+    carry_out(set, pid, steps)
 }
 
 /// Whether a value is above 32,767.

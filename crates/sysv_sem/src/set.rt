@@ -21,12 +21,9 @@ pub(crate) const MAX_OPERATIONS: usize = 32;
 #[derive(Debug, Drop)]
 pub struct SemSet {
     pub(crate) semaphores: Vec<Semaphore>,
-    // the values of a trial
-    pub(crate) scratch: Vec<u32>,
 }
 
 impl Model for SemSet {
-    ghost use Rattle.std.specs.Prelude.{◌≡◌, length};
     ghost use Rattle.kernel_model.specs.SemaphoreSet.{SemaphoreSet as Value_};
     ghost use Rattle.sysv_sem.specs.Limits.{IsWithinLimits};
 
@@ -34,8 +31,7 @@ impl Model for SemSet {
 
     ghost view = { λ s. record { semaphores = s.semaphores.items } };
 
-    ghost invariant = { λ s. (length s.scratch.items ≡ length s.semaphores.items)
-        × IsWithinLimits (record { semaphores = s.semaphores.items }) };
+    ghost invariant = { λ s. IsWithinLimits (record { semaphores = s.semaphores.items }) };
 }
 
 impl SemSet {
@@ -49,11 +45,7 @@ impl SemSet {
             return Err(NewFault::BadCount);
         }
         let semaphores = new_semaphores(alloc, count as usize)?;
-        let scratch = vec![in alloc; 0; count as usize]?;
-        Ok(SemSet {
-            semaphores,
-            scratch,
-        })
+        Ok(SemSet { semaphores })
     }
 
     /// `semop`: all operations are carried out in order, or none. The process is then the last one of each
@@ -65,7 +57,7 @@ impl SemSet {
         ensures refused { IfErr result (λ e. definition.op self.old pid steps.now ≡ Err e) }
         ensures err { OnErr result (self.new ≡ self.old) }
     {
-        operate(&mut self.semaphores, &mut self.scratch, pid, steps)
+        operate(&mut self.semaphores, pid, steps)
     }
 
     /// `semctl` with GETVAL. EINVAL: the semaphore isn't there.

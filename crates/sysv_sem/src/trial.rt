@@ -1,10 +1,11 @@
-//! The trial of a `semop`: its operations in order, on a copy of the values.
-ghost use Rattle.std.specs.Prelude.{◌≡◌, ◌<◌, length, All, Ok, Err, IfErr, OnOk};
+//! The operations of a `semop` in order, each undone again where a later one can't go on.
+ghost use Rattle.std.specs.Prelude.{◌≡◌, ◌<◌, length, All, Ok, Err, IfErr, OnOk, OnErr};
 ghost use Rattle.kernel_model.specs.SemaphoreSet as definition;
-ghost use Rattle.sysv_sem.specs.Answers.{answer_of, trial_of};
+ghost use Rattle.sysv_sem.specs.Answers.{answer_of, carried};
 
+use crate::semaphore::Semaphore;
 use crate::set::MAX_VALUE;
-use pico_base::{Errno, SemStep};
+use pico_base::{Errno, Pid, SemStep};
 
 /// The value that one operation makes of a value. EAGAIN: it would have to wait. ERANGE: the value would be above
 /// 32,767.
@@ -26,16 +27,24 @@ fn moved(add: i32, value: u32) -> Result<u32, Errno>
     }
 }
 
-/// Carries out operations in order on values, up to the first that can't go on. EAGAIN: it would have to wait.
-/// ERANGE: a value would be above 32,767.
-pub(crate) fn try_steps(values: &mut [u32], steps: &[SemStep]) -> Result<(), Errno>
-    requires { All (λ step. step.num < length values.old) steps.now }
-    ensures done { OnOk result (trial_of (definition.try_ops values.old steps.now) ≡ Ok values.new) }
-    ensures refused { IfErr result (λ e. trial_of (definition.try_ops values.old steps.now) ≡ Err e) }
+/// Carries out operations in order, or none, and makes the process the last one of each semaphore that they name.
+/// EAGAIN: the first that can't go on would have to wait. ERANGE: it would make a value above 32,767.
+pub(crate) fn carry_out(set: &mut [Semaphore], pid: Pid, steps: &[SemStep]) -> Result<(), Errno>
+    requires { All (λ step. step.num < length set.old) steps.now }
+    ensures done { OnOk result (carried pid set.old steps.now ≡ Ok set.new) }
+    ensures refused { IfErr result (λ e. carried pid set.old steps.now ≡ Err e) }
+    ensures err { OnErr result (set.new ≡ set.old) }
 {
-    for step in steps {
-        let place = step.num as usize;
-        values[place] = moved(step.add, values[place])?;
+    let Some((step, rest)) = steps.split_first() else {
+        return Ok(());
+    };
+    let place = step.num as usize;
+    let before = set[place];
+    let value = moved(step.add, before.value)?;
+    set[place] = Semaphore { value, last: pid };
+    let done = carry_out(set, pid, rest);
+    if done.is_err() {
+        set[place] = before;
     }
-    Ok(())
+    done
 }

@@ -100,10 +100,6 @@ impl SemSet {
         let read = unpacked(bytes).ok_or(UnpackFault::NotABody)?;
         let mut semaphores = Vec::with_capacity(alloc, read.len())?;
         semaphores.extend_from_slice(read.as_slice())?;
-        let scratch = vec![in alloc; 0; semaphores.len()]?;
-        Ok(SemSet {
-            semaphores,
-            scratch,
-        })
+        Ok(SemSet { semaphores })
     }
 }

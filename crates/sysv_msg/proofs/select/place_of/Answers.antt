@@ -1,6 +1,6 @@
-use Rattle.std.proofs.Common.{◌∙◌, arith}
+use Rattle.std.proofs.Common.{◌≡◌, ℤ, pos, ◌-ℤ◌, ◌<ℤ◌, SFits, w32, w64, ap, ◌∙◌, arith, rules}
 use Rattle.std.proofs.lemmas.Int.{ints, to_z-of_z}
-use Rattle.sysv_msg.proofs.Selected.{select-positive}
+use Rattle.sysv_msg.proofs.Selected.{select-positive, select-negative}
 use Rattle.sysv_msg.proofs.select.place_of.Goals as goal
 
 pub returns-then-class-gt0-clause-selected : goal.returns-then-class-gt0-clause-selected
@@ -8,3 +8,14 @@ returns-then-class-gt0-clause-selected c =
     let items = c.args.messages.now.items in
     let fits = c.ranges.class in
     c.first_of.ensures ∙ simp to_z-of_z (select-positive items c.args.class (omega (arith, ints)))
+
+pub returns-then-class-lt0-clause-selected : goal.returns-then-class-lt0-clause-selected
+returns-then-class-lt0-clause-selected c =
+    let items = c.args.messages.now.items in
+    let narrow : SFits w32 c.args.class = search rules in
+    let same : c.from.result ≡ c.args.class = search rules in
+    let wide : SFits w64 c.from.result = search rules in
+    let fits : SFits w64 (pos 1 -ℤ c.from.result) = search rules in
+    let low : c.args.class <ℤ pos 0 = search rules in
+    simp to_z-of_z at c.first_of_lowest.ensures
+    ∙ select-negative items c.args.class (pos 1 -ℤ c.from.result) low (ap (λ (z : ℤ). pos 1 -ℤ z) same)

@@ -1,4 +1,3 @@
-use Rattle.std.proofs.Common.{arith}
 use Rattle.kernel_model.specs.Queue.{max_queue_bytes}
 use Rattle.sysv_msg.specs.Reading.{messages_at}
 use Rattle.sysv_msg.proofs.Loop.{ends, has_read_more, measured}

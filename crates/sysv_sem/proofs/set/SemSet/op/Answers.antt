@@ -5,11 +5,7 @@ use Rattle.sysv_sem.proofs.set.SemSet.op.Goals as goal
 pub invariant_of-self : goal.invariant_of-self
 invariant_of-self c =
     let row = c.self.inside.semaphores.items in
-    let scratch = c.self.inside.scratch.items in
     let row_is = c.deref_mut.ensures.value in
-    let scratch_is = c.deref_mut-2.ensures.value in
-    set_after_op c.operate.result row c.operate.new.set c.args.pid c.args.steps.now scratch c.operate.new.values
-    c.self.inside.semaphores.len c.self.inside.scratch.len
+    set_after_op c.operate.result row c.operate.new.set c.args.pid c.args.steps.now c.self.inside.semaphores.len
     (rw row_is at c.operate.ensures.done) (rw row_is at c.operate.ensures.err)
-    (ap length (sym row_is) ∙ c.deref_mut.ensures.len) (ap length (sym scratch_is) ∙ c.deref_mut-2.ensures.len)
-    (c.operate.auto.set ∙ ap length row_is) (c.operate.auto.values ∙ ap length scratch_is) c.self.invariant
+    (ap length (sym row_is) ∙ c.deref_mut.ensures.len) (c.operate.auto.set ∙ ap length row_is) c.self.invariant

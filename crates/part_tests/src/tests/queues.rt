@@ -1,8 +1,8 @@
 //! What a type selects, room at its edges, and bodies that are refused.
-use crate::{Queue, SendFault};
 use pico_base::{Bytes, Errno, Memory, Pid, Reply, UnpackFault};
 use std::alloc::Global;
 use std::test::Fail;
+use sysv_msg::{Queue, SendFault};
 
 /// Types of three messages with the texts a, b and c, the type asked for, and the text it gives, 0 for none.
 const SELECTED: [([i32; 3], i32, u8); 14] = [
@@ -137,32 +137,95 @@ fn every_type_on_three_messages(rt: HostRuntime) -> Result<(), Fail> {
     Ok(())
 }
 
+/// A queue with messages of these types and texts.
+fn queue_of(alloc: Global, messages: &[(i32, &[u8])]) -> Result<Queue, Memory> {
+    let mut queue = Queue::new(alloc)?;
+    for (class, text) in messages {
+        send(alloc, &mut queue, *class, text)?;
+    }
+    Ok(queue)
+}
+
 #[test]
 fn lowest_before_oldest(rt: HostRuntime) -> Result<(), Fail> {
-    let mut queue = Queue::new(rt.alloc())?;
-    send(rt.alloc(), &mut queue, 5, b"e")?;
-    send(rt.alloc(), &mut queue, 4, b"d")?;
-    send(rt.alloc(), &mut queue, 3, b"a")?;
-    send(rt.alloc(), &mut queue, 3, b"b")?;
+    let mut queue = queue_of(rt.alloc(), &[(5, b"e"), (4, b"d"), (3, b"a"), (3, b"b")])?;
     assert!(rt; gives(&mut queue, -4, 3, b"a"));
     assert!(rt; gives(&mut queue, 0, 5, b"e"));
     Ok(())
 }
 
+/// The type to which the types of a queue fall from 200, and the type that a receive of the lowest takes, 0 for none.
+const FALLING: [(i32, i32); 6] = [
+    (201, 0),
+    (200, 200),
+    (137, 137),
+    (136, 136),
+    (51, 51),
+    (1, 1),
+];
+
+fn lowest_of_falling(alloc: Global, last: i32) -> Result<i32, Memory> {
+    let mut queue = Queue::new(alloc)?;
+    for class in (last..201).rev() {
+        send(alloc, &mut queue, class, b"")?;
+    }
+    match queue.receive(Pid(8), -300, 0, false) {
+        Ok(taken) => Ok(taken.class),
+        Err(_) => Ok(0),
+    }
+}
+
+#[test]
+fn the_lowest_of_many(rt: HostRuntime) -> Result<(), Fail> {
+    for (last, class) in FALLING {
+        assert_eq!(rt; lowest_of_falling(rt.alloc(), last)?, class, "{last}");
+    }
+    Ok(())
+}
+
+/// A queue of eight messages of type 9, of which so many are received before these are sent.
+fn turned(alloc: Global, received: usize, sent: &[(i32, &[u8])]) -> Result<Queue, Memory> {
+    let mut queue = Queue::new(alloc)?;
+    for _ in 0..8 {
+        send(alloc, &mut queue, 9, b"")?;
+    }
+    for _ in 0..received {
+        let _ = queue.receive(Pid(8), 0, 0, false);
+    }
+    for (class, text) in sent {
+        send(alloc, &mut queue, *class, text)?;
+    }
+    Ok(queue)
+}
+
+#[test]
+fn the_lowest_of_a_queue_that_has_turned(rt: HostRuntime) -> Result<(), Fail> {
+    let mut queue = turned(rt.alloc(), 6, &[(7, b"a"), (5, b"b"), (5, b"c"), (6, b"d")])?;
+    assert!(rt; gives(&mut queue, -9, 5, b"b"));
+    assert!(rt; gives(&mut queue, -9, 5, b"c"));
+    assert!(rt; gives(&mut queue, 6, 6, b"d"));
+    Ok(())
+}
+
+/// The refusal of a receive of any type as process 8.
+fn refused(queue: &mut Queue, size: u32, noerror: bool) -> Option<Errno> {
+    queue.receive(Pid(8), 0, size, noerror).err()
+}
+
+#[test]
+fn a_long_text_stays(rt: HostRuntime) -> Result<(), Fail> {
+    let mut queue = queue_of(rt.alloc(), &[(1, b"abc")])?;
+    assert_eq!(rt; refused(&mut queue, 2, false), Some(Errno::E2big));
+    assert!(rt; gives(&mut queue, 0, 1, b"abc"));
+    Ok(())
+}
+
 #[test]
 fn a_long_text_is_cut(rt: HostRuntime) -> Result<(), Fail> {
-    let mut queue = Queue::new(rt.alloc())?;
-    send(rt.alloc(), &mut queue, 1, b"abc")?;
-    assert_eq!(rt;
-        queue.receive(Pid(8), 0, 2, false).err(),
-        Some(Errno::E2big)
-    );
+    let mut queue = queue_of(rt.alloc(), &[(1, b"abc")])?;
     let taken = queue.receive(Pid(8), 0, 2, true).ok().ok_or("nothing")?;
     assert_eq!(rt; taken.text.as_slice(), b"ab".as_slice());
-    assert_eq!(rt;
-        queue.receive(Pid(8), 0, 2, true).err(),
-        Some(Errno::Enomsg)
-    );
+    assert_eq!(rt; refused(&mut queue, 2, true), Some(Errno::Enomsg));
     Ok(())
 }
 
@@ -179,12 +242,20 @@ fn room_at_its_edges(rt: HostRuntime) -> Result<(), Fail> {
     Ok(())
 }
 
+/// A queue with so many empty messages, if it takes them all.
+fn filled(alloc: Global, count: usize) -> Result<Option<Queue>, Memory> {
+    let mut queue = Queue::new(alloc)?;
+    for _ in 0..count {
+        if send(alloc, &mut queue, 1, b"")?.is_some() {
+            return Ok(None);
+        }
+    }
+    Ok(Some(queue))
+}
+
 #[test]
 fn full_of_messages(rt: HostRuntime) -> Result<(), Fail> {
-    let mut queue = Queue::new(rt.alloc())?;
-    for _ in 0..1024 {
-        assert_eq!(rt; send(rt.alloc(), &mut queue, 1, b"")?, None);
-    }
+    let mut queue = filled(rt.alloc(), 1024)?.ok_or("refused too early")?;
     assert_eq!(rt; send(rt.alloc(), &mut queue, 1, b"")?, Some(Errno::Eagain));
     let stat = Reply::Stat {
         qnum: 1024,
@@ -201,23 +272,38 @@ const BODY: &[u8] =
     b"\x04\x00\x00\x40\x00\x00\x00\x00\x07\x00\x00\x00\x00\x00\x01\x00\x00\x01\x02\x00\x00\x00\x02hi";
 
 #[test]
-fn packed_and_unpacked(rt: HostRuntime) -> Result<(), Fail> {
-    let mut queue = Queue::new(rt.alloc())?;
-    send(rt.alloc(), &mut queue, 258, b"hi")?;
+fn packed(rt: HostRuntime) -> Result<(), Fail> {
+    let queue = queue_of(rt.alloc(), &[(258, b"hi")])?;
     assert_eq!(rt; queue.pack(rt.alloc())?.as_slice(), BODY);
-    assert!(rt; Queue::is_packed(BODY));
-    let mut again = Queue::unpack(rt.alloc(), BODY)?;
-    assert!(rt; gives(&mut again, 0, 258, b"hi"));
     Ok(())
 }
 
 #[test]
-fn refused_bodies(rt: HostRuntime) {
-    // the body cut anywhere
+fn unpacked(rt: HostRuntime) -> Result<(), Fail> {
+    assert!(rt; Queue::is_packed(BODY));
+    let mut queue = Queue::unpack(rt.alloc(), BODY)?;
+    assert!(rt; gives(&mut queue, 0, 258, b"hi"));
+    Ok(())
+}
+
+/// The fault of bytes.
+fn fault(alloc: Global, bytes: &[u8]) -> Option<UnpackFault> {
+    Queue::unpack(alloc, bytes).err()
+}
+
+#[test]
+fn a_body_that_ends_early(rt: HostRuntime) {
     for length in 0..BODY.len() {
-        let cut = Queue::unpack(rt.alloc(), &BODY[..length]);
-        assert_eq!(rt; cut.err(), Some(UnpackFault::NotABody), "{length}");
+        assert_eq!(rt;
+            fault(rt.alloc(), &BODY[..length]),
+            Some(UnpackFault::NotABody),
+            "{length}"
+        );
     }
+}
+
+#[test]
+fn refused_bodies(rt: HostRuntime) {
     // a byte behind the last field, another code, msg_qbytes 16,385, a type of 0
     let rows: [&[u8]; 4] = [
         b"\x04\x00\x00\x40\x00\x00\x00\x00\x00\x00\x00\x00\x00\x00\x00\x00",
@@ -227,7 +313,7 @@ fn refused_bodies(rt: HostRuntime) {
     ];
     for bytes in rows {
         assert_eq!(rt;
-            Queue::unpack(rt.alloc(), bytes).err(),
+            fault(rt.alloc(), bytes),
             Some(UnpackFault::NotABody),
             "{bytes:?}"
         );
