@@ -202,17 +202,12 @@ value-at vars k place h at = rw (get_here vars k place h at.within at.here)
 pub value-in_gap : (vars : Vars) (k place : ℕ) → IsGapFor vars k place → value_of vars k ≡ 0
 value-in_gap vars k place gap = rw (get_gap vars k place gap.within gap.smaller gap.greater)
 
-alone : (k x : ℕ) → value_of ((k, x) ∷ []) k ≡ x
-alone k x = rw (same k)
-
--- an entry alone, with the value read at the variable's place, gives it the same value as all the variables do
-pub only-at : (vars own : Vars) (k x place : ℕ) (d : ℕ × ℕ) → are_rising own ≡ true → own ≡ vars → IsAt own k place
-    → d ≡ get_or own place d → x ≡ d.1
-    → value_of ((k, x) ∷ []) k ≡ value_of vars k
-only-at vars own k x place d h is at read x_is =
+-- the value read at the variable's place is the variable's value
+pub read-value : (vars own : Vars) (k place : ℕ) (d : ℕ × ℕ) → are_rising own ≡ true → own ≡ vars → IsAt own k place
+    → d ≡ get_or own place d → d.1 ≡ value_of vars k
+read-value vars own k place d h is at read =
     let there : d ≡ get_or own place (0, 0) = read ∙ get_or_default own place d (0, 0) at.within
-    in alone k x ∙ x_is ∙ ap (λ (e : ℕ × ℕ). e.1) there ∙ sym (value-at own k place h at)
-    ∙ ap (λ (vs : Vars). value_of vs k) is
+    in ap (λ (e : ℕ × ℕ). e.1) there ∙ sym (value-at own k place h at) ∙ ap (λ (vs : Vars). value_of vs k) is
 
 -- a variable that would go into a gap has the value 0
 pub none-in_gap : (vars own : Vars) (k place : ℕ) → own ≡ vars → IsGapFor own k place → 0 ≡ value_of vars k

@@ -6,8 +6,8 @@ ghost use Rattle.kernel_model.specs.Fitting.{set_variable};
 ghost use Rattle.node_calls.specs.Caller.{are_rising};
 ghost use Rattle.node_calls.specs.Place.{IsAt, IsGapFor};
 
-use pico_base::{Call, Line, Memory, Sequence, Var, Vars};
-use script_lines::call_with;
+use pico_base::{Call, Line, Memory, Var, Vars};
+use script_lines::call_naming;
 use std::alloc::Global;
 use std::marker::Model;
 
@@ -92,30 +92,24 @@ impl Variables {
         }
     }
 
-    /// The variable with its value alone, if it was set.
-    fn only(&self, alloc: Global, variable: Var) -> Result<Vars, Memory>
-        ensures { IfOk result (λ one. value_of one variable ≡ value_of self.now variable) }
+    /// The value of the variable, 0 where it wasn't set.
+    fn value(&self, variable: Var) -> u32
+        ensures { result ≡ value_of self.now variable }
     {
-        let mut one = Sequence::new(alloc);
         match search(&self.values, variable) {
-            Ok(place) => {
-                one.push((variable, self.values[place].1))?;
-                Ok(one)
-            }
-            Err(_) => Ok(one),
+            Ok(place) => self.values[place].1,
+            Err(_) => 0,
         }
     }
 
-    /// The call of a line: the variable's value stands in place of the number. The call is given its one variable, so
-    /// that this is found by key.
+    /// The call of a line: the variable's value stands in place of the number.
     pub(crate) fn call_of(&self, alloc: Global, line: &Line) -> Result<Call, Memory>
         ensures { IfOk result (λ call. call ≡ call_of line.now self.now) }
     {
-        let vars = match line.from {
-            Some(variable) => self.only(alloc, variable)?,
-            None => Sequence::new(alloc),
-        };
-        call_with(alloc, line, &vars)
+        match line.from {
+            None => line.call.try_copy(alloc),
+            Some(variable) => call_naming(alloc, &line.call, self.value(variable)),
+        }
     }
 
     /// All values, by rising variable.

@@ -18,57 +18,70 @@ fn value(vars: &[(Var, u32)], variable: Var) -> u32
     0
 }
 
-/// The call with this number for the process or the object that it names.
-fn with_target(call: Call, number: u32) -> Call
-    ensures { result ≡ with_target call number }
+/// A call with this number for the process or the object that it names, where it names one.
+pub fn call_naming(alloc: Global, call: &Call, number: u32) -> Result<Call, Memory>
+    ensures { IfOk result (λ made. made ≡ with_target call.now number) }
 {
     let id = Id(number);
     match call {
-        Call::Kill { pid: _, sig } => Call::Kill {
+        Call::Kill { pid: _, sig } => Ok(Call::Kill {
             pid: Pid(number),
-            sig,
-        },
-        Call::WaitPid { child: _, nohang } => Call::WaitPid {
+            sig: *sig,
+        }),
+        Call::WaitPid { child: _, nohang } => Ok(Call::WaitPid {
             child: Some(Pid(number)),
-            nohang,
-        },
+            nohang: *nohang,
+        }),
         Call::MsgSnd {
             id: _,
             class,
             text,
             nowait,
-        } => Call::MsgSnd {
+        } => Ok(Call::MsgSnd {
             id,
-            class,
-            text,
-            nowait,
-        },
+            class: *class,
+            text: text.try_copy(alloc)?,
+            nowait: *nowait,
+        }),
         Call::MsgRcv {
             id: _,
             class,
             size,
             noerror,
             nowait,
-        } => Call::MsgRcv {
+        } => Ok(Call::MsgRcv {
             id,
-            class,
-            size,
-            noerror,
-            nowait,
-        },
-        Call::MsgStat { id: _ } => Call::MsgStat { id },
-        Call::MsgSet { id: _, qbytes } => Call::MsgSet { id, qbytes },
-        Call::MsgRmid { id: _ } => Call::MsgRmid { id },
-        Call::SemOp { id: _, steps } => Call::SemOp { id, steps },
-        Call::SemGetVal { id: _, num } => Call::SemGetVal { id, num },
-        Call::SemGetPid { id: _, num } => Call::SemGetPid { id, num },
-        Call::SemGetNcnt { id: _, num } => Call::SemGetNcnt { id, num },
-        Call::SemGetZcnt { id: _, num } => Call::SemGetZcnt { id, num },
-        Call::SemSetVal { id: _, num, value } => Call::SemSetVal { id, num, value },
-        Call::SemGetAll { id: _ } => Call::SemGetAll { id },
-        Call::SemSetAll { id: _, values } => Call::SemSetAll { id, values },
-        Call::SemRmid { id: _ } => Call::SemRmid { id },
-        other => other,
+            class: *class,
+            size: *size,
+            noerror: *noerror,
+            nowait: *nowait,
+        }),
+        Call::MsgStat { id: _ } => Ok(Call::MsgStat { id }),
+        Call::MsgSet { id: _, qbytes } => Ok(Call::MsgSet {
+            id,
+            qbytes: *qbytes,
+        }),
+        Call::MsgRmid { id: _ } => Ok(Call::MsgRmid { id }),
+        Call::SemOp { id: _, steps } => Ok(Call::SemOp {
+            id,
+            steps: steps.try_copy(alloc)?,
+        }),
+        Call::SemGetVal { id: _, num } => Ok(Call::SemGetVal { id, num: *num }),
+        Call::SemGetPid { id: _, num } => Ok(Call::SemGetPid { id, num: *num }),
+        Call::SemGetNcnt { id: _, num } => Ok(Call::SemGetNcnt { id, num: *num }),
+        Call::SemGetZcnt { id: _, num } => Ok(Call::SemGetZcnt { id, num: *num }),
+        Call::SemSetVal { id: _, num, value } => Ok(Call::SemSetVal {
+            id,
+            num: *num,
+            value: *value,
+        }),
+        Call::SemGetAll { id: _ } => Ok(Call::SemGetAll { id }),
+        Call::SemSetAll { id: _, values } => Ok(Call::SemSetAll {
+            id,
+            values: values.try_copy(alloc)?,
+        }),
+        Call::SemRmid { id: _ } => Ok(Call::SemRmid { id }),
+        unnamed => unnamed.try_copy(alloc),
     }
 }
 
@@ -77,9 +90,8 @@ fn with_target(call: Call, number: u32) -> Call
 pub fn call_with(alloc: Global, line: &Line, vars: &Vars) -> Result<Call, Memory>
     ensures { IfOk result (λ call. call ≡ call_of line.now vars.now) }
 {
-    let call = line.call.try_copy(alloc)?;
-    Ok(match line.from {
-        None => call,
-        Some(variable) => with_target(call, value(vars.as_slice(), variable)),
-    })
+    match line.from {
+        None => line.call.try_copy(alloc),
+        Some(variable) => call_naming(alloc, &line.call, value(vars.as_slice(), variable)),
+    }
 }

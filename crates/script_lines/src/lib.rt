@@ -3,7 +3,7 @@
 
 mod calls;
 
-pub use calls::call_with;
+pub use calls::{call_naming, call_with};
 
 #[cfg(test)]
 mod tests;
