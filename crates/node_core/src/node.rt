@@ -1,5 +1,5 @@
 //! A picoprocess as callers see it: its turns, and what it may do next.
-ghost use Rattle.std.specs.Prelude.{◌≡◌, ◌≤◌, length, Some, None, Err, IfOk, IfSome, IsErr, IsSome};
+ghost use Rattle.std.specs.Prelude.{◌≡◌, ◌≤◌, [], length, Some, None, Err, IfOk, IfSome, IsErr, IsSome};
 ghost use Rattle.kernel_model.specs.Script.{IsSoundScript};
 ghost use Rattle.world_model.specs.Node.{opening_node, can_run, is_born};
 ghost use Rattle.node_state.specs.declared.fault.TurnFault.TheVariants.{Memory as OutOfMemory, NotAllowed};
@@ -94,6 +94,17 @@ impl PicoNode {
             self.spend();
         }
         turned
+    }
+
+    /// Hands back the lists of a turn once they are empty, and the next turn has their room. The node stays as it is.
+    pub fn reuse(&mut self, turn: Turn)
+        requires entries { turn.entries ≡ [] }
+        requires sends { turn.sends ≡ [] }
+        ensures { self.new ≡ self.old }
+    {
+        if let Some(node) = &mut self.state {
+            node.reuse(turn);
+        }
     }
 
     /// The node is spent. This stands apart because a function clears the room of all its locals as it begins, and the

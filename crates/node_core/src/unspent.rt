@@ -1,5 +1,5 @@
 //! A node that isn't spent, between turns.
-ghost use Rattle.std.specs.Prelude.{◌≡◌, IfOk};
+ghost use Rattle.std.specs.Prelude.{◌≡◌, [], IfOk};
 ghost use Rattle.kernel_model.specs.Script.{IsSoundScript};
 ghost use Rattle.world_model.specs.Node.{opening_node, can_run, is_born};
 ghost use Rattle.node_state.specs.State.{node_of, step_of as steps_of};
@@ -70,6 +70,17 @@ impl Unspent {
         ensures { result ≡ is_born self.now }
     {
         self.step.node.is_born()
+    }
+
+    /// Takes the emptied lists of a turn for the next one.
+    pub(crate) fn reuse(&mut self, turn: Turn)
+        requires entries { turn.entries ≡ [] }
+        requires sends { turn.sends ≡ [] }
+        ensures { self.new ≡ self.old }
+    {
+        let Turn { entries, sends } = turn;
+        self.step.entries = entries;
+        self.step.sends = sends;
     }
 
     /// Makes the turn of an input. After a refusal for want of memory nothing is said of the node.

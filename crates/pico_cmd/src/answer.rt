@@ -14,6 +14,7 @@ use pico_base::{Bytes, Event, Memory, Script};
 use pico_words::Options;
 use script_reader::{ScriptFault, ScriptStop, read_script};
 use std::alloc::Global;
+use std::mem::ManuallyDrop;
 use trace_text::{push, push_byte, push_number, write_steps, write_trace};
 
 /// A status, and the text that is written with it.
@@ -68,7 +69,7 @@ fn text_of_run(alloc: Global, script: Script, options: Options) -> Result<Bytes,
     requires { IsSoundScript script }
     ensures { IfOk result (IsTextOfRun script options) }
 {
-    let run = run_script(alloc, script, options.seed)?;
+    let run = ManuallyDrop::new(run_script(alloc, script, options.seed)?);
     text_of(alloc, &run, options.steps)
 }
 

@@ -7,6 +7,7 @@ use Rattle.world_model.specs.World.{Streams}
 use Rattle.world_core.specs.Counts.{events_at, counts_of}
 use Rattle.world_core.specs.Inbox.{senders}
 use Rattle.world_core.specs.State.{AreWhole}
+use Rattle.world_core.proofs.Lists.{set-again}
 use Rattle.world_core.proofs.Wholes.{whole_at}
 
 pub counts-within : (ns : List (Option Node)) (rows : Streams) (k : ℕ) → k < length ns → k < length rows
@@ -43,11 +44,6 @@ counts-node (m ∷ ns) [] (suc k) n = refl
 counts-node (m ∷ ns) (row ∷ rows) zero n = refl
 counts-node (m ∷ ns) (row ∷ rows) (suc k) n =
     ap (λ (l : List ℕ). events_at m row ∷ l) (counts-node ns rows k n)
-
-pub set-again : (xs : List ℕ) (k x y : ℕ) → set (set xs k x) k y ≡ set xs k y
-set-again [] k x y = refl
-set-again (z ∷ xs) zero x y = refl
-set-again (z ∷ xs) (suc k) x y = ap (λ (l : List ℕ). z ∷ l) (set-again xs k x y)
 
 -- the counts of the first nodes, and of one more
 pub counting-next : (ns : List (Option Node)) (rows : Streams) (i count : ℕ) (counts more : List ℕ) (n : Option Node)

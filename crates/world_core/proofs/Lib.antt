@@ -1,4 +1,6 @@
 pub mod Alive
+pub mod Busy
+pub mod Choosing
 pub mod Counting
 pub mod Enabled
 pub mod Lists

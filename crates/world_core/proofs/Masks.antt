@@ -6,7 +6,7 @@ use Rattle.std.specs.Simd.Lanes.{mask_l}
 use Rattle.std.proofs.Math.ListN.{get_or-map}
 use Rattle.std.proofs.Math.Seq.{map-set_same}
 use Rattle.std.proofs.lemmas.Bool.{cases_eq}
-use Rattle.std.proofs.lemmas.List.{get_or_read, length-map}
+use Rattle.std.proofs.lemmas.List.{get_or_read, length-map, map-set}
 use Rattle.std.proofs.lemmas.Nat.{and_le_l, ones_le_self}
 use Rattle.std.proofs.lemmas.Nat.Bits.{bit_at-trailing_zeros, bit_at-zero, bit_at_set_same, bit_at_set_other, bit_at_clear_same, bit_at_clear_other, shr_and_one, same_from_bits, same_from_bits_below}
 use Rattle.std.proofs.lemmas.Simd.{mask_l-mod, bit_mask_l, ones-mask_l}
@@ -26,51 +26,63 @@ mask-at row k = bit_mask_l (map is_filled row) k ∙ ap (λ (b : Bool). cond b 1
 pub mask-count : (row : List (List Frame)) → count_ones (filled_mask row) ≡ filled_in row
 mask-count row = ones-mask_l is_filled row
 
-bit-same : (row : List (List Frame)) (k : ℕ) (fs : List Frame) → k < length row
-    → bit_at (filled_mask (set row k fs)) k ≡ cond (is_filled fs) 1 0
-bit-same row k fs lt =
-    mask-at (set row k fs) k ∙ ap (λ (l : List Frame). cond (is_filled l) 1 0) (get_or-set_same row k fs [] lt)
+-- ---- a bit is set or cleared, in a mask of any list of tests
 
-bit-other : (row : List (List Frame)) (k i : ℕ) (fs : List Frame) → i ≢ k
-    → bit_at (filled_mask (set row k fs)) i ≡ bit_at (filled_mask row) i
-bit-other row k i fs other =
-    mask-at (set row k fs) i ∙ ap (λ (l : List Frame). cond (is_filled l) 1 0) (get_or-set_other row k i fs [] other)
-    ∙ sym (mask-at row i)
+-- one of the tests comes out true
+pub mask_l-on : (bs : List Bool) (k : ℕ) → k < length bs → k < 32
+    → bit_or (mask_l bs) (1 * 2 ^ k % 2 ^ 32) ≡ mask_l (set bs k true)
+mask_l-on bs k lt within =
+    let on = set bs k true in
+    same_from_bits (bit_or (mask_l bs) (1 * 2 ^ k % 2 ^ 32)) (mask_l on)
+    (λ i. ⊎_elim (λ (same : i ≡ k).
+    ap (λ (j : ℕ). bit_at (bit_or (mask_l bs) (1 * 2 ^ k % 2 ^ 32)) j) same ∙ bit_at_set_same w32 (mask_l bs) k within
+    ∙ sym (ap (bit_at (mask_l on)) same ∙ bit_mask_l on k
+    ∙ ap (λ (b : Bool). cond b 1 0) (get_or-set_same bs k true false lt)))
+    (λ (other : i ≢ k). bit_at_set_other w32 (mask_l bs) k within i other ∙ bit_mask_l bs i
+    ∙ sym (bit_mask_l on i ∙ ap (λ (b : Bool). cond b 1 0) (get_or-set_other bs k i true false other)))
+    (cases_eq i k))
+
+pub mask_l-below : (bs : List Bool) → length bs ≤ 32 → mask_l bs < 2 ^ 32
+mask_l-below bs few = let whole = mask_l-mod bs 32 few in omega (arith, whole)
+
+-- one of the tests comes out false
+pub mask_l-off : (bs : List Bool) (k : ℕ) → k < length bs → length bs ≤ 32
+    → bit_and (mask_l bs) (bit_not w32 (1 * 2 ^ k % 2 ^ 32)) ≡ mask_l (set bs k false)
+mask_l-off bs k lt few =
+    let off = set bs k false in
+    let n = bit_and (mask_l bs) (bit_not w32 (1 * 2 ^ k % 2 ^ 32)) in
+    same_from_bits_below 32 n (mask_l off)
+    (let le = and_le_l (mask_l bs) (bit_not w32 (1 * 2 ^ k % 2 ^ 32)) in
+    let lt' = mask_l-below bs few in omega arith)
+    (mask_l-below off (let same = length-set bs k false in omega arith))
+    (λ i lt_i. ⊎_elim (λ (same : i ≡ k).
+    ap (bit_at n) same ∙ bit_at_clear_same w32 (mask_l bs) k (omega arith)
+    ∙ sym (ap (bit_at (mask_l off)) same ∙ bit_mask_l off k
+    ∙ ap (λ (b : Bool). cond b 1 0) (get_or-set_same bs k false false lt)))
+    (λ (other : i ≢ k). bit_at_clear_other w32 (mask_l bs) k (omega arith) i lt_i other ∙ bit_mask_l bs i
+    ∙ sym (bit_mask_l off i ∙ ap (λ (b : Bool). cond b 1 0) (get_or-set_other bs k i false false other)))
+    (cases_eq i k))
+
+-- ---- the mask of the streams
 
 -- a frame comes
 pub mask-set : (row : List (List Frame)) (k : ℕ) (fs : List Frame) → k < length row → k < 32 → is_filled fs ≡ true
     → bit_or (filled_mask row) (1 * 2 ^ k % 2 ^ 32) ≡ filled_mask (set row k fs)
 mask-set row k fs lt within filled =
-    same_from_bits (bit_or (filled_mask row) (1 * 2 ^ k % 2 ^ 32)) (filled_mask (set row k fs))
-    (λ i. ⊎_elim (λ (same : i ≡ k).
-    ap (λ (j : ℕ). bit_at (bit_or (filled_mask row) (1 * 2 ^ k % 2 ^ 32)) j) same
-    ∙ bit_at_set_same w32 (filled_mask row) k within
-    ∙ sym (ap (bit_at (filled_mask (set row k fs))) same ∙ bit-same row k fs lt
-    ∙ ap (λ (b : Bool). cond b 1 0) filled))
-    (λ (other : i ≢ k). bit_at_set_other w32 (filled_mask row) k within i other ∙ sym (bit-other row k i fs other))
-    (cases_eq i k))
+    mask_l-on (map is_filled row) k (omega (arith, length-map row is_filled)) within
+    ∙ sym (ap mask_l (map-set is_filled row k fs ∙ ap (set (map is_filled row) k) filled))
 
 mask-below : (row : List (List Frame)) → length row ≤ 32 → filled_mask row < 2 ^ 32
 mask-below row few =
-    let whole = mask_l-mod (map is_filled row) 32 (omega (arith, length-map row is_filled)) in omega (arith, whole)
+    mask_l-below (map is_filled row) (omega (arith, length-map row is_filled))
 
 -- the last frame goes
 pub mask-clear : (row : List (List Frame)) (k : ℕ) (fs : List Frame) → k < length row → length row ≤ 32
     → is_filled fs ≡ false
     → bit_and (filled_mask row) (bit_not w32 (1 * 2 ^ k % 2 ^ 32)) ≡ filled_mask (set row k fs)
 mask-clear row k fs lt few empty =
-    let n = bit_and (filled_mask row) (bit_not w32 (1 * 2 ^ k % 2 ^ 32))
-    in same_from_bits_below 32 n (filled_mask (set row k fs))
-    (let le = and_le_l (filled_mask row) (bit_not w32 (1 * 2 ^ k % 2 ^ 32)) in
-    let lt' = mask-below row few in omega arith)
-    (mask-below (set row k fs) (let same = length-set row k fs in omega arith))
-    (λ i lt_i. ⊎_elim (λ (same : i ≡ k).
-    ap (bit_at n) same ∙ bit_at_clear_same w32 (filled_mask row) k (omega arith)
-    ∙ sym (ap (bit_at (filled_mask (set row k fs))) same ∙ bit-same row k fs lt
-    ∙ ap (λ (b : Bool). cond b 1 0) empty))
-    (λ (other : i ≢ k). bit_at_clear_other w32 (filled_mask row) k (omega arith) i lt_i other
-    ∙ sym (bit-other row k i fs other))
-    (cases_eq i k))
+    mask_l-off (map is_filled row) k (omega (arith, length-map row is_filled)) (omega (arith, length-map row is_filled))
+    ∙ sym (ap mask_l (map-set is_filled row k fs ∙ ap (set (map is_filled row) k) empty))
 
 -- ---- what is kept beside the streams
 
@@ -146,7 +158,7 @@ empty-takes filled row k b marked e =
 
 -- ---- the lowest bit
 
-no-bit-below : (n i : ℕ) → n < 2 ^ 32 → i < trailing_zeros w32 n → bit_at n i ≡ 0
+pub no-bit-below : (n i : ℕ) → n < 2 ^ 32 → i < trailing_zeros w32 n → bit_at n i ≡ 0
 no-bit-below zero i small lt = bit_at-zero i
 no-bit-below (suc n) i small lt = (bit_at-trailing_zeros w32 (suc n) (omega arith) small).2 i lt
 

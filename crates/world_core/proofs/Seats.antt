@@ -289,7 +289,7 @@ read_there (x ∷ xs) (suc k) d lt = read_there xs k d (omega arith)
 
 -- what is kept for a node is how many of its events may come next
 pub count-there : (s : State) (p k : ℕ) → IsAlive s → p ≤ node_count s.script → k + 1 ≡ p
-    → (k < length s.counts.items) × (get_or s.counts.items k 0 ≡ length (enabled_at (world_of s) p))
+    → (k < length s.counts) × (get_or s.counts k 0 ≡ length (enabled_at (world_of s) p))
     × (length (enabled_at (world_of s) p) ≤ 33)
 count-there s p k alive le next =
     let w = world_of s in

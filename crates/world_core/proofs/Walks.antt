@@ -1,11 +1,10 @@
 -- A walk over numbers in order, through lists that are joined: which number's list has the element looked for.
-use Rattle.std.proofs.Common.{◌≡◌, ℕ, ◌+◌, ◌-◌, ◌*◌, ◌<◌, ◌≤◌, List, [], ◌∷◌, ◌++◌, length, slice_get, Option, Some, None, refl, sym, ap, subst, ◌∙◌, arith, length-append}
-use Rattle.std.specs.List.{flat_map}
+use Rattle.std.proofs.Common.{◌≡◌, ℕ, zero, suc, ◌+◌, ◌-◌, ◌<◌, ◌≤◌, List, [], ◌∷◌, ◌++◌, length, get_or, slice_get, Option, Some, None, refl, sym, ap, subst, ◌∙◌, arith, length-append}
+use Rattle.std.specs.List.{flat_map, sum}
 use Rattle.std.proofs.lemmas.Option.{slice_get_within}
-use Rattle.std.proofs.lemmas.List.{append-nil}
-use Rattle.std.proofs.lemmas.List.Concat.{flat_map-append}
+use Rattle.std.proofs.lemmas.List.Sums.{sum_by-cons}
 use Rattle.world_model.specs.World.{numbers}
-use Rattle.world_core.proofs.Lists.{numbers-more, joined_here, joined_next, slice_get-left, slice_get-right}
+use Rattle.world_core.proofs.Lists.{joined_here, joined_next, slice_get-left, slice_get-right}
 
 -- the lists of the numbers after one, up to another
 abbrev pub span : {X : Type 0} → (ℕ → List X) → ℕ → ℕ → List X
@@ -45,27 +44,6 @@ IsWalk-none f from last index at left walk le =
 pub span-all : {X : Type 0} (f : ℕ → List X) (last : ℕ) → span f 0 last ≡ flat_map f (numbers 1 last)
 span-all f last = let e : last - 0 ≡ last = omega arith in ap (λ (k : ℕ). flat_map f (numbers 1 k)) e
 
--- how many elements the lists of the first numbers have
-pub record IsCount {X : Type 0} (f : ℕ → List X) (at count : ℕ) : Type 0 where
-  pub same : count ≡ length (flat_map f (numbers 1 at))
-  pub few : count ≤ 33 * at
-
--- with one number more, its list's elements are counted as well
-pub IsCount-next : {X : Type 0} (f : ℕ → List X) (at count here : ℕ) → IsCount f at count → here ≡ length (f (at + 1))
-    → here ≤ 33
-    → IsCount f (at + 1) (count + here)
-IsCount-next {X} f at count here counted is_here few =
-    let e : 1 + at ≡ at + 1 = omega arith in
-    let step : flat_map f (numbers 1 (at + 1)) ≡ flat_map f (numbers 1 at) ++ f (at + 1) =
-    ap (λ (l : List ℕ). flat_map f l) (numbers-more at 1) ∙ flat_map-append f (numbers 1 at) ((1 + at) ∷ [])
-    ∙ ap (λ (l : List X). flat_map f (numbers 1 at) ++ l) (append-nil (f (1 + at)) ∙ ap f e) in
-    record {
-      same =
-          (let n = ap length step
-          ∙ length-append (flat_map f (numbers 1 at)) (f (at + 1)) in omega (arith, counted.same, is_here, n));
-      few = omega (arith, counted.few);
-    }
-
 -- the first element of two lists
 pub first_left : {X : Type 0} (xs ys : List X) (x : X) → Some x ≡ slice_get xs 0 → Some x ≡ slice_get (xs ++ ys) 0
 first_left xs ys x e =
@@ -85,8 +63,38 @@ first_right xs ys o none e =
     in e ∙ ap (λ (k : ℕ). slice_get ys k) z ∙ sym (slice_get-right xs ys 0 le)
 
 -- a number with no elements is passed
-pub IsWalk-past : {X : Type 0} (f : ℕ → List X) (from last at : ℕ) → IsWalk f from last 0 at 0 → at < last
-    → length (f (at + 1)) ≤ 0 → IsWalk f from last 0 (at + 1) 0
-IsWalk-past f from last at walk lt none =
-    let z : 0 - length (f (at + 1)) ≡ 0 = omega arith
-    in subst (λ (k : ℕ). IsWalk f from last 0 (at + 1) k) z (IsWalk-next f from last 0 at 0 walk lt none)
+IsWalk-past : {X : Type 0} (f : ℕ → List X) (from last index at left : ℕ) → IsWalk f from last index at left
+    → at < last → length (f (at + 1)) ≤ 0 → IsWalk f from last index (at + 1) left
+IsWalk-past f from last index at left walk lt none =
+    let z : left - length (f (at + 1)) ≡ left = omega arith
+    in subst (λ (k : ℕ). IsWalk f from last index (at + 1) k) z
+    (IsWalk-next f from last index at left walk lt (omega arith))
+
+-- so many numbers with no elements are passed
+pub IsWalk-along : {X : Type 0} (f : ℕ → List X) (from last index at left count : ℕ)
+    → IsWalk f from last index at left
+    → at + count ≤ last → ((i : ℕ) → at ≤ i → i < at + count → length (f (i + 1)) ≤ 0)
+    → IsWalk f from last index (at + count) left
+IsWalk-along f from last index at left zero walk le none =
+    let e : at ≡ at + 0 = omega arith in subst (λ (k : ℕ). IsWalk f from last index k left) e walk
+IsWalk-along f from last index at left (suc count) walk le none =
+    let e : at + count + 1 ≡ at + suc count = omega arith in
+    let before = IsWalk-along f from last index at left count walk (omega arith)
+    (λ i ge lt. none i ge (omega arith)) in
+    subst (λ (k : ℕ). IsWalk f from last index k left) e
+    (IsWalk-past f from last index (at + count) left before (omega arith)
+    (none (at + count) (omega arith) (omega arith)))
+
+-- the sum of what is kept for the numbers is how many elements their lists have, joined
+pub sum-joined : {X : Type 0} (f : ℕ → List X) (kept : List ℕ) (first : ℕ)
+    → ((k : ℕ) → k < length kept → get_or kept k 0 ≡ length (f (first + k)))
+    → sum kept ≡ length (flat_map f (numbers first (length kept)))
+sum-joined f [] first same = refl
+sum-joined {X} f (x ∷ kept) first same =
+    let rest = sum-joined f kept (first + 1)
+    (λ k lt. let e : first + suc k ≡ first + 1 + k = omega arith in
+    same (suc k) (omega arith) ∙ ap (λ (n : ℕ). length (f n)) e) in
+    let e : first + 0 ≡ first = omega arith in
+    let here = same 0 (omega arith) ∙ ap (λ (n : ℕ). length (f n)) e in
+    let all = length-append (f first) (flat_map f (numbers (first + 1) (length kept))) in
+    let whole = sum_by-cons (λ (x : ℕ). x) x kept in omega (arith, rest, here)

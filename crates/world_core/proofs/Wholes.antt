@@ -1,5 +1,5 @@
 -- Nodes none of which is spent, and what a turn of one of them makes.
-use Rattle.std.proofs.Common.{◌≡◌, ℕ, ◌-◌, ◌<◌, suc, zero, Bool, false, List, [], ◌∷◌, ◌++◌, length, map, set, get_or, slice_get, Option, Some, None, Result, Ok, Err, IsSome, IfSome, OnOk, refl, sym, ap, subst, ◌∙◌, arith, length-set}
+use Rattle.std.proofs.Common.{◌≡◌, ℕ, ◌-◌, ◌<◌, suc, zero, Bool, false, List, [], ◌∷◌, ◌++◌, length, map, set, get_or, slice_get, Option, Some, None, IsSome, IfSome, refl, sym, ap, subst, ◌∙◌, arith, get_or-set_same, length-set}
 use Rattle.std.proofs.lemmas.List.{get_or_read, length-map, map-set}
 use Rattle.pico_base.specs.declared.script.Script.{Script}
 use Rattle.pico_base.specs.declared.script.Event.{Event}
@@ -19,6 +19,7 @@ use Rattle.world_core.specs.Inbox.{IsTaken, may_take}
 use Rattle.node_core.specs.Step.{step_of}
 use Rattle.node_core.specs.Turns.{IsTurn}
 use Rattle.world_core.specs.Counts.{counts_of}
+use Rattle.world_core.proofs.Lists.{set-again}
 use Rattle.world_core.specs.State.{whole, AreWhole, AreSeats, AreCounted, world_of, IsAfterTurn, IsStep}
 
 -- of nodes that are all there, none is left out
@@ -127,20 +128,24 @@ turn_taken s next p k input turn (Some n) (Some m) all place lt old_is is_turn s
           (sym script) (sym (ap whole there ∙ whole-set s.nodes.items (p - 1) m all)) (sym streams) (sym journal));
     }
 
--- the same where the sends went their ways, if memory sufficed
-pub turn_sent : {T E : Type 0} (r : Result T E) (s next : State) (p k : ℕ) (input : Input) (turn : Turn)
-    (old new : Option Node) (ns : List (Option Node))
+-- the same where the turn's lists were emptied and handed back, which leaves the node as it is
+pub turn_given : (s next : State) (p k : ℕ) (input : Input) (turn : Turn) (old new kept read : Option Node)
+    (entries : List Entry) (sends : List (ℕ × Frame)) (ns : List (Option Node))
     → AreWhole s.nodes.items → k ≡ p - 1 → k < length s.nodes.items → old ≡ get_or s.nodes.items k old
     → IsTurn s.script old input new turn → next.script ≡ s.script
-    → next.nodes.items ≡ set s.nodes.items k new → next.journal ≡ s.journal ++ turn.entries → ns ≡ next.nodes.items
-    → OnOk r (next.inboxes.items ≡ with_all_sent p s.inboxes.items turn.sends)
-    → OnOk r (next.counts.items ≡ counts_of ns next.inboxes.items) → OnOk r (IsAfterTurn s p input next)
-turn_sent (Ok x) s next p k input turn old new ns all place lt old_is is_turn script nodes journal same sent counted =
-    turn_taken s next p k input turn old new all place lt old_is is_turn script nodes sent journal
-    (counted ∙ ap (λ (l : List (Option Node)). counts_of l next.inboxes.items) same)
-turn_sent (Err fault) s next p k input turn old new ns all place lt old_is is_turn script nodes journal same sent
-    counted =
-    tt
+    → kept ≡ get_or (set s.nodes.items k new) k read → next.nodes.items ≡ set (set s.nodes.items k new) k kept
+    → entries ≡ turn.entries → next.journal ≡ s.journal ++ entries
+    → sends ≡ turn.sends → next.inboxes.items ≡ with_all_sent p s.inboxes.items sends
+    → ns ≡ set s.nodes.items k new → next.counts ≡ counts_of ns next.inboxes.items → IsAfterTurn s p input next
+turn_given s next p k input turn old new kept read entries sends ns all place lt old_is is_turn script kept_is nodes
+    entries_are journal sends_are sent ns_are counted =
+    let same : kept ≡ new = kept_is ∙ get_or-set_same s.nodes.items k new read lt in
+    let after : next.nodes.items ≡ set s.nodes.items k new =
+    nodes ∙ set-again s.nodes.items k new kept ∙ ap (set s.nodes.items k) same in
+    turn_taken s next p k input turn old new all place lt old_is is_turn script after
+    (sent ∙ ap (with_all_sent p s.inboxes.items) sends_are)
+    (journal ∙ ap (λ (l : List Entry). s.journal ++ l) entries_are)
+    (counted ∙ ap (λ (l : List (Option Node)). counts_of l next.inboxes.items) (ns_are ∙ sym after))
 
 -- a turn leaves its node there
 pub seats-turn : (ns : List (Option Node)) (streams : Streams) (k : ℕ) (script : Script) (input : Input) (turn : Turn)

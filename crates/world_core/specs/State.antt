@@ -35,11 +35,11 @@ pub record AreSeats (nodes : List (Option Node)) (streams : Streams) : Type 0 wh
 
 -- The counts beside the nodes are how many events of each node may come next,
 abbrev pub AreCounted : State → Type 0
-AreCounted s = s.counts.items ≡ counts_of s.nodes.items s.inboxes.items
+AreCounted s = s.counts ≡ counts_of s.nodes.items s.inboxes.items
 
 -- and whatever this node's is said to be, the others' are so.
 abbrev pub OthersAreCounted : State → ℕ → Type 0
-OthersAreCounted s p = (count : ℕ) → set s.counts.items (p - 1) count
+OthersAreCounted s p = (count : ℕ) → set s.counts (p - 1) count
     ≡ set (counts_of s.nodes.items s.inboxes.items) (p - 1) count
 
 -- Runs of a sound script lead to it, and its counts are right.

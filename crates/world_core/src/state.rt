@@ -12,10 +12,10 @@ ghost use Rattle.node_core.specs.Turns.{IsTurn};
 ghost use Rattle.world_core.specs.Counts.{counts_of};
 ghost use Rattle.world_core.specs.State.{AreWhole, AreSeats, AreCounted, OthersAreCounted, world_of, IsAfterTurn, IsStep, IsAlive};
 
-use crate::counts::{count_all, count_of};
+use crate::counts::{Counts, count_all, count_of};
 use crate::inbox::{Inbox, place};
 use node_core::{Input, PicoNode, Sends, Turn, TurnFault};
-use pico_base::{Entries, Event, Memory, Node, Script};
+use pico_base::{Entries, Entry, Event, Memory, Node, Script};
 use rpc_frame::Frame;
 use std::alloc::Global;
 use world_runs::enabled_events_have_steps;
@@ -27,7 +27,7 @@ pub(crate) struct State {
     pub(crate) script: Script,
     pub(crate) nodes: Vec<PicoNode>,
     pub(crate) inboxes: Vec<Inbox>,
-    pub(crate) counts: Vec<u8>,
+    pub(crate) counts: Counts,
     pub(crate) journal: Entries,
 }
 
@@ -77,11 +77,12 @@ fn take_turn(node: &mut PicoNode, script: &Script, input: Input) -> Result<Turn,
     }
 }
 
-/// The entries of a turn follow in the journal.
-fn add_entries(journal: &mut Entries, entries: Entries) -> Result<(), Memory>
-    ensures { OnOk result (journal.new ≡ journal.old ++ entries) }
+/// The entries of a turn follow in the journal, and its list is left empty.
+fn add_entries(journal: &mut Entries, entries: &mut Vec<Entry>) -> Result<(), Memory>
+    ensures joined { OnOk result (journal.new ≡ journal.old ++ entries.old.items) }
+    ensures emptied { entries.new.items ≡ [] }
 {
-    for entry in entries.into_vec() {
+    for entry in entries.drain(..) {
         journal.push(entry)?;
     }
     Ok(())
@@ -92,40 +93,41 @@ fn add_entries(journal: &mut Entries, entries: Entries) -> Result<(), Memory>
 fn send(
     nodes: &[PicoNode],
     inboxes: &mut Vec<Inbox>,
-    counts: &mut Vec<u8>,
+    counts: &mut Counts,
     from: Node,
     to: Node,
     frame: Frame,
 ) -> Result<(), Memory>
     requires seats { AreSeats nodes.now inboxes.old.items }
     requires there { from ≤ length inboxes.old.items }
-    requires counted { counts.old.items ≡ counts_of nodes.now inboxes.old.items }
+    requires counted { counts.old ≡ counts_of nodes.now inboxes.old.items }
     ensures sent { OnOk result (inboxes.new.items ≡ with_sent from inboxes.old.items (to, frame)) }
-    ensures counted { OnOk result (counts.new.items ≡ counts_of nodes.now inboxes.new.items) }
+    ensures counted { OnOk result (counts.new ≡ counts_of nodes.now inboxes.new.items) }
 {
     let at = place(to);
     if at < inboxes.len() {
         inboxes[at].push(from, frame)?;
-        counts[at] = count_of(&nodes[at], &inboxes[at]);
+        counts.set(at, count_of(&nodes[at], &inboxes[at]));
     }
     Ok(())
 }
 
-/// The frames that a node sends go their ways, one after another.
+/// The frames that a node sends go their ways, one after another, and their list is left empty.
 fn send_all(
     nodes: &[PicoNode],
     inboxes: &mut Vec<Inbox>,
-    counts: &mut Vec<u8>,
+    counts: &mut Counts,
     from: Node,
-    sends: Sends,
+    sends: &mut Vec<(Node, Frame)>,
 ) -> Result<(), Memory>
     requires seats { AreSeats nodes.now inboxes.old.items }
     requires there { from ≤ length inboxes.old.items }
-    requires counted { counts.old.items ≡ counts_of nodes.now inboxes.old.items }
-    ensures sent { OnOk result (inboxes.new.items ≡ with_all_sent from inboxes.old.items sends) }
-    ensures counted { OnOk result (counts.new.items ≡ counts_of nodes.now inboxes.new.items) }
+    requires counted { counts.old ≡ counts_of nodes.now inboxes.old.items }
+    ensures sent { OnOk result (inboxes.new.items ≡ with_all_sent from inboxes.old.items sends.old.items) }
+    ensures counted { OnOk result (counts.new ≡ counts_of nodes.now inboxes.new.items) }
+    ensures emptied { sends.new.items ≡ [] }
 {
-    for (to, frame) in sends.into_vec() {
+    for (to, frame) in sends.drain(..) {
         send(nodes, inboxes, counts, from, to, frame)?;
     }
     Ok(())
@@ -204,7 +206,7 @@ impl State {
         ensures count { result ≡ length (enabled_at (world_of self.now) node) }
         ensures few { result ≤ 33 }
     {
-        u32::from(self.counts[place(node)])
+        u32::from(self.counts.at(place(node)))
     }
 
     /// The event at this place of those of the node that may come next, from 0. Its run comes last.
@@ -226,11 +228,7 @@ impl State {
         requires { IsAlive self.now }
         ensures { result ≡ length (enabled_events (world_of self.now)) }
     {
-        let mut count = 0;
-        for number in 0..size(&self.script) {
-            count += self.count_at(Node(number + 1));
-        }
-        count
+        self.counts.all()
     }
 
     /// The event at this place of those that may come next, from 0.
@@ -239,13 +237,15 @@ impl State {
         ensures { result ≡ slice_get (enabled_events (world_of self.now)) index }
     {
         let mut left = index;
-        for number in 0..size(&self.script) {
-            let node = Node(number + 1);
+        let mut from = 0;
+        while let Some(at) = self.counts.next(from) {
+            let node = Node(at as u8 + 1);
             let count = self.count_at(node);
             if left < count {
                 return self.nth_at(node, left);
             }
             left -= count;
+            from = at + 1;
         }
         None
     }
@@ -257,13 +257,11 @@ impl State {
         ensures { result ≡ slice_get
             (flat_map (enabled_at (world_of self.now)) (numbers (after + 1) (last - after))) 0 }
     {
-        for number in after..last {
-            let node = Node(number + 1);
-            if self.count_at(node) > 0 {
-                return self.nth_at(node, 0);
-            }
+        let at = self.counts.next(usize::from(after))?;
+        if at >= usize::from(last) {
+            return None;
         }
-        None
+        self.nth_at(Node(at as u8 + 1), 0)
     }
 
     /// The first event that may come next, round the nodes: of those behind this one, and then of those up to it.
@@ -297,15 +295,23 @@ impl State {
     {
         let at = place(node);
         let Turn { entries, sends } = take_turn(&mut self.nodes[at], &self.script, input)?;
-        add_entries(&mut self.journal, entries)?;
-        self.counts[at] = count_of(&self.nodes[at], &self.inboxes[at]);
+        let mut entries = entries.into_vec();
+        let mut sends = sends.into_vec();
+        add_entries(&mut self.journal, &mut entries)?;
+        self.counts
+            .set(at, count_of(&self.nodes[at], &self.inboxes[at]));
         send_all(
             &self.nodes,
             &mut self.inboxes,
             &mut self.counts,
             node,
-            sends,
-        )
+            &mut sends,
+        )?;
+        self.nodes[at].reuse(Turn {
+            entries: Entries::from_vec(entries),
+            sends: Sends::from_vec(sends),
+        });
+        Ok(())
     }
 
     /// Carries out an event that may come next.

@@ -13,9 +13,9 @@ count_of-requires c = record {
 
 pub loop-at-preserved : goal.loop-at-preserved
 loop-at-preserved c =
-    counting-next c.args.nodes.now c.args.inboxes.now c.loop-at.at c.count_of.result c.loop-at.counts.items
-    c.push.new.self.items _ _ c.loop-at.invariant (omega arith) (omega (arith, c.requires.width)) c.index-nodes-at.is
-    c.index-inboxes-at.is c.count_of.ensures c.in_ok-push.ensures.items
+    counting-next c.args.nodes.now c.args.inboxes.now c.loop-at.at c.count_of.result c.loop-at.counts
+    c.push.new.self _ _ c.loop-at.invariant (omega arith) (omega (arith, c.requires.width)) c.index-nodes-at.is
+    c.index-inboxes-at.is c.count_of.ensures.count c.in_ok-push.ensures
 
 pub returns : goal.returns
 returns c =

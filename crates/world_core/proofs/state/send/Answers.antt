@@ -1,4 +1,4 @@
-use Rattle.std.proofs.Common.{length, ap, arith}
+use Rattle.std.proofs.Common.{length, ap, ◌∙◌, arith}
 use Rattle.world_core.proofs.Counting.{counted-sent, length-counts, some-read}
 use Rattle.world_core.proofs.state.send.Goals as goal
 
@@ -9,13 +9,14 @@ count_of-requires c = record {
       (omega (arith, c.requires.seats.width)) c.index-nodes-at.is;
 }
 
-pub index_mut-requires-then-at-len : goal.index_mut-requires-then-at-len
-index_mut-requires-then-at-len c =
+pub set-requires-clause-there : goal.set-requires-clause-there
+set-requires-clause-there c =
     let width = length-counts c.args.nodes.now c.args.inboxes.now.items c.requires.seats.width in
-    omega (arith, width, c.requires.seats.width, ap length c.requires.counted, c.args.counts.now.ok.0)
+    omega (arith, width, c.requires.seats.width, ap length c.requires.counted)
 
 pub returns-in_ok-push-clause-counted : goal.returns-in_ok-push-clause-counted
 returns-in_ok-push-clause-counted c =
-    counted-sent c.args.nodes.now c.args.inboxes.now.items c.place-at.result c.count_of.result c.args.counts.now.items
+    c.set.ensures
+    ∙ counted-sent c.args.nodes.now c.args.inboxes.now.items c.place-at.result c.count_of.result c.args.counts.now
     c.index-nodes-at.result c.push.new.self _ c.requires.counted (omega (arith, c.requires.seats.width)) (omega arith)
-    c.index-nodes-at.is c.index.ensures c.count_of.ensures
+    c.index-nodes-at.is c.index.ensures c.count_of.ensures.count

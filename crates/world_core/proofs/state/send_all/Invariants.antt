@@ -8,5 +8,5 @@ invariant-loop-to l = record {
   can_next : (goal.iterator-loop-to).can_next l.to-iterator;
   is_finite : (goal.iterator-loop-to).is_finite l.to-iterator;
   sent : l.inboxes.items ≡ with_all_sent l.from l.initial.inboxes.items l.yielded;
-  counted : l.counts.items ≡ counts_of l.nodes l.inboxes.items;
+  counted : l.counts ≡ counts_of l.nodes l.inboxes.items;
 }

@@ -1,10 +1,6 @@
-use Rattle.world_model.specs.Schedule.{enabled_at}
-use Rattle.world_core.specs.State.{world_of}
-use Rattle.world_core.proofs.Walks.{IsCount-next}
+use Rattle.std.proofs.Common.{◌∙◌}
+use Rattle.world_core.proofs.Choosing.{counts-all}
 use Rattle.world_core.proofs.state.State.count.Goals as goal
 
-pub loop-number-preserved : goal.loop-number-preserved
-loop-number-preserved c =
-    IsCount-next (enabled_at (world_of c.args.self.now)) c.loop-number.number c.loop-number.count
-    c.count_at-count.result
-    c.loop-number.invariant c.count_at-count.ensures.count c.count_at-count.ensures.few
+pub returns : goal.returns
+returns c = c.all.ensures ∙ counts-all c.args.self.now c.requires

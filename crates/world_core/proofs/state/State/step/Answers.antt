@@ -39,7 +39,7 @@ turn-requires-clause-counted c count = ap (λ (l : List ℕ). set l (c.in-Run.no
 pub turn-requires-in-Take-clause-counted : goal.turn-requires-in-Take-clause-counted
 turn-requires-in-Take-clause-counted c count =
     others-counted c.args.self.now.nodes.items c.args.self.now.inboxes.items c.in-Take.node c.place.result count
-    c.args.self.now.counts.items _ c.requires.alive.counted c.place.ensures.place
+    c.args.self.now.counts _ c.requires.alive.counted c.place.ensures.place
 
 pub turn-requires-clause-allowed : goal.turn-requires-clause-allowed
 turn-requires-clause-allowed c =
