@@ -8,8 +8,6 @@ mod partings;
 mod ranges;
 mod spot;
 mod spots;
-#[cfg(test)]
-mod tests;
 
 pub use directory::Directory;
 pub use node_model::{Held, Route};
