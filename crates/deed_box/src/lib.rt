@@ -7,8 +7,6 @@ mod deeds;
 mod packing;
 mod shared;
 mod table;
-#[cfg(test)]
-mod tests;
 
 pub use deed::Deed;
 pub use deeds::Deeds;

@@ -2,7 +2,7 @@ use Rattle.std.proofs.Common.{List, [], ◌∷◌, true, refl}
 use Rattle.pico_base.specs.declared.numbers.Name.{Name}
 use Rattle.deed_box.specs.Deeds.{all_deeds}
 use Rattle.deed_box.specs.Packing.{AllFit}
-use Rattle.deed_box.proofs.tests.pack_tallies.Goals as goal
+use Rattle.node_part_tests.proofs.tests.deeds.pack_tallies.Goals as goal
 
 -- a tally goes with any name
 all-fit : {B : Type 0} (deeds : List (Name × B)) → AllFit (λ tally name. true) deeds
