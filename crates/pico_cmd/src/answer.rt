@@ -64,13 +64,21 @@ fn text_of(alloc: Global, run: &Run, steps: bool) -> Result<Bytes, Memory>
     with_steps(alloc, trace, steps, &run.events)
 }
 
+// A run whose text is made is left as it is: the program ends soon, and the system takes back its memory at once, not
+// piece by piece.
+fn leave(run: Run) {
+    let _left = ManuallyDrop::new(run);
+}
+
 // The text of a script's run by the schedule that is asked for.
 fn text_of_run(alloc: Global, script: Script, options: Options) -> Result<Bytes, Memory>
     requires { IsSoundScript script }
     ensures { IfOk result (IsTextOfRun script options) }
 {
-    let run = ManuallyDrop::new(run_script(alloc, script, options.seed)?);
-    text_of(alloc, &run, options.steps)
+    let run = run_script(alloc, script, options.seed)?;
+    let text = text_of(alloc, &run, options.steps);
+    leave(run);
+    text
 }
 
 /// The answer to these bytes: the trace of the script that they are, and its events where they are wanted, or their
