@@ -3,10 +3,13 @@
 
 usage: bench/shapes.py [ROUNDS]             prints the least times, and their ratio
        bench/shapes.py --script NAME CALLS  writes the script of that shape (a name of SHAPES) with so many calls
+       bench/shapes.py --beside PROGRAM [ROUNDS]
+                                            prints the least times for 20,000 calls beside those of another program that
+                                            takes the same words, run in turn, and how many times theirs ours are
 """
 import sys
 
-from sim import block, ratio
+from sim import PROGRAM, block, least, one_process, ratio, two_processes
 
 
 def script(blocks: dict[str, list[str]]) -> bytes:
@@ -88,7 +91,66 @@ def signals(calls: int) -> bytes:
     return script(blocks)
 
 
+def one_queue(calls: int) -> bytes:
+    """Thirty-two processes that send to one queue and receive, each of a type of its own."""
+    processes = 32
+    rounds = (calls - 3 * processes) // (2 * processes)
+    text = "m" * 24
+    blocks = {}
+    for k in range(1, processes + 1):
+        lines = ["q = msgget private"] + [f"fork p{c}" for c in range(2, processes + 1)] if k == 1 else []
+        blocks[f"p{k}"] = lines + [f'msgsnd $q {k} "{text}" nowait', f"msgrcv $q {k} 64 nowait"] * rounds
+    return script(blocks)
+
+
+def own_queues(calls: int) -> bytes:
+    """Thirty-two processes that send and receive, each on a queue of its own."""
+    processes = 32
+    rounds = (calls - 3 * processes) // (2 * processes)
+    text = "m" * 24
+    blocks = {}
+    for k in range(1, processes + 1):
+        lines = [f"fork p{c}" for c in range(2, processes + 1)] if k == 1 else []
+        lines += ["q = msgget private"]
+        blocks[f"p{k}"] = lines + [f'msgsnd $q {k} "{text}" nowait', f"msgrcv $q {k} 64 nowait"] * rounds
+    return script(blocks)
+
+
+def typed(calls: int) -> bytes:
+    """A queue of 1,000 messages, each of a type of its own; one is received by its type and sent again."""
+    count = 1000
+    lines = ["q = msgget private"] + [f'msgsnd $q {k} "abc" nowait' for k in range(1, count + 1)]
+    for k in range((calls - len(lines) - 1) // 2):
+        kind = k * 617 % count + 1
+        lines += [f"msgrcv $q {kind} 16 nowait", f'msgsnd $q {kind} "abc" nowait']
+    return script({"main": lines})
+
+
+def lowest(calls: int) -> bytes:
+    """A queue of 1,000 messages, the lowest type last; the one of the lowest type is received and sent again."""
+    count = 1000
+    lines = ["q = msgget private"] + [f'msgsnd $q {k} "abc" nowait' for k in range(count, 0, -1)]
+    lines += [f"msgrcv $q -{count} 16 nowait", 'msgsnd $q 1 "abc" nowait'] * ((calls - len(lines) - 1) // 2)
+    return script({"main": lines})
+
+
+def operations(calls: int) -> bytes:
+    """Three operations a call on 64 semaphores, up in one call and down in the next."""
+    lines = ["s = semget private 64"]
+    for k in range((calls - 2) // 2):
+        a, b, c = k % 64, (k + 21) % 64, (k + 42) % 64
+        lines += [f"semop $s {a}:2 {b}:1 {c}:3", f"semop $s {c}:-3:nowait {a}:-2:nowait {b}:-1:nowait"]
+    return script({"main": lines})
+
+
 SHAPES = {
+    "one-process": one_process,
+    "two-processes": two_processes,
+    "one-queue": one_queue,
+    "own-queues": own_queues,
+    "typed": typed,
+    "lowest": lowest,
+    "operations": operations,
     "moving-queues": moving_queues,
     "moving-sets": moving_sets,
     "tree": tree,
@@ -97,9 +159,21 @@ SHAPES = {
 }
 
 
+def beside(other: str, rounds: int) -> None:
+    """Prints the least times of both programs on each shape, and how many times theirs ours are."""
+    for name, shape in SHAPES.items():
+        text = shape(20000)
+        for seed in ("0", "1"):
+            ours, theirs = least([(PROGRAM, text), (other, text)], seed, rounds)
+            print(f"{name}, schedule {seed}: {ours * 1000:.1f} ms and {theirs * 1000:.1f} ms, {ours / theirs:.2f} times")
+
+
 def main() -> None:
     if sys.argv[1:2] == ["--script"]:
         sys.stdout.buffer.write(SHAPES[sys.argv[2]](int(sys.argv[3])))
+        return
+    if sys.argv[1:2] == ["--beside"]:
+        beside(sys.argv[2], int(sys.argv[3]) if len(sys.argv) > 3 else 9)
         return
     rounds = int(sys.argv[1]) if len(sys.argv) > 1 else 9
     for name, shape in SHAPES.items():

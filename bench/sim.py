@@ -33,17 +33,21 @@ def two_processes(calls: int) -> bytes:
     return ("\n".join(block("main", first) + block("other", other)) + "\n").encode()
 
 
-def seconds(text: bytes, seed: str) -> float:
+def seconds(program: str | pathlib.Path, text: bytes, seed: str) -> float:
     start = time.perf_counter()
-    subprocess.run([PROGRAM, "sim", "--seed", seed], input=text, stdout=subprocess.DEVNULL, check=True)
+    subprocess.run([program, "sim", "--seed", seed], input=text, stdout=subprocess.DEVNULL, check=True)
     return time.perf_counter() - start
+
+
+def least(runs: list[tuple[str | pathlib.Path, bytes]], seed: str, rounds: int) -> list[float]:
+    """The least time of each of these programs on its script, run in turn."""
+    times = [[seconds(program, text, seed) for program, text in runs] for _ in range(rounds)]
+    return [min(column) for column in zip(*times)]
 
 
 def ratio(what: str, script, seed: str, rounds: int) -> float:
     """Prints the least times for 10,000 and 20,000 calls, and their ratio; gives the second."""
-    texts = [script(10000), script(20000)]
-    times = [[seconds(text, seed) for text in texts] for _ in range(rounds)]
-    one, two = (min(column) for column in zip(*times))
+    one, two = least([(PROGRAM, script(10000)), (PROGRAM, script(20000))], seed, rounds)
     print(f"{what}, schedule {seed}: {one * 1000:.1f} ms and {two * 1000:.1f} ms, ratio {two / one:.2f}")
     return two
 
