@@ -103,6 +103,7 @@ impl Growing {
         self.enter(pid, call, reply)?;
         self.reply_at(script, caller, ticket, answer)
     }
+
     /// A call of this node's process is started and carried out here at once: an entry, and the call's end, with no
     /// copy of the call kept meanwhile. Memory, too, where its line isn't there.
     pub fn carry_out_at_once(

@@ -215,6 +215,7 @@ found : (above : ℤ) (ms : List Message)
 found above ms =
     found_at above ms (lowest_below above ms) (walked above 0 (length ms) ms) (ends_at above 0 (length ms) ms)
 
+-- a walk that ends at a message ends at the first of the lowest type
 pub found_there : (above : ℤ) (ms : List Message) (place : ℕ) → place ≡ walked above 0 (length ms) ms
     → place < length ms → Some place ≡ first_of_some (lowest_below above ms) ms
 found_there above ms place is inside =
@@ -222,6 +223,7 @@ found_there above ms place is inside =
     let here : cond (ltb place (length ms)) (Some place) None ≡ Some place = rw yes refl in
     sym here ∙ ap (λ (n : ℕ). cond (ltb n (length ms)) (Some n) None) is ∙ found above ms
 
+-- a walk that ends behind all messages found none
 pub found_none : (above : ℤ) (ms : List Message) (place : ℕ) → place ≡ walked above 0 (length ms) ms
     → length ms ≤ place → None ≡ first_of_some (lowest_below above ms) ms
 found_none above ms place is outside =
@@ -237,10 +239,12 @@ start_of : (xs ys : List Message) → AllByRecursion IsSendable (xs ++ ys) → A
 start_of [] ys h = tt
 start_of (x ∷ xs) ys h = (h.0, start_of xs ys h.1)
 
+-- the messages of the first slice are sendable
 pub front_of : (front back items : List Message) → front ++ back ≡ items → AllByRecursion IsSendable items
     → AllByRecursion IsSendable front
 front_of front back items is each = start_of front back (subst (AllByRecursion IsSendable) (sym is) each)
 
+-- the messages of the second slice are sendable
 pub back_of : (front back items : List Message) → front ++ back ≡ items → AllByRecursion IsSendable items
     → AllByRecursion IsSendable back
 back_of front back items is each = rest_of front back (subst (AllByRecursion IsSendable) (sym is) each)

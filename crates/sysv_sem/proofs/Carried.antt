@@ -16,6 +16,7 @@ made pid value = record { value = value; last = pid }
 
 -- ---- one operation
 
+-- where the first operation can't go on, nothing is carried out
 pub carried_stops : (pid : ℕ) (row : List Semaphore) (steps : List SemStep) (step : SemStep) (rest : List SemStep)
     (s : Semaphore) (e : Errno) → steps ≡ step ∷ rest → step.num < length row → s ≡ get_or row step.num s
     → Err e ≡ answer_of (move_by step.add s.value) → carried pid row steps ≡ Err e
@@ -24,6 +25,7 @@ carried_stops pid row steps step rest s e split inside s_is moved =
     let stops : answer_of (move_by step.add s.value) ≡ Err e = sym moved in
     rw (split, there, stops) refl
 
+-- where the first operation goes on, the others are carried out on what it leaves
 pub carried_on : (pid : ℕ) (row : List Semaphore) (steps : List SemStep) (step : SemStep) (rest : List SemStep)
     (s : Semaphore) (value : ℕ) → steps ≡ step ∷ rest → step.num < length row → s ≡ get_or row step.num s
     → Ok value ≡ answer_of (move_by step.add s.value)
@@ -152,15 +154,18 @@ carried_is pid i size row (step ∷ steps) len none =
 abbrev AllInside : ℕ → List SemStep → Type 0
 AllInside size steps = (i : ℕ) (d : SemStep) → i < length steps → (get_or steps i d).num < size
 
+-- the first operation is on a semaphore of the set
 pub first_inside : (size : ℕ) (steps : List SemStep) (step : SemStep) (rest : List SemStep) → steps ≡ step ∷ rest
     → AllInside size steps → step.num < size
 first_inside size steps step rest is all = subst (AllInside size) is all 0 step (omega arith)
 
+-- so are the others
 pub rest_inside : (size same : ℕ) (steps : List SemStep) (step : SemStep) (rest : List SemStep) → steps ≡ step ∷ rest
     → same ≡ size → AllInside size steps → AllInside same rest
 rest_inside size same steps step rest is sized all i d lt =
     subst (λ (n : ℕ). (get_or rest i d).num < n) (sym sized) (subst (AllInside size) is all (suc i) d (omega arith))
 
+-- where the others are refused, the semaphore of the first is put back
 pub put_back : {E : Type 0} (r : Result E Errno) (row new : List Semaphore) (i : ℕ) (x y : Semaphore) → i < length row
     → x ≡ get_or row i x → OnErr r (new ≡ set row i y) → OnErr r (set new i x ≡ row)
 put_back (Ok e) row new i x y lt is h = tt
@@ -176,12 +181,14 @@ op_carried pid row steps few none =
     let fits : ltb max_operations (length steps) ≡ false = grind (arith, nat_tests) in
     rw (fits, none) (carried_is pid 0 (length row) row steps refl none)
 
+-- what was carried out is what semop leaves
 pub done_as : {E : Type 0} (r : Result E Errno) (answer : Result SemaphoreSet Errno)
     (left : Result (List Semaphore) Errno) (new : List Semaphore) → answer ≡ as_set left → OnOk r (left ≡ Ok new)
     → IfOk r (λ _. answer ≡ Ok (set_of new))
 done_as (Ok x) answer left new is h = is ∙ ap as_set h
 done_as (Err e) answer left new is h = tt
 
+-- what refused is what semop's answer is
 pub refused_as : {E : Type 0} (r : Result E Errno) (answer : Result SemaphoreSet Errno)
     (left : Result (List Semaphore) Errno) → answer ≡ as_set left → IfErr r (λ e. left ≡ Err e)
     → IfErr r (λ e. answer ≡ Err e)

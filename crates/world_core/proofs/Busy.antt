@@ -33,6 +33,7 @@ each-behind [] each (suc i) = omega arith
 each-behind (x ∷ xs) each zero = each 0
 each-behind (x ∷ xs) each (suc i) = each-behind xs (λ k. each (suc k)) i
 
+-- one node more that has no event
 pub summed-idle : (all busy : ℕ) (xs : List ℕ) → AreSummed all busy xs → length xs < 32
     → AreSummed all busy (xs ++ 0 ∷ [])
 summed-idle all busy xs was lt = record {

@@ -17,6 +17,7 @@ use Rattle.world_core.proofs.Worlds.{IsShaped, reachable-shaped}
 abbrev pub Keeps : {X : Type 0} → (ℕ → List X) → List ℕ → ℕ → Type 0
 Keeps f counts last = (k : ℕ) → k < last → get_or counts k 0 ≡ length (f (k + 1))
 
+-- a state that runs lead to keeps the counts of its first nodes
 pub keeps-alive : (s : State) (last : ℕ) → IsAlive s → last ≤ node_count s.script
     → Keeps (enabled_at (world_of s)) s.counts last
 keeps-alive s last alive le k lt =
@@ -50,8 +51,8 @@ chosen-there f counts from last index at next left keeps is_next lt walk =
     let e : at + (next - at) ≡ next = omega (arith, is_next.0) in
     subst (λ (k : ℕ). IsWalk f from last index k left) e
     (IsWalk-along f from last index at left (next - at) walk (omega (arith, is_next.0))
-    (λ i ge lt'. let none = is_next.3 i ge (omega (arith, is_next.0)) in let same = keeps i (omega (arith, is_next.0)) in
-    omega arith))
+    (λ i ge lt'. let none = is_next.3 i ge (omega (arith, is_next.0)) in
+    let same = keeps i (omega (arith, is_next.0)) in omega arith))
 
 -- where no node from one on has an event, none is chosen
 pub chosen-none : {X : Type 0} (f : ℕ → List X) (counts : List ℕ) (from last index at left : ℕ) → Keeps f counts last

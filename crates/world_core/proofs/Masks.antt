@@ -42,6 +42,7 @@ mask_l-on bs k lt within =
     ∙ sym (bit_mask_l on i ∙ ap (λ (b : Bool). cond b 1 0) (get_or-set_other bs k i true false other)))
     (cases_eq i k))
 
+-- the mask of at most 32 tests fits 32 bits
 pub mask_l-below : (bs : List Bool) → length bs ≤ 32 → mask_l bs < 2 ^ 32
 mask_l-below bs few = let whole = mask_l-mod bs 32 few in omega (arith, whole)
 

@@ -14,6 +14,7 @@ span f from last = flat_map f (numbers (from + 1) (last - from))
 pub record IsWalk {X : Type 0} (f : ℕ → List X) (from last index at left : ℕ) : Type 0 where
   pub same : slice_get (span f from last) index ≡ slice_get (span f at last) left
 
+-- at its start a walk has passed nothing
 pub IsWalk-first : {X : Type 0} (f : ℕ → List X) (from last index : ℕ) → IsWalk f from last index from index
 IsWalk-first f from last index = record { same = refl }
 
@@ -34,6 +35,7 @@ IsWalk-next f from last index at left walk lt past =
           ∙ ap (λ (k : ℕ). slice_get (flat_map f (numbers (at + 1 + 1) k)) (left - length (f (at + 1)))) e;
     }
 
+-- a walk that is past the last number found nothing
 pub IsWalk-none : {X : Type 0} (f : ℕ → List X) (from last index at left : ℕ) → IsWalk f from last index at left
     → last ≤ at → None ≡ slice_get (span f from last) index
 IsWalk-none f from last index at left walk le =
