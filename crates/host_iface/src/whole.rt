@@ -9,7 +9,7 @@ use pico_base::Bytes;
 use std::alloc::Global;
 
 /// How many bytes one read asks for at most.
-const CHUNK: usize = 4096;
+const CHUNK: usize = 32768;
 
 /// Reads a source to its end, or one byte past the limit. No read asks for more than that.
 ///

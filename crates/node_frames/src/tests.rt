@@ -43,13 +43,24 @@ use offers::{
     CHILD_BIRTHS, CHILD_CALLS, CHILD_ENDS, CHILD_KINDS, CHILD_MOVES, CHILD_NUMBERS, LEADER_CALLS,
     LEADER_ENDS, LEADER_KINDS, LEADER_LEAVINGS, LEADER_MOVES, NEW, P2, Row,
 };
-use pico_base::{Node, Script};
+use pico_base::{Node, Script, Var};
 use rpc_frame::Frame;
 use scripts::forks_twice;
 use std::alloc::Global;
+use std::mem::ManuallyDrop;
 use std::process::Abort;
 use std::test::Fail;
 use wires::{C, Q, Who, checkpoint_of, frame_of, node_of};
+
+/// A node that is never taken apart, so that its owners are cheaper to prove.
+type Kept = ManuallyDrop<PicoNode>;
+
+/// The node at its opening.
+fn opening(alloc: Global, script: &Script, number: Node) -> Result<Kept, Fail>
+    requires block { number ≤ length script.now.blocks }
+{
+    Ok(ManuallyDrop::new(PicoNode::new(alloc, script, number)?))
+}
 
 /// The turn that a node makes next in its life, if there is one.
 fn goes_on(
@@ -71,6 +82,22 @@ fn goes_on(
     Ok(Some(node.turn(script, input)?))
 }
 
+/// The node lives through so many moments.
+fn live(
+    alloc: Global,
+    script: &Script,
+    node: &mut PicoNode,
+    life: &[Moment],
+    count: usize,
+) -> Result<(), Fail>
+    requires sound { IsSoundScript script.now }
+{
+    for moment in life.iter().take(count) {
+        goes_on(alloc, script, node, moment)?;
+    }
+    Ok(())
+}
+
 /// The node after so many moments of its life.
 fn node_at(
     alloc: Global,
@@ -78,14 +105,12 @@ fn node_at(
     number: Node,
     life: &[Moment],
     count: usize,
-) -> Result<PicoNode, Fail>
+) -> Result<Kept, Fail>
     requires sound { IsSoundScript script.now }
     requires block { number ≤ length script.now.blocks }
 {
-    let mut node = PicoNode::new(alloc, script, number)?;
-    for moment in life.iter().take(count) {
-        goes_on(alloc, script, &mut node, moment)?;
-    }
+    let mut node = opening(alloc, script, number)?;
+    live(alloc, script, &mut *node, life, count)?;
     Ok(node)
 }
 
@@ -156,7 +181,7 @@ fn takes_after(
     requires block { number ≤ length script.now.blocks }
 {
     let mut node = node_at(alloc, script, number, life, count)?;
-    takes(&mut node, script, from, frame)
+    takes(&mut *node, script, from, frame)
 }
 
 /// The node, after so many moments of its life, takes each frame of the table that the next moment names.
@@ -185,6 +210,60 @@ fn takes_named(
     Ok(())
 }
 
+/// Two nodes of one number: one that is left alone, and one that is offered what it refuses.
+#[derive(Drop)]
+struct Twins {
+    calm: Kept,
+    vexed: Kept,
+}
+
+/// Two nodes at their opening.
+fn opening_twins(alloc: Global, script: &Script, number: Node) -> Result<Twins, Fail>
+    requires block { number ≤ length script.now.blocks }
+{
+    Ok(Twins {
+        calm: opening(alloc, script, number)?,
+        vexed: opening(alloc, script, number)?,
+    })
+}
+
+/// Both nodes make the same next turn.
+fn go_on_alike(
+    rt: &impl Abort,
+    alloc: Global,
+    script: &Script,
+    nodes: &mut Twins,
+    at: usize,
+    moment: &Moment,
+) -> Result<(), Fail>
+    requires sound { IsSoundScript script.now }
+{
+    let turn = goes_on(alloc, script, &mut *nodes.calm, moment)?;
+    let again = goes_on(alloc, script, &mut *nodes.vexed, moment)?;
+    assert!(rt; turn == again, "after {at}");
+    Ok(())
+}
+
+/// At each moment of their life both nodes make the same turn, though one is offered what it refuses.
+fn go_alike(
+    rt: &impl Abort,
+    alloc: Global,
+    script: &Script,
+    nodes: &mut Twins,
+    life: &[Moment],
+    tables: &[&[Row]],
+) -> Result<(), Fail>
+    requires sound { IsSoundScript script.now }
+{
+    for (at, moment) in life.iter().enumerate() {
+        for table in tables {
+            refuses(rt, alloc, script, &mut *nodes.vexed, moment, table)?;
+        }
+        go_on_alike(rt, alloc, script, nodes, at, moment)?;
+    }
+    Ok(())
+}
+
 /// A node that is offered these frames at each moment of its life takes those that the moment names, and no others; and
 /// where it refuses them it goes on as one that isn't offered any.
 fn goes_through(
@@ -197,18 +276,13 @@ fn goes_through(
     requires block { number ≤ 3 }
 {
     let script = forks_twice(alloc)?;
-    let mut calm = PicoNode::new(alloc, &script, number)?;
-    let mut vexed = PicoNode::new(alloc, &script, number)?;
-    for (at, moment) in life.iter().enumerate() {
+    for count in 0..life.len() {
         for table in tables {
-            refuses(rt, alloc, &script, &mut vexed, moment, table)?;
-            takes_named(rt, alloc, &script, number, life, at, table)?;
+            takes_named(rt, alloc, &script, number, life, count, table)?;
         }
-        let turn = goes_on(alloc, &script, &mut calm, moment)?;
-        let again = goes_on(alloc, &script, &mut vexed, moment)?;
-        assert!(rt; turn == again, "after {at}");
     }
-    Ok(())
+    let mut nodes = opening_twins(alloc, &script, number)?;
+    go_alike(rt, alloc, &script, &mut nodes, life, tables)
 }
 
 #[test]
@@ -236,6 +310,37 @@ fn the_leader_takes_what_has_a_rule(rt: HostRuntime) -> Result<(), Fail> {
     goes_through(&rt, rt.alloc(), Node(1), &LEADER_LIFE, &tables)
 }
 
+/// Whether the node answers that it has no memory.
+fn lacks_memory(node: &mut PicoNode, script: &Script, input: Input) -> bool
+    requires sound { IsSoundScript script.now }
+{
+    matches!(node.turn(script, input), Err(TurnFault::Memory))
+}
+
+/// A birth of node 2 by these variables.
+fn birth_by(alloc: Global, vars: &[Var]) -> Result<Input, Fail> {
+    Ok(Input::Take {
+        from: Node(1),
+        frame: checkpoint_of(alloc, 2, &(P2, NEW), vars)?,
+    })
+}
+
+/// Whether the input spends the node, and it says so from then on.
+fn is_spent_by(node: &mut PicoNode, script: &Script, input: Input) -> bool
+    requires sound { IsSoundScript script.now }
+{
+    lacks_memory(node, script, input) && lacks_memory(node, script, Input::Run)
+}
+
+/// Whether the input spends node 2 as it opens.
+fn spends_a_child(alloc: Global, script: &Script, input: Input) -> Result<bool, Fail>
+    requires sound { IsSoundScript script.now }
+    requires block { 2 ≤ length script.now.blocks }
+{
+    let mut node = opening(alloc, script, Node(2))?;
+    Ok(is_spent_by(&mut *node, script, input))
+}
+
 /// A birth that no node sends, by variables that don't rise, comes to a state that no run leads to: the node says that
 /// it has no memory, and says so from then on.
 #[test]
@@ -243,16 +348,8 @@ fn variables_that_do_not_rise_spend_a_node(rt: HostRuntime) -> Result<(), Fail> 
     let alloc = rt.alloc();
     let script = forks_twice(alloc)?;
     for vars in [[Q, C], [C, C]] {
-        let mut node = PicoNode::new(alloc, &script, Node(2))?;
-        let input = Input::Take {
-            from: Node(1),
-            frame: checkpoint_of(alloc, 2, &(P2, NEW), &vars)?,
-        };
-        assert_eq!(rt; node.turn(&script, input).err(), Some(TurnFault::Memory));
-        assert_eq!(rt;
-            node.turn(&script, Input::Run).err(),
-            Some(TurnFault::Memory)
-        );
+        let birth = birth_by(alloc, &vars)?;
+        assert!(rt; spends_a_child(alloc, &script, birth)?);
     }
     Ok(())
 }

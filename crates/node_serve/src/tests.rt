@@ -174,9 +174,8 @@ fn process_with(alloc: Global, child: Pid) -> Result<Body, Memory>
     }))
 }
 
-#[test]
-fn a_process_ends_under_its_parent(rt: HostRuntime) -> Result<(), Fail> {
-    let alloc = rt.alloc();
+/// The deeds that process 1 is left with by the end of process 2, and what the exit comes to.
+fn end_under_parent(rt: &impl Abort, alloc: Global) -> Result<(Deeds<Body>, Outcome), Fail> {
     let own = process_with(alloc, Pid(6))?;
     let parcel = parcel_of(alloc, &own)?;
     let parent = process_with(alloc, Pid(2))?;
@@ -189,21 +188,38 @@ fn a_process_ends_under_its_parent(rt: HostRuntime) -> Result<(), Fail> {
     let Ok(outcome) = commit_exit(alloc, &mut deeds, parcel) else {
         panic!(rt; "refused");
     };
-    assert_eq!(rt; outcome, Outcome::reply(alloc, Reply::Ended));
-    for (pid, bytes) in [(2, [2, 0, 7].as_slice()), (3, &[3]), (4, &[3]), (5, &[3])] {
-        let body = deeds.get(Name::Proc(Pid(pid))).ok_or("no deed")?;
-        assert_eq!(rt; body.pack(alloc)?.as_slice(), bytes);
-    }
+    Ok((deeds, outcome))
+}
+
+/// The bytes of the process's body.
+fn bytes_of(alloc: Global, deeds: &Deeds<Body>, pid: Pid) -> Result<Bytes, Fail> {
+    let body = deeds.get(Name::Proc(pid)).ok_or("no deed")?;
+    Ok(body.pack(alloc)?)
+}
+
+/// What process 1 finds where it asks for the end of any child.
+fn found(alloc: Global, deeds: &mut Deeds<Body>) -> Result<Reply, Fail> {
     let wait = Call::WaitPid {
         child: None,
         nohang: true,
     };
-    let found = Reply::Child {
+    let name = Name::Proc(Pid(1));
+    let body = deeds.get_mut(name).ok_or("no parent")?;
+    Ok(on_body(alloc, body, name, Pid(1), &wait)?)
+}
+
+#[test]
+fn a_process_ends_under_its_parent(rt: HostRuntime) -> Result<(), Fail> {
+    let alloc = rt.alloc();
+    let (mut deeds, outcome) = end_under_parent(&rt, alloc)?;
+    assert_eq!(rt; outcome, Outcome::reply(alloc, Reply::Ended));
+    for (pid, bytes) in [(2, [2, 0, 7].as_slice()), (3, &[3]), (4, &[3]), (5, &[3])] {
+        assert_eq!(rt; bytes_of(alloc, &deeds, Pid(pid))?.as_slice(), bytes);
+    }
+    let child = Reply::Child {
         pid: Pid(2),
         ending: Ending::Exited(7),
     };
-    let name = Name::Proc(Pid(1));
-    let body = deeds.get_mut(name).ok_or("no parent")?;
-    assert_eq!(rt; on_body(alloc, body, name, Pid(1), &wait)?, found);
+    assert_eq!(rt; found(alloc, &mut deeds)?, child);
     Ok(())
 }

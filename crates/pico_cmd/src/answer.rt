@@ -15,7 +15,7 @@ use pico_words::Options;
 use script_reader::{ScriptFault, ScriptStop, read_script};
 use std::alloc::Global;
 use std::mem::ManuallyDrop;
-use trace_text::{push, push_byte, push_number, write_steps, write_trace};
+use trace_text::{push, push_byte, push_number, write_steps, write_trace_over};
 
 /// A status, and the text that is written with it.
 #[derive(Drop)]
@@ -54,13 +54,13 @@ pub fn with_steps(
     Ok(Bytes::from_vec(whole))
 }
 
-// The text of a run: its trace, and its events where they are wanted.
-fn text_of(alloc: Global, run: &Run, steps: bool) -> Result<Bytes, Memory>
+// The text of a run: its trace, and its events where they are wanted. It stands in the memory of what was read.
+fn text_of(alloc: Global, run: &Run, steps: bool, read: Bytes) -> Result<Bytes, Memory>
     requires { IsSome run.now.world }
     ensures { IfOk result (λ text. IfSome run.now.world (λ last.
         text ≡ trace_text last.script last.journal ++ steps_if steps run.now.events.items)) }
 {
-    let trace = write_trace(alloc, run.world.script(), run.world.journal())?;
+    let trace = write_trace_over(read, run.world.script(), run.world.journal())?;
     with_steps(alloc, trace, steps, &run.events)
 }
 
@@ -70,31 +70,36 @@ fn leave(run: Run) {
     let _left = ManuallyDrop::new(run);
 }
 
-// The text of a script's run by the schedule that is asked for.
-fn text_of_run(alloc: Global, script: Script, options: Options) -> Result<Bytes, Memory>
+// The text of a script's run by the schedule that is asked for, in the memory of what was read.
+fn text_of_run(
+    alloc: Global,
+    script: Script,
+    options: Options,
+    read: Bytes,
+) -> Result<Bytes, Memory>
     requires { IsSoundScript script }
     ensures { IfOk result (IsTextOfRun script options) }
 {
     let run = run_script(alloc, script, options.seed)?;
-    let text = text_of(alloc, &run, options.steps);
+    let text = text_of(alloc, &run, options.steps, read);
     leave(run);
     text
 }
 
 /// The answer to these bytes: the trace of the script that they are, and its events where they are wanted, or their
 /// first fault.
-pub fn answer_to(alloc: Global, bytes: &[u8], options: Options) -> Result<Answer, Memory>
-    ensures answer { IfOk result (λ answer. Simulates options bytes.now answer.status answer.text) }
+pub fn answer_to(alloc: Global, bytes: Bytes, options: Options) -> Result<Answer, Memory>
+    ensures answer { IfOk result (λ answer. Simulates options bytes answer.status answer.text) }
     ensures status { IfOk result (λ answer. (answer.status ≡ Status.Done) ⊎ (answer.status ≡ Status.BadScript)) }
-    ensures done { (script : ScriptValue) → Reads bytes.now script
+    ensures done { (script : ScriptValue) → Reads bytes script
         → IfOk result (λ answer. answer.status ≡ Status.Done) }
-    ensures fault { (line : ℕ) (fault : FaultValue) → IsFirstFault bytes.now line fault
+    ensures fault { (line : ℕ) (fault : FaultValue) → IsFirstFault bytes line fault
         → IfOk result (λ answer. answer.status ≡ Status.BadScript) }
 {
-    match read_script(alloc, bytes) {
+    match read_script(alloc, bytes.as_slice()) {
         Ok(script) => Ok(Answer {
             status: Status::Done,
-            text: text_of_run(alloc, script, options)?,
+            text: text_of_run(alloc, script, options, bytes)?,
         }),
         Err(ScriptStop::At { line, fault }) => Ok(Answer {
             status: Status::BadScript,

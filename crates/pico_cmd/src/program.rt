@@ -83,7 +83,7 @@ fn simulate<S: Source>(alloc: Global, options: Options, source: &mut S) -> Resul
     ensures stop { IfErr result (IsStop (S.faults source.old) (S.faults source.new)) }
 {
     let bytes = bytes_up_to(alloc, source, MAX_SCRIPT)?;
-    Ok(answer_to(alloc, bytes.as_slice(), options)?)
+    Ok(answer_to(alloc, bytes, options)?)
 }
 
 // The answer to a script and a trace.

@@ -925,7 +925,16 @@ pub(crate) fn push_totals(out: &mut Vec<u8>, journal: &[Entry]) -> Result<(), Me
 pub fn write_trace(alloc: Global, script: &Script, journal: &Entries) -> Result<Bytes, Memory>
     ensures { IfOk result (λ text. text ≡ trace.trace_text script.now journal.now) }
 {
-    let mut out = Vec::new(alloc);
+    write_trace_over(Bytes::new(alloc), script, journal)
+}
+
+/// The same text, in the memory of bytes that are no longer wanted: a page that is touched first costs more than one
+/// that was used before. Memory: more was needed, and an allocation was refused.
+pub fn write_trace_over(used: Bytes, script: &Script, journal: &Entries) -> Result<Bytes, Memory>
+    ensures { IfOk result (λ text. text ≡ trace.trace_text script.now journal.now) }
+{
+    let mut out = used.into_vec();
+    out.clear();
     for entry in journal.as_slice() {
         push_entry(&mut out, script, entry)?;
     }

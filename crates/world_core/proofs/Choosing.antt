@@ -54,6 +54,19 @@ chosen-there f counts from last index at next left keeps is_next lt walk =
     (λ i ge lt'. let none = is_next.3 i ge (omega (arith, is_next.0)) in
     let same = keeps i (omega (arith, is_next.0)) in omega arith))
 
+-- the next node with an event is one of the world's, and those before it are passed
+pub next-there : (s : State) (index at next left : ℕ) → IsAlive s → IsNext s.counts at (Some next)
+    → IsWalk (enabled_at (world_of s)) 0 (node_count s.script) index at left
+    → (next < node_count s.script) × IsWalk (enabled_at (world_of s)) 0 (node_count s.script) index next left
+next-there s index at next left alive is_next walk =
+    let n = node_count s.script in
+    let wide = counts-wide s alive in
+    let lt : next < n = omega (arith, is_next.1) in (
+      lt,
+      chosen-there (enabled_at (world_of s)) s.counts 0 n index at next left (keeps-alive s n alive (omega arith))
+          is_next lt walk,
+    )
+
 -- where no node from one on has an event, none is chosen
 pub chosen-none : {X : Type 0} (f : ℕ → List X) (counts : List ℕ) (from last index at left : ℕ) → Keeps f counts last
     → ((i : ℕ) → at ≤ i → i < last → get_or counts i 0 ≡ 0) → IsWalk f from last index at left

@@ -3,6 +3,7 @@ pub mod Busy
 pub mod Choosing
 pub mod Counting
 pub mod Enabled
+mod Examples
 pub mod Lists
 pub mod Masks
 pub mod Members

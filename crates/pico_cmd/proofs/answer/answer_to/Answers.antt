@@ -1,7 +1,9 @@
-use Rattle.std.proofs.Common.{inl, inr}
+use Rattle.std.proofs.Common.{inl, inr, subst, sym}
+use Rattle.script_reader.specs.Fault.{IsFirstFault}
 use Rattle.pico_cmd.proofs.answer.answer_to.Goals as goal
 
 -- a text that is read has no fault
-pub returns-in_ok-text_of_run-in-Ok-clause-fault : goal.returns-in_ok-text_of_run-in-Ok-clause-fault
-returns-in_ok-text_of_run-in-Ok-clause-fault c line fault first =
-    elim (c.in-Ok.ensures.only_fault line fault first) [ inl e ↦ cc | inr e ↦ cc ]
+pub returns-in-Ok-clause-fault : goal.returns-in-Ok-clause-fault
+returns-in-Ok-clause-fault c line fault first =
+    let has = subst (λ bytes. IsFirstFault bytes line fault) (sym c.as_slice.ensures) first in
+    elim (c.in-Ok.ensures.only_fault line fault has) [ inl e ↦ cc | inr e ↦ cc ]

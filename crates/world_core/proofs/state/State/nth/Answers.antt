@@ -1,9 +1,9 @@
-use Rattle.std.proofs.Common.{◌+◌, ◌-◌, ◌<◌, ℕ, List, sym, ap, subst, slice_get, ◌∙◌, arith}
+use Rattle.std.proofs.Common.{◌+◌, ◌-◌, ℕ, List, sym, ap, subst, slice_get, ◌∙◌, arith}
 use Rattle.pico_base.specs.declared.script.Event.{Event}
 use Rattle.world_model.specs.Schedule.{enabled_at}
 use Rattle.world_model.specs.World.{node_count}
 use Rattle.world_core.specs.State.{world_of}
-use Rattle.world_core.proofs.Choosing.{keeps-alive, counts-wide, chosen-there, chosen-none}
+use Rattle.world_core.proofs.Choosing.{keeps-alive, counts-wide, next-there, chosen-none}
 use Rattle.world_core.proofs.Walks.{IsWalk, IsWalk-here, IsWalk-next, span-all}
 use Rattle.world_core.proofs.state.State.nth.Goals as goal
 
@@ -20,12 +20,11 @@ returns-then-left-count c =
     let s = c.args.self.now in
     let f = enabled_at (world_of s) in
     let n = node_count s.script in
-    let wide = counts-wide s c.requires in
-    let lt : c.in-Some.at < n = omega (arith, c.in-Some.ensures.next.1) in
-    let walk = chosen-there f s.counts 0 n c.args.index c.loop-at.from c.in-Some.at c.loop-at.left
-    (keeps-alive s n c.requires (omega arith)) c.in-Some.ensures.next lt c.loop-at.invariant in
+    let there = next-there s c.args.index c.loop-at.from c.in-Some.at c.loop-at.left c.requires c.in-Some.ensures.next
+    c.loop-at.invariant in
     c.nth_at.ensures
-    ∙ IsWalk-here f 0 n c.args.index c.in-Some.at c.loop-at.left walk lt (omega (arith, c.count_at-count.ensures.count))
+    ∙ IsWalk-here f 0 n c.args.index c.in-Some.at c.loop-at.left there.1 there.0
+    (omega (arith, c.count_at-count.ensures.count))
     ∙ ap (λ (l : List Event). slice_get l c.args.index) (span-all f n)
 
 pub loop-at-preserved : goal.loop-at-preserved
@@ -33,13 +32,12 @@ loop-at-preserved c =
     let s = c.args.self.now in
     let f = enabled_at (world_of s) in
     let n = node_count s.script in
-    let wide = counts-wide s c.requires in
-    let lt : c.in-Some.at < n = omega (arith, c.in-Some.ensures.next.1) in
-    let walk = chosen-there f s.counts 0 n c.args.index c.loop-at.from c.in-Some.at c.loop-at.left
-    (keeps-alive s n c.requires (omega arith)) c.in-Some.ensures.next lt c.loop-at.invariant in
+    let there = next-there s c.args.index c.loop-at.from c.in-Some.at c.loop-at.left c.requires c.in-Some.ensures.next
+    c.loop-at.invariant in
     subst (λ (k : ℕ). IsWalk f 0 n c.args.index (c.in-Some.at + 1) (c.loop-at.left - k))
     (sym c.count_at-count.ensures.count)
-    (IsWalk-next f 0 n c.args.index c.in-Some.at c.loop-at.left walk lt (omega (arith, c.count_at-count.ensures.count)))
+    (IsWalk-next f 0 n c.args.index c.in-Some.at c.loop-at.left there.1 there.0
+    (omega (arith, c.count_at-count.ensures.count)))
 
 pub returns : goal.returns
 returns c =

@@ -1,7 +1,7 @@
 use Rattle.std.proofs.Common.{◌≡◌, take}
 use Rattle.std.specs.List.{flat_map}
 use Rattle.kernel_model.specs.Trace as trace
-use Rattle.trace_text.proofs.print.write_trace.Given as goal
+use Rattle.trace_text.proofs.print.write_trace_over.Given as goal
 
 -- the lines so far
 abbrev pub invariant-loop-entry : goal.invariant-loop-entry
