@@ -33,10 +33,10 @@ use Rattle.world_laws.specs.Runnable.{IsRunnable}
 use Rattle.world_laws.specs.Sights.{directory_of, frames_to, node_of}
 use Rattle.world_laws.proofs.Heads.{head-there}
 use Rattle.world_laws.proofs.Steps.{Heads, world_without}
-use Rattle.world_hand.proofs.Asks.{NeverWaits}
-use Rattle.world_ends.proofs.Directories.{KnowsNodes}
-use Rattle.world_ends.proofs.Given.{AreRising}
-use Rattle.world_ends.proofs.RecallAlls.{deeds_at}
+use Rattle.world_rules.proofs.hand.Asks.{NeverWaits}
+use Rattle.world_rules.proofs.ends.Directories.{KnowsNodes}
+use Rattle.world_rules.proofs.ends.Given.{AreRising}
+use Rattle.world_rules.proofs.ends.RecallAlls.{deeds_at}
 use Rattle.world_bounds.specs.Bounded.{AllRise, AreWatchedBy, FrameIsBounded, IsBounded, IsGood, IsNode, ItemIsOfNode, ItemsAreOfNodes, NodeIsBounded, PlaceNamesNodes, StepIsBounded}
 use Rattle.world_bounds.proofs.Calls.{never-waits}
 use Rattle.world_bounds.proofs.Deeds.{deeds-are-read-in}

@@ -19,7 +19,7 @@ use Rattle.world_laws.specs.Sights.{node_of}
 use Rattle.world_laws.proofs.Changes.{Changes, frames_if, sent, taken}
 use Rattle.world_laws.proofs.Sends.{AreToNodes, frame_if, frames_with}
 use Rattle.world_laws.proofs.Steps.{Heads, changes-by-run, changes-by-take, frames-low, node-there, world_without}
-use Rattle.world_own.proofs.Enabled.{IsRun, enabled-runs}
+use Rattle.world_rules.proofs.own.Enabled.{IsRun, enabled-runs}
 use Rattle.world_rules.proofs.Enabled.{IsTaken, enabled-takes}
 use Rattle.world_bounds.specs.Bounded.{FrameIsBounded, IsBounded, IsNode, IsShapedAndBounded, ItemsAreOfNodes, NodeIsBounded, SendIsBounded, StepIsBounded}
 use Rattle.world_bounds.proofs.Parts.{all-both, all-parts, of-some}

@@ -16,7 +16,7 @@ use Rattle.world_model.specs.World.{World, after_turn, is_enabled, node_at, node
 use Rattle.world_laws.specs.Invariant.{IsShaped}
 use Rattle.world_laws.specs.Sights.{node_of}
 use Rattle.world_laws.proofs.Steps.{Heads, node-there, world_without}
-use Rattle.world_own.proofs.Enabled.{IsRun, enabled-runs}
+use Rattle.world_rules.proofs.own.Enabled.{IsRun, enabled-runs}
 use Rattle.world_rules.proofs.Enabled.{IsTaken, enabled-takes}
 use Rattle.world_bounds.proofs.Runs.{opening-is-shaped-and-bounded}
 use Rattle.world_bounds.specs.Bounded.{IsShapedAndBounded}

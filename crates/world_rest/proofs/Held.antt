@@ -25,7 +25,7 @@ use Rattle.world_laws.specs.Plays.{Hold, OnTheWay, believed, is_has, is_there, p
 use Rattle.world_laws.specs.Sights.{directory_of, frames_to, is_born_in, node_of, stage_of}
 use Rattle.world_laws.specs.Ways.{kept}
 use Rattle.world_laws.proofs.NameFacts.{begins-with, has_left}
-use Rattle.world_ends.proofs.KeptItems.{kept-is-there}
+use Rattle.world_rules.proofs.ends.KeptItems.{kept-is-there}
 use Rattle.world_bounds.specs.Bounded.{IsBounded}
 use Rattle.world_rest.proofs.Census.{is_way, one-is-some, stream-is, way_from, way_to}
 use Rattle.world_rest.proofs.Senders.{Sender, carrier, carried-by-lower, sender-of}

@@ -34,7 +34,7 @@ use Rattle.world_laws.specs.Ways.{Way, collected, gone, here, is_leaving_frame, 
 use Rattle.world_laws.proofs.Named.{same-name}
 use Rattle.world_rules.proofs.Nodes.{and-true}
 use Rattle.world_laws.proofs.Steps.{node-there}
-use Rattle.world_ends.proofs.RecallAlls.{ends-by-end}
+use Rattle.world_rules.proofs.ends.RecallAlls.{ends-by-end}
 use Rattle.world_bounds.specs.Bounded.{IsBounded}
 use Rattle.world_rest.specs.Laws.{IsNodeAtRest, IsQuiet}
 use Rattle.world_rest.proofs.Held.{none-kept, not-in-hand, not-on-way, nothing-held}

@@ -29,9 +29,9 @@ use Rattle.world_laws.proofs.Changes.{Changes, filter-is-list-map, frames_if, ma
 use Rattle.world_laws.proofs.LeftAlone.{family-left-alone, few-still, frames-still-fit, kind-left-alone, sender-stays, was-there}
 use Rattle.world_laws.proofs.Stays.{IsMore, SameWay, kind-stays, way-stays}
 use Rattle.world_laws.proofs.Steps.{run-steps}
-use Rattle.world_own.proofs.Moved.{AfterRun}
-use Rattle.world_own.proofs.OwnCases.{Keeps}
-use Rattle.world_own.proofs.Runs.{Starts}
+use Rattle.world_rules.proofs.own.Moved.{AfterRun}
+use Rattle.world_rules.proofs.own.OwnCases.{Keeps}
+use Rattle.world_rules.proofs.own.Runs.{Starts}
 use Rattle.world_runs.proofs.LeavingNames.{leaving-name}
 use Rattle.world_runs.proofs.LeavingStarts.{leaves-by-rule, leaving_beside, leaving_frame, leaving_node, leaving_sends, leaving_step, leaving_world, leaving-born, leaving-calls, leaving-changes, leaving-directory, leaving-nodes}
 

@@ -28,7 +28,7 @@ use Rattle.world_laws.proofs.Frames.{plays-of-others, ranges-of-all-others}
 use Rattle.world_laws.proofs.LeftAlone.{LeavesCall, call-left-alone, other-node-stays}
 use Rattle.world_laws.proofs.Stays.{IsMore, SameCall, call-stays, node-born}
 use Rattle.world_laws.proofs.Steps.{changes-by-run}
-use Rattle.world_own.proofs.Runs.{Starts, run-is}
+use Rattle.world_rules.proofs.own.Runs.{Starts, run-is}
 
 leaving-is-over : Leaving ≡ Over → ⊥
 leaving-is-over h = cc

@@ -14,13 +14,13 @@ use Rattle.world_model.specs.World.{World, is_enabled, node_count}
 use Rattle.world_laws.specs.Invariant.{Holds}
 use Rattle.world_laws.specs.Places.{Beside}
 use Rattle.world_laws.specs.Sights.{node_of}
-use Rattle.world_own.proofs.Enabled.{IsRun, enabled-runs, enabled-starts}
-use Rattle.world_own.proofs.Moved.{AfterRun}
-use Rattle.world_own.proofs.OwnCases.{Keeps}
-use Rattle.world_own.proofs.Runs.{Starts}
-use Rattle.world_makes.proofs.Makes.{own-call-starts}
-use Rattle.world_held.proofs.AnyStarts.{any-starts}
-use Rattle.world_exits.proofs.FirstEnds.{first-end-keeps}
+use Rattle.world_rules.proofs.own.Enabled.{IsRun, enabled-runs, enabled-starts}
+use Rattle.world_rules.proofs.own.Moved.{AfterRun}
+use Rattle.world_rules.proofs.own.OwnCases.{Keeps}
+use Rattle.world_rules.proofs.own.Runs.{Starts}
+use Rattle.world_rules.proofs.makes.Makes.{own-call-starts}
+use Rattle.world_rules.proofs.held.AnyStarts.{any-starts}
+use Rattle.world_rules.proofs.exits.FirstEnds.{first-end-keeps}
 use Rattle.world_bounds.specs.Bounded.{IsBounded}
 use Rattle.world_bounds.proofs.Ready.{Ready, bounded-is-ready}
 use Rattle.world_runs.proofs.Hands.{leader-is-ready}

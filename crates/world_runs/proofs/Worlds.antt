@@ -12,9 +12,9 @@ use Rattle.world_laws.specs.Invariant.{HasInvariant, Holds}
 use Rattle.world_laws.specs.Places.{Beside}
 use Rattle.world_laws.proofs.Steps.{KeepsAs}
 use Rattle.world_rules.proofs.Opening.{opening-holds}
-use Rattle.world_own.proofs.Enabled.{IsRun, enabled-runs}
-use Rattle.world_own.proofs.Moved.{AfterRun}
-use Rattle.world_own.proofs.OwnCases.{Keeps}
+use Rattle.world_rules.proofs.own.Enabled.{IsRun, enabled-runs}
+use Rattle.world_rules.proofs.own.Moved.{AfterRun}
+use Rattle.world_rules.proofs.own.OwnCases.{Keeps}
 use Rattle.world_bounds.specs.Bounded.{IsShapedAndBounded}
 use Rattle.world_bounds.proofs.Runs.{opening-is-shaped-and-bounded}
 use Rattle.world_bounds.proofs.Scripts.{sound-is-runnable}

@@ -21,7 +21,7 @@ use Rattle.world_laws.proofs.Steps.{Heads}
 use Rattle.world_laws.proofs.Heads.{head-from-another}
 use Rattle.world_weights.specs.Weights.{Falls, call_weight}
 use Rattle.world_weights.proofs.CallHeads.{answer-place, forward-place, lease-ask-place, lease-place, may-end, not-owner-place, request-place}
-use Rattle.world_own.proofs.Moved.{IsNotServed}
+use Rattle.world_rules.proofs.own.Moved.{IsNotServed}
 use Rattle.world_weights.proofs.Costs.{MayEnd, RisesBesides}
 use Rattle.world_weights.proofs.Events.{take-falls}
 use Rattle.world_weights.proofs.NodeCalls.{answer-costs, bounced-costs, forward-costs, lease-ask-costs, lease-costs, lowers-by-cost, not-owner-costs, refused-costs, request-costs}

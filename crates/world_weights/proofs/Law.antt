@@ -18,7 +18,7 @@ use Rattle.world_laws.specs.Places.{Beside, CallPlace, HasLease, Idle, InAsk, In
 use Rattle.world_laws.specs.Sights.{directory_of, is_born_in, node_of}
 use Rattle.world_laws.proofs.Steps.{Heads}
 use Rattle.world_laws.proofs.Heads.{head-may-be}
-use Rattle.world_own.proofs.Moved.{AfterRun, AreStill, IsMoved, IsNotServed}
+use Rattle.world_rules.proofs.own.Moved.{AfterRun, AreStill, IsMoved, IsNotServed}
 use Rattle.world_weights.specs.Weights.{Falls, call_weight}
 use Rattle.world_weights.proofs.CallFalls.{answer-falls, bounced-falls, forward-falls, lease-ask-falls, lease-falls, not-owner-falls, refused-falls, request-falls}
 use Rattle.world_weights.proofs.Costs.{RisesBesides}

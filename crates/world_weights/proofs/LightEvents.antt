@@ -26,17 +26,17 @@ use Rattle.world_laws.specs.Invariant.{Holds}
 use Rattle.world_laws.specs.Places.{Beside, CallPlace, IsInHand, call_in}
 use Rattle.world_laws.specs.Sights.{directory_of, node_of}
 use Rattle.world_laws.proofs.Steps.{Heads, KeepsAs, take-steps, world_without}
-use Rattle.world_hand.proofs.Noted.{HoldsAfter}
-use Rattle.world_release.proofs.GiveBacks.{give-back-in-hand, give-back-releases, given-is-read}
-use Rattle.world_release.proofs.TakenUp.{taken_up}
+use Rattle.world_rules.proofs.hand.Noted.{HoldsAfter}
+use Rattle.world_rules.proofs.release.GiveBacks.{give-back-in-hand, give-back-releases, given-is-read}
+use Rattle.world_rules.proofs.release.TakenUp.{taken_up}
 use Rattle.world_weights.proofs.Counts.{IsOfNode}
 use Rattle.world_weights.proofs.GiveBacks.{give-back-falls}
-use Rattle.world_hand.proofs.Asks.{NeverWaits, ask-in-hand, ask-keeps}
-use Rattle.world_hand.proofs.Bounces.{bounce-in-hand, bounce-keeps}
-use Rattle.world_ends.proofs.Directories.{KnowsNodes}
-use Rattle.world_ends.proofs.Lefts.{at_leader, left-in-hand}
-use Rattle.world_ends.proofs.Releases.{left-steps}
-use Rattle.world_own.proofs.Moved.{twice-in}
+use Rattle.world_rules.proofs.hand.Asks.{NeverWaits, ask-in-hand, ask-keeps}
+use Rattle.world_rules.proofs.hand.Bounces.{bounce-in-hand, bounce-keeps}
+use Rattle.world_rules.proofs.ends.Directories.{KnowsNodes}
+use Rattle.world_rules.proofs.ends.Lefts.{at_leader, left-in-hand}
+use Rattle.world_rules.proofs.ends.Releases.{left-steps}
+use Rattle.world_rules.proofs.own.Moved.{twice-in}
 use Rattle.world_weights.specs.Weights.{Falls, middle_weight}
 use Rattle.world_weights.proofs.Events.{falls-alike}
 use Rattle.world_weights.proofs.HandSteps.{LightRoute}

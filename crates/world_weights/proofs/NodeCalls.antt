@@ -24,7 +24,7 @@ use Rattle.world_model.specs.Routing.{route_call}
 use Rattle.world_model.specs.Serving.{serve_asked, serve_nobody}
 use Rattle.world_model.specs.World.{node_count}
 use Rattle.world_laws.specs.Places.{CallPlace, call_in}
-use Rattle.world_own.proofs.Moved.{IsNotServed}
+use Rattle.world_rules.proofs.own.Moved.{IsNotServed}
 use Rattle.world_weights.specs.Weights.{call_weight, left_to_start, node_weight}
 use Rattle.world_weights.proofs.Costs.{MayEnd, RisesBesides, move_cost, nobody-costs, served-costs, stage-below, step_weight, under-way-at}
 use Rattle.world_weights.proofs.Events.{Lowers, lowers-moved}

@@ -1,3 +1,0 @@
-pub mod HeldStarts
-pub mod OtherStarts
-pub mod AnyStarts

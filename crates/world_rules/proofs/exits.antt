@@ -1,0 +1,20 @@
+-- The end of a process: its parcel goes on to the node where its parent's deed is, or its end is carried out there.
+pub mod Arrivals
+pub mod Released
+pub mod Parcels
+pub mod Hands
+pub mod Onward
+pub mod SentOn
+pub mod DeedMoves
+pub mod SentAll
+pub mod EndLeaves
+pub mod Exits
+pub mod ExitDeeds
+pub mod ExitMoves
+pub mod LeaderExits
+pub mod EndKeeps
+pub mod SentParcels
+pub mod ExitTos
+pub mod NoForker
+pub mod FirstEnds
+pub mod HandEnds
