@@ -4,7 +4,7 @@ ghost use Rattle.trace_text.specs.Reading as reading;
 
 use crate::calls::call_front;
 use crate::grammar::is_entry;
-use crate::print::push_entry;
+use crate::print_entries::push_entry;
 use crate::replies::reply_front;
 use pico_base::{Call, Entry, Memory, Node, Outcome, Pid, Reply, Script};
 use std::alloc::Global;

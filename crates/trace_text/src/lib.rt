@@ -4,22 +4,34 @@
 mod calls;
 mod entries;
 mod fault;
+mod fields;
 mod grammar;
+mod names;
 mod print;
+mod print_calls;
+mod print_entries;
+mod print_queues;
+mod print_replies;
+mod print_semaphores;
 mod read;
 mod replies;
 mod steps;
 mod text;
+mod totals;
 mod verbs;
 
 pub use entries::{entry_in, is_line};
 pub use fault::CheckFault;
+pub use fields::push_values;
 pub use grammar::{is_call, is_reply};
-pub use print::{
-    action_name, how_name, push_call, push_entries_total, push_not_ready_total,
-    push_processes_total, push_refused_total, push_reply, push_set, push_values, signal_argument,
-    signal_name, write_totals, write_trace, write_trace_over,
-};
+pub use names::{action_name, how_name, push_set, signal_argument, signal_name};
+pub use print::{write_trace, write_trace_over};
+pub use print_calls::push_call;
+pub use print_replies::push_reply;
 pub use read::{MAX_TRACE, begins_like_totals, fits, next_line, read_trace};
 pub use steps::write_steps;
 pub use text::{push, push_byte, push_number, push_quoted, push_signed};
+pub use totals::{
+    push_entries_total, push_not_ready_total, push_processes_total, push_refused_total,
+    write_totals,
+};

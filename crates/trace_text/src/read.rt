@@ -8,7 +8,7 @@ ghost use Rattle.trace_text.specs.Read as spec;
 
 use crate::entries::{entry_in, is_line};
 use crate::fault::CheckFault;
-use crate::print::push_totals;
+use crate::totals::push_totals;
 use pico_base::{Entries, Entry, Memory, Script};
 use std::alloc::Global;
 

@@ -2,7 +2,7 @@ use Rattle.std.proofs.Common.{◌≡◌, ◌++◌, take}
 use Rattle.std.specs.List.{filter, list_any}
 use Rattle.pico_base.specs.Signal.{at, all_signals}
 use Rattle.kernel_model.specs.Trace as trace
-use Rattle.trace_text.proofs.print.push_members.Given as goal
+use Rattle.trace_text.proofs.names.push_members.Given as goal
 
 -- the members so far
 abbrev pub invariant-loop-place : goal.invariant-loop-place

@@ -4,8 +4,8 @@ use Rattle.pico_base.specs.Signal.{at, all_signals}
 use Rattle.kernel_model.specs.Trace.{commas, signal_name}
 use Rattle.trace_text.proofs.Appends.{two_parts_more}
 use Rattle.trace_text.proofs.Members.{member-marked, names-grow, members-stay, some-begun, some-stay}
-use Rattle.trace_text.proofs.print.push_members.Goals as goal
-use Rattle.trace_text.proofs.print.push_members.Goals.{then-marks-place+in_ok-push_member, else-marks-place}
+use Rattle.trace_text.proofs.names.push_members.Goals as goal
+use Rattle.trace_text.proofs.names.push_members.Goals.{then-marks-place+in_ok-push_member, else-marks-place}
 
 pub loop-place-preserved : goal.loop-place-preserved
 loop-place-preserved c =

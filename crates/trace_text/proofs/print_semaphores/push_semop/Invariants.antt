@@ -1,7 +1,7 @@
 use Rattle.std.proofs.Common.{◌≡◌, ◌++◌, take}
 use Rattle.std.specs.List.{flat_map}
 use Rattle.kernel_model.specs.Trace as trace
-use Rattle.trace_text.proofs.print.push_semop.Given as goal
+use Rattle.trace_text.proofs.print_semaphores.push_semop.Given as goal
 
 -- the operations so far
 abbrev pub invariant-loop-step : goal.invariant-loop-step

@@ -1,7 +1,7 @@
 use Rattle.std.proofs.Common.{◌≡◌, ◌≤◌, take, count_by}
 use Rattle.std.specs.Prelude.{sum_by}
 use Rattle.kernel_model.specs.Trace as trace
-use Rattle.trace_text.proofs.print.tally_of.Given as goal
+use Rattle.trace_text.proofs.totals.tally_of.Given as goal
 
 -- the entries so far
 abbrev pub invariant-loop-entry : goal.invariant-loop-entry

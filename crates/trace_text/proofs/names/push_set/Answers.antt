@@ -2,7 +2,7 @@ use Rattle.std.proofs.Common.{◌++◌, ap, sym, ◌∙◌}
 use Rattle.std.proofs.lemmas.Result.{on_ok_weaker}
 use Rattle.trace_text.proofs.Appends.{one_part_more}
 use Rattle.trace_text.proofs.Members.{set_text-of_names, set_text-of_none}
-use Rattle.trace_text.proofs.print.push_set.Goals as goal
+use Rattle.trace_text.proofs.names.push_set.Goals as goal
 
 pub returns-then-branch : goal.returns-then-branch
 returns-then-branch c =

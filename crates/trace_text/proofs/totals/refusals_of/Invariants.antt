@@ -1,6 +1,6 @@
 use Rattle.std.proofs.Common.{◌≡◌, ◌≤◌, take, count_by, Some}
 use Rattle.kernel_model.specs.Trace as trace
-use Rattle.trace_text.proofs.print.refusals_of.Given as goal
+use Rattle.trace_text.proofs.totals.refusals_of.Given as goal
 
 -- the callers so far
 abbrev pub invariant-loop-reply : goal.invariant-loop-reply

@@ -1,0 +1,206 @@
+//! The names of signals, errors, actions and changes of a mask, and the text of a set of signals.
+ghost use Rattle.std.specs.Prelude.{◌≡◌, [], ◌∷◌, ◌++◌, map, if◌then◌else◌, IfOk, OnOk};
+ghost use Rattle.std.specs.List.{filter, list_any};
+ghost use Rattle.pico_base.specs.Signal.{at, all_signals};
+ghost use Rattle.kernel_model.specs.Trace as trace;
+
+use crate::text::{push, push_byte};
+use pico_base::{Act, Errno, How, Memory, Sig, SigArg, SigSet};
+
+// The table of signals, in order.
+const TABLE: [Sig; 10] = [
+    Sig::Hup,
+    Sig::Int,
+    Sig::Quit,
+    Sig::Kill,
+    Sig::Usr1,
+    Sig::Usr2,
+    Sig::Pipe,
+    Sig::Alrm,
+    Sig::Term,
+    Sig::Chld,
+];
+
+/// A signal's name.
+pub fn signal_name(sig: Sig) -> &'static [u8]
+    ensures { result.now ≡ trace.signal_name sig }
+{
+    match sig {
+        Sig::Hup => b"HUP",
+        Sig::Int => b"INT",
+        Sig::Quit => b"QUIT",
+        Sig::Kill => b"KILL",
+        Sig::Usr1 => b"USR1",
+        Sig::Usr2 => b"USR2",
+        Sig::Pipe => b"PIPE",
+        Sig::Alrm => b"ALRM",
+        Sig::Term => b"TERM",
+        Sig::Chld => b"CHLD",
+    }
+}
+
+// Adds a signal's name. Here and below a name is added as a constant: bytes of a number known to the compiler are
+// stored, and others are copied by a call.
+#[inline(never)]
+fn push_signal_name(out: &mut Vec<u8>, sig: Sig) -> Result<(), Memory>
+    ensures { OnOk result (out.new.items ≡ out.old.items ++ trace.signal_name sig) }
+{
+    match sig {
+        Sig::Hup => push(out, b"HUP"),
+        Sig::Int => push(out, b"INT"),
+        Sig::Quit => push(out, b"QUIT"),
+        Sig::Kill => push(out, b"KILL"),
+        Sig::Usr1 => push(out, b"USR1"),
+        Sig::Usr2 => push(out, b"USR2"),
+        Sig::Pipe => push(out, b"PIPE"),
+        Sig::Alrm => push(out, b"ALRM"),
+        Sig::Term => push(out, b"TERM"),
+        Sig::Chld => push(out, b"CHLD"),
+    }
+}
+
+#[inline(never)]
+pub(crate) fn push_error_name(out: &mut Vec<u8>, errno: Errno) -> Result<(), Memory>
+    ensures { OnOk result (out.new.items ≡ out.old.items ++ trace.error_name errno) }
+{
+    match errno {
+        Errno::Esrch => push(out, b"ESRCH"),
+        Errno::Einval => push(out, b"EINVAL"),
+        Errno::Echild => push(out, b"ECHILD"),
+        Errno::Enoent => push(out, b"ENOENT"),
+        Errno::Eexist => push(out, b"EEXIST"),
+        Errno::Enomsg => push(out, b"ENOMSG"),
+        Errno::Eagain => push(out, b"EAGAIN"),
+        Errno::E2big => push(out, b"E2BIG"),
+        Errno::Efbig => push(out, b"EFBIG"),
+        Errno::Erange => push(out, b"ERANGE"),
+        Errno::Eidrm => push(out, b"EIDRM"),
+        Errno::Eintr => push(out, b"EINTR"),
+    }
+}
+
+/// The name of what a signal does: `dfl`, `ign` or `catch`.
+pub fn action_name(act: Act) -> &'static [u8]
+    ensures { result.now ≡ trace.action_name act }
+{
+    match act {
+        Act::Dfl => b"dfl",
+        Act::Ign => b"ign",
+        Act::Catch => b"catch",
+    }
+}
+
+pub(crate) fn push_action_name(out: &mut Vec<u8>, act: Act) -> Result<(), Memory>
+    ensures { OnOk result (out.new.items ≡ out.old.items ++ trace.action_name act) }
+{
+    match act {
+        Act::Dfl => push(out, b"dfl"),
+        Act::Ign => push(out, b"ign"),
+        Act::Catch => push(out, b"catch"),
+    }
+}
+
+/// The name of how a mask changes: `block`, `unblock` or `setmask`.
+pub fn how_name(how: How) -> &'static [u8]
+    ensures { result.now ≡ trace.how_name how }
+{
+    match how {
+        How::Block => b"block",
+        How::Unblock => b"unblock",
+        How::SetMask => b"setmask",
+    }
+}
+
+pub(crate) fn push_how_name(out: &mut Vec<u8>, how: How) -> Result<(), Memory>
+    ensures { OnOk result (out.new.items ≡ out.old.items ++ trace.how_name how) }
+{
+    match how {
+        How::Block => push(out, b"block"),
+        How::Unblock => push(out, b"unblock"),
+        How::SetMask => push(out, b"setmask"),
+    }
+}
+
+/// A signal as a call names it: its name, `0` for none, or `badsig` for a number of no signal.
+pub fn signal_argument(sig: SigArg) -> &'static [u8]
+    ensures { result.now ≡ trace.signal_argument sig }
+{
+    match sig {
+        SigArg::Zero => b"0",
+        SigArg::Is(sig) => signal_name(sig),
+        SigArg::Bad => b"badsig",
+    }
+}
+
+pub(crate) fn push_signal_argument(out: &mut Vec<u8>, sig: SigArg) -> Result<(), Memory>
+    ensures { OnOk result (out.new.items ≡ out.old.items ++ trace.signal_argument sig) }
+{
+    match sig {
+        SigArg::Zero => push(out, b"0"),
+        SigArg::Is(sig) => push_signal_name(out, sig),
+        SigArg::Bad => push(out, b"badsig"),
+    }
+}
+
+#[inline(never)]
+pub(crate) fn push_signal_call(out: &mut Vec<u8>, name: &[u8], sig: Sig) -> Result<(), Memory>
+    ensures { OnOk result (out.new.items ≡ out.old.items ++ name.now ++ trace.signal_name sig) }
+{
+    push(out, name)?;
+    push_signal_name(out, sig)
+}
+
+// A signal's name, behind a comma where a name stands before it.
+fn push_member(out: &mut Vec<u8>, begun: bool, sig: Sig) -> Result<(), Memory>
+    ensures { OnOk result (out.new.items ≡ out.old.items ++ (if begun then 44 ∷ [] else []) ++ trace.signal_name sig) }
+{
+    if begun {
+        push_byte(out, b',')?;
+    }
+    push_signal_name(out, sig)
+}
+
+// Which signals of the table are in the set.
+fn marks_of(set: SigSet) -> [bool; 10]
+    ensures { result ≡ map (at set) all_signals }
+{
+    [
+        set.has(Sig::Hup),
+        set.has(Sig::Int),
+        set.has(Sig::Quit),
+        set.has(Sig::Kill),
+        set.has(Sig::Usr1),
+        set.has(Sig::Usr2),
+        set.has(Sig::Pipe),
+        set.has(Sig::Alrm),
+        set.has(Sig::Term),
+        set.has(Sig::Chld),
+    ]
+}
+
+// Adds the names of a set's signals joined by commas, and gives whether there are any.
+fn push_members(out: &mut Vec<u8>, set: SigSet) -> Result<bool, Memory>
+    ensures names { OnOk result
+        (out.new.items ≡ out.old.items ++ trace.commas trace.signal_name (filter (at set) all_signals)) }
+    ensures any { IfOk result (λ any. any ≡ list_any (at set) all_signals) }
+{
+    let marks = marks_of(set);
+    let mut begun = false;
+    for place in 0..TABLE.len() {
+        if marks[place] {
+            push_member(out, begun, TABLE[place])?;
+            begun = true;
+        }
+    }
+    Ok(begun)
+}
+
+/// Adds a set of signals: their names joined by commas, in the order of the table, or `none`.
+pub fn push_set(out: &mut Vec<u8>, set: SigSet) -> Result<(), Memory>
+    ensures { OnOk result (out.new.items ≡ out.old.items ++ trace.set_text set) }
+{
+    if push_members(out, set)? {
+        return Ok(());
+    }
+    push(out, b"none")
+}

@@ -1,0 +1,158 @@
+//! The line of an entry: who made which call, what it came to, who carried it out, and whom that woke.
+ghost use Rattle.std.specs.Prelude.{◌≡◌, ◌<◌, [], ◌++◌, codes, Some, None, if◌then◌else◌, IfSome, OnOk, nat_lt};
+ghost use Rattle.std.specs.List.{flat_map};
+ghost use Rattle.std.specs.Fmt.{decimal};
+ghost use Rattle.kernel_model.specs.Trace as trace;
+ghost use Rattle.pico_base.specs.declared.reply.Reply.TheVariants.{Num};
+
+use crate::fields::push_node;
+use crate::print_calls::push_call;
+use crate::print_replies::push_reply;
+use crate::text::{push, push_byte, push_number_then};
+use pico_base::{Call, Entry, Memory, Node, Outcome, Pid, Reply, Script};
+
+fn push_own(out: &mut Vec<u8>, own: &Option<Reply>) -> Result<(), Memory>
+    ensures { OnOk result (out.new.items ≡ out.old.items ++ trace.own_text own.now) }
+{
+    match own {
+        None => push(out, b"parked"),
+        Some(reply) => push_reply(out, reply),
+    }
+}
+
+// Who made which call.
+fn push_made(out: &mut Vec<u8>, script: &Script, pid: Pid, call: &Call) -> Result<(), Memory>
+    ensures { OnOk result (out.new.items ≡ out.old.items ++ trace.made_text script.now pid call.now) }
+{
+    push_number_then(out, u64::from(pid.0), b' ')?;
+    push_call(out, script, call)
+}
+
+// A caller that is woken, with its reply.
+fn push_wake(out: &mut Vec<u8>, pid: Pid, reply: &Reply) -> Result<(), Memory>
+    ensures { OnOk result (out.new.items ≡ out.old.items ++ trace.wake_text (pid, reply.now)) }
+{
+    push(out, b" wakes ")?;
+    push_number_then(out, u64::from(pid.0), b' ')?;
+    push_reply(out, reply)
+}
+
+fn push_wakes(out: &mut Vec<u8>, woken: &[(Pid, Reply)]) -> Result<(), Memory>
+    ensures { OnOk result (out.new.items ≡ out.old.items ++ flat_map trace.wake_text woken.now) }
+{
+    for (pid, reply) in woken {
+        push_wake(out, *pid, reply)?;
+    }
+    Ok(())
+}
+
+// Who carried it out, where that woke nobody.
+fn push_by_alone(out: &mut Vec<u8>, node: Node) -> Result<(), Memory>
+    ensures { OnOk result (out.new.items ≡ out.old.items ++ trace.by_text node []) }
+{
+    push(out, b" by ")?;
+    push_number_then(out, u64::from(node.0), b'\n')
+}
+
+// Who carried it out, and whom that woke.
+fn push_by(out: &mut Vec<u8>, node: Node, woken: &[(Pid, Reply)]) -> Result<(), Memory>
+    ensures { OnOk result (out.new.items ≡ out.old.items ++ trace.by_text node woken.now) }
+{
+    if woken.is_empty() {
+        return push_by_alone(out, node);
+    }
+    push(out, b" by ")?;
+    push_node(out, node)?;
+    push_wakes(out, woken)?;
+    push_byte(out, b'\n')
+}
+
+// The number as a byte, where it has one digit.
+fn digit(number: u32) -> Option<u8>
+    ensures { result ≡ (if nat_lt number 10 then Some number else None) }
+{
+    if number < 10 {
+        Some(number as u8)
+    } else {
+        None
+    }
+}
+
+// The number that a caller gets, where it has one digit.
+fn digit_of(own: &Option<Reply>) -> Option<u8>
+    ensures below { IfSome result (λ number. number < 10) }
+    ensures own { IfSome result (λ number. own.now ≡ Some (Num number)) }
+{
+    match own {
+        Some(Reply::Num(number)) => digit(*number),
+        _ => None,
+    }
+}
+
+// The end of most lines, at once: a number of one digit, a node of one digit, and nobody woken.
+fn push_short_end(out: &mut Vec<u8>, number: u8, node: u8) -> Result<(), Memory>
+    requires { (number < 10) × (node < 10) }
+    ensures { OnOk result
+        (out.new.items ≡ out.old.items ++ (codes " = " ++ decimal number ++ trace.by_text node [])) }
+{
+    let (first, last) = (b'0' + number, b'0' + node);
+    push(
+        out,
+        &[b' ', b'=', b' ', first, b' ', b'b', b'y', b' ', last, b'\n'],
+    )
+}
+
+fn push_digit_and_by(out: &mut Vec<u8>, number: u8) -> Result<(), Memory>
+    requires { number < 10 }
+    ensures { OnOk result
+        (out.new.items ≡ out.old.items ++ (codes " = " ++ decimal number ++ codes " by ")) }
+{
+    let digit = b'0' + number;
+    push(out, &[b' ', b'=', b' ', digit, b' ', b'b', b'y', b' '])
+}
+
+// The same by any node.
+fn push_digit_end(out: &mut Vec<u8>, number: u8, node: Node) -> Result<(), Memory>
+    requires { number < 10 }
+    ensures { OnOk result
+        (out.new.items ≡ out.old.items ++ (codes " = " ++ decimal number ++ trace.by_text node [])) }
+{
+    if node.0 < 10 {
+        return push_short_end(out, number, node.0);
+    }
+    push_digit_and_by(out, number)?;
+    push_number_then(out, u64::from(node.0), b'\n')
+}
+
+// The end of any line.
+#[inline(never)]
+fn push_long_end(out: &mut Vec<u8>, outcome: &Outcome, node: Node) -> Result<(), Memory>
+    ensures { OnOk result
+        (out.new.items ≡ out.old.items
+        ++ (codes " = " ++ trace.own_text outcome.now.own ++ trace.by_text node outcome.now.woken)) }
+{
+    push(out, b" = ")?;
+    push_own(out, &outcome.own)?;
+    push_by(out, node, outcome.woken.as_slice())
+}
+
+// What a call came to, and who carried it out.
+fn push_end(out: &mut Vec<u8>, outcome: &Outcome, node: Node) -> Result<(), Memory>
+    ensures { OnOk result
+        (out.new.items ≡ out.old.items
+        ++ (codes " = " ++ trace.own_text outcome.now.own ++ trace.by_text node outcome.now.woken)) }
+{
+    if outcome.woken.as_slice().is_empty() {
+        if let Some(number) = digit_of(&outcome.own) {
+            return push_digit_end(out, number, node);
+        }
+    }
+    push_long_end(out, outcome, node)
+}
+
+pub(crate) fn push_entry(out: &mut Vec<u8>, script: &Script, entry: &Entry) -> Result<(), Memory>
+    ensures { OnOk result (out.new.items ≡ out.old.items ++ trace.entry_line script.now entry.now) }
+{
+    push_made(out, script, entry.pid, &entry.call)?;
+    push_end(out, &entry.outcome, entry.by)
+}

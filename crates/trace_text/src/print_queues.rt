@@ -1,0 +1,84 @@
+//! The text of a call on a message queue.
+ghost use Rattle.std.specs.Prelude.{◌≡◌, ◌++◌, codes, OnOk};
+ghost use Rattle.std.specs.Fmt.{decimal};
+ghost use Rattle.kernel_model.specs.Trace as trace;
+
+use crate::fields::{push_create_words, push_id, push_labelled, push_word};
+use crate::text::{push, push_message, push_number, push_number_then, push_signed_and_space};
+use pico_base::{Id, Key, Memory};
+
+#[inline(never)]
+pub(crate) fn push_msgget(
+    out: &mut Vec<u8>,
+    key: Option<Key>,
+    create: bool,
+    excl: bool,
+) -> Result<(), Memory>
+    ensures { OnOk result (out.new.items ≡ out.old.items ++ trace.msgget_text key create excl) }
+{
+    let Some(key) = key else {
+        return push(out, b"msgget private");
+    };
+    push_labelled(out, b"msgget ", u64::from(key.0))?;
+    push_create_words(out, create, excl)
+}
+
+// A call's name, the queue and the type of message.
+#[inline(always)]
+fn push_queue_words(out: &mut Vec<u8>, name: &[u8], id: Id, class: i32) -> Result<(), Memory>
+    ensures { OnOk result (out.new.items ≡ out.old.items ++ trace.queue_words name.now id class) }
+{
+    push(out, name)?;
+    push_number_then(out, u64::from(id.0), b' ')?;
+    push_signed_and_space(out, class)
+}
+
+#[inline(never)]
+pub(crate) fn push_msgsnd(
+    out: &mut Vec<u8>,
+    id: Id,
+    class: i32,
+    text: &[u8],
+    nowait: bool,
+) -> Result<(), Memory>
+    ensures { OnOk result (out.new.items ≡ out.old.items ++ trace.msgsnd_text id class text.now nowait) }
+{
+    push_queue_words(out, b"msgsnd ", id, class)?;
+    push_message(out, text)?;
+    push_word(out, nowait, b" nowait")
+}
+
+#[inline(never)]
+pub(crate) fn push_msgrcv(
+    out: &mut Vec<u8>,
+    id: Id,
+    class: i32,
+    size: u32,
+    noerror: bool,
+    nowait: bool,
+) -> Result<(), Memory>
+    ensures { OnOk result (out.new.items ≡ out.old.items ++ trace.msgrcv_text id class size noerror nowait) }
+{
+    push_queue_words(out, b"msgrcv ", id, class)?;
+    push_number(out, u64::from(size))?;
+    push_word(out, noerror, b" noerror")?;
+    push_word(out, nowait, b" nowait")
+}
+
+#[inline(never)]
+pub(crate) fn push_msgctl(out: &mut Vec<u8>, id: Id, command: &[u8]) -> Result<(), Memory>
+    ensures { OnOk result (out.new.items ≡ out.old.items ++ codes "msgctl " ++ decimal id ++ command.now) }
+{
+    push(out, b"msgctl ")?;
+    push_id(out, id)?;
+    push(out, command)
+}
+
+#[inline(never)]
+pub(crate) fn push_msgset(out: &mut Vec<u8>, id: Id, qbytes: u32) -> Result<(), Memory>
+    ensures { OnOk result
+        (out.new.items ≡ out.old.items ++ codes "msgctl " ++ decimal id ++ codes " set " ++ decimal qbytes) }
+{
+    push_msgctl(out, id, b" set ")?;
+    push_number(out, u64::from(qbytes))
+}

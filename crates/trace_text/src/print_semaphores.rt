@@ -1,0 +1,96 @@
+//! The text of a call on a semaphore set.
+ghost use Rattle.std.specs.Prelude.{◌≡◌, ◌∷◌, ◌++◌, codes, OnOk};
+ghost use Rattle.std.specs.List.{flat_map};
+ghost use Rattle.std.specs.Fmt.{decimal};
+ghost use Rattle.kernel_model.specs.Trace as trace;
+
+use crate::fields::{push_create_words, push_id, push_labelled, push_values};
+use crate::text::{push, push_byte, push_number, push_signed};
+use pico_base::{Id, Key, Memory, SemStep};
+
+fn push_step(out: &mut Vec<u8>, step: SemStep) -> Result<(), Memory>
+    ensures { OnOk result (out.new.items ≡ out.old.items ++ trace.step_text step) }
+{
+    push_byte(out, b' ')?;
+    push_number(out, u64::from(step.num))?;
+    push_byte(out, b':')?;
+    push_signed(out, step.add)?;
+    if step.nowait {
+        push(out, b":nowait")
+    } else {
+        Ok(())
+    }
+}
+
+#[inline(never)]
+pub(crate) fn push_semop(out: &mut Vec<u8>, id: Id, steps: &[SemStep]) -> Result<(), Memory>
+    ensures { OnOk result
+        (out.new.items ≡ out.old.items ++ codes "semop " ++ decimal id ++ flat_map trace.step_text steps.now) }
+{
+    push(out, b"semop ")?;
+    push_id(out, id)?;
+    for step in steps {
+        push_step(out, *step)?;
+    }
+    Ok(())
+}
+
+#[inline(never)]
+pub(crate) fn push_semctl(out: &mut Vec<u8>, id: Id, command: &[u8]) -> Result<(), Memory>
+    ensures { OnOk result (out.new.items ≡ out.old.items ++ codes "semctl " ++ decimal id ++ command.now) }
+{
+    push(out, b"semctl ")?;
+    push_id(out, id)?;
+    push(out, command)
+}
+
+#[inline(never)]
+pub(crate) fn push_semctl_at(
+    out: &mut Vec<u8>,
+    id: Id,
+    command: &[u8],
+    num: u16,
+) -> Result<(), Memory>
+    ensures { OnOk result (out.new.items ≡ out.old.items ++ trace.semctl_at id command.now num) }
+{
+    push_semctl(out, id, command)?;
+    push_number(out, u64::from(num))
+}
+
+#[inline(never)]
+pub(crate) fn push_semget(
+    out: &mut Vec<u8>,
+    key: Option<Key>,
+    count: u32,
+    create: bool,
+    excl: bool,
+) -> Result<(), Memory>
+    ensures { OnOk result (out.new.items ≡ out.old.items ++ trace.semget_text key count create excl) }
+{
+    let Some(key) = key else {
+        return push_labelled(out, b"semget private ", u64::from(count));
+    };
+    push_labelled(out, b"semget ", u64::from(key.0))?;
+    push_labelled(out, b" ", u64::from(count))?;
+    push_create_words(out, create, excl)
+}
+
+#[inline(never)]
+pub(crate) fn push_setval(out: &mut Vec<u8>, id: Id, num: u16, value: u32) -> Result<(), Memory>
+    ensures { OnOk result
+        (out.new.items ≡ out.old.items ++ trace.semctl_at id (codes " setval ") num ++ 32 ∷ decimal value) }
+{
+    push_semctl_at(out, id, b" setval ", num)?;
+    push_byte(out, b' ')?;
+    push_number(out, u64::from(value))
+}
+
+#[inline(never)]
+pub(crate) fn push_setall(out: &mut Vec<u8>, id: Id, values: &[u32]) -> Result<(), Memory>
+    ensures { OnOk result
+        (out.new.items ≡ out.old.items ++ codes "semctl " ++ decimal id ++ codes " setall "
+        ++ trace.values_text values.now) }
+{
+    push_semctl(out, id, b" setall ")?;
+    push_values(out, values)
+}
