@@ -1,5 +1,5 @@
 -- A family that is read is the family that was written, and what was written is read again.
-use Rattle.std.proofs.Common.{◌≡◌, ℕ, ◌+◌, ◌^◌, ◌<◌, ◌≤◌, Bool, true, false, cond, eqb, List, [], ◌∷◌, ◌++◌, length, map, find, Option, Some, None, refl, sym, ap, subst, ◌∙◌, arith}
+use Rattle.std.proofs.Common.{◌≡◌, ℕ, ◌^◌, ◌<◌, ◌≤◌, Bool, true, false, cond, eqb, List, [], ◌∷◌, ◌++◌, length, map, find, Option, Some, None, refl, sym, ap, subst, ◌∙◌, arith}
 use Rattle.std.specs.Int.{w32, to_be_bytes}
 use Rattle.std.specs.List.{flat_map, AllByRecursion}
 use Rattle.std.specs.Option.{option_map}
@@ -14,10 +14,10 @@ use Rattle.body_fields.specs.Fields.{◌>>=◌, byte_at, byte_upto, number_at}
 use Rattle.body_fields.proofs.Fields.{IsBytes, bind_some, guard_ended, some_is, refused, Takes, Takes-then, wide32, byte_takes, byte_upto_takes, byte_upto_again, number_takes, number_again}
 use Rattle.body_fields.proofs.Many.{many_takes, many_again}
 use Rattle.kernel_model.specs.Row.{Family, EndedChild, ended_child}
-use Rattle.pico_base.specs.Signal.{all_signals, signal_number}
+use Rattle.pico_base.specs.Signal.{all_signals, signal_from, signal_number}
 use Rattle.fork_wait.proofs.Loops.{ended_repeat, numbers_repeat}
 use Rattle.fork_wait.specs.Children.{AreChildren, children}
-use Rattle.fork_wait.specs.Reading.{all_ended_at, ended_at, ending_from, family_at, most, numbers_at, signal_from}
+use Rattle.fork_wait.specs.Reading.{all_ended_at, ended_at, ending_from, family_at, most, numbers_at}
 use Rattle.fork_wait.specs.Spelling.{HasBytes, ended_bytes, ending_bytes, family_bytes}
 
 -- ---- a number and an ending

@@ -1,17 +1,12 @@
 -- Reading a family from left to right.
-use Rattle.std.specs.Prelude.{ℕ, zero, suc, List, [], ◌∷◌, length, find, Option, Some, None, ◌==◌, if◌then◌else◌}
+use Rattle.std.specs.Prelude.{ℕ, zero, suc, List, [], ◌∷◌, length, Option, Some, None, ◌==◌, if◌then◌else◌}
 use Rattle.std.specs.Int.{w32}
 use Rattle.std.specs.Option.{option_map}
 use Rattle.pico_base.specs.declared.reply.Ending.{Ending}
 use Rattle.pico_base.specs.declared.reply.Ending.TheVariants.{Exited, Killed}
-use Rattle.pico_base.specs.declared.signal.Sig.{Sig}
 use Rattle.body_fields.specs.Fields.{◌>>=◌, byte_at, byte_upto, number_at}
 use Rattle.kernel_model.specs.Row.{Family, EndedChild, ended_child}
-use Rattle.pico_base.specs.Signal.{all_signals, signal_number}
-
--- the signal with that number
-abbrev pub signal_from : ℕ → Option Sig
-signal_from number = find (λ g. signal_number g == number) all_signals
+use Rattle.pico_base.specs.Signal.{signal_from}
 
 abbrev pub ending_from : ℕ → ℕ → Option Ending
 ending_from kind value =

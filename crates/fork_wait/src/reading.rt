@@ -3,7 +3,7 @@ ghost use Rattle.std.specs.Prelude.{◌≡◌, ◌≤◌, [], IfSome, length};
 ghost use Rattle.std.specs.Int.{w32};
 ghost use Rattle.body_fields.specs.Fields.{Reads};
 ghost use Rattle.kernel_model.specs.Row.{ended_child};
-ghost use Rattle.fork_wait.specs.Reading.{all_ended_at, ended_at, ending_from, family_at, numbers_at, signal_from};
+ghost use Rattle.fork_wait.specs.Reading.{all_ended_at, ended_at, ending_from, family_at, numbers_at};
 
 use crate::ended::Ended;
 use crate::family::MOST;
@@ -17,32 +17,13 @@ pub(crate) type LivingList = ArrayVec<Pid, MOST>;
 /// Ended children that were read, with their endings.
 pub(crate) type EndedList = ArrayVec<Ended, MOST>;
 
-/// The signal with this number.
-fn signal_of(number: u8) -> Option<Sig>
-    ensures { result ≡ signal_from number }
-{
-    match number {
-        1 => Some(Sig::Hup),
-        2 => Some(Sig::Int),
-        3 => Some(Sig::Quit),
-        4 => Some(Sig::Kill),
-        5 => Some(Sig::Usr1),
-        6 => Some(Sig::Usr2),
-        7 => Some(Sig::Pipe),
-        8 => Some(Sig::Alrm),
-        9 => Some(Sig::Term),
-        10 => Some(Sig::Chld),
-        _ => None,
-    }
-}
-
 /// The ending of these two bytes.
 fn ending_of(kind: u8, value: u8) -> Option<Ending>
     ensures { result ≡ ending_from kind value }
 {
     match kind {
         0 => Some(Ending::Exited(value)),
-        1 => match signal_of(value) {
+        1 => match Sig::from_number(value) {
             Some(sig) => Some(Ending::Killed(sig)),
             None => None,
         },

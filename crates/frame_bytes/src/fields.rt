@@ -2,7 +2,6 @@
 //! field stands there.
 ghost use Rattle.std.specs.Prelude.{◌≡◌, ◌≤◌, ◌==◌, IfOk, find};
 ghost use Rattle.pico_base.specs.ErrorNumber.{all_errors, error_number};
-ghost use Rattle.pico_base.specs.Signal.{all_signals, signal_number};
 ghost use Rattle.frame_bytes.specs.Readers.{Gives, byte_at};
 ghost use Rattle.frame_bytes.specs.Fields.{count_at, errno_at, flag_at, half_at, kind_at, name_at, name_of, node_at, positive_at, sig_at, sigarg_at, signed_at, text_at, word_at};
 
@@ -103,32 +102,13 @@ pub(crate) fn flag(bytes: &[u8]) -> Read<'_, bool>
     }
 }
 
-/// The signal with this number.
-fn sig_of(byte: u8) -> Option<Sig>
-    ensures { result ≡ find (λ g. signal_number g == byte) all_signals }
-{
-    match byte {
-        1 => Some(Sig::Hup),
-        2 => Some(Sig::Int),
-        3 => Some(Sig::Quit),
-        4 => Some(Sig::Kill),
-        5 => Some(Sig::Usr1),
-        6 => Some(Sig::Usr2),
-        7 => Some(Sig::Pipe),
-        8 => Some(Sig::Alrm),
-        9 => Some(Sig::Term),
-        10 => Some(Sig::Chld),
-        _ => None,
-    }
-}
-
 /// A signal, 1 to 10.
 #[tactic(auto, unfolding(crate::specs::Fields::sig_at))]
 pub(crate) fn sig(bytes: &[u8]) -> Read<'_, Sig>
     ensures { Gives (λ x. (x.0, x.1.now)) result (sig_at bytes.now) }
 {
     let (number, rest) = byte(bytes)?;
-    match sig_of(number) {
+    match Sig::from_number(number) {
         Some(sig) => Ok((sig, rest)),
         None => Err(UnpackFault::NotABody),
     }
@@ -143,7 +123,7 @@ pub(crate) fn sigarg(bytes: &[u8]) -> Read<'_, SigArg>
     if code == 0 {
         return Ok((SigArg::Zero, rest));
     }
-    match sig_of(code) {
+    match Sig::from_number(code) {
         Some(sig) => Ok((SigArg::Is(sig), rest)),
         None => Err(UnpackFault::NotABody),
     }

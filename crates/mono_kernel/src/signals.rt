@@ -4,7 +4,7 @@ ghost use Rattle.pico_base.specs.Signal.{at, put_at, everywhere};
 ghost use Rattle.kernel_model.specs.Signals.{new_signals, inherit, raise, arrive, deliver, discards, with_action, act_on, with_mask, new_mask};
 ghost use Rattle.mono_kernel.specs.Masks.{mask_bit, mask_with_bit};
 
-use pico_base::{Act, Errno, How, PerSignal, Sig, SigArg, SigSet};
+use pico_base::{Act, Errno, How, PerSignal, SIGNALS, Sig, SigArg, SigSet};
 use std::marker::Model;
 
 /// What a process knows of signals: an action and a count of catches for each, the mask, the pending
@@ -41,20 +41,6 @@ impl Model for SignalState {
           s.doom;
     } };
 }
-
-/// The table of signals, in order.
-const TABLE: [Sig; 10] = [
-    Sig::Hup,
-    Sig::Int,
-    Sig::Quit,
-    Sig::Kill,
-    Sig::Usr1,
-    Sig::Usr2,
-    Sig::Pipe,
-    Sig::Alrm,
-    Sig::Term,
-    Sig::Chld,
-];
 
 /// Whether this action discards the signal.
 fn is_discarded(act: Act, sig: Sig) -> bool
@@ -93,7 +79,7 @@ fn placed(set: SigSet, sig: Sig, is_in: bool) -> SigSet
 fn mask_of(how: How, old: SigSet, set: SigSet) -> SigSet
     ensures { result ≡ new_mask how old set }
 {
-    masked_of(how, old, set, &TABLE).without(Sig::Kill)
+    masked_of(how, old, set, &SIGNALS).without(Sig::Kill)
 }
 
 /// The mask, of these signals alone.
@@ -187,7 +173,7 @@ impl SignalState {
     {
         let old = self.mask;
         self.mask = mask_of(how, old, set);
-        self.deliver_all(&TABLE);
+        self.deliver_all(&SIGNALS);
         old
     }
 

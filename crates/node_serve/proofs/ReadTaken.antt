@@ -14,7 +14,7 @@ use Rattle.pico_base.specs.declared.reply.Ending.TheVariants.{Exited, Killed}
 use Rattle.pico_base.specs.declared.signal.Act.{Act}
 use Rattle.pico_base.specs.declared.signal.Act.TheVariants.{Dfl, Ign, Catch}
 use Rattle.pico_base.specs.declared.signal.Sig.{Sig}
-use Rattle.pico_base.specs.Signal.{all_signals, at, signal_number}
+use Rattle.pico_base.specs.Signal.{all_signals, at, signal_from, signal_number}
 use Rattle.body_fields.proofs.Fields.{IsBytes, IsBytes-drop, IsBytes-rest, wide32}
 use Rattle.signal_state.specs.Held.{is_kept}
 use Rattle.signal_state.specs.Reading.{count_at, counts_from}
@@ -22,7 +22,7 @@ use Rattle.signal_state.specs.Spelling.{signal_bytes, HasBytes as HasSignalBytes
 use Rattle.signal_state.proofs.Bodies.{at-small, each-signal}
 use Rattle.fork_wait.specs.Children.{AreChildren, are_different, children}
 use Rattle.fork_wait.specs.Spelling.{ending_bytes, family_bytes, HasBytes as HasFamilyBytes}
-use Rattle.fork_wait.specs.Reading.{ending_from, family_at, signal_from}
+use Rattle.fork_wait.specs.Reading.{ending_from, family_at}
 use Rattle.fork_wait.proofs.Bodies.{are-found}
 use Rattle.sysv_msg.specs.Reading.{queue_at}
 use Rattle.sysv_msg.proofs.Bodies.{queue_takes}

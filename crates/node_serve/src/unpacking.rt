@@ -2,7 +2,6 @@
 ghost use Rattle.std.specs.Prelude.{◌≡◌, ◌∷◌, [], ℕ, Err, None, true, false, IsTrue, IfOk, IfSome};
 ghost use Rattle.pico_base.specs.declared.fault.UnpackFault.TheVariants.{NotABody};
 ghost use Rattle.pico_base.specs.declared.reply.Ending.{Ending as Ends};
-ghost use Rattle.pico_base.specs.declared.signal.Sig.{Sig as Signal};
 ghost use Rattle.fork_wait.specs.Spelling.{ending_bytes};
 ghost use Rattle.node_serve.specs.declared.body.Row.{Row as Rows};
 ghost use Rattle.node_serve.specs.declared.body.Body.{Body as Bodies};
@@ -36,26 +35,6 @@ fn row_of(alloc: Global, bytes: &[u8]) -> Result<Row, UnpackFault>
     }
 }
 
-/// The signal with this number.
-fn signal_of(number: u8) -> Option<Sig>
-    ensures found { IfSome result (λ sig. 1 ∷ number ∷ [] ≡ ending_bytes (Ending.Killed sig)) }
-    ensures refused { result ≡ None → (sig : Signal) → 1 ∷ number ∷ [] ≡ ending_bytes (Ending.Killed sig) → ⊥ }
-{
-    match number {
-        1 => Some(Sig::Hup),
-        2 => Some(Sig::Int),
-        3 => Some(Sig::Quit),
-        4 => Some(Sig::Kill),
-        5 => Some(Sig::Usr1),
-        6 => Some(Sig::Usr2),
-        7 => Some(Sig::Pipe),
-        8 => Some(Sig::Alrm),
-        9 => Some(Sig::Term),
-        10 => Some(Sig::Chld),
-        _ => None,
-    }
-}
-
 /// The ending of these two bytes: 0 and the status, or 1 and a signal's number.
 fn ending_of(kind: u8, value: u8) -> Option<Ending>
     ensures found { IfSome result (λ ending. IsEnding ending × (kind ∷ value ∷ [] ≡ ending_bytes ending)) }
@@ -63,7 +42,7 @@ fn ending_of(kind: u8, value: u8) -> Option<Ending>
 {
     match kind {
         0 => Some(Ending::Exited(value)),
-        1 => match signal_of(value) {
+        1 => match Sig::from_number(value) {
             Some(sig) => Some(Ending::Killed(sig)),
             None => None,
         },

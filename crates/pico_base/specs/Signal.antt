@@ -1,5 +1,5 @@
 -- A value for each of the ten signals.
-use Rattle.std.specs.Prelude.{ℕ, List, [], ◌∷◌}
+use Rattle.std.specs.Prelude.{ℕ, List, [], ◌∷◌, find, Option, ◌==◌}
 use Rattle.pico_base.specs.declared.signal.Sig.{Sig}
 use Rattle.pico_base.specs.declared.signal.Sig.TheVariants.{Hup, Int, Quit, Kill, Usr1, Usr2, Pipe, Alrm, Term, Chld}
 use Rattle.pico_base.specs.declared.signal.PerSignal.{PerSignal}
@@ -62,3 +62,7 @@ signal_number Pipe = 7
 signal_number Alrm = 8
 signal_number Term = 9
 signal_number Chld = 10
+
+-- the signal with a number, where one has it
+abbrev pub signal_from : ℕ → Option Sig
+signal_from number = find (λ g. signal_number g == number) all_signals

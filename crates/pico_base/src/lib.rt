@@ -17,4 +17,4 @@ pub use numbers::{Id, Key, Kind, Name, Node, Pid};
 pub use reply::{EndedChild, Ending, Entries, Entry, Errno, Outcome, Reply, Woken};
 pub use script::{Block, Blocks, Event, Line, Lines, Script, Var, Vars};
 pub use sequence::{Bytes, Sequence, Values};
-pub use signal::{Act, How, PerSignal, Sig, SigArg, SigSet};
+pub use signal::{Act, How, PerSignal, SIGNALS, Sig, SigArg, SigSet};

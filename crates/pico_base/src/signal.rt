@@ -1,6 +1,6 @@
 //! Signals, sets of them, and what a process does about them.
 ghost use Rattle.std.specs.Prelude.{◌≡◌, true, false};
-ghost use Rattle.pico_base.specs.Signal.{at, put_at, everywhere};
+ghost use Rattle.pico_base.specs.Signal.{at, put_at, everywhere, signal_from};
 
 use std::marker::Model;
 
@@ -18,6 +18,41 @@ pub enum Sig {
     Alrm = 8,
     Term = 9,
     Chld = 10,
+}
+
+/// The signals, in the order of the table.
+pub const SIGNALS: [Sig; 10] = [
+    Sig::Hup,
+    Sig::Int,
+    Sig::Quit,
+    Sig::Kill,
+    Sig::Usr1,
+    Sig::Usr2,
+    Sig::Pipe,
+    Sig::Alrm,
+    Sig::Term,
+    Sig::Chld,
+];
+
+impl Sig {
+    /// The signal with this number; none where the number is no signal's.
+    pub fn from_number(number: u8) -> Option<Sig>
+        ensures { result ≡ signal_from number }
+    {
+        match number {
+            1 => Some(Sig::Hup),
+            2 => Some(Sig::Int),
+            3 => Some(Sig::Quit),
+            4 => Some(Sig::Kill),
+            5 => Some(Sig::Usr1),
+            6 => Some(Sig::Usr2),
+            7 => Some(Sig::Pipe),
+            8 => Some(Sig::Alrm),
+            9 => Some(Sig::Term),
+            10 => Some(Sig::Chld),
+            _ => None,
+        }
+    }
 }
 
 /// A value for each signal.

@@ -1,5 +1,5 @@
 -- The number at a place of the bytes is the one that reading gives there.
-use Rattle.std.proofs.Common.{◌≡◌, ℕ, suc, ◌+◌, ◌-◌, ◌<◌, ◌≤◌, ltb, List, [], ◌∷◌, length, get_or, take, drop, drop-cons, length-drop, Some, refl, sym, ap, ◌∙◌, arith}
+use Rattle.std.proofs.Common.{◌≡◌, ℕ, suc, ◌+◌, ◌-◌, ◌<◌, ◌≤◌, ltb, List, [], ◌∷◌, length, get_or, take, drop, drop-cons, length-drop, Some, sym, ap, ◌∙◌, arith}
 use Rattle.std.proofs.Math.Seq.{take-length}
 use Rattle.std.specs.Int.{Width, w16, w32, byte_len, from_be_bytes}
 use Rattle.body_fields.specs.Fields.{number_at}

@@ -1,18 +1,18 @@
 -- What the bytes of a signal state say, field by field. Bytes that no state has may say anything here.
-use Rattle.std.specs.Prelude.{ℕ, ◌+◌, ◌/◌, ◌%◌, ◌==◌, false, if◌then◌else◌, Bool, List, [], ◌∷◌, Option, slice_index, find}
+use Rattle.std.specs.Prelude.{ℕ, ◌+◌, ◌/◌, ◌%◌, ◌==◌, false, if◌then◌else◌, Bool, List, [], ◌∷◌, Option, slice_index}
 use Rattle.std.specs.Int.{w16, w32, from_be_bytes}
 use Rattle.pico_base.specs.declared.signal.Act.{Act}
 use Rattle.pico_base.specs.declared.signal.Act.TheVariants.{Dfl, Ign, Catch}
 use Rattle.pico_base.specs.declared.signal.PerSignal.{PerSignal}
 use Rattle.pico_base.specs.declared.signal.Sig.{Sig}
-use Rattle.pico_base.specs.Signal.{everywhere, put_at, all_signals, signal_number}
+use Rattle.pico_base.specs.Signal.{everywhere, put_at, all_signals, signal_from}
 
 abbrev pub act_from : ℕ → Act
 act_from byte = if byte == 1 then Ign else if byte == 2 then Catch else Dfl
 
--- the signal with that number
+-- the doom of a byte: the signal with that number
 abbrev pub doom_from : ℕ → Option Sig
-doom_from byte = find (λ g. signal_number g == byte) all_signals
+doom_from byte = signal_from byte
 
 -- these signals take the low bits of the number, in order
 abbrev pub set_from : ℕ → List Sig → PerSignal Bool → PerSignal Bool

@@ -1,11 +1,10 @@
 //! The fields of a packed signal state.
 ghost use Rattle.std.specs.Prelude.{◌≡◌, ◌+◌, ◌≤◌, false, length};
-ghost use Rattle.signal_state.specs.Reading.{act_from, actions_from, count_at, counts_from, doom_from, set_at, set_from};
+ghost use Rattle.signal_state.specs.Reading.{act_from, actions_from, count_at, counts_from, set_at, set_from};
 ghost use Rattle.pico_base.specs.Signal.{everywhere};
 
-use crate::TABLE;
 use body_fields::{u16_at, u32_at};
-use pico_base::{Act, PerSignal, Sig, SigSet};
+use pico_base::{Act, PerSignal, SIGNALS, Sig, SigSet};
 
 /// The action of a byte.
 fn act_of(byte: u8) -> Act
@@ -60,7 +59,7 @@ pub(crate) fn set_of_bytes(bytes: &[u8], place: usize) -> SigSet
     ensures { result ≡ set_at bytes.now place }
 {
     let (number, _) = u16_at(&bytes[place..]).unwrap();
-    set_of(number, &TABLE)
+    set_of(number, &SIGNALS)
 }
 
 /// The number in the four bytes from a place on.
@@ -88,24 +87,5 @@ pub(crate) fn counts_of(bytes: &[u8]) -> PerSignal<u32>
         alrm: count_of(bytes, 42),
         term: count_of(bytes, 46),
         chld: count_of(bytes, 50),
-    }
-}
-
-/// The doom of a byte: the signal with that number.
-pub(crate) fn doom_of(byte: u8) -> Option<Sig>
-    ensures { result ≡ doom_from byte }
-{
-    match byte {
-        1 => Some(Sig::Hup),
-        2 => Some(Sig::Int),
-        3 => Some(Sig::Quit),
-        4 => Some(Sig::Kill),
-        5 => Some(Sig::Usr1),
-        6 => Some(Sig::Usr2),
-        7 => Some(Sig::Pipe),
-        8 => Some(Sig::Alrm),
-        9 => Some(Sig::Term),
-        10 => Some(Sig::Chld),
-        _ => None,
     }
 }

@@ -7,11 +7,11 @@ ghost use Rattle.pico_base.specs.Signal.{at, put_at};
 ghost use Rattle.signal_state.specs.Held.{AreHeld, is_kept};
 ghost use Rattle.signal_state.specs.Spelling.{HasBytes, signal_bytes};
 
-use crate::reading::{actions_of, counts_of, doom_of, set_of_bytes};
+use crate::PACKED;
+use crate::reading::{actions_of, counts_of, set_of_bytes};
 use crate::writing::{doom_byte, number_of, write_actions, write_bytes, write_counts};
-use crate::{PACKED, TABLE};
 use arrayvec::ArrayVec;
-use pico_base::{Act, Errno, How, PerSignal, Sig, SigArg, SigSet};
+use pico_base::{Act, Errno, How, PerSignal, SIGNALS, Sig, SigArg, SigSet};
 use std::marker::Model;
 
 /// A process's signal state (POSIX.1-2017: Signal Concepts), which contracts see as the kernel's.
@@ -94,7 +94,7 @@ impl Signals {
     {
         let old = self.mask;
         self.mask = changed(old, how, set);
-        self.deliver_each(&TABLE);
+        self.deliver_each(&SIGNALS);
         old
     }
 
@@ -193,10 +193,13 @@ impl Signals {
     {
         let counts = self.counts();
         let mut packing = ArrayVec::new();
-        write_actions(&mut packing, &self.actions, &TABLE);
-        write_bytes(&mut packing, &number_of(self.mask, &TABLE).to_be_bytes());
-        write_bytes(&mut packing, &number_of(self.pending, &TABLE).to_be_bytes());
-        write_counts(&mut packing, &counts, &TABLE);
+        write_actions(&mut packing, &self.actions, &SIGNALS);
+        write_bytes(&mut packing, &number_of(self.mask, &SIGNALS).to_be_bytes());
+        write_bytes(
+            &mut packing,
+            &number_of(self.pending, &SIGNALS).to_be_bytes(),
+        );
+        write_counts(&mut packing, &counts, &SIGNALS);
         packing.push(doom_byte(self.doom));
         packing.into_inner().unwrap()
     }
@@ -222,7 +225,7 @@ impl Signals {
             mask,
             pending,
             handled: counts_of(bytes),
-            doom: doom_of(bytes[54]),
+            doom: Sig::from_number(bytes[54]),
         };
         // What these fields are spelled as is what was read exactly where the bytes are in their ranges.
         if signals.pack().as_slice() == bytes {
@@ -243,7 +246,7 @@ fn is_held(actions: &PerSignal<Act>, mask: SigSet, pending: SigSet) -> bool
     if mask.has(Sig::Kill) || pending.has(Sig::Kill) {
         return false;
     }
-    all_kept(actions, pending, &TABLE)
+    all_kept(actions, pending, &SIGNALS)
 }
 
 /// Whether none of these signals is pending with an action that discards it.
@@ -276,8 +279,8 @@ fn changed(old: SigSet, how: How, set: SigSet) -> SigSet
     ensures { result ≡ new_mask how old set }
 {
     let mask = match how {
-        How::Block => union(old, set, &TABLE),
-        How::Unblock => difference(old, set, &TABLE),
+        How::Block => union(old, set, &SIGNALS),
+        How::Unblock => difference(old, set, &SIGNALS),
         How::SetMask => set,
     };
     mask.without(Sig::Kill)

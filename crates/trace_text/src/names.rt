@@ -5,21 +5,7 @@ ghost use Rattle.pico_base.specs.Signal.{at, all_signals};
 ghost use Rattle.kernel_model.specs.Trace as trace;
 
 use crate::text::{push, push_byte};
-use pico_base::{Act, Errno, How, Memory, Sig, SigArg, SigSet};
-
-// The table of signals, in order.
-const TABLE: [Sig; 10] = [
-    Sig::Hup,
-    Sig::Int,
-    Sig::Quit,
-    Sig::Kill,
-    Sig::Usr1,
-    Sig::Usr2,
-    Sig::Pipe,
-    Sig::Alrm,
-    Sig::Term,
-    Sig::Chld,
-];
+use pico_base::{Act, Errno, How, Memory, SIGNALS, Sig, SigArg, SigSet};
 
 /// A signal's name.
 pub fn signal_name(sig: Sig) -> &'static [u8]
@@ -186,9 +172,9 @@ fn push_members(out: &mut Vec<u8>, set: SigSet) -> Result<bool, Memory>
 {
     let marks = marks_of(set);
     let mut begun = false;
-    for place in 0..TABLE.len() {
+    for place in 0..SIGNALS.len() {
         if marks[place] {
-            push_member(out, begun, TABLE[place])?;
+            push_member(out, begun, SIGNALS[place])?;
             begun = true;
         }
     }

@@ -1,4 +1,4 @@
-use Rattle.std.proofs.Common.{◌≡◌, ◌-◌, Bool, not, ◌&&◌, List, ◌∷◌, length, take, drop, map, refl, sym, ap, ◌∙◌}
+use Rattle.std.proofs.Common.{◌-◌, Bool, not, ◌&&◌, List, ◌∷◌, length, take, drop, map, refl, sym, ap, ◌∙◌}
 use Rattle.kernel_model.specs.Row.{EndedChild, ended_child}
 use Rattle.fork_wait.specs.Children.{are_different}
 use Rattle.fork_wait.proofs.Families.{differ-ended, first-rest}

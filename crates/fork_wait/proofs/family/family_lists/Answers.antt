@@ -1,4 +1,4 @@
-use Rattle.std.proofs.Common.{true, sym, ◌∙◌, arith}
+use Rattle.std.proofs.Common.{sym, ◌∙◌, arith}
 use Rattle.std.proofs.lemmas.Bool.{false≢true}
 use Rattle.fork_wait.specs.Children.{members_of}
 use Rattle.fork_wait.proofs.Bodies.{are-found, unread, unsound}

@@ -1,6 +1,5 @@
-use Rattle.std.proofs.Common.{ℕ, not, nat_eq, rules}
+use Rattle.std.proofs.Common.{not, nat_eq, rules}
 use Rattle.std.proofs.lemmas.Fn.{filter_same}
-use Rattle.pico_base.specs.declared.reply.Ending.{Ending}
 use Rattle.kernel_model.specs.Row.{EndedChild}
 use Rattle.fork_wait.proofs.family.forget.Goals as goal
 

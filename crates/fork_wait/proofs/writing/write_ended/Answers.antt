@@ -3,7 +3,6 @@ use Rattle.std.proofs.lemmas.List.{flat_map_more, take_more}
 use Rattle.std.proofs.lemmas.List.Elements.{All-more}
 use Rattle.std.specs.Int.{w32, to_be_bytes}
 use Rattle.std.specs.List.{flat_map}
-use Rattle.pico_base.specs.declared.reply.Ending.{Ending}
 use Rattle.kernel_model.specs.Row.{EndedChild, ended_child}
 use Rattle.fork_wait.specs.Spelling.{ended_bytes, ending_bytes}
 use Rattle.fork_wait.proofs.writing.write_ended.Goals as goal

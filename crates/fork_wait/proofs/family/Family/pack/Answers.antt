@@ -1,6 +1,5 @@
-use Rattle.std.proofs.Common.{ℕ, sym}
+use Rattle.std.proofs.Common.{sym}
 use Rattle.std.proofs.lemmas.List.Elements.{All-from_recursion, All-same, recursion_from_All}
-use Rattle.pico_base.specs.declared.reply.Ending.{Ending}
 use Rattle.kernel_model.specs.Row.{EndedChild}
 use Rattle.fork_wait.proofs.Bodies.{Small, Small-join}
 use Rattle.fork_wait.proofs.family.Family.pack.Goals as goal

@@ -29,17 +29,17 @@ pub returns-then-eq-clause-only : goal.returns-then-eq-clause-only
 returns-then-eq-clause-only c s has spelled =
     ap (λ (x : Signals). Some x)
     (fields-again c.args.bytes.now s c.actions_of-actions.result c.set_of_bytes-mask.result
-    c.set_of_bytes-pending.result c.counts_of.result c.doom_of.result has spelled
+    c.set_of_bytes-pending.result c.counts_of.result c.from_number.result has spelled
     c.actions_of-actions.ensures c.set_of_bytes-mask.ensures c.set_of_bytes-pending.ensures c.counts_of.ensures
-    c.doom_of.ensures)
+    c.from_number.ensures)
 
 pub returns-else-eq-clause-only : goal.returns-else-eq-clause-only
 returns-else-eq-clause-only c s has spelled =
     let state =
     fields-again c.args.bytes.now s c.actions_of-actions.result c.set_of_bytes-mask.result c.set_of_bytes-pending.result
-    c.counts_of.result c.doom_of.result has spelled
+    c.counts_of.result c.from_number.result has spelled
     c.actions_of-actions.ensures c.set_of_bytes-mask.ensures c.set_of_bytes-pending.ensures c.counts_of.ensures
-    c.doom_of.ensures
+    c.from_number.ensures
     in
     let same : c.as_slice.result.now ≡ c.args.bytes.now =
     c.as_slice.ensures ∙ c.pack.ensures.bytes ∙ ap signal_bytes state ∙ sym spelled in
