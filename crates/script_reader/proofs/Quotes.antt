@@ -1,10 +1,13 @@
 -- Texts between quotes, byte after byte and at once.
-use Rattle.std.proofs.Common.{◌≡◌, ℕ, zero, suc, ◌-◌, ◌<◌, ◌≤◌, Bool, true, false, cond, eqb, List, [], ◌∷◌, ◌++◌, length, length-append, Option, Some, None, refl, sym, ap, subst, ◌∙◌, append_assoc, arith}
+use Rattle.std.proofs.Common.{◌≡◌, ℕ, zero, suc, ◌-◌, ◌<◌, ◌≤◌, Bool, true, false, cond, List, [], ◌∷◌, ◌++◌, length, length-append, Option, Some, None, refl, sym, ap, ◌∙◌, append_assoc, arith}
 use Rattle.std.specs.Prelude.{codes, option_map, bytes_eq}
 use Rattle.std.specs.List.{list_all}
 use Rattle.std.proofs.lemmas.List.{append-nil}
-use Rattle.std.proofs.lemmas.Bool.{eqb-true, and_parts}
-use Rattle.script_reader.specs.Parts.{is_text_byte, text_byte_at, closed_at, with_byte, quoted_at}
+use Rattle.std.proofs.lemmas.Bool.{and_parts}
+use Rattle.kernel_model.specs.Texts.{is_plain}
+use Rattle.quoted_bytes.specs.Bytes.{text_byte_at}
+use Rattle.quoted_bytes.proofs.Bytes.{plain_again}
+use Rattle.script_reader.specs.Parts.{closed_at, with_byte, quoted_at}
 
 onto_byte : (so_far : List ℕ) (b : ℕ) (o : Option (List ℕ))
     → option_map (λ more. so_far ++ more) (option_map (with_byte b) o)
@@ -48,29 +51,17 @@ unfolding quoted_at text_byte_at
 closing zero = refl
 closing (suc n) = refl
 
-backslash : (b : ℕ) → eqb b 92 ≡ true → is_text_byte b ≡ true → ⊥
-backslash b e t =
-    let same : b ≡ 92 = eqb-true b 92 e in
-    let wrong : false ≡ true = subst (λ (n : ℕ). is_text_byte n ≡ true) same t in
-    cc
-
-plain_byte : (b : ℕ) (rest : List ℕ) (c : Bool) → eqb b 92 ≡ c → is_text_byte b ≡ true
-    → text_byte_at (b ∷ rest) ≡ Some (b, rest)
-unfolding text_byte_at
-plain_byte b rest true e t = absurd (backslash b e t)
-plain_byte b rest false e t = rw (t, e) refl
-
-plain_text : (xs : List ℕ) (n : ℕ) → length xs ≤ n → list_all is_text_byte xs ≡ true
+plain_text : (xs : List ℕ) (n : ℕ) → length xs ≤ n → list_all is_plain xs ≡ true
     → quoted_at n (xs ++ 34 ∷ []) ≡ Some xs
 unfolding quoted_at
 plain_text [] n h e = closing n
 plain_text (b ∷ xs) zero h e = absurd (omega (arith, h))
 plain_text (b ∷ xs) (suc n) h e =
-    let both = and_parts (is_text_byte b) (list_all is_text_byte xs) e in
-    rw (plain_byte b (xs ++ 34 ∷ []) (eqb b 92) refl both.0, plain_text xs n (omega (arith, h)) both.1) refl
+    let both = and_parts (is_plain b) (list_all is_plain xs) e in
+    rw (plain_again b (xs ++ 34 ∷ []) both.0, plain_text xs n (omega (arith, h)) both.1) refl
 
 -- the bytes before the closing quote, where each stands for itself
-pub quoted_at_once : (xs front : List ℕ) → xs ≡ front ++ 34 ∷ [] → list_all is_text_byte front ≡ true
+pub quoted_at_once : (xs front : List ℕ) → xs ≡ front ++ 34 ∷ [] → list_all is_plain front ≡ true
     → Some front ≡ quoted_at (length xs) xs
 quoted_at_once xs front split plain =
     let long : length front ≤ length (front ++ 34 ∷ []) = omega (arith, length-append front (34 ∷ [])) in

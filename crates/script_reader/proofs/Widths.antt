@@ -3,7 +3,7 @@ use Rattle.std.proofs.Common.{◌≡◌, ℕ, zero, suc, ◌+◌, ◌-◌, ◌*�
 use Rattle.std.specs.Prelude.{IfSome, option_map, codes, bytes_eq, replicate}
 use Rattle.std.specs.List.{list_all, flat_map, onto_first, slice_split, position_or_len}
 use Rattle.std.specs.Option.{option_map_or}
-use Rattle.std.proofs.lemmas.Bool.{and_parts, and_from, or_cases, leb-true, le-leb, ltb-true, not-true}
+use Rattle.std.proofs.lemmas.Bool.{and_parts, and_from, or_cases, leb-true, le-leb, ltb-true}
 use Rattle.std.proofs.lemmas.List.{length-append, length-take, length-drop, length-replicate}
 use Rattle.std.proofs.lemmas.List.Splits.{length-slice_split}
 use Rattle.pico_base.specs.declared.call.SemStep.{SemStep}
@@ -12,8 +12,9 @@ use Rattle.kernel_model.specs.Numbers.{is_u16, is_byte}
 use Rattle.kernel_model.specs.Texts as texts
 use Rattle.script_reader.specs.Words.{is_blank, entering, leaving, words_in, words_of, pieces, Stretch}
 use Rattle.script_reader.specs.Words.Stretch.{between, plain, quoted}
+use Rattle.quoted_bytes.specs.Bytes.{text_byte_at, escape_at, hex_at}
 use Rattle.script_reader.specs.Parts as parts
-use Rattle.script_reader.specs.Parts.{◌>>=◌, number, signed, each, step, added, cut, values, text, quoted_at, text_byte_at, escape_at, hex_at, closed_at, with_byte, repetition, counted, letter}
+use Rattle.script_reader.specs.Parts.{◌>>=◌, number, signed, each, step, added, cut, values, text, quoted_at, closed_at, with_byte, repetition, counted, letter}
 use Rattle.script_reader.proofs.Ranges.{if_bind, if_map, if_cond, Anything, anything, number_small, signed_small, IsWithin}
 
 -- ---- widths
@@ -239,18 +240,10 @@ escape_short : (b : ℕ) → length (texts.escape b) ≤ 4
 escape_short b = cond_length (texts.is_plain b) (b ∷ [])
     (codes "\\x" ++ texts.hex_digit (b / 16) ∷ texts.hex_digit (b % 16) ∷ []) 4 (omega arith) (omega arith)
 
-plain_from : (b : ℕ) → parts.is_text_byte b ≡ true → texts.is_plain b ≡ true
-plain_from b e =
-    let p = and_parts (leb 32 b) (leb b 126 && (not (eqb b 34) && not (eqb b 92))) e in
-    let q = and_parts (leb b 126) (not (eqb b 34) && not (eqb b 92)) p.1 in
-    let r = and_parts (not (eqb b 34)) (not (eqb b 92)) q.1 in
-    and_from (leb 32 b && leb b 126) (not (eqb b 34 || eqb b 92)) (and_from (leb 32 b) (leb b 126) p.0 q.0)
-    (rw (not-true (eqb b 34) r.0, not-true (eqb b 92) r.1) refl)
-
-text_byte_low : (b : ℕ) → parts.is_text_byte b ≡ true → b ≤ 255
-text_byte_low b e =
-    let p = and_parts (leb 32 b) (leb b 126 && (not (eqb b 34) && not (eqb b 92))) e in
-    omega (arith, leb-true b 126 (and_parts (leb b 126) (not (eqb b 34) && not (eqb b 92)) p.1).0)
+plain_low : (b : ℕ) → texts.is_plain b ≡ true → b ≤ 255
+plain_low b e =
+    let p = and_parts (leb 32 b && leb b 126) (not (eqb b 34 || eqb b 92)) e in
+    omega (arith, leb-true b 126 (and_parts (leb 32 b) (leb b 126) p.0).1)
 
 -- a byte whose spelling has room in front of the bytes behind it
 abbrev HasRoom : List ℕ → ℕ × List ℕ → Type 0
@@ -260,10 +253,10 @@ text_byte_room : (bytes : List ℕ) → IfSome (text_byte_at bytes) (HasRoom byt
 unfolding text_byte_at
 text_byte_room [] = tt
 text_byte_room (b ∷ rest) =
-    if_cond (eqb b 92) (escape_at rest) (cond (parts.is_text_byte b) (Some (b, rest)) None) (HasRoom (b ∷ rest))
+    if_cond (eqb b 92) (escape_at rest) (cond (texts.is_plain b) (Some (b, rest)) None) (HasRoom (b ∷ rest))
     (λ _. longer (escape_at rest) (escape_small rest))
-    (λ _. if_cond (parts.is_text_byte b) (Some (b, rest)) None (HasRoom (b ∷ rest))
-    (λ t. (text_byte_low b t, rw (plain_from b t) (omega arith))) (λ _. tt))
+    (λ _. if_cond (texts.is_plain b) (Some (b, rest)) None (HasRoom (b ∷ rest))
+    (λ t. (plain_low b t, rw t (omega arith))) (λ _. tt))
   where
     longer : (o : Option (ℕ × List ℕ)) → IfSome o (IsEscaped rest) → IfSome o (HasRoom (b ∷ rest))
     longer None h = tt

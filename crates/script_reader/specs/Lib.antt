@@ -1,3 +1,4 @@
+pub use Rattle.quoted_bytes.specs.Bytes
 pub mod Words
 pub mod Parts
 pub mod Forms

@@ -1,5 +1,5 @@
 -- The parts of a line: words that are numbers, variables, names, signals and texts.
-use Rattle.std.specs.Prelude.{ℕ, zero, suc, ◌+◌, ◌-◌, ◌*◌, ℤ, pos, negsuc, Bool, true, false, ◌&&◌, ◌||◌, not, ◌==◌, nat_le, List, [], ◌∷◌, length, take, drop, replicate, codes, bytes_eq, if◌then◌else◌, Option, Some, None, option_map, option_and_then, position}
+use Rattle.std.specs.Prelude.{ℕ, zero, suc, ◌+◌, ◌-◌, ◌*◌, ℤ, pos, negsuc, Bool, true, false, ◌&&◌, ◌||◌, ◌==◌, nat_le, List, [], ◌∷◌, length, take, drop, replicate, codes, bytes_eq, if◌then◌else◌, Option, Some, None, option_map, option_and_then, position}
 use Rattle.std.specs.List.{find}
 use Rattle.std.specs.Option.{option_map_or}
 use Rattle.pico_base.specs.declared.call.SemStep.{SemStep}
@@ -13,6 +13,7 @@ use Rattle.pico_base.specs.declared.signal.How.TheVariants.{Block, Unblock, SetM
 use Rattle.pico_base.specs.declared.signal.PerSignal.{PerSignal}
 use Rattle.pico_base.specs.Signal.{at, put_at, everywhere, all_signals}
 use Rattle.kernel_model.specs.Trace.{signal_name, action_name, how_name}
+use Rattle.quoted_bytes.specs.Bytes.{text_byte_at}
 use Rattle.script_reader.specs.Words.{pieces}
 
 infixl 10 ◌>>=◌
@@ -30,10 +31,6 @@ is_digit b = nat_le 48 b && nat_le b 57
 -- a letter or a digit
 abbrev pub is_alphanumeric : ℕ → Bool
 is_alphanumeric b = is_lowercase b || (is_digit b || (nat_le 65 b && nat_le b 90))
-
--- a printable byte that stands for itself between quotes: neither `"` nor `\`
-abbrev pub is_text_byte : ℕ → Bool
-is_text_byte b = nat_le 32 b && (nat_le b 126 && (not (b == 34) && not (b == 92)))
 
 -- ---- words taken apart
 
@@ -123,23 +120,6 @@ signal_set word =
     else signals_with (everywhere false) (pieces 44 word)
 
 -- ---- texts of messages
-
--- the value of a lower-case hex digit
-unfoldable pub hex_at : ℕ → Option ℕ
-hex_at b = if is_digit b then Some (b - 48) else if nat_le 97 b && nat_le b 102 then Some (b - 87) else None
-
--- the byte of `\xhh` behind its `\`, and what follows
-unfoldable pub escape_at : List ℕ → Option (ℕ × List ℕ)
-escape_at (x ∷ h ∷ l ∷ rest) = do
-  high ← hex_at h
-  low ← hex_at l
-  if x == 120 then Some (16 * high + low, rest) else None
-escape_at _ = None
-
--- one byte of a text between quotes, and what follows
-unfoldable pub text_byte_at : List ℕ → Option (ℕ × List ℕ)
-text_byte_at [] = None
-text_byte_at (b ∷ rest) = if b == 92 then escape_at rest else if is_text_byte b then Some (b, rest) else None
 
 -- the text before a closing quote, which ends the word
 abbrev pub closed_at : List ℕ → List ℕ → Option (List ℕ)

@@ -3,12 +3,16 @@
 
 mod checks;
 mod fault;
+mod form_parts;
 mod forms;
 mod numbers;
 mod parts;
 mod place;
+mod process_forms;
+mod queue_forms;
 mod says;
 mod script;
+mod set_forms;
 mod tables;
 mod texts;
 mod verb;

@@ -6,7 +6,7 @@ ghost use Rattle.pico_base.specs.Signal.{everywhere};
 ghost use Rattle.kernel_model.specs.Script.{is_name, is_name_byte};
 ghost use Rattle.kernel_model.specs.Trace.{signal_name, action_name, how_name};
 ghost use Rattle.script_reader.specs.Words.{pieces};
-ghost use Rattle.script_reader.specs.Parts.{strip, cut as cut_of, is_text_byte, letter_index as index_of_letter, variable as variable_of, signal as signal_of, signal_argument as signal_argument_of, action as action_of, how as how_of, signals_with, signal_set as signal_set_of};
+ghost use Rattle.script_reader.specs.Parts.{strip, cut as cut_of, letter_index as index_of_letter, variable as variable_of, signal as signal_of, signal_argument as signal_argument_of, action as action_of, how as how_of, signals_with, signal_set as signal_set_of};
 
 use pico_base::{Act, How, Sig, SigArg, SigSet, Var};
 
@@ -82,13 +82,6 @@ pub(crate) fn is_block_name(word: &[u8]) -> bool
             first.is_ascii_lowercase() && are_name_parts(others) && others.len() <= 31
         }
     }
-}
-
-/// Whether the byte may stand for itself between quotes.
-pub(crate) fn is_text_part(byte: u8) -> bool
-    ensures { result ≡ is_text_byte byte }
-{
-    byte >= b' ' && byte <= b'~' && byte != b'"' && byte != b'\\'
 }
 
 /// Whether a word is `nowait`. Many lines end in it, so its bytes are told one by one, without a call.

@@ -4,7 +4,8 @@ ghost use Rattle.std.specs.Prelude.{◌≡◌, ◌≤◌, ◌==◌, ◌||◌, fa
 ghost use Rattle.script_reader.specs.Words.{is_blank as is_blank_of, texts};
 ghost use Rattle.script_reader.specs.Says as says;
 
-use crate::forms::{FromCall, put_call};
+use crate::form_parts::FromCall;
+use crate::forms::put_call;
 use crate::numbers::positive;
 use crate::parts::{is_block_name, variable};
 use crate::tables::Names;

@@ -3,68 +3,19 @@
 ghost use Rattle.std.specs.Prelude.{◌≡◌, ℕ, ◌<◌, ◌≤◌, ◌+◌, true, slice_index, IfOk, IfSome, option_map, length};
 ghost use Rattle.std.specs.List.{list_all};
 ghost use Rattle.script_reader.specs.Words.{texts};
-ghost use Rattle.script_reader.specs.Parts.{is_text_byte, is_alphanumeric as is_alphanumeric_of, hex_at, escape_at, text_byte_at, closed_at, quoted_at, letter as letter_of, counted as counted_of, repetition as repetition_of, text as text_of, added as added_of, step as step_of, each, number as number_of, values as values_of};
+ghost use Rattle.kernel_model.specs.Texts.{is_plain as is_plain_of};
+ghost use Rattle.script_reader.specs.Parts.{is_alphanumeric as is_alphanumeric_of, closed_at, quoted_at, letter as letter_of, counted as counted_of, repetition as repetition_of, text as text_of, added as added_of, step as step_of, each, number as number_of, values as values_of};
 
 use crate::numbers::{MAX_NUMBER, index, number, signed};
-use crate::parts::{cut, is_nowait, is_text_part, strip_front};
+use crate::parts::{cut, is_nowait, strip_front};
 use crate::words::pieces;
 use pico_base::{Bytes, Memory, SemStep, Sequence, Steps, Values};
+use quoted_bytes::{is_plain, text_byte};
 use std::alloc::Global;
 use std::simd::prelude::*;
 
 /// The longest text of `rep:N:C`.
 const MAX_REPEATED: u32 = 8192;
-
-/// The value of a lower-case hex digit.
-#[tactic(auto, unfolding(crate::specs::Parts::hex_at))]
-fn hex(byte: u8) -> Option<u8>
-    ensures value { result ≡ hex_at byte }
-    ensures small { IfSome result (λ n. n ≤ 15) }
-{
-    match byte {
-        b'0'..=b'9' => Some(byte - b'0'),
-        b'a'..=b'f' => Some(byte - b'a' + 10),
-        _ => None,
-    }
-}
-
-/// The byte of `\xhh` behind its `\`, and what follows.
-#[tactic(auto, unfolding(crate::specs::Parts::escape_at))]
-fn escape(bytes: &[u8]) -> Option<(u8, &[u8])>
-    ensures { option_map (λ x. (x.0, x.1.now)) result ≡ escape_at bytes.now }
-{
-    match bytes {
-        [x, high, low, rest @ ..] => {
-            let high = hex(*high)?;
-            let low = hex(*low)?;
-            if *x == b'x' {
-                Some((16 * high + low, rest))
-            } else {
-                None
-            }
-        }
-        _ => None,
-    }
-}
-
-/// One byte of a text between quotes, and what follows.
-#[tactic(auto, unfolding(crate::specs::Parts::text_byte_at))]
-fn text_byte(bytes: &[u8]) -> Option<(u8, &[u8])>
-    ensures { option_map (λ x. (x.0, x.1.now)) result ≡ text_byte_at bytes.now }
-{
-    match bytes {
-        [] => None,
-        [byte, rest @ ..] => {
-            if *byte == b'\\' {
-                escape(rest)
-            } else if is_text_part(*byte) {
-                Some((*byte, rest))
-            } else {
-                None
-            }
-        }
-    }
-}
 
 /// The text where its closing quote is all that is left.
 fn closed(text: Bytes, bytes: &[u8]) -> Option<Bytes>
@@ -101,7 +52,7 @@ const LANES: usize = 16;
 /// Whether each of so many bytes from here on stands for itself.
 fn are_plain_lanes(bytes: &[u8], at: usize) -> bool
     requires { at + 16 ≤ length bytes.now }
-    ensures { result ≡ true → (k : ℕ) → at ≤ k → k < at + 16 → is_text_byte (slice_index bytes.now k) ≡ true }
+    ensures { result ≡ true → (k : ℕ) → at ≤ k → k < at + 16 → is_plain_of (slice_index bytes.now k) ≡ true }
 {
     let lanes = u8x16::from_slice(&bytes[at..]);
     let others = lanes.simd_lt(u8x16::splat(b' '))
@@ -113,14 +64,14 @@ fn are_plain_lanes(bytes: &[u8], at: usize) -> bool
 
 /// Whether each byte stands for itself, byte after byte.
 fn are_plain(bytes: &[u8]) -> bool
-    ensures { result ≡ list_all is_text_byte bytes.now }
+    ensures { result ≡ list_all is_plain_of bytes.now }
 {
-    bytes.iter().all(|byte| is_text_part(*byte))
+    bytes.iter().all(|byte| is_plain(*byte))
 }
 
 /// Whether each byte is known to stand for itself. The last bytes that are looked at together may overlap others.
-fn is_plain(bytes: &[u8]) -> bool
-    ensures { result ≡ true → list_all is_text_byte bytes.now ≡ true }
+fn is_all_plain(bytes: &[u8]) -> bool
+    ensures { result ≡ true → list_all is_plain_of bytes.now ≡ true }
 {
     if bytes.len() < LANES {
         return are_plain(bytes);
@@ -141,7 +92,7 @@ fn quoted(alloc: Global, bytes: &[u8]) -> Result<Option<Bytes>, Memory>
     ensures { IfOk result (λ text. text ≡ quoted_at (length bytes.now) bytes.now) }
 {
     if let Some((last, plain)) = bytes.split_last() {
-        if *last == b'"' && is_plain(plain) {
+        if *last == b'"' && is_all_plain(plain) {
             return Ok(Some(Bytes::from_slice(alloc, plain)?));
         }
     }

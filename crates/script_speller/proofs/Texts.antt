@@ -10,8 +10,10 @@ use Rattle.std.proofs.lemmas.List.{length-append, length-replicate}
 use Rattle.kernel_model.specs.Numbers.{is_byte}
 use Rattle.kernel_model.specs.Texts.{is_letter_or_digit, is_plain, hex_digit, escape, quoted_text, is_one_letter, repeated_text}
 use Rattle.script_reader.specs.Words.Stretch.{plain, quoted}
+use Rattle.quoted_bytes.specs.Bytes.{text_byte_at}
+use Rattle.quoted_bytes.proofs.Bytes.{byte_again}
 use Rattle.script_reader.specs.Parts as parts
-use Rattle.script_reader.specs.Parts.{◌>>=◌, strip, number, cut, letter, counted, repetition, hex_at, escape_at, text_byte_at, closed_at, with_byte, quoted_at, text, text_from}
+use Rattle.script_reader.specs.Parts.{◌>>=◌, strip, number, cut, letter, counted, repetition, closed_at, with_byte, quoted_at, text, text_from}
 use Rattle.script_reader.proofs.Ranges.{if_bind, if_map, if_cond, number_small}
 use Rattle.script_reader.proofs.Strips.{strip_takes, strip_again}
 use Rattle.script_reader.proofs.Widths.{if_both, IsShort, quoted_short}
@@ -22,45 +24,6 @@ use Rattle.script_speller.proofs.Numbers.{Spelt, is_argument, if_weaker, number_
 use Rattle.script_speller.proofs.Names.{cut_spelt, cut_again}
 
 -- ---- bytes between quotes
-
-is_no_digit : (b : ℕ) → 58 ≤ b → parts.is_digit b ≡ false
-is_no_digit b high = grind arith
-
-hex_again : (n : ℕ) → n ≤ 15 → hex_at (hex_digit n) ≡ Some n
-unfolding hex_at
-hex_again n small =
-    elim (cases_lt n 10) [
-      | inl lt ↦
-          let test : parts.is_digit (48 + n) ≡ true =
-          and_from (leb 48 (48 + n)) (leb (48 + n) 57) (le-leb 48 (48 + n) (omega arith))
-          (le-leb (48 + n) 57 (omega (arith, lt))) in
-          let back : 48 + n - 48 ≡ n = omega arith in
-          rw (lt-ltb n 10 lt, test, back) refl
-      | inr ge ↦
-          let test : (leb 97 (87 + n) && leb (87 + n) 102) ≡ true =
-          and_from (leb 97 (87 + n)) (leb (87 + n) 102) (le-leb 97 (87 + n) (omega (arith, ge)))
-          (le-leb (87 + n) 102 (omega (arith, small))) in
-          let back : 87 + n - 87 ≡ n = omega arith in
-          rw (le-ltb n 10 ge, is_no_digit (87 + n) (omega (arith, ge)), test, back) refl
-    ]
-
-escape_again : (b : ℕ) (rest : List ℕ) → b ≤ 255
-    → text_byte_at (92 ∷ 120 ∷ hex_digit (b / 16) ∷ hex_digit (b % 16) ∷ rest) ≡ Some (b, rest)
-unfolding text_byte_at escape_at
-escape_again b rest small =
-    let whole : 16 * (b / 16) + b % 16 ≡ b = omega arith in
-    rw (hex_again (b / 16) (omega arith), hex_again (b % 16) (omega arith), whole) refl
-
-plain_again : (b : ℕ) (rest : List ℕ) → is_plain b ≡ true → text_byte_at (b ∷ rest) ≡ Some (b, rest)
-unfolding text_byte_at
-plain_again b rest h = grind arith
-
-byte_again : (b : ℕ) (rest : List ℕ) → b ≤ 255 → text_byte_at (escape b ++ rest) ≡ Some (b, rest)
-byte_again b rest small = of (is_plain b) refl
-  where
-    of : (c : Bool) → is_plain b ≡ c → text_byte_at (escape b ++ rest) ≡ Some (b, rest)
-    of true e = rw e (plain_again b rest e)
-    of false e = rw e (escape_again b rest small)
 
 abbrev pub AreBytes : List ℕ → Type 0
 AreBytes t = list_all is_byte t ≡ true

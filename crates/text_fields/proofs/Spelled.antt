@@ -1,64 +1,20 @@
 -- Texts, operations, values and sets: a spelling is read, with what follows it.
-use Rattle.std.proofs.Common.{◌≡◌, inl, inr, ℕ, suc, ◌+◌, ◌-◌, ◌*◌, ◌/◌, ◌%◌, ◌≤◌, Bool, true, false, ◌&&◌, cond, eqb, leb, List, [], ◌∷◌, ◌++◌, length, replicate, Some, None, refl, sym, ap, ◌∙◌, append_assoc, arith}
+use Rattle.std.proofs.Common.{◌≡◌, ℕ, suc, ◌≤◌, Bool, true, false, ◌&&◌, cond, eqb, leb, List, [], ◌∷◌, ◌++◌, length, replicate, Some, None, refl, sym, ap, ◌∙◌, append_assoc, arith}
 use Rattle.std.specs.Prelude.{codes, decimal}
 use Rattle.std.specs.Fmt.{signed_decimal}
 use Rattle.std.specs.List.{AllByRecursion, flat_map, list_all}
-use Rattle.std.proofs.lemmas.Bool.{and_parts, lt-ltb, le-ltb, eqb-true, cases_lt}
+use Rattle.std.proofs.lemmas.Bool.{and_parts, eqb-true}
 use Rattle.pico_base.specs.declared.call.SemStep.{SemStep}
 use Rattle.kernel_model.specs.Trace.{step_text, values_text}
-use Rattle.kernel_model.specs.Texts.{hex_digit, is_plain, escape, quoted_text, is_repeated, repeated_text, message_text, is_letter_or_digit}
-use Rattle.text_fields.specs.Fields.{strip, is_digit, digit_at, number_at, hex_at, escape_at, text_byte_at, quoted_at, repeated_at, repetition_at, text_at, flag_at, step_at, all_at, behind_comma, values_at}
-use Rattle.text_fields.proofs.Chains.{between_true, between_from}
+use Rattle.kernel_model.specs.Texts.{is_plain, escape, quoted_text, is_repeated, repeated_text, message_text, is_letter_or_digit}
+use Rattle.quoted_bytes.specs.Bytes.{text_byte_at}
+use Rattle.quoted_bytes.proofs.Bytes.{byte_again, quote_ends}
+use Rattle.text_fields.specs.Fields.{strip, digit_at, number_at, quoted_at, repeated_at, repetition_at, text_at, flag_at, step_at, all_at, behind_comma, values_at}
 use Rattle.text_fields.proofs.Strips.{strip_again}
 use Rattle.text_fields.proofs.Numerals.{front_number_again, signed_again, IsWithin}
 use Rattle.text_fields.proofs.Many.{many-again, parts-room}
 
 -- ---- bytes between quotes
-
-is_no_digit : (b : ℕ) → 58 ≤ b → is_digit b ≡ false
-is_no_digit b high = of (is_digit b) refl
-  where
-    of : (c : Bool) → is_digit b ≡ c → is_digit b ≡ false
-    of true e = absurd (omega (arith, between_true 48 57 b e, high))
-    of false e = e
-
-hex_again : (n : ℕ) → n ≤ 15 → hex_at (hex_digit n) ≡ Some n
-unfolding hex_at
-hex_again n small =
-    elim (cases_lt n 10) [
-      | inl lt ↦
-          let test : is_digit (48 + n) ≡ true = between_from 48 57 (48 + n) (omega arith) (omega arith) in
-          let back : 48 + n - 48 ≡ n = omega arith in
-          rw (lt-ltb n 10 lt, test, back) refl
-      | inr ge ↦
-          let test : (leb 97 (87 + n) && leb (87 + n) 102) ≡ true =
-          between_from 97 102 (87 + n) (omega arith) (omega arith) in
-          let back : 87 + n - 87 ≡ n = omega arith in
-          rw (le-ltb n 10 ge, is_no_digit (87 + n) (omega arith), test, back) refl
-    ]
-
-escape_again : (b : ℕ) (rest : List ℕ) → b ≤ 255
-    → text_byte_at (92 ∷ 120 ∷ hex_digit (b / 16) ∷ hex_digit (b % 16) ∷ rest) ≡ Some (b, rest)
-unfolding text_byte_at escape_at
-escape_again b rest small =
-    let whole : 16 * (b / 16) + b % 16 ≡ b = omega arith in
-    rw (hex_again (b / 16) (omega arith), hex_again (b % 16) (omega arith), whole) refl
-
--- a plain byte isn't a backslash, and the reader takes it for itself
-plain_again : (b : ℕ) (rest : List ℕ) → is_plain b ≡ true → text_byte_at (b ∷ rest) ≡ Some (b, rest)
-unfolding text_byte_at
-plain_again b rest plain = grind arith
-
-byte_again : (b : ℕ) (rest : List ℕ) → b ≤ 255 → text_byte_at (escape b ++ rest) ≡ Some (b, rest)
-byte_again b rest small = of (is_plain b) refl
-  where
-    of : (c : Bool) → is_plain b ≡ c → text_byte_at (escape b ++ rest) ≡ Some (b, rest)
-    of true e = rw e (plain_again b rest e)
-    of false e = rw e (escape_again b rest small)
-
-quote_ends : (rest : List ℕ) → text_byte_at (34 ∷ rest) ≡ None
-unfolding text_byte_at
-quote_ends rest = refl
 
 abbrev IsByte : ℕ → Type 0
 IsByte b = b ≤ 255

@@ -1,5 +1,5 @@
 -- The fields of a call's text, read from the front. A field comes with what follows it.
-use Rattle.std.specs.Prelude.{ℕ, zero, suc, ◌+◌, ◌-◌, ◌*◌, ℤ, pos, negsuc, Bool, true, false, ◌&&◌, not, ◌==◌, nat_le, List, [], ◌∷◌, length, take, drop, replicate, codes, bytes_eq, fold, position, if◌then◌else◌, Option, Some, None, option_map, option_and_then, unwrap_or}
+use Rattle.std.specs.Prelude.{ℕ, zero, suc, ◌+◌, ◌-◌, ◌*◌, ℤ, pos, negsuc, Bool, true, false, ◌&&◌, ◌==◌, nat_le, List, [], ◌∷◌, length, take, drop, replicate, codes, bytes_eq, fold, position, if◌then◌else◌, Option, Some, None, option_map, option_and_then, unwrap_or}
 use Rattle.std.specs.Option.{option_map_or}
 use Rattle.pico_base.specs.declared.call.SemStep.{SemStep}
 use Rattle.pico_base.specs.declared.reply.Errno.{Errno}
@@ -14,6 +14,7 @@ use Rattle.pico_base.specs.declared.signal.How.{How}
 use Rattle.pico_base.specs.declared.signal.How.TheVariants.{Block, Unblock, SetMask}
 use Rattle.pico_base.specs.declared.signal.PerSignal.{PerSignal}
 use Rattle.pico_base.specs.Signal.{put_at, everywhere}
+use Rattle.quoted_bytes.specs.Bytes.{text_byte_at}
 
 infixl 10 ◌>>=◌
 abbrev pub ◌>>=◌ : {A B : Type 0} → Option A → (A → Option B) → Option B
@@ -145,26 +146,6 @@ joined_at reader bytes = do
   Some (in_front first.0 (all_at (behind_comma reader) first.1))
 
 -- Texts.
-
-abbrev pub is_text_byte : ℕ → Bool
-is_text_byte b = nat_le 32 b && (nat_le b 126 && (not (b == 34) && not (b == 92)))
-
--- the value of a lower-case hex digit
-unfoldable pub hex_at : ℕ → Option ℕ
-hex_at b = if is_digit b then Some (b - 48) else if nat_le 97 b && nat_le b 102 then Some (b - 87) else None
-
--- the byte of `\xhh` behind its `\`
-unfoldable pub escape_at : List ℕ → Option (ℕ × List ℕ)
-escape_at (x ∷ h ∷ l ∷ rest) = do
-  high ← hex_at h
-  low ← hex_at l
-  if x == 120 then Some (16 * high + low, rest) else None
-escape_at _ = None
-
--- one byte of a text between quotes
-unfoldable pub text_byte_at : List ℕ → Option (ℕ × List ℕ)
-text_byte_at [] = None
-text_byte_at (b ∷ rest) = if b == 92 then escape_at rest else if is_text_byte b then Some (b, rest) else None
 
 -- the text before a closing quote, and what follows that
 abbrev pub closed_of : List ℕ × List ℕ → Option (List ℕ × List ℕ)

@@ -1,1 +1,2 @@
+pub use Rattle.quoted_bytes.specs.Bytes
 pub mod Fields

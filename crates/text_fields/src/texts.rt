@@ -1,72 +1,16 @@
 //! Messages' texts at the front of a text.
 ghost use Rattle.std.specs.Prelude.{◌≡◌, ◌≤◌, IfOk, IfSome, option_map};
-ghost use Rattle.text_fields.specs.Fields.{hex_at, escape_at, is_text_byte, text_byte_at, all_at, closed_of, quoted_at, repeated_at, count_at, repetition_at, text_at};
+ghost use Rattle.quoted_bytes.specs.Bytes.{text_byte_at};
+ghost use Rattle.text_fields.specs.Fields.{all_at, closed_of, quoted_at, repeated_at, count_at, repetition_at, text_at};
 
 use crate::names::strip_front;
 use crate::numbers::number_front;
 use pico_base::{Bytes, Memory, Sequence};
+use quoted_bytes::text_byte;
 use std::alloc::Global;
 
 /// The longest text of `rep:N:C`.
 const MAX_REPEATED: u32 = 8192;
-
-/// The value of a lower-case hex digit.
-#[tactic(auto, unfolding(crate::specs::Fields::hex_at))]
-fn hex(byte: u8) -> Option<u8>
-    ensures value { result ≡ hex_at byte }
-    ensures small { IfSome result (λ n. n ≤ 15) }
-{
-    match byte {
-        b'0'..=b'9' => Some(byte - b'0'),
-        b'a'..=b'f' => Some(byte - b'a' + 10),
-        _ => None,
-    }
-}
-
-/// The byte of `\xhh` behind its `\`.
-#[tactic(auto, unfolding(crate::specs::Fields::escape_at))]
-fn escape(bytes: &[u8]) -> Option<(u8, &[u8])>
-    ensures { option_map (λ x. (x.0, x.1.now)) result ≡ escape_at bytes.now }
-{
-    match bytes {
-        [x, high, low, rest @ ..] => {
-            let high = hex(*high)?;
-            let low = hex(*low)?;
-            if *x == b'x' {
-                Some((16 * high + low, rest))
-            } else {
-                None
-            }
-        }
-        _ => None,
-    }
-}
-
-/// Whether the byte may stand for itself between quotes.
-fn is_text_part(byte: u8) -> bool
-    ensures { result ≡ is_text_byte byte }
-{
-    byte >= b' ' && byte <= b'~' && byte != b'"' && byte != b'\\'
-}
-
-/// One byte of a text between quotes.
-#[tactic(auto, unfolding(crate::specs::Fields::text_byte_at))]
-fn text_byte(bytes: &[u8]) -> Option<(u8, &[u8])>
-    ensures { option_map (λ x. (x.0, x.1.now)) result ≡ text_byte_at bytes.now }
-{
-    match bytes {
-        [] => None,
-        [byte, rest @ ..] => {
-            if *byte == b'\\' {
-                escape(rest)
-            } else if is_text_part(*byte) {
-                Some((*byte, rest))
-            } else {
-                None
-            }
-        }
-    }
-}
 
 /// The bytes of a text between quotes, up to what is none.
 fn text_bytes(alloc: Global, bytes: &[u8]) -> Result<(Bytes, &[u8]), Memory>

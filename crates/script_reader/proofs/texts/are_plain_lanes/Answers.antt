@@ -2,7 +2,7 @@ use Rattle.std.proofs.Common.{ℕ, cond, eqb, ltb, bit_or, refl}
 use Rattle.std.proofs.lemmas.Bool.{eqb-true}
 use Rattle.std.proofs.lemmas.Simd.{zip2_splat, zip2_splat_left, length-chunk}
 use lib.Lanes.{chunk}
-use Rattle.script_reader.specs.Parts.{is_text_byte}
+use Rattle.kernel_model.specs.Texts.{is_plain}
 use Rattle.script_reader.proofs.Lanes.{joined, unmarked_pass}
 use Rattle.script_reader.proofs.texts.are_plain_lanes.Goals as goal
 
@@ -17,7 +17,7 @@ returns c none =
     let xs = c.args.bytes.now in
     let v = chunk c.args.at 16 xs in
     let long = length-chunk c.args.at 16 xs c.requires in
-    unmarked_pass is_text_byte xs c.args.at _ c.requires c.type_inv.bytes (eqb-true _ 0 none) _
+    unmarked_pass is_plain xs c.args.at _ c.requires c.type_inv.bytes (eqb-true _ 0 none) _
     (joined bit_or _ _ v
     (joined bit_or _ _ v
     (joined bit_or _ _ v (zip2_splat below v 16 32 long) (zip2_splat_left below 126 16 v long))

@@ -1,5 +1,5 @@
 use Rattle.std.proofs.Common.{◌≡◌, ℕ, ◌+◌, ◌-◌, length, sym, ◌∙◌, arith}
-use Rattle.text_fields.specs.Fields.{text_byte_at}
+use Rattle.quoted_bytes.specs.Bytes.{text_byte_at}
 use Rattle.text_fields.proofs.Many.{many-goes, many-ends, many-full}
 use Rattle.text_fields.proofs.texts.text_bytes.Goals as goal
 

@@ -1,5 +1,6 @@
 use Rattle.std.proofs.Common.{◌≡◌, ◌-◌}
-use Rattle.text_fields.specs.Fields.{many, all_at, text_byte_at}
+use Rattle.quoted_bytes.specs.Bytes.{text_byte_at}
+use Rattle.text_fields.specs.Fields.{many, all_at}
 use Rattle.text_fields.proofs.Many.{onto}
 use Rattle.text_fields.proofs.texts.text_bytes.Given as goal
 

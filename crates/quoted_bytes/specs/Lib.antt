@@ -1,0 +1,2 @@
+pub use Rattle.kernel_model.specs.Texts
+pub mod Bytes
