@@ -140,17 +140,11 @@ wrote_front asked left s text old new cause r a (inr c) e =
 -- The same where the source may tell nothing.
 
 -- what goes with the bytes read for `sim` goes with the source, whether it tells its bytes or not
-pub told_answer : (o : Options) (told : Option (List ℕ)) (bytes read : List ℕ) (s : Status) (text : List ℕ)
-    → IfSome told (AreBytesUpTo 1048576 bytes)
-    → read ≡ bytes → Simulates o read s text → AnswersTold (Simulate o) told s text
-told_answer o None bytes read s text r e a = record { bytes = read; told = tt; answers = a }
-told_answer o (Some left) bytes read s text r e a =
-    record {
-      bytes = left;
-      told = refl;
-      answers =
-          Simulates-left o bytes left s text r (subst (λ (b : List ℕ). Simulates o b s text) e a);
-    }
+pub told_answer : (o : Options) (told : Option (List ℕ)) (bytes : List ℕ) (s : Status) (text : List ℕ)
+    → IfSome told (AreBytesUpTo 1048576 bytes) → Simulates o bytes s text → AnswersTold (Simulate o) told s text
+told_answer o None bytes s text r a = record { bytes = bytes; told = tt; answers = a }
+told_answer o (Some left) bytes s text r a =
+    record { bytes = left; told = refl; answers = Simulates-left o bytes left s text r a }
 
 -- what goes with the bytes read for `check` goes with the source, whether it tells its bytes or not
 pub told_verdict : (told : Option (List ℕ)) (bytes read : List ℕ) (s : Status) (text : List ℕ)
@@ -173,28 +167,26 @@ told_verdict (Some left) bytes read s text r few e a =
 
 -- The causes of an answer, by the bytes that were left.
 
-sim_cause : (bytes read left : List ℕ) (got : Status) → AreBytesUpTo 1048576 bytes left → read ≡ bytes
-    → ((script : Script) → Reads read script → got ≡ status.Done)
-    → ((line : ℕ) (fault : ScriptFault) → IsFirstFault read line fault → got ≡ status.BadScript)
+sim_cause : (bytes left : List ℕ) (got : Status) → AreBytesUpTo 1048576 bytes left
+    → ((script : Script) → Reads bytes script → got ≡ status.Done)
+    → ((line : ℕ) (fault : ScriptFault) → IsFirstFault bytes line fault → got ≡ status.BadScript)
     → (s : Status) → CauseOfSim left s → got ≡ s
-sim_cause bytes read left got r e done bad status.Done c =
-    done c.0 (subst (λ (b : List ℕ). Reads b c.0) (sym e) (script_read bytes left c.0 r c.1))
-sim_cause bytes read left got r e done bad status.BadScript c =
-    bad c.0 c.1 (subst (λ (b : List ℕ). IsFirstFault b c.0 c.1) (sym e) (fault_read bytes left c.0 c.1 r c.2))
-sim_cause bytes read left got r e done bad status.Usage c = absurd c
-sim_cause bytes read left got r e done bad status.Memory c = absurd c
-sim_cause bytes read left got r e done bad status.ReadFault c = absurd c
-sim_cause bytes read left got r e done bad status.WriteFault c = absurd c
-sim_cause bytes read left got r e done bad status.NotLegal c = absurd c
+sim_cause bytes left got r done bad status.Done c = done c.0 (script_read bytes left c.0 r c.1)
+sim_cause bytes left got r done bad status.BadScript c = bad c.0 c.1 (fault_read bytes left c.0 c.1 r c.2)
+sim_cause bytes left got r done bad status.Usage c = absurd c
+sim_cause bytes left got r done bad status.Memory c = absurd c
+sim_cause bytes left got r done bad status.ReadFault c = absurd c
+sim_cause bytes left got r done bad status.WriteFault c = absurd c
+sim_cause bytes left got r done bad status.NotLegal c = absurd c
 
 -- a status that follows from what `sim` read follows from what the source had left
-pub sim_causes : (o : Options) (told : Option (List ℕ)) (bytes read : List ℕ) (got : Status)
-    → IfSome told (AreBytesUpTo 1048576 bytes) → read ≡ bytes
-    → ((script : Script) → Reads read script → got ≡ status.Done)
-    → ((line : ℕ) (fault : ScriptFault) → IsFirstFault read line fault → got ≡ status.BadScript)
+pub sim_causes : (o : Options) (told : Option (List ℕ)) (bytes : List ℕ) (got : Status)
+    → IfSome told (AreBytesUpTo 1048576 bytes)
+    → ((script : Script) → Reads bytes script → got ≡ status.Done)
+    → ((line : ℕ) (fault : ScriptFault) → IsFirstFault bytes line fault → got ≡ status.BadScript)
     → EachCause (Some (Simulate o)) told (λ s. got ≡ s)
-sim_causes o None bytes read got r e done bad = tt
-sim_causes o (Some left) bytes read got r e done bad = λ s c. sim_cause bytes read left got r e done bad s c
+sim_causes o None bytes got r done bad = tt
+sim_causes o (Some left) bytes got r done bad = λ s c. sim_cause bytes left got r done bad s c
 
 -- a status that follows from what `check` read follows from what the source had left
 pub check_causes : (told : Option (List ℕ)) (bytes read : List ℕ) (got : Status)
