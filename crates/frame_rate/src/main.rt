@@ -39,7 +39,7 @@ fn send<R: Wait>(rt: &R, alloc: Global, out: &mut Out, stamp: u32, frame: &Frame
 }
 
 /// How many frames this piece completes.
-fn completed(joiner: &mut Joiner, piece: &[u8]) -> Option<u64> {
+fn count_completed(joiner: &mut Joiner, piece: &[u8]) -> Option<u64> {
     let frames = joiner.feed(piece).ok()?;
     Some(frames.len() as u64)
 }
@@ -51,7 +51,7 @@ fn join<R: Wait>(rt: &R, into: &mut In, joiner: &mut Joiner) -> Option<u64> {
         let Some(piece) = into.take(rt) else {
             break;
         };
-        frames = frames.saturating_add(completed(joiner, piece.bytes.as_slice())?);
+        frames = frames.saturating_add(count_completed(joiner, piece.bytes.as_slice())?);
     }
     Some(frames)
 }
@@ -77,7 +77,7 @@ fn pass<R: Wait>(
 }
 
 /// How many of so many frames with a body of this size come out. None: memory ran out.
-fn passed<R: Wait>(rt: &R, alloc: Global, count: u32, size: u16) -> Option<u64> {
+fn count_passed<R: Wait>(rt: &R, alloc: Global, count: u32, size: u16) -> Option<u64> {
     let frame = frame_with(alloc, size)?;
     let (mut out, mut into) = pair(alloc).ok()?;
     pass(rt, alloc, count, &frame, &mut out, &mut into)
@@ -92,7 +92,7 @@ fn number_at<R: Env + AllocGlobal>(rt: &R, place: usize) -> Option<u32> {
 fn main(rt: HostRuntime) -> ExitCode {
     let count = number_at(&rt, 1).unwrap_or(20);
     let size = number_at(&rt, 2).unwrap_or(1186).min(65535) as u16;
-    let Some(frames) = passed(&rt, rt.alloc(), count, size) else {
+    let Some(frames) = count_passed(&rt, rt.alloc(), count, size) else {
         return ExitCode::from(3);
     };
     match println!(rt; "{frames} frames") {

@@ -105,7 +105,7 @@ fn fork_at(
 }
 
 /// A process that has ended under a living parent.
-fn kept(ignored: bool, ending: Ending) -> ProcessCell
+fn cell_after_end(ignored: bool, ending: Ending) -> ProcessCell
     ensures { result ≡ process_after_end ignored ending }
 {
     if ignored {
@@ -233,7 +233,7 @@ impl Processes {
             return;
         };
         let ignored = self.ignores_children(parent);
-        self.settle(pid, kept(ignored, ending));
+        self.settle(pid, cell_after_end(ignored, ending));
         self.end_child(parent, pid, ending);
     }
 

@@ -135,7 +135,7 @@ fn lowest(messages: &VecDeque<Message>, bound: i64) -> Option<i32>
 }
 
 /// The place of the message that msgrcv selects for a type.
-fn selected(messages: &VecDeque<Message>, class: i32) -> Option<usize>
+fn selected_place(messages: &VecDeque<Message>, class: i32) -> Option<usize>
     ensures { result ≡ select messages.now.items class }
 {
     if class == 0 {
@@ -240,7 +240,7 @@ impl MessageQueue {
             (λ m. receive self.old pid class size noerror ≡ Ok (record { queue = self.new; message = m }))
             (λ e. (receive self.old pid class size noerror ≡ Err e) × (self.new ≡ self.old)) }
     {
-        let Some(place) = selected(&self.messages, class) else {
+        let Some(place) = selected_place(&self.messages, class) else {
             return Err(Errno::Enomsg);
         };
         let Some(found) = self.messages.get(place) else {

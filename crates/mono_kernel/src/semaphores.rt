@@ -64,7 +64,7 @@ pub(crate) fn is_bad_size(count: u32) -> bool
 
 /// The value after an operation: EAGAIN where it would have to wait, ERANGE for a value above the
 /// limit.
-fn moved(step: &SemStep, value: u32) -> Result<u32, Errno>
+fn value_after(step: &SemStep, value: u32) -> Result<u32, Errno>
     ensures { result ≡ answer_of (move_by step.now.add value) }
 {
     let add = step.add;
@@ -99,7 +99,7 @@ fn try_in_order(values: &mut Vec<u32>, steps: &[SemStep]) -> Result<(), Errno>
 {
     for step in steps {
         let num = usize::from(step.num);
-        match moved(step, values[num]) {
+        match value_after(step, values[num]) {
             Ok(value) => values[num] = value,
             Err(errno) => return Err(errno),
         }

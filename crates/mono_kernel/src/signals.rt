@@ -65,7 +65,7 @@ fn stays_masked(how: How, masked: bool, in_set: bool) -> bool
 }
 
 /// The set with the signal in it, or without it.
-fn placed(set: SigSet, sig: Sig, is_in: bool) -> SigSet
+fn with_or_without(set: SigSet, sig: Sig, is_in: bool) -> SigSet
     ensures { result ≡ put_at set sig is_in }
 {
     if is_in {
@@ -88,7 +88,7 @@ fn masked_of(how: How, old: SigSet, set: SigSet, signals: &[Sig]) -> SigSet
 {
     let mut mask = SigSet::empty();
     for sig in signals {
-        mask = placed(mask, *sig, stays_masked(how, old.has(*sig), set.has(*sig)));
+        mask = with_or_without(mask, *sig, stays_masked(how, old.has(*sig), set.has(*sig)));
     }
     mask
 }
@@ -199,7 +199,7 @@ impl SignalState {
         }
         let stays = self.pending.has(sig) && !is_discarded(act, sig);
         self.actions.set(sig, act);
-        self.pending = placed(self.pending, sig, stays);
+        self.pending = with_or_without(self.pending, sig, stays);
         Ok(())
     }
 

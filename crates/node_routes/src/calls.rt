@@ -17,7 +17,7 @@ use pico_base::{Call, Home, Memory, Name, Node, Pid, Script, home};
 use rpc_frame::{Asked, Frame};
 
 /// The leader routes the call.
-fn routed(step: &mut Growing, script: &Script, asked: Asked) -> Result<(), TurnFault>
+fn route(step: &mut Growing, script: &Script, asked: Asked) -> Result<(), TurnFault>
     requires sound { IsSoundScript script.now }
     ensures { Turns (route_call script.now (step_of step.old) asked) step.old step.new result }
 {
@@ -35,7 +35,7 @@ fn route_if(
     ensures { Turns (route_if allowed script.now (step_of step.old) asked) step.old step.new result }
 {
     if allowed && may_route(step, asked.pid, &asked.call) {
-        routed(step, script, asked)
+        route(step, script, asked)
     } else {
         Err(TurnFault::NotAllowed)
     }

@@ -55,7 +55,7 @@ fn options_of(seed: Option<&str>, steps: bool) -> Option<Options>
 
 // What the words for MODE and N, and whether `--steps` is there, ask for.
 #[tactic(auto, unfolding(crate::specs::Words::meant))]
-fn meant(seed: Option<&str>, steps: bool, mode: &str) -> Option<Request>
+fn request_meant(seed: Option<&str>, steps: bool, mode: &str) -> Option<Request>
     ensures { result ≡ spec.meant (option_map (λ s. s.now) seed.entry) steps mode.now }
 {
     if mode == "sim" {
@@ -128,7 +128,7 @@ fn found(matches: &ArgMatches) -> Option<Request>
     ensures { result ≡ spec.found (rows_of (found_of matches.now)) }
 {
     let mode = value(matches, "mode")?;
-    meant(value(matches, "seed"), steps_of(matches), mode)
+    request_meant(value(matches, "seed"), steps_of(matches), mode)
 }
 
 /// What the words ask for; none where they aren't in order. They are in order where `clap` takes them as those of the

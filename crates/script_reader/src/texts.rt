@@ -18,7 +18,7 @@ use std::simd::prelude::*;
 const MAX_REPEATED: u32 = 8192;
 
 /// The text where its closing quote is all that is left.
-fn closed(text: Bytes, bytes: &[u8]) -> Option<Bytes>
+fn close_text(text: Bytes, bytes: &[u8]) -> Option<Bytes>
     ensures { result ≡ closed_at text bytes.now }
 {
     if bytes == b"\"".as_slice() {
@@ -29,21 +29,21 @@ fn closed(text: Bytes, bytes: &[u8]) -> Option<Bytes>
 }
 
 /// A text behind its opening quote, byte after byte.
-fn escaped(alloc: Global, bytes: &[u8]) -> Result<Option<Bytes>, Memory>
+fn escaped_text(alloc: Global, bytes: &[u8]) -> Result<Option<Bytes>, Memory>
     ensures { IfOk result (λ text. text ≡ quoted_at (length bytes.now) bytes.now) }
 {
     let mut text = Sequence::new(alloc);
     let mut rest = bytes;
     for _ in 0..bytes.len() {
         match text_byte(rest) {
-            None => return Ok(closed(text, rest)),
+            None => return Ok(close_text(text, rest)),
             Some((byte, after)) => {
                 text.push(byte)?;
                 rest = after;
             }
         }
     }
-    Ok(closed(text, rest))
+    Ok(close_text(text, rest))
 }
 
 /// How many bytes are looked at together.
@@ -88,7 +88,7 @@ fn is_all_plain(bytes: &[u8]) -> bool
 }
 
 /// A text behind its opening quote. Most have no escape, and are copied at once.
-fn quoted(alloc: Global, bytes: &[u8]) -> Result<Option<Bytes>, Memory>
+fn quoted_text(alloc: Global, bytes: &[u8]) -> Result<Option<Bytes>, Memory>
     ensures { IfOk result (λ text. text ≡ quoted_at (length bytes.now) bytes.now) }
 {
     if let Some((last, plain)) = bytes.split_last() {
@@ -96,7 +96,7 @@ fn quoted(alloc: Global, bytes: &[u8]) -> Result<Option<Bytes>, Memory>
             return Ok(Some(Bytes::from_slice(alloc, plain)?));
         }
     }
-    escaped(alloc, bytes)
+    escaped_text(alloc, bytes)
 }
 
 fn is_alphanumeric(byte: u8) -> bool
@@ -118,7 +118,7 @@ fn letter(word: &[u8]) -> Option<u8>
 
 /// The count and the byte of `N:C`.
 #[tactic(auto, unfolding(crate::specs::Parts::counted))]
-fn counted(word: &[u8]) -> Option<(u32, u8)>
+fn count_and_byte(word: &[u8]) -> Option<(u32, u8)>
     ensures { result ≡ counted_of word.now }
 {
     let (count, byte) = cut(b':', word)?;
@@ -129,10 +129,10 @@ fn counted(word: &[u8]) -> Option<(u32, u8)>
 
 /// The text of `N:C`.
 #[tactic(auto, unfolding(crate::specs::Parts::repetition))]
-fn repeated(alloc: Global, word: &[u8]) -> Result<Option<Bytes>, Memory>
+fn repeated_text(alloc: Global, word: &[u8]) -> Result<Option<Bytes>, Memory>
     ensures { IfOk result (λ text. text ≡ repetition_of word.now) }
 {
-    match counted(word) {
+    match count_and_byte(word) {
         None => Ok(None),
         Some((count, byte)) => {
             let text = vec![in alloc; byte; count as usize]?;
@@ -147,17 +147,17 @@ pub(crate) fn text(alloc: Global, word: &[u8]) -> Result<Option<Bytes>, Memory>
     ensures { IfOk result (λ text. text ≡ text_of word.now) }
 {
     if let Some(rest) = strip_front(word, b"rep:") {
-        return repeated(alloc, rest);
+        return repeated_text(alloc, rest);
     }
     match strip_front(word, b"\"") {
         None => Ok(None),
-        Some(rest) => quoted(alloc, rest),
+        Some(rest) => quoted_text(alloc, rest),
     }
 }
 
 /// What an operation adds, and whether `:nowait` follows.
 #[tactic(auto, unfolding(crate::specs::Parts::added))]
-fn added(word: &[u8]) -> Option<(i32, bool)>
+fn amount(word: &[u8]) -> Option<(i32, bool)>
     ensures { result ≡ added_of word.now }
 {
     match cut(b':', word) {
@@ -183,7 +183,7 @@ fn step(word: &[u8]) -> Option<SemStep>
 {
     let (num, add) = cut(b':', word)?;
     let num = index(num)?;
-    let (add, nowait) = added(add)?;
+    let (add, nowait) = amount(add)?;
     Some(SemStep { num, add, nowait })
 }
 

@@ -93,7 +93,7 @@ impl Signals {
         ensures masked { self.new ≡ with_mask self.old how set }
     {
         let old = self.mask;
-        self.mask = changed(old, how, set);
+        self.mask = changed_mask(old, how, set);
         self.deliver_each(&SIGNALS);
         old
     }
@@ -275,7 +275,7 @@ fn discards(act: Act, sig: Sig) -> bool
 }
 
 /// The mask that this change makes of the old one.
-fn changed(old: SigSet, how: How, set: SigSet) -> SigSet
+fn changed_mask(old: SigSet, how: How, set: SigSet) -> SigSet
     ensures { result ≡ new_mask how old set }
 {
     let mask = match how {

@@ -117,7 +117,7 @@ fn queue_fields(bytes: &[u8]) -> Option<Fields<'_>>
 }
 
 /// The fields of the queue whose packed form the bytes are, if they are one's.
-fn unpacked(bytes: &[u8]) -> Option<Fields<'_>>
+fn unpack_fields(bytes: &[u8]) -> Option<Fields<'_>>
     ensures { MatchOption result ((q : definition.Queue) → IsBodyOf q bytes.now → ⊥)
         (λ f. HasBody f.qbytes f.sender f.receiver f.count f.room f.messages.now bytes.now) }
 {
@@ -125,7 +125,7 @@ fn unpacked(bytes: &[u8]) -> Option<Fields<'_>>
 }
 
 /// Copies the messages of bytes that were read.
-fn copied(alloc: Global, count: u16, bytes: &[u8]) -> Result<VecDeque<Message>, Memory>
+fn copy_messages(alloc: Global, count: u16, bytes: &[u8]) -> Result<VecDeque<Message>, Memory>
     requires { IsSome (messages_at count max_queue_bytes bytes.now) }
     ensures { IfOk result
         (λ messages. messages_in (messages_at count max_queue_bytes bytes.now) ≡ Some messages.items) }
@@ -148,7 +148,7 @@ impl Queue {
     pub fn is_packed(bytes: &[u8]) -> bool
         ensures { TellsPacked bytes.now result }
     {
-        unpacked(bytes).is_some()
+        unpack_fields(bytes).is_some()
     }
 
     /// The queue whose packed form the bytes are. NotABody exactly where they are the packed form of no queue, so
@@ -160,8 +160,8 @@ impl Queue {
         ensures only { (q : definition.Queue) → IsBodyOf q bytes.now → IfOk result (λ got. got ≡ q) }
         ensures refused { IfErr result (Refuses (λ q. IsBodyOf q bytes.now)) }
     {
-        let fields = unpacked(bytes).ok_or(UnpackFault::NotABody)?;
-        let messages = copied(alloc, fields.count, fields.messages)?;
+        let fields = unpack_fields(bytes).ok_or(UnpackFault::NotABody)?;
+        let messages = copy_messages(alloc, fields.count, fields.messages)?;
         Ok(Queue {
             messages,
             bytes: (MAX_BYTES - fields.room) as usize,

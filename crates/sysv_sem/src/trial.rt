@@ -9,7 +9,7 @@ use pico_base::{Errno, Pid, SemStep};
 
 /// The value that one operation makes of a value. EAGAIN: it would have to wait. ERANGE: the value would be above
 /// 32,767.
-fn moved(add: i32, value: u32) -> Result<u32, Errno>
+fn value_after(add: i32, value: u32) -> Result<u32, Errno>
     ensures { result ≡ answer_of (definition.move_by add value) }
 {
     if add < 0 {
@@ -40,7 +40,7 @@ pub(crate) fn carry_out(set: &mut [Semaphore], pid: Pid, steps: &[SemStep]) -> R
     };
     let place = step.num as usize;
     let before = set[place];
-    let value = moved(step.add, before.value)?;
+    let value = value_after(step.add, before.value)?;
     set[place] = Semaphore { value, last: pid };
     let done = carry_out(set, pid, rest);
     if done.is_err() {

@@ -54,7 +54,7 @@ fn read_semaphores<'a>(into: &mut Semaphores, count: u8, bytes: &'a [u8]) -> Opt
 
 /// The semaphores behind the count.
 #[tactic(auto, unfolding(crate::specs::Reading::fields_at, crate::specs::Reading::counted_at))]
-fn counted(count: u8, bytes: &[u8]) -> Option<Semaphores>
+fn semaphores_behind(count: u8, bytes: &[u8]) -> Option<Semaphores>
     ensures { Reads (λ x. definition.set_of x.items) result (counted_at count bytes.now) }
 {
     if count == 0 || u32::from(count) > MAX_SEMAPHORES {
@@ -74,13 +74,13 @@ fn semaphores_of(bytes: &[u8]) -> Option<Semaphores>
     ensures { Reads (λ x. definition.set_of x.items) result (set_at bytes.now) }
 {
     match bytes {
-        [CODE, count, semaphores @ ..] => counted(*count, semaphores),
+        [CODE, count, semaphores @ ..] => semaphores_behind(*count, semaphores),
         _ => None,
     }
 }
 
 /// The semaphores of the set whose packed form the bytes are, if they are one's.
-fn unpacked(bytes: &[u8]) -> Option<Semaphores>
+fn unpack_semaphores(bytes: &[u8]) -> Option<Semaphores>
     ensures { MatchOption result ((set : definition.SemaphoreSet) → IsBodyOf set bytes.now → ⊥)
         (λ x. IsBodyOf (definition.set_of x.items) bytes.now) }
 {
@@ -97,7 +97,7 @@ impl SemSet {
         ensures only { (set : definition.SemaphoreSet) → IsBodyOf set bytes.now → IfOk result (λ got. got ≡ set) }
         ensures refused { IfErr result (Refuses (λ set. IsBodyOf set bytes.now)) }
     {
-        let read = unpacked(bytes).ok_or(UnpackFault::NotABody)?;
+        let read = unpack_semaphores(bytes).ok_or(UnpackFault::NotABody)?;
         let mut semaphores = Vec::with_capacity(alloc, read.len())?;
         semaphores.extend_from_slice(read.as_slice())?;
         Ok(SemSet { semaphores })

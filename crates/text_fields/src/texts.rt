@@ -29,7 +29,7 @@ fn text_bytes(alloc: Global, bytes: &[u8]) -> Result<(Bytes, &[u8]), Memory>
 }
 
 /// The text where its closing quote is next.
-fn closed(text: Bytes, bytes: &[u8]) -> Option<(Bytes, &[u8])>
+fn close_text(text: Bytes, bytes: &[u8]) -> Option<(Bytes, &[u8])>
     ensures { option_map (λ x. (x.0, x.1.now)) result ≡ closed_of (text, bytes.now) }
 {
     let rest = strip_front(bytes, b"\"")?;
@@ -38,18 +38,18 @@ fn closed(text: Bytes, bytes: &[u8]) -> Option<(Bytes, &[u8])>
 
 /// A text behind its opening quote.
 #[tactic(auto, unfolding(crate::specs::Fields::quoted_at))]
-fn quoted(alloc: Global, bytes: &[u8]) -> Result<Option<(Bytes, &[u8])>, Memory>
+fn quoted_text(alloc: Global, bytes: &[u8]) -> Result<Option<(Bytes, &[u8])>, Memory>
     ensures { IfOk result (λ text. option_map (λ x. (x.0, x.1.now)) text ≡ quoted_at bytes.now) }
 {
     match text_bytes(alloc, bytes) {
-        Ok((text, rest)) => Ok(closed(text, rest)),
+        Ok((text, rest)) => Ok(close_text(text, rest)),
         Err(memory) => Err(memory),
     }
 }
 
 /// The byte of `rep:N:C`, so many times.
 #[tactic(auto, unfolding(crate::specs::Fields::repeated_at))]
-fn repeated(alloc: Global, count: u32, bytes: &[u8]) -> Result<Option<(Bytes, &[u8])>, Memory>
+fn repeated_text(alloc: Global, count: u32, bytes: &[u8]) -> Result<Option<(Bytes, &[u8])>, Memory>
     ensures { IfOk result (λ text. option_map (λ x. (x.0, x.1.now)) text ≡ repeated_at count bytes.now) }
 {
     match bytes {
@@ -76,7 +76,7 @@ fn repetition(alloc: Global, bytes: &[u8]) -> Result<Option<(Bytes, &[u8])>, Mem
 {
     match count_front(bytes) {
         None => Ok(None),
-        Some((count, rest)) => repeated(alloc, count, rest),
+        Some((count, rest)) => repeated_text(alloc, count, rest),
     }
 }
 
@@ -90,6 +90,6 @@ pub fn text_front(alloc: Global, bytes: &[u8]) -> Result<Option<(Bytes, &[u8])>,
     }
     match strip_front(bytes, b"\"") {
         None => Ok(None),
-        Some(rest) => quoted(alloc, rest),
+        Some(rest) => quoted_text(alloc, rest),
     }
 }

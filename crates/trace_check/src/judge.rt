@@ -92,7 +92,7 @@ fn carry_out(
 }
 
 /// The process that the call forks, where this is its reply.
-fn forked(
+fn forked_child(
     alloc: Global,
     script: &Script,
     parent: &Cursor,
@@ -130,7 +130,7 @@ fn forked_at(
         (λ child. child ≡ forked_at script.now (get cursors.now.entries pid) call.now reply.now) }
 {
     match cursors.get(&pid) {
-        Some(parent) => forked(alloc, script, parent, call, reply),
+        Some(parent) => forked_child(alloc, script, parent, call, reply),
         None => Ok(None),
     }
 }

@@ -17,7 +17,7 @@ use crate::semaphores::{SemaphoreSet, is_bad_size};
 use pico_base::{Errno, Id, Key, Memory, Pid, Reply, SemStep, Steps, Values};
 
 /// The reply of a look at a set.
-fn looked(found: Result<u32, Errno>) -> Reply
+fn reply_of_look(found: Result<u32, Errno>) -> Reply
     ensures { result ≡ reply_to found }
 {
     match found {
@@ -128,7 +128,7 @@ impl Kernel {
             ≡ record { kernel = self.now; reply = result } }
     {
         match self.sets.get(&id) {
-            Some(set) => looked(set.value(num)),
+            Some(set) => reply_of_look(set.value(num)),
             None => Reply::Fail(Errno::Einval),
         }
     }
@@ -153,7 +153,7 @@ impl Kernel {
             ≡ record { kernel = self.now; reply = result } }
     {
         match self.sets.get(&id) {
-            Some(set) => looked(set.waiting(num)),
+            Some(set) => reply_of_look(set.waiting(num)),
             None => Reply::Fail(Errno::Einval),
         }
     }

@@ -18,7 +18,7 @@ loop-step-preserved c =
       rest = c.loop-step.invariant.rest
           ∙ try-goes i c.loop-step.values.items c.args.steps.now no_step c.from-num.result c.index.result.now
           c.in-Ok.value
-          inside c.from-num.ensures num c.index.ensures (sym c.moved.ensures ∙ c.in-Ok.is);
+          inside c.from-num.ensures num c.index.ensures (sym c.value_after.ensures ∙ c.in-Ok.is);
     }
 
 pub returns-in-Err-clause-tried : goal.returns-in-Err-clause-tried
@@ -29,4 +29,4 @@ returns-in-Err-clause-tried c =
     in let num : c.from-num.result < length c.loop-step.values.items = search rules
     in rw c.loop-step.invariant.rest
     (try-stops i c.loop-step.values.items c.args.steps.now no_step c.from-num.result c.index.result.now c.in-Err.errno
-    inside c.from-num.ensures num c.index.ensures (sym c.moved.ensures ∙ c.in-Err.is))
+    inside c.from-num.ensures num c.index.ensures (sym c.value_after.ensures ∙ c.in-Err.is))

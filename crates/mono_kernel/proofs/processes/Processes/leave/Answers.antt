@@ -18,7 +18,7 @@ end_child-requires-clause-listed c =
 
 pub end_child-requires-clause-ended : goal.end_child-requires-clause-ended
 end_child-requires-clause-ended c =
-    rw (c.settle-2.ensures.settled, c.kept.ensures)
+    rw (c.settle-2.ensures.settled, c.cell_after_end.ensures)
     (living-put_same c.args.self.now c.args.pid _ ∙ kept-dead c.ignores_children-ignored.result c.args.ending)
 
 pub returns-clause-left : goal.returns-clause-left
@@ -29,7 +29,7 @@ returns-clause-left c =
     (process_after_end (ignores_there c.args.self.now c.in-Some.parent) c.args.ending) =
     c.settle-2.ensures.settled
     ∙ ap (put c.args.self.now c.args.pid)
-    (c.kept.ensures ∙ ap (λ (b : Bool). process_after_end b c.args.ending) c.ignores_children-ignored.ensures)
+    (c.cell_after_end.ensures ∙ ap (λ (b : Bool). process_after_end b c.args.ending) c.ignores_children-ignored.ensures)
     in let changed = rw settled at c.end_child.ensures.changed
     in rw c.in-Some.is
     (left-under c.args.self.now c.end_child.new.self c.args.pid c.in-Some.parent c.args.ending listed.1 listed.0

@@ -19,7 +19,7 @@ returns-then-not-noerror c =
     }
     in let counted : deque_len c.self.inside.messages ≡ length c.self.inside.messages.items = search rules
     in let chosen : select c.self.inside.messages.items c.args.class ≡ Some c.in-Some.place =
-    sym (simp to_z-of_z at c.selected.ensures) ∙ c.in-Some.is
+    sym (simp to_z-of_z at c.selected_place.ensures) ∙ c.in-Some.is
     in let there : slice_get c.self.inside.messages.items c.in-Some.place ≡ Some c.in-Some-get.found.now =
     slice_get_read c.self.inside.messages.items _ _ _ counted
     (c.in-Some-get.ensures.variant.0 refl) c.in-Some-get.ensures.lookup
@@ -42,7 +42,7 @@ returns-in-Some-remove c =
     }
     in let counted : deque_len c.self.inside.messages ≡ length c.self.inside.messages.items = search rules
     in let chosen : select c.self.inside.messages.items c.args.class ≡ Some c.in-Some.place =
-    sym (simp to_z-of_z at c.selected.ensures) ∙ c.in-Some.is
+    sym (simp to_z-of_z at c.selected_place.ensures) ∙ c.in-Some.is
     in let seen : slice_get c.self.inside.messages.items c.in-Some.place ≡ Some c.in-Some-get.found.now =
     slice_get_read c.self.inside.messages.items _ _ _ counted
     (c.in-Some-get.ensures.variant.0 refl) c.in-Some-get.ensures.lookup

@@ -8,6 +8,7 @@ returns-clause-masked c =
     let s = c.self.inside in
     let before : Signals =
     record { actions = s.actions; mask = s.mask; pending = s.pending; handled = s.handled; doom = s.doom } in
-    mask-then-deliver before _ c.args.how c.args.set c.changed-self-inside.result c.changed-self-inside.ensures
+    mask-then-deliver before _ c.args.how c.args.set c.changed_mask-self-inside.result
+    c.changed_mask-self-inside.ensures
     c.deliver_each.ensures
     ∙ ap (λ (s : Signals). with_mask s c.args.how c.args.set) c.self.view_is

@@ -1,7 +1,7 @@
 use Rattle.std.proofs.Common.{◌≡◌, ◌-◌, ◌++◌, length}
 use Rattle.std.specs.Prelude.{option_map}
 use Rattle.script_reader.specs.Parts.{quoted_at}
-use Rattle.script_reader.proofs.texts.escaped.Given as goal
+use Rattle.script_reader.proofs.texts.escaped_text.Given as goal
 
 -- the bytes so far, and the text that is left
 abbrev pub invariant-loop : goal.invariant-loop

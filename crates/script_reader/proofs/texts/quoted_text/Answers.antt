@@ -1,6 +1,6 @@
 use Rattle.std.proofs.Common.{◌≡◌, ◌∷◌, [], ◌++◌, ap, ◌∙◌}
 use Rattle.script_reader.proofs.Quotes.{quoted_at_once}
-use Rattle.script_reader.proofs.texts.quoted.Goals as goal
+use Rattle.script_reader.proofs.texts.quoted_text.Goals as goal
 
 pub returns-then-is_all_plain : goal.returns-then-is_all_plain
 returns-then-is_all_plain c =

@@ -1,7 +1,7 @@
 use Rattle.std.proofs.Common.{◌∙◌, arith, rules, SFits, w32}
 use Rattle.std.proofs.lemmas.Int.{ints, to_z-of_z}
 use Rattle.mono_kernel.proofs.QueueLemmas.{select-zero, select-positive}
-use Rattle.mono_kernel.proofs.queue.selected.Goals as goal
+use Rattle.mono_kernel.proofs.queue.selected_place.Goals as goal
 
 pub returns-else-is_empty : goal.returns-else-is_empty
 returns-else-is_empty c = select-zero _ c.args.class (grind (arith, ints)) (grind (arith, c.if-is_empty.ensures))

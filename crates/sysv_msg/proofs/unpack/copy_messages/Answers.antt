@@ -3,7 +3,7 @@ use Rattle.std.proofs.lemmas.Int.{to_z-of_z}
 use Rattle.kernel_model.specs.Queue.{Message, max_queue_bytes}
 use Rattle.sysv_msg.specs.Reading.{message_at, messages_at, messages_in}
 use Rattle.sysv_msg.proofs.Loop.{goes_on, is_done, some_message}
-use Rattle.sysv_msg.proofs.unpack.copied.Goals as goal
+use Rattle.sysv_msg.proofs.unpack.copy_messages.Goals as goal
 
 pub unwrap-class-requires : goal.unwrap-class-requires
 unwrap-class-requires c =

@@ -1,10 +1,10 @@
 use Rattle.std.proofs.Common.{◌≡◌, ℕ, ◌+◌, ◌-◌, length, sym, ◌∙◌, arith}
 use Rattle.script_reader.proofs.Quotes.{quoted-goes, quoted-ends, quoted-full}
-use Rattle.script_reader.proofs.texts.escaped.Goals as goal
+use Rattle.script_reader.proofs.texts.escaped_text.Goals as goal
 
 pub returns-in-None : goal.returns-in-None
 returns-in-None c =
-    c.closed.ensures ∙ sym
+    c.close_text.ensures ∙ sym
     (quoted-ends c.loop.text c.loop.rest.now (length c.args.bytes.now - c.loop.counter) (sym c.in-None.ensures))
     ∙ c.loop.invariant
 
@@ -18,6 +18,6 @@ loop-preserved c =
 
 pub returns : goal.returns
 returns c =
-    c.closed-2.ensures ∙ sym
+    c.close_text-2.ensures ∙ sym
     (quoted-full c.loop.text c.loop.rest.now (length c.args.bytes.now - c.loop.counter) (omega arith))
     ∙ c.loop.invariant

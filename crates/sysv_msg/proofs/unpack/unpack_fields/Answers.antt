@@ -1,6 +1,6 @@
 use Rattle.std.proofs.Common.{arith}
 use Rattle.sysv_msg.proofs.Bodies.{is_unpacked}
-use Rattle.sysv_msg.proofs.unpack.unpacked.Goals as goal
+use Rattle.sysv_msg.proofs.unpack.unpack_fields.Goals as goal
 
 pub returns : goal.returns
 returns c =
