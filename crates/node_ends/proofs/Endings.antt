@@ -17,7 +17,7 @@ use Rattle.world_model.specs.Step.{Step}
 use Rattle.world_model.specs.Routing.{arrive_all, arrive_at, held_for_all, hold_item}
 use Rattle.world_laws.proofs.Named.{name-cases}
 use Rattle.world_rules.proofs.Places.{place-with-other, place-with-same}
-use Rattle.world_rules.proofs.release.Parcels.{PlacesRise, all-arrive, among-behind-parcel, among-both, one-more-held}
+use Rattle.world_routes.proofs.release.Parcels.{PlacesRise, all-arrive, among-behind-parcel, among-both, one-more-held}
 use Rattle.node_ends.specs.Ending.{AllArrived, Arrived, parcels_among, parcels_in, with_places}
 
 -- ---- the names arrive

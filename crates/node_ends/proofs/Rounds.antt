@@ -7,8 +7,8 @@ use Rattle.node_model.specs.declared.held.Held.{Held}
 use Rattle.node_model.specs.declared.held.Held.TheVariants.{Request}
 use Rattle.world_model.specs.Step.{Step}
 use Rattle.world_model.specs.Routing.{release, release_round, release_rounds, route_call}
-use Rattle.world_rules.proofs.release.Parcels.{PlacesRise}
-use Rattle.world_rules.proofs.release.RoutedParcels.{HoldsNoMore, route-holds-no-more}
+use Rattle.world_routes.proofs.release.Parcels.{PlacesRise}
+use Rattle.world_routes.proofs.release.RoutedParcels.{HoldsNoMore, route-holds-no-more}
 use Rattle.node_ends.specs.Ending.{GoesOn, parcels_left}
 
 -- ---- one item

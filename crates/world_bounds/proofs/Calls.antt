@@ -12,7 +12,7 @@ use Rattle.kernel_model.specs.Script.{IsSoundScript, Vars, call_from, is_in_rang
 use Rattle.kernel_model.specs.Waiting.{is_waiting}
 use Rattle.kernel_moves.proofs.Places.{due-is-fine}
 use Rattle.deeds_read.specs.Small.{IsSmallCall}
-use Rattle.world_rules.proofs.hand.Asks.{NeverWaits}
+use Rattle.world_routes.proofs.hand.Asks.{NeverWaits}
 
 -- ---- none waits
 

@@ -33,7 +33,7 @@ use Rattle.world_laws.specs.Runnable.{IsRunnable}
 use Rattle.world_laws.specs.Sights.{directory_of, frames_to, node_of}
 use Rattle.world_laws.proofs.Heads.{head-there}
 use Rattle.world_laws.proofs.Steps.{Heads, world_without}
-use Rattle.world_rules.proofs.hand.Asks.{NeverWaits}
+use Rattle.world_routes.proofs.hand.Asks.{NeverWaits}
 use Rattle.world_rules.proofs.ends.Directories.{KnowsNodes}
 use Rattle.world_rules.proofs.ends.Given.{AreRising}
 use Rattle.world_rules.proofs.ends.RecallAlls.{deeds_at}

@@ -15,7 +15,7 @@ use Rattle.world_laws.specs.Names.{forker}
 use Rattle.world_laws.specs.Places.{Beside, DeedPlace, InLeft, InKept, InHand, InExitTo}
 use Rattle.world_laws.specs.Sights.{is_born_in, is_born_stage, node_of, stage_of}
 use Rattle.world_laws.specs.Ways.{HasSender, IsParcelIn, IsParcelOf, under_way_of}
-use Rattle.world_rules.proofs.hand.Answering.{born-there}
+use Rattle.world_routes.proofs.hand.Answering.{born-there}
 use Rattle.world_rules.proofs.Suggestions.{born-in-range}
 
 -- ---- what a parcel carries

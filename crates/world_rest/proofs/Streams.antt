@@ -35,12 +35,12 @@ use Rattle.world_laws.proofs.NameFacts.{begins-without, play-goes, play-needs}
 use Rattle.world_laws.proofs.Named.{same-name}
 use Rattle.world_laws.proofs.Steps.{Heads, frames-low, node-there}
 use Rattle.world_rules.proofs.Suggestions.{born-in-range}
-use Rattle.world_rules.proofs.hand.Owners.{maker-is-born}
-use Rattle.world_rules.proofs.hand.Forwards.{sent_as}
-use Rattle.world_rules.proofs.hand.Routes.{IsOn}
-use Rattle.world_rules.proofs.sent.Bounced.{call-on}
+use Rattle.world_routes.proofs.hand.Owners.{maker-is-born}
+use Rattle.world_routes.proofs.hand.Forwards.{sent_as}
+use Rattle.world_routes.proofs.hand.Routes.{IsOn}
+use Rattle.world_routes.proofs.sent.Bounced.{call-on}
 use Rattle.world_rules.proofs.ends.Taken.{DropsFirst, drops-first}
-use Rattle.world_rules.proofs.sent.Forwarded.{is-at-maker, is_right_home, on-right-home, sent-by}
+use Rattle.world_routes.proofs.sent.Forwarded.{is-at-maker, is_right_home, on-right-home, sent-by}
 use Rattle.world_bounds.specs.Bounded.{FrameIsBounded, IsBounded, IsNode}
 use Rattle.world_rest.proofs.Senders.{Sender, carrier, carried-by-lower, sender-of}
 use Rattle.world_rest.proofs.Shaped.{HasStream, none-from, none-to, range-cases, stream-there, unborn-has-nothing}

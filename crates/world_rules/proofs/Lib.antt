@@ -14,11 +14,4 @@ pub mod Opening
 pub mod Enabled
 pub mod own
 pub mod makes
-pub mod hand
-pub mod sent
-pub mod keys
-pub mod first
-pub mod held
 pub mod ends
-pub mod release
-pub mod exits

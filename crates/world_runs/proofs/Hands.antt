@@ -16,17 +16,17 @@ use Rattle.world_model.specs.World.{World, world_after}
 use Rattle.world_laws.specs.Invariant.{Holds}
 use Rattle.world_laws.specs.Places.{Beside}
 use Rattle.world_laws.specs.Sights.{node_of}
-use Rattle.world_rules.proofs.hand.ReadRoutes.{HasRoute}
-use Rattle.world_rules.proofs.keys.OtherRoutes.{LeaderIsOrderly, other-has-route}
-use Rattle.world_rules.specs.Ready.{IsReady}
-use Rattle.world_rules.proofs.first.OwnRoutes.{first-has-route}
-use Rattle.world_rules.proofs.release.Rounds.{first-is-packed}
+use Rattle.world_routes.proofs.hand.ReadRoutes.{HasRoute}
+use Rattle.world_routes.proofs.keys.OtherRoutes.{LeaderIsOrderly, other-has-route}
+use Rattle.world_routes.specs.Ready.{IsReady}
+use Rattle.world_routes.proofs.first.OwnRoutes.{first-has-route}
+use Rattle.world_routes.proofs.release.Rounds.{first-is-packed}
 use Rattle.world_weights.proofs.Counts.{IsOfNode}
 use Rattle.world_weights.proofs.Frees.{frees-no-removal, removals-both}
 use Rattle.world_weights.proofs.Hand.{RemovalsAreOf}
 use Rattle.world_weights.proofs.HandSteps.{IsOfNodes, items-fit, light-route}
 use Rattle.world_weights.proofs.LightRounds.{RoutesLightly}
-use Rattle.world_rules.proofs.exits.HandEnds.{hand-has-end}
+use Rattle.world_routes.proofs.exits.HandEnds.{hand-has-end}
 use Rattle.world_bounds.specs.Bounded.{IsGood, ItemIsOfNode, ItemsAreOfNodes, NodeIsBounded, StepIsBounded}
 use Rattle.world_bounds.proofs.Parts.{held-are-of-nodes}
 use Rattle.world_bounds.proofs.Ranges.{some-blocks}

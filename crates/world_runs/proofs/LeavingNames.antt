@@ -23,7 +23,7 @@ use Rattle.world_laws.specs.Invariant.{Holds}
 use Rattle.world_laws.proofs.Changes.{Changes, filter-is-list-map, flat_map-is-list-map, frames_if, made-after, made-same, only-stayed, read-same, sent, stayed}
 use Rattle.world_laws.proofs.Stays.{SameName, name-stays}
 use Rattle.world_rules.proofs.own.Runs.{Starts}
-use Rattle.world_rules.proofs.sent.Bounced.{found-at-end, no-news-no-place, none-known}
+use Rattle.world_routes.proofs.sent.Bounced.{found-at-end, no-news-no-place, none-known}
 use Rattle.world_runs.proofs.LeavingStarts.{leaving_beside, leaving_frame, leaving_node, leaving_sends, leaving_world, leaving-born, leaving-changes, leaving-directory, leaving-ranges, leaving-steps}
 
 -- the maker that passes the test is this one

@@ -19,8 +19,8 @@ use Rattle.world_rules.proofs.own.Moved.{AfterRun}
 use Rattle.world_rules.proofs.own.OwnCases.{Keeps}
 use Rattle.world_rules.proofs.own.Runs.{Starts}
 use Rattle.world_rules.proofs.makes.Makes.{own-call-starts}
-use Rattle.world_rules.proofs.held.AnyStarts.{any-starts}
-use Rattle.world_rules.proofs.exits.FirstEnds.{first-end-keeps}
+use Rattle.world_routes.proofs.held.AnyStarts.{any-starts}
+use Rattle.world_routes.proofs.exits.FirstEnds.{first-end-keeps}
 use Rattle.world_bounds.specs.Bounded.{IsBounded}
 use Rattle.world_bounds.proofs.Ready.{Ready, bounded-is-ready}
 use Rattle.world_runs.proofs.Hands.{leader-is-ready}

@@ -33,11 +33,11 @@ use Rattle.world_rules.proofs.Placings.{placed-keeps}
 use Rattle.world_rules.proofs.Recalls.{recall-keeps}
 use Rattle.world_rules.proofs.Suggestions.{suggest-keeps}
 use Rattle.world_rules.proofs.own.OwnCases.{Keeps}
-use Rattle.world_rules.proofs.sent.NotOwners.{not-owner-taken}
+use Rattle.world_routes.proofs.sent.NotOwners.{not-owner-taken}
 use Rattle.world_rules.proofs.makes.Makes.{lease-keeps}
 use Rattle.world_rules.proofs.ends.Leavings.{leaving-keeps}
 use Rattle.world_rules.proofs.ends.RecallAlls.{any-recall-all-keeps}
-use Rattle.world_rules.proofs.exits.ExitTos.{exit-to-keeps}
+use Rattle.world_routes.proofs.exits.ExitTos.{exit-to-keeps}
 use Rattle.world_bounds.specs.Bounded.{IsBounded, NodeIsBounded}
 use Rattle.world_bounds.proofs.Parts.{held-are-of-nodes}
 use Rattle.world_bounds.proofs.Ranges.{some-blocks}
@@ -50,9 +50,9 @@ use Rattle.pico_base.specs.Home.{home_of}
 use Rattle.world_laws.specs.Names.{NameHolds, name_sight}
 use Rattle.world_rules.proofs.own.Moved.{IsMoved, IsNotServed}
 use Rattle.world_bounds.proofs.Ranges.{some-blocks}
-use Rattle.world_rules.proofs.first.NotOwners.{IsRoutedAgain, not-owner-has-step}
-use Rattle.world_rules.proofs.sent.Forwards.{IsForwarded, forward-taken-from}
-use Rattle.world_rules.proofs.sent.Requests.{IsRequested, request-taken-anywhere}
+use Rattle.world_routes.proofs.first.NotOwners.{IsRoutedAgain, not-owner-has-step}
+use Rattle.world_routes.proofs.sent.Forwards.{IsForwarded, forward-taken-from}
+use Rattle.world_routes.proofs.sent.Requests.{IsRequested, request-taken-anywhere}
 use Rattle.world_weights.specs.Weights.{call_weight}
 use Rattle.world_weights.proofs.Counts.{IsOfNode}
 use Rattle.world_weights.proofs.Frees.{name_removed, removes-its-own}

@@ -23,10 +23,10 @@ use Rattle.world_laws.specs.Places.{CallPlace, Idle, AsksLease, HasLease, InAsk,
 use Rattle.world_laws.specs.Plays.{is_home_on}
 use Rattle.world_laws.proofs.Named.{same-name, same-name-is}
 use Rattle.world_rules.proofs.Places.{place-with-other, place-with-same}
-use Rattle.world_rules.proofs.hand.Holdings.{leading-with}
-use Rattle.world_rules.proofs.hand.Routes.{removal-of-object}
-use Rattle.world_rules.proofs.exits.Arrivals.{AreApart, is_one_of}
-use Rattle.world_rules.proofs.exits.Released.{call_released}
+use Rattle.world_routes.proofs.hand.Holdings.{leading-with}
+use Rattle.world_routes.proofs.hand.Routes.{removal-of-object}
+use Rattle.world_routes.proofs.exits.Arrivals.{AreApart, is_one_of}
+use Rattle.world_routes.proofs.exits.Released.{call_released}
 use Rattle.world_weights.specs.Weights.{asks_back, call_at, call_weight, calls_weight, directory_weight, is_away, item_weight, removes_away}
 use Rattle.world_weights.proofs.Counts.{is_request, over, over-both, over-none, over-same, requests_in}
 use Rattle.world_weights.proofs.GiveBacks.{items-cost, ones, parcels-counted}

@@ -17,7 +17,7 @@ use Rattle.world_laws.specs.Callers.{CallHolds, CallSight, HasCall, HasCallOrNon
 use Rattle.world_laws.specs.Invariant.{Holds}
 use Rattle.world_laws.specs.Places.{Beside, CallPlace, Idle, AsksLease, HasLease, InAsk, InRequest, InNotOwner, SentByPlace, SentByRange, InBounce, IsHeld, IsInHand, InAnswer, Ends}
 use Rattle.world_laws.specs.Sights.{directory_of, is_born_in}
-use Rattle.world_rules.proofs.release.TakenUp.{taken_up}
+use Rattle.world_routes.proofs.release.TakenUp.{taken_up}
 use Rattle.world_weights.specs.Weights.{call_at, call_weight, calls_weight}
 
 -- ---- sums over numbers

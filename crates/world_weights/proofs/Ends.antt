@@ -26,7 +26,7 @@ use Rattle.world_laws.specs.Invariant.{Holds}
 use Rattle.world_laws.specs.Places.{Beside}
 use Rattle.world_laws.specs.Sights.{node_of}
 use Rattle.world_laws.proofs.Steps.{Heads}
-use Rattle.world_rules.proofs.release.RoutedParcels.{directory_in}
+use Rattle.world_routes.proofs.release.RoutedParcels.{directory_in}
 use Rattle.world_weights.specs.Weights.{Falls}
 use Rattle.world_weights.proofs.Costs.{deeds-by, step_weight}
 use Rattle.world_weights.proofs.Events.{Lowers, lowers-still, take-falls}

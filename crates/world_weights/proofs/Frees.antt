@@ -21,9 +21,9 @@ use Rattle.world_model.specs.Step.{Step, send}
 use Rattle.world_laws.specs.Names.{IsItemFor}
 use Rattle.world_laws.specs.Plays.{is_home_on}
 use Rattle.world_laws.proofs.Named.{same-name-is}
-use Rattle.world_rules.proofs.hand.Routes.{removal-of-object}
-use Rattle.world_rules.proofs.release.EndedParcels.{IsPacked}
-use Rattle.world_rules.proofs.release.RoutedParcels.{directory_in}
+use Rattle.world_routes.proofs.hand.Routes.{removal-of-object}
+use Rattle.world_routes.proofs.release.EndedParcels.{IsPacked}
+use Rattle.world_routes.proofs.release.RoutedParcels.{directory_in}
 use Rattle.world_weights.proofs.Arrivals.{AreProcesses, ItemsFit}
 use Rattle.world_weights.proofs.Ends.{EndsFree, exit-free}
 use Rattle.world_weights.proofs.Hand.{IsRemovalOnly, RemovalsAreOf, RemovesOnly}

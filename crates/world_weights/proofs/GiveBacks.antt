@@ -35,7 +35,7 @@ use Rattle.world_laws.specs.Sights.{directory_of, is_born_in, node_of}
 use Rattle.world_laws.proofs.Named.{same-name-is}
 use Rattle.world_laws.proofs.Steps.{Heads}
 use Rattle.world_rules.proofs.Places.{place-with-same}
-use Rattle.world_rules.proofs.release.TakenUp.{taken_up}
+use Rattle.world_routes.proofs.release.TakenUp.{taken_up}
 use Rattle.world_weights.specs.Weights.{Falls, calls_weight, cost_if, destination_weight, directory_weight, is_away, item_weight, middle_weight, node_weight, routing_weight}
 use Rattle.world_weights.proofs.Costs.{table-none}
 use Rattle.world_weights.proofs.Counts.{IsOfNode, calls-taken-up, filtered, held-count, is_request, requests_in}

@@ -18,8 +18,8 @@ use Rattle.world_model.specs.Census.{one_if}
 use Rattle.world_model.specs.World.{node_count}
 use Rattle.world_model.specs.Step.{Step}
 use Rattle.world_laws.specs.Places.{CallPlace, IsInHand, call_in}
-use Rattle.world_rules.proofs.hand.Routes.{removal-of-object}
-use Rattle.world_rules.proofs.release.RoutedParcels.{directory_in}
+use Rattle.world_routes.proofs.hand.Routes.{removal-of-object}
+use Rattle.world_routes.proofs.release.RoutedParcels.{directory_in}
 use Rattle.world_weights.specs.Weights.{asks_back, call_weight, cost_if, hand_weight, is_away, item_weight, middle_weight, removes_away, routing_weight}
 use Rattle.world_weights.proofs.Costs.{step_weight}
 use Rattle.world_weights.proofs.Known.{KnowsMore}

@@ -28,10 +28,10 @@ use Rattle.world_laws.specs.Invariant.{IsLeading}
 use Rattle.world_laws.specs.Places.{CallPlace}
 use Rattle.world_laws.proofs.Named.{name-cases}
 use Rattle.world_rules.proofs.Places.{place-with-other}
-use Rattle.world_rules.proofs.release.EndedParcels.{IsPacked}
-use Rattle.world_rules.proofs.exits.Arrivals.{AreApart, names-apart}
-use Rattle.world_rules.proofs.exits.Released.{call_released}
-use Rattle.world_rules.proofs.release.RoutedParcels.{directory_in}
+use Rattle.world_routes.proofs.release.EndedParcels.{IsPacked}
+use Rattle.world_routes.proofs.exits.Arrivals.{AreApart, names-apart}
+use Rattle.world_routes.proofs.exits.Released.{call_released}
+use Rattle.world_routes.proofs.release.RoutedParcels.{directory_in}
 use Rattle.world_weights.specs.Weights.{calls_weight, directory_weight, hand_weight, is_away, item_weight, middle_weight}
 use Rattle.world_weights.proofs.Arrivals.{AreProcesses, HeldAsCounted, ItemsFit, arrivals-fewer, arrivals-free, arrivals-know, arrivals-known, calls-released, released-back, released-cost}
 use Rattle.world_weights.proofs.Costs.{step_weight}

@@ -21,12 +21,12 @@ use Rattle.world_laws.specs.Invariant.{Holds, IsLeading, IsShaped}
 use Rattle.world_laws.specs.Names.{NameHolds, name_sight}
 use Rattle.world_laws.specs.Places.{Beside, CallPlace, call_in}
 use Rattle.world_laws.specs.Sights.{directory_of, is_born_in, node_of}
-use Rattle.world_rules.proofs.hand.HandMoves.{first}
-use Rattle.world_rules.proofs.hand.Routes.{RouteKeeps, leader-number}
-use Rattle.world_rules.proofs.hand.ReadRoutes.{HasRoute, PlaceFits}
-use Rattle.world_rules.proofs.release.Rounds.{first-is-packed, leader-in-step}
-use Rattle.world_rules.proofs.exits.Released.{call_released}
-use Rattle.world_rules.proofs.release.RoutedParcels.{directory_in}
+use Rattle.world_routes.proofs.hand.HandMoves.{first}
+use Rattle.world_routes.proofs.hand.Routes.{RouteKeeps, leader-number}
+use Rattle.world_routes.proofs.hand.ReadRoutes.{HasRoute, PlaceFits}
+use Rattle.world_routes.proofs.release.Rounds.{first-is-packed, leader-in-step}
+use Rattle.world_routes.proofs.exits.Released.{call_released}
+use Rattle.world_routes.proofs.release.RoutedParcels.{directory_in}
 use Rattle.world_weights.specs.Weights.{call_weight, middle_weight}
 use Rattle.world_weights.proofs.Arrivals.{ItemsFit}
 use Rattle.world_weights.proofs.Costs.{MayEnd}

@@ -24,7 +24,7 @@ use Rattle.world_model.specs.Node.{Leader, Node, is_leader}
 use Rattle.world_model.specs.Numbers.{Taken, take_number}
 use Rattle.world_model.specs.Routing.{bind, create_set, find_set, get_by_key, get_queue, get_set, make_bound, make_queue, make_set}
 use Rattle.world_model.specs.Step.{Step, carry_out, with_directory, with_node}
-use Rattle.world_rules.proofs.release.RoutedParcels.{directory_in}
+use Rattle.world_routes.proofs.release.RoutedParcels.{directory_in}
 use Rattle.world_weights.specs.Weights.{node_weight}
 use Rattle.world_weights.proofs.Costs.{MayEnd, carried-costs, step_weight, table-none}
 use Rattle.world_weights.proofs.Known.{KnowsMore, carried-knows, knows-after, knows-placed, taken-knows}

@@ -20,7 +20,7 @@ use Rattle.world_model.specs.Serving.{grant, grant_held, move_to, note_read, ser
 use Rattle.world_model.specs.Step.{Step, carry_out, enter, reply_here, send, with_deeds, with_node}
 use Rattle.world_laws.proofs.Named.{name-cases}
 use Rattle.world_rules.proofs.Places.{place-with-other, place-with-same}
-use Rattle.world_rules.proofs.release.RoutedParcels.{directory_in}
+use Rattle.world_routes.proofs.release.RoutedParcels.{directory_in}
 use Rattle.world_weights.proofs.Parts.{passed}
 
 -- each known name is known

@@ -26,13 +26,13 @@ use Rattle.world_laws.specs.Invariant.{Holds}
 use Rattle.world_laws.specs.Places.{Beside, CallPlace, IsInHand, call_in}
 use Rattle.world_laws.specs.Sights.{directory_of, node_of}
 use Rattle.world_laws.proofs.Steps.{Heads, KeepsAs, take-steps, world_without}
-use Rattle.world_rules.proofs.hand.Noted.{HoldsAfter}
-use Rattle.world_rules.proofs.release.GiveBacks.{give-back-in-hand, give-back-releases, given-is-read}
-use Rattle.world_rules.proofs.release.TakenUp.{taken_up}
+use Rattle.world_routes.proofs.hand.Noted.{HoldsAfter}
+use Rattle.world_routes.proofs.release.GiveBacks.{give-back-in-hand, give-back-releases, given-is-read}
+use Rattle.world_routes.proofs.release.TakenUp.{taken_up}
 use Rattle.world_weights.proofs.Counts.{IsOfNode}
 use Rattle.world_weights.proofs.GiveBacks.{give-back-falls}
-use Rattle.world_rules.proofs.hand.Asks.{NeverWaits, ask-in-hand, ask-keeps}
-use Rattle.world_rules.proofs.hand.Bounces.{bounce-in-hand, bounce-keeps}
+use Rattle.world_routes.proofs.hand.Asks.{NeverWaits, ask-in-hand, ask-keeps}
+use Rattle.world_routes.proofs.hand.Bounces.{bounce-in-hand, bounce-keeps}
 use Rattle.world_rules.proofs.ends.Directories.{KnowsNodes}
 use Rattle.world_rules.proofs.ends.Lefts.{at_leader, left-in-hand}
 use Rattle.world_rules.proofs.ends.Releases.{left-steps}

@@ -12,15 +12,15 @@ use Rattle.world_model.specs.Step.{Step}
 use Rattle.world_model.specs.World.{World, world_after}
 use Rattle.world_laws.specs.Places.{Beside}
 use Rattle.world_laws.specs.Invariant.{Holds}
-use Rattle.world_rules.proofs.hand.Routes.{RouteKeeps}
-use Rattle.world_rules.proofs.release.EndedParcels.{EndLeaves, end-leaves}
-use Rattle.world_rules.proofs.release.Parcels.{among-behind-call, among-behind-parcel, among-both}
-use Rattle.world_rules.proofs.release.RoutedParcels.{HoldsNoMore, route-holds-no-more}
-use Rattle.world_rules.proofs.release.Rounds.{first-is-packed, parcels_left, places-rise}
+use Rattle.world_routes.proofs.hand.Routes.{RouteKeeps}
+use Rattle.world_routes.proofs.release.EndedParcels.{EndLeaves, end-leaves}
+use Rattle.world_routes.proofs.release.Parcels.{among-behind-call, among-behind-parcel, among-both}
+use Rattle.world_routes.proofs.release.RoutedParcels.{HoldsNoMore, route-holds-no-more}
+use Rattle.world_routes.proofs.release.Rounds.{first-is-packed, parcels_left, places-rise}
 use Rattle.world_weights.specs.Weights.{middle_weight}
 use Rattle.world_weights.proofs.Hand.{RemovalsAreOf}
 use Rattle.world_weights.proofs.HandSteps.{IsOfNodes, LightRoute, freed-is-light, held-is-light, route-is-light}
-use Rattle.world_rules.proofs.exits.HandEnds.{HasEnd, frees, keeps_it}
+use Rattle.world_routes.proofs.exits.HandEnds.{HasEnd, frees, keeps_it}
 
 -- A step from a world with this in hand is good by what its rules ask besides the invariant. Then what is first in hand
 -- goes on, with its call in its place, to a step that is good again. Removals in a good hand are of the one name.

@@ -27,7 +27,7 @@ use Rattle.world_laws.specs.Sights.{directory_of, is_born_in, node_of}
 use Rattle.world_laws.proofs.Steps.{Heads}
 use Rattle.world_laws.proofs.Heads.{head-from-another}
 use Rattle.world_laws.proofs.Named.{same-name}
-use Rattle.world_rules.proofs.hand.Bounces.{bounced-known}
+use Rattle.world_routes.proofs.hand.Bounces.{bounced-known}
 use Rattle.world_weights.specs.Weights.{Falls, call_weight, hand_weight, node_weight}
 use Rattle.world_weights.proofs.CallHeads.{ask-place, bounce-place, may-end, not-owner-place}
 use Rattle.world_weights.proofs.Costs.{MayEnd, step_weight, under-way-at}

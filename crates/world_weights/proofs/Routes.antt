@@ -32,10 +32,10 @@ use Rattle.world_laws.specs.Invariant.{IsLeading}
 use Rattle.world_laws.specs.Places.{CallPlace}
 use Rattle.world_laws.proofs.Named.{name-cases}
 use Rattle.world_rules.proofs.own.Moved.{IsCarriedOut, is_answered, is_over}
-use Rattle.world_rules.proofs.hand.ReadRoutes.{PlaceFits, goes_by_range, goes_to_owner, is_asked_back, is_carried_out, is_held}
-use Rattle.world_rules.proofs.hand.Routes.{IsOn}
+use Rattle.world_routes.proofs.hand.ReadRoutes.{PlaceFits, goes_by_range, goes_to_owner, is_asked_back, is_carried_out, is_held}
+use Rattle.world_routes.proofs.hand.Routes.{IsOn}
 use Rattle.world_rules.proofs.Places.{place-with-other, place-with-same}
-use Rattle.world_rules.proofs.release.RoutedParcels.{directory_in}
+use Rattle.world_routes.proofs.release.RoutedParcels.{directory_in}
 use Rattle.world_weights.specs.Weights.{asks_back, call_weight, cost_if, directory_weight, hand_weight, is_away, item_weight, removes_away, routing_weight}
 use Rattle.world_weights.proofs.Costs.{MayEnd, move_cost, nobody-costs, served-costs, step_weight}
 use Rattle.world_weights.proofs.Hand.{FewerAway, RemovalsAreOf, back-less, back-low, back-rest, back_weight, items-less, none-back, routing-low}
