@@ -1,5 +1,5 @@
 -- A value for each of the ten signals.
-use Rattle.std.specs.Prelude.{ℕ, List, [], ◌∷◌, find, Option, ◌==◌}
+use Rattle.std.specs.Prelude.{◌≡◌, refl, ℕ, List, [], ◌∷◌, find, Option, Some, None, ◌==◌}
 use Rattle.pico_base.specs.declared.signal.Sig.{Sig}
 use Rattle.pico_base.specs.declared.signal.Sig.TheVariants.{Hup, Int, Quit, Kill, Usr1, Usr2, Pipe, Alrm, Term, Chld}
 use Rattle.pico_base.specs.declared.signal.PerSignal.{PerSignal}
@@ -66,3 +66,12 @@ signal_number Chld = 10
 -- the signal with a number, where one has it
 abbrev pub signal_from : ℕ → Option Sig
 signal_from number = find (λ g. signal_number g == number) all_signals
+
+pub nine_is_term : signal_from 9 ≡ Some Term
+nine_is_term = refl
+
+pub zero_is_no_signal : signal_from 0 ≡ None
+zero_is_no_signal = refl
+
+pub eleven_is_no_signal : signal_from 11 ≡ None
+eleven_is_no_signal = refl
