@@ -1,5 +1,5 @@
 -- The node's part of the machine, by input.
-use Rattle.std.specs.Prelude.{◌≡◌, Option, Some, None, Result, Ok, Err}
+use Rattle.std.specs.Prelude.{◌≡◌, ◌++◌, Option, Some, None, Result, Ok, Err}
 use Rattle.pico_base.specs.declared.script.Script.{Script}
 use Rattle.world_model.specs.Node.{Node}
 use Rattle.world_model.specs.Step.{Step}
@@ -20,8 +20,19 @@ step_of script n (Take from frame) = take_frame script n from frame
 abbrev pub step_as : Node → Turn → Step
 step_as n turn = record { node = n; entries = turn.entries; sends = turn.sends }
 
--- The turn is the step, or there is none and the node is as it was. Without memory nothing is said.
-abbrev pub Steps : Option Step → Node → Node → Result Turn TurnFault → Type 0
-Steps step old new (Ok turn) = step ≡ Some (step_as new turn)
-Steps step old new (Err NotAllowed) = (step ≡ None) × (new ≡ old)
-Steps step old new (Err Memory) = Unit {0}
+-- The step leaves this node, and what it makes follows behind what was made before.
+pub record IsOnto (step : Step) (new : Node) (before after : Turn) : Type 0 where
+  pub node : new ≡ step.node
+  pub entries : after.entries ≡ before.entries ++ step.entries
+  pub sends : after.sends ≡ before.sends ++ step.sends
+
+-- the same of a step, if there is one
+abbrev pub IsStepOnto : Option Step → Node → Turn → Turn → Type 0
+IsStepOnto None new before after = ⊥
+IsStepOnto (Some step) new before after = IsOnto step new before after
+
+-- The turn is the step, or there is none and nothing is changed. Without memory nothing is said.
+abbrev pub Follows : Option Step → Node → Node → Turn → Turn → Result Unit TurnFault → Type 0
+Follows step old new before after (Ok _) = IsStepOnto step new before after
+Follows step old new before after (Err NotAllowed) = (step ≡ None) × (new ≡ old) × (after ≡ before)
+Follows step old new before after (Err Memory) = Unit {0}

@@ -1,15 +1,17 @@
 //! A picoprocess as callers see it: its turns, and what it may do next.
-ghost use Rattle.std.specs.Prelude.{◌≡◌, ◌≤◌, [], length, Some, None, Err, IfOk, IfSome, IsErr, IsSome};
+ghost use Rattle.std.specs.Prelude.{◌≡◌, ◌≤◌, length, Some, None, Err, IfOk, IfSome, IsErr, IsSome};
 ghost use Rattle.kernel_model.specs.Script.{IsSoundScript};
 ghost use Rattle.world_model.specs.Node.{opening_node, can_run, is_born};
 ghost use Rattle.node_state.specs.declared.fault.TurnFault.TheVariants.{Memory as OutOfMemory, NotAllowed};
 ghost use Rattle.node_core.specs.Step.{step_of};
-ghost use Rattle.node_core.specs.Turns.{IsTurn, IsRefusal};
+ghost use Rattle.node_core.specs.Turns.{IsTurn, IsRefusal, Turned};
+ghost use Rattle.node_core.specs.declared.turn.Input.TheVariants as inputs;
 
 use crate::turn::{Input, Turn};
 use crate::unspent::Unspent;
 use node_state::TurnFault;
 use pico_base::{Memory, Node, Script};
+use rpc_frame::Frame;
 use std::alloc::Global;
 use std::marker::Model;
 
@@ -86,25 +88,56 @@ impl PicoNode {
         ensures step { IfSome self.old (λ n. IsSome (step_of script.now n input) → (result ≡ Err NotAllowed) → ⊥) }
         ensures no_step { IfSome self.old (λ n. step_of script.now n input ≡ None → IsErr result) }
     {
+        let mut made = Turn::empty(self.alloc);
+        match input {
+            Input::Run => self.run_onto(script, &mut made)?,
+            Input::Take { from, frame } => self.take_onto(script, from, frame, &mut made)?,
+        }
+        Ok(made)
+    }
+
+    /// Starts the process's next call, as `turn` does, for one who has many turns made: what the turn makes follows
+    /// behind what was made before. Its faults are those of `turn`. After NotAllowed nothing is changed, and after
+    /// Memory nothing is said of what was made.
+    pub fn run_onto(&mut self, script: &Script, made: &mut Turn) -> Result<(), TurnFault>
+        requires sound { IsSoundScript script.now }
+        ensures { Turned script.now self.old inputs.Run self.new made.old made.new result }
+    {
         let Some(node) = &mut self.state else {
             return Err(TurnFault::Memory);
         };
-        let turned = node.turn(self.alloc, script, input);
+        let turned = node.run_onto(self.alloc, script, made);
+        self.settle(turned)
+    }
+
+    /// Takes a frame, as `turn` does, for one who has many turns made: as above.
+    pub fn take_onto(
+        &mut self,
+        script: &Script,
+        from: Node,
+        frame: Frame,
+        made: &mut Turn,
+    ) -> Result<(), TurnFault>
+        requires sound { IsSoundScript script.now }
+        ensures { Turned script.now self.old (inputs.Take from frame) self.new made.old made.new result }
+    {
+        let Some(node) = &mut self.state else {
+            return Err(TurnFault::Memory);
+        };
+        let turned = node.take_onto(self.alloc, script, from, frame, made);
+        self.settle(turned)
+    }
+
+    /// The turn is over. After a refusal for want of memory the node is spent.
+    fn settle(&mut self, turned: Result<(), TurnFault>) -> Result<(), TurnFault>
+        ensures same { result ≡ turned }
+        ensures memory { turned ≡ Err OutOfMemory → self.new ≡ None }
+        ensures left { (turned ≡ Err OutOfMemory → ⊥) → self.new ≡ self.old }
+    {
         if let Err(TurnFault::Memory) = turned {
             self.spend();
         }
         turned
-    }
-
-    /// Hands back the lists of a turn once they are empty, and the next turn has their room. The node stays as it is.
-    pub fn reuse(&mut self, turn: Turn)
-        requires entries { turn.entries ≡ [] }
-        requires sends { turn.sends ≡ [] }
-        ensures { self.new ≡ self.old }
-    {
-        if let Some(node) = &mut self.state {
-            node.reuse(turn);
-        }
     }
 
     /// The node is spent. This stands apart because a function clears the room of all its locals as it begins, and the

@@ -1,11 +1,9 @@
-//! The rule of a turn, by what the node is handed.
+//! The rule of a frame, by its kind.
 ghost use Rattle.kernel_model.specs.Script.{IsSoundScript};
 ghost use Rattle.world_model.specs.Turn.{take_frame};
 ghost use Rattle.node_state.specs.State.{node_of};
 ghost use Rattle.node_state.specs.Turning.{IsFresh, Turns};
-ghost use Rattle.node_core.specs.Step.{step_of};
 
-use crate::turn::Input;
 use node_ends::{take_exit, take_left};
 use node_moves::{
     take_checkpoint, take_give_back, take_grant, take_leaving, take_recall, take_recall_all,
@@ -13,13 +11,13 @@ use node_moves::{
 };
 use node_numbers::{take_lease, take_lease_ask, take_placed};
 use node_routes::{take_ask, take_bounce, take_forward, take_request};
-use node_starts::{run, take_answer, take_not_owner};
+use node_starts::{take_answer, take_not_owner};
 use node_state::{Growing, TurnFault};
 use pico_base::{Node, Script};
 use rpc_frame::Frame;
 
 /// The rule of a frame.
-fn take_frame(
+pub(crate) fn take_frame(
     step: &mut Growing,
     script: &Script,
     from: Node,
@@ -57,18 +55,5 @@ fn take_frame(
         Frame::RecallAll => take_recall_all(step, from),
         Frame::Left { parcel } => take_left(step, script, from, parcel),
         Frame::ExitTo { parcel } => take_exit(step, from, parcel),
-    }
-}
-
-/// The turn of an input.
-#[tactic(auto, unfolding(crate::specs::Step::step_of))]
-pub(crate) fn turn_of(step: &mut Growing, script: &Script, input: Input) -> Result<(), TurnFault>
-    requires fresh { IsFresh step.old }
-    requires sound { IsSoundScript script.now }
-    ensures { Turns (step_of script.now (node_of step.old.node) input) step.old step.new result }
-{
-    match input {
-        Input::Run => run(step, script),
-        Input::Take { from, frame } => take_frame(step, script, from, frame),
     }
 }

@@ -1,15 +1,20 @@
 //! A node that isn't spent, between turns.
-ghost use Rattle.std.specs.Prelude.{◌≡◌, [], IfOk};
+ghost use Rattle.std.specs.Prelude.{◌≡◌, ◌++◌, [], Err, IfOk, OnOk};
 ghost use Rattle.kernel_model.specs.Script.{IsSoundScript};
 ghost use Rattle.world_model.specs.Node.{opening_node, can_run, is_born};
 ghost use Rattle.node_state.specs.State.{node_of, step_of as steps_of};
 ghost use Rattle.node_state.specs.Turning.{IsFresh};
-ghost use Rattle.node_core.specs.Step.{step_as, step_of, Steps};
+ghost use Rattle.node_state.specs.declared.fault.TurnFault.TheVariants.{Memory as OutOfMemory};
+ghost use Rattle.world_model.specs.Starting.{run};
+ghost use Rattle.world_model.specs.Turn.{take_frame};
+ghost use Rattle.node_core.specs.Step.{IsOnto, Follows};
 
-use crate::rules::turn_of;
-use crate::turn::{Input, Turn};
+use crate::rules::take_frame;
+use crate::turn::Turn;
+use node_starts::run;
 use node_state::{Growing, Sends, State, TurnFault};
 use pico_base::{Entries, Memory, Node, Script};
+use rpc_frame::Frame;
 use std::alloc::Global;
 use std::marker::Model;
 use std::mem;
@@ -33,15 +38,81 @@ impl Model for Unspent {
     ghost invariant = { λ u. IsFresh u.step };
 }
 
-/// What was done in the turn, after which the next one may begin.
-fn finish(step: &mut Growing, alloc: Global) -> Turn
-    ensures fresh { IsFresh step.new }
-    ensures node { node_of step.new.node ≡ node_of step.old.node }
-    ensures turn { steps_of step.old ≡ step_as (node_of step.old.node) result }
+/// What was made follows behind what is there, and its list is left empty.
+fn move_behind<T: Drop>(made: &mut Vec<T>, there: &mut Vec<T>) -> Result<(), Memory>
+    ensures moved { OnOk result (there.new.items ≡ there.old.items ++ made.old.items) }
+    ensures emptied { OnOk result (made.new.items ≡ []) }
 {
-    let entries = mem::replace(&mut step.entries, Entries::new(alloc));
-    let sends = mem::replace(&mut step.sends, Sends::new(alloc));
-    Turn { entries, sends }
+    if there.is_empty() {
+        mem::swap(made, there);
+    } else {
+        there.append(made)?;
+    }
+    Ok(())
+}
+
+/// What was done in the turn follows behind what was made before, after which the next turn may begin.
+fn hand_over(step: &mut Growing, made: &mut Turn) -> Result<(), Memory>
+    ensures fresh { OnOk result (IsFresh step.new) }
+    ensures handed { OnOk result (IsOnto (steps_of step.old) (node_of step.new.node) made.old made.new) }
+{
+    move_behind(step.entries.as_mut_vec(), made.entries.as_mut_vec())?;
+    move_behind(step.sends.as_mut_vec(), made.sends.as_mut_vec())
+}
+
+/// The run rule, and what is done is handed over.
+fn run_growing(step: &mut Growing, script: &Script, made: &mut Turn) -> Result<(), TurnFault>
+    requires fresh { IsFresh step.old }
+    requires sound { IsSoundScript script.now }
+    ensures fresh { (result ≡ Err OutOfMemory → ⊥) → IsFresh step.new }
+    ensures turned { Follows (run script.now (node_of step.old.node)) (node_of step.old.node) (node_of step.new.node)
+        made.old made.new result }
+{
+    run(step, script)?;
+    hand_over(step, made)?;
+    Ok(())
+}
+
+/// The rule of a frame, and what is done is handed over.
+fn take_growing(
+    step: &mut Growing,
+    script: &Script,
+    from: Node,
+    frame: Frame,
+    made: &mut Turn,
+) -> Result<(), TurnFault>
+    requires fresh { IsFresh step.old }
+    requires sound { IsSoundScript script.now }
+    ensures fresh { (result ≡ Err OutOfMemory → ⊥) → IsFresh step.new }
+    ensures turned { Follows (take_frame script.now (node_of step.old.node) from frame) (node_of step.old.node)
+        (node_of step.new.node) made.old made.new result }
+{
+    take_frame(step, script, from, frame)?;
+    hand_over(step, made)?;
+    Ok(())
+}
+
+/// After a refusal for want of memory, what was done in the turn is dropped.
+#[cold]
+#[inline(never)]
+fn drop_done(step: &mut Growing, alloc: Global)
+    ensures { IsFresh step.new }
+{
+    step.entries = Entries::new(alloc);
+    step.sends = Sends::new(alloc);
+}
+
+/// The turn is over, and the next one may begin.
+fn settle(step: &mut Growing, alloc: Global, turned: Result<(), TurnFault>) -> Result<(), TurnFault>
+    requires fresh { (turned ≡ Err OutOfMemory → ⊥) → IsFresh step.old }
+    ensures fresh { IsFresh step.new }
+    ensures same { result ≡ turned }
+    ensures left { (turned ≡ Err OutOfMemory → ⊥) → step.new ≡ step.old }
+{
+    if let Err(TurnFault::Memory) = turned {
+        drop_done(step, alloc);
+    }
+    turned
 }
 
 impl Unspent {
@@ -72,30 +143,34 @@ impl Unspent {
         self.step.node.is_born()
     }
 
-    /// Takes the emptied lists of a turn for the next one.
-    pub(crate) fn reuse(&mut self, turn: Turn)
-        requires entries { turn.entries ≡ [] }
-        requires sends { turn.sends ≡ [] }
-        ensures { self.new ≡ self.old }
-    {
-        let Turn { entries, sends } = turn;
-        self.step.entries = entries;
-        self.step.sends = sends;
-    }
-
-    /// Makes the turn of an input. After a refusal for want of memory nothing is said of the node.
-    pub(crate) fn turn(
+    /// The process starts its next call, and what that makes follows behind what was made before. After a refusal for
+    /// want of memory nothing is said of the node or of what was made.
+    pub(crate) fn run_onto(
         &mut self,
         alloc: Global,
         script: &Script,
-        input: Input,
-    ) -> Result<Turn, TurnFault>
+        made: &mut Turn,
+    ) -> Result<(), TurnFault>
         requires sound { IsSoundScript script.now }
-        ensures { Steps (step_of script.now self.old input) self.old self.new result }
+        ensures { Follows (run script.now self.old) self.old self.new made.old made.new result }
     {
-        let made = turn_of(&mut self.step, script, input);
-        let turn = finish(&mut self.step, alloc);
-        made?;
-        Ok(turn)
+        let turned = run_growing(&mut self.step, script, made);
+        settle(&mut self.step, alloc, turned)
+    }
+
+    /// A frame is taken, and what that makes follows as above.
+    pub(crate) fn take_onto(
+        &mut self,
+        alloc: Global,
+        script: &Script,
+        from: Node,
+        frame: Frame,
+        made: &mut Turn,
+    ) -> Result<(), TurnFault>
+        requires sound { IsSoundScript script.now }
+        ensures { Follows (take_frame script.now self.old from frame) self.old self.new made.old made.new result }
+    {
+        let turned = take_growing(&mut self.step, script, from, frame, made);
+        settle(&mut self.step, alloc, turned)
     }
 }

@@ -1,6 +1,8 @@
 //! A list that contracts see as a list of its items.
 ghost use Rattle.std.specs.Prelude.{◌≡◌, [], ◌∷◌, ◌++◌, length, IfOk, OnOk, OnErr};
+ghost use Rattle.std.specs.Borrow.{sem};
 ghost use Rattle.std.specs.Cmp.Lexicographic.{pointwise, lists_per, lists_equiv};
+ghost use Rattle.pico_base.specs.Lending.{lends_items};
 
 use crate::Memory;
 use std::alloc::Global;
@@ -58,6 +60,14 @@ impl<T> Sequence<T> {
         ensures { result.now ≡ self.now }
     {
         self.items.as_slice()
+    }
+
+    /// The items, to be changed. It takes no memory.
+    pub fn as_mut_vec(&mut self) -> &mut Vec<T>
+        ensures* writes_back { sem 𝓛 (lends_items T.row self.entry result) }
+        ensures value { result.now.items ≡ self.old }
+    {
+        &mut self.items
     }
 
     /// How many items there are.

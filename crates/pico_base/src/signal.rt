@@ -1,5 +1,5 @@
 //! Signals, sets of them, and what a process does about them.
-ghost use Rattle.std.specs.Prelude.{◌≡◌, true, false};
+ghost use Rattle.std.specs.Prelude.{◌≡◌, true, false, IsTrue, ◌↔◌};
 ghost use Rattle.pico_base.specs.Signal.{at, put_at, everywhere, signal_from};
 
 use std::marker::Model;
@@ -151,6 +151,13 @@ impl SigSet {
         SigSet {
             members: PerSignal::all(false),
         }
+    }
+
+    /// Whether no signal is in the set.
+    pub fn is_empty(self) -> bool
+        ensures { IsTrue result ↔ (self ≡ everywhere false) }
+    {
+        self == SigSet::empty()
     }
 
     /// Whether the signal is in the set.

@@ -12,7 +12,7 @@ use Rattle.world_model.specs.World.{World, node_at, stream, with_stream, after_t
 use Rattle.node_core.specs.declared.turn.Input.TheVariants as inputs
 use Rattle.node_core.specs.Step.{step_of}
 use Rattle.world_core.specs.Inbox.{IsTaken}
-use Rattle.world_core.proofs.Wholes.{step_of-run, step_of-take}
+use Rattle.node_core.proofs.Turned.{step_of-run, step_of-take}
 
 turn_some : (w : World) (p : ℕ) (turn : Option Step) → IsSome (after_turn w p turn) → IsSome turn
 turn_some w p None some = some

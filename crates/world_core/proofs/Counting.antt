@@ -1,13 +1,12 @@
 -- How many events of each node may come next, as nodes and streams change.
 use Rattle.std.proofs.Common.{◌≡◌, ℕ, ◌+◌, ◌-◌, ◌<◌, zero, suc, Bool, List, [], ◌∷◌, ◌++◌, length, set, take, get_or, cond, Option, Some, None, IfSome, IsSome, refl, sym, ap, subst, ◌∙◌, arith, get_or-set_same, length-set}
-use Rattle.std.proofs.lemmas.List.{get_or_read, take_more}
+use Rattle.std.proofs.lemmas.List.{get_or_read, set-get_or, set-set, take_more}
 use Rattle.rpc_frame.specs.declared.frame.Frame.{Frame}
 use Rattle.world_model.specs.Node.{Node, is_born, can_run}
 use Rattle.world_model.specs.World.{Streams}
 use Rattle.world_core.specs.Counts.{events_at, counts_of}
 use Rattle.world_core.specs.Inbox.{senders}
 use Rattle.world_core.specs.State.{AreWhole}
-use Rattle.world_core.proofs.Lists.{set-again}
 use Rattle.world_core.proofs.Wholes.{whole_at}
 
 pub counts-within : (ns : List (Option Node)) (rows : Streams) (k : ℕ) → k < length ns → k < length rows
@@ -94,21 +93,32 @@ counted-sent ns rows k count counts n new read counted lt lt' is_node is_row is_
     is_count ∙ ap (events_at n) row ∙ ap (λ (m : Option Node). events_at m new) (get_or_read ns k n lt is_node None) in
     ap (λ (l : List ℕ). set l k count) counted ∙ ap (set (counts_of ns rows) k) here ∙ sym (counts-row ns rows k new)
 
--- a node had its turn, and its count is taken anew
-pub counted-turn : (ns : List (Option Node)) (rows : Streams) (p k count : ℕ) (counts : List ℕ) (new n : Option Node)
+-- the count of a node whose own isn't known is taken anew
+pub counted-anew : (ns : List (Option Node)) (rows : Streams) (p k count : ℕ) (counts : List ℕ) (n : Option Node)
     (row : List (List Frame))
     → ((x : ℕ) → set counts (p - 1) x ≡ set (counts_of ns rows) (p - 1) x) → k ≡ p - 1
-    → k < length ns → k < length rows → n ≡ get_or (set ns k new) k n → row ≡ get_or rows k row
-    → count ≡ events_at n row → set counts k count ≡ counts_of (set ns k new) rows
-counted-turn ns rows p k count counts new n row others place lt lt' is_node is_row is_count =
-    let node : n ≡ new = is_node ∙ get_or-set_same ns k new n lt in
-    let here : count ≡ events_at new (get_or rows k []) =
-    is_count ∙ ap (λ (m : Option Node). events_at m row) node
-    ∙ ap (events_at new) (get_or_read rows k row lt' is_row [])
+    → k < length ns → k < length rows → n ≡ get_or ns k n → row ≡ get_or rows k row
+    → count ≡ events_at n row → set counts k count ≡ counts_of ns rows
+counted-anew ns rows p k count counts n row others place lt lt' is_node is_row is_count =
+    let here : count ≡ get_or (counts_of ns rows) k 0 =
+    is_count ∙ ap (λ (m : Option Node). events_at m row) (get_or_read ns k n lt is_node None)
+    ∙ ap (events_at (get_or ns k None)) (get_or_read rows k row lt' is_row [])
+    ∙ sym (counts-at ns rows k lt lt')
     in
     ap (λ (i : ℕ). set counts i count) place ∙ others count
-    ∙ ap (λ (i : ℕ). set (counts_of ns rows) i count) (sym place) ∙ ap (set (counts_of ns rows) k) here
-    ∙ sym (counts-node ns rows k new)
+    ∙ ap (λ (i : ℕ). set (counts_of ns rows) i count) (sym place)
+    ∙ ap (set (counts_of ns rows) k) here ∙ set-get_or (counts_of ns rows) k 0
+
+-- a node had its turn
+pub others-turned : (ns : List (Option Node)) (rows : Streams) (p k x : ℕ) (counts : List ℕ) (new : Option Node)
+    → ((y : ℕ) → set counts (p - 1) y ≡ set (counts_of ns rows) (p - 1) y) → k ≡ p - 1
+    → set counts (p - 1) x ≡ set (counts_of (set ns k new) rows) (p - 1) x
+others-turned ns rows p k x counts new others place =
+    let old = counts_of ns rows in
+    let here = events_at new (get_or rows k []) in
+    others x ∙ ap (λ (i : ℕ). set old i x) (sym place) ∙ sym (set-set old k here x)
+    ∙ ap (λ (i : ℕ). set (set old k here) i x) place
+    ∙ sym (ap (λ (l : List ℕ). set l (p - 1) x) (counts-node ns rows k new))
 
 -- a frame was taken from what is on the way to a node
 pub others-counted : (ns : List (Option Node)) (rows : Streams) (p k x : ℕ) (counts : List ℕ)
@@ -118,7 +128,7 @@ pub others-counted : (ns : List (Option Node)) (rows : Streams) (p k x : ℕ) (c
 others-counted ns rows p k x counts row counted place =
     let old = counts_of ns rows in
     ap (λ (l : List ℕ). set l (p - 1) x) counted ∙ ap (λ (i : ℕ). set old i x) (sym place)
-    ∙ sym (set-again old k (events_at (get_or ns k None) row) x)
+    ∙ sym (set-set old k (events_at (get_or ns k None) row) x)
     ∙ ap (λ (i : ℕ). set (set old k (events_at (get_or ns k None) row)) i x) place
     ∙ sym (ap (λ (l : List ℕ). set l (p - 1) x) (counts-row ns rows k row))
 

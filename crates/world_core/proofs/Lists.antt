@@ -1,5 +1,5 @@
 -- Lists: elements of lists joined end to end, filters, and numbers in order.
-use Rattle.std.proofs.Common.{◌≡◌, ℕ, ◌+◌, ◌-◌, ◌<◌, ◌≤◌, zero, suc, Bool, true, false, List, [], ◌∷◌, ◌++◌, length, map, set, get_or, slice_get, cond, Some, None, refl, sym, ap, ◌∙◌, arith}
+use Rattle.std.proofs.Common.{◌≡◌, ℕ, ◌+◌, ◌-◌, ◌<◌, ◌≤◌, zero, suc, Bool, true, false, List, [], ◌∷◌, ◌++◌, length, map, get_or, slice_get, cond, Some, None, refl, sym, ap, ◌∙◌, arith}
 use Rattle.std.specs.List.{filter, flat_map, count_by}
 use Rattle.std.proofs.lemmas.List.Sums.{sum_by-cons}
 use Rattle.world_model.specs.World.{numbers}
@@ -120,9 +120,3 @@ pub joined_next : {X : Type 0} (f : ℕ → List X) (first count i : ℕ) → 0 
 joined_next f first count i lt past =
     ap (λ (l : List ℕ). slice_get (flat_map f l) i) (numbers-next first count lt)
     ∙ slice_get-right (f first) (flat_map f (numbers (first + 1) (count - 1))) i past
-
--- of two elements put at one place, the second stays
-pub set-again : {X : Type 0} (xs : List X) (k : ℕ) (x y : X) → set (set xs k x) k y ≡ set xs k y
-set-again [] k x y = refl
-set-again (z ∷ xs) zero x y = refl
-set-again {X} (z ∷ xs) (suc k) x y = ap (λ (l : List X). z ∷ l) (set-again xs k x y)

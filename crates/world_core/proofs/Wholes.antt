@@ -1,5 +1,5 @@
 -- Nodes none of which is spent, and what a turn of one of them makes.
-use Rattle.std.proofs.Common.{◌≡◌, ℕ, ◌-◌, ◌<◌, suc, zero, Bool, false, List, [], ◌∷◌, ◌++◌, length, map, set, get_or, slice_get, Option, Some, None, IsSome, IfSome, refl, sym, ap, subst, ◌∙◌, arith, get_or-set_same, length-set}
+use Rattle.std.proofs.Common.{◌≡◌, ℕ, ◌-◌, ◌<◌, suc, zero, Bool, false, List, [], ◌∷◌, ◌++◌, length, map, set, get_or, slice_get, Option, Some, None, IsSome, IfSome, refl, sym, ap, subst, ◌∙◌, arith, length-set}
 use Rattle.std.proofs.lemmas.List.{get_or_read, length-map, map-set}
 use Rattle.pico_base.specs.declared.script.Script.{Script}
 use Rattle.pico_base.specs.declared.script.Event.{Event}
@@ -8,7 +8,6 @@ use Rattle.pico_base.specs.declared.reply.Entry.{Entry}
 use Rattle.rpc_frame.specs.declared.frame.Frame.{Frame}
 use Rattle.world_model.specs.Node.{Node, can_run, is_born}
 use Rattle.world_model.specs.Step.{Step}
-use Rattle.world_model.specs.Starting.{run}
 use Rattle.world_model.specs.Turn.{take_frame}
 use Rattle.world_model.specs.World.{World, Streams, node_at, stream, with_stream, with_all_sent, after_turn, runs_at, takes_at, is_run_enabled, is_take_enabled}
 use Rattle.node_core.specs.declared.turn.Input.{Input}
@@ -16,11 +15,9 @@ use Rattle.node_core.specs.declared.turn.Input.TheVariants as inputs
 use Rattle.node_core.specs.declared.turn.Turn.{Turn}
 use Rattle.world_core.specs.declared.state.State.{State}
 use Rattle.world_core.specs.Inbox.{IsTaken, may_take}
-use Rattle.node_core.specs.Step.{step_of}
-use Rattle.node_core.specs.Turns.{IsTurn}
-use Rattle.world_core.specs.Counts.{counts_of}
-use Rattle.world_core.proofs.Lists.{set-again}
-use Rattle.world_core.specs.State.{whole, AreWhole, AreSeats, AreCounted, world_of, IsAfterTurn, IsStep}
+use Rattle.node_core.specs.Turns.{IsTurn, IsTurnOnto}
+use Rattle.node_core.proofs.Turned.{step_of-run, step_of-take}
+use Rattle.world_core.specs.State.{whole, AreWhole, AreSeats, AreCounted, world_of, IsSent, IsAfterTurn, IsStep}
 
 -- of nodes that are all there, none is left out
 pub whole-map : (xs : List Node) → whole (map Some xs) ≡ xs
@@ -105,7 +102,7 @@ pub turn_taken : (s next : State) (p k : ℕ) (input : Input) (turn : Turn) (old
     → IsTurn s.script old input new turn → next.script ≡ s.script
     → next.nodes.items ≡ set s.nodes.items k new
     → next.inboxes.items ≡ with_all_sent p s.inboxes.items turn.sends
-    → next.journal ≡ s.journal ++ turn.entries → AreCounted next → IsAfterTurn s p input next
+    → next.made.entries ≡ s.made.entries ++ turn.entries → AreCounted next → IsAfterTurn s p input next
 turn_taken s next p k input turn None new all place lt old_is is_turn script nodes streams journal counted =
     absurd is_turn
 turn_taken s next p k input turn (Some n) None all place lt old_is is_turn script nodes streams journal counted =
@@ -124,28 +121,26 @@ turn_taken s next p k input turn (Some n) (Some m) all place lt old_is is_turn s
           ap (λ (t : Option Step). after_turn (world_of s) p t) is_turn
           ∙ ap (λ (w : World). Some w)
           (same_world s.script next.script (set (whole s.nodes.items) (p - 1) m) (whole next.nodes.items)
-          (with_all_sent p s.inboxes.items turn.sends) next.inboxes.items (s.journal ++ turn.entries) next.journal
-          (sym script) (sym (ap whole there ∙ whole-set s.nodes.items (p - 1) m all)) (sym streams) (sym journal));
+          (with_all_sent p s.inboxes.items turn.sends) next.inboxes.items (s.made.entries ++ turn.entries)
+          next.made.entries (sym script)
+          (sym (ap whole there ∙ whole-set s.nodes.items (p - 1) m all)) (sym streams) (sym journal));
     }
 
--- the same where the turn's lists were emptied and handed back, which leaves the node as it is
-pub turn_given : (s next : State) (p k : ℕ) (input : Input) (turn : Turn) (old new kept read : Option Node)
-    (entries : List Entry) (sends : List (ℕ × Frame)) (ns : List (Option Node))
+-- The same where the turn's entries follow in the journal, and then its frames go their ways.
+pub turn_handed : (s mid next : State) (p k : ℕ) (input : Input) (before : Turn) (old new : Option Node)
     → AreWhole s.nodes.items → k ≡ p - 1 → k < length s.nodes.items → old ≡ get_or s.nodes.items k old
-    → IsTurn s.script old input new turn → next.script ≡ s.script
-    → kept ≡ get_or (set s.nodes.items k new) k read → next.nodes.items ≡ set (set s.nodes.items k new) k kept
-    → entries ≡ turn.entries → next.journal ≡ s.journal ++ entries
-    → sends ≡ turn.sends → next.inboxes.items ≡ with_all_sent p s.inboxes.items sends
-    → ns ≡ set s.nodes.items k new → next.counts ≡ counts_of ns next.inboxes.items → IsAfterTurn s p input next
-turn_given s next p k input turn old new kept read entries sends ns all place lt old_is is_turn script kept_is nodes
-    entries_are journal sends_are sent ns_are counted =
-    let same : kept ≡ new = kept_is ∙ get_or-set_same s.nodes.items k new read lt in
-    let after : next.nodes.items ≡ set s.nodes.items k new =
-    nodes ∙ set-again s.nodes.items k new kept ∙ ap (set s.nodes.items k) same in
-    turn_taken s next p k input turn old new all place lt old_is is_turn script after
-    (sent ∙ ap (with_all_sent p s.inboxes.items) sends_are)
-    (journal ∙ ap (λ (l : List Entry). s.journal ++ l) entries_are)
-    (counted ∙ ap (λ (l : List (Option Node)). counts_of l next.inboxes.items) (ns_are ∙ sym after))
+    → before.entries ≡ s.made.entries → before.sends ≡ []
+    → IsTurnOnto s.script old input new before mid.made
+    → mid.script ≡ s.script → mid.nodes.items ≡ set s.nodes.items k new → mid.inboxes ≡ s.inboxes
+    → IsSent mid p next → IsAfterTurn s p input next
+turn_handed s mid next p k input before old new all place lt old_is entries no_sends onto script nodes inboxes sent =
+    turn_taken s next p k input onto.turn old new all place lt old_is onto.taken (sent.script ∙ script)
+    (ap (λ (v : _). v.items) sent.nodes ∙ nodes)
+    (sent.streams ∙ ap (λ (v : _). with_all_sent p v.items mid.made.sends) inboxes
+    ∙ ap (with_all_sent p s.inboxes.items)
+    (onto.sends ∙ ap (λ (l : List (ℕ × Frame)). l ++ onto.turn.sends) no_sends))
+    (sent.entries ∙ onto.entries ∙ ap (λ (l : List Entry). l ++ onto.turn.entries) entries)
+    sent.counted
 
 -- a turn leaves its node there
 pub seats-turn : (ns : List (Option Node)) (streams : Streams) (k : ℕ) (script : Script) (input : Input) (turn : Turn)
@@ -161,17 +156,7 @@ seats-turn ns streams k script input turn (Some n) (Some m) seats is_turn =
       square = seats.square;
     }
 
--- the step by an input is that of the call due,
-pub step_of-run : (script : Script) (n : Node) → step_of script n inputs.Run ≡ run script n
-unfolding step_of
-step_of-run script n = refl
-
--- or of the frame
-pub step_of-take : (script : Script) (n : Node) (from : ℕ) (frame : Frame)
-    → step_of script n (inputs.Take from frame) ≡ take_frame script n from frame
-unfolding step_of
-step_of-take script n from frame = refl
-
+-- a turn without a frame is a run
 pub step_run : (s next : State) (p : ℕ) → IsAfterTurn s p inputs.Run next → IsStep s (events.Run p) next
 step_run s next p turned = record {
   counted = turned.counted;
@@ -184,7 +169,7 @@ step_run s next p turned = record {
 -- the frame was taken, and then the node had its turn
 pub step_take : (s mid next : State) (p from k : ℕ) (frame : Frame) (row new : List (List Frame))
     → k ≡ p - 1 → k < length s.inboxes.items → row ≡ get_or s.inboxes.items k row → IsTaken row from (Some frame) new
-    → mid.script ≡ s.script → mid.nodes ≡ s.nodes → mid.journal ≡ s.journal
+    → mid.script ≡ s.script → mid.nodes ≡ s.nodes → mid.made.entries ≡ s.made.entries
     → mid.inboxes.items ≡ set s.inboxes.items k new
     → IsAfterTurn mid p (inputs.Take from frame) next → IsStep s (events.Take p from) next
 step_take s mid next p from k frame row new place lt row_is taken script nodes journal inboxes turned =
@@ -204,7 +189,7 @@ step_take s mid next p from k frame row new place lt row_is taken script nodes j
     let between : world_of mid ≡ record (world_of s) { streams = with_stream streams p from fs } =
     same_world mid.script s.script (whole mid.nodes.items) (whole s.nodes.items) mid.inboxes.items
     (with_stream streams p from fs)
-    mid.journal s.journal script (ap (λ (v : _). whole v.items) nodes) left journal in
+    mid.made.entries s.made.entries script (ap (λ (v : _). whole v.items) nodes) left journal in
     record {
       counted = turned.counted;
       nodes = turned.nodes;
@@ -227,7 +212,7 @@ run_steps s next e p is turned = subst (λ (x : Event). IsStep s x next) (sym is
 pub take_steps : (s mid next : State) (e : Event) (p from k : ℕ) (frame : Frame) (row new : List (List Frame))
     → e ≡ events.Take p from → k ≡ p - 1 → k < length s.inboxes.items → row ≡ get_or s.inboxes.items k row
     → IsTaken row from (Some frame) new
-    → mid.script ≡ s.script → mid.nodes ≡ s.nodes → mid.journal ≡ s.journal
+    → mid.script ≡ s.script → mid.nodes ≡ s.nodes → mid.made.entries ≡ s.made.entries
     → mid.inboxes.items ≡ set s.inboxes.items k new
     → IsAfterTurn mid p (inputs.Take from frame) next → IsStep s e next
 take_steps s mid next e p from k frame row new is place lt row_is taken script nodes journal inboxes turned =

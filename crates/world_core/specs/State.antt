@@ -3,7 +3,7 @@ use Rattle.std.specs.Prelude.{◌≡◌, ℕ, ◌-◌, ◌<◌, ◌≤◌, List,
 use Rattle.pico_base.specs.declared.script.Event.{Event}
 use Rattle.world_model.specs.Node.{Node}
 use Rattle.kernel_model.specs.Script.{IsSoundScript}
-use Rattle.world_model.specs.World.{World, Streams, node_at, after_turn, step}
+use Rattle.world_model.specs.World.{World, Streams, node_at, with_all_sent, after_turn, step}
 use Rattle.world_model.specs.Run.{IsReachableWorld}
 use Rattle.node_core.specs.declared.turn.Input.{Input}
 use Rattle.node_core.specs.Step.{step_of}
@@ -20,7 +20,12 @@ abbrev pub AreWhole : List (Option Node) → Type 0
 AreWhole nodes = nodes ≡ map Some (whole nodes)
 
 abbrev pub world_of : State → World
-world_of s = record { script = s.script; nodes = whole s.nodes.items; streams = s.inboxes.items; journal = s.journal }
+world_of s = record {
+  script = s.script;
+  nodes = whole s.nodes.items;
+  streams = s.inboxes.items;
+  journal = s.made.entries;
+}
 
 -- each node has a stream from each
 abbrev pub IsSquare : Streams → Type 0
@@ -48,6 +53,14 @@ pub record IsAlive (s : State) : Type 0 where
   pub nodes : AreWhole s.nodes.items
   pub sound : IsSoundScript s.script
   pub reachable : IsReachableWorld s.script (world_of s)
+
+-- the frames that the turn of a node made have gone their ways, and nodes, script and journal are as they were
+pub record IsSent (s : State) (p : ℕ) (next : State) : Type 0 where
+  pub counted : AreCounted next
+  pub script : next.script ≡ s.script
+  pub nodes : next.nodes ≡ s.nodes
+  pub entries : next.made.entries ≡ s.made.entries
+  pub streams : next.inboxes.items ≡ with_all_sent p s.inboxes.items s.made.sends
 
 -- a node had its turn
 pub record IsAfterTurn (s : State) (p : ℕ) (input : Input) (next : State) : Type 0 where

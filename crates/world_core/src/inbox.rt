@@ -68,10 +68,10 @@ impl Inbox {
         ensures count { result ≡ length (senders is_born self.now) }
         ensures few { result ≤ 32 }
     {
-        if is_born {
-            self.filled.count_ones()
-        } else if self.filled == 0 {
+        if self.filled == 0 {
             0
+        } else if is_born {
+            self.filled.count_ones()
         } else {
             self.checkpoints() as u32
         }

@@ -1,5 +1,5 @@
 //! The world that isn't spent: its nodes, their inboxes and the journal.
-ghost use Rattle.std.specs.Prelude.{◌≡◌, ◌↔◌, ◌≤◌, ◌-◌, [], ◌++◌, length, map, replicate, true, Some, slice_get, ◌+◌, IfOk, OnOk, IfSome, IsSome, IsTrue};
+ghost use Rattle.std.specs.Prelude.{◌≡◌, ◌↔◌, ◌≤◌, ◌-◌, [], ◌++◌, length, map, replicate, true, Some, slice_get, ◌+◌, IfOk, OnOk, IsOk, IfSome, IsSome, IsTrue};
 ghost use Rattle.std.specs.List.{flat_map};
 ghost use Rattle.kernel_model.specs.Script.{IsSoundScript};
 ghost use Rattle.world_model.specs.Node.{opening_node};
@@ -8,27 +8,28 @@ ghost use Rattle.world_model.specs.Run.{IsAtRest};
 ghost use Rattle.world_model.specs.Schedule.{enabled_at, enabled_events, in_turn};
 ghost use Rattle.world_core.specs.Seat.{IsSeat};
 ghost use Rattle.node_core.specs.Step.{step_of};
-ghost use Rattle.node_core.specs.Turns.{IsTurn};
+ghost use Rattle.node_core.specs.Turns.{IsTurnOnto, IsAllowed};
+ghost use Rattle.node_core.specs.declared.turn.Input.TheVariants as inputs;
 ghost use Rattle.world_core.specs.Counts.{counts_of};
-ghost use Rattle.world_core.specs.State.{AreWhole, AreSeats, AreCounted, OthersAreCounted, world_of, IsAfterTurn, IsStep, IsAlive};
+ghost use Rattle.world_core.specs.State.{AreWhole, AreSeats, AreCounted, OthersAreCounted, world_of, IsSent, IsAfterTurn, IsStep, IsAlive};
 
 use crate::counts::{Counts, count_all, count_of};
 use crate::inbox::{Inbox, place};
-use node_core::{Input, PicoNode, Sends, Turn, TurnFault};
-use pico_base::{Entries, Entry, Event, Memory, Node, Script};
+use node_core::{PicoNode, Turn, TurnFault};
+use pico_base::{Event, Memory, Node, Script};
 use rpc_frame::Frame;
 use std::alloc::Global;
 use world_runs::enabled_events_have_steps;
 
-/// A world: nodes by number, what is on its way to each of them, how many events of each may come next, and what they
-/// carried out.
+/// A world: nodes by number, what is on its way to each of them, how many events of each may come next, and what the
+/// turns have made, whose entries are the journal and whose frames have all gone their ways between turns.
 #[derive(Drop)]
 pub(crate) struct State {
     pub(crate) script: Script,
     pub(crate) nodes: Vec<PicoNode>,
     pub(crate) inboxes: Vec<Inbox>,
     pub(crate) counts: Counts,
-    pub(crate) journal: Entries,
+    pub(crate) made: Turn,
 }
 
 /// How many nodes a script has.
@@ -64,28 +65,41 @@ fn empty_inboxes(alloc: Global, count: usize) -> Result<Vec<Inbox>, Memory>
     Ok(inboxes)
 }
 
-/// The turn of a node that the machine has a step for. After an `Err` the node is spent.
-fn take_turn(node: &mut PicoNode, script: &Script, input: Input) -> Result<Turn, Memory>
-    requires sound { IsSoundScript script.now }
-    requires allowed { IfSome node.old (λ n. IsSome (step_of script.now n input)) }
-    ensures { IfOk result (λ turn. IsTurn script.now node.old input node.new turn) }
+/// A turn that the machine has a step for was refused for want of memory alone.
+fn allowed(turned: Result<(), TurnFault>) -> Result<(), Memory>
+    requires { IsAllowed turned }
+    ensures { OnOk result (IsOk turned) }
 {
-    match node.turn(script, input) {
-        Ok(turn) => Ok(turn),
+    match turned {
+        Ok(()) => Ok(()),
         Err(TurnFault::Memory) => Err(Memory),
         Err(TurnFault::NotAllowed) => unreachable!(),
     }
 }
 
-/// The entries of a turn follow in the journal, and its list is left empty.
-fn add_entries(journal: &mut Entries, entries: &mut Vec<Entry>) -> Result<(), Memory>
-    ensures joined { OnOk result (journal.new ≡ journal.old ++ entries.old.items) }
-    ensures emptied { entries.new.items ≡ [] }
+/// The start of a node's next call, where the machine has a step for it. After an `Err` the node is spent.
+fn run_turn(node: &mut PicoNode, script: &Script, made: &mut Turn) -> Result<(), Memory>
+    requires sound { IsSoundScript script.now }
+    requires allowed { IfSome node.old (λ n. IsSome (step_of script.now n inputs.Run)) }
+    ensures { OnOk result (IsTurnOnto script.now node.old inputs.Run node.new made.old made.new) }
 {
-    for entry in entries.drain(..) {
-        journal.push(entry)?;
-    }
-    Ok(())
+    allowed(node.run_onto(script, made))
+}
+
+/// The taking of a frame by a node, where the machine has a step for it. After an `Err` the node is spent.
+fn take_turn(
+    node: &mut PicoNode,
+    script: &Script,
+    from: Node,
+    frame: Frame,
+    made: &mut Turn,
+) -> Result<(), Memory>
+    requires sound { IsSoundScript script.now }
+    requires allowed { IfSome node.old (λ n. IsSome (step_of script.now n (inputs.Take from frame))) }
+    ensures { OnOk result
+        (IsTurnOnto script.now node.old (inputs.Take from frame) node.new made.old made.new) }
+{
+    allowed(node.take_onto(script, from, frame, made))
 }
 
 /// A frame goes its way, behind those that its sender has sent to that node before. A frame to a node that there isn't
@@ -148,7 +162,7 @@ impl State {
             nodes,
             inboxes,
             counts,
-            journal: Entries::new(alloc),
+            made: Turn::empty(alloc),
         })
     }
 
@@ -284,20 +298,14 @@ impl State {
         self.count() == 0
     }
 
-    /// The node's turn: its entries follow in the journal, and its frames go their ways.
-    fn turn(&mut self, node: Node, input: Input) -> Result<(), Memory>
+    /// The node has had its turn: its events are counted anew, and its frames go their ways.
+    fn finish(&mut self, node: Node) -> Result<(), Memory>
         requires seats { AreSeats self.old.nodes.items self.old.inboxes.items }
-        requires sound { IsSoundScript self.old.script }
         requires there { node ≤ length self.old.nodes.items }
         requires counted { OthersAreCounted self.old node }
-        requires allowed { IfSome (node_at (world_of self.old) node) (λ n. IsSome (step_of self.old.script n input)) }
-        ensures { OnOk result (IsAfterTurn self.old node input self.new) }
+        ensures { OnOk result (IsSent self.old node self.new) }
     {
         let at = place(node);
-        let Turn { entries, sends } = take_turn(&mut self.nodes[at], &self.script, input)?;
-        let mut entries = entries.into_vec();
-        let mut sends = sends.into_vec();
-        add_entries(&mut self.journal, &mut entries)?;
         self.counts
             .set(at, count_of(&self.nodes[at], &self.inboxes[at]));
         send_all(
@@ -305,13 +313,44 @@ impl State {
             &mut self.inboxes,
             &mut self.counts,
             node,
-            &mut sends,
+            self.made.sends.as_mut_vec(),
+        )
+    }
+
+    /// The node's process starts its next call: the entries follow in the journal, and the frames go their ways.
+    fn run(&mut self, node: Node) -> Result<(), Memory>
+        requires seats { AreSeats self.old.nodes.items self.old.inboxes.items }
+        requires sound { IsSoundScript self.old.script }
+        requires there { node ≤ length self.old.nodes.items }
+        requires counted { OthersAreCounted self.old node }
+        requires allowed { IfSome (node_at (world_of self.old) node)
+            (λ n. IsSome (step_of self.old.script n inputs.Run)) }
+        ensures { OnOk result (IsAfterTurn self.old node inputs.Run self.new) }
+    {
+        self.made.sends.as_mut_vec().clear();
+        run_turn(&mut self.nodes[place(node)], &self.script, &mut self.made)?;
+        self.finish(node)
+    }
+
+    /// The node takes a frame: the entries follow in the journal, and the frames go their ways.
+    fn take(&mut self, node: Node, from: Node, frame: Frame) -> Result<(), Memory>
+        requires seats { AreSeats self.old.nodes.items self.old.inboxes.items }
+        requires sound { IsSoundScript self.old.script }
+        requires there { node ≤ length self.old.nodes.items }
+        requires counted { OthersAreCounted self.old node }
+        requires allowed { IfSome (node_at (world_of self.old) node)
+            (λ n. IsSome (step_of self.old.script n (inputs.Take from frame))) }
+        ensures { OnOk result (IsAfterTurn self.old node (inputs.Take from frame) self.new) }
+    {
+        self.made.sends.as_mut_vec().clear();
+        take_turn(
+            &mut self.nodes[place(node)],
+            &self.script,
+            from,
+            frame,
+            &mut self.made,
         )?;
-        self.nodes[at].reuse(Turn {
-            entries: Entries::from_vec(entries),
-            sends: Sends::from_vec(sends),
-        });
-        Ok(())
+        self.finish(node)
     }
 
     /// Carries out an event that may come next.
@@ -322,12 +361,12 @@ impl State {
     {
         enabled_events_have_steps();
         match event {
-            Event::Run(node) => self.turn(node, Input::Run),
+            Event::Run(node) => self.run(node),
             Event::Take { node, from } => {
                 let Some(frame) = self.inboxes[place(node)].take(from) else {
                     unreachable!()
                 };
-                self.turn(node, Input::Take { from, frame })
+                self.take(node, from, frame)
             }
         }
     }

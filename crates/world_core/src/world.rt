@@ -126,7 +126,7 @@ impl World {
         ensures fits { IfSome self.now (λ w. Fits w.script result.now) }
     {
         journals_are_legal();
-        &self.state().journal
+        &self.state().made.entries
     }
 
     /// The script that the world runs.

@@ -13,8 +13,9 @@ returns-clause-made c =
     in (
       subst AreWhole (sym c.in_ok-nodes.ensures) (AreWhole-map nodes),
       same_world c.args.script c.args.script (whole c.in_ok-nodes.nodes.items) nodes c.in_ok-inboxes.inboxes.items
-          (replicate size (replicate size [])) c.new.result [] refl (ap whole c.in_ok-nodes.ensures ∙ whole-map nodes)
-          (c.in_ok-inboxes.ensures ∙ ap (λ k. replicate k (replicate k [])) c.len.ensures) c.new.ensures,
+          (replicate size (replicate size [])) c.empty.result.entries [] refl
+          (ap whole c.in_ok-nodes.ensures ∙ whole-map nodes)
+          (c.in_ok-inboxes.ensures ∙ ap (λ k. replicate k (replicate k [])) c.len.ensures) c.empty.ensures.entries,
     )
 
 pub count_all-requires : goal.count_all-requires

@@ -9,11 +9,11 @@ use Rattle.world_core.proofs.Wholes.{length-whole, run_steps, take_steps}
 use Rattle.world_core.proofs.Allowed.{run_allowed, take_allowed}
 use Rattle.world_core.proofs.state.State.step.Goals as goal
 
-pub turn-requires-clause-seats : goal.turn-requires-clause-seats
-turn-requires-clause-seats c = alive-seats c.args.self.now c.requires.alive
+pub run-requires-clause-seats : goal.run-requires-clause-seats
+run-requires-clause-seats c = alive-seats c.args.self.now c.requires.alive
 
-pub turn-requires-in-Take-clause-seats : goal.turn-requires-in-Take-clause-seats
-turn-requires-in-Take-clause-seats c =
+pub take-requires-in-Take-clause-seats : goal.take-requires-in-Take-clause-seats
+take-requires-in-Take-clause-seats c =
     let w = world_of c.args.self.now
     in let le = take_within w c.args.event c.in-Take.node c.in-Take.from c.requires.enabled c.in-Take.is
     in seats-taken c.args.self.now.nodes.items c.args.self.now.inboxes.items c.place.result c.in-Take.from
@@ -21,36 +21,36 @@ turn-requires-in-Take-clause-seats c =
     (omega (arith, length-whole c.args.self.now.nodes.items c.requires.alive.nodes, c.place.ensures.next))
     c.index_mut.ensures.value c.in-Some.ensures
 
-pub turn-requires-clause-there : goal.turn-requires-clause-there
-turn-requires-clause-there c =
+pub run-requires-clause-there : goal.run-requires-clause-there
+run-requires-clause-there c =
     let le = run_within (world_of c.args.self.now) c.args.event c.in-Run.node c.requires.enabled c.in-Run.is in
     omega (arith, length-whole c.args.self.now.nodes.items c.requires.alive.nodes)
 
-pub turn-requires-in-Take-clause-there : goal.turn-requires-in-Take-clause-there
-turn-requires-in-Take-clause-there c =
+pub take-requires-in-Take-clause-there : goal.take-requires-in-Take-clause-there
+take-requires-in-Take-clause-there c =
     let w = world_of c.args.self.now
     in let le = take_within w c.args.event c.in-Take.node c.in-Take.from c.requires.enabled c.in-Take.is
     in let same = length-whole c.args.self.now.nodes.items c.requires.alive.nodes
     in omega arith
 
-pub turn-requires-clause-counted : goal.turn-requires-clause-counted
-turn-requires-clause-counted c count = ap (λ (l : List ℕ). set l (c.in-Run.node - 1) count) c.requires.alive.counted
+pub run-requires-clause-counted : goal.run-requires-clause-counted
+run-requires-clause-counted c count = ap (λ (l : List ℕ). set l (c.in-Run.node - 1) count) c.requires.alive.counted
 
-pub turn-requires-in-Take-clause-counted : goal.turn-requires-in-Take-clause-counted
-turn-requires-in-Take-clause-counted c count =
+pub take-requires-in-Take-clause-counted : goal.take-requires-in-Take-clause-counted
+take-requires-in-Take-clause-counted c count =
     others-counted c.args.self.now.nodes.items c.args.self.now.inboxes.items c.in-Take.node c.place.result count
     c.args.self.now.counts _ c.requires.alive.counted c.place.ensures.place
 
-pub turn-requires-clause-allowed : goal.turn-requires-clause-allowed
-turn-requires-clause-allowed c =
+pub run-requires-clause-allowed : goal.run-requires-clause-allowed
+run-requires-clause-allowed c =
     let w = world_of c.args.self.now
     in run_allowed w c.args.event c.in-Run.node
     (c.enabled_events_have_steps.ensures c.args.self.now.script w c.args.event c.requires.alive.sound
     c.requires.alive.reachable c.requires.enabled)
     c.in-Run.is
 
-pub turn-requires-in-Take-clause-allowed : goal.turn-requires-in-Take-clause-allowed
-turn-requires-in-Take-clause-allowed c =
+pub take-requires-in-Take-clause-allowed : goal.take-requires-in-Take-clause-allowed
+take-requires-in-Take-clause-allowed c =
     let w = world_of c.args.self.now
     in let shaped : IsShaped w = reachable-shaped c.args.self.now.script w c.requires.alive.reachable
     in let le = take_within w c.args.event c.in-Take.node c.in-Take.from c.requires.enabled c.in-Take.is
@@ -62,16 +62,16 @@ turn-requires-in-Take-clause-allowed c =
 
 pub returns-in-Run : goal.returns-in-Run
 returns-in-Run c =
-    on_ok_weaker c.turn.result (run_steps c.args.self.now _ c.args.event c.in-Run.node c.in-Run.is) c.turn.ensures
+    on_ok_weaker c.run.result (run_steps c.args.self.now _ c.args.event c.in-Run.node c.in-Run.is) c.run.ensures
 
 pub returns-in-Some : goal.returns-in-Some
 returns-in-Some c =
     let w = world_of c.args.self.now in
     let shaped : IsShaped w = reachable-shaped c.args.self.now.script w c.requires.alive.reachable in
     let le = take_within w c.args.event c.in-Take.node c.in-Take.from c.requires.enabled c.in-Take.is in
-    on_ok_weaker c.turn-in-Take.result
+    on_ok_weaker c.take-in-Take.result
     (take_steps c.args.self.now _ _ c.args.event c.in-Take.node c.in-Take.from c.place.result c.in-Some.frame _ _
     c.in-Take.is c.place.ensures.place
     (omega (arith, shaped.nodes, shaped.streams, c.place.ensures.next)) c.index_mut.ensures.value c.in-Some.ensures
     refl refl refl refl)
-    c.turn-in-Take.ensures
+    c.take-in-Take.ensures

@@ -13,7 +13,7 @@ returns-clause-legal c =
 pub returns-clause-fits : goal.returns-clause-fits
 returns-clause-fits c =
     let s = c.state.result.now
-    in let P : Option World → Type 0 = λ o. IfSome o (λ w. Fits w.script s.journal)
+    in let P : Option World → Type 0 = λ o. IfSome o (λ w. Fits w.script s.made.entries)
     in subst P (sym c.state.ensures.world)
     (c.journals_are_legal.ensures s.script
     (world_of s) c.state.ensures.alive.sound c.state.ensures.alive.reachable).1
