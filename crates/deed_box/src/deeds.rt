@@ -70,6 +70,9 @@ impl<B> Deeds<B> {
         ensures keeps { self.old.spare ≤ self.new.spare }
         ensures same { self.new.bodies ≡ self.old.bodies }
     {
+        if more as usize <= self.spare() {
+            return Ok(());
+        }
         self.reserve_many(more as usize)
     }
 

@@ -16,8 +16,7 @@ use std::alloc::Global;
 use std::marker::Model;
 
 /// Where a process is in its block: the lines passed, how often the next one was tried, the variables, how many calls
-/// it
-/// has started, and the call under way, from its start until its reply is here.
+/// it has started, and the call under way, from its start until its reply is here.
 #[derive(Debug, Drop)]
 pub struct Caller {
     alloc: Global,
@@ -59,8 +58,7 @@ impl Caller {
     }
 
     /// Whether the script has the block, and the line that is reached stands in it, an implied `exit 0` counted. It
-    /// doesn't
-    /// once the process has ended.
+    /// doesn't once the process has ended.
     pub fn has_line(&self, script: &Script) -> bool
         requires { IsSoundScript script.now }
         ensures { IsTrue result ↔ HasLine script.now self.now }
@@ -96,8 +94,7 @@ impl Caller {
     }
 
     /// The call under way has its reply. Where that says that nothing was ready, and the line has tries left, the line
-    /// is
-    /// due once more; else its variable is set, and the next line is due. A refusal changes nothing.
+    /// is due once more; else its variable is set, and the next line is due. A refusal changes nothing.
     pub fn answered(&mut self, script: &Script, reply: &Reply) -> Result<(), Memory>
         requires reached { HasLine script.now self.old }
         requires under_way { IsSome self.old.caller.under_way }

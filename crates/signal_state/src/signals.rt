@@ -140,10 +140,14 @@ impl Signals {
         }
     }
 
-    /// Each of these signals that is pending and not masked arrives, in this order.
+    /// Each of these signals that is pending and not masked arrives, in this order. Mostly none is pending, and then
+    /// none is looked at.
     fn deliver_each(&mut self, sigs: &[Sig])
         ensures { self.new ≡ fold deliver self.old sigs.now }
     {
+        if self.pending.is_empty() {
+            return;
+        }
         for sig in sigs {
             self.deliver(*sig);
         }
