@@ -4,7 +4,8 @@ use Rattle.std.specs.Int.{Width, w16, w32, byte_len, from_be_bytes, to_be_bytes}
 use Rattle.std.proofs.lemmas.Bool.{cases_lt, ltb-false, le-ltb}
 use Rattle.std.proofs.lemmas.List.{take_at, drop_at, take-append-drop, length-append, length-take, get_or-drop, get_or-take, get_or_past}
 use Rattle.std.proofs.lemmas.Nat.{be_bytes_2, be_bytes_4, from_be_bytes-to_be_bytes_2, from_be_bytes-to_be_bytes_4}
-use Rattle.body_fields.specs.Fields.{◌>>=◌, byte_at, byte_upto, number_at, number_upto}
+use Rattle.pico_base.specs.Options.{◌>>=◌}
+use Rattle.body_fields.specs.Fields.{byte_at, byte_upto, number_at, number_upto}
 
 -- each number is a byte
 abbrev pub IsBytes : List ℕ → Type 0

@@ -2,7 +2,7 @@
 use Rattle.std.proofs.Common.{◌≡◌, ℕ, zero, suc, ◌-◌, ◌+◌, ◌≤◌, ◌<◌, List, [], ◌∷◌, ◌++◌, length, Option, Some, None, refl, sym, ap, subst, ◌∙◌, append_assoc, arith}
 use Rattle.std.proofs.lemmas.List.{append-nil}
 use Rattle.std.specs.List.{flat_map, AllByRecursion}
-use Rattle.body_fields.specs.Fields.{◌>>=◌}
+use Rattle.pico_base.specs.Options.{◌>>=◌}
 use Rattle.body_fields.proofs.Fields.{IsBytes, bind_some, some_is, Takes, Takes-then}
 
 -- what was read before, and what is still read

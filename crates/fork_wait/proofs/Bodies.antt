@@ -10,10 +10,11 @@ use Rattle.pico_base.specs.declared.reply.Ending.{Ending}
 use Rattle.pico_base.specs.declared.reply.Ending.TheVariants.{Exited, Killed}
 use Rattle.pico_base.specs.declared.signal.Sig.{Sig}
 use Rattle.pico_base.specs.declared.signal.Sig.TheVariants.{Hup, Int, Quit, Kill, Usr1, Usr2, Pipe, Alrm, Term, Chld}
-use Rattle.body_fields.specs.Fields.{◌>>=◌, byte_at, byte_upto, number_at}
+use Rattle.body_fields.specs.Fields.{byte_at, byte_upto, number_at}
 use Rattle.body_fields.proofs.Fields.{IsBytes, bind_some, guard_ended, some_is, refused, Takes, Takes-then, wide32, byte_takes, byte_upto_takes, byte_upto_again, number_takes, number_again}
 use Rattle.body_fields.proofs.Many.{many_takes, many_again}
 use Rattle.kernel_model.specs.Row.{Family, EndedChild, ended_child}
+use Rattle.pico_base.specs.Options.{◌>>=◌}
 use Rattle.pico_base.specs.Signal.{all_signals, signal_from, signal_number}
 use Rattle.fork_wait.proofs.Loops.{ended_repeat, numbers_repeat}
 use Rattle.fork_wait.specs.Children.{AreChildren, children}

@@ -4,8 +4,9 @@ use Rattle.std.specs.Int.{w32}
 use Rattle.std.specs.Option.{option_map}
 use Rattle.pico_base.specs.declared.reply.Ending.{Ending}
 use Rattle.pico_base.specs.declared.reply.Ending.TheVariants.{Exited, Killed}
-use Rattle.body_fields.specs.Fields.{◌>>=◌, byte_at, byte_upto, number_at}
+use Rattle.body_fields.specs.Fields.{byte_at, byte_upto, number_at}
 use Rattle.kernel_model.specs.Row.{Family, EndedChild, ended_child}
+use Rattle.pico_base.specs.Options.{◌>>=◌}
 use Rattle.pico_base.specs.Signal.{signal_from}
 
 abbrev pub ending_from : ℕ → ℕ → Option Ending

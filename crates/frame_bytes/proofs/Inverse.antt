@@ -4,7 +4,7 @@ use Rattle.std.specs.Prelude.{find}
 use Rattle.std.specs.List.{flat_map, AllByRecursion}
 use Rattle.std.proofs.lemmas.Bool.{eqb-true}
 use Rattle.std.proofs.lemmas.List.Concat.{flat_map-cons}
-use Rattle.body_fields.specs.Fields.{◌>>=◌}
+use Rattle.pico_base.specs.Options.{◌>>=◌}
 use Rattle.body_fields.proofs.Fields.{IsBytes, IsBytes-rest, bind_some, guard_ended, some_is, Takes, Takes-then}
 use Rattle.frame_bytes.specs.Readers.{Reader, byte_at, passing, one_of, many, counted, one, two, three, four, five, pick, tabled}
 

@@ -3,7 +3,7 @@ use Rattle.std.proofs.Common.{◌≡◌, ℕ, suc, ◌-◌, ◌+◌, ◌≤◌, 
 use Rattle.std.proofs.lemmas.List.{append-nil}
 use Rattle.pico_base.specs.declared.fault.UnpackFault.{UnpackFault}
 use Rattle.pico_base.specs.declared.fault.UnpackFault.TheVariants.{Memory, NotABody}
-use Rattle.body_fields.specs.Fields.{◌>>=◌}
+use Rattle.pico_base.specs.Options.{◌>>=◌}
 use Rattle.frame_bytes.specs.Readers.{Fails, Reader, many}
 
 -- what was read before, and what is still read

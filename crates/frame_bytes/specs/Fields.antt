@@ -2,7 +2,7 @@
 -- first, and signed ones are in two's complement.
 use Rattle.std.specs.Prelude.{◌≡◌, ℕ, ◌+◌, ◌<◌, ◌^◌, Bool, true, false, ◌&&◌, ℤ, List, [], ◌∷◌, ◌++◌, length, map, take, drop, Some, None, nat_lt, nat_le, if◌then◌else◌}
 use Rattle.std.specs.Int.{w16, w32, to_be_bytes, cast_signed, cast_unsigned}
-use Rattle.body_fields.specs.Fields.{◌>>=◌, number_at}
+use Rattle.body_fields.specs.Fields.{number_at}
 use Rattle.pico_base.specs.declared.numbers.Kind.{Kind}
 use Rattle.pico_base.specs.declared.numbers.Kind.TheVariants as kinds
 use Rattle.pico_base.specs.declared.numbers.Name.{Name}
@@ -12,6 +12,7 @@ use Rattle.pico_base.specs.declared.signal.Sig.{Sig}
 use Rattle.pico_base.specs.declared.signal.SigArg.{SigArg}
 use Rattle.pico_base.specs.declared.signal.SigArg.TheVariants.{Zero, Is, Bad}
 use Rattle.pico_base.specs.ErrorNumber.{all_errors, error_number}
+use Rattle.pico_base.specs.Options.{◌>>=◌}
 use Rattle.pico_base.specs.Signal.{all_signals, signal_number}
 use Rattle.frame_bytes.specs.Readers.{Reader, byte_at, passing, one_of, two}
 

@@ -3,7 +3,7 @@
 use Rattle.std.specs.Prelude.{◌≡◌, ℕ, zero, suc, Bool, ◌==◌, if◌then◌else◌, List, [], ◌∷◌, Option, Some, None, Result, Ok, Err, find}
 use Rattle.pico_base.specs.declared.fault.UnpackFault.{UnpackFault}
 use Rattle.pico_base.specs.declared.fault.UnpackFault.TheVariants.{Memory, NotABody}
-use Rattle.body_fields.specs.Fields.{◌>>=◌}
+use Rattle.pico_base.specs.Options.{◌>>=◌}
 pub use Rattle.body_fields.specs.Fields.{byte_at}
 
 abbrev pub Reader : Type 0 → Type 0

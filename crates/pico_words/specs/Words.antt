@@ -2,11 +2,12 @@
 -- before and behind MODE, `--seed=N` is `--seed N`, `--` ends the options, and no option is given twice.
 use Rattle.std.specs.Prelude.{ℕ, Bool, true, false, not, ◌&&◌, ◌||◌, List, [], ◌∷◌, codes, bytes_eq, if◌then◌else◌, Option, Some, None, is_some, option_map}
 use Rattle.std.specs.Option.{option_map_or}
+use Rattle.pico_base.specs.Options.{◌>>=◌}
 use Rattle.clap.specs.Words.{App, Row, Rule, fault_of, first_of, matches_of, new_rule, with_rule}
 use Rattle.clap.specs.Walk.{is_empty}
 use Rattle.clap.specs.Simple.{Shape, new_shape}
 use Rattle.clap.specs.declared.builder.action.ArgAction.TheVariants.{SetTrue}
-use Rattle.text_fields.specs.Fields.{◌>>=◌, number_at}
+use Rattle.text_fields.specs.Fields.{number_at}
 use Rattle.pico_words.specs.declared.words.Options.{Options}
 use Rattle.pico_words.specs.declared.words.Request.{Request}
 use Rattle.pico_words.specs.declared.words.Request.TheVariants.{Simulate, Check, Generate}

@@ -1,11 +1,8 @@
 -- A byte of a message's text between quotes, read from the front. It comes with what follows it.
-use Rattle.std.specs.Prelude.{◌≡◌, refl, ℕ, ◌+◌, ◌-◌, ◌*◌, ◌==◌, List, [], ◌∷◌, if◌then◌else◌, codes, Option, Some, None, option_and_then}
+use Rattle.std.specs.Prelude.{◌≡◌, refl, ℕ, ◌+◌, ◌-◌, ◌*◌, ◌==◌, List, [], ◌∷◌, if◌then◌else◌, codes, Option, Some, None}
+use Rattle.pico_base.specs.Options.{◌>>=◌}
 use Rattle.kernel_model.specs.Numbers.{is_between}
 use Rattle.kernel_model.specs.Texts.{is_plain}
-
-infixl 10 ◌>>=◌
-abbrev ◌>>=◌ : {A B : Type 0} → Option A → (A → Option B) → Option B
-o >>= f = option_and_then f o
 
 -- the value of a lower-case hex digit
 unfoldable pub hex_at : ℕ → Option ℕ

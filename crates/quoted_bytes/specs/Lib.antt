@@ -1,2 +1,3 @@
 pub use Rattle.kernel_model.specs.Texts
 pub mod Bytes
+pub mod Front

@@ -1,9 +1,14 @@
-//! The bytes of a message's text as they stand between quotes, in scripts and in traces, read one at a time.
+//! Bytes read from the front, in scripts and in traces: what follows a prefix, and a byte of a message's text as it
+//! stands between quotes.
 #![tactic(auto)]
+
+mod front;
 
 ghost use Rattle.std.specs.Prelude.{◌≡◌, ◌≤◌, IfSome, option_map};
 ghost use Rattle.kernel_model.specs.Texts.{is_plain};
 ghost use Rattle.quoted_bytes.specs.Bytes.{hex_at, escape_at, text_byte_at};
+
+pub use front::strip_front;
 
 /// Whether the byte stands for itself between quotes: it is printable, and neither `"` nor `\`.
 pub fn is_plain(byte: u8) -> bool

@@ -6,6 +6,7 @@ use Rattle.std.proofs.lemmas.Bool.{and_from, le-leb, lt-ltb}
 use Rattle.pico_base.specs.declared.call.Call.{Call}
 use Rattle.pico_base.specs.declared.call.Call.TheVariants as calls
 use Rattle.pico_base.specs.declared.call.SemStep.{SemStep}
+use Rattle.pico_base.specs.Options.{◌>>=◌}
 use Rattle.kernel_model.specs.Script as model
 use Rattle.kernel_model.specs.Numbers.{is_u16, is_u32, is_positive_u32}
 use Rattle.kernel_model.specs.Texts.{has_spelling}
@@ -13,7 +14,7 @@ use Rattle.script_reader.specs.declared.verb.Verb.{Verb}
 use Rattle.script_reader.specs.declared.verb.Verb.TheVariants as verbs
 use Rattle.script_reader.specs.Words.{pieces}
 use Rattle.script_reader.specs.Parts as parts
-use Rattle.script_reader.specs.Parts.{◌>>=◌, number, positive, signed, each, step, values, text}
+use Rattle.script_reader.specs.Parts.{number, positive, signed, each, step, values, text}
 use Rattle.script_reader.specs.Forms as forms
 use Rattle.script_reader.specs.Forms.{FromCall, Object, Child, identifier, process}
 use Rattle.script_reader.proofs.Ranges.{if_bind, if_map, if_cond, Anything, anything, number_small, positive_small, signed_small, IsWithin, is_type_from, IsObject, IsProcess, identifier_small, process_small}

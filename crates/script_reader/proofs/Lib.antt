@@ -1,7 +1,6 @@
 pub mod Lines
 pub mod Cuts
 pub mod Openings
-pub mod Strips
 pub mod Names
 pub mod Each
 pub mod Lanes

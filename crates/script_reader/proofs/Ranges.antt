@@ -2,9 +2,11 @@
 use Rattle.std.proofs.Common.{◌≡◌, ℕ, ◌+◌, ◌-◌, ◌*◌, ◌^◌, ◌<◌, ◌≤◌, ℤ, pos, negsuc, Bool, true, false, ◌&&◌, cond, eqb, leb, List, [], ◌∷◌, Option, Some, None, refl, arith}
 use Rattle.std.specs.Prelude.{IfSome, option_map, codes, is_some}
 use Rattle.std.proofs.lemmas.Bool.{and_parts, and_from, leb-true, le-leb, eqb-false}
+use Rattle.pico_base.specs.Options.{◌>>=◌}
 use Rattle.kernel_model.specs.Script as model
+use Rattle.quoted_bytes.specs.Front.{strip}
 use Rattle.script_reader.specs.Parts as parts
-use Rattle.script_reader.specs.Parts.{◌>>=◌, digits, number, positive, signed, variable, each, step, added, cut}
+use Rattle.script_reader.specs.Parts.{digits, number, positive, signed, variable, each, step, added, cut}
 use Rattle.script_reader.specs.Forms.{Object, FromCall, identifier, process, child, Child}
 
 -- ---- options
@@ -82,7 +84,7 @@ signed_from_small limit (Some d) w =
 -- a signed number is within its limit
 pub signed_small : (limit : ℕ) (w : List ℕ) → IfSome (signed limit w) (IsWithin limit)
 unfolding signed
-signed_small limit w = signed_from_small limit (parts.strip (codes "-") w) w
+signed_small limit w = signed_from_small limit (strip (codes "-") w) w
 
 -- a type of a message is within its range
 pub is_type_from : (z : ℤ) → IsWithin 2147483647 z → model.is_type z ≡ true
@@ -143,7 +145,7 @@ identifier_from None w =
 -- an identifier is a u32, or a variable
 pub identifier_small : (w : List ℕ) → IfSome (identifier w) IsObject
 unfolding identifier
-identifier_small w = identifier_from (parts.strip (codes "$") w) w
+identifier_small w = identifier_from (strip (codes "$") w) w
 
 process_from : (o : Option (List ℕ)) (w : List ℕ) → IfSome (Rattle.script_reader.specs.Forms.process_from o w) IsProcess
 process_from (Some name) w =
@@ -157,4 +159,4 @@ process_from None w =
 -- a process number is a u32 of at least 1, or a variable
 pub process_small : (w : List ℕ) → IfSome (process w) IsProcess
 unfolding process
-process_small w = process_from (parts.strip (codes "$") w) w
+process_small w = process_from (strip (codes "$") w) w

@@ -7,14 +7,16 @@ use Rattle.std.proofs.lemmas.Bool.{and_parts, and_from, or_cases, leb-true, le-l
 use Rattle.std.proofs.lemmas.List.{length-append, length-take, length-drop, length-replicate}
 use Rattle.std.proofs.lemmas.List.Splits.{length-slice_split}
 use Rattle.pico_base.specs.declared.call.SemStep.{SemStep}
+use Rattle.pico_base.specs.Options.{◌>>=◌}
 use Rattle.kernel_model.specs.Script as model
 use Rattle.kernel_model.specs.Numbers.{is_u16, is_byte}
 use Rattle.kernel_model.specs.Texts as texts
 use Rattle.script_reader.specs.Words.{is_blank, entering, leaving, words_in, words_of, pieces, Stretch}
 use Rattle.script_reader.specs.Words.Stretch.{between, plain, quoted}
 use Rattle.quoted_bytes.specs.Bytes.{text_byte_at, escape_at, hex_at}
+use Rattle.quoted_bytes.specs.Front.{strip}
 use Rattle.script_reader.specs.Parts as parts
-use Rattle.script_reader.specs.Parts.{◌>>=◌, number, signed, each, step, added, cut, values, text, quoted_at, closed_at, with_byte, repetition, counted, letter}
+use Rattle.script_reader.specs.Parts.{number, signed, each, step, added, cut, values, text, quoted_at, closed_at, with_byte, repetition, counted, letter}
 use Rattle.script_reader.proofs.Ranges.{if_bind, if_map, if_cond, Anything, anything, number_small, signed_small, IsWithin}
 
 -- ---- widths
@@ -133,7 +135,7 @@ number_wide limit (b ∷ w) = if_map_same (number limit (b ∷ w)) (number_small
     if_map_same (Some n) h = (omega arith, h)
 
 signed_wide : (w : List ℕ) → IfSome (signed 65535 w) (λ z. (1 ≤ length w) × IsWithin 65535 z)
-unfolding signed number parts.strip
+unfolding signed number strip
 signed_wide [] = tt
 signed_wide (b ∷ w) = both (signed 65535 (b ∷ w)) (signed_small 65535 (b ∷ w))
   where
@@ -371,8 +373,8 @@ quoted_spelled n bytes h = of (quoted_at n bytes) (quoted_short n bytes)
     of None k = tt
     of (Some t) k = spelled_from bytes t h k
 
-strip_shorter : (w : List ℕ) → IfSome (parts.strip (codes "\"") w) (λ rest. length rest + 1 ≤ length w)
-unfolding parts.strip
+strip_shorter : (w : List ℕ) → IfSome (strip (codes "\"") w) (λ rest. length rest + 1 ≤ length w)
+unfolding strip
 strip_shorter [] = tt
 strip_shorter (b ∷ w) =
     if_cond (bytes_eq (take 1 (b ∷ w))
@@ -387,8 +389,8 @@ text_of_spelled None (Some bytes) h = quoted_spelled (length bytes) bytes h
 -- a text of a word has a spelling
 pub text_spelled : (w : List ℕ) → length w ≤ 4096 → IfSome (text w) IsSpelled
 unfolding text
-text_spelled w h = text_of_spelled (parts.strip (codes "rep:") w)
-    (parts.strip (codes "\"") w) (of (parts.strip (codes "\"") w) (strip_shorter w))
+text_spelled w h = text_of_spelled (strip (codes "rep:") w)
+    (strip (codes "\"") w) (of (strip (codes "\"") w) (strip_shorter w))
   where
     of : (o : Option (List ℕ)) → IfSome o (λ rest. length rest + 1 ≤ length w)
         → IfSome o (λ rest. length rest ≤ 4095)

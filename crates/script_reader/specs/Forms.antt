@@ -3,9 +3,11 @@ use Rattle.std.specs.Prelude.{ℕ, Bool, true, false, ◌&&◌, List, [], ◌∷
 use Rattle.std.specs.List.{find}
 use Rattle.pico_base.specs.declared.call.Call.{Call}
 use Rattle.pico_base.specs.declared.call.Call.TheVariants as calls
+use Rattle.pico_base.specs.Options.{◌>>=◌}
+use Rattle.quoted_bytes.specs.Front.{strip}
 use Rattle.script_reader.specs.declared.verb.Verb.{Verb}
 use Rattle.script_reader.specs.declared.verb.Verb.TheVariants as verbs
-use Rattle.script_reader.specs.Parts.{◌>>=◌, strip, number, positive, signed, variable, signal, signal_argument, action, how, signal_set, text, step, each, values}
+use Rattle.script_reader.specs.Parts.{number, positive, signed, variable, signal, signal_argument, action, how, signal_set, text, step, each, values}
 
 -- ---- the names of calls
 

@@ -1,5 +1,5 @@
 -- The parts of a line: words that are numbers, variables, names, signals and texts.
-use Rattle.std.specs.Prelude.{ℕ, zero, suc, ◌+◌, ◌-◌, ◌*◌, ℤ, pos, negsuc, Bool, true, false, ◌&&◌, ◌||◌, ◌==◌, nat_le, List, [], ◌∷◌, length, take, drop, replicate, codes, bytes_eq, if◌then◌else◌, Option, Some, None, option_map, option_and_then, position}
+use Rattle.std.specs.Prelude.{ℕ, zero, suc, ◌+◌, ◌-◌, ◌*◌, ℤ, pos, negsuc, Bool, true, false, ◌&&◌, ◌||◌, ◌==◌, nat_le, List, [], ◌∷◌, length, take, drop, replicate, codes, bytes_eq, if◌then◌else◌, Option, Some, None, option_map, position}
 use Rattle.std.specs.List.{find}
 use Rattle.std.specs.Option.{option_map_or}
 use Rattle.pico_base.specs.declared.call.SemStep.{SemStep}
@@ -11,14 +11,12 @@ use Rattle.pico_base.specs.declared.signal.Act.TheVariants.{Dfl, Ign, Catch}
 use Rattle.pico_base.specs.declared.signal.How.{How}
 use Rattle.pico_base.specs.declared.signal.How.TheVariants.{Block, Unblock, SetMask}
 use Rattle.pico_base.specs.declared.signal.PerSignal.{PerSignal}
+use Rattle.pico_base.specs.Options.{◌>>=◌}
 use Rattle.pico_base.specs.Signal.{at, put_at, everywhere, all_signals}
 use Rattle.kernel_model.specs.Trace.{signal_name, action_name, how_name}
 use Rattle.quoted_bytes.specs.Bytes.{text_byte_at}
+use Rattle.quoted_bytes.specs.Front.{strip}
 use Rattle.script_reader.specs.Words.{pieces}
-
-infixl 10 ◌>>=◌
-abbrev pub ◌>>=◌ : {A B : Type 0} → Option A → (A → Option B) → Option B
-o >>= f = option_and_then f o
 
 -- ---- bytes
 
@@ -33,11 +31,6 @@ abbrev pub is_alphanumeric : ℕ → Bool
 is_alphanumeric b = is_lowercase b || (is_digit b || (nat_le 65 b && nat_le b 90))
 
 -- ---- words taken apart
-
--- what follows the prefix
-unfoldable pub strip : List ℕ → List ℕ → Option (List ℕ)
-strip prefix bytes =
-    if bytes_eq (take (length prefix) bytes) prefix then Some (drop (length prefix) bytes) else None
 
 -- what stands before the first of these bytes, and what behind it
 unfoldable pub cut : ℕ → List ℕ → Option (List ℕ × List ℕ)

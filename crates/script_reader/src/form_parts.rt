@@ -5,8 +5,9 @@ ghost use Rattle.script_reader.specs.Words.{texts};
 ghost use Rattle.script_reader.specs.Forms as forms;
 
 use crate::numbers::{number, positive};
-use crate::parts::{is_nowait, strip_front, variable};
+use crate::parts::{is_nowait, variable};
 use pico_base::{Call, Id, Pid, Var};
+use quoted_bytes::strip_front;
 
 /// A call, and the variable whose value stands in place of its process number or identifier.
 pub(crate) type FromCall = (Option<Var>, Call);

@@ -3,7 +3,7 @@
 ghost use Rattle.std.specs.Prelude.{◌≡◌, ◌≤◌, ◌<◌, IfSome};
 ghost use Rattle.script_reader.specs.Parts.{digits as digits_of, number as number_of, positive as positive_of, signed as signed_of};
 
-use crate::parts::strip_front;
+use quoted_bytes::strip_front;
 
 /// The greatest size, index and value in a line.
 pub(crate) const MAX_NUMBER: u32 = 65_535;

@@ -1,21 +1,14 @@
 //! Words that are variables, names or signals.
 
-ghost use Rattle.std.specs.Prelude.{◌≡◌, ◌≤◌, ◌==◌, [], ◌∷◌, false, IfSome, option_map, option_copied, position, length, ◌<◌, bytes_eq, codes};
+ghost use Rattle.std.specs.Prelude.{◌≡◌, ◌≤◌, ◌==◌, [], ◌∷◌, false, IfSome, option_map, position, length, ◌<◌, bytes_eq, codes};
 ghost use Rattle.std.specs.List.{list_all, find};
 ghost use Rattle.pico_base.specs.Signal.{everywhere};
 ghost use Rattle.kernel_model.specs.Script.{is_name, is_name_byte};
 ghost use Rattle.kernel_model.specs.Trace.{signal_name, action_name, how_name};
 ghost use Rattle.script_reader.specs.Words.{pieces};
-ghost use Rattle.script_reader.specs.Parts.{strip, cut as cut_of, letter_index as index_of_letter, variable as variable_of, signal as signal_of, signal_argument as signal_argument_of, action as action_of, how as how_of, signals_with, signal_set as signal_set_of};
+ghost use Rattle.script_reader.specs.Parts.{cut as cut_of, letter_index as index_of_letter, variable as variable_of, signal as signal_of, signal_argument as signal_argument_of, action as action_of, how as how_of, signals_with, signal_set as signal_set_of};
 
 use pico_base::{Act, How, Sig, SigArg, SigSet, Var};
-
-/// What follows this prefix.
-pub(crate) fn strip_front<'a>(bytes: &'a [u8], prefix: &[u8]) -> Option<&'a [u8]>
-    ensures { option_copied result ≡ strip prefix.now bytes.now }
-{
-    bytes.strip_prefix(prefix)
-}
 
 fn first_of(byte: u8, word: &[u8]) -> Option<usize>
     ensures { result ≡ position (λ b. b == byte) word.now }

@@ -7,10 +7,10 @@ ghost use Rattle.kernel_model.specs.Texts.{is_plain as is_plain_of};
 ghost use Rattle.script_reader.specs.Parts.{is_alphanumeric as is_alphanumeric_of, closed_at, quoted_at, letter as letter_of, counted as counted_of, repetition as repetition_of, text as text_of, added as added_of, step as step_of, each, number as number_of, values as values_of};
 
 use crate::numbers::{MAX_NUMBER, index, number, signed};
-use crate::parts::{cut, is_nowait, strip_front};
+use crate::parts::{cut, is_nowait};
 use crate::words::pieces;
 use pico_base::{Bytes, Memory, SemStep, Sequence, Steps, Values};
-use quoted_bytes::{is_plain, text_byte};
+use quoted_bytes::{is_plain, strip_front, text_byte};
 use std::alloc::Global;
 use std::simd::prelude::*;
 

@@ -18,13 +18,14 @@ use Rattle.pico_base.specs.declared.signal.Act.TheVariants.{Dfl, Ign, Catch}
 use Rattle.pico_base.specs.declared.signal.How.{How}
 use Rattle.pico_base.specs.declared.signal.How.TheVariants.{Block, Unblock, SetMask}
 use Rattle.pico_base.specs.declared.signal.PerSignal.{PerSignal}
+use Rattle.pico_base.specs.Options.{◌>>=◌}
 use Rattle.pico_base.specs.Signal.{at, put_at, everywhere, all_signals}
 use Rattle.kernel_model.specs.Trace as trace
 use Rattle.kernel_model.specs.Trace.{signal_name, action_name, how_name, set_text, signals_text, commas, values_text}
 use Rattle.script_reader.specs.Words.{pieces}
 use Rattle.script_reader.specs.Words.Stretch.{plain}
 use Rattle.script_reader.specs.Parts as parts
-use Rattle.script_reader.specs.Parts.{◌>>=◌, number, signed, signal, signal_argument, action, how, signal_set, signals_with, cut, each, step, added, values}
+use Rattle.script_reader.specs.Parts.{number, signed, signal, signal_argument, action, how, signal_set, signals_with, cut, each, step, added, values}
 use Rattle.script_reader.proofs.Ranges.{if_bind, if_map, if_cond}
 use Rattle.script_reader.proofs.Widths.{width, if_both, pieces_some}
 use Rattle.text_fields.proofs.Numerals.{AreDigits}

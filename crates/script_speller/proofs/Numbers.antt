@@ -11,11 +11,12 @@ use Rattle.std.proofs.lemmas.List.{append-nil}
 use Rattle.std.proofs.lemmas.Str.Parse.{IsNumeralModel, numerals_by_value, tells_all_ascii_digits}
 use Rattle.script_reader.specs.Words.Stretch.{plain}
 use Rattle.script_reader.specs.Parts as parts
-use Rattle.script_reader.specs.Parts.{digits, number, positive, signed, variable, strip}
+use Rattle.script_reader.specs.Parts.{digits, number, positive, signed, variable}
 use Rattle.script_reader.specs.Forms.{identifier, process}
 use Rattle.script_reader.specs.Forms as forms
 use Rattle.script_reader.proofs.Ranges.{if_bind, if_map, if_cond, number_small}
-use Rattle.script_reader.proofs.Strips.{strip_takes}
+use Rattle.quoted_bytes.proofs.Strips.{strip_takes}
+use Rattle.quoted_bytes.specs.Front.{strip}
 use Rattle.script_reader.proofs.Widths.{if_both}
 use Rattle.text_fields.proofs.Numerals.{AreDigits}
 use Rattle.script_speller.specs.Spelling.{variable_text, object_text}

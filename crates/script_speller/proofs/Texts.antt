@@ -7,15 +7,17 @@ use Rattle.std.proofs.lemmas.Bool.{and_parts, and_from, leb-true, le-leb, lt-ltb
 use Rattle.std.specs.Str.{all_ascii_digits}
 use Rattle.std.proofs.lemmas.Fmt.{decimal_nonempty, length-decimal-le}
 use Rattle.std.proofs.lemmas.List.{length-append, length-replicate}
+use Rattle.pico_base.specs.Options.{◌>>=◌}
 use Rattle.kernel_model.specs.Numbers.{is_byte}
 use Rattle.kernel_model.specs.Texts.{is_letter_or_digit, is_plain, hex_digit, escape, quoted_text, is_one_letter, repeated_text}
 use Rattle.script_reader.specs.Words.Stretch.{plain, quoted}
 use Rattle.quoted_bytes.specs.Bytes.{text_byte_at}
 use Rattle.quoted_bytes.proofs.Bytes.{byte_again}
 use Rattle.script_reader.specs.Parts as parts
-use Rattle.script_reader.specs.Parts.{◌>>=◌, strip, number, cut, letter, counted, repetition, closed_at, with_byte, quoted_at, text, text_from}
+use Rattle.script_reader.specs.Parts.{number, cut, letter, counted, repetition, closed_at, with_byte, quoted_at, text, text_from}
 use Rattle.script_reader.proofs.Ranges.{if_bind, if_map, if_cond, number_small}
-use Rattle.script_reader.proofs.Strips.{strip_takes, strip_again}
+use Rattle.quoted_bytes.proofs.Strips.{strip_takes, strip_again, no_repetition}
+use Rattle.quoted_bytes.specs.Front.{strip}
 use Rattle.script_reader.proofs.Widths.{if_both, IsShort, quoted_short}
 use Rattle.text_fields.proofs.Numerals.{AreDigits, decimal-digits}
 use Rattle.script_speller.specs.Spelling.{message_word}
@@ -59,10 +61,6 @@ escapes_length : (t : List ℕ) → length t ≤ length (flat_map escape t)
 escapes_length [] = omega arith
 escapes_length (b ∷ t) =
     omega (arith, length-append (escape b) (flat_map escape t), escape_some b, escapes_length t)
-
-no_repetition : (rest : List ℕ) → strip (codes "rep:") (34 ∷ rest) ≡ None
-unfolding strip
-no_repetition rest = refl
 
 -- a text between quotes is read
 quotes_again : (t : List ℕ) → AreBytes t → text (quoted_text t) ≡ Some t

@@ -5,9 +5,10 @@ use Rattle.std.specs.List.{flat_map}
 use Rattle.std.specs.Int.{w16, w32, to_be_bytes}
 use Rattle.std.proofs.lemmas.Bool.{eqb-true}
 use Rattle.std.proofs.lemmas.List.{append-nil, nil_from_length}
+use Rattle.pico_base.specs.Options.{◌>>=◌}
 use Rattle.kernel_model.specs.Queue.{Queue, max_queue_bytes, max_messages}
 use Rattle.sysv_msg.specs.Body.{queue_code, message_field, IsBodyOf}
-use Rattle.body_fields.specs.Fields.{◌>>=◌, number_at, number_upto}
+use Rattle.body_fields.specs.Fields.{number_at, number_upto}
 use Rattle.sysv_msg.specs.Measured.{Measures, HasBody, HasFields}
 use Rattle.sysv_msg.specs.Reading.{messages_at, fields_at, queue_at}
 use Rattle.body_fields.proofs.Fields.{IsBytes, IsBytes-rest, bind_some, guard_ended, guard_then, some_is, refused, Takes-then, wide16, wide32, number_takes, number_again, number_upto_takes, number_upto_again}

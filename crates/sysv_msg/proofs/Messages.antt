@@ -9,10 +9,11 @@ use Rattle.std.proofs.lemmas.Int.{ints, to_z-of_z, of_z-to_z}
 use Rattle.std.proofs.lemmas.List.{take_at, drop_at, take-append-drop, length-append, length-take}
 use Rattle.std.proofs.lemmas.List.Concat.{flat_map-cons}
 use Rattle.std.proofs.lemmas.List.Sums.{sum_by-cons}
+use Rattle.pico_base.specs.Options.{◌>>=◌}
 use Rattle.kernel_model.specs.Queue.{Message, max_text, bytes_of}
 use Rattle.sysv_msg.specs.Limits.{IsSendable}
 use Rattle.sysv_msg.specs.Body.{text_field, message_field}
-use Rattle.body_fields.specs.Fields.{◌>>=◌, number_at, number_upto}
+use Rattle.body_fields.specs.Fields.{number_at, number_upto}
 use Rattle.sysv_msg.specs.Reading.{text_at, class_at, message_at, messages_at}
 use Rattle.body_fields.proofs.Fields.{IsBytes, IsBytes-drop, bind_some, guard_some, some_is, Takes, Takes-then, wide32, number_takes, number_again, number_upto_takes, number_upto_again}
 

@@ -1,7 +1,8 @@
 -- Reading a body from left to right: a field is its value and the bytes after it, or there is none.
 use Rattle.std.specs.Prelude.{ℕ, ℤ, zero, suc, ◌-◌, pos, List, [], ◌∷◌, length, take, drop, Option, Some, None, nat_lt, int_lt, min, ◌==◌, if◌then◌else◌}
 use Rattle.std.specs.Int.{w16, w32, cast_signed}
-use Rattle.body_fields.specs.Fields.{◌>>=◌, number_at, number_upto}
+use Rattle.pico_base.specs.Options.{◌>>=◌}
+use Rattle.body_fields.specs.Fields.{number_at, number_upto}
 use Rattle.kernel_model.specs.Queue.{Message, Queue, max_text, max_queue_bytes, max_messages}
 use Rattle.sysv_msg.specs.Body.{queue_code}
 

@@ -6,10 +6,11 @@ use Rattle.std.specs.Int.{w16, w32, to_be_bytes}
 use Rattle.std.proofs.lemmas.Bool.Decides.{nat_tests}
 use Rattle.std.proofs.lemmas.Bool.{eqb-true, ltb-false, le-ltb, or_parts}
 use Rattle.std.proofs.lemmas.List.{append-nil, nil_from_length}
+use Rattle.pico_base.specs.Options.{◌>>=◌}
 use Rattle.kernel_model.specs.SemaphoreSet.{Semaphore, SemaphoreSet, set_of, max_value, max_semaphores, is_bad_count}
 use Rattle.sysv_sem.specs.Limits.{IsWithinLimits}
 use Rattle.sysv_sem.specs.Body.{set_code, semaphore_field, HasProcess, IsBodyOf}
-use Rattle.body_fields.specs.Fields.{◌>>=◌, Reads, number_at, number_upto}
+use Rattle.body_fields.specs.Fields.{Reads, number_at, number_upto}
 use Rattle.sysv_sem.specs.Reading.{semaphore_at, semaphores_at, fields_at, counted_at, set_at}
 use Rattle.body_fields.proofs.Fields.{IsBytes, IsBytes-rest, bind_some, guard_ended, guard_then, some_is, refused, Takes, Takes-then, wide16, wide32, number_takes, number_again, number_upto_takes, number_upto_again}
 use Rattle.body_fields.proofs.Many.{many_takes, many_again}

@@ -1,7 +1,8 @@
 -- Reading a body from left to right: a field is its value and the bytes after it, or there is none.
 use Rattle.std.specs.Prelude.{ℕ, zero, suc, List, [], ◌∷◌, length, Option, Some, None, ◌==◌, if◌then◌else◌}
 use Rattle.std.specs.Int.{w16, w32}
-use Rattle.body_fields.specs.Fields.{◌>>=◌, number_at, number_upto}
+use Rattle.pico_base.specs.Options.{◌>>=◌}
+use Rattle.body_fields.specs.Fields.{number_at, number_upto}
 use Rattle.kernel_model.specs.SemaphoreSet.{Semaphore, SemaphoreSet, set_of, max_value, is_bad_count}
 use Rattle.sysv_sem.specs.Body.{set_code}
 

@@ -1,5 +1,4 @@
 pub mod Chains
-pub mod Strips
 pub mod Numerals
 pub mod Many
 pub mod Spelled

@@ -9,9 +9,10 @@ use Rattle.std.proofs.lemmas.Bool.{and_parts, le-leb, lt-leb, eqb-true, ne_eqb}
 use Rattle.std.proofs.lemmas.Fmt.{decimal_is_IsNumeral, decimal_digit, first_decimal}
 use Rattle.std.proofs.lemmas.Option.{same_Some, none-some, some_pair_parts}
 use Rattle.std.proofs.lemmas.Str.Parse.{IsNumeralModel, numerals_by_value, tells_all_ascii_digits}
-use Rattle.text_fields.specs.Fields.{strip, is_digit, digit_at, digits_front, number_at, signed_at}
+use Rattle.text_fields.specs.Fields.{is_digit, digit_at, digits_front, number_at, signed_at}
 use Rattle.text_fields.proofs.Chains.{chosen, between_true, none_from}
-use Rattle.text_fields.proofs.Strips.{strip_takes, strip_again}
+use Rattle.quoted_bytes.proofs.Strips.{strip_takes, strip_again}
+use Rattle.quoted_bytes.specs.Front.{strip}
 
 -- each byte is a decimal digit
 abbrev pub AreDigits : List ℕ → Type 0

@@ -15,7 +15,8 @@ use Rattle.pico_base.specs.declared.reply.Errno.{Errno}
 use Rattle.pico_base.specs.declared.reply.Errno.TheVariants.{Esrch, Einval, Echild, Enoent, Eexist, Enomsg, Eagain, E2big, Efbig, Erange, Eidrm, Eintr}
 use Rattle.pico_base.specs.Signal.{at, put_at, everywhere, all_signals}
 use Rattle.kernel_model.specs.Trace.{signal_name, signal_argument, action_name, how_name, error_name, signals_text, set_text}
-use Rattle.text_fields.specs.Fields.{strip, named_at, signal_at, argument_at, action_at, how_at, error_at, all_at, behind_comma, joined_at, set_at}
+use Rattle.quoted_bytes.specs.Front.{strip}
+use Rattle.text_fields.specs.Fields.{named_at, signal_at, argument_at, action_at, how_at, error_at, all_at, behind_comma, joined_at, set_at}
 use Rattle.text_fields.proofs.Many.{many-again, parts-room}
 
 -- a signal's name is read as that signal, whatever follows it

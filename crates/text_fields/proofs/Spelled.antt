@@ -9,8 +9,9 @@ use Rattle.kernel_model.specs.Trace.{step_text, values_text}
 use Rattle.kernel_model.specs.Texts.{is_plain, escape, quoted_text, is_repeated, repeated_text, message_text, is_letter_or_digit}
 use Rattle.quoted_bytes.specs.Bytes.{text_byte_at}
 use Rattle.quoted_bytes.proofs.Bytes.{byte_again, quote_ends}
-use Rattle.text_fields.specs.Fields.{strip, digit_at, number_at, quoted_at, repeated_at, repetition_at, text_at, flag_at, step_at, all_at, behind_comma, values_at}
-use Rattle.text_fields.proofs.Strips.{strip_again}
+use Rattle.text_fields.specs.Fields.{digit_at, number_at, quoted_at, repeated_at, repetition_at, text_at, flag_at, step_at, all_at, behind_comma, values_at}
+use Rattle.quoted_bytes.proofs.Strips.{strip_again, no_repetition}
+use Rattle.quoted_bytes.specs.Front.{strip}
 use Rattle.text_fields.proofs.Numerals.{front_number_again, signed_again, IsWithin}
 use Rattle.text_fields.proofs.Many.{many-again, parts-room}
 
@@ -80,10 +81,6 @@ repeats b bs rest h small =
       strip_again (codes "rep:") (decimal (length (b ∷ bs)) ++ 58 ∷ b ∷ rest),
       repetition_again (length (b ∷ bs)) b rest small,
     ) (ap (λ (xs : List ℕ). Some (xs, rest)) all)
-
-no_repetition : (rest : List ℕ) → strip (codes "rep:") (34 ∷ rest) ≡ None
-unfolding strip
-no_repetition rest = refl
 
 quotes : (text rest : List ℕ) → AllByRecursion IsByte text → text_at (quoted_text text ++ rest) ≡ Some (text, rest)
 unfolding text_at

@@ -1,5 +1,5 @@
 -- The fields of a call's text, read from the front. A field comes with what follows it.
-use Rattle.std.specs.Prelude.{ℕ, zero, suc, ◌+◌, ◌-◌, ◌*◌, ℤ, pos, negsuc, Bool, true, false, ◌&&◌, ◌==◌, nat_le, List, [], ◌∷◌, length, take, drop, replicate, codes, bytes_eq, fold, position, if◌then◌else◌, Option, Some, None, option_map, option_and_then, unwrap_or}
+use Rattle.std.specs.Prelude.{ℕ, zero, suc, ◌+◌, ◌-◌, ◌*◌, ℤ, pos, negsuc, Bool, true, false, ◌&&◌, ◌==◌, nat_le, List, [], ◌∷◌, length, take, drop, replicate, codes, fold, position, if◌then◌else◌, Option, Some, None, option_map, unwrap_or}
 use Rattle.std.specs.Option.{option_map_or}
 use Rattle.pico_base.specs.declared.call.SemStep.{SemStep}
 use Rattle.pico_base.specs.declared.reply.Errno.{Errno}
@@ -13,17 +13,10 @@ use Rattle.pico_base.specs.declared.signal.Act.TheVariants.{Dfl, Ign, Catch}
 use Rattle.pico_base.specs.declared.signal.How.{How}
 use Rattle.pico_base.specs.declared.signal.How.TheVariants.{Block, Unblock, SetMask}
 use Rattle.pico_base.specs.declared.signal.PerSignal.{PerSignal}
+use Rattle.pico_base.specs.Options.{◌>>=◌}
 use Rattle.pico_base.specs.Signal.{put_at, everywhere}
 use Rattle.quoted_bytes.specs.Bytes.{text_byte_at}
-
-infixl 10 ◌>>=◌
-abbrev pub ◌>>=◌ : {A B : Type 0} → Option A → (A → Option B) → Option B
-o >>= f = option_and_then f o
-
--- what follows the prefix
-unfoldable pub strip : List ℕ → List ℕ → Option (List ℕ)
-strip prefix bytes =
-    if bytes_eq (take (length prefix) bytes) prefix then Some (drop (length prefix) bytes) else None
+use Rattle.quoted_bytes.specs.Front.{strip}
 
 -- Numbers.
 

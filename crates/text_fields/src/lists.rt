@@ -3,9 +3,10 @@ ghost use Rattle.std.specs.Prelude.{◌≡◌, ◌≤◌, IfOk, IfSome, option_m
 ghost use Rattle.pico_base.specs.Signal.{put_at};
 ghost use Rattle.text_fields.specs.Fields.{step_at, steps_at, number_at, signal_at, behind_comma, joined_at, all_at, in_front, values_at, set_from, set_at};
 
-use crate::names::{flag_front, signal_front, strip_front};
+use crate::names::{flag_front, signal_front};
 use crate::numbers::{number_front, signed_front};
 use pico_base::{Memory, SemStep, Sequence, Sig, SigSet, Steps, Values};
+use quoted_bytes::strip_front;
 use std::alloc::Global;
 
 /// The greatest number of a semaphore, and the greatest that an operation adds or takes.

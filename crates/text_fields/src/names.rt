@@ -1,15 +1,9 @@
 //! Words and names at the front of a text.
-ghost use Rattle.std.specs.Prelude.{◌≡◌, ◌==◌, length, position, codes, option_map, option_copied};
-ghost use Rattle.text_fields.specs.Fields.{strip, word_at, flag_at, named_at, signal_at, argument_at, action_at, how_at, error_at, signals, errors};
+ghost use Rattle.std.specs.Prelude.{◌≡◌, ◌==◌, length, position, codes, option_map};
+ghost use Rattle.text_fields.specs.Fields.{word_at, flag_at, named_at, signal_at, argument_at, action_at, how_at, error_at, signals, errors};
 
 use pico_base::{Act, Errno, How, Sig, SigArg};
-
-/// What follows this prefix; none where it doesn't stand at the front.
-pub fn strip_front<'a>(bytes: &'a [u8], prefix: &[u8]) -> Option<&'a [u8]>
-    ensures { option_copied result ≡ strip prefix.now bytes.now }
-{
-    bytes.strip_prefix(prefix)
-}
+use quoted_bytes::strip_front;
 
 /// Where the first blank is.
 fn blank_at(bytes: &[u8]) -> Option<usize>

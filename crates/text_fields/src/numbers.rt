@@ -2,7 +2,7 @@
 ghost use Rattle.std.specs.Prelude.{◌≡◌, ◌≤◌, IfSome, option_map};
 ghost use Rattle.text_fields.specs.Fields.{digit_at, digits_front, number_at, signed_at};
 
-use crate::names::strip_front;
+use quoted_bytes::strip_front;
 
 /// A digit's value.
 #[tactic(auto, unfolding(crate::specs::Fields::digit_at))]

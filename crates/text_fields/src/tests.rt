@@ -7,7 +7,6 @@ use std::test::Fail;
 #[test]
 fn fields_are_read_with_what_follows(rt: HostRuntime) -> Result<(), Fail> {
     let alloc = rt.alloc();
-    assert_eq!(rt; strip_front(b"by 1", b"by "), Some(b"1".as_slice()));
     assert_eq!(rt;
         word_front(b"exit 0"),
         (b"exit".as_slice(), b" 0".as_slice())

@@ -3,10 +3,9 @@ ghost use Rattle.std.specs.Prelude.{◌≡◌, ◌≤◌, IfOk, IfSome, option_m
 ghost use Rattle.quoted_bytes.specs.Bytes.{text_byte_at};
 ghost use Rattle.text_fields.specs.Fields.{all_at, closed_of, quoted_at, repeated_at, count_at, repetition_at, text_at};
 
-use crate::names::strip_front;
 use crate::numbers::number_front;
 use pico_base::{Bytes, Memory, Sequence};
-use quoted_bytes::text_byte;
+use quoted_bytes::{strip_front, text_byte};
 use std::alloc::Global;
 
 /// The longest text of `rep:N:C`.

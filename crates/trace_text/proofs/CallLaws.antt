@@ -13,8 +13,9 @@ use Rattle.pico_base.specs.declared.signal.Sig.{Sig}
 use Rattle.pico_base.specs.declared.signal.SigArg.{SigArg}
 use Rattle.kernel_model.specs.Texts.{message_text}
 use Rattle.kernel_model.specs.Trace.{signal_name, signal_argument, action_name, how_name, set_text, word, create_words, step_text, values_text}
-use Rattle.text_fields.specs.Fields.{strip, digit_at, flag_at}
-use Rattle.text_fields.proofs.Strips.{strip_again}
+use Rattle.text_fields.specs.Fields.{digit_at, flag_at}
+use Rattle.quoted_bytes.proofs.Strips.{strip_again}
+use Rattle.quoted_bytes.specs.Front.{strip}
 use Rattle.text_fields.proofs.Numerals.{IsWithin, front_number_again, signed_again}
 use Rattle.text_fields.proofs.Sets.{signal_again, argument_again, action_again, how_again, set_again}
 use Rattle.text_fields.proofs.Spelled.{IsStep, text_again, steps_again, values_again}

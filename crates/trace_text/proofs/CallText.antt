@@ -15,7 +15,8 @@ use Rattle.kernel_model.specs.Numbers.{is_u16, is_u32}
 use Rattle.kernel_model.specs.Script.{IsSoundScript, is_name, is_name_byte, is_lower, is_same, names_differ, is_type, is_step_in_range, is_place}
 use Rattle.kernel_model.specs.Texts.{message_text}
 use Rattle.kernel_model.specs.Trace.{call_text, name_of_block, signal_argument, action_name, how_name, set_text, word, create_words, step_text, values_text}
-use Rattle.text_fields.specs.Fields.{strip, word_length, word_at}
+use Rattle.quoted_bytes.specs.Front.{strip}
+use Rattle.text_fields.specs.Fields.{word_length, word_at}
 use Rattle.text_fields.proofs.Spelled.{IsStep}
 use Rattle.trace_text.specs.Grammar.{is_call, is_text, is_block}
 use Rattle.trace_text.specs.Reading.{verb_of, block_named, fork_at, exit_at, killed_at, handled_at, kill_at, sigaction_at, sigprocmask_at, waitpid_at, msgget_at, msgsnd_at, msgrcv_at, msgctl_at, semget_at, semop_at, semctl_at, call_at}

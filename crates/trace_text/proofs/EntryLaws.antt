@@ -15,9 +15,10 @@ use Rattle.kernel_model.specs.Effect.{reply_alone}
 use Rattle.kernel_model.specs.Numbers.{is_u32, is_between}
 use Rattle.kernel_model.specs.Script.{IsSoundScript}
 use Rattle.kernel_model.specs.Trace.{call_text, reply_text, entry_line}
-use Rattle.text_fields.specs.Fields.{strip, digit_at, number_at}
+use Rattle.text_fields.specs.Fields.{digit_at, number_at}
 use Rattle.text_fields.proofs.Chains.{bind_some, chosen}
-use Rattle.text_fields.proofs.Strips.{strip_takes, strip_again}
+use Rattle.quoted_bytes.proofs.Strips.{strip_takes, strip_again}
+use Rattle.quoted_bytes.specs.Front.{strip}
 use Rattle.text_fields.proofs.Numerals.{front_number_again}
 use Rattle.trace_text.specs.Grammar.{is_call, is_reply, is_own, is_outcome, is_entry}
 use Rattle.trace_text.specs.Reading.{made_at, by_at, entry_of, replied_at, entry_at, is_line, entry_if, entry_in}

@@ -7,9 +7,9 @@ use Rattle.pico_base.specs.declared.call.SemStep.{SemStep}
 use Rattle.kernel_model.specs.Numbers.{is_u16, is_u32, is_byte}
 use Rattle.kernel_model.specs.Texts.{is_repeated}
 use Rattle.kernel_model.specs.Script.{is_type, is_step_in_range}
-use Rattle.text_fields.specs.Fields.{strip}
 use Rattle.text_fields.proofs.Chains.{none_from}
-use Rattle.text_fields.proofs.Strips.{strip_takes}
+use Rattle.quoted_bytes.proofs.Strips.{strip_takes}
+use Rattle.quoted_bytes.specs.Front.{strip}
 use Rattle.text_fields.proofs.Numerals.{IsWithin, decimal_first}
 use Rattle.text_fields.proofs.Spelled.{IsStep}
 use Rattle.trace_text.specs.Grammar.{is_text}

@@ -18,8 +18,9 @@ use Rattle.kernel_model.specs.Numbers.{is_u32}
 use Rattle.kernel_model.specs.Script.{is_type}
 use Rattle.kernel_model.specs.Texts.{message_text, is_repeated, repeated_text, escape}
 use Rattle.kernel_model.specs.Trace.{reply_text, ending_text, signal_name, signals_text, set_text, error_name, values_text}
-use Rattle.text_fields.specs.Fields.{strip, digit_at, number_at, named_at, text_at}
-use Rattle.text_fields.proofs.Strips.{strip_again}
+use Rattle.text_fields.specs.Fields.{digit_at, number_at, named_at, text_at}
+use Rattle.quoted_bytes.proofs.Strips.{strip_again}
+use Rattle.quoted_bytes.specs.Front.{strip}
 use Rattle.text_fields.proofs.Numerals.{IsWithin, front_number_again, signed_again}
 use Rattle.text_fields.proofs.Sets.{signal_again, set_again}
 use Rattle.text_fields.proofs.Spelled.{text_again, values_again}

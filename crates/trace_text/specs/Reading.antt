@@ -11,12 +11,14 @@ use Rattle.pico_base.specs.declared.reply.Entry.{Entry}
 use Rattle.pico_base.specs.declared.reply.Errno.{Errno}
 use Rattle.pico_base.specs.declared.signal.PerSignal.{PerSignal}
 use Rattle.pico_base.specs.declared.script.Script.{Script}
+use Rattle.pico_base.specs.Options.{◌>>=◌}
 use Rattle.kernel_model.specs.Effect.{reply_alone}
 use Rattle.kernel_model.specs.Trace.{entry_line}
+use Rattle.quoted_bytes.specs.Front.{strip}
 use Rattle.trace_text.specs.Grammar.{is_entry}
 use Rattle.trace_text.specs.declared.verbs.Verb.{Verb}
 use Rattle.trace_text.specs.declared.verbs.Verb.TheVariants as verbs
-use Rattle.text_fields.specs.Fields.{◌>>=◌, strip, number_at, signed_at, word_at, flag_at, signal_at, argument_at, action_at, how_at, error_at, steps_at, values_at, set_at, text_at}
+use Rattle.text_fields.specs.Fields.{number_at, signed_at, word_at, flag_at, signal_at, argument_at, action_at, how_at, error_at, steps_at, values_at, set_at, text_at}
 
 -- a part of a line, with what follows it
 abbrev pub Part : Type 0 → Type 0

@@ -6,10 +6,11 @@ ghost use Rattle.trace_text.specs.Reading as reading;
 
 use crate::verbs::{Verb, verb_named};
 use pico_base::{Block, Call, Id, Key, Memory, Node, Pid, Script};
+use quoted_bytes::strip_front;
 use std::alloc::Global;
 use text_fields::{
     action_front, argument_front, flag_front, how_front, number_front, set_front, signal_front,
-    signed_front, steps_front, strip_front, text_front, values_front, word_front,
+    signed_front, steps_front, text_front, values_front, word_front,
 };
 
 /// The greatest number of two bytes.

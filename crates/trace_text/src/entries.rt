@@ -7,8 +7,9 @@ use crate::grammar::is_entry;
 use crate::print_entries::push_entry;
 use crate::replies::reply_front;
 use pico_base::{Call, Entry, Memory, Node, Outcome, Pid, Reply, Script};
+use quoted_bytes::strip_front;
 use std::alloc::Global;
-use text_fields::{number_front, strip_front};
+use text_fields::number_front;
 
 /// Who made the call, and the call.
 #[tactic(auto, unfolding(crate::specs::Reading::made_at))]

@@ -4,10 +4,10 @@ ghost use Rattle.text_fields.specs.Fields.{error_at};
 ghost use Rattle.trace_text.specs.Reading as reading;
 
 use pico_base::{Ending, Memory, Pid, Reply};
+use quoted_bytes::strip_front;
 use std::alloc::Global;
 use text_fields::{
-    error_front, number_front, set_front, signal_front, signed_front, strip_front, text_front,
-    values_front,
+    error_front, number_front, set_front, signal_front, signed_front, text_front, values_front,
 };
 
 /// The greatest type of a message, and the least one below zero.

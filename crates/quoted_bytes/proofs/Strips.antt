@@ -1,12 +1,12 @@
--- A prefix: what `strip_prefix` answers, and the law of `strip`.
-use Rattle.std.proofs.Common.{◌≡◌, ℕ, ◌+◌, true, false, eqb, List, ◌++◌, length, take, drop, Option, Some, None, MatchOption, refl, sym, ap, ◌∙◌}
-use Rattle.std.specs.Prelude.{option_copied, bytes_eq}
+-- A prefix: what `strip_prefix` answers, and the laws of `strip`.
+use Rattle.std.proofs.Common.{◌≡◌, ℕ, ◌+◌, true, false, eqb, List, ◌∷◌, ◌++◌, length, take, drop, Option, Some, None, MatchOption, refl, sym, ap, ◌∙◌}
+use Rattle.std.specs.Prelude.{option_copied, bytes_eq, codes}
 use Rattle.std.specs.Borrow.{Bor}
 use Rattle.std.specs.Cmp.Lexicographic.{pointwise}
 use Rattle.std.proofs.lemmas.List.{take_at, drop_at, take-append-drop}
 use Rattle.std.proofs.lemmas.Option.{cond_some}
 use Rattle.std.proofs.lemmas.Slice.Eq.{bytes_eq-Decides}
-use Rattle.text_fields.specs.Fields.{strip}
+use Rattle.quoted_bytes.specs.Front.{strip}
 
 -- what std's clauses say
 pub strip_from : (s p : List ℕ) (r : Option (Bor (List ℕ)))
@@ -32,3 +32,8 @@ strip_again p rest =
     let same : bytes_eq (take (length p) (p ++ rest)) p ≡ true =
     (bytes_eq-Decides (take (length p) (p ++ rest)) p).1 front in
     rw (same, drop_at p rest (length p) refl) refl
+
+-- a text that begins with a quote is no repetition
+pub no_repetition : (rest : List ℕ) → strip (codes "rep:") (34 ∷ rest) ≡ None
+unfolding strip
+no_repetition rest = refl
