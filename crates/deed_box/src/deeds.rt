@@ -64,7 +64,7 @@ impl<B> Deeds<B> {
             .checked_add(self.sets.len())
     }
 
-    /// Takes room for so many more deeds.
+    /// Takes room for so many more deeds, unless it is there. Memory: an allocation was refused. The deeds stay.
     pub fn reserve(&mut self, more: u32) -> Result<(), Memory>
         ensures room { OnOk result (more ≤ self.new.spare) }
         ensures keeps { self.old.spare ≤ self.new.spare }

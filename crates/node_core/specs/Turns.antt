@@ -27,7 +27,7 @@ abbrev pub IsRefusal : Script → Option Node → Input → Option Node → Type
 IsRefusal script None input new = ⊥
 IsRefusal script (Some n) input new = (step_of script n input ≡ None) × (new ≡ Some n)
 
--- there was a step, or memory ran out
+-- a turn's answer isn't NotAllowed
 abbrev pub IsAllowed : Result Unit TurnFault → Type 0
 IsAllowed result = result ≡ Err NotAllowed → ⊥
 

@@ -102,7 +102,7 @@ fn drop_done(step: &mut Growing, alloc: Global)
     step.sends = Sends::new(alloc);
 }
 
-/// The turn is over, and the next one may begin.
+/// The turn is over, and the next one may begin: after a refusal for want of memory, what was done is dropped.
 fn settle(step: &mut Growing, alloc: Global, turned: Result<(), TurnFault>) -> Result<(), TurnFault>
     requires fresh { (turned ≡ Err OutOfMemory → ⊥) → IsFresh step.old }
     ensures fresh { IsFresh step.new }

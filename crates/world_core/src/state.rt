@@ -327,6 +327,7 @@ impl State {
             (λ n. IsSome (step_of self.old.script n inputs.Run)) }
         ensures { OnOk result (IsAfterTurn self.old node inputs.Run self.new) }
     {
+        // No frame is left from the turn before: this says so without an invariant.
         self.made.sends.as_mut_vec().clear();
         run_turn(&mut self.nodes[place(node)], &self.script, &mut self.made)?;
         self.finish(node)
@@ -342,6 +343,7 @@ impl State {
             (λ n. IsSome (step_of self.old.script n (inputs.Take from frame))) }
         ensures { OnOk result (IsAfterTurn self.old node (inputs.Take from frame) self.new) }
     {
+        // No frame is left from the turn before: this says so without an invariant.
         self.made.sends.as_mut_vec().clear();
         take_turn(
             &mut self.nodes[place(node)],
