@@ -11,7 +11,7 @@ use Rattle.world_core.proofs.Counting.{length-counts}
 use Rattle.world_core.proofs.Seats.{alive-seats, count-there}
 use Rattle.world_core.proofs.Walks.{IsWalk, IsWalk-along, IsWalk-none, span, sum-joined}
 use Rattle.world_core.proofs.Wholes.{length-whole}
-use Rattle.world_core.proofs.Worlds.{IsShaped, reachable-shaped}
+use Rattle.world_core.proofs.Worlds.{IsShaped, alive-shaped}
 
 -- what is kept for each of the first nodes is how many events it has
 abbrev pub Keeps : {X : Type 0} → (ℕ → List X) → List ℕ → ℕ → Type 0
@@ -28,7 +28,7 @@ pub counts-wide : (s : State) → IsAlive s → length s.counts ≡ node_count s
 counts-wide s alive =
     let ns = s.nodes.items in
     let seats = alive-seats s alive in
-    let shaped : IsShaped (world_of s) = reachable-shaped s.script (world_of s) alive.reachable in
+    let shaped : IsShaped (world_of s) = alive-shaped s alive in
     let width = ap length alive.counted ∙ length-counts ns s.inboxes.items seats.width in
     omega (arith, shaped.nodes, length-whole ns alive.nodes)
 

@@ -1,4 +1,5 @@
 pub mod Alive
+pub mod Behind
 pub mod Busy
 pub mod Choosing
 pub mod Counting
@@ -8,6 +9,7 @@ pub mod Lists
 pub mod Masks
 pub mod Members
 pub mod Openings
+pub mod Reached
 pub mod Rest
 pub mod Seats
 pub mod Senders

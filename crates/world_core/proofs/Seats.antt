@@ -22,7 +22,7 @@ use Rattle.world_core.specs.declared.state.State.{State}
 use Rattle.world_core.specs.Counts.{events_at}
 use Rattle.world_core.specs.State.{IsAlive, AreSeats, world_of}
 use Rattle.world_core.proofs.Counting.{counts-at, length-counts}
-use Rattle.world_core.proofs.Worlds.{IsShaped, reachable-shaped}
+use Rattle.world_core.proofs.Worlds.{IsShaped, alive-shaped}
 use Rattle.world_core.proofs.Wholes.{take_enabled, length-whole, whole_at, slice_get-whole}
 
 pub length-senders : (b : Bool) (row : List (List Frame)) → length (senders b row) ≡ count_by (may_take b) row
@@ -246,7 +246,7 @@ pub seat_is : (s : State) (p k : ℕ) (found : Option Node) (row : List (List Fr
     → IsSeat (world_of s) p found row
 seat_is s p k found row alive le next is_found is_row =
     let w = world_of s in
-    let shaped : IsShaped w = reachable-shaped s.script w alive.reachable in
+    let shaped : IsShaped w = alive-shaped s alive in
     let place : k ≡ p - 1 = omega arith in
     let width_nodes : length s.nodes.items ≡ size w = sym (length-whole s.nodes.items alive.nodes) ∙ shaped.nodes in
     let lt_node : k < length s.nodes.items = omega arith in
@@ -272,7 +272,7 @@ seat_is s p k found row alive le next is_found is_row =
 pub alive-seats : (s : State) → IsAlive s → AreSeats s.nodes.items s.inboxes.items
 alive-seats s alive =
     let w = world_of s in
-    let shaped : IsShaped w = reachable-shaped s.script w alive.reachable in
+    let shaped : IsShaped w = alive-shaped s alive in
     let few = few_of (size w) alive.sound.size in
     let same = length-whole s.nodes.items alive.nodes in
     record {
@@ -296,7 +296,7 @@ count-there s p k alive le next =
     let ns = s.nodes.items in
     let rows = s.inboxes.items in
     let seats = alive-seats s alive in
-    let shaped : IsShaped w = reachable-shaped s.script w alive.reachable in
+    let shaped : IsShaped w = alive-shaped s alive in
     let lt : k < length ns = omega (arith, shaped.nodes, length-whole ns alive.nodes) in
     let lt' : k < length rows = omega (arith, seats.width) in
     let found = get_or ns k None in

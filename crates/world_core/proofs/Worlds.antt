@@ -12,7 +12,10 @@ use Rattle.world_model.specs.Starting.{run}
 use Rattle.world_model.specs.Turn.{take_frame}
 use Rattle.world_model.specs.World.{World, Streams, numbers, size, node_count, opening_world, node_at, stream, stream_in, with_stream, with_sent, with_all_sent, world_after, after_turn, runs_at, takes_at, step, is_enabled}
 use Rattle.world_model.specs.Run.{Runs, IsReachableWorld}
-use Rattle.world_core.specs.State.{IsSquare}
+use Rattle.pico_base.specs.declared.reply.Entry.{Entry}
+use Rattle.world_core.specs.declared.state.State.{State}
+use Rattle.world_core.specs.Behind.{behind}
+use Rattle.world_core.specs.State.{IsSquare, IsAlive, world_of}
 
 -- there are as many numbers as are asked for
 pub length-numbers : (count first : ℕ) → length (numbers first count) ≡ count
@@ -140,6 +143,13 @@ reachable-script script w reached = (kept-runs (opening_world script) w reached.
 pub reachable-shaped : (script : Script) (w : World) → IsReachableWorld script w → IsShaped w
 reachable-shaped script w reached =
     (kept-runs (opening_world script) w reached.0 reached.1).shaped (IsShaped-opening script)
+
+-- and so has a world that runs lead to behind entries that were let go
+pub alive-shaped : (s : State) → IsAlive s → IsShaped (world_of s)
+alive-shaped s alive =
+    let shaped : IsShaped (behind alive.told (world_of s)) =
+    reachable-shaped s.script (behind alive.told (world_of s)) alive.reachable
+    in record { nodes = shaped.nodes; streams = shaped.streams; square = shaped.square }
 
 -- one more event
 pub Runs-more : (es : List Event) (w mid next : World) (e : Event)

@@ -8,6 +8,8 @@ use Rattle.world_model.specs.Run.{IsReachableWorld}
 use Rattle.node_core.specs.declared.turn.Input.{Input}
 use Rattle.node_core.specs.Step.{step_of}
 use Rattle.world_core.specs.declared.state.State.{State}
+use Rattle.pico_base.specs.declared.reply.Entry.{Entry}
+use Rattle.world_core.specs.Behind.{behind}
 use Rattle.world_core.specs.Counts.{counts_of}
 
 -- the nodes that aren't spent
@@ -47,12 +49,13 @@ abbrev pub OthersAreCounted : State → ℕ → Type 0
 OthersAreCounted s p = (count : ℕ) → set s.counts (p - 1) count
     ≡ set (counts_of s.nodes.items s.inboxes.items) (p - 1) count
 
--- Runs of a sound script lead to it, and its counts are right.
+-- Runs of a sound script lead to it behind entries that were let go, and its counts are right.
 pub record IsAlive (s : State) : Type 0 where
   pub counted : AreCounted s
   pub nodes : AreWhole s.nodes.items
   pub sound : IsSoundScript s.script
-  pub reachable : IsReachableWorld s.script (world_of s)
+  pub told : List Entry
+  pub reachable : IsReachableWorld s.script (behind told (world_of s))
 
 -- the frames that the turn of a node made have gone their ways, and nodes, script and journal are as they were
 pub record IsSent (s : State) (p : ℕ) (next : State) : Type 0 where

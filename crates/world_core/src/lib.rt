@@ -8,8 +8,10 @@ mod counts;
 mod inbox;
 mod state;
 mod stream;
+mod streaming;
 mod world;
 
+pub use streaming::StreamingWorld;
 pub use world::World;
 
 /// A schedule finds no event only where the world is at rest, in each world that a run leads to.

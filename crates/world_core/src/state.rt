@@ -10,6 +10,7 @@ ghost use Rattle.world_core.specs.Seat.{IsSeat};
 ghost use Rattle.node_core.specs.Step.{step_of};
 ghost use Rattle.node_core.specs.Turns.{IsTurnOnto, IsAllowed};
 ghost use Rattle.node_core.specs.declared.turn.Input.TheVariants as inputs;
+ghost use Rattle.world_core.specs.Behind.{without_journal};
 ghost use Rattle.world_core.specs.Counts.{counts_of};
 ghost use Rattle.world_core.specs.State.{AreWhole, AreSeats, AreCounted, OthersAreCounted, world_of, IsSent, IsAfterTurn, IsStep, IsAlive};
 
@@ -353,6 +354,15 @@ impl State {
             &mut self.made,
         )?;
         self.finish(node)
+    }
+
+    /// Lets go of the entries of the journal. The room of their list is kept.
+    pub(crate) fn let_go(&mut self)
+        requires { IsAlive self.old }
+        ensures world { world_of self.new ≡ without_journal (world_of self.old) }
+        ensures alive { IsAlive self.new }
+    {
+        self.made.entries.as_mut_vec().clear();
     }
 
     /// Carries out an event that may come next.

@@ -1,4 +1,4 @@
-//! A world as callers see it, which a refused allocation spends.
+//! A world as callers see it, with its whole journal.
 ghost use Rattle.std.specs.Prelude.{◌≡◌, ◌↔◌, ◌≤◌, true, length, slice_get, Some, None, IfOk, OnOk, OnErr, IfSome, IsSome, IsErr, IsTrue};
 ghost use Rattle.kernel_model.specs.History.{IsLegal};
 ghost use Rattle.kernel_model.specs.Fitting.{Fits, FitsWhole};
@@ -7,10 +7,9 @@ ghost use Rattle.world_model.specs.World.{World as MachineWorld, size, opening_w
 ghost use Rattle.world_model.specs.Run.{IsRunOf, IsAtRest};
 ghost use Rattle.world_model.specs.Schedule.{enabled_events, in_turn};
 ghost use Rattle.world_rest.specs.Laws.{IsQuiet};
-ghost use Rattle.world_core.specs.State.{IsAlive, world_of};
 ghost use Rattle.world_core.specs.Stepped.{IsStepped};
 
-use crate::state::State;
+use crate::streaming::StreamingWorld;
 use pico_base::{Entries, Event, Memory, Node, Script};
 use std::alloc::Global;
 use std::marker::Model;
@@ -21,7 +20,7 @@ use world_runs::journals_are_legal;
 /// to, or none where the world is spent: an allocation was refused in the middle of a step.
 #[derive(Drop)]
 pub struct World {
-    state: Option<State>,
+    streaming: StreamingWorld,
 }
 
 impl Model for World {
@@ -30,19 +29,11 @@ impl Model for World {
 
     ghost Value = { Option MachineWorld };
 
-    ghost use Rattle.world_core.specs.World.{world_in, IsSoundWorld};
+    ghost use Rattle.world_core.specs.World.{IsSoundWorld};
 
-    ghost view = { λ w. world_in w.state };
+    ghost view = { λ w. w.streaming };
 
-    ghost invariant = { λ w. IsSoundWorld w.state };
-}
-
-/// Memory ran out in the middle of a step.
-#[cold]
-fn spend(state: &mut Option<State>)
-    ensures { state.new ≡ None }
-{
-    *state = None;
+    ghost invariant = { λ w. IsSoundWorld w.streaming };
 }
 
 impl World {
@@ -53,20 +44,8 @@ impl World {
         ensures { IfOk result (λ w. w ≡ Some (opening_world script)) }
     {
         Ok(World {
-            state: Some(State::start(alloc, script)?),
+            streaming: StreamingWorld::start(alloc, script)?,
         })
-    }
-
-    /// The state of a world that isn't spent.
-    fn state(&self) -> &State
-        requires whole { IsSome self.now }
-        ensures world { self.now ≡ Some (world_of result.now) }
-        ensures alive { IsAlive result.now }
-    {
-        match &self.state {
-            Some(state) => state,
-            None => unreachable!(),
-        }
     }
 
     /// Whether the event may come next.
@@ -74,7 +53,7 @@ impl World {
         requires whole { IsSome self.now }
         ensures { IfSome self.now (λ w. result ≡ is_enabled w event) }
     {
-        self.state().enabled(event)
+        self.streaming.enabled(event)
     }
 
     /// How many events may come next.
@@ -82,7 +61,7 @@ impl World {
         requires whole { IsSome self.now }
         ensures { IfSome self.now (λ w. result ≡ length (enabled_events w)) }
     {
-        self.state().count()
+        self.streaming.count()
     }
 
     /// The event at this place of those that may come next, from 0: node after node, each node's takes by rising sender
@@ -91,7 +70,7 @@ impl World {
         requires whole { IsSome self.now }
         ensures { IfSome self.now (λ w. result ≡ slice_get (enabled_events w) index) }
     {
-        self.state().nth(index)
+        self.streaming.nth(index)
     }
 
     /// The first event that may come next, round the nodes: of the nodes behind `after`, and then of those up to it.
@@ -101,7 +80,7 @@ impl World {
         requires there { IfSome self.now (λ w. after ≤ size w) }
         ensures { IfSome self.now (λ w. result ≡ in_turn w after) }
     {
-        self.state().in_turn(after)
+        self.streaming.in_turn(after)
     }
 
     /// Whether no event may come next. At rest the journal has each process's calls to its end, nothing is on its way,
@@ -114,7 +93,7 @@ impl World {
     {
         rest_is_whole();
         rest_is_quiet();
-        self.state().at_rest()
+        self.streaming.at_rest()
     }
 
     /// All that was carried out so far, in order: one history of a single POSIX kernel, in which each process's calls
@@ -126,7 +105,7 @@ impl World {
         ensures fits { IfSome self.now (λ w. Fits w.script result.now) }
     {
         journals_are_legal();
-        &self.state().made.entries
+        self.streaming.recent()
     }
 
     /// The script that the world runs.
@@ -134,7 +113,7 @@ impl World {
         requires whole { IsSome self.now }
         ensures { IfSome self.now (λ w. result.now ≡ w.script) }
     {
-        &self.state().script
+        self.streaming.script()
     }
 
     /// Carries out an event that may come next. After an `Err` the world is spent: an allocation was refused, or it was
@@ -145,14 +124,7 @@ impl World {
         ensures err { OnErr result (self.new ≡ None) }
         ensures spent { self.old ≡ None → IsErr result }
     {
-        let Some(state) = &mut self.state else {
-            return Err(Memory);
-        };
-        let stepped = state.step(event);
-        if stepped.is_err() {
-            spend(&mut self.state);
-        }
-        stepped
+        self.streaming.step(event)
     }
 
     /// The world of a script after these events, of which each may come when it comes. An `Err` says that an allocation

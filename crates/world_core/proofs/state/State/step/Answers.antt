@@ -4,9 +4,10 @@ use Rattle.world_core.specs.State.{world_of}
 use Rattle.world_core.proofs.Counting.{others-counted}
 use Rattle.world_core.proofs.Enabled.{run_within, take_within, seats-taken}
 use Rattle.world_core.proofs.Seats.{alive-seats}
-use Rattle.world_core.proofs.Worlds.{IsShaped, reachable-shaped}
+use Rattle.world_core.proofs.Worlds.{IsShaped, alive-shaped}
 use Rattle.world_core.proofs.Wholes.{length-whole, run_steps, take_steps}
 use Rattle.world_core.proofs.Allowed.{run_allowed, take_allowed}
+use Rattle.world_core.proofs.Alive.{step_there}
 use Rattle.world_core.proofs.state.State.step.Goals as goal
 
 pub run-requires-clause-seats : goal.run-requires-clause-seats
@@ -45,18 +46,16 @@ pub run-requires-clause-allowed : goal.run-requires-clause-allowed
 run-requires-clause-allowed c =
     let w = world_of c.args.self.now
     in run_allowed w c.args.event c.in-Run.node
-    (c.enabled_events_have_steps.ensures c.args.self.now.script w c.args.event c.requires.alive.sound
-    c.requires.alive.reachable c.requires.enabled)
+    (step_there c.args.self.now c.args.event c.enabled_events_have_steps.ensures c.requires.alive c.requires.enabled)
     c.in-Run.is
 
 pub take-requires-in-Take-clause-allowed : goal.take-requires-in-Take-clause-allowed
 take-requires-in-Take-clause-allowed c =
     let w = world_of c.args.self.now
-    in let shaped : IsShaped w = reachable-shaped c.args.self.now.script w c.requires.alive.reachable
+    in let shaped : IsShaped w = alive-shaped c.args.self.now c.requires.alive
     in let le = take_within w c.args.event c.in-Take.node c.in-Take.from c.requires.enabled c.in-Take.is
     in take_allowed w c.args.event c.in-Take.node c.in-Take.from c.place.result c.in-Some.frame _ _
-    (c.enabled_events_have_steps.ensures c.args.self.now.script w c.args.event c.requires.alive.sound
-    c.requires.alive.reachable c.requires.enabled)
+    (step_there c.args.self.now c.args.event c.enabled_events_have_steps.ensures c.requires.alive c.requires.enabled)
     c.in-Take.is c.place.ensures.place
     (omega (arith, shaped.nodes, shaped.streams, c.place.ensures.next)) c.index_mut.ensures.value c.in-Some.ensures
 
@@ -67,7 +66,7 @@ returns-in-Run c =
 pub returns-in-Some : goal.returns-in-Some
 returns-in-Some c =
     let w = world_of c.args.self.now in
-    let shaped : IsShaped w = reachable-shaped c.args.self.now.script w c.requires.alive.reachable in
+    let shaped : IsShaped w = alive-shaped c.args.self.now c.requires.alive in
     let le = take_within w c.args.event c.in-Take.node c.in-Take.from c.requires.enabled c.in-Take.is in
     on_ok_weaker c.take-in-Take.result
     (take_steps c.args.self.now _ _ c.args.event c.in-Take.node c.in-Take.from c.place.result c.in-Some.frame _ _

@@ -1,19 +1,17 @@
-use Rattle.std.proofs.Common.{Option, IfSome, sym, subst}
+use Rattle.std.proofs.Common.{Option, IfSome, IsSome, sym, subst}
 use Rattle.kernel_model.specs.Fitting.{Fits}
 use Rattle.world_model.specs.World.{World}
-use Rattle.world_core.specs.State.{world_of}
+use Rattle.world_core.proofs.Reached.{journal_is_legal, journal_fits}
 use Rattle.world_core.proofs.world.World.journal.Goals as goal
 
 pub returns-clause-legal : goal.returns-clause-legal
 returns-clause-legal c =
-    let s = c.state.result.now
-    in (c.journals_are_legal.ensures s.script
-    (world_of s) c.state.ensures.alive.sound c.state.ensures.alive.reachable).0
+    journal_is_legal c.self.inside.streaming c.recent.result.now c.journals_are_legal.ensures
+    (subst (λ (o : Option World). IsSome o) (sym c.self.view_is) c.requires.whole) c.self.invariant c.recent.ensures
 
 pub returns-clause-fits : goal.returns-clause-fits
 returns-clause-fits c =
-    let s = c.state.result.now
-    in let P : Option World → Type 0 = λ o. IfSome o (λ w. Fits w.script s.made.entries)
-    in subst P (sym c.state.ensures.world)
-    (c.journals_are_legal.ensures s.script
-    (world_of s) c.state.ensures.alive.sound c.state.ensures.alive.reachable).1
+    let P : Option World → Type 0 = λ o. IfSome o (λ w. Fits w.script c.recent.result.now)
+    in subst P c.self.view_is
+    (journal_fits c.self.inside.streaming c.recent.result.now c.journals_are_legal.ensures c.self.invariant
+    c.recent.ensures)
