@@ -41,8 +41,8 @@ pub no-entries : tally_of [] ≡ record { entries = 0; forks = 0; not_ready = 0;
 unfolding tally_of
 no-entries = refl
 
--- Process 1 forks. Process 2 waits at a queue, until 1 removes it: one entry with two replies. Then 1 finds another queue
--- empty, and signals a process that isn't there.
+-- Process 1 forks. Process 2 waits at a queue, until 1 removes it: one entry with two replies. Then 1 finds another
+-- queue empty, and signals a process that isn't there.
 abbrev pub five_entries : List Entry
 five_entries =
     record { pid = 1; call = Fork 1; outcome = reply_alone (Num 2); by = 1 }

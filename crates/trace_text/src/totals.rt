@@ -96,13 +96,23 @@ impl Model for Tally {
 
     ghost Value = { Counts };
 
-    ghost view = { λ t. record { entries = t.entries; forks = t.forks; not_ready = t.not_ready; refused = t.refused } };
+    ghost view = { λ t. record {
+      entries = t.entries;
+      forks = t.forks;
+      not_ready = t.not_ready;
+      refused = t.refused;
+    } };
 
-    ghost inverse = { λ c. record { entries = c.entries; forks = c.forks; not_ready = c.not_ready; refused = c.refused } };
+    ghost inverse = { λ c. record {
+      entries = c.entries;
+      forks = c.forks;
+      not_ready = c.not_ready;
+      refused = c.refused;
+    } };
 }
 
 impl Tally {
-    /// Of a history that has no entries yet.
+    /// The tally of a history that has no entries yet.
     #[tactic(auto, unfolding(crate::specs::Totals::tally_of))]
     pub fn new() -> Tally
         ensures { result ≡ tally_of [] }
@@ -115,6 +125,7 @@ impl Tally {
         }
     }
 
+    // Counts one more entry.
     fn add_entry(&mut self, entry: &Entry) -> Result<(), Memory>
         ensures { OnOk result (self.new ≡ with_entry self.old entry.now) }
     {
@@ -132,7 +143,8 @@ impl Tally {
         Ok(())
     }
 
-    /// Counts the entries that follow in the history. Memory: a count is past 64 bits, and the tally is of no use.
+    /// Counts the entries that follow in the history. Memory: a count is past 64 bits; nothing is said of the tally
+    /// then.
     pub fn add(&mut self, entries: &[Entry]) -> Result<(), Memory>
         ensures { (before : List Entry) → self.old ≡ tally_of before
             → OnOk result (self.new ≡ tally_of (before ++ entries.now)) }
