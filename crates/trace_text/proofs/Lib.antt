@@ -12,3 +12,4 @@ pub mod Ranges
 pub mod Runs
 pub mod Whole
 pub mod ReplyLaws
+pub mod Tallies

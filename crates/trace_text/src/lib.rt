@@ -25,13 +25,13 @@ pub use fault::CheckFault;
 pub use fields::push_values;
 pub use grammar::{is_call, is_reply};
 pub use names::{action_name, how_name, push_set, signal_argument, signal_name};
-pub use print::{write_trace, write_trace_over};
+pub use print::{push_entries, write_trace};
 pub use print_calls::push_call;
 pub use print_replies::push_reply;
 pub use read::{MAX_TRACE, begins_like_totals, fits, next_line, read_trace};
 pub use steps::write_steps;
 pub use text::{push, push_byte, push_number, push_quoted, push_signed};
 pub use totals::{
-    push_entries_total, push_not_ready_total, push_processes_total, push_refused_total,
-    write_totals,
+    Tally, push_entries_total, push_not_ready_total, push_processes_total, push_refused_total,
+    push_tally, write_totals,
 };

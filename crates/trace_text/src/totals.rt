@@ -1,11 +1,14 @@
 //! The totals line of a history: what it counts, and its text.
-ghost use Rattle.std.specs.Prelude.{◌≡◌, ◌≤◌, ◌++◌, length, count_by, sum_by, Some, if◌then◌else◌, IfOk, OnOk};
+ghost use Rattle.std.specs.Prelude.{◌≡◌, List, [], ◌++◌, Some, if◌then◌else◌, IfOk, OnOk};
 ghost use Rattle.kernel_model.specs.Trace as trace;
+ghost use Rattle.pico_base.specs.declared.reply.Entry.{Entry};
+ghost use Rattle.trace_text.specs.Totals.{tally_of, with_entry};
 
 use crate::fields::push_labelled;
 use crate::text::push_byte;
 use pico_base::{Bytes, Call, Entries, Entry, Errno, Memory, Outcome, Reply};
 use std::alloc::Global;
+use std::marker::Model;
 
 fn is_fork(entry: &Entry) -> bool
     ensures { result ≡ trace.is_fork entry.now.call }
@@ -78,37 +81,79 @@ fn refusals_of(outcome: &Outcome) -> Refusals
     }
 }
 
-// What the totals line counts beside the entries.
-#[derive(Clone, Copy)]
-struct Tally {
-    forks: usize,
-    not_ready: usize,
-    refused: usize,
+/// What the totals line counts of a history so far: its entries, those that fork, the replies that nothing was ready
+/// (ENOMSG and EAGAIN), and the other refusals. The entries themselves needn't be kept.
+#[derive(Clone, Copy, Debug, PartialEq, Eq)]
+pub struct Tally {
+    pub(crate) entries: u64,
+    pub(crate) forks: u64,
+    pub(crate) not_ready: u64,
+    pub(crate) refused: u64,
 }
 
-// More replies than memory has bytes count as want of memory.
-fn tally_of(journal: &[Entry]) -> Result<Tally, Memory>
-    ensures forks { IfOk result (λ tally. tally.forks ≡ count_by (λ e. trace.is_fork e.call) journal.now) }
-    ensures few { IfOk result (λ tally. tally.forks ≤ length journal.now) }
-    ensures not_ready { IfOk result
-        (λ tally. tally.not_ready ≡ sum_by (λ e. trace.replies_where trace.is_not_ready_reply e.outcome) journal.now) }
-    ensures refused { IfOk result
-        (λ tally. tally.refused ≡ sum_by (λ e. trace.replies_where trace.is_refused_reply e.outcome) journal.now) }
-{
-    let mut forks: usize = 0;
-    let mut not_ready: usize = 0;
-    let mut refused: usize = 0;
-    for entry in journal {
-        let more = refusals_of(&entry.outcome);
-        forks += usize::from(is_fork(entry));
-        not_ready = not_ready.checked_add(more.not_ready).ok_or(Memory)?;
-        refused = refused.checked_add(more.refused).ok_or(Memory)?;
+impl Model for Tally {
+    ghost use Rattle.trace_text.specs.Totals.{Counts};
+
+    ghost Value = { Counts };
+
+    ghost view = { λ t. record {
+      entries = t.entries;
+      forks = t.forks;
+      not_ready = t.not_ready;
+      refused = t.refused;
+    } };
+
+    ghost inverse = { λ c. record {
+      entries = c.entries;
+      forks = c.forks;
+      not_ready = c.not_ready;
+      refused = c.refused;
+    } };
+}
+
+impl Tally {
+    /// The tally of a history that has no entries yet.
+    #[tactic(auto, unfolding(crate::specs::Totals::tally_of))]
+    pub fn new() -> Tally
+        ensures { result ≡ tally_of [] }
+    {
+        Tally {
+            entries: 0,
+            forks: 0,
+            not_ready: 0,
+            refused: 0,
+        }
     }
-    Ok(Tally {
-        forks,
-        not_ready,
-        refused,
-    })
+
+    // Counts one more entry.
+    fn add_entry(&mut self, entry: &Entry) -> Result<(), Memory>
+        ensures { OnOk result (self.new ≡ with_entry self.old entry.now) }
+    {
+        let more = refusals_of(&entry.outcome);
+        self.entries = self.entries.checked_add(1).ok_or(Memory)?;
+        self.forks = self
+            .forks
+            .checked_add(u64::from(is_fork(entry)))
+            .ok_or(Memory)?;
+        self.not_ready = self
+            .not_ready
+            .checked_add(more.not_ready as u64)
+            .ok_or(Memory)?;
+        self.refused = self.refused.checked_add(more.refused as u64).ok_or(Memory)?;
+        Ok(())
+    }
+
+    /// Counts the entries that follow in the history. Memory: a count is past 64 bits; nothing is said of the tally
+    /// then.
+    pub fn add(&mut self, entries: &[Entry]) -> Result<(), Memory>
+        ensures { (before : List Entry) → self.old ≡ tally_of before
+            → OnOk result (self.new ≡ tally_of (before ++ entries.now)) }
+    {
+        for entry in entries {
+            self.add_entry(entry)?;
+        }
+        Ok(())
+    }
 }
 
 /// Adds the first part of the totals: the entries.
@@ -143,15 +188,28 @@ pub fn push_refused_total(out: &mut Vec<u8>, count: u64) -> Result<(), Memory>
     push_labelled(out, b" refused ", count)
 }
 
+/// Adds the totals line of the history that was counted: its entries, its processes (one more than its forks), the
+/// replies that nothing was ready, and the other refusals. Memory: more was needed, and an allocation was refused, or
+/// the processes are past 64 bits.
+#[tactic(auto, unfolding(crate::specs::Totals::tally_of))]
+pub fn push_tally(out: &mut Vec<u8>, tally: &Tally) -> Result<(), Memory>
+    ensures { (history : List Entry) → tally.now ≡ tally_of history
+        → OnOk result (out.new.items ≡ out.old.items ++ trace.totals_line history) }
+{
+    let processes = tally.forks.checked_add(1).ok_or(Memory)?;
+    push_entries_total(out, tally.entries)?;
+    push_processes_total(out, processes)?;
+    push_not_ready_total(out, tally.not_ready)?;
+    push_refused_total(out, tally.refused)?;
+    push_byte(out, b'\n')
+}
+
 pub(crate) fn push_totals(out: &mut Vec<u8>, journal: &[Entry]) -> Result<(), Memory>
     ensures { OnOk result (out.new.items ≡ out.old.items ++ trace.totals_line journal.now) }
 {
-    let tally = tally_of(journal)?;
-    push_entries_total(out, journal.len() as u64)?;
-    push_processes_total(out, 1 + tally.forks as u64)?;
-    push_not_ready_total(out, tally.not_ready as u64)?;
-    push_refused_total(out, tally.refused as u64)?;
-    push_byte(out, b'\n')
+    let mut tally = Tally::new();
+    tally.add(journal)?;
+    push_tally(out, &tally)
 }
 
 /// The last line of a history's text: its entries, its processes (one more than its forks), the entries where nothing

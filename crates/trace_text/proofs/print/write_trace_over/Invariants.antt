@@ -1,8 +1,0 @@
-use Rattle.std.proofs.Common.{◌≡◌, take}
-use Rattle.std.specs.List.{flat_map}
-use Rattle.kernel_model.specs.Trace as trace
-use Rattle.trace_text.proofs.print.write_trace_over.Given as goal
-
--- the lines so far
-abbrev pub invariant-loop-entry : goal.invariant-loop-entry
-invariant-loop-entry l = l.out.items ≡ flat_map (trace.entry_line l.script) (take l.entry-index l.journal)
