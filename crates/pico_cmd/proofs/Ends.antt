@@ -1,6 +1,6 @@
 -- What a run ends in, and its text.
-use Rattle.std.proofs.Common.{◌≡◌, List, [], ◌∷◌, ◌++◌, ℕ, Bool, Option, Some, None, Result, Ok, Err, sym, ap, subst, ◌∙◌}
-use Rattle.std.specs.Prelude.{IfOk, IfSome}
+use Rattle.std.proofs.Common.{◌≡◌, List, [], ◌∷◌, ◌++◌, ℕ, Bool, true, false, Result, Ok, Err, sym, ap, subst, ◌∙◌}
+use Rattle.std.specs.Prelude.{IfOk}
 use Rattle.pico_base.specs.declared.script.Event.{Event}
 use Rattle.pico_base.specs.declared.script.Script.{Script}
 use Rattle.kernel_model.specs.Trace.{totals_line, trace_text}
@@ -8,7 +8,10 @@ use Rattle.world_model.specs.World.{World, opening_world}
 use Rattle.world_model.specs.Run.{Runs}
 use Rattle.pico_words.specs.declared.words.Options.{Options}
 use Rattle.script_writer.specs.Generated.{generated}
-use Rattle.pico_cmd.specs.Run.{IsRunTo, IsTextOfRun, IsTotalsOfRun, steps_if}
+use Rattle.pico_base.specs.declared.reply.Entry.{Entry}
+use Rattle.pico_cmd.specs.declared.telling.Telling.{Telling}
+use Rattle.pico_cmd.specs.Run.{IsTextOfRun, IsTotalsOfRun, steps_if}
+use Rattle.pico_cmd.specs.Telling.{IsToldRun, Tells, lines_if}
 use Rattle.pico_cmd.proofs.Runs.{step_script}
 
 -- a run keeps the script
@@ -16,39 +19,52 @@ runs_keep : (w last : World) (es : List Event) → Runs w es last → last.scrip
 runs_keep w last [] r = ap (λ (x : World). x.script) (sym r)
 runs_keep w last (e ∷ es) r = runs_keep r.next last es r.rest ∙ step_script w e r.next r.steps
 
+-- what is told of a run comes to such a text
+abbrev pub Gives : {E : Type 0} → Telling → Bool → List Event → Result (List ℕ) E → Type 0
+Gives telling steps es r =
+    (script : Script) (history : List Entry) → Tells script history telling
+    → IfOk r (λ text. text ≡ (lines_if telling.lines script history ++ totals_line history) ++ steps_if steps es)
+
 -- the text of a run is that of the script's
-pub text_told : {E : Type 0} (script : Script) (options : Options) (es : List Event) (world : Option World)
+pub text_told : {E : Type 0} (script : Script) (options : Options) (es : List Event) (telling : Telling)
     (r : Result (List ℕ) E)
-    → IsRunTo script options.seed es world
-    → IfOk r (λ text. IfSome world (λ last. text ≡ trace_text last.script last.journal ++ steps_if options.steps es))
+    → IsToldRun script options.seed es telling → telling.lines ≡ true → Gives telling options.steps es r
     → IfOk r (IsTextOfRun script options)
-text_told script options es None r run told = absurd run
-text_told script options es (Some last) (Err e) run told = tt
-text_told script options es (Some last) (Ok text) run told =
-    record {
+text_told script options es telling (Err e) run wanted gives = tt
+text_told script options es telling (Ok text) run wanted gives =
+    let last : World = run.last
+    in record {
       events = es;
       last = last;
-      run = run;
-      is_text = told ∙ ap (λ (s : Script). trace_text s last.journal ++ steps_if options.steps es)
-          (runs_keep (opening_world script) last es run.run);
+      run = run.run;
+      is_text = gives last.script last.journal run.tells
+          ∙ ap (λ (b : Bool).
+          (lines_if b last.script last.journal ++ totals_line last.journal) ++ steps_if options.steps es) wanted
+          ∙ ap (λ (s : Script). trace_text s last.journal ++ steps_if options.steps es)
+          (runs_keep (opening_world script) last es run.run.run);
     }
 
 -- and so are its totals
-totals_of : {E : Type 0} (script : Script) (steps : Bool) (es : List Event) (world : Option World)
+totals_of : {E : Type 0} (script : Script) (steps : Bool) (es : List Event) (telling : Telling)
     (r : Result (List ℕ) E)
-    → IsRunTo script 0 es world
-    → IfOk r (λ text. IfSome world (λ last. text ≡ totals_line last.journal ++ steps_if steps es))
+    → IsToldRun script 0 es telling → telling.lines ≡ false → Gives telling steps es r
     → IfOk r (IsTotalsOfRun script steps)
-totals_of script steps es None r run told = absurd run
-totals_of script steps es (Some last) (Err e) run told = tt
-totals_of script steps es (Some last) (Ok text) run told =
-    record { events = es; last = last; run = run; is_text = told }
+totals_of script steps es telling (Err e) run wanted gives = tt
+totals_of script steps es telling (Ok text) run wanted gives =
+    let last : World = run.last
+    in record {
+      events = es;
+      last = last;
+      run = run.run;
+      is_text = gives last.script last.journal run.tells
+          ∙ ap (λ (b : Bool).
+          (lines_if b last.script last.journal ++ totals_line last.journal) ++ steps_if steps es) wanted;
+    }
 
 -- of a generated script
-pub totals_told : {E : Type 0} (script : Script) (number : ℕ) (steps : Bool) (es : List Event) (world : Option World)
+pub totals_told : {E : Type 0} (script : Script) (number : ℕ) (steps : Bool) (es : List Event) (telling : Telling)
     (r : Result (List ℕ) E)
-    → script ≡ generated number → IsRunTo script 0 es world
-    → IfOk r (λ text. IfSome world (λ last. text ≡ totals_line last.journal ++ steps_if steps es))
+    → script ≡ generated number → IsToldRun script 0 es telling → telling.lines ≡ false → Gives telling steps es r
     → IfOk r (IsTotalsOfRun (generated number) steps)
-totals_told script number steps es world r same run told =
-    subst (λ (s : Script). IfOk r (IsTotalsOfRun s steps)) same (totals_of script steps es world r run told)
+totals_told script number steps es telling r same run wanted gives =
+    subst (λ (s : Script). IfOk r (IsTotalsOfRun s steps)) same (totals_of script steps es telling r run wanted gives)

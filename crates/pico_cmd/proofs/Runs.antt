@@ -1,6 +1,5 @@
 -- A run as it goes on, event by event.
 use Rattle.std.proofs.Common.{◌≡◌, ℕ, ◌+◌, ◌-◌, ◌*◌, ◌<◌, ◌≤◌, true, List, [], ◌∷◌, ◌++◌, length, take, Bool, false, nat_eq, if◌then◌else◌, Option, Some, None, refl, sym, ap, subst, ◌∙◌, arith}
-use Rattle.std.specs.Prelude.{IfSome, IsSome}
 use Rattle.std.proofs.lemmas.List.{length-append}
 use Rattle.pico_base.specs.declared.script.Event.{Event}
 use Rattle.pico_base.specs.declared.script.Event.TheVariants as events
@@ -18,8 +17,7 @@ use Rattle.world_runs.specs.Laws.{JournalsAreLegal, RunsAreShort}
 use Rattle.world_rest.specs.Laws.{NamesHaveOneOwner, NoneLivesAtRest, RestIsQuiet, RestIsWhole}
 use Rattle.world_weights.specs.Weights.{calls_of}
 use Rattle.world_core.specs.Laws.{IsWithin, RestIsWhereNothingIsChosen}
-use Rattle.world_core.specs.Stepped.{IsStepped}
-use Rattle.pico_cmd.specs.Run.{IsRunTo, IsScheduledRun}
+use Rattle.pico_cmd.specs.Run.{IsScheduledRun}
 use Rattle.pico_cmd.proofs.Chosen.{IsNext, choice_next}
 
 -- a step keeps the script
@@ -98,11 +96,8 @@ Runs-more w now next (e1 ∷ es) e r enabled stepped =
       rest = Runs-more r.next now next es e r.rest enabled stepped;
     }
 
--- the run so far
-pub record IsUnderWay (script : Script) (seed : ℕ) (taken : List Event) (world : Option World)
-    (at : Schedule) : Type 0 where
-  pub now : World
-  pub is_now : world ≡ Some now
+-- the run so far, which has led to this world and schedule
+pub record IsUnderWay (script : Script) (seed : ℕ) (taken : List Event) (now : World) (at : Schedule) : Type 0 where
   pub same : now.script ≡ script
   pub of_world : IsWithin (size now) at
   pub takes : Takes (opening_world script) (schedule_of seed (node_count script)) taken now at
@@ -123,13 +118,11 @@ of_after w next (InTurn last) e same le = subst (λ (s : Script). node_of e ≤ 
 of_after w next (Drawn x) e same le = tt
 
 -- a run begins
-pub IsUnderWay-start : (script : Script) (seed : ℕ) (taken : List Event) (world : Option World) (at : Schedule)
-    → taken ≡ [] → world ≡ Some (opening_world script) → at ≡ schedule_of seed (node_count script)
-    → IsUnderWay script seed taken world at
-IsUnderWay-start script seed taken world at none opening first =
+pub IsUnderWay-start : (script : Script) (seed : ℕ) (taken : List Event) (at : Schedule)
+    → taken ≡ [] → at ≡ schedule_of seed (node_count script)
+    → IsUnderWay script seed taken (opening_world script) at
+IsUnderWay-start script seed taken at none first =
     record {
-      now = opening_world script;
-      is_now = opening;
       same = refl;
       of_world = subst (λ (s : Schedule). IsWithin (node_count script) s) (sym first)
           (of_first (opening_world script) (nat_eq seed 0) (node_count script) seed (omega arith));
@@ -142,99 +135,60 @@ IsUnderWay-start script seed taken world at none opening first =
       run = subst (λ (es : List Event). IsRunOf script es (opening_world script)) (sym none) refl;
     }
 
--- the event that the schedule chooses
-chosen_now : (script : Script) (seed : ℕ) (taken : List Event) (world : Option World) (at : Schedule) (r : Option Event)
-    (u : IsUnderWay script seed taken world at) → IfSome world (λ w. r ≡ choice w at) → choice u.now at ≡ r
-chosen_now script seed taken world at r u chosen =
-    sym (subst (λ (o : Option World). IfSome o (λ w. r ≡ choice w at)) u.is_now chosen)
-
-next_now : (script : Script) (seed : ℕ) (taken : List Event) (world : Option World) (at : Schedule) (r : Option Event)
-    (e : Event)
-    (u : IsUnderWay script seed taken world at) → IfSome world (λ w. r ≡ choice w at) → r ≡ Some e
-    → IsNext u.now (size u.now) e
-next_now script seed taken world at r e u chosen is =
-    choice_next u.now at e u.of_world (chosen_now script seed taken world at r u chosen ∙ is)
-
--- the world of a run that is under way is there
-pub world_is_whole : (script : Script) (seed : ℕ) (taken : List Event) (world : Option World) (at : Schedule)
-    → IsUnderWay script seed taken world at → IsSome world
-world_is_whole script seed taken world at u = subst IsSome (sym u.is_now) refl
-
--- the last event of the schedule was of one of the world's nodes
-pub world_has_last : (script : Script) (seed : ℕ) (taken : List Event) (world : Option World) (at : Schedule)
-    → IsUnderWay script seed taken world at → IfSome world (λ w. IsWithin (size w) at)
-world_has_last script seed taken world at u =
-    subst (λ (o : Option World). IfSome o (λ w. IsWithin (size w) at)) (sym u.is_now) u.of_world
-
--- the event that was chosen is enabled in the world
-pub chosen_is_enabled : (script : Script) (seed : ℕ) (taken : List Event) (world : Option World) (at : Schedule)
-    (r : Option Event) (e : Event)
-    → IsUnderWay script seed taken world at → IfSome world (λ w. r ≡ choice w at) → r ≡ Some e
-    → IfSome world (λ w. is_enabled w e ≡ true)
-chosen_is_enabled script seed taken world at r e u chosen is =
-    subst (λ (o : Option World). IfSome o (λ w. is_enabled w e ≡ true)) (sym u.is_now)
-    (next_now script seed taken world at r e u chosen is).enabled
-
-same_world : (world : Option World) (w now : World) → world ≡ Some w → world ≡ Some now → w ≡ now
-same_world world w now a b = let e : Some w ≡ Some now = sym a ∙ b in cc
+-- the event that the schedule chooses is enabled, and of one of the world's nodes
+pub chosen_is_next : (script : Script) (seed : ℕ) (taken : List Event) (now : World) (at : Schedule) (e : Event)
+    → IsUnderWay script seed taken now at → choice now at ≡ Some e → IsNext now (size now) e
+chosen_is_next script seed taken now at e u chosen = choice_next now at e u.of_world chosen
 
 -- a run goes on
-pub IsUnderWay-more : (script : Script) (seed : ℕ) (taken more : List Event) (world new : Option World)
-    (at next_at : Schedule) (r : Option Event) (e : Event)
-    → IsUnderWay script seed taken world at → IfSome world (λ w. r ≡ choice w at) → r ≡ Some e → IsStepped world e new
-    → next_at ≡ schedule_after at e → more ≡ taken ++ e ∷ [] → IsUnderWay script seed more new next_at
-IsUnderWay-more script seed taken more world new at next_at r e u chosen is s after_it with_it =
-    let stepped : step u.now e ≡ Some s.1 =
-    subst (λ (x : World). step x e ≡ Some s.1) (same_world world s.0 u.now s.2 u.is_now) s.4
-    in let same : s.1.script ≡ u.now.script = step_script u.now e s.1 stepped
+pub IsUnderWay-more : (script : Script) (seed : ℕ) (taken more : List Event) (now next : World)
+    (at next_at : Schedule) (e : Event)
+    → IsUnderWay script seed taken now at → choice now at ≡ Some e → step now e ≡ Some next
+    → next_at ≡ schedule_after at e → more ≡ taken ++ e ∷ [] → IsUnderWay script seed more next next_at
+IsUnderWay-more script seed taken more now next at next_at e u chosen stepped after_it with_it =
+    let is_next : IsNext now (size now) e = chosen_is_next script seed taken now at e u chosen
+    in let same : next.script ≡ now.script = step_script now e next stepped
     in let first : World = opening_world script
     in let begins : Schedule = schedule_of seed (node_count script)
     in record {
-      now = s.1;
-      is_now = s.3;
       same = same ∙ u.same;
-      of_world = subst (λ (x : Schedule). IsWithin (size s.1) x) (sym after_it)
-          (of_after u.now s.1 at e same (next_now script seed taken world at r e u chosen is).within);
-      takes = subst (λ (x : Schedule). Takes first begins more s.1 x) (sym after_it)
-          (subst (λ (es : List Event). Takes first begins es s.1 (schedule_after at e)) (sym with_it)
-          (Takes-more first begins taken u.now at e s.1 u.takes
-          (chosen_now script seed taken world at r u chosen ∙ is) stepped));
-      run = subst (λ (es : List Event). IsRunOf script es s.1) (sym with_it)
-          (Runs-more first u.now s.1 taken e u.run
-          (next_now script seed taken world at r e u chosen is).enabled stepped);
+      of_world = subst (λ (x : Schedule). IsWithin (size next) x) (sym after_it)
+          (of_after now next at e same is_next.within);
+      takes = subst (λ (x : Schedule). Takes first begins more next x) (sym after_it)
+          (subst (λ (es : List Event). Takes first begins es next (schedule_after at e)) (sym with_it)
+          (Takes-more first begins taken now at e next u.takes chosen stepped));
+      run = subst (λ (es : List Event). IsRunOf script es next) (sym with_it)
+          (Runs-more first now next taken e u.run is_next.enabled stepped);
     }
 
 -- With one event more there are fewer left, since no run has more than 32 a call.
-pub fewer_left : (script : Script) (seed : ℕ) (taken more : List Event) (world : Option World) (at : Schedule)
+pub fewer_left : (script : Script) (seed : ℕ) (taken more : List Event) (now : World) (at : Schedule)
     (e : Event)
-    → RunsAreShort → IsSoundScript script → more ≡ taken ++ e ∷ [] → IsUnderWay script seed more world at
+    → RunsAreShort → IsSoundScript script → more ≡ taken ++ e ∷ [] → IsUnderWay script seed more now at
     → events_left script more < events_left script taken
-fewer_left script seed taken more world at e short sound with_it u =
-    let within : length more ≤ 32 * calls_of script = short script sound more u.now u.run
+fewer_left script seed taken more now at e short sound with_it u =
+    let within : length more ≤ 32 * calls_of script = short script sound more now u.run
     in let longer : length more ≡ length taken + 1 = ap length with_it ∙ length-append taken (e ∷ [])
     in omega (arith, within, longer)
 
 -- a run ends
-pub IsUnderWay-end : (script : Script) (seed : ℕ) (taken : List Event) (world : Option World) (at : Schedule)
-    (r : Option Event)
+pub IsUnderWay-end : (script : Script) (seed : ℕ) (taken : List Event) (now : World) (at : Schedule)
     → JournalsAreLegal → RestIsQuiet → NoneLivesAtRest → RestIsWhole → NamesHaveOneOwner → RunsAreShort
     → RestIsWhereNothingIsChosen → IsSoundScript script
-    → IsUnderWay script seed taken world at → IfSome world (λ w. r ≡ choice w at) → r ≡ None
-    → IsRunTo script seed taken world
-IsUnderWay-end script seed taken world at r legal quiet ended whole owned short rests sound u chosen none =
-    let nothing : choice u.now at ≡ None = chosen_now script seed taken world at r u chosen ∙ none
-    in let rest : IsAtRest u.now = rests script u.now at (taken, u.run) u.of_world nothing
-    in let run : IsScheduledRun script seed taken u.now = record {
+    → IsUnderWay script seed taken now at → choice now at ≡ None
+    → IsScheduledRun script seed taken now
+IsUnderWay-end script seed taken now at legal quiet ended whole owned short rests sound u nothing =
+    let rest : IsAtRest now = rests script now at (taken, u.run) u.of_world nothing
+    in record {
       schedule = Takes-end (opening_world script)
-          (schedule_of seed (node_count script)) taken u.now at u.takes nothing;
+          (schedule_of seed (node_count script)) taken now at u.takes nothing;
       run = u.run;
       rest = rest;
-      quiet = quiet script u.now sound (taken, u.run) rest;
-      ended = λ k pid. ended script u.now k pid sound (taken, u.run) rest;
-      legal = (legal script u.now sound (taken, u.run)).0;
-      whole = whole script u.now sound (taken, u.run) rest;
+      quiet = quiet script now sound (taken, u.run) rest;
+      ended = λ k pid. ended script now k pid sound (taken, u.run) rest;
+      legal = (legal script now sound (taken, u.run)).0;
+      whole = whole script now sound (taken, u.run) rest;
       legal_so_far = λ count w front. (legal script w sound (take count taken, front)).0;
       owners = λ count w k name front. owned script w k name sound (take count taken, front);
-      short = short script sound taken u.now u.run;
+      short = short script sound taken now u.run;
     }
-    in subst (λ (o : Option World). IsRunTo script seed taken o) (sym u.is_now) run

@@ -1,5 +1,5 @@
 -- What a run of a script comes to.
-use Rattle.std.specs.Prelude.{◌≡◌, ◌≤◌, ℕ, ◌*◌, Bool, true, false, List, [], ◌++◌, length, take, Option, Some, None}
+use Rattle.std.specs.Prelude.{◌≡◌, ◌≤◌, ℕ, ◌*◌, Bool, true, false, List, [], ◌++◌, length, take, None}
 use Rattle.pico_base.specs.declared.numbers.Name.{Name}
 use Rattle.pico_base.specs.declared.script.Script.{Script}
 use Rattle.pico_base.specs.declared.script.Event.{Event}
@@ -38,11 +38,6 @@ pub record IsScheduledRun (script : Script) (seed : ℕ) (events : List Event) (
       → Replays opening w.journal k → owners name w ≡ one_if (is_used_name k name)
   -- there are at most 32 events for each call
   pub short : length events ≤ 32 * calls_of script
-
--- such a run ends in this world, which isn't spent
-abbrev pub IsRunTo : Script → ℕ → List Event → Option World → Type 0
-IsRunTo script seed events None = ⊥
-IsRunTo script seed events (Some last) = IsScheduledRun script seed events last
 
 -- the text of the events, where it is wanted
 abbrev pub steps_if : Bool → List Event → List ℕ

@@ -1,21 +1,23 @@
 //! The answer to a script's bytes: a status, and the text that goes with it.
-ghost use Rattle.std.specs.Prelude.{◌≡◌, ◌⊎◌, ◌++◌, ℕ, IfOk, OnOk, IfSome, IsSome};
+ghost use Rattle.std.specs.Prelude.{◌≡◌, ◌⊎◌, ◌++◌, ℕ, List, IfOk};
 ghost use Rattle.pico_base.specs.declared.script.Script.{Script as ScriptValue};
 ghost use Rattle.kernel_model.specs.Script.{IsSoundScript};
-ghost use Rattle.kernel_model.specs.Trace.{trace_text};
+ghost use Rattle.kernel_model.specs.Trace.{totals_line};
+ghost use Rattle.pico_base.specs.declared.reply.Entry.{Entry as EntryValue};
 ghost use Rattle.script_reader.specs.declared.fault.ScriptFault.{ScriptFault as FaultValue};
 ghost use Rattle.script_reader.specs.Fault.{Reads, IsFirstFault};
-ghost use Rattle.pico_cmd.specs.Run.{IsRunTo, IsTextOfRun, steps_if};
+ghost use Rattle.pico_cmd.specs.Run.{IsTextOfRun, steps_if};
+ghost use Rattle.pico_cmd.specs.Telling.{Tells, lines_if};
 ghost use Rattle.pico_cmd.specs.Promise.{Simulates, fault_text};
 
 use crate::run::{Run, run_script};
 use crate::status::Status;
+use crate::telling::Telling;
 use pico_base::{Bytes, Event, Memory, Script};
 use pico_words::Options;
 use script_reader::{ScriptFault, ScriptStop, read_script};
 use std::alloc::Global;
-use std::mem::ManuallyDrop;
-use trace_text::{push, push_byte, push_number, write_steps, write_trace_over};
+use trace_text::{push, push_byte, push_number, write_steps};
 
 /// A status, and the text that is written with it.
 #[derive(Drop)]
@@ -54,20 +56,14 @@ pub fn with_steps(
     Ok(Bytes::from_vec(whole))
 }
 
-// The text of a run: its trace, and its events where they are wanted. It stands in the memory of what was read.
-fn text_of(alloc: Global, run: &Run, steps: bool, read: Bytes) -> Result<Bytes, Memory>
-    requires { IsSome run.now.world }
-    ensures { IfOk result (λ text. IfSome run.now.world (λ last.
-        text ≡ trace_text last.script last.journal ++ steps_if steps run.now.events.items)) }
+/// The text of a run: what was told of its journal, and its events where they are wanted.
+pub fn text_of(alloc: Global, run: Run, steps: bool) -> Result<Bytes, Memory>
+    ensures { (script : ScriptValue) (history : List EntryValue) → Tells script history run.telling
+        → IfOk result (λ text. text
+        ≡ (lines_if run.telling.lines script history ++ totals_line history) ++ steps_if steps run.events.items) }
 {
-    let trace = write_trace_over(read, run.world.script(), run.world.journal())?;
-    with_steps(alloc, trace, steps, &run.events)
-}
-
-// A run whose text is made is left as it is: the program ends soon, and the system takes back its memory at once, not
-// piece by piece.
-fn leave(run: Run) {
-    let _left = ManuallyDrop::new(run);
+    let Run { events, telling } = run;
+    with_steps(alloc, telling.finish()?, steps, &events)
 }
 
 // The text of a script's run by the schedule that is asked for, in the memory of what was read.
@@ -80,10 +76,8 @@ fn text_of_run(
     requires { IsSoundScript script }
     ensures { IfOk result (IsTextOfRun script options) }
 {
-    let run = run_script(alloc, script, options.seed)?;
-    let text = text_of(alloc, &run, options.steps, read);
-    leave(run);
-    text
+    let run = run_script(alloc, script, options.seed, Telling::of_lines(read))?;
+    text_of(alloc, run, options.steps)
 }
 
 /// The answer to these bytes: the trace of the script that they are, and its events where they are wanted, or their

@@ -10,6 +10,7 @@ mod program;
 mod run;
 mod schedule;
 mod status;
+mod telling;
 
 use host_iface::{OpenGate, StdSink, StdSource};
 pub use program::{Ran, pico};

@@ -6,7 +6,7 @@ ghost use Rattle.world_core.specs.Laws.{IsWithin};
 ghost use Rattle.pico_cmd.specs.Schedule.{schedule_in};
 
 use pico_base::{Event, Node};
-use world_core::World;
+use world_core::StreamingWorld;
 
 /// A schedule of a simulation.
 #[derive(Clone, Copy, Debug, PartialEq, Eq)]
@@ -35,7 +35,7 @@ fn node_of(event: &Event) -> Node
 }
 
 // The enabled event that a drawn number stands for.
-fn event_drawn(world: &World, number: u32) -> Option<Event>
+fn event_drawn(world: &StreamingWorld, number: u32) -> Option<Event>
     requires { IsSome world.now }
     ensures { IfSome world.now (λ w.
         result ≡ slice_get (machine.enabled_events w) (number % length (machine.enabled_events w))) }
@@ -60,7 +60,7 @@ impl Schedule {
     }
 
     /// The event that comes next; none where no event is enabled.
-    pub fn choice(&self, world: &World) -> Option<Event>
+    pub fn choice(&self, world: &StreamingWorld) -> Option<Event>
         requires whole { IsSome world.now }
         requires within { IfSome world.now (λ w. IsWithin (size w) (schedule_in self.now)) }
         ensures { IfSome world.now (λ w. result ≡ machine.choice w (schedule_in self.now)) }

@@ -1,5 +1,11 @@
+use Rattle.std.proofs.Common.{◌∙◌}
 use Rattle.pico_cmd.proofs.Ends.{text_told}
 use Rattle.pico_cmd.proofs.answer.text_of_run.Goals as goal
 
 pub returns : goal.returns
-returns c = text_told _ _ _ _ _ c.in_ok-run.ensures c.text_of-text.ensures
+returns c =
+    text_told _ _ _ _ _ c.in_ok-run.ensures.told (c.in_ok-run.ensures.lines ∙ c.of_lines.ensures.wanted)
+    c.text_of.ensures
+
+pub run_script-requires-clause-fresh : goal.run_script-requires-clause-fresh
+run_script-requires-clause-fresh c = c.of_lines.ensures.tells c.args.script

@@ -1,0 +1,36 @@
+-- What was told of a history: the lines of its entries, where they are wanted, and what the totals count.
+use Rattle.std.specs.Prelude.{◌≡◌, ℕ, Bool, true, false, List, [], Option, Some}
+use Rattle.std.specs.List.{flat_map}
+use Rattle.pico_base.specs.declared.script.Script.{Script}
+use Rattle.pico_base.specs.declared.script.Event.{Event}
+use Rattle.pico_base.specs.declared.reply.Entry.{Entry}
+use Rattle.kernel_model.specs.Trace.{entry_line}
+use Rattle.world_model.specs.World.{World}
+use Rattle.world_core.specs.Behind.{behind}
+use Rattle.trace_text.specs.Totals.{tally_of}
+use Rattle.pico_cmd.specs.declared.telling.Telling.{Telling}
+use Rattle.pico_cmd.specs.Run.{IsScheduledRun}
+
+-- the lines of these entries, where they are wanted
+abbrev pub lines_if : Bool → Script → List Entry → List ℕ
+lines_if true script entries = flat_map (entry_line script) entries
+lines_if false script entries = []
+
+-- just these entries were told
+pub record Tells (script : Script) (entries : List Entry) (telling : Telling) : Type 0 where
+  pub text : telling.text.items ≡ lines_if telling.lines script entries
+  pub tally : telling.tally ≡ tally_of entries
+
+-- what was told and what a world still keeps of its journal make up this world
+pub record MakeUp (whole : World) (telling : Telling) (world : Option World) : Type 0 where
+  pub told : List Entry
+  pub kept : World
+  pub is_kept : world ≡ Some kept
+  pub is_whole : behind told kept ≡ whole
+  pub tells : Tells whole.script told telling
+
+-- the run of a script that the schedule of this number takes, whose whole journal was told
+pub record IsToldRun (script : Script) (seed : ℕ) (events : List Event) (telling : Telling) : Type 0 where
+  pub last : World
+  pub run : IsScheduledRun script seed events last
+  pub tells : Tells last.script last.journal telling
