@@ -1,3 +1,4 @@
+pub mod Heads
 pub mod Lowest
 pub mod Messages
 pub mod Receiving

@@ -9,13 +9,13 @@ ghost use Rattle.sysv_msg.specs.Reading.{text_at, class_at, message_at, messages
 ghost use Rattle.sysv_msg.specs.Measured.{Measures, HasBody, HasFields};
 ghost use Rattle.sysv_msg.specs.Packed.{TellsPacked};
 
+use crate::Queue;
 use crate::pack::CODE;
 use crate::queue::{MAX_BYTES, MAX_MESSAGES, MAX_TEXT};
-use crate::{Message, Queue};
+use crate::store::Messages;
 use body_fields::{u16_upto, u32_at, u32_upto};
-use pico_base::{Bytes, Memory, Pid, UnpackFault};
+use pico_base::{Memory, Pid, UnpackFault};
 use std::alloc::Global;
-use std::collections::VecDeque;
 
 /// The fields of a packed queue, with the bytes of its messages, whose texts leave room for so many bytes more.
 #[derive(Clone, Copy)]
@@ -124,23 +124,27 @@ fn unpack_fields(bytes: &[u8]) -> Option<Fields<'_>>
     queue_fields(bytes)
 }
 
-/// Copies the messages of bytes that were read.
-fn copy_messages(alloc: Global, count: u16, bytes: &[u8]) -> Result<VecDeque<Message>, Memory>
+/// Copies the messages of bytes that were read, whose texts have so many bytes.
+fn copy_messages(
+    alloc: Global,
+    count: u16,
+    bytes_of_texts: usize,
+    bytes: &[u8],
+) -> Result<Messages, Memory>
     requires { IsSome (messages_at count max_queue_bytes bytes.now) }
     ensures { IfOk result
-        (λ messages. messages_in (messages_at count max_queue_bytes bytes.now) ≡ Some messages.items) }
+        (λ messages. messages_in (messages_at count max_queue_bytes bytes.now) ≡ Some messages) }
 {
-    let mut messages = Vec::with_capacity(alloc, usize::from(count))?;
+    let mut messages = Messages::with_room(alloc, usize::from(count), bytes_of_texts)?;
     let mut room = MAX_BYTES;
     let mut rest = bytes;
     for _ in 0..count {
         let (class, text, after) = message_of(room, rest).unwrap();
         room -= text.len() as u32;
-        let text = Bytes::from_slice(alloc, text)?;
-        messages.push(Message { class, text })?;
+        messages.add(class, text)?;
         rest = after;
     }
-    Ok(VecDeque::from_vec(messages))
+    Ok(messages)
 }
 
 impl Queue {
@@ -161,10 +165,11 @@ impl Queue {
         ensures refused { IfErr result (Refuses (λ q. IsBodyOf q bytes.now)) }
     {
         let fields = unpack_fields(bytes).ok_or(UnpackFault::NotABody)?;
-        let messages = copy_messages(alloc, fields.count, fields.messages)?;
+        let bytes = (MAX_BYTES - fields.room) as usize;
+        let messages = copy_messages(alloc, fields.count, bytes, fields.messages)?;
         Ok(Queue {
             messages,
-            bytes: (MAX_BYTES - fields.room) as usize,
+            bytes,
             qbytes: fields.qbytes,
             last_sender: Pid(fields.sender),
             last_receiver: Pid(fields.receiver),

@@ -7,7 +7,7 @@ use Rattle.sysv_msg.proofs.unpack.copy_messages.Goals as goal
 
 pub unwrap-class-requires : goal.unwrap-class-requires
 unwrap-class-requires c =
-    some_message _ c.message_of.result c.loop.messages.items c.args.count c.loop.counter c.loop.room c.loop.rest.now
+    some_message _ c.message_of.result c.loop.messages c.args.count c.loop.counter c.loop.room c.loop.rest.now
     (messages_at c.args.count max_queue_bytes c.args.bytes.now) c.loop-test.true c.requires
     c.message_of.ensures.read c.loop.invariant
 
@@ -17,13 +17,12 @@ loop-preserved c =
     let read : message_at c.loop.room c.loop.rest.now ≡ Some (m, c.unwrap-class.result.2.now) =
     rw c.unwrap-class.ensures at c.message_of.ensures.read in
     let fits : SFits w32 c.unwrap-class.result.0 = search rules in
-    rw (c.in_ok-push.ensures.items, c.in_ok-text.ensures, to_z-of_z w32 c.unwrap-class.result.0 fits)
-    (goes_on c.loop.messages.items c.args.count c.loop.counter c.loop.room c.loop.rest.now m
+    rw (c.in_ok-add.ensures.ok, to_z-of_z w32 c.unwrap-class.result.0 fits)
+    (goes_on c.loop.messages c.args.count c.loop.counter c.loop.room c.loop.rest.now m
     c.unwrap-class.result.2.now
     (messages_at c.args.count max_queue_bytes c.args.bytes.now) c.loop-test.true read c.loop.invariant)
 
 pub returns : goal.returns
 returns c =
-    rw c.from_vec.ensures.items
-    (ap messages_in (is_done c.loop.messages.items c.args.count c.loop.counter c.loop.room c.loop.rest.now
-    (messages_at c.args.count max_queue_bytes c.args.bytes.now) c.loop-test.false c.loop.invariant))
+    ap messages_in (is_done c.loop.messages c.args.count c.loop.counter c.loop.room c.loop.rest.now
+    (messages_at c.args.count max_queue_bytes c.args.bytes.now) c.loop-test.false c.loop.invariant)

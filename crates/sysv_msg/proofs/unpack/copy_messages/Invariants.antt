@@ -5,5 +5,5 @@ use Rattle.sysv_msg.specs.Reading.{messages_at}
 use Rattle.sysv_msg.proofs.unpack.copy_messages.Given as goal
 
 abbrev pub invariant-loop : goal.invariant-loop
-invariant-loop l = with_front l.messages.items (messages_at (l.count - l.counter) l.room l.rest)
+invariant-loop l = with_front l.messages (messages_at (l.count - l.counter) l.room l.rest)
     ≡ messages_at l.count max_queue_bytes l.bytes
