@@ -1,11 +1,11 @@
 -- Messages whose texts lie in one buffer: a text more in the buffer, a message less, and what the types alone select.
-use Rattle.std.proofs.Common.{◌≡◌, ℕ, zero, suc, ◌+◌, ◌-◌, ◌≤◌, ◌<◌, Bool, true, false, cond, not, ltb, ℤ, pos, negsuc, List, [], ◌∷◌, ◌++◌, length, map, take, drop, get_or, Option, Some, None, refl, sym, ap, ◌∙◌, subst, arith}
-use Rattle.std.specs.Prelude.{remove, int_le, position}
+use Rattle.std.proofs.Common.{◌≡◌, ℕ, zero, suc, ◌+◌, ◌≤◌, ◌<◌, not, ℤ, pos, negsuc, List, [], ◌∷◌, ◌++◌, length, map, take, drop, get_or, Option, Some, None, refl, sym, ap, ◌∙◌, subst, arith}
+use Rattle.std.specs.Prelude.{remove, position}
 use Rattle.std.specs.List.{AllByRecursion, prefix_len}
 use Rattle.std.specs.Ordering.{int_eq}
-use Rattle.std.proofs.Math.Seq.{take-append_seam, drop-append_seam, drop-cons, take-length}
-use Rattle.std.proofs.lemmas.List.{map-append, length-map, length-append, take-append-le, drop-append-le, length-drop, append-nil}
-use Rattle.kernel_model.specs.Queue.{Message, first_of, first_of_some, lowest_upto, lower_of, select}
+use Rattle.std.proofs.Math.Seq.{drop-append_seam, drop-cons, take-length}
+use Rattle.std.proofs.lemmas.List.{map-append, length-map, length-append, take-append-le, drop-append-le, length-drop}
+use Rattle.kernel_model.specs.Queue.{Message, first_of, first_of_some, lowest_upto, select}
 use Rattle.sysv_msg.specs.declared.store.Head.{Head}
 use Rattle.sysv_msg.specs.Heads.{IsWithin, text_in, message_in, messages_in, bare}
 use Rattle.sysv_msg.specs.Limits.{IsSendable}
@@ -33,7 +33,7 @@ within_more texts more (h ∷ heads) within =
     let first = within.0 in
     (omega (arith, first, length-append texts more), within_more texts more heads within.1)
 
-all_joined : {X : Type 0} (P : X → Type 0) (xs ys : List X) → AllByRecursion P xs → AllByRecursion P ys
+pub all_joined : {X : Type 0} (P : X → Type 0) (xs ys : List X) → AllByRecursion P xs → AllByRecursion P ys
     → AllByRecursion P (xs ++ ys)
 all_joined P [] ys h k = k
 all_joined P (x ∷ xs) ys h k = (h.0, all_joined P xs ys h.1 k)

@@ -4,5 +4,6 @@ pub mod Messages
 pub mod Receiving
 pub mod Selected
 pub mod Loop
+pub mod Copied
 pub mod Bodies
 mod Examples

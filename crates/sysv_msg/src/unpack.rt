@@ -12,10 +12,11 @@ ghost use Rattle.sysv_msg.specs.Packed.{TellsPacked};
 use crate::Queue;
 use crate::pack::CODE;
 use crate::queue::{MAX_BYTES, MAX_MESSAGES, MAX_TEXT};
-use crate::store::Messages;
+use crate::store::{Head, Messages};
 use body_fields::{u16_upto, u32_at, u32_upto};
 use pico_base::{Memory, Pid, UnpackFault};
 use std::alloc::Global;
+use std::collections::VecDeque;
 
 /// The fields of a packed queue, with the bytes of its messages, whose texts leave room for so many bytes more.
 #[derive(Clone, Copy)]
@@ -124,27 +125,26 @@ fn unpack_fields(bytes: &[u8]) -> Option<Fields<'_>>
     queue_fields(bytes)
 }
 
-/// Copies the messages of bytes that were read, whose texts have so many bytes.
-fn copy_messages(
-    alloc: Global,
-    count: u16,
-    bytes_of_texts: usize,
-    bytes: &[u8],
-) -> Result<Messages, Memory>
+/// Copies the messages of bytes that were read: the bytes whole, and of each message where its text lies in them.
+fn copy_messages(alloc: Global, count: u16, bytes: &[u8]) -> Result<Messages, Memory>
     requires { IsSome (messages_at count max_queue_bytes bytes.now) }
     ensures { IfOk result
         (λ messages. messages_in (messages_at count max_queue_bytes bytes.now) ≡ Some messages) }
 {
-    let mut messages = Messages::with_room(alloc, usize::from(count), bytes_of_texts)?;
+    let mut heads = Vec::with_capacity(alloc, usize::from(count))?;
     let mut room = MAX_BYTES;
     let mut rest = bytes;
     for _ in 0..count {
         let (class, text, after) = message_of(room, rest).unwrap();
-        room -= text.len() as u32;
-        messages.add(class, text)?;
+        let start = bytes.len() - after.len() - text.len();
+        let len = text.len() as u32;
+        heads.push(Head { start, class, len })?;
+        room -= len;
         rest = after;
     }
-    Ok(messages)
+    let texts = Vec::from_slice(alloc, bytes)?;
+    let heads = VecDeque::from_vec(heads);
+    Ok(Messages { heads, texts })
 }
 
 impl Queue {
@@ -165,11 +165,10 @@ impl Queue {
         ensures refused { IfErr result (Refuses (λ q. IsBodyOf q bytes.now)) }
     {
         let fields = unpack_fields(bytes).ok_or(UnpackFault::NotABody)?;
-        let bytes = (MAX_BYTES - fields.room) as usize;
-        let messages = copy_messages(alloc, fields.count, bytes, fields.messages)?;
+        let messages = copy_messages(alloc, fields.count, fields.messages)?;
         Ok(Queue {
             messages,
-            bytes,
+            bytes: (MAX_BYTES - fields.room) as usize,
             qbytes: fields.qbytes,
             last_sender: Pid(fields.sender),
             last_receiver: Pid(fields.receiver),

@@ -1,4 +1,4 @@
-use Rattle.std.proofs.Common.{◌≡◌, ◌+◌, ◌++◌, ◌∷◌, map, drop, get_or, sym, ap, refl, ◌∙◌, List, ℕ, pos, SFits, w32, arith, rules}
+use Rattle.std.proofs.Common.{◌+◌, ◌++◌, map, drop, get_or, sym, ap, ◌∙◌, List, ℕ, pos, SFits, w32, arith, rules}
 use Rattle.std.proofs.lemmas.Int.{to_z-of_z}
 use Rattle.kernel_model.specs.Queue.{Message}
 use Rattle.sysv_msg.specs.declared.store.Head.{Head}

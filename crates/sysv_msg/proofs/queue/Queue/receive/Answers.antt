@@ -1,4 +1,4 @@
-use Rattle.std.proofs.Common.{◌≡◌, ◌≤◌, ◌<◌, List, Some, SFits, w32, length, get_or, sym, ◌∙◌, arith, rules}
+use Rattle.std.proofs.Common.{◌≡◌, ◌<◌, List, Some, SFits, w32, length, get_or, sym, ◌∙◌, arith, rules}
 use Rattle.std.proofs.lemmas.Int.{to_z-of_z}
 use Rattle.kernel_model.specs.Queue.{Message, select}
 use Rattle.sysv_msg.proofs.Receiving.{bytes_removed, queue_of, receive_answered, receive_refused, receive_taken, within_removed}

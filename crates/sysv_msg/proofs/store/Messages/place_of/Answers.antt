@@ -1,8 +1,6 @@
-use Rattle.std.proofs.Common.{◌≡◌, List, ◌∙◌, ap}
-use Rattle.std.specs.List.{AllByRecursion}
+use Rattle.std.proofs.Common.{List, ◌∙◌, ap}
 use Rattle.std.proofs.lemmas.Int.{to_z-of_z}
 use Rattle.kernel_model.specs.Queue.{Message, select}
-use Rattle.sysv_msg.specs.Limits.{IsSendable}
 use Rattle.sysv_msg.proofs.Heads.{bare_sendable, bare_select}
 use Rattle.sysv_msg.proofs.store.Messages.place_of.Goals as goal
 

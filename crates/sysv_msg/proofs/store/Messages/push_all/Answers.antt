@@ -1,4 +1,3 @@
-use Rattle.std.proofs.Common.{◌≡◌}
 use Rattle.sysv_msg.specs.Heads.{IsWithin}
 use Rattle.sysv_msg.proofs.Heads.{all_back}
 use Rattle.sysv_msg.proofs.store.Messages.push_all.Goals as goal

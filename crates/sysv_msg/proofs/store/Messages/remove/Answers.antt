@@ -1,4 +1,4 @@
-use Rattle.std.proofs.Common.{◌≡◌, ◌∙◌, ap, List}
+use Rattle.std.proofs.Common.{◌∙◌, ap, List}
 use Rattle.std.specs.Prelude.{remove}
 use Rattle.kernel_model.specs.Queue.{Message}
 use Rattle.sysv_msg.specs.Heads.{message_in}
