@@ -8,7 +8,6 @@ use crate::queues::on_queue;
 use crate::rows::on_row;
 use crate::sets::on_set;
 use pico_base::{Call, Errno, Home, Memory, Name, Pid, Reply, home};
-use std::alloc::Global;
 
 /// Whether the call is the caller's own affair.
 fn is_own(caller: Pid, call: &Call) -> bool
@@ -37,13 +36,7 @@ fn on_process(body: &mut Body, pid: Pid, caller: Pid, call: &Call) -> Reply
 }
 
 /// A call on the body of a queue. A refusal for want of memory changes nothing.
-fn on_queue_body(
-    alloc: Global,
-    body: &mut Body,
-    id: u32,
-    caller: Pid,
-    call: &Call,
-) -> Result<Reply, Memory>
+fn on_queue_body(body: &mut Body, id: u32, caller: Pid, call: &Call) -> Result<Reply, Memory>
     ensures ok { IfOk result
         (λ reply. on_body (Name.Msg id) (body_of body.old) caller call.now ≡ done (body_of body.new) reply) }
     ensures err { OnErr result (body.new ≡ body.old) }
@@ -53,7 +46,7 @@ fn on_queue_body(
             *body = Body::Removed;
             Ok(Reply::Num(0))
         }
-        Body::Queue(queue) => on_queue(alloc, queue, caller, call),
+        Body::Queue(queue) => on_queue(queue, caller, call),
         _ => Ok(Reply::Fail(Errno::Einval)),
     }
 }
@@ -76,7 +69,6 @@ fn on_set_body(body: &mut Body, id: u32, caller: Pid, call: &Call) -> Result<Rep
 
 /// A call on the body of its name. A refusal for want of memory changes nothing.
 pub(crate) fn on_body(
-    alloc: Global,
     body: &mut Body,
     name: Name,
     caller: Pid,
@@ -88,7 +80,7 @@ pub(crate) fn on_body(
 {
     match name {
         Name::Proc(pid) => Ok(on_process(body, pid, caller, call)),
-        Name::Msg(id) => on_queue_body(alloc, body, id.0, caller, call),
+        Name::Msg(id) => on_queue_body(body, id.0, caller, call),
         Name::Sem(id) => on_set_body(body, id.0, caller, call),
     }
 }

@@ -70,7 +70,6 @@ pub fn bury(deeds: &mut Deeds<Body>, child: Pid)
 
 /// A call on the body of a name that is held. A refusal for want of memory changes no body.
 fn on_held(
-    alloc: Global,
     deeds: &mut Deeds<Body>,
     name: Name,
     caller: Pid,
@@ -81,7 +80,7 @@ fn on_held(
     ensures spare { deeds.new.spare ≡ deeds.old.spare }
 {
     match deeds.get_mut(name) {
-        Some(body) => Ok(Some(on_body(alloc, body, name, caller, call)?)),
+        Some(body) => Ok(Some(on_body(body, name, caller, call)?)),
         None => Ok(None),
     }
 }
@@ -101,7 +100,7 @@ fn carry_out(
         return Ok(Served::NotHeld);
     };
     deeds.reserve(1)?;
-    let Some(reply) = on_held(alloc, deeds, name, caller, call)? else {
+    let Some(reply) = on_held(deeds, name, caller, call)? else {
         return Ok(Served::NotHeld);
     };
     if let Reply::Child { pid, .. } = &reply {

@@ -25,13 +25,12 @@ use sysv_msg::Queue;
 /// Each call has its reply, in this order.
 fn replies(
     rt: &impl Abort,
-    alloc: Global,
     body: &mut Body,
     name: Name,
     calls: &[(Call, Reply)],
 ) -> Result<(), Fail> {
     for (call, reply) in calls {
-        assert_eq!(rt; on_body(alloc, body, name, Pid(1), call)?, *reply);
+        assert_eq!(rt; on_body(body, name, Pid(1), call)?, *reply);
     }
     Ok(())
 }
@@ -86,7 +85,7 @@ fn carries_out_a_process_s_calls(rt: HostRuntime) -> Result<(), Fail> {
             Reply::Fail(Errno::Echild),
         ),
     ];
-    replies(&rt, alloc, &mut body, name, &calls)?;
+    replies(&rt, &mut body, name, &calls)?;
     comes_back(&rt, alloc, &body, name)
 }
 
@@ -119,13 +118,13 @@ fn carries_out_a_queue_s_calls(rt: HostRuntime) -> Result<(), Fail> {
         (receive(true), message),
         (receive(false), Reply::Fail(Errno::Enomsg)),
     ];
-    replies(&rt, alloc, &mut body, name, &calls)?;
+    replies(&rt, &mut body, name, &calls)?;
     comes_back(&rt, alloc, &body, name)?;
     let calls = [
         (Call::MsgRmid { id }, Reply::Num(0)),
         (Call::MsgStat { id }, Reply::Fail(Errno::Einval)),
     ];
-    replies(&rt, alloc, &mut body, name, &calls)?;
+    replies(&rt, &mut body, name, &calls)?;
     assert_eq!(rt; body.pack(alloc)?.as_slice(), [6].as_slice());
     assert_eq!(rt;
         Body::unpack(alloc, Name::Proc(Pid(1)), &[6]).err(),
@@ -198,14 +197,14 @@ fn bytes_of(alloc: Global, deeds: &Deeds<Body>, pid: Pid) -> Result<Bytes, Fail>
 }
 
 /// What process 1 finds where it asks for the end of any child.
-fn found(alloc: Global, deeds: &mut Deeds<Body>) -> Result<Reply, Fail> {
+fn found(deeds: &mut Deeds<Body>) -> Result<Reply, Fail> {
     let wait = Call::WaitPid {
         child: None,
         nohang: true,
     };
     let name = Name::Proc(Pid(1));
     let body = deeds.get_mut(name).ok_or("no parent")?;
-    Ok(on_body(alloc, body, name, Pid(1), &wait)?)
+    Ok(on_body(body, name, Pid(1), &wait)?)
 }
 
 #[test]
@@ -220,6 +219,6 @@ fn a_process_ends_under_its_parent(rt: HostRuntime) -> Result<(), Fail> {
         pid: Pid(2),
         ending: Ending::Exited(7),
     };
-    assert_eq!(rt; found(alloc, &mut deeds)?, child);
+    assert_eq!(rt; found(&mut deeds)?, child);
     Ok(())
 }

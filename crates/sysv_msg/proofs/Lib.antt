@@ -1,7 +1,9 @@
+pub mod Heads
 pub mod Lowest
 pub mod Messages
 pub mod Receiving
 pub mod Selected
 pub mod Loop
+pub mod Copied
 pub mod Bodies
 mod Examples

@@ -250,13 +250,13 @@ pub back_of : (front back items : List Message) → front ++ back ≡ items → 
 back_of front back items is each = rest_of front back (subst (AllByRecursion IsSendable) (sym is) each)
 
 -- two walks, one behind the other
-pub both_ways : (above middle last : ℤ) (front back items : List Message) (begin size kept place : ℕ)
-    → front ++ back ≡ items → begin ≡ length front → size ≡ length items
+pub both_ways : (above middle last : ℤ) (front back items : List Message) (begin begun end size kept place : ℕ)
+    → front ++ back ≡ items → begin ≡ begun → size ≡ length items
     → walked middle begin kept back ≡ walked above 0 size (front ++ back)
-    → walked last (length front + length back) place [] ≡ walked middle (length front) kept (back ++ [])
+    → walked last end place [] ≡ walked middle begun kept (back ++ [])
     → place ≡ walked above 0 (length items) items
-both_ways above middle last front back items begin size kept place is begins sized first second =
-    second ∙ ap (walked middle (length front) kept) (append-nil back)
+both_ways above middle last front back items begin begun end size kept place is begins sized first second =
+    second ∙ ap (walked middle begun kept) (append-nil back)
     ∙ ap (λ (n : ℕ). walked middle n kept back) (sym begins) ∙ first
     ∙ ap (λ (n : ℕ). walked above 0 n (front ++ back)) sized ∙ ap (walked above 0 (length items)) is
 

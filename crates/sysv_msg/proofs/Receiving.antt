@@ -1,10 +1,10 @@
 -- What a receive gives for the place that was selected, and that the queue keeps its limits.
-use Rattle.std.proofs.Common.{◌≡◌, ℕ, zero, suc, ◌+◌, ◌-◌, ◌<◌, Bool, true, false, ◌||◌, ℤ, List, [], ◌∷◌, length, get_or, take, Some, Ok, Err, refl, sym, ◌∙◌, arith, subst}
-use Rattle.std.specs.Prelude.{nat_le, remove, slice_get}
+use Rattle.std.proofs.Common.{◌≡◌, ℕ, zero, suc, ◌+◌, ◌-◌, ◌<◌, Bool, true, false, ◌||◌, ℤ, List, [], ◌∷◌, length, get_or, take, Some, Ok, Err, refl, sym, arith, subst}
+use Rattle.std.specs.Prelude.{IsOk, nat_le, remove, slice_get}
 use Rattle.std.specs.List.{AllByRecursion}
 use Rattle.std.proofs.lemmas.List.Edits.{length-remove}
 use Rattle.std.proofs.lemmas.List.Sums.{sum_by-remove}
-use Rattle.std.proofs.lemmas.Option.{slice_get_read, same_Some}
+use Rattle.std.proofs.lemmas.Option.{slice_get_read}
 use Rattle.pico_base.specs.declared.reply.Errno.TheVariants.{E2big}
 use Rattle.kernel_model.specs.Queue.{Message, Queue, select, receive, bytes_of}
 use Rattle.sysv_msg.specs.Limits.{IsSendable, IsWithinLimits}
@@ -29,6 +29,13 @@ receive_taken q pid class size noerror place m rest selected within is fits left
     let there : slice_get q.messages place ≡ Some m =
     slice_get_read q.messages (length q.messages) place m refl within is in
     rw (← selected, there, fits, left) refl
+
+-- so a receive of one is answered
+pub receive_answered : (q : Queue) (pid : ℕ) (class : ℤ) (size : ℕ) (noerror : Bool) (place : ℕ) (m : Message)
+    → Some place ≡ select q.messages class → place < length q.messages → m ≡ get_or q.messages place m
+    → (nat_le (length m.text) size || noerror) ≡ true → IsOk (receive q pid class size noerror)
+receive_answered q pid class size noerror place m selected within is fits =
+    rw (receive_taken q pid class size noerror place m (remove q.messages place) selected within is fits refl) refl
 
 -- one that is too long, and may not be cut, is refused
 pub receive_refused : (q : Queue) (pid : ℕ) (class : ℤ) (size : ℕ) (noerror : Bool) (place : ℕ) (m : Message)
@@ -70,10 +77,3 @@ within_removed q place pid bytes m rest within is left count limits =
         each = each_removed IsSendable q.messages place limits.each;
       },
     )
-
--- two reads of one place
-pub same_item : (ms : List Message) (place : ℕ) (x y : Message) → place < length ms → x ≡ get_or ms place x
-    → y ≡ get_or ms place y → x ≡ y
-same_item ms place x y within x_is y_is =
-    same_Some x y (sym (slice_get_read ms (length ms) place x refl within x_is)
-    ∙ slice_get_read ms (length ms) place y refl within y_is)

@@ -5,7 +5,8 @@ mod message;
 mod pack;
 mod queue;
 mod select;
+mod store;
 mod unpack;
 
 pub use message::Message;
-pub use queue::{Queue, SendFault};
+pub use queue::{CallFault, Queue, SendFault};

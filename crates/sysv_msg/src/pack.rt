@@ -1,52 +1,53 @@
 //! A queue written as bytes.
 ghost use Rattle.std.specs.Prelude.{◌≡◌, ◌≤◌, ◌++◌, length, OnOk, IfOk};
 ghost use Rattle.std.specs.List.{flat_map, AllByRecursion};
-ghost use Rattle.kernel_model.specs.Queue.{max_text};
 ghost use Rattle.sysv_msg.specs.Body.{text_field, message_field, IsBodyOf};
-ghost use Rattle.sysv_msg.specs.Limits.{IsSendable};
+ghost use Rattle.sysv_msg.specs.Heads.{IsWithin, message_in, messages_in};
 
-use crate::{Message, Queue};
+use crate::Queue;
+use crate::store::{Head, Messages, text_at};
 use pico_base::{Bytes, Memory};
 use std::alloc::Global;
-use std::collections::VecDeque;
 
 /// The code of a queue among the bodies.
 pub(crate) const CODE: u8 = 4;
 
 /// Adds a message at the end.
-fn push_message(out: &mut Vec<u8>, message: &Message) -> Result<(), Memory>
-    requires { length message.now.text ≤ max_text }
-    ensures { OnOk result (out.new.items ≡ out.old.items ++ message_field message.now) }
+fn push_message(out: &mut Vec<u8>, texts: &[u8], head: Head) -> Result<(), Memory>
+    requires { IsWithin texts.now head }
+    ensures { OnOk result (out.new.items ≡ out.old.items ++ message_field (message_in texts.now head)) }
 {
-    let class = message.class.to_be_bytes();
-    let length = (message.text.len() as u32).to_be_bytes();
-    let head = [
+    let class = head.class.to_be_bytes();
+    let length = head.len.to_be_bytes();
+    let fields = [
         class[0], class[1], class[2], class[3], length[0], length[1], length[2], length[3],
     ];
-    out.extend_from_slice(&head)?;
-    out.extend_from_slice(message.text.as_slice())?;
+    out.extend_from_slice(&fields)?;
+    out.extend_from_slice(text_at(texts, head))?;
     Ok(())
 }
 
 /// Adds messages at the end.
-fn push_messages(out: &mut Vec<u8>, messages: &[Message]) -> Result<(), Memory>
-    requires { AllByRecursion IsSendable messages.now }
-    ensures { OnOk result (out.new.items ≡ out.old.items ++ flat_map message_field messages.now) }
+fn push_messages(out: &mut Vec<u8>, texts: &[u8], heads: &[Head]) -> Result<(), Memory>
+    requires { AllByRecursion (IsWithin texts.now) heads.now }
+    ensures { OnOk result
+        (out.new.items ≡ out.old.items ++ flat_map message_field (messages_in texts.now heads.now)) }
 {
-    for message in messages {
-        push_message(out, message)?;
+    for head in heads {
+        push_message(out, texts, *head)?;
     }
     Ok(())
 }
 
-/// Adds the messages of a queue at the end.
-fn push_all(out: &mut Vec<u8>, messages: &VecDeque<Message>) -> Result<(), Memory>
-    requires { AllByRecursion IsSendable messages.now.items }
-    ensures { OnOk result (out.new.items ≡ out.old.items ++ flat_map message_field messages.now.items) }
-{
-    let (front, back) = messages.as_slices();
-    push_messages(out, front)?;
-    push_messages(out, back)
+impl Messages {
+    /// Adds the messages at the end.
+    fn push_all(&self, out: &mut Vec<u8>) -> Result<(), Memory>
+        ensures { OnOk result (out.new.items ≡ out.old.items ++ flat_map message_field self.now) }
+    {
+        let (front, back) = self.heads.as_slices();
+        push_messages(out, &self.texts, front)?;
+        push_messages(out, &self.texts, back)
+    }
 }
 
 impl Queue {
@@ -62,7 +63,7 @@ impl Queue {
         out.extend_from_slice(&self.last_sender.0.to_be_bytes())?;
         out.extend_from_slice(&self.last_receiver.0.to_be_bytes())?;
         out.extend_from_slice(&(self.messages.len() as u16).to_be_bytes())?;
-        push_all(&mut out, &self.messages)?;
+        self.messages.push_all(&mut out)?;
         Ok(Bytes::from_vec(out))
     }
 }

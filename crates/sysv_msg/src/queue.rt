@@ -1,13 +1,12 @@
 //! A message queue as its node holds it.
-ghost use Rattle.std.specs.Prelude.{◌≡◌, ◌+◌, ◌||◌, nat_le, ◌≤◌, ◌∷◌, ◌++◌, [], Ok, Err, IfOk, IfErr, OnErr, IsOkAnd, length, take};
+ghost use Rattle.std.specs.Prelude.{◌≡◌, ◌||◌, nat_le, take, ◌∷◌, ◌++◌, [], Ok, Err, IfOk, IfErr, OnErr};
 ghost use Rattle.kernel_model.specs.Queue as definition;
-ghost use Rattle.sysv_msg.specs.Refusals.{RefusesSend};
+ghost use Rattle.sysv_msg.specs.Refusals.{RefusesCall, RefusesSend};
 
 use crate::Message;
-use crate::select::place_of;
+use crate::store::Messages;
 use pico_base::{Bytes, Errno, Memory, Pid, Reply};
 use std::alloc::Global;
-use std::collections::VecDeque;
 use std::marker::Model;
 use thiserror::Error;
 
@@ -23,7 +22,7 @@ pub(crate) const MAX_MESSAGES: usize = 1024;
 /// 1 and each text at most 4,096 bytes.
 #[derive(Debug, Drop)]
 pub struct Queue {
-    pub(crate) messages: VecDeque<Message>,
+    pub(crate) messages: Messages,
     // the bytes of the texts
     pub(crate) bytes: usize,
     pub(crate) qbytes: u32,
@@ -39,16 +38,16 @@ impl Model for Queue {
     ghost Value = { Value_ };
 
     ghost view = { λ q. record {
-      messages = q.messages.items;
+      messages = q.messages;
       qbytes = q.qbytes;
       last_sender =
           q.last_sender;
       last_receiver = q.last_receiver;
     } };
 
-    ghost invariant = { λ q. (q.bytes ≡ bytes_of q.messages.items)
+    ghost invariant = { λ q. (q.bytes ≡ bytes_of q.messages)
         × IsWithinLimits (record {
-          messages = q.messages.items;
+          messages = q.messages;
           qbytes = q.qbytes;
           last_sender =
               q.last_sender;
@@ -67,13 +66,24 @@ pub enum SendFault {
     No(Errno),
 }
 
+/// Why a message wasn't sent, or none received.
+#[derive(Clone, Copy, Debug, PartialEq, Eq, Error)]
+pub enum CallFault {
+    /// An allocation was refused.
+    #[error("out of memory")]
+    Memory,
+    /// The call is refused.
+    #[error("refused: {0:?}")]
+    No(Errno),
+}
+
 impl Queue {
     /// An empty queue, with the greatest `msg_qbytes`.
     pub fn new(alloc: Global) -> Result<Queue, Memory>
         ensures { IfOk result (λ q. q ≡ definition.empty_queue) }
     {
         Ok(Queue {
-            messages: VecDeque::new(alloc),
+            messages: Messages::new(alloc),
             bytes: 0,
             qbytes: MAX_BYTES,
             last_sender: Pid(0),
@@ -89,15 +99,28 @@ impl Queue {
         ensures refused { IfErr result (RefusesSend text (definition.send self.old pid class text)) }
         ensures err { OnErr result (self.new ≡ self.old) }
     {
+        match self.send_slice(pid, class, text.as_slice()) {
+            Ok(()) => Ok(()),
+            Err(CallFault::Memory) => Err(SendFault::Memory(text)),
+            Err(CallFault::No(errno)) => Err(SendFault::No(errno)),
+        }
+    }
+
+    /// The same as `send`, of a copy of the text.
+    pub fn send_slice(&mut self, pid: Pid, class: i32, text: &[u8]) -> Result<(), CallFault>
+        ensures sent { IfOk result (λ _. definition.send self.old pid class text.now ≡ Ok self.new) }
+        ensures refused { IfErr result (RefusesCall (definition.send self.old pid class text.now)) }
+        ensures err { OnErr result (self.new ≡ self.old) }
+    {
         let size = text.len();
         if class < 1 || size > MAX_TEXT {
-            return Err(SendFault::No(Errno::Einval));
+            return Err(CallFault::No(Errno::Einval));
         }
         if self.bytes + size > self.qbytes as usize || self.messages.len() >= MAX_MESSAGES {
-            return Err(SendFault::No(Errno::Eagain));
+            return Err(CallFault::No(Errno::Eagain));
         }
-        if let Err(back) = self.messages.push_back(Message { class, text }) {
-            return Err(SendFault::Memory(back.value.text));
+        if self.messages.push(class, text).is_err() {
+            return Err(CallFault::Memory);
         }
         self.bytes += size;
         self.last_sender = pid;
@@ -106,27 +129,36 @@ impl Queue {
 
     /// `msgrcv` with IPC_NOWAIT: the message that the type asks for is taken and its text cut to `size` bytes,
     /// and its receiver is the last receiver. ENOMSG: there is no such message. E2BIG: its text is above `size`
-    /// bytes and `noerror` (MSG_NOERROR) isn't set. A refusal changes nothing. It takes no memory.
+    /// bytes and `noerror` (MSG_NOERROR) isn't set. Memory comes only where a message would be taken, since its
+    /// text is copied. A refusal changes nothing.
     pub fn receive(
         &mut self,
         pid: Pid,
         class: i32,
         size: u32,
         noerror: bool,
-    ) -> Result<Message, Errno>
+    ) -> Result<Message, CallFault>
         ensures taken { IfOk result
             (λ m. definition.receive self.old pid class size noerror ≡ Ok (record { queue = self.new; message = m })) }
-        ensures refused { IfErr result (λ e. definition.receive self.old pid class size noerror ≡ Err e) }
+        ensures refused { IfErr result (RefusesCall (definition.receive self.old pid class size noerror)) }
         ensures err { OnErr result (self.new ≡ self.old) }
     {
-        let place = place_of(&self.messages, class).ok_or(Errno::Enomsg)?;
-        if !fits(&self.messages[place], size, noerror) {
-            return Err(Errno::E2big);
+        let place = self
+            .messages
+            .place_of(class)
+            .ok_or(CallFault::No(Errno::Enomsg))?;
+        let (kind, text) = self.messages.at(place);
+        let length = text.len();
+        if !fits(length, size, noerror) {
+            return Err(CallFault::No(Errno::E2big));
         }
-        let message = self.messages.remove(place).unwrap();
-        self.bytes -= message.text.len();
+        let Ok(message) = copied(self.messages.allocator(), kind, text, size) else {
+            return Err(CallFault::Memory);
+        };
+        self.messages.remove(place);
+        self.bytes -= length;
         self.last_receiver = pid;
-        Ok(cut(message, size))
+        Ok(message)
     }
 
     /// `msgctl` with IPC_STAT: the number of messages, `msg_qbytes`, the last sender and the last receiver, each
@@ -157,22 +189,19 @@ impl Queue {
     }
 }
 
-/// Whether a message may be taken into `size` bytes, cut if need be where MSG_NOERROR is set.
-fn fits(message: &Message, size: u32, noerror: bool) -> bool
-    ensures { result ≡ (nat_le (length message.now.text) size || noerror) }
+/// Whether a text of this length may be taken into `size` bytes, cut if need be where MSG_NOERROR is set.
+fn fits(length: usize, size: u32, noerror: bool) -> bool
+    ensures { result ≡ (nat_le length size || noerror) }
 {
-    message.text.len() <= size as usize || noerror
+    length <= size as usize || noerror
 }
 
-/// The message with its text cut to `size` bytes, in place.
-fn cut(message: Message, size: u32) -> Message
-    ensures { result ≡ record message { text = take size message.text } }
+/// The message of this type and text, the text cut to `size` bytes.
+fn copied(alloc: Global, class: i32, text: &[u8], size: u32) -> Result<Message, Memory>
+    ensures { IfOk result (λ m. m ≡ record { class = class; text = take size text.now }) }
 {
-    let Message { class, text } = message;
-    let mut bytes = text.into_vec();
-    bytes.truncate(size as usize);
-    Message {
+    Ok(Message {
         class,
-        text: Bytes::from_vec(bytes),
-    }
+        text: Bytes::from_slice(alloc, &text[..text.len().min(size as usize)])?,
+    })
 }

@@ -1,11 +1,13 @@
 //! Which message a receive asks for (POSIX.1-2017, msgrcv).
-ghost use Rattle.std.specs.Prelude.{◌≡◌, ◌+◌, ◌<◌, ◌^◌, List, ◌∷◌, ◌++◌, IfSome, length};
+ghost use Rattle.std.specs.Prelude.{◌≡◌, ◌+◌, ◌<◌, ◌^◌, List, ◌∷◌, ◌++◌, IfSome, length, map, position};
 ghost use Rattle.std.specs.List.{AllByRecursion};
+ghost use Rattle.std.specs.Ordering.{int_eq};
 ghost use Rattle.kernel_model.specs.Queue as definition;
+ghost use Rattle.sysv_msg.specs.Heads.{bare};
 ghost use Rattle.sysv_msg.specs.Limits.{IsSendable};
 ghost use Rattle.sysv_msg.specs.Lowest.{lowest_below, walked};
 
-use crate::Message;
+use crate::store::Head;
 use std::collections::VecDeque;
 
 /// How many messages are walked along before it is asked whether a lower type can come at all.
@@ -28,30 +30,30 @@ fn lower_of(kept: Lowest, class: i32, place: usize) -> Lowest
 }
 
 /// What is kept behind messages from a place on.
-fn lowest_behind(start: usize, messages: &[Message], kept: Lowest) -> Lowest
-    requires { start + length messages.now < 2 ^ 64 }
+fn lowest_behind(start: usize, heads: &[Head], kept: Lowest) -> Lowest
+    requires { start + length heads.now < 2 ^ 64 }
     ensures { (rest : List definition.Message)
-        → walked result.0 (start + length messages.now) result.1 rest
-        ≡ walked kept.0 start kept.1 (messages.now ++ rest) }
+        → walked result.0 (start + length heads.now) result.1 rest
+        ≡ walked kept.0 start kept.1 (map bare heads.now ++ rest) }
 {
     let mut lowest = kept;
-    for (index, message) in messages.iter().enumerate() {
-        lowest = lower_of(lowest, message.class, start + index);
+    for (index, head) in heads.iter().enumerate() {
+        lowest = lower_of(lowest, head.class, start + index);
     }
     lowest
 }
 
 /// The same, up to a type of 1, which none takes the place of.
-fn lowest_of_all(start: usize, messages: &[Message], kept: Lowest) -> Lowest
-    requires fits { start + length messages.now < 2 ^ 64 }
-    requires sendable { AllByRecursion IsSendable messages.now }
+fn lowest_of_all(start: usize, heads: &[Head], kept: Lowest) -> Lowest
+    requires fits { start + length heads.now < 2 ^ 64 }
+    requires sendable { AllByRecursion IsSendable (map bare heads.now) }
     ensures { (rest : List definition.Message) → AllByRecursion IsSendable rest
-        → walked result.0 (start + length messages.now) result.1 rest
-        ≡ walked kept.0 start kept.1 (messages.now ++ rest) }
+        → walked result.0 (start + length heads.now) result.1 rest
+        ≡ walked kept.0 start kept.1 (map bare heads.now ++ rest) }
 {
     let mut lowest = kept;
     let mut at = start;
-    let mut rest = messages;
+    let mut rest = heads;
     while !rest.is_empty() && lowest.0 > 1 {
         let (now, after) = rest.split_at(rest.len().min(AT_ONCE));
         lowest = lowest_behind(at, now, lowest);
@@ -62,14 +64,14 @@ fn lowest_of_all(start: usize, messages: &[Message], kept: Lowest) -> Lowest
 }
 
 /// The place of the first message of the lowest type below a bound.
-fn first_of_lowest(messages: &VecDeque<Message>, above: i64) -> Option<usize>
-    requires { AllByRecursion IsSendable messages.now.items }
-    ensures { result ≡ definition.first_of_some (lowest_below above messages.now.items) messages.now.items }
+fn first_of_lowest(heads: &VecDeque<Head>, above: i64) -> Option<usize>
+    requires { AllByRecursion IsSendable (map bare heads.now.items) }
+    ensures { result ≡ definition.first_of_some (lowest_below above (map bare heads.now.items)) (map bare heads.now.items) }
 {
-    let (front, back) = messages.as_slices();
-    let lowest = lowest_of_all(0, front, (above, messages.len()));
+    let (front, back) = heads.as_slices();
+    let lowest = lowest_of_all(0, front, (above, heads.len()));
     let (_, place) = lowest_of_all(front.len(), back, lowest);
-    if place < messages.len() {
+    if place < heads.len() {
         Some(place)
     } else {
         None
@@ -77,26 +79,26 @@ fn first_of_lowest(messages: &VecDeque<Message>, above: i64) -> Option<usize>
 }
 
 /// The place of the first message of a type.
-fn first_of(messages: &VecDeque<Message>, class: i32) -> Option<usize>
-    ensures { result ≡ definition.first_of class messages.now.items }
+fn first_of(heads: &VecDeque<Head>, class: i32) -> Option<usize>
+    ensures { result ≡ position (λ h. int_eq h.class class) heads.now.items }
 {
-    messages.iter().position(|m| m.class == class)
+    heads.iter().position(|h| h.class == class)
 }
 
 /// The place of the message that a receive of this type asks for: of the first message for 0, of the first of
 /// this type where it is positive, and of the first of the lowest type that isn't above its absolute value
 /// where it is negative. None where there is none.
 #[tactic(auto, using(crate::proofs::Selected::selections))]
-pub(crate) fn place_of(messages: &VecDeque<Message>, class: i32) -> Option<usize>
-    requires { AllByRecursion IsSendable messages.now.items }
-    ensures selected { result ≡ definition.select messages.now.items class }
-    ensures within { IfSome result (λ place. place < length messages.now.items) }
+pub(crate) fn place_of(heads: &VecDeque<Head>, class: i32) -> Option<usize>
+    requires { AllByRecursion IsSendable (map bare heads.now.items) }
+    ensures selected { result ≡ definition.select (map bare heads.now.items) class }
+    ensures within { IfSome result (λ place. place < length heads.now.items) }
 {
     if class < 0 {
-        first_of_lowest(messages, 1 - i64::from(class))
+        first_of_lowest(heads, 1 - i64::from(class))
     } else if class > 0 {
-        first_of(messages, class)
-    } else if messages.is_empty() {
+        first_of(heads, class)
+    } else if heads.is_empty() {
         None
     } else {
         Some(0)

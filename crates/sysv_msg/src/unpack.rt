@@ -9,11 +9,12 @@ ghost use Rattle.sysv_msg.specs.Reading.{text_at, class_at, message_at, messages
 ghost use Rattle.sysv_msg.specs.Measured.{Measures, HasBody, HasFields};
 ghost use Rattle.sysv_msg.specs.Packed.{TellsPacked};
 
+use crate::Queue;
 use crate::pack::CODE;
 use crate::queue::{MAX_BYTES, MAX_MESSAGES, MAX_TEXT};
-use crate::{Message, Queue};
+use crate::store::{Head, Messages};
 use body_fields::{u16_upto, u32_at, u32_upto};
-use pico_base::{Bytes, Memory, Pid, UnpackFault};
+use pico_base::{Memory, Pid, UnpackFault};
 use std::alloc::Global;
 use std::collections::VecDeque;
 
@@ -124,23 +125,26 @@ fn unpack_fields(bytes: &[u8]) -> Option<Fields<'_>>
     queue_fields(bytes)
 }
 
-/// Copies the messages of bytes that were read.
-fn copy_messages(alloc: Global, count: u16, bytes: &[u8]) -> Result<VecDeque<Message>, Memory>
+/// Copies the messages of bytes that were read: the bytes whole, and of each message where its text lies in them.
+fn copy_messages(alloc: Global, count: u16, bytes: &[u8]) -> Result<Messages, Memory>
     requires { IsSome (messages_at count max_queue_bytes bytes.now) }
     ensures { IfOk result
-        (λ messages. messages_in (messages_at count max_queue_bytes bytes.now) ≡ Some messages.items) }
+        (λ messages. messages_in (messages_at count max_queue_bytes bytes.now) ≡ Some messages) }
 {
-    let mut messages = Vec::with_capacity(alloc, usize::from(count))?;
+    let mut heads = Vec::with_capacity(alloc, usize::from(count))?;
     let mut room = MAX_BYTES;
     let mut rest = bytes;
     for _ in 0..count {
         let (class, text, after) = message_of(room, rest).unwrap();
-        room -= text.len() as u32;
-        let text = Bytes::from_slice(alloc, text)?;
-        messages.push(Message { class, text })?;
+        let start = bytes.len() - after.len() - text.len();
+        let len = text.len() as u32;
+        heads.push(Head { start, class, len })?;
+        room -= len;
         rest = after;
     }
-    Ok(VecDeque::from_vec(messages))
+    let texts = Vec::from_slice(alloc, bytes)?;
+    let heads = VecDeque::from_vec(heads);
+    Ok(Messages { heads, texts })
 }
 
 impl Queue {

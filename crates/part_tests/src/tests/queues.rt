@@ -2,7 +2,7 @@
 use pico_base::{Bytes, Errno, Memory, Pid, Reply, UnpackFault};
 use std::alloc::Global;
 use std::test::Fail;
-use sysv_msg::{Queue, SendFault};
+use sysv_msg::{CallFault, Queue, SendFault};
 
 /// Types of three messages with the texts a, b and c, the type asked for, and the text it gives, 0 for none.
 const SELECTED: [([i32; 3], i32, u8); 14] = [
@@ -208,14 +208,18 @@ fn the_lowest_of_a_queue_that_has_turned(rt: HostRuntime) -> Result<(), Fail> {
 }
 
 /// The refusal of a receive of any type as process 8.
-fn refused(queue: &mut Queue, size: u32, noerror: bool) -> Option<Errno> {
-    queue.receive(Pid(8), 0, size, noerror).err()
+fn refused(queue: &mut Queue, size: u32, noerror: bool) -> Result<Option<Errno>, Memory> {
+    match queue.receive(Pid(8), 0, size, noerror) {
+        Ok(_) => Ok(None),
+        Err(CallFault::No(errno)) => Ok(Some(errno)),
+        Err(CallFault::Memory) => Err(Memory),
+    }
 }
 
 #[test]
 fn a_long_text_stays(rt: HostRuntime) -> Result<(), Fail> {
     let mut queue = queue_of(rt.alloc(), &[(1, b"abc")])?;
-    assert_eq!(rt; refused(&mut queue, 2, false), Some(Errno::E2big));
+    assert_eq!(rt; refused(&mut queue, 2, false)?, Some(Errno::E2big));
     assert!(rt; gives(&mut queue, 0, 1, b"abc"));
     Ok(())
 }
@@ -225,7 +229,7 @@ fn a_long_text_is_cut(rt: HostRuntime) -> Result<(), Fail> {
     let mut queue = queue_of(rt.alloc(), &[(1, b"abc")])?;
     let taken = queue.receive(Pid(8), 0, 2, true).ok().ok_or("nothing")?;
     assert_eq!(rt; taken.text.as_slice(), b"ab".as_slice());
-    assert_eq!(rt; refused(&mut queue, 2, true), Some(Errno::Enomsg));
+    assert_eq!(rt; refused(&mut queue, 2, true)?, Some(Errno::Enomsg));
     Ok(())
 }
 
@@ -239,6 +243,28 @@ fn room_at_its_edges(rt: HostRuntime) -> Result<(), Fail> {
         );
     }
     assert_eq!(rt; refusal(rt.alloc(), 16385, 0)?, Some(Errno::Einval));
+    Ok(())
+}
+
+#[test]
+fn a_queue_that_is_never_empty(rt: HostRuntime) -> Result<(), Fail> {
+    let mut queue = Queue::new(rt.alloc())?;
+    let last = vec![in rt.alloc(); b'x'; 4096]?;
+    for round in 0..20 {
+        let _ = queue.send_slice(Pid(7), round + 1, b"first");
+        let _ = queue.send_slice(Pid(7), 99, &last);
+        assert!(rt;
+            gives(&mut queue, round + 1, round + 1, b"first"),
+            "{round}"
+        );
+        if round > 0 {
+            let taken = queue
+                .receive(Pid(8), 99, 4096, false)
+                .ok()
+                .ok_or("nothing")?;
+            assert_eq!(rt; taken.text.as_slice(), last.as_slice(), "{round}");
+        }
+    }
     Ok(())
 }
 

@@ -1,29 +1,63 @@
-use Rattle.std.proofs.Common.{◌≡◌, Some, SFits, w32, ap, rules}
+use Rattle.std.proofs.Common.{◌≡◌, ◌-◌, Some, SFits, w32, length, ap, refl, arith, rules}
 use Rattle.std.proofs.lemmas.Int.{to_z-of_z}
 use Rattle.kernel_model.specs.Queue.{Message, max_queue_bytes}
+use Rattle.sysv_msg.specs.declared.store.Head.{Head}
+use Rattle.sysv_msg.specs.Heads.{messages_in as shown_in}
 use Rattle.sysv_msg.specs.Reading.{message_at, messages_at, messages_in}
-use Rattle.sysv_msg.proofs.Loop.{goes_on, is_done, some_message}
+use Rattle.sysv_msg.proofs.Copied.{begins_copying, copied_more, text_lies_within}
+use Rattle.sysv_msg.proofs.Loop.{is_done, some_message}
 use Rattle.sysv_msg.proofs.unpack.copy_messages.Goals as goal
+
+pub loop-init : goal.loop-init
+loop-init c =
+    rw c.in_ok-heads.ensures.items
+    (begins_copying c.args.count max_queue_bytes c.args.bytes.now (λ i. omega (arith, c.type_inv.bytes i)))
 
 pub unwrap-class-requires : goal.unwrap-class-requires
 unwrap-class-requires c =
-    some_message _ c.message_of.result c.loop.messages.items c.args.count c.loop.counter c.loop.room c.loop.rest.now
-    (messages_at c.args.count max_queue_bytes c.args.bytes.now) c.loop-test.true c.requires
-    c.message_of.ensures.read c.loop.invariant
+    some_message _ c.message_of.result (shown_in c.args.bytes.now c.loop.heads.items) c.args.count c.loop.counter
+    c.loop.room c.loop.rest.now (messages_at c.args.count max_queue_bytes c.args.bytes.now) c.loop-test.true c.requires
+    c.message_of.ensures.read c.loop.invariant.others
+
+pub overflow_sub-start : goal.overflow_sub-start
+overflow_sub-start c =
+    let m : Message = record { class = c.unwrap-class.result.0; text = c.unwrap-class.result.1.now } in
+    let read : message_at c.loop.room c.loop.rest.now ≡ Some (m, c.unwrap-class.result.2.now) =
+    rw c.unwrap-class.ensures at c.message_of.ensures.read in
+    let within = text_lies_within (messages_at c.args.count max_queue_bytes c.args.bytes.now)
+    (c.args.count - c.loop.counter) c.loop.room c.loop.room c.args.bytes.now c.loop.rest.now
+    c.unwrap-class.result.2.now c.loop.heads.items m read c.loop.invariant in
+    omega (arith, within)
+
+pub overflow_sub-start-in-loop : goal.overflow_sub-start-in-loop
+overflow_sub-start-in-loop c =
+    let m : Message = record { class = c.unwrap-class.result.0; text = c.unwrap-class.result.1.now } in
+    let read : message_at c.loop.room c.loop.rest.now ≡ Some (m, c.unwrap-class.result.2.now) =
+    rw c.unwrap-class.ensures at c.message_of.ensures.read in
+    let within = text_lies_within (messages_at c.args.count max_queue_bytes c.args.bytes.now)
+    (c.args.count - c.loop.counter) c.loop.room c.loop.room c.args.bytes.now c.loop.rest.now
+    c.unwrap-class.result.2.now c.loop.heads.items m read c.loop.invariant in
+    omega (arith, within)
 
 pub loop-preserved : goal.loop-preserved
 loop-preserved c =
     let m : Message = record { class = c.unwrap-class.result.0; text = c.unwrap-class.result.1.now } in
     let read : message_at c.loop.room c.loop.rest.now ≡ Some (m, c.unwrap-class.result.2.now) =
     rw c.unwrap-class.ensures at c.message_of.ensures.read in
+    let h : Head = record {
+      start = length c.args.bytes.now - length c.unwrap-class.result.2.now - length m.text;
+      class = m.class;
+      len = length m.text;
+    } in
     let fits : SFits w32 c.unwrap-class.result.0 = search rules in
-    rw (c.in_ok-push.ensures.items, c.in_ok-text.ensures, to_z-of_z w32 c.unwrap-class.result.0 fits)
-    (goes_on c.loop.messages.items c.args.count c.loop.counter c.loop.room c.loop.rest.now m
-    c.unwrap-class.result.2.now
-    (messages_at c.args.count max_queue_bytes c.args.bytes.now) c.loop-test.true read c.loop.invariant)
+    rw (c.in_ok-push.ensures.items, to_z-of_z w32 c.unwrap-class.result.0 fits)
+    (copied_more (messages_at c.args.count max_queue_bytes c.args.bytes.now) c.args.count c.loop.counter c.loop.room
+    c.args.bytes.now c.loop.rest.now c.unwrap-class.result.2.now c.loop.heads.items m h c.loop-test.true read
+    refl refl refl c.loop.invariant)
 
 pub returns : goal.returns
 returns c =
-    rw c.from_vec.ensures.items
-    (ap messages_in (is_done c.loop.messages.items c.args.count c.loop.counter c.loop.room c.loop.rest.now
-    (messages_at c.args.count max_queue_bytes c.args.bytes.now) c.loop-test.false c.loop.invariant))
+    rw (c.in_ok-texts.ensures.items, c.from_vec-heads.ensures.items)
+    (ap messages_in (is_done (shown_in c.args.bytes.now c.loop.heads.items) c.args.count c.loop.counter c.loop.room
+    c.loop.rest.now (messages_at c.args.count max_queue_bytes c.args.bytes.now) c.loop-test.false
+    c.loop.invariant.others))

@@ -7,7 +7,7 @@ use Rattle.sysv_msg.proofs.queue.Queue.unpack.Goals as goal
 pub returns-clause-only : goal.returns-clause-only
 returns-clause-only c q is =
     let read : Queue = record {
-      messages = c.in_ok-messages.messages.items;
+      messages = c.in_ok-messages.messages;
       qbytes =
           c.in_ok-fields.fields.qbytes;
       last_sender = c.in_ok-fields.fields.sender;

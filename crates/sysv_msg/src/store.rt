@@ -1,0 +1,159 @@
+//! The messages of a queue as they are kept: what is short of each in a row, and the texts in one buffer.
+ghost use Rattle.std.specs.Prelude.{◌≡◌, ◌<◌, ◌^◌, ◌≤◌, ◌∷◌, ◌++◌, [], IfOk, IfSome, OnOk, OnErr, length, get_or, remove};
+ghost use Rattle.std.specs.List.{AllByRecursion};
+ghost use Rattle.kernel_model.specs.Queue as definition;
+ghost use Rattle.sysv_msg.specs.Heads.{text_in, IsWithin};
+ghost use Rattle.sysv_msg.specs.Limits.{IsSendable};
+
+use crate::queue::MAX_BYTES;
+use crate::select::place_of;
+use pico_base::Memory;
+use std::alloc::Global;
+use std::collections::VecDeque;
+use std::marker::Model;
+
+/// How many bytes the buffer has at most after a send, with the holes that receives left.
+const MOST: usize = 2 * MAX_BYTES as usize;
+
+/// A message's type, and where its text lies in the buffer.
+#[derive(Clone, Copy, Debug)]
+pub(crate) struct Head {
+    pub(crate) start: usize,
+    pub(crate) class: i32,
+    pub(crate) len: u32,
+}
+
+/// Messages in order, the oldest first. A text is added behind the others in the buffer. Where a message is taken
+/// its text stays in the buffer as a hole, until no message is left or the buffer is made anew.
+#[derive(Debug, Drop)]
+pub(crate) struct Messages {
+    pub(crate) heads: VecDeque<Head>,
+    pub(crate) texts: Vec<u8>,
+}
+
+impl Model for Messages {
+    ghost use Rattle.std.specs.Prelude.{List};
+    ghost use Rattle.std.specs.List.{AllByRecursion};
+    ghost use Rattle.kernel_model.specs.Queue.{Message};
+    ghost use Rattle.sysv_msg.specs.Heads.{messages_in, IsWithin};
+
+    ghost Value = { List Message };
+
+    ghost view = { λ s. messages_in s.texts.items s.heads.items };
+
+    ghost invariant = { λ s. AllByRecursion (IsWithin s.texts.items) s.heads.items };
+}
+
+/// The text of a head.
+pub(crate) fn text_at(texts: &[u8], head: Head) -> &[u8]
+    requires { IsWithin texts.now head }
+    ensures { result.now ≡ text_in texts.now head }
+{
+    &texts[head.start..head.start + head.len as usize]
+}
+
+impl Messages {
+    /// No messages.
+    pub(crate) fn new(alloc: Global) -> Messages
+        ensures { result ≡ [] }
+    {
+        Messages {
+            heads: VecDeque::new(alloc),
+            texts: Vec::new(alloc),
+        }
+    }
+
+    /// No messages, with room for so many with so many bytes of texts.
+    pub(crate) fn with_room(alloc: Global, count: usize, bytes: usize) -> Result<Messages, Memory>
+        ensures { IfOk result (λ messages. messages ≡ []) }
+    {
+        Ok(Messages {
+            heads: VecDeque::with_capacity(alloc, count)?,
+            texts: Vec::with_capacity(alloc, bytes)?,
+        })
+    }
+
+    /// How many messages there are.
+    pub(crate) fn len(&self) -> usize
+        ensures { result ≡ length self.now }
+    {
+        self.heads.len()
+    }
+
+    /// Adds a message behind the others, its text at the end of the buffer. A refusal changes nothing.
+    pub(crate) fn add(&mut self, class: i32, text: &[u8]) -> Result<(), Memory>
+        requires { length text.now < 2 ^ 32 }
+        ensures ok { OnOk result (self.new ≡ self.old ++ record { class = class; text = text.now } ∷ []) }
+        ensures err { OnErr result (self.new ≡ self.old) }
+    {
+        let head = Head {
+            start: self.texts.len(),
+            class,
+            len: text.len() as u32,
+        };
+        self.texts.extend_from_slice(text)?;
+        self.heads.push_back(head)?;
+        Ok(())
+    }
+
+    /// The same messages with no holes among their texts.
+    fn without_holes(&self) -> Result<Messages, Memory>
+        ensures { IfOk result (λ messages. messages ≡ self.now) }
+    {
+        let mut whole = Messages::with_room(self.allocator(), self.len(), MAX_BYTES as usize)?;
+        for place in 0..self.len() {
+            let (class, text) = self.at(place);
+            whole.add(class, text)?;
+        }
+        Ok(whole)
+    }
+
+    /// Adds a message behind the others, in a buffer without holes where it would become too long. A refusal changes
+    /// nothing.
+    pub(crate) fn push(&mut self, class: i32, text: &[u8]) -> Result<(), Memory>
+        requires { length text.now < 2 ^ 32 }
+        ensures ok { OnOk result (self.new ≡ self.old ++ record { class = class; text = text.now } ∷ []) }
+        ensures err { OnErr result (self.new ≡ self.old) }
+    {
+        if self.texts.len() + text.len() > MOST {
+            *self = self.without_holes()?;
+        }
+        self.add(class, text)
+    }
+
+    /// The place of the message that a receive of this type asks for.
+    pub(crate) fn place_of(&self, class: i32) -> Option<usize>
+        requires { AllByRecursion IsSendable self.now }
+        ensures selected { result ≡ definition.select self.now class }
+        ensures within { IfSome result (λ place. place < length self.now) }
+    {
+        place_of(&self.heads, class)
+    }
+
+    /// The type and the text of the message at a place.
+    pub(crate) fn at(&self, place: usize) -> (i32, &[u8])
+        requires { place < length self.now }
+        ensures there { (m : definition.Message)
+            → record { class = result.0; text = result.1.now } ≡ get_or self.now place m }
+        ensures short { length result.1.now < 2 ^ 32 }
+    {
+        let head = self.heads[place];
+        (head.class, text_at(&self.texts, head))
+    }
+
+    /// What the messages take their memory from.
+    pub(crate) fn allocator(&self) -> Global {
+        *self.texts.allocator()
+    }
+
+    /// Takes the message at a place away.
+    pub(crate) fn remove(&mut self, place: usize)
+        requires { place < length self.old }
+        ensures { self.new ≡ remove self.old place }
+    {
+        let _ = self.heads.remove(place).unwrap();
+        if self.heads.is_empty() {
+            self.texts.clear();
+        }
+    }
+}
