@@ -1,3 +1,4 @@
 mod Entries
+mod Guesses
 mod Packs
 mod Places

@@ -1,5 +1,5 @@
 -- Where a binary search stops among entries by rising number.
-use Rattle.std.proofs.Common.{◌≡◌, ℕ, zero, suc, ◌+◌, ◌≤◌, ◌<◌, Bool, true, false, ◌&&◌, List, [], ◌∷◌, ◌++◌, length, get_or, Result, Ok, Err, MatchResult, refl, ap, subst, ◌∙◌, arith, IsTrue}
+use Rattle.std.proofs.Common.{◌≡◌, ℕ, zero, suc, ◌≤◌, ◌<◌, Bool, true, false, ◌&&◌, [], ◌∷◌, ◌++◌, length, get_or, Result, Ok, Err, MatchResult, refl, ap, subst, ◌∙◌, arith, IsTrue}
 use Rattle.std.specs.FinMap.Entries.{below_all, is_sorted}
 use Rattle.std.specs.List.{AllByRecursion}
 use Rattle.std.specs.List.Sorted.{IsBinarySearchResult, IsNonDecreasingBy, IsSearchInRange}
@@ -47,6 +47,12 @@ module _ {B : Type 0} where
       → IsTrue (below_all nat_cmp x (before ++ (n, b) ∷ after)) → nat_cmp x n ≡ Less
   below_in x [] n b after h = less _ (first _ _ h)
   below_in x (e ∷ es) n b after h = below_in x es n b after (second _ _ h)
+
+  pub rest_sorted : (e : ℕ × B) (es : Numbered B) → IsTrue (is_sorted nat_cmp (e ∷ es)) → IsTrue (is_sorted nat_cmp es)
+  rest_sorted e es h = second _ _ h
+
+  pub below_first : (e f : ℕ × B) (es : Numbered B) → IsTrue (is_sorted nat_cmp (e ∷ f ∷ es)) → nat_cmp e.0 f.0 ≡ Less
+  below_first e f es h = less _ (first _ _ (first _ _ h))
 
   above_all : (x : ℕ) (es : Numbered B) → IsTrue (below_all nat_cmp x es)
       → AllByRecursion (λ e. nat_cmp e.0 x ≡ Greater) es

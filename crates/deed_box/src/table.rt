@@ -1,5 +1,5 @@
 //! The deeds of one kind, by rising number: a new one has the greatest number of its kind, so it goes at the end.
-ghost use Rattle.std.specs.Prelude.{◌≡◌, ◌≤◌, ◌<◌, ◌+◌, ◌∷◌, [], None, Some, IsTrue, IsSome, IfOk, IfErr, OnOk, OnErr, MatchResult, is_some, if◌then◌else◌, length};
+ghost use Rattle.std.specs.Prelude.{◌≡◌, ◌≤◌, ◌<◌, ◌+◌, ◌∷◌, [], None, Some, IsTrue, IsSome, IfSome, IfOk, IfErr, OnOk, OnErr, MatchResult, is_some, if◌then◌else◌, length};
 ghost use Rattle.std.specs.Borrow.{sem};
 ghost use Rattle.std.specs.FinMap.{is_sorted};
 ghost use Rattle.std.specs.Option.{option_copied};
@@ -31,12 +31,55 @@ impl<B> Model for Table<B> {
     ghost invariant = { λ t. IsTrue (is_sorted nat_cmp t.entries.items) };
 }
 
-/// Where the number stands among the entries, or else where it belongs.
+/// Where the number stands if each number from the first one up to it has an entry.
+#[inline]
+fn place_with_no_gap<B>(entries: &[(u32, B)], number: u32) -> Option<usize>
+    requires { IsTrue (is_sorted nat_cmp entries.now) }
+    ensures { IfSome result (StandsAt entries.now number) }
+{
+    let place = number.checked_sub(entries.first()?.0)? as usize;
+    if entries.get(place)?.0 == number {
+        Some(place)
+    } else {
+        None
+    }
+}
+
+/// Whether the number is above all that have an entry.
+fn is_above<B>(entries: &[(u32, B)], number: u32) -> bool
+    requires { IsTrue (is_sorted nat_cmp entries.now) }
+    ensures { IsTrue result → BelongsAt entries.now number (length entries.now) }
+{
+    match entries.last() {
+        Some(last) => last.0 < number,
+        None => true,
+    }
+}
+
+/// Where the number stands among the entries, or else where it belongs, by a search. A new one is mostly above all
+/// others, which takes none.
+#[inline(never)]
+fn search<B>(entries: &[(u32, B)], number: u32) -> Result<usize, usize>
+    requires { IsTrue (is_sorted nat_cmp entries.now) }
+    ensures { MatchResult result (StandsAt entries.now number) (BelongsAt entries.now number) }
+{
+    if is_above(entries, number) {
+        return Err(entries.len());
+    }
+    entries.binary_search_by(|entry| entry.0.cmp(&number))
+}
+
+/// Where the number stands among the entries, or else where it belongs. Most have no gap before them, which takes no
+/// search.
+#[inline]
 fn place_of<B>(entries: &[(u32, B)], number: u32) -> Result<usize, usize>
     requires { IsTrue (is_sorted nat_cmp entries.now) }
     ensures { MatchResult result (StandsAt entries.now number) (BelongsAt entries.now number) }
 {
-    entries.binary_search_by(|entry| entry.0.cmp(&number))
+    match place_with_no_gap(entries, number) {
+        Some(place) => Ok(place),
+        None => search(entries, number),
+    }
 }
 
 impl<B> Table<B> {
@@ -110,6 +153,7 @@ impl<B> Table<B> {
     }
 
     /// The entry at a place that has one, to be changed.
+    #[inline]
     fn value_mut(&mut self, number: u32, place: usize) -> &mut B
         requires { StandsAt self.old.entries number place }
         ensures* writes_back { sem 𝓛 (lends_entry B.row self.entry number result) }
@@ -131,6 +175,7 @@ impl<B> Table<B> {
         }
     }
 
+    #[inline]
     fn place(&self, number: u32) -> Result<usize, usize>
         ensures { MatchResult result (StandsAt self.now.entries number) (BelongsAt self.now.entries number) }
     {

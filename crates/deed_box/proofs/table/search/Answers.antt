@@ -2,7 +2,7 @@ use Rattle.std.proofs.Common.{rules}
 use Rattle.std.proofs.lemmas.Fn.{always_returns_same}
 use Rattle.std.specs.Ordering.{nat_cmp}
 use Rattle.deed_box.proofs.Places.{place_from}
-use Rattle.deed_box.proofs.table.place_of.Goals as goal
+use Rattle.deed_box.proofs.table.search.Goals as goal
 
 pub returns : goal.returns
 returns g c =
