@@ -1,4 +1,1 @@
-mod Entries
-mod Guesses
 mod Packs
-mod Places

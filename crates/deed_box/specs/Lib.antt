@@ -1,5 +1,4 @@
 pub mod Deeds
 pub mod Lending
 pub mod Packing
-pub mod Placing
 pub mod Room

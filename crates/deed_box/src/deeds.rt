@@ -5,8 +5,8 @@ ghost use Rattle.std.specs.List.{IsDistinct};
 ghost use Rattle.std.specs.Option.{option_copied, option_copied_mut, option_map};
 ghost use Rattle.node_model.specs.Kinds.{get_named, none_named, put_named, without_named};
 
-use crate::table::Table;
 use crate::{Deed, Shared};
+use number_table::Table;
 use pico_base::{Memory, Name};
 use std::alloc::Global;
 use std::marker::Model;
@@ -183,9 +183,9 @@ impl<B> Deeds<B> {
         ensures value { get_named self.old.bodies name.now ≡ Some result.now }
     {
         match name {
-            Name::Proc(pid) => self.processes.body_mut(pid.0),
-            Name::Msg(id) => self.queues.body_mut(id.0),
-            Name::Sem(id) => self.sets.body_mut(id.0),
+            Name::Proc(pid) => self.processes.entry_mut(pid.0),
+            Name::Msg(id) => self.queues.entry_mut(id.0),
+            Name::Sem(id) => self.sets.entry_mut(id.0),
         }
     }
 
