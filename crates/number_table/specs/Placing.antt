@@ -1,5 +1,4 @@
--- One kind's entries by rising number: what a table is seen as, and where a number stands or belongs. No public clause
--- cites this module.
+-- What a table is seen as: entries by rising number; and where a number stands or belongs among them.
 use Rattle.std.specs.Prelude.{◌≡◌, ℕ, List, ◌∷◌, ◌++◌, length, refl}
 use Rattle.std.specs.Coded.{Coded, code_by, coded×, coded_list, coded_ℕ}
 use Rattle.std.specs.List.{AllByRecursion}

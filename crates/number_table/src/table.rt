@@ -1,5 +1,5 @@
 //! Values by rising number: a new one mostly has the greatest number, so it goes at the end.
-ghost use Rattle.std.specs.Prelude.{◌≡◌, ◌↔◌, ℕ, ◌≤◌, ◌<◌, ◌+◌, ◌∷◌, [], None, Some, IsTrue, IsSome, IfSome, IfOk, IfErr, OnOk, OnErr, MatchResult, is_some, if◌then◌else◌, length};
+ghost use Rattle.std.specs.Prelude.{◌≡◌, ◌↔◌, ℕ, ◌≤◌, ◌<◌, ◌+◌, ◌∷◌, [], None, Some, IsTrue, IsSome, IfSome, IfOk, IfErr, OnOk, OnErr, MatchOption, MatchResult, is_some, if◌then◌else◌, length};
 ghost use Rattle.std.specs.Borrow.{sem};
 ghost use Rattle.std.specs.FinMap.{is_sorted};
 ghost use Rattle.std.specs.Option.{option_copied};
@@ -178,12 +178,13 @@ impl<V> Table<V> {
         }
     }
 
-    /// The value at the number's place, to be changed.
+    /// The value at the number's place, to be changed. A change leaves as many entries.
     #[inline]
-    fn value_mut(&mut self, number: u32, place: usize) -> &mut V
+    pub fn value_mut(&mut self, number: u32, place: usize) -> &mut V
         requires { StandsAt self.old.entries number place }
         ensures* writes_back { sem 𝓛 (lends_entry V.row self.entry number result) }
         ensures value { get self.old.entries number ≡ Some result.now }
+        ensures len { (value : V) → length (put self.old.entries number value) ≡ length self.old.entries }
     {
         &mut self.entries[place].1
     }
@@ -198,6 +199,17 @@ impl<V> Table<V> {
         match self.place(number) {
             Ok(place) => self.value_mut(number, place),
             Err(_) => unreachable!(),
+        }
+    }
+
+    /// Where the number's entry stands, where it has one.
+    #[inline]
+    pub fn find(&self, number: u32) -> Option<usize>
+        ensures { MatchOption result (get self.now.entries number ≡ None) (StandsAt self.now.entries number) }
+    {
+        match self.place(number) {
+            Ok(place) => Some(place),
+            Err(_) => None,
         }
     }
 

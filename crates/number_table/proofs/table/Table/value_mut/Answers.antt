@@ -1,7 +1,7 @@
 use Rattle.std.proofs.Common.{ap, refl, sym, vec_capacity}
 use Rattle.number_maps.specs.Maps.{Numbered}
 use Rattle.number_table.specs.Placing.{Shelf, StandsAt}
-use Rattle.number_table.proofs.Entries.{found_get, is_sorted-put_at, set_there}
+use Rattle.number_table.proofs.Entries.{found_get, is_sorted-put_at, length-put_stands, set_there}
 use Rattle.number_table.proofs.table.Table.value_mut.Goals as goal
 
 pub invariant_of-self-lent : goal.invariant_of-self-lent
@@ -28,5 +28,6 @@ returns g c =
         value =
             rw (← c.self.view_is)
             (sym (found_get items items _ _ c.index_mut.result.now refl s c.index_mut.ensures.value));
+        len = λ value. length-put_stands _ _ _ value c.requires;
       },
     )
