@@ -1,3 +1,1 @@
-mod Entries
 mod Packs
-mod Places

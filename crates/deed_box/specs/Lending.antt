@@ -1,18 +1,10 @@
 -- What deeds end as, where a body is lent to be changed.
-use Rattle.std.specs.Prelude.{ℕ, Option}
+use Rattle.std.specs.Prelude.{Option}
 use Rattle.std.specs.Borrow.{Fml, Lends, LendsIf, MutBor, RattleType}
 use Rattle.pico_base.specs.declared.numbers.Name.{Name}
-use Rattle.number_maps.specs.Maps.{put}
 use Rattle.node_model.specs.Kinds.{put_named}
 use Rattle.deed_box.specs.Deeds.{Holdings}
-use Rattle.deed_box.specs.Placing.{Shelf}
 use Rattle.deed_box.specs.contracts.deeds.Deeds.{the_row as deeds_row}
-use Rattle.deed_box.specs.contracts.table.Table.{the_row as table_row}
-
-module _ (T : RattleType) (s : MutBor (Shelf T.Denot)) (number : ℕ) where
-  -- one kind's, with what is last written behind the result at the number
-  abbrev pub lends_entry : MutBor T.Denot → Fml
-  lends_entry r = Lends (table_row T) T s r (λ body. record s.now { entries = put s.now.entries number body })
 
 module _ (T : RattleType) (s : MutBor (Holdings T.Denot)) (name : Name) where
   abbrev pub with_body : T.Denot → Holdings T.Denot

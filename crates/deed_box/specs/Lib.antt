@@ -1,5 +1,5 @@
 pub mod Deeds
 pub mod Lending
 pub mod Packing
-pub mod Placing
 pub mod Room
+pub mod Standing

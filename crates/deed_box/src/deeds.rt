@@ -1,12 +1,13 @@
 //! The deeds that a node holds, by name.
-ghost use Rattle.std.specs.Prelude.{◌≡◌, ◌≤◌, ◌<◌, ◌+◌, ◌-◌, None, Some, Ok, IsTrue, IsOk, IsSome, IfSome, IfOk, IfErr, OnOk, OnErr, is_some, if◌then◌else◌, length, min};
+ghost use Rattle.std.specs.Prelude.{◌≡◌, ◌≤◌, ◌<◌, ◌+◌, ◌-◌, None, Some, Ok, IsTrue, IsOk, IfSome, IfOk, IfErr, OnOk, OnErr, MatchOption, is_some, if◌then◌else◌, length, min};
 ghost use Rattle.std.specs.Borrow.{sem};
 ghost use Rattle.std.specs.List.{IsDistinct};
 ghost use Rattle.std.specs.Option.{option_copied, option_copied_mut, option_map};
 ghost use Rattle.node_model.specs.Kinds.{get_named, none_named, put_named, without_named};
+ghost use Rattle.deed_box.specs.Standing.{StandsNamed};
 
-use crate::table::Table;
 use crate::{Deed, Shared};
+use number_table::Table;
 use pico_base::{Memory, Name};
 use std::alloc::Global;
 use std::marker::Model;
@@ -159,10 +160,22 @@ impl<B> Deeds<B> {
         ensures* writes_back { sem 𝓛 (lends_body_if B.row self.entry name result) }
         ensures value { option_copied_mut result ≡ get_named self.old.bodies name }
     {
-        if self.holds(&name) {
-            Some(self.body_mut(&name))
-        } else {
-            None
+        match self.place(&name) {
+            Some(place) => Some(self.body_at(&name, place)),
+            None => None,
+        }
+    }
+
+    /// Where the name's deed stands among those of its kind, where it is there.
+    #[inline]
+    fn place(&self, name: &Name) -> Option<usize>
+        ensures { MatchOption result
+            (get_named self.now.bodies name.now ≡ None) (StandsNamed self.now.bodies name.now) }
+    {
+        match name {
+            Name::Proc(pid) => self.processes.find(pid.0),
+            Name::Msg(id) => self.queues.find(id.0),
+            Name::Sem(id) => self.sets.find(id.0),
         }
     }
 
@@ -176,16 +189,17 @@ impl<B> Deeds<B> {
         }
     }
 
-    /// The body of a name whose deed is there, to be changed.
-    fn body_mut(&mut self, name: &Name) -> &mut B
-        requires { IsSome (get_named self.old.bodies name.now) }
+    /// The body of the name whose deed stands at this place, to be changed.
+    #[inline]
+    fn body_at(&mut self, name: &Name, place: usize) -> &mut B
+        requires { StandsNamed self.old.bodies name.now place }
         ensures* writes_back { sem 𝓛 (lends_body B.row self.entry name.now result) }
         ensures value { get_named self.old.bodies name.now ≡ Some result.now }
     {
         match name {
-            Name::Proc(pid) => self.processes.body_mut(pid.0),
-            Name::Msg(id) => self.queues.body_mut(id.0),
-            Name::Sem(id) => self.sets.body_mut(id.0),
+            Name::Proc(pid) => self.processes.value_mut(pid.0, place),
+            Name::Msg(id) => self.queues.value_mut(id.0, place),
+            Name::Sem(id) => self.sets.value_mut(id.0, place),
         }
     }
 

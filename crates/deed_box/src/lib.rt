@@ -6,7 +6,6 @@ mod deed;
 mod deeds;
 mod packing;
 mod shared;
-mod table;
 
 pub use deed::Deed;
 pub use deeds::Deeds;

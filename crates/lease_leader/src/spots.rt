@@ -8,14 +8,14 @@ ghost use Rattle.lease_leader.specs.Places.{with_item};
 
 use crate::spot::Spot;
 use node_model::Held;
+use number_table::Table;
 use pico_base::{Kind, Memory, Name};
 use std::alloc::Global;
-use std::collections::BTreeMap;
 use std::marker::Model;
 use std::mem;
 
 /// The spots of one kind, by number.
-type Numbers = BTreeMap<u32, Spot>;
+type Numbers = Table<Spot>;
 
 /// The spots of the known names, which contracts see as a finite map from names.
 #[derive(Drop)]
@@ -38,23 +38,6 @@ impl Model for Spots {
     } };
 }
 
-/// Whether each of these numbers is below this one.
-fn are_below(spots: &Numbers, number: u32) -> bool
-    ensures { IsTrue result ↔ ((q : ℕ) → number ≤ q → get spots.now.entries q ≡ None) }
-{
-    match spots.last_key_value() {
-        Some((last, _)) => *last < number,
-        None => true,
-    }
-}
-
-/// Whether the number is there. A new one is mostly above all others, which takes no search.
-fn has_at(spots: &Numbers, number: u32) -> bool
-    ensures { result ≡ is_some (get spots.now.entries number) }
-{
-    !are_below(spots, number) && spots.contains_key(&number)
-}
-
 /// Puts another spot in the place of one that is there, which it gives back.
 fn replace_at(spots: &mut Numbers, number: u32, spot: Spot) -> Spot
     requires { IsSome (get spots.old.entries number) }
@@ -62,10 +45,8 @@ fn replace_at(spots: &mut Numbers, number: u32, spot: Spot) -> Spot
     ensures was { get spots.old.entries number ≡ Some result }
     ensures rising { IsRising spots.old.entries }
 {
-    match spots.get_mut(&number) {
-        Some(there) => mem::replace(there, spot),
-        None => unreachable!(),
-    }
+    spots.rise();
+    mem::replace(spots.entry_mut(number), spot)
 }
 
 /// Holds a further item at a spot that is there.
@@ -77,10 +58,8 @@ fn hold_at(alloc: Global, spots: &mut Numbers, number: u32, item: Held) -> Resul
     ensures back { IfErr result (λ back. back ≡ item) }
     ensures rising { IsRising spots.old.entries }
 {
-    match spots.get_mut(&number) {
-        Some(spot) => spot.hold(alloc, item),
-        None => unreachable!(),
-    }
+    spots.rise();
+    spots.entry_mut(number).hold(alloc, item)
 }
 
 impl Spots {
@@ -89,9 +68,9 @@ impl Spots {
         ensures { result ≡ none_named }
     {
         Spots {
-            processes: BTreeMap::new(alloc),
-            queues: BTreeMap::new(alloc),
-            sets: BTreeMap::new(alloc),
+            processes: Table::new(alloc),
+            queues: Table::new(alloc),
+            sets: Table::new(alloc),
         }
     }
 
@@ -100,9 +79,9 @@ impl Spots {
         ensures { option_copied result ≡ get_named self.now name.now }
     {
         match name {
-            Name::Proc(pid) => self.processes.get(&pid.0),
-            Name::Msg(id) => self.queues.get(&id.0),
-            Name::Sem(id) => self.sets.get(&id.0),
+            Name::Proc(pid) => self.processes.get(pid.0),
+            Name::Msg(id) => self.queues.get(id.0),
+            Name::Sem(id) => self.sets.get(id.0),
         }
     }
 
@@ -111,9 +90,9 @@ impl Spots {
         ensures { result ≡ is_some (get_named self.now name.now) }
     {
         match name {
-            Name::Proc(pid) => has_at(&self.processes, pid.0),
-            Name::Msg(id) => has_at(&self.queues, id.0),
-            Name::Sem(id) => has_at(&self.sets, id.0),
+            Name::Proc(pid) => self.processes.has(pid.0),
+            Name::Msg(id) => self.queues.has(id.0),
+            Name::Sem(id) => self.sets.has(id.0),
         }
     }
 
@@ -122,9 +101,9 @@ impl Spots {
         ensures { IsTrue result ↔ ((q : ℕ) → number ≤ q → get (for_kind self.now kind) q ≡ None) }
     {
         match kind {
-            Kind::Proc => are_below(&self.processes, number),
-            Kind::Msg => are_below(&self.queues, number),
-            Kind::Sem => are_below(&self.sets, number),
+            Kind::Proc => self.processes.are_below(number),
+            Kind::Msg => self.queues.are_below(number),
+            Kind::Sem => self.sets.are_below(number),
         }
     }
 
@@ -132,7 +111,7 @@ impl Spots {
     pub(crate) fn rise(&self)
         ensures { IsRising self.now.processes }
     {
-        let _ = self.processes.len();
+        self.processes.rise();
     }
 
     /// Puts a spot. A refusal for want of memory changes nothing.
@@ -141,7 +120,7 @@ impl Spots {
         ensures err { OnErr result (self.new ≡ self.old) }
         ensures rising { IsRising self.old.processes }
     {
-        let _ = self.processes.len();
+        self.processes.rise();
         match name {
             Name::Proc(pid) => self.processes.insert(pid.0, spot)?,
             Name::Msg(id) => self.queues.insert(id.0, spot)?,
@@ -157,7 +136,7 @@ impl Spots {
         ensures was { get_named self.old name.now ≡ Some result }
         ensures rising { IsRising self.old.processes }
     {
-        let _ = self.processes.len();
+        self.processes.rise();
         match name {
             Name::Proc(pid) => replace_at(&mut self.processes, pid.0, spot),
             Name::Msg(id) => replace_at(&mut self.queues, id.0, spot),
@@ -175,7 +154,7 @@ impl Spots {
         ensures back { IfErr result (λ back. back ≡ item) }
         ensures rising { IsRising self.old.processes }
     {
-        let _ = self.processes.len();
+        self.processes.rise();
         match name {
             Name::Proc(pid) => hold_at(alloc, &mut self.processes, pid.0, item),
             Name::Msg(id) => hold_at(alloc, &mut self.queues, id.0, item),

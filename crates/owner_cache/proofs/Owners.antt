@@ -1,5 +1,5 @@
 -- A map that keeps the order of use, against the list of owners.
-use Rattle.std.proofs.Common.{◌≡◌, ℕ, zero, suc, ◌+◌, ◌≤◌, ◌-◌, Bool, true, false, cond, not, nat_eq, [], ◌∷◌, length, take, Option, Some, None, refl, sym, ap, subst, ◌∙◌, arith}
+use Rattle.std.proofs.Common.{◌≡◌, slice_get, ℕ, zero, suc, ◌+◌, ◌≤◌, ◌-◌, Bool, true, false, cond, not, nat_eq, [], ◌∷◌, length, take, Option, Some, None, refl, sym, ap, subst, ◌∙◌, arith}
 use Rattle.std.proofs.lemmas.Bool.Decides.{nat_tests}
 use Rattle.std.specs.Map.{lookup, lookup_entry, remove_entry}
 use Rattle.std.specs.Option.{option_map, option_map_or}
@@ -150,6 +150,49 @@ look_by_within es places n (Some v) is h =
 -- a cache that is asked for a name stays within its places
 pub look_within : (es : Cache) (places : ℕ) (n : Name) → IsWithin es places → IsWithin (look es n) places
 look_within es places n h = look_by_within es places n (owner_in es n) refl h
+
+-- ---- the name used last
+
+owner_first : (e : Name × ℕ) (es : Cache) (n : Name) → n ≡ e.0 → owner_in (e ∷ es) n ≡ Some e.1
+owner_first e es n same =
+    ap (λ t. cond t (Some e.1) (owner_in es n)) (subst (λ k. is_same_name n k ≡ true) same (same_itself n))
+
+forget_first : (e : Name × ℕ) (es : Cache) (n : Name) → n ≡ e.0 → IsOnceEach (e ∷ es)
+    → (n, e.1) ∷ forget (e ∷ es) n ≡ e ∷ es
+forget_first e es n same once =
+    ap (λ t. (n, e.1) ∷ cond (not t) (e ∷ forget es n) (forget es n))
+    (subst (λ k. is_same_name n k ≡ true) same (same_itself n))
+    ∙ ap (λ xs. (n, e.1) ∷ xs) (forget-absent es n (subst (λ k. owner_in es k ≡ None) (sym same) once.0))
+    ∙ ap (λ k. (k, e.1) ∷ es) same
+
+-- the name used last has the first entry's node
+pub owner_last : (es : Cache) (n : Name) (e : Name × ℕ) → Some e ≡ slice_get es 0 → is_same_name e.0 n ≡ true
+    → owner_in es n ≡ Some e.1
+owner_last [] n e is same = absurd (cc)
+owner_last (x ∷ xs) n e is same =
+    let first : x ≡ e = cc in
+    subst (λ (y : Name × ℕ). owner_in (y ∷ xs) n ≡ Some e.1) (sym first)
+    (owner_first e xs n (sym (same_is e.0 n same)))
+
+-- to look at it changes nothing
+pub look_last : (es : Cache) (n : Name) (e : Name × ℕ) → Some e ≡ slice_get es 0 → is_same_name e.0 n ≡ true
+    → IsOnceEach es → look es n ≡ es
+look_last [] n e is same once = absurd (cc)
+look_last (x ∷ xs) n e is same once =
+    let first : e ≡ x = cc in
+    let here : n ≡ x.0 = sym (same_is e.0 n same) ∙ ap (λ (y : Name × ℕ). y.0) first in
+    ap (look_by (x ∷ xs) n) (owner_first x xs n here) ∙ forget_first x xs n here once
+
+-- nor does to learn its node again
+pub learn_last : (es : Cache) (n : Name) (e : Name × ℕ) → Some e ≡ slice_get es 0 → is_same_name e.0 n ≡ true
+    → length es ≤ 64 → IsOnceEach es → learn es n e.1 ≡ es
+learn_last [] n e is same le once = absurd (cc)
+learn_last (x ∷ xs) n e is same le once =
+    let first : e ≡ x = cc in
+    let here : n ≡ x.0 = sym (same_is e.0 n same) ∙ ap (λ (y : Name × ℕ). y.0) first in
+    ap (λ (y : Name × ℕ). learn (x ∷ xs) n y.1) first
+    ∙ ap (take 64) (forget_first x xs n here once)
+    ∙ take_all 64 (x ∷ xs) le
 
 module _ (n : Name) (test : Name → Bool) (same : (k : Name) → test k ≡ is_same_name n k) where
   pub remove_is : (es : Cache) → IsOnceEach es → remove_entry test es ≡ forget es n

@@ -1,7 +1,7 @@
 //! Which node last answered for a name. It may be out of date: then the node that is asked says so.
 #![tactic(auto)]
 
-ghost use Rattle.std.specs.Prelude.{◌≡◌, [], IfOk, OnOk, OnErr};
+ghost use Rattle.std.specs.Prelude.{◌≡◌, [], Some, IsSome, IfSome, IfOk, OnOk, OnErr};
 ghost use Rattle.node_model.specs.Cache.{forget, learn, look, owner_in};
 
 use lru::LruCache;
@@ -46,12 +46,34 @@ impl Cache {
         })
     }
 
+    /// The node of the name, if it is the one used last. To use it again changes nothing.
+    #[inline]
+    fn last_owner(&self, name: &Name) -> Option<Node>
+        ensures owner { IfSome result (λ node. owner_in self.now name.now ≡ Some node) }
+        ensures used { IsSome result → look self.now name.now ≡ self.now }
+        ensures known { IfSome result (λ node. learn self.now name.now node ≡ self.now) }
+    {
+        let (last, node) = self.owners.peek_mru()?;
+        if *last == *name { Some(*node) } else { None }
+    }
+
     /// The node that last answered for the name, where that is known. The name is then the one used last.
     pub fn look(&mut self, name: Name) -> Option<Node>
         ensures owner { result ≡ owner_in self.old name }
         ensures used { self.new ≡ look self.old name }
     {
-        self.owners.get(&name).copied()
+        match self.last_owner(&name) {
+            Some(node) => Some(node),
+            None => self.look_up(&name),
+        }
+    }
+
+    /// The same of a name that may stand anywhere.
+    fn look_up(&mut self, name: &Name) -> Option<Node>
+        ensures owner { result ≡ owner_in self.old name.now }
+        ensures used { self.new ≡ look self.old name.now }
+    {
+        self.owners.get(name).copied()
     }
 
     /// Notes that this node has answered for the name, which is then the one used last. Past 64 names the one used
@@ -60,7 +82,18 @@ impl Cache {
         ensures ok { OnOk result (self.new ≡ learn self.old name node) }
         ensures err { OnErr result (self.new ≡ self.old) }
     {
-        let _ = self.owners.put(name, node)?;
+        match self.last_owner(&name) {
+            Some(last) if last.0 == node.0 => Ok(()),
+            _ => self.put(&name, node),
+        }
+    }
+
+    /// The same of a name or a node that may be new.
+    fn put(&mut self, name: &Name, node: Node) -> Result<(), Memory>
+        ensures ok { OnOk result (self.new ≡ learn self.old name.now node) }
+        ensures err { OnErr result (self.new ≡ self.old) }
+    {
+        let _ = self.owners.put(*name, node)?;
         Ok(())
     }
 
