@@ -55,7 +55,8 @@ module _ {B : Type 0} where
       → IsTrue (below_all nat_cmp x es)
   below_others x e es h = second _ _ h
 
-  pub all_above : (e : ℕ × B) (es : Numbered B) → IsTrue (is_sorted nat_cmp (e ∷ es)) → IsTrue (below_all nat_cmp e.0 es)
+  pub all_above : (e : ℕ × B) (es : Numbered B) → IsTrue (is_sorted nat_cmp (e ∷ es))
+      → IsTrue (below_all nat_cmp e.0 es)
   all_above e es h = first _ _ h
 
   pub rest_sorted : (e : ℕ × B) (es : Numbered B) → IsTrue (is_sorted nat_cmp (e ∷ es)) → IsTrue (is_sorted nat_cmp es)

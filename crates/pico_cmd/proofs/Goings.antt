@@ -35,11 +35,12 @@ IsGoing-start script seed taken telling world at none opening first fresh =
       lines_are = refl;
     }
 
--- the world is there, and the last event of the schedule was of one of its nodes
+-- the world is there
 pub going_is_there : (script : Script) (seed : ℕ) (lines : Bool) (taken : List Event) (telling : Telling)
     (world : Option World) (at : Schedule) → IsGoing script seed lines taken telling world at → IsSome world
 going_is_there script seed lines taken telling world at g = world_is_there g.whole telling world g.made
 
+-- the last event of the schedule was of one of its nodes
 pub going_is_within : (script : Script) (seed : ℕ) (lines : Bool) (taken : List Event) (telling : Telling)
     (world : Option World) (at : Schedule) → IsGoing script seed lines taken telling world at
     → IfSome world (λ w. IsWithin (size w) at)

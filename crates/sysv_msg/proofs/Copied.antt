@@ -23,6 +23,7 @@ pub record HasCopied (total : Option (List Message × List ℕ)) (left room : �
   pub within : AllByRecursion (IsWithin bytes) heads
   pub others : with_front (messages_in bytes heads) (messages_at left room rest) ≡ total
 
+-- before the first message nothing is noted, and the whole section is to be copied
 pub begins_copying : (count room : ℕ) (bytes : List ℕ) → IsBytes bytes
     → HasCopied (messages_at count room bytes) (count - 0) room bytes bytes []
 begins_copying count room bytes fits =
@@ -70,6 +71,7 @@ lies_there before rest after bytes room m is fits read =
       fits = takes.rest_fits;
     }
 
+-- a text that was read lies within the bytes that were copied
 pub text_lies_within : (total : Option (List Message × List ℕ)) (left room other : ℕ) (bytes rest after : List ℕ)
     (heads : List Head) (m : Message) → message_at room rest ≡ Some (m, after)
     → HasCopied total left other bytes rest heads → length after + length m.text ≤ length bytes

@@ -33,6 +33,7 @@ within_more texts more (h ∷ heads) within =
     let first = within.0 in
     (omega (arith, first, length-append texts more), within_more texts more heads within.1)
 
+-- what holds of two lists' items holds of the items of both
 pub all_joined : {X : Type 0} (P : X → Type 0) (xs ys : List X) → AllByRecursion P xs → AllByRecursion P ys
     → AllByRecursion P (xs ++ ys)
 all_joined P [] ys h k = k
@@ -49,14 +50,18 @@ message_added texts text heads h within start len =
     map-append (message_in (texts ++ text)) heads (h ∷ [])
     ∙ rw (messages_stay texts text heads within, last) refl
 
+-- with a text at the end of the buffer, and a head for it, each head lies within the buffer
 pub within_added : (texts text : List ℕ) (heads : List Head) (h : Head) → AllByRecursion (IsWithin texts) heads
     → h.start ≡ length texts → h.len ≡ length text → AllByRecursion (IsWithin (texts ++ text)) (heads ++ h ∷ [])
 within_added texts text heads h within start len =
-    all_joined (IsWithin (texts ++ text)) heads (h ∷ []) (within_more texts text heads within) (omega (arith, length-append texts text), tt)
+    all_joined (IsWithin (texts ++ text)) heads (h ∷ []) (within_more texts text heads within)
+    (omega (arith, length-append texts text), tt)
 
 -- ---- a message less
 
-pub map_removed : {X Y : Type 0} (f : X → Y) (xs : List X) (place : ℕ) → map f (remove xs place) ≡ remove (map f xs) place
+-- to take an item out and to map the rest is to map and then take out
+pub map_removed : {X Y : Type 0} (f : X → Y) (xs : List X) (place : ℕ)
+    → map f (remove xs place) ≡ remove (map f xs) place
 map_removed f [] zero = refl
 map_removed f [] (suc place) = refl
 map_removed f (x ∷ xs) zero = refl
@@ -75,18 +80,22 @@ all_back P front back all is each = all_behind P front back (subst (AllByRecursi
 
 -- ---- the types alone
 
+-- the next number by its two spellings
 pub suc_is : (i : ℕ) → suc i ≡ i + 1
 suc_is i = omega arith
 
+-- the messages without texts, from one that is there on
 pub bare_drop : (heads : List Head) (i : ℕ) (d : Head) → i < length heads
     → map bare (drop i heads) ≡ bare (get_or heads i d) ∷ map bare (drop (i + 1) heads)
 bare_drop heads i d within =
     ap (map bare) (drop-cons heads i d within)
     ∙ ap (λ (n : ℕ). bare (get_or heads i d) ∷ map bare (drop n heads)) (suc_is i)
 
+-- the messages without texts, of both parts of a ring
 pub bare_parts : (front back all : List Head) → front ++ back ≡ all → map bare front ++ map bare back ≡ map bare all
 bare_parts front back all is = sym (map-append bare front back) ∙ ap (map bare) is
 
+-- without its text a message may be sent where it may with it
 pub bare_sendable : (texts : List ℕ) (heads : List Head) → AllByRecursion IsSendable (messages_in texts heads)
     → AllByRecursion IsSendable (map bare heads)
 bare_sendable texts [] each = tt
@@ -116,7 +125,8 @@ lowest_agree : (texts : List ℕ) (heads : List Head) (bound : ℤ)
 lowest_agree texts [] bound = refl
 lowest_agree texts (h ∷ heads) bound = rw (lowest_agree texts heads bound) refl
 
-any_agree : (texts : List ℕ) (heads : List Head) → select (map bare heads) (pos 0) ≡ select (messages_in texts heads) (pos 0)
+any_agree : (texts : List ℕ) (heads : List Head)
+    → select (map bare heads) (pos 0) ≡ select (messages_in texts heads) (pos 0)
 any_agree texts [] = refl
 any_agree texts (h ∷ heads) = rw (lengths_agree texts heads) refl
 
@@ -136,6 +146,7 @@ heads_prefix : (heads : List Head) (class : ℤ)
 heads_prefix [] class = refl
 heads_prefix (h ∷ heads) class = rw (heads_prefix heads class) refl
 
+-- the first head of a type is the first message of it
 pub first_of_heads : (heads : List Head) (class : ℤ)
     → position (λ (h : Head). int_eq h.class class) heads ≡ first_of class (map bare heads)
 first_of_heads heads class = rw (heads_prefix heads class, sym (length-map heads bare)) refl

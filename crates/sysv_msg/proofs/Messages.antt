@@ -81,6 +81,7 @@ class_again class rest low fits =
       at_least class low,
     ) refl
 
+-- a message that is read is spelled so, may be sent, and its text fits the room
 pub message_takes : (room : ℕ) (bytes : List ℕ) (x : Message × List ℕ) → IsBytes bytes → message_at room bytes ≡ Some x
     → Takes bytes (message_field x.0) x.1 × IsSendable x.0 × (length x.0.text ≤ room)
 unfolding message_at

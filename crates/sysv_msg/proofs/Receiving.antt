@@ -54,6 +54,7 @@ each_removed P [] (suc place) h = h
 each_removed P (x ∷ xs) zero h = h.1
 each_removed P (x ∷ xs) (suc place) h = (h.0, each_removed P xs place h.1)
 
+-- a message that is taken out leaves the bytes of the others
 pub bytes_removed : (ms : List Message) (place : ℕ) (m : Message) → place < length ms → m ≡ get_or ms place m
     → bytes_of (remove ms place) + length m.text ≡ bytes_of ms
 bytes_removed ms place m within is =

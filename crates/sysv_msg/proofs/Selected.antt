@@ -33,6 +33,7 @@ zero_none : (ms : List Message) → length ms ≡ 0 → None ≡ select ms (pos 
 zero_none [] h = refl
 zero_none (m ∷ ms) h = absurd (omega arith)
 
+-- type 0 asks for the first message
 pub select-zero : (ms : List Message) (class : ℤ) → class ≤ℤ pos 0 → pos 0 ≤ℤ class → 0 < length ms
     → Some 0 ≡ select ms class
 select-zero ms class low high h = let z : class ≡ pos 0 = omega (arith, ints) in rw z (zero_some ms h)

@@ -66,7 +66,8 @@ fn lowest_of_all(start: usize, heads: &[Head], kept: Lowest) -> Lowest
 /// The place of the first message of the lowest type below a bound.
 fn first_of_lowest(heads: &VecDeque<Head>, above: i64) -> Option<usize>
     requires { AllByRecursion IsSendable (map bare heads.now.items) }
-    ensures { result ≡ definition.first_of_some (lowest_below above (map bare heads.now.items)) (map bare heads.now.items) }
+    ensures { result
+        ≡ definition.first_of_some (lowest_below above (map bare heads.now.items)) (map bare heads.now.items) }
 {
     let (front, back) = heads.as_slices();
     let lowest = lowest_of_all(0, front, (above, heads.len()));

@@ -63,6 +63,7 @@ pub sound_after : {F : Type 0} (old new : Option World) (e : Event) (r : Result 
 sound_after old new e (Ok done) sound enabled ok err =
     let next : World = ok.1
     in let reached : IsReached ok.0 = subst IsSoundWorld ok.2 sound
-    in let may : is_enabled ok.0 e ≡ true = subst (λ (o : Option World). IfSome o (λ w. is_enabled w e ≡ true)) ok.2 enabled
+    in let may : is_enabled ok.0 e ≡ true =
+    subst (λ (o : Option World). IfSome o (λ w. is_enabled w e ≡ true)) ok.2 enabled
     in subst IsSoundWorld (sym ok.3) (IsReached-next ok.0 next e reached may ok.4)
 sound_after old new e (Err fault) sound enabled ok err = subst IsSoundWorld (sym err) tt

@@ -15,9 +15,9 @@ use std::alloc::Global;
 use std::marker::Model;
 
 /// A world of picoprocesses that runs a script, and that keeps of its journal no more than its caller wants: `recent`
-/// shows what was carried out since `let_go`. Contracts see a world of the machine whose journal is what is kept: behind
-/// the entries that were let go it is one that a run of the script has led to. They see none where the world is spent:
-/// an allocation was refused in the middle of a step.
+/// shows what was carried out since `let_go`. Contracts see a world of the machine whose journal is what is kept: a run
+/// has led to it behind the entries that were let go. They see none where the world is spent: an allocation was refused
+/// in the middle of a step.
 #[derive(Drop)]
 pub struct StreamingWorld {
     state: Option<State>,

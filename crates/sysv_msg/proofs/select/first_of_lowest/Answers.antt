@@ -31,7 +31,8 @@ returns-then-place-len c =
     c.lowest_of_all-lowest.ensures back (back_of front back items parts c.requires) in
     let end = both_ways c.args.above c.lowest_of_all-lowest.result.0 c.lowest_of_all-place.result.0 front back items
     (0 + length c.as_slices.result.0.now) (length c.as_slices.result.0.now)
-    (length c.as_slices.result.0.now + length c.as_slices.result.1.now) c.len.result c.lowest_of_all-lowest.result.1 c.lowest_of_all-place.result.1
+    (length c.as_slices.result.0.now + length c.as_slices.result.1.now) c.len.result c.lowest_of_all-lowest.result.1
+    c.lowest_of_all-place.result.1
     parts (omega arith) size first (c.lowest_of_all-place.ensures [] tt) in
     found_there c.args.above items c.lowest_of_all-place.result.1 end (omega (arith, c.if-place-len.true))
 
@@ -48,6 +49,7 @@ returns-else-place-len c =
     c.lowest_of_all-lowest.ensures back (back_of front back items parts c.requires) in
     let end = both_ways c.args.above c.lowest_of_all-lowest.result.0 c.lowest_of_all-place.result.0 front back items
     (0 + length c.as_slices.result.0.now) (length c.as_slices.result.0.now)
-    (length c.as_slices.result.0.now + length c.as_slices.result.1.now) c.len.result c.lowest_of_all-lowest.result.1 c.lowest_of_all-place.result.1
+    (length c.as_slices.result.0.now + length c.as_slices.result.1.now) c.len.result c.lowest_of_all-lowest.result.1
+    c.lowest_of_all-place.result.1
     parts (omega arith) size first (c.lowest_of_all-place.ensures [] tt) in
     found_none c.args.above items c.lowest_of_all-place.result.1 end (omega (arith, c.if-place-len.false))
