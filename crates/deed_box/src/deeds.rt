@@ -138,6 +138,7 @@ impl<B> Deeds<B> {
     }
 
     /// Whether the name's deed is there.
+    #[inline(always)]
     pub fn has(&self, name: Name) -> bool
         ensures { result ≡ is_some (get_named self.now.bodies name) }
     {
@@ -145,6 +146,7 @@ impl<B> Deeds<B> {
     }
 
     /// The body of the name, where its deed is there.
+    #[inline(always)]
     pub fn get(&self, name: Name) -> Option<&B>
         ensures { option_copied result ≡ get_named self.now.bodies name }
     {
@@ -156,6 +158,7 @@ impl<B> Deeds<B> {
     }
 
     /// The body of the name, to be changed, where its deed is there.
+    #[inline(always)]
     pub fn get_mut(&mut self, name: Name) -> Option<&mut B>
         ensures* writes_back { sem 𝓛 (lends_body_if B.row self.entry name result) }
         ensures value { option_copied_mut result ≡ get_named self.old.bodies name }

@@ -68,6 +68,7 @@ impl Caller {
 
     /// The call due: the end by the signal that dooms the process, or the call of the line that is reached, with its
     /// variable's value. Behind the last line stands `exit 0`, where that isn't an exit itself.
+    #[inline(always)]
     pub fn due(&self, script: &Script, doom: Option<Sig>) -> Result<Call, Memory>
         requires { HasLine script.now self.now }
         ensures { IfOk result (λ call. call_due script.now self.now doom ≡ Some call) }
@@ -83,6 +84,7 @@ impl Caller {
 
     /// Starts a call, and gives its ticket: the calls started up to now. The count stays at 4294967295. It takes no
     /// memory.
+    #[inline(always)]
     pub fn start(&mut self, call: Call) -> u32
         requires { self.old.caller.under_way ≡ None }
         ensures started { self.new ≡ started self.old call }

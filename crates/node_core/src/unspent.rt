@@ -52,6 +52,7 @@ fn move_behind<T: Drop>(made: &mut Vec<T>, there: &mut Vec<T>) -> Result<(), Mem
 }
 
 /// What was done in the turn follows behind what was made before, after which the next turn may begin.
+#[inline(always)]
 fn hand_over(step: &mut Growing, made: &mut Turn) -> Result<(), Memory>
     ensures fresh { OnOk result (IsFresh step.new) }
     ensures handed { OnOk result (IsOnto (steps_of step.old) (node_of step.new.node) made.old made.new) }

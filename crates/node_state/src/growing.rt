@@ -24,6 +24,7 @@ pub struct Growing {
 
 impl Growing {
     /// Sends a frame. Where memory is refused the node is spent, and nothing is said of what is left.
+    #[inline(always)]
     pub fn send(&mut self, to: Node, frame: Frame) -> Result<(), Memory>
         ensures { OnOk result (step_of self.new ≡ send (step_of self.old) to frame) }
     {
@@ -32,6 +33,7 @@ impl Growing {
 
     /// The entry of a call that is carried out here. Where memory is refused the node is spent, and nothing is said of
     /// what is left.
+    #[inline(always)]
     pub fn enter(&mut self, pid: Pid, call: Call, reply: Reply) -> Result<(), Memory>
         ensures { OnOk result (step_of self.new ≡ enter (step_of self.old) pid call reply) }
     {

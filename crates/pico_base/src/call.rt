@@ -151,6 +151,7 @@ pub enum Call {
 
 impl Call {
     /// An equal call.
+    #[inline(always)]
     pub fn try_copy(&self, alloc: Global) -> Result<Call, Memory>
         ensures { IfOk result (λ copy. copy ≡ self.now) }
     {

@@ -78,6 +78,7 @@ impl<T> Sequence<T> {
     }
 
     /// Adds an item at the end. A refusal changes nothing.
+    #[inline(always)]
     pub fn push(&mut self, item: T) -> Result<(), Memory>
     where
         T: Drop,

@@ -17,7 +17,7 @@ pub fn push(out: &mut Vec<u8>, bytes: &[u8]) -> Result<(), Memory>
 }
 
 /// Adds one byte.
-#[inline]
+#[inline(always)]
 pub fn push_byte(out: &mut Vec<u8>, byte: u8) -> Result<(), Memory>
     ensures { OnOk result (out.new.items ≡ out.old.items ++ byte ∷ []) }
 {
@@ -43,7 +43,7 @@ fn push_long_number(out: &mut Vec<u8>, number: u64) -> Result<(), Memory>
 }
 
 // Adds a number of more than one digit.
-#[inline(never)]
+#[inline(always)]
 fn push_digits(out: &mut Vec<u8>, number: u64) -> Result<(), Memory>
     requires { 10 ≤ number }
     ensures { OnOk result (out.new.items ≡ out.old.items ++ decimal number) }
@@ -77,7 +77,7 @@ fn push_two_digits_then(out: &mut Vec<u8>, number: u8, byte: u8) -> Result<(), M
 }
 
 // Adds a number of more than one digit, and a byte behind it.
-#[inline(never)]
+#[inline(always)]
 fn push_digits_then(out: &mut Vec<u8>, number: u64, byte: u8) -> Result<(), Memory>
     requires { 10 ≤ number }
     ensures { OnOk result (out.new.items ≡ out.old.items ++ (decimal number ++ byte ∷ [])) }
@@ -129,7 +129,7 @@ pub fn push_signed(out: &mut Vec<u8>, number: i32) -> Result<(), Memory>
 }
 
 // Adds a signed number in decimal digits, and a space.
-#[inline]
+#[inline(always)]
 pub(crate) fn push_signed_and_space(out: &mut Vec<u8>, number: i32) -> Result<(), Memory>
     ensures { OnOk result (out.new.items ≡ out.old.items ++ (signed_decimal number ++ 32 ∷ [])) }
 {
@@ -257,6 +257,7 @@ fn push_repeat(out: &mut Vec<u8>, count: usize, byte: u8) -> Result<(), Memory>
 }
 
 /// Adds a message's text, in quotes or by the byte that it repeats.
+#[inline(always)]
 pub fn push_message(out: &mut Vec<u8>, text: &[u8]) -> Result<(), Memory>
     ensures { OnOk result (out.new.items ≡ out.old.items ++ message_text text.now) }
 {

@@ -225,6 +225,7 @@ impl State {
     }
 
     /// The event at this place of those of the node that may come next, from 0. Its run comes last.
+    #[inline(always)]
     fn nth_at(&self, node: Node, index: u32) -> Option<Event>
         requires alive { IsAlive self.now }
         requires there { node ≤ node_count self.now.script }
