@@ -131,6 +131,7 @@ fn copy_messages(alloc: Global, count: u16, bytes: &[u8]) -> Result<Messages, Me
     ensures { IfOk result
         (λ messages. messages_in (messages_at count max_queue_bytes bytes.now) ≡ Some messages) }
 {
+    let mut classes = Vec::with_capacity(alloc, usize::from(count))?;
     let mut heads = Vec::with_capacity(alloc, usize::from(count))?;
     let mut room = MAX_BYTES;
     let mut rest = bytes;
@@ -138,13 +139,19 @@ fn copy_messages(alloc: Global, count: u16, bytes: &[u8]) -> Result<Messages, Me
         let (class, text, after) = message_of(room, rest).unwrap();
         let start = bytes.len() - after.len() - text.len();
         let len = text.len() as u32;
+        classes.push(class)?;
         heads.push(Head { start, class, len })?;
         room -= len;
         rest = after;
     }
     let texts = Vec::from_slice(alloc, bytes)?;
+    let classes = VecDeque::from_vec(classes);
     let heads = VecDeque::from_vec(heads);
-    Ok(Messages { heads, texts })
+    Ok(Messages {
+        classes,
+        heads,
+        texts,
+    })
 }
 
 impl Queue {
