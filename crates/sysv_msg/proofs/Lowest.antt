@@ -109,7 +109,8 @@ lower_of_others a c (d ∷ cs) =
 
 -- what is kept of a type and others, where these have a lowest
 kept : (bound c r : ℤ)
-    → cond (int_le c bound) (Some (lower_of c (cond (int_le r bound) (Some r) None))) (cond (int_le r bound) (Some r) None)
+    → cond (int_le c bound) (Some (lower_of c (cond (int_le r bound) (Some r) None)))
+    (cond (int_le r bound) (Some r) None)
     ≡ cond (int_le (int_min c r) bound) (Some (int_min c r)) None
 kept bound c r = grind (arith, ints)
 
@@ -135,7 +136,8 @@ lowest_found bound least [] each is low = refl
 lowest_found bound least (c ∷ cs) each is low =
     let same : fold int_min c cs ≡ least = sym (from_first c cs each) ∙ sym is in
     let yes : int_le least bound ≡ true = grind (arith, ints) in
-    sym (position_from-zero (λ c. int_eq c least) (c ∷ cs)) ∙ first_of_classes (c ∷ cs) least ∙ rw (upto bound c cs, same, yes) refl
+    sym (position_from-zero (λ c. int_eq c least) (c ∷ cs)) ∙ first_of_classes (c ∷ cs) least
+    ∙ rw (upto bound c cs, same, yes) refl
 
 -- and where it is, none is asked for
 pub lowest_above : (bound least : ℤ) (cs : List ℤ) → AllByRecursion IsSendable (map bare cs)

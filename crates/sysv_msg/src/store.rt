@@ -23,8 +23,9 @@ pub(crate) struct Head {
     pub(crate) len: u32,
 }
 
-/// Messages in order, the oldest first, with their types in a row of their own, where they are looked through. A text is added behind the others in the buffer. Where a message is taken
-/// its text stays in the buffer as a hole, until no message is left or the buffer is made anew.
+/// Messages in order, the oldest first. Their types stand in a row of their own, too, where many are compared at
+/// once. A text is added behind the others in the buffer. Where a message is taken its text stays in the buffer as a
+/// hole, until no message is left or the buffer is made anew.
 #[derive(Debug, Drop)]
 pub(crate) struct Messages {
     pub(crate) classes: VecDeque<i32>,

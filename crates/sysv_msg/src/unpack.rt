@@ -126,6 +126,7 @@ fn unpack_fields(bytes: &[u8]) -> Option<Fields<'_>>
 }
 
 /// Copies the messages of bytes that were read: the bytes whole, and of each message where its text lies in them.
+#[inline(never)]
 fn copy_messages(alloc: Global, count: u16, bytes: &[u8]) -> Result<Messages, Memory>
     requires { IsSome (messages_at count max_queue_bytes bytes.now) }
     ensures { IfOk result
@@ -139,8 +140,8 @@ fn copy_messages(alloc: Global, count: u16, bytes: &[u8]) -> Result<Messages, Me
         let (class, text, after) = message_of(room, rest).unwrap();
         let start = bytes.len() - after.len() - text.len();
         let len = text.len() as u32;
-        classes.push(class)?;
-        heads.push(Head { start, class, len })?;
+        classes.push_reserved(class);
+        heads.push_reserved(Head { start, class, len });
         room -= len;
         rest = after;
     }

@@ -10,8 +10,8 @@ returns-then-least-kept c seen start lowest =
     let fits : SFits w32 c.args.kept.0 = search rules in
     let found : SFits w32 c.least_of-least.result = search rules in
     let low : c.least_of-least.result <ℤ c.args.kept.0 = search rules in
-    simp to_z-of_z (goes_lower seen c.args.classes.now c.args.kept.0 c.least_of-least.result c.args.kept.1 c.args.at (sym start)
-    low (simp to_z-of_z at c.least_of-least.ensures) lowest)
+    simp to_z-of_z (goes_lower seen c.args.classes.now c.args.kept.0 c.least_of-least.result c.args.kept.1 c.args.at
+    (sym start) low (simp to_z-of_z at c.least_of-least.ensures) lowest)
 
 pub returns-else-least-kept : goal.returns-else-least-kept
 returns-else-least-kept c seen start lowest =

@@ -1,4 +1,4 @@
-use Rattle.std.proofs.Common.{◌≡◌, ◌-◌, Some, SFits, w32, [], ◌∷◌, length, ap, sym, refl, arith, rules}
+use Rattle.std.proofs.Common.{◌∙◌, ℕ, ◌+◌, ◌≡◌, ◌-◌, Some, SFits, w32, [], ◌∷◌, length, ap, sym, refl, arith, rules}
 use Rattle.std.proofs.lemmas.Int.{to_z-of_z}
 use Rattle.std.proofs.lemmas.List.{map-append}
 use Rattle.kernel_model.specs.Queue.{Message, max_queue_bytes}
@@ -14,6 +14,12 @@ loop-init c =
     rw (c.in_ok-heads.ensures.items, c.in_ok-classes.ensures.items) record {
       copied = begins_copying c.args.count max_queue_bytes c.args.bytes.now (λ i. omega (arith, c.type_inv.bytes i));
       classes = refl;
+      rooms = (
+        c.in_ok-classes.ensures.len,
+        search rules,
+        c.in_ok-heads.ensures.len,
+        search rules,
+      );
     }
 
 pub unwrap-class-requires : goal.unwrap-class-requires
@@ -53,11 +59,22 @@ loop-preserved c =
       len = length m.text;
     } in
     let fits : SFits w32 c.unwrap-class.result.0 = search rules in
-    rw (c.in_ok-push.ensures.items, c.in_ok-push-2.ensures.items, to_z-of_z w32 c.unwrap-class.result.0 fits) record {
+    let rooms = c.loop.invariant.rooms in
+    rw (
+      c.push_reserved.ensures.items,
+      c.push_reserved-in-loop.ensures.items,
+      to_z-of_z w32 c.unwrap-class.result.0 fits,
+    ) record {
       copied = copied_more (messages_at c.args.count max_queue_bytes c.args.bytes.now) c.args.count c.loop.counter
           c.loop.room c.args.bytes.now c.loop.rest.now c.unwrap-class.result.2.now c.loop.heads.items m h
           c.loop-test.true read refl refl refl c.loop.invariant.copied;
       classes = rw c.loop.invariant.classes (sym (map-append (λ (h : Head). h.class) c.loop.heads.items (h ∷ [])));
+      rooms = (
+        c.push_reserved.ensures.len ∙ ap (λ (n : ℕ). n + 1) rooms.0,
+        rw c.push_reserved.ensures.capacity rooms.1,
+        c.push_reserved-in-loop.ensures.len ∙ ap (λ (n : ℕ). n + 1) rooms.2,
+        rw c.push_reserved-in-loop.ensures.capacity rooms.3,
+      );
     }
 
 pub returns : goal.returns

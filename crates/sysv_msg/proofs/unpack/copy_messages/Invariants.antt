@@ -1,4 +1,4 @@
-use Rattle.std.proofs.Common.{◌≡◌, ◌-◌}
+use Rattle.std.proofs.Common.{◌≡◌, ◌≤◌, ◌-◌, vec_len, vec_capacity}
 use Rattle.kernel_model.specs.Queue.{max_queue_bytes}
 use Rattle.sysv_msg.specs.Heads.{classes_of}
 use Rattle.sysv_msg.specs.Reading.{messages_at}
@@ -10,4 +10,6 @@ invariant-loop l = record {
   copied : HasCopied (messages_at l.count max_queue_bytes l.bytes) (l.count - l.counter) l.room l.bytes l.rest
       l.heads.items;
   classes : l.classes.items ≡ classes_of l.heads.items;
+  rooms : (vec_len l.classes ≡ l.counter) × (l.count ≤ vec_capacity l.classes) × (vec_len l.heads ≡ l.counter)
+      × (l.count ≤ vec_capacity l.heads);
 }
