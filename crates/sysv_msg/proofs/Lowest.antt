@@ -18,9 +18,6 @@ use Rattle.sysv_msg.proofs.Places.{first}
 
 -- ---- the lower of two
 
-is_lower : (a c : ℤ) → c <ℤ a → int_min a c ≡ c
-is_lower a c low = let e : int_lt c a ≡ true = grind (arith, ints) in rw e refl
-
 is_no_lower : (a c : ℤ) → a ≤ℤ c → int_min a c ≡ a
 is_no_lower a c high = let e : int_lt c a ≡ false = grind (arith, ints) in rw e refl
 

@@ -54,7 +54,7 @@ are_others class at (x ∷ xs) none =
     (later.0, are_others class (at + 1) xs later.1)
 
 -- where it isn't in the first part, it is looked for behind that
-pub found_behind : (class : ℤ) (at : ℕ) (xs ys : List ℤ) → first class at xs ≡ None
+found_behind : (class : ℤ) (at : ℕ) (xs ys : List ℤ) → first class at xs ≡ None
     → first class at (xs ++ ys) ≡ first class (at + length xs) ys
 found_behind class at xs ys none = skipped class at xs ys (are_others class at xs none)
 

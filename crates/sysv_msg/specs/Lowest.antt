@@ -4,7 +4,7 @@ use Rattle.std.specs.List.{AllByRecursion, fold}
 use Rattle.std.specs.Int.{int_min}
 use Rattle.std.specs.Ordering.{int_eq}
 
--- the highest type, which a queue of no messages shows
+-- the highest type there is, which is kept before the first message
 abbrev pub highest : ℤ
 highest = pos 2147483647
 
