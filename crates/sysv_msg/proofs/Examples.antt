@@ -1,7 +1,9 @@
--- Bodies that the checker computes.
-use Rattle.std.proofs.Common.{◌≡◌, [], ◌∷◌, pos, refl}
+-- Bodies, and a lowest type, that the checker computes.
+use Rattle.std.proofs.Common.{◌≡◌, [], ◌∷◌, pos, refl, arith}
+use Rattle.std.proofs.lemmas.Int.{ints}
 use Rattle.kernel_model.specs.Queue.{empty_queue}
 use Rattle.sysv_msg.specs.Body.{body, message_field}
+use Rattle.sysv_msg.specs.Lowest.{IsLowest}
 
 an_empty_queue : body empty_queue ≡ 4 ∷ 0 ∷ 0 ∷ 64 ∷ 0 ∷ 0 ∷ 0 ∷ 0 ∷ 0 ∷ 0 ∷ 0 ∷ 0 ∷ 0 ∷ 0 ∷ 0 ∷ []
 an_empty_queue = refl
@@ -10,3 +12,7 @@ an_empty_queue = refl
 a_message : message_field (record { class = pos 258; text = 104 ∷ 105 ∷ [] }) ≡ 0 ∷ 0 ∷ 1 ∷ 2 ∷ 0 ∷ 0 ∷ 0 ∷ 2 ∷ 104
     ∷ 105 ∷ []
 a_message = refl
+
+-- of the types 3, 2, 5 and 2 the lowest is 2, and the first of it is the second message
+a_lowest_type : IsLowest (pos 3 ∷ pos 2 ∷ pos 5 ∷ pos 2 ∷ []) (pos 2) 1
+a_lowest_type = record { is = refl; within = omega arith; before = (omega (arith, ints), tt) }

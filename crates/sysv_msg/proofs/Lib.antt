@@ -1,5 +1,6 @@
 pub mod Heads
 pub mod Lowest
+pub mod Places
 pub mod Messages
 pub mod Receiving
 pub mod Selected

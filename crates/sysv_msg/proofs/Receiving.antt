@@ -1,13 +1,13 @@
 -- What a receive gives for the place that was selected, and that the queue keeps its limits.
-use Rattle.std.proofs.Common.{◌≡◌, ℕ, zero, suc, ◌+◌, ◌-◌, ◌<◌, Bool, true, false, ◌||◌, ℤ, List, [], ◌∷◌, length, get_or, take, Some, Ok, Err, refl, sym, arith, subst}
+use Rattle.std.proofs.Common.{◌≡◌, ℕ, ◌+◌, ◌-◌, ◌<◌, Bool, true, false, ◌||◌, ℤ, List, length, get_or, take, Some, Ok, Err, refl, sym, arith, subst}
 use Rattle.std.specs.Prelude.{IsOk, nat_le, remove, slice_get}
-use Rattle.std.specs.List.{AllByRecursion}
 use Rattle.std.proofs.lemmas.List.Edits.{length-remove}
 use Rattle.std.proofs.lemmas.List.Sums.{sum_by-remove}
 use Rattle.std.proofs.lemmas.Option.{slice_get_read}
 use Rattle.pico_base.specs.declared.reply.Errno.TheVariants.{E2big}
 use Rattle.kernel_model.specs.Queue.{Message, Queue, select, receive, bytes_of}
 use Rattle.sysv_msg.specs.Limits.{IsSendable, IsWithinLimits}
+use Rattle.sysv_msg.proofs.Heads.{each_removed}
 
 -- a queue by its fields
 abbrev pub queue_of : List Message → ℕ → ℕ → ℕ → Queue
@@ -46,13 +46,6 @@ receive_refused q pid class size noerror place m selected within is fits =
     let there : slice_get q.messages place ≡ Some m =
     slice_get_read q.messages (length q.messages) place m refl within is in
     rw (← selected, there, fits) refl
-
-each_removed : {X : Type 0} (P : X → Type 0) (xs : List X) (place : ℕ) → AllByRecursion P xs
-    → AllByRecursion P (remove xs place)
-each_removed P [] zero h = h
-each_removed P [] (suc place) h = h
-each_removed P (x ∷ xs) zero h = h.1
-each_removed P (x ∷ xs) (suc place) h = (h.0, each_removed P xs place h.1)
 
 -- a message that is taken out leaves the bytes of the others
 pub bytes_removed : (ms : List Message) (place : ℕ) (m : Message) → place < length ms → m ≡ get_or ms place m

@@ -1,10 +1,8 @@
 -- What select gives by the sign of the type.
-use Rattle.std.proofs.Common.{◌≡◌, zero, suc, ◌<◌, true, ltb, ℤ, pos, negsuc, ◌≤ℤ◌, ◌<ℤ◌, ◌-ℤ◌, List, [], ◌∷◌, length, Option, Some, None, refl, ap, sym, arith}
+use Rattle.std.proofs.Common.{◌≡◌, zero, suc, ◌<◌, true, ltb, ℤ, pos, negsuc, ◌≤ℤ◌, ◌<ℤ◌, ◌-ℤ◌, List, [], ◌∷◌, length, Some, None, refl, sym, arith}
 use Rattle.std.proofs.lemmas.Int.{ints}
 use Rattle.std.proofs.lemmas.Bool.Decides.{nat_tests}
-use Rattle.kernel_model.specs.Queue.{Message, first_of, first_of_some, select}
-use Rattle.sysv_msg.specs.Lowest.{lowest_below}
-use Rattle.sysv_msg.proofs.Lowest.{upto}
+use Rattle.kernel_model.specs.Queue.{Message, first_of, first_of_some, lowest_upto, select}
 
 -- a positive type selects the first message of that type
 pub select-positive : (ms : List Message) (class : ℤ) → pos 0 <ℤ class → first_of class ms ≡ select ms class
@@ -12,13 +10,13 @@ select-positive ms (pos zero) h = absurd (omega (arith, ints))
 select-positive ms (pos (suc n)) h = refl
 select-positive ms (negsuc n) h = absurd (omega (arith, ints))
 
--- a negative type selects the first message of the lowest type that is below the number behind its absolute value
-pub select-negative : (ms : List Message) (class above : ℤ) → class <ℤ pos 0 → above ≡ pos 1 -ℤ class
-    → first_of_some (lowest_below above ms) ms ≡ select ms class
-select-negative ms (pos n) above h is = absurd (omega (arith, ints))
-select-negative ms (negsuc n) above h is =
-    let next : above ≡ pos (suc (suc n)) = omega (arith, ints) in
-    rw next (ap (λ (o : Option ℤ). first_of_some o ms) (upto (suc n) ms))
+-- a negative type selects the first message of the lowest type that isn't above its absolute value
+pub select-negative : (ms : List Message) (class bound : ℤ) → class <ℤ pos 0 → bound ≡ pos 0 -ℤ class
+    → first_of_some (lowest_upto bound ms) ms ≡ select ms class
+select-negative ms (pos n) bound h is = absurd (omega (arith, ints))
+select-negative ms (negsuc n) bound h is =
+    let same : bound ≡ pos (suc n) = omega (arith, ints) in
+    rw same refl
 
 some_front : (m : Message) (ms : List Message) → select (m ∷ ms) (pos 0) ≡ Some 0
 some_front m ms =

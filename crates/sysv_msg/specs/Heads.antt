@@ -1,5 +1,5 @@
 -- Messages whose texts lie in one buffer: of each its type, and where its text begins and how long it is.
-use Rattle.std.specs.Prelude.{ℕ, ◌+◌, ◌≤◌, List, [], length, map, take, drop}
+use Rattle.std.specs.Prelude.{ℕ, ℤ, ◌+◌, ◌≤◌, List, [], length, map, take, drop}
 use Rattle.kernel_model.specs.Queue.{Message}
 use Rattle.sysv_msg.specs.declared.store.Head.{Head}
 
@@ -16,6 +16,10 @@ message_in texts h = record { class = h.class; text = text_in texts h }
 abbrev pub messages_in : List ℕ → List Head → List Message
 messages_in texts heads = map (message_in texts) heads
 
--- the type alone, with no text
-abbrev pub bare : Head → Message
-bare h = record { class = h.class; text = [] }
+-- a type alone, as a message with no text
+abbrev pub bare : ℤ → Message
+bare class = record { class = class; text = [] }
+
+-- the types alone
+abbrev pub classes_of : List Head → List ℤ
+classes_of heads = map (λ h. h.class) heads

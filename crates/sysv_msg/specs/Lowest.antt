@@ -1,15 +1,19 @@
--- Walking along messages in order, and keeping the place of the first one of the lowest type so far.
-use Rattle.std.specs.Prelude.{ℕ, ◌+◌, ℤ, List, [], ◌∷◌, Option, Some, None, int_lt, if◌then◌else◌}
-use Rattle.kernel_model.specs.Queue.{Message, lower_of}
+-- The lowest of types, and how far from the front none of it stands.
+use Rattle.std.specs.Prelude.{◌≡◌, ℕ, ◌≤◌, ℤ, pos, ◌<ℤ◌, List, false, length, take}
+use Rattle.std.specs.List.{AllByRecursion, fold}
+use Rattle.std.specs.Int.{int_min}
+use Rattle.std.specs.Ordering.{int_eq}
 
--- the lowest type below a bound
-abbrev pub lowest_below : ℤ → List Message → Option ℤ
-lowest_below above [] = None
-lowest_below above (m ∷ ms) =
-    if int_lt m.class above then Some (lower_of m.class (lowest_below above ms)) else lowest_below above ms
+-- the highest type there is, which is kept before the first message
+abbrev pub highest : ℤ
+highest = pos 2147483647
 
--- the place at the end of the messages from a place on, where a type below the bound takes the place kept so far
-abbrev pub walked : ℤ → ℕ → ℕ → List Message → ℕ
-walked above at place [] = place
-walked above at place (m ∷ ms) =
-    if int_lt m.class above then walked m.class (at + 1) at ms else walked above (at + 1) place ms
+-- a type that isn't this one
+abbrev pub IsOther : ℤ → ℤ → Type 0
+IsOther class c = int_eq c class ≡ false
+
+-- the lowest type, and a place that only higher ones stand before
+pub record IsLowest (classes : List ℤ) (least : ℤ) (from : ℕ) : Type 0 where
+  pub is : least ≡ fold int_min highest classes
+  pub within : from ≤ length classes
+  pub before : AllByRecursion (λ c. least <ℤ c) (take from classes)

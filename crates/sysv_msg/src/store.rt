@@ -23,25 +23,28 @@ pub(crate) struct Head {
     pub(crate) len: u32,
 }
 
-/// Messages in order, the oldest first. A text is added behind the others in the buffer. Where a message is taken
-/// its text stays in the buffer as a hole, until no message is left or the buffer is made anew.
+/// Messages in order, the oldest first. Their types stand in a row of their own, too, where many are compared at
+/// once. A text is added behind the others in the buffer. Where a message is taken its text stays in the buffer as a
+/// hole, until no message is left or the buffer is made anew.
 #[derive(Debug, Drop)]
 pub(crate) struct Messages {
+    pub(crate) classes: VecDeque<i32>,
     pub(crate) heads: VecDeque<Head>,
     pub(crate) texts: Vec<u8>,
 }
 
 impl Model for Messages {
-    ghost use Rattle.std.specs.Prelude.{List};
+    ghost use Rattle.std.specs.Prelude.{◌≡◌, List};
     ghost use Rattle.std.specs.List.{AllByRecursion};
     ghost use Rattle.kernel_model.specs.Queue.{Message};
-    ghost use Rattle.sysv_msg.specs.Heads.{messages_in, IsWithin};
+    ghost use Rattle.sysv_msg.specs.Heads.{messages_in, classes_of, IsWithin};
 
     ghost Value = { List Message };
 
     ghost view = { λ s. messages_in s.texts.items s.heads.items };
 
-    ghost invariant = { λ s. AllByRecursion (IsWithin s.texts.items) s.heads.items };
+    ghost invariant = { λ s. (s.classes.items ≡ classes_of s.heads.items)
+        × AllByRecursion (IsWithin s.texts.items) s.heads.items };
 }
 
 /// The text of a head.
@@ -52,12 +55,25 @@ pub(crate) fn text_at(texts: &[u8], head: Head) -> &[u8]
     &texts[head.start..head.start + head.len as usize]
 }
 
+/// Takes an item out of a row, the first one without a look at the others.
+fn take_out<T: Copy>(row: &mut VecDeque<T>, place: usize)
+    requires { place < length row.old.items }
+    ensures { row.new.items ≡ remove row.old.items place }
+{
+    if place == 0 {
+        let _ = row.pop_front();
+    } else {
+        let _ = row.remove(place);
+    }
+}
+
 impl Messages {
     /// No messages.
     pub(crate) fn new(alloc: Global) -> Messages
         ensures { result ≡ [] }
     {
         Messages {
+            classes: VecDeque::new(alloc),
             heads: VecDeque::new(alloc),
             texts: Vec::new(alloc),
         }
@@ -68,6 +84,7 @@ impl Messages {
         ensures { IfOk result (λ messages. messages ≡ []) }
     {
         Ok(Messages {
+            classes: VecDeque::with_capacity(alloc, count)?,
             heads: VecDeque::with_capacity(alloc, count)?,
             texts: Vec::with_capacity(alloc, bytes)?,
         })
@@ -91,8 +108,11 @@ impl Messages {
             class,
             len: text.len() as u32,
         };
+        self.classes.reserve(1)?;
+        self.heads.reserve(1)?;
         self.texts.extend_from_slice(text)?;
-        self.heads.push_back(head)?;
+        self.classes.push_back_reserved(class);
+        self.heads.push_back_reserved(head);
         Ok(())
     }
 
@@ -127,7 +147,7 @@ impl Messages {
         ensures selected { result ≡ definition.select self.now class }
         ensures within { IfSome result (λ place. place < length self.now) }
     {
-        place_of(&self.heads, class)
+        place_of(&self.classes, class)
     }
 
     /// The type and the text of the message at a place.
@@ -151,7 +171,8 @@ impl Messages {
         requires { place < length self.old }
         ensures { self.new ≡ remove self.old place }
     {
-        let _ = self.heads.remove(place).unwrap();
+        take_out(&mut self.classes, place);
+        take_out(&mut self.heads, place);
         if self.heads.is_empty() {
             self.texts.clear();
         }

@@ -126,11 +126,13 @@ fn unpack_fields(bytes: &[u8]) -> Option<Fields<'_>>
 }
 
 /// Copies the messages of bytes that were read: the bytes whole, and of each message where its text lies in them.
+#[inline(never)]
 fn copy_messages(alloc: Global, count: u16, bytes: &[u8]) -> Result<Messages, Memory>
     requires { IsSome (messages_at count max_queue_bytes bytes.now) }
     ensures { IfOk result
         (λ messages. messages_in (messages_at count max_queue_bytes bytes.now) ≡ Some messages) }
 {
+    let mut classes = Vec::with_capacity(alloc, usize::from(count))?;
     let mut heads = Vec::with_capacity(alloc, usize::from(count))?;
     let mut room = MAX_BYTES;
     let mut rest = bytes;
@@ -138,13 +140,19 @@ fn copy_messages(alloc: Global, count: u16, bytes: &[u8]) -> Result<Messages, Me
         let (class, text, after) = message_of(room, rest).unwrap();
         let start = bytes.len() - after.len() - text.len();
         let len = text.len() as u32;
-        heads.push(Head { start, class, len })?;
+        classes.push_reserved(class);
+        heads.push_reserved(Head { start, class, len });
         room -= len;
         rest = after;
     }
     let texts = Vec::from_slice(alloc, bytes)?;
+    let classes = VecDeque::from_vec(classes);
     let heads = VecDeque::from_vec(heads);
-    Ok(Messages { heads, texts })
+    Ok(Messages {
+        classes,
+        heads,
+        texts,
+    })
 }
 
 impl Queue {

@@ -1,55 +1,60 @@
-use Rattle.std.proofs.Common.{◌≡◌, ◌+◌, ◌++◌, length, map, [], SFits, w64, arith, rules}
+use Rattle.std.proofs.Common.{◌≡◌, pos, ◌≤ℤ◌, ◌<ℤ◌, [], ◌++◌, SFits, w32, w64, refl, ap, ◌∙◌, arith, rules}
+use Rattle.std.specs.List.{fold}
+use Rattle.std.specs.Int.{int_min}
 use Rattle.std.proofs.lemmas.Int.{to_z-of_z}
-use Rattle.std.proofs.lemmas.List.{length-map}
-use Rattle.sysv_msg.specs.Heads.{bare}
-use Rattle.sysv_msg.proofs.Heads.{bare_parts}
-use Rattle.sysv_msg.proofs.Lowest.{front_of, back_of, both_ways, found_there, found_none}
+use Rattle.std.proofs.lemmas.List.{length-append}
+use Rattle.sysv_msg.specs.Lowest.{highest}
+use Rattle.sysv_msg.proofs.Heads.{all_front, all_back}
+use Rattle.sysv_msg.proofs.Places.{first}
+use Rattle.sysv_msg.proofs.Lowest.{begins, others_before, lowest_found, lowest_above, positive}
 use Rattle.sysv_msg.proofs.select.first_of_lowest.Goals as goal
 
-pub lowest_of_all-place-requires-clause-sendable : goal.lowest_of_all-place-requires-clause-sendable
-lowest_of_all-place-requires-clause-sendable c =
-    back_of (map bare c.as_slices.result.0.now) (map bare c.as_slices.result.1.now) (map bare c.args.heads.now.items)
-    (bare_parts c.as_slices.result.0.now c.as_slices.result.1.now c.args.heads.now.items c.as_slices.ensures.items)
-    c.requires
+pub lowest_behind-lowest-requires-clause-positive : goal.lowest_behind-lowest-requires-clause-positive
+lowest_behind-lowest-requires-clause-positive c =
+    all_front (λ c'. pos 1 ≤ℤ c') c.as_slices.result.0.now c.as_slices.result.1.now c.args.classes.now.items
+    c.as_slices.ensures.items (positive c.args.classes.now.items c.requires)
 
-pub lowest_of_all-lowest-requires-clause-sendable : goal.lowest_of_all-lowest-requires-clause-sendable
-lowest_of_all-lowest-requires-clause-sendable c =
-    front_of (map bare c.as_slices.result.0.now) (map bare c.as_slices.result.1.now) (map bare c.args.heads.now.items)
-    (bare_parts c.as_slices.result.0.now c.as_slices.result.1.now c.args.heads.now.items c.as_slices.ensures.items)
-    c.requires
+pub lowest_behind-class-requires-clause-positive : goal.lowest_behind-class-requires-clause-positive
+lowest_behind-class-requires-clause-positive c =
+    all_back (λ c'. pos 1 ≤ℤ c') c.as_slices.result.0.now c.as_slices.result.1.now c.args.classes.now.items
+    c.as_slices.ensures.items (positive c.args.classes.now.items c.requires)
 
-pub returns-then-place-len : goal.returns-then-place-len
-returns-then-place-len c =
-    let front = map bare c.as_slices.result.0.now in
-    let back = map bare c.as_slices.result.1.now in
-    let items = map bare c.args.heads.now.items in
-    let parts : front ++ back ≡ items =
-    bare_parts c.as_slices.result.0.now c.as_slices.result.1.now c.args.heads.now.items c.as_slices.ensures.items in
-    let fits : SFits w64 c.args.above = search rules in
-    let size : c.len.result ≡ length items = search (rules, length-map) in
-    let first = simp to_z-of_z at
-    c.lowest_of_all-lowest.ensures back (back_of front back items parts c.requires) in
-    let end = both_ways c.args.above c.lowest_of_all-lowest.result.0 c.lowest_of_all-place.result.0 front back items
-    (0 + length c.as_slices.result.0.now) (length c.as_slices.result.0.now)
-    (length c.as_slices.result.0.now + length c.as_slices.result.1.now) c.len.result c.lowest_of_all-lowest.result.1
-    c.lowest_of_all-place.result.1
-    parts (omega arith) size first (c.lowest_of_all-place.ensures [] tt) in
-    found_there c.args.above items c.lowest_of_all-place.result.1 end (omega (arith, c.if-place-len.true))
+pub returns-then-from-bound : goal.returns-then-from-bound
+returns-then-from-bound c =
+    let lowest = c.lowest_behind-class.ensures c.as_slices.result.0.now refl
+    (c.lowest_behind-lowest.ensures [] refl begins) in
+    let narrow : SFits w32 c.lowest_behind-class.result.0 = search rules in
+    let wide : SFits w64 c.from.result = search rules in
+    let fits = c.ranges.bound in
+    let same : c.from.result ≡ c.lowest_behind-class.result.0 = simp to_z-of_z at c.from.ensures in
+    let high : c.args.bound <ℤ c.from.result = search rules in
+    lowest_above c.args.bound c.lowest_behind-class.result.0 c.args.classes.now.items c.requires
+    (lowest.is ∙ ap (fold int_min highest) c.as_slices.ensures.items) (rw (← same) high)
 
-pub returns-else-place-len : goal.returns-else-place-len
-returns-else-place-len c =
-    let front = map bare c.as_slices.result.0.now in
-    let back = map bare c.as_slices.result.1.now in
-    let items = map bare c.args.heads.now.items in
-    let parts : front ++ back ≡ items =
-    bare_parts c.as_slices.result.0.now c.as_slices.result.1.now c.args.heads.now.items c.as_slices.ensures.items in
-    let fits : SFits w64 c.args.above = search rules in
-    let size : c.len.result ≡ length items = search (rules, length-map) in
-    let first = simp to_z-of_z at
-    c.lowest_of_all-lowest.ensures back (back_of front back items parts c.requires) in
-    let end = both_ways c.args.above c.lowest_of_all-lowest.result.0 c.lowest_of_all-place.result.0 front back items
-    (0 + length c.as_slices.result.0.now) (length c.as_slices.result.0.now)
-    (length c.as_slices.result.0.now + length c.as_slices.result.1.now) c.len.result c.lowest_of_all-lowest.result.1
-    c.lowest_of_all-place.result.1
-    parts (omega arith) size first (c.lowest_of_all-place.ensures [] tt) in
-    found_none c.args.above items c.lowest_of_all-place.result.1 end (omega (arith, c.if-place-len.false))
+pub first_from-requires-clause-within : goal.first_from-requires-clause-within
+first_from-requires-clause-within c =
+    let lowest = c.lowest_behind-class.ensures c.as_slices.result.0.now refl
+    (c.lowest_behind-lowest.ensures [] refl begins) in
+    let within = lowest.within in
+    omega (arith, within, length-append c.as_slices.result.0.now c.as_slices.result.1.now)
+
+pub first_from-requires-clause-others : goal.first_from-requires-clause-others
+first_from-requires-clause-others c =
+    let lowest = c.lowest_behind-class.ensures c.as_slices.result.0.now refl
+    (c.lowest_behind-lowest.ensures [] refl begins) in
+    let narrow : SFits w32 c.lowest_behind-class.result.0 = search rules in
+    simp to_z-of_z (others_before (c.as_slices.result.0.now ++ c.as_slices.result.1.now)
+    c.lowest_behind-class.result.0 c.lowest_behind-class.result.1 lowest)
+
+pub returns : goal.returns
+returns c =
+    let lowest = c.lowest_behind-class.ensures c.as_slices.result.0.now refl
+    (c.lowest_behind-lowest.ensures [] refl begins) in
+    let narrow : SFits w32 c.lowest_behind-class.result.0 = search rules in
+    let wide : SFits w64 c.from.result = search rules in
+    let fits = c.ranges.bound in
+    let same : c.from.result ≡ c.lowest_behind-class.result.0 = simp to_z-of_z at c.from.ensures in
+    let low : c.from.result ≤ℤ c.args.bound = search rules in
+    simp to_z-of_z at c.first_from.ensures ∙ ap (first c.lowest_behind-class.result.0 0) c.as_slices.ensures.items
+    ∙ lowest_found c.args.bound c.lowest_behind-class.result.0 c.args.classes.now.items c.requires
+    (lowest.is ∙ ap (fold int_min highest) c.as_slices.ensures.items) (rw (← same) low)

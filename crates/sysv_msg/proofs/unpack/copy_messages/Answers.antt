@@ -1,5 +1,6 @@
-use Rattle.std.proofs.Common.{◌≡◌, ◌-◌, Some, SFits, w32, length, ap, refl, arith, rules}
+use Rattle.std.proofs.Common.{◌∙◌, ℕ, ◌+◌, ◌≡◌, ◌-◌, Some, SFits, w32, [], ◌∷◌, length, ap, sym, refl, arith, rules}
 use Rattle.std.proofs.lemmas.Int.{to_z-of_z}
+use Rattle.std.proofs.lemmas.List.{map-append}
 use Rattle.kernel_model.specs.Queue.{Message, max_queue_bytes}
 use Rattle.sysv_msg.specs.declared.store.Head.{Head}
 use Rattle.sysv_msg.specs.Heads.{messages_in as shown_in}
@@ -10,14 +11,22 @@ use Rattle.sysv_msg.proofs.unpack.copy_messages.Goals as goal
 
 pub loop-init : goal.loop-init
 loop-init c =
-    rw c.in_ok-heads.ensures.items
-    (begins_copying c.args.count max_queue_bytes c.args.bytes.now (λ i. omega (arith, c.type_inv.bytes i)))
+    rw (c.in_ok-heads.ensures.items, c.in_ok-classes.ensures.items) record {
+      copied = begins_copying c.args.count max_queue_bytes c.args.bytes.now (λ i. omega (arith, c.type_inv.bytes i));
+      classes = refl;
+      rooms = (
+        c.in_ok-classes.ensures.len,
+        search rules,
+        c.in_ok-heads.ensures.len,
+        search rules,
+      );
+    }
 
 pub unwrap-class-requires : goal.unwrap-class-requires
 unwrap-class-requires c =
     some_message _ c.message_of.result (shown_in c.args.bytes.now c.loop.heads.items) c.args.count c.loop.counter
     c.loop.room c.loop.rest.now (messages_at c.args.count max_queue_bytes c.args.bytes.now) c.loop-test.true c.requires
-    c.message_of.ensures.read c.loop.invariant.others
+    c.message_of.ensures.read c.loop.invariant.copied.others
 
 pub overflow_sub-start : goal.overflow_sub-start
 overflow_sub-start c =
@@ -26,7 +35,7 @@ overflow_sub-start c =
     rw c.unwrap-class.ensures at c.message_of.ensures.read in
     let within = text_lies_within (messages_at c.args.count max_queue_bytes c.args.bytes.now)
     (c.args.count - c.loop.counter) c.loop.room c.loop.room c.args.bytes.now c.loop.rest.now
-    c.unwrap-class.result.2.now c.loop.heads.items m read c.loop.invariant in
+    c.unwrap-class.result.2.now c.loop.heads.items m read c.loop.invariant.copied in
     omega (arith, within)
 
 pub overflow_sub-start-in-loop : goal.overflow_sub-start-in-loop
@@ -36,7 +45,7 @@ overflow_sub-start-in-loop c =
     rw c.unwrap-class.ensures at c.message_of.ensures.read in
     let within = text_lies_within (messages_at c.args.count max_queue_bytes c.args.bytes.now)
     (c.args.count - c.loop.counter) c.loop.room c.loop.room c.args.bytes.now c.loop.rest.now
-    c.unwrap-class.result.2.now c.loop.heads.items m read c.loop.invariant in
+    c.unwrap-class.result.2.now c.loop.heads.items m read c.loop.invariant.copied in
     omega (arith, within)
 
 pub loop-preserved : goal.loop-preserved
@@ -50,14 +59,27 @@ loop-preserved c =
       len = length m.text;
     } in
     let fits : SFits w32 c.unwrap-class.result.0 = search rules in
-    rw (c.in_ok-push.ensures.items, to_z-of_z w32 c.unwrap-class.result.0 fits)
-    (copied_more (messages_at c.args.count max_queue_bytes c.args.bytes.now) c.args.count c.loop.counter c.loop.room
-    c.args.bytes.now c.loop.rest.now c.unwrap-class.result.2.now c.loop.heads.items m h c.loop-test.true read
-    refl refl refl c.loop.invariant)
+    let rooms = c.loop.invariant.rooms in
+    rw (
+      c.push_reserved.ensures.items,
+      c.push_reserved-in-loop.ensures.items,
+      to_z-of_z w32 c.unwrap-class.result.0 fits,
+    ) record {
+      copied = copied_more (messages_at c.args.count max_queue_bytes c.args.bytes.now) c.args.count c.loop.counter
+          c.loop.room c.args.bytes.now c.loop.rest.now c.unwrap-class.result.2.now c.loop.heads.items m h
+          c.loop-test.true read refl refl refl c.loop.invariant.copied;
+      classes = rw c.loop.invariant.classes (sym (map-append (λ (h : Head). h.class) c.loop.heads.items (h ∷ [])));
+      rooms = (
+        c.push_reserved.ensures.len ∙ ap (λ (n : ℕ). n + 1) rooms.0,
+        rw c.push_reserved.ensures.capacity rooms.1,
+        c.push_reserved-in-loop.ensures.len ∙ ap (λ (n : ℕ). n + 1) rooms.2,
+        rw c.push_reserved-in-loop.ensures.capacity rooms.3,
+      );
+    }
 
 pub returns : goal.returns
 returns c =
     rw (c.in_ok-texts.ensures.items, c.from_vec-heads.ensures.items)
     (ap messages_in (is_done (shown_in c.args.bytes.now c.loop.heads.items) c.args.count c.loop.counter c.loop.room
     c.loop.rest.now (messages_at c.args.count max_queue_bytes c.args.bytes.now) c.loop-test.false
-    c.loop.invariant.others))
+    c.loop.invariant.copied.others))
