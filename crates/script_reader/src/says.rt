@@ -1,7 +1,7 @@
 //! What a line says by itself, wherever it stands.
 
 ghost use Rattle.std.specs.Prelude.{◌≡◌, ◌≤◌, ◌==◌, ◌||◌, false, None, OnOk, IfSome, option_copied};
-ghost use Rattle.script_reader.specs.Words.{MarksBlanks, is_blank as is_blank_of, texts};
+ghost use Rattle.script_reader.specs.Words.{PartWords, is_blank as is_blank_of, texts};
 ghost use Rattle.script_reader.specs.Says as says;
 ghost use Rattle.script_reader.specs.Forms as forms;
 
@@ -12,7 +12,7 @@ use crate::parts::{is_block_name, variable};
 use crate::process_forms::put_exit;
 use crate::tables::Names;
 use crate::verb::Verb;
-use crate::words::{is_blank, next_word, put_words};
+use crate::words::{Stops, is_blank, next_word, put_words};
 use pico_base::{Bytes, Line, Memory, Var};
 use std::alloc::Global;
 
@@ -255,13 +255,13 @@ pub(crate) fn read_line<'a>(
     names: &Names,
     words: &mut Vec<&'a [u8]>,
     bytes: &'a [u8],
-    marks: Option<u64>,
+    stops: Option<Stops>,
     said: &mut Said,
 ) -> Result<(), Memory>
-    requires { IfSome marks (MarksBlanks bytes.now) }
+    requires { IfSome stops (λ s. PartWords bytes.now s.ends s.solids) }
     ensures { OnOk result (said.new ≡ says.said_of names.now bytes.now) }
 {
-    put_words(words, bytes, marks)?;
+    put_words(words, bytes, stops)?;
     words_line(alloc, names, words.as_slice(), said)
 }
 

@@ -65,9 +65,9 @@ fn blocks_with(alloc: Global, names: &Names, text: &[u8]) -> Result<Blocks, Scri
     let mut words = Vec::new(alloc);
     let mut rest = text;
     let mut number: u32 = 1;
-    while let Some((bytes, after, marks)) = marked_line(rest) {
+    while let Some((bytes, after, stops)) = marked_line(rest) {
         let mut said = Said::Skipped;
-        read_line(alloc, names, &mut words, bytes, marks, &mut said)?;
+        read_line(alloc, names, &mut words, bytes, stops, &mut said)?;
         if let Some(fault) = fault_of(&place, bytes.len(), &said) {
             return Err(ScriptStop::At {
                 line: number,

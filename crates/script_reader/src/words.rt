@@ -1,9 +1,9 @@
 //! Lines and words.
 
-ghost use Rattle.std.specs.Prelude.{◌≡◌, ℕ, Some, ◌<◌, ◌≤◌, ◌+◌, ◌-◌, ◌==◌, not, drop, take, slice_index, position, [], ◌∷◌, IfOk, OnOk, IfSome, MatchOption, length};
+ghost use Rattle.std.specs.Prelude.{◌≡◌, ℕ, Some, None, ◌<◌, ◌≤◌, ◌+◌, ◌-◌, ◌==◌, not, drop, take, slice_index, position, [], ◌∷◌, IfOk, OnOk, IfSome, MatchOption, length};
 ghost use Rattle.std.specs.Int.{bit_at};
 ghost use Rattle.std.specs.List.{position_or_len};
-ghost use Rattle.script_reader.specs.Words.{lines_of, Marks, MarksBlanks, is_blank as is_blank_of, rest_length, words_of, pieces as pieces_of, texts};
+ghost use Rattle.script_reader.specs.Words.{lines_of, Marks, PartWords, is_blank as is_blank_of, rest_length, words_of, pieces as pieces_of, texts};
 
 use crate::parts::cut;
 use memchr::memchr;
@@ -78,16 +78,56 @@ fn near_line_end(text: &[u8]) -> Option<usize>
     if at < LANES { Some(at) } else { None }
 }
 
-/// The next line as `next_line` gives it, and which of its bytes are blanks, where it is a short one.
-pub(crate) fn marked_line(text: &[u8]) -> Option<(&[u8], &[u8], Option<u64>)>
+/// The mask with this bit, too.
+fn with_bit(mask: u64, at: usize) -> u64
+    requires { at < 64 }
+    ensures set { bit_at result at ≡ 1 }
+    ensures kept { (k : ℕ) → k < at → bit_at result k ≡ bit_at mask k }
+{
+    mask | (1 << at)
+}
+
+/// The mask's bits below this one.
+fn bits_below(mask: u64, count: usize) -> u64
+    requires { count < 64 }
+    ensures kept { (k : ℕ) → k < count → bit_at result k ≡ bit_at mask k }
+    ensures over { (k : ℕ) → count ≤ k → bit_at result k ≡ 0 }
+{
+    mask & ((1 << count) - 1)
+}
+
+/// Where the words of a short line may begin and end, a bit for each byte.
+#[derive(Clone, Copy)]
+pub(crate) struct Stops {
+    /// Which bytes are blanks, or the line's end.
+    ends: u64,
+    /// Which bytes aren't blanks.
+    solids: u64,
+}
+
+/// The masks of the first line, of this length.
+fn stops_in(text: &[u8], len: usize) -> Stops
+    requires room { 64 ≤ length text.now }
+    requires short { len < 64 }
+    ensures { PartWords (take len text.now) result.ends result.solids }
+{
+    let blanks = blanks_in(text);
+    Stops {
+        ends: with_bit(blanks, len),
+        solids: bits_below(!blanks, len),
+    }
+}
+
+/// The next line as `next_line` gives it, and where its words may begin and end, where it is a short one.
+pub(crate) fn marked_line(text: &[u8]) -> Option<(&[u8], &[u8], Option<Stops>)>
     ensures lines { MatchOption result (lines_of text.now ≡ [])
         (λ x. lines_of text.now ≡ x.0.now ∷ lines_of x.1.now) }
     ensures shorter { IfSome result (λ x. length x.1.now < length text.now) }
-    ensures marks { IfSome result (λ x. IfSome x.2 (MarksBlanks x.0.now)) }
+    ensures stops { IfSome result (λ x. IfSome x.2 (λ s. PartWords x.0.now s.ends s.solids)) }
 {
     if text.len() >= LANES {
         if let Some(at) = near_line_end(text) {
-            return Some((&text[..at], &text[at + 1..], Some(blanks_in(text))));
+            return Some((&text[..at], &text[at + 1..], Some(stops_in(text, at))));
         }
     }
     let (line, after) = next_line(text)?;
@@ -181,69 +221,70 @@ pub fn next_word(bytes: &[u8]) -> Option<(&[u8], &[u8])>
     Some((&bytes[start..end], &bytes[end..]))
 }
 
-/// Where the first byte from here on is that isn't blank, or the length.
-fn marked_solid(line: &[u8], blanks: u64, start: usize) -> usize
-    requires marks { MarksBlanks line.now blanks }
+/// Where the first byte from here on is that isn't blank; none where there are only blanks.
+fn marked_solid(line: &[u8], stops: Stops, start: usize) -> Option<usize>
+    requires stops { PartWords line.now stops.ends stops.solids }
     requires inside { start ≤ length line.now }
-    ensures value { result ≡ start + position_or_len (λ b. not (is_blank_of b)) (drop start line.now) }
-    ensures within { result ≤ length line.now }
+    ensures none { result ≡ None → start + position_or_len (λ b. not (is_blank_of b)) (drop start line.now)
+        ≡ length line.now }
+    ensures some { IfSome result (λ at. at ≡ start + position_or_len (λ b. not (is_blank_of b)) (drop start line.now)) }
+    ensures within { IfSome result (λ at. at < length line.now) }
 {
-    next_set(!blanks, start).min(line.len())
+    let at = next_set(stops.solids, start);
+    if at < LANES { Some(at) } else { None }
 }
 
 /// Where the first blank from here on is, or the length.
-fn marked_blank(line: &[u8], blanks: u64, start: usize) -> usize
-    requires marks { MarksBlanks line.now blanks }
+fn marked_blank(line: &[u8], stops: Stops, start: usize) -> usize
+    requires stops { PartWords line.now stops.ends stops.solids }
     requires inside { start ≤ length line.now }
     ensures value { result ≡ start + position_or_len is_blank_of (drop start line.now) }
     ensures within { result ≤ length line.now }
 {
-    next_set(blanks, start).min(line.len())
+    next_set(stops.ends, start)
 }
 
 /// Where the word ends that begins here.
-fn marked_end(line: &[u8], blanks: u64, start: usize) -> usize
-    requires marks { MarksBlanks line.now blanks }
+fn marked_end(line: &[u8], stops: Stops, start: usize) -> usize
+    requires stops { PartWords line.now stops.ends stops.solids }
     requires inside { start < length line.now }
     ensures value { result ≡ start + 1 + rest_length (slice_index line.now start) (drop (start + 1) line.now) }
     ensures within { result ≤ length line.now }
 {
     let behind = start + 1;
     if line[start] == b'"' {
-        marked_blank(line, blanks, behind + quote_len(&line[behind..]))
+        marked_blank(line, stops, behind + quote_len(&line[behind..]))
     } else {
-        marked_blank(line, blanks, behind)
+        marked_blank(line, stops, behind)
     }
 }
 
 /// What `word_from` gives.
-fn marked_word(line: &[u8], blanks: u64, from: usize) -> Option<(usize, usize)>
-    requires marks { MarksBlanks line.now blanks }
+fn marked_word(line: &[u8], stops: Stops, from: usize) -> Option<(usize, usize)>
+    requires stops { PartWords line.now stops.ends stops.solids }
     requires inside { from ≤ length line.now }
     ensures words { MatchOption result (words_of (drop from line.now) ≡ [])
         (λ x. words_of (drop from line.now) ≡ take (x.1 - x.0) (drop x.0 line.now) ∷ words_of (drop x.1 line.now)) }
     ensures order { IfSome result (λ x. (from ≤ x.0) × (x.0 < x.1) × (x.1 ≤ length line.now)) }
 {
-    let start = marked_solid(line, blanks, from);
-    if start == line.len() {
-        None
-    } else {
-        Some((start, marked_end(line, blanks, start)))
+    match marked_solid(line, stops, from) {
+        None => None,
+        Some(start) => Some((start, marked_end(line, stops, start))),
     }
 }
 
-/// Puts the words of a line whose blanks are marked in the place of others.
+/// Puts the words of a line in the place of others, by its masks.
 fn put_marked_words<'a>(
     words: &mut Vec<&'a [u8]>,
     line: &'a [u8],
-    blanks: u64,
+    stops: Stops,
 ) -> Result<(), Memory>
-    requires { MarksBlanks line.now blanks }
+    requires { PartWords line.now stops.ends stops.solids }
     ensures { OnOk result (texts words.new.items ≡ words_of line.now) }
 {
     words.clear();
     let mut at = 0;
-    while let Some((start, end)) = marked_word(line, blanks, at) {
+    while let Some((start, end)) = marked_word(line, stops, at) {
         words.push(&line[start..end])?;
         at = end;
     }
@@ -267,13 +308,13 @@ fn put_unmarked_words<'a>(words: &mut Vec<&'a [u8]>, line: &'a [u8]) -> Result<(
 pub(crate) fn put_words<'a>(
     words: &mut Vec<&'a [u8]>,
     line: &'a [u8],
-    marks: Option<u64>,
+    stops: Option<Stops>,
 ) -> Result<(), Memory>
-    requires { IfSome marks (MarksBlanks line.now) }
+    requires { IfSome stops (λ s. PartWords line.now s.ends s.solids) }
     ensures { OnOk result (texts words.new.items ≡ words_of line.now) }
 {
-    match marks {
-        Some(blanks) => put_marked_words(words, line, blanks),
+    match stops {
+        Some(stops) => put_marked_words(words, line, stops),
         None => put_unmarked_words(words, line),
     }
 }

@@ -1,11 +1,14 @@
-use Rattle.std.proofs.Common.{arith}
-use Rattle.script_reader.specs.Words.{is_blank}
-use Rattle.script_reader.proofs.Marked.{place_marked}
+use Rattle.script_reader.proofs.Marked.{blank_marked}
 use Rattle.script_reader.proofs.words.marked_blank.Goals as goal
 
 pub returns-clause-value : goal.returns-clause-value
 returns-clause-value c =
     let from = c.next_set.ensures in
-    place_marked is_blank c.args.line.now c.args.blanks c.args.start c.next_set.result c.min.result
-    c.requires.marks.0 c.requires.marks.1 c.requires.inside from.low from.clear from.set (omega arith) (omega arith)
-    (λ short. omega (arith, short)) (omega (arith, from.low, c.requires.inside))
+    (blank_marked c.args.line.now c.args.stops.ends c.args.stops.solids c.args.start c.next_set.result
+    c.requires.stops c.requires.inside from.low from.clear from.set).1
+
+pub returns-clause-within : goal.returns-clause-within
+returns-clause-within c =
+    let from = c.next_set.ensures in
+    (blank_marked c.args.line.now c.args.stops.ends c.args.stops.solids c.args.start c.next_set.result
+    c.requires.stops c.requires.inside from.low from.clear from.set).0

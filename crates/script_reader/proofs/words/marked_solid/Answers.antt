@@ -1,13 +1,20 @@
-use Rattle.std.proofs.Common.{not, arith}
-use Rattle.script_reader.specs.Words.{is_blank}
-use Rattle.script_reader.proofs.Marked.{place_marked, marks_of_others}
+use Rattle.std.proofs.Common.{arith}
+use Rattle.script_reader.proofs.Marked.{solid_marked, solid_missed}
 use Rattle.script_reader.proofs.words.marked_solid.Goals as goal
 
-pub returns-clause-value : goal.returns-clause-value
-returns-clause-value c =
-    let from = c.next_set.ensures in
-    place_marked (λ b. not (is_blank b)) c.args.line.now _ c.args.start c.next_set.result c.min.result
-    c.requires.marks.0
-    (marks_of_others is_blank c.args.line.now c.args.blanks c.ranges.blanks.fits c.requires.marks.1)
-    c.requires.inside from.low from.clear from.set (omega arith) (omega arith)
-    (λ short. omega (arith, short)) (omega (arith, from.low, c.requires.inside))
+pub returns-then-at-lt-LANES-clause-some : goal.returns-then-at-lt-LANES-clause-some
+returns-then-at-lt-LANES-clause-some c =
+    let from = c.next_set-at.ensures in
+    (solid_marked c.args.line.now c.args.stops.ends c.args.stops.solids c.args.start c.next_set-at.result
+    c.requires.stops from.low from.clear c.if-at-lt-LANES.true (from.set c.if-at-lt-LANES.true)).1
+
+pub returns-then-at-lt-LANES-clause-within : goal.returns-then-at-lt-LANES-clause-within
+returns-then-at-lt-LANES-clause-within c =
+    let from = c.next_set-at.ensures in
+    (solid_marked c.args.line.now c.args.stops.ends c.args.stops.solids c.args.start c.next_set-at.result
+    c.requires.stops from.low from.clear c.if-at-lt-LANES.true (from.set c.if-at-lt-LANES.true)).0
+
+pub returns-else-at-lt-LANES-clause-none : goal.returns-else-at-lt-LANES-clause-none
+returns-else-at-lt-LANES-clause-none c none =
+    solid_missed c.args.line.now c.args.stops.ends c.args.stops.solids c.args.start c.next_set-at.result
+    c.requires.stops c.requires.inside c.next_set-at.ensures.clear (omega (arith, c.if-at-lt-LANES.false))
