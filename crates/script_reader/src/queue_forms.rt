@@ -5,7 +5,7 @@ ghost use Rattle.script_reader.specs.Words.{texts};
 ghost use Rattle.script_reader.specs.Says.{said_from};
 ghost use Rattle.script_reader.specs.Forms as forms;
 
-use crate::form_parts::{FromCall, identifier, noerror_nowait, optional_nowait, two_optional};
+use crate::form_parts::{FromCall, create_excl, identifier, noerror_nowait, optional_nowait};
 use crate::numbers::{MAX_NUMBER, number, positive, signed};
 use crate::says::{Said, put_from};
 use crate::texts::text;
@@ -20,7 +20,7 @@ fn keyed_queue(k: &[u8], more: &[&[u8]]) -> Option<FromCall>
     ensures { result ≡ forms.keyed_queue k.now (texts more.now) }
 {
     let key = positive(u32::MAX, k)?;
-    let (create, excl) = two_optional(b"create", b"excl", more)?;
+    let (create, excl) = create_excl(more)?;
     let key = Some(Key(key));
     Some((None, Call::MsgGet { key, create, excl }))
 }

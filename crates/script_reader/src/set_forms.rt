@@ -5,7 +5,7 @@ ghost use Rattle.script_reader.specs.Words.{texts};
 ghost use Rattle.script_reader.specs.Says.{said_from};
 ghost use Rattle.script_reader.specs.Forms as forms;
 
-use crate::form_parts::{FromCall, identifier, two_optional};
+use crate::form_parts::{FromCall, create_excl, identifier};
 use crate::numbers::{MAX_NUMBER, index, number, positive};
 use crate::says::{Said, put_from};
 use crate::texts::{steps, values};
@@ -18,7 +18,7 @@ fn keyed_set(k: &[u8], n: &[u8], more: &[&[u8]]) -> Option<FromCall>
 {
     let key = positive(u32::MAX, k)?;
     let count = number(MAX_NUMBER, n)?;
-    let (create, excl) = two_optional(b"create", b"excl", more)?;
+    let (create, excl) = create_excl(more)?;
     let key = Some(Key(key));
     Some((
         None,
