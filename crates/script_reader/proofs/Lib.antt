@@ -4,6 +4,7 @@ pub mod Openings
 pub mod Names
 pub mod Each
 pub mod Lanes
+pub mod Marked
 pub mod Quotes
 pub mod Steps
 pub mod Given

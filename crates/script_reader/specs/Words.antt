@@ -1,5 +1,6 @@
 -- Lines and words.
-use Rattle.std.specs.Prelude.{ℕ, ◌+◌, ◌==◌, drop, ◌||◌, Bool, List, [], ◌∷◌, if◌then◌else◌, map}
+use Rattle.std.specs.Prelude.{ℕ, ◌≡◌, ◌+◌, ◌<◌, ◌≤◌, ◌==◌, not, length, slice_index, drop, ◌||◌, Bool, List, [], ◌∷◌, if◌then◌else◌, map}
+use Rattle.std.specs.Int.{bit_at}
 use Rattle.std.specs.List.{onto_first, slice_split, position_or_len}
 use denote.Ref.{Bor}
 
@@ -11,6 +12,19 @@ lines_of (b ∷ bytes) = if b == 10 then [] ∷ lines_of bytes else onto_first b
 -- a space, a tab or a carriage return
 abbrev pub is_blank : ℕ → Bool
 is_blank b = b == 32 || (b == 9 || b == 13)
+
+-- bit k of a mask tells whether byte k passes, for the first 64 bytes
+abbrev pub Marks : (ℕ → Bool) → List ℕ → ℕ → Type 0
+Marks p bytes mask = (k : ℕ) → k < length bytes → k < 64 → bit_at mask k ≡ (if p (slice_index bytes k) then 1 else 0)
+
+-- Two masks part the words of a line: of the one, which bytes are blanks, or the line's end; of the other, which aren't
+-- blanks.
+pub record PartWords (line : List ℕ) (ends solids : ℕ) : Type 0 where
+  pub short : length line < 64
+  pub blanks : Marks is_blank line ends
+  pub end : bit_at ends (length line) ≡ 1
+  pub others : Marks (λ b. not (is_blank b)) line solids
+  pub over : (k : ℕ) → length line ≤ k → bit_at solids k ≡ 0
 
 -- where a byte stands: between words, in a word, or in a word and behind its quote
 pub data Stretch : Type 0 where

@@ -58,23 +58,25 @@ pub(crate) fn optional(word: &[u8], words: &[&[u8]]) -> Option<bool>
     }
 }
 
-/// At most these two words, in this order.
+/// At most `create` and `excl`, in this order.
 #[tactic(auto, unfolding(crate::specs::Forms::two_optional))]
-pub(crate) fn two_optional(first: &[u8], second: &[u8], words: &[&[u8]]) -> Option<(bool, bool)>
-    ensures { result ≡ forms.two_optional first.now second.now (texts words.now) }
+pub(crate) fn create_excl(words: &[&[u8]]) -> Option<(bool, bool)>
+    ensures { result ≡ forms.two_optional (codes "create") (codes "excl") (texts words.now) }
 {
     match words {
         [] => Some((false, false)),
         [only] => {
-            if *only == first {
+            if *only == b"create".as_slice() {
                 Some((true, false))
-            } else if *only == second {
+            } else if *only == b"excl".as_slice() {
                 Some((false, true))
             } else {
                 None
             }
         }
-        [one, two] if *one == first && *two == second => Some((true, true)),
+        [one, two] if *one == b"create".as_slice() && *two == b"excl".as_slice() => {
+            Some((true, true))
+        }
         _ => None,
     }
 }

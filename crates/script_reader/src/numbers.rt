@@ -14,18 +14,17 @@ fn digits(limit: u32, word: &[u8]) -> Option<u32>
     ensures value { result ≡ digits_of limit 0 word.now }
     ensures small { IfSome result (λ n. n ≤ limit) }
 {
-    let mut value: u32 = 0;
+    let mut value: u64 = 0;
     for byte in word {
         if !byte.is_ascii_digit() {
             return None;
         }
-        let more = u64::from(value) * 10 + u64::from(*byte - b'0');
-        if more > u64::from(limit) {
+        value = value * 10 + u64::from(*byte - b'0');
+        if value > u64::from(limit) {
             return None;
         }
-        value = more as u32;
     }
-    Some(value)
+    Some(value as u32)
 }
 
 /// A number up to the limit, without leading zeros.

@@ -177,7 +177,7 @@ impl Place {
         self.calls += line.tries as usize;
         self.over = is_exit(&line.call);
         self.known.note(line.set);
-        self.lines.push(line)?;
+        self.lines.as_mut_vec().push(line)?;
         Ok(())
     }
 

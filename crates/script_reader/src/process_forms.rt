@@ -2,11 +2,13 @@
 
 ghost use Rattle.std.specs.Prelude.{◌≡◌};
 ghost use Rattle.script_reader.specs.Words.{texts};
+ghost use Rattle.script_reader.specs.Says.{said_from};
 ghost use Rattle.script_reader.specs.Forms as forms;
 
 use crate::form_parts::{FromCall, optional, process};
 use crate::numbers::index;
 use crate::parts::{action, how, signal, signal_argument, signal_set};
+use crate::says::{Said, put_from};
 use pico_base::{Call, Pid, Var};
 
 /// `exit N`.
@@ -131,52 +133,66 @@ fn waitpid(words: &[&[u8]]) -> Option<FromCall>
     }
 }
 
-// Each of these puts its call in the place of another: a long value is dear to hand on.
+// Each of these puts a line with its call in the place of what another line said. They stay apart where they are
+// compiled, so that the long value is made where it stays.
 
-pub(crate) fn put_exit(words: &[&[u8]], call: &mut Option<FromCall>)
-    ensures { call.new ≡ forms.exit_of (texts words.now) }
+#[inline(never)]
+pub(crate) fn put_exit(set: Option<Var>, tries: Option<u32>, words: &[&[u8]], said: &mut Said)
+    ensures { said.new ≡ said_from set tries (forms.exit_of (texts words.now)) }
 {
-    *call = exit(words);
+    put_from(set, tries, exit(words), said);
 }
 
-pub(crate) fn put_getpid(words: &[&[u8]], call: &mut Option<FromCall>)
-    ensures { call.new ≡ forms.getpid_of (texts words.now) }
+#[inline(never)]
+pub(crate) fn put_getpid(set: Option<Var>, tries: Option<u32>, words: &[&[u8]], said: &mut Said)
+    ensures { said.new ≡ said_from set tries (forms.getpid_of (texts words.now)) }
 {
-    *call = getpid(words);
+    put_from(set, tries, getpid(words), said);
 }
 
-pub(crate) fn put_kill(words: &[&[u8]], call: &mut Option<FromCall>)
-    ensures { call.new ≡ forms.kill_of (texts words.now) }
+#[inline(never)]
+pub(crate) fn put_kill(set: Option<Var>, tries: Option<u32>, words: &[&[u8]], said: &mut Said)
+    ensures { said.new ≡ said_from set tries (forms.kill_of (texts words.now)) }
 {
-    *call = kill(words);
+    put_from(set, tries, kill(words), said);
 }
 
-pub(crate) fn put_sigaction(words: &[&[u8]], call: &mut Option<FromCall>)
-    ensures { call.new ≡ forms.sigaction_of (texts words.now) }
+#[inline(never)]
+pub(crate) fn put_sigaction(set: Option<Var>, tries: Option<u32>, words: &[&[u8]], said: &mut Said)
+    ensures { said.new ≡ said_from set tries (forms.sigaction_of (texts words.now)) }
 {
-    *call = sigaction(words);
+    put_from(set, tries, sigaction(words), said);
 }
 
-pub(crate) fn put_sigprocmask(words: &[&[u8]], call: &mut Option<FromCall>)
-    ensures { call.new ≡ forms.sigprocmask_of (texts words.now) }
+#[inline(never)]
+pub(crate) fn put_sigprocmask(
+    set: Option<Var>,
+    tries: Option<u32>,
+    words: &[&[u8]],
+    said: &mut Said,
+)
+    ensures { said.new ≡ said_from set tries (forms.sigprocmask_of (texts words.now)) }
 {
-    *call = sigprocmask(words);
+    put_from(set, tries, sigprocmask(words), said);
 }
 
-pub(crate) fn put_sigpending(words: &[&[u8]], call: &mut Option<FromCall>)
-    ensures { call.new ≡ forms.sigpending_of (texts words.now) }
+#[inline(never)]
+pub(crate) fn put_sigpending(set: Option<Var>, tries: Option<u32>, words: &[&[u8]], said: &mut Said)
+    ensures { said.new ≡ said_from set tries (forms.sigpending_of (texts words.now)) }
 {
-    *call = sigpending(words);
+    put_from(set, tries, sigpending(words), said);
 }
 
-pub(crate) fn put_handled(words: &[&[u8]], call: &mut Option<FromCall>)
-    ensures { call.new ≡ forms.handled_of (texts words.now) }
+#[inline(never)]
+pub(crate) fn put_handled(set: Option<Var>, tries: Option<u32>, words: &[&[u8]], said: &mut Said)
+    ensures { said.new ≡ said_from set tries (forms.handled_of (texts words.now)) }
 {
-    *call = handled(words);
+    put_from(set, tries, handled(words), said);
 }
 
-pub(crate) fn put_waitpid(words: &[&[u8]], call: &mut Option<FromCall>)
-    ensures { call.new ≡ forms.waitpid_of (texts words.now) }
+#[inline(never)]
+pub(crate) fn put_waitpid(set: Option<Var>, tries: Option<u32>, words: &[&[u8]], said: &mut Said)
+    ensures { said.new ≡ said_from set tries (forms.waitpid_of (texts words.now)) }
 {
-    *call = waitpid(words);
+    put_from(set, tries, waitpid(words), said);
 }

@@ -2,12 +2,14 @@
 
 ghost use Rattle.std.specs.Prelude.{◌≡◌, IfOk, OnOk};
 ghost use Rattle.script_reader.specs.Words.{texts};
+ghost use Rattle.script_reader.specs.Says.{said_from};
 ghost use Rattle.script_reader.specs.Forms as forms;
 
-use crate::form_parts::{FromCall, identifier, noerror_nowait, optional_nowait, two_optional};
+use crate::form_parts::{FromCall, create_excl, identifier, noerror_nowait, optional_nowait};
 use crate::numbers::{MAX_NUMBER, number, positive, signed};
+use crate::says::{Said, put_from};
 use crate::texts::text;
-use pico_base::{Call, Id, Key, Memory};
+use pico_base::{Call, Id, Key, Memory, Var};
 use std::alloc::Global;
 
 /// The greatest message type, and the least one below zero.
@@ -18,7 +20,7 @@ fn keyed_queue(k: &[u8], more: &[&[u8]]) -> Option<FromCall>
     ensures { result ≡ forms.keyed_queue k.now (texts more.now) }
 {
     let key = positive(u32::MAX, k)?;
-    let (create, excl) = two_optional(b"create", b"excl", more)?;
+    let (create, excl) = create_excl(more)?;
     let key = Some(Key(key));
     Some((None, Call::MsgGet { key, create, excl }))
 }
@@ -157,33 +159,40 @@ fn msgctl(words: &[&[u8]]) -> Option<FromCall>
     }
 }
 
-// Each of these puts its call in the place of another: a long value is dear to hand on.
+// Each of these puts a line with its call in the place of what another line said. They stay apart where they are
+// compiled, so that the long value is made where it stays.
 
-pub(crate) fn put_msgget(words: &[&[u8]], call: &mut Option<FromCall>)
-    ensures { call.new ≡ forms.msgget_of (texts words.now) }
+#[inline(never)]
+pub(crate) fn put_msgget(set: Option<Var>, tries: Option<u32>, words: &[&[u8]], said: &mut Said)
+    ensures { said.new ≡ said_from set tries (forms.msgget_of (texts words.now)) }
 {
-    *call = msgget(words);
+    put_from(set, tries, msgget(words), said);
 }
 
+#[inline(never)]
 pub(crate) fn put_msgsnd(
     alloc: Global,
+    set: Option<Var>,
+    tries: Option<u32>,
     words: &[&[u8]],
-    call: &mut Option<FromCall>,
+    said: &mut Said,
 ) -> Result<(), Memory>
-    ensures { OnOk result (call.new ≡ forms.msgsnd_of (texts words.now)) }
+    ensures { OnOk result (said.new ≡ said_from set tries (forms.msgsnd_of (texts words.now))) }
 {
-    *call = msgsnd(alloc, words)?;
+    put_from(set, tries, msgsnd(alloc, words)?, said);
     Ok(())
 }
 
-pub(crate) fn put_msgrcv(words: &[&[u8]], call: &mut Option<FromCall>)
-    ensures { call.new ≡ forms.msgrcv_of (texts words.now) }
+#[inline(never)]
+pub(crate) fn put_msgrcv(set: Option<Var>, tries: Option<u32>, words: &[&[u8]], said: &mut Said)
+    ensures { said.new ≡ said_from set tries (forms.msgrcv_of (texts words.now)) }
 {
-    *call = msgrcv(words);
+    put_from(set, tries, msgrcv(words), said);
 }
 
-pub(crate) fn put_msgctl(words: &[&[u8]], call: &mut Option<FromCall>)
-    ensures { call.new ≡ forms.msgctl_of (texts words.now) }
+#[inline(never)]
+pub(crate) fn put_msgctl(set: Option<Var>, tries: Option<u32>, words: &[&[u8]], said: &mut Said)
+    ensures { said.new ≡ said_from set tries (forms.msgctl_of (texts words.now)) }
 {
-    *call = msgctl(words);
+    put_from(set, tries, msgctl(words), said);
 }

@@ -1,16 +1,18 @@
 //! What a line says by itself, wherever it stands.
 
-ghost use Rattle.std.specs.Prelude.{◌≡◌, ◌≤◌, ◌==◌, ◌||◌, false, None, IfOk, IfSome, option_copied};
-ghost use Rattle.script_reader.specs.Words.{is_blank as is_blank_of, texts};
+ghost use Rattle.std.specs.Prelude.{◌≡◌, ◌≤◌, ◌==◌, ◌||◌, false, None, OnOk, IfSome, option_copied};
+ghost use Rattle.script_reader.specs.Words.{PartWords, is_blank as is_blank_of, texts};
 ghost use Rattle.script_reader.specs.Says as says;
+ghost use Rattle.script_reader.specs.Forms as forms;
 
 use crate::form_parts::FromCall;
 use crate::forms::put_call;
 use crate::numbers::positive;
 use crate::parts::{is_block_name, variable};
+use crate::process_forms::put_exit;
 use crate::tables::Names;
 use crate::verb::Verb;
-use crate::words::{is_blank, next_word, put_words};
+use crate::words::{Stops, is_blank, next_word, put_words};
 use pico_base::{Bytes, Line, Memory, Var};
 use std::alloc::Global;
 
@@ -83,40 +85,57 @@ fn fork(names: &Names, set: Front<Var>, tries: Front<u32>, words: &[&[u8]]) -> S
     }
 }
 
-fn said_from(set: Option<Var>, tries: Option<u32>, call: Option<FromCall>) -> Said
-    ensures { result ≡ says.said_from set tries call }
+/// Puts a line with this call in the place of what another line said.
+#[inline(always)]
+pub(crate) fn put_from(
+    set: Option<Var>,
+    tries: Option<u32>,
+    call: Option<FromCall>,
+    said: &mut Said,
+)
+    ensures { said.new ≡ says.said_from set tries call }
 {
     match call {
-        None => Said::Bad,
-        Some((from, call)) => Said::Calls(Line {
-            set,
-            tries: tries.unwrap_or(1),
-            from,
-            call,
-        }),
+        None => *said = Said::Bad,
+        Some((from, call)) => {
+            *said = Said::Calls(Line {
+                set,
+                tries: tries.unwrap_or(1),
+                from,
+                call,
+            });
+        }
     }
 }
 
 /// `exit N`.
 #[tactic(auto, unfolding(crate::specs::Says::exit_said))]
-fn exit(set: Front<Var>, tries: Front<u32>, call: Option<FromCall>) -> Said
-    ensures { result ≡ says.exit_said set tries call }
+fn exit_line(set: Front<Var>, tries: Front<u32>, words: &[&[u8]], said: &mut Said)
+    ensures { said.new ≡ says.exit_said set tries (forms.exit_of (texts words.now)) }
 {
     match (set, tries) {
-        (Some(None), Some(None)) => said_from(None, None, call),
-        _ => Said::Bad,
+        (Some(None), Some(None)) => put_exit(None, None, words, said),
+        _ => *said = Said::Bad,
     }
 }
 
 /// Another call.
 #[tactic(auto, unfolding(crate::specs::Says::other_said))]
-fn other(set: Front<Var>, tries: Front<u32>, call: Option<FromCall>) -> Said
-    ensures { result ≡ says.other_said set tries call }
+fn other_line(
+    alloc: Global,
+    set: Front<Var>,
+    tries: Front<u32>,
+    verb: Verb,
+    words: &[&[u8]],
+    said: &mut Said,
+) -> Result<(), Memory>
+    ensures { OnOk result (said.new ≡ says.other_said set tries (forms.call_of verb (texts words.now))) }
 {
     match (set, tries) {
-        (Some(set), Some(tries)) => said_from(set, tries, call),
-        _ => Said::Bad,
+        (Some(set), Some(tries)) => put_call(alloc, set, tries, verb, words, said)?,
+        _ => *said = Said::Bad,
     }
+    Ok(())
 }
 
 /// A call of this name.
@@ -128,16 +147,16 @@ fn verb_line(
     tries: Front<u32>,
     verb: Verb,
     words: &[&[u8]],
-) -> Result<Said, Memory>
-    ensures { IfOk result (λ said. said ≡ says.verb_said names.now set tries verb (texts words.now)) }
+    said: &mut Said,
+) -> Result<(), Memory>
+    ensures { OnOk result (said.new ≡ says.verb_said names.now set tries verb (texts words.now)) }
 {
-    let mut call = None;
-    put_call(alloc, verb, words, &mut call)?;
-    Ok(match verb {
-        Verb::Fork => fork(names, set, tries, words),
-        Verb::Exit => exit(set, tries, call),
-        _ => other(set, tries, call),
-    })
+    match verb {
+        Verb::Fork => *said = fork(names, set, tries, words),
+        Verb::Exit => exit_line(set, tries, words, said),
+        _ => other_line(alloc, set, tries, verb, words, said)?,
+    }
+    Ok(())
 }
 
 /// The call behind `VAR =` and `try N`.
@@ -148,40 +167,43 @@ fn call_line(
     set: Front<Var>,
     tries: Front<u32>,
     words: &[&[u8]],
-) -> Result<Said, Memory>
-    ensures { IfOk result (λ said. said ≡ says.call_said names.now set tries (texts words.now)) }
+    said: &mut Said,
+) -> Result<(), Memory>
+    ensures { OnOk result (said.new ≡ says.call_said names.now set tries (texts words.now)) }
 {
     match words {
-        [] => Ok(Said::Bad),
+        [] => *said = Said::Bad,
         [name, words @ ..] => match Verb::named(name) {
-            None => Ok(Said::Unknown),
-            Some(verb) => verb_line(alloc, names, set, tries, verb, words),
+            None => *said = Said::Unknown,
+            Some(verb) => verb_line(alloc, names, set, tries, verb, words, said)?,
         },
     }
+    Ok(())
 }
 
 /// A call line.
 #[tactic(auto, unfolding(crate::specs::Says::line_said))]
-fn line(alloc: Global, names: &Names, words: &[&[u8]]) -> Result<Said, Memory>
-    ensures { IfOk result (λ said. said ≡ says.line_said names.now (texts words.now)) }
+fn line(alloc: Global, names: &Names, words: &[&[u8]], said: &mut Said) -> Result<(), Memory>
+    ensures { OnOk result (said.new ≡ says.line_said names.now (texts words.now)) }
 {
     let (set, words) = set_front(words);
     let (tries, words) = tries_front(words);
-    call_line(alloc, names, set, tries, words)
+    call_line(alloc, names, set, tries, words, said)
 }
 
 /// `proc NAME`, by the words behind `proc`.
 #[tactic(auto, unfolding(crate::specs::Says::proc_said))]
-fn proc_line(alloc: Global, names: &Names, words: &[&[u8]]) -> Result<Said, Memory>
-    ensures { IfOk result (λ said. said ≡ says.proc_said names.now (texts words.now)) }
+fn proc_line(alloc: Global, names: &Names, words: &[&[u8]], said: &mut Said) -> Result<(), Memory>
+    ensures { OnOk result (said.new ≡ says.proc_said names.now (texts words.now)) }
 {
     match words {
         [name] if is_block_name(name) => match names.number(name) {
-            None => Ok(Said::BadProc),
-            Some(number) => Ok(Said::Opens(Bytes::from_slice(alloc, name)?, number)),
+            None => *said = Said::BadProc,
+            Some(number) => *said = Said::Opens(Bytes::from_slice(alloc, name)?, number),
         },
-        _ => Ok(Said::BadProc),
+        _ => *said = Said::BadProc,
     }
+    Ok(())
 }
 
 #[tactic(auto, unfolding(crate::specs::Says::end_said))]
@@ -206,36 +228,41 @@ fn is_comment(word: &[u8]) -> bool
 
 /// A line by its words.
 #[tactic(auto, unfolding(crate::specs::Says::words_said))]
-fn words_line(alloc: Global, names: &Names, words: &[&[u8]]) -> Result<Said, Memory>
-    ensures { IfOk result (λ said. said ≡ says.words_said names.now (texts words.now)) }
+fn words_line(alloc: Global, names: &Names, words: &[&[u8]], said: &mut Said) -> Result<(), Memory>
+    ensures { OnOk result (said.new ≡ says.words_said names.now (texts words.now)) }
 {
     match words {
-        [] => Ok(Said::Skipped),
+        [] => *said = Said::Skipped,
         [first, rest @ ..] => {
             if is_comment(first) {
-                Ok(Said::Skipped)
+                *said = Said::Skipped;
             } else if *first == b"proc".as_slice() {
-                proc_line(alloc, names, rest)
+                proc_line(alloc, names, rest, said)?;
             } else if *first == b"end".as_slice() {
-                Ok(end_line(rest))
+                *said = end_line(rest);
             } else {
-                line(alloc, names, words)
+                line(alloc, names, words, said)?;
             }
         }
     }
+    Ok(())
 }
 
-/// What the line says, in a text whose blocks have these names. Its words are put where those of other lines were.
+/// Puts what the line says, in a text whose blocks have these names, in the place of what another said, and its words
+/// where those of the other were. A long value is dear to hand on, so it is made where it stays.
 pub(crate) fn read_line<'a>(
     alloc: Global,
     names: &Names,
     words: &mut Vec<&'a [u8]>,
     bytes: &'a [u8],
-) -> Result<Said, Memory>
-    ensures { IfOk result (λ said. said ≡ says.said_of names.now bytes.now) }
+    stops: Option<Stops>,
+    said: &mut Said,
+) -> Result<(), Memory>
+    requires { IfSome stops (λ s. PartWords bytes.now s.ends s.solids) }
+    ensures { OnOk result (said.new ≡ says.said_of names.now bytes.now) }
 {
-    put_words(words, bytes)?;
-    words_line(alloc, names, words.as_slice())
+    put_words(words, bytes, stops)?;
+    words_line(alloc, names, words.as_slice(), said)
 }
 
 /// Whether a line `proc NAME` may begin with the byte.

@@ -12,9 +12,9 @@ ghost use Rattle.script_reader.specs.Fault as spec;
 use crate::checks::fault_of;
 use crate::fault::{ScriptFault, ScriptStop};
 use crate::place::Place;
-use crate::says::{opening, read_line};
+use crate::says::{Said, opening, read_line};
 use crate::tables::Names;
-use crate::words::next_line;
+use crate::words::marked_line;
 use pico_base::{Blocks, Memory, Script};
 use std::alloc::Global;
 
@@ -27,7 +27,7 @@ fn block_names(alloc: Global, text: &[u8]) -> Result<Names, Memory>
 {
     let mut names = Names::new(alloc);
     let mut rest = text;
-    while let Some((bytes, after)) = next_line(rest) {
+    while let Some((bytes, after, _)) = marked_line(rest) {
         if let Some(name) = opening(bytes) {
             names.mention(alloc, name)?;
         }
@@ -65,8 +65,9 @@ fn blocks_with(alloc: Global, names: &Names, text: &[u8]) -> Result<Blocks, Scri
     let mut words = Vec::new(alloc);
     let mut rest = text;
     let mut number: u32 = 1;
-    while let Some((bytes, after)) = next_line(rest) {
-        let said = read_line(alloc, names, &mut words, bytes)?;
+    while let Some((bytes, after, stops)) = marked_line(rest) {
+        let mut said = Said::Skipped;
+        read_line(alloc, names, &mut words, bytes, stops, &mut said)?;
         if let Some(fault) = fault_of(&place, bytes.len(), &said) {
             return Err(ScriptStop::At {
                 line: number,

@@ -2,12 +2,14 @@
 
 ghost use Rattle.std.specs.Prelude.{◌≡◌, IfOk, OnOk};
 ghost use Rattle.script_reader.specs.Words.{texts};
+ghost use Rattle.script_reader.specs.Says.{said_from};
 ghost use Rattle.script_reader.specs.Forms as forms;
 
-use crate::form_parts::{FromCall, identifier, two_optional};
+use crate::form_parts::{FromCall, create_excl, identifier};
 use crate::numbers::{MAX_NUMBER, index, number, positive};
+use crate::says::{Said, put_from};
 use crate::texts::{steps, values};
-use pico_base::{Call, Id, Key, Memory};
+use pico_base::{Call, Id, Key, Memory, Var};
 use std::alloc::Global;
 
 #[tactic(auto, unfolding(crate::specs::Forms::keyed_set))]
@@ -16,7 +18,7 @@ fn keyed_set(k: &[u8], n: &[u8], more: &[&[u8]]) -> Option<FromCall>
 {
     let key = positive(u32::MAX, k)?;
     let count = number(MAX_NUMBER, n)?;
-    let (create, excl) = two_optional(b"create", b"excl", more)?;
+    let (create, excl) = create_excl(more)?;
     let key = Some(Key(key));
     Some((
         None,
@@ -184,32 +186,40 @@ fn semctl(alloc: Global, words: &[&[u8]]) -> Result<Option<FromCall>, Memory>
     }
 }
 
-// Each of these puts its call in the place of another: a long value is dear to hand on.
+// Each of these puts a line with its call in the place of what another line said. They stay apart where they are
+// compiled, so that the long value is made where it stays.
 
-pub(crate) fn put_semget(words: &[&[u8]], call: &mut Option<FromCall>)
-    ensures { call.new ≡ forms.semget_of (texts words.now) }
+#[inline(never)]
+pub(crate) fn put_semget(set: Option<Var>, tries: Option<u32>, words: &[&[u8]], said: &mut Said)
+    ensures { said.new ≡ said_from set tries (forms.semget_of (texts words.now)) }
 {
-    *call = semget(words);
+    put_from(set, tries, semget(words), said);
 }
 
+#[inline(never)]
 pub(crate) fn put_semop(
     alloc: Global,
+    set: Option<Var>,
+    tries: Option<u32>,
     words: &[&[u8]],
-    call: &mut Option<FromCall>,
+    said: &mut Said,
 ) -> Result<(), Memory>
-    ensures { OnOk result (call.new ≡ forms.semop_of (texts words.now)) }
+    ensures { OnOk result (said.new ≡ said_from set tries (forms.semop_of (texts words.now))) }
 {
-    *call = semop(alloc, words)?;
+    put_from(set, tries, semop(alloc, words)?, said);
     Ok(())
 }
 
+#[inline(never)]
 pub(crate) fn put_semctl(
     alloc: Global,
+    set: Option<Var>,
+    tries: Option<u32>,
     words: &[&[u8]],
-    call: &mut Option<FromCall>,
+    said: &mut Said,
 ) -> Result<(), Memory>
-    ensures { OnOk result (call.new ≡ forms.semctl_of (texts words.now)) }
+    ensures { OnOk result (said.new ≡ said_from set tries (forms.semctl_of (texts words.now))) }
 {
-    *call = semctl(alloc, words)?;
+    put_from(set, tries, semctl(alloc, words)?, said);
     Ok(())
 }

@@ -1,13 +1,15 @@
 //! Lines and words.
 
-ghost use Rattle.std.specs.Prelude.{◌≡◌, ◌<◌, ◌≤◌, ◌+◌, ◌-◌, ◌==◌, not, drop, take, slice_index, position, [], ◌∷◌, IfOk, OnOk, IfSome, MatchOption, length};
+ghost use Rattle.std.specs.Prelude.{◌≡◌, ℕ, Some, None, ◌<◌, ◌≤◌, ◌+◌, ◌-◌, ◌==◌, not, drop, take, slice_index, position, [], ◌∷◌, IfOk, OnOk, IfSome, MatchOption, length};
+ghost use Rattle.std.specs.Int.{bit_at};
 ghost use Rattle.std.specs.List.{position_or_len};
-ghost use Rattle.script_reader.specs.Words.{lines_of, is_blank as is_blank_of, rest_length, words_of, pieces as pieces_of, texts};
+ghost use Rattle.script_reader.specs.Words.{lines_of, Marks, PartWords, is_blank as is_blank_of, rest_length, words_of, pieces as pieces_of, texts};
 
 use crate::parts::cut;
 use memchr::memchr;
 use pico_base::Memory;
 use std::alloc::Global;
+use std::simd::prelude::*;
 
 /// Where the first line feed is.
 fn line_end(bytes: &[u8]) -> Option<usize>
@@ -29,6 +31,107 @@ pub fn next_line(bytes: &[u8]) -> Option<(&[u8], &[u8])>
         None if bytes.is_empty() => None,
         None => Some((bytes, &bytes[bytes.len()..])),
     }
+}
+
+/// How many bytes are looked at together.
+const LANES: usize = 64;
+
+/// Which of the first 64 bytes are line feeds.
+fn feeds_in(text: &[u8]) -> u64
+    requires { 64 ≤ length text.now }
+    ensures { Marks (λ b. b == 10) text.now result }
+{
+    u8x64::from_slice(text)
+        .simd_eq(u8x64::splat(b'\n'))
+        .to_bitmask()
+}
+
+/// Which of the first 64 bytes are blanks.
+fn blanks_in(text: &[u8]) -> u64
+    requires { 64 ≤ length text.now }
+    ensures { Marks is_blank_of text.now result }
+{
+    let lanes = u8x64::from_slice(text);
+    let blanks = lanes.simd_eq(u8x64::splat(b' '))
+        | lanes.simd_eq(u8x64::splat(b'\t'))
+        | lanes.simd_eq(u8x64::splat(b'\r'));
+    blanks.to_bitmask()
+}
+
+/// Where the first set bit from here on is, or 64 or more.
+fn next_set(mask: u64, from: usize) -> usize
+    requires { from < 64 }
+    ensures low { from ≤ result }
+    ensures clear { (k : ℕ) → from ≤ k → k < result → bit_at mask k ≡ 0 }
+    ensures set { result < 64 → bit_at mask result ≡ 1 }
+{
+    from + (mask >> from).trailing_zeros() as usize
+}
+
+/// Where the first line feed is, if it is near.
+fn near_line_end(text: &[u8]) -> Option<usize>
+    requires { 64 ≤ length text.now }
+    ensures value { IfSome result (λ at. position (λ b. b == 10) text.now ≡ Some at) }
+    ensures near { IfSome result (λ at. at < 64) }
+{
+    let at = next_set(feeds_in(text), 0);
+    if at < LANES { Some(at) } else { None }
+}
+
+/// The mask with this bit, too.
+fn with_bit(mask: u64, at: usize) -> u64
+    requires { at < 64 }
+    ensures set { bit_at result at ≡ 1 }
+    ensures kept { (k : ℕ) → k < at → bit_at result k ≡ bit_at mask k }
+{
+    mask | (1 << at)
+}
+
+/// The mask's bits below this one.
+fn bits_below(mask: u64, count: usize) -> u64
+    requires { count < 64 }
+    ensures kept { (k : ℕ) → k < count → bit_at result k ≡ bit_at mask k }
+    ensures over { (k : ℕ) → count ≤ k → bit_at result k ≡ 0 }
+{
+    mask & ((1 << count) - 1)
+}
+
+/// Where the words of a short line may begin and end, a bit for each byte.
+#[derive(Clone, Copy)]
+pub(crate) struct Stops {
+    /// Which bytes are blanks, or the line's end.
+    ends: u64,
+    /// Which bytes aren't blanks.
+    solids: u64,
+}
+
+/// The masks of the first line, of this length.
+fn stops_in(text: &[u8], len: usize) -> Stops
+    requires room { 64 ≤ length text.now }
+    requires short { len < 64 }
+    ensures { PartWords (take len text.now) result.ends result.solids }
+{
+    let blanks = blanks_in(text);
+    Stops {
+        ends: with_bit(blanks, len),
+        solids: bits_below(!blanks, len),
+    }
+}
+
+/// The next line as `next_line` gives it, and where its words may begin and end, where it is a short one.
+pub(crate) fn marked_line(text: &[u8]) -> Option<(&[u8], &[u8], Option<Stops>)>
+    ensures lines { MatchOption result (lines_of text.now ≡ [])
+        (λ x. lines_of text.now ≡ x.0.now ∷ lines_of x.1.now) }
+    ensures shorter { IfSome result (λ x. length x.1.now < length text.now) }
+    ensures stops { IfSome result (λ x. IfSome x.2 (λ s. PartWords x.0.now s.ends s.solids)) }
+{
+    if text.len() >= LANES {
+        if let Some(at) = near_line_end(text) {
+            return Some((&text[..at], &text[at + 1..], Some(stops_in(text, at))));
+        }
+    }
+    let (line, after) = next_line(text)?;
+    Some((line, after, None))
 }
 
 pub(crate) fn is_blank(byte: u8) -> bool
@@ -118,8 +221,78 @@ pub fn next_word(bytes: &[u8]) -> Option<(&[u8], &[u8])>
     Some((&bytes[start..end], &bytes[end..]))
 }
 
-/// Puts the words of a line in the place of others.
-pub(crate) fn put_words<'a>(words: &mut Vec<&'a [u8]>, line: &'a [u8]) -> Result<(), Memory>
+/// Where the first byte from here on is that isn't blank; none where there are only blanks.
+fn marked_solid(line: &[u8], stops: Stops, start: usize) -> Option<usize>
+    requires stops { PartWords line.now stops.ends stops.solids }
+    requires inside { start ≤ length line.now }
+    ensures none { result ≡ None → start + position_or_len (λ b. not (is_blank_of b)) (drop start line.now)
+        ≡ length line.now }
+    ensures some { IfSome result (λ at. at ≡ start + position_or_len (λ b. not (is_blank_of b)) (drop start line.now)) }
+    ensures within { IfSome result (λ at. at < length line.now) }
+{
+    let at = next_set(stops.solids, start);
+    if at < LANES { Some(at) } else { None }
+}
+
+/// Where the first blank from here on is, or the length.
+fn marked_blank(line: &[u8], stops: Stops, start: usize) -> usize
+    requires stops { PartWords line.now stops.ends stops.solids }
+    requires inside { start ≤ length line.now }
+    ensures value { result ≡ start + position_or_len is_blank_of (drop start line.now) }
+    ensures within { result ≤ length line.now }
+{
+    next_set(stops.ends, start)
+}
+
+/// Where the word ends that begins here.
+fn marked_end(line: &[u8], stops: Stops, start: usize) -> usize
+    requires stops { PartWords line.now stops.ends stops.solids }
+    requires inside { start < length line.now }
+    ensures value { result ≡ start + 1 + rest_length (slice_index line.now start) (drop (start + 1) line.now) }
+    ensures within { result ≤ length line.now }
+{
+    let behind = start + 1;
+    if line[start] == b'"' {
+        marked_blank(line, stops, behind + quote_len(&line[behind..]))
+    } else {
+        marked_blank(line, stops, behind)
+    }
+}
+
+/// What `word_from` gives.
+fn marked_word(line: &[u8], stops: Stops, from: usize) -> Option<(usize, usize)>
+    requires stops { PartWords line.now stops.ends stops.solids }
+    requires inside { from ≤ length line.now }
+    ensures words { MatchOption result (words_of (drop from line.now) ≡ [])
+        (λ x. words_of (drop from line.now) ≡ take (x.1 - x.0) (drop x.0 line.now) ∷ words_of (drop x.1 line.now)) }
+    ensures order { IfSome result (λ x. (from ≤ x.0) × (x.0 < x.1) × (x.1 ≤ length line.now)) }
+{
+    match marked_solid(line, stops, from) {
+        None => None,
+        Some(start) => Some((start, marked_end(line, stops, start))),
+    }
+}
+
+/// Puts the words of a line in the place of others, by its masks.
+fn put_marked_words<'a>(
+    words: &mut Vec<&'a [u8]>,
+    line: &'a [u8],
+    stops: Stops,
+) -> Result<(), Memory>
+    requires { PartWords line.now stops.ends stops.solids }
+    ensures { OnOk result (texts words.new.items ≡ words_of line.now) }
+{
+    words.clear();
+    let mut at = 0;
+    while let Some((start, end)) = marked_word(line, stops, at) {
+        words.push(&line[start..end])?;
+        at = end;
+    }
+    Ok(())
+}
+
+/// Puts the words of a line in the place of others, byte after byte.
+fn put_unmarked_words<'a>(words: &mut Vec<&'a [u8]>, line: &'a [u8]) -> Result<(), Memory>
     ensures { OnOk result (texts words.new.items ≡ words_of line.now) }
 {
     words.clear();
@@ -129,6 +302,21 @@ pub(crate) fn put_words<'a>(words: &mut Vec<&'a [u8]>, line: &'a [u8]) -> Result
         at = end;
     }
     Ok(())
+}
+
+/// Puts the words of a line in the place of others.
+pub(crate) fn put_words<'a>(
+    words: &mut Vec<&'a [u8]>,
+    line: &'a [u8],
+    stops: Option<Stops>,
+) -> Result<(), Memory>
+    requires { IfSome stops (λ s. PartWords line.now s.ends s.solids) }
+    ensures { OnOk result (texts words.new.items ≡ words_of line.now) }
+{
+    match stops {
+        Some(stops) => put_marked_words(words, line, stops),
+        None => put_unmarked_words(words, line),
+    }
 }
 
 /// The pieces of a word between each two of these bytes.

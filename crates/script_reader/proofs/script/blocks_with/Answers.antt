@@ -21,7 +21,7 @@ returns-in-Some-fault_of c =
     let from = blocks_from c.args.names.now l.place l.number in
     sym l.invariant.reads ∙ ap from c.in-Some.ensures.lines
     ∙ blocks_from-stops c.args.names.now l.place l.number c.in-Some.bytes.now
-    (lines_of c.in-Some.after.now) c.in_ok-said.said c.in-Some-fault_of.fault c.in_ok-said.ensures
+    (lines_of c.in-Some.after.now) c.read_line.new.said c.in-Some-fault_of.fault c.in_ok-read_line.ensures
     (sym c.fault_of.ensures ∙ c.in-Some-fault_of.is)
 
 pub loop-bytes-preserved : goal.loop-bytes-preserved
@@ -30,7 +30,7 @@ loop-bytes-preserved c =
     let from = blocks_from c.args.names.now in
     let none = sym c.fault_of.ensures ∙ c.in_default-fault_of.is in
     let goes = blocks_from-goes c.args.names.now l.place l.number c.in-Some.bytes.now
-    (lines_of c.in-Some.after.now) c.in_ok-said.said c.in_ok-said.ensures none in
+    (lines_of c.in-Some.after.now) c.read_line.new.said c.in_ok-read_line.ensures none in
     record {
       reads = ap (λ p. from p (l.number + 1) (lines_of c.in-Some.after.now)) c.in_ok-go_behind.ensures ∙ sym goes
           ∙ sym (ap (from l.place l.number) c.in-Some.ensures.lines) ∙ l.invariant.reads;
@@ -38,12 +38,12 @@ loop-bytes-preserved c =
       blocks = omega (
         arith,
         l.invariant.blocks,
-        behind_blocks l.place c.in_ok-said.said,
+        behind_blocks l.place c.read_line.new.said,
         ap (λ p. length p.blocks) c.in_ok-go_behind.ensures,
       );
       calls = omega (
         arith,
-        calls_within l.place (length c.in-Some.bytes.now) c.in_ok-said.said none,
+        calls_within l.place (length c.in-Some.bytes.now) c.read_line.new.said none,
         ap (λ p. p.calls) c.in_ok-go_behind.ensures,
       );
     }

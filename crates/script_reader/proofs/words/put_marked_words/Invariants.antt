@@ -1,6 +1,6 @@
 use Rattle.std.proofs.Common.{◌≡◌, ◌++◌, ◌-◌, ◌≤◌, drop, length}
 use Rattle.script_reader.specs.Words.{words_of, texts}
-use Rattle.script_reader.proofs.words.put_words.Given as goal
+use Rattle.script_reader.proofs.words.put_marked_words.Given as goal
 
 -- the words so far, and those that are left
 abbrev pub invariant-loop-start : goal.invariant-loop-start
