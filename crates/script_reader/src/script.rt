@@ -55,7 +55,9 @@ fn ending(place: Place, number: u32) -> Result<Blocks, ScriptStop>
     Ok(place.blocks)
 }
 
-/// The blocks of a text in which the blocks have these names.
+/// The blocks of a text in which the blocks have these names. It stands apart where it is compiled, since its loop
+/// needs all registers.
+#[inline(never)]
 fn blocks_with(alloc: Global, names: &Names, text: &[u8]) -> Result<Blocks, ScriptStop>
     requires { length text.now ≤ 1048576 }
     ensures { spec.GivesBlocks result
