@@ -170,7 +170,7 @@ impl<B> Deeds<B> {
     }
 
     /// Where the name's deed stands among those of its kind, where it is there.
-    #[inline]
+    #[inline(always)]
     fn place(&self, name: &Name) -> Option<usize>
         ensures { MatchOption result
             (get_named self.now.bodies name.now ≡ None) (StandsNamed self.now.bodies name.now) }
@@ -182,6 +182,7 @@ impl<B> Deeds<B> {
         }
     }
 
+    #[inline(always)]
     fn holds(&self, name: &Name) -> bool
         ensures { result ≡ is_some (get_named self.now.bodies name.now) }
     {

@@ -97,6 +97,7 @@ impl Caller {
 
     /// The call under way has its reply. Where that says that nothing was ready, and the line has tries left, the line
     /// is due once more; else its variable is set, and the next line is due. A refusal changes nothing.
+    #[inline(always)]
     pub fn answered(&mut self, script: &Script, reply: &Reply) -> Result<(), Memory>
         requires reached { HasLine script.now self.old }
         requires under_way { IsSome self.old.caller.under_way }

@@ -103,6 +103,7 @@ impl Variables {
     }
 
     /// The call of a line: the variable's value stands in place of the number.
+    #[inline(always)]
     pub(crate) fn call_of(&self, alloc: Global, line: &Line) -> Result<Call, Memory>
         ensures { IfOk result (λ call. call ≡ call_of line.now self.now) }
     {

@@ -39,6 +39,7 @@ impl Model for Unspent {
 }
 
 /// What was made follows behind what is there, and its list is left empty.
+#[inline(always)]
 fn move_behind<T: Drop>(made: &mut Vec<T>, there: &mut Vec<T>) -> Result<(), Memory>
     ensures moved { OnOk result (there.new.items ≡ there.old.items ++ made.old.items) }
     ensures emptied { OnOk result (made.new.items ≡ []) }

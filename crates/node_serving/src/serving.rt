@@ -16,6 +16,7 @@ use rpc_frame::Asked;
 /// The serve rule: the call is carried out on its name's deed, and the watch notes who read, after which the name may
 /// move. Memory, too, where the deed isn't held here or its body doesn't go with its name, for a call that makes
 /// something, ends its process or may have to wait, and where the leader would move a name that it knows at no node.
+#[inline(always)]
 pub fn serve_asked(
     step: &mut Growing,
     script: &Script,

@@ -26,6 +26,7 @@ pub(crate) fn may_ask(step: &Growing, call: &Call) -> bool
 }
 
 /// The leader routes the call under way, and any other node asks it to.
+#[inline(always)]
 pub(crate) fn ask(step: &mut Growing, script: &Script, call: Call) -> Result<(), Memory>
     requires sound { IsSoundScript script.now }
     ensures { OnOk result (ask script.now (step_of step.old) call ≡ Some (step_of step.new)) }

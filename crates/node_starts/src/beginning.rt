@@ -7,6 +7,7 @@ use node_state::Growing;
 use pico_base::{Call, Memory};
 
 /// The call is under way, and a copy of it is kept until its reply is here.
+#[inline(always)]
 pub(crate) fn begin(step: &mut Growing, call: &Call) -> Result<(), Memory>
     requires { IsTrue (can_start (node_of step.old.node)) }
     ensures { OnOk result (step_of step.new ≡ started (step_of step.old) call.now) }

@@ -125,7 +125,7 @@ fn push_digit_end(out: &mut Vec<u8>, number: u8, node: Node) -> Result<(), Memor
 }
 
 // The end of any line.
-#[inline(never)]
+#[inline(always)]
 fn push_long_end(out: &mut Vec<u8>, outcome: &Outcome, node: Node) -> Result<(), Memory>
     ensures { OnOk result
         (out.new.items ≡ out.old.items

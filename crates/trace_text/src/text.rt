@@ -99,7 +99,7 @@ fn push_digit_then(out: &mut Vec<u8>, digit: u8, byte: u8) -> Result<(), Memory>
 }
 
 // Adds a number in decimal digits, and a byte behind it.
-#[inline]
+#[inline(always)]
 pub(crate) fn push_number_then(out: &mut Vec<u8>, number: u64, byte: u8) -> Result<(), Memory>
     ensures { OnOk result (out.new.items ≡ out.old.items ++ (decimal number ++ byte ∷ [])) }
 {

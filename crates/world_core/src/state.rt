@@ -267,6 +267,7 @@ impl State {
     }
 
     /// The first event that may come next, of the nodes after the one number up to the other.
+    #[inline(always)]
     fn first_of(&self, after: u8, last: u8) -> Option<Event>
         requires alive { IsAlive self.now }
         requires there { last ≤ node_count self.now.script }
