@@ -44,6 +44,9 @@ fn move_behind<T: Drop>(made: &mut Vec<T>, there: &mut Vec<T>) -> Result<(), Mem
     ensures moved { OnOk result (there.new.items ≡ there.old.items ++ made.old.items) }
     ensures emptied { OnOk result (made.new.items ≡ []) }
 {
+    if made.is_empty() {
+        return Ok(());
+    }
     if there.is_empty() {
         mem::swap(made, there);
     } else {
