@@ -90,6 +90,7 @@ impl Telling {
 }
 
 /// Tells all that the world keeps, and has it let go.
+#[inline(always)]
 pub fn tell_all(telling: &mut Telling, world: &mut StreamingWorld) -> Result<(), Memory>
     requires { IsSome world.old }
     ensures told { (whole : MachineWorld) → MakeUp whole telling.old world.old

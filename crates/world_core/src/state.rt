@@ -311,6 +311,7 @@ impl State {
     }
 
     /// The node has had its turn: its events are counted anew, and its frames go their ways.
+    #[inline(always)]
     fn finish(&mut self, node: Node) -> Result<(), Memory>
         requires seats { AreSeats self.old.nodes.items self.old.inboxes.items }
         requires there { node ≤ length self.old.nodes.items }
@@ -375,6 +376,7 @@ impl State {
     }
 
     /// Carries out an event that may come next.
+    #[inline(always)]
     pub(crate) fn step(&mut self, event: Event) -> Result<(), Memory>
         requires alive { IsAlive self.old }
         requires enabled { is_enabled (world_of self.old) event ≡ true }
