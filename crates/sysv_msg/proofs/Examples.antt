@@ -1,9 +1,22 @@
--- Bodies, and a lowest type, that the checker computes.
-use Rattle.std.proofs.Common.{◌≡◌, [], ◌∷◌, pos, refl, arith}
+-- Bodies, messages whose texts lie in one buffer, and a lowest type, that the checker computes.
+use Rattle.std.proofs.Common.{◌≡◌, List, [], ◌∷◌, pos, refl, arith}
 use Rattle.std.proofs.lemmas.Int.{ints}
 use Rattle.kernel_model.specs.Queue.{empty_queue}
 use Rattle.sysv_msg.specs.Body.{body, message_field}
+use Rattle.sysv_msg.specs.Heads.{messages_in, classes_of}
 use Rattle.sysv_msg.specs.Lowest.{IsLowest}
+use Rattle.sysv_msg.specs.declared.store.Head.{Head}
+
+-- in the buffer "hi.yo" the text "hi" is of a message of type 3, and "yo" of one of type 258
+abbrev two_heads : List Head
+two_heads = record { start = 0; class = pos 3; len = 2 } ∷ record { start = 3; class = pos 258; len = 2 } ∷ []
+
+their_messages : messages_in (104 ∷ 105 ∷ 46 ∷ 121 ∷ 111 ∷ []) two_heads
+    ≡ record { class = pos 3; text = 104 ∷ 105 ∷ [] } ∷ record { class = pos 258; text = 121 ∷ 111 ∷ [] } ∷ []
+their_messages = refl
+
+their_types : classes_of two_heads ≡ pos 3 ∷ pos 258 ∷ []
+their_types = refl
 
 an_empty_queue : body empty_queue ≡ 4 ∷ 0 ∷ 0 ∷ 64 ∷ 0 ∷ 0 ∷ 0 ∷ 0 ∷ 0 ∷ 0 ∷ 0 ∷ 0 ∷ 0 ∷ 0 ∷ 0 ∷ []
 an_empty_queue = refl
