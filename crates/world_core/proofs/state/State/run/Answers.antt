@@ -23,5 +23,5 @@ returns c =
     on_ok_weaker c.finish.result
     (turn_handed s _ c.finish.new.self c.args.node c.place.result inputs.Run _ c.index_mut.result.now
     c.run_turn.new.node c.requires.seats.whole c.place.ensures.place (omega (arith, c.place.ensures.next))
-    c.index_mut.ensures.value refl c.clear.ensures.items c.in_ok-run_turn.ensures refl refl refl)
+    c.index_mut.ensures.value refl c.clear_sends.ensures c.in_ok-run_turn.ensures refl refl refl)
     c.finish.ensures
