@@ -1,4 +1,5 @@
 pub mod Answers
 pub mod Body
 pub mod Limits
+pub mod Packed
 pub mod Reading

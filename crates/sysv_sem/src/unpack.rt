@@ -4,6 +4,7 @@ ghost use Rattle.std.specs.Int.{w16, w32};
 ghost use Rattle.kernel_model.specs.SemaphoreSet as definition;
 ghost use Rattle.kernel_model.specs.SemaphoreSet.{max_value};
 ghost use Rattle.sysv_sem.specs.Body.{IsBodyOf};
+ghost use Rattle.sysv_sem.specs.Packed.{TellsPacked};
 ghost use Rattle.body_fields.specs.Fields.{Reads, Refuses, number_upto};
 ghost use Rattle.sysv_sem.specs.Reading.{semaphore_at, semaphores_at, fields_at, counted_at, set_at};
 
@@ -88,6 +89,13 @@ fn unpack_semaphores(bytes: &[u8]) -> Option<Semaphores>
 }
 
 impl SemSet {
+    /// Whether the bytes are the packed form of a set. It takes no memory.
+    pub fn is_packed(bytes: &[u8]) -> bool
+        ensures { TellsPacked bytes.now result }
+    {
+        unpack_semaphores(bytes).is_some()
+    }
+
     /// The set whose packed form the bytes are. NotABody exactly where they are the packed form of no set, so
     /// Memory comes only where they are one's.
     pub fn unpack(alloc: Global, bytes: &[u8]) -> Result<SemSet, UnpackFault>
