@@ -20,13 +20,14 @@ text_stays texts more h within =
     ap (take h.len) behind ∙ take-append-le h.len (drop h.start texts) more long
 
 -- the messages that are there show the texts that they showed
-messages_stay : (texts more : List ℕ) (heads : List Head) → AllByRecursion (IsWithin texts) heads
+pub messages_stay : (texts more : List ℕ) (heads : List Head) → AllByRecursion (IsWithin texts) heads
     → messages_in (texts ++ more) heads ≡ messages_in texts heads
 messages_stay texts more [] within = refl
 messages_stay texts more (h ∷ heads) within =
     rw (text_stays texts more h within.0, messages_stay texts more heads within.1) refl
 
-within_more : (texts more : List ℕ) (heads : List Head) → AllByRecursion (IsWithin texts) heads
+-- each head lies within a longer buffer
+pub within_more : (texts more : List ℕ) (heads : List Head) → AllByRecursion (IsWithin texts) heads
     → AllByRecursion (IsWithin (texts ++ more)) heads
 within_more texts more [] within = tt
 within_more texts more (h ∷ heads) within =

@@ -1,4 +1,5 @@
 pub mod Heads
+pub mod Dense
 pub mod Lowest
 pub mod Places
 pub mod Messages

@@ -1,4 +1,5 @@
 pub mod Body
+pub mod Dense
 pub mod Heads
 pub mod Limits
 pub mod Lowest

@@ -10,6 +10,11 @@ pub record Measures (read : Option (List Message × List ℕ)) (room : ℕ) (res
   pub are_read : read ≡ Some (messages, rest)
   pub fit : room + bytes_of messages ≡ max_queue_bytes
 
+-- messages were read, and nothing is behind them
+pub record ReadsAll (read : Option (List Message × List ℕ)) : Type 0 where
+  pub messages : List Message
+  pub all : read ≡ Some (messages, [])
+
 -- a queue was read, with these numbers, and with the messages of these bytes
 pub record HasFields (qbytes sender receiver count room : ℕ) (bytes : List ℕ) (read : Option Queue) : Type 0 where
   pub measured : Measures (messages_at count max_queue_bytes bytes) room []

@@ -1,11 +1,12 @@
 //! A queue written as bytes.
 ghost use Rattle.std.specs.Prelude.{◌≡◌, ◌≤◌, ◌++◌, length, OnOk, IfOk};
 ghost use Rattle.std.specs.List.{flat_map, AllByRecursion};
-ghost use Rattle.sysv_msg.specs.Body.{text_field, message_field, IsBodyOf};
+ghost use Rattle.kernel_model.specs.Queue.{bytes_of};
+ghost use Rattle.sysv_msg.specs.Body.{message_field, IsBodyOf};
 ghost use Rattle.sysv_msg.specs.Heads.{IsWithin, message_in, messages_in};
 
 use crate::Queue;
-use crate::store::{Head, Messages, text_at};
+use crate::store::{FRONT, Head, Messages, text_at};
 use pico_base::{Bytes, Memory};
 use std::alloc::Global;
 
@@ -40,8 +41,32 @@ fn push_messages(out: &mut Vec<u8>, texts: &[u8], heads: &[Head]) -> Result<(), 
 }
 
 impl Messages {
-    /// Adds the messages at the end.
-    fn push_all(&self, out: &mut Vec<u8>) -> Result<(), Memory>
+    /// How many bytes the messages' packed form has, of which so many are their texts'.
+    fn size(&self, bytes: usize) -> usize
+        requires texts { bytes ≡ bytes_of self.now }
+        requires few { length self.now ≤ 1024 }
+        requires short { bytes ≤ 16384 }
+        ensures size { result ≡ length (flat_map message_field self.now) }
+        ensures small { result ≤ 24576 }
+    {
+        FRONT * self.len() + bytes
+    }
+
+    /// Adds the messages at the end, whose packed form has so many bytes.
+    fn push_all(&self, out: &mut Vec<u8>, size: usize) -> Result<(), Memory>
+        requires { size ≡ length (flat_map message_field self.now) }
+        ensures { OnOk result (out.new.items ≡ out.old.items ++ flat_map message_field self.now) }
+    {
+        if !self.is_dense {
+            return self.push_each(out);
+        }
+        let begin = self.texts.len() - size;
+        out.extend_from_slice(&self.texts[begin..])?;
+        Ok(())
+    }
+
+    /// Adds the messages at the end, one by one.
+    fn push_each(&self, out: &mut Vec<u8>) -> Result<(), Memory>
         ensures { OnOk result (out.new.items ≡ out.old.items ++ flat_map message_field self.now) }
     {
         let (front, back) = self.heads.as_slices();
@@ -57,13 +82,14 @@ impl Queue {
     pub fn pack(&self, alloc: Global) -> Result<Bytes, Memory>
         ensures { IfOk result (λ bytes. IsBodyOf self.now bytes) }
     {
-        let mut out = Vec::with_capacity(alloc, 15 + 8 * self.messages.len() + self.bytes)?;
+        let size = self.messages.size(self.bytes);
+        let mut out = Vec::with_capacity(alloc, 15 + size)?;
         out.push(CODE)?;
         out.extend_from_slice(&self.qbytes.to_be_bytes())?;
         out.extend_from_slice(&self.last_sender.0.to_be_bytes())?;
         out.extend_from_slice(&self.last_receiver.0.to_be_bytes())?;
         out.extend_from_slice(&(self.messages.len() as u16).to_be_bytes())?;
-        self.messages.push_all(&mut out)?;
+        self.messages.push_all(&mut out, size)?;
         Ok(Bytes::from_vec(out))
     }
 }

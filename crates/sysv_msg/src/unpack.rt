@@ -1,12 +1,12 @@
 //! A queue read from bytes: first all of its fields, which takes no memory, and then its messages are copied.
-ghost use Rattle.std.specs.Prelude.{◌≡◌, ◌≤◌, length, IfOk, IfErr, IfSome, IsSome, MatchOption, min};
+ghost use Rattle.std.specs.Prelude.{◌≡◌, ◌≤◌, length, IfOk, IfErr, IfSome, MatchOption, min};
 ghost use Rattle.std.specs.Int.{w16, w32};
 ghost use Rattle.kernel_model.specs.Queue as definition;
 ghost use Rattle.kernel_model.specs.Queue.{max_text, max_queue_bytes};
 ghost use Rattle.sysv_msg.specs.Body.{IsBodyOf};
 ghost use Rattle.body_fields.specs.Fields.{Reads, Refuses, number_upto};
 ghost use Rattle.sysv_msg.specs.Reading.{text_at, class_at, message_at, messages_at, fields_at, queue_at, messages_in};
-ghost use Rattle.sysv_msg.specs.Measured.{Measures, HasBody, HasFields};
+ghost use Rattle.sysv_msg.specs.Measured.{Measures, HasBody, HasFields, ReadsAll};
 ghost use Rattle.sysv_msg.specs.Packed.{TellsPacked};
 
 use crate::Queue;
@@ -17,6 +17,11 @@ use body_fields::{u16_upto, u32_at, u32_upto};
 use pico_base::{Memory, Pid, UnpackFault};
 use std::alloc::Global;
 use std::collections::VecDeque;
+
+// For how many messages more, and for how many bytes of theirs, there is room in a queue that was unpacked.
+const MORE: usize = 16;
+
+const MORE_BYTES: usize = 1024;
 
 /// The fields of a packed queue, with the bytes of its messages, whose texts leave room for so many bytes more.
 #[derive(Clone, Copy)]
@@ -125,15 +130,24 @@ fn unpack_fields(bytes: &[u8]) -> Option<Fields<'_>>
     queue_fields(bytes)
 }
 
+/// The bytes, with room for some more behind them.
+fn copied(alloc: Global, bytes: &[u8]) -> Result<Vec<u8>, Memory>
+    ensures { IfOk result (λ texts. texts.items ≡ bytes.now) }
+{
+    let mut texts = Vec::with_capacity(alloc, bytes.len() + MORE_BYTES)?;
+    texts.extend_from_slice(bytes)?;
+    Ok(texts)
+}
+
 /// Copies the messages of bytes that were read: the bytes whole, and of each message where its text lies in them.
 #[inline(never)]
 fn copy_messages(alloc: Global, count: u16, bytes: &[u8]) -> Result<Messages, Memory>
-    requires { IsSome (messages_at count max_queue_bytes bytes.now) }
+    requires { ReadsAll (messages_at count max_queue_bytes bytes.now) }
     ensures { IfOk result
         (λ messages. messages_in (messages_at count max_queue_bytes bytes.now) ≡ Some messages) }
 {
-    let mut classes = Vec::with_capacity(alloc, usize::from(count))?;
-    let mut heads = Vec::with_capacity(alloc, usize::from(count))?;
+    let mut classes = Vec::with_capacity(alloc, usize::from(count) + MORE)?;
+    let mut heads = Vec::with_capacity(alloc, usize::from(count) + MORE)?;
     let mut room = MAX_BYTES;
     let mut rest = bytes;
     for _ in 0..count {
@@ -145,13 +159,14 @@ fn copy_messages(alloc: Global, count: u16, bytes: &[u8]) -> Result<Messages, Me
         room -= len;
         rest = after;
     }
-    let texts = Vec::from_slice(alloc, bytes)?;
+    let texts = copied(alloc, bytes)?;
     let classes = VecDeque::from_vec(classes);
     let heads = VecDeque::from_vec(heads);
     Ok(Messages {
         classes,
         heads,
         texts,
+        is_dense: true,
     })
 }
 

@@ -1,4 +1,5 @@
 use Rattle.std.proofs.Common.{◌∙◌, ℕ, ◌+◌, ◌≡◌, ◌-◌, Some, SFits, w32, [], ◌∷◌, length, ap, sym, refl, arith, rules}
+use Rattle.std.specs.Prelude.{IsSome}
 use Rattle.std.proofs.lemmas.Int.{to_z-of_z}
 use Rattle.std.proofs.lemmas.List.{map-append}
 use Rattle.kernel_model.specs.Queue.{Message, max_queue_bytes}
@@ -6,6 +7,7 @@ use Rattle.sysv_msg.specs.declared.store.Head.{Head}
 use Rattle.sysv_msg.specs.Heads.{messages_in as shown_in}
 use Rattle.sysv_msg.specs.Reading.{message_at, messages_at, messages_in}
 use Rattle.sysv_msg.proofs.Copied.{begins_copying, copied_more, text_lies_within}
+use Rattle.sysv_msg.proofs.Dense.{dense_read}
 use Rattle.sysv_msg.proofs.Loop.{is_done, some_message}
 use Rattle.sysv_msg.proofs.unpack.copy_messages.Goals as goal
 
@@ -24,8 +26,9 @@ loop-init c =
 
 pub unwrap-class-requires : goal.unwrap-class-requires
 unwrap-class-requires c =
+    let all_read : IsSome (messages_at c.args.count max_queue_bytes c.args.bytes.now) = rw c.requires.all refl in
     some_message _ c.message_of.result (shown_in c.args.bytes.now c.loop.heads.items) c.args.count c.loop.counter
-    c.loop.room c.loop.rest.now (messages_at c.args.count max_queue_bytes c.args.bytes.now) c.loop-test.true c.requires
+    c.loop.room c.loop.rest.now (messages_at c.args.count max_queue_bytes c.args.bytes.now) c.loop-test.true all_read
     c.message_of.ensures.read c.loop.invariant.copied.others
 
 pub overflow_sub-start : goal.overflow_sub-start
@@ -79,7 +82,19 @@ loop-preserved c =
 
 pub returns : goal.returns
 returns c =
-    rw (c.in_ok-texts.ensures.items, c.from_vec-heads.ensures.items)
+    rw (c.in_ok-texts.ensures, c.from_vec-heads.ensures.items)
     (ap messages_in (is_done (shown_in c.args.bytes.now c.loop.heads.items) c.args.count c.loop.counter c.loop.room
     c.loop.rest.now (messages_at c.args.count max_queue_bytes c.args.bytes.now) c.loop-test.false
     c.loop.invariant.copied.others))
+
+pub invariant_of-result : goal.invariant_of-result
+invariant_of-result c =
+    let read = is_done (shown_in c.args.bytes.now c.loop.heads.items) c.args.count c.loop.counter c.loop.room
+    c.loop.rest.now (messages_at c.args.count max_queue_bytes c.args.bytes.now) c.loop-test.false
+    c.loop.invariant.copied.others in
+    rw (c.in_ok-texts.ensures, c.from_vec-heads.ensures.items, c.from_vec-classes.ensures.items) (
+      c.loop.invariant.classes,
+      c.loop.invariant.copied.within,
+      dense_read c.args.count c.args.bytes.now c.loop.rest.now c.loop.heads.items
+          (λ i. omega (arith, c.type_inv.bytes i)) c.requires read,
+    )

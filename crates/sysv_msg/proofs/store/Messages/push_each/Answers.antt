@@ -1,6 +1,6 @@
 use Rattle.sysv_msg.specs.Heads.{IsWithin}
 use Rattle.sysv_msg.proofs.Heads.{all_back}
-use Rattle.sysv_msg.proofs.store.Messages.push_all.Goals as goal
+use Rattle.sysv_msg.proofs.store.Messages.push_each.Goals as goal
 
 pub push_messages-requires-2 : goal.push_messages-requires-2
 push_messages-requires-2 c =

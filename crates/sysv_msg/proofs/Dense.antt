@@ -1,0 +1,142 @@
+-- Messages whose fields lie one behind another at the end of a buffer: a message more, a message less, and all of them.
+use Rattle.std.proofs.Common.{◌≡◌, ℕ, ◌+◌, ◌-◌, ◌*◌, ◌≤◌, Bool, true, false, IsTrue, List, [], ◌∷◌, ◌++◌, length, drop, Some, refl, sym, ap, subst, ◌∙◌, append_assoc, arith}
+use Rattle.std.specs.Prelude.{remove}
+use Rattle.std.specs.List.{flat_map, AllByRecursion}
+use Rattle.std.specs.Int.{w32, to_be_bytes, cast_unsigned}
+use Rattle.std.proofs.lemmas.List.{drop_at, append-nil, length-append}
+use Rattle.std.proofs.lemmas.List.Concat.{flat_map-append, flat_map-cons}
+use Rattle.std.proofs.lemmas.List.Sums.{sum_by-cons}
+use Rattle.kernel_model.specs.Queue.{Message, bytes_of, max_queue_bytes}
+use Rattle.sysv_msg.specs.declared.store.Head.{Head}
+use Rattle.sysv_msg.specs.Body.{message_field}
+use Rattle.sysv_msg.specs.Dense.{IsDense}
+use Rattle.sysv_msg.specs.Heads.{IsWithin, message_in, messages_in}
+use Rattle.sysv_msg.specs.Measured.{ReadsAll}
+use Rattle.sysv_msg.specs.Reading.{messages_at}
+use Rattle.body_fields.proofs.Fields.{IsBytes, some_is}
+use Rattle.sysv_msg.proofs.Messages.{messages_take}
+use Rattle.sysv_msg.proofs.Heads.{messages_stay, within_more, message_added, within_added}
+
+abbrev front_bytes : Message → List ℕ
+front_bytes m = to_be_bytes w32 (cast_unsigned w32 m.class) ++ to_be_bytes w32 (length m.text)
+
+field_parts : (texts : List ℕ) (m : Message) → texts ++ message_field m ≡ (texts ++ front_bytes m) ++ m.text
+field_parts texts m =
+    ap (λ (r : List ℕ). texts ++ r)
+    (sym (append_assoc (to_be_bytes w32 (cast_unsigned w32 m.class)) (to_be_bytes w32 (length m.text)) m.text))
+    ∙ sym (append_assoc texts (front_bytes m) m.text)
+
+-- ---- a message more
+
+-- the message whose field was put at the end goes last
+pub field_added : (texts : List ℕ) (m : Message) (heads : List Head) (h : Head) → AllByRecursion (IsWithin texts) heads
+    → h.start ≡ length texts + 8 → h.class ≡ m.class → h.len ≡ length m.text
+    → messages_in (texts ++ message_field m) (heads ++ h ∷ []) ≡ messages_in texts heads ++ m ∷ []
+field_added texts m heads h within start class len =
+    let wide : List ℕ = texts ++ front_bytes m in
+    let begin : h.start ≡ length wide = omega (arith, start, length-append texts (front_bytes m)) in
+    rw (field_parts texts m)
+    (message_added wide m.text heads h (within_more texts (front_bytes m) heads within) begin len
+    ∙ rw (messages_stay texts (front_bytes m) heads within, class) refl)
+
+-- with a field at the end of the buffer, and a head for its text, each head lies within the buffer
+pub within_field : (texts : List ℕ) (m : Message) (heads : List Head) (h : Head) → AllByRecursion (IsWithin texts) heads
+    → h.start ≡ length texts + 8 → h.len ≡ length m.text
+    → AllByRecursion (IsWithin (texts ++ message_field m)) (heads ++ h ∷ [])
+within_field texts m heads h within start len =
+    let wide : List ℕ = texts ++ front_bytes m in
+    let begin : h.start ≡ length wide = omega (arith, start, length-append texts (front_bytes m)) in
+    rw (field_parts texts m)
+    (within_added wide m.text heads h (within_more texts (front_bytes m) heads within) begin len)
+
+-- no hole comes with a message more
+pub dense_added : (is : Bool) (texts : List ℕ) (m : Message) (heads : List Head) (h : Head)
+    → AllByRecursion (IsWithin texts) heads → h.start ≡ length texts + 8 → h.class ≡ m.class → h.len ≡ length m.text
+    → IsDense is texts heads → IsDense is (texts ++ message_field m) (heads ++ h ∷ [])
+dense_added false texts m heads h within start class len dense = tt
+dense_added true texts m heads h within start class len dense =
+    let fields : List ℕ = flat_map message_field (messages_in texts heads) in
+    let more : flat_map message_field (messages_in texts heads ++ m ∷ []) ≡ fields ++ message_field m =
+    flat_map-append message_field (messages_in texts heads) (m ∷ [])
+    ∙ ap (λ (r : List ℕ). fields ++ r) (flat_map-cons message_field m [] ∙ append-nil (message_field m)) in
+    record {
+      front = dense.front;
+      parts = rw (field_added texts m heads h within start class len, more)
+          (ap (λ (r : List ℕ). r ++ message_field m) dense.parts
+          ∙ append_assoc dense.front fields (message_field m));
+    }
+
+-- ---- a message less
+
+dense_behind : (texts : List ℕ) (heads : List Head) → IsDense true texts heads → IsDense true texts (remove heads 0)
+dense_behind texts [] dense = dense
+dense_behind texts (h ∷ heads) dense =
+    let fields : List ℕ = flat_map message_field (messages_in texts heads) in
+    record {
+      front = dense.front ++ message_field (message_in texts h);
+      parts = dense.parts
+          ∙ ap (λ (r : List ℕ). dense.front ++ r)
+          (flat_map-cons message_field (message_in texts h) (messages_in texts heads))
+          ∙ sym (append_assoc dense.front (message_field (message_in texts h)) fields);
+    }
+
+-- without the first message no hole lies among the others
+pub dense_removed : (is now : Bool) (place : ℕ) (texts : List ℕ) (heads : List Head)
+    → (IsTrue now → (is ≡ true) × (place ≡ 0)) → IsDense is texts heads → IsDense now texts (remove heads place)
+dense_removed is false place texts heads tells dense = tt
+dense_removed is true place texts heads tells dense =
+    let told = tells refl in
+    rw told.1 (dense_behind texts heads (subst (λ (b : Bool). IsDense b texts heads) told.0 dense))
+
+-- ---- all messages
+
+-- where nothing is behind the messages that were read, their fields are all of the bytes
+pub dense_read : (count : ℕ) (bytes rest : List ℕ) (heads : List Head) → IsBytes bytes
+    → ReadsAll (messages_at count max_queue_bytes bytes)
+    → messages_at count max_queue_bytes bytes ≡ Some (messages_in bytes heads, rest) → IsDense true bytes heads
+dense_read count bytes rest heads fits all read =
+    let shown : List Message × List ℕ = (messages_in bytes heads, rest) in
+    let taken = (messages_take count max_queue_bytes bytes shown fits read).0 in
+    let nothing : rest ≡ [] =
+    ap (λ (x : List Message × List ℕ). x.1) (some_is shown (all.messages, []) (sym read ∙ all.all)) in
+    let fields : List ℕ = flat_map message_field (messages_in bytes heads) in
+    record {
+      front = [];
+      parts = taken.parts ∙ ap (λ (r : List ℕ). fields ++ r) nothing ∙ append-nil fields;
+    }
+
+-- no bytes are those of no messages
+pub dense_none : IsDense true [] []
+dense_none = record { front = []; parts = refl }
+
+-- how many bytes the fields of messages have
+pub fields_size : (ms : List Message) → 8 * length ms + bytes_of ms ≡ length (flat_map message_field ms)
+fields_size [] = refl
+fields_size (m ∷ ms) =
+    let rest = fields_size ms in
+    omega (
+      arith,
+      rest,
+      sum_by-cons (λ (m : Message). length m.text) m ms,
+      ap length (flat_map-cons message_field m ms),
+      length-append (message_field m) (flat_map message_field ms),
+    )
+
+-- the fields are as many of the last bytes as they have together
+pub record LiesLast (size : ℕ) (texts fields : List ℕ) : Type 0 where
+  pub within : size ≤ length texts
+  pub there : drop (length texts - size) texts ≡ fields
+
+pub dense_last : (texts : List ℕ) (heads : List Head) (size : ℕ)
+    → size ≡ length (flat_map message_field (messages_in texts heads)) → IsDense true texts heads
+    → LiesLast size texts (flat_map message_field (messages_in texts heads))
+dense_last texts heads size is dense =
+    let fields : List ℕ = flat_map message_field (messages_in texts heads) in
+    let sum : length texts ≡ length dense.front + length fields =
+    ap length dense.parts ∙ length-append dense.front fields in
+    let before : length texts - size ≡ length dense.front = omega (arith, is, sum) in
+    record {
+      within = omega (arith, is, sum);
+      there = rw before
+          (ap (drop (length dense.front)) dense.parts ∙ drop_at dense.front fields (length dense.front) refl);
+    }
