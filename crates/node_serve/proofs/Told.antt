@@ -1,7 +1,8 @@
--- Whether bytes are those of a body, from what is told of a queue's.
+-- Whether bytes are those of a body, from what is told of a queue's or a set's.
 use Rattle.std.proofs.Common.{◌≡◌, ℕ, Bool, true, false, List, [], ◌∷◌, IsTrue, refl}
-use Rattle.pico_base.specs.declared.numbers.Name.TheVariants.{Msg}
+use Rattle.pico_base.specs.declared.numbers.Name.TheVariants.{Msg, Sem}
 use Rattle.sysv_msg.specs.Packed.{TellsPacked}
+use Rattle.sysv_sem.specs.Packed.{TellsPacked as TellsSet}
 use Rattle.node_serve.specs.declared.body.Body.{Body}
 use Rattle.node_serve.specs.declared.body.Body.TheVariants.{Living, Ended, Gone, Queue, Set, Removed}
 use Rattle.node_serve.specs.Spelled.{IsSpelled, TellsBody, suits}
@@ -18,4 +19,18 @@ queue-told id bytes false other never = none
     none Gone goes spelled = cc
     none (Queue queue) goes spelled = never queue spelled
     none (Set semaphores) goes spelled = cc
+    none Removed goes spelled = other spelled
+
+-- bytes other than those of what was removed are a body's that goes with a set's name where they are a set's
+pub set-told : (id : ℕ) (bytes : List ℕ) (is : Bool) → (bytes ≡ 6 ∷ [] → ⊥) → TellsSet bytes is
+    → TellsBody (Sem id) bytes is
+set-told id bytes true other told = record { body = Set told.semaphores; goes = refl; spelled = told.is_body }
+set-told id bytes false other never = none
+  where
+    none : (body : Body) → IsTrue (suits body (Sem id)) → IsSpelled body bytes → ⊥
+    none (Living row) goes spelled = cc
+    none (Ended ending) goes spelled = cc
+    none Gone goes spelled = cc
+    none (Queue queue) goes spelled = cc
+    none (Set semaphores) goes spelled = never semaphores spelled
     none Removed goes spelled = other spelled

@@ -126,13 +126,26 @@ fn is_queue(bytes: &[u8]) -> bool
     Queue::is_packed(bytes)
 }
 
-/// Whether the bytes are those of a body that goes with the name. Of a queue they are only read, and no message is
-/// copied.
+/// Whether the bytes are those of a body that goes with a set's name.
+fn is_set(bytes: &[u8]) -> bool
+    ensures { (id : ℕ) → TellsBody (Name.Sem id) bytes.now result }
+{
+    if is_removed(bytes) {
+        return true;
+    }
+    SemSet::is_packed(bytes)
+}
+
+/// Whether the bytes are those of a body that goes with the name. Of a queue or a set they are only read, and nothing
+/// is copied.
 pub fn is_body(alloc: Global, name: Name, bytes: &[u8]) -> Result<bool, Memory>
     ensures { IfOk result (TellsBody name bytes.now) }
 {
     if let Name::Msg(_) = name {
         return Ok(is_queue(bytes));
+    }
+    if let Name::Sem(_) = name {
+        return Ok(is_set(bytes));
     }
     match unpack(alloc, name, bytes) {
         Ok(_) => Ok(true),
