@@ -1,13 +1,30 @@
--- Numbers of one and two digits, and what stands beside them.
-use Rattle.std.proofs.Common.{◌≡◌, ℕ, ◌+◌, ◌<◌, ◌≤◌, ◌/◌, ◌%◌, [], ◌∷◌, ◌++◌, codes, arith, ap, refl, ◌∙◌}
-use Rattle.std.specs.Fmt.{decimal}
+-- Numbers of one to four digits, and what stands beside them.
+use Rattle.std.proofs.Common.{◌≡◌, ℕ, ℤ, pos, negsuc, ◌+◌, ◌<◌, ◌≤◌, ◌<ℤ◌, ◌/◌, ◌%◌, [], ◌∷◌, ◌++◌, codes, arith, ap, refl, unsigned_abs, ◌∙◌}
+use Rattle.std.specs.Fmt.{decimal, signed_decimal}
 use Rattle.std.proofs.lemmas.Fmt.{decimal_digit, decimal_step}
+use Rattle.std.proofs.lemmas.Int.{ints}
 
 -- its decimal digits are those of its tens and of what is left
 pub two_digits : (n : ℕ) → 10 ≤ n → n < 100 → decimal n ≡ (48 + n / 10) ∷ (48 + n % 10) ∷ []
 two_digits n least most =
     decimal_step n least (omega (arith, most))
     ∙ ap (λ tens. tens ++ (48 + n % 10) ∷ []) (decimal_digit (n / 10) (omega (arith, most)))
+
+-- one digit more
+pub three_digits : (n : ℕ) → 100 ≤ n → n < 1000
+    → decimal n ≡ (48 + n / 10 / 10) ∷ (48 + n / 10 % 10) ∷ (48 + n % 10) ∷ []
+three_digits n least most =
+    decimal_step n (omega (arith, least)) (omega (arith, most))
+    ∙ ap (λ tens. tens ++ (48 + n % 10) ∷ [])
+    (two_digits (n / 10) (omega (arith, least)) (omega (arith, most)))
+
+-- and one more
+pub four_digits : (n : ℕ) → 1000 ≤ n → n < 10000
+    → decimal n ≡ (48 + n / 10 / 10 / 10) ∷ (48 + n / 10 / 10 % 10) ∷ (48 + n / 10 % 10) ∷ (48 + n % 10) ∷ []
+four_digits n least most =
+    decimal_step n (omega (arith, least)) (omega (arith, most))
+    ∙ ap (λ tens. tens ++ (48 + n % 10) ∷ [])
+    (three_digits (n / 10) (omega (arith, least)) (omega (arith, most)))
 
 -- a number of one digit with a byte behind it
 pub digit_then : (n b : ℕ) → n < 10 → decimal n ++ b ∷ [] ≡ (48 + n) ∷ b ∷ []
@@ -18,6 +35,12 @@ pub short_end : (number node : ℕ) → number < 10 → node < 10
     → codes " = " ++ decimal number ++ (codes " by " ++ decimal node ++ 10 ∷ [])
     ≡ 32 ∷ 61 ∷ 32 ∷ (48 + number) ∷ 32 ∷ 98 ∷ 121 ∷ 32 ∷ (48 + node) ∷ 10 ∷ []
 short_end number node small least = rw (decimal_digit number small, decimal_digit node least) refl
+
+-- and with a node of two digits
+pub longer_end : (number node : ℕ) → number < 10 → 10 ≤ node → node < 100
+    → codes " = " ++ decimal number ++ (codes " by " ++ decimal node ++ 10 ∷ [])
+    ≡ 32 ∷ 61 ∷ 32 ∷ (48 + number) ∷ 32 ∷ 98 ∷ 121 ∷ 32 ∷ (48 + node / 10) ∷ (48 + node % 10) ∷ 10 ∷ []
+longer_end number node small least most = rw (decimal_digit number small, two_digits node least most) refl
 
 -- the same up to the node
 pub digit_and_by : (number : ℕ) → number < 10
@@ -32,3 +55,33 @@ short_repeat count b least most = rw (two_digits count least most) refl
 -- a number of two digits with a byte behind it
 pub two_digits_then : (n b : ℕ) → 10 ≤ n → n < 100 → decimal n ++ b ∷ [] ≡ (48 + n / 10) ∷ (48 + n % 10) ∷ b ∷ []
 two_digits_then n b least most = ap (λ digits. digits ++ b ∷ []) (two_digits n least most)
+
+-- the end of a line that woke nobody, by a node of one digit
+pub short_by : (node : ℕ) → node < 10
+    → codes " by " ++ decimal node ++ 10 ∷ [] ≡ 32 ∷ 98 ∷ 121 ∷ 32 ∷ (48 + node) ∷ 10 ∷ []
+short_by node least = rw (decimal_digit node least) refl
+
+-- the first words of a send and of a receive, with numbers of one digit
+pub short_msgsnd : (id class : ℕ) → id < 10 → class < 10
+    → codes "msgsnd " ++ decimal id ++ 32 ∷ (decimal class ++ 32 ∷ [])
+    ≡ 109 ∷ 115 ∷ 103 ∷ 115 ∷ 110 ∷ 100 ∷ 32 ∷ (48 + id) ∷ 32 ∷ (48 + class) ∷ 32 ∷ []
+short_msgsnd id class small few = rw (decimal_digit id small, decimal_digit class few) refl
+
+pub short_msgrcv : (id class : ℕ) → id < 10 → class < 10
+    → codes "msgrcv " ++ decimal id ++ 32 ∷ (decimal class ++ 32 ∷ [])
+    ≡ 109 ∷ 115 ∷ 103 ∷ 114 ∷ 99 ∷ 118 ∷ 32 ∷ (48 + id) ∷ 32 ∷ (48 + class) ∷ 32 ∷ []
+short_msgrcv id class small few = rw (decimal_digit id small, decimal_digit class few) refl
+
+-- what is added to a semaphore or taken from it, with numbers of one digit
+pub short_add : (num add : ℕ) → num < 10 → add < 10
+    → 32 ∷ (decimal num ++ 58 ∷ decimal add) ≡ 32 ∷ (48 + num) ∷ 58 ∷ (48 + add) ∷ []
+short_add num add small few = rw (decimal_digit num small, decimal_digit add few) refl
+
+pub short_less : (num less : ℕ) → num < 10 → less < 10
+    → 32 ∷ (decimal num ++ 58 ∷ 45 ∷ decimal less) ≡ 32 ∷ (48 + num) ∷ 58 ∷ 45 ∷ (48 + less) ∷ []
+short_less num less small few = rw (decimal_digit num small, decimal_digit less few) refl
+
+-- a negative number behind its sign
+pub signed_less : (z : ℤ) → z <ℤ pos 0 → signed_decimal z ≡ 45 ∷ decimal (unsigned_abs z)
+signed_less (pos n) h = absurd (omega (arith, ints))
+signed_less (negsuc n) h = refl

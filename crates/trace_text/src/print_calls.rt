@@ -64,17 +64,28 @@ fn push_sigaction(out: &mut Vec<u8>, sig: SigArg, act: Act) -> Result<(), Memory
     push_action_name(out, act)
 }
 
+// A wait for any child, at once.
+fn push_waitpid_any(out: &mut Vec<u8>, nohang: bool) -> Result<(), Memory>
+    ensures { OnOk result
+        (out.new.items ≡ out.old.items ++ (codes "waitpid any" ++ trace.word nohang (codes "nohang"))) }
+{
+    if nohang {
+        return push(out, b"waitpid any nohang");
+    }
+    push(out, b"waitpid any")
+}
+
 #[inline(never)]
 fn push_waitpid(out: &mut Vec<u8>, child: Option<Pid>, nohang: bool) -> Result<(), Memory>
     ensures { OnOk result
         (out.new.items ≡ out.old.items ++ codes "waitpid " ++ trace.child_text child
         ++ trace.word nohang (codes "nohang")) }
 {
+    let Some(pid) = child else {
+        return push_waitpid_any(out, nohang);
+    };
     push(out, b"waitpid ")?;
-    match child {
-        None => push(out, b"any")?,
-        Some(pid) => push_pid(out, pid)?,
-    }
+    push_pid(out, pid)?;
     push_word(out, nohang, b" nohang")
 }
 

@@ -1,5 +1,5 @@
 //! The line of an entry: who made which call, what it came to, who carried it out, and whom that woke.
-ghost use Rattle.std.specs.Prelude.{◌≡◌, ◌<◌, [], ◌++◌, codes, Some, None, if◌then◌else◌, IfSome, OnOk, nat_lt};
+ghost use Rattle.std.specs.Prelude.{◌≡◌, ◌<◌, ◌≤◌, [], ◌++◌, codes, Some, None, if◌then◌else◌, IfSome, OnOk, nat_lt};
 ghost use Rattle.std.specs.List.{flat_map};
 ghost use Rattle.std.specs.Fmt.{decimal};
 ghost use Rattle.kernel_model.specs.Trace as trace;
@@ -46,25 +46,44 @@ fn push_wakes(out: &mut Vec<u8>, woken: &[(Pid, Reply)]) -> Result<(), Memory>
     Ok(())
 }
 
+// Who carried it out, where that woke nobody and the node has one digit.
+#[tactic(auto, using(crate::proofs::Digits::short_by))]
+fn push_short_by(out: &mut Vec<u8>, node: u8) -> Result<(), Memory>
+    requires { node < 10 }
+    ensures { OnOk result (out.new.items ≡ out.old.items ++ trace.by_text node []) }
+{
+    push(out, &[b' ', b'b', b'y', b' ', b'0' + node, b'\n'])
+}
+
 // Who carried it out, where that woke nobody.
 fn push_by_alone(out: &mut Vec<u8>, node: Node) -> Result<(), Memory>
     ensures { OnOk result (out.new.items ≡ out.old.items ++ trace.by_text node []) }
 {
+    if node.0 < 10 {
+        return push_short_by(out, node.0);
+    }
     push(out, b" by ")?;
     push_number_then(out, u64::from(node.0), b'\n')
 }
 
-// Who carried it out, and whom that woke.
+// Who carried it out, and whom that woke. It stands apart, so that the end of most lines saves no registers for it.
+#[inline(never)]
+fn push_by_and_wakes(out: &mut Vec<u8>, node: Node, woken: &[(Pid, Reply)]) -> Result<(), Memory>
+    ensures { OnOk result (out.new.items ≡ out.old.items ++ trace.by_text node woken.now) }
+{
+    push(out, b" by ")?;
+    push_node(out, node)?;
+    push_wakes(out, woken)?;
+    push_byte(out, b'\n')
+}
+
 fn push_by(out: &mut Vec<u8>, node: Node, woken: &[(Pid, Reply)]) -> Result<(), Memory>
     ensures { OnOk result (out.new.items ≡ out.old.items ++ trace.by_text node woken.now) }
 {
     if woken.is_empty() {
         return push_by_alone(out, node);
     }
-    push(out, b" by ")?;
-    push_node(out, node)?;
-    push_wakes(out, woken)?;
-    push_byte(out, b'\n')
+    push_by_and_wakes(out, node, woken)
 }
 
 // The number as a byte, where it has one digit.
@@ -102,6 +121,21 @@ fn push_short_end(out: &mut Vec<u8>, number: u8, node: u8) -> Result<(), Memory>
     )
 }
 
+// The same by a node of two digits.
+fn push_longer_end(out: &mut Vec<u8>, number: u8, node: u8) -> Result<(), Memory>
+    requires { (number < 10) × (10 ≤ node) × (node < 100) }
+    ensures { OnOk result
+        (out.new.items ≡ out.old.items ++ (codes " = " ++ decimal number ++ trace.by_text node [])) }
+{
+    let (first, tens, units) = (b'0' + number, b'0' + node / 10, b'0' + node % 10);
+    push(
+        out,
+        &[
+            b' ', b'=', b' ', first, b' ', b'b', b'y', b' ', tens, units, b'\n',
+        ],
+    )
+}
+
 fn push_digit_and_by(out: &mut Vec<u8>, number: u8) -> Result<(), Memory>
     requires { number < 10 }
     ensures { OnOk result
@@ -119,6 +153,9 @@ fn push_digit_end(out: &mut Vec<u8>, number: u8, node: Node) -> Result<(), Memor
 {
     if node.0 < 10 {
         return push_short_end(out, number, node.0);
+    }
+    if node.0 < 100 {
+        return push_longer_end(out, number, node.0);
     }
     push_digit_and_by(out, number)?;
     push_number_then(out, u64::from(node.0), b'\n')

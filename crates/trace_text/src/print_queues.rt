@@ -1,10 +1,12 @@
 //! The text of a call on a message queue.
-ghost use Rattle.std.specs.Prelude.{◌≡◌, ◌++◌, codes, OnOk};
+ghost use Rattle.std.specs.Prelude.{◌≡◌, ◌<◌, [], ◌∷◌, ◌++◌, codes, OnOk};
 ghost use Rattle.std.specs.Fmt.{decimal};
 ghost use Rattle.kernel_model.specs.Trace as trace;
 
 use crate::fields::{push_create_words, push_id, push_labelled, push_word};
-use crate::text::{push, push_message, push_number, push_number_then, push_signed_and_space};
+use crate::text::{
+    digit_of, push, push_message, push_number, push_number_then, push_signed_and_space,
+};
 use pico_base::{Id, Key, Memory};
 
 #[inline(never)]
@@ -23,8 +25,60 @@ pub(crate) fn push_msgget(
     push_create_words(out, create, excl)
 }
 
+// The first words of a send, where the numbers have one digit.
+fn push_short_msgsnd(out: &mut Vec<u8>, id: u8, class: u8) -> Result<(), Memory>
+    requires { (id < 10) × (class < 10) }
+    ensures { OnOk result
+        (out.new.items ≡ out.old.items ++ (codes "msgsnd " ++ decimal id ++ 32 ∷ (decimal class ++ 32 ∷ []))) }
+{
+    let (queue, class) = (b'0' + id, b'0' + class);
+    push(
+        out,
+        &[
+            b'm', b's', b'g', b's', b'n', b'd', b' ', queue, b' ', class, b' ',
+        ],
+    )
+}
+
+// The first words of a receive, where the numbers have one digit.
+fn push_short_msgrcv(out: &mut Vec<u8>, id: u8, class: u8) -> Result<(), Memory>
+    requires { (id < 10) × (class < 10) }
+    ensures { OnOk result
+        (out.new.items ≡ out.old.items ++ (codes "msgrcv " ++ decimal id ++ 32 ∷ (decimal class ++ 32 ∷ []))) }
+{
+    let (queue, class) = (b'0' + id, b'0' + class);
+    push(
+        out,
+        &[
+            b'm', b's', b'g', b'r', b'c', b'v', b' ', queue, b' ', class, b' ',
+        ],
+    )
+}
+
+fn push_msgsnd_words(out: &mut Vec<u8>, id: Id, class: i32) -> Result<(), Memory>
+    ensures { OnOk result (out.new.items ≡ out.old.items ++ trace.queue_words (codes "msgsnd ") id class) }
+{
+    if let Some(class) = digit_of(class) {
+        if id.0 < 10 {
+            return push_short_msgsnd(out, id.0 as u8, class);
+        }
+    }
+    push_queue_words(out, b"msgsnd ", id, class)
+}
+
+fn push_msgrcv_words(out: &mut Vec<u8>, id: Id, class: i32) -> Result<(), Memory>
+    ensures { OnOk result (out.new.items ≡ out.old.items ++ trace.queue_words (codes "msgrcv ") id class) }
+{
+    if let Some(class) = digit_of(class) {
+        if id.0 < 10 {
+            return push_short_msgrcv(out, id.0 as u8, class);
+        }
+    }
+    push_queue_words(out, b"msgrcv ", id, class)
+}
+
 // A call's name, the queue and the type of message.
-#[inline(always)]
+#[inline(never)]
 fn push_queue_words(out: &mut Vec<u8>, name: &[u8], id: Id, class: i32) -> Result<(), Memory>
     ensures { OnOk result (out.new.items ≡ out.old.items ++ trace.queue_words name.now id class) }
 {
@@ -43,7 +97,7 @@ pub(crate) fn push_msgsnd(
 ) -> Result<(), Memory>
     ensures { OnOk result (out.new.items ≡ out.old.items ++ trace.msgsnd_text id class text.now nowait) }
 {
-    push_queue_words(out, b"msgsnd ", id, class)?;
+    push_msgsnd_words(out, id, class)?;
     push_message(out, text)?;
     push_word(out, nowait, b" nowait")
 }
@@ -59,7 +113,7 @@ pub(crate) fn push_msgrcv(
 ) -> Result<(), Memory>
     ensures { OnOk result (out.new.items ≡ out.old.items ++ trace.msgrcv_text id class size noerror nowait) }
 {
-    push_queue_words(out, b"msgrcv ", id, class)?;
+    push_msgrcv_words(out, id, class)?;
     push_number(out, u64::from(size))?;
     push_word(out, noerror, b" noerror")?;
     push_word(out, nowait, b" nowait")

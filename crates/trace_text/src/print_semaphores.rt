@@ -1,20 +1,67 @@
 //! The text of a call on a semaphore set.
-ghost use Rattle.std.specs.Prelude.{◌≡◌, ◌∷◌, ◌++◌, codes, OnOk};
+ghost use Rattle.std.specs.Prelude.{◌≡◌, ◌<◌, ◌∷◌, ◌++◌, codes, OnOk};
 ghost use Rattle.std.specs.List.{flat_map};
-ghost use Rattle.std.specs.Fmt.{decimal};
+ghost use Rattle.std.specs.Fmt.{decimal, signed_decimal};
 ghost use Rattle.kernel_model.specs.Trace as trace;
 
 use crate::fields::{push_create_words, push_id, push_labelled, push_values};
-use crate::text::{push, push_byte, push_number, push_signed};
+use crate::text::{digit_less, digit_of, push, push_byte, push_number, push_signed};
 use pico_base::{Id, Key, Memory, SemStep};
+
+// A semaphore's number and what is added, of one digit each.
+fn push_short_add(out: &mut Vec<u8>, num: u8, add: u8) -> Result<(), Memory>
+    requires { (num < 10) × (add < 10) }
+    ensures { OnOk result (out.new.items ≡ out.old.items ++ (32 ∷ (decimal num ++ 58 ∷ decimal add))) }
+{
+    push(out, &[b' ', b'0' + num, b':', b'0' + add])
+}
+
+// The same where it is taken away.
+fn push_short_less(out: &mut Vec<u8>, num: u8, less: u8) -> Result<(), Memory>
+    requires { (num < 10) × (less < 10) }
+    ensures { OnOk result (out.new.items ≡ out.old.items ++ (32 ∷ (decimal num ++ 58 ∷ 45 ∷ decimal less))) }
+{
+    push(out, &[b' ', b'0' + num, b':', b'-', b'0' + less])
+}
+
+// The same of any numbers.
+#[inline(never)]
+fn push_long_add(out: &mut Vec<u8>, num: u16, add: i32) -> Result<(), Memory>
+    ensures { OnOk result (out.new.items ≡ out.old.items ++ (32 ∷ (decimal num ++ 58 ∷ signed_decimal add))) }
+{
+    push_byte(out, b' ')?;
+    push_number(out, u64::from(num))?;
+    push_byte(out, b':')?;
+    push_signed(out, add)
+}
+
+// The same of a semaphore whose number has one digit.
+fn push_add_to_digit(out: &mut Vec<u8>, num: u8, add: i32) -> Result<(), Memory>
+    requires { num < 10 }
+    ensures { OnOk result (out.new.items ≡ out.old.items ++ (32 ∷ (decimal num ++ 58 ∷ signed_decimal add))) }
+{
+    if let Some(add) = digit_of(add) {
+        return push_short_add(out, num, add);
+    }
+    if let Some(less) = digit_less(add) {
+        return push_short_less(out, num, less);
+    }
+    push_long_add(out, u16::from(num), add)
+}
+
+fn push_add(out: &mut Vec<u8>, num: u16, add: i32) -> Result<(), Memory>
+    ensures { OnOk result (out.new.items ≡ out.old.items ++ (32 ∷ (decimal num ++ 58 ∷ signed_decimal add))) }
+{
+    if num < 10 {
+        return push_add_to_digit(out, num as u8, add);
+    }
+    push_long_add(out, num, add)
+}
 
 fn push_step(out: &mut Vec<u8>, step: SemStep) -> Result<(), Memory>
     ensures { OnOk result (out.new.items ≡ out.old.items ++ trace.step_text step) }
 {
-    push_byte(out, b' ')?;
-    push_number(out, u64::from(step.num))?;
-    push_byte(out, b':')?;
-    push_signed(out, step.add)?;
+    push_add(out, step.num, step.add)?;
     if step.nowait {
         push(out, b":nowait")
     } else {

@@ -34,6 +34,42 @@ fn push_two_digits(out: &mut Vec<u8>, number: u8) -> Result<(), Memory>
     push(out, &[b'0' + number / 10, b'0' + number % 10])
 }
 
+// Adds a number of three digits.
+#[tactic(auto, using(crate::proofs::Digits::three_digits))]
+fn push_three_digits(out: &mut Vec<u8>, number: u16) -> Result<(), Memory>
+    requires { (100 ≤ number) × (number < 1000) }
+    ensures { OnOk result (out.new.items ≡ out.old.items ++ decimal number) }
+{
+    let tens = number / 10;
+    push(
+        out,
+        &[
+            b'0' + (tens / 10) as u8,
+            b'0' + (tens % 10) as u8,
+            b'0' + (number % 10) as u8,
+        ],
+    )
+}
+
+// Adds a number of four digits.
+#[tactic(auto, using(crate::proofs::Digits::four_digits))]
+fn push_four_digits(out: &mut Vec<u8>, number: u16) -> Result<(), Memory>
+    requires { (1000 ≤ number) × (number < 10000) }
+    ensures { OnOk result (out.new.items ≡ out.old.items ++ decimal number) }
+{
+    let tens = number / 10;
+    let hundreds = tens / 10;
+    push(
+        out,
+        &[
+            b'0' + (hundreds / 10) as u8,
+            b'0' + (hundreds % 10) as u8,
+            b'0' + (tens % 10) as u8,
+            b'0' + (number % 10) as u8,
+        ],
+    )
+}
+
 // Adds any number. It stands apart, so that numbers of few digits need no buffer.
 #[inline(never)]
 fn push_long_number(out: &mut Vec<u8>, number: u64) -> Result<(), Memory>
@@ -43,13 +79,19 @@ fn push_long_number(out: &mut Vec<u8>, number: u64) -> Result<(), Memory>
 }
 
 // Adds a number of more than one digit.
-#[inline(always)]
+#[inline(never)]
 fn push_digits(out: &mut Vec<u8>, number: u64) -> Result<(), Memory>
     requires { 10 ≤ number }
     ensures { OnOk result (out.new.items ≡ out.old.items ++ decimal number) }
 {
     if number < 100 {
         return push_two_digits(out, number as u8);
+    }
+    if number < 1000 {
+        return push_three_digits(out, number as u16);
+    }
+    if number < 10000 {
+        return push_four_digits(out, number as u16);
     }
     push_long_number(out, number)
 }
@@ -85,7 +127,7 @@ fn push_digits_then(out: &mut Vec<u8>, number: u64, byte: u8) -> Result<(), Memo
     if number < 100 {
         return push_two_digits_then(out, number as u8, byte);
     }
-    push_long_number(out, number)?;
+    push_digits(out, number)?;
     push_byte(out, byte)
 }
 
@@ -107,6 +149,30 @@ pub(crate) fn push_number_then(out: &mut Vec<u8>, number: u64, byte: u8) -> Resu
         return push_digit_then(out, number as u8, byte);
     }
     push_digits_then(out, number, byte)
+}
+
+// A signed number as a byte, where it is one digit.
+pub(crate) fn digit_of(number: i32) -> Option<u8>
+    ensures { IfSome result (λ digit. (digit < 10) × (signed_decimal number ≡ decimal digit)) }
+{
+    if (0..10).contains(&number) {
+        Some(number as u8)
+    } else {
+        None
+    }
+}
+
+// What stands behind the sign of a negative number, where it is one digit.
+#[tactic(auto, using(crate::proofs::Digits::signed_less))]
+pub(crate) fn digit_less(number: i32) -> Option<u8>
+    ensures { IfSome result (λ digit. (digit < 10) × (signed_decimal number ≡ 45 ∷ decimal digit)) }
+{
+    let less = number.unsigned_abs();
+    if number < 0 && less < 10 {
+        Some(less as u8)
+    } else {
+        None
+    }
 }
 
 // Adds any signed number.

@@ -1,5 +1,5 @@
 //! The totals line of a history: what it counts, and its text.
-ghost use Rattle.std.specs.Prelude.{◌≡◌, List, [], ◌++◌, Some, if◌then◌else◌, IfOk, OnOk};
+ghost use Rattle.std.specs.Prelude.{◌≡◌, false, List, [], ◌++◌, Some, if◌then◌else◌, IfOk, OnOk, IsTrue};
 ghost use Rattle.kernel_model.specs.Trace as trace;
 ghost use Rattle.pico_base.specs.declared.reply.Entry.{Entry};
 ghost use Rattle.trace_text.specs.Totals.{tally_of, with_entry};
@@ -14,6 +14,22 @@ fn is_fork(entry: &Entry) -> bool
     ensures { result ≡ trace.is_fork entry.now.call }
 {
     matches!(entry.call, Call::Fork { .. })
+}
+
+fn is_failure(own: &Option<Reply>) -> bool
+    ensures not_ready { result ≡ false → trace.is_not_ready_reply own.now ≡ false }
+    ensures refused { result ≡ false → trace.is_refused_reply own.now ≡ false }
+{
+    matches!(own, Some(Reply::Fail(_)))
+}
+
+// Whether an entry counts only as an entry: it doesn't fork, isn't refused, and wakes nobody.
+fn is_plain(entry: &Entry) -> bool
+    ensures fork { IsTrue result → trace.is_fork entry.now.call ≡ false }
+    ensures not_ready { IsTrue result → trace.replies_where trace.is_not_ready_reply entry.now.outcome ≡ 0 }
+    ensures refused { IsTrue result → trace.replies_where trace.is_refused_reply entry.now.outcome ≡ 0 }
+{
+    !is_fork(entry) && !is_failure(&entry.outcome.own) && entry.outcome.woken.as_slice().is_empty()
 }
 
 // ENOMSG or EAGAIN: nothing was ready.
@@ -125,8 +141,20 @@ impl Tally {
         }
     }
 
-    // Counts one more entry.
+    // Counts one more entry. Most count only as an entry.
     fn add_entry(&mut self, entry: &Entry) -> Result<(), Memory>
+        ensures { OnOk result (self.new ≡ with_entry self.old entry.now) }
+    {
+        if !is_plain(entry) {
+            return self.add_counted(entry);
+        }
+        self.entries = self.entries.checked_add(1).ok_or(Memory)?;
+        Ok(())
+    }
+
+    // Counts one more entry, and what else it counts as.
+    #[inline(never)]
+    fn add_counted(&mut self, entry: &Entry) -> Result<(), Memory>
         ensures { OnOk result (self.new ≡ with_entry self.old entry.now) }
     {
         let more = refusals_of(&entry.outcome);
