@@ -61,6 +61,17 @@ pub short_by : (node : ℕ) → node < 10
     → codes " by " ++ decimal node ++ 10 ∷ [] ≡ 32 ∷ 98 ∷ 121 ∷ 32 ∷ (48 + node) ∷ 10 ∷ []
 short_by node least = rw (decimal_digit node least) refl
 
+-- and by a node of two digits
+pub longer_by : (node : ℕ) → 10 ≤ node → node < 100
+    → codes " by " ++ decimal node ++ 10 ∷ []
+    ≡ 32 ∷ 98 ∷ 121 ∷ 32 ∷ (48 + node / 10) ∷ (48 + node % 10) ∷ 10 ∷ []
+longer_by node least most = rw (two_digits node least most) refl
+
+-- a call on a set whose number has one digit
+pub short_semop : (id : ℕ) → id < 10
+    → codes "semop " ++ decimal id ≡ 115 ∷ 101 ∷ 109 ∷ 111 ∷ 112 ∷ 32 ∷ (48 + id) ∷ []
+short_semop id small = rw (decimal_digit id small) refl
+
 -- the first words of a send and of a receive, with numbers of one digit
 pub short_msgsnd : (id class : ℕ) → id < 10 → class < 10
     → codes "msgsnd " ++ decimal id ++ 32 ∷ (decimal class ++ 32 ∷ [])

@@ -47,12 +47,20 @@ fn push_wakes(out: &mut Vec<u8>, woken: &[(Pid, Reply)]) -> Result<(), Memory>
 }
 
 // Who carried it out, where that woke nobody and the node has one digit.
-#[tactic(auto, using(crate::proofs::Digits::short_by))]
 fn push_short_by(out: &mut Vec<u8>, node: u8) -> Result<(), Memory>
     requires { node < 10 }
     ensures { OnOk result (out.new.items ≡ out.old.items ++ trace.by_text node []) }
 {
     push(out, &[b' ', b'b', b'y', b' ', b'0' + node, b'\n'])
+}
+
+// The same by a node of two digits.
+fn push_longer_by(out: &mut Vec<u8>, node: u8) -> Result<(), Memory>
+    requires { (10 ≤ node) × (node < 100) }
+    ensures { OnOk result (out.new.items ≡ out.old.items ++ trace.by_text node []) }
+{
+    let (tens, units) = (b'0' + node / 10, b'0' + node % 10);
+    push(out, &[b' ', b'b', b'y', b' ', tens, units, b'\n'])
 }
 
 // Who carried it out, where that woke nobody.
@@ -61,6 +69,9 @@ fn push_by_alone(out: &mut Vec<u8>, node: Node) -> Result<(), Memory>
 {
     if node.0 < 10 {
         return push_short_by(out, node.0);
+    }
+    if node.0 < 100 {
+        return push_longer_by(out, node.0);
     }
     push(out, b" by ")?;
     push_number_then(out, u64::from(node.0), b'\n')

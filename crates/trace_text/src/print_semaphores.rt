@@ -69,13 +69,30 @@ fn push_step(out: &mut Vec<u8>, step: SemStep) -> Result<(), Memory>
     }
 }
 
+// The call's name and a set whose number has one digit.
+fn push_short_semop(out: &mut Vec<u8>, id: u8) -> Result<(), Memory>
+    requires { id < 10 }
+    ensures { OnOk result (out.new.items ≡ out.old.items ++ (codes "semop " ++ decimal id)) }
+{
+    push(out, &[b's', b'e', b'm', b'o', b'p', b' ', b'0' + id])
+}
+
+fn push_semop_words(out: &mut Vec<u8>, id: Id) -> Result<(), Memory>
+    ensures { OnOk result (out.new.items ≡ out.old.items ++ codes "semop " ++ decimal id) }
+{
+    if id.0 < 10 {
+        return push_short_semop(out, id.0 as u8);
+    }
+    push(out, b"semop ")?;
+    push_id(out, id)
+}
+
 #[inline(never)]
 pub(crate) fn push_semop(out: &mut Vec<u8>, id: Id, steps: &[SemStep]) -> Result<(), Memory>
     ensures { OnOk result
         (out.new.items ≡ out.old.items ++ codes "semop " ++ decimal id ++ flat_map trace.step_text steps.now) }
 {
-    push(out, b"semop ")?;
-    push_id(out, id)?;
+    push_semop_words(out, id)?;
     for step in steps {
         push_step(out, *step)?;
     }
