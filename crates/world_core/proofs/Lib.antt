@@ -13,6 +13,7 @@ pub mod Reached
 pub mod Rest
 pub mod Seats
 pub mod Senders
+pub mod Streams
 pub mod Under
 pub mod Walks
 pub mod Wholes

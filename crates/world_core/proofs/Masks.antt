@@ -91,16 +91,22 @@ filled-behind : (fs : List Frame) (f : Frame) → is_filled (fs ++ f ∷ []) ≡
 filled-behind [] f = refl
 filled-behind (g ∷ fs) f = refl
 
+-- a stream has frames
+pub marked-filled : (filled : ℕ) (row : List (List Frame)) (k : ℕ) (new : List Frame)
+    → IsMarked filled row → k < length row → is_filled new ≡ true
+    → IsMarked (bit_or filled (1 * 2 ^ k % 2 ^ 32)) (set row k new)
+marked-filled filled row k new marked lt some =
+    let same = length-set row k new in (
+      omega (arith, marked.0),
+      ap (λ (n : ℕ). bit_or n (1 * 2 ^ k % 2 ^ 32)) marked.1 ∙ mask-set row k new lt (omega (arith, marked.0)) some,
+    )
+
 -- a frame came
 pub marked-pushed : (filled : ℕ) (row : List (List Frame)) (k : ℕ) (old new : List Frame) (frame : Frame)
     → IsMarked filled row → k < length row → new ≡ old ++ frame ∷ []
     → IsMarked (bit_or filled (1 * 2 ^ k % 2 ^ 32)) (set row k new)
 marked-pushed filled row k old new frame marked lt pushed =
-    let same = length-set row k new in (
-      omega (arith, marked.0),
-      ap (λ (n : ℕ). bit_or n (1 * 2 ^ k % 2 ^ 32)) marked.1
-          ∙ mask-set row k new lt (omega (arith, marked.0)) (ap is_filled pushed ∙ filled-behind old frame),
-    )
+    marked-filled filled row k new marked lt (ap is_filled pushed ∙ filled-behind old frame)
 
 -- the last frame was taken
 pub marked-emptied : (filled : ℕ) (row : List (List Frame)) (k : ℕ) (new : List Frame) → IsMarked filled row
@@ -113,12 +119,12 @@ marked-emptied filled row k new marked lt empty =
     )
 
 -- a frame was taken, and another comes next
-pub marked-left : (filled : ℕ) (row : List (List Frame)) (k : ℕ) (old new : List Frame) (frame : Frame)
-    → IsMarked filled row → k < length row → old ≡ get_or row k old → old ≡ frame ∷ new → is_filled new ≡ true
+pub marked-left : (filled : ℕ) (row : List (List Frame)) (k : ℕ) (old new : List Frame) → IsMarked filled row
+    → k < length row → old ≡ get_or row k old → is_filled old ≡ true → is_filled new ≡ true
     → IsMarked filled (set row k new)
-marked-left filled row k old new frame marked lt read first more =
+marked-left filled row k old new marked lt read first more =
     let same = length-set row k new in
-    let was : is_filled (get_or row k []) ≡ true = ap is_filled (sym (get_or_read row k old lt read []) ∙ first) in (
+    let was : is_filled (get_or row k []) ≡ true = ap is_filled (sym (get_or_read row k old lt read [])) ∙ first in (
       omega (arith, marked.0),
       marked.1 ∙ sym (ap mask_l (map-set_same is_filled row k new [] (more ∙ sym was))),
     )

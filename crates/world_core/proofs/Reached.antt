@@ -1,5 +1,5 @@
 -- What holds of worlds with their whole journal: a run of the script has led to them.
-use Rattle.std.proofs.Common.{◌≡◌, ◌↔◌, Bool, true, List, Option, Some, None, IfSome, IsSome, IsTrue, Result, OnOk, OnErr, sym, ap, subst, ◌∙◌}
+use Rattle.std.proofs.Common.{◌≡◌, ◌↔◌, Bool, true, List, Option, Some, None, IfSome, IsSome, IsTrue, Result, OnOk, OnErr, sym, subst}
 use Rattle.std.specs.Prelude.{Ok, Err}
 use Rattle.pico_base.specs.declared.script.Script.{Script}
 use Rattle.pico_base.specs.declared.script.Event.{Event}

@@ -12,7 +12,6 @@ use Rattle.world_model.specs.Starting.{run}
 use Rattle.world_model.specs.Turn.{take_frame}
 use Rattle.world_model.specs.World.{World, Streams, numbers, size, node_count, opening_world, node_at, stream, stream_in, with_stream, with_sent, with_all_sent, world_after, after_turn, runs_at, takes_at, step, is_enabled}
 use Rattle.world_model.specs.Run.{Runs, IsReachableWorld}
-use Rattle.pico_base.specs.declared.reply.Entry.{Entry}
 use Rattle.world_core.specs.declared.state.State.{State}
 use Rattle.world_core.specs.Behind.{behind}
 use Rattle.world_core.specs.State.{IsSquare, IsAlive, world_of}

@@ -5,4 +5,5 @@ pub mod Laws
 pub mod Seat
 pub mod State
 pub mod Stepped
+pub mod Stream
 pub mod World

@@ -1,6 +1,7 @@
 //! The streams to one node, and which of them have a frame.
-ghost use Rattle.std.specs.Prelude.{◌≡◌, ◌<◌, ◌≤◌, ◌-◌, ◌+◌, [], ◌∷◌, ◌++◌, length, replicate, get_or, false, count_by, slice_get, IfOk, OnOk};
-ghost use Rattle.world_core.specs.Inbox.{IsTaken, from_node, with_from, may_take, senders};
+ghost use Rattle.std.specs.Prelude.{◌≡◌, ◌<◌, ◌≤◌, ◌-◌, ◌+◌, [], ◌∷◌, ◌++◌, length, map, replicate, get_or, false, count_by, slice_get, IfOk, OnOk};
+ghost use Rattle.world_core.specs.Inbox.{IsTaken, from_node, with_from, is_filled, may_take, senders};
+ghost use Rattle.world_core.specs.Stream.{frame_of};
 
 use crate::stream::Stream;
 use pico_base::{Memory, Node};
@@ -111,15 +112,36 @@ impl Inbox {
         at < self.streams.len() && self.may_take_at(at, is_born)
     }
 
+    /// Whether a frame is on its way from that node.
+    pub(crate) fn is_filled_from(&self, from: Node) -> bool
+        requires { from ≤ length self.now }
+        ensures { result ≡ is_filled (from_node self.now from) }
+    {
+        self.streams[place(from)].is_filled()
+    }
+
     /// A frame from that node comes after all that are on their way from it.
-    pub(crate) fn push(&mut self, from: Node, frame: Frame) -> Result<(), Memory>
+    pub(crate) fn push(&mut self, from: Node, sent: (Node, Frame)) -> Result<(), Memory>
         requires { from ≤ length self.old }
-        ensures { OnOk result (self.new ≡ with_from self.old from (from_node self.old from ++ frame ∷ [])) }
+        ensures { OnOk result (self.new ≡ with_from self.old from (from_node self.old from ++ frame_of sent ∷ [])) }
     {
         let at = place(from);
-        self.streams[at].push(frame)?;
+        self.streams[at].push(sent)?;
         self.filled |= 1 << at;
         Ok(())
+    }
+
+    /// Takes over a list of one frame from that node, from which none is on its way, and leaves an empty list.
+    pub(crate) fn take_over(&mut self, from: Node, sends: &mut Vec<(Node, Frame)>)
+        requires there { from ≤ length self.old }
+        requires none { from_node self.old from ≡ [] }
+        requires one { length sends.old.items ≡ 1 }
+        ensures taken { self.new ≡ with_from self.old from (map frame_of sends.old.items) }
+        ensures emptied { sends.new.items ≡ [] }
+    {
+        let at = place(from);
+        self.streams[at].take_over(sends);
+        self.filled |= 1 << at;
     }
 
     /// Takes the first frame from that node, if there is one.
@@ -129,10 +151,10 @@ impl Inbox {
     {
         let at = place(from);
         let stream = &mut self.streams[at];
-        let frame = stream.take()?;
-        if !stream.is_filled() {
+        // first the bit, and then the frame: so the frame goes straight to where it's taken
+        if !stream.has_second() {
             self.filled &= !(1 << at);
         }
-        Some(frame)
+        stream.take()
     }
 }

@@ -1,5 +1,5 @@
 //! The world that isn't spent: its nodes, their inboxes and the journal.
-ghost use Rattle.std.specs.Prelude.{◌≡◌, ◌↔◌, ◌≤◌, ◌-◌, [], ◌++◌, length, map, replicate, true, Some, slice_get, ◌+◌, IfOk, OnOk, IsOk, IfSome, IsSome, IsTrue};
+ghost use Rattle.std.specs.Prelude.{◌≡◌, ◌↔◌, ◌<◌, ◌≤◌, ◌-◌, [], ◌++◌, length, map, replicate, set, get_or, true, Some, slice_get, ◌+◌, IfOk, OnOk, IsOk, IfSome, IsSome, IsTrue};
 ghost use Rattle.std.specs.List.{flat_map};
 ghost use Rattle.kernel_model.specs.Script.{IsSoundScript};
 ghost use Rattle.world_model.specs.Node.{opening_node};
@@ -11,6 +11,8 @@ ghost use Rattle.node_core.specs.Step.{step_of};
 ghost use Rattle.node_core.specs.Turns.{IsTurnOnto, IsAllowed};
 ghost use Rattle.node_core.specs.declared.turn.Input.TheVariants as inputs;
 ghost use Rattle.world_core.specs.Behind.{without_journal};
+ghost use Rattle.world_core.specs.Inbox.{from_node, with_from};
+ghost use Rattle.world_core.specs.Stream.{frame_of};
 ghost use Rattle.world_core.specs.Counts.{counts_of};
 ghost use Rattle.world_core.specs.State.{AreWhole, AreSeats, AreCounted, OthersAreCounted, world_of, IsSent, IsAfterTurn, IsStep, IsAlive};
 
@@ -119,24 +121,98 @@ fn send(
     inboxes: &mut Vec<Inbox>,
     counts: &mut Counts,
     from: Node,
-    to: Node,
-    frame: Frame,
+    sent: (Node, Frame),
 ) -> Result<(), Memory>
     requires seats { AreSeats nodes.now inboxes.old.items }
     requires there { from ≤ length inboxes.old.items }
     requires counted { counts.old ≡ counts_of nodes.now inboxes.old.items }
-    ensures sent { OnOk result (inboxes.new.items ≡ with_sent from inboxes.old.items (to, frame)) }
+    ensures sent { OnOk result (inboxes.new.items ≡ with_sent from inboxes.old.items sent) }
     ensures counted { OnOk result (counts.new ≡ counts_of nodes.now inboxes.new.items) }
 {
-    let at = place(to);
+    let at = place(sent.0);
     if at < inboxes.len() {
-        inboxes[at].push(from, frame)?;
+        inboxes[at].push(from, sent)?;
         counts.set(at, count_of(&nodes[at], &inboxes[at]));
     }
     Ok(())
 }
 
 /// The frames that a node sends go their ways, one after another, and their list is left empty.
+#[inline(never)]
+fn send_each(
+    nodes: &[PicoNode],
+    inboxes: &mut Vec<Inbox>,
+    counts: &mut Counts,
+    from: Node,
+    sends: &mut Vec<(Node, Frame)>,
+) -> Result<(), Memory>
+    requires seats { AreSeats nodes.now inboxes.old.items }
+    requires there { from ≤ length inboxes.old.items }
+    requires counted { counts.old ≡ counts_of nodes.now inboxes.old.items }
+    ensures sent { OnOk result (inboxes.new.items ≡ with_all_sent from inboxes.old.items sends.old.items) }
+    ensures counted { OnOk result (counts.new ≡ counts_of nodes.now inboxes.new.items) }
+    ensures emptied { sends.new.items ≡ [] }
+{
+    for sent in sends.drain(..) {
+        send(nodes, inboxes, counts, from, sent)?;
+    }
+    Ok(())
+}
+
+/// A list of one frame goes its way as it is, to the node at this place, to which nothing is on its way from the sender,
+/// and an empty list is left.
+#[inline(always)]
+fn send_list(
+    nodes: &[PicoNode],
+    inboxes: &mut Vec<Inbox>,
+    counts: &mut Counts,
+    from: Node,
+    at: usize,
+    sends: &mut Vec<(Node, Frame)>,
+)
+    requires seats { AreSeats nodes.now inboxes.old.items }
+    requires there { from ≤ length inboxes.old.items }
+    requires counted { counts.old ≡ counts_of nodes.now inboxes.old.items }
+    requires place { at < length inboxes.old.items }
+    requires free { from_node (get_or inboxes.old.items at []) from ≡ [] }
+    requires one { length sends.old.items ≡ 1 }
+    ensures sent { inboxes.new.items ≡ set inboxes.old.items at
+        (with_from (get_or inboxes.old.items at []) from (map frame_of sends.old.items)) }
+    ensures counted { counts.new ≡ counts_of nodes.now inboxes.new.items }
+    ensures emptied { sends.new.items ≡ [] }
+{
+    inboxes[at].take_over(from, sends);
+    counts.set(at, count_of(&nodes[at], &inboxes[at]));
+}
+
+/// As above, where there are frames. One alone, as most turns make, goes with the whole list where nothing is on its
+/// way there.
+#[inline(never)]
+fn send_some(
+    nodes: &[PicoNode],
+    inboxes: &mut Vec<Inbox>,
+    counts: &mut Counts,
+    from: Node,
+    sends: &mut Vec<(Node, Frame)>,
+) -> Result<(), Memory>
+    requires seats { AreSeats nodes.now inboxes.old.items }
+    requires there { from ≤ length inboxes.old.items }
+    requires counted { counts.old ≡ counts_of nodes.now inboxes.old.items }
+    requires some { 0 < length sends.old.items }
+    ensures sent { OnOk result (inboxes.new.items ≡ with_all_sent from inboxes.old.items sends.old.items) }
+    ensures counted { OnOk result (counts.new ≡ counts_of nodes.now inboxes.new.items) }
+    ensures emptied { sends.new.items ≡ [] }
+{
+    let at = place(sends[0].0);
+    if sends.len() == 1 && at < inboxes.len() && !inboxes[at].is_filled_from(from) {
+        send_list(nodes, inboxes, counts, from, at, sends);
+        return Ok(());
+    }
+    send_each(nodes, inboxes, counts, from, sends)
+}
+
+/// The frames that a node sends go their ways, if there are any.
+#[inline(always)]
 fn send_all(
     nodes: &[PicoNode],
     inboxes: &mut Vec<Inbox>,
@@ -151,10 +227,10 @@ fn send_all(
     ensures counted { OnOk result (counts.new ≡ counts_of nodes.now inboxes.new.items) }
     ensures emptied { sends.new.items ≡ [] }
 {
-    for (to, frame) in sends.drain(..) {
-        send(nodes, inboxes, counts, from, to, frame)?;
+    if sends.is_empty() {
+        return Ok(());
     }
-    Ok(())
+    send_some(nodes, inboxes, counts, from, sends)
 }
 
 impl State {
@@ -353,9 +429,9 @@ impl State {
         requires counted { OthersAreCounted self.old node }
         requires allowed { IfSome (node_at (world_of self.old) node)
             (λ n. IsSome (step_of self.old.script n (inputs.Take from frame))) }
+        requires none { self.old.made.sends ≡ [] }
         ensures { OnOk result (IsAfterTurn self.old node (inputs.Take from frame) self.new) }
     {
-        clear_sends(&mut self.made.sends);
         take_turn(
             &mut self.nodes[place(node)],
             &self.script,
@@ -386,6 +462,7 @@ impl State {
         match event {
             Event::Run(node) => self.run(node),
             Event::Take { node, from } => {
+                clear_sends(&mut self.made.sends);
                 let Some(frame) = self.inboxes[place(node)].take(from) else {
                     unreachable!()
                 };

@@ -24,5 +24,5 @@ returns c =
     (turn_handed s _ c.finish.new.self c.args.node c.place.result (inputs.Take c.args.from c.args.frame) _
     c.index_mut.result.now c.take_turn.new.node c.requires.seats.whole
     c.place.ensures.place (omega (arith, c.place.ensures.next))
-    c.index_mut.ensures.value refl c.clear_sends.ensures c.in_ok-take_turn.ensures refl refl refl)
+    c.index_mut.ensures.value refl c.requires.none c.in_ok-take_turn.ensures refl refl refl)
     c.finish.ensures
