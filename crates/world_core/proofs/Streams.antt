@@ -64,7 +64,8 @@ second-filled (f ∷ fs) e = refl
 
 -- ---- the first frame
 
-head-of : (ys zs : List (ℕ × Frame)) (sent : ℕ × Frame) → slice_get ys 0 ≡ Some sent → slice_get (ys ++ zs) 0 ≡ Some sent
+head-of : (ys zs : List (ℕ × Frame)) (sent : ℕ × Frame) → slice_get ys 0 ≡ Some sent
+    → slice_get (ys ++ zs) 0 ≡ Some sent
 head-of [] zs sent e = absurd (let lt = slice_get_within [] 0 sent e in omega arith)
 head-of (y ∷ ys) zs sent e = e
 

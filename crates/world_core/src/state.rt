@@ -159,8 +159,8 @@ fn send_each(
     Ok(())
 }
 
-/// A list of one frame goes its way as it is, to the node at this place, to which nothing is on its way from the sender,
-/// and an empty list is left.
+/// A list of one frame goes its way as it is, to the node at this place, to which nothing is on its way from the
+/// sender, and an empty list is left.
 #[inline(always)]
 fn send_list(
     nodes: &[PicoNode],
