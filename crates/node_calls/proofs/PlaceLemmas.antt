@@ -9,7 +9,7 @@ use Rattle.pico_base.specs.declared.signal.Sig.{Sig}
 use Rattle.pico_base.specs.declared.reply.Reply.{Reply}
 use Rattle.pico_base.specs.declared.script.Line.{Line}
 use Rattle.pico_base.specs.declared.script.Script.{Script}
-use Rattle.kernel_model.specs.Script.{Vars, call_of, implied_exit}
+use Rattle.kernel_model.specs.Script.{Vars, call_from, call_of, implied_exit}
 use Rattle.kernel_model.specs.Fitting.{Place, place_after, after_line, call_due as call_due_at, child_vars, child_vars_at, due, asks_again, set_variable, value_in}
 use Rattle.node_calls.specs.Lines.{written_lines}
 use Rattle.node_calls.proofs.LineLemmas.{reached-written, reached-implied}
@@ -142,6 +142,25 @@ due-line script c block line tried ticket vars under_way written doom r view wit
     in subst (λ (d : Option Sig). Dues script d r c) (sym is)
     (subst (Dues script None r) view
     (dues_line script was written r (reached-written script block line written (sym at) low) called))
+
+-- the call of a written line that names no variable is due as it is, where no signal dooms the caller
+pub due-as-written : (script : Script) (c : BlockCaller) (block line tried ticket : ℕ) (vars : Vars)
+    (under_way : Option Call) (written : Line) (call : Call) → caller_of block line tried vars ticket under_way ≡ c
+    → HasLine script c → Some written ≡ slice_get (written_lines script block) line → written.from ≡ None
+    → call ≡ written.call → call_due script c None ≡ Some call
+due-as-written script c block line tried ticket vars under_way written call view within at unnamed is =
+    due-line script c block line tried ticket vars under_way written None (Ok call) view within refl at
+    (is ∙ sym (ap (call_from written.call vars) unnamed))
+
+-- the same where it is known to name none
+pub due-if-written : (script : Script) (c : BlockCaller) (block line tried ticket : ℕ) (vars : Vars)
+    (under_way : Option Call) (written : Line) (o : Option Call) → caller_of block line tried vars ticket under_way ≡ c
+    → HasLine script c → Some written ≡ slice_get (written_lines script block) line
+    → IfSome o (λ call. (written.from ≡ None) × (call ≡ written.call))
+    → IfSome o (λ call. call_due script c None ≡ Some call)
+due-if-written script c block line tried ticket vars under_way written None view within at as_is = tt
+due-if-written script c block line tried ticket vars under_way written (Some call) view within at as_is =
+    due-as-written script c block line tried ticket vars under_way written call view within at as_is.0 as_is.1
 
 -- behind the written lines an exit with status 0 is due, where no signal dooms the caller
 pub due-end : (script : Script) (c : BlockCaller) (block line tried ticket : ℕ) (vars : Vars) (under_way : Option Call)

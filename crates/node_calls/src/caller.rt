@@ -1,14 +1,14 @@
 //! What a node knows of its process's calls: the line, the tries made, the variables, and the call under way.
-ghost use Rattle.std.specs.Prelude.{◌≡◌, ◌↔◌, None, Some, IfOk, IfSome, OnOk, OnErr, IsSome, IsTrue};
+ghost use Rattle.std.specs.Prelude.{◌≡◌, ◌↔◌, ◌+◌, ◌<◌, ◌&&◌, nat_lt, None, Some, IfOk, IfSome, OnOk, OnErr, IsSome, IsTrue};
 ghost use Rattle.std.specs.Option.{option_copied};
 ghost use Rattle.kernel_model.specs.Script.{IsSoundScript};
-ghost use Rattle.kernel_model.specs.Fitting.{child_vars};
+ghost use Rattle.kernel_model.specs.Fitting.{asks_again, child_vars, set_variable, value_in};
 ghost use Rattle.kernel_model.specs.Signals.{count_up};
 ghost use Rattle.node_calls.specs.Caller.{BlockCaller, HasLine, are_rising, answered, beginning, call_due, place_of, started};
 
 #[cfg(test)]
 use crate::lines::is_reached;
-use crate::lines::{count, terms_at, written_line};
+use crate::lines::{Terms, as_written, count, terms_at, written_line};
 use crate::replies::{tries_again, value_in};
 use crate::variables::Variables;
 use pico_base::{Call, Memory, Node, Reply, Script, Sig, Vars};
@@ -82,6 +82,19 @@ impl Caller {
         }
     }
 
+    /// The call due where no signal dooms the process, as the script has it: for a line that is written, and names no
+    /// variable. It takes no memory.
+    #[inline(always)]
+    pub fn written_call<'a>(&self, script: &'a Script) -> Option<&'a Call>
+        requires { HasLine script.now self.now }
+        ensures { IfSome (option_copied result) (λ call. call_due script.now self.now None ≡ Some call) }
+    {
+        match written_line(script, self.block, self.line) {
+            Some(line) => as_written(line),
+            None => None,
+        }
+    }
+
     /// Starts a call, and gives its ticket: the calls started up to now. The count stays at 4294967295. It takes no
     /// memory.
     #[inline(always)]
@@ -105,14 +118,14 @@ impl Caller {
             (IfSome self.old.caller.under_way (λ call. self.new ≡ answered script.now self.old call reply.now)) }
         ensures err { OnErr result (self.new ≡ self.old) }
     {
-        let Some(call) = self.under_way.take() else {
-            return Ok(());
-        };
-        let ended = self.end(script, &call, reply);
-        if ended.is_err() {
-            self.under_way = Some(call);
+        let terms = terms_at(script, self.block, self.line);
+        if self.tries_again(reply, terms.tries) {
+            self.tried += 1;
+        } else {
+            self.pass(terms, reply)?;
         }
-        ended
+        self.under_way = None;
+        Ok(())
     }
 
     /// A call is started and has its reply at once, as `start` and `answered` have it, so that it is never kept. A
@@ -152,11 +165,38 @@ impl Caller {
         let terms = terms_at(script, self.block, self.line);
         if tries_again(call, reply, self.tried, terms.tries) {
             self.tried += 1;
+            Ok(())
         } else {
-            self.variables.set(terms.set, value_in(reply))?;
-            self.line = terms.next;
-            self.tried = 0;
+            self.pass(terms, reply)
         }
+    }
+
+    /// Whether the call under way is made once more after this reply, where its line is tried so often at most.
+    fn tries_again(&self, reply: &Reply, tries: u32) -> bool
+        ensures again { IfSome self.now.caller.under_way (λ call. result
+            ≡ (asks_again call (Some reply.now) && nat_lt (self.now.caller.tried + 1) tries)) }
+        ensures few { IsTrue result → self.now.caller.tried + 1 < tries }
+    {
+        match &self.under_way {
+            Some(call) => tries_again(call, reply, self.tried, tries),
+            None => false,
+        }
+    }
+
+    /// The variable of the line is set, and the next line is due. A refusal changes nothing.
+    fn pass(&mut self, terms: Terms, reply: &Reply) -> Result<(), Memory>
+        ensures ok { OnOk result (self.new ≡ record self.old {
+          caller = record self.old.caller {
+            line = terms.next;
+            tried = 0;
+            vars = set_variable self.old.caller.vars terms.set (value_in (Some reply.now));
+          };
+        }) }
+        ensures err { OnErr result (self.new ≡ self.old) }
+    {
+        self.variables.set(terms.set, value_in(reply))?;
+        self.line = terms.next;
+        self.tried = 0;
         Ok(())
     }
 

@@ -1,5 +1,5 @@
 //! The lines of a block, with the exit that its end stands for.
-ghost use Rattle.std.specs.Prelude.{◌≡◌, ◌+◌, ◌<◌, IfSome, IsTrue, length, slice_get};
+ghost use Rattle.std.specs.Prelude.{◌≡◌, ◌+◌, ◌<◌, None, IfSome, IsTrue, length, slice_get};
 ghost use Rattle.std.specs.List.{list_any};
 ghost use Rattle.std.specs.Option.{option_copied};
 ghost use Rattle.kernel_model.specs.Fitting.{block_at};
@@ -46,6 +46,16 @@ pub(crate) fn written_line(script: &Script, node: Node, line: usize) -> Option<&
     ensures { option_copied result ≡ slice_get (written_lines script.now node) line }
 {
     line_in(written_lines(script, node), line)
+}
+
+/// The call of a line as it is written, where it names no variable.
+pub(crate) fn as_written(line: &Line) -> Option<&Call>
+    ensures { IfSome (option_copied result) (λ call. (line.now.from ≡ None) × (call ≡ line.now.call)) }
+{
+    match line.from {
+        None => Some(&line.call),
+        Some(_) => None,
+    }
 }
 
 /// The terms of the line at this place, which may be the exit that the block's end stands for.
