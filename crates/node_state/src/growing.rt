@@ -3,6 +3,7 @@ ghost use Rattle.std.specs.Prelude.{◌≡◌, IsTrue, OnOk};
 ghost use Rattle.kernel_model.specs.Script.{IsSoundScript};
 ghost use Rattle.world_model.specs.Node.{asked_here, under_way_as};
 ghost use Rattle.world_model.specs.Step.{carry_out, enter, reply_here, reply_to, send};
+ghost use Rattle.node_calls.specs.Caller.{HasLine};
 ghost use Rattle.node_state.specs.State.{node_of, step_of};
 ghost use Rattle.node_state.specs.Replies.{reply_at};
 ghost use Rattle.node_state.specs.Started.{can_start, started};
@@ -28,7 +29,11 @@ impl Growing {
     pub fn send(&mut self, to: Node, frame: Frame) -> Result<(), Memory>
         ensures { OnOk result (step_of self.new ≡ send (step_of self.old) to frame) }
     {
-        self.sends.push((to, frame))
+        // The room is made first: what a push can't take it would hand back, by all its bytes.
+        let sends = self.sends.as_mut_vec();
+        sends.reserve(1)?;
+        sends.push_reserved((to, frame));
+        Ok(())
     }
 
     /// The entry of a call that is carried out here. Where memory is refused the node is spent, and nothing is said of
@@ -37,13 +42,16 @@ impl Growing {
     pub fn enter(&mut self, pid: Pid, call: Call, reply: Reply) -> Result<(), Memory>
         ensures { OnOk result (step_of self.new ≡ enter (step_of self.old) pid call reply) }
     {
-        let outcome = Outcome::reply(self.node.alloc, reply);
-        self.entries.push(Entry {
+        // As above.
+        let entries = self.entries.as_mut_vec();
+        entries.reserve(1)?;
+        entries.push_reserved(Entry {
             pid,
             call,
-            outcome,
+            outcome: Outcome::reply(self.node.alloc, reply),
             by: self.node.number(),
-        })
+        });
+        Ok(())
     }
 
     /// The call under way has its reply, if it is the one with this ticket. Memory, too, where its line isn't there.
@@ -122,6 +130,22 @@ impl Growing {
         if !self.node.caller.has_line(script) {
             return Err(Memory);
         }
+        self.carry_out_reached(script, call, reply)
+    }
+
+    /// The same where the call's line is known to be there.
+    #[inline(always)]
+    pub fn carry_out_reached(
+        &mut self,
+        script: &Script,
+        call: Call,
+        reply: Reply,
+    ) -> Result<(), Memory>
+        requires reached { HasLine script.now self.old.node.caller }
+        requires can_start { IsTrue (can_start (node_of self.old.node)) }
+        ensures { OnOk result (step_of self.new ≡ carry_out script.now (started (step_of self.old) call)
+            (asked_here (started (step_of self.old) call).node call) reply) }
+    {
         self.node.caller.answered_at_once(script, &call, &reply)?;
         self.enter(self.node.pid, call, reply)
     }
