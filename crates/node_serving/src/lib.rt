@@ -6,5 +6,5 @@ mod moving;
 mod own;
 mod serving;
 
-pub use own::act_at_once;
+pub use own::{act_at_once, act_lent};
 pub use serving::{serve_asked, serve_at_once, serve_nobody};
