@@ -1,2 +1,1 @@
 mod Making
-mod Refusing

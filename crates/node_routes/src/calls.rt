@@ -1,5 +1,7 @@
 //! A node takes a frame about a call of another node's process.
-ghost use Rattle.std.specs.Prelude.{◌≡◌, ◌&&◌, not, OnOk};
+ghost use Rattle.std.specs.Prelude.{◌≡◌, ◌&&◌, not, IsTrue, OnOk};
+ghost use Rattle.pico_base.specs.Home.{home_of};
+ghost use Rattle.pico_base.specs.declared.call.Home.TheVariants as homes;
 ghost use Rattle.kernel_model.specs.Script.{IsSoundScript};
 ghost use Rattle.kernel_model.specs.Waiting.{is_waiting};
 ghost use Rattle.world_model.specs.Node.{is_node};
@@ -9,6 +11,7 @@ ghost use Rattle.node_state.specs.State.{node_of, step_of};
 ghost use Rattle.node_state.specs.Turning.{IsFresh, Turns};
 ghost use Rattle.node_routes.specs.Asking.{route_if};
 
+use crate::keys::get_by_key_if;
 use crate::routing::{may_route, route_call};
 use node_serving::{serve_asked, serve_nobody};
 use node_state::forms::{is_for_others, is_node, is_on_name_or_removal, is_waiting};
@@ -24,6 +27,37 @@ fn route(step: &mut Growing, script: &Script, asked: Asked) -> Result<(), TurnFa
     Ok(route_call(step, script, asked)?)
 }
 
+/// The leader routes the call if it can.
+fn route_fitting(step: &mut Growing, script: &Script, asked: Asked) -> Result<(), TurnFault>
+    requires sound { IsSoundScript script.now }
+    ensures { Turns (route_call script.now (step_of step.old) asked) step.old step.new result }
+{
+    if may_route(step, asked.pid, &asked.call) {
+        route(step, script, asked)
+    } else {
+        Err(TurnFault::NotAllowed)
+    }
+}
+
+/// Whether the call is a get by a key.
+fn is_by_key(asked: &Asked) -> bool
+    ensures { IsTrue result → home_of asked.now.pid asked.now.call ≡ homes.Keys }
+{
+    matches!(home(asked.pid, &asked.call), Home::Keys)
+}
+
+/// The call is routed if the leader can. For a get by a key that is known once the key is looked up.
+fn route_by_kind(step: &mut Growing, script: &Script, asked: Asked) -> Result<(), TurnFault>
+    requires sound { IsSoundScript script.now }
+    ensures { Turns (route_call script.now (step_of step.old) asked) step.old step.new result }
+{
+    if is_by_key(&asked) {
+        get_by_key_if(step, script, asked)
+    } else {
+        route_fitting(step, script, asked)
+    }
+}
+
 /// The call is routed where that is allowed and the leader can.
 fn route_if(
     step: &mut Growing,
@@ -34,8 +68,8 @@ fn route_if(
     requires sound { IsSoundScript script.now }
     ensures { Turns (route_if allowed script.now (step_of step.old) asked) step.old step.new result }
 {
-    if allowed && may_route(step, asked.pid, &asked.call) {
-        route(step, script, asked)
+    if allowed {
+        route_by_kind(step, script, asked)
     } else {
         Err(TurnFault::NotAllowed)
     }

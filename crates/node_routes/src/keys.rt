@@ -8,12 +8,13 @@ ghost use Rattle.kernel_model.specs.Script.{IsSoundScript};
 ghost use Rattle.world_model.specs.Numbers.{take_number};
 ghost use Rattle.world_model.specs.Routing.{find_set, get_by_key, get_queue, get_set, make_queue};
 ghost use Rattle.node_state.specs.State.{node_of, step_of};
+ghost use Rattle.node_state.specs.Turning.{Turns};
 ghost use Rattle.node_routes.specs.Making.{create_sized, put_in_place};
 
 use key_table::KeyAnswer;
 use node_numbers::{may_take_number, new_queue, new_set, take_number};
-use node_state::Growing;
 use node_state::forms::is_bad_count;
+use node_state::{Growing, TurnFault};
 use pico_base::{Call, Errno, Id, Key, Kind, Memory, Name, Reply, Script};
 use rpc_frame::Asked;
 
@@ -150,6 +151,75 @@ fn may_get_set(step: &Growing, count: u32, answer: KeyAnswer) -> bool
     match answer {
         KeyAnswer::Create => is_bad_count(count) || may_take_number(&step.node, Kind::Sem),
         _ => true,
+    }
+}
+
+/// A get of a queue, by what its key leads to, where it can be carried out.
+fn get_queue_if(
+    step: &mut Growing,
+    script: &Script,
+    asked: Asked,
+    key: Key,
+    answer: KeyAnswer,
+) -> Result<(), TurnFault>
+    requires sound { IsSoundScript script.now }
+    ensures { Turns (get_queue script.now (step_of step.old) asked key answer) step.old step.new result }
+{
+    if !may_get_queue(step, answer) {
+        return Err(TurnFault::NotAllowed);
+    }
+    Ok(get_queue(step, script, asked, key, answer)?)
+}
+
+/// A get of a set, by what its key leads to, where it can be carried out.
+fn get_set_if(
+    step: &mut Growing,
+    script: &Script,
+    asked: Asked,
+    key: Key,
+    count: u32,
+    answer: KeyAnswer,
+) -> Result<(), TurnFault>
+    requires sound { IsSoundScript script.now }
+    ensures { Turns (get_set script.now (step_of step.old) asked key count answer) step.old step.new result }
+{
+    if !may_get_set(step, count, answer) {
+        return Err(TurnFault::NotAllowed);
+    }
+    Ok(get_set(step, script, asked, key, count, answer)?)
+}
+
+/// A get by a key, where it can be carried out: the key is looked up once.
+pub(crate) fn get_by_key_if(
+    step: &mut Growing,
+    script: &Script,
+    asked: Asked,
+) -> Result<(), TurnFault>
+    requires sound { IsSoundScript script.now }
+    ensures { Turns (get_by_key script.now (step_of step.old) asked asked.call) step.old step.new result }
+{
+    match &asked.call {
+        Call::MsgGet {
+            key: Some(key),
+            create,
+            excl,
+        } => {
+            let key = *key;
+            let answer = step.node.leader.queue_answer(key, *create, *excl);
+            get_queue_if(step, script, asked, key, answer)
+        }
+        Call::SemGet {
+            key: Some(key),
+            count,
+            create,
+            excl,
+        } => {
+            let key = *key;
+            let count = *count;
+            let answer = step.node.leader.set_answer(key, *create, *excl);
+            get_set_if(step, script, asked, key, count, answer)
+        }
+        _ => Err(TurnFault::NotAllowed),
     }
 }
 
