@@ -167,6 +167,13 @@ added_from (Some parts) word =
 unfoldable pub added : List ℕ → Option (ℤ × Bool)
 added word = added_from (cut 58 word) word
 
+-- an operation's index, and what follows its colon
+unfoldable pub indexed : List ℕ → Option (ℕ × List ℕ)
+indexed word = do
+  parts ← cut 58 word
+  num ← number 65535 parts.0
+  Some (num, parts.1)
+
 -- an operation, `I:V` or `I:V:nowait`
 unfoldable pub step : List ℕ → Option SemStep
 step word = do

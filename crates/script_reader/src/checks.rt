@@ -4,11 +4,12 @@ ghost use Rattle.std.specs.Prelude.{◌≡◌, ◌+◌, ◌≤◌, ◌<◌, ◌^
 ghost use Rattle.std.specs.List.{list_any};
 ghost use Rattle.kernel_model.specs.Waiting.{may_wait as may_wait_at, is_waiting as is_waiting_call};
 ghost use Rattle.script_reader.specs.Fault as spec;
+ghost use Rattle.script_reader.specs.declared.says.Said.TheVariants.{Calls};
 
 use crate::fault::ScriptFault;
 use crate::place::{MAX_BLOCKS, Place, calls_of};
 use crate::says::Said;
-use pico_base::{Call, SemStep, Var};
+use pico_base::{Call, Line, SemStep, Var};
 
 /// The longest line, without its line feed.
 const MAX_LINE: usize = 4096;
@@ -58,15 +59,22 @@ fn repeats(place: &Place, said: &Said) -> bool
     }
 }
 
+/// Whether this variable isn't known.
+fn is_unset(place: &Place, from: Option<Var>) -> bool
+    ensures { result ≡ spec.is_unset place.now from }
+{
+    match from {
+        None => false,
+        Some(Var(index)) => !place.known.is_set(usize::from(index)),
+    }
+}
+
 /// Whether a line uses a variable that isn't known.
 fn uses_unset(place: &Place, said: &Said) -> bool
     ensures { result ≡ spec.uses_unset place.now said.now }
 {
     match said {
-        Said::Calls(line) => match line.from {
-            None => false,
-            Some(Var(index)) => !place.known.is_set(usize::from(index)),
-        },
+        Said::Calls(line) => is_unset(place, line.from),
         _ => false,
     }
 }
@@ -176,9 +184,10 @@ fn has_fault(place: &Place, size: usize, said: &Said, fault: ScriptFault) -> boo
     }
 }
 
-/// The fault of a line in its place.
+/// The fault of a line in its place, whatever it says.
+#[inline(never)]
 #[tactic(auto, unfolding(crate::specs::Fault::fault_of))]
-pub(crate) fn fault_of(place: &Place, size: usize, said: &Said) -> Option<ScriptFault>
+fn any_fault(place: &Place, size: usize, said: &Said) -> Option<ScriptFault>
     requires blocks { length place.now.blocks < 2 ^ 32 }
     requires calls { place.now.calls ≤ 20000 }
     ensures { result ≡ spec.fault_of place.now size said.now }
@@ -212,5 +221,40 @@ pub(crate) fn fault_of(place: &Place, size: usize, said: &Said) -> Option<Script
         Some(ScriptFault::WaitingForm)
     } else {
         None
+    }
+}
+
+/// The fault of a call's line in its place. These are few tests, and most lines are such lines.
+#[tactic(auto, unfolding(crate::specs::Fault::fault_of, crate::specs::Fault::has_fault))]
+fn call_fault(place: &Place, size: usize, line: &Line) -> Option<ScriptFault>
+    requires { place.now.calls ≤ 20000 }
+    ensures { result ≡ spec.fault_of place.now size (Calls line.now) }
+{
+    if MAX_LINE < size {
+        Some(ScriptFault::LineTooLong)
+    } else if !place.inside {
+        Some(ScriptFault::NoProc)
+    } else if place.over {
+        Some(ScriptFault::BadArgument)
+    } else if is_unset(place, line.from) {
+        Some(ScriptFault::UnsetVariable)
+    } else if MAX_CALLS < place.calls + line.tries as usize {
+        Some(ScriptFault::TooManyCalls)
+    } else if is_waiting(&line.call) {
+        Some(ScriptFault::WaitingForm)
+    } else {
+        None
+    }
+}
+
+/// The fault of a line in its place.
+pub(crate) fn fault_of(place: &Place, size: usize, said: &Said) -> Option<ScriptFault>
+    requires blocks { length place.now.blocks < 2 ^ 32 }
+    requires calls { place.now.calls ≤ 20000 }
+    ensures { result ≡ spec.fault_of place.now size said.now }
+{
+    match said {
+        Said::Calls(line) => call_fault(place, size, line),
+        _ => any_fault(place, size, said),
     }
 }

@@ -5,7 +5,7 @@ ghost use Rattle.script_reader.specs.Words.{texts};
 ghost use Rattle.script_reader.specs.Forms as forms;
 
 use crate::numbers::{number, positive};
-use crate::parts::{is_nowait, variable};
+use crate::parts::{is_nowait, is_six, variable};
 use pico_base::{Call, Id, Pid, Var};
 use quoted_bytes::strip_front;
 
@@ -66,7 +66,7 @@ pub(crate) fn create_excl(words: &[&[u8]]) -> Option<(bool, bool)>
     match words {
         [] => Some((false, false)),
         [only] => {
-            if *only == b"create".as_slice() {
+            if is_six(*b"create", only) {
                 Some((true, false))
             } else if *only == b"excl".as_slice() {
                 Some((false, true))

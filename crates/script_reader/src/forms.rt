@@ -10,41 +10,40 @@ use crate::process_forms::{
     put_waitpid,
 };
 use crate::queue_forms::{put_msgctl, put_msgget, put_msgrcv, put_msgsnd};
-use crate::says::Said;
+use crate::says::{CallFront, Said};
 use crate::set_forms::{put_semctl, put_semget, put_semop};
 use crate::verb::Verb;
-use pico_base::{Memory, Var};
+use pico_base::Memory;
 use std::alloc::Global;
 
 /// Puts a line with the call of this name with these words behind it, but for `fork`, in the place of what another line
 /// said.
 pub(crate) fn put_call(
     alloc: Global,
-    set: Option<Var>,
-    tries: Option<u32>,
+    front: &CallFront,
     verb: Verb,
     words: &[&[u8]],
     said: &mut Said,
 ) -> Result<(), Memory>
-    ensures { OnOk result (said.new ≡ said_from set tries (forms.call_of verb (texts words.now))) }
+    ensures { OnOk result (said.new ≡ said_from front.now.set front.now.tries (forms.call_of verb (texts words.now))) }
 {
     match verb {
         Verb::Fork => *said = Said::Bad,
-        Verb::Exit => put_exit(set, tries, words, said),
-        Verb::GetPid => put_getpid(set, tries, words, said),
-        Verb::Kill => put_kill(set, tries, words, said),
-        Verb::SigAction => put_sigaction(set, tries, words, said),
-        Verb::SigProcMask => put_sigprocmask(set, tries, words, said),
-        Verb::SigPending => put_sigpending(set, tries, words, said),
-        Verb::Handled => put_handled(set, tries, words, said),
-        Verb::WaitPid => put_waitpid(set, tries, words, said),
-        Verb::MsgGet => put_msgget(set, tries, words, said),
-        Verb::MsgSnd => put_msgsnd(alloc, set, tries, words, said)?,
-        Verb::MsgRcv => put_msgrcv(set, tries, words, said),
-        Verb::MsgCtl => put_msgctl(set, tries, words, said),
-        Verb::SemGet => put_semget(set, tries, words, said),
-        Verb::SemOp => put_semop(alloc, set, tries, words, said)?,
-        Verb::SemCtl => put_semctl(alloc, set, tries, words, said)?,
+        Verb::Exit => put_exit(front, words, said),
+        Verb::GetPid => put_getpid(front, words, said),
+        Verb::Kill => put_kill(front, words, said),
+        Verb::SigAction => put_sigaction(front, words, said),
+        Verb::SigProcMask => put_sigprocmask(front, words, said),
+        Verb::SigPending => put_sigpending(front, words, said),
+        Verb::Handled => put_handled(front, words, said),
+        Verb::WaitPid => put_waitpid(front, words, said),
+        Verb::MsgGet => put_msgget(front, words, said),
+        Verb::MsgSnd => put_msgsnd(alloc, front, words, said)?,
+        Verb::MsgRcv => put_msgrcv(front, words, said),
+        Verb::MsgCtl => put_msgctl(front, words, said),
+        Verb::SemGet => put_semget(front, words, said),
+        Verb::SemOp => put_semop(alloc, front, words, said)?,
+        Verb::SemCtl => put_semctl(alloc, front, words, said)?,
     }
     Ok(())
 }

@@ -90,13 +90,39 @@ pub(crate) fn is_nowait(word: &[u8]) -> bool
     }
 }
 
-/// Whether the word is this one of four bytes. They are told one by one, as most signals' names have so many.
-fn is_four(name: [u8; 4], word: &[u8]) -> bool
+// Whether a word is this one of so many bytes. The bytes are told one by one, without a call.
+
+pub(crate) fn is_four(name: [u8; 4], word: &[u8]) -> bool
     ensures { result ≡ bytes_eq name word.now }
 {
     match word {
         [a, b, c, d] => {
             (name[0] == *a) & ((name[1] == *b) & ((name[2] == *c) & (name[3] == *d)))
+        }
+        _ => false,
+    }
+}
+
+pub(crate) fn is_five(name: [u8; 5], word: &[u8]) -> bool
+    ensures { result ≡ bytes_eq name word.now }
+{
+    match word {
+        [a, b, c, d, e] => {
+            (name[0] == *a)
+                & ((name[1] == *b) & ((name[2] == *c) & ((name[3] == *d) & (name[4] == *e))))
+        }
+        _ => false,
+    }
+}
+
+pub(crate) fn is_six(name: [u8; 6], word: &[u8]) -> bool
+    ensures { result ≡ bytes_eq name word.now }
+{
+    match word {
+        [a, b, c, d, e, f] => {
+            (name[0] == *a)
+                & ((name[1] == *b)
+                    & ((name[2] == *c) & ((name[3] == *d) & ((name[4] == *e) & (name[5] == *f)))))
         }
         _ => false,
     }

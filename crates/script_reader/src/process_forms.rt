@@ -8,7 +8,7 @@ ghost use Rattle.script_reader.specs.Forms as forms;
 use crate::form_parts::{FromCall, optional, process};
 use crate::numbers::index;
 use crate::parts::{action, how, signal, signal_argument, signal_set};
-use crate::says::{Said, put_from};
+use crate::says::{CallFront, Said, put_from};
 use pico_base::{Call, Pid, Var};
 
 /// `exit N`.
@@ -137,62 +137,57 @@ fn waitpid(words: &[&[u8]]) -> Option<FromCall>
 // compiled, so that the long value is made where it stays.
 
 #[inline(never)]
-pub(crate) fn put_exit(set: Option<Var>, tries: Option<u32>, words: &[&[u8]], said: &mut Said)
-    ensures { said.new ≡ said_from set tries (forms.exit_of (texts words.now)) }
+pub(crate) fn put_exit(front: &CallFront, words: &[&[u8]], said: &mut Said)
+    ensures { said.new ≡ said_from front.now.set front.now.tries (forms.exit_of (texts words.now)) }
 {
-    put_from(set, tries, exit(words), said);
+    put_from(front, exit(words), said);
 }
 
 #[inline(never)]
-pub(crate) fn put_getpid(set: Option<Var>, tries: Option<u32>, words: &[&[u8]], said: &mut Said)
-    ensures { said.new ≡ said_from set tries (forms.getpid_of (texts words.now)) }
+pub(crate) fn put_getpid(front: &CallFront, words: &[&[u8]], said: &mut Said)
+    ensures { said.new ≡ said_from front.now.set front.now.tries (forms.getpid_of (texts words.now)) }
 {
-    put_from(set, tries, getpid(words), said);
+    put_from(front, getpid(words), said);
 }
 
 #[inline(never)]
-pub(crate) fn put_kill(set: Option<Var>, tries: Option<u32>, words: &[&[u8]], said: &mut Said)
-    ensures { said.new ≡ said_from set tries (forms.kill_of (texts words.now)) }
+pub(crate) fn put_kill(front: &CallFront, words: &[&[u8]], said: &mut Said)
+    ensures { said.new ≡ said_from front.now.set front.now.tries (forms.kill_of (texts words.now)) }
 {
-    put_from(set, tries, kill(words), said);
+    put_from(front, kill(words), said);
 }
 
 #[inline(never)]
-pub(crate) fn put_sigaction(set: Option<Var>, tries: Option<u32>, words: &[&[u8]], said: &mut Said)
-    ensures { said.new ≡ said_from set tries (forms.sigaction_of (texts words.now)) }
+pub(crate) fn put_sigaction(front: &CallFront, words: &[&[u8]], said: &mut Said)
+    ensures { said.new ≡ said_from front.now.set front.now.tries (forms.sigaction_of (texts words.now)) }
 {
-    put_from(set, tries, sigaction(words), said);
+    put_from(front, sigaction(words), said);
 }
 
 #[inline(never)]
-pub(crate) fn put_sigprocmask(
-    set: Option<Var>,
-    tries: Option<u32>,
-    words: &[&[u8]],
-    said: &mut Said,
-)
-    ensures { said.new ≡ said_from set tries (forms.sigprocmask_of (texts words.now)) }
+pub(crate) fn put_sigprocmask(front: &CallFront, words: &[&[u8]], said: &mut Said)
+    ensures { said.new ≡ said_from front.now.set front.now.tries (forms.sigprocmask_of (texts words.now)) }
 {
-    put_from(set, tries, sigprocmask(words), said);
+    put_from(front, sigprocmask(words), said);
 }
 
 #[inline(never)]
-pub(crate) fn put_sigpending(set: Option<Var>, tries: Option<u32>, words: &[&[u8]], said: &mut Said)
-    ensures { said.new ≡ said_from set tries (forms.sigpending_of (texts words.now)) }
+pub(crate) fn put_sigpending(front: &CallFront, words: &[&[u8]], said: &mut Said)
+    ensures { said.new ≡ said_from front.now.set front.now.tries (forms.sigpending_of (texts words.now)) }
 {
-    put_from(set, tries, sigpending(words), said);
+    put_from(front, sigpending(words), said);
 }
 
 #[inline(never)]
-pub(crate) fn put_handled(set: Option<Var>, tries: Option<u32>, words: &[&[u8]], said: &mut Said)
-    ensures { said.new ≡ said_from set tries (forms.handled_of (texts words.now)) }
+pub(crate) fn put_handled(front: &CallFront, words: &[&[u8]], said: &mut Said)
+    ensures { said.new ≡ said_from front.now.set front.now.tries (forms.handled_of (texts words.now)) }
 {
-    put_from(set, tries, handled(words), said);
+    put_from(front, handled(words), said);
 }
 
 #[inline(never)]
-pub(crate) fn put_waitpid(set: Option<Var>, tries: Option<u32>, words: &[&[u8]], said: &mut Said)
-    ensures { said.new ≡ said_from set tries (forms.waitpid_of (texts words.now)) }
+pub(crate) fn put_waitpid(front: &CallFront, words: &[&[u8]], said: &mut Said)
+    ensures { said.new ≡ said_from front.now.set front.now.tries (forms.waitpid_of (texts words.now)) }
 {
-    put_from(set, tries, waitpid(words), said);
+    put_from(front, waitpid(words), said);
 }

@@ -7,9 +7,9 @@ ghost use Rattle.script_reader.specs.Forms as forms;
 
 use crate::form_parts::{FromCall, create_excl, identifier, noerror_nowait, optional_nowait};
 use crate::numbers::{MAX_NUMBER, number, positive, signed};
-use crate::says::{Said, put_from};
+use crate::says::{CallFront, Said, put_from};
 use crate::texts::text;
-use pico_base::{Call, Id, Key, Memory, Var};
+use pico_base::{Call, Id, Key, Memory};
 use std::alloc::Global;
 
 /// The greatest message type, and the least one below zero.
@@ -163,36 +163,35 @@ fn msgctl(words: &[&[u8]]) -> Option<FromCall>
 // compiled, so that the long value is made where it stays.
 
 #[inline(never)]
-pub(crate) fn put_msgget(set: Option<Var>, tries: Option<u32>, words: &[&[u8]], said: &mut Said)
-    ensures { said.new ≡ said_from set tries (forms.msgget_of (texts words.now)) }
+pub(crate) fn put_msgget(front: &CallFront, words: &[&[u8]], said: &mut Said)
+    ensures { said.new ≡ said_from front.now.set front.now.tries (forms.msgget_of (texts words.now)) }
 {
-    put_from(set, tries, msgget(words), said);
+    put_from(front, msgget(words), said);
 }
 
 #[inline(never)]
 pub(crate) fn put_msgsnd(
     alloc: Global,
-    set: Option<Var>,
-    tries: Option<u32>,
+    front: &CallFront,
     words: &[&[u8]],
     said: &mut Said,
 ) -> Result<(), Memory>
-    ensures { OnOk result (said.new ≡ said_from set tries (forms.msgsnd_of (texts words.now))) }
+    ensures { OnOk result (said.new ≡ said_from front.now.set front.now.tries (forms.msgsnd_of (texts words.now))) }
 {
-    put_from(set, tries, msgsnd(alloc, words)?, said);
+    put_from(front, msgsnd(alloc, words)?, said);
     Ok(())
 }
 
 #[inline(never)]
-pub(crate) fn put_msgrcv(set: Option<Var>, tries: Option<u32>, words: &[&[u8]], said: &mut Said)
-    ensures { said.new ≡ said_from set tries (forms.msgrcv_of (texts words.now)) }
+pub(crate) fn put_msgrcv(front: &CallFront, words: &[&[u8]], said: &mut Said)
+    ensures { said.new ≡ said_from front.now.set front.now.tries (forms.msgrcv_of (texts words.now)) }
 {
-    put_from(set, tries, msgrcv(words), said);
+    put_from(front, msgrcv(words), said);
 }
 
 #[inline(never)]
-pub(crate) fn put_msgctl(set: Option<Var>, tries: Option<u32>, words: &[&[u8]], said: &mut Said)
-    ensures { said.new ≡ said_from set tries (forms.msgctl_of (texts words.now)) }
+pub(crate) fn put_msgctl(front: &CallFront, words: &[&[u8]], said: &mut Said)
+    ensures { said.new ≡ said_from front.now.set front.now.tries (forms.msgctl_of (texts words.now)) }
 {
-    put_from(set, tries, msgctl(words), said);
+    put_from(front, msgctl(words), said);
 }

@@ -85,22 +85,25 @@ fn fork(names: &Names, set: Front<Var>, tries: Front<u32>, words: &[&[u8]]) -> S
     }
 }
 
+/// What stands in front of a call: the variable that it sets, and how often it's tried. It is handed on by reference, as
+/// a word.
+#[derive(Clone, Copy)]
+pub(crate) struct CallFront {
+    pub(crate) set: Option<Var>,
+    pub(crate) tries: Option<u32>,
+}
+
 /// Puts a line with this call in the place of what another line said.
 #[inline(always)]
-pub(crate) fn put_from(
-    set: Option<Var>,
-    tries: Option<u32>,
-    call: Option<FromCall>,
-    said: &mut Said,
-)
-    ensures { said.new ≡ says.said_from set tries call }
+pub(crate) fn put_from(front: &CallFront, call: Option<FromCall>, said: &mut Said)
+    ensures { said.new ≡ says.said_from front.now.set front.now.tries call }
 {
     match call {
         None => *said = Said::Bad,
         Some((from, call)) => {
             *said = Said::Calls(Line {
-                set,
-                tries: tries.unwrap_or(1),
+                set: front.set,
+                tries: front.tries.unwrap_or(1),
                 from,
                 call,
             });
@@ -114,7 +117,13 @@ fn exit_line(set: Front<Var>, tries: Front<u32>, words: &[&[u8]], said: &mut Sai
     ensures { said.new ≡ says.exit_said set tries (forms.exit_of (texts words.now)) }
 {
     match (set, tries) {
-        (Some(None), Some(None)) => put_exit(None, None, words, said),
+        (Some(None), Some(None)) => {
+            let front = CallFront {
+                set: None,
+                tries: None,
+            };
+            put_exit(&front, words, said);
+        }
         _ => *said = Said::Bad,
     }
 }
@@ -132,7 +141,10 @@ fn other_line(
     ensures { OnOk result (said.new ≡ says.other_said set tries (forms.call_of verb (texts words.now))) }
 {
     match (set, tries) {
-        (Some(set), Some(tries)) => put_call(alloc, set, tries, verb, words, said)?,
+        (Some(set), Some(tries)) => {
+            let front = CallFront { set, tries };
+            put_call(alloc, &front, verb, words, said)?;
+        }
         _ => *said = Said::Bad,
     }
     Ok(())

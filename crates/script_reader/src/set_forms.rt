@@ -7,9 +7,9 @@ ghost use Rattle.script_reader.specs.Forms as forms;
 
 use crate::form_parts::{FromCall, create_excl, identifier};
 use crate::numbers::{MAX_NUMBER, index, number, positive};
-use crate::says::{Said, put_from};
+use crate::says::{CallFront, Said, put_from};
 use crate::texts::{steps, values};
-use pico_base::{Call, Id, Key, Memory, Var};
+use pico_base::{Call, Id, Key, Memory};
 use std::alloc::Global;
 
 #[tactic(auto, unfolding(crate::specs::Forms::keyed_set))]
@@ -190,36 +190,34 @@ fn semctl(alloc: Global, words: &[&[u8]]) -> Result<Option<FromCall>, Memory>
 // compiled, so that the long value is made where it stays.
 
 #[inline(never)]
-pub(crate) fn put_semget(set: Option<Var>, tries: Option<u32>, words: &[&[u8]], said: &mut Said)
-    ensures { said.new ≡ said_from set tries (forms.semget_of (texts words.now)) }
+pub(crate) fn put_semget(front: &CallFront, words: &[&[u8]], said: &mut Said)
+    ensures { said.new ≡ said_from front.now.set front.now.tries (forms.semget_of (texts words.now)) }
 {
-    put_from(set, tries, semget(words), said);
+    put_from(front, semget(words), said);
 }
 
 #[inline(never)]
 pub(crate) fn put_semop(
     alloc: Global,
-    set: Option<Var>,
-    tries: Option<u32>,
+    front: &CallFront,
     words: &[&[u8]],
     said: &mut Said,
 ) -> Result<(), Memory>
-    ensures { OnOk result (said.new ≡ said_from set tries (forms.semop_of (texts words.now))) }
+    ensures { OnOk result (said.new ≡ said_from front.now.set front.now.tries (forms.semop_of (texts words.now))) }
 {
-    put_from(set, tries, semop(alloc, words)?, said);
+    put_from(front, semop(alloc, words)?, said);
     Ok(())
 }
 
 #[inline(never)]
 pub(crate) fn put_semctl(
     alloc: Global,
-    set: Option<Var>,
-    tries: Option<u32>,
+    front: &CallFront,
     words: &[&[u8]],
     said: &mut Said,
 ) -> Result<(), Memory>
-    ensures { OnOk result (said.new ≡ said_from set tries (forms.semctl_of (texts words.now))) }
+    ensures { OnOk result (said.new ≡ said_from front.now.set front.now.tries (forms.semctl_of (texts words.now))) }
 {
-    put_from(set, tries, semctl(alloc, words)?, said);
+    put_from(front, semctl(alloc, words)?, said);
     Ok(())
 }

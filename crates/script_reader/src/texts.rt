@@ -4,7 +4,7 @@ ghost use Rattle.std.specs.Prelude.{◌≡◌, ℕ, ◌<◌, ◌≤◌, ◌+◌,
 ghost use Rattle.std.specs.List.{list_all};
 ghost use Rattle.script_reader.specs.Words.{texts};
 ghost use Rattle.kernel_model.specs.Texts.{is_plain as is_plain_of};
-ghost use Rattle.script_reader.specs.Parts.{is_alphanumeric as is_alphanumeric_of, closed_at, quoted_at, letter as letter_of, counted as counted_of, repetition as repetition_of, text as text_of, added as added_of, step as step_of, each, number as number_of, values as values_of};
+ghost use Rattle.script_reader.specs.Parts.{is_alphanumeric as is_alphanumeric_of, closed_at, quoted_at, letter as letter_of, counted as counted_of, repetition as repetition_of, text as text_of, added as added_of, indexed as indexed_of, step as step_of, each, number as number_of, values as values_of};
 
 use crate::numbers::{MAX_NUMBER, index, number, signed};
 use crate::parts::{cut, is_nowait};
@@ -156,8 +156,9 @@ pub(crate) fn text(alloc: Global, word: &[u8]) -> Result<Option<Bytes>, Memory>
 }
 
 /// What an operation adds, and whether `:nowait` follows.
+#[inline(never)]
 #[tactic(auto, unfolding(crate::specs::Parts::added))]
-fn amount(word: &[u8]) -> Option<(i32, bool)>
+fn any_amount(word: &[u8]) -> Option<(i32, bool)>
     ensures { result ≡ added_of word.now }
 {
     match cut(b':', word) {
@@ -176,13 +177,53 @@ fn amount(word: &[u8]) -> Option<(i32, bool)>
     }
 }
 
+/// What `any_amount` gives. Most amounts have one digit, and are told without a search.
+fn amount(word: &[u8]) -> Option<(i32, bool)>
+    ensures { result ≡ added_of word.now }
+{
+    match word {
+        [digit] if digit.is_ascii_digit() => Some((i32::from(*digit - b'0'), false)),
+        [sign, digit, colon, nowait @ ..]
+            if *sign == b'-' && b'1' <= *digit && *digit <= b'9' && *colon == b':' => {
+            if is_nowait(nowait) {
+                Some((-i32::from(*digit - b'0'), true))
+            } else {
+                None
+            }
+        }
+        _ => any_amount(word),
+    }
+}
+
+/// An operation's index, and what follows its colon.
+#[inline(never)]
+#[tactic(auto, unfolding(crate::specs::Parts::indexed))]
+fn any_indexed(word: &[u8]) -> Option<(u16, &[u8])>
+    ensures { option_map (λ x. (x.0, x.1.now)) result ≡ indexed_of word.now }
+{
+    let (num, rest) = cut(b':', word)?;
+    let num = index(num)?;
+    Some((num, rest))
+}
+
+/// What `any_indexed` gives. Most indices have one digit, and are told without a search.
+fn indexed(word: &[u8]) -> Option<(u16, &[u8])>
+    ensures { option_map (λ x. (x.0, x.1.now)) result ≡ indexed_of word.now }
+{
+    match word {
+        [digit, colon, rest @ ..] if digit.is_ascii_digit() && *colon == b':' => {
+            Some((u16::from(*digit - b'0'), rest))
+        }
+        _ => any_indexed(word),
+    }
+}
+
 /// An operation, `I:V` or `I:V:nowait`.
-#[tactic(auto, unfolding(crate::specs::Parts::step))]
+#[tactic(auto, unfolding(crate::specs::Parts::step, crate::specs::Parts::indexed))]
 fn step(word: &[u8]) -> Option<SemStep>
     ensures { result ≡ step_of word.now }
 {
-    let (num, add) = cut(b':', word)?;
-    let num = index(num)?;
+    let (num, add) = indexed(word)?;
     let (add, nowait) = amount(add)?;
     Some(SemStep { num, add, nowait })
 }

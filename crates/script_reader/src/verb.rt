@@ -4,6 +4,8 @@ ghost use Rattle.std.specs.Prelude.{◌≡◌, bytes_eq, drop};
 ghost use Rattle.std.specs.List.{find};
 ghost use Rattle.script_reader.specs.Forms.{all_verbs, verb_name, verb_of};
 
+use crate::parts::{is_five, is_four, is_six};
+
 /// What the first word of a call names.
 #[derive(Clone, Copy, PartialEq, Eq)]
 pub enum Verb {
@@ -26,74 +28,51 @@ pub enum Verb {
 }
 
 impl Verb {
-    fn name(self) -> &'static [u8]
-        ensures { result.now ≡ verb_name self }
-    {
-        match self {
-            Verb::Fork => b"fork",
-            Verb::Exit => b"exit",
-            Verb::GetPid => b"getpid",
-            Verb::Kill => b"kill",
-            Verb::SigAction => b"sigaction",
-            Verb::SigProcMask => b"sigprocmask",
-            Verb::SigPending => b"sigpending",
-            Verb::Handled => b"handled",
-            Verb::WaitPid => b"waitpid",
-            Verb::MsgGet => b"msgget",
-            Verb::MsgSnd => b"msgsnd",
-            Verb::MsgRcv => b"msgrcv",
-            Verb::MsgCtl => b"msgctl",
-            Verb::SemGet => b"semget",
-            Verb::SemOp => b"semop",
-            Verb::SemCtl => b"semctl",
-        }
-    }
-
     /// What this word names, of the calls that scripts have fewer of.
     fn named_seldom(word: &[u8]) -> Option<Verb>
         ensures { result ≡ find (λ v. bytes_eq (verb_name v) word.now) (drop 8 all_verbs) }
     {
-        if Verb::MsgGet.name() == word {
+        if is_six(*b"msgget", word) {
             Some(Verb::MsgGet)
-        } else if Verb::MsgCtl.name() == word {
+        } else if is_six(*b"msgctl", word) {
             Some(Verb::MsgCtl)
-        } else if Verb::SemGet.name() == word {
+        } else if is_six(*b"semget", word) {
             Some(Verb::SemGet)
-        } else if Verb::SemCtl.name() == word {
+        } else if is_six(*b"semctl", word) {
             Some(Verb::SemCtl)
-        } else if Verb::SigAction.name() == word {
+        } else if b"sigaction".as_slice() == word {
             Some(Verb::SigAction)
-        } else if Verb::SigProcMask.name() == word {
+        } else if b"sigprocmask".as_slice() == word {
             Some(Verb::SigProcMask)
-        } else if Verb::SigPending.name() == word {
+        } else if b"sigpending".as_slice() == word {
             Some(Verb::SigPending)
-        } else if Verb::Handled.name() == word {
+        } else if b"handled".as_slice() == word {
             Some(Verb::Handled)
         } else {
             None
         }
     }
 
-    /// What this word names. Those that scripts have most of are tried first, and each name as a constant.
+    /// What this word names. Those that scripts have most of are tried first.
     #[tactic(auto, unfolding(crate::specs::Forms::verb_of))]
     pub(crate) fn named(word: &[u8]) -> Option<Verb>
         ensures { result ≡ verb_of word.now }
     {
-        if Verb::MsgRcv.name() == word {
+        if is_six(*b"msgrcv", word) {
             Some(Verb::MsgRcv)
-        } else if Verb::MsgSnd.name() == word {
+        } else if is_six(*b"msgsnd", word) {
             Some(Verb::MsgSnd)
-        } else if Verb::SemOp.name() == word {
+        } else if is_five(*b"semop", word) {
             Some(Verb::SemOp)
-        } else if Verb::GetPid.name() == word {
+        } else if is_six(*b"getpid", word) {
             Some(Verb::GetPid)
-        } else if Verb::Fork.name() == word {
+        } else if is_four(*b"fork", word) {
             Some(Verb::Fork)
-        } else if Verb::Exit.name() == word {
+        } else if is_four(*b"exit", word) {
             Some(Verb::Exit)
-        } else if Verb::Kill.name() == word {
+        } else if is_four(*b"kill", word) {
             Some(Verb::Kill)
-        } else if Verb::WaitPid.name() == word {
+        } else if b"waitpid".as_slice() == word {
             Some(Verb::WaitPid)
         } else {
             Verb::named_seldom(word)
