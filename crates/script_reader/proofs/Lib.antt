@@ -5,6 +5,7 @@ pub mod Names
 pub mod Each
 pub mod Lanes
 pub mod Marked
+pub mod Parting
 pub mod OneDigit
 pub mod Quotes
 pub mod Steps
