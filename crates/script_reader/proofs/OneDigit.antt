@@ -35,12 +35,14 @@ digit_range b e =
 number_of_one : (d : ℕ) → 48 ≤ d → d ≤ 57 → number 65535 (d ∷ []) ≡ Some (d - 48)
 unfolding number digits
 number_of_one d low high =
-    by_value (λ d. number 65535 (d ∷ []) ≡ Some (d - 48)) 48 10 ((((((((((tt, refl), refl), refl), refl), refl), refl), refl), refl), refl), refl) d low (omega (arith, high))
+    by_value (λ d. number 65535 (d ∷ []) ≡ Some (d - 48)) 48 10
+    ((((((((((tt, refl), refl), refl), refl), refl), refl), refl), refl), refl), refl) d low (omega (arith, high))
 
 below_zero : (d : ℕ) → 49 ≤ d → d ≤ 57 → signed 65535 (45 ∷ d ∷ []) ≡ Some (negsuc (d - 49))
 unfolding signed strip positive number digits
 below_zero d low high =
-    by_value (λ d. signed 65535 (45 ∷ d ∷ []) ≡ Some (negsuc (d - 49))) 49 9 (((((((((tt, refl), refl), refl), refl), refl), refl), refl), refl), refl) d low (omega (arith, high))
+    by_value (λ d. signed 65535 (45 ∷ d ∷ []) ≡ Some (negsuc (d - 49))) 49 9
+    (((((((((tt, refl), refl), refl), refl), refl), refl), refl), refl), refl) d low (omega (arith, high))
 
 -- ---- the first colon
 
@@ -82,6 +84,7 @@ indexed_by d rest low high =
     (cut_second d rest high)
     ∙ ap (λ (o : Option ℕ). o >>= λ n. Some (n, rest)) (number_of_one d low high)
 
+-- an index of one digit, its colon, and what follows
 pub indexed_in : (w : List ℕ) → 2 ≤ length w → is_digit (get_or w 0 0) ≡ true → get_or w 1 0 ≡ 58
     → Some (get_or w 0 0 - 48, take (length w - 2) (drop 2 w)) ≡ indexed w
 indexed_in [] long digit colon = absurd (omega (arith, long))
@@ -97,9 +100,10 @@ added_alone : (d : ℕ) → 48 ≤ d → d ≤ 57
     → Some (to_z w32 (of_z w32 (pos (d - 48))), false) ≡ added (d ∷ [])
 unfolding added cut signed strip number digits
 added_alone d low high =
-    by_value (λ d. Some (to_z w32 (of_z w32 (pos (d - 48))), false) ≡ added (d ∷ [])) 48 10 ((((((((((tt, refl), refl), refl), refl), refl), refl), refl), refl), refl), refl) d low
-    (omega (arith, high))
+    by_value (λ d. Some (to_z w32 (of_z w32 (pos (d - 48))), false) ≡ added (d ∷ [])) 48 10
+    ((((((((((tt, refl), refl), refl), refl), refl), refl), refl), refl), refl), refl) d low (omega (arith, high))
 
+-- an amount that is one digit alone
 pub added_in_one : (w : List ℕ) → 1 ≤ length w → length w < 2 → is_digit (get_or w 0 0) ≡ true
     → Some (to_z w32 (of_z w32 (pos (get_or w 0 0 - 48))), false) ≡ added w
 added_in_one [] long short digit = absurd (omega (arith, long))
@@ -108,11 +112,12 @@ added_in_one (d ∷ e ∷ w) long short digit = absurd (omega (arith, short))
 
 -- ---- `-V:nowait`
 
+-- a digit behind a minus sign, as the code turns its sign
 pub turned : (d : ℕ) → 49 ≤ d → d ≤ 57
     → to_z w32 (of_z w32 (pos 0 -ℤ to_z w32 (of_z w32 (pos (d - 48))))) ≡ negsuc (d - 49)
 turned d low high =
-    by_value (λ d. to_z w32 (of_z w32 (pos 0 -ℤ to_z w32 (of_z w32 (pos (d - 48))))) ≡ negsuc (d - 49)) 49 9 (((((((((tt, refl), refl), refl), refl), refl), refl), refl), refl), refl)
-    d low (omega (arith, high))
+    by_value (λ d. to_z w32 (of_z w32 (pos 0 -ℤ to_z w32 (of_z w32 (pos (d - 48))))) ≡ negsuc (d - 49)) 49 9
+    (((((((((tt, refl), refl), refl), refl), refl), refl), refl), refl), refl) d low (omega (arith, high))
 
 abbrev with_nowait : ℕ → Bool → Option (ℤ × Bool)
 with_nowait d nowait = cond nowait (Some (negsuc (d - 49), true)) None
@@ -125,6 +130,7 @@ added_below d rest low high =
     ∙ ap (λ (o : Option ℤ). o >>= λ add. cond (bytes_eq rest (codes "nowait")) (Some (add, true)) None)
     (below_zero d low high)
 
+-- an amount of one digit behind a minus sign, with `:nowait` or other bytes behind it
 pub added_in : (w : List ℕ) → 3 ≤ length w → get_or w 0 0 ≡ 45 → 49 ≤ get_or w 1 0 → get_or w 1 0 ≤ 57
     → get_or w 2 0 ≡ 58 → (b : Bool) → b ≡ bytes_eq (take (length w - 3) (drop 3 w)) (codes "nowait")
     → added w ≡ with_nowait (get_or w 1 0) b

@@ -85,8 +85,8 @@ fn fork(names: &Names, set: Front<Var>, tries: Front<u32>, words: &[&[u8]]) -> S
     }
 }
 
-/// What stands in front of a call: the variable that it sets, and how often it's tried. It is handed on by reference, as
-/// a word.
+/// What stands in front of a call: the variable that it sets, and how often it's tried. It is handed on by reference,
+/// as a word.
 #[derive(Clone, Copy)]
 pub(crate) struct CallFront {
     pub(crate) set: Option<Var>,

@@ -72,22 +72,24 @@ pub short_semop : (id : ℕ) → id < 10
     → codes "semop " ++ decimal id ≡ 115 ∷ 101 ∷ 109 ∷ 111 ∷ 112 ∷ 32 ∷ (48 + id) ∷ []
 short_semop id small = rw (decimal_digit id small) refl
 
--- the first words of a send and of a receive, with numbers of one digit
+-- the first words of a send, with numbers of one digit
 pub short_msgsnd : (id class : ℕ) → id < 10 → class < 10
     → codes "msgsnd " ++ decimal id ++ 32 ∷ (decimal class ++ 32 ∷ [])
     ≡ 109 ∷ 115 ∷ 103 ∷ 115 ∷ 110 ∷ 100 ∷ 32 ∷ (48 + id) ∷ 32 ∷ (48 + class) ∷ 32 ∷ []
 short_msgsnd id class small few = rw (decimal_digit id small, decimal_digit class few) refl
 
+-- the first words of a receive, with numbers of one digit
 pub short_msgrcv : (id class : ℕ) → id < 10 → class < 10
     → codes "msgrcv " ++ decimal id ++ 32 ∷ (decimal class ++ 32 ∷ [])
     ≡ 109 ∷ 115 ∷ 103 ∷ 114 ∷ 99 ∷ 118 ∷ 32 ∷ (48 + id) ∷ 32 ∷ (48 + class) ∷ 32 ∷ []
 short_msgrcv id class small few = rw (decimal_digit id small, decimal_digit class few) refl
 
--- what is added to a semaphore or taken from it, with numbers of one digit
+-- what is added to a semaphore, with numbers of one digit
 pub short_add : (num add : ℕ) → num < 10 → add < 10
     → 32 ∷ (decimal num ++ 58 ∷ decimal add) ≡ 32 ∷ (48 + num) ∷ 58 ∷ (48 + add) ∷ []
 short_add num add small few = rw (decimal_digit num small, decimal_digit add few) refl
 
+-- what is taken from a semaphore, with numbers of one digit
 pub short_less : (num less : ℕ) → num < 10 → less < 10
     → 32 ∷ (decimal num ++ 58 ∷ 45 ∷ decimal less) ≡ 32 ∷ (48 + num) ∷ 58 ∷ 45 ∷ (48 + less) ∷ []
 short_less num less small few = rw (decimal_digit num small, decimal_digit less few) refl

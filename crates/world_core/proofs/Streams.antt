@@ -8,6 +8,7 @@ use Rattle.world_model.specs.World.{Streams, is_checkpoint, with_all_sent}
 use Rattle.world_core.specs.Inbox.{IsFirstOf, from_node, with_from, is_filled, may_take}
 use Rattle.world_core.specs.Stream.{frame_of, frames_of, has_second}
 
+-- as many as both lists have
 pub length-frames : (front back : List (ℕ × Frame)) → length (frames_of front back) ≡ length front + length back
 length-frames front back =
     length-map (reverse front ++ back) frame_of ∙ length-append (reverse front) back
@@ -15,10 +16,12 @@ length-frames front back =
 
 -- ---- by how many frames there are
 
+-- a stream with a frame is filled
 pub filled-long : (fs : List Frame) → 0 < length fs → true ≡ is_filled fs
 filled-long [] lt = absurd (omega arith)
 filled-long (f ∷ fs) lt = refl
 
+-- a stream with two frames has a second one
 pub second-long : (fs : List Frame) → 1 < length fs → true ≡ has_second fs
 second-long [] lt = absurd (omega arith)
 second-long (f ∷ []) lt = absurd (omega arith)
@@ -58,6 +61,7 @@ pub left-filled : (old new : List Frame) (taken : Option Frame) → IsFirstOf ol
 left-filled old new None first = ap has_second first.0 ∙ sym (ap is_filled first.1)
 left-filled old new (Some frame) first = ap has_second first
 
+-- a stream with a second frame is filled
 pub second-filled : (fs : List Frame) → has_second fs ≡ true → is_filled fs ≡ true
 second-filled [] e = e
 second-filled (f ∷ fs) e = refl
