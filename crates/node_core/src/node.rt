@@ -134,6 +134,9 @@ impl PicoNode {
         ensures memory { turned ≡ Err OutOfMemory → self.new ≡ None }
         ensures left { (turned ≡ Err OutOfMemory → ⊥) → self.new ≡ self.old }
     {
+        if turned.is_ok() {
+            return turned;
+        }
         if let Err(TurnFault::Memory) = turned {
             self.spend();
         }

@@ -38,7 +38,8 @@ impl Model for Unspent {
     ghost invariant = { λ u. IsFresh u.step };
 }
 
-/// What was made follows behind what is there, and its list is left empty.
+/// What was made follows behind what is there, and its list is left empty. One item alone, as most turns make, goes by
+/// itself.
 #[inline(always)]
 fn move_behind<T: Drop>(made: &mut Vec<T>, there: &mut Vec<T>) -> Result<(), Memory>
     ensures moved { OnOk result (there.new.items ≡ there.old.items ++ made.old.items) }
@@ -49,8 +50,14 @@ fn move_behind<T: Drop>(made: &mut Vec<T>, there: &mut Vec<T>) -> Result<(), Mem
     }
     if there.is_empty() {
         mem::swap(made, there);
-    } else {
+        return Ok(());
+    }
+    if made.len() > 1 {
         there.append(made)?;
+        return Ok(());
+    }
+    if let Some(last) = made.pop() {
+        there.push(last)?;
     }
     Ok(())
 }
@@ -114,6 +121,9 @@ fn settle(step: &mut Growing, alloc: Global, turned: Result<(), TurnFault>) -> R
     ensures same { result ≡ turned }
     ensures left { (turned ≡ Err OutOfMemory → ⊥) → step.new ≡ step.old }
 {
+    if turned.is_ok() {
+        return turned;
+    }
     if let Err(TurnFault::Memory) = turned {
         drop_done(step, alloc);
     }

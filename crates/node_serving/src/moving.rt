@@ -63,6 +63,7 @@ fn move_to(step: &mut Growing, name: &Name, to: Node) -> Result<(), Memory>
 }
 
 /// The watch notes the node that read.
+#[inline(always)]
 pub(crate) fn note_read(step: &mut Growing, name: &Name, reader: Node) -> Result<(), Memory>
     ensures { OnOk result (step_of step.new ≡ note_read (step_of step.old) name.now reader) }
 {

@@ -36,6 +36,7 @@ impl Model for Watches {
 }
 
 /// A node reads the name of this number. The node to which the name moves then.
+#[inline(always)]
 fn note(
     watches: &mut ByNumber,
     number: u32,

@@ -45,10 +45,10 @@ pub fn run_script(alloc: Global, script: Script, seed: u32, telling: Telling) ->
     let mut schedule = Schedule::numbered(seed, nodes_of(&script));
     let mut world = StreamingWorld::start(alloc, script)?;
     let mut events = Vec::new(alloc);
-    while let Some(event) = schedule.choice(&world) {
-        schedule = schedule.after(&event);
-        world.step(event)?;
+    while let Some((event, after)) = schedule.choice(&world) {
+        schedule = after;
         events.push(event)?;
+        world.step(event)?;
         tell_if_much(&mut telling, &mut world)?;
     }
     tell_all(&mut telling, &mut world)?;

@@ -1,5 +1,5 @@
 //! Which of the enabled events comes next.
-ghost use Rattle.std.specs.Prelude.{◌≡◌, ◌%◌, length, slice_get, IfSome, IsSome};
+ghost use Rattle.std.specs.Prelude.{◌≡◌, ◌%◌, length, slice_get, IfSome, IsSome, option_map};
 ghost use Rattle.world_model.specs.Schedule as machine;
 ghost use Rattle.world_model.specs.World.{size};
 ghost use Rattle.world_core.specs.Laws.{IsWithin};
@@ -59,27 +59,25 @@ impl Schedule {
         }
     }
 
-    /// The event that comes next; none where no event is enabled.
-    pub fn choice(&self, world: &StreamingWorld) -> Option<Event>
+    /// The event that comes next, and the schedule after it; none where no event is enabled. A number is drawn once.
+    pub fn choice(&self, world: &StreamingWorld) -> Option<(Event, Schedule)>
         requires whole { IsSome world.now }
         requires within { IfSome world.now (λ w. IsWithin (size w) (schedule_in self.now)) }
-        ensures { IfSome world.now (λ w. result ≡ machine.choice w (schedule_in self.now)) }
+        ensures event { IfSome world.now (λ w.
+            option_map (λ x. x.0) result ≡ machine.choice w (schedule_in self.now)) }
+        ensures after { IfSome result (λ x. schedule_in x.1 ≡ machine.schedule_after (schedule_in self.now) x.0) }
     {
         match self {
-            Schedule::InTurn { last } => world.in_turn(*last),
-            Schedule::Drawn { last } => event_drawn(world, drawn(*last)),
-        }
-    }
-
-    /// The schedule after this event.
-    pub fn after(&self, event: &Event) -> Schedule
-        ensures { schedule_in result ≡ machine.schedule_after (schedule_in self.now) event.now }
-    {
-        match self {
-            Schedule::InTurn { .. } => Schedule::InTurn {
-                last: node_of(event),
-            },
-            Schedule::Drawn { last } => Schedule::Drawn { last: drawn(*last) },
+            Schedule::InTurn { last } => {
+                let event = world.in_turn(*last)?;
+                let last = node_of(&event);
+                Some((event, Schedule::InTurn { last }))
+            }
+            Schedule::Drawn { last } => {
+                let last = drawn(*last);
+                let event = event_drawn(world, last)?;
+                Some((event, Schedule::Drawn { last }))
+            }
         }
     }
 }

@@ -61,10 +61,12 @@ impl Counts {
         let old = self.by_node[at];
         self.all = self.all - u32::from(old) + u32::from(count);
         self.by_node[at] = count;
+        let busy = self.busy;
+        let bit = 1 << at;
         if count > 0 {
-            self.busy |= 1 << at;
+            self.busy = busy | bit;
         } else {
-            self.busy &= !(1 << at);
+            self.busy = busy & !bit;
         }
     }
 

@@ -69,10 +69,10 @@ impl Inbox {
         ensures count { result ≡ length (senders is_born self.now) }
         ensures few { result ≤ 32 }
     {
-        if self.filled == 0 {
-            0
-        } else if is_born {
+        if is_born {
             self.filled.count_ones()
+        } else if self.filled == 0 {
+            0
         } else {
             self.checkpoints() as u32
         }
