@@ -35,6 +35,15 @@ carried_on pid row steps step rest s value split inside s_is moved =
     let goes : answer_of (move_by step.add s.value) ≡ Ok value = sym moved in
     rw (split, there, goes) refl
 
+-- where there are no others, that is all
+pub carried_last : (pid : ℕ) (row : List Semaphore) (steps : List SemStep) (step : SemStep) (rest : List SemStep)
+    (s : Semaphore) (value : ℕ) → steps ≡ step ∷ rest → rest ≡ [] → step.num < length row → s ≡ get_or row step.num s
+    → Ok value ≡ answer_of (move_by step.add s.value)
+    → carried pid row steps ≡ Ok (set row step.num (made pid value))
+carried_last pid row steps step rest s value split none inside s_is moved =
+    carried_on pid row steps step rest s value split inside s_is moved
+    ∙ ap (carried pid (set row step.num (made pid value))) none
+
 -- what was changed and is put back
 pub restored : {X : Type 0} (xs : List X) (i : ℕ) (x y : X) → i < length xs → x ≡ get_or xs i x
     → set (set xs i y) i x ≡ xs

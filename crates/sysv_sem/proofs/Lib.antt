@@ -1,6 +1,7 @@
 pub mod Carried
 mod Examples
 pub mod Loop
+pub mod Places
 pub mod Rows
 pub mod Semaphores
 pub mod Within

@@ -85,7 +85,7 @@ semaphores_again set rest fine process =
     many_again semaphores_repeat semaphore_field IsField one_again set rest (all_fields set fine process)
 
 -- a refusing test that did not refuse
-let_through : {A : Type 0} (b : Bool) (o : Option A) (y : A) → cond b None o ≡ Some y → (b ≡ false) × (o ≡ Some y)
+pub let_through : {A : Type 0} (b : Bool) (o : Option A) (y : A) → cond b None o ≡ Some y → (b ≡ false) × (o ≡ Some y)
 let_through true o y e = absurd cc
 let_through false o y e = (refl, e)
 
@@ -93,7 +93,8 @@ some_count : (n : ℕ) → eqb n 0 ≡ false → 1 ≤ n
 some_count zero e = absurd cc
 some_count (suc n) e = omega arith
 
-fine_count : (n : ℕ) → 1 ≤ n → n ≤ max_semaphores → is_bad_count n ≡ false
+-- a set may have so many
+pub fine_count : (n : ℕ) → 1 ≤ n → n ≤ max_semaphores → is_bad_count n ≡ false
 fine_count zero some few = absurd (omega arith)
 fine_count (suc n) some few =
     let other : eqb (suc n) 0 ≡ false = grind (arith, nat_tests) in

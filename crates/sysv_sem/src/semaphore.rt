@@ -19,13 +19,3 @@ impl Model for Semaphore {
 
     ghost inverse = { λ s. record { value = s.value; last = s.last } };
 }
-
-/// A place of a list that nothing stands at.
-impl Default for Semaphore {
-    fn default() -> Self {
-        Semaphore {
-            value: 0,
-            last: Pid(0),
-        }
-    }
-}

@@ -42,6 +42,9 @@ pub(crate) fn carry_out(set: &mut [Semaphore], pid: Pid, steps: &[SemStep]) -> R
     let before = set[place];
     let value = value_after(step.add, before.value)?;
     set[place] = Semaphore { value, last: pid };
+    if rest.is_empty() {
+        return Ok(());
+    }
     let done = carry_out(set, pid, rest);
     if done.is_err() {
         set[place] = before;

@@ -1,91 +1,115 @@
-//! A set read from bytes.
-ghost use Rattle.std.specs.Prelude.{◌≡◌, ◌≤◌, [], IfOk, IfErr, MatchOption};
-ghost use Rattle.std.specs.Int.{w16, w32};
+//! A set read from bytes. Whether they are a set's shows in their length and in one byte of each semaphore.
+ghost use Rattle.std.specs.Prelude.{◌≡◌, ◌+◌, ◌*◌, ◌≤◌, [], length, vec_capacity, IfOk, IfErr, IfSome, MatchOption, Some, None, if◌then◌else◌};
+ghost use Rattle.std.specs.Bool.{OnTrue, OnFalse};
 ghost use Rattle.kernel_model.specs.SemaphoreSet as definition;
-ghost use Rattle.kernel_model.specs.SemaphoreSet.{max_value};
 ghost use Rattle.sysv_sem.specs.Body.{IsBodyOf};
 ghost use Rattle.sysv_sem.specs.Packed.{TellsPacked};
-ghost use Rattle.body_fields.specs.Fields.{Reads, Refuses, number_upto};
-ghost use Rattle.sysv_sem.specs.Reading.{semaphore_at, semaphores_at, fields_at, counted_at, set_at};
+ghost use Rattle.sysv_sem.specs.Places.{width, semaphore_in, semaphores_in, AreValues};
+ghost use Rattle.body_fields.specs.Fields.{Reads, Refuses};
+ghost use Rattle.sysv_sem.specs.Reading.{counted_at, set_at};
 
 use crate::SemSet;
 use crate::pack::CODE;
 use crate::semaphore::Semaphore;
-use crate::set::{MAX_SEMAPHORES, MAX_VALUE};
-use arrayvec::ArrayVec;
-use body_fields::{u16_upto, u32_at};
+use crate::set::MAX_SEMAPHORES;
 use pico_base::{Pid, UnpackFault};
 use std::alloc::Global;
 
-/// Semaphores that were read, which takes no memory.
-type Semaphores = ArrayVec<Semaphore, 64>;
+/// How many bytes a semaphore has: two of its value, the high one first, and four of its last process.
+const WIDTH: usize = 6;
 
-fn value_of(bytes: &[u8]) -> Option<(u32, &[u8])>
-    ensures { Reads (λ x. (x.0, x.1.now)) result (number_upto w16 max_value bytes.now) }
-{
-    let (value, rest) = u16_upto(MAX_VALUE as u16, bytes)?;
-    Some((u32::from(value), rest))
+/// The highest first byte of a value, which is at most 32,767.
+const MAX_HIGH: u8 = 127;
+
+/// The bytes of a set's semaphores, and how many semaphores they are.
+#[derive(Clone, Copy)]
+struct Row<'a> {
+    count: u8,
+    bytes: &'a [u8],
 }
 
-/// The value of a semaphore, its last process, and the bytes after it.
-#[tactic(auto, unfolding(crate::specs::Reading::semaphore_at))]
-fn semaphore_of(bytes: &[u8]) -> Option<(u32, u32, &[u8])>
-    ensures { Reads (λ x. (record { value = x.0; last = x.1 }, x.2.now)) result (semaphore_at bytes.now) }
+/// Whether none of so many values is above the limit, as the first byte of each shows.
+fn are_values(count: u8, bytes: &[u8]) -> bool
+    requires { length bytes.now ≡ width * count }
+    ensures low { OnTrue result (AreValues count bytes.now) }
+    ensures high { OnFalse result (AreValues count bytes.now → ⊥) }
 {
-    let (value, rest) = value_of(bytes)?;
-    let (last, rest) = u32_at(rest)?;
-    Some((value, last, rest))
-}
-
-/// Reads so many semaphores into an empty list, and gives the bytes after them.
-fn read_semaphores<'a>(into: &mut Semaphores, count: u8, bytes: &'a [u8]) -> Option<&'a [u8]>
-    requires empty { into.old.items ≡ [] }
-    requires room { count ≤ 64 }
-    ensures { Reads (λ rest. (into.new.items, rest.now)) result (semaphores_at count bytes.now) }
-{
-    let mut rest = bytes;
-    for _ in 0..count {
-        let (value, last, after) = semaphore_of(rest)?;
-        let last = Pid(last);
-        into.push(Semaphore { value, last });
-        rest = after;
+    for place in 0..usize::from(count) {
+        if bytes[WIDTH * place] > MAX_HIGH {
+            return false;
+        }
     }
-    Some(rest)
+    true
 }
 
-/// The semaphores behind the count.
-#[tactic(auto, unfolding(crate::specs::Reading::fields_at, crate::specs::Reading::counted_at))]
-fn semaphores_behind(count: u8, bytes: &[u8]) -> Option<Semaphores>
-    ensures { Reads (λ x. definition.set_of x.items) result (counted_at count bytes.now) }
+/// Whether the bytes are those of so many semaphores, as many as a set may have.
+fn is_row(count: u8, bytes: &[u8]) -> bool
+    ensures read { counted_at count bytes.now
+        ≡ (if result then Some (definition.set_of (semaphores_in count bytes.now)) else None) }
+    ensures len { OnTrue result (length bytes.now ≡ width * count) }
 {
     if count == 0 || u32::from(count) > MAX_SEMAPHORES {
-        return None;
+        return false;
     }
-    let mut semaphores = Semaphores::new();
-    let rest = read_semaphores(&mut semaphores, count, bytes)?;
-    if !rest.is_empty() {
-        return None;
+    if bytes.len() != WIDTH * usize::from(count) {
+        return false;
     }
-    Some(semaphores)
+    are_values(count, bytes)
 }
 
-/// The code, the count and the semaphores.
+/// The semaphores behind the code and the count. None: the bytes aren't a set's.
 #[tactic(auto, unfolding(crate::specs::Reading::set_at))]
-fn semaphores_of(bytes: &[u8]) -> Option<Semaphores>
-    ensures { Reads (λ x. definition.set_of x.items) result (set_at bytes.now) }
+fn row_behind(bytes: &[u8]) -> Option<Row>
+    ensures read { Reads (λ row. definition.set_of (semaphores_in row.count row.bytes.now)) result (set_at bytes.now) }
+    ensures len { IfSome result (λ row. length row.bytes.now ≡ width * row.count) }
 {
     match bytes {
-        [CODE, count, semaphores @ ..] => semaphores_behind(*count, semaphores),
+        [CODE, count, rest @ ..] => {
+            if !is_row(*count, rest) {
+                return None;
+            }
+            Some(Row {
+                count: *count,
+                bytes: rest,
+            })
+        }
         _ => None,
     }
 }
 
-/// The semaphores of the set whose packed form the bytes are, if they are one's.
-fn unpack_semaphores(bytes: &[u8]) -> Option<Semaphores>
-    ensures { MatchOption result ((set : definition.SemaphoreSet) → IsBodyOf set bytes.now → ⊥)
-        (λ x. IsBodyOf (definition.set_of x.items) bytes.now) }
+/// The semaphores of the set whose packed form the bytes are. None: they are no set's.
+fn row_of(bytes: &[u8]) -> Option<Row>
+    ensures read { MatchOption result ((set : definition.SemaphoreSet) → IsBodyOf set bytes.now → ⊥)
+        (λ row. IsBodyOf (definition.set_of (semaphores_in row.count row.bytes.now)) bytes.now) }
+    ensures len { IfSome result (λ row. length row.bytes.now ≡ width * row.count) }
 {
-    semaphores_of(bytes)
+    row_behind(bytes)
+}
+
+/// The semaphore at a place.
+fn read_semaphore(bytes: &[u8], place: usize) -> Semaphore
+    requires { width * place + width ≤ length bytes.now }
+    ensures { result ≡ semaphore_in bytes.now place }
+{
+    let at = WIDTH * place;
+    let value = u16::from_be_bytes([bytes[at], bytes[at + 1]]);
+    let last = u32::from_be_bytes([bytes[at + 2], bytes[at + 3], bytes[at + 4], bytes[at + 5]]);
+    Semaphore {
+        value: u32::from(value),
+        last: Pid(last),
+    }
+}
+
+/// Adds so many semaphores to an empty list that has room for them.
+fn push_row(out: &mut Vec<Semaphore>, count: u8, bytes: &[u8])
+    requires empty { out.old.items ≡ [] }
+    requires room { count ≤ vec_capacity out.old }
+    requires len { length bytes.now ≡ width * count }
+    ensures { out.new.items ≡ semaphores_in count bytes.now }
+{
+    for place in 0..usize::from(count) {
+        out.push_reserved(read_semaphore(bytes, place));
+    }
 }
 
 impl SemSet {
@@ -93,7 +117,7 @@ impl SemSet {
     pub fn is_packed(bytes: &[u8]) -> bool
         ensures { TellsPacked bytes.now result }
     {
-        unpack_semaphores(bytes).is_some()
+        row_of(bytes).is_some()
     }
 
     /// The set whose packed form the bytes are. NotABody exactly where they are the packed form of no set, so
@@ -105,9 +129,9 @@ impl SemSet {
         ensures only { (set : definition.SemaphoreSet) → IsBodyOf set bytes.now → IfOk result (λ got. got ≡ set) }
         ensures refused { IfErr result (Refuses (λ set. IsBodyOf set bytes.now)) }
     {
-        let read = unpack_semaphores(bytes).ok_or(UnpackFault::NotABody)?;
-        let mut semaphores = Vec::with_capacity(alloc, read.len())?;
-        semaphores.extend_from_slice(read.as_slice())?;
+        let row = row_of(bytes).ok_or(UnpackFault::NotABody)?;
+        let mut semaphores = Vec::with_capacity(alloc, usize::from(row.count))?;
+        push_row(&mut semaphores, row.count, row.bytes);
         Ok(SemSet { semaphores })
     }
 }

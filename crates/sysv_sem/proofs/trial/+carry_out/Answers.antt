@@ -1,11 +1,11 @@
-use Rattle.std.proofs.Common.{◌≡◌, List, Result, Ok, Err, SFits, w32, length, ap, subst, sym, arith, rules}
+use Rattle.std.proofs.Common.{◌≡◌, List, [], Result, Ok, Err, SFits, w32, length, ap, subst, sym, arith, rules}
 use Rattle.std.specs.Prelude.{IfErr, OnOk}
 use Rattle.std.proofs.lemmas.Int.{to_z-of_z}
-use Rattle.std.proofs.lemmas.List.{length-set}
+use Rattle.std.proofs.lemmas.List.{length-set, nil_from_length}
 use Rattle.std.proofs.lemmas.Result.{err_from_is_err_and}
 use Rattle.pico_base.specs.declared.reply.Errno.{Errno}
 use Rattle.kernel_model.specs.SemaphoreSet.{Semaphore}
-use Rattle.sysv_sem.proofs.Carried.{carried_stops, carried_on, first_inside, rest_inside, put_back}
+use Rattle.sysv_sem.proofs.Carried.{carried_stops, carried_on, carried_last, first_inside, rest_inside, put_back}
 use Rattle.sysv_sem.proofs.trial.+carry_out.Goals as goal
 
 pub returns-in_err-value-clause-refused : goal.returns-in_err-value-clause-refused
@@ -22,6 +22,20 @@ returns-in_err-value-clause-refused t c =
     (carried_stops c.args.pid c.args.set.now c.args.steps.now step c.in-Some.rest.now s
     c.in_err-value.field-0.0 split (first_inside (length c.args.set.now) c.args.steps.now step c.in-Some.rest.now split
     c.requires) c.index-set-place.is moved)
+
+pub returns-then-is_empty-clause-done : goal.returns-then-is_empty-clause-done
+returns-then-is_empty-clause-done t c =
+    let step = c.in-Some.step.now in
+    let s = c.index-set-place.result in
+    let split = c.in-Some.ensures.cases.0 in
+    let fits : SFits w32 step.add = search rules in
+    let value : c.before-2.inside.value ≡ s.value =
+    ap (λ (s : Semaphore). s.value) c.before-2.view_is in
+    let moved = simp to_z-of_z at rw value at c.in_ok-value.ensures in
+    let none : c.in-Some.rest.now ≡ [] = nil_from_length c.in-Some.rest.now (search rules) in
+    carried_last c.args.pid c.args.set.now c.args.steps.now step c.in-Some.rest.now s c.in_ok-value.value split none
+    (first_inside (length c.args.set.now) c.args.steps.now step c.in-Some.rest.now split c.requires)
+    c.index-set-place.is moved
 
 pub carry_out-done-requires : goal.carry_out-done-requires
 carry_out-done-requires t c =
