@@ -3,7 +3,7 @@ use Rattle.std.proofs.Common.{◌≡◌, ℕ, ◌-◌, ◌+◌, ◌≤◌, ◌<�
 use Rattle.std.specs.List.{AllByRecursion}
 use Rattle.std.specs.Int.{w32, to_be_bytes, cast_unsigned}
 use Rattle.std.proofs.lemmas.List.{take_at, drop_at, map-append, length-append}
-use Rattle.kernel_model.specs.Queue.{Message}
+use Rattle.kernel_model.specs.Queue.{Message, max_queue_bytes}
 use Rattle.body_fields.proofs.Fields.{IsBytes}
 use Rattle.body_fields.proofs.Many.{with_front, nothing_before}
 use Rattle.sysv_msg.specs.declared.store.Head.{Head}
@@ -11,7 +11,7 @@ use Rattle.sysv_msg.specs.Body.{message_field}
 use Rattle.sysv_msg.specs.Heads.{IsWithin, text_in, message_in, messages_in}
 use Rattle.sysv_msg.specs.Reading.{message_at, messages_at}
 use Rattle.sysv_msg.proofs.Heads.{all_joined}
-use Rattle.sysv_msg.proofs.Loop.{goes_on}
+use Rattle.sysv_msg.proofs.Loop.{goes_on, is_done}
 use Rattle.sysv_msg.proofs.Messages.{message_takes}
 
 -- the heads show in the bytes the messages that were read up to here, and the others are still to be read
@@ -101,3 +101,11 @@ copied_more total count i room bytes rest after heads m h lt read class start le
       within = all_joined (IsWithin bytes) heads (h ∷ []) copied.within (omega (arith, sum, begin, len), tt);
       others = rw shown (goes_on (messages_in bytes heads) count i room rest m after total lt read copied.others);
     }
+
+-- all messages were read, and nothing is behind them
+pub copied_whole : (count i room : ℕ) (bytes rest : List ℕ) (heads : List Head) → count ≤ i → rest ≡ []
+    → HasCopied (messages_at count max_queue_bytes bytes) (count - i) room bytes rest heads
+    → messages_at count max_queue_bytes bytes ≡ Some (messages_in bytes heads, [])
+copied_whole count i room bytes rest heads le nothing copied =
+    is_done (messages_in bytes heads) count i room rest (messages_at count max_queue_bytes bytes) le copied.others
+    ∙ ap (λ (r : List ℕ). Some (messages_in bytes heads, r)) nothing

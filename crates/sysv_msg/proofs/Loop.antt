@@ -1,14 +1,12 @@
 -- Reading messages one after the other, as a loop does.
-use Rattle.std.proofs.Common.{◌≡◌, ℕ, suc, ◌-◌, ◌+◌, ◌≤◌, ◌<◌, List, [], ◌∷◌, ◌++◌, length, Option, Some, None, sym, ap, ◌∙◌, refl, subst, arith, rules}
-use Rattle.std.specs.Prelude.{IsSome}
-use Rattle.std.proofs.lemmas.Bool.{false≢true}
+use Rattle.std.proofs.Common.{◌≡◌, ℕ, suc, ◌-◌, ◌+◌, ◌≤◌, ◌<◌, true, false, cond, eqb, List, [], ◌∷◌, ◌++◌, length, Option, Some, None, sym, ap, ◌∙◌, refl, arith}
+use Rattle.std.specs.Prelude.{is_some}
 use Rattle.std.proofs.lemmas.List.{append-nil}
 use Rattle.std.proofs.lemmas.Grind.{common_steps}
 use Rattle.kernel_model.specs.Queue.{Message, bytes_of, max_queue_bytes}
-use Rattle.body_fields.specs.Fields.{Reads}
 use Rattle.body_fields.proofs.Many.{with_front, regroup, nothing_before}
 use Rattle.sysv_msg.specs.Reading.{message_at, messages_at}
-use Rattle.sysv_msg.specs.Measured.{Measures}
+use Rattle.sysv_msg.specs.Measured.{Measures, all_messages}
 
 -- one more message was read
 pub goes_on : (front : List Message) (count i room : ℕ) (bytes : List ℕ) (m : Message) (after : List ℕ)
@@ -82,10 +80,10 @@ measured count i room bytes total le read =
           read.fit;
     }
 
--- where all can be read, the next one can
-pub some_message : {X : Type 0} (view : X → Message × List ℕ) (r : Option X) (front : List Message) (count i room : ℕ)
-    (bytes : List ℕ) (total : Option (List Message × List ℕ)) → i < count → IsSome total
-    → Reads view r (message_at room bytes) → with_front front (messages_at (count - i) room bytes) ≡ total → IsSome r
-some_message view (Some x) front count i room bytes total lt some read so_far = search rules
-some_message view None front count i room bytes total lt some read so_far =
-    absurd (false≢true (subst IsSome (ends front count i room bytes total lt read so_far) some))
+-- there are all messages where nothing is behind those that were read
+pub some_if_ended : (total : Option (List Message × List ℕ)) (room : ℕ) (rest : List ℕ) → Measures total room rest
+    → eqb (length rest) 0 ≡ is_some (all_messages total)
+some_if_ended total room rest read =
+    let are_read = read.are_read in
+    rw are_read (elim (eqb (length rest) 0) as (λ b. b ≡ is_some (cond b (Some read.messages) None))
+    [ true ↦ refl | false ↦ refl ])
