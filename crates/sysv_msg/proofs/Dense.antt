@@ -90,11 +90,16 @@ dense_removed is true place texts heads tells dense =
 -- ---- all messages
 
 -- where nothing is behind the messages that were read, their fields are all of the bytes
-pub dense_read : (count : ℕ) (bytes : List ℕ) (heads : List Head) → IsBytes bytes
-    → messages_at count max_queue_bytes bytes ≡ Some (messages_in bytes heads, []) → IsDense true bytes heads
-dense_read count bytes heads fits read =
-    let taken = (messages_take count max_queue_bytes bytes (messages_in bytes heads, []) fits read).0 in
-    record { front = []; parts = taken.parts ∙ append-nil (flat_map message_field (messages_in bytes heads)) }
+pub dense_read : (count : ℕ) (bytes rest : List ℕ) (heads : List Head) → IsBytes bytes
+    → messages_at count max_queue_bytes bytes ≡ Some (messages_in bytes heads, rest) → rest ≡ []
+    → IsDense true bytes heads
+dense_read count bytes rest heads fits read nothing =
+    let taken = (messages_take count max_queue_bytes bytes (messages_in bytes heads, rest) fits read).0 in
+    let fields : List ℕ = flat_map message_field (messages_in bytes heads) in
+    record {
+      front = [];
+      parts = taken.parts ∙ ap (λ (r : List ℕ). fields ++ r) nothing ∙ append-nil fields;
+    }
 
 -- no bytes are those of no messages
 pub dense_none : IsDense true [] []
@@ -113,13 +118,14 @@ fields_size (m ∷ ms) =
       length-append (message_field m) (flat_map message_field ms),
     )
 
--- messages that were read are so many bytes
-pub read_size : (count room : ℕ) (bytes : List ℕ) (ms : List Message) → IsBytes bytes
-    → messages_at count room bytes ≡ Some (ms, []) → length bytes ≡ 8 * count + bytes_of ms
-read_size count room bytes ms fits read =
-    let taken = messages_take count room bytes (ms, []) fits read in
+-- messages that were read, with nothing behind them, are so many bytes
+pub read_size : (count room : ℕ) (bytes : List ℕ) (ms : List Message) (rest : List ℕ) → IsBytes bytes
+    → messages_at count room bytes ≡ Some (ms, rest) → rest ≡ [] → length bytes ≡ 8 * count + bytes_of ms
+read_size count room bytes ms rest fits read nothing =
+    let taken = messages_take count room bytes (ms, rest) fits read in
     let whole : bytes ≡ flat_map message_field ms =
-    taken.0.parts ∙ append-nil (flat_map message_field ms) in
+    taken.0.parts ∙ ap (λ (r : List ℕ). flat_map message_field ms ++ r) nothing
+    ∙ append-nil (flat_map message_field ms) in
     omega (arith, fields_size ms, taken.1, ap length whole)
 
 -- the fields are as many of the last bytes as they have together

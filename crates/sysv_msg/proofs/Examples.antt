@@ -5,7 +5,9 @@ use Rattle.kernel_model.specs.Queue.{empty_queue}
 use Rattle.sysv_msg.specs.Body.{body, message_field}
 use Rattle.sysv_msg.specs.Heads.{messages_in, classes_of}
 use Rattle.sysv_msg.specs.Lowest.{IsLowest}
-use Rattle.sysv_msg.specs.Measured.{all_messages, queue_with}
+use Rattle.sysv_msg.specs.Measured.{FitsQueue, all_messages, queue_with}
+use Rattle.sysv_msg.specs.Reading.{text_at, class_at, message_at, messages_at}
+use Rattle.body_fields.specs.Fields.{number_upto}
 use Rattle.sysv_msg.specs.declared.store.Head.{Head}
 
 -- in the buffer "hi.yo" the text "hi" is of a message of type 3, and "yo" of one of type 258
@@ -34,6 +36,11 @@ all_there = refl
 
 more_behind : all_messages (Some (record { class = pos 3; text = [] } ∷ [], 0 ∷ [])) ≡ None
 more_behind = refl
+
+-- a message with the text "hi" is read so with the limit on the sum and without it, and its text has 2 bytes
+one_fits : FitsQueue 1 (message_field (record { class = pos 258; text = 104 ∷ 105 ∷ [] })) [] 2
+unfolding messages_at message_at class_at text_at number_upto
+one_fits = record { same = refl; nothing = refl; sum = refl }
 
 -- numbers and messages make a queue, and numbers alone none
 a_queue_with : queue_with 16384 0 0 (Some []) ≡ Some empty_queue

@@ -1,13 +1,19 @@
 -- What is known of bytes that were read as messages, and of bytes whose numbers before the messages were read.
-use Rattle.std.specs.Prelude.{◌≡◌, ℕ, ◌+◌, List, length, Option, Some, None, ◌==◌, if◌then◌else◌}
-use Rattle.kernel_model.specs.Queue.{Message, Queue, bytes_of, max_queue_bytes}
+use Rattle.std.specs.Prelude.{◌≡◌, ℕ, ◌+◌, ◌*◌, List, [], length, Option, Some, None, ◌==◌, if◌then◌else◌}
+use Rattle.kernel_model.specs.Queue.{Message, Queue, bytes_of, max_text, max_queue_bytes}
 use Rattle.sysv_msg.specs.Reading.{messages_at}
 
--- messages were read, with these bytes after them, and behind their texts there is this room
-pub record Measures (read : Option (List Message × List ℕ)) (room : ℕ) (rest : List ℕ) : Type 0 where
+-- messages were read, with these bytes after them
+pub record AreRead (read : Option (List Message × List ℕ)) (rest : List ℕ) : Type 0 where
   pub messages : List Message
   pub are_read : read ≡ Some (messages, rest)
-  pub fit : room + bytes_of messages ≡ max_queue_bytes
+
+-- So many messages, read with no limit on the sum of their texts, are a queue's: nothing is left, and but for 8 bytes
+-- before each text there are so many.
+pub record FitsQueue (count : ℕ) (bytes rest : List ℕ) (size : ℕ) : Type 0 where
+  pub same : messages_at count max_queue_bytes bytes ≡ messages_at count (count * max_text) bytes
+  pub nothing : rest ≡ []
+  pub sum : length bytes ≡ 8 * count + size
 
 -- the messages that were read, if nothing is behind them
 abbrev pub all_messages : Option (List Message × List ℕ) → Option (List Message)

@@ -1,12 +1,12 @@
 //! A queue read from bytes: first the numbers before its messages, and then its messages are copied as they are read.
-ghost use Rattle.std.specs.Prelude.{◌≡◌, ◌≤◌, length, IfOk, IfErr, IfSome, MatchOption, is_some, min};
+ghost use Rattle.std.specs.Prelude.{◌≡◌, ◌≤◌, ◌*◌, length, IfOk, IfErr, IfSome, MatchOption, is_some};
 ghost use Rattle.std.specs.Int.{w16, w32};
 ghost use Rattle.kernel_model.specs.Queue as definition;
 ghost use Rattle.kernel_model.specs.Queue.{max_text, max_queue_bytes};
 ghost use Rattle.sysv_msg.specs.Body.{IsBodyOf};
 ghost use Rattle.body_fields.specs.Fields.{Reads, Refuses, number_upto};
 ghost use Rattle.sysv_msg.specs.Reading.{text_at, class_at, message_at, messages_at, fields_at, queue_at};
-ghost use Rattle.sysv_msg.specs.Measured.{Measures, HasFields, AreAll, all_messages};
+ghost use Rattle.sysv_msg.specs.Measured.{AreRead, FitsQueue, HasFields, AreAll, all_messages};
 ghost use Rattle.sysv_msg.specs.Packed.{TellsPacked};
 
 use crate::Queue;
@@ -62,37 +62,46 @@ fn class_of(bytes: &[u8]) -> Option<(i32, &[u8])>
 
 /// The type and the text of a message, and the bytes after it.
 #[tactic(auto, unfolding(crate::specs::Reading::message_at))]
-fn message_of(room: u32, bytes: &[u8]) -> Option<(i32, &[u8], &[u8])>
-    ensures read { Reads (λ x. (record { class = x.0; text = x.1.now }, x.2.now)) result (message_at room bytes.now) }
-    ensures within { IfSome result (λ x. length x.1.now ≤ room) }
+fn message_of(bytes: &[u8]) -> Option<(i32, &[u8], &[u8])>
+    ensures read { Reads (λ x. (record { class = x.0; text = x.1.now }, x.2.now)) result
+        (message_at max_text bytes.now) }
+    ensures within { IfSome result (λ x. length x.1.now ≤ max_text) }
 {
     let (class, rest) = class_of(bytes)?;
-    let limit = room.min(MAX_TEXT as u32);
-    let (text, rest) = text_of(limit, rest)?;
+    let (text, rest) = text_of(MAX_TEXT as u32, rest)?;
     Some((class, text, rest))
 }
 
-/// For how many more bytes of texts there is room behind so many messages, and the bytes after them.
-fn room_behind(count: u16, bytes: &[u8]) -> Option<(u32, &[u8])>
-    ensures { MatchOption result (messages_at count max_queue_bytes bytes.now ≡ None)
-        (λ x. Measures (messages_at count max_queue_bytes bytes.now) x.0 x.1.now) }
+/// How many bytes the texts of so many messages have, whatever their sum, that were read up to these bytes, if none
+/// are left and a queue may have so many.
+fn size_of_texts(count: u16, bytes: &[u8], rest: &[u8]) -> Option<usize>
+    requires { AreRead (messages_at count (count * max_text) bytes.now) rest.now }
+    ensures { MatchOption result (all_messages (messages_at count max_queue_bytes bytes.now) ≡ None)
+        (λ size. FitsQueue count bytes.now rest.now size) }
 {
-    let mut room = MAX_BYTES;
-    let mut rest = bytes;
-    for _ in 0..count {
-        let (_, text, after) = message_of(room, rest)?;
-        room -= text.len() as u32;
-        rest = after;
+    if !rest.is_empty() {
+        return None;
     }
-    Some((room, rest))
+    let size = bytes.len() - FRONT * usize::from(count);
+    if size > MAX_BYTES as usize {
+        return None;
+    }
+    Some(size)
 }
 
-/// Whether the bytes are so many messages, and no more. It takes no memory.
+/// Whether the bytes are so many messages of a queue, and no more. It takes no memory.
 fn are_messages(count: u16, bytes: &[u8]) -> bool
     ensures { result ≡ is_some (all_messages (messages_at count max_queue_bytes bytes.now)) }
 {
-    match room_behind(count, bytes) {
-        Some((_, rest)) => rest.is_empty(),
+    let mut rest = bytes;
+    for _ in 0..count {
+        let Some((_, _, after)) = message_of(rest) else {
+            return false;
+        };
+        rest = after;
+    }
+    match size_of_texts(count, bytes, rest) {
+        Some(_) => true,
         None => false,
     }
 }
@@ -151,23 +160,20 @@ fn copy_messages(
 {
     let mut classes = Vec::with_capacity(alloc, usize::from(count) + MORE)?;
     let mut heads = Vec::with_capacity(alloc, usize::from(count) + MORE)?;
-    let mut room = MAX_BYTES;
     let mut rest = bytes;
     for _ in 0..count {
-        let Some((class, text, after)) = message_of(room, rest) else {
+        let Some((class, text, after)) = message_of(rest) else {
             return Ok(None);
         };
         let start = bytes.len() - after.len() - text.len();
         let len = text.len() as u32;
         classes.push_reserved(class);
         heads.push_reserved(Head { start, class, len });
-        room -= len;
         rest = after;
     }
-    if !rest.is_empty() {
+    let Some(size) = size_of_texts(count, bytes, rest) else {
         return Ok(None);
-    }
-    let size = bytes.len() - FRONT * usize::from(count);
+    };
     let texts = copied(alloc, bytes)?;
     let classes = VecDeque::from_vec(classes);
     let heads = VecDeque::from_vec(heads);

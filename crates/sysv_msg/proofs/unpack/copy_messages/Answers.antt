@@ -1,21 +1,21 @@
 use Rattle.std.proofs.Common.{◌∙◌, ℕ, ◌+◌, ◌≡◌, ◌-◌, ◌*◌, List, Some, SFits, w32, [], ◌∷◌, length, ap, sym, refl, arith, rules}
-use Rattle.std.proofs.lemmas.Bool.{eqb-true}
 use Rattle.std.proofs.lemmas.Int.{to_z-of_z}
-use Rattle.std.proofs.lemmas.List.{map-append, nil_from_length}
-use Rattle.kernel_model.specs.Queue.{Message, bytes_of, max_queue_bytes}
+use Rattle.std.proofs.lemmas.List.{map-append}
+use Rattle.kernel_model.specs.Queue.{Message, bytes_of, max_text, max_queue_bytes}
 use Rattle.sysv_msg.specs.declared.store.Head.{Head}
 use Rattle.sysv_msg.specs.Heads.{messages_in}
 use Rattle.sysv_msg.specs.Measured.{all_messages}
 use Rattle.sysv_msg.specs.Reading.{messages_at}
-use Rattle.sysv_msg.proofs.Copied.{begins_copying, copied_more, copied_whole, text_lies_within}
+use Rattle.sysv_msg.proofs.Copied.{begins_copying, copied_more, text_lies_within}
 use Rattle.sysv_msg.proofs.Dense.{dense_read, read_size}
-use Rattle.sysv_msg.proofs.Loop.{ends, is_done}
+use Rattle.sysv_msg.proofs.Loop.{has_read_all, stops}
+use Rattle.sysv_msg.proofs.Tested.{none_widely}
 use Rattle.sysv_msg.proofs.unpack.copy_messages.Goals as goal
 
 pub loop-init : goal.loop-init
 loop-init c =
     rw (c.in_ok-heads.ensures.items, c.in_ok-classes.ensures.items) record {
-      copied = begins_copying c.args.count max_queue_bytes c.args.bytes.now (λ i. omega (arith, c.type_inv.bytes i));
+      copied = begins_copying c.args.count c.args.bytes.now (λ i. omega (arith, c.type_inv.bytes i));
       classes = refl;
       rooms = (
         c.in_ok-classes.ensures.len,
@@ -27,23 +27,24 @@ loop-init c =
 
 pub returns-in_default : goal.returns-in_default
 returns-in_default c =
-    ap all_messages (ends (messages_in c.args.bytes.now c.loop.heads.items) c.args.count c.loop.counter c.loop.room
-    c.loop.rest.now (messages_at c.args.count max_queue_bytes c.args.bytes.now) c.loop-test.true
-    c.in_default.ensures.read c.loop.invariant.copied.others)
+    ap all_messages (none_widely c.args.count c.args.bytes.now (λ i. omega (arith, c.type_inv.bytes i))
+    (stops c.args.count c.loop.counter c.loop.rest.now (messages_in c.args.bytes.now c.loop.heads.items)
+    (messages_at c.args.count (c.args.count * max_text) c.args.bytes.now) c.loop-test.true
+    c.in_default.ensures.read c.loop.invariant.copied.read))
 
 pub overflow_sub-start : goal.overflow_sub-start
 overflow_sub-start c =
     let m : Message = record { class = c.in-Some.class; text = c.in-Some.text.now } in
-    let within = text_lies_within (messages_at c.args.count max_queue_bytes c.args.bytes.now)
-    (c.args.count - c.loop.counter) c.loop.room c.loop.room c.args.bytes.now c.loop.rest.now
+    let within = text_lies_within (messages_at c.args.count (c.args.count * max_text) c.args.bytes.now)
+    (c.args.count - c.loop.counter) c.args.bytes.now c.loop.rest.now
     c.in-Some.after.now c.loop.heads.items m c.in-Some.ensures.read c.loop.invariant.copied in
     omega (arith, within)
 
 pub overflow_sub-start-in-loop : goal.overflow_sub-start-in-loop
 overflow_sub-start-in-loop c =
     let m : Message = record { class = c.in-Some.class; text = c.in-Some.text.now } in
-    let within = text_lies_within (messages_at c.args.count max_queue_bytes c.args.bytes.now)
-    (c.args.count - c.loop.counter) c.loop.room c.loop.room c.args.bytes.now c.loop.rest.now
+    let within = text_lies_within (messages_at c.args.count (c.args.count * max_text) c.args.bytes.now)
+    (c.args.count - c.loop.counter) c.args.bytes.now c.loop.rest.now
     c.in-Some.after.now c.loop.heads.items m c.in-Some.ensures.read c.loop.invariant.copied in
     omega (arith, within)
 
@@ -62,9 +63,9 @@ loop-preserved c =
       c.push_reserved-in-loop.ensures.items,
       to_z-of_z w32 c.in-Some.class fits,
     ) record {
-      copied = copied_more (messages_at c.args.count max_queue_bytes c.args.bytes.now) c.args.count c.loop.counter
-          c.loop.room c.args.bytes.now c.loop.rest.now c.in-Some.after.now c.loop.heads.items m h
-          c.loop-test.true c.in-Some.ensures.read refl refl refl c.loop.invariant.copied;
+      copied = copied_more (messages_at c.args.count (c.args.count * max_text) c.args.bytes.now) c.args.count
+          c.loop.counter c.args.bytes.now c.loop.rest.now c.in-Some.after.now c.loop.heads.items m h
+          c.loop-test.true c.in-Some.ensures.read c.in-Some.ensures.within refl refl refl c.loop.invariant.copied;
       classes = rw c.loop.invariant.classes (sym (map-append (λ (h : Head). h.class) c.loop.heads.items (h ∷ [])));
       rooms = (
         c.push_reserved.ensures.len ∙ ap (λ (n : ℕ). n + 1) rooms.0,
@@ -74,48 +75,43 @@ loop-preserved c =
       );
     }
 
-pub returns-then-not-is_empty : goal.returns-then-not-is_empty
-returns-then-not-is_empty c =
-    let read = is_done (messages_in c.args.bytes.now c.loop.heads.items) c.args.count c.loop.counter c.loop.room
-    c.loop.rest.now (messages_at c.args.count max_queue_bytes c.args.bytes.now) c.loop-test.false
-    c.loop.invariant.copied.others in
-    rw (read, sym c.is_empty.ensures ∙ c.if-not-is_empty.true) refl
-
-pub overflow_sub-size : goal.overflow_sub-size
-overflow_sub-size c =
-    let nothing : c.loop.rest.now ≡ [] =
-    nil_from_length c.loop.rest.now (eqb-true _ _ (sym c.is_empty.ensures ∙ c.if-not-is_empty.false)) in
-    let size = read_size c.args.count max_queue_bytes c.args.bytes.now
-    (messages_in c.args.bytes.now c.loop.heads.items) (λ i. omega (arith, c.type_inv.bytes i))
-    (copied_whole c.args.count c.loop.counter c.loop.room c.args.bytes.now c.loop.rest.now c.loop.heads.items
-    c.loop-test.false nothing c.loop.invariant.copied) in
-    omega (arith, size, c.from-3.ensures)
+pub size_of_texts-requires : goal.size_of_texts-requires
+size_of_texts-requires c = record {
+  messages = messages_in c.args.bytes.now c.loop.heads.items;
+  are_read = has_read_all c.args.count c.loop.counter c.loop.rest.now
+      (messages_in c.args.bytes.now c.loop.heads.items)
+      (messages_at c.args.count (c.args.count * max_text) c.args.bytes.now) c.loop-test.false
+      c.loop.invariant.copied.read;
+}
 
 pub invariant_of-result : goal.invariant_of-result
 invariant_of-result c =
-    let nothing : c.loop.rest.now ≡ [] =
-    nil_from_length c.loop.rest.now (eqb-true _ _ (sym c.is_empty.ensures ∙ c.if-not-is_empty.false)) in
-    let read = copied_whole c.args.count c.loop.counter c.loop.room c.args.bytes.now c.loop.rest.now
-    c.loop.heads.items c.loop-test.false nothing c.loop.invariant.copied in
+    let fit = c.in-Some-size_of_texts.ensures in
+    let wide = has_read_all c.args.count c.loop.counter c.loop.rest.now
+    (messages_in c.args.bytes.now c.loop.heads.items)
+    (messages_at c.args.count (c.args.count * max_text) c.args.bytes.now) c.loop-test.false
+    c.loop.invariant.copied.read in
     rw (c.in_ok-texts.ensures, c.from_vec-heads.ensures.items, c.from_vec-classes.ensures.items) (
       c.loop.invariant.classes,
       c.loop.invariant.copied.within,
-      dense_read c.args.count c.args.bytes.now c.loop.heads.items (λ i. omega (arith, c.type_inv.bytes i)) read,
+      dense_read c.args.count c.args.bytes.now c.loop.rest.now c.loop.heads.items
+          (λ i. omega (arith, c.type_inv.bytes i)) (fit.same ∙ wide) fit.nothing,
     )
 
 pub returns : goal.returns
 returns c =
-    let nothing : c.loop.rest.now ≡ [] =
-    nil_from_length c.loop.rest.now (eqb-true _ _ (sym c.is_empty.ensures ∙ c.if-not-is_empty.false)) in
-    let read = copied_whole c.args.count c.loop.counter c.loop.room c.args.bytes.now c.loop.rest.now
-    c.loop.heads.items c.loop-test.false nothing c.loop.invariant.copied in
-    let shown : messages_in c.in_ok-texts.texts.items c.from_vec-heads.result.items
-    ≡ messages_in c.args.bytes.now c.loop.heads.items =
+    let fit = c.in-Some-size_of_texts.ensures in
+    let ms : List Message = messages_in c.args.bytes.now c.loop.heads.items in
+    let wide = has_read_all c.args.count c.loop.counter c.loop.rest.now ms
+    (messages_at c.args.count (c.args.count * max_text) c.args.bytes.now) c.loop-test.false
+    c.loop.invariant.copied.read in
+    let shown : messages_in c.in_ok-texts.texts.items c.from_vec-heads.result.items ≡ ms =
     rw (c.in_ok-texts.ensures, c.from_vec-heads.ensures.items) refl in
-    let size = read_size c.args.count max_queue_bytes c.args.bytes.now
-    (messages_in c.args.bytes.now c.loop.heads.items) (λ i. omega (arith, c.type_inv.bytes i)) read in
-    let sum : length c.args.bytes.now - 8 * c.from-3.result
-    ≡ bytes_of (messages_in c.args.bytes.now c.loop.heads.items) = omega (arith, size, c.from-3.ensures) in
+    let size = read_size c.args.count max_queue_bytes c.args.bytes.now ms c.loop.rest.now
+    (λ i. omega (arith, c.type_inv.bytes i)) (fit.same ∙ wide) fit.nothing in
+    let sum : c.in-Some-size_of_texts.size ≡ bytes_of ms = omega (arith, size, fit.sum) in
+    let read : messages_at c.args.count max_queue_bytes c.args.bytes.now ≡ Some (ms, []) =
+    fit.same ∙ wide ∙ ap (λ (r : List ℕ). Some (ms, r)) fit.nothing in
     record {
       all = ap all_messages read ∙ ap (λ (ms : List Message). Some ms) (sym shown);
       sum = sum ∙ ap bytes_of (sym shown);
