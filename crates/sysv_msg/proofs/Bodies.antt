@@ -1,15 +1,16 @@
 -- What is read is a body of it, and a body is read as its queue.
-use Rattle.std.proofs.Common.{◌≡◌, ℕ, ◌^◌, false, cond, eqb, List, [], ◌∷◌, ◌++◌, length, Option, Some, None, refl, sym, ap, subst, ◌∙◌, append_assoc, arith}
-use Rattle.std.specs.Prelude.{MatchOption}
+use Rattle.std.proofs.Common.{◌≡◌, ℕ, ◌^◌, Bool, true, false, cond, eqb, List, [], ◌∷◌, ◌++◌, length, Option, Some, None, refl, sym, ap, subst, ◌∙◌, append_assoc, arith}
+use Rattle.std.specs.Prelude.{is_some}
 use Rattle.std.specs.List.{flat_map}
 use Rattle.std.specs.Int.{w16, w32, to_be_bytes}
 use Rattle.std.proofs.lemmas.Bool.{eqb-true}
 use Rattle.std.proofs.lemmas.List.{append-nil, nil_from_length}
 use Rattle.pico_base.specs.Options.{◌>>=◌}
-use Rattle.kernel_model.specs.Queue.{Queue, max_queue_bytes, max_messages}
+use Rattle.kernel_model.specs.Queue.{Message, Queue, max_queue_bytes, max_messages}
 use Rattle.sysv_msg.specs.Body.{queue_code, message_field, IsBodyOf}
 use Rattle.body_fields.specs.Fields.{number_at, number_upto}
-use Rattle.sysv_msg.specs.Measured.{Measures, HasBody, HasFields}
+use Rattle.sysv_msg.specs.Measured.{HasFields, all_messages, queue_with}
+use Rattle.sysv_msg.specs.Packed.{TellsPacked}
 use Rattle.sysv_msg.specs.Reading.{messages_at, fields_at, queue_at}
 use Rattle.body_fields.proofs.Fields.{IsBytes, IsBytes-rest, bind_some, guard_ended, guard_then, some_is, refused, Takes-then, wide16, wide32, number_takes, number_again, number_upto_takes, number_upto_again}
 use Rattle.sysv_msg.proofs.Messages.{messages_take, messages_again}
@@ -135,34 +136,60 @@ no_queue bytes e q is = refused (queue_at bytes) q e (queue_again q bytes is)
 pub one_queue : (bytes : List ℕ) (p q : Queue) → IsBodyOf p bytes → IsBodyOf q bytes → p ≡ q
 one_queue bytes p q is is' = some_is p q (sym (queue_again p bytes is) ∙ queue_again q bytes is')
 
--- ---- the fields, as the code reads them
+-- ---- the numbers, and then the messages, as the code reads them
 
--- fields that were all read are the body's
-pub fields_read : (bytes : List ℕ) (a b c d : ℕ × List ℕ) (room : ℕ) → number_upto w32 max_queue_bytes bytes ≡ Some a
+queue_made : (qbytes sender receiver : ℕ) (read : Option (List Message × List ℕ))
+    → (read >>= λ messages. cond (eqb (length messages.1) 0)
+    (Some (record { messages = messages.0; qbytes = qbytes; last_sender = sender; last_receiver = receiver })) None)
+    ≡ queue_with qbytes sender receiver (all_messages read)
+queue_made qbytes sender receiver None = refl
+queue_made qbytes sender receiver (Some x) =
+    elim (eqb (length x.1) 0) as
+    (λ b. cond b
+    (Some (record { messages = x.0; qbytes = qbytes; last_sender = sender; last_receiver = receiver })) None
+    ≡ queue_with qbytes sender receiver (cond b (Some x.0) None)) [ true ↦ refl | false ↦ refl ]
+
+-- numbers that were all read are the queue's, whose messages are read next
+pub fields_read : (bytes : List ℕ) (a b c d : ℕ × List ℕ) → number_upto w32 max_queue_bytes bytes ≡ Some a
     → number_at w32 a.1 ≡ Some b → number_at w32 b.1 ≡ Some c → number_upto w16 max_messages c.1 ≡ Some d
-    → Measures (messages_at d.0 max_queue_bytes d.1) room [] → HasFields a.0 b.0 c.0 d.0 room d.1 (fields_at bytes)
+    → HasFields a.0 b.0 c.0 d.0 d.1 (fields_at bytes)
 unfolding fields_at
-fields_read bytes a b c d room qbytes sender receiver count measured =
-    let read = measured.are_read in
-    record { measured = measured; is_read = rw (qbytes, sender, receiver, count, read) refl }
+fields_read bytes a b c d qbytes sender receiver count =
+    record {
+      is_read = rw (qbytes, sender, receiver, count)
+          (queue_made a.0 b.0 c.0 (messages_at d.0 max_queue_bytes d.1));
+    }
 
--- bytes left behind the fields make it no body
-pub fields_unread : (bytes : List ℕ) (a b c d : ℕ × List ℕ) (room : ℕ) (rest : List ℕ)
-    → number_upto w32 max_queue_bytes bytes ≡ Some a → number_at w32 a.1 ≡ Some b → number_at w32 b.1 ≡ Some c
-    → number_upto w16 max_messages c.1 ≡ Some d
-    → Measures (messages_at d.0 max_queue_bytes d.1) room rest → eqb (length rest) 0 ≡ false → fields_at bytes ≡ None
-unfolding fields_at
-fields_unread bytes a b c d room rest qbytes sender receiver count measured more =
-    let read = measured.are_read in
-    rw (qbytes, sender, receiver, count, read, more) refl
+-- bytes whose numbers and whose messages were all read are a queue's body
+pub is_body : (qbytes sender receiver count : ℕ) (messages : List Message) (section bytes : List ℕ) → IsBytes bytes
+    → HasFields qbytes sender receiver count section (queue_at bytes)
+    → all_messages (messages_at count max_queue_bytes section) ≡ Some messages
+    → IsBodyOf (record { messages = messages; qbytes = qbytes; last_sender = sender; last_receiver = receiver }) bytes
+is_body qbytes sender receiver count messages section bytes fits fields all =
+    queue_takes bytes _ fits (fields.is_read ∙ ap (queue_with qbytes sender receiver) all)
 
--- what was read field by field is the queue of these bytes
-pub is_unpacked : {X : Type 0} (qbytes sender receiver count room : X → ℕ) (messages : X → List ℕ) (bytes : List ℕ)
-    (r : Option X) → IsBytes bytes
-    → MatchOption r (queue_at bytes ≡ None)
-    (λ f. HasFields (qbytes f) (sender f) (receiver f) (count f) (room f) (messages f) (queue_at bytes))
-    → MatchOption r ((q : Queue) → IsBodyOf q bytes → ⊥)
-    (λ f. HasBody (qbytes f) (sender f) (receiver f) (count f) (room f) (messages f) bytes)
-is_unpacked qbytes sender receiver count room messages bytes None fits read = no_queue bytes read
-is_unpacked qbytes sender receiver count room messages bytes (Some f) fits read =
-    record { measured = read.measured; body = queue_takes bytes _ fits read.is_read }
+-- bytes whose messages can't all be read, or that have more behind them, are no queue's body
+pub is_no_body : (qbytes sender receiver count : ℕ) (section bytes : List ℕ)
+    → HasFields qbytes sender receiver count section (queue_at bytes)
+    → all_messages (messages_at count max_queue_bytes section) ≡ None → (q : Queue) → IsBodyOf q bytes → ⊥
+is_no_body qbytes sender receiver count section bytes fields none =
+    no_queue bytes (fields.is_read ∙ ap (queue_with qbytes sender receiver) none)
+
+tells : (qbytes sender receiver count : ℕ) (section bytes : List ℕ) (all : Option (List Message)) → IsBytes bytes
+    → HasFields qbytes sender receiver count section (queue_at bytes)
+    → all_messages (messages_at count max_queue_bytes section) ≡ all → TellsPacked bytes (is_some all)
+tells qbytes sender receiver count section bytes None fits fields is =
+    is_no_body qbytes sender receiver count section bytes fields is
+tells qbytes sender receiver count section bytes (Some messages) fits fields is =
+    record {
+      queue = record { messages = messages; qbytes = qbytes; last_sender = sender; last_receiver = receiver };
+      is_body = is_body qbytes sender receiver count messages section bytes fits fields is;
+    }
+
+-- whether the bytes behind the numbers are messages tells whether the whole is a queue's body
+pub tells_packed : (qbytes sender receiver count : ℕ) (section bytes : List ℕ) (told : Bool) → IsBytes bytes
+    → HasFields qbytes sender receiver count section (queue_at bytes)
+    → told ≡ is_some (all_messages (messages_at count max_queue_bytes section)) → TellsPacked bytes told
+tells_packed qbytes sender receiver count section bytes told fits fields is =
+    subst (TellsPacked bytes) (sym is) (tells qbytes sender receiver count section bytes
+    (all_messages (messages_at count max_queue_bytes section)) fits fields refl)

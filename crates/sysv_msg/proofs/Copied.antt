@@ -1,40 +1,32 @@
 -- Messages read from bytes that are copied whole: each text is found in the copy where it lay in the bytes.
-use Rattle.std.proofs.Common.{◌≡◌, ℕ, ◌-◌, ◌+◌, ◌≤◌, ◌<◌, List, [], ◌∷◌, ◌++◌, length, take, Option, Some, refl, sym, ap, ◌∙◌, append_assoc, arith}
+use Rattle.std.proofs.Common.{◌≡◌, ℕ, ◌-◌, ◌+◌, ◌*◌, ◌≤◌, ◌<◌, List, [], ◌∷◌, ◌++◌, length, take, Option, Some, refl, sym, ap, ◌∙◌, append_assoc, arith}
 use Rattle.std.specs.List.{AllByRecursion}
 use Rattle.std.specs.Int.{w32, to_be_bytes, cast_unsigned}
 use Rattle.std.proofs.lemmas.List.{take_at, drop_at, map-append, length-append}
-use Rattle.kernel_model.specs.Queue.{Message}
+use Rattle.kernel_model.specs.Queue.{Message, max_text}
 use Rattle.body_fields.proofs.Fields.{IsBytes}
-use Rattle.body_fields.proofs.Many.{with_front, nothing_before}
 use Rattle.sysv_msg.specs.declared.store.Head.{Head}
 use Rattle.sysv_msg.specs.Body.{message_field}
 use Rattle.sysv_msg.specs.Heads.{IsWithin, text_in, message_in, messages_in}
 use Rattle.sysv_msg.specs.Reading.{message_at, messages_at}
 use Rattle.sysv_msg.proofs.Heads.{all_joined}
-use Rattle.sysv_msg.proofs.Loop.{goes_on}
+use Rattle.sysv_msg.proofs.Loop.{HasRead, begins, has_read_more}
 use Rattle.sysv_msg.proofs.Messages.{message_takes}
 
 -- the heads show in the bytes the messages that were read up to here, and the others are still to be read
-pub record HasCopied (total : Option (List Message × List ℕ)) (left room : ℕ) (bytes rest : List ℕ)
+pub record HasCopied (total : Option (List Message × List ℕ)) (left : ℕ) (bytes rest : List ℕ)
     (heads : List Head) : Type 0 where
   pub before : List ℕ
   pub parts : bytes ≡ before ++ rest
   pub fits : IsBytes rest
   pub within : AllByRecursion (IsWithin bytes) heads
-  pub others : with_front (messages_in bytes heads) (messages_at left room rest) ≡ total
+  pub read : HasRead total left rest (messages_in bytes heads)
 
 -- before the first message nothing is noted, and the whole section is to be copied
-pub begins_copying : (count room : ℕ) (bytes : List ℕ) → IsBytes bytes
-    → HasCopied (messages_at count room bytes) (count - 0) room bytes bytes []
-begins_copying count room bytes fits =
-    let k : count - 0 ≡ count = omega arith in
-    record {
-      before = [];
-      parts = refl;
-      fits = fits;
-      within = tt;
-      others = rw k (nothing_before (messages_at count room bytes));
-    }
+pub begins_copying : (count : ℕ) (bytes : List ℕ) → IsBytes bytes
+    → HasCopied (messages_at count (count * max_text) bytes) (count - 0) bytes bytes []
+begins_copying count bytes fits =
+    record { before = []; parts = refl; fits = fits; within = tt; read = begins count bytes }
 
 text_there : (front text after bytes : List ℕ) (h : Head) → bytes ≡ front ++ (text ++ after) → h.start ≡ length front
     → h.len ≡ length text → text_in bytes h ≡ text
@@ -72,22 +64,22 @@ lies_there before rest after bytes room m is fits read =
     }
 
 -- a text that was read lies within the bytes that were copied
-pub text_lies_within : (total : Option (List Message × List ℕ)) (left room other : ℕ) (bytes rest after : List ℕ)
-    (heads : List Head) (m : Message) → message_at room rest ≡ Some (m, after)
-    → HasCopied total left other bytes rest heads → length after + length m.text ≤ length bytes
-text_lies_within total left room other bytes rest after heads m read copied =
-    let there = lies_there copied.before rest after bytes room m copied.parts copied.fits read in
+pub text_lies_within : (total : Option (List Message × List ℕ)) (left : ℕ) (bytes rest after : List ℕ)
+    (heads : List Head) (m : Message) → message_at max_text rest ≡ Some (m, after)
+    → HasCopied total left bytes rest heads → length after + length m.text ≤ length bytes
+text_lies_within total left bytes rest after heads m read copied =
+    let there = lies_there copied.before rest after bytes max_text m copied.parts copied.fits read in
     let sum = there.lengths in
     omega (arith, sum)
 
 -- one more message
-pub copied_more : (total : Option (List Message × List ℕ)) (count i room : ℕ) (bytes rest after : List ℕ)
-    (heads : List Head) (m : Message) (h : Head) → i < count → message_at room rest ≡ Some (m, after)
+pub copied_more : (total : Option (List Message × List ℕ)) (count i : ℕ) (bytes rest after : List ℕ)
+    (heads : List Head) (m : Message) (h : Head) → i < count → message_at max_text rest ≡ Some (m, after)
+    → length m.text ≤ max_text
     → h.class ≡ m.class → h.start ≡ length bytes - length after - length m.text → h.len ≡ length m.text
-    → HasCopied total (count - i) room bytes rest heads
-    → HasCopied total (count - (i + 1)) (room - length m.text) bytes after (heads ++ h ∷ [])
-copied_more total count i room bytes rest after heads m h lt read class start len copied =
-    let there = lies_there copied.before rest after bytes room m copied.parts copied.fits read in
+    → HasCopied total (count - i) bytes rest heads → HasCopied total (count - (i + 1)) bytes after (heads ++ h ∷ [])
+copied_more total count i bytes rest after heads m h lt read short class start len copied =
+    let there = lies_there copied.before rest after bytes max_text m copied.parts copied.fits read in
     let sum = there.lengths in
     let begin : h.start ≡ length there.front = omega (arith, sum, start) in
     let text : text_in bytes h ≡ m.text =
@@ -99,5 +91,6 @@ copied_more total count i room bytes rest after heads m h lt read class start le
       parts = there.whole;
       fits = there.fits;
       within = all_joined (IsWithin bytes) heads (h ∷ []) copied.within (omega (arith, sum, begin, len), tt);
-      others = rw shown (goes_on (messages_in bytes heads) count i room rest m after total lt read copied.others);
+      read = rw shown
+          (has_read_more count i rest (messages_in bytes heads) m after total lt read short copied.read);
     }

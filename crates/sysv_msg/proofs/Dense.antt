@@ -11,9 +11,8 @@ use Rattle.sysv_msg.specs.declared.store.Head.{Head}
 use Rattle.sysv_msg.specs.Body.{message_field}
 use Rattle.sysv_msg.specs.Dense.{IsDense}
 use Rattle.sysv_msg.specs.Heads.{IsWithin, message_in, messages_in}
-use Rattle.sysv_msg.specs.Measured.{ReadsAll}
 use Rattle.sysv_msg.specs.Reading.{messages_at}
-use Rattle.body_fields.proofs.Fields.{IsBytes, some_is}
+use Rattle.body_fields.proofs.Fields.{IsBytes}
 use Rattle.sysv_msg.proofs.Messages.{messages_take}
 use Rattle.sysv_msg.proofs.Heads.{messages_stay, within_more, message_added, within_added}
 
@@ -92,13 +91,10 @@ dense_removed is true place texts heads tells dense =
 
 -- where nothing is behind the messages that were read, their fields are all of the bytes
 pub dense_read : (count : ℕ) (bytes rest : List ℕ) (heads : List Head) → IsBytes bytes
-    → ReadsAll (messages_at count max_queue_bytes bytes)
-    → messages_at count max_queue_bytes bytes ≡ Some (messages_in bytes heads, rest) → IsDense true bytes heads
-dense_read count bytes rest heads fits all read =
-    let shown : List Message × List ℕ = (messages_in bytes heads, rest) in
-    let taken = (messages_take count max_queue_bytes bytes shown fits read).0 in
-    let nothing : rest ≡ [] =
-    ap (λ (x : List Message × List ℕ). x.1) (some_is shown (all.messages, []) (sym read ∙ all.all)) in
+    → messages_at count max_queue_bytes bytes ≡ Some (messages_in bytes heads, rest) → rest ≡ []
+    → IsDense true bytes heads
+dense_read count bytes rest heads fits read nothing =
+    let taken = (messages_take count max_queue_bytes bytes (messages_in bytes heads, rest) fits read).0 in
     let fields : List ℕ = flat_map message_field (messages_in bytes heads) in
     record {
       front = [];
@@ -121,6 +117,16 @@ fields_size (m ∷ ms) =
       ap length (flat_map-cons message_field m ms),
       length-append (message_field m) (flat_map message_field ms),
     )
+
+-- messages that were read, with nothing behind them, are so many bytes
+pub read_size : (count room : ℕ) (bytes : List ℕ) (ms : List Message) (rest : List ℕ) → IsBytes bytes
+    → messages_at count room bytes ≡ Some (ms, rest) → rest ≡ [] → length bytes ≡ 8 * count + bytes_of ms
+read_size count room bytes ms rest fits read nothing =
+    let taken = messages_take count room bytes (ms, rest) fits read in
+    let whole : bytes ≡ flat_map message_field ms =
+    taken.0.parts ∙ ap (λ (r : List ℕ). flat_map message_field ms ++ r) nothing
+    ∙ append-nil (flat_map message_field ms) in
+    omega (arith, fields_size ms, taken.1, ap length whole)
 
 -- the fields are as many of the last bytes as they have together
 pub record LiesLast (size : ℕ) (texts fields : List ℕ) : Type 0 where

@@ -1,10 +1,13 @@
 -- Bodies, messages whose texts lie in one buffer, and a lowest type, that the checker computes.
-use Rattle.std.proofs.Common.{◌≡◌, List, [], ◌∷◌, pos, refl, arith}
+use Rattle.std.proofs.Common.{◌≡◌, List, [], ◌∷◌, pos, Some, None, refl, arith}
 use Rattle.std.proofs.lemmas.Int.{ints}
 use Rattle.kernel_model.specs.Queue.{empty_queue}
 use Rattle.sysv_msg.specs.Body.{body, message_field}
 use Rattle.sysv_msg.specs.Heads.{messages_in, classes_of}
 use Rattle.sysv_msg.specs.Lowest.{IsLowest}
+use Rattle.sysv_msg.specs.Measured.{FitsQueue, all_messages, queue_with}
+use Rattle.sysv_msg.specs.Reading.{text_at, class_at, message_at, messages_at}
+use Rattle.body_fields.specs.Fields.{number_upto}
 use Rattle.sysv_msg.specs.declared.store.Head.{Head}
 
 -- in the buffer "hi.yo" the text "hi" is of a message of type 3, and "yo" of one of type 258
@@ -25,6 +28,26 @@ an_empty_queue = refl
 a_message : message_field (record { class = pos 258; text = 104 ∷ 105 ∷ [] }) ≡ 0 ∷ 0 ∷ 1 ∷ 2 ∷ 0 ∷ 0 ∷ 0 ∷ 2 ∷ 104
     ∷ 105 ∷ []
 a_message = refl
+
+-- one message was read and nothing is behind it, or a byte is
+all_there : all_messages (Some (record { class = pos 3; text = [] } ∷ [], []))
+    ≡ Some (record { class = pos 3; text = [] } ∷ [])
+all_there = refl
+
+more_behind : all_messages (Some (record { class = pos 3; text = [] } ∷ [], 0 ∷ [])) ≡ None
+more_behind = refl
+
+-- a message with the text "hi" is read so with the limit on the sum and without it, and its text has 2 bytes
+one_fits : FitsQueue 1 (message_field (record { class = pos 258; text = 104 ∷ 105 ∷ [] })) [] 2
+unfolding messages_at message_at class_at text_at number_upto
+one_fits = record { same = refl; nothing = refl; sum = refl }
+
+-- numbers and messages make a queue, and numbers alone none
+a_queue_with : queue_with 16384 0 0 (Some []) ≡ Some empty_queue
+a_queue_with = refl
+
+no_queue_with : queue_with 16384 0 0 None ≡ None
+no_queue_with = refl
 
 -- of the types 3, 2, 5 and 2 the lowest is 2, and the first of it is the second message
 a_lowest_type : IsLowest (pos 3 ∷ pos 2 ∷ pos 5 ∷ pos 2 ∷ []) (pos 2) 1

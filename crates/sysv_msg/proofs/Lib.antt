@@ -7,5 +7,6 @@ pub mod Receiving
 pub mod Selected
 pub mod Loop
 pub mod Copied
+pub mod Tested
 pub mod Bodies
 mod Examples

@@ -1,17 +1,12 @@
 -- Reading messages one after the other, as a loop does.
-use Rattle.std.proofs.Common.{◌≡◌, ℕ, suc, ◌-◌, ◌+◌, ◌≤◌, ◌<◌, List, [], ◌∷◌, ◌++◌, length, Option, Some, None, sym, ap, ◌∙◌, refl, subst, arith, rules}
-use Rattle.std.specs.Prelude.{IsSome}
-use Rattle.std.proofs.lemmas.Bool.{false≢true}
+use Rattle.std.proofs.Common.{◌≡◌, ℕ, suc, ◌-◌, ◌+◌, ◌*◌, ◌≤◌, ◌<◌, List, [], ◌∷◌, ◌++◌, length, min, Option, Some, None, sym, ap, ◌∙◌, refl, arith}
 use Rattle.std.proofs.lemmas.List.{append-nil}
-use Rattle.std.proofs.lemmas.Grind.{common_steps}
-use Rattle.kernel_model.specs.Queue.{Message, bytes_of, max_queue_bytes}
-use Rattle.body_fields.specs.Fields.{Reads}
+use Rattle.kernel_model.specs.Queue.{Message, max_text}
 use Rattle.body_fields.proofs.Many.{with_front, regroup, nothing_before}
 use Rattle.sysv_msg.specs.Reading.{message_at, messages_at}
-use Rattle.sysv_msg.specs.Measured.{Measures}
 
 -- one more message was read
-pub goes_on : (front : List Message) (count i room : ℕ) (bytes : List ℕ) (m : Message) (after : List ℕ)
+goes_on : (front : List Message) (count i room : ℕ) (bytes : List ℕ) (m : Message) (after : List ℕ)
     (total : Option (List Message × List ℕ)) → i < count → message_at room bytes ≡ Some (m, after)
     → with_front front (messages_at (count - i) room bytes) ≡ total
     → with_front (front ++ m ∷ []) (messages_at (count - (i + 1)) (room - length m.text) after) ≡ total
@@ -24,7 +19,7 @@ goes_on front count i room bytes m after total lt h so_far =
     sym one ∙ so_far
 
 -- a message that can't be read ends the reading
-pub ends : (front : List Message) (count i room : ℕ) (bytes : List ℕ) (total : Option (List Message × List ℕ))
+ends : (front : List Message) (count i room : ℕ) (bytes : List ℕ) (total : Option (List Message × List ℕ))
     → i < count → message_at room bytes ≡ None
     → with_front front (messages_at (count - i) room bytes) ≡ total → total ≡ None
 unfolding messages_at
@@ -34,7 +29,7 @@ ends front count i room bytes total lt h so_far =
     sym so_far ∙ one
 
 -- all messages were read
-pub is_done : (front : List Message) (count i room : ℕ) (bytes : List ℕ) (total : Option (List Message × List ℕ))
+is_done : (front : List Message) (count i room : ℕ) (bytes : List ℕ) (total : Option (List Message × List ℕ))
     → count ≤ i → with_front front (messages_at (count - i) room bytes) ≡ total → total ≡ Some (front, bytes)
 unfolding messages_at
 is_done front count i room bytes total le so_far =
@@ -43,49 +38,55 @@ is_done front count i room bytes total le so_far =
     rw k (ap (λ (ms : List Message). Some (ms, bytes)) (append-nil front)) in
     sym so_far ∙ one
 
-pub room_left : (front : List Message) (m : Message) (room most : ℕ) → length m.text ≤ room
-    → room + bytes_of front ≡ most → (room - length m.text) + bytes_of (front ++ m ∷ []) ≡ most
-room_left front m room most fits so_far = grind (arith, common_steps)
+-- a message is read so wherever there is room for any text
+message_wide : (room : ℕ) (bytes : List ℕ) → max_text ≤ room → message_at room bytes ≡ message_at max_text bytes
+unfolding message_at
+message_wide room bytes le =
+    let k : min max_text room ≡ max_text = omega arith in
+    rw k refl
 
--- messages were read up to here, and the others are still to be read
-pub record HasRead (total : Option (List Message × List ℕ)) (left room : ℕ) (bytes : List ℕ) : Type 0 where
-  pub front : List Message
+-- messages were read up to here, and the others are still to be read, with room for any texts
+pub record HasRead (total : Option (List Message × List ℕ)) (left : ℕ) (bytes : List ℕ)
+    (front : List Message) : Type 0 where
+  pub room : ℕ
+  pub wide : left * max_text ≤ room
   pub others : with_front front (messages_at left room bytes) ≡ total
-  pub fit : room + bytes_of front ≡ max_queue_bytes
 
+-- before the first message
 pub begins : (count : ℕ) (bytes : List ℕ)
-    → HasRead (messages_at count max_queue_bytes bytes) (count - 0) max_queue_bytes bytes
+    → HasRead (messages_at count (count * max_text) bytes) (count - 0) bytes []
 begins count bytes =
     let k : count - 0 ≡ count = omega arith in
-    rw k record { front = []; others = nothing_before (messages_at count max_queue_bytes bytes); fit = refl }
-
--- the room that is left after one more message
-pub has_read_more : (count i room : ℕ) (bytes : List ℕ) (m : Message) (after : List ℕ)
-    (total : Option (List Message × List ℕ)) → i < count → message_at room bytes ≡ Some (m, after)
-    → length m.text ≤ room
-    → HasRead total (count - i) room bytes → HasRead total (count - (i + 1)) (room - length m.text) after
-has_read_more count i room bytes m after total lt h within read =
-    record {
-      front = read.front ++ m ∷ [];
-      others = goes_on read.front count i room bytes m after total lt h read.others;
-      fit = room_left read.front m room max_queue_bytes within read.fit;
+    rw k record {
+      room = count * max_text;
+      wide = omega arith;
+      others = nothing_before (messages_at count (count * max_text) bytes);
     }
 
--- the room that is left at the end
-pub measured : (count i room : ℕ) (bytes : List ℕ) (total : Option (List Message × List ℕ)) → count ≤ i
-    → HasRead total (count - i) room bytes → Measures total room bytes
-measured count i room bytes total le read =
+-- behind one more message
+pub has_read_more : (count i : ℕ) (bytes : List ℕ) (front : List Message) (m : Message) (after : List ℕ)
+    (total : Option (List Message × List ℕ)) → i < count → message_at max_text bytes ≡ Some (m, after)
+    → length m.text ≤ max_text
+    → HasRead total (count - i) bytes front → HasRead total (count - (i + 1)) after (front ++ m ∷ [])
+has_read_more count i bytes front m after total lt h within read =
+    let wide = read.wide in
+    let enough : max_text ≤ read.room = omega arith in
     record {
-      messages = read.front;
-      are_read = is_done read.front count i room bytes total le read.others;
-      fit =
-          read.fit;
+      room = read.room - length m.text;
+      wide = omega arith;
+      others = goes_on front count i read.room bytes m after total lt (message_wide read.room bytes enough ∙ h)
+          read.others;
     }
 
--- where all can be read, the next one can
-pub some_message : {X : Type 0} (view : X → Message × List ℕ) (r : Option X) (front : List Message) (count i room : ℕ)
-    (bytes : List ℕ) (total : Option (List Message × List ℕ)) → i < count → IsSome total
-    → Reads view r (message_at room bytes) → with_front front (messages_at (count - i) room bytes) ≡ total → IsSome r
-some_message view (Some x) front count i room bytes total lt some read so_far = search rules
-some_message view None front count i room bytes total lt some read so_far =
-    absurd (false≢true (subst IsSome (ends front count i room bytes total lt read so_far) some))
+-- at a message that can't be read
+pub stops : (count i : ℕ) (bytes : List ℕ) (front : List Message) (total : Option (List Message × List ℕ)) → i < count
+    → message_at max_text bytes ≡ None → HasRead total (count - i) bytes front → total ≡ None
+stops count i bytes front total lt h read =
+    let wide = read.wide in
+    let enough : max_text ≤ read.room = omega arith in
+    ends front count i read.room bytes total lt (message_wide read.room bytes enough ∙ h) read.others
+
+-- behind the last message
+pub has_read_all : (count i : ℕ) (bytes : List ℕ) (front : List Message) (total : Option (List Message × List ℕ))
+    → count ≤ i → HasRead total (count - i) bytes front → total ≡ Some (front, bytes)
+has_read_all count i bytes front total le read = is_done front count i read.room bytes total le read.others

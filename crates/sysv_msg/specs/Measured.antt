@@ -1,33 +1,37 @@
--- What is known of bytes that were read as messages, and of bytes that were read as a queue, before they are copied.
-use Rattle.std.specs.Prelude.{◌≡◌, ℕ, ◌+◌, List, [], Option, Some}
-use Rattle.kernel_model.specs.Queue.{Message, Queue, bytes_of, max_queue_bytes}
-use Rattle.sysv_msg.specs.Body.{IsBodyOf}
+-- What is known of bytes that were read as messages, and of bytes whose numbers before the messages were read.
+use Rattle.std.specs.Prelude.{◌≡◌, ℕ, ◌+◌, ◌*◌, List, [], length, Option, Some, None, ◌==◌, if◌then◌else◌}
+use Rattle.kernel_model.specs.Queue.{Message, Queue, bytes_of, max_text, max_queue_bytes}
 use Rattle.sysv_msg.specs.Reading.{messages_at}
 
--- messages were read, with these bytes after them, and behind their texts there is this room
-pub record Measures (read : Option (List Message × List ℕ)) (room : ℕ) (rest : List ℕ) : Type 0 where
+-- messages were read, with these bytes after them
+pub record AreRead (read : Option (List Message × List ℕ)) (rest : List ℕ) : Type 0 where
   pub messages : List Message
   pub are_read : read ≡ Some (messages, rest)
-  pub fit : room + bytes_of messages ≡ max_queue_bytes
 
--- messages were read, and nothing is behind them
-pub record ReadsAll (read : Option (List Message × List ℕ)) : Type 0 where
-  pub messages : List Message
-  pub all : read ≡ Some (messages, [])
+-- So many messages, read with no limit on the sum of their texts, are a queue's: nothing is left, and but for 8 bytes
+-- before each text there are so many.
+pub record FitsQueue (count : ℕ) (bytes rest : List ℕ) (size : ℕ) : Type 0 where
+  pub same : messages_at count max_queue_bytes bytes ≡ messages_at count (count * max_text) bytes
+  pub nothing : rest ≡ []
+  pub sum : length bytes ≡ 8 * count + size
 
--- a queue was read, with these numbers, and with the messages of these bytes
-pub record HasFields (qbytes sender receiver count room : ℕ) (bytes : List ℕ) (read : Option Queue) : Type 0 where
-  pub measured : Measures (messages_at count max_queue_bytes bytes) room []
-  pub is_read : read ≡ Some
-      (record { messages = measured.messages; qbytes = qbytes; last_sender = sender; last_receiver = receiver })
+-- the messages that were read, if nothing is behind them
+abbrev pub all_messages : Option (List Message × List ℕ) → Option (List Message)
+all_messages None = None
+all_messages (Some x) = if length x.1 == 0 then Some x.0 else None
 
--- the bytes are the body of the queue with these numbers and these messages
-pub record HasBody (qbytes sender receiver count room : ℕ) (bytes whole : List ℕ) : Type 0 where
-  pub measured : Measures (messages_at count max_queue_bytes bytes) room []
-  pub body : IsBodyOf (record {
-    messages = measured.messages;
-    qbytes = qbytes;
-    last_sender = sender;
-    last_receiver =
-        receiver;
-  }) whole
+-- they are these, and their texts have so many bytes
+pub record AreAll (read : Option (List Message × List ℕ)) (messages : List Message) (bytes : ℕ) : Type 0 where
+  pub all : all_messages read ≡ Some messages
+  pub sum : bytes ≡ bytes_of messages
+
+-- the queue with these numbers and these messages, if there are such
+abbrev pub queue_with : (qbytes sender receiver : ℕ) → Option (List Message) → Option Queue
+queue_with qbytes sender receiver None = None
+queue_with qbytes sender receiver (Some messages) = Some
+    (record { messages = messages; qbytes = qbytes; last_sender = sender; last_receiver = receiver })
+
+-- what was read is the queue with these numbers and the messages that these bytes are, or none where they aren't
+pub record HasFields (qbytes sender receiver count : ℕ) (bytes : List ℕ) (read : Option Queue) : Type 0 where
+  pub is_read : read
+      ≡ queue_with qbytes sender receiver (all_messages (messages_at count max_queue_bytes bytes))

@@ -32,11 +32,6 @@ messages_at (suc n) room bytes = do
   others ← messages_at n (room - length first.0.text) first.1
   Some (first.0 ∷ others.0, others.1)
 
--- the messages that were read, without the bytes after them
-abbrev pub messages_in : Option (List Message × List ℕ) → Option (List Message)
-messages_in None = None
-messages_in (Some x) = Some x.0
-
 -- the fields behind the code, and nothing behind them
 unfoldable pub fields_at : List ℕ → Option Queue
 fields_at bytes = do

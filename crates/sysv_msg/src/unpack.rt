@@ -1,18 +1,18 @@
-//! A queue read from bytes: first all of its fields, which takes no memory, and then its messages are copied.
-ghost use Rattle.std.specs.Prelude.{◌≡◌, ◌≤◌, length, IfOk, IfErr, IfSome, MatchOption, min};
+//! A queue read from bytes: first the numbers before its messages, and then its messages are copied as they are read.
+ghost use Rattle.std.specs.Prelude.{◌≡◌, ◌≤◌, ◌*◌, length, IfOk, IfErr, IfSome, MatchOption, is_some};
 ghost use Rattle.std.specs.Int.{w16, w32};
 ghost use Rattle.kernel_model.specs.Queue as definition;
 ghost use Rattle.kernel_model.specs.Queue.{max_text, max_queue_bytes};
 ghost use Rattle.sysv_msg.specs.Body.{IsBodyOf};
 ghost use Rattle.body_fields.specs.Fields.{Reads, Refuses, number_upto};
-ghost use Rattle.sysv_msg.specs.Reading.{text_at, class_at, message_at, messages_at, fields_at, queue_at, messages_in};
-ghost use Rattle.sysv_msg.specs.Measured.{Measures, HasBody, HasFields, ReadsAll};
+ghost use Rattle.sysv_msg.specs.Reading.{text_at, class_at, message_at, messages_at, fields_at, queue_at};
+ghost use Rattle.sysv_msg.specs.Measured.{AreRead, FitsQueue, HasFields, AreAll, all_messages};
 ghost use Rattle.sysv_msg.specs.Packed.{TellsPacked};
 
 use crate::Queue;
 use crate::pack::CODE;
 use crate::queue::{MAX_BYTES, MAX_MESSAGES, MAX_TEXT};
-use crate::store::{Head, Messages};
+use crate::store::{FRONT, Head, Messages};
 use body_fields::{u16_upto, u32_at, u32_upto};
 use pico_base::{Memory, Pid, UnpackFault};
 use std::alloc::Global;
@@ -23,17 +23,17 @@ const MORE: usize = 16;
 
 const MORE_BYTES: usize = 1024;
 
-/// The fields of a packed queue, with the bytes of its messages, whose texts leave room for so many bytes more.
+/// The numbers of a packed queue, with the bytes where its messages ought to be.
 #[derive(Clone, Copy)]
 struct Fields<'a> {
     qbytes: u32,
     sender: u32,
     receiver: u32,
     count: u16,
-    room: u32,
     messages: &'a [u8],
 }
 
+/// A text of at most so many bytes, and the bytes after it.
 #[tactic(auto, unfolding(crate::specs::Reading::text_at))]
 fn text_of(limit: u32, bytes: &[u8]) -> Option<(&[u8], &[u8])>
     ensures read { Reads (λ x. (x.0.now, x.1.now)) result (text_at limit bytes.now) }
@@ -47,6 +47,7 @@ fn text_of(limit: u32, bytes: &[u8]) -> Option<(&[u8], &[u8])>
     Some(rest.split_at(len))
 }
 
+/// A type, and the bytes after it.
 #[tactic(auto, unfolding(crate::specs::Reading::class_at))]
 fn class_of(bytes: &[u8]) -> Option<(i32, &[u8])>
     ensures { Reads (λ x. (x.0, x.1.now)) result (class_at bytes.now) }
@@ -61,73 +62,79 @@ fn class_of(bytes: &[u8]) -> Option<(i32, &[u8])>
 
 /// The type and the text of a message, and the bytes after it.
 #[tactic(auto, unfolding(crate::specs::Reading::message_at))]
-fn message_of(room: u32, bytes: &[u8]) -> Option<(i32, &[u8], &[u8])>
-    ensures read { Reads (λ x. (record { class = x.0; text = x.1.now }, x.2.now)) result (message_at room bytes.now) }
-    ensures within { IfSome result (λ x. length x.1.now ≤ room) }
+fn message_of(bytes: &[u8]) -> Option<(i32, &[u8], &[u8])>
+    ensures read { Reads (λ x. (record { class = x.0; text = x.1.now }, x.2.now)) result
+        (message_at max_text bytes.now) }
+    ensures within { IfSome result (λ x. length x.1.now ≤ max_text) }
 {
     let (class, rest) = class_of(bytes)?;
-    let limit = room.min(MAX_TEXT as u32);
-    let (text, rest) = text_of(limit, rest)?;
+    let (text, rest) = text_of(MAX_TEXT as u32, rest)?;
     Some((class, text, rest))
 }
 
-/// For how many more bytes of texts there is room behind so many messages, and the bytes after them.
-fn room_behind(count: u16, bytes: &[u8]) -> Option<(u32, &[u8])>
-    ensures { MatchOption result (messages_at count max_queue_bytes bytes.now ≡ None)
-        (λ x. Measures (messages_at count max_queue_bytes bytes.now) x.0 x.1.now) }
+/// How many bytes the texts of so many messages have, whatever their sum, that were read up to these bytes, if none
+/// are left and a queue may have so many.
+fn size_of_texts(count: u16, bytes: &[u8], rest: &[u8]) -> Option<usize>
+    requires { AreRead (messages_at count (count * max_text) bytes.now) rest.now }
+    ensures { MatchOption result (all_messages (messages_at count max_queue_bytes bytes.now) ≡ None)
+        (λ size. FitsQueue count bytes.now rest.now size) }
 {
-    let mut room = MAX_BYTES;
-    let mut rest = bytes;
-    for _ in 0..count {
-        let (_, text, after) = message_of(room, rest)?;
-        room -= text.len() as u32;
-        rest = after;
+    if !rest.is_empty() {
+        return None;
     }
-    Some((room, rest))
+    let size = bytes.len() - FRONT * usize::from(count);
+    if size > MAX_BYTES as usize {
+        return None;
+    }
+    Some(size)
 }
 
-/// The fields behind the code.
+/// Whether the bytes are so many messages of a queue, and no more. It takes no memory.
+fn are_messages(count: u16, bytes: &[u8]) -> bool
+    ensures { result ≡ is_some (all_messages (messages_at count max_queue_bytes bytes.now)) }
+{
+    let mut rest = bytes;
+    for _ in 0..count {
+        let Some((_, _, after)) = message_of(rest) else {
+            return false;
+        };
+        rest = after;
+    }
+    match size_of_texts(count, bytes, rest) {
+        Some(_) => true,
+        None => false,
+    }
+}
+
+/// The numbers behind the code.
 #[tactic(auto, unfolding(crate::specs::Reading::fields_at))]
 fn fields_of(bytes: &[u8]) -> Option<Fields<'_>>
     ensures { MatchOption result (fields_at bytes.now ≡ None)
-        (λ f. HasFields f.qbytes f.sender f.receiver f.count f.room f.messages.now (fields_at bytes.now)) }
+        (λ f. HasFields f.qbytes f.sender f.receiver f.count f.messages.now (fields_at bytes.now)) }
 {
     let (qbytes, rest) = u32_upto(MAX_BYTES, bytes)?;
     let (sender, rest) = u32_at(rest)?;
     let (receiver, rest) = u32_at(rest)?;
     let (count, messages) = u16_upto(MAX_MESSAGES as u16, rest)?;
-    let (room, rest) = room_behind(count, messages)?;
-    if !rest.is_empty() {
-        return None;
-    }
     Some(Fields {
         qbytes,
         sender,
         receiver,
         count,
-        room,
         messages,
     })
 }
 
-/// The code, and the fields behind it.
+/// The numbers behind the code, which is read, too.
 #[tactic(auto, unfolding(crate::specs::Reading::queue_at))]
 fn queue_fields(bytes: &[u8]) -> Option<Fields<'_>>
     ensures { MatchOption result (queue_at bytes.now ≡ None)
-        (λ f. HasFields f.qbytes f.sender f.receiver f.count f.room f.messages.now (queue_at bytes.now)) }
+        (λ f. HasFields f.qbytes f.sender f.receiver f.count f.messages.now (queue_at bytes.now)) }
 {
     match bytes {
         [CODE, fields @ ..] => fields_of(fields),
         _ => None,
     }
-}
-
-/// The fields of the queue whose packed form the bytes are, if they are one's.
-fn unpack_fields(bytes: &[u8]) -> Option<Fields<'_>>
-    ensures { MatchOption result ((q : definition.Queue) → IsBodyOf q bytes.now → ⊥)
-        (λ f. HasBody f.qbytes f.sender f.receiver f.count f.room f.messages.now bytes.now) }
-{
-    queue_fields(bytes)
 }
 
 /// The bytes, with room for some more behind them.
@@ -139,35 +146,59 @@ fn copied(alloc: Global, bytes: &[u8]) -> Result<Vec<u8>, Memory>
     Ok(texts)
 }
 
-/// Copies the messages of bytes that were read: the bytes whole, and of each message where its text lies in them.
+/// Copies the messages that the bytes are, with how many bytes their texts have: the bytes whole, and of each message
+/// where its text lies in them. None where the bytes are not so many messages, and no more.
 #[inline(never)]
-fn copy_messages(alloc: Global, count: u16, bytes: &[u8]) -> Result<Messages, Memory>
-    requires { ReadsAll (messages_at count max_queue_bytes bytes.now) }
-    ensures { IfOk result
-        (λ messages. messages_in (messages_at count max_queue_bytes bytes.now) ≡ Some messages) }
+fn copy_messages(
+    alloc: Global,
+    count: u16,
+    bytes: &[u8],
+) -> Result<Option<(Messages, usize)>, Memory>
+    ensures { IfOk result (λ got.
+        MatchOption got (all_messages (messages_at count max_queue_bytes bytes.now) ≡ None)
+        (λ x. AreAll (messages_at count max_queue_bytes bytes.now) x.0 x.1)) }
 {
     let mut classes = Vec::with_capacity(alloc, usize::from(count) + MORE)?;
     let mut heads = Vec::with_capacity(alloc, usize::from(count) + MORE)?;
-    let mut room = MAX_BYTES;
     let mut rest = bytes;
     for _ in 0..count {
-        let (class, text, after) = message_of(room, rest).unwrap();
+        let Some((class, text, after)) = message_of(rest) else {
+            return Ok(None);
+        };
         let start = bytes.len() - after.len() - text.len();
         let len = text.len() as u32;
         classes.push_reserved(class);
         heads.push_reserved(Head { start, class, len });
-        room -= len;
         rest = after;
     }
+    let Some(size) = size_of_texts(count, bytes, rest) else {
+        return Ok(None);
+    };
     let texts = copied(alloc, bytes)?;
     let classes = VecDeque::from_vec(classes);
     let heads = VecDeque::from_vec(heads);
-    Ok(Messages {
-        classes,
-        heads,
-        texts,
-        is_dense: true,
-    })
+    Ok(Some((
+        Messages {
+            classes,
+            heads,
+            texts,
+            is_dense: true,
+        },
+        size,
+    )))
+}
+
+/// What is told where memory ran out: Memory if the bytes are the packed form of a queue. It takes no memory.
+#[cold]
+#[inline(never)]
+fn without_memory(bytes: &[u8]) -> UnpackFault
+    ensures { Refuses (λ q. IsBodyOf q bytes.now) result }
+{
+    if Queue::is_packed(bytes) {
+        UnpackFault::Memory
+    } else {
+        UnpackFault::NotABody
+    }
 }
 
 impl Queue {
@@ -175,7 +206,10 @@ impl Queue {
     pub fn is_packed(bytes: &[u8]) -> bool
         ensures { TellsPacked bytes.now result }
     {
-        unpack_fields(bytes).is_some()
+        match queue_fields(bytes) {
+            Some(fields) => are_messages(fields.count, fields.messages),
+            None => false,
+        }
     }
 
     /// The queue whose packed form the bytes are. NotABody exactly where they are the packed form of no queue, so
@@ -187,14 +221,19 @@ impl Queue {
         ensures only { (q : definition.Queue) → IsBodyOf q bytes.now → IfOk result (λ got. got ≡ q) }
         ensures refused { IfErr result (Refuses (λ q. IsBodyOf q bytes.now)) }
     {
-        let fields = unpack_fields(bytes).ok_or(UnpackFault::NotABody)?;
-        let messages = copy_messages(alloc, fields.count, fields.messages)?;
-        Ok(Queue {
-            messages,
-            bytes: (MAX_BYTES - fields.room) as usize,
-            qbytes: fields.qbytes,
-            last_sender: Pid(fields.sender),
-            last_receiver: Pid(fields.receiver),
-        })
+        let Some(fields) = queue_fields(bytes) else {
+            return Err(UnpackFault::NotABody);
+        };
+        match copy_messages(alloc, fields.count, fields.messages) {
+            Ok(Some((messages, size))) => Ok(Queue {
+                messages,
+                bytes: size,
+                qbytes: fields.qbytes,
+                last_sender: Pid(fields.sender),
+                last_receiver: Pid(fields.receiver),
+            }),
+            Ok(None) => Err(UnpackFault::NotABody),
+            Err(Memory) => Err(without_memory(bytes)),
+        }
     }
 }

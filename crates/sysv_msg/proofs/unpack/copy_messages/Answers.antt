@@ -1,20 +1,21 @@
-use Rattle.std.proofs.Common.{◌∙◌, ℕ, ◌+◌, ◌≡◌, ◌-◌, Some, SFits, w32, [], ◌∷◌, length, ap, sym, refl, arith, rules}
-use Rattle.std.specs.Prelude.{IsSome}
+use Rattle.std.proofs.Common.{◌∙◌, ℕ, ◌+◌, ◌≡◌, ◌-◌, ◌*◌, List, Some, SFits, w32, [], ◌∷◌, length, ap, sym, refl, arith, rules}
 use Rattle.std.proofs.lemmas.Int.{to_z-of_z}
 use Rattle.std.proofs.lemmas.List.{map-append}
-use Rattle.kernel_model.specs.Queue.{Message, max_queue_bytes}
+use Rattle.kernel_model.specs.Queue.{Message, bytes_of, max_text, max_queue_bytes}
 use Rattle.sysv_msg.specs.declared.store.Head.{Head}
-use Rattle.sysv_msg.specs.Heads.{messages_in as shown_in}
-use Rattle.sysv_msg.specs.Reading.{message_at, messages_at, messages_in}
+use Rattle.sysv_msg.specs.Heads.{messages_in}
+use Rattle.sysv_msg.specs.Measured.{all_messages}
+use Rattle.sysv_msg.specs.Reading.{messages_at}
 use Rattle.sysv_msg.proofs.Copied.{begins_copying, copied_more, text_lies_within}
-use Rattle.sysv_msg.proofs.Dense.{dense_read}
-use Rattle.sysv_msg.proofs.Loop.{is_done, some_message}
+use Rattle.sysv_msg.proofs.Dense.{dense_read, read_size}
+use Rattle.sysv_msg.proofs.Loop.{has_read_all, stops}
+use Rattle.sysv_msg.proofs.Tested.{none_widely}
 use Rattle.sysv_msg.proofs.unpack.copy_messages.Goals as goal
 
 pub loop-init : goal.loop-init
 loop-init c =
     rw (c.in_ok-heads.ensures.items, c.in_ok-classes.ensures.items) record {
-      copied = begins_copying c.args.count max_queue_bytes c.args.bytes.now (λ i. omega (arith, c.type_inv.bytes i));
+      copied = begins_copying c.args.count c.args.bytes.now (λ i. omega (arith, c.type_inv.bytes i));
       classes = refl;
       rooms = (
         c.in_ok-classes.ensures.len,
@@ -24,53 +25,47 @@ loop-init c =
       );
     }
 
-pub unwrap-class-requires : goal.unwrap-class-requires
-unwrap-class-requires c =
-    let all_read : IsSome (messages_at c.args.count max_queue_bytes c.args.bytes.now) = rw c.requires.all refl in
-    some_message _ c.message_of.result (shown_in c.args.bytes.now c.loop.heads.items) c.args.count c.loop.counter
-    c.loop.room c.loop.rest.now (messages_at c.args.count max_queue_bytes c.args.bytes.now) c.loop-test.true all_read
-    c.message_of.ensures.read c.loop.invariant.copied.others
+pub returns-in_default : goal.returns-in_default
+returns-in_default c =
+    ap all_messages (none_widely c.args.count c.args.bytes.now (λ i. omega (arith, c.type_inv.bytes i))
+    (stops c.args.count c.loop.counter c.loop.rest.now (messages_in c.args.bytes.now c.loop.heads.items)
+    (messages_at c.args.count (c.args.count * max_text) c.args.bytes.now) c.loop-test.true
+    c.in_default.ensures.read c.loop.invariant.copied.read))
 
 pub overflow_sub-start : goal.overflow_sub-start
 overflow_sub-start c =
-    let m : Message = record { class = c.unwrap-class.result.0; text = c.unwrap-class.result.1.now } in
-    let read : message_at c.loop.room c.loop.rest.now ≡ Some (m, c.unwrap-class.result.2.now) =
-    rw c.unwrap-class.ensures at c.message_of.ensures.read in
-    let within = text_lies_within (messages_at c.args.count max_queue_bytes c.args.bytes.now)
-    (c.args.count - c.loop.counter) c.loop.room c.loop.room c.args.bytes.now c.loop.rest.now
-    c.unwrap-class.result.2.now c.loop.heads.items m read c.loop.invariant.copied in
+    let m : Message = record { class = c.in-Some.class; text = c.in-Some.text.now } in
+    let within = text_lies_within (messages_at c.args.count (c.args.count * max_text) c.args.bytes.now)
+    (c.args.count - c.loop.counter) c.args.bytes.now c.loop.rest.now
+    c.in-Some.after.now c.loop.heads.items m c.in-Some.ensures.read c.loop.invariant.copied in
     omega (arith, within)
 
 pub overflow_sub-start-in-loop : goal.overflow_sub-start-in-loop
 overflow_sub-start-in-loop c =
-    let m : Message = record { class = c.unwrap-class.result.0; text = c.unwrap-class.result.1.now } in
-    let read : message_at c.loop.room c.loop.rest.now ≡ Some (m, c.unwrap-class.result.2.now) =
-    rw c.unwrap-class.ensures at c.message_of.ensures.read in
-    let within = text_lies_within (messages_at c.args.count max_queue_bytes c.args.bytes.now)
-    (c.args.count - c.loop.counter) c.loop.room c.loop.room c.args.bytes.now c.loop.rest.now
-    c.unwrap-class.result.2.now c.loop.heads.items m read c.loop.invariant.copied in
+    let m : Message = record { class = c.in-Some.class; text = c.in-Some.text.now } in
+    let within = text_lies_within (messages_at c.args.count (c.args.count * max_text) c.args.bytes.now)
+    (c.args.count - c.loop.counter) c.args.bytes.now c.loop.rest.now
+    c.in-Some.after.now c.loop.heads.items m c.in-Some.ensures.read c.loop.invariant.copied in
     omega (arith, within)
 
 pub loop-preserved : goal.loop-preserved
 loop-preserved c =
-    let m : Message = record { class = c.unwrap-class.result.0; text = c.unwrap-class.result.1.now } in
-    let read : message_at c.loop.room c.loop.rest.now ≡ Some (m, c.unwrap-class.result.2.now) =
-    rw c.unwrap-class.ensures at c.message_of.ensures.read in
+    let m : Message = record { class = c.in-Some.class; text = c.in-Some.text.now } in
     let h : Head = record {
-      start = length c.args.bytes.now - length c.unwrap-class.result.2.now - length m.text;
+      start = length c.args.bytes.now - length c.in-Some.after.now - length m.text;
       class = m.class;
       len = length m.text;
     } in
-    let fits : SFits w32 c.unwrap-class.result.0 = search rules in
+    let fits : SFits w32 c.in-Some.class = search rules in
     let rooms = c.loop.invariant.rooms in
     rw (
       c.push_reserved.ensures.items,
       c.push_reserved-in-loop.ensures.items,
-      to_z-of_z w32 c.unwrap-class.result.0 fits,
+      to_z-of_z w32 c.in-Some.class fits,
     ) record {
-      copied = copied_more (messages_at c.args.count max_queue_bytes c.args.bytes.now) c.args.count c.loop.counter
-          c.loop.room c.args.bytes.now c.loop.rest.now c.unwrap-class.result.2.now c.loop.heads.items m h
-          c.loop-test.true read refl refl refl c.loop.invariant.copied;
+      copied = copied_more (messages_at c.args.count (c.args.count * max_text) c.args.bytes.now) c.args.count
+          c.loop.counter c.args.bytes.now c.loop.rest.now c.in-Some.after.now c.loop.heads.items m h
+          c.loop-test.true c.in-Some.ensures.read c.in-Some.ensures.within refl refl refl c.loop.invariant.copied;
       classes = rw c.loop.invariant.classes (sym (map-append (λ (h : Head). h.class) c.loop.heads.items (h ∷ [])));
       rooms = (
         c.push_reserved.ensures.len ∙ ap (λ (n : ℕ). n + 1) rooms.0,
@@ -80,21 +75,44 @@ loop-preserved c =
       );
     }
 
-pub returns : goal.returns
-returns c =
-    rw (c.in_ok-texts.ensures, c.from_vec-heads.ensures.items)
-    (ap messages_in (is_done (shown_in c.args.bytes.now c.loop.heads.items) c.args.count c.loop.counter c.loop.room
-    c.loop.rest.now (messages_at c.args.count max_queue_bytes c.args.bytes.now) c.loop-test.false
-    c.loop.invariant.copied.others))
+pub size_of_texts-requires : goal.size_of_texts-requires
+size_of_texts-requires c = record {
+  messages = messages_in c.args.bytes.now c.loop.heads.items;
+  are_read = has_read_all c.args.count c.loop.counter c.loop.rest.now
+      (messages_in c.args.bytes.now c.loop.heads.items)
+      (messages_at c.args.count (c.args.count * max_text) c.args.bytes.now) c.loop-test.false
+      c.loop.invariant.copied.read;
+}
 
 pub invariant_of-result : goal.invariant_of-result
 invariant_of-result c =
-    let read = is_done (shown_in c.args.bytes.now c.loop.heads.items) c.args.count c.loop.counter c.loop.room
-    c.loop.rest.now (messages_at c.args.count max_queue_bytes c.args.bytes.now) c.loop-test.false
-    c.loop.invariant.copied.others in
+    let fit = c.in-Some-size_of_texts.ensures in
+    let wide = has_read_all c.args.count c.loop.counter c.loop.rest.now
+    (messages_in c.args.bytes.now c.loop.heads.items)
+    (messages_at c.args.count (c.args.count * max_text) c.args.bytes.now) c.loop-test.false
+    c.loop.invariant.copied.read in
     rw (c.in_ok-texts.ensures, c.from_vec-heads.ensures.items, c.from_vec-classes.ensures.items) (
       c.loop.invariant.classes,
       c.loop.invariant.copied.within,
       dense_read c.args.count c.args.bytes.now c.loop.rest.now c.loop.heads.items
-          (λ i. omega (arith, c.type_inv.bytes i)) c.requires read,
+          (λ i. omega (arith, c.type_inv.bytes i)) (fit.same ∙ wide) fit.nothing,
     )
+
+pub returns : goal.returns
+returns c =
+    let fit = c.in-Some-size_of_texts.ensures in
+    let ms : List Message = messages_in c.args.bytes.now c.loop.heads.items in
+    let wide = has_read_all c.args.count c.loop.counter c.loop.rest.now ms
+    (messages_at c.args.count (c.args.count * max_text) c.args.bytes.now) c.loop-test.false
+    c.loop.invariant.copied.read in
+    let shown : messages_in c.in_ok-texts.texts.items c.from_vec-heads.result.items ≡ ms =
+    rw (c.in_ok-texts.ensures, c.from_vec-heads.ensures.items) refl in
+    let size = read_size c.args.count max_queue_bytes c.args.bytes.now ms c.loop.rest.now
+    (λ i. omega (arith, c.type_inv.bytes i)) (fit.same ∙ wide) fit.nothing in
+    let sum : c.in-Some-size_of_texts.size ≡ bytes_of ms = omega (arith, size, fit.sum) in
+    let read : messages_at c.args.count max_queue_bytes c.args.bytes.now ≡ Some (ms, []) =
+    fit.same ∙ wide ∙ ap (λ (r : List ℕ). Some (ms, r)) fit.nothing in
+    record {
+      all = ap all_messages read ∙ ap (λ (ms : List Message). Some ms) (sym shown);
+      sum = sum ∙ ap bytes_of (sym shown);
+    }
