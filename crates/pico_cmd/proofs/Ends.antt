@@ -1,5 +1,5 @@
 -- What a run ends in, and its text.
-use Rattle.std.proofs.Common.{◌≡◌, List, [], ◌∷◌, ◌++◌, ℕ, Bool, true, false, Result, Ok, Err, sym, ap, subst, ◌∙◌}
+use Rattle.std.proofs.Common.{◌≡◌, List, [], ◌∷◌, ◌++◌, ℕ, Bool, true, false, Result, Ok, Err, refl, sym, ap, subst, ◌∙◌}
 use Rattle.std.specs.Prelude.{IfOk}
 use Rattle.pico_base.specs.declared.script.Event.{Event}
 use Rattle.pico_base.specs.declared.script.Script.{Script}
@@ -11,7 +11,7 @@ use Rattle.script_writer.specs.Generated.{generated}
 use Rattle.pico_base.specs.declared.reply.Entry.{Entry}
 use Rattle.pico_cmd.specs.declared.telling.Telling.{Telling}
 use Rattle.pico_cmd.specs.Run.{IsTextOfRun, IsTotalsOfRun, steps_if}
-use Rattle.pico_cmd.specs.Telling.{IsToldRun, Tells, lines_if}
+use Rattle.pico_cmd.specs.Telling.{IsToldRun, Tells, kept_if, lines_if}
 use Rattle.pico_cmd.proofs.Runs.{step_script}
 
 -- a run keeps the script
@@ -25,46 +25,55 @@ Gives telling steps es r =
     (script : Script) (history : List Entry) → Tells script history telling
     → IfOk r (λ text. text ≡ (lines_if telling.lines script history ++ totals_line history) ++ steps_if steps es)
 
+-- the events that were kept have the text of all
+kept_text : (steps : Bool) (kept events : List Event) → kept ≡ kept_if steps events
+    → steps_if steps kept ≡ steps_if steps events
+kept_text true kept events are = ap (steps_if true) are
+kept_text false kept events are = refl
+
 -- the text of a run is that of the script's
 pub text_told : {E : Type 0} (script : Script) (options : Options) (es : List Event) (telling : Telling)
     (r : Result (List ℕ) E)
-    → IsToldRun script options.seed es telling → telling.lines ≡ true → Gives telling options.steps es r
+    → IsToldRun script options.seed options.steps es telling → telling.lines ≡ true → Gives telling options.steps es r
     → IfOk r (IsTextOfRun script options)
 text_told script options es telling (Err e) run wanted gives = tt
 text_told script options es telling (Ok text) run wanted gives =
     let last : World = run.last
     in record {
-      events = es;
+      events = run.events;
       last = last;
       run = run.run;
       is_text = gives last.script last.journal run.tells
           ∙ ap (λ (b : Bool).
           (lines_if b last.script last.journal ++ totals_line last.journal) ++ steps_if options.steps es) wanted
           ∙ ap (λ (s : Script). trace_text s last.journal ++ steps_if options.steps es)
-          (runs_keep (opening_world script) last es run.run.run);
+          (runs_keep (opening_world script) last run.events run.run.run)
+          ∙ ap (λ (text : List ℕ). trace_text script last.journal ++ text)
+          (kept_text options.steps es run.events run.are_kept);
     }
 
 -- and so are its totals
 totals_of : {E : Type 0} (script : Script) (steps : Bool) (es : List Event) (telling : Telling)
     (r : Result (List ℕ) E)
-    → IsToldRun script 0 es telling → telling.lines ≡ false → Gives telling steps es r
+    → IsToldRun script 0 steps es telling → telling.lines ≡ false → Gives telling steps es r
     → IfOk r (IsTotalsOfRun script steps)
 totals_of script steps es telling (Err e) run wanted gives = tt
 totals_of script steps es telling (Ok text) run wanted gives =
     let last : World = run.last
     in record {
-      events = es;
+      events = run.events;
       last = last;
       run = run.run;
       is_text = gives last.script last.journal run.tells
           ∙ ap (λ (b : Bool).
-          (lines_if b last.script last.journal ++ totals_line last.journal) ++ steps_if steps es) wanted;
+          (lines_if b last.script last.journal ++ totals_line last.journal) ++ steps_if steps es) wanted
+          ∙ ap (λ (text : List ℕ). totals_line last.journal ++ text) (kept_text steps es run.events run.are_kept);
     }
 
 -- of a generated script
 pub totals_told : {E : Type 0} (script : Script) (number : ℕ) (steps : Bool) (es : List Event) (telling : Telling)
     (r : Result (List ℕ) E)
-    → script ≡ generated number → IsToldRun script 0 es telling → telling.lines ≡ false → Gives telling steps es r
+    → script ≡ generated number → IsToldRun script 0 steps es telling → telling.lines ≡ false → Gives telling steps es r
     → IfOk r (IsTotalsOfRun (generated number) steps)
 totals_told script number steps es telling r same run wanted gives =
     subst (λ (s : Script). IfOk r (IsTotalsOfRun s steps)) same (totals_of script steps es telling r run wanted gives)

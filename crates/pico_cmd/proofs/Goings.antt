@@ -1,5 +1,5 @@
 -- The run of a script as the program goes on with it: what was taken, what was told, and what the world keeps.
-use Rattle.std.proofs.Common.{◌≡◌, ℕ, ◌<◌, Bool, true, List, [], ◌∷◌, ◌++◌, Option, Some, None, IfSome, IsSome, refl, sym, subst, ◌∙◌}
+use Rattle.std.proofs.Common.{◌≡◌, ℕ, ◌<◌, Bool, true, false, List, [], ◌∷◌, ◌++◌, if◌then◌else◌, Option, Some, None, IfSome, IsSome, refl, sym, ap, subst, ◌∙◌}
 use Rattle.pico_base.specs.declared.script.Script.{Script}
 use Rattle.pico_base.specs.declared.script.Event.{Event}
 use Rattle.kernel_model.specs.Script.{IsSoundScript}
@@ -10,9 +10,20 @@ use Rattle.world_rest.specs.Laws.{NamesHaveOneOwner, NoneLivesAtRest, RestIsQuie
 use Rattle.world_core.specs.Laws.{IsWithin, RestIsWhereNothingIsChosen}
 use Rattle.world_core.specs.Stepped.{IsStepped}
 use Rattle.pico_cmd.specs.declared.telling.Telling.{Telling}
-use Rattle.pico_cmd.specs.Telling.{IsToldRun, MakeUp, Tells}
-use Rattle.pico_cmd.proofs.Runs.{IsUnderWay, IsUnderWay-start, IsUnderWay-more, IsUnderWay-end, chosen_is_next, events_left, fewer_left}
+use Rattle.pico_cmd.specs.Telling.{IsToldRun, MakeUp, Tells, kept_if}
+use Rattle.pico_cmd.proofs.Runs.{IsUnderWay, IsUnderWay-start, IsUnderWay-more, IsUnderWay-end, chosen_is_next}
 use Rattle.pico_cmd.proofs.ToldSoFar.{IsWholeStep, world_is_there, within_kept, chosen_in_whole, enabled_in_kept, whole_steps, all_is_told}
+
+-- where no event was taken none is kept
+none_kept : (steps : Bool) → kept_if steps [] ≡ []
+none_kept true = refl
+none_kept false = refl
+
+-- one event more is kept where events are wanted
+one_kept : (steps : Bool) (taken : List Event) (e : Event)
+    → (if steps then kept_if steps taken ++ e ∷ [] else kept_if steps taken) ≡ kept_if steps (taken ++ e ∷ [])
+one_kept true taken e = refl
+one_kept false taken e = refl
 
 -- the run so far
 pub record IsGoing (script : Script) (seed : ℕ) (lines : Bool) (taken : List Event) (telling : Telling)
@@ -88,28 +99,60 @@ IsGoing-more script seed lines taken more telling told world stepped kept at nex
       lines_are = same ∙ g.lines_are;
     }
 
--- and has fewer events left
-pub going_has_fewer_left : (script : Script) (seed : ℕ) (lines : Bool) (taken more : List Event) (telling : Telling)
-    (world : Option World) (at : Schedule) (e : Event)
-    → RunsAreShort → IsSoundScript script → more ≡ taken ++ e ∷ [] → IsGoing script seed lines more telling world at
-    → events_left script more < events_left script taken
-going_has_fewer_left script seed lines taken more telling world at e short sound with_it g =
-    fewer_left script seed taken more g.whole at e short sound with_it g.under
+-- the run so far, of whose events these were kept
+pub record IsRunning (script : Script) (seed : ℕ) (lines steps : Bool) (kept : List Event) (telling : Telling)
+    (world : Option World) (at : Schedule) : Type 0 where
+  pub taken : List Event
+  pub are_kept : kept ≡ kept_if steps taken
+  pub going : IsGoing script seed lines taken telling world at
+
+-- it begins
+pub IsRunning-start : (script : Script) (seed : ℕ) (steps : Bool) (kept : List Event) (telling : Telling)
+    (world : Option World) (at : Schedule)
+    → kept ≡ [] → world ≡ Some (opening_world script) → at ≡ schedule_of seed (node_count script)
+    → Tells script [] telling → IsRunning script seed telling.lines steps kept telling world at
+IsRunning-start script seed steps kept telling world at none opening first fresh =
+    record {
+      taken = [];
+      are_kept = none ∙ sym (none_kept steps);
+      going = IsGoing-start script seed [] telling world at refl opening first fresh;
+    }
+
+-- it goes on
+pub IsRunning-more : (script : Script) (seed : ℕ) (lines steps : Bool) (kept more : List Event)
+    (telling told : Telling) (world stepped left : Option World) (at next_at : Schedule) (r : Option Event) (e : Event)
+    → IsRunning script seed lines steps kept telling world at
+    → IfSome world (λ w. r ≡ choice w at) → r ≡ Some e → IsStepped world e stepped
+    → next_at ≡ schedule_after at e → more ≡ (if steps then kept ++ e ∷ [] else kept)
+    → KeepsUp telling stepped told left → told.lines ≡ telling.lines
+    → IsRunning script seed lines steps more told left next_at
+IsRunning-more script seed lines steps kept more telling told world stepped left at next_at r e g chosen is s after_it
+    with_it keeps same =
+    record {
+      taken = g.taken ++ e ∷ [];
+      are_kept = with_it ∙ ap (λ (es : List Event). if steps then es ++ e ∷ [] else es) g.are_kept
+          ∙ one_kept steps g.taken e;
+      going = IsGoing-more script seed lines g.taken (g.taken ++ e ∷ []) telling told world stepped left at next_at r e
+          g.going chosen is s after_it refl keeps same;
+    }
 
 -- it ends
-pub IsGoing-end : (script : Script) (seed : ℕ) (lines : Bool) (taken : List Event) (telling told : Telling)
-    (world kept : Option World) (at : Schedule) (r : Option Event)
+pub IsRunning-end : (script : Script) (seed : ℕ) (lines steps : Bool) (kept : List Event) (telling told : Telling)
+    (world left : Option World) (at : Schedule) (r : Option Event)
     → JournalsAreLegal → RestIsQuiet → NoneLivesAtRest → RestIsWhole → NamesHaveOneOwner → RunsAreShort
     → RestIsWhereNothingIsChosen → IsSoundScript script
-    → IsGoing script seed lines taken telling world at → IfSome world (λ w. r ≡ choice w at) → r ≡ None
-    → KeepsUp telling world told kept → IfSome kept (λ w. w.journal ≡ [])
-    → IsToldRun script seed taken told
-IsGoing-end script seed lines taken telling told world kept at r legal quiet ended whole owned short rests sound g
-    chosen none keeps nothing =
-    record {
+    → IsRunning script seed lines steps kept telling world at → IfSome world (λ w. r ≡ choice w at) → r ≡ None
+    → KeepsUp telling world told left → IfSome left (λ w. w.journal ≡ [])
+    → IsToldRun script seed steps kept told
+IsRunning-end script seed lines steps kept telling told world left at r legal quiet ended whole owned short rests sound
+    running chosen none keeps nothing =
+    let g : IsGoing script seed lines running.taken telling world at = running.going
+    in record {
+      events = running.taken;
       last = g.whole;
       run =
-          IsUnderWay-end script seed taken g.whole at legal quiet ended whole owned short rests sound g.under
+          IsUnderWay-end script seed running.taken g.whole at legal quiet ended whole owned short rests sound g.under
           (chosen_in_whole g.whole telling world at r g.made chosen ∙ none);
-      tells = all_is_told g.whole told kept (keeps g.whole g.made) nothing;
+      are_kept = running.are_kept;
+      tells = all_is_told g.whole told left (keeps g.whole g.made) nothing;
     }

@@ -103,10 +103,6 @@ pub record IsUnderWay (script : Script) (seed : ℕ) (taken : List Event) (now :
   pub takes : Takes (opening_world script) (schedule_of seed (node_count script)) taken now at
   pub run : IsRunOf script taken now
 
--- how many events may still follow these
-abbrev pub events_left : Script → List Event → ℕ
-events_left script taken = 32 * calls_of script - length taken
-
 of_first : (w : World) (b : Bool) (count seed : ℕ) → count ≤ size w
     → IsWithin (size w) (if b then InTurn count else Drawn seed)
 of_first w true count seed le = le
@@ -160,16 +156,6 @@ IsUnderWay-more script seed taken more now next at next_at e u chosen stepped af
       run = subst (λ (es : List Event). IsRunOf script es next) (sym with_it)
           (Runs-more first now next taken e u.run is_next.enabled stepped);
     }
-
--- With one event more there are fewer left, since no run has more than 32 a call.
-pub fewer_left : (script : Script) (seed : ℕ) (taken more : List Event) (now : World) (at : Schedule)
-    (e : Event)
-    → RunsAreShort → IsSoundScript script → more ≡ taken ++ e ∷ [] → IsUnderWay script seed more now at
-    → events_left script more < events_left script taken
-fewer_left script seed taken more now at e short sound with_it u =
-    let within : length more ≤ 32 * calls_of script = short script sound more now u.run
-    in let longer : length more ≡ length taken + 1 = ap length with_it ∙ length-append taken (e ∷ [])
-    in omega (arith, within, longer)
 
 -- a run ends
 pub IsUnderWay-end : (script : Script) (seed : ℕ) (taken : List Event) (now : World) (at : Schedule)

@@ -29,8 +29,16 @@ pub record MakeUp (whole : World) (telling : Telling) (world : Option World) : T
   pub is_whole : behind told kept ≡ whole
   pub tells : Tells whole.script told telling
 
--- the run of a script that the schedule of this number takes, whose whole journal was told
-pub record IsToldRun (script : Script) (seed : ℕ) (events : List Event) (telling : Telling) : Type 0 where
+-- the events, where they are wanted
+abbrev pub kept_if : Bool → List Event → List Event
+kept_if true events = events
+kept_if false events = []
+
+-- the run of a script that the schedule of this number takes, whose whole journal was told, and of whose events these
+-- were kept
+pub record IsToldRun (script : Script) (seed : ℕ) (steps : Bool) (kept : List Event) (telling : Telling) : Type 0 where
+  pub events : List Event
   pub last : World
   pub run : IsScheduledRun script seed events last
+  pub are_kept : kept ≡ kept_if steps events
   pub tells : Tells last.script last.journal telling

@@ -56,7 +56,7 @@ pub fn with_steps(
     Ok(Bytes::from_vec(whole))
 }
 
-/// The text of a run: what was told of its journal, and its events where they are wanted.
+/// The text of a run: what was told of its journal, and its events, which were kept where they are wanted.
 pub fn text_of(alloc: Global, run: Run, steps: bool) -> Result<Bytes, Memory>
     ensures { (script : ScriptValue) (history : List EntryValue) → Tells script history run.telling
         → IfOk result (λ text. text
@@ -76,7 +76,13 @@ fn text_of_run(
     requires { IsSoundScript script }
     ensures { IfOk result (IsTextOfRun script options) }
 {
-    let run = run_script(alloc, script, options.seed, Telling::of_lines(read))?;
+    let run = run_script(
+        alloc,
+        script,
+        options.seed,
+        options.steps,
+        Telling::of_lines(read),
+    )?;
     text_of(alloc, run, options.steps)
 }
 

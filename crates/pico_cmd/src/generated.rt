@@ -17,7 +17,7 @@ fn totals_of_run(alloc: Global, options: Options) -> Result<Bytes, Memory>
     ensures { IfOk result (IsTotalsOfRun (generated options.seed) options.steps) }
 {
     let script = generate(alloc, options.seed)?;
-    let run = run_script(alloc, script, 0, Telling::of_totals(alloc))?;
+    let run = run_script(alloc, script, 0, options.steps, Telling::of_totals(alloc))?;
     text_of(alloc, run, options.steps)
 }
 

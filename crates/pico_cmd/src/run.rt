@@ -1,5 +1,5 @@
 //! The run of a script's picoprocesses by a schedule.
-ghost use Rattle.std.specs.Prelude.{◌≡◌, [], IfOk};
+ghost use Rattle.std.specs.Prelude.{◌≡◌, ◌+◌, ◌∷◌, ◌++◌, [], if◌then◌else◌, IfOk, OnOk};
 ghost use Rattle.kernel_model.specs.Script.{IsSoundScript};
 ghost use Rattle.world_model.specs.World.{node_count};
 ghost use Rattle.pico_cmd.specs.Telling.{IsToldRun, Tells};
@@ -12,7 +12,7 @@ use std::alloc::Global;
 use std::mem::ManuallyDrop;
 use world_core::StreamingWorld;
 
-/// A run: its events, and what was told of its journal.
+/// A run: its events, where they are wanted, and what was told of its journal.
 #[derive(Drop)]
 pub struct Run {
     pub events: Vec<Event>,
@@ -33,11 +33,36 @@ fn leave(world: StreamingWorld) {
     let _left = ManuallyDrop::new(world);
 }
 
-/// Runs a script by the schedule of this number, to rest, and tells its journal as it goes on.
-pub fn run_script(alloc: Global, script: Script, seed: u32, telling: Telling) -> Result<Run, Memory>
+// Keeps an event, where events are wanted.
+#[inline(always)]
+fn keep(events: &mut Vec<Event>, steps: bool, event: Event) -> Result<(), Memory>
+    ensures { OnOk result (events.new.items ≡ (if steps then events.old.items ++ event ∷ [] else events.old.items)) }
+{
+    if steps {
+        events.push(event)?;
+    }
+    Ok(())
+}
+
+// One event more. A run of more events than a number of eight bytes counts isn't carried out.
+fn one_more(count: u64) -> Result<u64, Memory>
+    ensures { IfOk result (λ more. more ≡ count + 1) }
+{
+    count.checked_add(1).ok_or(Memory)
+}
+
+/// Runs a script by the schedule of this number, to rest, and tells its journal as it goes on. Its events are kept where
+/// they are wanted.
+pub fn run_script(
+    alloc: Global,
+    script: Script,
+    seed: u32,
+    steps: bool,
+    telling: Telling,
+) -> Result<Run, Memory>
     requires sound { IsSoundScript script }
     requires fresh { Tells script [] telling }
-    ensures told { IfOk result (λ run. IsToldRun script seed run.events.items run.telling) }
+    ensures told { IfOk result (λ run. IsToldRun script seed steps run.events.items run.telling) }
     ensures lines { IfOk result (λ run. run.telling.lines ≡ telling.lines) }
 {
     laws();
@@ -45,9 +70,12 @@ pub fn run_script(alloc: Global, script: Script, seed: u32, telling: Telling) ->
     let mut schedule = Schedule::numbered(seed, nodes_of(&script));
     let mut world = StreamingWorld::start(alloc, script)?;
     let mut events = Vec::new(alloc);
+    // that the loop ends is seen by this count
+    let mut count: u64 = 0;
     while let Some((event, after)) = schedule.choice(&world) {
         schedule = after;
-        events.push(event)?;
+        count = one_more(count)?;
+        keep(&mut events, steps, event)?;
         world.step(event)?;
         tell_if_much(&mut telling, &mut world)?;
     }
