@@ -233,14 +233,14 @@ fn step(word: &[u8]) -> Option<SemStep>
 pub(crate) fn steps(alloc: Global, words: &[&[u8]]) -> Result<Option<Steps>, Memory>
     ensures { IfOk result (λ steps. steps ≡ each step_of (texts words.now)) }
 {
-    let mut steps = Sequence::new(alloc);
+    let mut steps = Vec::with_capacity(alloc, words.len())?;
     for word in words {
         let Some(step) = step(word) else {
             return Ok(None);
         };
-        steps.push(step)?;
+        steps.push_reserved(step);
     }
-    Ok(Some(steps))
+    Ok(Some(Sequence::from_vec(steps)))
 }
 
 /// The values of these words.
@@ -248,14 +248,14 @@ pub(crate) fn steps(alloc: Global, words: &[&[u8]]) -> Result<Option<Steps>, Mem
 fn numbers(alloc: Global, words: &[&[u8]]) -> Result<Option<Values>, Memory>
     ensures { IfOk result (λ values. values ≡ each (number_of 65535) (texts words.now)) }
 {
-    let mut values = Sequence::new(alloc);
+    let mut values = Vec::with_capacity(alloc, words.len())?;
     for word in words {
         let Some(value) = number(MAX_NUMBER, word) else {
             return Ok(None);
         };
-        values.push(value)?;
+        values.push_reserved(value);
     }
-    Ok(Some(values))
+    Ok(Some(Sequence::from_vec(values)))
 }
 
 /// Values joined by commas.
