@@ -219,13 +219,45 @@ fn indexed(word: &[u8]) -> Option<(u16, &[u8])>
 }
 
 /// An operation, `I:V` or `I:V:nowait`.
+#[inline(never)]
 #[tactic(auto, unfolding(crate::specs::Parts::step, crate::specs::Parts::indexed))]
-fn step(word: &[u8]) -> Option<SemStep>
+fn any_step(word: &[u8]) -> Option<SemStep>
     ensures { result ≡ step_of word.now }
 {
     let (num, add) = indexed(word)?;
     let (add, nowait) = amount(add)?;
     Some(SemStep { num, add, nowait })
+}
+
+/// What `any_step` gives. Most operations have an index and an amount of one digit, and are told at once.
+fn step(word: &[u8]) -> Option<SemStep>
+    ensures { result ≡ step_of word.now }
+{
+    match word {
+        [index, colon, digit]
+            if index.is_ascii_digit() && *colon == b':' && digit.is_ascii_digit() => {
+            Some(SemStep {
+                num: u16::from(*index - b'0'),
+                add: i32::from(*digit - b'0'),
+                nowait: false,
+            })
+        }
+        [index, colon, sign, digit, behind, nowait @ ..]
+            if index.is_ascii_digit()
+                && *colon == b':'
+                && *sign == b'-'
+                && b'1' <= *digit
+                && *digit <= b'9'
+                && *behind == b':'
+                && is_nowait(nowait) => {
+            Some(SemStep {
+                num: u16::from(*index - b'0'),
+                add: -i32::from(*digit - b'0'),
+                nowait: true,
+            })
+        }
+        _ => any_step(word),
+    }
 }
 
 /// The operations of these words.
