@@ -6,7 +6,7 @@ use Rattle.std.specs.Prelude.{codes, bytes_eq, position, option_map}
 use lib.IntN.{◌-ℤ◌}
 use Rattle.pico_base.specs.Options.{◌>>=◌}
 use Rattle.quoted_bytes.specs.Front.{strip}
-use Rattle.script_reader.specs.Parts.{is_digit, cut, digits, number, positive, signed, added, added_from, indexed}
+use Rattle.script_reader.specs.Parts.{is_digit, cut, digits, number, positive, signed, added, added_from, indexed, step}
 use Rattle.script_reader.proofs.Cuts.{position_of_first}
 
 -- what holds of each number below n, one by one
@@ -141,3 +141,56 @@ added_in (a ∷ d ∷ c ∷ rest) long sign low high colon b e =
     subst₂ (λ a c. added (a ∷ d ∷ c ∷ rest) ≡ with_nowait d (bytes_eq rest (codes "nowait"))) (sym sign) (sym colon)
     (added_below d rest low high)
     ∙ ap (with_nowait d) (ap (λ r. bytes_eq r (codes "nowait")) (sym (take_rest (a ∷ d ∷ c ∷ rest) 3)) ∙ sym e)
+
+-- ---- whole operations
+
+step_by : (i : ℕ) (rest : List ℕ) (z : ℤ) (b : Bool) → 48 ≤ i → i ≤ 57 → added rest ≡ Some (z, b)
+    → step (i ∷ 58 ∷ rest) ≡ Some (record { num = i - 48; add = z; nowait = b })
+unfolding step
+step_by i rest z b low high e =
+    ap (λ (o : Option (List ℕ × List ℕ)). o >>= λ parts. number 65535 parts.0 >>= λ num. added parts.1 >>= λ add.
+    Some (record { num = num; add = add.0; nowait = add.1 })) (cut_second i rest high)
+    ∙ ap (λ (o : Option ℕ). o >>= λ num. added rest >>= λ add.
+    Some (record { num = num; add = add.0; nowait = add.1 })) (number_of_one i low high)
+    ∙ ap (λ (o : Option (ℤ × Bool)). o >>= λ add.
+    Some (record { num = i - 48; add = add.0; nowait = add.1 })) e
+
+-- `I:V` of two digits
+pub step_of_three : (w : List ℕ) → 3 ≤ length w → length w < 4 → is_digit (get_or w 0 0) ≡ true → get_or w 1 0 ≡ 58
+    → is_digit (get_or w 2 0) ≡ true
+    → step w ≡ Some (record {
+      num = get_or w 0 0 - 48;
+      add = to_z w32 (of_z w32 (pos (get_or w 2 0 - 48)));
+      nowait = false;
+    })
+step_of_three [] long short index colon digit = absurd (omega (arith, long))
+step_of_three (i ∷ []) long short index colon digit = absurd (omega (arith, long))
+step_of_three (i ∷ c ∷ []) long short index colon digit = absurd (omega (arith, long))
+step_of_three (i ∷ c ∷ d ∷ []) long short index colon digit =
+    let first = digit_range i index in
+    let last = digit_range d digit in
+    subst (λ c. step (i ∷ c ∷ d ∷ []) ≡ Some (record {
+      num = i - 48;
+      add = to_z w32 (of_z w32 (pos (d - 48)));
+      nowait = false;
+    })) (sym colon)
+    (step_by i (d ∷ []) _ _ first.0 first.1 (sym (added_alone d last.0 last.1)))
+step_of_three (i ∷ c ∷ d ∷ e ∷ w) long short index colon digit = absurd (omega (arith, short))
+
+-- `I:-V:nowait` of two digits
+pub step_of_five : (w : List ℕ) → 5 ≤ length w → is_digit (get_or w 0 0) ≡ true → get_or w 1 0 ≡ 58
+    → get_or w 2 0 ≡ 45 → 49 ≤ get_or w 3 0 → get_or w 3 0 ≤ 57 → get_or w 4 0 ≡ 58
+    → bytes_eq (take (length w - 5) (drop 5 w)) (codes "nowait") ≡ true
+    → step w ≡ Some (record { num = get_or w 0 0 - 48; add = negsuc (get_or w 3 0 - 49); nowait = true })
+step_of_five [] long index colon sign low high behind word = absurd (omega (arith, long))
+step_of_five (i ∷ []) long index colon sign low high behind word = absurd (omega (arith, long))
+step_of_five (i ∷ c ∷ []) long index colon sign low high behind word = absurd (omega (arith, long))
+step_of_five (i ∷ c ∷ s ∷ []) long index colon sign low high behind word = absurd (omega (arith, long))
+step_of_five (i ∷ c ∷ s ∷ d ∷ []) long index colon sign low high behind word = absurd (omega (arith, long))
+step_of_five (i ∷ c ∷ s ∷ d ∷ e ∷ rest) long index colon sign low high behind word =
+    let first = digit_range i index in
+    let whole : bytes_eq rest (codes "nowait") ≡ true =
+    ap (λ r. bytes_eq r (codes "nowait")) (sym (take_rest (i ∷ c ∷ s ∷ d ∷ e ∷ rest) 5)) ∙ word in
+    let here = step_by i (45 ∷ d ∷ 58 ∷ rest) (negsuc (d - 49)) true first.0 first.1
+    (added_below d rest low high ∙ ap (with_nowait d) whole) in
+    rw (colon, sign, behind) here

@@ -13,6 +13,7 @@ use quoted_bytes::strip_front;
 pub(crate) type FromCall = (Option<Var>, Call);
 
 /// `$VAR`, or an identifier.
+#[inline(always)]
 #[tactic(auto, unfolding(crate::specs::Forms::identifier))]
 pub(crate) fn identifier(word: &[u8]) -> Option<(Option<Var>, Id)>
     ensures { result ≡ forms.identifier word.now }

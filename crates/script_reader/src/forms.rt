@@ -18,6 +18,7 @@ use std::alloc::Global;
 
 /// Puts a line with the call of this name with these words behind it, but for `fork`, in the place of what another line
 /// said.
+#[inline(always)]
 pub(crate) fn put_call(
     alloc: Global,
     front: &CallFront,

@@ -1,6 +1,6 @@
 //! What a line says by itself, wherever it stands.
 
-ghost use Rattle.std.specs.Prelude.{◌≡◌, ◌≤◌, ◌==◌, ◌||◌, false, None, OnOk, IfSome, option_copied};
+ghost use Rattle.std.specs.Prelude.{◌≡◌, ◌≤◌, ◌==◌, ◌||◌, false, true, Some, None, OnOk, IfSome, option_copied};
 ghost use Rattle.script_reader.specs.Words.{PartWords, is_blank as is_blank_of, texts};
 ghost use Rattle.script_reader.specs.Says as says;
 ghost use Rattle.script_reader.specs.Forms as forms;
@@ -129,6 +129,7 @@ fn exit_line(set: Front<Var>, tries: Front<u32>, words: &[&[u8]], said: &mut Sai
 }
 
 /// Another call.
+#[inline(always)]
 #[tactic(auto, unfolding(crate::specs::Says::other_said))]
 fn other_line(
     alloc: Global,
@@ -151,6 +152,7 @@ fn other_line(
 }
 
 /// A call of this name.
+#[inline(always)]
 #[tactic(auto, unfolding(crate::specs::Says::verb_said))]
 fn verb_line(
     alloc: Global,
@@ -171,7 +173,8 @@ fn verb_line(
     Ok(())
 }
 
-/// The call behind `VAR =` and `try N`.
+/// The call behind `VAR =` and `try N`. It is compiled once for what stands there and once for nothing.
+#[inline(always)]
 #[tactic(auto, unfolding(crate::specs::Says::call_said))]
 fn call_line(
     alloc: Global,
@@ -193,14 +196,45 @@ fn call_line(
     Ok(())
 }
 
-/// A call line.
+/// A call line with `VAR =` or `try N` in front of its call.
+#[inline(never)]
 #[tactic(auto, unfolding(crate::specs::Says::line_said))]
-fn line(alloc: Global, names: &Names, words: &[&[u8]], said: &mut Said) -> Result<(), Memory>
+fn fronted_line(
+    alloc: Global,
+    names: &Names,
+    words: &[&[u8]],
+    said: &mut Said,
+) -> Result<(), Memory>
     ensures { OnOk result (said.new ≡ says.line_said names.now (texts words.now)) }
 {
     let (set, words) = set_front(words);
     let (tries, words) = tries_front(words);
     call_line(alloc, names, set, tries, words, said)
+}
+
+/// Whether neither `VAR =` nor `try N` stands in front of the call.
+#[tactic(auto, unfolding(crate::specs::Says::set_at, crate::specs::Says::tries_at))]
+fn is_bare(words: &[&[u8]]) -> bool
+    ensures set { result ≡ true → says.set_at (texts words.now) ≡ (Some None, texts words.now) }
+    ensures tries { result ≡ true → says.tries_at (texts words.now) ≡ (Some None, texts words.now) }
+{
+    match words {
+        [] => true,
+        [t] => *t != b"try".as_slice(),
+        [t, e, ..] => *t != b"try".as_slice() && *e != b"=".as_slice(),
+    }
+}
+
+/// A call line. Most have nothing in front of the call.
+#[tactic(auto, unfolding(crate::specs::Says::line_said))]
+fn line(alloc: Global, names: &Names, words: &[&[u8]], said: &mut Said) -> Result<(), Memory>
+    ensures { OnOk result (said.new ≡ says.line_said names.now (texts words.now)) }
+{
+    if is_bare(words) {
+        call_line(alloc, names, Some(None), Some(None), words, said)
+    } else {
+        fronted_line(alloc, names, words, said)
+    }
 }
 
 /// `proc NAME`, by the words behind `proc`.

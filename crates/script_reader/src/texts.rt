@@ -219,8 +219,9 @@ fn indexed(word: &[u8]) -> Option<(u16, &[u8])>
 }
 
 /// An operation, `I:V` or `I:V:nowait`.
+#[inline(never)]
 #[tactic(auto, unfolding(crate::specs::Parts::step, crate::specs::Parts::indexed))]
-fn step(word: &[u8]) -> Option<SemStep>
+fn any_step(word: &[u8]) -> Option<SemStep>
     ensures { result ≡ step_of word.now }
 {
     let (num, add) = indexed(word)?;
@@ -228,19 +229,50 @@ fn step(word: &[u8]) -> Option<SemStep>
     Some(SemStep { num, add, nowait })
 }
 
+/// What `any_step` gives. Most operations have an index and an amount of one digit, and are told at once.
+fn step(word: &[u8]) -> Option<SemStep>
+    ensures { result ≡ step_of word.now }
+{
+    match word {
+        [index, colon, digit]
+            if index.is_ascii_digit() && *colon == b':' && digit.is_ascii_digit() => {
+            Some(SemStep {
+                num: u16::from(*index - b'0'),
+                add: i32::from(*digit - b'0'),
+                nowait: false,
+            })
+        }
+        [index, colon, sign, digit, behind, nowait @ ..]
+            if index.is_ascii_digit()
+                && *colon == b':'
+                && *sign == b'-'
+                && b'1' <= *digit
+                && *digit <= b'9'
+                && *behind == b':'
+                && is_nowait(nowait) => {
+            Some(SemStep {
+                num: u16::from(*index - b'0'),
+                add: -i32::from(*digit - b'0'),
+                nowait: true,
+            })
+        }
+        _ => any_step(word),
+    }
+}
+
 /// The operations of these words.
 #[tactic(auto, unfolding(crate::specs::Parts::each))]
 pub(crate) fn steps(alloc: Global, words: &[&[u8]]) -> Result<Option<Steps>, Memory>
     ensures { IfOk result (λ steps. steps ≡ each step_of (texts words.now)) }
 {
-    let mut steps = Sequence::new(alloc);
+    let mut steps = Vec::with_capacity(alloc, words.len())?;
     for word in words {
         let Some(step) = step(word) else {
             return Ok(None);
         };
-        steps.push(step)?;
+        steps.push_reserved(step);
     }
-    Ok(Some(steps))
+    Ok(Some(Sequence::from_vec(steps)))
 }
 
 /// The values of these words.
@@ -248,14 +280,14 @@ pub(crate) fn steps(alloc: Global, words: &[&[u8]]) -> Result<Option<Steps>, Mem
 fn numbers(alloc: Global, words: &[&[u8]]) -> Result<Option<Values>, Memory>
     ensures { IfOk result (λ values. values ≡ each (number_of 65535) (texts words.now)) }
 {
-    let mut values = Sequence::new(alloc);
+    let mut values = Vec::with_capacity(alloc, words.len())?;
     for word in words {
         let Some(value) = number(MAX_NUMBER, word) else {
             return Ok(None);
         };
-        values.push(value)?;
+        values.push_reserved(value);
     }
-    Ok(Some(values))
+    Ok(Some(Sequence::from_vec(values)))
 }
 
 /// Values joined by commas.

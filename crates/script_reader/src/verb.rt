@@ -29,6 +29,7 @@ pub enum Verb {
 
 impl Verb {
     /// What this word names, of the calls that scripts have fewer of.
+    #[inline(always)]
     fn named_seldom(word: &[u8]) -> Option<Verb>
         ensures { result ≡ find (λ v. bytes_eq (verb_name v) word.now) (drop 8 all_verbs) }
     {
@@ -54,6 +55,7 @@ impl Verb {
     }
 
     /// What this word names. Those that scripts have most of are tried first.
+    #[inline(always)]
     #[tactic(auto, unfolding(crate::specs::Forms::verb_of))]
     pub(crate) fn named(word: &[u8]) -> Option<Verb>
         ensures { result ≡ verb_of word.now }

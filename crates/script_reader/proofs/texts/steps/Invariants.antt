@@ -1,10 +1,15 @@
-use Rattle.std.proofs.Common.{◌≡◌, ◌++◌, drop}
+use Rattle.std.proofs.Common.{◌≡◌, ◌≤◌, ◌++◌, drop, length, vec_len, vec_capacity}
 use Rattle.std.specs.Prelude.{option_map}
 use Rattle.script_reader.specs.Words.{texts}
 use Rattle.script_reader.specs.Parts.{each, step}
 use Rattle.script_reader.proofs.texts.steps.Given as goal
 
--- what the words so far give, and those that are left
+-- what the words so far give, and those that are left, with room for what these give
 abbrev pub invariant-loop-word : goal.invariant-loop-word
 invariant-loop-word l =
-    option_map (λ more. l.steps ++ more) (each step (texts (drop l.word-index l.words))) ≡ each step (texts l.words)
+    record {
+      read : option_map (λ more. l.steps.items ++ more) (each step (texts (drop l.word-index l.words)))
+          ≡ each step (texts l.words);
+      len : vec_len l.steps ≡ l.word-index;
+      room : length l.words ≤ vec_capacity l.steps;
+    }
