@@ -51,8 +51,8 @@ fn one_more(count: u64) -> Result<u64, Memory>
     count.checked_add(1).ok_or(Memory)
 }
 
-/// Runs a script by the schedule of this number, to rest, and tells its journal as it goes on. Its events are kept where
-/// they are wanted.
+/// Runs a script by the schedule of this number, to rest, and tells its journal as it goes on. Its events are kept
+/// where they are wanted.
 pub fn run_script(
     alloc: Global,
     script: Script,
