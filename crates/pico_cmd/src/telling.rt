@@ -13,7 +13,7 @@ use world_core::StreamingWorld;
 
 // How many entries a world keeps at most before they are told: so few that they are told, and their memory is used
 // again, while it is near to the processor.
-const AT_ONCE: usize = 32;
+const AT_ONCE: usize = 16;
 
 /// What was told so far of a history: the text of its lines, where they are wanted, and what the totals count.
 #[derive(Drop)]
