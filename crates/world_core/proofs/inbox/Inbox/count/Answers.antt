@@ -16,6 +16,6 @@ returns-then-self-eq0-clause-count c =
     (marked-none c.self.inside.filled c.args.self.now (c.self.invariant.1 ∙ ap filled_mask c.self.view_is)
     c.if-self-eq0.true)
 
-pub returns-else-is_born-clause-count : goal.returns-else-is_born-clause-count
-returns-else-is_born-clause-count c =
+pub returns-else-self-eq0-clause-count : goal.returns-else-self-eq0-clause-count
+returns-else-self-eq0-clause-count c =
     c.checkpoints.ensures ∙ takes_unborn c.args.is_born c.args.self.now c.if-is_born.false
