@@ -1,5 +1,5 @@
 -- From the bytes that are read to the bytes that were left, and from an answer to what is promised of it.
-use Rattle.std.proofs.Common.{refl, ◌≡◌, ℕ, ◌+◌, ◌<◌, ◌≤◌, List, [], ◌++◌, length, drop, take, Option, Some, None, ap, sym, subst, ◌∙◌, arith, inl, inr, ◌⊎◌, length-take}
+use Rattle.std.proofs.Common.{refl, ◌≡◌, ℕ, ◌+◌, ◌<◌, ◌≤◌, List, [], ◌++◌, length, drop, take, Option, Some, None, ap, sym, subst, ◌∙◌, arith, inl, inr, length-take}
 use Rattle.std.proofs.lemmas.Bool.{lt-ltb}
 use Rattle.std.proofs.lemmas.List.{drop_all, take_all, take-take}
 use Rattle.std.proofs.Math.Seq.{drop-append_seam}

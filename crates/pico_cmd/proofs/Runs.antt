@@ -1,6 +1,5 @@
 -- A run as it goes on, event by event.
-use Rattle.std.proofs.Common.{◌≡◌, ℕ, ◌+◌, ◌-◌, ◌*◌, ◌<◌, ◌≤◌, true, List, [], ◌∷◌, ◌++◌, length, take, Bool, false, nat_eq, if◌then◌else◌, Option, Some, None, refl, sym, ap, subst, ◌∙◌, arith}
-use Rattle.std.proofs.lemmas.List.{length-append}
+use Rattle.std.proofs.Common.{◌≡◌, ℕ, ◌≤◌, true, List, [], ◌∷◌, ◌++◌, take, Bool, false, nat_eq, if◌then◌else◌, Option, Some, None, refl, sym, ap, subst, ◌∙◌, arith}
 use Rattle.pico_base.specs.declared.script.Event.{Event}
 use Rattle.pico_base.specs.declared.script.Event.TheVariants as events
 use Rattle.pico_base.specs.declared.script.Script.{Script}
@@ -15,7 +14,6 @@ use Rattle.world_model.specs.Schedule.{Schedule, InTurn, Drawn, Chooses, Follows
 use Rattle.world_model.specs.Run.{Runs, IsRunOf, IsAtRest}
 use Rattle.world_runs.specs.Laws.{JournalsAreLegal, RunsAreShort}
 use Rattle.world_rest.specs.Laws.{NamesHaveOneOwner, NoneLivesAtRest, RestIsQuiet, RestIsWhole}
-use Rattle.world_weights.specs.Weights.{calls_of}
 use Rattle.world_core.specs.Laws.{IsWithin, RestIsWhereNothingIsChosen}
 use Rattle.pico_cmd.specs.Run.{IsScheduledRun}
 use Rattle.pico_cmd.proofs.Chosen.{IsNext, choice_next}

@@ -35,11 +35,12 @@ fn leave(world: StreamingWorld) {
 
 // Keeps an event, where events are wanted.
 #[inline(always)]
-fn keep(events: &mut Vec<Event>, steps: bool, event: Event) -> Result<(), Memory>
-    ensures { OnOk result (events.new.items ≡ (if steps then events.old.items ++ event ∷ [] else events.old.items)) }
+fn keep(events: &mut Vec<Event>, steps: bool, event: &Event) -> Result<(), Memory>
+    ensures { OnOk result
+        (events.new.items ≡ (if steps then events.old.items ++ event.now ∷ [] else events.old.items)) }
 {
     if steps {
-        events.push(event)?;
+        events.push(*event)?;
     }
     Ok(())
 }
@@ -75,7 +76,7 @@ pub fn run_script(
     while let Some((event, after)) = schedule.choice(&world) {
         schedule = after;
         count = one_more(count)?;
-        keep(&mut events, steps, event)?;
+        keep(&mut events, steps, &event)?;
         world.step(event)?;
         tell_if_much(&mut telling, &mut world)?;
     }

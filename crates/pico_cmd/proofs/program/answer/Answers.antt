@@ -1,9 +1,8 @@
-use Rattle.std.proofs.Common.{◌≡◌, map, Option, Some, None, sym, subst, ◌∙◌}
-use Rattle.std.specs.Prelude.{string_bytes, IfOk, OnOk, IfErr, IfSome}
+use Rattle.std.proofs.Common.{◌≡◌, Option, subst, ◌∙◌}
+use Rattle.std.specs.Prelude.{IfOk, OnOk, IfErr, IfSome}
 use Rattle.pico_words.specs.declared.words.Request.{Request}
 use Rattle.pico_cmd.specs.declared.answer.Answer.{Answer}
 use Rattle.pico_cmd.specs.declared.status.Status.{Status}
-use Rattle.pico_cmd.specs.declared.status.Status.TheVariants as status
 use Rattle.pico_cmd.specs.Promise.{Allows, EachCause}
 use Rattle.pico_cmd.specs.Stop.{IsReadFault, Reads, left_behind, most_read}
 use Rattle.pico_cmd.proofs.program.answer.Goals as goal

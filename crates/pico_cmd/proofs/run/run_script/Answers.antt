@@ -1,4 +1,4 @@
-use Rattle.std.proofs.Common.{◌∙◌, ap, subst, arith}
+use Rattle.std.proofs.Common.{◌≡◌, ◌∙◌, ap, subst}
 use Rattle.std.specs.Prelude.{IfSome}
 use Rattle.std.specs.Option.{option_map}
 use Rattle.world_model.specs.Schedule.{schedule_of, schedule_after}
@@ -34,7 +34,7 @@ loop-event-preserved c =
 
 pub returns-clause-told : goal.returns-clause-told
 returns-clause-told c =
-    IsRunning-end _ _ _ _ _ _ _ _ _ _ c.laws.ensures.legal c.laws.ensures.quiet c.laws.ensures.ended
+    IsRunning-end _ _ _ _ _ _ _ _ _ _ _ c.laws.ensures.legal c.laws.ensures.quiet c.laws.ensures.ended
     c.laws.ensures.whole c.laws.ensures.owners c.laws.ensures.short c.laws.ensures.rest c.requires.sound
     c.loop-event.invariant c.choice.ensures.event (ap (option_map (λ x. x.0)) c.in_default.is)
     c.in_ok-tell_all.ensures.told c.in_ok-tell_all.ensures.let_go
