@@ -1,0 +1,2 @@
+//! Frames in pieces.
+#![tactic(auto)]

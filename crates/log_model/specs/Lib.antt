@@ -1,0 +1,6 @@
+pub mod Views
+pub mod Forkers
+pub mod Looks
+pub mod Turns
+pub mod Logged
+pub mod Laws

@@ -1,0 +1,12 @@
+//! What a node's turns keep true, as contracts of functions that do nothing.
+ghost use Rattle.log_model.specs.Laws.{NewNodesAreLogged, TurnsKeepLogs};
+
+/// A new node's log says all of its turns.
+pub fn new_nodes_are_logged()
+    ensures { NewNodesAreLogged }
+{}
+
+/// Each turn keeps what a node's log says of its turns: they are the machine's, in order, with what was sent and taken.
+pub fn turns_keep_logs()
+    ensures { TurnsKeepLogs }
+{}
