@@ -96,6 +96,13 @@ impl Logged {
         self.quiet
     }
 
+    /// Why it makes no turns any more.
+    pub fn fault(&self) -> Option<LogFault>
+        ensures { result ≡ self.now.fault }
+    {
+        self.fault
+    }
+
     /// The one node that it looks for frames of, where it isn't born: the node whose block forks it.
     fn only(&mut self, script: &Script) -> Option<Node> {
         if self.node.born() {

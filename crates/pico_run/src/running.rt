@@ -6,7 +6,7 @@ use crate::resting::rest;
 use crate::threads::turn_until_quiet;
 use host_iface::Gate;
 use journal_core::JournalLock;
-use node_log::Logged;
+use node_log::{LogFault, Logged};
 use pico_base::{Event, Memory, Node, Script};
 use stamp_merge::Stamped;
 use std::alloc::Global;
@@ -57,6 +57,9 @@ pub fn run<R: Threads + Wait + Sync, G: Gate>(
     let count = Node(script.blocks.len() as u8);
     let Opened { lock, mut nodes } = open(alloc, &script)?;
     turn_all(rt, &lock, &script, gate, &mut nodes);
+    if nodes.iter().any(|logged| logged.fault() == Some(LogFault::Memory)) {
+        return Err(Memory);
+    }
     let Parts {
         partings,
         seats,
