@@ -15,6 +15,8 @@ use host_iface::{Gate, ReadStop, Sink, Source, read_all, write_all};
 use pico_base::{Bytes, Memory};
 use pico_words::{Options, Request, request_of};
 use std::alloc::Global;
+use std::sync::Wait;
+use std::thread::Threads;
 
 // The greatest script, in bytes.
 const MAX_SCRIPT: usize = 1048576;
@@ -112,7 +114,7 @@ fn totals(alloc: Global, options: Options) -> Result<Answer, Memory>
 }
 
 // The answer to what is asked for, and to the bytes where they are wanted.
-fn answer_for<S: Source>(alloc: Global, request: Request, source: &mut S) -> Result<Answer, Stop>
+fn answer_for<R: Threads + Wait + Sync, S: Source, G: Gate>(rt: &R, gate: &G, alloc: Global, request: Request, source: &mut S) -> Result<Answer, Stop>
     ensures answer { IfOk result (λ answer. AnswersTold request (S.left source.old) answer.status answer.text) }
     ensures causes { EachCause (Some request) (S.left source.old)
         (λ s. IfOk result (λ answer. answer.status ≡ s)) }
@@ -122,14 +124,19 @@ fn answer_for<S: Source>(alloc: Global, request: Request, source: &mut S) -> Res
     ensures untouched { (Reads (Some request) → ⊥) → source.new ≡ source.old }
 {
     match request {
+        Request::Run { steps } => {
+            let bytes = bytes_up_to(alloc, source, MAX_SCRIPT)?;
+            Ok(crate::threaded::answer_to_run(rt, alloc, bytes, steps, gate)?)
+        }
         Request::Simulate(options) => simulate(alloc, options, source),
         Request::Check => check(alloc, source),
-        Request::Generate(options) => Ok(totals(alloc, options)?),
+        Request::Generate(options) => Ok(crate::threaded::answer_to_number(rt, alloc, options.seed, options.steps, gate)?),
     }
 }
 
 // The answer to what is asked for, where something is.
-fn answer_asked<S: Source>(
+fn answer_asked<R: Threads + Wait + Sync, S: Source, G: Gate>(
+    rt: &R, gate: &G,
     alloc: Global,
     asked: Option<Request>,
     source: &mut S,
@@ -144,13 +151,13 @@ fn answer_asked<S: Source>(
     ensures untouched { (Reads asked → ⊥) → source.new ≡ source.old }
 {
     match asked {
-        Some(request) => answer_for(alloc, request, source),
+        Some(request) => answer_for(rt, gate, alloc, request, source),
         None => Ok(usage(alloc)?),
     }
 }
 
 // The answer to the words and the bytes.
-fn answer<S: Source>(alloc: Global, words: &[String], source: &mut S) -> Result<Answer, Stop>
+fn answer<R: Threads + Wait + Sync, S: Source, G: Gate>(rt: &R, gate: &G, alloc: Global, words: &[String], source: &mut S) -> Result<Answer, Stop>
     ensures answer { IfOk result
         (λ answer. Allows (request_in (map string_bytes words.now)) (S.left source.old) answer.status answer.text) }
     ensures usage { request_in (map string_bytes words.now) ≡ None
@@ -164,7 +171,7 @@ fn answer<S: Source>(alloc: Global, words: &[String], source: &mut S) -> Result<
     ensures untouched { (Reads (request_in (map string_bytes words.now)) → ⊥) → source.new ≡ source.old }
 {
     let asked = request_of(alloc, words)?;
-    answer_asked(alloc, asked, source)
+    answer_asked(rt, gate, alloc, asked, source)
 }
 
 // Writes an answer, and gives its status or that the write failed.
@@ -189,13 +196,13 @@ fn write_answer<K: Sink>(sink: &mut K, answer: Answer) -> Status
 ///   number of its entries, or what its first fault is.
 /// - `gen`, with the same options as `sim`: the generated script of number N runs by schedule 0. The totals line of its
 ///   trace is written, and with `--steps` the events behind it. Nothing is read.
-pub fn pico<R, S: Source, K: Sink, G: Gate>(
-    _rt: &R,
+pub fn pico<R: Threads + Wait + Sync, S: Source, K: Sink, G: Gate>(
+    rt: &R,
     alloc: Global,
     words: &[String],
     source: &mut S,
     sink: &mut K,
-    _gate: &G,
+    gate: &G,
 ) -> Ran
     // What is written with each status: the trace of a run of the script's processes, which is one history of a single
     // POSIX kernel, or that a trace is legal, or the totals of a generated script's run; the script's first fault; the
@@ -246,7 +253,7 @@ pub fn pico<R, S: Source, K: Sink, G: Gate>(
         → EachCause (request_in (map string_bytes words.now)) (S.left source.old)
         (λ s. (result.status ≡ s) ⊎ (result.status ≡ Status.Memory)) }
 {
-    let status = match answer(alloc, words, source) {
+    let status = match answer(rt, gate, alloc, words, source) {
         Ok(answer) => write_answer(sink, answer),
         Err(Stop::Memory) => Status::Memory,
         Err(Stop::ReadFault) => Status::ReadFault,

@@ -8,6 +8,7 @@ use std::sync::Wait;
 use stream_pair::{In, Out, settle};
 
 /// What is left of all nodes.
+#[derive(Drop)]
 pub(crate) struct Parts {
     pub partings: Vec<Parting>,
     pub seats: Seats,

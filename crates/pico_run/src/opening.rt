@@ -12,7 +12,7 @@ fn node_at(place: usize) -> Node {
 }
 
 /// A list without items for each node.
-fn empty_lists<T>(alloc: Global, count: usize) -> Result<Vec<Vec<T>>, Memory> {
+fn empty_lists<T: Drop>(alloc: Global, count: usize) -> Result<Vec<Vec<T>>, Memory> {
     let mut lists = Vec::with_capacity(alloc, count)?;
     for _ in 0..count {
         lists.push(Vec::new(alloc))?;
@@ -21,6 +21,7 @@ fn empty_lists<T>(alloc: Global, count: usize) -> Result<Vec<Vec<T>>, Memory> {
 }
 
 /// The ends of all streams, of each node those that send and those that take, both by rising node.
+#[derive(Drop)]
 struct Wires {
     outs: Vec<Vec<Out>>,
     ins: Vec<Vec<In>>,
@@ -60,6 +61,7 @@ fn ends_of(alloc: Global, place: usize, outs: Vec<Out>, ins: Vec<In>) -> Result<
 }
 
 /// The nodes with their streams and seats, and the journal's lock.
+#[derive(Drop)]
 pub(crate) struct Opened {
     pub lock: JournalLock,
     pub nodes: Vec<Logged>,
