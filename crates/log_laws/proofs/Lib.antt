@@ -5,3 +5,4 @@ pub mod Whole
 pub mod Journals
 pub mod Merged
 pub mod MayMerge
+pub mod EventLogs

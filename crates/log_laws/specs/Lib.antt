@@ -3,3 +3,4 @@ pub mod Merge
 pub mod Journal
 pub mod Laws
 pub mod Merged
+pub mod EventLogs
