@@ -6,3 +6,4 @@ pub mod Journals
 pub mod Merged
 pub mod MayMerge
 pub mod EventLogs
+pub mod Drawn

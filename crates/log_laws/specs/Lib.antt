@@ -4,3 +4,4 @@ pub mod Journal
 pub mod Laws
 pub mod Merged
 pub mod EventLogs
+pub mod Drawn

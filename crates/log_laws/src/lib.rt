@@ -2,6 +2,7 @@
 //! call runs here.
 #![tactic(auto)]
 
+ghost use Rattle.log_laws.specs.Drawn.{StampsAreFew};
 ghost use Rattle.log_laws.specs.EventLogs.{EventLogsMayMerge, EventsMergeAsTurns};
 ghost use Rattle.log_laws.specs.Laws.{ConsistentLogsAreRuns, OneJournal};
 ghost use Rattle.log_laws.specs.Merged.{MergesAreMerges, LogsMayMerge, MergedLogsAreRuns};
@@ -44,4 +45,10 @@ pub fn event_logs_may_merge()
 /// and the node of it, and these turns in their order are the merge of the logs.
 pub fn events_merge_as_turns()
     ensures { EventsMergeAsTurns }
+{}
+
+/// Where each stamp is the next one to 0 or to that of some turn, the turn at place i of a merge, from 1, has a stamp of
+/// at most i, and so no stamp is above the number of turns.
+pub fn stamps_are_few()
+    ensures { StampsAreFew }
 {}
