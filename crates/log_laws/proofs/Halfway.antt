@@ -1,6 +1,6 @@
 -- A world in the middle of a merge, and what is left of the merge: the first turn that is left has a step there.
-use Rattle.std.proofs.Common.{◌≡◌, ◌≢◌, ◌⊎◌, ℕ, ◌-◌, ◌<◌, ◌≤◌, Bool, List, [], ◌∷◌, ◌++◌, length, set, map, nat_eq, if◌then◌else◌, Some, refl, ap, sym, subst, ◌∙◌, inl, inr, arith, append_assoc, append-nil}
-use Rattle.std.specs.List.{flat_map, AllByRecursion}
+use Rattle.std.proofs.Common.{◌≡◌, ℕ, ◌-◌, ◌<◌, Bool, List, [], ◌∷◌, ◌++◌, length, map, nat_eq, if◌then◌else◌, Some, ap, sym, subst, ◌∙◌, inl, inr, arith, append_assoc, append-nil}
+use Rattle.std.specs.List.{AllByRecursion}
 use Rattle.std.proofs.lemmas.Bool.{cases_eq, eq-eqb, ne_eqb}
 use Rattle.std.proofs.lemmas.List.{length-set}
 use Rattle.pico_base.specs.declared.script.Script.{Script}
@@ -8,7 +8,7 @@ use Rattle.rpc_frame.specs.declared.frame.Frame.{Frame}
 use Rattle.world_model.specs.Node.{Node}
 use Rattle.world_model.specs.World.{World, node_at, stream, node_count, world_after}
 use Rattle.world_laws.proofs.Streams.{Square}
-use Rattle.world_laws.proofs.Sends.{AreToNodes, IsToNode, square-sent, all-sent, none-sent}
+use Rattle.world_laws.proofs.Sends.{AreToNodes, square-sent, all-sent, none-sent}
 use Rattle.log_laws.specs.Logs.{IsNode, StampedFrame, frame_of, Logged, Log, LeadsTo, Makes, sent_to, sends_of, sent_in, taken_in, GoesBetween}
 use Rattle.log_laws.specs.Merge.{NodeTurn, AreInOrder, log_of}
 use Rattle.log_laws.proofs.Lists.{get-set-same, get-set-other, map-append, frames-of-sends, log-of-own, log-of-other}

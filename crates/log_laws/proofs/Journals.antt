@@ -1,26 +1,28 @@
 -- A journal in which stamps don't fall, and one stamp is of one node, is settled by each node's entries in it.
-use Rattle.std.proofs.Common.{◌≡◌, ◌≢◌, ℕ, ◌<◌, ◌≤◌, Bool, List, [], ◌∷◌, ◌++◌, map, nat_eq, refl, ap, sym, subst, ◌∙◌, inl, inr, arith, append_assoc}
+use Rattle.std.proofs.Common.{◌≡◌, ◌≢◌, ℕ, ◌≤◌, List, [], ◌∷◌, ◌++◌, map, nat_eq, refl, ap, sym, subst, ◌∙◌, inl, inr, arith, append_assoc}
 use Rattle.std.specs.List.{flat_map, AllByRecursion}
 use Rattle.std.proofs.lemmas.Bool.{cases_eq, eq-eqb, ne_eqb}
 use Rattle.pico_base.specs.declared.script.Script.{Script}
 use Rattle.pico_base.specs.declared.reply.Entry.{Entry}
 use Rattle.log_laws.specs.Logs.{IsNode, Logged, Log}
-use Rattle.log_laws.specs.Merge.{NodeTurn, IsBefore, AreInOrder, log_of, IsMerge, entries_of}
+use Rattle.log_laws.specs.Merge.{NodeTurn, IsBefore, AreInOrder, log_of, entries_of}
 use Rattle.log_laws.specs.Journal.{JournalEntry, journal_entry, entered, entry_if, entries_by, StampsDontFall, OneNodeAStamp, IsJournalOf, plain_entries}
 use Rattle.log_laws.specs.Laws.{OneJournal}
-use Rattle.log_laws.proofs.Lists.{map-append, append-all, log-of-own, log-of-other}
+use Rattle.log_laws.proofs.Lists.{map-append, append-all, log-of-own, log-of-other, not-below}
 
 -- ---- one node's entries
 
-own-entry : (e : JournalEntry) (es : List JournalEntry) (p : ℕ) → e.node ≡ p
+-- the first entry is the node's
+pub own-entry : (e : JournalEntry) (es : List JournalEntry) (p : ℕ) → e.node ≡ p
     → entries_by p (e ∷ es) ≡ e ∷ entries_by p es
 own-entry e es p h = ap (λ b. entry_if b e ++ entries_by p es) (eq-eqb e.node p h)
 
-others-entry : (e : JournalEntry) (es : List JournalEntry) (p : ℕ) → e.node ≢ p
+-- it is another's
+pub others-entry : (e : JournalEntry) (es : List JournalEntry) (p : ℕ) → e.node ≢ p
     → entries_by p (e ∷ es) ≡ entries_by p es
 others-entry e es p h = ap (λ b. entry_if b e ++ entries_by p es) (ne_eqb e.node p h)
 
-by-append : (p : ℕ) (xs ys : List JournalEntry) → entries_by p (xs ++ ys) ≡ entries_by p xs ++ entries_by p ys
+pub by-append : (p : ℕ) (xs ys : List JournalEntry) → entries_by p (xs ++ ys) ≡ entries_by p xs ++ entries_by p ys
 by-append p [] ys = refl
 by-append p (x ∷ xs) ys =
     ap (λ (zs : List JournalEntry). entry_if (nat_eq x.node p) x ++ zs) (by-append p xs ys)
@@ -106,12 +108,14 @@ one-order script (x ∷ xs) (y ∷ ys) at_xs at_ys order apart order' agree =
 abbrev all_entered : List NodeTurn → List JournalEntry
 all_entered turns = flat_map (λ t. entered t.node t.turn) turns
 
-entered-stamps : (node stamp : ℕ) (es : List Entry)
+-- what a turn entered has its stamp
+pub entered-stamps : (node stamp : ℕ) (es : List Entry)
     → AllByRecursion (λ (e : JournalEntry). e.stamp ≡ stamp) (map (journal_entry node stamp) es)
 entered-stamps node stamp [] = tt
 entered-stamps node stamp (e ∷ es) = (refl, entered-stamps node stamp es)
 
-entered-nodes : (script : Script) (node stamp : ℕ) (es : List Entry) → IsNode script node
+-- and its node
+pub entered-nodes : (script : Script) (node stamp : ℕ) (es : List Entry) → IsNode script node
     → AllByRecursion (λ (e : JournalEntry). IsNode script e.node) (map (journal_entry node stamp) es)
 entered-nodes script node stamp [] h = tt
 entered-nodes script node stamp (e ∷ es) h = (h, entered-nodes script node stamp es h)
@@ -139,10 +143,6 @@ dont-fall-append stamp [] ys same above order = order
 dont-fall-append stamp (x ∷ xs) ys same above order =
     (same-above stamp x xs ys same.0 same.1 above, dont-fall-append stamp xs ys same.1 above order)
 
-not-below : (t u : NodeTurn) → IsBefore t u → t.turn.stamp ≤ u.turn.stamp
-not-below t u (inl l) = omega arith
-not-below t u (inr e) = let same : t.turn.stamp ≡ u.turn.stamp = e.0 in omega arith
-
 high-entries : (low node stamp : ℕ) (es : List Entry) → low ≤ stamp
     → AllByRecursion (λ (e : JournalEntry). low ≤ e.stamp) (map (journal_entry node stamp) es)
 high-entries low node stamp [] h = tt
@@ -161,16 +161,56 @@ all-dont_fall (t ∷ turns) h =
     dont-fall-append t.turn.stamp (entered t.node t.turn) (all_entered turns)
     (entered-stamps t.node t.turn.stamp t.turn.step.entries) (all-above t turns h.0) (all-dont_fall turns h.1)
 
+-- what holds of each node's entries holds of all
+pub all-by-nodes : (P : JournalEntry → Type 0) (script : Script) (journal : List JournalEntry)
+    → AllByRecursion (λ e. IsNode script e.node) journal
+    → ((p : ℕ) → IsNode script p → AllByRecursion P (entries_by p journal)) → AllByRecursion P journal
+all-by-nodes P script [] at h = tt
+all-by-nodes P script (e ∷ es) at h =
+    let own : AllByRecursion P (e ∷ entries_by e.node es) =
+    subst (AllByRecursion P) (own-entry e es e.node refl) (h e.node at.0)
+    in (own.0, all-by-nodes P script es at.1 (λ p is. behind-first p (h p is)))
+  where
+    behind-first : (p : ℕ) → AllByRecursion P (entries_by p (e ∷ es)) → AllByRecursion P (entries_by p es)
+    behind-first p all =
+        elim (cases_eq e.node p) [
+          | inl s ↦ (subst (AllByRecursion P) (own-entry e es p s) all).1
+          | inr d ↦ subst (AllByRecursion P) (others-entry e es p d) all
+        ]
+
+-- what holds of the stamps of turns holds of those of their entries
+pub stamps-of-entered : (P : ℕ → Type 0) (p : ℕ) (log : Log) → AllByRecursion (λ (turn : Logged). P turn.stamp) log
+    → AllByRecursion (λ (e : JournalEntry). P e.stamp) (flat_map (entered p) log)
+stamps-of-entered P p [] h = tt
+stamps-of-entered P p (turn ∷ log) h =
+    append-all (λ (e : JournalEntry). P e.stamp) (entered p turn) (flat_map (entered p) log)
+    (of-entries turn.step.entries) (stamps-of-entered P p log h.1)
+  where
+    of-entries : (es : List Entry)
+        → AllByRecursion (λ (e : JournalEntry). P e.stamp) (map (journal_entry p turn.stamp) es)
+    of-entries [] = tt
+    of-entries (e ∷ es) = (h.0, of-entries es)
+
+-- and so of those of a journal
+pub stamps-of-journal : (P : ℕ → Type 0) (script : Script) (logs : ℕ → Log) (journal : List JournalEntry)
+    → IsJournalOf script logs journal
+    → ((p : ℕ) → IsNode script p → AllByRecursion (λ (turn : Logged). P turn.stamp) (logs p))
+    → AllByRecursion (λ (e : JournalEntry). P e.stamp) journal
+stamps-of-journal P script logs journal is h =
+    all-by-nodes (λ (e : JournalEntry). P e.stamp) script journal is.nodes (λ p at.
+    subst (AllByRecursion (λ (e : JournalEntry). P e.stamp)) (sym (is.each p at))
+    (stamps-of-entered P p (logs p) (h p at)))
+
 -- ---- node by node the merge's entries are those of the logs
 
-own-all : (p stamp : ℕ) (es : List Entry)
+pub own-all : (p stamp : ℕ) (es : List Entry)
     → entries_by p (map (journal_entry p stamp) es) ≡ map (journal_entry p stamp) es
 own-all p stamp [] = refl
 own-all p stamp (e ∷ es) =
     own-entry (journal_entry p stamp e) (map (journal_entry p stamp) es) p refl
     ∙ ap (λ (xs : List JournalEntry). journal_entry p stamp e ∷ xs) (own-all p stamp es)
 
-others-none : (node p stamp : ℕ) (es : List Entry) → node ≢ p → entries_by p (map (journal_entry node stamp) es) ≡ []
+pub others-none : (node p stamp : ℕ) (es : List Entry) → node ≢ p → entries_by p (map (journal_entry node stamp) es) ≡ []
 others-none node p stamp [] h = refl
 others-none node p stamp (e ∷ es) h =
     others-entry (journal_entry node stamp e) (map (journal_entry node stamp) es) p h ∙ others-none node p stamp es h

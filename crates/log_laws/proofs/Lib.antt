@@ -5,3 +5,5 @@ pub mod Whole
 pub mod Journals
 pub mod Merged
 pub mod MayMerge
+pub mod EventLogs
+pub mod Drawn

@@ -1,10 +1,10 @@
 -- Facts about lists: what a list has at a place after a change, the streams of a turn, and a log behind its first turn.
-use Rattle.std.proofs.Common.{◌≡◌, ◌≢◌, ℕ, zero, suc, ◌<◌, ◌≤◌, Bool, true, false, List, [], ◌∷◌, ◌++◌, length, set, slice_get, nat_eq, map, Some, refl, ap, sym, subst, ◌∙◌, inl, inr, arith}
-use Rattle.std.specs.List.{flat_map, AllByRecursion}
+use Rattle.std.proofs.Common.{◌≡◌, ◌≢◌, ℕ, zero, suc, ◌<◌, ◌≤◌, Bool, true, false, List, [], ◌∷◌, ◌++◌, length, set, slice_get, nat_eq, map, Some, refl, ap, sym, subst, inl, inr, arith}
+use Rattle.std.specs.List.{AllByRecursion}
 use Rattle.std.proofs.lemmas.Bool.{cases_eq, eq-eqb, ne_eqb}
 use Rattle.rpc_frame.specs.declared.frame.Frame.{Frame}
-use Rattle.log_laws.specs.Logs.{StampedFrame, frame_of, Logged, Log, frame_if, sent_to, stamped, sends_of, sent_in, takes_of, taken_in}
-use Rattle.log_laws.specs.Merge.{NodeTurn, turn_if, log_of}
+use Rattle.log_laws.specs.Logs.{StampedFrame, frame_of, Logged, Log, sent_to, stamped, sends_of, sent_in}
+use Rattle.log_laws.specs.Merge.{NodeTurn, IsBefore, turn_if, log_of}
 
 -- ---- a list after a change
 
@@ -32,6 +32,15 @@ pub append-all : {X : Type 0} (P : X → Type 0) (xs ys : List X) → AllByRecur
     → AllByRecursion P (xs ++ ys)
 append-all P [] ys a b = b
 append-all P (x ∷ xs) ys a b = (a.0, append-all P xs ys a.1 b)
+
+-- and of both
+pub left-all : {X : Type 0} (P : X → Type 0) (xs ys : List X) → AllByRecursion P (xs ++ ys) → AllByRecursion P xs
+left-all P [] ys h = tt
+left-all P (x ∷ xs) ys h = (h.0, left-all P xs ys h.1)
+
+pub right-all : {X : Type 0} (P : X → Type 0) (xs ys : List X) → AllByRecursion P (xs ++ ys) → AllByRecursion P ys
+right-all P [] ys h = h
+right-all P (x ∷ xs) ys h = right-all P xs ys h.1
 
 -- ---- a stamp on each frame, and off again
 
@@ -70,17 +79,22 @@ all-of-log P p (t ∷ ts) h =
       | inr d ↦ subst (λ (l : Log). AllByRecursion P l) (sym (log-of-other t ts p d)) rest
     ]
 
--- ---- stamps of what was sent
+-- ---- stamps
 
-pub high-stamps : (low stamp : ℕ) (fs : List Frame) → low ≤ stamp
-    → AllByRecursion (λ (f : StampedFrame). low ≤ f.stamp) (map (stamped stamp) fs)
-high-stamps low stamp [] h = tt
-high-stamps low stamp (f ∷ fs) h = (h, high-stamps low stamp fs h)
+-- what comes later in a merge has no lower stamp
+pub not-below : (t u : NodeTurn) → IsBefore t u → t.turn.stamp ≤ u.turn.stamp
+not-below t u (inl l) = omega arith
+not-below t u (inr e) = let same : t.turn.stamp ≡ u.turn.stamp = e.0 in omega arith
 
--- what turns with high stamps sent has high stamps
-pub high-sent : (low to : ℕ) (log : Log) → AllByRecursion (λ (turn : Logged). low ≤ turn.stamp) log
-    → AllByRecursion (λ (f : StampedFrame). low ≤ f.stamp) (sent_in to log)
-high-sent low to [] h = tt
-high-sent low to (turn ∷ log) h =
-    append-all (λ (f : StampedFrame). low ≤ f.stamp) (sends_of to turn) (sent_in to log)
-    (high-stamps low turn.stamp (sent_to to turn.step.sends) h.0) (high-sent low to log h.1)
+stamps-of-frames : (P : ℕ → Type 0) (stamp : ℕ) (fs : List Frame) → P stamp
+    → AllByRecursion (λ (f : StampedFrame). P f.stamp) (map (stamped stamp) fs)
+stamps-of-frames P stamp [] h = tt
+stamps-of-frames P stamp (f ∷ fs) h = (h, stamps-of-frames P stamp fs h)
+
+-- what holds of the stamps of turns holds of those of the frames that they sent
+pub stamps-of-sent : (P : ℕ → Type 0) (to : ℕ) (log : Log) → AllByRecursion (λ (turn : Logged). P turn.stamp) log
+    → AllByRecursion (λ (f : StampedFrame). P f.stamp) (sent_in to log)
+stamps-of-sent P to [] h = tt
+stamps-of-sent P to (turn ∷ log) h =
+    append-all (λ (f : StampedFrame). P f.stamp) (sends_of to turn) (sent_in to log)
+    (stamps-of-frames P turn.stamp (sent_to to turn.step.sends) h.0) (stamps-of-sent P to log h.1)

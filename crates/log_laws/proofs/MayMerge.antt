@@ -8,7 +8,7 @@ use Rattle.stamp_merge.specs.declared.Stamped.{Stamped}
 use Rattle.stamp_merge.specs.Merge as stamps
 use Rattle.stamp_merge.proofs.Merges.{all-own, none-own, of-append}
 use Rattle.log_laws.specs.Logs.{IsNode, Logged, Log, StampsRise}
-use Rattle.log_laws.specs.Merged.{item_of, turn_of, IsItem, logs_from, logs_of, LogsMayMerge, MergedLogsAreRuns}
+use Rattle.log_laws.specs.Merged.{item_of, turn_of, IsItem, AreLogsOf, logs_from, logs_of, LogsMayMerge, MergedLogsAreRuns}
 use Rattle.log_laws.proofs.Merged.{merges_are_merges_lemma}
 use Rattle.log_laws.proofs.Whole.{consistent_logs_are_runs_lemma}
 use Rattle.log_laws.proofs.Lists.{append-all}
@@ -133,20 +133,24 @@ is-among : (script : Script) (p : ℕ) → IsNode script p → IsAmong 1 (node_c
 is-among script p is =
     let low : 1 ≤ p = is.low in let high : p ≤ node_count script = is.high in (low, omega arith)
 
+-- the list of a script's logs has each node's
+pub are-logs : (script : Script) (logs : ℕ → Log) → AreLogsOf script logs (logs_of script logs)
+are-logs script logs =
+    record {
+      each = λ p is. each-own 1 (node_count script) logs p (is-among script p is);
+      others = all-are script 1 (node_count script) logs (among-is script);
+    }
+
 -- the logs of a script's nodes may be merged
 pub logs_may_merge_lemma : LogsMayMerge
 logs_may_merge_lemma script logs rise = record {
   rise = all-rise 1 (node_count script) logs (λ p a. rise p (among-is script p a));
   own_nodes = own-nodes 1 (node_count script) logs;
-  are = record {
-    each = λ p is. each-own 1 (node_count script) logs p (is-among script p is);
-    others = all-are script 1 (node_count script) logs (among-is script);
-  };
+  are = are-logs script logs;
 }
 
 -- and their merge is a run of the machine where they are consistent
 pub merged_logs_are_runs_lemma : MergedLogsAreRuns
 merged_logs_are_runs_lemma script logs last untaken merged consistent merge =
     consistent_logs_are_runs_lemma script logs last untaken (map turn_of merged) consistent
-    (merges_are_merges_lemma script logs (logs_of script logs) merged
-    (logs_may_merge_lemma script logs consistent.rise).are merge)
+    (merges_are_merges_lemma script logs (logs_of script logs) merged (are-logs script logs) merge)

@@ -16,15 +16,18 @@ use Rattle.log_laws.proofs.Lists.{log-of-own, log-of-other}
 
 -- ---- what holds of all items, in another order
 
-to-all : {X : Type 0} (P : X → Type 0) (xs : List X) → AllByRecursion P xs → All P xs
+-- std's two words for it
+
+pub to-all : {X : Type 0} (P : X → Type 0) (xs : List X) → AllByRecursion P xs → All P xs
 to-all P [] h = All-nil P
 to-all P (x ∷ xs) h = All-cons P x xs h.0 (to-all P xs h.1)
 
-from-all : {X : Type 0} (P : X → Type 0) (xs : List X) → All P xs → AllByRecursion P xs
+pub from-all : {X : Type 0} (P : X → Type 0) (xs : List X) → All P xs → AllByRecursion P xs
 from-all P [] h = tt
 from-all P (x ∷ xs) h = (All-head P x xs h, from-all P xs (All-tail P x xs h))
 
-all-moved : {X : Type 0} (P : X → Type 0) (xs ys : List X) → IsPermutation xs ys → AllByRecursion P xs
+-- what holds of all of a list holds of all of a permutation of it
+pub all-moved : {X : Type 0} (P : X → Type 0) (xs ys : List X) → IsPermutation xs ys → AllByRecursion P xs
     → AllByRecursion P ys
 all-moved P xs ys moved h = from-all P ys (All-permutation P xs ys moved (to-all P xs h))
 

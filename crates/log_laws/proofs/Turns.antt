@@ -1,18 +1,17 @@
 -- The first turn that is left of a merge is an enabled event, and has the machine's step.
-use Rattle.std.proofs.Common.{◌≡◌, ◌≢◌, ◌⊎◌, ℕ, ◌<◌, ◌≤◌, Bool, true, false, ◌||◌, ◌&&◌, List, [], ◌∷◌, ◌++◌, map, nat_eq, nat_lt, if◌then◌else◌, Option, Some, None, refl, ap, sym, subst, ◌∙◌, inl, inr, arith}
+use Rattle.std.proofs.Common.{◌≡◌, ◌≢◌, ℕ, ◌<◌, ◌≤◌, Bool, true, false, ◌||◌, ◌&&◌, List, [], ◌∷◌, ◌++◌, map, nat_eq, if◌then◌else◌, Option, Some, None, refl, ap, sym, subst, ◌∙◌, inl, inr, arith}
 use Rattle.std.specs.List.{AllByRecursion}
 use Rattle.std.proofs.lemmas.Bool.{cases_eq, eq-eqb, ne_eqb, lt-ltb}
 use Rattle.pico_base.specs.declared.script.Script.{Script}
-use Rattle.pico_base.specs.declared.script.Event.TheVariants as events
 use Rattle.rpc_frame.specs.declared.frame.Frame.{Frame}
 use Rattle.world_model.specs.Node.{Node, can_run, is_born}
 use Rattle.world_model.specs.Starting.{run}
 use Rattle.world_model.specs.Turn.{take_frame}
 use Rattle.world_model.specs.World.{World, node_at, stream, with_stream, node_count, world_after, after_turn, runs_at, takes_at, step, is_enabled, is_run_enabled, is_take_enabled, is_number, is_checkpoint}
-use Rattle.world_laws.proofs.Streams.{Square, square-with, stream-same, stream-other}
+use Rattle.world_laws.proofs.Streams.{square-with, stream-same, stream-other}
 use Rattle.log_laws.specs.Logs.{IsNode, StampedFrame, frame_of, Input, Runs, Takes, Logged, Log, LeadsTo, Makes, turn_on, takes_of, taken_in, taken_if, sent_in, IsTakenLater, GoesBetween}
 use Rattle.log_laws.specs.Merge.{NodeTurn, IsBefore, log_of, event_at, event_of}
-use Rattle.log_laws.proofs.Lists.{log-of-own, log-of-other, all-of-log, high-sent}
+use Rattle.log_laws.proofs.Lists.{log-of-own, log-of-other, all-of-log, not-below, stamps-of-sent}
 use Rattle.log_laws.proofs.Halfway.{Nodes, OnWay, Ends, IsHalfway, IsTaken, nodes_after, on_way_after, halfway-after}
 
 -- the turn is an enabled event with a step, and the rest of the merge is left
@@ -105,21 +104,17 @@ module _ (script : Script) (ends : Ends) (w : World) (now : Nodes) (on_way : OnW
 
   -- ---- a turn that takes a frame
 
-  not-below : (u : NodeTurn) → IsBefore t u → t.turn.stamp ≤ u.turn.stamp
-  not-below u (inl l) = omega arith
-  not-below u (inr e) = let same : t.turn.stamp ≡ u.turn.stamp = e.0 in omega arith
-
   none-below : (us : List NodeTurn) → AllByRecursion (IsBefore t) us
       → AllByRecursion (λ (u : NodeTurn). t.turn.stamp ≤ u.turn.stamp) us
   none-below [] h = tt
-  none-below (u ∷ us) h = (not-below u h.0, none-below us h.1)
+  none-below (u ∷ us) h = (not-below t u h.0, none-below us h.1)
 
   -- what is still to be sent has high stamps
   still-high : (p q : ℕ)
       → AllByRecursion (λ (f : StampedFrame). t.turn.stamp ≤ f.stamp) (sent_in p (log_of q (t ∷ turns)))
   still-high p q =
       let same : t.turn.stamp ≤ t.turn.stamp = omega arith
-      in high-sent t.turn.stamp p (log_of q (t ∷ turns))
+      in stamps-of-sent (λ stamp. t.turn.stamp ≤ stamp) p (log_of q (t ∷ turns))
       (all-of-log (λ (l : Logged). t.turn.stamp ≤ l.stamp) q (t ∷ turns) (same, none-below turns half.in_order.0))
 
   first-high : (f : StampedFrame) (fs sent : List StampedFrame) → f ∷ fs ≡ sent

@@ -1,5 +1,5 @@
 -- From the opening world a merge of consistent logs is a run, turn by turn.
-use Rattle.std.proofs.Common.{◌≡◌, ℕ, zero, suc, ◌+◌, ◌-◌, ◌<◌, ◌≤◌, List, [], ◌∷◌, ◌++◌, length, map, replicate, get_or, slice_get, Some, refl, ap, sym, subst, ◌∙◌, inl, inr, arith, append_assoc, append-nil}
+use Rattle.std.proofs.Common.{◌≡◌, ℕ, zero, suc, ◌+◌, ◌-◌, ◌<◌, List, [], ◌∷◌, ◌++◌, length, map, replicate, get_or, slice_get, Some, refl, ap, sym, subst, ◌∙◌, inl, inr, arith, append_assoc, append-nil}
 use Rattle.std.specs.List.{AllByRecursion}
 use Rattle.std.proofs.lemmas.Bool.{cases_eq}
 use Rattle.std.proofs.lemmas.List.{length-replicate, get_or-replicate}
@@ -9,9 +9,10 @@ use Rattle.rpc_frame.specs.declared.frame.Frame.{Frame}
 use Rattle.world_model.specs.Node.{Node, opening_node}
 use Rattle.world_model.specs.World.{World, node_at, stream, node_count, numbers, opening_world}
 use Rattle.world_model.specs.Run.{Runs}
+use Rattle.world_laws.proofs.Streams.{Square}
 use Rattle.log_laws.specs.Logs.{IsNode, StampedFrame, frame_of, Logged, Log, GoesBetween, LeadsTo, sent_in, taken_in, AreConsistent}
-use Rattle.log_laws.specs.Merge.{NodeTurn, IsMerge, turn_if, log_of, events_of, entries_of}
-use Rattle.log_laws.specs.Laws.{IsRunOfTurns, ConsistentLogsAreRuns}
+use Rattle.log_laws.specs.Merge.{NodeTurn, IsMerge, log_of, events_of, entries_of}
+use Rattle.log_laws.specs.Laws.{ConsistentLogsAreRuns}
 use Rattle.log_laws.proofs.Lists.{log-of-own, log-of-other}
 use Rattle.log_laws.proofs.Halfway.{Nodes, OnWay, Ends, IsHalfway}
 use Rattle.log_laws.proofs.Turns.{Advances, advances}
@@ -53,7 +54,8 @@ arrives script ends (t ∷ turns) w now on_way half =
 
 -- ---- the opening world
 
-length-nodes : (first count : ℕ) → length (map opening_node (numbers first count)) ≡ count
+-- as many as were asked for
+pub length-nodes : (first count : ℕ) → length (map opening_node (numbers first count)) ≡ count
 length-nodes first zero = refl
 length-nodes first (suc count) = ap suc (length-nodes (first + 1) count)
 
@@ -96,7 +98,7 @@ all-behind P t turns p h =
     ]
 
 -- what holds of each node's log holds of each turn of the merge
-all-from-logs : (P : Logged → Type 0) (script : Script) (turns : List NodeTurn)
+pub all-from-logs : (P : Logged → Type 0) (script : Script) (turns : List NodeTurn)
     → AllByRecursion (λ t. IsNode script t.node) turns
     → ((p : ℕ) → IsNode script p → AllByRecursion P (log_of p turns)) → AllByRecursion (λ t. P t.turn) turns
 all-from-logs P script [] nodes h = tt
@@ -105,6 +107,16 @@ all-from-logs P script (t ∷ turns) nodes h =
     subst (λ (l : Log). AllByRecursion P l) (log-of-own t turns t.node refl) (h t.node nodes.0)
     in (own.0, all-from-logs P script turns nodes.1 (λ p is. all-behind P t turns p (h p is)))
 
+-- there is a stream for each pair
+pub opening-square : (script : Script) → Square (node_count script) (opening_world script).streams
+opening-square script =
+    let n = node_count script
+    in let row : List (List Frame) = replicate n []
+    in record {
+      rows = length-replicate n row;
+      row = λ i l. ap length (get_or-replicate n i row [] l) ∙ length-replicate n [];
+    }
+
 opening-halfway : (script : Script) (logs : ℕ → Log) (last : ℕ → Node) (untaken : ℕ → ℕ → List StampedFrame)
     (turns : List NodeTurn) → AreConsistent script logs last untaken → IsMerge script logs turns
     → IsHalfway script (record { last = last; untaken = untaken }) (opening_world script) opening_node (λ p q. []) turns
@@ -112,12 +124,7 @@ opening-halfway script logs last untaken turns consistent merge =
     record {
       of_script = refl;
       count = length-nodes 1 (node_count script);
-      square = record {
-        rows = length-replicate (node_count script) (replicate (node_count script) []);
-        row = λ i l.
-            ap length (get_or-replicate (node_count script) i (replicate (node_count script) []) [] l)
-            ∙ length-replicate (node_count script) [];
-      };
+      square = opening-square script;
       node = opening-node-at script;
       leads = λ p is.
           subst (λ (l : Log). LeadsTo script (opening_node p) l (last p)) (sym (merge.each p is))

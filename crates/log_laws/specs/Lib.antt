@@ -3,3 +3,5 @@ pub mod Merge
 pub mod Journal
 pub mod Laws
 pub mod Merged
+pub mod EventLogs
+pub mod Drawn

@@ -2,6 +2,8 @@
 //! call runs here.
 #![tactic(auto)]
 
+ghost use Rattle.log_laws.specs.Drawn.{StampsAreFew};
+ghost use Rattle.log_laws.specs.EventLogs.{EventLogsMayMerge, EventsMergeAsTurns};
 ghost use Rattle.log_laws.specs.Laws.{ConsistentLogsAreRuns, OneJournal};
 ghost use Rattle.log_laws.specs.Merged.{MergesAreMerges, LogsMayMerge, MergedLogsAreRuns};
 
@@ -32,4 +34,21 @@ pub fn logs_may_merge()
 /// So `stamp_merge`'s merge of the logs of a script's nodes is one run of the machine, where the logs are consistent.
 pub fn merged_logs_are_runs()
     ensures { MergedLogsAreRuns }
+{}
+
+/// The logs of events that a script's nodes keep are what `stamp_merge` asks for where the stamps of each rise.
+pub fn event_logs_may_merge()
+    ensures { EventLogsMayMerge }
+{}
+
+/// `stamp_merge`'s merge of the nodes' events is that of the nodes' turns: each event is that of a turn, under the stamp
+/// and the node of it, and these turns in their order are the merge of the logs.
+pub fn events_merge_as_turns()
+    ensures { EventsMergeAsTurns }
+{}
+
+/// Where each stamp is the next one to 0 or to that of some turn, the turn at place i of a merge, from 1, has a stamp of
+/// at most i, and so no stamp is above the number of turns.
+pub fn stamps_are_few()
+    ensures { StampsAreFew }
 {}
