@@ -25,14 +25,5 @@ impl Model for JSeat {
     ghost invariant = { IsIdle };
 }
 
-impl JSeat {
-    /// Its number at its lock, from 1.
-    pub fn number(&self) -> u32
-        ensures { result ≡ self.now.number }
-    {
-        self.number
-    }
-}
-
 /// The seats of a lock, by number.
 pub type Seats = Sequence<JSeat>;

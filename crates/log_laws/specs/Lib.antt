@@ -5,3 +5,4 @@ pub mod Laws
 pub mod Merged
 pub mod EventLogs
 pub mod Drawn
+pub mod Follows

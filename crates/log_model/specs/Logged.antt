@@ -4,7 +4,6 @@ use Rattle.std.specs.Prelude.{◌≡◌, ◌⊎◌, ℕ, ◌+◌, ◌-◌, ◌^�
 use Rattle.std.specs.List.{flat_map, filter, AllByRecursion}
 use Rattle.pico_base.specs.declared.script.Script.{Script}
 use Rattle.rpc_frame.specs.declared.frame.Frame.{Frame}
-use Rattle.stamp_merge.specs.declared.Stamped as merged
 use Rattle.stream_pair.specs.declared.piece.Piece.{Piece}
 use Rattle.frame_bytes.specs.declared.fault.FrameFault.{FrameFault}
 use Rattle.frame_bytes.specs.Frames.{IsFrame}
@@ -15,13 +14,14 @@ use Rattle.journal_core.specs.Seated.{Seated}
 use Rattle.world_model.specs.Node.{Node, opening_node, can_run}
 use Rattle.world_model.specs.World.{numbers, node_count}
 use Rattle.log_laws.specs.Logs.{StampedFrame, stamped, Input, Runs, Takes, Logged, Log, LeadsTo, StampsRise, IsTakenLater, GoesBetween, sent_in, taken_in}
+use Rattle.log_laws.specs.EventLogs.{event_log}
 use Rattle.frame_pieces.specs.Pieces.{pieces_of, Took}
 use Rattle.log_model.specs.declared.answer.LogFault.{LogFault}
 use Rattle.log_model.specs.declared.answer.LogFault.TheVariants as faults
 use Rattle.log_model.specs.Views.{Line, LoggedNode}
 use Rattle.log_model.specs.Forkers.{forker_of}
 use Rattle.log_model.specs.Looks.{IsRefused}
-use Rattle.log_model.specs.Turns.{may_take, rule_of, event_item}
+use Rattle.log_model.specs.Turns.{may_take, rule_of}
 
 -- ---- which streams it has
 
@@ -156,7 +156,7 @@ pub record IsLogged (script : Script) (l : LoggedNode) : Type 0 where
   pub rise : StampsRise turns
   pub clock : AllByRecursion (λ turn. turn.stamp ≤ l.clock) turns
   pub clock_is : (l.clock ≡ 0) ⊎ ((turn : Logged) × Contains turns turn × (turn.stamp ≡ l.clock))
-  pub log : l.log ≡ map (λ turn. event_item l.number turn.stamp turn.input) turns
+  pub log : l.log ≡ event_log l.number turns
   pub own : l.seat.own ≡ flat_map (entries_under l.seat.number) turns
   pub seat : l.seat.number ≡ l.number
   pub between : AllByRecursion (GoesBetween script) turns

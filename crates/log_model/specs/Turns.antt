@@ -3,17 +3,15 @@ use Rattle.std.specs.Prelude.{◌≡◌, ◌⊎◌, ℕ, ◌+◌, ◌-◌, ◌^�
 use Rattle.std.specs.List.{list_all}
 use Rattle.std.specs.Option.{option_and_then}
 use Rattle.pico_base.specs.declared.script.Script.{Script}
-use Rattle.pico_base.specs.declared.script.Event.{Event}
 use Rattle.pico_base.specs.declared.reply.Entry.{Entry}
 use Rattle.rpc_frame.specs.declared.frame.Frame.{Frame}
-use Rattle.stamp_merge.specs.declared.Stamped.{Stamped}
 use Rattle.frame_bytes.specs.LimitTests.{is_frame}
 use Rattle.journal_core.specs.declared.fault.AppendFault.TheVariants as append_faults
 use Rattle.journal_core.specs.Seated.{Seated, IsStamp, Appends, Refuses}
 use Rattle.world_model.specs.Node.{Node, is_born, can_run}
 use Rattle.world_model.specs.Step.{Step}
 use Rattle.log_laws.specs.Logs.{StampedFrame, Input, Runs, Takes, Logged, turn_on, sent_to, stamped}
-use Rattle.log_laws.specs.Merge.{event_at}
+use Rattle.log_laws.specs.EventLogs.{event_item_of}
 use Rattle.frame_pieces.specs.Pieces.{pieces_of}
 use Rattle.log_model.specs.declared.answer.LogFault.{LogFault}
 use Rattle.log_model.specs.declared.answer.LogFault.TheVariants as faults
@@ -72,9 +70,9 @@ HasNoStamp floor (e ∷ es) old new last = Refuses floor old new (append_faults.
 
 -- ---- what it leaves
 
--- the turn's event under its stamp, as an item of the node's log
-abbrev pub event_item : ℕ → ℕ → Input → Stamped Event
-event_item number stamp input = record { stamp = stamp; node = number; item = event_at number input }
+-- the turn, as the node's log has it
+abbrev pub turn_with : ℕ → Input → Step → Logged
+turn_with stamp input step = record { stamp = stamp; input = input; step = step }
 
 -- the line with the pieces of the frames that the turn sends there, one frame after the other
 abbrev pub with_sent : ℕ → List (ℕ × Frame) → Line → Line
@@ -104,7 +102,7 @@ pub record DoesEvent (script : Script) (old : LoggedNode) (n : Node) (found : Fo
     node = Some step.node;
     forker = new.forker;
     clock = stamp;
-    log = old.log ++ event_item old.number stamp input ∷ [];
+    log = old.log ++ event_item_of old.number (turn_with stamp input step) ∷ [];
     lines = map (with_sent stamp step.sends) lines;
     seat = new.seat;
     quiet = 0;
