@@ -210,7 +210,8 @@ own-all p stamp (e ∷ es) =
     own-entry (journal_entry p stamp e) (map (journal_entry p stamp) es) p refl
     ∙ ap (λ (xs : List JournalEntry). journal_entry p stamp e ∷ xs) (own-all p stamp es)
 
-pub others-none : (node p stamp : ℕ) (es : List Entry) → node ≢ p → entries_by p (map (journal_entry node stamp) es) ≡ []
+pub others-none : (node p stamp : ℕ) (es : List Entry) → node ≢ p
+    → entries_by p (map (journal_entry node stamp) es) ≡ []
 others-none node p stamp [] h = refl
 others-none node p stamp (e ∷ es) h =
     others-entry (journal_entry node stamp e) (map (journal_entry node stamp) es) p h ∙ others-none node p stamp es h

@@ -7,3 +7,9 @@ pub mod Merged
 pub mod MayMerge
 pub mod EventLogs
 pub mod Drawn
+pub mod RunEnds
+pub mod Shapes
+pub mod OneMore
+pub mod EventTurns
+pub mod Follows
+pub mod JournalsFollow

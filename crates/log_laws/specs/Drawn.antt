@@ -31,8 +31,8 @@ abbrev pub AreAtMostPlaces : ℕ → List NodeTurn → Type 0
 AreAtMostPlaces place [] = Unit {0}
 AreAtMostPlaces place (t ∷ turns) = (t.turn.stamp ≤ place) × AreAtMostPlaces (place + 1) turns
 
--- In the merge the stamp of the turn at place i, from 1, is at most i; so no stamp is above the number of turns, neither
--- in the merge nor in a node's log.
+-- In the merge the stamp of the turn at place i, from 1, is at most i; so no stamp is above the number of turns,
+-- neither in the merge nor in a node's log.
 pub record HasFewStamps (script : Script) (logs : ℕ → Log) (turns : List NodeTurn) : Type 0 where
   pub places : AreAtMostPlaces 1 turns
   pub merged : AllByRecursion (λ t. t.turn.stamp ≤ length turns) turns

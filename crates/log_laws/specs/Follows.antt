@@ -1,21 +1,18 @@
 -- What nodes did, as logs that lead to a world, and one event more of that world: it is one turn more at the end of its
 -- node's log. So events that come when all logs are there may be logged behind them.
-use Rattle.std.specs.Prelude.{◌≡◌, ℕ, ◌+◌, ◌<◌, nat_eq, if◌then◌else◌, true, List, [], ◌∷◌, ◌++◌, map, Option, Some, None}
+use Rattle.std.specs.Prelude.{◌≡◌, ℕ, ◌+◌, ◌<◌, nat_eq, if◌then◌else◌, true, List, [], ◌∷◌, ◌++◌, map, Some}
 use Rattle.std.specs.List.{AllByRecursion}
 use Rattle.pico_base.specs.declared.script.Script.{Script}
 use Rattle.pico_base.specs.declared.script.Event.{Event}
-use Rattle.pico_base.specs.declared.script.Event.TheVariants as events
 use Rattle.rpc_frame.specs.declared.frame.Frame.{Frame}
 use Rattle.world_model.specs.Node.{Node}
-use Rattle.world_model.specs.Step.{Step}
-use Rattle.world_model.specs.Starting.{run}
-use Rattle.world_model.specs.Turn.{take_frame}
 use Rattle.world_model.specs.World.{World, node_at, stream, step, is_enabled}
 use Rattle.world_model.specs.Run.{IsRunOf}
 use Rattle.world_model.specs.Schedule.{node_of}
-use Rattle.log_laws.specs.Logs.{IsNode, StampedFrame, frame_of, Log, AreConsistent}
+use Rattle.log_laws.specs.Logs.{IsNode, StampedFrame, frame_of, Input, Runs, Takes, Log, turn_on, AreConsistent}
 use Rattle.log_laws.specs.Merge.{NodeTurn, IsMerge, event_of, events_of, entries_of}
 use Rattle.log_laws.specs.Journal.{JournalEntry, entered, IsJournalOf}
+use Rattle.log_laws.specs.EventLogs.{event_item}
 
 -- ---- logs that lead to a world
 
@@ -38,27 +35,32 @@ LogsLeadThere =
     (w : World) → AreConsistent script logs last untaken → IsMerge script logs turns
     → IsRunOf script (events_of turns) w → IsRunOfLogs script logs turns w
 
--- ---- an event of that world
+-- ---- a turn of that world
 
--- what the event's node does, if it has a rule
+-- the frame stands first in the stream to a node from another
+pub record StandsFirst (script : Script) (w : World) (p from : ℕ) (frame : Frame) : Type 0 where
+  pub sender : IsNode script from
+  pub rest : List Frame
+  pub first : stream w p from ≡ frame ∷ rest
 
-abbrev pub run_in : World → Option Node → Option Step
-run_in w None = None
-run_in w (Some n) = run w.script n
+-- what a turn takes in is there: nothing is needed where the node's process starts a call
+abbrev pub IsThere : Script → World → ℕ → Input → Type 0
+IsThere script w p Runs = Unit {0}
+IsThere script w p (Takes from taken) = StandsFirst script w p from taken.frame
 
-abbrev pub take_in : World → ℕ → Option Node → List Frame → Option Step
-take_in w from None frames_there = None
-take_in w from (Some n) [] = None
-take_in w from (Some n) (frame ∷ frames_left) = take_frame w.script n from frame
-
-abbrev pub turn_in : World → Event → Option Step
-turn_in w (events.Run p) = run_in w (node_at w p)
-turn_in w (events.Take p from) = take_in w from (node_at w p) (stream w p from)
+-- the event as a turn: the machine's turn on the node as it stands in the world
+pub record IsTurnOf (script : Script) (w : World) (e : Event) (t : NodeTurn) : Type 0 where
+  pub event : event_of t ≡ e
+  pub is_node : IsNode script t.node
+  pub node : Node
+  pub here : node_at w t.node ≡ Some node
+  pub there : IsThere script w t.node t.turn.input
+  pub turns : turn_on script node t.turn.input ≡ Some t.turn.step
 
 -- the frames that it sends go to nodes of the script
 abbrev pub SendsToNodes : Script → World → Event → Type 0
 SendsToNodes script w e =
-    (made : Step) → turn_in w e ≡ Some made → AllByRecursion (λ s. IsNode script s.0) made.sends
+    (t : NodeTurn) → IsTurnOf script w e t → AllByRecursion (λ s. IsNode script s.0) t.turn.step.sends
 
 -- ---- one turn more
 
@@ -75,11 +77,10 @@ AreBelow stamp turns = AllByRecursion (λ t. t.turn.stamp < stamp) turns
 pub record TurnFollows (script : Script) (logs : ℕ → Log) (turns : List NodeTurn) (w : World) (e : Event)
     (next : World) (stamp : ℕ) : Type 0 where
   pub turn : NodeTurn
+  pub made : IsTurnOf script w e turn
+  pub item : event_item turn ≡ record { stamp = stamp; node = node_of e; item = e }
   pub stamped : turn.turn.stamp ≡ stamp
-  pub event : event_of turn ≡ e
   pub node : turn.node ≡ node_of e
-  pub is_node : IsNode script turn.node
-  pub made : turn_in w e ≡ Some turn.turn.step
   pub entries : next.journal ≡ w.journal ++ turn.turn.step.entries
   pub below : AreBelow (stamp + 1) (turns ++ turn ∷ [])
   pub run : IsRunOfLogs script (logs_after logs turn) (turns ++ turn ∷ []) next

@@ -4,6 +4,7 @@
 
 ghost use Rattle.log_laws.specs.Drawn.{StampsAreFew};
 ghost use Rattle.log_laws.specs.EventLogs.{EventLogsMayMerge, EventsMergeAsTurns};
+ghost use Rattle.log_laws.specs.Follows.{EventsFollow, JournalsFollow, LogsLeadThere};
 ghost use Rattle.log_laws.specs.Laws.{ConsistentLogsAreRuns, OneJournal};
 ghost use Rattle.log_laws.specs.Merged.{MergesAreMerges, LogsMayMerge, MergedLogsAreRuns};
 
@@ -51,4 +52,22 @@ pub fn events_merge_as_turns()
 /// at most i, and so no stamp is above the number of turns.
 pub fn stamps_are_few()
     ensures { StampsAreFew }
+{}
+
+/// Where the events of a merge of consistent logs lead to a world, its nodes, what is on its way there, and its journal
+/// are what the logs say.
+pub fn logs_lead_there()
+    ensures { LogsLeadThere }
+{}
+
+/// An event that is enabled in that world, under a stamp above all others, is one turn more behind its node's log: the
+/// logs are consistent again, their merge has it as its last turn, and they lead to the world behind the event. Each
+/// frame that is sent there goes to a node of the script.
+pub fn events_follow()
+    ensures { EventsFollow }
+{}
+
+/// The entries of such a turn, under its stamp and its node, stand behind all others in the journal of the logs.
+pub fn journals_follow()
+    ensures { JournalsFollow }
 {}
