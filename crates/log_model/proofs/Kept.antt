@@ -17,7 +17,7 @@ use Rattle.log_model.proofs.Draws.{drawn-with-turns}
 
 -- ---- lines with the same nodes
 
-from-same : (olds news : List Line) (input : Input) → others_in olds ≡ others_in news → IsFromOther olds input
+pub from-same : (olds news : List Line) (input : Input) → others_in olds ≡ others_in news → IsFromOther olds input
     → IsFromOther news input
 from-same olds news Runs same from = tt
 from-same olds news (Takes sender taken) same from = subst (λ (ps : List ℕ). Contains ps sender) same from

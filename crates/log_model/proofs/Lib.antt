@@ -8,3 +8,6 @@ pub mod Stamps
 pub mod Draws
 pub mod Came
 pub mod Kept
+pub mod Ended
+pub mod Did
+pub mod Whole
