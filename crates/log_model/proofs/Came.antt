@@ -1,16 +1,15 @@
 -- What came in when a node looked at its lines: what is known of an input, and of the lines with it.
-use Rattle.std.proofs.Common.{◌≡◌, ℕ, Bool, true, false, if◌then◌else◌, List, Option, Some, None, refl, ap, sym, subst, ◌∙◌, inl, inr}
+use Rattle.std.proofs.Common.{◌≡◌, ℕ, Bool, true, if◌then◌else◌, List, Option, Some, None, refl, ap, sym, subst, ◌∙◌, inl, inr}
 use Rattle.std.specs.List.{AllByRecursion}
 use Rattle.std.proofs.lemmas.Bool.{cases_Bool}
 use Rattle.pico_base.specs.declared.script.Script.{Script}
-use Rattle.rpc_frame.specs.declared.frame.Frame.{Frame}
 use Rattle.stamp_merge.proofs.Filters.{all-map}
 use Rattle.world_model.specs.Node.{Node, can_run}
 use Rattle.log_laws.specs.Logs.{StampedFrame, stamped, Input, Runs, Takes, Log}
 use Rattle.log_model.specs.declared.found.Found.{Found}
 use Rattle.log_model.specs.declared.found.Found.TheVariants.{Nothing, Part, Whole, Refused}
 use Rattle.log_model.specs.Views.{Line}
-use Rattle.log_model.specs.Looks.{ends_looks, Looks}
+use Rattle.log_model.specs.Looks.{Looks}
 use Rattle.log_model.specs.Turns.{may_take, input_of}
 use Rattle.log_model.specs.Logged.{others_in, IsLineOf, IsWholeLine, WasThere, IsFromOther}
 use Rattle.log_model.proofs.Lists.{AreApart}

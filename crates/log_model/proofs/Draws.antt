@@ -1,13 +1,12 @@
 -- Where the stamp of a turn comes from.
-use Rattle.std.proofs.Common.{◌≡◌, ◌⊎◌, ℕ, ◌+◌, ◌<◌, ◌≤◌, List, ◌++◌, max, refl, sym, subst, inl, inr, arith}
+use Rattle.std.proofs.Common.{◌≡◌, ◌⊎◌, ℕ, ◌≤◌, List, ◌++◌, max, refl, sym, subst, inl, inr, arith}
 use Rattle.std.specs.List.{AllByRecursion, Contains}
 use Rattle.std.proofs.lemmas.Bool.{cases_lt}
 use Rattle.std.proofs.lemmas.List.Elements.{Contains-append_left}
-use Rattle.pico_base.specs.declared.script.Script.{Script}
 use Rattle.journal_core.specs.declared.stamped.Stamped.{Stamped}
 use Rattle.journal_core.specs.Journal.{BeginsWith}
 use Rattle.stamp_merge.proofs.Filters.{all-map}
-use Rattle.log_laws.specs.Logs.{StampedFrame, Input, Runs, Takes, Logged, Log}
+use Rattle.log_laws.specs.Logs.{Input, Runs, Takes, Logged, Log}
 use Rattle.log_model.specs.Turns.{floor_of}
 use Rattle.log_model.specs.Logged.{IsFloor, FromNothing, FromTurn, FromFrame, FromEntry, IsDrawn}
 use Rattle.log_model.proofs.Stamps.{IsStampSeen, IsLarger, IsFloorItself, IsLargerOf}

@@ -1,18 +1,15 @@
 -- A turn that makes no event: the same turns are all of the node's, and why it makes none any more is said.
-use Rattle.std.proofs.Common.{◌≡◌, ℕ, true, false, List, Option, Some, None, refl, sym, subst, inl, inr}
+use Rattle.std.proofs.Common.{◌≡◌, ℕ, false, List, Some, None, sym, subst, inl, inr}
 use Rattle.std.specs.List.{AllByRecursion}
 use Rattle.pico_base.specs.declared.script.Script.{Script}
 use Rattle.stamp_merge.proofs.Filters.{all-map}
-use Rattle.journal_core.specs.Seated.{Seated}
 use Rattle.log_laws.specs.Logs.{Input}
-use Rattle.log_model.specs.declared.answer.LogFault.{LogFault}
 use Rattle.log_model.specs.declared.answer.LogFault.TheVariants as faults
 use Rattle.log_model.specs.declared.found.Found.{Found}
-use Rattle.log_model.specs.declared.found.Found.TheVariants as founds
 use Rattle.log_model.specs.Views.{Line, LoggedNode}
 use Rattle.log_model.specs.Looks.{ends_looks, Looks}
 use Rattle.log_model.specs.Turns.{may_take, input_of, floor_of, after_looks, with_fault, HasNoRule, EndsBadly, EndsFull}
-use Rattle.log_model.specs.Logged.{others_in, IsOfScript, IsWholeLine, HadNoStamp, HadNoRule, Stands, IsLogged}
+use Rattle.log_model.specs.Logged.{others_in, IsOfScript, IsWholeLine, Stands, IsLogged}
 use Rattle.log_model.proofs.Lists.{AreApart}
 use Rattle.log_model.proofs.Others.{others-apart}
 use Rattle.log_model.proofs.Lines.{whole-line-of}
@@ -20,7 +17,7 @@ use Rattle.log_model.proofs.Looks.{whole-after-looks, HasRefused, refused-after-
 use Rattle.log_model.proofs.Came.{HasCome, came}
 use Rattle.log_model.proofs.Stamps.{IsOutOfStamps, out-of-stamps}
 use Rattle.log_model.proofs.Draws.{drawn-floor}
-use Rattle.log_model.proofs.Kept.{left-as, IsSeatStill, same-seat, with-same-turns}
+use Rattle.log_model.proofs.Kept.{IsSeatStill, same-seat, with-same-turns}
 
 -- A node that goes on where it stands has looked at its lines.
 pub record HasLooked (script : Script) (old : LoggedNode) (was : IsLogged script old) (found : Found)
@@ -40,7 +37,6 @@ input-came script old was found lines input looked is =
 
 module _ (script : Script) (old new : LoggedNode) (was : IsLogged script old) (found : Found) (lines : List Line)
     (looked : HasLooked script old was found lines) (of : IsOfScript script new) where
-
   -- ---- nothing came of the looks
 
   pub kept-quiet : (quiet : ℕ) → ends_looks found ≡ false → new ≡ after_looks old lines quiet new.forker

@@ -1,15 +1,12 @@
 -- A node's log with its turns, before a turn and after it.
-use Rattle.std.proofs.Common.{◌≡◌, ◌⊎◌, ℕ, ◌+◌, ◌<◌, ◌≤◌, true, false, List, [], ◌∷◌, ◌++◌, Option, Some, None, refl, ap, sym, subst, ◌∙◌, inl, inr, append-nil, arith}
+use Rattle.std.proofs.Common.{◌≡◌, ℕ, List, [], Option, refl, ap, sym, subst, ◌∙◌, append-nil}
 use Rattle.std.specs.List.{AllByRecursion, Contains, flat_map}
-use Rattle.std.proofs.lemmas.List.Elements.{Contains-push}
 use Rattle.pico_base.specs.declared.script.Script.{Script}
 use Rattle.stamp_merge.proofs.Filters.{all-map}
-use Rattle.journal_core.specs.declared.stamped.Stamped.{Stamped}
 use Rattle.journal_core.specs.Journal.{BeginsWith}
 use Rattle.journal_core.specs.Seated.{Seated}
-use Rattle.world_model.specs.Node.{Node, opening_node}
-use Rattle.log_laws.specs.Logs.{StampedFrame, Input, Runs, Takes, Logged, Log, LeadsTo}
-use Rattle.log_laws.specs.EventLogs.{event_log}
+use Rattle.world_model.specs.Node.{Node}
+use Rattle.log_laws.specs.Logs.{Input, Runs, Takes, Logged, Log}
 use Rattle.log_model.specs.declared.answer.LogFault.{LogFault}
 use Rattle.log_model.specs.Views.{Line, LoggedNode}
 use Rattle.log_model.specs.Logged.{others_in, IsOfScript, IsLineOf, IsFromOther, IsDrawn, GoesToOthers, entries_under, Stands, IsLogged}
@@ -38,8 +35,8 @@ all-go-same olds news same turns all = all-map (λ turn goes. goes-same olds new
 
 -- the node with its number, its clock and its log
 abbrev pub left-as : LoggedNode → Option Node → Option ℕ → List Line → Seated → ℕ → Option LogFault → LoggedNode
-left-as old node forker lines seat quiet fault =
-    record old { node = node; forker = forker; lines = lines; seat = seat; quiet = quiet; fault = fault }
+left-as old machine forker lines seat quiet fault =
+    record old { node = machine; forker = forker; lines = lines; seat = seat; quiet = quiet; fault = fault }
 
 -- the seat has appended nothing, and has seen the journal that it saw before, or a longer one
 pub record IsSeatStill (old new : Seated) : Type 0 where
@@ -51,13 +48,13 @@ pub same-seat : (old : Seated) → IsSeatStill old old
 same-seat old = record { number = refl; own = refl; seen = ([], sym (append-nil old.seen)) }
 
 -- the same turns are all of its turns
-pub with-same-turns : (script : Script) (old : LoggedNode) (node : Option Node) (forker : Option ℕ) (lines : List Line)
+pub with-same-turns : (script : Script) (old : LoggedNode) (machine : Option Node) (forker : Option ℕ) (lines : List Line)
     (seat : Seated) (quiet : ℕ) (fault : Option LogFault) (was : IsLogged script old) → IsSeatStill old.seat seat
-    → IsOfScript script (left-as old node forker lines seat quiet fault)
+    → IsOfScript script (left-as old machine forker lines seat quiet fault)
     → AllByRecursion (IsLineOf was.turns) lines
-    → Stands script (left-as old node forker lines seat quiet fault) was.turns was.last fault
-    → IsLogged script (left-as old node forker lines seat quiet fault)
-with-same-turns script old node forker lines seat quiet fault was still of all stands =
+    → Stands script (left-as old machine forker lines seat quiet fault) was.turns was.last fault
+    → IsLogged script (left-as old machine forker lines seat quiet fault)
+with-same-turns script old machine forker lines seat quiet fault was still of all stands =
     record {
       of_script = of;
       turns = was.turns;

@@ -1,15 +1,13 @@
 -- A line, and what a look at it leaves of what is known of it.
-use Rattle.std.proofs.Common.{◌≡◌, ◌≢◌, ℕ, Bool, true, false, nat_eq, List, [], ◌∷◌, ◌++◌, Result, Ok, Err, refl, ap, sym, subst, ◌∙◌, append-nil}
-use Rattle.std.specs.List.{AllByRecursion}
+use Rattle.std.proofs.Common.{◌≡◌, ◌≢◌, ℕ, List, [], ◌∷◌, ◌++◌, Result, Ok, ap, sym, subst, ◌∙◌, append-nil}
 use Rattle.std.proofs.lemmas.Bool.{eq-eqb, ne_eqb}
 use Rattle.rpc_frame.specs.declared.frame.Frame.{Frame}
 use Rattle.stream_pair.specs.declared.piece.Piece.{Piece}
 use Rattle.frame_bytes.specs.declared.fault.FrameFault.{FrameFault}
-use Rattle.frame_bytes.specs.Streams.{Left}
-use Rattle.log_laws.specs.Logs.{StampedFrame, stamped, Input, Runs, Takes, Log, sent_in, taken_if, takes_of, taken_in}
+use Rattle.log_laws.specs.Logs.{StampedFrame, stamped, Input, Takes, Log, sent_in, taken_if, takes_of, taken_in}
 use Rattle.frame_pieces.specs.Pieces.{pieces_of, Took, TookPart, TookFrame}
 use Rattle.log_model.specs.Views.{Line}
-use Rattle.log_model.specs.Looks.{after_nothing, after_piece, TakesPiece, TakesFrame}
+use Rattle.log_model.specs.Looks.{after_nothing, TakesPiece, TakesFrame}
 use Rattle.log_model.specs.Logged.{IsLineOf, IsWholeLine, IsBehind}
 
 -- ---- a frame of an input

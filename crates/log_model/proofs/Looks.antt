@@ -3,13 +3,12 @@ use Rattle.std.proofs.Common.{◌≡◌, ◌≢◌, ℕ, Bool, true, false, List
 use Rattle.std.specs.List.{AllByRecursion, Contains}
 use Rattle.std.proofs.lemmas.Bool.{both_ways}
 use Rattle.rpc_frame.specs.declared.frame.Frame.{Frame}
-use Rattle.frame_bytes.specs.Streams.{Feeds}
 use Rattle.stamp_merge.proofs.Filters.{all-map}
-use Rattle.log_laws.specs.Logs.{StampedFrame, stamped, Input, Takes, Log}
+use Rattle.log_laws.specs.Logs.{StampedFrame, stamped, Takes, Log}
 use Rattle.log_model.specs.declared.found.Found.{Found}
 use Rattle.log_model.specs.declared.found.Found.TheVariants.{Nothing, Part, Whole, Refused}
 use Rattle.log_model.specs.Views.{Line}
-use Rattle.log_model.specs.Looks.{TakesFrame, TakesNone, IsLook, ends_looks, both_found, LooksOn, Passed, Stopped, Went, Looks}
+use Rattle.log_model.specs.Looks.{TakesFrame, TakesNone, IsLook, ends_looks, both_found, Passed, Stopped, Went, Looks}
 use Rattle.log_model.specs.Logged.{others_in, IsLineOf, IsWholeLine, IsBehind, WouldTake, IsRefusedLine}
 use Rattle.log_model.proofs.Lists.{contains-first, contains-later, holds-of, AreApart}
 use Rattle.log_model.proofs.Lines.{IsLineWith, takes-none, with-nothing, whole-line-of, behind-line-of, whole-after-nothing, whole-after-part, with-frame, behind-piece}

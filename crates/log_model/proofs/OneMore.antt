@@ -3,10 +3,8 @@ use Rattle.std.proofs.Common.{◌≡◌, ℕ, ◌<◌, ◌≤◌, List, [], ◌�
 use Rattle.std.specs.List.{AllByRecursion, flat_map}
 use Rattle.std.proofs.lemmas.Grind.{flat_map-append}
 use Rattle.pico_base.specs.declared.script.Script.{Script}
-use Rattle.pico_base.specs.declared.script.Event.{Event}
 use Rattle.rpc_frame.specs.declared.frame.Frame.{Frame}
 use Rattle.stream_pair.specs.declared.piece.Piece.{Piece}
-use Rattle.stamp_merge.specs.declared.Stamped as merged
 use Rattle.stamp_merge.proofs.Filters.{all-map}
 use Rattle.journal_core.specs.declared.stamped.Stamped.{Stamped}
 use Rattle.world_model.specs.Node.{Node}
@@ -16,8 +14,8 @@ use Rattle.log_laws.proofs.Lists.{map-append, append-all}
 use Rattle.frame_pieces.specs.Pieces.{pieces_of_frame, pieces_of, Took}
 use Rattle.log_model.specs.Views.{Line}
 use Rattle.log_model.specs.Turns.{with_sent}
-use Rattle.log_model.specs.Logged.{others_in, IsLineOf, IsWholeLine, entries_under}
-use Rattle.log_model.proofs.Lines.{IsLineWith, whole-line-of}
+use Rattle.log_model.specs.Logged.{others_in, IsWholeLine, entries_under}
+use Rattle.log_model.proofs.Lines.{IsLineWith}
 
 -- ---- the turns
 

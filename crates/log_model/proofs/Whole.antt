@@ -1,18 +1,15 @@
 -- What a node's turns keep true, from its first one on.
-use Rattle.std.proofs.Common.{◌≡◌, ℕ, true, false, List, [], ◌∷◌, Option, Some, None, refl, ap, sym, subst, ◌∙◌, inl, inr}
+use Rattle.std.proofs.Common.{◌≡◌, List, [], Option, Some, None, refl, ap, sym, subst, inl, inr}
 use Rattle.std.specs.List.{AllByRecursion}
 use Rattle.pico_base.specs.declared.script.Script.{Script}
 use Rattle.stream_pair.specs.declared.piece.Piece.{Piece}
-use Rattle.frame_bytes.specs.Streams.{Left}
 use Rattle.stamp_merge.proofs.Filters.{all-map}
 use Rattle.world_model.specs.Node.{Node, opening_node}
 use Rattle.frame_pieces.specs.Pieces.{Took, TookNothing}
 use Rattle.log_model.specs.declared.answer.LogFault.{LogFault}
-use Rattle.log_model.specs.declared.answer.LogFault.TheVariants as faults
 use Rattle.log_model.specs.declared.answer.TurnAnswer.{TurnAnswer}
 use Rattle.log_model.specs.declared.answer.TurnAnswer.TheVariants.{Did, Piece as PieceAnswer, Idle, Memory, BadFrame, StampEnd}
 use Rattle.log_model.specs.declared.found.Found.{Found}
-use Rattle.log_model.specs.declared.found.Found.TheVariants as founds
 use Rattle.log_model.specs.Views.{Line, LoggedNode}
 use Rattle.log_model.specs.Looks.{ends_looks, Looks}
 use Rattle.log_model.specs.Turns.{may_take, one_more_quiet, EndsAs, IsTurn, IsTurnOrSpent, TurnsFrom}
