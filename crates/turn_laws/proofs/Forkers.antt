@@ -1,7 +1,7 @@
 -- The node that forks another is one of the script, and in a sound script there is no second one.
 use Rattle.std.proofs.Common.{◌≡◌, ℕ, zero, suc, ◌+◌, ◌-◌, ◌<◌, ◌≤◌, Bool, true, false, not, ◌||◌, nat_eq, if◌then◌else◌, List, [], ◌∷◌, length, slice_get, Option, Some, None, refl, ap, sym, subst, ◌∙◌, inl, inr, arith}
 use Rattle.std.specs.List.{list_any}
-use Rattle.std.proofs.lemmas.Bool.{and_parts, false≢true, or_cases, or_left, or_right}
+use Rattle.std.proofs.lemmas.Bool.{and_parts, eqb-true, false≢true, or_cases, or_left, or_right}
 use Rattle.std.proofs.lemmas.Option.{slice_get_within}
 use Rattle.pico_base.specs.declared.script.Block.{Block}
 use Rattle.pico_base.specs.declared.script.Line.{Line}
@@ -58,7 +58,9 @@ none-behind : (line : Line) (lines : List Line) → is_exit line.call ≡ true �
 none-behind line [] e h = refl
 none-behind line (next ∷ lines) e h =
     let ends = and_parts (not (is_exit line.call) || nat_eq (length (next ∷ lines)) 0) (ends_rightly (next ∷ lines)) h
-    in absurd (false≢true (sym (ap (λ t. not t || nat_eq (length (next ∷ lines)) 0) e) ∙ ends.0))
+    in let none : length (next ∷ lines) ≡ 0 =
+    eqb-true (length (next ∷ lines)) 0 (sym (ap (λ t. not t || nat_eq (length (next ∷ lines)) 0) e) ∙ ends.0)
+    in absurd (omega (arith, none))
 
 -- what a test finds among a block's lines it finds up to the exit
 found-with-exit : (test : Line → Bool) (lines : List Line) → ends_rightly lines ≡ true → list_any test lines ≡ true
