@@ -33,7 +33,8 @@ use Rattle.world_rest.proofs.Worlds.{rest_is_quiet_lemma}
 use Rattle.log_laws.specs.Logs.{IsNode, Input, Runs, Takes, stamped, turn_on}
 use Rattle.log_laws.specs.Merge.{event_at}
 use Rattle.turn_laws.specs.Forkers.{forker_of}
-use Rattle.turn_laws.specs.Laws.{IsTurnIn, StandsFirst, UnbornTakeTheirCheckpoint, may_turn}
+use Rattle.log_laws.specs.Follows.{StandsFirst}
+use Rattle.turn_laws.specs.Laws.{IsTurnIn, UnbornTakeTheirCheckpoint, may_turn}
 use Rattle.turn_laws.proofs.Enabled.{enabled_turns_have_steps_lemma}
 use Rattle.turn_laws.proofs.Forkers.{forks-is-forker}
 use Rattle.turn_laws.proofs.Turns.{LeadsOn, node-shown, runs-more, taken_by, turn-leads}

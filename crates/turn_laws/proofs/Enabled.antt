@@ -14,7 +14,8 @@ use Rattle.world_bounds.specs.Bounded.{IsShapedAndBounded}
 use Rattle.world_bounds.proofs.Runs.{reachable-is-bounded}
 use Rattle.world_runs.proofs.Runs.{enabled_events_have_steps_lemma}
 use Rattle.log_laws.specs.Logs.{Runs, Takes, StampedFrame, turn_on}
-use Rattle.turn_laws.specs.Laws.{EnabledTurnsHaveSteps, IsTurnIn, StandsFirst}
+use Rattle.log_laws.specs.Follows.{StandsFirst}
+use Rattle.turn_laws.specs.Laws.{EnabledTurnsHaveSteps, IsTurnIn}
 use Rattle.turn_laws.proofs.Turns.{turn-enabled}
 
 some-before : (w : World) (p : ℕ) (o : Option Step) → is_some (after_turn w p o) ≡ true → is_some o ≡ true

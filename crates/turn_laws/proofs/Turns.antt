@@ -22,7 +22,8 @@ use Rattle.world_bounds.proofs.Turns.{run-turn-bounded, take-turn-bounded}
 use Rattle.world_bounds.proofs.Worlds.{head-is-bounded, to-nodes}
 use Rattle.log_laws.specs.Logs.{IsNode, Input, Runs, Takes, StampedFrame, turn_on}
 use Rattle.log_laws.specs.Merge.{event_at}
-use Rattle.turn_laws.specs.Laws.{IsTurnIn, StandsFirst, may_turn}
+use Rattle.log_laws.specs.Follows.{StandsFirst}
+use Rattle.turn_laws.specs.Laws.{IsTurnIn, may_turn}
 
 if-some : {A : Type 0} (b : Bool) (o : Option A) (x : A) → (if b then o else None) ≡ Some x
     → (b ≡ true) × (o ≡ Some x)
