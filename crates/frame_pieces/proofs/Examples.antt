@@ -20,8 +20,7 @@ one_piece =
 -- three bytes complete nothing, and the joiner has them
 three_bytes : Took (piece 7 (0 ∷ 0 ∷ 0 ∷ []) ∷ []) [] (Rest (0 ∷ 0 ∷ 0 ∷ []))
 three_bytes =
-    TookPart TookNothing (piece 7 (0 ∷ 0 ∷ 0 ∷ [])) (Rest (0 ∷ 0 ∷ 0 ∷ []))
-    (
+    TookPart TookNothing (piece 7 (0 ∷ 0 ∷ 0 ∷ [])) (Rest (0 ∷ 0 ∷ 0 ∷ [])) (
       a_front_is_no_frame frames.RecallAll (0 ∷ 0 ∷ 0 ∷ []) (1 ∷ 0x10 ∷ []) recall_all_is_a_frame refl (omega arith),
       tt,
     )

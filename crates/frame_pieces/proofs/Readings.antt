@@ -44,13 +44,13 @@ front_is_partial f front behind h e more =
           sym (length-append (word (length (frame_body f))) (frame_body f)) ∙ ap length e ∙ length-append front behind
           in let size = length-drop 4 front
           in inr (
-            record {
-              len = length (frame_body f);
-              more = drop 4 front;
-              spelled = cut_begins_with_length front behind (frame_body f) (length (frame_body f)) e long;
-              short = h.short;
-              cut = omega (arith, total, size, long, more);
-            }
+          record {
+            len = length (frame_body f);
+            more = drop 4 front;
+            spelled = cut_begins_with_length front behind (frame_body f) (length (frame_body f)) e long;
+            short = h.short;
+            cut = omega (arith, total, size, long, more);
+          }
           )
     ]
 
