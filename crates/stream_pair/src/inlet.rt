@@ -61,6 +61,9 @@ impl In {
         ensures empty { IfNone result ((self.new.taken ≡ self.old.taken) × WasEmpty self.old.taken) }
     {
         self.looks = self.looks.saturating_add(1);
+        if self.stream.queue.is_empty_as::<Takes>(&mut self.pass) {
+            return None;
+        }
         self.stream.queue.pop_as::<Takes, R>(rt, &mut self.pass)
     }
 }
