@@ -4,6 +4,7 @@ ghost use Rattle.std.specs.Arc.{arc_value};
 ghost use Rattle.stream_pair.specs.Order.{WasEmpty};
 ghost use Rattle.stream_pair.specs.Ends.{one_more_look, IsTaker};
 
+use crate::bell::{Bell, Silence};
 use crate::order::{Pass, Takes};
 use crate::piece::Piece;
 use crate::stream::Stream;
@@ -16,6 +17,7 @@ use std::sync::{Arc, Wait};
 #[derive(Drop)]
 pub struct In {
     stream: Arc<Stream, Global>,
+    bell: Bell,
     pass: Pass,
     looks: u64,
 }
@@ -31,14 +33,23 @@ impl Model for In {
     ghost invariant = { λ i. IsTaker (arc_value i.stream).queue i.pass (taken_by i.pass) };
 }
 
+/// The number of looks after one more.
+#[inline(always)]
+fn one_more(looks: u64) -> u64
+    ensures { result ≡ one_more_look looks }
+{
+    looks.saturating_add(1)
+}
+
 impl In {
     /// The end of this stream that has this pass, and hasn't looked yet.
-    pub(crate) fn new(stream: Arc<Stream, Global>, pass: Pass) -> In
+    pub(crate) fn new(stream: Arc<Stream, Global>, bell: Bell, pass: Pass) -> In
         requires { IsTaker (arc_value stream).queue pass [] }
         ensures { (result.stream ≡ (arc_value stream).queue) × (result.taken ≡ []) × (result.looks ≡ 0) }
     {
         In {
             stream,
+            bell,
             pass,
             looks: 0,
         }
@@ -60,10 +71,23 @@ impl In {
         ensures taken { IfSome result (λ p. self.new.taken ≡ self.old.taken ++ p ∷ []) }
         ensures empty { IfNone result ((self.new.taken ≡ self.old.taken) × WasEmpty self.old.taken) }
     {
-        self.looks = self.looks.saturating_add(1);
+        self.looks = one_more(self.looks);
         if self.stream.queue.is_empty_as::<Takes>(&mut self.pass) {
             return None;
         }
-        self.stream.queue.pop_as::<Takes, R>(rt, &mut self.pass)
+        let piece = self.stream.queue.pop_as::<Takes, R>(rt, &mut self.pass)?;
+        self.bell.count_taken();
+        Some(piece)
+    }
+
+    /// Notes a look that found this stream empty. The silence is to be one of the bell with which this stream was made,
+    /// heard since this end last looked: no clause ties it to either.
+    #[inline(always)]
+    pub fn was_empty(&mut self, _silence: &Silence)
+        ensures stream { self.new.stream ≡ self.old.stream }
+        ensures looks { self.new.looks ≡ one_more_look self.old.looks }
+        ensures taken { self.new.taken ≡ self.old.taken }
+    {
+        self.looks = one_more(self.looks);
     }
 }

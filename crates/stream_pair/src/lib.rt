@@ -2,6 +2,7 @@
 //! taken in the order in which it was sent.
 #![tactic(auto)]
 
+mod bell;
 mod inlet;
 mod laws;
 mod order;
@@ -10,12 +11,13 @@ mod piece;
 mod rest;
 mod stream;
 
+pub use bell::{Bell, Silence};
 pub use inlet::In;
 pub use laws::pieces_are_the_bytes;
 pub use outlet::Out;
 pub use piece::Piece;
 pub use rest::{Rest, settle};
-pub use stream::pair;
+pub use stream::{pair, pair_to};
 
 #[cfg(test)]
 mod tests;

@@ -4,6 +4,7 @@ ghost use Rattle.std.specs.Arc.{arc_value};
 ghost use Rattle.stream_pair.specs.Ends.{IsSender};
 ghost use Rattle.stream_pair.specs.Pieces.{piece, pieces, IsFrontSent};
 
+use crate::bell::Bell;
 use crate::order::{Pass, Sends};
 use crate::piece::Piece;
 use crate::stream::Stream;
@@ -20,6 +21,7 @@ const MAX_PIECE: usize = 512;
 pub struct Out {
     alloc: Global,
     stream: Arc<Stream, Global>,
+    bell: Bell,
     pass: Pass,
 }
 
@@ -36,13 +38,14 @@ impl Model for Out {
 
 impl Out {
     /// The end of this stream that has this pass, and hasn't sent yet.
-    pub(crate) fn new(alloc: Global, stream: Arc<Stream, Global>, pass: Pass) -> Out
+    pub(crate) fn new(alloc: Global, stream: Arc<Stream, Global>, bell: Bell, pass: Pass) -> Out
         requires { IsSender (arc_value stream).queue pass [] }
         ensures { (result.stream ≡ (arc_value stream).queue) × (result.sent ≡ []) }
     {
         Out {
             alloc,
             stream,
+            bell,
             pass,
         }
     }
@@ -64,6 +67,7 @@ impl Out {
     {
         let bytes = Bytes::from_slice(self.alloc, bytes)?;
         let piece = Piece { stamp, bytes };
+        self.bell.count_sent();
         match self
             .stream
             .queue
