@@ -8,6 +8,7 @@ mod laws;
 mod order;
 mod outlet;
 mod piece;
+mod receipt;
 mod rest;
 mod stream;
 
@@ -16,6 +17,7 @@ pub use inlet::In;
 pub use laws::pieces_are_the_bytes;
 pub use outlet::Out;
 pub use piece::Piece;
+pub use receipt::Receipt;
 pub use rest::{Rest, settle};
 pub use stream::{pair, pair_to};
 

@@ -5,8 +5,9 @@ ghost use Rattle.stream_pair.specs.Ends.{IsSender};
 ghost use Rattle.stream_pair.specs.Pieces.{piece, pieces, IsFrontSent};
 
 use crate::bell::Bell;
-use crate::order::{Pass, Sends};
+use crate::order::{Pass, Sends, Shows};
 use crate::piece::Piece;
+use crate::receipt::Receipt;
 use crate::stream::Stream;
 use pico_base::{Bytes, Memory};
 use std::alloc::Global;
@@ -57,6 +58,14 @@ impl Out {
     {
         let Out { stream, pass, .. } = self;
         (stream, pass)
+    }
+
+    /// That all that is sent by now was sent.
+    pub fn receipt(&mut self) -> Receipt
+        ensures receipt { (result.stream ≡ self.old.stream) × (result.sent ≡ self.old.sent) }
+        ensures same { (self.new.stream ≡ self.old.stream) × (self.new.sent ≡ self.old.sent) }
+    {
+        Receipt::new(self.stream.queue.another::<Shows>(&mut self.pass))
     }
 
     /// Sends bytes as one piece.

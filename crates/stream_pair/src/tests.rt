@@ -57,6 +57,7 @@ fn what_was_not_taken_is_left(rt: HostRuntime) -> Result<(), Fail> {
     out.send(&rt, 2, b"")?;
     out.send(&rt, 3, b"three")?;
     out.send(&rt, 4, &[4; 513])?;
+    into.tell(out.receipt());
     is_piece(&rt, into.take(&rt), 1, b"one");
     let mut rest = settle(&rt, out, into);
     is_piece(&rt, rest.next(&rt), 3, b"three");
