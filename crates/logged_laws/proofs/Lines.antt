@@ -40,7 +40,7 @@ with-nothing turns input line none whole =
       took = subst (λ (fs : List StampedFrame). Took line.into.taken fs line.left) (sym same) whole.took;
     }
 
--- nothing needs to be known besides
+-- nothing needs to be known besides of a whole line,
 pub whole-line-of : (turns : Log) (line : Line) → IsWholeLine turns line → IsLineOf turns line
 whole-line-of turns line whole =
     record {
@@ -52,6 +52,7 @@ whole-line-of turns line whole =
       took = whole.took;
     }
 
+-- nor of one that is a piece behind
 pub behind-line-of : (turns : Log) (line : Line) (answer : Result (List Frame) FrameFault)
     → IsBehind turns line answer → IsLineOf turns line
 behind-line-of turns line answer behind =

@@ -13,20 +13,21 @@ use Rattle.world_model.specs.Node.{opening_node}
 use Rattle.log_laws.specs.Logs.{IsNode, Input, Runs, Takes, Logged, Log, IsTakenLater, GoesBetween}
 use Rattle.log_laws.specs.EventLogs.{event_item_of}
 use Rattle.log_laws.proofs.Lists.{append-all}
+use Rattle.log_laws.proofs.OneMore.{rises-with-last, leads-with-last}
 use Rattle.log_model.specs.declared.found.Found.{Found}
 use Rattle.log_model.specs.Views.{Line, LoggedNode}
 use Rattle.log_model.specs.Turns.{floor_of, turn_with, with_sent, DoesEvent}
 use Rattle.log_model.specs.Logged.{others_in, others_of, IsOfScript, IsWholeLine, IsDrawn, IsFromOther, GoesToOthers, SendsFrames, entries_under, Stands, IsLogged}
-use Rattle.log_model.proofs.Lists.{holds-of}
-use Rattle.log_model.proofs.Others.{others-are-nodes}
-use Rattle.log_model.proofs.Lines.{whole-line-of}
-use Rattle.log_model.proofs.OneMore.{leads-with-turn, rise-with-turn, all-below, all-up-to, log-with-turn, entries-with-turn, all-with-turn, others-with-turn}
-use Rattle.log_model.proofs.Sends.{IsRuled, ruled, receivers-there}
-use Rattle.log_model.proofs.Stamps.{floor-within, IsDrawnStamp, drawn-stamp}
-use Rattle.log_model.proofs.Draws.{drawn-floor, floor-with-turns, clock-within, drawn-with-turns}
-use Rattle.log_model.proofs.Came.{HasCome}
-use Rattle.log_model.proofs.Kept.{from-same, all-go-same}
-use Rattle.log_model.proofs.Ended.{HasLooked, input-came}
+use Rattle.logged_laws.proofs.Lists.{holds-of}
+use Rattle.logged_laws.proofs.Others.{others-are-nodes}
+use Rattle.logged_laws.proofs.Lines.{whole-line-of}
+use Rattle.logged_laws.proofs.OneMore.{all-below, all-up-to, log-with-turn, entries-with-turn, all-with-turn, others-with-turn}
+use Rattle.logged_laws.proofs.Sends.{IsRuled, ruled, receivers-there}
+use Rattle.logged_laws.proofs.Stamps.{floor-within, IsDrawnStamp, drawn-stamp}
+use Rattle.logged_laws.proofs.Draws.{drawn-floor, floor-with-turns, clock-within, drawn-with-turns}
+use Rattle.logged_laws.proofs.Came.{HasCome}
+use Rattle.logged_laws.proofs.Kept.{from-same, all-go-same}
+use Rattle.logged_laws.proofs.Ended.{HasLooked, input-came}
 
 -- what is taken comes from another node of the script, and was sent under a lower stamp
 taken-later : (script : Script) (number : ℕ) (lines : List Line) (clock stamp : ℕ) (input : Input)
@@ -146,8 +147,8 @@ module _ (script : Script) (old new : LoggedNode) (was : IsLogged script old) (f
         of_script = left-of-script;
         turns = turns;
         last = does.step.node;
-        leads = leads-with-turn script was.turns (opening_node old.number) was.last turn was.leads rule.turns;
-        rise = rise-with-turn was.turns turn was.rise (all-below old.clock does.stamp was.turns above-clock was.clock);
+        leads = leads-with-last script was.turns (opening_node old.number) was.last turn was.leads rule.turns;
+        rise = rises-with-last was.turns turn was.rise (all-below old.clock does.stamp was.turns above-clock was.clock);
         clock = all-up-to old.clock was.turns turn above-clock was.clock;
         clock_is = inr (turn, Contains-push was.turns turn, refl);
         log =

@@ -6,7 +6,7 @@ use Rattle.stamp_merge.proofs.Filters.{all-map}
 use Rattle.world_model.specs.World.{numbers, node_count}
 use Rattle.log_laws.specs.Logs.{IsNode}
 use Rattle.log_model.specs.Logged.{others_of}
-use Rattle.log_model.proofs.Lists.{filter-keeps, AreApart, filter-apart}
+use Rattle.logged_laws.proofs.Lists.{filter-keeps, AreApart, filter-apart}
 
 -- ---- numbers in a row
 

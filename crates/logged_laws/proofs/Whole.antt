@@ -14,10 +14,10 @@ use Rattle.log_model.specs.Views.{Line, LoggedNode}
 use Rattle.log_model.specs.Looks.{ends_looks, Looks}
 use Rattle.log_model.specs.Turns.{may_take, one_more_quiet, EndsAs, IsTurn, IsTurnOrSpent, TurnsFrom}
 use Rattle.log_model.specs.Logged.{IsOfScript, IsWholeLine, Stands, IsLogged}
-use Rattle.log_model.specs.Laws.{IsNewLine, NewNodesAreLogged, IsKept, TurnsKeepLogs}
-use Rattle.log_model.proofs.Lines.{whole-line-of}
-use Rattle.log_model.proofs.Ended.{HasLooked, kept-quiet, kept-bad, kept-full}
-use Rattle.log_model.proofs.Did.{kept-did}
+use Rattle.logged_laws.specs.Laws.{IsNewLine, NewNodesAreLogged, IsKept, TurnsKeepLogs}
+use Rattle.logged_laws.proofs.Lines.{whole-line-of}
+use Rattle.logged_laws.proofs.Ended.{HasLooked, kept-quiet, kept-bad, kept-full}
+use Rattle.logged_laws.proofs.Did.{kept-did}
 
 -- ---- no turn
 
@@ -125,6 +125,7 @@ kept-from script old new answer None is kept turned of =
       | inr was ↦ kept-unspent script old new was answer is of turned
     ]
 
+-- the log of a node after a turn
 pub turns_keep_logs_lemma : TurnsKeepLogs
 turns_keep_logs_lemma script old new answer kept turned of =
     kept-from script old new answer old.fault refl kept turned of

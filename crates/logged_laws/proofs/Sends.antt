@@ -12,7 +12,7 @@ use Rattle.log_laws.specs.Logs.{Input, turn_on}
 use Rattle.log_model.specs.Views.{Line}
 use Rattle.log_model.specs.Turns.{has_line, may_send, step_if_sent, rule_of}
 use Rattle.log_model.specs.Logged.{others_in}
-use Rattle.log_model.proofs.Lists.{contains-first, contains-later}
+use Rattle.logged_laws.proofs.Lists.{contains-first, contains-later}
 
 -- ---- the step of a rule
 
@@ -40,6 +40,7 @@ sent-step lines (Some made) step is =
           in absurd (cc)
     ]
 
+-- where the rule gives it
 pub ruled : (script : Script) (lines : List Line) (n : Node) (input : Input) (step : Step)
     → rule_of script lines n input ≡ Some step → IsRuled script lines n input step
 ruled script lines n input step is =

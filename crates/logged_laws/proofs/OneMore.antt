@@ -1,40 +1,21 @@
 -- One turn more at the end of a node's turns.
-use Rattle.std.proofs.Common.{◌≡◌, ℕ, ◌<◌, ◌≤◌, List, [], ◌∷◌, ◌++◌, map, Some, refl, ap, sym, subst, ◌∙◌, append-nil, arith}
+use Rattle.std.proofs.Common.{◌≡◌, ℕ, ◌<◌, ◌≤◌, List, [], ◌∷◌, ◌++◌, map, refl, ap, sym, subst, ◌∙◌, append-nil, arith}
 use Rattle.std.specs.List.{AllByRecursion, flat_map}
 use Rattle.std.proofs.lemmas.Grind.{flat_map-append}
-use Rattle.pico_base.specs.declared.script.Script.{Script}
 use Rattle.rpc_frame.specs.declared.frame.Frame.{Frame}
 use Rattle.stream_pair.specs.declared.piece.Piece.{Piece}
 use Rattle.stamp_merge.proofs.Filters.{all-map}
 use Rattle.journal_core.specs.declared.stamped.Stamped.{Stamped}
-use Rattle.world_model.specs.Node.{Node}
-use Rattle.log_laws.specs.Logs.{StampedFrame, Logged, Log, turn_on, LeadsTo, sends_of, sent_in, takes_of, taken_in, StampsRise}
+use Rattle.log_laws.specs.Logs.{StampedFrame, Logged, Log, sends_of, sent_in, takes_of, taken_in}
 use Rattle.log_laws.specs.EventLogs.{event_item_of, event_log}
 use Rattle.log_laws.proofs.Lists.{map-append, append-all}
 use Rattle.frame_pieces.specs.Pieces.{pieces_of_frame, pieces_of, Took}
 use Rattle.log_model.specs.Views.{Line}
 use Rattle.log_model.specs.Turns.{with_sent}
 use Rattle.log_model.specs.Logged.{others_in, IsWholeLine, entries_under}
-use Rattle.log_model.proofs.Lines.{IsLineWith}
+use Rattle.logged_laws.proofs.Lines.{IsLineWith}
 
 -- ---- the turns
-
--- they lead to what the turn leaves
-pub leads-with-turn : (script : Script) (turns : Log) (n last : Node) (turn : Logged) → LeadsTo script n turns last
-    → turn_on script last turn.input ≡ Some turn.step → LeadsTo script n (turns ++ turn ∷ []) turn.step.node
-leads-with-turn script [] n last turn leads turned =
-    record { turns = ap (λ (m : Node). turn_on script m turn.input) leads ∙ turned; rest = refl }
-leads-with-turn script (t ∷ turns) n last turn leads turned =
-    record { turns = leads.turns; rest = leads-with-turn script turns t.step.node last turn leads.rest turned }
-
--- under a stamp above all others they rise
-pub rise-with-turn : (turns : Log) (turn : Logged) → StampsRise turns
-    → AllByRecursion (λ (t : Logged). t.stamp < turn.stamp) turns → StampsRise (turns ++ turn ∷ [])
-rise-with-turn [] turn rise below = (tt, tt)
-rise-with-turn (t ∷ turns) turn rise below = (
-  append-all (λ (later : Logged). t.stamp < later.stamp) turns (turn ∷ []) rise.0 (below.0, tt),
-  rise-with-turn turns turn rise.1 below.1,
-)
 
 below-next : (a b c : ℕ) → b < c → a ≤ b → a < c
 below-next a b c next low = omega arith
@@ -63,7 +44,8 @@ pub log-with-turn : (number : ℕ) (turns : Log) (turn : Logged)
 log-with-turn number turns turn = map-append (event_item_of number) turns (turn ∷ [])
 
 pub entries-with-turn : (seat : ℕ) (turns : Log) (turn : Logged)
-    → flat_map (entries_under seat) (turns ++ turn ∷ []) ≡ flat_map (entries_under seat) turns ++ entries_under seat turn
+    → flat_map (entries_under seat) (turns ++ turn ∷ [])
+    ≡ flat_map (entries_under seat) turns ++ entries_under seat turn
 entries-with-turn seat turns turn =
     flat_map-append (entries_under seat) turns (turn ∷ [])
     ∙ ap (λ (es : List Stamped). flat_map (entries_under seat) turns ++ es) (append-nil (entries_under seat turn))
@@ -95,6 +77,7 @@ whole-with-turn turns turn line is =
           (sym (taken-with-turn line.other turns turn)) is.took;
     }
 
+-- and so are all
 pub all-with-turn : (turns : Log) (turn : Logged) (lines : List Line)
     → AllByRecursion (IsLineWith turns turn.input) lines
     → AllByRecursion (IsWholeLine (turns ++ turn ∷ [])) (map (with_sent turn.stamp turn.step.sends) lines)

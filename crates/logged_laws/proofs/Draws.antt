@@ -9,7 +9,7 @@ use Rattle.stamp_merge.proofs.Filters.{all-map}
 use Rattle.log_laws.specs.Logs.{Input, Runs, Takes, Logged, Log}
 use Rattle.log_model.specs.Turns.{floor_of}
 use Rattle.log_model.specs.Logged.{IsFloor, FromNothing, FromTurn, FromFrame, FromEntry, IsDrawn}
-use Rattle.log_model.proofs.Stamps.{IsStampSeen, IsLarger, IsFloorItself, IsLargerOf}
+use Rattle.logged_laws.proofs.Stamps.{IsStampSeen, IsLarger, IsFloorItself, IsLargerOf}
 
 -- the last stamp of these turns, or 0
 abbrev pub IsClock : Log → ℕ → Type 0
@@ -77,6 +77,7 @@ floor-with-turns turns more input old new floor begins from =
     subst (λ (seen : List Stamped). IsFloor (turns ++ more) input seen floor) (sym begins.1)
     (more-floor turns more input old begins.0 floor from)
 
+-- what was drawn from some turns is drawn from more
 pub drawn-with-turns : (turns more : Log) (old new : List Stamped) → BeginsWith new old → (log : Log)
     → AllByRecursion (IsDrawn turns old) log → AllByRecursion (IsDrawn (turns ++ more) new) log
 drawn-with-turns turns more old new begins log drawn =

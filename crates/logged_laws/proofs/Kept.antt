@@ -10,7 +10,7 @@ use Rattle.log_laws.specs.Logs.{Input, Runs, Takes, Logged, Log}
 use Rattle.log_model.specs.declared.answer.LogFault.{LogFault}
 use Rattle.log_model.specs.Views.{Line, LoggedNode}
 use Rattle.log_model.specs.Logged.{others_in, IsOfScript, IsLineOf, IsFromOther, IsDrawn, GoesToOthers, entries_under, Stands, IsLogged}
-use Rattle.log_model.proofs.Draws.{drawn-with-turns}
+use Rattle.logged_laws.proofs.Draws.{drawn-with-turns}
 
 -- ---- lines with the same nodes
 
@@ -27,6 +27,7 @@ goes-same olds news same turn goes =
       sent = subst (λ (ps : List ℕ). AllByRecursion (λ s. Contains ps s.0) turn.step.sends) same goes.sent;
     }
 
+-- frames come from the same nodes and go to them
 pub all-go-same : (olds news : List Line) → others_in olds ≡ others_in news → (turns : Log)
     → AllByRecursion (GoesToOthers olds) turns → AllByRecursion (GoesToOthers news) turns
 all-go-same olds news same turns all = all-map (λ turn goes. goes-same olds news same turn goes) turns all
@@ -44,12 +45,14 @@ pub record IsSeatStill (old new : Seated) : Type 0 where
   pub own : new.own ≡ old.own
   pub seen : BeginsWith new.seen old.seen
 
+-- a seat that stays as it is
 pub same-seat : (old : Seated) → IsSeatStill old old
 same-seat old = record { number = refl; own = refl; seen = ([], sym (append-nil old.seen)) }
 
 -- the same turns are all of its turns
-pub with-same-turns : (script : Script) (old : LoggedNode) (machine : Option Node) (forker : Option ℕ) (lines : List Line)
-    (seat : Seated) (quiet : ℕ) (fault : Option LogFault) (was : IsLogged script old) → IsSeatStill old.seat seat
+pub with-same-turns : (script : Script) (old : LoggedNode) (machine : Option Node) (forker : Option ℕ)
+    (lines : List Line) (seat : Seated) (quiet : ℕ) (fault : Option LogFault) (was : IsLogged script old)
+    → IsSeatStill old.seat seat
     → IsOfScript script (left-as old machine forker lines seat quiet fault)
     → AllByRecursion (IsLineOf was.turns) lines
     → Stands script (left-as old machine forker lines seat quiet fault) was.turns was.last fault

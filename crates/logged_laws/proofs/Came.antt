@@ -12,9 +12,9 @@ use Rattle.log_model.specs.Views.{Line}
 use Rattle.log_model.specs.Looks.{Looks}
 use Rattle.log_model.specs.Turns.{may_take, input_of}
 use Rattle.log_model.specs.Logged.{others_in, IsLineOf, IsWholeLine, WasThere, IsFromOther}
-use Rattle.log_model.proofs.Lists.{AreApart}
-use Rattle.log_model.proofs.Lines.{IsLineWith, with-nothing, whole-line-of}
-use Rattle.log_model.proofs.Looks.{whole-after-looks, HasFrame, frame-after-looks}
+use Rattle.logged_laws.proofs.Lists.{AreApart}
+use Rattle.logged_laws.proofs.Lines.{IsLineWith, with-nothing, whole-line-of}
+use Rattle.logged_laws.proofs.Looks.{whole-after-looks, HasFrame, frame-after-looks}
 
 -- It was there, from one of the nodes of the earlier lines, and might be taken. With it the lines are whole.
 pub record HasCome (script : Script) (number : ℕ) (turns : Log) (olds lines : List Line) (n : Node) (input : Input)

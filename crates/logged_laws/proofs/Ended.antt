@@ -10,14 +10,14 @@ use Rattle.log_model.specs.Views.{Line, LoggedNode}
 use Rattle.log_model.specs.Looks.{ends_looks, Looks}
 use Rattle.log_model.specs.Turns.{may_take, input_of, floor_of, after_looks, with_fault, HasNoRule, EndsBadly, EndsFull}
 use Rattle.log_model.specs.Logged.{others_in, IsOfScript, IsWholeLine, Stands, IsLogged}
-use Rattle.log_model.proofs.Lists.{AreApart}
-use Rattle.log_model.proofs.Others.{others-apart}
-use Rattle.log_model.proofs.Lines.{whole-line-of}
-use Rattle.log_model.proofs.Looks.{whole-after-looks, HasRefused, refused-after-looks}
-use Rattle.log_model.proofs.Came.{HasCome, came}
-use Rattle.log_model.proofs.Stamps.{IsOutOfStamps, out-of-stamps}
-use Rattle.log_model.proofs.Draws.{drawn-floor}
-use Rattle.log_model.proofs.Kept.{IsSeatStill, same-seat, with-same-turns}
+use Rattle.logged_laws.proofs.Lists.{AreApart}
+use Rattle.logged_laws.proofs.Others.{others-apart}
+use Rattle.logged_laws.proofs.Lines.{whole-line-of}
+use Rattle.logged_laws.proofs.Looks.{whole-after-looks, HasRefused, refused-after-looks}
+use Rattle.logged_laws.proofs.Came.{HasCome, came}
+use Rattle.logged_laws.proofs.Stamps.{IsOutOfStamps, out-of-stamps}
+use Rattle.logged_laws.proofs.Draws.{drawn-floor}
+use Rattle.logged_laws.proofs.Kept.{IsSeatStill, same-seat, with-same-turns}
 
 -- A node that goes on where it stands has looked at its lines.
 pub record HasLooked (script : Script) (old : LoggedNode) (was : IsLogged script old) (found : Found)
@@ -27,6 +27,7 @@ pub record HasLooked (script : Script) (old : LoggedNode) (was : IsLogged script
   pub whole : AllByRecursion (IsWholeLine was.turns) old.lines
   pub looks : Looks (may_take script old.number was.last) old.lines found lines
 
+-- the input of its turn came in
 pub input-came : (script : Script) (old : LoggedNode) (was : IsLogged script old) (found : Found) (lines : List Line)
     (input : Input) → HasLooked script old was found lines → input_of was.last found ≡ Some input
     → HasCome script old.number was.turns old.lines lines was.last input
@@ -39,6 +40,7 @@ module _ (script : Script) (old new : LoggedNode) (was : IsLogged script old) (f
     (looked : HasLooked script old was found lines) (of : IsOfScript script new) where
   -- ---- nothing came of the looks
 
+  -- the looks alone are left
   pub kept-quiet : (quiet : ℕ) → ends_looks found ≡ false → new ≡ after_looks old lines quiet new.forker
       → IsLogged script new
   kept-quiet quiet goes is =
@@ -54,6 +56,7 @@ module _ (script : Script) (old new : LoggedNode) (was : IsLogged script old) (f
 
   -- ---- a fault
 
+  -- a line was refused,
   kept-with-refused : new.seat ≡ old.seat → new ≡ with_fault old lines new faults.BadFrame
       → HasRefused was.turns lines → IsLogged script new
   kept-with-refused seat is has =
@@ -62,6 +65,7 @@ module _ (script : Script) (old new : LoggedNode) (was : IsLogged script old) (f
       (subst (IsSeatStill old.seat) (sym seat) (same-seat old.seat)) (subst (IsOfScript script) is of) has.all
       (inl has.line))
 
+  -- or the input has no rule
   kept-with-no-rule : new.seat ≡ old.seat → new ≡ with_fault old lines new faults.BadFrame
       → HasNoRule script was.last found lines → IsLogged script new
   kept-with-no-rule seat is has =
@@ -72,6 +76,7 @@ module _ (script : Script) (old new : LoggedNode) (was : IsLogged script old) (f
       (subst (IsSeatStill old.seat) (sym seat) (same-seat old.seat)) (subst (IsOfScript script) is of) come.all
       (inr (record { input = has.input; there = come.there; may = come.may; no_rule = has.no_rule })))
 
+  -- bytes, a frame or a line of the script that the node refuses
   pub kept-bad : EndsBadly script old was.last found lines new → IsLogged script new
   kept-bad ends =
       elim ends.cause [
@@ -83,6 +88,7 @@ module _ (script : Script) (old new : LoggedNode) (was : IsLogged script old) (f
         | inr no_rule ↦ kept-with-no-rule ends.seat ends.is no_rule
       ]
 
+  -- no stamp is left
   pub kept-full : (last : ℕ) → EndsFull script old was.last found lines new last → IsLogged script new
   kept-full last ends =
       let come : HasCome script old.number was.turns old.lines lines was.last ends.input =

@@ -7,7 +7,7 @@ use Rattle.journal_core.specs.declared.stamped.Stamped.{Stamped}
 use Rattle.journal_core.specs.Journal.{stamp_after, last_stamp, under, BeginsWith}
 use Rattle.journal_core.specs.Seated.{Seated}
 use Rattle.log_model.specs.Turns.{IsStamped, HasNoStamp}
-use Rattle.log_model.proofs.Lists.{contains-first, contains-later}
+use Rattle.logged_laws.proofs.Lists.{contains-first, contains-later}
 
 -- ---- the last stamp of a journal
 
@@ -41,6 +41,7 @@ pub data IsLarger (floor : ℕ) (seen : List Stamped) (larger : ℕ) : Type 0 wh
   IsFloorItself : larger ≡ floor → IsLarger floor seen larger
   IsLargerOf : (stamp : ℕ) → IsStampSeen seen stamp → larger ≡ max floor stamp → IsLarger floor seen larger
 
+-- it is no lower than the floor
 pub floor-within : (floor : ℕ) (seen : List Stamped) (larger : ℕ) → IsLarger floor seen larger → floor ≤ larger
 floor-within floor seen larger (IsFloorItself is) = omega arith
 floor-within floor seen larger (IsLargerOf stamp of is) = omega arith
@@ -55,6 +56,7 @@ pub record IsDrawnStamp (floor : ℕ) (entries : List Entry) (old new : Seated) 
   pub own : new.own ≡ old.own ++ under stamp old.number entries
   pub seen : BeginsWith new.seen old.seen
 
+-- so it is where a turn has such a stamp
 pub drawn-stamp : (floor : ℕ) (entries : List Entry) (old new : Seated) (stamp : ℕ)
     → IsStamped floor entries old new stamp → IsDrawnStamp floor entries old new stamp
 drawn-stamp floor [] old new stamp is =
@@ -83,6 +85,7 @@ drawn-stamp floor (e ∷ es) old new stamp is =
 
 -- ---- no stamp that is left
 
+-- Such a larger number is too high. The seat has appended nothing.
 pub record IsOutOfStamps (floor : ℕ) (old new : Seated) : Type 0 where
   pub larger : ℕ
   pub from : IsLarger floor new.seen larger
@@ -90,6 +93,7 @@ pub record IsOutOfStamps (floor : ℕ) (old new : Seated) : Type 0 where
   pub own : new.own ≡ old.own
   pub seen : BeginsWith new.seen old.seen
 
+-- so it is where a turn has no stamp
 pub out-of-stamps : (floor : ℕ) (entries : List Entry) (old new : Seated) (last : ℕ)
     → HasNoStamp floor entries old new last → IsOutOfStamps floor old new
 out-of-stamps floor [] old new last is =

@@ -36,6 +36,7 @@ abbrev pub AreApart : List ℕ → Type 0
 AreApart [] = Unit {0}
 AreApart (p ∷ ps) = AllByRecursion (λ q. p ≢ q) ps × AreApart ps
 
+-- which is so of those that pass, too
 pub filter-apart : (test : ℕ → Bool) (ps : List ℕ) → AreApart ps → AreApart (filter test ps)
 filter-apart test [] apart = tt
 filter-apart test (p ∷ ps) apart =

@@ -10,8 +10,8 @@ use Rattle.log_model.specs.declared.found.Found.TheVariants.{Nothing, Part, Whol
 use Rattle.log_model.specs.Views.{Line}
 use Rattle.log_model.specs.Looks.{TakesFrame, TakesNone, IsLook, ends_looks, both_found, Passed, Stopped, Went, Looks}
 use Rattle.log_model.specs.Logged.{others_in, IsLineOf, IsWholeLine, IsBehind, WouldTake, IsRefusedLine}
-use Rattle.log_model.proofs.Lists.{contains-first, contains-later, holds-of, AreApart}
-use Rattle.log_model.proofs.Lines.{IsLineWith, takes-none, with-nothing, whole-line-of, behind-line-of, whole-after-nothing, whole-after-part, with-frame, behind-piece}
+use Rattle.logged_laws.proofs.Lists.{contains-first, contains-later, holds-of, AreApart}
+use Rattle.logged_laws.proofs.Lines.{IsLineWith, takes-none, with-nothing, whole-line-of, behind-line-of, whole-after-nothing, whole-after-part, with-frame, behind-piece}
 
 -- ---- what looks find
 
@@ -66,7 +66,7 @@ whole-after-looks turns may (old ∷ olds) (new ∷ news) found quiet (Passed pa
 )
 whole-after-looks turns may (old ∷ olds) (new ∷ news) found quiet (Stopped looked ends look same) whole =
     absurd (both_ways (ends_looks found) quiet ends)
-whole-after-looks turns may (old ∷ olds) (new ∷ news) found quiet (Went first next looked goes look rest is) whole = (
+whole-after-looks turns may (old ∷ olds) (new ∷ news) found quiet (Went first next seen goes look rest is) whole = (
   whole-after-look turns old new first goes look whole.0,
   whole-after-looks turns may olds news next
       (next-quiet first next (subst (λ (f : Found). ends_looks f ≡ false) is quiet)) rest whole.1,
@@ -91,7 +91,10 @@ refused-here turns old new lines none whole =
         refused = none.refused;
         behind = behind;
       };
-      all = (behind-line-of turns new none.answer behind, all-map (λ line is. whole-line-of turns line is) lines whole.1);
+      all = (
+        behind-line-of turns new none.answer behind,
+        all-map (λ line is. whole-line-of turns line is) lines whole.1,
+      );
     }
 
 refused-later : (turns : Log) (new : Line) (news : List Line) → IsWholeLine turns new → HasRefused turns news
@@ -108,6 +111,7 @@ refused-later turns new news whole has =
       all = (whole-line-of turns new whole, has.all);
     }
 
+-- after looks that found it
 pub refused-after-looks : (turns : Log) (may : ℕ → Bool) (olds news : List Line) → Looks may olds Refused news
     → AllByRecursion (IsWholeLine turns) olds → HasRefused turns news
 refused-after-looks turns may [] [] looks whole =
@@ -119,7 +123,7 @@ refused-after-looks turns may (old ∷ olds) (new ∷ news) (Passed passes same 
     (refused-after-looks turns may olds news rest whole.1)
 refused-after-looks turns may (old ∷ olds) (new ∷ news) (Stopped looked ends look same) whole =
     subst (λ (ls : List Line). HasRefused turns (new ∷ ls)) (sym same) (refused-here turns old new olds look whole)
-refused-after-looks turns may (old ∷ olds) (new ∷ news) (Went first next looked goes look rest is) whole =
+refused-after-looks turns may (old ∷ olds) (new ∷ news) (Went first next seen goes look rest is) whole =
     refused-later turns new news (whole-after-look turns old new first goes look whole.0)
     (refused-after-looks turns may olds news (found-later may olds news Refused first next refl is rest) whole.1)
 
@@ -205,6 +209,7 @@ same-after-look old new Part quiet look = ap (λ (l : Line). l.other) look.is
 same-after-look old new (Whole sender stamp frame) quiet look = absurd (both_ways true quiet refl)
 same-after-look old new Refused quiet look = absurd (both_ways true quiet refl)
 
+-- after looks that found it
 pub frame-after-looks : (turns : Log) (may : ℕ → Bool) (olds news : List Line) (sender stamp : ℕ) (frame : Frame)
     → AreApart (others_in olds) → Looks may olds (Whole sender stamp frame) news
     → AllByRecursion (IsWholeLine turns) olds
@@ -222,7 +227,7 @@ frame-after-looks turns may (old ∷ olds) (new ∷ news) sender stamp frame apa
     (λ (ls : List Line).
     HasFrame turns may (others_in (old ∷ olds)) (new ∷ ls) sender (stamped stamp frame))
     (sym same) (frame-here turns may old new olds sender stamp frame looked apart look whole)
-frame-after-looks turns may (old ∷ olds) (new ∷ news) sender stamp frame apart (Went first next looked goes look rest is)
+frame-after-looks turns may (old ∷ olds) (new ∷ news) sender stamp frame apart (Went first next seen goes look rest is)
     whole =
     frame-later turns may old.other (others_in olds) new news sender (stamped stamp frame)
     (same-after-look old new first goes look) apart.0 (whole-after-look turns old new first goes look whole.0)
