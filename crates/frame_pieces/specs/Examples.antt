@@ -3,7 +3,7 @@ use Rattle.std.specs.Prelude.{◌≡◌, pos, List, [], ◌∷◌, length, map, 
 use Rattle.pico_base.specs.declared.reply.Reply.TheVariants as replies
 use Rattle.rpc_frame.specs.declared.frame.Frame.TheVariants as frames
 use Rattle.stream_pair.specs.Pieces.{piece}
-use Rattle.frame_pieces.specs.Stamped.{StampedFrame, stamped}
+use Rattle.log_laws.specs.Logs.{StampedFrame, stamped}
 use Rattle.frame_pieces.specs.Pieces.{pieces_of}
 
 -- a short frame goes as one piece: its length, and its code

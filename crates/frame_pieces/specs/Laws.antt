@@ -6,7 +6,7 @@ use Rattle.frame_bytes.specs.declared.fault.FrameFault.{FrameFault}
 use Rattle.frame_bytes.specs.declared.fault.FrameFault.TheVariants.{Memory}
 use Rattle.frame_bytes.specs.Frames.{frame_bytes}
 use Rattle.frame_bytes.specs.Streams.{Left, Rest, Feeds}
-use Rattle.frame_pieces.specs.Stamped.{StampedFrame, stamped}
+use Rattle.log_laws.specs.Logs.{StampedFrame, stamped}
 use Rattle.frame_pieces.specs.Pieces.{pieces_of_frame, pieces_of, bytes_of, AreFrames, Took}
 
 -- `begun` are the first pieces of the first of these frames, and at least one piece of it is to come. `rest` are its

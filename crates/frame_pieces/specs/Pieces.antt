@@ -6,7 +6,7 @@ use Rattle.stream_pair.specs.declared.piece.Piece.{Piece}
 use Rattle.stream_pair.specs.Pieces.{pieces}
 use Rattle.frame_bytes.specs.Frames.{IsFrame, frame_bytes}
 use Rattle.frame_bytes.specs.Streams.{Left, Rest, Feeds}
-use Rattle.frame_pieces.specs.Stamped.{StampedFrame, stamped}
+use Rattle.log_laws.specs.Logs.{StampedFrame, stamped}
 
 -- the pieces in which a frame is sent, under the stamp of the event that sends it
 abbrev pub pieces_of_frame : StampedFrame → List Piece
@@ -16,6 +16,7 @@ pieces_of_frame s = pieces s.stamp (frame_bytes s.frame)
 abbrev pub pieces_of : List StampedFrame → List Piece
 pieces_of sent = flat_map pieces_of_frame sent
 
+-- the bytes of pieces, one behind the other
 abbrev pub bytes_of : List Piece → List ℕ
 bytes_of ps = flat_map (λ p. p.bytes) ps
 
