@@ -141,13 +141,18 @@ def form_of(name: str, words: list[Word]) -> Form:
     return Form(text, (object_of, ("what to do", plain(parts.one_of, "it", listed))))
 
 
-# in a trace numbers stand in the place of variables, and a process number may be 0, as a variable's value may
-IN_TRACE = {
-    "P": plain(parts.number, "P", 0, parts.GREATEST),
-    "Q": plain(parts.number, "Q", 0, parts.GREATEST),
-    "S": plain(parts.number, "S", 0, parts.GREATEST),
-    "W": lambda word, followed: None if word == b"any" else parts.number(word, "W", 0, parts.GREATEST),
-}
+def actual(name: str) -> Check:
+    """In a trace numbers stand in the place of variables, and a process number may be 0, as a variable's value may."""
+
+    def check(word: bytes, followed: bool) -> Wrong | None:
+        if word.startswith(b"$"):
+            return Wrong("a trace has no variables", f"the number that {parts.say(word)} had")
+        return None if word == b"any" and name == "W" else parts.number(word, name, 0, parts.GREATEST)
+
+    return check
+
+
+IN_TRACE = {name: actual(name) for name in "PQSW"}
 
 
 def fault_of(name: str, words: list[Word], end: int, in_trace: bool = False) -> Fault | None:

@@ -2,6 +2,7 @@
 from __future__ import annotations
 
 import re
+from dataclasses import replace
 
 from . import parts
 from .calls import NAMES, Fault, Word, fault_of
@@ -90,7 +91,7 @@ def wrong_call(words: list[Word], sign: Word, blocks) -> Fault | None:
         return no_call(words, name)
     fault = fault_of(name, words[1:], sign.start - 1, in_trace=True)
     if fault:
-        return fault
+        return replace(fault, page=PAGE)
     if name == "fork" and words[1].text not in blocks:
         no_block = Wrong(f"the script has no block {parts.say(words[1].text)}", "the name of a block")
         return fault_at(words[1], no_block, "fork NAME", PAGE)
@@ -104,7 +105,7 @@ def no_call(words: list[Word], name: str) -> Fault:
     what, expected = f"{parts.say(words[0].text)} is no call", nearest(name, NAMES) or "the call with its numbers"
     if name == "try":
         what, expected = "a trace has each try in a line of its own, without `try N`", "the call with its numbers"
-    elif len(words) > 1 and words[1].text == b"=":
+    elif len(words) == 1 and parts.VARIABLE.fullmatch(words[0].text):
         what, expected = "a trace has no variables", "the call with its numbers"
     return Fault(what, expected, words[0].start, words[0].end, FORM, PAGE)
 

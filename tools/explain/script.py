@@ -508,7 +508,7 @@ def unset_variable(reader: Reader, words: list[Word], line: bytes):
     elsewhere = next(
         (at for at, it in enumerate(reader.words, 1) if call_of(it).sets and call_of(it).sets.text == word.text[1:]), 0
     )
-    if elsewhere:
+    if elsewhere and reader.lines[elsewhere - 1] is not line:
         fork = reader.forked.get(reader.block.name, 0)
         why = "sets it, in another block" if elsewhere < reader.block.line else "sets it, and stands below"
         if elsewhere < reader.block.line and fork and fork < elsewhere:

@@ -9,7 +9,10 @@ PAGE = "./pico --help"
 MAX_SEED = 2147483646
 # the modes that read standard input, and the most that each reads
 READS = {"run": 1048576, "sim": 1048576, "check": 68161537}
+# the modes that the usage line names, and those that are built
 MODES = ("run", "sim", "check", "gen")
+BUILT = MODES[1:]
+BUILT_TEXT = f"{', '.join(BUILT[:-1])} or {BUILT[-1]}"
 OWN = ("--help", "-h", "--version", "--prove")
 
 
@@ -91,7 +94,7 @@ def unknown_word(given: list[str], found: Words) -> tuple[int, str, str] | None:
 
 
 def wrong_mode(given: list[str], found: Words) -> tuple[int, str, str] | None:
-    modes = "a mode: sim, check or gen"
+    modes = f"a mode: {BUILT_TEXT}"
     if found.mode is None:
         return len(given), "no mode is named", modes
     if found.mode not in MODES:
@@ -154,7 +157,7 @@ def explain_words(given: list[str]) -> Finding:
     """Why the words were refused."""
     fault = fault_of(given)
     if fault is None:
-        return Finding(f"this program has no mode `{words_of(given).mode}` yet", form="sim, check or gen", page=PAGE)
+        return Finding(f"this program has no mode `{words_of(given).mode}` yet", form=BUILT_TEXT, page=PAGE)
     place, what, expected = fault
     line = " ".join(["./pico", *given])
     start = len(" ".join(["./pico", *given[:place]])) + 1
