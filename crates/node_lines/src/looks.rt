@@ -9,11 +9,11 @@ use pico_base::{Memory, Node};
 use std::sync::Wait;
 
 /// Whether a line is looked at.
-fn may_look(only: Option<Node>, other: Node) -> bool
-    ensures { result ≡ may_look only other }
+fn may_look(only: &Option<Node>, other: Node) -> bool
+    ensures { result ≡ may_look only.now other }
 {
     match only {
-        Some(only) => other == only,
+        Some(only) => other == *only,
         None => true,
     }
 }
@@ -28,16 +28,15 @@ pub fn look_at_each<R: Wait>(
     ensures looks { IfOk result (λ found. Looks (may_look only) lines.old found lines.new) }
     ensures same { AreSameLines lines.old lines.new }
 {
-    let mut all = Found::Nothing;
+    let mut part = false;
     for line in lines.iter_mut() {
-        if !may_look(only, line.other()) {
-            continue;
-        }
-        match line.look(rt)? {
-            Found::Nothing => {}
-            Found::Part => all = Found::Part,
-            found => return Ok(found),
+        if may_look(&only, line.other()) {
+            match line.look(rt)? {
+                Found::Nothing => {}
+                Found::Part => part = true,
+                found => return Ok(found),
+            }
         }
     }
-    Ok(all)
+    if part { Ok(Found::Part) } else { Ok(Found::Nothing) }
 }
