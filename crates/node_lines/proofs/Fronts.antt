@@ -1,11 +1,13 @@
 -- A loop over lines, of which a front is done.
-use Rattle.std.proofs.Common.{◌≡◌, ℕ, zero, suc, ◌<◌, Bool, true, false, ◌||◌, List, [], ◌∷◌, length, get_or, set, map, refl, sym, ap, subst, ◌∙◌, arith}
-use Rattle.std.proofs.lemmas.List.{set-get_or}
+use Rattle.std.proofs.Common.{◌≡◌, ℕ, zero, suc, ◌+◌, ◌<◌, Bool, true, false, ◌||◌, List, [], ◌∷◌, length, get_or, set, map, Option, refl, sym, ap, subst, ◌∙◌, add-one, arith}
 use Rattle.std.proofs.lemmas.Bool.{false≢true}
+use Rattle.std.proofs.Math.Bool.{or-false, or-true, or_assoc}
 use Rattle.log_model.specs.declared.found.Found.{Found}
 use Rattle.log_model.specs.declared.found.Found.TheVariants.{Nothing, Part, Whole, Refused}
 use Rattle.log_model.specs.Views.{Line}
-use Rattle.log_model.specs.Looks.{IsLook, LooksOn, Passed, Stopped, Went, Looks, ends_looks, both_found}
+use Rattle.log_model.specs.Looks.{after_nothing, IsLook, LooksOn, Passed, Stopped, Went, Looks, ends_looks, both_found}
+use Rattle.node_lines.specs.Lines.{IsSameLine, AreSameLines, may_look}
+use Rattle.node_lines.proofs.Same.{IsSameLine-refl, AreSameLines-refl, AreSameLines-set}
 
 -- ---- each of a front is changed
 
@@ -20,17 +22,11 @@ front-next f [] i y d h e = absurd (omega arith)
 front-next f (x ∷ xs) zero y d h e = ap (λ z. z ∷ xs) e
 front-next f (x ∷ xs) (suc i) y d h e = ap (λ zs. f x ∷ zs) (front-next f xs i y d (omega arith) e)
 
--- the next one is changed, too
+-- the next one is changed, too, or is one that doesn't change
 pub map_front-next : {X : Type 0} (f : X → X) (olds news : List X) (i : ℕ) (y d : X) → news ≡ map_front f i olds
     → i < length olds → y ≡ f (get_or news i d) → set news i y ≡ map_front f (suc i) olds
 map_front-next f olds news i y d e h is =
     ap (λ ns. set ns i y) e ∙ front-next f olds i y d h (is ∙ ap (λ ns. f (get_or ns i d)) e)
-
--- or it is one that doesn't change
-pub map_front-skip : {X : Type 0} (f : X → X) (olds news : List X) (i : ℕ) (d : X) → news ≡ map_front f i olds
-    → i < length olds → get_or news i d ≡ f (get_or news i d) → news ≡ map_front f (suc i) olds
-map_front-skip f olds news i d e h is =
-    sym (set-get_or news i d) ∙ map_front-next f olds news i (get_or news i d) d e h is
 
 pub map_front-all : {X : Type 0} (f : X → X) (xs : List X) → map_front f (length xs) xs ≡ map f xs
 map_front-all f [] = refl
@@ -60,14 +56,6 @@ LooksAtFront may (suc i) (old ∷ olds) part (new ∷ news) =
     LooksFirst (may old.other) old new part (λ next. LooksAtFront may i olds next news)
 LooksAtFront may (suc i) olds part news = ⊥
 
-or-false : (b : Bool) → b || false ≡ b
-or-false true = refl
-or-false false = refl
-
-or-assoc : (a b c : Bool) → (a || b) || c ≡ a || (b || c)
-or-assoc true b c = refl
-or-assoc false b c = refl
-
 -- the next one was looked at
 pub LooksAtFront-next : (may : ℕ → Bool) (i : ℕ) (olds : List Line) (part : Bool) (news : List Line) (y d : Line)
     (now : Bool) → LooksAtFront may i olds part news → i < length news
@@ -91,7 +79,7 @@ LooksAtFront-next may (suc i) (old ∷ olds) part (x ∷ xs) y d now h below loo
       look = h.look;
       next = h.next || now;
       others = LooksAtFront-next may i olds h.next xs y d now h.others (omega arith) look;
-      either = ap (λ p. p || now) h.either ∙ or-assoc h.first h.next now;
+      either = ap (λ p. p || now) h.either ∙ or_assoc h.first h.next now;
     }
 
 -- ---- what the looks come to
@@ -121,13 +109,13 @@ Looks-all may (old ∷ olds) part [] h = absurd h
 Looks-all may (old ∷ olds) part (new ∷ news) h =
     let rest : Looks may olds (part_if h.next) news = Looks-all may olds h.next news h.others in
     elim h.look [
-      Past m e none ↦
-        let same : h.next ≡ part = ap (λ f. f || h.next) (sym none) ∙ sym h.either in
-        let P : Bool → Type 0 = λ p. Looks may olds (part_if p) news in
-        Passed m e (subst P same rest)
-    | Looked m look ↦
-        Went (part_if h.first) (part_if h.next) m (goes-on h.first) look rest
-        (ap part_if h.either ∙ both-parts h.first h.next)
+      | Past m e none ↦
+          let same : h.next ≡ part = ap (λ f. f || h.next) (sym none) ∙ sym h.either in
+          let P : Bool → Type 0 = λ p. Looks may olds (part_if p) news in
+          Passed m e (subst P same rest)
+      | Looked m look ↦
+          Went (part_if h.first) (part_if h.next) m (goes-on h.first) look rest
+          (ap part_if h.either ∙ both-parts h.first h.next)
     ]
 
 -- or this look ends them
@@ -143,9 +131,97 @@ Looks-end may (suc i) [] part news y d found h below m end look = absurd h
 Looks-end may (suc i) (old ∷ olds) part [] y d found h below m end look = absurd h
 Looks-end may (suc i) (old ∷ olds) part (x ∷ xs) y d found h below m end look =
     let rest : Looks may olds found (set xs i y) =
-      Looks-end may i olds h.next xs y d found h.others (omega arith) m end look
+    Looks-end may i olds h.next xs y d found h.others (omega arith) m end look
     in
     elim h.look [
-      Past n e none ↦ Passed n e rest
-    | Looked n first ↦ Went (part_if h.first) found n (goes-on h.first) first rest (both-end h.first found end)
+      | Past n e none ↦ Passed n e rest
+      | Looked n first ↦ Went (part_if h.first) found n (goes-on h.first) first rest (both-end h.first found end)
     ]
+
+-- ---- the loop's own steps
+
+ends-others : (found : Found) → (found ≡ Nothing → ⊥) → (found ≡ Part → ⊥) → ends_looks found ≡ true
+ends-others Nothing n p = absurd (n refl)
+ends-others Part n p = absurd (p refl)
+ends-others (Whole sender stamp frame) n p = refl
+ends-others Refused n p = refl
+
+-- a test's answer is the word's
+pub may_look-is : (only : Option ℕ) (other told : ℕ) (answer : Bool) → told ≡ other → answer ≡ may_look only told
+    → may_look only other ≡ answer
+may_look-is only other told answer e is = ap (may_look only) (sym e) ∙ sym is
+
+-- what a loop over lines has come to: the lines of a front were looked at, and each is the line that it was
+pub record LookedSoFar (may : ℕ → Bool) (i : ℕ) (olds : List Line) (part : Bool) (news : List Line) : Type 0 where
+  pub looks : LooksAtFront may i olds part news
+  pub same : AreSameLines olds news
+
+pub LookedSoFar-none : (may : ℕ → Bool) (lines : List Line) → LookedSoFar may 0 lines false lines
+LookedSoFar-none may lines = record { looks = (refl, refl); same = AreSameLines-refl lines }
+
+-- the next one was looked at, or passed
+pub LookedSoFar-next : (may : ℕ → Bool) (i : ℕ) (olds : List Line) (part : Bool) (news : List Line) (y d : Line)
+    (now both : Bool) (after : List Line) → LookedSoFar may i olds part news → i < length news
+    → LooksAtOne (may (get_or news i d).other) (get_or news i d) y now → IsSameLine (get_or news i d) y
+    → both ≡ part || now → after ≡ set news i y → LookedSoFar may (i + 1) olds both after
+LookedSoFar-next may i olds part news y d now both after so below look same either set_is =
+    let looks : LooksAtFront may (suc i) olds (part || now) (set news i y) =
+    LooksAtFront-next may i olds part news y d now so.looks below look
+    in
+    let next : LookedSoFar may (suc i) olds (part || now) (set news i y) =
+    record { looks = looks; same = AreSameLines-set olds news i y d so.same same }
+    in
+    let At : ℕ → Type 0 = λ k. LookedSoFar may k olds (part || now) (set news i y) in
+    let Found : Bool → Type 0 = λ b. LookedSoFar may (i + 1) olds b (set news i y) in
+    let Left : List Line → Type 0 = λ ns. LookedSoFar may (i + 1) olds both ns in
+    subst Left (sym set_is) (subst Found (sym either) (subst At (sym (add-one i)) next))
+
+-- it was looked at, and nothing was found
+pub LookedSoFar-nothing : (may : ℕ → Bool) (i : ℕ) (olds : List Line) (part : Bool) (news : List Line) (y d : Line)
+    (both : Bool) (after : List Line) → LookedSoFar may i olds part news → i < length news
+    → may (get_or news i d).other ≡ true → y ≡ after_nothing (get_or news i d) → both ≡ part
+    → after ≡ set news i y → LookedSoFar may (i + 1) olds both after
+LookedSoFar-nothing may i olds part news y d both after so below m empty is set_is =
+    let same : IsSameLine (get_or news i d) y =
+    record {
+      other = ap (λ line. line.other) empty;
+      out = ap (λ line. line.out.stream) empty;
+      into = ap (λ line. line.into.stream) empty;
+    }
+    in
+    LookedSoFar-next may i olds part news y d false both after so below (Looked m empty) same
+    (is ∙ sym (or-false part)) set_is
+
+-- or a part was found
+pub LookedSoFar-part : (may : ℕ → Bool) (i : ℕ) (olds : List Line) (part : Bool) (news : List Line) (y d : Line)
+    (both : Bool) (after : List Line) → LookedSoFar may i olds part news → i < length news
+    → may (get_or news i d).other ≡ true → IsLook (get_or news i d) Part y → IsSameLine (get_or news i d) y
+    → both ≡ true → after ≡ set news i y → LookedSoFar may (i + 1) olds both after
+LookedSoFar-part may i olds part news y d both after so below m look same is set_is =
+    LookedSoFar-next may i olds part news y d true both after so below (Looked m look) same
+    (is ∙ sym (or-true part)) set_is
+
+-- or it was passed
+pub LookedSoFar-passed : (may : ℕ → Bool) (i : ℕ) (olds : List Line) (part : Bool) (news : List Line) (d : Line)
+    (both : Bool) (after : List Line) → LookedSoFar may i olds part news → i < length news
+    → may (get_or news i d).other ≡ false → both ≡ part
+    → after ≡ set news i (get_or news i d) → LookedSoFar may (i + 1) olds both after
+LookedSoFar-passed may i olds part news d both after so below m is after_is =
+    LookedSoFar-next may i olds part news (get_or news i d) d false both after so below (Past m refl refl)
+    (IsSameLine-refl (get_or news i d)) (is ∙ sym (or-false part)) after_is
+
+-- at the end of the lines
+pub LookedSoFar-all : (may : ℕ → Bool) (i : ℕ) (olds : List Line) (part : Bool) (news : List Line) (found : Found)
+    → LookedSoFar may i olds part news → i ≡ length olds → part_if part ≡ found → Looks may olds found news
+LookedSoFar-all may i olds part news found so all is =
+    let Front : ℕ → Type 0 = λ k. LooksAtFront may k olds part news in
+    let Finds : Found → Type 0 = λ f. Looks may olds f news in
+    subst Finds is (Looks-all may olds part news (subst Front all so.looks))
+
+-- where a look ends them
+pub LookedSoFar-end : (may : ℕ → Bool) (i : ℕ) (olds : List Line) (part : Bool) (news : List Line) (y d : Line)
+    (found : Found) → LookedSoFar may i olds part news → i < length news
+    → may (get_or news i d).other ≡ true → (found ≡ Nothing → ⊥) → (found ≡ Part → ⊥)
+    → IsLook (get_or news i d) found y → Looks may olds found (set news i y)
+LookedSoFar-end may i olds part news y d found so below m not_nothing not_part look =
+    Looks-end may i olds part news y d found so.looks below m (ends-others found not_nothing not_part) look

@@ -29,7 +29,7 @@ pieces-append : (stamp : ℕ) (fs gs : List Frame)
     → pieces_under stamp (fs ++ gs) ≡ pieces_under stamp fs ++ pieces_under stamp gs
 pieces-append stamp fs gs =
     ap pieces_of (map-append (stamped stamp) fs gs)
-        ∙ flat_map-append pieces_of_frame (map (stamped stamp) fs) (map (stamped stamp) gs)
+    ∙ flat_map-append pieces_of_frame (map (stamped stamp) fs) (map (stamped stamp) gs)
 
 -- a frame that is sent alone goes to the line with its receiver
 pub with_sent-one : (stamp to : ℕ) (frame : Frame) (line : Line) → line.other ≡ to
@@ -37,8 +37,8 @@ pub with_sent-one : (stamp to : ℕ) (frame : Frame) (line : Line) → line.othe
 with_sent-one stamp to frame line e =
     ap (with_pieces line)
     (ap (λ ps. line.out.sent ++ ps) (sym (append-nil (pieces stamp (frame_bytes frame))))
-        ∙ ap (λ b. line.out.sent ++ pieces_under stamp (frame_if b frame ++ []))
-          (sym (eq-eqb to line.other (sym e))))
+    ∙ ap (λ b. line.out.sent ++ pieces_under stamp (frame_if b frame ++ []))
+    (sym (eq-eqb to line.other (sym e))))
 
 -- and leaves the others as they are
 pub with_sent-other : (stamp to : ℕ) (frame : Frame) (line : Line) → line.other ≢ to
@@ -46,8 +46,8 @@ pub with_sent-other : (stamp to : ℕ) (frame : Frame) (line : Line) → line.ot
 with_sent-other stamp to frame line d =
     ap (with_pieces line)
     (sym (append-nil line.out.sent)
-        ∙ ap (λ b. line.out.sent ++ pieces_under stamp (frame_if b frame ++ []))
-          (sym (ne_eqb to line.other (λ e. d (sym e)))))
+    ∙ ap (λ b. line.out.sent ++ pieces_under stamp (frame_if b frame ++ []))
+    (sym (ne_eqb to line.other (λ e. d (sym e)))))
 
 -- nothing is sent
 pub with_sent-none : (stamp : ℕ) (line : Line) → with_sent stamp [] line ≡ line
@@ -61,8 +61,8 @@ with_sent-further stamp s rest line =
     let others = sent_to line.other rest in
     ap (with_pieces line)
     (append_assoc line.out.sent (pieces_under stamp (first ++ [])) (pieces_under stamp others)
-        ∙ ap (λ fs. line.out.sent ++ (pieces_under stamp fs ++ pieces_under stamp others)) (append-nil first)
-        ∙ ap (λ ps. line.out.sent ++ ps) (sym (pieces-append stamp first others)))
+    ∙ ap (λ fs. line.out.sent ++ (pieces_under stamp fs ++ pieces_under stamp others)) (append-nil first)
+    ∙ ap (λ ps. line.out.sent ++ ps) (sym (pieces-append stamp first others)))
 
 both : {X : Type 0} (x y : X) (xs ys : List X) → x ≡ y → xs ≡ ys → x ∷ xs ≡ y ∷ ys
 both x y xs ys e f = λ i. e i ∷ f i

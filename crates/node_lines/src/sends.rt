@@ -22,9 +22,7 @@ fn has_line(lines: &[Line], to: Node) -> bool
 pub fn may_send(lines: &[Line], sends: &[(Node, Frame)]) -> bool
     ensures { result ≡ may_send lines.now sends.now }
 {
-    sends
-        .iter()
-        .all(|(to, frame)| has_line(lines, *to) && is_within_limits(frame))
+    sends.iter().all(|(to, frame)| has_line(lines, *to) && is_within_limits(frame))
 }
 
 /// Sends each frame to its receiver, in order and all under this stamp. Where memory is refused a front of them, and a
