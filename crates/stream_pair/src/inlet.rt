@@ -97,6 +97,12 @@ impl In {
         Some(piece)
     }
 
+    /// What the bell with which this stream was made says of all streams to this receiver, as [`Bell::silence`].
+    #[inline(always)]
+    pub fn silence(&self) -> Option<Silence> {
+        self.bell.silence()
+    }
+
     /// Notes a look that found this stream empty. The silence is to be one of the bell with which this stream was made,
     /// heard since this end last looked: no clause ties it to either.
     #[inline(always)]
