@@ -1,0 +1,2 @@
+pub mod Forkers
+pub mod Laws
