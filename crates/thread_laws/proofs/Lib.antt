@@ -4,3 +4,7 @@ pub mod Streams
 pub mod Journals
 pub mod Merged
 pub mod Stamps
+pub mod Heads
+pub mod Faults
+pub mod Runs
+pub mod Follows
