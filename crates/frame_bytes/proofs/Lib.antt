@@ -7,3 +7,4 @@ pub mod StreamLaws
 pub mod FirstLaws
 pub mod Appending
 pub mod LimitTestLaws
+pub mod LengthLaws

@@ -1,6 +1,6 @@
 -- The tests of a frame's limits decide them.
-use Rattle.std.proofs.Common.{◌≡◌, ℕ, ◌<◌, ◌≤◌, Bool, true, false, ◌&&◌, List, [], ◌∷◌, length, Some, refl, arith}
-use Rattle.std.specs.Prelude.{nat_lt, nat_le}
+use Rattle.std.proofs.Common.{◌≡◌, ℕ, ◌<◌, ◌≤◌, Bool, true, false, ◌&&◌, List, [], ◌∷◌, length, Some, refl, sym, ◌∙◌, arith}
+use Rattle.std.specs.Prelude.{◌↔◌, IsTrue, nat_lt, nat_le}
 use Rattle.std.specs.List.{list_all, AllByRecursion}
 use Rattle.std.proofs.lemmas.Bool.{false≢true}
 use Rattle.std.proofs.lemmas.Bool.Decides.{nat_tests}
@@ -107,7 +107,7 @@ asking-passes : (ticket : ℕ) (call : Call) → (nat_lt 0 ticket && is_call cal
     × IsCallWithin call
 asking-passes ticket call h = (left (nat_lt 0 ticket) _ h, call-passes call (right (nat_lt 0 ticket) _ h))
 
-fields-pass : (f : Frame) → has_fields f ≡ true → FieldsWithin f
+pub fields-pass : (f : Frame) → has_fields f ≡ true → FieldsWithin f
 fields-pass (frames.Ask ticket pid call) h = asking-passes ticket call h
 fields-pass (frames.Request ticket pid call) h = asking-passes ticket call h
 fields-pass (frames.Forward asked) h = asking-passes asked.ticket asked.call h
@@ -242,3 +242,7 @@ short-is n h = grind (arith, nat_tests)
 -- and one within the limits passes it
 pub frame-is : (f : Frame) → IsWithinLimits f → is_frame f ≡ true
 frame-is f h = both (has_fields f) _ (fields-are f h.fields) (short-is (length (frame_body f)) h.short)
+
+-- what has the value of the test decides the limits
+pub test-decides : (f : Frame) (b : Bool) → b ≡ is_frame f → IsTrue b ↔ IsWithinLimits f
+test-decides f b same = (λ h. frame-passes f (sym same ∙ h), λ h. same ∙ frame-is f h)

@@ -8,6 +8,8 @@ mod fields;
 mod frame_reading;
 mod joiner;
 mod laws;
+mod lengths;
+mod limits;
 mod many;
 mod reply_reading;
 mod splitting;
@@ -19,3 +21,4 @@ pub use joiner::Joiner;
 pub use laws::{
     a_stream_has_one_reading, limits_are_a_test, no_spelling_begins_another, pieces_do_not_matter,
 };
+pub use limits::is_within_limits;

@@ -12,7 +12,7 @@ use rpc_frame::Frame;
 use std::alloc::Global;
 
 /// The greatest number of a length field.
-const MAX_FRAME: u32 = 262_144;
+pub(crate) const MAX_FRAME: u32 = 262_144;
 
 /// What stands at the front of some bytes.
 #[derive(Drop)]

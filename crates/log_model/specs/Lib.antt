@@ -3,4 +3,3 @@ pub mod Forkers
 pub mod Looks
 pub mod Turns
 pub mod Logged
-pub mod Laws

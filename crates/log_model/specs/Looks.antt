@@ -16,14 +16,19 @@ use Rattle.log_model.specs.Views.{Line}
 abbrev pub after_nothing : Line → Line
 after_nothing l =
     record l {
-      into = record { stream = l.into.stream; taken = l.into.taken; looks = one_more_look l.into.looks };
+      into = record { stream = l.into.stream; taken = l.into.taken; told = l.into.told; looks = one_more_look l.into.looks };
     }
 
 -- a look that found this piece, behind which this is left
 abbrev pub after_piece : Line → Piece → Left → Line
 after_piece l piece left =
     record l {
-      into = record { stream = l.into.stream; taken = l.into.taken ++ piece ∷ []; looks = one_more_look l.into.looks };
+      into = record {
+        stream = l.into.stream;
+        taken = l.into.taken ++ piece ∷ [];
+        told = l.into.told;
+        looks = one_more_look l.into.looks;
+      };
       left = left;
     }
 

@@ -1,10 +1,11 @@
 -- A turn of a node that logs: what it takes in, whether it has a rule, its stamp, and what it leaves.
 use Rattle.std.specs.Prelude.{◌≡◌, ◌⊎◌, ℕ, ◌+◌, ◌-◌, ◌^◌, ◌≤◌, Bool, true, false, ◌&&◌, ◌||◌, min, max, nat_eq, if◌then◌else◌, List, [], ◌∷◌, ◌++◌, map, Option, Some, None}
-use Rattle.std.specs.List.{list_all, list_any}
+use Rattle.std.specs.List.{list_all, list_any, AllByRecursion}
 use Rattle.std.specs.Option.{option_and_then}
 use Rattle.pico_base.specs.declared.script.Script.{Script}
 use Rattle.pico_base.specs.declared.reply.Entry.{Entry}
 use Rattle.rpc_frame.specs.declared.frame.Frame.{Frame}
+use Rattle.frame_bytes.specs.Frames.{IsFrame}
 use Rattle.frame_bytes.specs.LimitTests.{is_frame}
 use Rattle.journal_core.specs.declared.fault.AppendFault.TheVariants as append_faults
 use Rattle.journal_core.specs.Seated.{Seated, IsStamp, Appends, Refuses}
@@ -89,15 +90,18 @@ with_sent stamp sends line =
 abbrev pub one_more_quiet : ℕ → ℕ
 one_more_quiet quiet = min (quiet + 1) (2 ^ 64 - 1)
 
--- an event of the machine: the node is left as the rule says, and log, entries and frames have the event's stamp
+-- An event of the machine: the node is left as the rule says, and log, entries and frames have the event's stamp. Each
+-- frame has a spelling: besides what the rule's test says, the numbers of its fields have the ranges of their types.
 pub record DoesEvent (script : Script) (old : LoggedNode) (n : Node) (found : Found) (lines : List Line)
     (new : LoggedNode) : Type 0 where
   pub input : Input
   pub is_input : input_of n found ≡ Some input
   pub step : Step
   pub is_step : rule_of script lines n input ≡ Some step
+  pub frames : AllByRecursion (λ s. IsFrame s.1) step.sends
   pub stamp : ℕ
   pub is_stamp : IsStamped (floor_of old.clock input) step.entries old.seat new.seat stamp
+  pub seat : new.seat.number ≡ old.seat.number
   pub is : new ≡ record old {
     node = Some step.node;
     forker = new.forker;
@@ -144,6 +148,7 @@ pub record EndsFull (script : Script) (old : LoggedNode) (n : Node) (found : Fou
   pub step : Step
   pub is_step : rule_of script lines n input ≡ Some step
   pub no_stamp : HasNoStamp (floor_of old.clock input) step.entries old.seat new.seat last
+  pub seat : new.seat.number ≡ old.seat.number
   pub is : new ≡ with_fault old lines new (faults.StampEnd last)
 
 -- what each answer says, behind the looks

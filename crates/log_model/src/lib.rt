@@ -7,7 +7,3 @@ mod found;
 
 pub use answer::{LogFault, TurnAnswer};
 pub use found::Found;
-
-mod laws;
-
-pub use laws::{new_nodes_are_logged, turns_keep_logs};

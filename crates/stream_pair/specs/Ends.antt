@@ -17,10 +17,11 @@ pub record Sending : Type 0 where
   pub stream : StreamId
   pub sent : List Piece
 
--- the end that takes, all that it has taken, and its number of looks
+-- the end that takes, all that it has taken, what it was last shown to have been sent, and its number of looks
 pub record Taking : Type 0 where
   pub stream : StreamId
   pub taken : List Piece
+  pub told : List Piece
   pub looks : ℕ
 
 -- the number of looks after one more: it stands still at its type's last value
@@ -36,13 +37,21 @@ sent_by pass = pass.me.view.client.sent
 abbrev pub taken_by : Pass → List Piece
 taken_by pass = pass.me.view.client.taken
 
+-- the stream of this pass
+abbrev pub stream_of : Pass → StreamId
+stream_of pass = record { web = pass.web; heap = pass.heap }
+
 -- the pass that may send on this stream, when this was sent
 abbrev pub IsSender : StreamId → Pass → List Piece → Type 0
 IsSender stream pass sent = IsSegPassOf stream pass × (pass.me.view.client ≡ hand true false sent [])
 
--- the pass that may take from this stream, when this was taken
-abbrev pub IsTaker : StreamId → Pass → List Piece → Type 0
-IsTaker stream pass taken = IsSegPassOf stream pass × (pass.me.view.client ≡ hand false true [] taken)
+-- the pass that may take from this stream, when it was told of so much and this was taken
+abbrev pub IsTaker : StreamId → Pass → List Piece → List Piece → Type 0
+IsTaker stream pass told taken = IsSegPassOf stream pass × (pass.me.view.client ≡ hand false true told taken)
+
+-- the pass that knows that this was sent, and may do nothing
+abbrev pub IsReceipt : StreamId → Pass → List Piece → Type 0
+IsReceipt stream pass sent = IsSegPassOf stream pass × (pass.me.view.client ≡ hand false false sent [])
 
 -- the pass that may do both
 abbrev pub IsBoth : StreamId → Pass → Type 0

@@ -1,5 +1,5 @@
 -- The rule of a stream: what was sent is what was taken, followed by what the queue holds. One end at most may send,
--- and it knows what was sent; one at most may take, and it knows what was taken.
+-- and it knows what was sent; one at most may take, and it knows what was taken. Of what was sent each knows a front.
 use Rattle.std.specs.Prelude.{◌≡◌, ℕ, Bool, true, false, List, [], ◌∷◌, ◌++◌, length, drop}
 use mathlib.Core.Option.{some}
 use lib.ListN.{get_elem?}
@@ -9,10 +9,16 @@ use Rattle.stream_pair.specs.declared.order.Hand.{Hand}
 abbrev pub hand : Bool → Bool → List Piece → List Piece → Hand
 hand sends takes sent taken = record { sends = sends; takes = takes; sent = sent; taken = taken }
 
+-- the one list begins the other
+pub record Begins (front all : List Piece) : Type 0 where
+  pub rest : List Piece
+  pub whole : all ≡ front ++ rest
+
 -- what the end with this number knows, where `sender` and `taker` are the numbers of the ends that may send and take
 pub record Knows (sender taker : ℕ) (sent taken : List Piece) (end : ℕ) (h : Hand) : Type 0 where
   pub sends : h.sends ≡ true → (end ≡ sender) × (h.sent ≡ sent)
   pub takes : h.takes ≡ true → (end ≡ taker) × (h.taken ≡ taken)
+  pub front : Begins h.sent sent
 
 -- the queue holds these items, and the ends, by their numbers, know this
 pub record IsInOrder (items : List Piece) (hands : List Hand) : Type 0 where
@@ -40,9 +46,10 @@ pub record WasThere (h : Hand) (items : List Piece) : Type 0 where
   pub order : IsInOrder items hands
   pub knew : get_elem? hands end ≡ some h
 
--- at one step of the stream it was empty: what had been sent until then was just what is taken
-abbrev pub WasEmpty : List Piece → Type 0
-WasEmpty taken = WasThere (hand false true [] taken) []
+-- at one step of the stream it was empty: what had been sent until then, and so all that its taker had been told of,
+-- was just what is taken
+abbrev pub WasEmpty : List Piece → List Piece → Type 0
+WasEmpty told taken = WasThere (hand false true told taken) []
 
 -- what was sent, behind what was taken
 abbrev pub left_of : Hand → List Piece

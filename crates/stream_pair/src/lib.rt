@@ -2,20 +2,24 @@
 //! taken in the order in which it was sent.
 #![tactic(auto)]
 
+mod bell;
 mod inlet;
 mod laws;
 mod order;
 mod outlet;
 mod piece;
+mod receipt;
 mod rest;
 mod stream;
 
+pub use bell::{Bell, Silence};
 pub use inlet::In;
 pub use laws::pieces_are_the_bytes;
 pub use outlet::Out;
 pub use piece::Piece;
+pub use receipt::Receipt;
 pub use rest::{Rest, settle};
-pub use stream::pair;
+pub use stream::{pair, pair_to};
 
 #[cfg(test)]
 mod tests;

@@ -48,6 +48,30 @@ impl Join<Hand> for Meets {
     ghost spent = { hand false false [] [] };
 }
 
+/// Who sends gives away what it knows to be sent, and nothing that it may do.
+pub struct Shows;
+
+impl Split<Hand> for Shows {
+    ghost use Rattle.std.specs.Prelude.{false, []};
+    ghost use Rattle.stream_pair.specs.Order.{hand};
+
+    ghost left = { λ h. h };
+
+    ghost right = { λ h. hand false false h.sent [] };
+}
+
+/// Who takes is told what was sent.
+pub struct Tells;
+
+impl Join<Hand> for Tells {
+    ghost use Rattle.std.specs.Prelude.{true, false, []};
+    ghost use Rattle.stream_pair.specs.Order.{hand};
+
+    ghost both = { λ into receipt. hand false true receipt.sent into.taken };
+
+    ghost spent = { hand false false [] [] };
+}
+
 /// A piece goes to the end of what was sent.
 pub struct Sends;
 

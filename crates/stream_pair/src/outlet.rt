@@ -4,8 +4,10 @@ ghost use Rattle.std.specs.Arc.{arc_value};
 ghost use Rattle.stream_pair.specs.Ends.{IsSender};
 ghost use Rattle.stream_pair.specs.Pieces.{piece, pieces, IsFrontSent};
 
-use crate::order::{Pass, Sends};
+use crate::bell::Bell;
+use crate::order::{Pass, Sends, Shows};
 use crate::piece::Piece;
+use crate::receipt::Receipt;
 use crate::stream::Stream;
 use pico_base::{Bytes, Memory};
 use std::alloc::Global;
@@ -20,6 +22,7 @@ const MAX_PIECE: usize = 512;
 pub struct Out {
     alloc: Global,
     stream: Arc<Stream, Global>,
+    bell: Bell,
     pass: Pass,
 }
 
@@ -36,13 +39,14 @@ impl Model for Out {
 
 impl Out {
     /// The end of this stream that has this pass, and hasn't sent yet.
-    pub(crate) fn new(alloc: Global, stream: Arc<Stream, Global>, pass: Pass) -> Out
+    pub(crate) fn new(alloc: Global, stream: Arc<Stream, Global>, bell: Bell, pass: Pass) -> Out
         requires { IsSender (arc_value stream).queue pass [] }
         ensures { (result.stream ≡ (arc_value stream).queue) × (result.sent ≡ []) }
     {
         Out {
             alloc,
             stream,
+            bell,
             pass,
         }
     }
@@ -56,6 +60,14 @@ impl Out {
         (stream, pass)
     }
 
+    /// That all that is sent by now was sent.
+    pub fn receipt(&mut self) -> Receipt
+        ensures receipt { (result.stream ≡ self.old.stream) × (result.sent ≡ self.old.sent) }
+        ensures same { (self.new.stream ≡ self.old.stream) × (self.new.sent ≡ self.old.sent) }
+    {
+        Receipt::new(self.stream.queue.another::<Shows>(&mut self.pass))
+    }
+
     /// Sends bytes as one piece.
     fn send_piece<R: Wait>(&mut self, rt: &R, stamp: u64, bytes: &[u8]) -> Result<(), Memory>
         ensures stream { self.new.stream ≡ self.old.stream }
@@ -64,6 +76,7 @@ impl Out {
     {
         let bytes = Bytes::from_slice(self.alloc, bytes)?;
         let piece = Piece { stamp, bytes };
+        self.bell.count_sent();
         match self
             .stream
             .queue

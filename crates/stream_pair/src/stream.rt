@@ -1,6 +1,7 @@
 //! A stream, which its two ends share.
 ghost use Rattle.std.specs.Prelude.{◌≡◌, [], IfOk};
 
+use crate::bell::Bell;
 use crate::inlet::In;
 use crate::order::{Parts, Queue};
 use crate::outlet::Out;
@@ -23,11 +24,24 @@ impl Drop for Stream {
 /// The two ends of a new stream, on which nothing was sent.
 pub fn pair(alloc: Global) -> Result<(Out, In), Memory>
     ensures one { IfOk result (λ ends. ends.0.stream ≡ ends.1.stream) }
-    ensures new { IfOk result (λ ends. (ends.0.sent ≡ []) × (ends.1.taken ≡ []) × (ends.1.looks ≡ 0)) }
+    ensures new { IfOk result (λ ends. (ends.0.sent ≡ []) × (ends.1.taken ≡ []) × (ends.1.told ≡ []) × (ends.1.looks ≡ 0)) }
 {
+    let bell = Bell::new(alloc)?;
+    pair_to(alloc, &bell)
+}
+
+/// The same, for a stream to the receiver with this bell.
+pub fn pair_to(alloc: Global, bell: &Bell) -> Result<(Out, In), Memory>
+    ensures one { IfOk result (λ ends. ends.0.stream ≡ ends.1.stream) }
+    ensures new { IfOk result (λ ends. (ends.0.sent ≡ []) × (ends.1.taken ≡ []) × (ends.1.told ≡ []) × (ends.1.looks ≡ 0)) }
+{
+    let (rung, heard) = (bell.share()?, bell.share()?);
     let (queue, mut sender) = Queue::with_rule(alloc)?;
     let taker = queue.another::<Parts>(&mut sender);
     let stream = Arc::new(alloc, Stream { queue })?;
     let theirs = stream.clone()?;
-    Ok((Out::new(alloc, stream, sender), In::new(theirs, taker)))
+    Ok((
+        Out::new(alloc, stream, rung, sender),
+        In::new(theirs, heard, taker),
+    ))
 }

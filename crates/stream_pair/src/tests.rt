@@ -1,10 +1,11 @@
 //! A long frame in pieces, a sender and a taker on two threads, and what is left when both ends are together again.
 ghost use Rattle.std.specs.Prelude.{◌≡◌, IfOk};
 
-use crate::{In, Out, Piece, pair, settle};
+use crate::{Bell, In, Out, Piece, pair, pair_to, settle};
 use pico_base::Memory;
 use std::process::Abort;
 use std::sync::Wait;
+use std::sync::atomic::{AtomicU64, Ordering};
 use std::test::*;
 use std::thread;
 use std::thread::{Threads, join};
@@ -31,10 +32,8 @@ fn taken<R: Wait>(rt: &R, into: &mut In) -> Option<(u64, usize)> {
 
 /// Where an allocation is refused, the first pieces come, and no others.
 #[test]
-fn a_long_frame_goes_in_three_pieces(rt: HostRuntime) {
-    let Ok((mut out, mut into)) = pair(rt.alloc()) else {
-        return;
-    };
+fn a_long_frame_goes_in_three_pieces(rt: HostRuntime) -> Result<(), Fail> {
+    let (mut out, mut into) = pair(rt.alloc())?;
     assert_eq!(rt; taken(&rt, &mut into), None);
     let sent = out.send(&rt, 7, &[5; 1200]).is_ok();
     let first = taken(&rt, &mut into);
@@ -48,6 +47,7 @@ fn a_long_frame_goes_in_three_pieces(rt: HostRuntime) {
         assert_eq!(rt; third, None);
     }
     assert_eq!(rt; taken(&rt, &mut into), None);
+    Ok(())
 }
 
 #[test]
@@ -57,6 +57,7 @@ fn what_was_not_taken_is_left(rt: HostRuntime) -> Result<(), Fail> {
     out.send(&rt, 2, b"")?;
     out.send(&rt, 3, b"three")?;
     out.send(&rt, 4, &[4; 513])?;
+    into.tell(out.receipt());
     is_piece(&rt, into.take(&rt), 1, b"one");
     let mut rest = settle(&rt, out, into);
     is_piece(&rt, rest.next(&rt), 3, b"three");
@@ -130,5 +131,108 @@ fn two_threads(rt: HostRuntime) -> Result<(), Fail> {
     }
     assert_eq!(rt; stamps.as_slice(), want_stamps.as_slice());
     assert_eq!(rt; bytes.as_slice(), want_bytes.as_slice());
+    Ok(())
+}
+
+/// A send is heard until its last piece is taken, on whichever stream it came.
+#[test]
+fn a_bell_is_silent_where_all_is_taken(rt: HostRuntime) -> Result<(), Fail> {
+    let bell = Bell::new(rt.alloc())?;
+    let (mut first, mut from_first) = pair_to(rt.alloc(), &bell)?;
+    let (mut second, mut from_second) = pair_to(rt.alloc(), &bell)?;
+    assert!(rt; bell.silence().is_some());
+    first.send(&rt, 1, &[1; 513])?;
+    second.send(&rt, 2, b"two")?;
+    assert!(rt; bell.silence().is_none());
+    assert_eq!(rt; taken(&rt, &mut from_first), Some((1, 512)));
+    assert_eq!(rt; taken(&rt, &mut from_second), Some((2, 3)));
+    assert_eq!(rt; taken(&rt, &mut from_second), None);
+    assert!(rt; bell.silence().is_none());
+    assert_eq!(rt; taken(&rt, &mut from_first), Some((1, 1)));
+    let Some(silence) = bell.silence() else {
+        return Err(Fail::from("no silence"));
+    };
+    from_first.was_empty(&silence);
+    from_second.was_empty(&silence);
+    assert_eq!(rt; taken(&rt, &mut from_first), None);
+    Ok(())
+}
+
+/// Sends 200 short pieces, and tells of each once its sending is over.
+fn send_and_tell<R: Wait>(rt: &R, out: &mut Out, told: &AtomicU64) -> Result<(), Memory> {
+    for stamp in 1..201u8 {
+        out.send(rt, u64::from(stamp), b"piece")?;
+        told.store(u64::from(stamp), Ordering::SeqCst);
+    }
+    Ok(())
+}
+
+/// Looks at both streams, by the bell where it is silent. False: it was silent while a piece that had been told of was
+/// not taken.
+fn takes_all_it_is_told_of<R: Wait>(
+    rt: &R,
+    bell: &Bell,
+    first: &mut In,
+    second: &mut In,
+    told: (&AtomicU64, &AtomicU64),
+) -> bool {
+    let mut taken = 0u64;
+    for _ in 0..PATIENCE {
+        let known = told
+            .0
+            .load(Ordering::SeqCst)
+            .saturating_add(told.1.load(Ordering::SeqCst));
+        match bell.silence() {
+            Some(silence) => {
+                if taken < known {
+                    return false;
+                }
+                first.was_empty(&silence);
+                second.was_empty(&silence);
+                thread::yield_now();
+            }
+            None => {
+                taken = taken.saturating_add(u64::from(first.take(rt).is_some()));
+                taken = taken.saturating_add(u64::from(second.take(rt).is_some()));
+            }
+        }
+    }
+    true
+}
+
+/// Two senders and one receiver.
+#[test]
+fn no_silence_hides_a_piece(rt: HostRuntime) -> Result<(), Fail> {
+    let bell = Bell::new(rt.alloc())?;
+    let (mut first, mut from_first) = pair_to(rt.alloc(), &bell)?;
+    let (mut second, mut from_second) = pair_to(rt.alloc(), &bell)?;
+    let told = (AtomicU64::new(0), AtomicU64::new(0));
+    let (sent, is_right) = join(
+        &rt,
+        || {
+            join(
+                &rt,
+                || send_and_tell(&rt, &mut first, &told.0),
+                || send_and_tell(&rt, &mut second, &told.1),
+            )
+        },
+        || {
+            takes_all_it_is_told_of(
+                &rt,
+                &bell,
+                &mut from_first,
+                &mut from_second,
+                (&told.0, &told.1),
+            )
+        },
+    );
+    sent.0?;
+    sent.1?;
+    assert!(rt; is_right);
+    for _ in 0..400 {
+        from_first.take(&rt);
+        from_second.take(&rt);
+    }
+    assert!(rt; bell.silence().is_some());
     Ok(())
 }

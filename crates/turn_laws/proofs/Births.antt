@@ -1,7 +1,7 @@
 -- What a node that isn't born finds first in the stream from the one that forks it is its Checkpoint. Only that makes it
 -- born, so anything else would stand there for ever; but each run can be made longer until it rests, where nothing is on
 -- its way.
-use Rattle.std.proofs.Common.{◌≡◌, ◌≢◌, ℕ, zero, suc, ◌+◌, ◌*◌, ◌<◌, ◌≤◌, Bool, true, false, not, ◌&&◌, ◌||◌, List, [], ◌∷◌, ◌++◌, length, Option, Some, None, is_some, refl, ap, sym, subst, ◌∙◌, inl, inr, arith}
+use Rattle.std.proofs.Common.{◌≡◌, ◌≢◌, ℕ, zero, suc, ◌+◌, ◌*◌, ◌<◌, ◌≤◌, Bool, true, false, not, ◌||◌, List, [], ◌∷◌, ◌++◌, length, Option, Some, None, is_some, refl, ap, sym, subst, ◌∙◌, inl, inr, arith}
 use Rattle.std.specs.Prelude.{Contains}
 use Rattle.std.proofs.lemmas.Bool.{and_parts, cases_eq, false≢true}
 use Rattle.pico_base.specs.declared.script.Event.{Event}
@@ -13,10 +13,10 @@ use Rattle.kernel_laws.proofs.Members.{contains-first}
 use Rattle.kernel_laws.proofs.Plain.{from_some}
 use Rattle.kernel_model.specs.Script.{IsSoundScript}
 use Rattle.world_model.specs.Lives.{is_forked_by}
-use Rattle.world_model.specs.Node.{Node, Stage, Unborn, Living, Leaving, Left, Over, can_run, is_born, is_living, is_unborn}
+use Rattle.world_model.specs.Node.{Node, Stage, Unborn, Living, Leaving, Left, Over, is_born, is_living, is_unborn}
 use Rattle.world_model.specs.Run.{IsAtRest, IsReachableWorld, IsRunOf}
 use Rattle.world_model.specs.Step.{Step}
-use Rattle.world_model.specs.World.{World, is_checkpoint, is_enabled, node_at, node_count, opening_world, stream}
+use Rattle.world_model.specs.World.{World, is_checkpoint, is_enabled, node_at, opening_world, stream}
 use Rattle.world_laws.specs.Invariant.{FramesFit, HasInvariant, Holds, MayBe}
 use Rattle.world_laws.specs.Names.{forker}
 use Rattle.world_laws.specs.Sights.{frames_to, is_born_in, node_of}
@@ -33,7 +33,8 @@ use Rattle.world_rest.proofs.Worlds.{rest_is_quiet_lemma}
 use Rattle.log_laws.specs.Logs.{IsNode, Input, Runs, Takes, stamped, turn_on}
 use Rattle.log_laws.specs.Merge.{event_at}
 use Rattle.turn_laws.specs.Forkers.{forker_of}
-use Rattle.turn_laws.specs.Laws.{IsTurnIn, StandsFirst, UnbornTakeTheirCheckpoint, may_turn}
+use Rattle.log_laws.specs.Follows.{StandsFirst}
+use Rattle.turn_laws.specs.Laws.{IsTurnIn, UnbornTakeTheirCheckpoint, may_turn}
 use Rattle.turn_laws.proofs.Enabled.{enabled_turns_have_steps_lemma}
 use Rattle.turn_laws.proofs.Forkers.{forks-is-forker}
 use Rattle.turn_laws.proofs.Turns.{LeadsOn, node-shown, runs-more, taken_by, turn-leads}

@@ -1,5 +1,5 @@
 -- A run of a sound script has at most 640,000 events.
-use Rattle.std.proofs.Common.{◌≤◌, arith}
+use Rattle.std.proofs.Common.{arith}
 use Rattle.std.proofs.lemmas.Bool.{leb-true}
 use Rattle.kernel_model.specs.Script.{max_calls}
 use Rattle.world_weights.specs.Weights.{calls_of}

@@ -1,5 +1,5 @@
 -- In a world of a run a turn that may be made has a rule.
-use Rattle.std.proofs.Common.{◌≡◌, ℕ, Bool, true, false, ◌||◌, if◌then◌else◌, List, Option, Some, None, is_some, refl, ap, sym, ◌∙◌}
+use Rattle.std.proofs.Common.{◌≡◌, ℕ, true, ◌||◌, if◌then◌else◌, List, Option, Some, None, is_some, refl, ap, sym, ◌∙◌}
 use Rattle.pico_base.specs.declared.script.Event.TheVariants as events
 use Rattle.pico_base.specs.declared.script.Script.{Script}
 use Rattle.rpc_frame.specs.declared.frame.Frame.{Frame}
@@ -13,8 +13,9 @@ use Rattle.world_laws.proofs.Steps.{world_without}
 use Rattle.world_bounds.specs.Bounded.{IsShapedAndBounded}
 use Rattle.world_bounds.proofs.Runs.{reachable-is-bounded}
 use Rattle.world_runs.proofs.Runs.{enabled_events_have_steps_lemma}
-use Rattle.log_laws.specs.Logs.{Input, Runs, Takes, StampedFrame, turn_on}
-use Rattle.turn_laws.specs.Laws.{EnabledTurnsHaveSteps, IsTurnIn, StandsFirst, may_turn}
+use Rattle.log_laws.specs.Logs.{Runs, Takes, StampedFrame, turn_on}
+use Rattle.log_laws.specs.Follows.{StandsFirst}
+use Rattle.turn_laws.specs.Laws.{EnabledTurnsHaveSteps, IsTurnIn}
 use Rattle.turn_laws.proofs.Turns.{turn-enabled}
 
 some-before : (w : World) (p : ℕ) (o : Option Step) → is_some (after_turn w p o) ≡ true → is_some o ≡ true

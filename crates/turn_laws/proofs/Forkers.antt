@@ -1,21 +1,20 @@
 -- The node that forks another is one of the script, and in a sound script there is no second one.
-use Rattle.std.proofs.Common.{◌≡◌, ℕ, zero, suc, ◌+◌, ◌-◌, ◌<◌, ◌≤◌, Bool, true, false, not, ◌||◌, nat_eq, if◌then◌else◌, List, [], ◌∷◌, length, slice_get, Option, Some, None, refl, ap, sym, subst, ◌∙◌, inl, inr, arith}
+use Rattle.std.proofs.Common.{◌≡◌, ℕ, zero, suc, ◌+◌, ◌-◌, ◌<◌, ◌≤◌, Bool, true, false, not, ◌||◌, nat_eq, if◌then◌else◌, List, [], ◌∷◌, length, Option, Some, None, refl, ap, sym, ◌∙◌, inl, inr, arith}
 use Rattle.std.specs.List.{list_any}
 use Rattle.std.proofs.lemmas.Bool.{and_parts, eqb-true, false≢true, or_cases, or_left, or_right}
-use Rattle.std.proofs.lemmas.Option.{slice_get_within}
 use Rattle.pico_base.specs.declared.script.Block.{Block}
 use Rattle.pico_base.specs.declared.script.Line.{Line}
 use Rattle.pico_base.specs.declared.script.Script.{Script}
 use Rattle.kernel_model.specs.Fitting.{block_at}
 use Rattle.kernel_model.specs.Script.{IsSoundScript, ends_rightly, is_exit, with_exit}
-use Rattle.node_model.specs.Caller.{lines_in, lines_of}
+use Rattle.node_model.specs.Caller.{lines_in}
 use Rattle.world_model.specs.Lives.{forks_in, is_forked_by}
 use Rattle.world_model.specs.World.{node_count, numbers}
 use Rattle.world_laws.specs.Names.{first_that}
 use Rattle.world_rules.proofs.makes.Forkers.{IsForkedFrom, forked-from, names_in_line}
 use Rattle.world_bounds.proofs.Scripts.{test-at}
 use Rattle.log_laws.specs.Logs.{IsNode}
-use Rattle.turn_laws.specs.Forkers.{Forks, ForkersFork, OneForks, forker_of}
+use Rattle.turn_laws.specs.Forkers.{ForkersFork, OneForks, forker_of}
 
 -- ---- the first that passes a test
 

@@ -1,8 +1,7 @@
 -- A turn in a world that a run leads to is an event of that world, and what it leads to is a world of a run.
-use Rattle.std.proofs.Common.{◌≡◌, ℕ, ◌≤◌, Bool, true, false, ◌&&◌, ◌||◌, if◌then◌else◌, List, [], ◌∷◌, ◌++◌, Option, Some, None, refl, ap, sym, subst, ◌∙◌, arith}
+use Rattle.std.proofs.Common.{◌≡◌, ℕ, Bool, true, false, ◌&&◌, ◌||◌, if◌then◌else◌, List, [], ◌∷◌, ◌++◌, Option, Some, None, refl, ap, sym, subst, ◌∙◌}
 use Rattle.std.proofs.lemmas.Bool.{lt-ltb}
 use Rattle.pico_base.specs.declared.script.Event.{Event}
-use Rattle.pico_base.specs.declared.script.Event.TheVariants as events
 use Rattle.pico_base.specs.declared.script.Script.{Script}
 use Rattle.rpc_frame.specs.declared.frame.Frame.{Frame}
 use Rattle.kernel_laws.proofs.Plain.{from_some}
@@ -23,7 +22,8 @@ use Rattle.world_bounds.proofs.Turns.{run-turn-bounded, take-turn-bounded}
 use Rattle.world_bounds.proofs.Worlds.{head-is-bounded, to-nodes}
 use Rattle.log_laws.specs.Logs.{IsNode, Input, Runs, Takes, StampedFrame, turn_on}
 use Rattle.log_laws.specs.Merge.{event_at}
-use Rattle.turn_laws.specs.Laws.{IsTurnIn, StandsFirst, may_turn}
+use Rattle.log_laws.specs.Follows.{StandsFirst}
+use Rattle.turn_laws.specs.Laws.{IsTurnIn, may_turn}
 
 if-some : {A : Type 0} (b : Bool) (o : Option A) (x : A) → (if b then o else None) ≡ Some x
     → (b ≡ true) × (o ≡ Some x)

@@ -13,19 +13,9 @@ use Rattle.world_model.specs.Run.{IsReachableWorld, IsRunOf}
 use Rattle.world_model.specs.Step.{Step}
 use Rattle.world_model.specs.World.{World, is_checkpoint, node_at, stream}
 use Rattle.log_laws.specs.Logs.{IsNode, Input, Runs, Takes, turn_on}
+use Rattle.log_laws.specs.Follows.{IsThere}
 
 -- ---- a turn of a node of a world
-
--- the frame stands first in the stream to a node from another
-pub record StandsFirst (script : Script) (w : World) (p from : ℕ) (frame : Frame) : Type 0 where
-  pub sender : IsNode script from
-  pub rest : List Frame
-  pub first : stream w p from ≡ frame ∷ rest
-
--- what a turn takes in is there: nothing is needed where the node's process starts a call
-abbrev pub IsThere : Script → World → ℕ → Input → Type 0
-IsThere script w p Runs = Unit {0}
-IsThere script w p (Takes from taken) = StandsFirst script w p from taken.frame
 
 -- a run leads to the world, node p of it stands as n, and what the turn takes in is there
 pub record IsTurnIn (script : Script) (w : World) (p : ℕ) (n : Node) (input : Input) : Type 0 where

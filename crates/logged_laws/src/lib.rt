@@ -1,5 +1,8 @@
-//! What a node's turns keep true, as contracts of functions that do nothing.
-ghost use Rattle.log_model.specs.Laws.{NewNodesAreLogged, TurnsKeepLogs};
+//! What the turns of a node that logs keep true: its log says all of them, with what was sent and taken. No call runs
+//! here.
+#![tactic(auto)]
+
+ghost use Rattle.logged_laws.specs.Laws.{NewNodesAreLogged, TurnsKeepLogs};
 
 /// A new node's log says all of its turns.
 pub fn new_nodes_are_logged()
