@@ -1,6 +1,6 @@
 -- No node met a fault. What it would have taken in is there in the world to which all logs lead; in that world it has a
 -- rule for it, and what it sends may be sent.
-use Rattle.std.proofs.Common.{◌≡◌, ◌≢◌, ℕ, ◌≤◌, true, false, ◌&&◌, ◌||◌, nat_eq, if◌then◌else◌, List, [], ◌∷◌, map, Option, Some, None, refl, ap, sym, subst, ◌∙◌, inl, inr, arith}
+use Rattle.std.proofs.Common.{◌≡◌, ◌≢◌, ℕ, ◌≤◌, true, false, ◌&&◌, nat_eq, if◌then◌else◌, List, [], ◌∷◌, map, Option, Some, None, refl, ap, sym, subst, ◌∙◌, inl, inr, arith}
 use Rattle.std.specs.Prelude.{IsSome}
 use Rattle.std.specs.List.{AllByRecursion, Contains}
 use Rattle.std.specs.Option.{option_and_then}
@@ -16,8 +16,9 @@ use Rattle.world_model.specs.Step.{Step}
 use Rattle.world_model.specs.World.{World, is_checkpoint, node_at, stream}
 use Rattle.log_laws.specs.Logs.{IsNode, StampedFrame, frame_of, Input, Runs, Takes, turn_on, AreConsistent}
 use Rattle.log_laws.specs.Drawn.{IsStampOfTurn}
+use Rattle.log_laws.specs.Follows.{StandsFirst, IsThere}
 use Rattle.turn_laws.specs.Forkers.{forker_of, Forks, ForkersFork}
-use Rattle.turn_laws.specs.Laws.{StandsFirst, IsThere, IsTurnIn, GoesToAnother, SendsGoToOthers, may_turn, EnabledTurnsHaveSteps, UnbornTakeTheirCheckpoint, max_events}
+use Rattle.turn_laws.specs.Laws.{IsTurnIn, GoesToAnother, SendsGoToOthers, may_turn, EnabledTurnsHaveSteps, UnbornTakeTheirCheckpoint, max_events}
 use Rattle.frame_pieces.specs.Laws.{TheNextIsSent}
 use Rattle.log_model.specs.declared.answer.LogFault.{LogFault}
 use Rattle.log_model.specs.declared.answer.LogFault.TheVariants as faults

@@ -1,21 +1,11 @@
 -- An event behind the run is one turn more: what it sends goes to nodes of the script.
 use Rattle.std.proofs.Common.{ℕ}
 use Rattle.stamp_merge.proofs.Filters.{all-map}
-use Rattle.pico_base.specs.declared.script.Script.{Script}
 use Rattle.rpc_frame.specs.declared.frame.Frame.{Frame}
-use Rattle.world_model.specs.World.{World}
-use Rattle.log_laws.specs.Logs.{Input, Runs, Takes}
 use Rattle.log_laws.specs.Merge.{events_of}
-use Rattle.log_laws.specs.Follows as follows
 use Rattle.log_laws.proofs.Follows.{events_follow_lemma}
-use Rattle.turn_laws.specs.Laws.{IsThere, IsTurnIn, GoesToAnother, SendsGoToOthers}
+use Rattle.turn_laws.specs.Laws.{IsTurnIn, GoesToAnother, SendsGoToOthers}
 use Rattle.thread_laws.specs.Laws.{StepsFollow}
-
-there-too : (script : Script) (w : World) (p : ℕ) (input : Input) → follows.IsThere script w p input
-    → IsThere script w p input
-there-too script w p Runs there = tt
-there-too script w p (Takes sender taken) there =
-    record { sender = there.sender; rest = there.rest; first = there.first }
 
 -- an enabled event follows
 pub steps_follow_lemma : SendsGoToOthers → StepsFollow
@@ -27,7 +17,7 @@ steps_follow_lemma sends script logs turns w e next stamp sound r enabled steps 
       reachable = (events_of turns, r.runs);
       is_node = is.is_node;
       node = is.here;
-      there = there-too script w t.node t.turn.input is.there;
+      there = is.there;
     }
     in all-map (λ (s : ℕ × Frame) (g : GoesToAnother script t.node s). g.receiver) t.turn.step.sends
     (sends script w t.node is.node t.turn.input t.turn.step sound turn is.turns))

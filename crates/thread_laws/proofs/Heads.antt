@@ -1,5 +1,5 @@
 -- What a node would have taken in besides is the first frame that is on its way to it.
-use Rattle.std.proofs.Common.{◌≡◌, ◌≢◌, ℕ, List, [], ◌∷◌, ◌++◌, Result, Ok, Err, refl, ap, sym, subst, ◌∙◌, append_assoc}
+use Rattle.std.proofs.Common.{◌≡◌, ◌≢◌, ℕ, List, [], ◌∷◌, ◌++◌, Result, Ok, Err, ap, sym, subst, ◌∙◌, append_assoc}
 use Rattle.std.specs.List.{AllByRecursion, Contains}
 use Rattle.std.proofs.lemmas.List.{append_cancel_left}
 use Rattle.pico_base.specs.declared.script.Script.{Script}
@@ -23,10 +23,10 @@ use Rattle.thread_laws.proofs.Streams.{line-is-other, IsTakenFrom, taken-from}
 
 -- the frame is a node's, and the first that is on the way from it
 pub record IsFirst (script : Script) (untaken : ℕ → ℕ → List StampedFrame) (p sender : ℕ) (taken : StampedFrame) : Type 0
-    where
-  pub node : IsNode script sender
-  pub behind : List StampedFrame
-  pub first : untaken p sender ≡ taken ∷ behind
+  where
+    pub node : IsNode script sender
+    pub behind : List StampedFrame
+    pub first : untaken p sender ≡ taken ∷ behind
 
 -- no joiner refuses what it is fed
 no-answer-refused : (sent got : List StampedFrame) (piece : Piece) (rest : List Piece)
@@ -59,8 +59,8 @@ module _ (script : Script) (nodes : ℕ → LoggedNode) (have : HaveMade script 
         rest = from.rest;
         right =
             next (sent_in p (have.logs line.other)) (taken_in line.other (have.logs p)) behind.earlier from.rest
-                behind.piece behind.left behind.new answer from.frames
-                (from.sent_is ∙ ap (λ (ps : List Piece). ps ++ from.rest) behind.taken) behind.took behind.feeds;
+            behind.piece behind.left behind.new answer from.frames
+            (from.sent_is ∙ ap (λ (ps : List Piece). ps ++ from.rest) behind.taken) behind.took behind.feeds;
       }
 
   pub no-line-refused : (p : ℕ) → IsNode script p → IsRefusedLine (have.logs p) (nodes p).lines → ⊥

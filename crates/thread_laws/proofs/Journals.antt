@@ -1,6 +1,6 @@
 -- The nodes' shared journal is that of their logs.
-use Rattle.std.proofs.Common.{◌≡◌, ◌≢◌, ℕ, zero, suc, ◌+◌, ◌<◌, ◌≤◌, ◌==◌, nat_eq, List, [], ◌∷◌, ◌++◌, map, refl, ap, sym, subst, ◌∙◌, ◌⊎◌, inl, inr, arith}
-use Rattle.std.specs.List.{flat_map, AllByRecursion, filter}
+use Rattle.std.proofs.Common.{◌≡◌, ℕ, ◌≤◌, ◌==◌, List, [], ◌∷◌, ◌++◌, map, refl, ap, sym, ◌∙◌, inl, inr, arith}
+use Rattle.std.specs.List.{flat_map, AllByRecursion}
 use Rattle.std.proofs.lemmas.Bool.{cases_eq, eq-eqb, ne_eqb}
 use Rattle.pico_base.specs.declared.script.Script.{Script}
 use Rattle.pico_base.specs.declared.reply.Entry.{Entry}
@@ -8,7 +8,7 @@ use Rattle.stamp_merge.proofs.Filters.{filter-no, filter-yes}
 use Rattle.journal_core.specs.declared.stamped.Stamped.{Stamped}
 use Rattle.journal_core.specs.Journal.{of_seat, under, Follows, AllFollow, IsInOrder, IsOfSeats}
 use Rattle.world_model.specs.World.{node_count}
-use Rattle.log_laws.specs.Logs.{IsNode, Logged, Log}
+use Rattle.log_laws.specs.Logs.{IsNode, Log}
 use Rattle.log_laws.specs.Journal.{JournalEntry, journal_entry, entered, entries_by, StampsDontFall, OneNodeAStamp, IsJournalOf, plain_entries}
 use Rattle.log_laws.proofs.Lists.{map-append}
 use Rattle.log_laws.proofs.Journals.{own-entry, others-entry}

@@ -1,5 +1,5 @@
 -- The logs that the nodes kept are the events of their turns, so a merge of them is a merge of the turns.
-use Rattle.std.proofs.Common.{◌≡◌, ℕ, zero, suc, ◌+◌, ◌<◌, ◌≤◌, List, [], ◌∷◌, map, refl, ap, sym, subst, ◌∙◌, arith}
+use Rattle.std.proofs.Common.{◌≡◌, ℕ, zero, suc, ◌+◌, List, ◌∷◌, map, refl, ap, sym, subst, ◌∙◌, arith}
 use Rattle.pico_base.specs.declared.script.Script.{Script}
 use Rattle.pico_base.specs.declared.script.Event.{Event}
 use Rattle.stamp_merge.specs.declared.Stamped.{Stamped}

@@ -1,5 +1,5 @@
 -- What the threads did is a run of the machine.
-use Rattle.std.proofs.Common.{◌≡◌, ◌≢◌, ℕ, ◌+◌, ◌≤◌, List, length, map, refl, ap, sym, subst, ◌∙◌, arith}
+use Rattle.std.proofs.Common.{ℕ, ◌≤◌, List, length, sym, subst, ◌∙◌, arith}
 use Rattle.std.proofs.lemmas.List.{length-map}
 use Rattle.pico_base.specs.declared.script.Script.{Script}
 use Rattle.pico_base.specs.declared.script.Event.{Event}
@@ -7,7 +7,6 @@ use Rattle.stamp_merge.specs.declared.Stamped as merged
 use Rattle.stamp_merge.specs.Merge as stamps
 use Rattle.journal_core.specs.declared.stamped.Stamped.{Stamped}
 use Rattle.kernel_model.specs.Script.{IsSoundScript}
-use Rattle.log_laws.specs.Logs.{IsNode}
 use Rattle.log_laws.specs.Merge.{event_of, events_of}
 use Rattle.log_laws.specs.Journal.{IsJournalOf}
 use Rattle.log_laws.specs.Laws.{IsRunOfTurns}

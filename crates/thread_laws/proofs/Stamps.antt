@@ -1,5 +1,5 @@
 -- No stamp is above the number of turns: each is one more than a stamp that its node knew of.
-use Rattle.std.proofs.Common.{◌≡◌, ◌≢◌, ℕ, zero, suc, ◌+◌, ◌<◌, ◌≤◌, nat_eq, List, [], ◌∷◌, ◌++◌, length, map, refl, ap, sym, subst, ◌∙◌, ◌⊎◌, inl, inr, arith}
+use Rattle.std.proofs.Common.{◌≡◌, ℕ, ◌+◌, ◌<◌, ◌≤◌, List, [], ◌∷◌, ◌++◌, length, refl, ap, sym, subst, ◌∙◌, inl, inr, arith}
 use Rattle.std.specs.List.{AllByRecursion, Contains}
 use Rattle.std.proofs.lemmas.Bool.{eq-eqb}
 use Rattle.std.proofs.lemmas.List.Elements.{Contains-append_left}
@@ -7,8 +7,7 @@ use Rattle.pico_base.specs.declared.script.Script.{Script}
 use Rattle.stamp_merge.proofs.Filters.{all-map}
 use Rattle.journal_core.specs.declared.stamped.Stamped.{Stamped}
 use Rattle.journal_core.specs.Journal.{BeginsWith}
-use Rattle.world_model.specs.Node.{Node}
-use Rattle.log_laws.specs.Logs.{IsNode, StampedFrame, Input, Runs, Takes, Logged, Log, IsTakenLater, GoesBetween, taken_if, takes_of, taken_in, AreConsistent}
+use Rattle.log_laws.specs.Logs.{IsNode, StampedFrame, Input, Takes, Logged, Log, IsTakenLater, GoesBetween, taken_if, takes_of, taken_in, AreConsistent}
 use Rattle.log_laws.specs.Merge.{NodeTurn, IsMerge}
 use Rattle.log_laws.specs.Journal.{JournalEntry, IsJournalOf}
 use Rattle.log_laws.specs.Drawn.{IsStampOfTurn, IsKnownStamp, IsDrawnFrom, AreDrawn, HasFewStamps}

@@ -1,6 +1,6 @@
 -- What one node sent to another is what that one took from it, and what it didn't take.
-use Rattle.std.proofs.Common.{◌≡◌, ◌≢◌, ℕ, ◌+◌, ◌<◌, ◌≤◌, nat_eq, if◌then◌else◌, List, [], ◌∷◌, ◌++◌, map, refl, ap, sym, subst, ◌∙◌, ◌⊎◌, inl, inr, append_assoc, arith}
-use Rattle.std.specs.List.{flat_map, AllByRecursion, Contains}
+use Rattle.std.proofs.Common.{◌≡◌, ◌≢◌, ℕ, if◌then◌else◌, List, [], ◌∷◌, ◌++◌, map, refl, ap, sym, subst, ◌∙◌, inl, inr, append_assoc, arith}
+use Rattle.std.specs.List.{AllByRecursion, Contains}
 use Rattle.std.proofs.lemmas.Bool.{cases_eq, eq-eqb, ne_eqb}
 use Rattle.pico_base.specs.declared.script.Script.{Script}
 use Rattle.rpc_frame.specs.declared.frame.Frame.{Frame}
@@ -8,7 +8,7 @@ use Rattle.stream_pair.specs.declared.piece.Piece.{Piece}
 use Rattle.stamp_merge.proofs.Filters.{all-map}
 use Rattle.frame_bytes.specs.Frames.{IsFrame}
 use Rattle.world_model.specs.Node.{Node}
-use Rattle.log_laws.specs.Logs.{IsNode, StampedFrame, frame_if, sent_to, stamped, Input, Runs, Takes, Logged, Log, sends_of, sent_in, taken_if, takes_of, taken_in, AreConsistent}
+use Rattle.log_laws.specs.Logs.{IsNode, StampedFrame, frame_if, sent_to, stamped, Input, Runs, Takes, Log, sends_of, sent_in, taken_if, takes_of, taken_in, AreConsistent}
 use Rattle.log_laws.proofs.Lists.{append-all}
 use Rattle.frame_pieces.specs.Pieces.{pieces_of, AreFrames}
 use Rattle.frame_pieces.specs.Laws.{AreFront, TakenAreSent}
@@ -59,31 +59,31 @@ is-only (first ∷ lines) line apart there =
     ]
 
 module _ (script : Script) (p : ℕ) (l : LoggedNode) (turns : Log) (last : Node) (made : HasMade script p l turns last)
-    where
-  pub line-is-only : (line : Line) → Contains l.lines line → IsOnly l.lines line
-  line-is-only line there =
-      is-only l.lines line (subst AreApart (sym made.other_nodes) (others-apart script p)) there
+  where
+    pub line-is-only : (line : Line) → Contains l.lines line → IsOnly l.lines line
+    line-is-only line there =
+        is-only l.lines line (subst AreApart (sym made.other_nodes) (others-apart script p)) there
 
-  -- the other end of a line is another node of the script
-  pub line-is-other : (line : Line) → Contains l.lines line → IsOther script p line.other
-  line-is-other line there =
-      is-other script p line.other
-      (subst (λ ns. Contains ns line.other) made.other_nodes (in-map (λ (m : Line). m.other) l.lines line there))
+    -- the other end of a line is another node of the script
+    pub line-is-other : (line : Line) → Contains l.lines line → IsOther script p line.other
+    line-is-other line there =
+        is-other script p line.other
+        (subst (λ ns. Contains ns line.other) made.other_nodes (in-map (λ (m : Line). m.other) l.lines line there))
 
-  -- and each has a line
-  pub line-with : (q : ℕ) → IsNode script q → q ≢ p → IsMade (λ (line : Line). line.other) l.lines q
-  line-with q is d =
-      of-map (λ (line : Line). line.other) l.lines q
-      (subst (λ ns. Contains ns q) (sym made.other_nodes) (in-others script p q is d))
+    -- and each has a line
+    pub line-with : (q : ℕ) → IsNode script q → q ≢ p → IsMade (λ (line : Line). line.other) l.lines q
+    line-with q is d =
+        of-map (λ (line : Line). line.other) l.lines q
+        (subst (λ ns. Contains ns q) (sym made.other_nodes) (in-others script p q is d))
 
-  -- what was sent to it are the turns' frames in pieces
-  pub sent-is : (q : ℕ) → IsNode script q → q ≢ p → sent_on l.lines q ≡ pieces_of (sent_in q turns)
-  sent-is q is d =
-      let with = line-with q is d
-      in let line : Line = with.from
-      in let of_line : IsLineOf turns line = at-one (IsLineOf turns) l.lines line made.lines with.there
-      in subst (λ n. sent_on l.lines n ≡ pieces_of (sent_in n turns)) with.is
-      ((line-is-only line with.there).sent ∙ of_line.sent)
+    -- what was sent to it are the turns' frames in pieces
+    pub sent-is : (q : ℕ) → IsNode script q → q ≢ p → sent_on l.lines q ≡ pieces_of (sent_in q turns)
+    sent-is q is d =
+        let with = line-with q is d
+        in let line : Line = with.from
+        in let of_line : IsLineOf turns line = at-one (IsLineOf turns) l.lines line made.lines with.there
+        in subst (λ n. sent_on l.lines n ≡ pieces_of (sent_in n turns)) with.is
+        ((line-is-only line with.there).sent ∙ of_line.sent)
 
 -- ---- each sent frame has a spelling
 
