@@ -124,7 +124,8 @@ module _ (laws : TurnLaws) (next : TheNextIsSent) (script : Script) (sound : IsS
       unborn forks.forks stands.first
 
   may-take-it : (sender : ℕ) (taken : StampedFrame) → IsFirst script untaken p sender taken
-      → may_take script (nodes p).number (have.last p) sender ≡ true → may_turn (have.last p) (Takes sender taken) ≡ true
+      → may_take script (nodes p).number (have.last p) sender ≡ true
+      → may_turn (have.last p) (Takes sender taken) ≡ true
   may-take-it sender taken first may =
       let born = is_born (have.last p)
       in let forker = forker_of script (nodes p).number

@@ -33,7 +33,7 @@ by-seat p (e ∷ journal) =
           ∙ sym (ap journal_of (filter-no (λ (f : Stamped). f.seat == p) e journal (ne_eqb e.seat p other)))
     ]
 
-entered-under : (p stamp : ℕ) (es : List Entry)
+pub entered-under : (p stamp : ℕ) (es : List Entry)
     → journal_of (under stamp p es) ≡ map (journal_entry p stamp) es
 entered-under p stamp [] = refl
 entered-under p stamp (e ∷ es) =
@@ -98,6 +98,7 @@ module _ (script : Script) (nodes : ℕ → LoggedNode) (have : HaveMade script 
       }
 
 -- its entries are the journal's own
-pub same-entries : (journal : List Stamped) → plain_entries (journal_of journal) ≡ map (λ (e : Stamped). e.entry) journal
+pub same-entries : (journal : List Stamped)
+    → plain_entries (journal_of journal) ≡ map (λ (e : Stamped). e.entry) journal
 same-entries [] = refl
 same-entries (e ∷ journal) = ap (λ (es : List Entry). e.entry ∷ es) (same-entries journal)

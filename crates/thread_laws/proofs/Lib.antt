@@ -8,3 +8,6 @@ pub mod Heads
 pub mod Faults
 pub mod Runs
 pub mod Follows
+pub mod Lasts
+pub mod Resting
+pub mod Joining
