@@ -1,5 +1,5 @@
 -- What takers of one short frame have of it.
-use Rattle.std.proofs.Common.{◌≡◌, ℕ, List, [], ◌∷◌, ◌++◌, Ok, refl, arith}
+use Rattle.std.proofs.Common.{[], ◌∷◌, refl, arith}
 use Rattle.rpc_frame.specs.declared.frame.Frame.TheVariants as frames
 use Rattle.stream_pair.specs.Pieces.{piece}
 use Rattle.frame_bytes.specs.Frames.{IsFrame, frame_bytes}
@@ -26,7 +26,8 @@ three_bytes =
     )
 
 -- the others complete it, under their own stamp
-in_two_parts : Took (piece 7 (0 ∷ 0 ∷ 0 ∷ []) ∷ piece 8 (1 ∷ 0x10 ∷ []) ∷ []) (stamped 8 frames.RecallAll ∷ []) (Rest [])
+in_two_parts : Took (piece 7 (0 ∷ 0 ∷ 0 ∷ []) ∷ piece 8 (1 ∷ 0x10 ∷ []) ∷ []) (stamped 8 frames.RecallAll ∷ [])
+    (Rest [])
 in_two_parts =
     TookFrame three_bytes (piece 8 (1 ∷ 0x10 ∷ [])) frames.RecallAll (Rest [])
     (a_frame_is_read frames.RecallAll recall_all_is_a_frame, tt)

@@ -1,6 +1,6 @@
 -- A taker feeds piece after piece of what was sent to its joiner.
 use Rattle.std.proofs.Common.{◌≡◌, ◌≢◌, ℕ, ◌+◌, ◌≤◌, List, [], ◌∷◌, ◌++◌, length, Result, Ok, Err, refl, sym, ap, subst, ◌∙◌, append_assoc, arith}
-use Rattle.std.specs.List.{flat_map, AllByRecursion}
+use Rattle.std.specs.List.{AllByRecursion}
 use Rattle.std.proofs.lemmas.List.{length-append, append-nil}
 use Rattle.std.proofs.lemmas.List.Concat.{flat_map-cons, flat_map-append}
 use Rattle.rpc_frame.specs.declared.frame.Frame.{Frame}
@@ -210,12 +210,12 @@ took_the_front sent frames taken got left TookNothing rest parts =
       held = refl;
       next = subst (λ (ps : List Piece). GoesOn sent [] ps) parts (has_begun_nothing sent);
     }
-took_the_front sent frames taken got left (TookPart {taken = before} {got = so_far} {old = old} took p new fed) rest parts =
-    the_next_answer_is_right sent so_far p rest old new (Ok []) frames
-    (took_the_front sent frames before so_far old took (p ∷ rest) (parts ∙ append_assoc before (p ∷ []) rest)) fed
-took_the_front sent frames taken got left (TookFrame {taken = before} {got = so_far} {old = old} took p f new fed) rest parts =
-    the_next_answer_is_right sent so_far p rest old new (Ok (f ∷ [])) frames
-    (took_the_front sent frames before so_far old took (p ∷ rest) (parts ∙ append_assoc before (p ∷ []) rest)) fed
+took_the_front sent frames taken got left (TookPart {taken = t} {got = g} {old = o} took p new fed) rest parts =
+    the_next_answer_is_right sent g p rest o new (Ok []) frames
+    (took_the_front sent frames t g o took (p ∷ rest) (parts ∙ append_assoc t (p ∷ []) rest)) fed
+took_the_front sent frames taken got left (TookFrame {taken = t} {got = g} {old = o} took p f new fed) rest parts =
+    the_next_answer_is_right sent g p rest o new (Ok (f ∷ [])) frames
+    (took_the_front sent frames t g o took (p ∷ rest) (parts ∙ append_assoc t (p ∷ []) rest)) fed
 
 -- the frames that a taker got are the first of those that were sent
 pub taken_are_sent_lemma : (sent got : List StampedFrame) (taken rest : List Piece) (left : Left) → AreFrames sent

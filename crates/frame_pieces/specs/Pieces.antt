@@ -16,6 +16,7 @@ pieces_of_frame s = pieces s.stamp (frame_bytes s.frame)
 abbrev pub pieces_of : List StampedFrame → List Piece
 pieces_of sent = flat_map pieces_of_frame sent
 
+-- the bytes of pieces, one behind the other
 abbrev pub bytes_of : List Piece → List ℕ
 bytes_of ps = flat_map (λ p. p.bytes) ps
 

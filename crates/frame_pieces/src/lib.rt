@@ -1,12 +1,12 @@
-//! The laws that join streams of pieces with frames: what a taker joins of pieces are the frames that were sent in them,
-//! with their stamps. No call runs here.
+//! The laws that join streams of pieces with frames: what a taker joins of pieces are the frames that were sent in
+//! them, with their stamps. No call runs here.
 #![tactic(auto)]
 
 ghost use Rattle.frame_pieces.specs.Laws.{TakenAreSent, TheNextIsSent};
 
-/// Where frames were sent as pieces, and some of the pieces were taken and fed to a joiner, the frames that came of them
-/// are the first of those that were sent, in order and with their stamps, and the joiner has nothing or the first bytes
-/// of the next frame.
+/// Where frames were sent as pieces, and some of the pieces were taken and fed to a joiner, the frames that came of
+/// them are the first of those that were sent, in order and with their stamps, and the joiner has nothing or the first
+/// bytes of the next frame.
 pub fn taken_are_sent()
     ensures { TakenAreSent }
 {}

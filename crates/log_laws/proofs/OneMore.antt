@@ -59,7 +59,8 @@ below-in-log script logs turns stamp merge below p is =
 
 -- ---- the node's log with the turn
 
-rises-with-last : (log : Log) (turn : Logged) → StampsRise log
+-- under a stamp above all others it rises
+pub rises-with-last : (log : Log) (turn : Logged) → StampsRise log
     → AllByRecursion (λ (l : Logged). l.stamp < turn.stamp) log → StampsRise (log ++ turn ∷ [])
 rises-with-last [] turn rise below = (tt, tt)
 rises-with-last (l ∷ log) turn rise below = (
@@ -67,7 +68,8 @@ rises-with-last (l ∷ log) turn rise below = (
   rises-with-last log turn rise.1 below.1,
 )
 
-leads-with-last : (script : Script) (log : Log) (n last : Node) (turn : Logged) → LeadsTo script n log last
+-- and it leads to the node that the turn leaves
+pub leads-with-last : (script : Script) (log : Log) (n last : Node) (turn : Logged) → LeadsTo script n log last
     → turn_on script last turn.input ≡ Some turn.step → LeadsTo script n (log ++ turn ∷ []) turn.step.node
 leads-with-last script [] n last turn h turned =
     record { turns = ap (λ (m : Node). turn_on script m turn.input) h ∙ turned; rest = refl }

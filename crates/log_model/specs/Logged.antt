@@ -7,13 +7,12 @@ use Rattle.rpc_frame.specs.declared.frame.Frame.{Frame}
 use Rattle.stream_pair.specs.declared.piece.Piece.{Piece}
 use Rattle.frame_bytes.specs.declared.fault.FrameFault.{FrameFault}
 use Rattle.frame_bytes.specs.Frames.{IsFrame}
-use Rattle.frame_bytes.specs.Streams.{Left, Rest, Feeds}
+use Rattle.frame_bytes.specs.Streams.{Left, Feeds}
 use Rattle.journal_core.specs.declared.stamped.Stamped.{Stamped}
 use Rattle.journal_core.specs.Journal.{under}
-use Rattle.journal_core.specs.Seated.{Seated}
 use Rattle.world_model.specs.Node.{Node, opening_node, can_run}
 use Rattle.world_model.specs.World.{numbers, node_count}
-use Rattle.log_laws.specs.Logs.{StampedFrame, stamped, Input, Runs, Takes, Logged, Log, LeadsTo, StampsRise, IsTakenLater, GoesBetween, sent_in, taken_in}
+use Rattle.log_laws.specs.Logs.{StampedFrame, Input, Runs, Takes, Logged, Log, LeadsTo, StampsRise, GoesBetween, sent_in, taken_in}
 use Rattle.log_laws.specs.EventLogs.{event_log}
 use Rattle.frame_pieces.specs.Pieces.{pieces_of, Took}
 use Rattle.log_model.specs.declared.answer.LogFault.{LogFault}

@@ -16,7 +16,12 @@ use Rattle.log_model.specs.Views.{Line}
 abbrev pub after_nothing : Line → Line
 after_nothing l =
     record l {
-      into = record { stream = l.into.stream; taken = l.into.taken; told = l.into.told; looks = one_more_look l.into.looks };
+      into = record {
+        stream = l.into.stream;
+        taken = l.into.taken;
+        told = l.into.told;
+        looks = one_more_look l.into.looks;
+      };
     }
 
 -- a look that found this piece, behind which this is left

@@ -1,5 +1,5 @@
 -- A turn of a node that logs: what it takes in, whether it has a rule, its stamp, and what it leaves.
-use Rattle.std.specs.Prelude.{◌≡◌, ◌⊎◌, ℕ, ◌+◌, ◌-◌, ◌^◌, ◌≤◌, Bool, true, false, ◌&&◌, ◌||◌, min, max, nat_eq, if◌then◌else◌, List, [], ◌∷◌, ◌++◌, map, Option, Some, None}
+use Rattle.std.specs.Prelude.{◌≡◌, ◌⊎◌, ℕ, ◌+◌, ◌-◌, ◌^◌, ◌≤◌, Bool, false, ◌&&◌, ◌||◌, min, max, nat_eq, if◌then◌else◌, List, [], ◌∷◌, ◌++◌, map, Option, Some, None}
 use Rattle.std.specs.List.{list_all, list_any, AllByRecursion}
 use Rattle.std.specs.Option.{option_and_then}
 use Rattle.pico_base.specs.declared.script.Script.{Script}
@@ -11,7 +11,7 @@ use Rattle.journal_core.specs.declared.fault.AppendFault.TheVariants as append_f
 use Rattle.journal_core.specs.Seated.{Seated, IsStamp, Appends, Refuses}
 use Rattle.world_model.specs.Node.{Node, is_born, can_run}
 use Rattle.world_model.specs.Step.{Step}
-use Rattle.log_laws.specs.Logs.{StampedFrame, Input, Runs, Takes, Logged, turn_on, sent_to, stamped}
+use Rattle.log_laws.specs.Logs.{Input, Runs, Takes, Logged, turn_on, sent_to, stamped}
 use Rattle.log_laws.specs.EventLogs.{event_item_of}
 use Rattle.frame_pieces.specs.Pieces.{pieces_of}
 use Rattle.log_model.specs.declared.answer.LogFault.{LogFault}

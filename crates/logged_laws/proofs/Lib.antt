@@ -1,0 +1,13 @@
+pub mod Lists
+pub mod Others
+pub mod Lines
+pub mod Looks
+pub mod OneMore
+pub mod Sends
+pub mod Stamps
+pub mod Draws
+pub mod Came
+pub mod Kept
+pub mod Ended
+pub mod Did
+pub mod Whole
