@@ -1,0 +1,13 @@
+pub mod Lists
+pub mod Nodes
+pub mod Streams
+pub mod Journals
+pub mod Merged
+pub mod Stamps
+pub mod Heads
+pub mod Faults
+pub mod Runs
+pub mod Follows
+pub mod Lasts
+pub mod Resting
+pub mod Joining
