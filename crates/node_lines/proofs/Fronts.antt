@@ -11,6 +11,7 @@ use Rattle.node_lines.proofs.Same.{IsSameLine-refl, AreSameLines-refl, AreSameLi
 
 -- ---- each of a front is changed
 
+-- the first so many items mapped, and the others as they are
 abbrev pub map_front : {X : Type 0} → (X → X) → ℕ → List X → List X
 map_front f zero xs = xs
 map_front f (suc i) [] = []
@@ -28,6 +29,7 @@ pub map_front-next : {X : Type 0} (f : X → X) (olds news : List X) (i : ℕ) (
 map_front-next f olds news i y d e h is =
     ap (λ ns. set ns i y) e ∙ front-next f olds i y d h (is ∙ ap (λ ns. f (get_or ns i d)) e)
 
+-- all of them mapped
 pub map_front-all : {X : Type 0} (f : X → X) (xs : List X) → map_front f (length xs) xs ≡ map f xs
 map_front-all f [] = refl
 map_front-all f (x ∷ xs) = ap (λ zs. f x ∷ zs) (map_front-all f xs)
@@ -156,6 +158,7 @@ pub record LookedSoFar (may : ℕ → Bool) (i : ℕ) (olds : List Line) (part :
   pub looks : LooksAtFront may i olds part news
   pub same : AreSameLines olds news
 
+-- before the first line nothing was looked at
 pub LookedSoFar-none : (may : ℕ → Bool) (lines : List Line) → LookedSoFar may 0 lines false lines
 LookedSoFar-none may lines = record { looks = (refl, refl); same = AreSameLines-refl lines }
 

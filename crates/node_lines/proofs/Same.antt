@@ -4,6 +4,7 @@ use Rattle.log_model.specs.Views.{Line}
 use Rattle.log_model.specs.Logged.{others_in}
 use Rattle.node_lines.specs.Lines.{IsSameLine, AreSameLines}
 
+-- a line is the same as itself
 pub IsSameLine-refl : (line : Line) → IsSameLine line line
 IsSameLine-refl line = record { other = refl; out = refl; into = refl }
 
@@ -11,10 +12,12 @@ pub IsSameLine-trans : (a b c : Line) → IsSameLine a b → IsSameLine b c → 
 IsSameLine-trans a b c s t =
     record { other = t.other ∙ s.other; out = t.out ∙ s.out; into = t.into ∙ s.into }
 
+-- and lines as themselves
 pub AreSameLines-refl : (lines : List Line) → AreSameLines lines lines
 AreSameLines-refl [] = tt
 AreSameLines-refl (line ∷ lines) = (IsSameLine-refl line, AreSameLines-refl lines)
 
+-- sameness goes on
 pub AreSameLines-trans : (a b c : List Line) → AreSameLines a b → AreSameLines b c → AreSameLines a c
 AreSameLines-trans [] [] [] s t = tt
 AreSameLines-trans [] [] (z ∷ zs) s t = t

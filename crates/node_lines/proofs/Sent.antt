@@ -67,12 +67,14 @@ with_sent-further stamp s rest line =
 both : {X : Type 0} (x y : X) (xs ys : List X) → x ≡ y → xs ≡ ys → x ∷ xs ≡ y ∷ ys
 both x y xs ys e f = λ i. e i ∷ f i
 
+-- one frame, and then the others, are all of them
 pub all_sent-further : (stamp : ℕ) (s : ℕ × Frame) (rest : List (ℕ × Frame)) (lines : List Line)
     → map (with_sent stamp rest) (map (with_sent stamp (s ∷ [])) lines) ≡ map (with_sent stamp (s ∷ rest)) lines
 all_sent-further stamp s rest [] = refl
 all_sent-further stamp s rest (line ∷ lines) =
     both _ _ _ _ (with_sent-further stamp s rest line) (all_sent-further stamp s rest lines)
 
+-- no frames leave the lines as they are
 pub all_sent-none : (stamp : ℕ) (lines : List Line) → map (with_sent stamp []) lines ≡ lines
 all_sent-none stamp [] = refl
 all_sent-none stamp (line ∷ lines) = both _ _ _ _ (with_sent-none stamp line) (all_sent-none stamp lines)
@@ -86,6 +88,7 @@ left-of : (a b : Bool) → a && b ≡ true → a ≡ true
 left-of true b h = refl
 left-of false b h = h
 
+-- each frame that may be sent is within the limits
 pub may_send-within : (lines : List Line) (sends : List (ℕ × Frame)) (i : ℕ) (d : ℕ × Frame)
     → may_send lines sends ≡ true → i < length sends → IsWithinLimits (get_or sends i d).1
 may_send-within lines [] i d h below = absurd (omega arith)

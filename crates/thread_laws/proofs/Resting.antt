@@ -1,5 +1,5 @@
--- A run that is stepped on behind that of the threads, with its events and its journal: what a loop over the events that
--- are left keeps.
+-- A run that is stepped on behind that of the threads, with its events and its journal: what a loop over the events
+-- that are left keeps.
 use Rattle.std.proofs.Common.{◌≡◌, ◌≢◌, ℕ, ◌+◌, ◌<◌, ◌≤◌, true, List, [], ◌∷◌, ◌++◌, length, map, Some, refl, ap, sym, subst, ◌∙◌, ◌⊎◌, inl, inr, append_assoc, append-nil, arith}
 use Rattle.std.specs.List.{AllByRecursion}
 use Rattle.std.proofs.lemmas.Bool.{cases_eq}
@@ -93,18 +93,20 @@ plain-under stamp node (e ∷ es) = ap (λ (xs : List Entry). e ∷ xs) (plain-u
 rise-with-last : (es : List Item) (last : Item) → stamps.StampsRise es
     → AllByRecursion (λ (e : Item). e.stamp < last.stamp) es → stamps.StampsRise (es ++ last ∷ [])
 rise-with-last [] last rise low = (tt, tt)
-rise-with-last (e ∷ es) last rise low =
-    (append-all (λ (f : Item). e.stamp < f.stamp) es (last ∷ []) rise.0 (low.0, tt),
-    rise-with-last es last rise.1 low.1)
+rise-with-last (e ∷ es) last rise low = (
+  append-all (λ (f : Item). e.stamp < f.stamp) es (last ∷ []) rise.0 (low.0, tt),
+  rise-with-last es last rise.1 low.1,
+)
 
 above-with-last : (es later : List Item) (last : Item)
     → AllByRecursion (λ (e : Item). AllByRecursion (λ (f : Item). e.stamp < f.stamp) later) es
     → AllByRecursion (λ (e : Item). e.stamp < last.stamp) es
     → AllByRecursion (λ (e : Item). AllByRecursion (λ (f : Item). e.stamp < f.stamp) (later ++ last ∷ [])) es
 above-with-last [] later last above low = tt
-above-with-last (e ∷ es) later last above low =
-    (append-all (λ (f : Item). e.stamp < f.stamp) later (last ∷ []) above.0 (low.0, tt),
-    above-with-last es later last above.1 low.1)
+above-with-last (e ∷ es) later last above low = (
+  append-all (λ (f : Item). e.stamp < f.stamp) later (last ∷ []) above.0 (low.0, tt),
+  above-with-last es later last above.1 low.1,
+)
 
 goes-further : (kept : ℕ → Log) (logs : ℕ → Log) (t : NodeTurn) (p : ℕ) → GoesOn (kept p) (logs p)
     → GoesOn (kept p) (logs_after logs t p)

@@ -1,5 +1,5 @@
-//! What nodes did in threads of their own is one run of the machine: laws of the time after the threads have ended, when
-//! both ends of each stream are together again and the journal is closed. No call runs here.
+//! What nodes did in threads of their own is one run of the machine: laws of the time after the threads have ended,
+//! when both ends of each stream are together again and the journal is closed. No call runs here.
 #![tactic(auto)]
 
 ghost use Rattle.thread_laws.specs.Laws.{NodesMayMerge, ThreadsMakeARun, StepsFollow};

@@ -25,7 +25,8 @@ returns-in_default-clause-looks g c =
     let d = c.line-item.result in
     let line = get_or c.loop-line.lines c.loop-line.line-index d in
     let tested = may_look-is c.args.only.now line.other _ _ c.other.ensures c.may_look.ensures in
-    LookedSoFar-end _ _ _ _ _ _ d _ c.loop-line.invariant (omega arith) (tested ∙ c.if-may_look.true) c.in_default.not-Nothing
+    LookedSoFar-end _ _ _ _ _ _ d _ c.loop-line.invariant (omega arith) (tested ∙ c.if-may_look.true)
+    c.in_default.not-Nothing
     c.in_default.not-Part c.in_ok-found.ensures.found
 
 pub loop-line-preserved : goal.loop-line-preserved

@@ -35,8 +35,10 @@ loop-line-preserved g c =
     elim c.if-eq.branch [
       | then-eq+in_ok-send w ↦
           let is_other : line.other ≡ c.args.to = eqb-true line.other c.args.to (tested ∙ w.if-eq.true) in
-          let changed = w.in_ok-send.ensures.sent ∙ with_sent-one c.args.stamp c.args.to c.args.frame.now line is_other in (
-            w.lines-is ∙ map_front-next change olds lines i w.send.new.self d c.loop-line.invariant.0 below changed ∙ counted,
+          let changed = w.in_ok-send.ensures.sent
+          ∙ with_sent-one c.args.stamp c.args.to c.args.frame.now line is_other in (
+            w.lines-is ∙ map_front-next change olds lines i w.send.new.self d c.loop-line.invariant.0 below changed
+                ∙ counted,
             subst Same (sym w.lines-is)
                 (AreSameLines-set olds lines i w.send.new.self d c.loop-line.invariant.1 w.send.ensures.same),
           )
