@@ -1,5 +1,5 @@
--- What is known of a script's nodes when their threads have ended: what each of them kept true, that of each stream what
--- was sent is what was taken and a rest, and that the journal has of each seat what it appended.
+-- What is known of a script's nodes when their threads have ended: what each of them kept true, that of each stream
+-- what was sent is what was taken and a rest, and that the journal has of each seat what it appended.
 use Rattle.std.specs.Prelude.{◌≡◌, ◌≢◌, ℕ, nat_eq, if◌then◌else◌, List, [], ◌∷◌, ◌++◌, map}
 use Rattle.pico_base.specs.declared.script.Script.{Script}
 use Rattle.pico_base.specs.declared.script.Event.{Event}
