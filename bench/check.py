@@ -12,8 +12,8 @@ import sys
 import tempfile
 import time
 
-TOP = pathlib.Path(__file__).resolve().parent.parent
-PROGRAM = TOP / "crates/pico_cmd/out/pico_cmd"
+from sim import program
+
 VALUES = ",".join(["32767"] * 64)
 
 
@@ -29,23 +29,23 @@ def checked(size: int) -> tuple[bytes, int]:
     return ("\n".join(script) + "\n" + text).encode(), len(text)
 
 
-def measure(program: pathlib.Path, path: str) -> tuple[float, int]:
+def measure(of: str, path: str) -> tuple[float, int]:
     """The time in seconds and the most memory in bytes, at least this process's own of about 10 million."""
     with open(path, "rb") as source:
         start = time.perf_counter()
-        child = subprocess.Popen([program, "check"], stdin=source, stdout=subprocess.PIPE)
+        child = subprocess.Popen([of, "check"], stdin=source, stdout=subprocess.PIPE)
         answer = child.stdout.read()
         _, status, usage = os.wait4(child.pid, 0)
         took = time.perf_counter() - start
     if status != 0 or not answer.startswith(b"legal entries "):
-        sys.exit(f"{program}: status {status}, {answer!r}")
+        sys.exit(f"{of}: status {status}, {answer!r}")
     return took, usage.ru_maxrss * 1024
 
 
-def report(program: pathlib.Path, rounds: int, path: str, traced: int) -> None:
-    runs = [measure(program, path) for _ in range(rounds)]
+def report(of: str, rounds: int, path: str, traced: int) -> None:
+    runs = [measure(of, path) for _ in range(rounds)]
     took, memory = min(run[0] for run in runs), max(run[1] for run in runs)
-    print(f"{program.name}: {traced} bytes in {took * 1000:.1f} ms, {traced / took / 1e6:.0f} MB/s, "
+    print(f"{pathlib.Path(of).name}: {traced} bytes in {took * 1000:.1f} ms, {traced / took / 1e6:.0f} MB/s, "
           f"{memory / 1e6:.1f} MB, {memory / traced:.1f} times the trace")
 
 
@@ -57,13 +57,13 @@ def main() -> None:
         print(traced)
         return
     rounds = int(sys.argv[1]) if len(sys.argv) > 1 else 5
-    programs = [PROGRAM, *(pathlib.Path(word) for word in sys.argv[2:3])]
+    programs = [program(), *sys.argv[2:3]]
     with tempfile.NamedTemporaryFile() as file:
         for size in (1_000_000, 8_000_000):
             words = [sys.executable, __file__, "--write", str(size), file.name]
             traced = int(subprocess.run(words, stdout=subprocess.PIPE, check=True).stdout)
-            for program in programs:
-                report(program, rounds, file.name, traced)
+            for of in programs:
+                report(of, rounds, file.name, traced)
 
 
 main()

@@ -9,7 +9,7 @@ usage: bench/shapes.py [ROUNDS]             prints the least times, and their ra
 """
 import sys
 
-from sim import PROGRAM, block, least, one_process, ratio, two_processes
+from sim import block, least, one_process, program, ratio, two_processes
 
 
 def script(blocks: dict[str, list[str]]) -> bytes:
@@ -164,7 +164,7 @@ def beside(other: str, rounds: int) -> None:
     for name, shape in SHAPES.items():
         text = shape(20000)
         for seed in ("0", "1"):
-            ours, theirs = least([(PROGRAM, text), (other, text)], seed, rounds)
+            ours, theirs = least([(program(), text), (other, text)], seed, rounds)
             print(f"{name}, schedule {seed}: {ours * 1000:.1f} ms and {theirs * 1000:.1f} ms, {ours / theirs:.2f} times")
 
 

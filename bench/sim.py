@@ -3,6 +3,7 @@
 
 usage: bench/sim.py [ROUNDS]
 """
+import functools
 import pathlib
 import subprocess
 import sys
@@ -10,9 +11,14 @@ import tempfile
 import time
 
 TOP = pathlib.Path(__file__).resolve().parent.parent
-PROGRAM = TOP / "crates/pico_cmd/out/pico_cmd"
 TEXT = "m" * 56
 PAIR = [f'msgsnd $q 1 "{TEXT}" nowait', "msgrcv $q 0 64 nowait"]
+
+
+@functools.lru_cache(maxsize=None)
+def program() -> str:
+    """The program that `./pico` runs, or that PICO names. Standard error says where it isn't proved."""
+    return subprocess.run([TOP / "tools/programs.py"], stdout=subprocess.PIPE, check=True, text=True).stdout.strip()
 
 
 def block(name: str, lines: list[str]) -> list[str]:
@@ -33,21 +39,21 @@ def two_processes(calls: int) -> bytes:
     return ("\n".join(block("main", first) + block("other", other)) + "\n").encode()
 
 
-def seconds(program: str | pathlib.Path, text: bytes, seed: str) -> float:
+def seconds(of: str, text: bytes, seed: str) -> float:
     start = time.perf_counter()
-    subprocess.run([program, "sim", "--seed", seed], input=text, stdout=subprocess.DEVNULL, check=True)
+    subprocess.run([of, "sim", "--seed", seed], input=text, stdout=subprocess.DEVNULL, check=True)
     return time.perf_counter() - start
 
 
-def least(runs: list[tuple[str | pathlib.Path, bytes]], seed: str, rounds: int) -> list[float]:
+def least(runs: list[tuple[str, bytes]], seed: str, rounds: int) -> list[float]:
     """The least time of each of these programs on its script, run in turn."""
-    times = [[seconds(program, text, seed) for program, text in runs] for _ in range(rounds)]
+    times = [[seconds(of, text, seed) for of, text in runs] for _ in range(rounds)]
     return [min(column) for column in zip(*times)]
 
 
 def ratio(what: str, script, seed: str, rounds: int) -> float:
     """Prints the least times for 10,000 and 20,000 calls, and their ratio; gives the second."""
-    one, two = least([(PROGRAM, script(10000)), (PROGRAM, script(20000))], seed, rounds)
+    one, two = least([(program(), script(10000)), (program(), script(20000))], seed, rounds)
     print(f"{what}, schedule {seed}: {one * 1000:.1f} ms and {two * 1000:.1f} ms, ratio {two / one:.2f}")
     return two
 

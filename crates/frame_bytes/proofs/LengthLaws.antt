@@ -13,11 +13,14 @@ length-even spell k each [] = omega arith
 length-even spell k each (x ∷ xs) =
     omega (arith, length-append (spell x) (flat_map spell xs), each x, length-even spell k each xs)
 
+-- words take 4 bytes each
 pub length-words : (xs : List ℕ) → length (flat_map word xs) ≡ 4 * length xs
 length-words xs = length-even word 4 (λ x. refl) xs
 
+-- a semaphore operation takes 7 bytes
 pub length-steps : (steps : List SemStep) → length (flat_map step_field steps) ≡ 7 * length steps
 length-steps steps = length-even step_field 7 (λ s. refl) steps
 
+-- a variable's value takes 6 bytes
 pub length-vars : (vars : List (ℕ × ℕ)) → length (flat_map value_field vars) ≡ 6 * length vars
 length-vars vars = length-even value_field 6 (λ v. refl) vars

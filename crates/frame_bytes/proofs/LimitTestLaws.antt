@@ -107,6 +107,7 @@ asking-passes : (ticket : ℕ) (call : Call) → (nat_lt 0 ticket && is_call cal
     × IsCallWithin call
 asking-passes ticket call h = (left (nat_lt 0 ticket) _ h, call-passes call (right (nat_lt 0 ticket) _ h))
 
+-- fields that pass the test are within the limits
 pub fields-pass : (f : Frame) → has_fields f ≡ true → FieldsWithin f
 fields-pass (frames.Ask ticket pid call) h = asking-passes ticket call h
 fields-pass (frames.Request ticket pid call) h = asking-passes ticket call h

@@ -1,5 +1,5 @@
-//! How many bytes a frame's body has, field by field. The fields keep to their limits, so no sum overflows: `few` bounds
-//! what a caller adds to.
+//! How many bytes a frame's body has, field by field. The fields keep to their limits, so no sum overflows: `few`
+//! bounds what a caller adds to.
 ghost use Rattle.std.specs.Prelude.{◌≡◌, ◌<◌, ◌≤◌, ◌^◌, length};
 ghost use Rattle.frame_bytes.specs.Fields.{IsCount, IsHalf, IsText, text};
 ghost use Rattle.frame_bytes.specs.Calls.{call_bytes, steps_field, values_field};

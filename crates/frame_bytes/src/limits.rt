@@ -1,5 +1,5 @@
-//! Whether a frame keeps to the limits, tested before it is spelled. A list is counted before it is walked, so one that is
-//! too long costs nothing, however long it is.
+//! Whether a frame keeps to the limits, tested before it is spelled. A list is counted before it is walked, so one
+//! that is too long costs nothing, however long it is.
 ghost use Rattle.std.specs.Prelude.{◌≡◌, ◌↔◌, ◌&&◌, IsTrue, length};
 ghost use Rattle.std.specs.List.{list_all};
 ghost use Rattle.frame_bytes.specs.Fields.{name_number};
@@ -173,10 +173,10 @@ fn has_fields(frame: &Frame) -> bool
     }
 }
 
-/// Whether the frame keeps to the limits, so that `encode` takes it: its tickets, keys and the numbers of its names are at
-/// least 1, its texts and lists are no longer than their counts can say, with 255 deeds of a parcel at most, what has an
-/// order keeps it, its calls and replies are of those that go from node to node, and its body is no longer than 262144
-/// bytes. Any frame can be tested, and it takes no memory.
+/// Whether the frame keeps to the limits, so that `encode` takes it: its tickets, keys and the numbers of its names
+/// are at least 1, its texts and lists are no longer than their counts can say, with 255 deeds of a parcel at most,
+/// what has an order keeps it, its calls and replies are of those that go from node to node, and its body is no
+/// longer than 262144 bytes. Any frame can be tested, and it takes no memory.
 pub fn is_within_limits(frame: &Frame) -> bool
     ensures test { result ≡ is_frame frame.now }
     ensures within { IsTrue result ↔ IsWithinLimits frame.now }

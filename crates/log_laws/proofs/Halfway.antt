@@ -47,6 +47,7 @@ pub record IsHalfway (script : Script) (ends : Ends) (w : World) (now : Nodes) (
 abbrev pub nodes_after : Nodes → NodeTurn → Nodes
 nodes_after now t p = if nat_eq t.node p then t.turn.step.node else now p
 
+-- what a turn sends to a node, where the test holds
 abbrev pub sends_if : Bool → ℕ → Logged → List StampedFrame
 sends_if b to turn = if b then sends_of to turn else []
 

@@ -22,6 +22,7 @@ pub others-entry : (e : JournalEntry) (es : List JournalEntry) (p : ℕ) → e.n
     → entries_by p (e ∷ es) ≡ entries_by p es
 others-entry e es p h = ap (λ b. entry_if b e ++ entries_by p es) (ne_eqb e.node p h)
 
+-- a node's entries of two journals behind each other
 pub by-append : (p : ℕ) (xs ys : List JournalEntry) → entries_by p (xs ++ ys) ≡ entries_by p xs ++ entries_by p ys
 by-append p [] ys = refl
 by-append p (x ∷ xs) ys =
@@ -203,6 +204,7 @@ stamps-of-journal P script logs journal is h =
 
 -- ---- node by node the merge's entries are those of the logs
 
+-- a node's own entries are all kept
 pub own-all : (p stamp : ℕ) (es : List Entry)
     → entries_by p (map (journal_entry p stamp) es) ≡ map (journal_entry p stamp) es
 own-all p stamp [] = refl
@@ -210,6 +212,7 @@ own-all p stamp (e ∷ es) =
     own-entry (journal_entry p stamp e) (map (journal_entry p stamp) es) p refl
     ∙ ap (λ (xs : List JournalEntry). journal_entry p stamp e ∷ xs) (own-all p stamp es)
 
+-- and none of another node's
 pub others-none : (node p stamp : ℕ) (es : List Entry) → node ≢ p
     → entries_by p (map (journal_entry node stamp) es) ≡ []
 others-none node p stamp [] h = refl

@@ -1,4 +1,5 @@
--- Facts about lists: what a list has at a place after a change, the streams of a turn, and a log behind its first turn.
+-- Facts about lists: what a list has at a place after a change, the streams of a turn, and a log behind its first
+-- turn.
 use Rattle.std.proofs.Common.{◌≡◌, ◌≢◌, ℕ, zero, suc, ◌<◌, ◌≤◌, Bool, true, false, List, [], ◌∷◌, ◌++◌, length, set, slice_get, nat_eq, map, Some, refl, ap, sym, subst, inl, inr, arith}
 use Rattle.std.specs.List.{AllByRecursion}
 use Rattle.std.proofs.lemmas.Bool.{cases_eq, eq-eqb, ne_eqb}
@@ -38,6 +39,7 @@ pub left-all : {X : Type 0} (P : X → Type 0) (xs ys : List X) → AllByRecursi
 left-all P [] ys h = tt
 left-all P (x ∷ xs) ys h = (h.0, left-all P xs ys h.1)
 
+-- what holds of all of two lists behind each other holds of all of the second
 pub right-all : {X : Type 0} (P : X → Type 0) (xs ys : List X) → AllByRecursion P (xs ++ ys) → AllByRecursion P ys
 right-all P [] ys h = h
 right-all P (x ∷ xs) ys h = right-all P xs ys h.1

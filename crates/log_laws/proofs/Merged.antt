@@ -18,10 +18,12 @@ use Rattle.log_laws.proofs.Lists.{log-of-own, log-of-other}
 
 -- std's two words for it
 
+-- std's word for what holds of each item
 pub to-all : {X : Type 0} (P : X → Type 0) (xs : List X) → AllByRecursion P xs → All P xs
 to-all P [] h = All-nil P
 to-all P (x ∷ xs) h = All-cons P x xs h.0 (to-all P xs h.1)
 
+-- and back
 pub from-all : {X : Type 0} (P : X → Type 0) (xs : List X) → All P xs → AllByRecursion P xs
 from-all P [] h = tt
 from-all P (x ∷ xs) h = (All-head P x xs h, from-all P xs (All-tail P x xs h))

@@ -13,9 +13,11 @@ use Rattle.log_laws.proofs.Halfway.{Nodes, OnWay, nodes_after, sends_if, on_way_
 
 -- ---- the logs with the turn
 
+-- the node's own log has the turn at its end
 pub after-own : (logs : ℕ → Log) (t : NodeTurn) (p : ℕ) → t.node ≡ p → logs_after logs t p ≡ logs p ++ t.turn ∷ []
 after-own logs t p e = ap (λ b. if b then logs p ++ t.turn ∷ [] else logs p) (eq-eqb t.node p e)
 
+-- and any other log is as it was
 pub after-other : (logs : ℕ → Log) (t : NodeTurn) (p : ℕ) → t.node ≢ p → logs_after logs t p ≡ logs p
 after-other logs t p d = ap (λ b. if b then logs p ++ t.turn ∷ [] else logs p) (ne_eqb t.node p d)
 
@@ -78,6 +80,7 @@ leads-with-last script (l ∷ log) n last turn h turned =
 
 -- ---- what it takes and sends
 
+-- what a turn takes from a node, where the test holds
 abbrev pub takes_if : Bool → ℕ → Logged → List StampedFrame
 takes_if b from turn = if b then takes_of from turn.input else []
 

@@ -42,20 +42,20 @@ pub fn event_logs_may_merge()
     ensures { EventLogsMayMerge }
 {}
 
-/// `stamp_merge`'s merge of the nodes' events is that of the nodes' turns: each event is that of a turn, under the stamp
-/// and the node of it, and these turns in their order are the merge of the logs.
+/// `stamp_merge`'s merge of the nodes' events is that of the nodes' turns: each event is that of a turn, under the
+/// stamp and the node of it, and these turns in their order are the merge of the logs.
 pub fn events_merge_as_turns()
     ensures { EventsMergeAsTurns }
 {}
 
-/// Where each stamp is the next one to 0 or to that of some turn, the turn at place i of a merge, from 1, has a stamp of
-/// at most i, and so no stamp is above the number of turns.
+/// Where each stamp is the next one to 0 or to that of some turn, the turn at place i of a merge, from 1, has a stamp
+/// of at most i, and so no stamp is above the number of turns.
 pub fn stamps_are_few()
     ensures { StampsAreFew }
 {}
 
-/// Where the events of a merge of consistent logs lead to a world, its nodes, what is on its way there, and its journal
-/// are what the logs say.
+/// Where the events of a merge of consistent logs lead to a world, its nodes, what is on its way there, and its
+/// journal are what the logs say.
 pub fn logs_lead_there()
     ensures { LogsLeadThere }
 {}

@@ -55,6 +55,7 @@ drawn-floor turns input seen clock larger is (IsLargerOf stamp of same) =
 
 -- ---- the floor is at least
 
+-- the floor is no lower than the clock
 pub clock-within : (clock : ℕ) (input : Input) → clock ≤ floor_of clock input
 clock-within clock Runs = omega arith
 clock-within clock (Takes sender taken) = omega arith

@@ -14,6 +14,7 @@ use Rattle.logged_laws.proofs.Draws.{drawn-with-turns}
 
 -- ---- lines with the same nodes
 
+-- lines with the same nodes come from the same others
 pub from-same : (olds news : List Line) (input : Input) → others_in olds ≡ others_in news → IsFromOther olds input
     → IsFromOther news input
 from-same olds news Runs same from = tt

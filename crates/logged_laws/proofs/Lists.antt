@@ -7,9 +7,11 @@ use Rattle.log_laws.proofs.Merged.{to-all, from-all}
 
 -- ---- what a list contains
 
+-- a list contains its first item
 pub contains-first : {X : Type 0} (x : X) (xs : List X) → Contains (x ∷ xs) x
 contains-first x xs = (0, omega arith, refl)
 
+-- and what its rest contains
 pub contains-later : {X : Type 0} (y : X) (xs : List X) (x : X) → Contains xs x → Contains (y ∷ xs) x
 contains-later y xs x there = Contains-append_right (y ∷ []) xs x there
 

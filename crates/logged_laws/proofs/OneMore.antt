@@ -39,10 +39,12 @@ all-up-to clock turns turn next low =
 
 -- ---- its log, and its entries
 
+-- the log of events with one turn more
 pub log-with-turn : (number : ℕ) (turns : Log) (turn : Logged)
     → event_log number (turns ++ turn ∷ []) ≡ event_log number turns ++ event_item_of number turn ∷ []
 log-with-turn number turns turn = map-append (event_item_of number) turns (turn ∷ [])
 
+-- the entries with those of one turn more
 pub entries-with-turn : (seat : ℕ) (turns : Log) (turn : Logged)
     → flat_map (entries_under seat) (turns ++ turn ∷ [])
     ≡ flat_map (entries_under seat) turns ++ entries_under seat turn

@@ -1,5 +1,5 @@
 -- What the calls on lines say besides the words of a node that logs.
-use Rattle.std.specs.Prelude.{◌≡◌, ◌⊎◌, ℕ, Bool, true, nat_eq, if◌then◌else◌, List, [], ◌∷◌, ◌++◌, Option, Some, None, Result, Ok, Err, map}
+use Rattle.std.specs.Prelude.{◌≡◌, ◌⊎◌, ℕ, Bool, true, nat_eq, if◌then◌else◌, List, [], ◌∷◌, ◌++◌, Option, Some, None, Result, Ok, Err, IsErr, map}
 use Rattle.rpc_frame.specs.declared.frame.Frame.{Frame}
 use Rattle.frame_bytes.specs.declared.fault.FrameFault.{FrameFault}
 use Rattle.frame_bytes.specs.declared.fault.FrameFault.TheVariants as faults
@@ -25,7 +25,7 @@ AreSameLines (old ∷ olds) [] = ⊥
 
 -- what a look found, by what a joiner answers to the piece, which has this stamp
 abbrev pub FoundOf : ℕ → ℕ → Result (List Frame) FrameFault → Result Found Memory → Type 0
-FoundOf other stamp (Err faults.Memory) result = Unit {0}
+FoundOf other stamp (Err faults.Memory) result = IsErr result
 FoundOf other stamp (Err fault) result = result ≡ Ok founds.Refused
 FoundOf other stamp (Ok []) result = result ≡ Ok founds.Part
 FoundOf other stamp (Ok (frame ∷ [])) result = result ≡ Ok (founds.Whole other stamp frame)

@@ -4,7 +4,7 @@ ghost use Rattle.frame_bytes.specs.Frames.{frame_bytes};
 ghost use Rattle.frame_bytes.specs.Streams.{Rest, Feeds};
 ghost use Rattle.frame_bytes.specs.Limits.{IsWithinLimits};
 ghost use Rattle.stream_pair.specs.Pieces.{pieces};
-ghost use Rattle.log_model.specs.Looks.{IsLook};
+ghost use Rattle.log_model.specs.Looks.{IsLook, after_nothing};
 ghost use Rattle.node_lines.specs.Lines.{IsSameLine, FoundOf, with_frame};
 
 use crate::end::End;
@@ -15,7 +15,7 @@ use rpc_frame::{Frame, Frames};
 use std::alloc::Global;
 use std::marker::Model;
 use std::sync::Wait;
-use stream_pair::{In, Out};
+use stream_pair::{In, Out, Silence};
 
 /// The streams with one other node. What was taken from it goes through a joiner, which holds back what is no whole
 /// frame yet.
@@ -96,6 +96,20 @@ impl Line {
         ensures { result ≡ self.now.other }
     {
         self.other
+    }
+
+    /// Whether all streams to this node were empty at one step of this call, by the bell that they share.
+    #[inline(always)]
+    pub(crate) fn silence(&self) -> Option<Silence> {
+        self.into.silence()
+    }
+
+    /// Notes a look that found nothing, in a silence of this node's streams.
+    #[inline(always)]
+    pub(crate) fn was_empty(&mut self, silence: &Silence)
+        ensures { self.new ≡ after_nothing self.old }
+    {
+        self.into.was_empty(silence);
     }
 
     /// Looks for the next piece, and feeds it to the joiner. Where memory is refused a piece may be lost.

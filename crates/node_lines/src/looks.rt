@@ -1,19 +1,21 @@
 //! Looks at many streams.
 ghost use Rattle.std.specs.Prelude.{◌≡◌, IfOk};
 ghost use Rattle.log_model.specs.Looks.{Looks};
+ghost use Rattle.log_model.specs.declared.found.Found.TheVariants.{Nothing};
 ghost use Rattle.node_lines.specs.Lines.{AreSameLines, may_look};
 
 use crate::line::Line;
 use log_model::Found;
 use pico_base::{Memory, Node};
 use std::sync::Wait;
+use stream_pair::Silence;
 
 /// Whether a line is looked at.
-fn may_look(only: Option<Node>, other: Node) -> bool
-    ensures { result ≡ may_look only other }
+fn may_look(only: &Option<Node>, other: Node) -> bool
+    ensures { result ≡ may_look only.now other }
 {
     match only {
-        Some(only) => other == only,
+        Some(only) => other == *only,
         None => true,
     }
 }
@@ -28,16 +30,56 @@ pub fn look_at_each<R: Wait>(
     ensures looks { IfOk result (λ found. Looks (may_look only) lines.old found lines.new) }
     ensures same { AreSameLines lines.old lines.new }
 {
-    let mut all = Found::Nothing;
-    for line in lines.iter_mut() {
-        if !may_look(only, line.other()) {
-            continue;
+    match silence_on(lines) {
+        Some(silence) => {
+            note_silence(lines, &only, &silence);
+            Ok(Found::Nothing)
         }
-        match line.look(rt)? {
-            Found::Nothing => {}
-            Found::Part => all = Found::Part,
-            found => return Ok(found),
+        None => look_until_found(rt, lines, &only),
+    }
+}
+
+/// Whether nothing is on its way on any of the lines, by the bell that they share: one look in place of a look at each.
+#[inline(always)]
+fn silence_on(lines: &[Line]) -> Option<Silence> {
+    lines.first()?.silence()
+}
+
+/// Notes on each line that may be looked at that it was empty.
+#[inline(always)]
+fn note_silence(lines: &mut [Line], only: &Option<Node>, silence: &Silence)
+    ensures looks { Looks (may_look only.now) lines.old Nothing lines.new }
+    ensures same { AreSameLines lines.old lines.new }
+{
+    for line in lines.iter_mut() {
+        if may_look(only, line.other()) {
+            line.was_empty(silence);
         }
     }
-    Ok(all)
+}
+
+/// Looks at each line by itself.
+fn look_until_found<R: Wait>(
+    rt: &R,
+    lines: &mut [Line],
+    only: &Option<Node>,
+) -> Result<Found, Memory>
+    ensures looks { IfOk result (λ found. Looks (may_look only.now) lines.old found lines.new) }
+    ensures same { AreSameLines lines.old lines.new }
+{
+    let mut part = false;
+    for line in lines.iter_mut() {
+        if may_look(only, line.other()) {
+            match line.look(rt)? {
+                Found::Nothing => {}
+                Found::Part => part = true,
+                found => return Ok(found),
+            }
+        }
+    }
+    if part {
+        Ok(Found::Part)
+    } else {
+        Ok(Found::Nothing)
+    }
 }

@@ -1,5 +1,6 @@
 //! Frames to other nodes.
-ghost use Rattle.std.specs.Prelude.{◌≡◌, IsTrue, OnOk, map};
+ghost use Rattle.std.specs.Prelude.{◌≡◌, [], ◌∷◌, IsTrue, OnOk, map};
+ghost use Rattle.frame_bytes.specs.Limits.{IsWithinLimits};
 ghost use Rattle.log_model.specs.Turns.{has_line, may_send, with_sent};
 ghost use Rattle.node_lines.specs.Lines.{AreSameLines};
 
@@ -21,9 +22,7 @@ fn has_line(lines: &[Line], to: Node) -> bool
 pub fn may_send(lines: &[Line], sends: &[(Node, Frame)]) -> bool
     ensures { result ≡ may_send lines.now sends.now }
 {
-    sends
-        .iter()
-        .all(|(to, frame)| has_line(lines, *to) && is_within_limits(frame))
+    sends.iter().all(|(to, frame)| has_line(lines, *to) && is_within_limits(frame))
 }
 
 /// Sends each frame to its receiver, in order and all under this stamp. Where memory is refused a front of them, and a
@@ -53,10 +52,14 @@ fn send_one<R: Wait>(
     stamp: u64,
     to: Node,
     frame: &Frame,
-) -> Result<(), Memory> {
+) -> Result<(), Memory>
+    requires { IsWithinLimits frame.now }
+    ensures sent { OnOk result (lines.new ≡ map (with_sent stamp ((to, frame.now) ∷ [])) lines.old) }
+    ensures same { AreSameLines lines.old lines.new }
+{
     for line in lines.iter_mut() {
         if line.other() == to {
-            return line.send(rt, alloc, stamp, frame);
+            line.send(rt, alloc, stamp, frame)?;
         }
     }
     Ok(())

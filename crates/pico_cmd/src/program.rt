@@ -194,8 +194,8 @@ fn write_answer<K: Sink>(sink: &mut K, answer: Answer) -> Status
 ///   `--steps` the events behind it.
 /// - `check`: the source is a script, a line `trace` and a trace. It is written that the trace is legal, with the
 ///   number of its entries, or what its first fault is.
-/// - `gen`, with the same options as `sim`: the generated script of number N runs by schedule 0. The totals line of its
-///   trace is written, and with `--steps` the events behind it. Nothing is read.
+/// - `gen`, with the same options as `sim`: the generated script of number N runs by schedule 0. The totals line of
+/// its   trace is written, and with `--steps` the events behind it. Nothing is read.
 pub fn pico<R: Threads + Wait + Sync, S: Source, K: Sink, G: Gate>(
     rt: &R,
     alloc: Global,
@@ -245,8 +245,8 @@ pub fn pico<R: Threads + Wait + Sync, S: Source, K: Sink, G: Gate>(
     ensures exactly { EachCause (request_in (map string_bytes words.now)) (S.left source.old)
         (IsOrStops result.status) }
 
-    // Where no count of faults rises, the answer is the one that there is a cause for, unless memory runs out: a script
-    // without a fault is run, a legal trace is legal, and a generated script is run.
+    // Where no count of faults rises, the answer is the one that there is a cause for, unless memory runs out: a
+    // script without a fault is run, a legal trace is legal, and a generated script is run.
     ensures complete { (Reads (request_in (map string_bytes words.now))
         → HasRisen (S.faults source.old) (S.faults source.new) → ⊥)
         → (HasRisen (K.faults sink.old) (K.faults sink.new) → ⊥)

@@ -18,8 +18,8 @@ pub(crate) enum Ended {
     Failed,
 }
 
-/// Makes turns of a node until it is quiet, or a turn has a fault. The gate is passed before each turn, and told of each
-/// event. After each 64th idle turn in a row others are let go on.
+/// Makes turns of a node until it is quiet, or a turn has a fault. The gate is passed before each turn, and told of
+/// each event. After each 64th idle turn in a row others are let go on.
 pub(crate) fn turn_until_quiet<R: Wait, G: Gate>(
     rt: &R,
     lock: &JournalLock,

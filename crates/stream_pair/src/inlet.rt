@@ -13,8 +13,8 @@ use std::alloc::Global;
 use std::marker::Model;
 use std::sync::{Arc, Wait};
 
-/// The end of a stream that takes. Contracts see the stream, all that was taken from it, all that this end was last told
-/// of as sent, and how often it has looked: a number that stands still at its type's last value.
+/// The end of a stream that takes. Contracts see the stream, all that was taken from it, all that this end was last
+/// told of as sent, and how often it has looked: a number that stands still at its type's last value.
 #[derive(Drop)]
 pub struct In {
     stream: Arc<Stream, Global>,
@@ -29,7 +29,12 @@ impl Model for In {
 
     ghost Value = { Taking };
 
-    ghost view = { λ i. record { stream = (arc_value i.stream).queue; taken = taken_by i.pass; told = sent_by i.pass; looks = i.looks } };
+    ghost view = { λ i. record {
+      stream = (arc_value i.stream).queue;
+      taken = taken_by i.pass;
+      told = sent_by i.pass;
+      looks = i.looks;
+    } };
 
     ghost invariant = { λ i. IsTaker (arc_value i.stream).queue i.pass (sent_by i.pass) (taken_by i.pass) };
 }
@@ -46,7 +51,8 @@ impl In {
     /// The end of this stream that has this pass, and hasn't looked yet.
     pub(crate) fn new(stream: Arc<Stream, Global>, bell: Bell, pass: Pass) -> In
         requires { IsTaker (arc_value stream).queue pass [] [] }
-        ensures { (result.stream ≡ (arc_value stream).queue) × (result.taken ≡ []) × (result.told ≡ []) × (result.looks ≡ 0) }
+        ensures stream { result.stream ≡ (arc_value stream).queue }
+        ensures new { (result.taken ≡ []) × (result.told ≡ []) × (result.looks ≡ 0) }
     {
         In {
             stream,
@@ -97,8 +103,14 @@ impl In {
         Some(piece)
     }
 
-    /// Notes a look that found this stream empty. The silence is to be one of the bell with which this stream was made,
-    /// heard since this end last looked: no clause ties it to either.
+    /// What the bell with which this stream was made says of all streams to this receiver, as [`Bell::silence`].
+    #[inline(always)]
+    pub fn silence(&self) -> Option<Silence> {
+        self.bell.silence()
+    }
+
+    /// Notes a look that found this stream empty. The silence is to be one of the bell with which this stream was
+    /// made, heard since this end last looked: no clause ties it to either.
     #[inline(always)]
     pub fn was_empty(&mut self, _silence: &Silence)
         ensures stream { self.new.stream ≡ self.old.stream }

@@ -24,7 +24,8 @@ impl Drop for Stream {
 /// The two ends of a new stream, on which nothing was sent.
 pub fn pair(alloc: Global) -> Result<(Out, In), Memory>
     ensures one { IfOk result (λ ends. ends.0.stream ≡ ends.1.stream) }
-    ensures new { IfOk result (λ ends. (ends.0.sent ≡ []) × (ends.1.taken ≡ []) × (ends.1.told ≡ []) × (ends.1.looks ≡ 0)) }
+    ensures new { IfOk result (λ ends.
+        (ends.0.sent ≡ []) × (ends.1.taken ≡ []) × (ends.1.told ≡ []) × (ends.1.looks ≡ 0)) }
 {
     let bell = Bell::new(alloc)?;
     pair_to(alloc, &bell)
@@ -33,7 +34,8 @@ pub fn pair(alloc: Global) -> Result<(Out, In), Memory>
 /// The same, for a stream to the receiver with this bell.
 pub fn pair_to(alloc: Global, bell: &Bell) -> Result<(Out, In), Memory>
     ensures one { IfOk result (λ ends. ends.0.stream ≡ ends.1.stream) }
-    ensures new { IfOk result (λ ends. (ends.0.sent ≡ []) × (ends.1.taken ≡ []) × (ends.1.told ≡ []) × (ends.1.looks ≡ 0)) }
+    ensures new { IfOk result (λ ends.
+        (ends.0.sent ≡ []) × (ends.1.taken ≡ []) × (ends.1.told ≡ []) × (ends.1.looks ≡ 0)) }
 {
     let (rung, heard) = (bell.share()?, bell.share()?);
     let (queue, mut sender) = Queue::with_rule(alloc)?;

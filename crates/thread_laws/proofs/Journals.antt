@@ -33,6 +33,7 @@ by-seat p (e ∷ journal) =
           ∙ sym (ap journal_of (filter-no (λ (f : Stamped). f.seat == p) e journal (ne_eqb e.seat p other)))
     ]
 
+-- entries under a stamp and a seat are those that the node's turn enters
 pub entered-under : (p stamp : ℕ) (es : List Entry)
     → journal_of (under stamp p es) ≡ map (journal_entry p stamp) es
 entered-under p stamp [] = refl

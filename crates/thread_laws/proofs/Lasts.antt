@@ -59,17 +59,20 @@ below-next n turns all = all-map (λ (t : NodeTurn) low. next t.turn.stamp low) 
     next : (m : ℕ) → m ≤ n → m < n + 1
     next m low = omega arith
 
+-- where the last stamp is the greatest, all are below the one after it
 pub below-last : (turns : List NodeTurn) (stamp : ℕ) → AreInOrder turns → IsLastStamp (map event_item turns) stamp
     → AreBelow (stamp + 1) turns
 below-last turns stamp order (OfNone none least) = no-items (λ (t : NodeTurn). t.turn.stamp < stamp + 1) turns none
 below-last turns stamp order (OfLast front e is same) =
     subst (λ (n : ℕ). AreBelow (n + 1) turns) same (below-next e.stamp turns (up-to-last turns front e order is))
 
+-- the stamps of the items are those of the turns
 pub items-below : (n : ℕ) (turns : List NodeTurn) → AreBelow n turns
     → AllByRecursion (λ (e : Item). e.stamp < n) (map event_item turns)
 items-below n [] all = tt
 items-below n (t ∷ turns) all = (all.0, items-below n turns all.1)
 
+-- the last stamp is no higher than the number of turns
 pub last-few : (turns : List NodeTurn) (stamp : ℕ) → AreBelow (length turns + 1) turns
     → IsLastStamp (map event_item turns) stamp → stamp ≤ length turns
 last-few turns stamp below (OfNone none least) = omega arith

@@ -14,6 +14,7 @@ use Rattle.log_model.specs.Logged.{others_of}
 none-there : {X : Type 0} (x : X) → Contains [] x → ⊥
 none-there x there = omega (arith, there.1)
 
+-- an item of a list is the first, or one of the rest
 pub first-or-later : {X : Type 0} (y : X) (ys : List X) (x : X) → Contains (y ∷ ys) x → (y ≡ x) ⊎ Contains ys x
 first-or-later y ys x there =
     elim (Contains-append_cases (y ∷ []) ys x there) [
@@ -36,6 +37,7 @@ each-in P (x ∷ xs) h = (h x (here x xs), each-in P xs (λ y there. h y (later 
 pub at-one : {X : Type 0} (P : X → Type 0) (xs : List X) (x : X) → AllByRecursion P xs → Contains xs x → P x
 at-one P xs x all there = All-contains P xs x (All-from_recursion P xs all) there
 
+-- a mapped item is in the mapped list
 pub in-map : {X Y : Type 0} (f : X → Y) (xs : List X) (x : X) → Contains xs x → Contains (map f xs) (f x)
 in-map f [] x there = absurd (none-there x there)
 in-map {Y = Y} f (y ∷ ys) x there =
@@ -50,6 +52,7 @@ pub record IsMade {X Y : Type 0} (f : X → Y) (xs : List X) (y : Y) : Type 0 wh
   pub there : Contains xs from
   pub is : f from ≡ y
 
+-- an item of a mapped list is made of one of the list
 pub of-map : {X Y : Type 0} (f : X → Y) (xs : List X) (y : Y) → Contains (map f xs) y → IsMade f xs y
 of-map f [] y there = absurd (none-there y there)
 of-map f (x ∷ xs) y there =
@@ -88,6 +91,7 @@ all-left P p xs all = recursion_from_All P (filter p xs) (All-filter p P xs (All
 
 -- ---- different numbers
 
+-- each number is another than those behind it
 abbrev pub AreApart : List ℕ → Type 0
 AreApart [] = Unit {0}
 AreApart (n ∷ ns) = AllByRecursion (λ m. n ≢ m) ns × AreApart ns
@@ -148,10 +152,12 @@ pub record IsOther (script : Script) (p q : ℕ) : Type 0 where
   pub node : IsNode script q
   pub other : q ≢ p
 
+-- the other nodes are apart
 pub others-apart : (script : Script) (p : ℕ) → AreApart (others_of script p)
 others-apart script p =
     apart-left (λ q. not (nat_eq q p)) (numbers 1 (node_count script)) (numbers-apart 1 (node_count script))
 
+-- an item of the others is another node of the script
 pub is-other : (script : Script) (p q : ℕ) → Contains (others_of script p) q → IsOther script p q
 is-other script p q there =
     let passes = passes-filter (λ x. not (nat_eq x p)) (numbers 1 (node_count script)) q there
@@ -167,6 +173,7 @@ is-other script p q there =
       other = eqb-false q p (not-true (nat_eq q p) passes);
     }
 
+-- another node of the script is one of the others
 pub in-others : (script : Script) (p q : ℕ) → IsNode script q → q ≢ p → Contains (others_of script p) q
 in-others script p q is d =
     let low = is.low

@@ -51,6 +51,7 @@ pub record HaveMade (script : Script) (nodes : ℕ → LoggedNode) : Type 0 wher
 
 -- ---- from what each node keeps true
 
+-- a number is that of a node of the script, or it isn't
 pub node-or-none : (script : Script) (p : ℕ) → IsNode script p ⊎ (IsNode script p → ⊥)
 node-or-none script p =
     elim (cases_lt 0 p) [

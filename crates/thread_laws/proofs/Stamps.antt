@@ -104,6 +104,7 @@ module _ (script : Script) (nodes : ℕ → LoggedNode) (have : HaveMade script 
 
 -- ---- so few
 
+-- a stamp that is known is no higher than the number of turns
 pub low-stamp : (script : Script) (logs : ℕ → Log) (turns : List NodeTurn) → HasFewStamps script logs turns
     → (stamp : ℕ) → IsKnownStamp script logs stamp → stamp ≤ length turns
 low-stamp script logs turns few stamp (inl none) = omega arith
@@ -114,6 +115,7 @@ low-stamp script logs turns few stamp (inr of) =
     in let same : of.turn.stamp ≡ stamp = of.stamped
     in omega arith
 
+-- all stamps are below the number of turns and one
 pub all-below : (script : Script) (logs : ℕ → Log) (turns : List NodeTurn) → HasFewStamps script logs turns
     → AreBelow (length turns + 1) turns
 all-below script logs turns few = all-map (λ (t : NodeTurn) low. below-next t.turn.stamp low) turns few.merged

@@ -1,6 +1,6 @@
--- What a node that isn't born finds first in the stream from the one that forks it is its Checkpoint. Only that makes it
--- born, so anything else would stand there for ever; but each run can be made longer until it rests, where nothing is on
--- its way.
+-- What a node that isn't born finds first in the stream from the one that forks it is its Checkpoint. Only that makes
+-- it born, so anything else would stand there for ever; but each run can be made longer until it rests, where nothing
+-- is on its way.
 use Rattle.std.proofs.Common.{◌≡◌, ◌≢◌, ℕ, zero, suc, ◌+◌, ◌*◌, ◌<◌, ◌≤◌, Bool, true, false, not, ◌||◌, List, [], ◌∷◌, ◌++◌, length, Option, Some, None, is_some, refl, ap, sym, subst, ◌∙◌, inl, inr, arith}
 use Rattle.std.specs.Prelude.{Contains}
 use Rattle.std.proofs.lemmas.Bool.{and_parts, cases_eq, false≢true}

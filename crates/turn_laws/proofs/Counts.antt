@@ -6,6 +6,7 @@ use Rattle.world_weights.specs.Weights.{calls_of}
 use Rattle.world_runs.proofs.Runs.{runs_are_short_lemma}
 use Rattle.turn_laws.specs.Laws.{RunsAreFew}
 
+-- a run has at most 640,000 events
 pub runs_are_few_lemma : RunsAreFew
 runs_are_few_lemma script events w sound run =
     let short = runs_are_short_lemma script sound events w run

@@ -52,6 +52,7 @@ module _ (script : Script) (sound : IsSoundScript script) (w : World) (p : ℕ) 
       ∙ ap (λ (x : Script). is_some (after_turn without p (take_frame x n from frame))) k.shape.of_script)
       ∙ some)
 
+-- a turn that may be made has a step
 pub enabled_turns_have_steps_lemma : EnabledTurnsHaveSteps
 enabled_turns_have_steps_lemma script w p n Runs sound t may = run-has-step script sound w p n t may
 enabled_turns_have_steps_lemma script w p n (Takes from taken) sound t may =

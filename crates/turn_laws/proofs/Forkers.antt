@@ -93,6 +93,7 @@ module _ (script : Script) (sound : IsSoundScript script) (q p : ℕ) where
       forked-from script sound q p low (found-in-lines (block_at script q) refl forks)
       in k.forker_is
 
+-- one node forks a block
 pub one_forks_lemma : OneForks
 one_forks_lemma script q p sound k =
     let node : IsNode script q = k.node

@@ -91,6 +91,7 @@ module _ (script : Script) (sound : IsSoundScript script) (w : World) (p : ℕ) 
   all-go : AllByRecursion (GoesToAnother script p) s.sends
   all-go = all-of (GoesToAnother script p) s.sends goes
 
+-- a turn sends to other nodes, within the limits
 pub sends_go_to_others_lemma : SendsGoToOthers
 sends_go_to_others_lemma script w p n input s sound t turned =
     all-go script sound w p input s t.reachable (turn-leads script sound w p n input s t turned)

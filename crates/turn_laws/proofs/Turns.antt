@@ -35,6 +35,7 @@ both-true a b h g = rw (h, g) refl
 
 -- ---- a run with one more event
 
+-- a run goes on by an enabled event
 pub runs-more : (es : List Event) (w mid next : World) (e : Event) → EventsLead w es mid → is_enabled mid e ≡ true
     → step mid e ≡ Some next → EventsLead w (es ++ e ∷ []) next
 runs-more [] w mid next e so_far enabled steps =

@@ -1,17 +1,20 @@
 #!/usr/bin/env python3
-"""Builds `pico` with nothing proved, to count and time what a change would cost before it is proved. Never use it else.
+"""Builds `pico` with nothing proved: for a first run of `./pico`, and to count and time what a change would cost.
 
-usage: bench/unproved.py OUT [PART=HINT ..]
+usage: tools/unproved.py OUT [PART=HINT ..]
 
-`rt try` compiles the program with checks. Here the intermediate code that it would compile is kept, its checks are taken
-out, the sources' hints on inlining are put in, and it is optimized as `rt run` optimizes a proved program: OUT has the
-instructions of that one within some hundredths. Further hints are tried without a change of the sources: PART is a
+`rt try` compiles the program with checks. Here the intermediate code that it would compile is kept, its checks are
+taken out, the sources' hints on inlining are put in, and it is optimized as `rt run` optimizes a proved program: OUT
+has the instructions of that one within some hundredths. Further hints are tried without a change of the sources: PART is a
 pattern of a function's name in the intermediate code, as `world_core::state::State::run$`, and HINT one of `always`,
 `never` and `cold`. It takes two minutes of a processor.
 """
+from __future__ import annotations
+
 import pathlib
 import re
 import shutil
+import signal
 import subprocess
 import sys
 import tempfile
@@ -46,7 +49,8 @@ def kit() -> pathlib.Path:
 
 
 def kit_that_keeps(real: pathlib.Path, kept: pathlib.Path, made: pathlib.Path) -> None:
-    """Makes a kit of links whose compiler keeps the program's intermediate code, and then fails, so that no more is done."""
+    """Makes a kit of links whose compiler keeps the program's intermediate code and then fails, so that no more is
+    done."""
     for folder in (made / "bin", made / "toolchain/bin"):
         folder.mkdir(parents=True)
     for it in real.iterdir():
@@ -136,6 +140,8 @@ def main() -> int:
     if len(sys.argv) < 2 or not all(it.rpartition("=")[2] in WORDS for it in sys.argv[2:]):
         print(__doc__.strip())
         return 2
+    # so that what is written aside goes, too, where this run is told to stop
+    signal.signal(signal.SIGTERM, lambda *_: sys.exit(143))
     tried = [(re.compile(it.rpartition("=")[0]), WORDS[it.rpartition("=")[2]]) for it in sys.argv[2:]]
     real, out = kit(), pathlib.Path(sys.argv[1]).resolve()
     with tempfile.TemporaryDirectory() as room:
@@ -143,9 +149,11 @@ def main() -> int:
         kept, text, compiled = room / "module.bc", room / "module.ll", room / "module.o"
         kit_that_keeps(real, kept, room / "kit")
         tries = [room / "kit/bin/rt", "try", "--", "sim"]
-        subprocess.run(tries, cwd=TOP / "crates/pico_cmd", stdin=subprocess.DEVNULL, capture_output=True)
+        how = {"stdin": subprocess.DEVNULL, "stdout": subprocess.PIPE, "stderr": subprocess.STDOUT}
+        tried_it = subprocess.run(tries, cwd=TOP / "crates/pico_cmd", **how)
         if not kept.is_file():
-            print("rt try did not come as far as the compiler: run it in crates/pico_cmd", file=sys.stderr)
+            print(tried_it.stdout.decode(errors="replace"), file=sys.stderr)
+            print("rt try did not come as far as the compiler", file=sys.stderr)
             return 1
         clang = [real / "toolchain/bin/clang", f"--target={TARGET}", "-x", "ir"]
         subprocess.run([*clang, kept, "-S", "-emit-llvm", "-Xclang", "-disable-llvm-passes", "-o", text], check=True)

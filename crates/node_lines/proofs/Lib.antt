@@ -1,0 +1,4 @@
+pub mod Same
+pub mod Found
+pub mod Fronts
+pub mod Sent
