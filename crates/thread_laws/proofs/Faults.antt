@@ -148,8 +148,8 @@ module _ (laws : TurnLaws) (next : TheNextIsSent) (script : Script) (sound : IsS
   may-turn (Takes sender taken) there may =
       may-take-it sender taken (first-here sender taken there) (may sender taken refl)
 
-  had-rule : HadNoRule script (nodes p) (have.logs p) (have.last p) → ⊥
-  had-rule h =
+  none-without-rule : HadNoRule script (nodes p) (have.logs p) (have.last p) → ⊥
+  none-without-rule h =
       let turn : IsTurnIn script w p (have.last p) h.input =
       record {
         reachable = end.reachable;
@@ -163,8 +163,8 @@ module _ (laws : TurnLaws) (next : TheNextIsSent) (script : Script) (sound : IsS
       (λ s e. laws.sends script w p (have.last p) h.input s sound turn e)
       h.no_rule
 
-  had-stamp : HasLowFloors script nodes have → HadNoStamp script (nodes p) (have.logs p) (have.last p) → ⊥
-  had-stamp low h =
+  none-without-stamp : HasLowFloors script nodes have → HadNoStamp script (nodes p) (have.logs p) (have.last p) → ⊥
+  none-without-stamp low h =
       let floor_low : h.floor ≤ max_events =
       low p is h.input h.floor h.from (λ sender taken of.
       frame-known script nodes have settled next untaken end.consistent p is sender taken
@@ -172,15 +172,15 @@ module _ (laws : TurnLaws) (next : TheNextIsSent) (script : Script) (sound : IsS
       in let floor_high = h.high
       in omega arith
 
-  none-stands : HasLowFloors script nodes have → (fault : Option LogFault)
+  no-fault-stands : HasLowFloors script nodes have → (fault : Option LogFault)
       → Stands script (nodes p) (have.logs p) (have.last p) fault → fault ≡ None
-  none-stands low None stands = refl
-  none-stands low (Some faults.Memory) stands = absurd stands
-  none-stands low (Some faults.BadFrame) (inl refused) =
+  no-fault-stands low None stands = refl
+  no-fault-stands low (Some faults.Memory) stands = absurd stands
+  no-fault-stands low (Some faults.BadFrame) (inl refused) =
       absurd (no-line-refused script nodes have settled next p is refused)
-  none-stands low (Some faults.BadFrame) (inr none) = absurd (had-rule none)
-  none-stands low (Some (faults.StampEnd last)) stands = absurd (had-stamp low stands)
+  no-fault-stands low (Some faults.BadFrame) (inr none) = absurd (none-without-rule none)
+  no-fault-stands low (Some (faults.StampEnd last)) stands = absurd (none-without-stamp low stands)
 
   -- no fault came
   pub no-fault : HasLowFloors script nodes have → (nodes p).fault ≡ None
-  no-fault low = none-stands low (nodes p).fault (have.made p is).stands
+  no-fault low = no-fault-stands low (nodes p).fault (have.made p is).stands

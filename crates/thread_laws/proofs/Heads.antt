@@ -22,12 +22,11 @@ use Rattle.thread_laws.proofs.Nodes.{HaveMade}
 use Rattle.thread_laws.proofs.Streams.{line-is-other, IsTakenFrom, taken-from}
 
 -- the frame is a node's, and the first that is on the way from it
-pub record IsFirst (script : Script) (untaken : ℕ → ℕ → List StampedFrame) (p sender : ℕ) (taken : StampedFrame)
-    : Type 0
+pub record IsFirst (script : Script) (way : ℕ → ℕ → List StampedFrame) (p sender : ℕ) (taken : StampedFrame) : Type 0
   where
     pub node : IsNode script sender
     pub behind : List StampedFrame
-    pub first : untaken p sender ≡ taken ∷ behind
+    pub first : way p sender ≡ taken ∷ behind
 
 -- no joiner refuses what it is fed
 no-answer-refused : (sent got : List StampedFrame) (piece : Piece) (rest : List Piece)

@@ -1,6 +1,6 @@
 -- A run that is stepped on behind that of the threads, with its events and its journal: what a loop over the events
 -- that are left keeps.
-use Rattle.std.proofs.Common.{◌≡◌, ◌≢◌, ℕ, ◌+◌, ◌<◌, ◌≤◌, true, List, [], ◌∷◌, ◌++◌, length, map, Some, refl, ap, sym, subst, ◌∙◌, ◌⊎◌, inl, inr, append_assoc, append-nil, arith}
+use Rattle.std.proofs.Common.{◌≡◌, ℕ, ◌+◌, ◌<◌, ◌≤◌, true, List, [], ◌∷◌, ◌++◌, length, map, Some, refl, ap, sym, subst, ◌∙◌, inl, inr, append_assoc, append-nil, arith}
 use Rattle.std.specs.List.{AllByRecursion}
 use Rattle.std.proofs.lemmas.Bool.{cases_eq}
 use Rattle.std.proofs.lemmas.List.{append_cancel_left, length-append}
@@ -8,7 +8,6 @@ use Rattle.pico_base.specs.declared.script.Script.{Script}
 use Rattle.pico_base.specs.declared.script.Event.{Event}
 use Rattle.pico_base.specs.declared.reply.Entry.{Entry}
 use Rattle.stamp_merge.specs.Merge as stamps
-use Rattle.stamp_merge.proofs.Filters.{all-map}
 use Rattle.stamp_merge.proofs.Merges.{own-item, others-item}
 use Rattle.journal_core.specs.declared.stamped.Stamped.{Stamped}
 use Rattle.journal_core.specs.Journal.{under}
@@ -16,12 +15,12 @@ use Rattle.kernel_model.specs.Script.{IsSoundScript}
 use Rattle.world_model.specs.World.{World, step, is_enabled}
 use Rattle.world_model.specs.Schedule.{node_of}
 use Rattle.log_laws.specs.Logs.{IsNode, Log}
-use Rattle.log_laws.specs.Merge.{NodeTurn, IsBefore, AreInOrder, log_of}
+use Rattle.log_laws.specs.Merge.{NodeTurn, log_of}
 use Rattle.log_laws.specs.Journal.{JournalEntry, journal_entry, IsJournalOf}
 use Rattle.log_laws.specs.EventLogs.{event_item_of, event_item, event_log}
 use Rattle.log_laws.specs.Follows.{IsRunOfLogs, AreBelow, TurnFollows, logs_after}
 use Rattle.log_laws.proofs.JournalsFollow.{event-entered}
-use Rattle.log_laws.proofs.Lists.{map-append, append-all, left-all, right-all, log-of-own, log-of-other, not-below}
+use Rattle.log_laws.proofs.Lists.{map-append, append-all, left-all, right-all, log-of-own, log-of-other}
 use Rattle.log_laws.proofs.OneMore.{after-own, after-other}
 use Rattle.log_model.specs.Views.{LoggedNode}
 use Rattle.thread_laws.specs.Joined.{entry_of_node, journal_of}

@@ -10,12 +10,14 @@ use turn_laws::{
     unborn_take_their_checkpoint,
 };
 
-/// The logs that the nodes kept are what `stamp_merge` asks for.
+/// The logs that the nodes kept are what `stamp_merge` asks for: in each the stamps rise, and each is of another node.
 pub fn nodes_may_merge()
     ensures { NodesMayMerge }
 {}
 
-/// The merge of the logs is a run of the machine, the journal is that of the run, and no node met a fault.
+/// The merge of the logs is a run of the machine: the logs are consistent, and their turns lead to a world. The journal
+/// is theirs, and its entries are that world's. No stamp is above the number of turns, and no node met a fault: each bad
+/// frame, refused line or last stamp would contradict what all nodes did together.
 pub fn threads_make_a_run()
     ensures { ThreadsMakeARun }
 {
@@ -28,7 +30,8 @@ pub fn threads_make_a_run()
     runs_are_few();
 }
 
-/// An event that is enabled behind such a run is one turn more at the end of its node's log.
+/// An event that is enabled behind such a run, under a stamp above all others, is one turn more at the end of its
+/// node's log, and the logs with it lead to the world behind the event.
 pub fn steps_follow()
     ensures { StepsFollow }
 {
