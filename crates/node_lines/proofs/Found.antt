@@ -1,17 +1,17 @@
 -- What one look found, by what the joiner answers to the piece.
-use Rattle.std.proofs.Common.{◌≡◌, ℕ, List, [], ◌∷◌, ◌++◌, Result, Ok, Err, IfOk, refl, sym, subst}
+use Rattle.std.proofs.Common.{◌≡◌, List, [], ◌∷◌, ◌++◌, Result, Ok, Err, IfOk, refl, sym, subst}
 use Rattle.std.proofs.lemmas.Result.{IfOk-from_err}
 use Rattle.rpc_frame.specs.declared.frame.Frame.{Frame}
 use Rattle.pico_base.specs.declared.fault.Memory.{Memory}
 use Rattle.stream_pair.specs.declared.piece.Piece.{Piece}
-use Rattle.stream_pair.specs.Ends.{Taking, Sending, one_more_look}
+use Rattle.stream_pair.specs.Ends.{Taking, one_more_look}
 use Rattle.frame_bytes.specs.declared.fault.FrameFault.{FrameFault}
 use Rattle.frame_bytes.specs.declared.fault.FrameFault.TheVariants as faults
-use Rattle.frame_bytes.specs.Streams.{Left, Feeds}
+use Rattle.frame_bytes.specs.Streams.{Feeds}
 use Rattle.log_model.specs.declared.found.Found.{Found}
 use Rattle.log_model.specs.declared.found.Found.TheVariants as founds
 use Rattle.log_model.specs.Views.{Line}
-use Rattle.log_model.specs.Looks.{IsLook, TakesPiece, TakesFrame, TakesNone, after_piece}
+use Rattle.log_model.specs.Looks.{IsLook, TakesPiece, after_piece}
 use Rattle.node_lines.specs.Lines.{FoundOf}
 
 -- the end after a look that took a piece

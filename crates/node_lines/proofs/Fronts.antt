@@ -5,7 +5,7 @@ use Rattle.std.proofs.Math.Bool.{or-false, or-true, or_assoc}
 use Rattle.log_model.specs.declared.found.Found.{Found}
 use Rattle.log_model.specs.declared.found.Found.TheVariants.{Nothing, Part, Whole, Refused}
 use Rattle.log_model.specs.Views.{Line}
-use Rattle.log_model.specs.Looks.{after_nothing, IsLook, LooksOn, Passed, Stopped, Went, Looks, ends_looks, both_found}
+use Rattle.log_model.specs.Looks.{after_nothing, IsLook, Passed, Stopped, Went, Looks, ends_looks, both_found}
 use Rattle.node_lines.specs.Lines.{IsSameLine, AreSameLines, may_look}
 use Rattle.node_lines.proofs.Same.{IsSameLine-refl, AreSameLines-refl, AreSameLines-set}
 

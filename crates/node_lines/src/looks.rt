@@ -21,7 +21,8 @@ fn may_look(only: &Option<Node>, other: Node) -> bool
 }
 
 /// Looks at the lines one after the other, at each or at that with the node `only` alone, up to the first that gives a
-/// whole frame, or bytes that are none. Where memory is refused a piece may be lost.
+/// whole frame, or bytes that are none. Where memory is refused a piece may be lost. One look at the bell of the first
+/// line stands for all where it is silent, so the streams to one node are to be made with one bell: no clause says so.
 pub fn look_at_each<R: Wait>(
     rt: &R,
     lines: &mut [Line],

@@ -4,7 +4,7 @@ use node_core::PicoNode;
 use node_log::{End, Ends, Logged};
 use pico_base::{Memory, Node, Script};
 use std::alloc::Global;
-use stream_pair::{In, Out, pair};
+use stream_pair::{Bell, In, Out, pair_to};
 
 /// The node at this place, from 0.
 fn node_at(place: usize) -> Node {
@@ -31,9 +31,10 @@ fn wires(alloc: Global, count: usize) -> Result<Wires, Memory> {
     let mut outs = empty_lists(alloc, count)?;
     let mut ins = empty_lists(alloc, count)?;
     for to in 0..count {
+        let bell = Bell::new(alloc)?;
         for from in 0..count {
             if from != to {
-                let (out, into) = pair(alloc)?;
+                let (out, into) = pair_to(alloc, &bell)?;
                 outs[from].push(out)?;
                 ins[to].push(into)?;
             }

@@ -1,9 +1,6 @@
-use Rattle.std.proofs.Common.{◌≡◌, ◌<◌, ◌∙◌, ap, arith, get_or, length, refl, subst, sym, true, false}
+use Rattle.std.proofs.Common.{◌<◌, ◌∙◌, ap, arith, get_or, length, subst}
 use Rattle.log_model.specs.declared.found.Found.{Found}
-use Rattle.log_model.specs.declared.found.Found.TheVariants.{Nothing, Part}
 use Rattle.log_model.specs.Looks.{IsLook}
-use Rattle.log_model.specs.Views.{Line}
-use Rattle.node_lines.specs.Lines.{may_look}
 use Rattle.node_lines.proofs.Same.{AreSameLines-set}
 use Rattle.node_lines.proofs.Fronts.{may_look-is, part_if, LookedSoFar-none, LookedSoFar-nothing, LookedSoFar-part, LookedSoFar-passed, LookedSoFar-all, LookedSoFar-end}
 use Rattle.node_lines.proofs.looks.look_until_found.Goals as goal

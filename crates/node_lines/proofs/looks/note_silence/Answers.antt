@@ -1,6 +1,4 @@
-use Rattle.std.proofs.Common.{◌≡◌, ◌<◌, ◌∙◌, ap, arith, get_or, length, refl, sym, true, false}
-use Rattle.log_model.specs.Views.{Line}
-use Rattle.node_lines.specs.Lines.{may_look}
+use Rattle.std.proofs.Common.{◌<◌, ◌∙◌, arith, get_or, length, refl}
 use Rattle.node_lines.proofs.Fronts.{may_look-is, LookedSoFar-none, LookedSoFar-nothing, LookedSoFar-passed, LookedSoFar-all}
 use Rattle.node_lines.proofs.looks.note_silence.Goals as goal
 use Rattle.node_lines.proofs.looks.note_silence.Goals.{then-may_look, else-may_look}
