@@ -152,8 +152,11 @@ def main() -> int:
         how = {"stdin": subprocess.DEVNULL, "stdout": subprocess.PIPE, "stderr": subprocess.STDOUT}
         tried_it = subprocess.run(tries, cwd=TOP / "crates/pico_cmd", **how)
         if not kept.is_file():
-            print(tried_it.stdout.decode(errors="replace"), file=sys.stderr)
-            print("rt try did not come as far as the compiler", file=sys.stderr)
+            said = [
+                it for it in tried_it.stdout.decode(errors="replace").split("\n") if it and not it.startswith("run=")
+            ]
+            killed = "rt try ended before the compiler began and said no reason, as where memory runs out"
+            print(*said or [killed], sep="\n", file=sys.stderr)
             return 1
         clang = [real / "toolchain/bin/clang", f"--target={TARGET}", "-x", "ir"]
         subprocess.run([*clang, kept, "-S", "-emit-llvm", "-Xclang", "-disable-llvm-passes", "-o", text], check=True)

@@ -73,7 +73,7 @@ class Judged:
             return Finding(what, expected=f"a line `{self.totals().decode()}`", number=self.number, page=PAGE)
         if size > MAX_LINE:
             long = f"the line has {size:,} bytes, and {MAX_LINE:,} is the limit"
-            return self.at(Fault(long, "", MAX_LINE, size, page=CHECKING))
+            return Finding(long, number=self.number, page=CHECKING)
         if sum(map(len, self.before)) + len(self.before) + size >= MAX_TRACE:
             return Finding(f"the trace has more than {MAX_TRACE:,} bytes", number=self.number, page=CHECKING)
         if self.number == len(self.lines):
