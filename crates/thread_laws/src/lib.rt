@@ -15,9 +15,9 @@ pub fn nodes_may_merge()
     ensures { NodesMayMerge }
 {}
 
-/// The merge of the logs is a run of the machine: the logs are consistent, and their turns lead to a world. The journal
-/// is theirs, and its entries are that world's. No stamp is above the number of turns, and no node met a fault: each bad
-/// frame, refused line or last stamp would contradict what all nodes did together.
+/// The merge of the logs is a run of the machine: the logs are consistent, and their turns lead to a world. The
+/// journal is theirs, and its entries are that world's. No stamp is above the number of turns, and no node met a
+/// fault: each bad frame, refused line or last stamp would contradict what all nodes did together.
 pub fn threads_make_a_run()
     ensures { ThreadsMakeARun }
 {
