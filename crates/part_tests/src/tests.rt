@@ -1,3 +1,3 @@
-//! What a call on each part gives, at its limits and in the middle.
+//! The bytes of each part, and bytes that are none's.
 mod queues;
 mod sets;

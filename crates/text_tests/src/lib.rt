@@ -1,5 +1,5 @@
-//! The texts from outside: the tests read scripts and the program's words, and write and judge traces. They stand apart
-//! from the code, so that its proof isn't made again for them.
+//! The text of a trace from outside: the tests write it and read it again. They stand apart from the code, so that its
+//! proof isn't made again for them. What is said of scripts, words and refused traces stands in the golden cases.
 #![tactic(auto)]
 
 #[cfg(test)]

@@ -1,5 +1,2 @@
-//! What each kind of text says, and what is wrong with it.
-mod refusals;
-mod scripts;
+//! What is written of a history, of its totals and of events, and what is read of a trace.
 mod traces;
-mod words;
