@@ -129,7 +129,9 @@ def run(words: list[str], source: int) -> int:
 def explain(program: str, words: list[str], given: Input, status: int) -> None:
     """Says on standard error why the program refused what it was given. It answers the same bytes alike, so it is asked
     once more for the line that it wrote."""
-    from explain import explain as found_in, explain_words, text_of
+    from explain.finding import text_of
+    from explain.refused import explain as explain_bytes
+    from explain.words import explain_words
 
     if status == USAGE:
         finding = explain_words(words)
@@ -138,7 +140,7 @@ def explain(program: str, words: list[str], given: Input, status: int) -> None:
         asked = [it for it in words if it != "--steps"]
         answer = subprocess.run([program, *asked], input=data, stdout=subprocess.PIPE, stderr=subprocess.DEVNULL)
         line = answer.stdout.decode("utf-8", "replace").partition("\n")[0]
-        finding = found_in(data, line, words_of(words).mode == "check")
+        finding = explain_bytes(data, line, words_of(words).mode == "check")
     else:
         finding = None
     if finding:

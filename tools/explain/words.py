@@ -1,10 +1,6 @@
 """The words behind `./pico`: what they ask for, and which of them isn't in order."""
 from __future__ import annotations
 
-from dataclasses import dataclass
-
-from .finding import Finding, nearest
-
 PAGE = "./pico --help"
 MAX_SEED = 2147483646
 # the modes that read standard input, and the most that each reads
@@ -16,17 +12,17 @@ BUILT_TEXT = f"{', '.join(BUILT[:-1])} or {BUILT[-1]}"
 OWN = ("--help", "-h", "--version", "--prove")
 
 
-@dataclass
 class Words:
     """What was found among the words."""
 
-    # the words that stand for themselves, with their places: the mode, and perhaps a file
-    plain: list[tuple[int, str]]
-    # the values of --seed, with their places; the places of --steps
-    seeds: list[tuple[int, str | None]]
-    steps: list[int]
-    # a word that begins with `-` and is no option, with its place
-    unknown: tuple[int, str] | None = None
+    def __init__(self) -> None:
+        # the words that stand for themselves, with their places: the mode, and perhaps a file
+        self.plain: list[tuple[int, str]] = []
+        # the values of --seed, with their places; the places of --steps
+        self.seeds: list[tuple[int, str | None]] = []
+        self.steps: list[int] = []
+        # a word that begins with `-` and is no option, with its place
+        self.unknown: tuple[int, str] | None = None
 
     @property
     def mode(self) -> str | None:
@@ -35,7 +31,7 @@ class Words:
 
 def words_of(given: list[str]) -> Words:
     """The words, each by what it is for, as the program's own library of command lines takes them."""
-    found = Words([], [], [])
+    found = Words()
     at, options = 0, True
     while at < len(given):
         word = given[at]
@@ -76,6 +72,13 @@ def fault_of(given: list[str]) -> tuple[int, str, str] | None:
         if fault:
             return fault
     return None
+
+
+def nearest(word: str, words) -> str:
+    """`did you mean ..?` where one of the words is near. (What it needs is loaded only where words are refused.)"""
+    from .finding import nearest as among
+
+    return among(word, words)
 
 
 def unknown_word(given: list[str], found: Words) -> tuple[int, str, str] | None:
@@ -155,6 +158,8 @@ def too_many(given: list[str], found: Words) -> tuple[int, str, str] | None:
 
 def explain_words(given: list[str]) -> Finding:
     """Why the words were refused."""
+    from .finding import Finding
+
     fault = fault_of(given)
     if fault is None:
         return Finding(f"this program has no mode `{words_of(given).mode}` yet", form=BUILT_TEXT, page=PAGE)
