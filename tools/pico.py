@@ -196,7 +196,11 @@ def run_program(program: str, given: list[str]) -> int:
         source.take()
     status = run([program, *words], source.source)
     if status in (BAD_SCRIPT, USAGE, NOT_LEGAL):
-        explain(program, words, source, status)
+        try:
+            explain(program, words, source, status)
+        except Exception as error:
+            # the program's status stands, whatever becomes of what is said besides
+            programs.say(f"what is wrong can't be shown ({type(error).__name__}: {error})")
     return status
 
 

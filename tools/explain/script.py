@@ -449,6 +449,10 @@ def bad_argument(reader: Reader, words: list[Word], line: bytes):
             first.end,
             "exit N",
         )
+    if call.name not in NAMES:
+        # a call that the program knows and this page doesn't
+        what = f"the words behind {parts.say(call.words[0].text)} aren't those of its form"
+        return Fault(what, "", call.words[0].start, call.words[-1].end)
     fault = fault_of(call.name, call.words[1:], len(line.rstrip(BLANKS)))
     if fault:
         return fault
