@@ -11,15 +11,12 @@ mod run;
 mod schedule;
 mod status;
 mod telling;
-mod threaded;
 
 use host_iface::{OpenGate, StdSink, StdSource};
 pub use program::{Ran, pico};
 pub use status::Status;
 use std::process::ExitCode;
 use std::rt::Env;
-use std::sync::Wait;
-use std::thread::Threads;
 use std::{env, io};
 
 // The words behind the program's name. Words that are no text are in no order, as no words at all are.
@@ -38,7 +35,7 @@ fn words_of<R: Env + AllocGlobal>(rt: &R) -> Result<Vec<String>, Status> {
     Ok(words)
 }
 
-fn start<R: Env + AllocGlobal + Input + Print + Threads + Wait + Sync>(rt: &R) -> Status {
+fn start<R: Env + AllocGlobal + Input + Print>(rt: &R) -> Status {
     let words = match words_of(rt) {
         Ok(words) => words,
         Err(status) => return status,

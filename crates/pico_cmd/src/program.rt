@@ -15,8 +15,6 @@ use host_iface::{Gate, ReadStop, Sink, Source, read_all, write_all};
 use pico_base::{Bytes, Memory};
 use pico_words::{Options, Request, request_of};
 use std::alloc::Global;
-use std::sync::Wait;
-use std::thread::Threads;
 
 // The greatest script, in bytes.
 const MAX_SCRIPT: usize = 1048576;
@@ -114,29 +112,25 @@ fn totals(alloc: Global, options: Options) -> Result<Answer, Memory>
 }
 
 // The answer to what is asked for, and to the bytes where they are wanted.
-fn answer_for<R: Threads + Wait + Sync, S: Source, G: Gate>(rt: &R, gate: &G, alloc: Global, request: Request, source: &mut S) -> Result<Answer, Stop>
+fn answer_for<S: Source>(alloc: Global, request: Request, source: &mut S) -> Result<Answer, Stop>
     ensures answer { IfOk result (λ answer. AnswersTold request (S.left source.old) answer.status answer.text) }
     ensures causes { EachCause (Some request) (S.left source.old)
         (λ s. IfOk result (λ answer. answer.status ≡ s)) }
     ensures rest { OnOk result (S.left source.new ≡ left_behind (most_read request) (S.left source.old)) }
+    ensures calm { OnOk result (S.faults source.new ≡ S.faults source.old) }
     ensures stop { IfErr result (IsStop (S.faults source.old) (S.faults source.new)) }
     ensures read { IfErr result (IsReadFault (Reads (Some request))) }
     ensures untouched { (Reads (Some request) → ⊥) → source.new ≡ source.old }
 {
     match request {
-        Request::Run { steps } => {
-            let bytes = bytes_up_to(alloc, source, MAX_SCRIPT)?;
-            Ok(crate::threaded::answer_to_run(rt, alloc, bytes, steps, gate)?)
-        }
         Request::Simulate(options) => simulate(alloc, options, source),
         Request::Check => check(alloc, source),
-        Request::Generate(options) => Ok(crate::threaded::answer_to_number(rt, alloc, options.seed, options.steps, gate)?),
+        Request::Generate(options) => Ok(totals(alloc, options)?),
     }
 }
 
 // The answer to what is asked for, where something is.
-fn answer_asked<R: Threads + Wait + Sync, S: Source, G: Gate>(
-    rt: &R, gate: &G,
+fn answer_asked<S: Source>(
     alloc: Global,
     asked: Option<Request>,
     source: &mut S,
@@ -146,18 +140,19 @@ fn answer_asked<R: Threads + Wait + Sync, S: Source, G: Gate>(
     ensures causes { EachCause asked (S.left source.old) (λ s. IfOk result (λ answer. answer.status ≡ s)) }
     ensures rest { IfSome asked (λ request.
         OnOk result (S.left source.new ≡ left_behind (most_read request) (S.left source.old))) }
+    ensures calm { OnOk result (S.faults source.new ≡ S.faults source.old) }
     ensures stop { IfErr result (IsStop (S.faults source.old) (S.faults source.new)) }
     ensures read { IfErr result (IsReadFault (Reads asked)) }
     ensures untouched { (Reads asked → ⊥) → source.new ≡ source.old }
 {
     match asked {
-        Some(request) => answer_for(rt, gate, alloc, request, source),
+        Some(request) => answer_for(alloc, request, source),
         None => Ok(usage(alloc)?),
     }
 }
 
 // The answer to the words and the bytes.
-fn answer<R: Threads + Wait + Sync, S: Source, G: Gate>(rt: &R, gate: &G, alloc: Global, words: &[String], source: &mut S) -> Result<Answer, Stop>
+fn answer<S: Source>(alloc: Global, words: &[String], source: &mut S) -> Result<Answer, Stop>
     ensures answer { IfOk result
         (λ answer. Allows (request_in (map string_bytes words.now)) (S.left source.old) answer.status answer.text) }
     ensures usage { request_in (map string_bytes words.now) ≡ None
@@ -166,18 +161,20 @@ fn answer<R: Threads + Wait + Sync, S: Source, G: Gate>(rt: &R, gate: &G, alloc:
         (λ s. IfOk result (λ answer. answer.status ≡ s)) }
     ensures rest { IfSome (request_in (map string_bytes words.now)) (λ request.
         OnOk result (S.left source.new ≡ left_behind (most_read request) (S.left source.old))) }
+    ensures calm { OnOk result (S.faults source.new ≡ S.faults source.old) }
     ensures stop { IfErr result (IsStop (S.faults source.old) (S.faults source.new)) }
     ensures read { IfErr result (IsReadFault (Reads (request_in (map string_bytes words.now)))) }
     ensures untouched { (Reads (request_in (map string_bytes words.now)) → ⊥) → source.new ≡ source.old }
 {
     let asked = request_of(alloc, words)?;
-    answer_asked(rt, gate, alloc, asked, source)
+    answer_asked(alloc, asked, source)
 }
 
 // Writes an answer, and gives its status or that the write failed.
 fn write_answer<K: Sink>(sink: &mut K, answer: Answer) -> Status
-    ensures { IsWritten answer.status answer.text (K.taken sink.old) (K.taken sink.new)
+    ensures written { IsWritten answer.status answer.text (K.taken sink.old) (K.taken sink.new)
         (HasRisen (K.faults sink.old) (K.faults sink.new)) result }
+    ensures calm { (result ≡ Status.WriteFault → ⊥) → K.faults sink.new ≡ K.faults sink.old }
 {
     match write_all(sink, answer.text.as_slice()) {
         Ok(()) => answer.status,
@@ -194,15 +191,15 @@ fn write_answer<K: Sink>(sink: &mut K, answer: Answer) -> Status
 ///   `--steps` the events behind it.
 /// - `check`: the source is a script, a line `trace` and a trace. It is written that the trace is legal, with the
 ///   number of its entries, or what its first fault is.
-/// - `gen`, with the same options as `sim`: the generated script of number N runs by schedule 0. The totals line of
-/// its   trace is written, and with `--steps` the events behind it. Nothing is read.
-pub fn pico<R: Threads + Wait + Sync, S: Source, K: Sink, G: Gate>(
-    rt: &R,
+/// - `gen`, with the same options as `sim`: the generated script of number N runs by schedule 0. The totals line of its
+///   trace is written, and with `--steps` the events behind it. Nothing is read.
+pub fn pico<R, S: Source, K: Sink, G: Gate>(
+    _rt: &R,
     alloc: Global,
     words: &[String],
     source: &mut S,
     sink: &mut K,
-    gate: &G,
+    _gate: &G,
 ) -> Ran
     // What is written with each status: the trace of a run of the script's processes, which is one history of a single
     // POSIX kernel, or that a trace is legal, or the totals of a generated script's run; the script's first fault; the
@@ -235,6 +232,10 @@ pub fn pico<R: Threads + Wait + Sync, S: Source, K: Sink, G: Gate>(
         WroteFront (request_in (map string_bytes words.now)) (S.left source.old)
         (K.taken sink.old) (K.taken sink.new) }
 
+    // No fault passes unseen: with each other status the count of the source, and of the sink, is as it was.
+    ensures calm_source { (result.status ≡ Status.ReadFault → ⊥) → S.faults source.new ≡ S.faults source.old }
+    ensures calm_sink { (result.status ≡ Status.WriteFault → ⊥) → K.faults sink.new ≡ K.faults sink.old }
+
     // The source is read to its end, or one byte past the mode's limit.
     ensures rest { IfSome (request_in (map string_bytes words.now)) (λ request.
         (result.status ≡ Status.ReadFault → ⊥) → (result.status ≡ Status.Memory → ⊥)
@@ -245,15 +246,15 @@ pub fn pico<R: Threads + Wait + Sync, S: Source, K: Sink, G: Gate>(
     ensures exactly { EachCause (request_in (map string_bytes words.now)) (S.left source.old)
         (IsOrStops result.status) }
 
-    // Where no count of faults rises, the answer is the one that there is a cause for, unless memory runs out: a
-    // script without a fault is run, a legal trace is legal, and a generated script is run.
+    // Where no count of faults rises, the answer is the one that there is a cause for, unless memory runs out: a script
+    // without a fault is run, a legal trace is legal, and a generated script is run.
     ensures complete { (Reads (request_in (map string_bytes words.now))
         → HasRisen (S.faults source.old) (S.faults source.new) → ⊥)
         → (HasRisen (K.faults sink.old) (K.faults sink.new) → ⊥)
         → EachCause (request_in (map string_bytes words.now)) (S.left source.old)
         (λ s. (result.status ≡ s) ⊎ (result.status ≡ Status.Memory)) }
 {
-    let status = match answer(rt, gate, alloc, words, source) {
+    let status = match answer(alloc, words, source) {
         Ok(answer) => write_answer(sink, answer),
         Err(Stop::Memory) => Status::Memory,
         Err(Stop::ReadFault) => Status::ReadFault,

@@ -3,8 +3,8 @@ use Rattle.host_iface.specs.Told.{followed_by}
 use Rattle.pico_cmd.proofs.program.write_answer.Goals as goal
 
 -- all of the text is written
-pub returns-in-Ok : goal.returns-in-Ok
-returns-in-Ok g c =
+pub returns-in-Ok-clause-written : goal.returns-in-Ok-clause-written
+returns-in-Ok-clause-written g c =
     inl
     (record {
       status = refl;
