@@ -1,4 +1,6 @@
 //! A seat at the journal's lock.
+ghost use Rattle.std.specs.Prelude.{◌≡◌};
+
 use crate::Journal;
 use crate::view::View;
 use atomic_table::Seat;
@@ -27,3 +29,12 @@ impl Model for JSeat {
 
 /// The seats of a lock, by number.
 pub type Seats = Sequence<JSeat>;
+
+impl JSeat {
+    /// Its number at the lock, from 1.
+    pub fn number(&self) -> u32
+        ensures { result ≡ self.now.number }
+    {
+        self.number
+    }
+}

@@ -1,5 +1,6 @@
 -- A loop over lines, of which a front is done.
 use Rattle.std.proofs.Common.{◌≡◌, ℕ, zero, suc, ◌+◌, ◌<◌, Bool, true, false, ◌||◌, List, [], ◌∷◌, length, get_or, set, map, Option, refl, sym, ap, subst, ◌∙◌, add-one, arith}
+use Rattle.std.specs.List.{AllByRecursion}
 use Rattle.std.proofs.lemmas.Bool.{false≢true}
 use Rattle.std.proofs.Math.Bool.{or-false, or-true, or_assoc}
 use Rattle.log_model.specs.declared.found.Found.{Found}
@@ -33,6 +34,26 @@ map_front-next f olds news i y d e h is =
 pub map_front-all : {X : Type 0} (f : X → X) (xs : List X) → map_front f (length xs) xs ≡ map f xs
 map_front-all f [] = refl
 map_front-all f (x ∷ xs) = ap (λ zs. f x ∷ zs) (map_front-all f xs)
+
+-- ---- each of a front has a spelling, say
+
+-- it holds of each of the first so many items
+abbrev pub AllFront : {X : Type 0} → (X → Type 0) → ℕ → List X → Type 0
+AllFront P zero xs = Unit {0}
+AllFront P (suc i) [] = Unit {0}
+AllFront P (suc i) (x ∷ xs) = P x × AllFront P i xs
+
+-- and of the next one
+pub all_front-next : {X : Type 0} (P : X → Type 0) (xs : List X) (i : ℕ) (d : X) → AllFront P i xs → i < length xs
+    → P (get_or xs i d) → AllFront P (suc i) xs
+all_front-next P [] i d h below p = tt
+all_front-next P (x ∷ xs) zero d h below p = (p, tt)
+all_front-next P (x ∷ xs) (suc i) d h below p = (h.0, all_front-next P xs i d h.1 (omega arith) p)
+
+-- and so of all
+pub all_front-all : {X : Type 0} (P : X → Type 0) (xs : List X) → AllFront P (length xs) xs → AllByRecursion P xs
+all_front-all P [] h = tt
+all_front-all P (x ∷ xs) h = (h.0, all_front-all P xs h.1)
 
 -- ---- each of a front was looked at, if it may be, and the looks go on
 

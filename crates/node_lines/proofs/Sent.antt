@@ -14,7 +14,7 @@ use Rattle.frame_pieces.specs.Pieces.{pieces_of, pieces_of_frame}
 use Rattle.log_laws.specs.Logs.{frame_if, sent_to, stamped}
 use Rattle.log_model.specs.Views.{Line}
 use Rattle.log_model.specs.Turns.{has_line, may_send, with_sent}
-use Rattle.node_lines.specs.Lines.{with_frame}
+use Rattle.node_lines.specs.Lines.{with_bytes}
 
 -- the line with these pieces sent
 abbrev with_pieces : Line → List Piece → Line
@@ -32,7 +32,7 @@ pieces-append stamp fs gs =
 
 -- a frame that is sent alone goes to the line with its receiver
 pub with_sent-one : (stamp to : ℕ) (frame : Frame) (line : Line) → line.other ≡ to
-    → with_frame stamp frame line ≡ with_sent stamp ((to, frame) ∷ []) line
+    → with_bytes stamp (frame_bytes frame) line ≡ with_sent stamp ((to, frame) ∷ []) line
 with_sent-one stamp to frame line e =
     ap (with_pieces line)
     (ap (λ ps. line.out.sent ++ ps) (sym (append-nil (pieces stamp (frame_bytes frame))))

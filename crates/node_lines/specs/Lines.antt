@@ -3,7 +3,6 @@ use Rattle.std.specs.Prelude.{◌≡◌, ℕ, Bool, true, nat_eq, List, [], ◌�
 use Rattle.rpc_frame.specs.declared.frame.Frame.{Frame}
 use Rattle.frame_bytes.specs.declared.fault.FrameFault.{FrameFault}
 use Rattle.frame_bytes.specs.declared.fault.FrameFault.TheVariants as faults
-use Rattle.frame_bytes.specs.Frames.{frame_bytes}
 use Rattle.pico_base.specs.declared.fault.Memory.{Memory}
 use Rattle.stream_pair.specs.Pieces.{pieces}
 use Rattle.log_model.specs.declared.found.Found.{Found}
@@ -31,12 +30,10 @@ FoundOf other stamp (Ok []) result = result ≡ Ok founds.Part
 FoundOf other stamp (Ok (frame ∷ [])) result = result ≡ Ok (founds.Whole other stamp frame)
 FoundOf other stamp (Ok (f ∷ g ∷ fs)) result = result ≡ Ok founds.Refused
 
--- the line with the pieces of one frame more
-abbrev pub with_frame : ℕ → Frame → Line → Line
-with_frame stamp frame line =
-    record line {
-      out = record { stream = line.out.stream; sent = line.out.sent ++ pieces stamp (frame_bytes frame) };
-    }
+-- the line with the pieces of these bytes more
+abbrev pub with_bytes : ℕ → List ℕ → Line → Line
+with_bytes stamp bytes line =
+    record line { out = record { stream = line.out.stream; sent = line.out.sent ++ pieces stamp bytes } }
 
 -- which lines are looked at: that with one node alone, or each
 abbrev pub may_look : Option ℕ → ℕ → Bool

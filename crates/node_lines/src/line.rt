@@ -1,17 +1,15 @@
 //! The streams with one other node, and where its frames end in what was taken.
 ghost use Rattle.std.specs.Prelude.{◌≡◌, ◌++◌, [], IfOk, OnOk};
-ghost use Rattle.frame_bytes.specs.Frames.{frame_bytes};
 ghost use Rattle.frame_bytes.specs.Streams.{Rest, Feeds};
-ghost use Rattle.frame_bytes.specs.Limits.{IsWithinLimits};
 ghost use Rattle.stream_pair.specs.Pieces.{pieces};
 ghost use Rattle.log_model.specs.Looks.{IsLook, after_nothing};
-ghost use Rattle.node_lines.specs.Lines.{IsSameLine, FoundOf, with_frame};
+ghost use Rattle.node_lines.specs.Lines.{IsSameLine, FoundOf, with_bytes};
 
 use crate::end::End;
-use frame_bytes::{FrameFault, Joiner, encode};
+use frame_bytes::{FrameFault, Joiner};
 use log_model::Found;
 use pico_base::{Memory, Node};
-use rpc_frame::{Frame, Frames};
+use rpc_frame::Frames;
 use std::alloc::Global;
 use std::marker::Model;
 use std::sync::Wait;
@@ -124,19 +122,11 @@ impl Line {
         found_of(self.other, piece.stamp, fed)
     }
 
-    /// Sends a frame in pieces, all under this stamp. Where memory is refused a part may be sent.
-    pub fn send<R: Wait>(
-        &mut self,
-        rt: &R,
-        alloc: Global,
-        stamp: u64,
-        frame: &Frame,
-    ) -> Result<(), Memory>
-        requires { IsWithinLimits frame.now }
-        ensures sent { OnOk result (self.new ≡ with_frame stamp frame.now self.old) }
+    /// Sends the bytes of a frame in pieces, all under this stamp. Where memory is refused a part may be sent.
+    pub fn send<R: Wait>(&mut self, rt: &R, stamp: u64, bytes: &[u8]) -> Result<(), Memory>
+        ensures sent { OnOk result (self.new ≡ with_bytes stamp bytes.now self.old) }
         ensures same { IsSameLine self.old self.new }
     {
-        let bytes = encode(alloc, frame)?;
-        self.out.send(rt, stamp, bytes.as_slice())
+        self.out.send(rt, stamp, bytes)
     }
 }

@@ -41,14 +41,15 @@ pub fn look_at_each<R: Wait>(
 }
 
 /// Whether nothing is on its way on any of the lines, by the bell that they share: one look in place of a look at each.
+/// There is none without lines.
 #[inline(always)]
-fn silence_on(lines: &[Line]) -> Option<Silence> {
+pub fn silence_on(lines: &[Line]) -> Option<Silence> {
     lines.first()?.silence()
 }
 
-/// Notes on each line that may be looked at that it was empty.
+/// Notes on each line, or on that with the node `only` alone, that it was empty: each look is counted, and found nothing.
 #[inline(always)]
-fn note_silence(lines: &mut [Line], only: &Option<Node>, silence: &Silence)
+pub fn note_silence(lines: &mut [Line], only: &Option<Node>, silence: &Silence)
     ensures looks { Looks (may_look only.now) lines.old Nothing lines.new }
     ensures same { AreSameLines lines.old lines.new }
 {

@@ -1,11 +1,13 @@
 //! Frames to other nodes.
 ghost use Rattle.std.specs.Prelude.{◌≡◌, [], ◌∷◌, IsTrue, OnOk, map};
+ghost use Rattle.std.specs.List.{AllByRecursion};
+ghost use Rattle.frame_bytes.specs.Frames.{IsFrame};
 ghost use Rattle.frame_bytes.specs.Limits.{IsWithinLimits};
 ghost use Rattle.log_model.specs.Turns.{has_line, may_send, with_sent};
 ghost use Rattle.node_lines.specs.Lines.{AreSameLines};
 
 use crate::line::Line;
-use frame_bytes::is_within_limits;
+use frame_bytes::{encode, is_within_limits};
 use pico_base::{Memory, Node};
 use rpc_frame::Frame;
 use std::alloc::Global;
@@ -25,8 +27,8 @@ pub fn may_send(lines: &[Line], sends: &[(Node, Frame)]) -> bool
     sends.iter().all(|(to, frame)| has_line(lines, *to) && is_within_limits(frame))
 }
 
-/// Sends each frame to its receiver, in order and all under this stamp. Where memory is refused a front of them, and a
-/// part of one, may be sent.
+/// Sends each frame to its receiver, in order and all under this stamp; each has a spelling. Where memory is refused a
+/// front of them, and a part of one, may be sent.
 pub fn send_each<R: Wait>(
     rt: &R,
     alloc: Global,
@@ -35,6 +37,7 @@ pub fn send_each<R: Wait>(
     sends: &[(Node, Frame)],
 ) -> Result<(), Memory>
     requires { IsTrue (may_send lines.old sends.now) }
+    ensures frames { OnOk result (AllByRecursion (λ s. IsFrame s.1) sends.now) }
     ensures sent { OnOk result (lines.new ≡ map (with_sent stamp sends.now) lines.old) }
     ensures same { AreSameLines lines.old lines.new }
 {
@@ -54,12 +57,14 @@ fn send_one<R: Wait>(
     frame: &Frame,
 ) -> Result<(), Memory>
     requires { IsWithinLimits frame.now }
+    ensures frame { OnOk result (IsFrame frame.now) }
     ensures sent { OnOk result (lines.new ≡ map (with_sent stamp ((to, frame.now) ∷ [])) lines.old) }
     ensures same { AreSameLines lines.old lines.new }
 {
+    let bytes = encode(alloc, frame)?;
     for line in lines.iter_mut() {
         if line.other() == to {
-            line.send(rt, alloc, stamp, frame)?;
+            line.send(rt, stamp, bytes.as_slice())?;
         }
     }
     Ok(())

@@ -1,14 +1,16 @@
-use Rattle.std.proofs.Common.{◌≡◌, ℕ, ◌+◌, ◌<◌, [], ◌∷◌, length, drop, map, refl, sym, ap, subst, ◌∙◌, arith}
+use Rattle.std.proofs.Common.{◌≡◌, ℕ, ◌+◌, ◌<◌, [], ◌∷◌, length, get_or, drop, map, refl, sym, ap, subst, ◌∙◌, add-one, arith}
 use Rattle.std.proofs.lemmas.List.{drop_more, drop_all}
 use Rattle.rpc_frame.specs.declared.frame.Frame.{Frame}
+use Rattle.frame_bytes.specs.Frames.{IsFrame}
 use Rattle.frame_bytes.specs.Limits.{IsWithinLimits}
 use Rattle.log_model.specs.Turns.{with_sent}
+use Rattle.node_lines.proofs.Fronts.{AllFront, all_front-next, all_front-all}
 use Rattle.node_lines.proofs.Same.{AreSameLines-refl, AreSameLines-trans}
 use Rattle.node_lines.proofs.Sent.{all_sent-further, all_sent-none, may_send-within}
 use Rattle.node_lines.proofs.sends.send_each.Goals as goal
 
 pub loop-to-init : goal.loop-to-init
-loop-to-init g c = (refl, AreSameLines-refl _)
+loop-to-init g c = (refl, AreSameLines-refl _, tt)
 
 pub send_one-requires : goal.send_one-requires
 send_one-requires g c =
@@ -28,6 +30,11 @@ loop-to-preserved g c =
     let s = c.loop-to-item.result in
     let left = drop (i + 1) c.args.sends.now in
     let lines = c.loop-to.lines in
+    let HasSpelling : ℕ × Frame → Type 0 = λ t. IsFrame t.1 in
+    let Front : ℕ → Type 0 = λ k. AllFront HasSpelling k c.args.sends.now in
+    let spelled : HasSpelling (get_or c.args.sends.now i s) =
+    subst HasSpelling c.loop-to-item.is c.in_ok-send_one.ensures.frame
+    in
     let below : i < length c.args.sends.now = omega arith in
     let cut : s ∷ left ≡ drop i c.args.sends.now =
     ap (λ x. x ∷ left) c.loop-to-item.is ∙ sym (drop_more c.args.sends.now i s below)
@@ -37,7 +44,16 @@ loop-to-preserved g c =
           ∙ ap (λ ss. map (with_sent stamp ss) lines) cut
           ∙ c.loop-to.invariant.0,
       AreSameLines-trans _ _ _ c.loop-to.invariant.1 c.send_one.ensures.same,
+      subst Front (sym (add-one i))
+          (all_front-next HasSpelling c.args.sends.now i s c.loop-to.invariant.2 below spelled),
     )
+
+pub returns-clause-frames : goal.returns-clause-frames
+returns-clause-frames g c =
+    let HasSpelling : ℕ × Frame → Type 0 = λ t. IsFrame t.1 in
+    let Front : ℕ → Type 0 = λ k. AllFront HasSpelling k c.args.sends.now in
+    let all : c.loop-to.to-index ≡ length c.args.sends.now = omega arith in
+    all_front-all HasSpelling c.args.sends.now (subst Front all c.loop-to.invariant.2)
 
 pub returns-clause-sent : goal.returns-clause-sent
 returns-clause-sent g c =

@@ -2,7 +2,7 @@ use Rattle.std.proofs.Common.{◌≡◌, suc, ◌+◌, ◌<◌, ◌≢◌, List,
 use Rattle.std.proofs.lemmas.Bool.{eqb-true, eqb-false}
 use Rattle.log_model.specs.Views.{Line}
 use Rattle.log_model.specs.Turns.{with_sent}
-use Rattle.node_lines.specs.Lines.{AreSameLines}
+use Rattle.node_lines.specs.Lines.{AreSameLines, with_bytes}
 use Rattle.node_lines.proofs.Same.{IsSameLine-refl, AreSameLines-refl, AreSameLines-set}
 use Rattle.node_lines.proofs.Fronts.{map_front, map_front-next, map_front-all}
 use Rattle.node_lines.proofs.Sent.{with_sent-one, with_sent-other}
@@ -11,6 +11,9 @@ use Rattle.node_lines.proofs.sends.send_one.Goals.{then-eq+in_ok-send, else-eq}
 
 pub loop-line-init : goal.loop-line-init
 loop-line-init g c = (refl, AreSameLines-refl _)
+
+pub returns-in_err-bytes-clause-same : goal.returns-in_err-bytes-clause-same
+returns-in_err-bytes-clause-same g c = AreSameLines-refl _
 
 pub returns-in_err-send-clause-same : goal.returns-in_err-send-clause-same
 returns-in_err-send-clause-same g c =
@@ -36,6 +39,7 @@ loop-line-preserved g c =
       | then-eq+in_ok-send w ↦
           let is_other : line.other ≡ c.args.to = eqb-true line.other c.args.to (tested ∙ w.if-eq.true) in
           let changed = w.in_ok-send.ensures.sent
+          ∙ ap (λ bytes. with_bytes c.args.stamp bytes line) (w.as_slice.ensures ∙ c.in_ok-bytes.ensures.spelled)
           ∙ with_sent-one c.args.stamp c.args.to c.args.frame.now line is_other in (
             w.lines-is ∙ map_front-next change olds lines i w.send.new.self d c.loop-line.invariant.0 below changed
                 ∙ counted,
