@@ -1,0 +1,15 @@
+pub mod Lists
+pub mod Meshes
+pub mod Settled
+pub mod Growing
+pub mod Settles
+pub mod Opens
+pub mod Joins
+pub mod Chosen
+pub mod Merges
+pub mod Adding
+pub mod OnTheWay
+pub mod Leaving
+pub mod LastStamps
+pub mod Turns
+pub mod Counts

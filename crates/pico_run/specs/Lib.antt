@@ -1,0 +1,9 @@
+pub mod Numbered
+pub mod Grid
+pub mod Turning
+pub mod Opened
+pub mod Joined
+pub mod Settling
+pub mod Joining
+pub mod Rested
+pub mod Resting

@@ -1,0 +1,91 @@
+//! A thread's work: turns of its node, until it is quiet.
+ghost use Rattle.std.specs.Prelude.{◌≡◌, ℕ, ◌+◌, ◌<◌, ◌≤◌, length, slice_index_or};
+ghost use Rattle.kernel_model.specs.Script.{IsSoundScript};
+ghost use Rattle.log_model.specs.Views.{LoggedNode};
+ghost use Rattle.pico_run.specs.Opened.{AreReady};
+ghost use Rattle.pico_run.specs.Turning.{CanTurn, IsWorked};
+
+use crate::grid::node_at;
+use host_iface::Gate;
+use journal_core::JournalLock;
+use logged_laws::turns_keep_logs;
+use node_log::{Logged, TurnAnswer};
+use pico_base::{Node, Script};
+use std::sync::Wait;
+use std::thread;
+use std::thread::{Threads, for_each_mut};
+
+/// After so many idle turns in a row a thread leaves.
+const QUIET: u64 = 100_000;
+
+/// After so many idle turns in a row others are let go on.
+const SOME: u64 = 256;
+
+/// Makes turns of a node until it is quiet, or a turn has a fault. The gate is passed before each turn, and told of
+/// each event. After each 256th idle turn in a row others are let go on.
+fn turn_until_quiet<R: Wait, G: Gate>(
+    rt: &R,
+    lock: &JournalLock,
+    script: &Script,
+    gate: &G,
+    node: Node,
+    logged: &mut Logged,
+)
+    requires sound { IsSoundScript script.now }
+    requires ready { CanTurn script.now lock.now logged.old }
+    ensures { IsWorked script.now logged.old logged.new }
+{
+    turns_keep_logs();
+    let mut turns = 0u64;
+    let mut events = 0u64;
+    for _ in rt.forever() {
+        turns = turns.saturating_add(1);
+        gate.pass(node, turns);
+        match logged.turn(rt, lock, script) {
+            TurnAnswer::Did => {
+                events = events.saturating_add(1);
+                gate.did(node, events);
+            }
+            TurnAnswer::Piece => {}
+            TurnAnswer::Idle => {
+                if logged.quiet() >= QUIET {
+                    return;
+                }
+                if logged.quiet() % SOME == 0 {
+                    thread::yield_now();
+                }
+            }
+            _ => return,
+        }
+    }
+    unreachable!()
+}
+
+/// Makes turns of all nodes, each in a thread of its own, until all are quiet.
+pub(crate) fn turn_all<R: Threads + Wait + Sync, G: Gate>(
+    rt: &R,
+    lock: &JournalLock,
+    script: &Script,
+    gate: &G,
+    nodes: &mut [Logged],
+)
+    requires sound { IsSoundScript script.now }
+    requires count { (1 ≤ length nodes.old) × (length nodes.old ≤ 32) }
+    requires ready { AreReady script.now lock.now 1 nodes.old }
+    ensures count { length nodes.new ≡ length nodes.old }
+    ensures worked { (k : ℕ) (d : LoggedNode) → k < length nodes.old
+        → IsWorked script.now (slice_index_or nodes.old k d) (slice_index_or nodes.new k d) }
+{
+    let count = nodes.len();
+    for_each_mut(
+        rt,
+        nodes,
+        count,
+        &|place: usize, logged: &mut Logged|
+            requires sound { IsSoundScript script.now }
+            requires place { place < 32 }
+            requires ready { CanTurn script.now lock.now logged.now }
+            ensures { IsWorked script.entry.now logged.entry.now logged.exit.now }
+        { turn_until_quiet(rt, lock, script, gate, node_at(place), logged) },
+    );
+}

@@ -1,0 +1,103 @@
+//! Runs under gates.
+ghost use Rattle.std.specs.Prelude.{IfOk, IsSome};
+
+use crate::gates::{BothAtWork, Counts, FirstIsLate, OtherLeaves, Words};
+use host_iface::Gate;
+use pico_base::Node;
+use pico_run::{Rested, run};
+use script_reader::read_script;
+use std::alloc::Global;
+use std::sync::Wait;
+use std::test::Fail;
+use std::thread::Threads;
+use trace_check::check_trace;
+use trace_text::write_trace;
+
+// Both look into the same empty queue.
+const BOTH_LOOK: &str = concat!(
+    "proc main\nq = msgget private\nmsgrcv $q 0 8 nowait\nfork child\nend\n",
+    "proc child\nmsgrcv $q 0 8 nowait\nend\n"
+);
+
+// Runs the script under a gate.
+fn run_text<R: Threads + Wait + Sync, G: Gate>(
+    rt: &R,
+    alloc: Global,
+    text: &str,
+    gate: &G,
+) -> Result<Rested, Fail>
+    ensures { IfOk result (λ rested. IsSome rested.world) }
+{
+    let script = read_script(alloc, text.as_bytes())?;
+    Ok(run(rt, alloc, script, gate)?)
+}
+
+// How many entries the run's trace has, by the judge of traces; a fault where it isn't legal.
+fn legal_entries(alloc: Global, text: &str, rested: &Rested) -> Result<u32, Fail>
+    requires { IsSome rested.now.world }
+{
+    let script = read_script(alloc, text.as_bytes())?;
+    let trace = write_trace(alloc, &script, rested.world.journal())?;
+    Ok(check_trace(alloc, &script, trace.as_slice(), 1)?.entries)
+}
+
+// How many events the thread of a node made, and how many turns behind its last one.
+fn left_by(rested: &Rested, place: usize) -> Option<(usize, u64)> {
+    let parting = rested.partings.as_slice().get(place)?;
+    Some((parting.log().len(), parting.quiet()))
+}
+
+// How often a run under a gate that has two nodes at work at once is made.
+const ROUNDS: u32 = 10;
+
+#[test]
+fn two_threads_are_at_work_at_once(rt: HostRuntime) -> Result<(), Fail> {
+    for _ in 0..ROUNDS {
+        let gate = BothAtWork {
+            words: Words::new(),
+        };
+        let rested = run_text(&rt, rt.alloc(), BOTH_LOOK, &gate)?;
+        assert_eq!(rt; gate.words.read(), (1, 1, 0));
+        assert_eq!(rt; legal_entries(rt.alloc(), BOTH_LOOK, &rested)?, 6);
+    }
+    Ok(())
+}
+
+#[test]
+fn what_threads_leave_is_stepped(rt: HostRuntime) -> Result<(), Fail> {
+    let gate = FirstIsLate {
+        words: Words::new(),
+    };
+    let rested = run_text(&rt, rt.alloc(), BOTH_LOOK, &gate)?;
+    assert_eq!(rt; gate.words.read().2, 0);
+    assert_eq!(rt; left_by(&rested, 1).map(|left| left.0), Some(0));
+    assert_eq!(rt; legal_entries(rt.alloc(), BOTH_LOOK, &rested)?, 6);
+    Ok(())
+}
+
+#[test]
+fn the_other_leaves_behind_each_event(rt: HostRuntime) -> Result<(), Fail> {
+    for events in 0..10 {
+        let gate = OtherLeaves {
+            counts: Counts::new(),
+            words: Words::new(),
+            events,
+        };
+        let rested = run_text(&rt, rt.alloc(), BOTH_LOOK, &gate)?;
+        assert_eq!(rt; gate.words.read().2, 0);
+        assert_eq!(rt; legal_entries(rt.alloc(), BOTH_LOOK, &rested)?, 6);
+    }
+    Ok(())
+}
+
+#[test]
+fn partings_are_what_the_gate_counts(rt: HostRuntime) -> Result<(), Fail> {
+    let gate = Counts::new();
+    let rested = run_text(&rt, rt.alloc(), BOTH_LOOK, &gate)?;
+    for (place, node) in [Node(1), Node(2)].into_iter().enumerate() {
+        let (_, events, quiet) = gate.of(node);
+        assert_eq!(rt; left_by(&rested, place), Some((events as usize, quiet)));
+        assert!(rt; quiet >= 100_000);
+    }
+    Ok(())
+}
