@@ -29,10 +29,11 @@ GIVEN = 3
 HELP = """\
 pico runs a script of processes and writes a trace: every call in one order, its reply, and who carried it out.
 
-  ./pico sim [--seed N] [--steps] [FILE]    runs a script by one schedule, and writes its trace
+  ./pico run [--steps] [FILE]               runs a script with a thread for each of its processes, and writes its trace
+  ./pico sim [--seed N] [--steps] [FILE]    runs a script by one schedule, one event at a time, and writes its trace
   ./pico check [FILE]                       judges a script, a line `trace` and a trace: whether a single kernel could
                                             have given that trace to the script's processes
-  ./pico gen [--seed N] [--steps]           runs the generated script of number N, and writes the totals
+  ./pico gen [--seed N] [--steps]           runs the generated script of number N with threads, and writes the totals
 
   FILE       what is read; standard input where it is left out
   --seed N   the number of the schedule or of the generated script, from 0 to 2147483646; 0 where it is left out

@@ -5,10 +5,16 @@ PAGE = "./pico --help"
 MAX_SEED = 2147483646
 # the modes that read standard input, and the most that each reads
 READS = {"run": 1048576, "sim": 1048576, "check": 68161537}
-# the modes that the usage line names, and those that are built
+# the modes that the usage line names
 MODES = ("run", "sim", "check", "gen")
-BUILT = MODES[1:]
-BUILT_TEXT = f"{', '.join(BUILT[:-1])} or {BUILT[-1]}"
+MODES_TEXT = f"{', '.join(MODES[:-1])} or {MODES[-1]}"
+# the form of each
+FORMS = {
+    "run": "./pico run [--steps] [FILE]",
+    "sim": "./pico sim [--seed N] [--steps] [FILE]",
+    "check": "./pico check [FILE]",
+    "gen": "./pico gen [--seed N] [--steps]",
+}
 OWN = ("--help", "-h", "--version", "--prove")
 
 
@@ -97,7 +103,7 @@ def unknown_word(given: list[str], found: Words) -> tuple[int, str, str] | None:
 
 
 def wrong_mode(given: list[str], found: Words) -> tuple[int, str, str] | None:
-    modes = f"a mode: {BUILT_TEXT}"
+    modes = f"a mode: {MODES_TEXT}"
     if found.mode is None:
         return len(given), "no mode is named", modes
     if found.mode not in MODES:
@@ -139,7 +145,7 @@ def too_many(given: list[str], found: Words) -> tuple[int, str, str] | None:
             return (
                 place,
                 f"`{word}` is too much: `{found.mode}` reads no file",
-                f"./pico {found.mode} [--seed N] [--steps]",
+                FORMS[found.mode],
             )
         if word.startswith("-"):
             return place, f"`{word}` stands behind `--`, where no options are", f"./pico {found.mode} {word} [FILE]"
@@ -152,7 +158,9 @@ def too_many(given: list[str], found: Words) -> tuple[int, str, str] | None:
         return found.steps[1], "`--steps` stands twice", "one --steps"
     options = sorted([place for place, _ in found.seeds] + found.steps)
     if found.mode == "check" and options:
-        return options[0], "`check` has no options", "./pico check [FILE]"
+        return options[0], "`check` has no options", FORMS["check"]
+    if found.mode == "run" and found.seeds:
+        return found.seeds[0][0], "`run` has no number: its threads choose", FORMS["run"]
     return None
 
 
@@ -160,10 +168,7 @@ def explain_words(given: list[str]) -> Finding:
     """Why the words were refused."""
     from .finding import Finding
 
-    fault = fault_of(given)
-    if fault is None:
-        return Finding(f"this program has no mode `{words_of(given).mode}` yet", form=BUILT_TEXT, page=PAGE)
-    place, what, expected = fault
+    place, what, expected = fault_of(given)
     line = " ".join(["./pico", *given])
     start = len(" ".join(["./pico", *given[:place]])) + 1
     width = len(given[place]) if place < len(given) else 1

@@ -1,7 +1,7 @@
 -- From the status of the answer to the status that is told.
 use Rattle.std.proofs.Common.{◌≡◌, inl, inr, ◌⊎◌, List, ℕ, Option, Some, None, refl, ◌∙◌}
 use Rattle.pico_words.specs.declared.words.Request.{Request}
-use Rattle.pico_words.specs.declared.words.Request.TheVariants.{Simulate, Check, Generate}
+use Rattle.pico_words.specs.declared.words.Request.TheVariants.{Run, Simulate, Check, Generate}
 use Rattle.pico_cmd.specs.declared.status.Status.{Status}
 use Rattle.pico_cmd.specs.declared.status.Status.TheVariants as status
 use Rattle.pico_cmd.specs.Promise.{EachCause, IsOrStops, IsWritten}
@@ -10,6 +10,8 @@ use Rattle.pico_cmd.specs.Promise.{EachCause, IsOrStops, IsWritten}
 each_cause : (asked : Option Request) (left : Option (List ℕ)) (P Q : Status → Type 0) → ((s : Status) → P s → Q s)
     → EachCause asked left P → EachCause asked left Q
 each_cause None left P Q f h = tt
+each_cause (Some (Run steps)) None P Q f h = tt
+each_cause (Some (Run steps)) (Some bytes) P Q f h = λ s c. f s (h s c)
 each_cause (Some (Simulate o)) None P Q f h = tt
 each_cause (Some (Simulate o)) (Some bytes) P Q f h = λ s c. f s (h s c)
 each_cause (Some Check) None P Q f h = tt
@@ -20,6 +22,8 @@ each_cause (Some (Generate o)) left P Q f h = λ s c. f s (h s c)
 each_always : (asked : Option Request) (left : Option (List ℕ)) (Q : Status → Type 0) → ((s : Status) → Q s)
     → EachCause asked left Q
 each_always None left Q f = tt
+each_always (Some (Run steps)) None Q f = tt
+each_always (Some (Run steps)) (Some bytes) Q f = λ s c. f s
 each_always (Some (Simulate o)) None Q f = tt
 each_always (Some (Simulate o)) (Some bytes) Q f = λ s c. f s
 each_always (Some Check) None Q f = tt

@@ -7,15 +7,14 @@ use Rattle.kernel_model.specs.Trace.{totals_line, trace_text}
 use Rattle.world_model.specs.World.{World, opening_world}
 use Rattle.world_model.specs.Run.{Runs}
 use Rattle.pico_words.specs.declared.words.Options.{Options}
-use Rattle.script_writer.specs.Generated.{generated}
 use Rattle.pico_base.specs.declared.reply.Entry.{Entry}
 use Rattle.pico_cmd.specs.declared.telling.Telling.{Telling}
-use Rattle.pico_cmd.specs.Run.{IsTextOfRun, IsTotalsOfRun, steps_if}
+use Rattle.pico_cmd.specs.Run.{IsTextOfRun, steps_if}
 use Rattle.pico_cmd.specs.Telling.{IsToldRun, Tells, kept_if, lines_if}
 use Rattle.pico_cmd.proofs.Runs.{step_script}
 
 -- a run keeps the script
-runs_keep : (w last : World) (es : List Event) → Runs w es last → last.script ≡ w.script
+pub runs_keep : (w last : World) (es : List Event) → Runs w es last → last.script ≡ w.script
 runs_keep w last [] r = ap (λ (x : World). x.script) (sym r)
 runs_keep w last (e ∷ es) r = runs_keep r.next last es r.rest ∙ step_script w e r.next r.steps
 
@@ -51,29 +50,3 @@ text_told script options es telling (Ok text) run wanted gives =
           ∙ ap (λ (text : List ℕ). trace_text script last.journal ++ text)
           (kept_text options.steps es run.events run.are_kept);
     }
-
--- and so are its totals
-totals_of : {E : Type 0} (script : Script) (steps : Bool) (es : List Event) (telling : Telling)
-    (r : Result (List ℕ) E)
-    → IsToldRun script 0 steps es telling → telling.lines ≡ false → Gives telling steps es r
-    → IfOk r (IsTotalsOfRun script steps)
-totals_of script steps es telling (Err e) run wanted gives = tt
-totals_of script steps es telling (Ok text) run wanted gives =
-    let last : World = run.last
-    in record {
-      events = run.events;
-      last = last;
-      run = run.run;
-      is_text = gives last.script last.journal run.tells
-          ∙ ap (λ (b : Bool).
-          (lines_if b last.script last.journal ++ totals_line last.journal) ++ steps_if steps es) wanted
-          ∙ ap (λ (text : List ℕ). totals_line last.journal ++ text) (kept_text steps es run.events run.are_kept);
-    }
-
--- of a generated script
-pub totals_told : {E : Type 0} (script : Script) (number : ℕ) (steps : Bool) (es : List Event) (telling : Telling)
-    (r : Result (List ℕ) E)
-    → script ≡ generated number → IsToldRun script 0 steps es telling → telling.lines ≡ false → Gives telling steps es r
-    → IfOk r (IsTotalsOfRun (generated number) steps)
-totals_told script number steps es telling r same run wanted gives =
-    subst (λ (s : Script). IfOk r (IsTotalsOfRun s steps)) same (totals_of script steps es telling r run wanted gives)

@@ -1,3 +1,4 @@
+pub mod Histories
 pub mod Causes
 pub mod Chosen
 pub mod Ends

@@ -4,7 +4,7 @@ use Rattle.std.proofs.lemmas.Bool.{lt-ltb}
 use Rattle.std.proofs.lemmas.List.{drop_all, take_all, take-take}
 use Rattle.std.proofs.Math.Seq.{drop-append_seam}
 use Rattle.host_iface.specs.Told.{led_by}
-use Rattle.std.specs.Prelude.{IfErr, IfSome, is_some, nat_lt, true, Result, Ok, Err}
+use Rattle.std.specs.Prelude.{Bool, IfErr, IfSome, is_some, nat_lt, true, Result, Ok, Err}
 use Rattle.pico_base.specs.declared.script.Script.{Script}
 use Rattle.script_reader.specs.declared.fault.ScriptFault.{ScriptFault}
 use Rattle.script_reader.specs.Fault.{Reads, IsFirstFault, outcome}
@@ -12,13 +12,14 @@ use Rattle.pico_cmd.specs.declared.status.Status.{Status}
 use Rattle.pico_cmd.specs.declared.status.Status.TheVariants as status
 use Rattle.pico_words.specs.declared.words.Options.{Options}
 use Rattle.pico_words.specs.declared.words.Request.{Request}
-use Rattle.pico_words.specs.declared.words.Request.TheVariants.{Simulate, Check, Generate}
+use Rattle.pico_words.specs.declared.words.Request.TheVariants.{Run, Simulate, Check, Generate}
 use Rattle.pico_cmd.specs.declared.program.Stop.{Stop}
 use Rattle.pico_cmd.specs.declared.program.Stop.TheVariants.{Memory, ReadFault}
 use Rattle.pico_cmd.specs.Stop.{AreBytesUpTo, IsReadFault, left_behind, most_read}
 use Rattle.script_writer.specs.Generated.{generated}
-use Rattle.pico_cmd.specs.Run.{IsTotalsOfRun}
-use Rattle.pico_cmd.specs.Promise.{Answers, Simulates, Judges, AnswersTold, Allows, CauseOfSim, CauseOfCheck, CauseOfGen, EachCause, IsWritten, Wrote, WroteFront}
+use Rattle.pico_run.specs.declared.rested.Rested.{Rested}
+use Rattle.pico_cmd.specs.Threads.{IsTotalsOfThreads}
+use Rattle.pico_cmd.specs.Promise.{Answers, RunsThreads, Simulates, Judges, AnswersTold, Allows, CauseOfSim, CauseOfCheck, CauseOfGen, EachCause, IsWritten, Wrote, WroteFront}
 
 -- More bytes than a script has are judged by their front: their fault is that of its size, at the same line.
 front_outcome : (bytes left : List ℕ) → 1048576 < length left → bytes ≡ take 1048577 left
@@ -70,6 +71,26 @@ Simulates-left o bytes left status.ReadFault text r a = a
 Simulates-left o bytes left status.WriteFault text r a = a
 Simulates-left o bytes left status.NotLegal text r a = a
 
+-- and the same for a run with threads
+pub RunsThreads-left : (steps : Bool) (bytes left : List ℕ) (s : Status) (text : List ℕ) (rested : List Rested)
+    → AreBytesUpTo 1048576 bytes left → RunsThreads steps bytes s text rested → RunsThreads steps left s text rested
+RunsThreads-left steps bytes left status.Done text rested r a =
+    record { script = a.script; reads = sym (outcome_left bytes left r) ∙ a.reads; run = a.run }
+RunsThreads-left steps bytes left status.BadScript text rested r a = (
+  record {
+    line = a.0.line;
+    fault = a.0.fault;
+    first = fault_left bytes left a.0.line a.0.fault r a.0.first;
+    is_text = a.0.is_text;
+  },
+  a.1,
+)
+RunsThreads-left steps bytes left status.Usage text rested r a = a
+RunsThreads-left steps bytes left status.Memory text rested r a = a
+RunsThreads-left steps bytes left status.ReadFault text rested r a = a
+RunsThreads-left steps bytes left status.WriteFault text rested r a = a
+RunsThreads-left steps bytes left status.NotLegal text rested r a = a
+
 -- what `check` reads is the front of what was left
 front_left : (bytes left : List ℕ) → AreBytesUpTo 68161537 bytes left → take 68161538 left ≡ bytes
 front_left bytes left (inl same) = take_all 68161538 left (omega (arith, same.1)) ∙ sym same.0
@@ -107,62 +128,113 @@ untouched_left None = refl
 untouched_left (Some left) = refl
 
 -- an answer that was written whole
-pub wrote : (asked : Option Request) (left : Option (List ℕ)) (s : Status) (text : List ℕ)
+pub wrote : (asked : Option Request) (left : Option (List ℕ)) (s : Status) (text : List ℕ) (rested handed : List Rested)
     (old new : Option (List ℕ)) (cause : Type 0) (r wanted : Status)
-    → Allows asked left s text → IsWritten s text old new cause r → r ≡ wanted → (wanted ≡ status.WriteFault → ⊥)
-    → Wrote asked left wanted old new
-wrote asked left s text old new cause r wanted a (inl w) e n =
+    → Allows asked left s text rested → IsWritten s text old new cause r → handed ≡ rested → r ≡ wanted
+    → (wanted ≡ status.WriteFault → ⊥) → Wrote asked left wanted handed old new
+wrote asked left s text rested handed old new cause r wanted a (inl w) h e n =
     record {
       text = text;
-      allowed = subst (λ (x : Status). Allows asked left x text) (sym w.status ∙ e) a;
+      allowed =
+          subst (λ (x : List Rested). Allows asked left wanted text x) (sym h)
+          (subst (λ (x : Status). Allows asked left x text rested) (sym w.status ∙ e) a);
       taken = w.taken;
     }
-wrote asked left s text old new cause r wanted a (inr c) e n = absurd (n (sym e ∙ c.status))
+wrote asked left s text rested handed old new cause r wanted a (inr c) h e n = absurd (n (sym e ∙ c.status))
 
 -- no text goes with a write that failed
-none_cut : (asked : Option Request) (left : Option (List ℕ)) (text : List ℕ)
-    → Allows asked left status.WriteFault text → ⊥
-none_cut None left text a = a
-none_cut (Some (Simulate o)) left text a = a.answers
-none_cut (Some Check) left text a = a.answers.judges
-none_cut (Some (Generate o)) left text a = a.answers
+none_cut : (asked : Option Request) (left : Option (List ℕ)) (text : List ℕ) (rested : List Rested)
+    → Allows asked left status.WriteFault text rested → ⊥
+none_cut None left text rested a = a
+none_cut (Some (Run steps)) left text rested a = a.answers
+none_cut (Some (Simulate o)) left text rested a = a.answers.0
+none_cut (Some Check) left text rested a = a.answers.0.judges
+none_cut (Some (Generate o)) left text rested a = a.answers
+
+-- no text goes with want of memory, nor with a read that failed
+pub none_memory : (asked : Option Request) (left : Option (List ℕ)) (text : List ℕ) (rested : List Rested)
+    → Allows asked left status.Memory text rested → ⊥
+none_memory None left text rested a = a
+none_memory (Some (Run steps)) left text rested a = a.answers
+none_memory (Some (Simulate o)) left text rested a = a.answers.0
+none_memory (Some Check) left text rested a = a.answers.0.judges
+none_memory (Some (Generate o)) left text rested a = a.answers
+
+-- nor with a read that failed
+pub none_read_fault : (asked : Option Request) (left : Option (List ℕ)) (text : List ℕ) (rested : List Rested)
+    → Allows asked left status.ReadFault text rested → ⊥
+none_read_fault None left text rested a = a
+none_read_fault (Some (Run steps)) left text rested a = a.answers
+none_read_fault (Some (Simulate o)) left text rested a = a.answers.0
+none_read_fault (Some Check) left text rested a = a.answers.0.judges
+none_read_fault (Some (Generate o)) left text rested a = a.answers
+
+-- a status with which no text goes isn't told of an answer
+pub not_told : (asked : Option Request) (left : Option (List ℕ)) (s : Status) (text : List ℕ) (rested : List Rested)
+    (old new : Option (List ℕ)) (cause : Type 0) (r silent : Status) → Allows asked left s text rested
+    → IsWritten s text old new cause r → r ≡ silent → (Allows asked left silent text rested → ⊥)
+    → (silent ≡ status.WriteFault → ⊥) → ⊥
+not_told asked left s text rested old new cause r silent a (inl w) e none n =
+    none (subst (λ (x : Status). Allows asked left x text rested) (sym w.status ∙ e) a)
+not_told asked left s text rested old new cause r silent a (inr c) e none n = n (sym e ∙ c.status)
 
 -- and one of which a front was taken
 pub wrote_front : (asked : Option Request) (left : Option (List ℕ)) (s : Status) (text : List ℕ)
-    (old new : Option (List ℕ)) (cause : Type 0) (r : Status)
-    → Allows asked left s text → IsWritten s text old new cause r → r ≡ status.WriteFault
-    → WroteFront asked left old new
-wrote_front asked left s text old new cause r a (inl w) e =
-    absurd (none_cut asked left text (subst (λ (x : Status). Allows asked left x text) (sym w.status ∙ e) a))
-wrote_front asked left s text old new cause r a (inr c) e =
-    record { replaced = s; text = text; count = c.count; allowed = a; within = c.within; taken = c.taken }
+    (rested handed : List Rested) (old new : Option (List ℕ)) (cause : Type 0) (r : Status)
+    → Allows asked left s text rested → IsWritten s text old new cause r → handed ≡ rested → r ≡ status.WriteFault
+    → WroteFront asked left handed old new
+wrote_front asked left s text rested handed old new cause r a (inl w) h e =
+    absurd (none_cut asked left text rested
+    (subst (λ (x : Status). Allows asked left x text rested) (sym w.status ∙ e) a))
+wrote_front asked left s text rested handed old new cause r a (inr c) h e =
+    record {
+      replaced = s;
+      text = text;
+      count = c.count;
+      allowed = subst (λ (x : List Rested). Allows asked left s text x) (sym h) a;
+      within = c.within;
+      taken = c.taken;
+    }
 
 -- The same where the source may tell nothing.
 
+-- what goes with the bytes read for `run` goes with the source, whether it tells its bytes or not
+pub told_run : (steps : Bool) (told : Option (List ℕ)) (bytes : List ℕ) (s : Status) (text : List ℕ)
+    (rested : List Rested) → IfSome told (AreBytesUpTo 1048576 bytes) → RunsThreads steps bytes s text rested
+    → AnswersTold (Run steps) told s text rested
+told_run steps None bytes s text rested r a = record { bytes = bytes; told = tt; answers = a }
+told_run steps (Some left) bytes s text rested r a =
+    record { bytes = left; told = refl; answers = RunsThreads-left steps bytes left s text rested r a }
+
 -- what goes with the bytes read for `sim` goes with the source, whether it tells its bytes or not
 pub told_answer : (o : Options) (told : Option (List ℕ)) (bytes : List ℕ) (s : Status) (text : List ℕ)
-    → IfSome told (AreBytesUpTo 1048576 bytes) → Simulates o bytes s text → AnswersTold (Simulate o) told s text
-told_answer o None bytes s text r a = record { bytes = bytes; told = tt; answers = a }
-told_answer o (Some left) bytes s text r a =
-    record { bytes = left; told = refl; answers = Simulates-left o bytes left s text r a }
+    (rested : List Rested) → IfSome told (AreBytesUpTo 1048576 bytes) → Simulates o bytes s text → rested ≡ []
+    → AnswersTold (Simulate o) told s text rested
+told_answer o None bytes s text rested r a none = record { bytes = bytes; told = tt; answers = (a, none) }
+told_answer o (Some left) bytes s text rested r a none =
+    record { bytes = left; told = refl; answers = (Simulates-left o bytes left s text r a, none) }
 
 -- what goes with the bytes read for `check` goes with the source, whether it tells its bytes or not
-pub told_verdict : (told : Option (List ℕ)) (bytes read : List ℕ) (s : Status) (text : List ℕ)
+pub told_verdict : (told : Option (List ℕ)) (bytes read : List ℕ) (s : Status) (text : List ℕ) (rested : List Rested)
     → IfSome told (AreBytesUpTo 68161537 bytes) → length bytes ≤ 68161538
-    → read ≡ bytes → Judges read s text → AnswersTold Check told s text
-told_verdict None bytes read s text r few e a =
+    → read ≡ bytes → Judges read s text → rested ≡ [] → AnswersTold Check told s text rested
+told_verdict None bytes read s text rested r few e a none =
     record {
       bytes = bytes;
       told = tt;
-      answers =
-          subst (λ (b : List ℕ). Judges b s text) (e ∙ sym (take_all 68161538 bytes few)) a;
+      answers = (
+        subst (λ (b : List ℕ). Judges b s text) (e ∙ sym (take_all 68161538 bytes few)) a,
+        none,
+      );
     }
-told_verdict (Some left) bytes read s text r few e a =
+told_verdict (Some left) bytes read s text rested r few e a none =
     record {
       bytes = left;
       told = refl;
-      answers =
-          subst (λ (b : List ℕ). Judges b s text) (e ∙ sym (front_left bytes left r)) a;
+      answers = (
+        subst (λ (b : List ℕ). Judges b s text) (e ∙ sym (front_left bytes left r)) a,
+        none,
+      );
     }
 
 -- The causes of an answer, by the bytes that were left.
@@ -188,6 +260,15 @@ pub sim_causes : (o : Options) (told : Option (List ℕ)) (bytes : List ℕ) (go
 sim_causes o None bytes got r done bad = tt
 sim_causes o (Some left) bytes got r done bad = λ s c. sim_cause bytes left got r done bad s c
 
+-- a status that follows from what `run` read follows from what the source had left
+pub run_causes : (steps : Bool) (told : Option (List ℕ)) (bytes : List ℕ) (got : Status)
+    → IfSome told (AreBytesUpTo 1048576 bytes)
+    → ((script : Script) → Reads bytes script → got ≡ status.Done)
+    → ((line : ℕ) (fault : ScriptFault) → IsFirstFault bytes line fault → got ≡ status.BadScript)
+    → EachCause (Some (Run steps)) told (λ s. got ≡ s)
+run_causes steps None bytes got r done bad = tt
+run_causes steps (Some left) bytes got r done bad = λ s c. sim_cause bytes left got r done bad s c
+
 -- a status that follows from what `check` read follows from what the source had left
 pub check_causes : (told : Option (List ℕ)) (bytes read : List ℕ) (got : Status)
     → IfSome told (AreBytesUpTo 68161537 bytes) → read ≡ bytes
@@ -211,12 +292,21 @@ pub gen_causes : (o : Options) (told : Option (List ℕ)) (got : Status) → got
 gen_causes o told got e = λ s c. gen_cause got e s c
 
 -- the totals of a generated script are told, whatever the source tells
-pub told_totals : (o : Options) (told : Option (List ℕ)) (s : Status) (text : List ℕ)
-    → IsTotalsOfRun (generated o.seed) o.steps text → s ≡ status.Done → AnswersTold (Generate o) told s text
-told_totals o None s text h e =
-    record { bytes = []; told = tt; answers = subst (λ (x : Status). Answers (Generate o) [] x text) (sym e) h }
-told_totals o (Some left) s text h e =
-    record { bytes = left; told = refl; answers = subst (λ (x : Status). Answers (Generate o) left x text) (sym e) h }
+pub told_totals : (o : Options) (told : Option (List ℕ)) (s : Status) (text : List ℕ) (rested : List Rested)
+    → IsTotalsOfThreads (generated o.seed) o.steps text rested → s ≡ status.Done
+    → AnswersTold (Generate o) told s text rested
+told_totals o None s text rested h e =
+    record {
+      bytes = [];
+      told = tt;
+      answers = subst (λ (x : Status). Answers (Generate o) [] x text rested) (sym e) h;
+    }
+told_totals o (Some left) s text rested h e =
+    record {
+      bytes = left;
+      told = refl;
+      answers = subst (λ (x : Status). Answers (Generate o) left x text rested) (sym e) h;
+    }
 
 -- what is left of the source, where a status is told
 

@@ -1,5 +1,5 @@
 -- What the program promises: when each status comes, and what is written with it.
-use Rattle.std.specs.Prelude.{◌≡◌, ◌⊎◌, ◌≤◌, ℕ, List, [], ◌∷◌, ◌++◌, length, take, codes, Option, Some, None, IfSome, Ok, Err}
+use Rattle.std.specs.Prelude.{◌≡◌, ◌⊎◌, ◌≤◌, ℕ, Bool, List, [], ◌∷◌, ◌++◌, length, take, codes, Option, Some, None, IfSome, Ok, Err}
 use Rattle.std.specs.Fmt.{decimal}
 use Rattle.pico_base.specs.declared.script.Script.{Script}
 use Rattle.host_iface.specs.Told.{followed_by}
@@ -16,8 +16,10 @@ use Rattle.trace_check.specs.FirstFault.{CountsLegal, IsLegalTrace, verdict_of}
 use Rattle.trace_check.specs.Refusal.{IsRefusal, refusal_text}
 use Rattle.pico_words.specs.declared.words.Options.{Options}
 use Rattle.pico_words.specs.declared.words.Request.{Request}
-use Rattle.pico_words.specs.declared.words.Request.TheVariants.{Simulate, Check, Generate}
-use Rattle.pico_cmd.specs.Run.{IsTextOfRun, IsTotalsOfRun}
+use Rattle.pico_words.specs.declared.words.Request.TheVariants.{Run, Simulate, Check, Generate}
+use Rattle.pico_run.specs.declared.rested.Rested.{Rested}
+use Rattle.pico_cmd.specs.Run.{IsTextOfRun}
+use Rattle.pico_cmd.specs.Threads.{IsTextOfThreads, IsTotalsOfThreads}
 use Rattle.pico_cmd.specs.Stop.{most_read}
 
 unfoldable pub usage_text : List ℕ
@@ -28,6 +30,14 @@ fault_text line fault = codes "fault: line " ++ decimal line ++ codes ": " ++ na
 
 unfoldable pub legal_text : ℕ → List ℕ
 legal_text entries = codes "legal entries " ++ decimal entries ++ 10 ∷ []
+
+-- ---- `run`
+
+-- the bytes are a script, and the text is that of its run with threads, whose outcome is handed back
+pub record IsTraceOfThreads (steps : Bool) (bytes text : List ℕ) (rested : List Rested) : Type 0 where
+  pub script : Script
+  pub reads : Reads bytes script
+  pub run : IsTextOfThreads script steps text rested
 
 -- ---- `sim`
 
@@ -43,6 +53,12 @@ pub record IsFaultOf (bytes text : List ℕ) : Type 0 where
   pub fault : ScriptFault
   pub first : IsFirstFault bytes line fault
   pub is_text : text ≡ fault_text line fault
+
+-- what goes with a status of `run` for these bytes
+abbrev pub RunsThreads : Bool → List ℕ → Status → List ℕ → List Rested → Type 0
+RunsThreads steps bytes status.Done text rested = IsTraceOfThreads steps bytes text rested
+RunsThreads steps bytes status.BadScript text rested = IsFaultOf bytes text × (rested ≡ [])
+RunsThreads steps bytes _ text rested = ⊥
 
 -- what goes with a status for these options and bytes
 abbrev pub Simulates : Options → List ℕ → Status → List ℕ → Type 0
@@ -91,30 +107,33 @@ Judges bytes s text = JudgesBytes bytes s text
 
 -- ---- each mode
 
--- What goes with a status for what is asked for and the bytes that the source had. `check` rests on as many of them as
--- it reads.
-abbrev pub Answers : Request → List ℕ → Status → List ℕ → Type 0
-Answers (Simulate options) bytes s text = Simulates options bytes s text
-Answers Check bytes s text = Judges (take (most_read Check) bytes) s text
-Answers (Generate options) bytes status.Done text = IsTotalsOfRun (generated options.seed) options.steps text
-Answers (Generate options) bytes _ text = ⊥
+-- What goes with a status for what is asked for and the bytes that the source had, with the outcome of the run with
+-- threads that is handed back: of `run` and `gen` alone. `check` rests on as many bytes as it reads.
+abbrev pub Answers : Request → List ℕ → Status → List ℕ → List Rested → Type 0
+Answers (Run steps) bytes s text rested = RunsThreads steps bytes s text rested
+Answers (Simulate options) bytes s text rested = Simulates options bytes s text × (rested ≡ [])
+Answers Check bytes s text rested = Judges (take (most_read Check) bytes) s text × (rested ≡ [])
+Answers (Generate options) bytes status.Done text rested =
+    IsTotalsOfThreads (generated options.seed) options.steps text rested
+Answers (Generate options) bytes _ text rested = ⊥
 
 -- the same for bytes that are those that the source had left where it tells them
-pub record AnswersTold (request : Request) (left : Option (List ℕ)) (s : Status) (text : List ℕ) : Type 0 where
+pub record AnswersTold (request : Request) (left : Option (List ℕ)) (s : Status) (text : List ℕ)
+    (rested : List Rested) : Type 0 where
   pub bytes : List ℕ
   pub told : IfSome left (λ bytes_left. bytes_left ≡ bytes)
-  pub answers : Answers request bytes s text
+  pub answers : Answers request bytes s text rested
 
 -- The text that goes with a status, by what the words ask for and by the source: the usage line where they aren't in
 -- order. With a status that writes nothing no text goes.
-abbrev pub Allows : Option Request → Option (List ℕ) → Status → List ℕ → Type 0
-Allows None left status.Usage text = text ≡ usage_text
-Allows None left _ text = ⊥
-Allows (Some request) left s text = AnswersTold request left s text
+abbrev pub Allows : Option Request → Option (List ℕ) → Status → List ℕ → List Rested → Type 0
+Allows None left status.Usage text rested = (text ≡ usage_text) × (rested ≡ [])
+Allows None left _ text rested = ⊥
+Allows (Some request) left s text rested = AnswersTold request left s text rested
 
 -- ---- causes
 
--- what makes `sim` end so
+-- what makes `run` and `sim` end so
 abbrev pub CauseOfSim : List ℕ → Status → Type 0
 CauseOfSim bytes status.Done = (script : Script) × Reads bytes script
 CauseOfSim bytes status.BadScript = (line : ℕ) × (fault : ScriptFault) × IsFirstFault bytes line fault
@@ -149,6 +168,7 @@ CauseOfGen _ = ⊥
 
 -- what makes the answer have a status, but for want of memory and for reads and writes that fail
 abbrev pub Cause : Request → List ℕ → Status → Type 0
+Cause (Run steps) bytes s = CauseOfSim bytes s
 Cause (Simulate options) bytes s = CauseOfSim bytes s
 Cause Check bytes s = CauseOfCheck (take (most_read Check) bytes) s
 Cause (Generate options) bytes s = CauseOfGen s
@@ -161,19 +181,20 @@ EachCause (Some request) left follows = IfSome left (λ bytes. (s : Status) → 
 
 -- ---- what is written
 
--- the sink took exactly a text that goes with the status
-pub record Wrote (asked : Option Request) (left : Option (List ℕ)) (s : Status)
+-- the sink took exactly a text that goes with the status and with what is handed back
+pub record Wrote (asked : Option Request) (left : Option (List ℕ)) (s : Status) (rested : List Rested)
     (old new : Option (List ℕ)) : Type 0 where
   pub text : List ℕ
-  pub allowed : Allows asked left s text
+  pub allowed : Allows asked left s text rested
   pub taken : new ≡ followed_by old text
 
--- the sink took a front of a text that goes with some status
-pub record WroteFront (asked : Option Request) (left : Option (List ℕ)) (old new : Option (List ℕ)) : Type 0 where
+-- the sink took a front of a text that goes with some status and with what is handed back
+pub record WroteFront (asked : Option Request) (left : Option (List ℕ)) (rested : List Rested)
+    (old new : Option (List ℕ)) : Type 0 where
   pub replaced : Status
   pub text : List ℕ
   pub count : ℕ
-  pub allowed : Allows asked left replaced text
+  pub allowed : Allows asked left replaced text rested
   pub within : count ≤ length text
   pub taken : new ≡ followed_by old (take count text)
 

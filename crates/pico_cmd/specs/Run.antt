@@ -6,7 +6,7 @@ use Rattle.pico_base.specs.declared.script.Event.{Event}
 use Rattle.kernel_model.specs.Kernel.{Kernel, living_at, opening}
 use Rattle.kernel_model.specs.History.{IsLegal, Replays}
 use Rattle.kernel_model.specs.Fitting.{FitsWhole}
-use Rattle.kernel_model.specs.Trace.{totals_line, trace_text}
+use Rattle.kernel_model.specs.Trace.{trace_text}
 use Rattle.kernel_moves.specs.Entering.{is_used_name}
 use Rattle.world_model.specs.World.{World, opening_world, node_count}
 use Rattle.world_model.specs.Run.{IsRunOf, IsAtRest}
@@ -50,10 +50,3 @@ pub record IsTextOfRun (script : Script) (options : Options) (text : List ℕ) :
   pub last : World
   pub run : IsScheduledRun script options.seed events last
   pub is_text : text ≡ trace_text script last.journal ++ steps_if options.steps events
-
--- the totals of a run by schedule 0, and its events where they are wanted
-pub record IsTotalsOfRun (script : Script) (steps : Bool) (text : List ℕ) : Type 0 where
-  pub events : List Event
-  pub last : World
-  pub run : IsScheduledRun script 0 events last
-  pub is_text : text ≡ totals_line last.journal ++ steps_if steps events

@@ -1,5 +1,5 @@
 //! The answer to a script's bytes: a status, and the text that goes with it.
-ghost use Rattle.std.specs.Prelude.{◌≡◌, ◌⊎◌, ◌++◌, ℕ, List, IfOk};
+ghost use Rattle.std.specs.Prelude.{◌≡◌, ◌⊎◌, ◌++◌, [], ℕ, List, IfOk};
 ghost use Rattle.pico_base.specs.declared.script.Script.{Script as ScriptValue};
 ghost use Rattle.kernel_model.specs.Script.{IsSoundScript};
 ghost use Rattle.kernel_model.specs.Trace.{totals_line};
@@ -13,17 +13,22 @@ ghost use Rattle.pico_cmd.specs.Promise.{Simulates, fault_text};
 use crate::run::{Run, run_script};
 use crate::status::Status;
 use crate::telling::Telling;
-use pico_base::{Bytes, Event, Memory, Script};
+use pico_base::{Bytes, Event, Memory, Script, Sequence};
+use pico_run::Rested;
 use pico_words::Options;
 use script_reader::{ScriptFault, ScriptStop, read_script};
 use std::alloc::Global;
 use trace_text::{push, push_byte, push_number, write_steps};
 
-/// A status, and the text that is written with it.
+/// The outcomes of runs with threads that stand behind what was written.
+pub type RestedList = Sequence<Rested>;
+
+/// A status, the text that is written with it, and the outcomes of runs with threads that are handed back with it.
 #[derive(Drop)]
 pub struct Answer {
     pub status: Status,
     pub text: Bytes,
+    pub rested: RestedList,
 }
 
 // The line that names a script's fault.
@@ -90,6 +95,7 @@ fn text_of_run(
 /// first fault.
 pub fn answer_to(alloc: Global, bytes: Bytes, options: Options) -> Result<Answer, Memory>
     ensures answer { IfOk result (λ answer. Simulates options bytes answer.status answer.text) }
+    ensures alone { IfOk result (λ answer. answer.rested ≡ []) }
     ensures status { IfOk result (λ answer. (answer.status ≡ Status.Done) ⊎ (answer.status ≡ Status.BadScript)) }
     ensures done { (script : ScriptValue) → Reads bytes script
         → IfOk result (λ answer. answer.status ≡ Status.Done) }
@@ -100,10 +106,12 @@ pub fn answer_to(alloc: Global, bytes: Bytes, options: Options) -> Result<Answer
         Ok(script) => Ok(Answer {
             status: Status::Done,
             text: text_of_run(alloc, script, options, bytes)?,
+            rested: RestedList::new(alloc),
         }),
         Err(ScriptStop::At { line, fault }) => Ok(Answer {
             status: Status::BadScript,
             text: text_of_fault(alloc, line, fault)?,
+            rested: RestedList::new(alloc),
         }),
         Err(ScriptStop::Memory) => Err(Memory),
     }

@@ -1,5 +1,5 @@
 //! The answer to a script and a trace.
-ghost use Rattle.std.specs.Prelude.{◌≡◌, ◌≤◌, ◌<◌, ◌^◌, ℕ, List, length, IfOk, OnOk, Ok, Err};
+ghost use Rattle.std.specs.Prelude.{◌≡◌, ◌≤◌, ◌<◌, ◌^◌, [], ℕ, List, length, IfOk, OnOk, Ok, Err};
 ghost use Rattle.pico_base.specs.declared.reply.Entry.{Entry as EntryValue};
 ghost use Rattle.kernel_model.specs.Script.{IsSoundScript};
 ghost use Rattle.trace_check.specs.FirstFault.{CountsLegal, IsLegalTrace, verdict_of};
@@ -8,7 +8,7 @@ ghost use Rattle.trace_text.specs.declared.fault.CheckFault.{CheckFault as Fault
 ghost use Rattle.pico_cmd.specs.Promise.{Judges, JudgesTrace, CauseOfCheck, legal_text};
 ghost use Rattle.pico_cmd.specs.declared.status.Status.{Status as StatusValue};
 
-use crate::answer::{Answer, text_of_fault};
+use crate::answer::{Answer, RestedList, text_of_fault};
 use crate::status::Status;
 use check_input::{Parts, read_checked};
 use pico_base::{Bytes, Memory, Script};
@@ -52,6 +52,7 @@ fn answer_to_trace(
     requires first { first_line < 2 ^ 31 }
     ensures answer { IfOk result
         (λ answer. JudgesTrace script.now trace.now first_line answer.status answer.text) }
+    ensures alone { IfOk result (λ answer. answer.rested ≡ []) }
     ensures legal { (history : List EntryValue) → IsLegalTrace script.now trace.now history
         → IfOk result (λ answer. answer.status ≡ Status.Done) }
     ensures refused { (fault : FaultValue) → verdict_of script.now trace.now first_line ≡ Err fault → IsRefusal fault
@@ -61,10 +62,12 @@ fn answer_to_trace(
         Ok(legal) => Ok(Answer {
             status: Status::Done,
             text: text_of_legal(alloc, legal)?,
+            rested: RestedList::new(alloc),
         }),
         Err(fault) => Ok(Answer {
             status: Status::NotLegal,
             text: text_of_refusal(alloc, script, fault)?,
+            rested: RestedList::new(alloc),
         }),
     }
 }
@@ -74,6 +77,7 @@ fn answer_to_trace(
 pub fn answer_to_check(alloc: Global, bytes: &[u8]) -> Result<Answer, Memory>
     requires { length bytes.now ≤ 68161538 }
     ensures answer { IfOk result (λ answer. Judges bytes.now answer.status answer.text) }
+    ensures alone { IfOk result (λ answer. answer.rested ≡ []) }
     ensures causes { (status : StatusValue) → CauseOfCheck bytes.now status
         → IfOk result (λ answer. answer.status ≡ status) }
 {
@@ -83,6 +87,7 @@ pub fn answer_to_check(alloc: Global, bytes: &[u8]) -> Result<Answer, Memory>
         Err(ScriptStop::At { line, fault }) => Ok(Answer {
             status: Status::BadScript,
             text: text_of_fault(alloc, line, fault)?,
+            rested: RestedList::new(alloc),
         }),
         Err(ScriptStop::Memory) => Err(Memory),
     }

@@ -3,7 +3,6 @@
 #![tactic(auto)]
 
 mod answer;
-mod generated;
 mod judged;
 mod laws;
 mod program;
@@ -11,12 +10,16 @@ mod run;
 mod schedule;
 mod status;
 mod telling;
+mod threaded;
 
+pub use answer::RestedList;
 use host_iface::{OpenGate, StdSink, StdSource};
 pub use program::{Ran, pico};
 pub use status::Status;
 use std::process::ExitCode;
 use std::rt::Env;
+use std::sync::Wait;
+use std::thread::Threads;
 use std::{env, io};
 
 // The words behind the program's name. Words that are no text are in no order, as no words at all are.
@@ -35,7 +38,7 @@ fn words_of<R: Env + AllocGlobal>(rt: &R) -> Result<Vec<String>, Status> {
     Ok(words)
 }
 
-fn start<R: Env + AllocGlobal + Input + Print>(rt: &R) -> Status {
+fn start<R: Env + AllocGlobal + Input + Print + Threads + Wait + Sync>(rt: &R) -> Status {
     let words = match words_of(rt) {
         Ok(words) => words,
         Err(status) => return status,

@@ -1,5 +1,5 @@
 //! The program, from words and bytes to bytes.
-ghost use Rattle.std.specs.Prelude.{◌≡◌, ◌⊎◌, ◌≤◌, ◌+◌, ℕ, List, Option, Some, None, length, map, string_bytes, IfOk, OnOk, IfSome, IfErr};
+ghost use Rattle.std.specs.Prelude.{◌≡◌, ◌⊎◌, ◌≤◌, ◌+◌, [], ℕ, List, Option, Some, None, length, map, string_bytes, IfOk, OnOk, IfSome, IfErr};
 ghost use Rattle.host_iface.specs.Faults.{HasRisen};
 ghost use Rattle.host_iface.specs.Told.{followed_by};
 ghost use Rattle.pico_words.specs.Words.{request_in};
@@ -7,14 +7,16 @@ ghost use Rattle.pico_cmd.specs.Promise.{Allows, AnswersTold, EachCause, Wrote, 
 ghost use Rattle.pico_cmd.specs.declared.program.Stop.TheVariants.{Memory as OutOfMemory};
 ghost use Rattle.pico_cmd.specs.Stop.{IsReadFault, IsStop, AreBytesUpTo, Reads, left_behind, most_read};
 
-use crate::answer::{Answer, answer_to};
-use crate::generated::answer_to_number;
+use crate::answer::{Answer, RestedList, answer_to};
 use crate::judged::answer_to_check;
 use crate::status::Status;
+use crate::threaded::{answer_to_number, answer_to_run};
 use host_iface::{Gate, ReadStop, Sink, Source, read_all, write_all};
 use pico_base::{Bytes, Memory};
 use pico_words::{Options, Request, request_of};
 use std::alloc::Global;
+use std::sync::Wait;
+use std::thread::Threads;
 
 // The greatest script, in bytes.
 const MAX_SCRIPT: usize = 1048576;
@@ -22,10 +24,13 @@ const MAX_SCRIPT: usize = 1048576;
 // The greatest script, the longest line `trace` with its line feed, and the greatest trace.
 const MAX_CHECKED: usize = 68161537;
 
-/// What a run of the program leaves.
-#[derive(Clone, Copy, Debug, PartialEq, Eq)]
+/// What a run of the program leaves: how it ended, and the outcome of the run with threads that stands behind what was
+/// written. There is one with `run` and `gen` where the status is Done, or a WriteFault in its place; else there is
+/// none.
+#[derive(Drop)]
 pub struct Ran {
     pub status: Status,
+    pub rested: RestedList,
 }
 
 // Why there is no answer to write.
@@ -44,7 +49,8 @@ impl From<Memory> for Stop {
 
 #[tactic(auto, unfolding(crate::specs::Promise::usage_text))]
 fn usage(alloc: Global) -> Result<Answer, Memory>
-    ensures { IfOk result (λ answer. (answer.status ≡ Status.Usage) × (answer.text ≡ usage_text)) }
+    ensures { IfOk result (λ answer.
+        (answer.status ≡ Status.Usage) × (answer.text ≡ usage_text) × (answer.rested ≡ [])) }
 {
     Ok(Answer {
         status: Status::Usage,
@@ -52,6 +58,7 @@ fn usage(alloc: Global) -> Result<Answer, Memory>
             alloc,
             b"usage: pico run|sim|check|gen [--seed N] [--steps]\n",
         )?,
+        rested: RestedList::new(alloc),
     })
 }
 
@@ -72,10 +79,30 @@ fn bytes_up_to<S: Source>(alloc: Global, source: &mut S, limit: usize) -> Result
     }
 }
 
+// The answer to a script that is run with threads.
+fn run_with_threads<R: Threads + Wait + Sync, S: Source, G: Gate>(
+    rt: &R,
+    alloc: Global,
+    steps: bool,
+    source: &mut S,
+    gate: &G,
+) -> Result<Answer, Stop>
+    ensures answer { IfOk result
+        (λ answer. AnswersTold (Request.Run steps) (S.left source.old) answer.status answer.text answer.rested) }
+    ensures causes { EachCause (Some (Request.Run steps)) (S.left source.old)
+        (λ s. IfOk result (λ answer. answer.status ≡ s)) }
+    ensures rest { OnOk result (S.left source.new ≡ left_behind 1048577 (S.left source.old)) }
+    ensures calm { OnOk result (S.faults source.new ≡ S.faults source.old) }
+    ensures stop { IfErr result (IsStop (S.faults source.old) (S.faults source.new)) }
+{
+    let bytes = bytes_up_to(alloc, source, MAX_SCRIPT)?;
+    Ok(answer_to_run(rt, alloc, bytes, steps, gate)?)
+}
+
 // The answer to a script.
 fn simulate<S: Source>(alloc: Global, options: Options, source: &mut S) -> Result<Answer, Stop>
     ensures answer { IfOk result
-        (λ answer. AnswersTold (Request.Simulate options) (S.left source.old) answer.status answer.text) }
+        (λ answer. AnswersTold (Request.Simulate options) (S.left source.old) answer.status answer.text answer.rested) }
     ensures causes { EachCause (Some (Request.Simulate options)) (S.left source.old)
         (λ s. IfOk result (λ answer. answer.status ≡ s)) }
     ensures rest { OnOk result (S.left source.new ≡ left_behind 1048577 (S.left source.old)) }
@@ -89,7 +116,7 @@ fn simulate<S: Source>(alloc: Global, options: Options, source: &mut S) -> Resul
 // The answer to a script and a trace.
 fn check<S: Source>(alloc: Global, source: &mut S) -> Result<Answer, Stop>
     ensures answer { IfOk result
-        (λ answer. AnswersTold Request.Check (S.left source.old) answer.status answer.text) }
+        (λ answer. AnswersTold Request.Check (S.left source.old) answer.status answer.text answer.rested) }
     ensures causes { EachCause (Some Request.Check) (S.left source.old)
         (λ s. IfOk result (λ answer. answer.status ≡ s)) }
     ensures rest { OnOk result (S.left source.new ≡ left_behind 68161538 (S.left source.old)) }
@@ -101,19 +128,31 @@ fn check<S: Source>(alloc: Global, source: &mut S) -> Result<Answer, Stop>
 }
 
 // The answer to a generated script's number.
-fn totals(alloc: Global, options: Options) -> Result<Answer, Memory>
+fn totals<R: Threads + Wait + Sync, G: Gate>(
+    rt: &R,
+    alloc: Global,
+    options: Options,
+    gate: &G,
+) -> Result<Answer, Memory>
     ensures answer { (left : Option (List ℕ)) → IfOk result
-        (λ answer. AnswersTold (Request.Generate options) left answer.status answer.text) }
+        (λ answer. AnswersTold (Request.Generate options) left answer.status answer.text answer.rested) }
     ensures causes { (left : Option (List ℕ)) → EachCause (Some (Request.Generate options)) left
         (λ s. IfOk result (λ answer. answer.status ≡ s)) }
 {
-    let answer = answer_to_number(alloc, options)?;
+    let answer = answer_to_number(rt, alloc, options.seed, options.steps, gate)?;
     Ok(answer)
 }
 
 // The answer to what is asked for, and to the bytes where they are wanted.
-fn answer_for<S: Source>(alloc: Global, request: Request, source: &mut S) -> Result<Answer, Stop>
-    ensures answer { IfOk result (λ answer. AnswersTold request (S.left source.old) answer.status answer.text) }
+fn answer_for<R: Threads + Wait + Sync, S: Source, G: Gate>(
+    rt: &R,
+    alloc: Global,
+    request: Request,
+    source: &mut S,
+    gate: &G,
+) -> Result<Answer, Stop>
+    ensures answer { IfOk result
+        (λ answer. AnswersTold request (S.left source.old) answer.status answer.text answer.rested) }
     ensures causes { EachCause (Some request) (S.left source.old)
         (λ s. IfOk result (λ answer. answer.status ≡ s)) }
     ensures rest { OnOk result (S.left source.new ≡ left_behind (most_read request) (S.left source.old)) }
@@ -123,19 +162,22 @@ fn answer_for<S: Source>(alloc: Global, request: Request, source: &mut S) -> Res
     ensures untouched { (Reads (Some request) → ⊥) → source.new ≡ source.old }
 {
     match request {
+        Request::Run { steps } => run_with_threads(rt, alloc, steps, source, gate),
         Request::Simulate(options) => simulate(alloc, options, source),
         Request::Check => check(alloc, source),
-        Request::Generate(options) => Ok(totals(alloc, options)?),
+        Request::Generate(options) => Ok(totals(rt, alloc, options, gate)?),
     }
 }
 
 // The answer to what is asked for, where something is.
-fn answer_asked<S: Source>(
+fn answer_asked<R: Threads + Wait + Sync, S: Source, G: Gate>(
+    rt: &R,
     alloc: Global,
     asked: Option<Request>,
     source: &mut S,
+    gate: &G,
 ) -> Result<Answer, Stop>
-    ensures answer { IfOk result (λ answer. Allows asked (S.left source.old) answer.status answer.text) }
+    ensures answer { IfOk result (λ answer. Allows asked (S.left source.old) answer.status answer.text answer.rested) }
     ensures usage { asked ≡ None → IfOk result (λ answer. answer.status ≡ Status.Usage) }
     ensures causes { EachCause asked (S.left source.old) (λ s. IfOk result (λ answer. answer.status ≡ s)) }
     ensures rest { IfSome asked (λ request.
@@ -146,15 +188,22 @@ fn answer_asked<S: Source>(
     ensures untouched { (Reads asked → ⊥) → source.new ≡ source.old }
 {
     match asked {
-        Some(request) => answer_for(alloc, request, source),
+        Some(request) => answer_for(rt, alloc, request, source, gate),
         None => Ok(usage(alloc)?),
     }
 }
 
 // The answer to the words and the bytes.
-fn answer<S: Source>(alloc: Global, words: &[String], source: &mut S) -> Result<Answer, Stop>
+fn answer<R: Threads + Wait + Sync, S: Source, G: Gate>(
+    rt: &R,
+    alloc: Global,
+    words: &[String],
+    source: &mut S,
+    gate: &G,
+) -> Result<Answer, Stop>
     ensures answer { IfOk result
-        (λ answer. Allows (request_in (map string_bytes words.now)) (S.left source.old) answer.status answer.text) }
+        (λ answer. Allows (request_in (map string_bytes words.now))
+        (S.left source.old) answer.status answer.text answer.rested) }
     ensures usage { request_in (map string_bytes words.now) ≡ None
         → IfOk result (λ answer. answer.status ≡ Status.Usage) }
     ensures causes { EachCause (request_in (map string_bytes words.now)) (S.left source.old)
@@ -167,57 +216,79 @@ fn answer<S: Source>(alloc: Global, words: &[String], source: &mut S) -> Result<
     ensures untouched { (Reads (request_in (map string_bytes words.now)) → ⊥) → source.new ≡ source.old }
 {
     let asked = request_of(alloc, words)?;
-    answer_asked(alloc, asked, source)
+    answer_asked(rt, alloc, asked, source, gate)
 }
 
-// Writes an answer, and gives its status or that the write failed.
-fn write_answer<K: Sink>(sink: &mut K, answer: Answer) -> Status
-    ensures written { IsWritten answer.status answer.text (K.taken sink.old) (K.taken sink.new)
+// Writes a text that goes with a status, and gives that status or that the write failed.
+fn write_text<K: Sink>(sink: &mut K, status: Status, text: &[u8]) -> Status
+    ensures written { IsWritten status text.now (K.taken sink.old) (K.taken sink.new)
         (HasRisen (K.faults sink.old) (K.faults sink.new)) result }
     ensures calm { (result ≡ Status.WriteFault → ⊥) → K.faults sink.new ≡ K.faults sink.old }
 {
-    match write_all(sink, answer.text.as_slice()) {
-        Ok(()) => answer.status,
+    match write_all(sink, text) {
+        Ok(()) => status,
         Err(_) => Status::WriteFault,
     }
+}
+
+// Writes an answer, and gives its status or that the write failed, with what it hands back.
+fn write_answer<K: Sink>(sink: &mut K, answer: Answer) -> Ran
+    ensures written { IsWritten answer.status answer.text (K.taken sink.old) (K.taken sink.new)
+        (HasRisen (K.faults sink.old) (K.faults sink.new)) result.status }
+    ensures calm { (result.status ≡ Status.WriteFault → ⊥) → K.faults sink.new ≡ K.faults sink.old }
+    ensures rested { result.rested ≡ answer.rested }
+{
+    let Answer {
+        status,
+        text,
+        rested,
+    } = answer;
+    let status = write_text(sink, status, text.as_slice());
+    Ran { status, rested }
 }
 
 /// Runs the program: it looks at the words, reads the source to its end, does the job, and writes the whole answer.
 ///
 /// The words are those behind the program's name: a mode and its options, before it or behind it.
 ///
+/// - `run`, with `--steps` if wanted: the source is a script. Its processes run as picoprocesses, each in a thread of
+///   its own that passes the gate before each turn, over streams of bytes and one journal under a lock. The trace is
+///   written, and with `--steps` the events behind it.
 /// - `sim`, with `--seed N` and `--steps` if wanted: the source is a script. Its processes run as picoprocesses, one
 ///   event at a time, by the schedule of number N, which is 0 where none is given. The trace is written, and with
 ///   `--steps` the events behind it.
 /// - `check`: the source is a script, a line `trace` and a trace. It is written that the trace is legal, with the
 ///   number of its entries, or what its first fault is.
-/// - `gen`, with the same options as `sim`: the generated script of number N runs by schedule 0. The totals line of its
-///   trace is written, and with `--steps` the events behind it. Nothing is read.
-pub fn pico<R, S: Source, K: Sink, G: Gate>(
-    _rt: &R,
+/// - `gen`, with the same options as `sim`: the generated script of number N runs with threads, as in `run`. The totals
+///   line of its trace is written, and with `--steps` the events behind it. Nothing is read.
+///
+/// What `run` and `gen` come to is handed back, too: the journal, the events, the world at rest, and what each thread
+/// left.
+pub fn pico<R: Threads + Wait + Sync, S: Source, K: Sink, G: Gate>(
+    rt: &R,
     alloc: Global,
     words: &[String],
     source: &mut S,
     sink: &mut K,
-    _gate: &G,
+    gate: &G,
 ) -> Ran
     // What is written with each status: the trace of a run of the script's processes, which is one history of a single
     // POSIX kernel, or that a trace is legal, or the totals of a generated script's run; the script's first fault; the
     // trace's first fault; or the usage line. Nothing is written where memory or the source failed.
     ensures done { result.status ≡ Status.Done →
         Wrote (request_in (map string_bytes words.now)) (S.left source.old) Status.Done
-        (K.taken sink.old) (K.taken sink.new) }
+        result.rested (K.taken sink.old) (K.taken sink.new) }
     ensures bad_script { result.status ≡ Status.BadScript →
         Wrote (request_in (map string_bytes words.now)) (S.left source.old) Status.BadScript
-        (K.taken sink.old) (K.taken sink.new) }
+        result.rested (K.taken sink.old) (K.taken sink.new) }
     ensures not_legal { result.status ≡ Status.NotLegal →
         Wrote (request_in (map string_bytes words.now)) (S.left source.old) Status.NotLegal
-        (K.taken sink.old) (K.taken sink.new) }
+        result.rested (K.taken sink.old) (K.taken sink.new) }
     ensures usage { result.status ≡ Status.Usage →
         Wrote (request_in (map string_bytes words.now)) (S.left source.old) Status.Usage
-        (K.taken sink.old) (K.taken sink.new) }
-    ensures memory { result.status ≡ Status.Memory → sink.new ≡ sink.old }
-    ensures read_fault { result.status ≡ Status.ReadFault → sink.new ≡ sink.old }
+        result.rested (K.taken sink.old) (K.taken sink.new) }
+    ensures memory { result.status ≡ Status.Memory → (sink.new ≡ sink.old) × (result.rested ≡ []) }
+    ensures read_fault { result.status ≡ Status.ReadFault → (sink.new ≡ sink.old) × (result.rested ≡ []) }
 
     // Want of memory isn't told for a read that failed. Where the words aren't in order, and for a generated script,
     // nothing is read.
@@ -229,7 +300,7 @@ pub fn pico<R, S: Source, K: Sink, G: Gate>(
         Reads (request_in (map string_bytes words.now)) × HasRisen (S.faults source.old) (S.faults source.new) }
     ensures write_cause { result.status ≡ Status.WriteFault → HasRisen (K.faults sink.old) (K.faults sink.new) }
     ensures write_front { result.status ≡ Status.WriteFault →
-        WroteFront (request_in (map string_bytes words.now)) (S.left source.old)
+        WroteFront (request_in (map string_bytes words.now)) (S.left source.old) result.rested
         (K.taken sink.old) (K.taken sink.new) }
 
     // No fault passes unseen: with each other status the count of the source, and of the sink, is as it was.
@@ -254,10 +325,15 @@ pub fn pico<R, S: Source, K: Sink, G: Gate>(
         → EachCause (request_in (map string_bytes words.now)) (S.left source.old)
         (λ s. (result.status ≡ s) ⊎ (result.status ≡ Status.Memory)) }
 {
-    let status = match answer(alloc, words, source) {
+    match answer(rt, alloc, words, source, gate) {
         Ok(answer) => write_answer(sink, answer),
-        Err(Stop::Memory) => Status::Memory,
-        Err(Stop::ReadFault) => Status::ReadFault,
-    };
-    Ran { status }
+        Err(Stop::Memory) => Ran {
+            status: Status::Memory,
+            rested: RestedList::new(alloc),
+        },
+        Err(Stop::ReadFault) => Ran {
+            status: Status::ReadFault,
+            rested: RestedList::new(alloc),
+        },
+    }
 }

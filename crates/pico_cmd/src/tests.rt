@@ -38,7 +38,8 @@ fn sim(alloc: Global) -> Result<Vec<String>, Fail> {
 }
 
 // Runs the program on the script, with one read and one write that may fail, and gives its status and what it wrote.
-fn run_with(
+fn run_with<R: Threads + Wait + Sync>(
+    rt: &R,
     alloc: Global,
     read: Option<u64>,
     write: Option<u64>,
@@ -46,7 +47,7 @@ fn run_with(
     let mut source = MemSource::new(bytes_of(alloc, HELLO)?, failing(alloc, read)?);
     let mut sink = MemSink::new(alloc, failing(alloc, write)?);
     sink.reserve(4096)?;
-    let ran = pico(&(), alloc, &sim(alloc)?, &mut source, &mut sink, &OpenGate);
+    let ran = pico(rt, alloc, &sim(alloc)?, &mut source, &mut sink, &OpenGate);
     let written = String::from_utf8_lossy(alloc, sink.taken())?;
     Ok((ran.status, written))
 }
@@ -69,7 +70,7 @@ fn a_script_of_one_byte_too_many_is_too_long(rt: HostRuntime) -> Result<(), Fail
         let mut source = SureSource::new(long_text(alloc, count)?);
         let mut sink = MemSink::new(alloc, failing(alloc, None)?);
         sink.reserve(4096)?;
-        let ran = pico(&(), alloc, &words, &mut source, &mut sink, &OpenGate);
+        let ran = pico(&rt, alloc, &words, &mut source, &mut sink, &OpenGate);
         assert_eq!(rt; ran.status, Status::BadScript);
         assert_eq!(rt; sink.taken(), written.as_bytes());
     }
@@ -85,7 +86,7 @@ fn a_read_or_a_write_that_fails_is_told(rt: HostRuntime) -> Result<(), Fail> {
         (None, Some(1), Status::WriteFault, ""),
         (Some(3), Some(2), Status::Done, TRACE),
     ] {
-        let (got, text) = run_with(rt.alloc(), read, write)?;
+        let (got, text) = run_with(&rt, rt.alloc(), read, write)?;
         assert_eq!(rt; got, status);
         assert_eq!(rt; text.as_str(), written);
     }
@@ -99,7 +100,7 @@ fn a_sink_with_little_room_takes_a_front(rt: HostRuntime) -> Result<(), Fail> {
     let mut source = SureSource::new(bytes_of(alloc, HELLO)?);
     let mut sink = MemSink::new(alloc, failing(alloc, None)?);
     sink.reserve(30)?;
-    let ran = pico(&(), alloc, &words, &mut source, &mut sink, &OpenGate);
+    let ran = pico(&rt, alloc, &words, &mut source, &mut sink, &OpenGate);
     assert_eq!(rt; ran.status, Status::WriteFault);
     assert_eq!(rt; Some(sink.taken()), TRACE.as_bytes().get(..30));
     Ok(())
@@ -111,7 +112,7 @@ fn a_sure_source_and_sink_give_done(rt: HostRuntime) -> Result<(), Fail> {
     let words = sim(alloc)?;
     let mut source = SureSource::new(bytes_of(alloc, HELLO)?);
     let ran = pico(
-        &(),
+        &rt,
         alloc,
         &words,
         &mut source,

@@ -10,7 +10,7 @@ use Rattle.clap.specs.declared.builder.action.ArgAction.TheVariants.{SetTrue}
 use Rattle.text_fields.specs.Fields.{number_at}
 use Rattle.pico_words.specs.declared.words.Options.{Options}
 use Rattle.pico_words.specs.declared.words.Request.{Request}
-use Rattle.pico_words.specs.declared.words.Request.TheVariants.{Simulate, Check, Generate}
+use Rattle.pico_words.specs.declared.words.Request.TheVariants.{Run, Simulate, Check, Generate}
 
 -- ---- the command
 
@@ -59,9 +59,12 @@ options_with steps seed = record { seed = seed; steps = steps }
 abbrev pub options_of : Option (List ℕ) → Bool → Option Options
 options_of seed steps = option_map (options_with steps) (number_of seed)
 
--- each option goes with the mode: `sim` and `gen` have both, and `check` none
+-- each option goes with the mode: `run` has `--steps`, `sim` and `gen` have both, and `check` none
 unfoldable pub meant : Option (List ℕ) → Bool → List ℕ → Option Request
 meant seed steps mode =
+    if bytes_eq mode (codes "run") && not (is_some seed)
+    then Some (Run steps)
+    else
     if bytes_eq mode (codes "sim")
     then option_map Simulate (options_of seed steps)
     else

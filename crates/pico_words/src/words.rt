@@ -12,7 +12,7 @@ use text_fields::number_front;
 // The greatest number of a schedule and of a generated script.
 const MAX_SEED: u32 = 2147483646;
 
-/// How a run is chosen and shown.
+/// How a run of a schedule, or of a generated script, is chosen and shown.
 #[derive(Clone, Copy, Debug, PartialEq, Eq)]
 pub struct Options {
     /// N of `--seed N`, from 0 to 2147483646: the number of the schedule, or of the generated script.
@@ -24,6 +24,8 @@ pub struct Options {
 /// What the words ask for.
 #[derive(Clone, Copy, Debug, PartialEq, Eq)]
 pub enum Request {
+    /// `run`: the trace of a script's run by threads, and its events where `steps` says so.
+    Run { steps: bool },
     /// `sim`: the trace of a script's run.
     Simulate(Options),
     /// `check`: whether a trace is legal.
@@ -58,7 +60,9 @@ fn options_of(seed: Option<&str>, steps: bool) -> Option<Options>
 fn request_meant(seed: Option<&str>, steps: bool, mode: &str) -> Option<Request>
     ensures { result ≡ spec.meant (option_map (λ s. s.now) seed.entry) steps mode.now }
 {
-    if mode == "sim" {
+    if mode == "run" && seed.is_none() {
+        Some(Request::Run { steps })
+    } else if mode == "sim" {
         let options = options_of(seed, steps)?;
         Some(Request::Simulate(options))
     } else if mode == "gen" {
@@ -133,7 +137,7 @@ fn found(matches: &ArgMatches) -> Option<Request>
 
 /// What the words ask for; none where they aren't in order. They are in order where `clap` takes them as those of the
 /// command `pico MODE [--seed N] [--steps]`, N is a number from 0 to 2147483646 without leading zeros, and each option
-/// goes with the mode: both with `sim` and `gen`, none with `check`.
+/// goes with the mode: `--steps` with `run`, both with `sim` and `gen`, and none with `check`.
 #[tactic(auto, unfolding(crate::specs::Words::request_in))]
 pub fn request_of(alloc: Global, words: &[String]) -> Result<Option<Request>, Memory>
     ensures { IfOk result (λ request. request ≡ spec.request_in (map string_bytes words.now)) }

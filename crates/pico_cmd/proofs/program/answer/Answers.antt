@@ -11,7 +11,7 @@ pub returns-clause-answer : goal.returns-clause-answer
 returns-clause-answer g c =
     subst
     (λ (o : Option Request). IfOk c.answer_asked.result
-    (λ (a : Answer). Allows o (g.S.Source.left c.args.source.now) a.status a.text))
+    (λ (a : Answer). Allows o (g.S.Source.left c.args.source.now) a.status a.text a.rested))
     c.in_ok-asked.ensures c.answer_asked.ensures.answer
 
 pub returns-clause-usage : goal.returns-clause-usage

@@ -4,11 +4,17 @@ use Rattle.pico_cmd.proofs.program.answer_for.Goals as goal
 pub returns-in-Simulate-clause-read : goal.returns-in-Simulate-clause-read
 returns-in-Simulate-clause-read g c = rw c.in-Simulate.is (read_told c.simulate.result)
 
+pub returns-in-Run-clause-read : goal.returns-in-Run-clause-read
+returns-in-Run-clause-read g c = rw c.in-Run.is (read_told c.run_with_threads.result)
+
 pub returns-in-Check-clause-read : goal.returns-in-Check-clause-read
 returns-in-Check-clause-read g c = rw c.in-Check.is (read_told c.check.result)
 
 pub returns-in-Simulate-clause-untouched : goal.returns-in-Simulate-clause-untouched
 returns-in-Simulate-clause-untouched g c unread = absurd (unread (rw c.in-Simulate.is tt))
+
+pub returns-in-Run-clause-untouched : goal.returns-in-Run-clause-untouched
+returns-in-Run-clause-untouched g c unread = absurd (unread (rw c.in-Run.is tt))
 
 pub returns-in-Check-clause-untouched : goal.returns-in-Check-clause-untouched
 returns-in-Check-clause-untouched g c unread = absurd (unread (rw c.in-Check.is tt))

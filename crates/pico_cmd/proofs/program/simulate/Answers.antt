@@ -3,8 +3,8 @@ use Rattle.pico_cmd.proofs.program.simulate.Goals as goal
 
 pub returns-clause-answer : goal.returns-clause-answer
 returns-clause-answer g c =
-    told_answer _ (g.S.Source.left c.args.source.now) _ _ _ c.in_ok-bytes.ensures.bytes
-    c.in_ok-answer_to.ensures.answer
+    told_answer _ (g.S.Source.left c.args.source.now) _ _ _ _ c.in_ok-bytes.ensures.bytes
+    c.in_ok-answer_to.ensures.answer c.in_ok-answer_to.ensures.alone
 
 pub returns-clause-causes : goal.returns-clause-causes
 returns-clause-causes g c =
