@@ -1,7 +1,7 @@
 #!/usr/bin/env python3
-"""Times frames through encoding, a stream and a joiner (crates/frame_rate), beside a plain copy of the same bytes.
+"""Times frames through encoding, a stream and a joiner (crates/frame_bench), beside a plain copy of the same bytes.
 
-usage: bench/frames.py [ROUNDS]        first `rt run` in crates/frame_rate, which proves and builds the program
+usage: bench/frames.py [ROUNDS]        first `rt run` in crates/frame_bench, which proves and builds the program
 """
 import pathlib
 import subprocess
@@ -10,7 +10,7 @@ import tempfile
 import time
 
 TOP = pathlib.Path(__file__).resolve().parent.parent
-PROGRAM = TOP / "crates/frame_rate/out/frame_rate"
+PROGRAM = TOP / "crates/frame_bench/out/frame_bench"
 HEAD = 14  # the bytes of a frame beside its body
 FRAMES = 500_000
 

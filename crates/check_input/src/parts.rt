@@ -5,11 +5,8 @@ ghost use Rattle.script_reader.specs.Fault.{Gives};
 ghost use Rattle.check_input.specs.Parts as spec;
 
 use pico_base::Script;
-use script_reader::{ScriptFault, ScriptStop, next_line, next_word, read_script};
+use script_reader::{MAX_LINE, ScriptFault, ScriptStop, next_line, next_word, read_script};
 use std::alloc::Global;
-
-/// The longest line of a script.
-const MAX_LINE: usize = 4096;
 
 /// A text cut at its first line whose only word is `trace`.
 #[derive(Clone, Copy)]

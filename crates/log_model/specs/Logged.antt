@@ -14,7 +14,7 @@ use Rattle.world_model.specs.Node.{Node, opening_node, can_run}
 use Rattle.world_model.specs.World.{numbers, node_count}
 use Rattle.log_laws.specs.Logs.{StampedFrame, Input, Runs, Takes, Logged, Log, LeadsTo, StampsRise, GoesBetween, sent_in, taken_in}
 use Rattle.log_laws.specs.EventLogs.{event_log}
-use Rattle.frame_pieces.specs.Pieces.{pieces_of, Took}
+use Rattle.piece_laws.specs.Pieces.{pieces_of, Took}
 use Rattle.log_model.specs.declared.answer.LogFault.{LogFault}
 use Rattle.log_model.specs.declared.answer.LogFault.TheVariants as faults
 use Rattle.log_model.specs.Views.{Line, LoggedNode}

@@ -13,7 +13,7 @@ use Rattle.world_model.specs.Node.{Node, is_born, can_run}
 use Rattle.world_model.specs.Step.{Step}
 use Rattle.log_laws.specs.Logs.{Input, Runs, Takes, Logged, turn_on, sent_to, stamped}
 use Rattle.log_laws.specs.EventLogs.{event_item_of}
-use Rattle.frame_pieces.specs.Pieces.{pieces_of}
+use Rattle.piece_laws.specs.Pieces.{pieces_of}
 use Rattle.log_model.specs.declared.answer.LogFault.{LogFault}
 use Rattle.log_model.specs.declared.answer.LogFault.TheVariants as faults
 use Rattle.log_model.specs.declared.answer.TurnAnswer.{TurnAnswer}

@@ -5,7 +5,7 @@ use Rattle.rpc_frame.specs.declared.frame.Frame.{Frame}
 use Rattle.stream_pair.specs.declared.piece.Piece.{Piece}
 use Rattle.frame_bytes.specs.declared.fault.FrameFault.{FrameFault}
 use Rattle.log_laws.specs.Logs.{StampedFrame, stamped, Input, Takes, Log, sent_in, taken_if, takes_of, taken_in}
-use Rattle.frame_pieces.specs.Pieces.{pieces_of, Took, TookPart, TookFrame}
+use Rattle.piece_laws.specs.Pieces.{pieces_of, Took, TookPart, TookFrame}
 use Rattle.log_model.specs.Views.{Line}
 use Rattle.log_model.specs.Looks.{after_nothing, TakesPiece, TakesFrame}
 use Rattle.log_model.specs.Logged.{IsLineOf, IsWholeLine, IsBehind}

@@ -9,7 +9,7 @@ use Rattle.journal_core.specs.declared.stamped.Stamped.{Stamped}
 use Rattle.log_laws.specs.Logs.{StampedFrame, Logged, Log, sends_of, sent_in, takes_of, taken_in}
 use Rattle.log_laws.specs.EventLogs.{event_item_of, event_log}
 use Rattle.log_laws.proofs.Lists.{map-append, append-all}
-use Rattle.frame_pieces.specs.Pieces.{pieces_of_frame, pieces_of, Took}
+use Rattle.piece_laws.specs.Pieces.{pieces_of_frame, pieces_of, Took}
 use Rattle.log_model.specs.Views.{Line}
 use Rattle.log_model.specs.Turns.{with_sent}
 use Rattle.log_model.specs.Logged.{others_in, IsWholeLine, entries_under}

@@ -5,7 +5,7 @@ use Rattle.pico_base.specs.declared.script.Script.{Script}
 use Rattle.stream_pair.specs.declared.piece.Piece.{Piece}
 use Rattle.stamp_merge.proofs.Filters.{all-map}
 use Rattle.world_model.specs.Node.{Node, opening_node}
-use Rattle.frame_pieces.specs.Pieces.{Took, TookNothing}
+use Rattle.piece_laws.specs.Pieces.{Took, TookNothing}
 use Rattle.log_model.specs.declared.answer.LogFault.{LogFault}
 use Rattle.log_model.specs.declared.answer.TurnAnswer.{TurnAnswer}
 use Rattle.log_model.specs.declared.answer.TurnAnswer.TheVariants.{Did, Piece as PieceAnswer, Idle, Memory, BadFrame, StampEnd}

@@ -65,7 +65,7 @@ impl PicoNode {
         ensures { IfSome self.now (λ n. result ≡ is_born n) }
     {
         match &self.state {
-            Some(node) => node.born(),
+            Some(node) => node.is_born(),
             None => false,
         }
     }
@@ -106,7 +106,7 @@ impl PicoNode {
         let Some(node) = &mut self.state else {
             return Err(TurnFault::Memory);
         };
-        let turned = node.run_onto(self.alloc, script, made);
+        let turned = node.run_behind(self.alloc, script, made);
         self.settle(turned)
     }
 
@@ -124,7 +124,7 @@ impl PicoNode {
         let Some(node) = &mut self.state else {
             return Err(TurnFault::Memory);
         };
-        let turned = node.take_onto(self.alloc, script, from, frame, made);
+        let turned = node.take_behind(self.alloc, script, from, frame, made);
         self.settle(turned)
     }
 

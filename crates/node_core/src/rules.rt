@@ -4,17 +4,17 @@ ghost use Rattle.world_model.specs.Turn.{take_frame};
 ghost use Rattle.node_state.specs.State.{node_of};
 ghost use Rattle.node_state.specs.Turning.{IsFresh, Turns};
 
-use node_ends::{take_exit, take_left};
-use node_moves::{
+use end_rules::{take_exit, take_left};
+use move_rules::{
     take_checkpoint, take_give_back, take_grant, take_leaving, take_recall, take_recall_all,
     take_suggest,
 };
-use node_numbers::{take_lease, take_lease_ask, take_placed};
-use node_routes::{take_ask, take_bounce, take_forward, take_request};
-use node_starts::{take_answer, take_not_owner};
 use node_state::{Growing, TurnFault};
+use number_rules::{take_lease, take_lease_ask, take_placed};
 use pico_base::{Node, Script};
+use route_rules::{take_ask, take_bounce, take_forward, take_request};
 use rpc_frame::Frame;
+use start_rules::{take_answer, take_not_owner};
 
 /// The rule of a frame.
 pub(crate) fn take_frame(

@@ -11,10 +11,10 @@ ghost use Rattle.node_core.specs.Step.{IsOnto, Follows};
 
 use crate::rules::take_frame;
 use crate::turn::Turn;
-use node_starts::run;
 use node_state::{Growing, Sends, State, TurnFault};
 use pico_base::{Entries, Memory, Node, Script};
 use rpc_frame::Frame;
+use start_rules::run;
 use std::alloc::Global;
 use std::marker::Model;
 use std::mem;
@@ -115,7 +115,7 @@ fn drop_done(step: &mut Growing, alloc: Global)
 }
 
 /// The turn is over, and the next one may begin: after a refusal for want of memory, what was done is dropped.
-fn settle(step: &mut Growing, alloc: Global, turned: Result<(), TurnFault>) -> Result<(), TurnFault>
+fn finish(step: &mut Growing, alloc: Global, turned: Result<(), TurnFault>) -> Result<(), TurnFault>
     requires fresh { (turned ≡ Err OutOfMemory → ⊥) → IsFresh step.old }
     ensures fresh { IsFresh step.new }
     ensures same { result ≡ turned }
@@ -152,7 +152,7 @@ impl Unspent {
     }
 
     /// Whether its Checkpoint has come, or it is node 1.
-    pub(crate) fn born(&self) -> bool
+    pub(crate) fn is_born(&self) -> bool
         ensures { result ≡ is_born self.now }
     {
         self.step.node.is_born()
@@ -160,7 +160,7 @@ impl Unspent {
 
     /// The process starts its next call, and what that makes follows behind what was made before. After a refusal for
     /// want of memory nothing is said of the node or of what was made.
-    pub(crate) fn run_onto(
+    pub(crate) fn run_behind(
         &mut self,
         alloc: Global,
         script: &Script,
@@ -170,11 +170,11 @@ impl Unspent {
         ensures { Follows (run script.now self.old) self.old self.new made.old made.new result }
     {
         let turned = run_growing(&mut self.step, script, made);
-        settle(&mut self.step, alloc, turned)
+        finish(&mut self.step, alloc, turned)
     }
 
     /// A frame is taken, and what that makes follows as above.
-    pub(crate) fn take_onto(
+    pub(crate) fn take_behind(
         &mut self,
         alloc: Global,
         script: &Script,
@@ -186,6 +186,6 @@ impl Unspent {
         ensures { Follows (take_frame script.now self.old from frame) self.old self.new made.old made.new result }
     {
         let turned = take_growing(&mut self.step, script, from, frame, made);
-        settle(&mut self.step, alloc, turned)
+        finish(&mut self.step, alloc, turned)
     }
 }

@@ -2,3 +2,4 @@ pub mod Same
 pub mod Found
 pub mod Fronts
 pub mod Sent
+pub mod Silences

@@ -10,7 +10,7 @@ use Rattle.frame_bytes.specs.Frames.{frame_bytes}
 use Rattle.frame_bytes.specs.LimitTests.{is_frame}
 use Rattle.frame_bytes.specs.Limits.{IsWithinLimits}
 use Rattle.frame_bytes.proofs.LimitTestLaws.{frame-passes}
-use Rattle.frame_pieces.specs.Pieces.{pieces_of, pieces_of_frame}
+use Rattle.piece_laws.specs.Pieces.{pieces_of, pieces_of_frame}
 use Rattle.log_laws.specs.Logs.{frame_if, sent_to, stamped}
 use Rattle.log_model.specs.Views.{Line}
 use Rattle.log_model.specs.Turns.{has_line, may_send, with_sent}

@@ -1,5 +1,5 @@
 -- What the calls on lines say besides the words of a node that logs.
-use Rattle.std.specs.Prelude.{◌≡◌, ℕ, Bool, true, nat_eq, List, [], ◌∷◌, ◌++◌, Option, Some, None, Result, Ok, Err, IsErr}
+use Rattle.std.specs.Prelude.{◌≡◌, ℕ, zero, suc, Bool, true, nat_eq, List, [], ◌∷◌, ◌++◌, map, Option, Some, None, Result, Ok, Err, IsErr}
 use Rattle.rpc_frame.specs.declared.frame.Frame.{Frame}
 use Rattle.frame_bytes.specs.declared.fault.FrameFault.{FrameFault}
 use Rattle.frame_bytes.specs.declared.fault.FrameFault.TheVariants as faults
@@ -8,6 +8,7 @@ use Rattle.stream_pair.specs.Pieces.{pieces}
 use Rattle.log_model.specs.declared.found.Found.{Found}
 use Rattle.log_model.specs.declared.found.Found.TheVariants as founds
 use Rattle.log_model.specs.Views.{Line}
+use Rattle.log_model.specs.Looks.{after_nothing}
 
 -- it is the same line: of the same node, over the same two streams
 pub record IsSameLine (old new : Line) : Type 0 where
@@ -39,3 +40,13 @@ with_bytes stamp bytes line =
 abbrev pub may_look : Option ℕ → ℕ → Bool
 may_look None other = true
 may_look (Some only) other = nat_eq other only
+
+-- the line after so many looks that found nothing
+abbrev pub after_silence : ℕ → Line → Line
+after_silence zero line = line
+after_silence (suc looks) line = after_nothing (after_silence looks line)
+
+-- all lines after so many looks at each of them that found nothing
+abbrev pub after_silences : ℕ → List Line → List Line
+after_silences zero lines = lines
+after_silences (suc looks) lines = map after_nothing (after_silences looks lines)

@@ -8,5 +8,5 @@ mod sends;
 
 pub use end::{End, Ends};
 pub use line::{Line, Lines};
-pub use looks::{look_at_each, note_silence, silence_on};
+pub use looks::{are_silent, look_at_each, note_silences};
 pub use sends::{may_send, send_each};

@@ -2,8 +2,8 @@
 ghost use Rattle.std.specs.Prelude.{◌≡◌, ◌++◌, [], IfOk, OnOk};
 ghost use Rattle.frame_bytes.specs.Streams.{Rest, Feeds};
 ghost use Rattle.stream_pair.specs.Pieces.{pieces};
-ghost use Rattle.log_model.specs.Looks.{IsLook, after_nothing};
-ghost use Rattle.node_lines.specs.Lines.{IsSameLine, FoundOf, with_bytes};
+ghost use Rattle.log_model.specs.Looks.{IsLook};
+ghost use Rattle.node_lines.specs.Lines.{IsSameLine, FoundOf, after_silence, with_bytes};
 
 use crate::end::End;
 use frame_bytes::{FrameFault, Joiner};
@@ -13,7 +13,7 @@ use rpc_frame::Frames;
 use std::alloc::Global;
 use std::marker::Model;
 use std::sync::Wait;
-use stream_pair::{In, Out, Silence};
+use stream_pair::{In, Out};
 
 /// The streams with one other node. What was taken from it goes through a joiner, which holds back what is no whole
 /// frame yet.
@@ -98,16 +98,16 @@ impl Line {
 
     /// Whether all streams to this node were empty at one step of this call, by the bell that they share.
     #[inline(always)]
-    pub(crate) fn silence(&self) -> Option<Silence> {
-        self.into.silence()
+    pub(crate) fn is_silent(&self) -> bool {
+        self.into.is_silent()
     }
 
-    /// Notes a look that found nothing, in a silence of this node's streams.
+    /// Notes so many looks that found nothing, at times when this node's streams were silent.
     #[inline(always)]
-    pub(crate) fn was_empty(&mut self, silence: &Silence)
-        ensures { self.new ≡ after_nothing self.old }
+    pub(crate) fn were_empty(&mut self, looks: u64)
+        ensures { self.new ≡ after_silence looks self.old }
     {
-        self.into.was_empty(silence);
+        self.into.were_empty(looks);
     }
 
     /// Looks for the next piece, and feeds it to the joiner. Where memory is refused a piece may be lost.

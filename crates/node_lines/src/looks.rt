@@ -2,13 +2,12 @@
 ghost use Rattle.std.specs.Prelude.{◌≡◌, IfOk};
 ghost use Rattle.log_model.specs.Looks.{Looks};
 ghost use Rattle.log_model.specs.declared.found.Found.TheVariants.{Nothing};
-ghost use Rattle.node_lines.specs.Lines.{AreSameLines, may_look};
+ghost use Rattle.node_lines.specs.Lines.{AreSameLines, after_silences, may_look};
 
 use crate::line::Line;
 use log_model::Found;
 use pico_base::{Memory, Node};
 use std::sync::Wait;
-use stream_pair::Silence;
 
 /// Whether a line is looked at.
 fn may_look(only: &Option<Node>, other: Node) -> bool
@@ -31,32 +30,45 @@ pub fn look_at_each<R: Wait>(
     ensures looks { IfOk result (λ found. Looks (may_look only) lines.old found lines.new) }
     ensures same { AreSameLines lines.old lines.new }
 {
-    match silence_on(lines) {
-        Some(silence) => {
-            note_silence(lines, &only, &silence);
-            Ok(Found::Nothing)
-        }
-        None => look_until_found(rt, lines, &only),
+    if are_silent(lines) {
+        note_silence(lines, &only);
+        Ok(Found::Nothing)
+    } else {
+        look_until_found(rt, lines, &only)
     }
 }
 
 /// Whether nothing is on its way on any of the lines, by the bell that they share: one look in place of a look at each.
-/// There is none without lines.
 #[inline(always)]
-pub fn silence_on(lines: &[Line]) -> Option<Silence> {
-    lines.first()?.silence()
+pub fn are_silent(lines: &[Line]) -> bool {
+    match lines.first() {
+        Some(line) => line.is_silent(),
+        None => true,
+    }
 }
 
-/// Notes on each line, or on that with the node `only` alone, that it was empty: each look is counted, and found nothing.
-#[inline(always)]
-pub fn note_silence(lines: &mut [Line], only: &Option<Node>, silence: &Silence)
+/// Notes on each line, or on that with the node `only` alone, a look that found nothing.
+fn note_silence(lines: &mut [Line], only: &Option<Node>)
     ensures looks { Looks (may_look only.now) lines.old Nothing lines.new }
     ensures same { AreSameLines lines.old lines.new }
 {
     for line in lines.iter_mut() {
         if may_look(only, line.other()) {
-            line.was_empty(silence);
+            line.were_empty(1);
         }
+    }
+}
+
+/// Notes on each line so many looks that found nothing, each made where [`are_silent`] said so, since a line was last
+/// looked at by itself: no clause ties them to that.
+pub fn note_silences(lines: &mut [Line], looks: u64)
+    ensures { lines.new ≡ after_silences looks lines.old }
+{
+    if looks == 0 {
+        return;
+    }
+    for line in lines.iter_mut() {
+        line.were_empty(looks);
     }
 }
 

@@ -33,6 +33,7 @@ lines-again (x ∷ xs) (y ∷ ys) (z ∷ zs) s t = (
   lines-again xs ys zs s.1 t.1,
 )
 
+-- the same lines are with the same nodes
 pub others-same : (olds news : List Line) → AreSameLines olds news → others_in news ≡ others_in olds
 others-same [] [] s = refl
 others-same [] (new ∷ news) s = absurd s

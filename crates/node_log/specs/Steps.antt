@@ -1,9 +1,9 @@
 -- What single calls of a turn say: the machine's step that may be sent, its stamp, and which faults there are.
-use Rattle.std.specs.Prelude.{◌≡◌, true, List, Option, Some, None}
+use Rattle.std.specs.Prelude.{◌≡◌, true, false, List, Option, Some, None}
 use Rattle.std.specs.Option.{option_and_then}
 use Rattle.pico_base.specs.declared.script.Script.{Script}
 use Rattle.journal_core.specs.Seated.{Seated}
-use Rattle.world_model.specs.Node.{Node}
+use Rattle.world_model.specs.Node.{Node, is_born, can_run}
 use Rattle.world_model.specs.Step.{Step}
 use Rattle.node_core.specs.declared.turn.Input.{Input}
 use Rattle.node_core.specs.declared.turn.Turn.{Turn}
@@ -47,3 +47,7 @@ IsStampFault (faults.StampEnd last) = Unit {0}
 -- the same lock, and the same number there
 abbrev pub IsSameSeat : Seated → Seated → Type 0
 IsSameSeat old new = (new.lock ≡ old.lock) × (new.number ≡ old.number)
+
+-- it is born, and its process can't start a call
+abbrev pub IsWaiting : Node → Type 0
+IsWaiting n = (is_born n ≡ true) × (can_run n ≡ false)

@@ -29,6 +29,8 @@ pub struct Logged {
     works: Works,
     // room for the ends, so that they are handed back without memory
     room: Vec<End>,
+    // looks at all streams together that found nothing, and that no stream has counted yet
+    silent: u64,
     quiet: u64,
     fault: Option<LogFault>,
 }
@@ -110,6 +112,7 @@ impl Logged {
         Ok(Logged {
             works,
             room,
+            silent: 0,
             quiet: 0,
             fault: None,
         })
@@ -131,7 +134,7 @@ impl Logged {
 
     /// Makes one turn: it takes the frame that its looks complete, or else runs a line if it can. The event gets its
     /// stamp, its entries go into the journal, and its frames are sent. Waits for its turn at the journal's lock. After
-    /// a fault each turn answers the same.
+    /// a fault each turn answers the same. Where the bell of its streams is silent, that is the look at all of them.
     pub fn turn<R: Wait>(&mut self, rt: &R, lock: &JournalLock, script: &Script) -> TurnAnswer
         requires sound { IsSoundScript script.now }
         requires script { IsOfScript script.now self.old }
@@ -145,6 +148,13 @@ impl Logged {
         if let Some(fault) = self.fault {
             return answer_of(fault);
         }
+        if self.silent < u64::MAX && self.works.is_idle() {
+            self.silent += 1;
+            self.quiet = self.quiet.saturating_add(1);
+            return TurnAnswer::Idle;
+        }
+        self.works.note_silences(self.silent);
+        self.silent = 0;
         let turned = self.works.turn(rt, lock, script);
         self.quiet = quiet_after(self.quiet, &turned);
         self.fault = fault_after(&turned);
@@ -160,11 +170,13 @@ impl Logged {
         ensures seat { result.seat ≡ self.seat }
     {
         let Logged {
-            works,
+            mut works,
             room,
+            silent,
             quiet,
             ..
         } = self;
+        works.note_silences(silent);
         let Works {
             number,
             node,

@@ -2,7 +2,6 @@
 ghost use Rattle.std.specs.Prelude.{◌≡◌, ◌≢◌, ℕ, ◌≤◌, length, Some, IfOk, IsSome, MatchOption};
 ghost use Rattle.kernel_model.specs.Script.{IsSoundScript};
 ghost use Rattle.world_model.specs.Node.{Node as NodeValue};
-ghost use Rattle.log_model.specs.declared.found.Found.TheVariants.{Nothing};
 ghost use Rattle.log_model.specs.Forkers.{forker_of};
 ghost use Rattle.log_model.specs.Turns.{may_take};
 ghost use Rattle.log_model.specs.Logged.{others_in, others_of};
@@ -11,11 +10,10 @@ ghost use Rattle.node_lines.specs.Lines.{AreSameLines, may_look};
 
 use log_model::Found;
 use node_core::PicoNode;
-use node_lines::{Lines, look_at_each, note_silence};
+use node_lines::{Lines, look_at_each};
 use node_state::forms::is_forked_by;
 use pico_base::{Memory, Node, Script};
 use std::sync::Wait;
-use stream_pair::Silence;
 
 /// The node whose block forks this one. There is none for block 1 of a sound script.
 fn forker_of(script: &Script, block: Node) -> Option<Node>
@@ -51,38 +49,6 @@ fn only(node: &PicoNode, forker: &mut Option<Node>, number: Node, script: &Scrip
         Some(node) => Some(*node),
         None => Some(number),
     }
-}
-
-/// Notes on all lines that may be looked at that they were empty.
-#[inline(always)]
-fn note(lines: &mut Lines, only: &Option<Node>, silence: &Silence)
-    ensures looks { Looks (may_look only.now) lines.old.items Nothing lines.new.items }
-    ensures same { AreSameLines lines.old.items lines.new.items }
-{
-    note_silence(lines, only, silence);
-}
-
-/// Notes that nothing is on its way on the streams from which a node may take.
-#[inline(always)]
-pub(crate) fn found_nothing(
-    node: &PicoNode,
-    forker: &mut Option<Node>,
-    number: Node,
-    lines: &mut Lines,
-    script: &Script,
-    silence: &Silence,
-)
-    requires whole { IsSome node.now }
-    requires sound { IsSoundScript script.now }
-    requires known { (q : ℕ) → forker.old ≡ Some q → q ≡ forker_of script.now number }
-    requires others { others_in lines.old.items ≡ others_of script.now number }
-    ensures looks { (n : NodeValue) → node.now ≡ Some n
-        → Looks (may_take script.now number n) lines.old.items Nothing lines.new.items }
-    ensures same { AreSameLines lines.old.items lines.new.items }
-    ensures known { (q : ℕ) → forker.new ≡ Some q → q ≡ forker_of script.now number }
-{
-    let only = only(node, forker, number, script);
-    note(lines, &only, silence);
 }
 
 /// Looks at all lines that may be looked at.

@@ -9,16 +9,17 @@ ghost use Rattle.log_model.specs.declared.answer.LogFault.TheVariants as faults;
 ghost use Rattle.log_model.specs.Forkers.{forker_of};
 ghost use Rattle.log_model.specs.Logged.{IsOfScript};
 ghost use Rattle.log_model.specs.Turns.{IsTurnOrSpent, floor_of, may_send, rule_of};
-ghost use Rattle.node_log.specs.Steps.{IsSentTurn, HasNoStep, IsTurnFault, IsStampFault, sent_step};
+ghost use Rattle.node_lines.specs.Lines.{after_silences};
+ghost use Rattle.node_log.specs.Steps.{IsWaiting, IsSentTurn, HasNoStep, IsTurnFault, IsStampFault, sent_step};
 
-use crate::looks::{found_by, found_nothing};
+use crate::looks::found_by;
 use crate::made::{Made, made_of};
 use crate::parting::Log;
 use crate::stamps::note_event;
 use journal_core::{JSeat, JournalLock};
 use log_model::{Found, LogFault};
 use node_core::{Input, PicoNode, Turn};
-use node_lines::{Line, Lines, may_send, send_each, silence_on};
+use node_lines::{Line, Lines, are_silent, may_send, note_silences, send_each};
 use node_state::TurnFault;
 use pico_base::{Event, Node, Script};
 use rpc_frame::Frame;
@@ -200,45 +201,26 @@ impl Works {
         self.make(rt, lock, script, floor, event, Input::Take { from, frame })
     }
 
-    /// Makes one turn: it takes the frame that its looks complete, or else runs a line if it can. Where its bell says that
-    /// nothing is on its way, that is its look at all streams.
+    /// Whether a turn would find nothing and run no line, of a node that is born: then that is its look at all streams.
     #[inline(always)]
-    pub fn turn<R: Wait>(
-        &mut self,
-        rt: &R,
-        lock: &JournalLock,
-        script: &Script,
-    ) -> Result<Made, LogFault>
-        requires sound { IsSoundScript script.now }
-        requires lock { self.old.seat.lock ≡ lock.now.id }
-        requires whole { IsSome self.old.node }
-        requires script { IsOfScript script.now (view_with self.old 0 None) }
-        ensures turned { (quiet : ℕ) → IsTurnOrSpent script.now (view_with self.old quiet None)
-            (view_with self.new (quiet_after quiet result) (fault_after result)) (answer_after result) }
-        ensures whole { OnOk result (IsSome self.new.node) }
-        ensures known { (q : ℕ) → self.new.forker ≡ Some q → q ≡ forker_of script.now self.old.number }
-        ensures same { IsSamePlace self.old self.new }
+    pub fn is_idle(&self) -> bool
+        requires whole { IsSome self.now.node }
+        ensures { result ≡ true → IfSome self.now.node IsWaiting }
     {
-        let Some(silence) = silence_on(self.lines.as_slice()) else {
-            return self.turn_by_looks(rt, lock, script);
-        };
-        found_nothing(
-            &self.node,
-            &mut self.forker,
-            self.number,
-            &mut self.lines,
-            script,
-            &silence,
-        );
-        if self.node.can_run() {
-            return made_of(self.run(rt, lock, script));
-        }
-        Ok(Made::Nothing)
+        are_silent(self.lines.as_slice()) && self.node.born() && !self.node.can_run()
     }
 
-    /// A turn by a look at each stream.
+    /// Notes so many looks at each stream that found nothing.
+    pub fn note_silences(&mut self, looks: u64)
+        ensures lines { self.new.lines.items ≡ after_silences looks self.old.lines.items }
+        ensures same { self.new ≡ record self.old { lines = self.new.lines } }
+    {
+        note_silences(self.lines.as_mut_slice(), looks);
+    }
+
+    /// Makes one turn: it takes the frame that its looks complete, or else runs a line if it can.
     #[inline(never)]
-    fn turn_by_looks<R: Wait>(
+    pub fn turn<R: Wait>(
         &mut self,
         rt: &R,
         lock: &JournalLock,

@@ -57,8 +57,8 @@ abbrev pub actor : Body → Alive
 actor (Living row) = free_to_act row
 actor _ = free_to_act new_row
 
--- A call of this process on a name with this body, or its own call. There is none for calls that make something, get
--- something by a key, end their process, or may have to wait.
+-- what the kernel does for a call of this process on a name with this body, or for its own call; nothing where the call
+-- may have to wait
 abbrev pub serve_on : Name → Body → ℕ → Call → Option Served
 serve_on name body caller call = option_map (serve_by name) (effect (kernel_with name body) caller (actor body) call 0)
 
@@ -68,12 +68,13 @@ makes_something (calls.MsgGet key create excl) = true
 makes_something (calls.SemGet key count create excl) = true
 makes_something call = false
 
+-- the same by the deed that is held; nothing where it isn't, nor for a call on no name: by a key, or an end
 abbrev pub serve_at : Deeds → ℕ → Call → Option Name → Option Served
 serve_at deeds caller call None = None
 serve_at deeds caller call (Some name) =
     option_and_then (λ body. serve_on name body caller call) (get_named deeds name)
 
--- nor is there one where the name's deed isn't held
+-- the same; nothing for a call that makes something
 abbrev pub serve : Deeds → ℕ → Call → Option Served
 serve deeds caller call = if makes_something call then None else serve_at deeds caller call (name_for caller call)
 

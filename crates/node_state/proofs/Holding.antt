@@ -10,6 +10,7 @@ use Rattle.deed_box.specs.Packing.{IsPackedDeed}
 use Rattle.node_model.specs.Kinds.{Named, get_named, without_named}
 use Rattle.node_model.specs.Spelling.{pack, read_body, read_deed}
 use Rattle.node_model.specs.Bodies as model
+use Rattle.world_model.specs.Routing.{was_removed}
 use Rattle.node_serve.specs.declared.body.Body.{Body}
 use Rattle.node_serve.specs.Bodies.{bodies_of, body_of, numbered_of}
 use Rattle.node_serve.specs.Spelled.{IsSpelled, suits}
@@ -31,6 +32,12 @@ pub row-there : (bodies : Named Body) (name : Name) (body : Option Body) → bod
     → model.row_of (get_named (bodies_of bodies) name) ≡ model.row_of (option_map body_of body)
 row-there bodies name body is =
     ap model.row_of (bodies-get bodies name) ∙ ap (λ (b : Option Body). model.row_of (option_map body_of b)) (sym is)
+
+-- whether a name's body was removed
+pub removed-there : (bodies : Named Body) (name : Name) (body : Option Body) → body ≡ get_named bodies name
+    → was_removed (get_named (bodies_of bodies) name) ≡ was_removed (option_map body_of body)
+removed-there bodies name body is =
+    ap was_removed (bodies-get bodies name) ∙ ap (λ (b : Option Body). was_removed (option_map body_of b)) (sym is)
 
 -- ---- a deed goes away
 

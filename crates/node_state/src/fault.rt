@@ -3,7 +3,6 @@ ghost use Rattle.std.specs.Prelude.{◌≡◌};
 ghost use Rattle.node_state.specs.declared.fault.TurnFault.TheVariants.{Memory as OutOfMemory};
 
 use pico_base::Memory;
-use std::alloc::{AllocError, AllocFailed};
 use thiserror::Error;
 
 /// Why a turn wasn't made.
@@ -18,26 +17,17 @@ pub enum TurnFault {
     NotAllowed,
 }
 
+/// What a rule answers where no run of a script leads, so that it needs no invariant. No allocation was refused, but
+/// what follows is the same: the node is spent.
+#[inline(always)]
+pub fn unreached() -> Memory {
+    Memory
+}
+
 impl From<Memory> for TurnFault {
     ghost from_gives = { λ _ e. e ≡ OutOfMemory };
 
     fn from(_: Memory) -> TurnFault {
-        TurnFault::Memory
-    }
-}
-
-impl From<AllocError> for TurnFault {
-    ghost from_gives = { λ _ e. e ≡ OutOfMemory };
-
-    fn from(_: AllocError) -> TurnFault {
-        TurnFault::Memory
-    }
-}
-
-impl<T: Drop> From<AllocFailed<T>> for TurnFault {
-    ghost from_gives = { λ _ e. e ≡ OutOfMemory };
-
-    fn from(_: AllocFailed<T>) -> TurnFault {
         TurnFault::Memory
     }
 }

@@ -8,6 +8,7 @@ ghost use Rattle.node_state.specs.State.{node_of, step_of};
 ghost use Rattle.node_state.specs.Replies.{reply_at};
 ghost use Rattle.node_state.specs.Started.{can_start, started};
 
+use crate::fault::unreached;
 use crate::state::State;
 use pico_base::{Call, Entries, Entry, Memory, Node, Outcome, Pid, Reply, Script, Sequence};
 use rpc_frame::{Asked, Frame};
@@ -64,7 +65,7 @@ impl Growing {
             return Ok(());
         }
         if !self.node.caller.has_line(script) {
-            return Err(Memory);
+            return Err(unreached());
         }
         self.node.caller.answered(script, reply)
     }
@@ -128,7 +129,7 @@ impl Growing {
             (asked_here (started (step_of self.old) call).node call) reply) }
     {
         if !self.node.caller.has_line(script) {
-            return Err(Memory);
+            return Err(unreached());
         }
         self.carry_out_reached(script, call, reply)
     }

@@ -11,6 +11,7 @@ ghost use Rattle.lease_leader.specs.Places.{is_at as is_placed};
 ghost use Rattle.node_state.specs.Keys.{bindings};
 ghost use Rattle.node_state.specs.Leader.{leader_of};
 
+use crate::fault::unreached;
 use key_table::{KeyAnswer, Keys};
 use lease_leader::Directory;
 use node_model::Route;
@@ -54,7 +55,7 @@ fn bind(keys: &mut Keys, key: Key, id: Id, count: u32) -> Result<(), Memory>
     ensures { OnOk result (bindings keys.new ≡ bind (bindings keys.old) key id count) }
 {
     if is_bound(keys, key) || keys.has_key(id) {
-        return Err(Memory);
+        return Err(unreached());
     }
     keys.bind(key, id, count)
 }

@@ -10,7 +10,7 @@ mod leases;
 mod state;
 mod watches;
 
-pub use fault::TurnFault;
+pub use fault::{TurnFault, unreached};
 pub use growing::{Growing, Sends};
 pub use leader::Leader;
 pub use leases::Leases;

@@ -13,8 +13,10 @@ ghost use Rattle.world_model.specs.Node.{asked_here, can_run, first_node, holds,
 ghost use Rattle.world_model.specs.Calls.{is_from_leader, is_to_leader};
 ghost use Rattle.node_state.specs.Deeds.{IsTaken, IsTakenOut, Keeps};
 ghost use Rattle.world_model.specs.Moves.{keep};
+ghost use Rattle.world_model.specs.Routing.{was_removed};
 ghost use Rattle.node_state.specs.State.{node_of};
 
+use crate::fault::unreached;
 use crate::leader::Leader;
 use crate::leases::Leases;
 use crate::watches::Watches;
@@ -72,6 +74,13 @@ fn living(body: Option<&Body>) -> Option<&Row>
     }
 }
 
+/// Whether the body is of a queue or a set that was removed.
+fn was_removed(body: Option<&Body>) -> bool
+    ensures { result ≡ was_removed (option_map body_of (option_copied body.entry)) }
+{
+    matches!(body, Some(Body::Removed))
+}
+
 /// Puts a deed for which there is room, and whose name isn't held.
 fn put(deeds: &mut Deeds<Body>, deed: Deed<Body>)
     requires absent { get_named deeds.old.bodies deed.0 ≡ None }
@@ -90,7 +99,7 @@ fn create(deeds: &mut Deeds<Body>, name: &Name, body: Body) -> Result<(), Memory
     ensures { OnOk result (deeds.new.bodies ≡ put_named deeds.old.bodies name.now body) }
 {
     if deeds.has(*name) || !body.fits(*name) {
-        return Err(Memory);
+        return Err(unreached());
     }
     deeds.reserve(1)?;
     put(deeds, Deed::create(*name, body));
@@ -141,11 +150,11 @@ fn take_packed(alloc: Global, deeds: &mut Deeds<Body>, name: &Name) -> Result<Pa
     ensures { IfOk result (IsTakenOut deeds.old.bodies name.now deeds.new.bodies) }
 {
     if !can_leave(deeds, name) {
-        return Err(Memory);
+        return Err(unreached());
     }
     match deeds.take(*name) {
         Some(deed) => pack(alloc, deeds, deed),
-        None => Err(Memory),
+        None => Err(unreached()),
     }
 }
 
@@ -238,6 +247,13 @@ impl State {
         ensures { result ≡ holds (node_of self.now) name }
     {
         self.deeds.has(name)
+    }
+
+    /// Whether the name is of a queue or a set that is held here, and was removed.
+    pub fn was_removed(&self, name: Name) -> bool
+        ensures { result ≡ was_removed (get_named (node_of self.now).deeds name) }
+    {
+        was_removed(self.deeds.get(name))
     }
 
     /// The row of its own process, where that is held and lives.

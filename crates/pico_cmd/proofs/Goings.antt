@@ -5,8 +5,8 @@ use Rattle.pico_base.specs.declared.script.Event.{Event}
 use Rattle.kernel_model.specs.Script.{IsSoundScript}
 use Rattle.world_model.specs.World.{World, opening_world, size, node_count, is_enabled}
 use Rattle.world_model.specs.Schedule.{Schedule, choice, schedule_of, schedule_after}
-use Rattle.world_runs.specs.Laws.{JournalsAreLegal, RunsAreShort}
-use Rattle.world_rest.specs.Laws.{NamesHaveOneOwner, NoneLivesAtRest, RestIsQuiet, RestIsWhole}
+use Rattle.run_laws.specs.Laws.{JournalsAreLegal, RunsAreShort}
+use Rattle.rest_laws.specs.Laws.{NamesHaveOneOwner, NoneLivesAtRest, RestIsQuiet, RestIsWhole}
 use Rattle.world_core.specs.Laws.{IsWithin, RestIsWhereNothingIsChosen}
 use Rattle.world_core.specs.Stepped.{IsStepped}
 use Rattle.pico_cmd.specs.declared.telling.Telling.{Telling}

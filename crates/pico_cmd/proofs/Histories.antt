@@ -11,8 +11,8 @@ use Rattle.kernel_model.specs.Script.{IsSoundScript}
 use Rattle.kernel_model.specs.Trace.{totals_line}
 use Rattle.world_model.specs.World.{World, opening_world}
 use Rattle.world_model.specs.Run.{IsRunOf}
-use Rattle.world_runs.specs.Laws.{JournalsAreLegal, RunsAreShort}
-use Rattle.world_rest.specs.Laws.{NamesHaveOneOwner, NoneLivesAtRest, RestIsQuiet, RestIsWhole}
+use Rattle.run_laws.specs.Laws.{JournalsAreLegal, RunsAreShort}
+use Rattle.rest_laws.specs.Laws.{NamesHaveOneOwner, NoneLivesAtRest, RestIsQuiet, RestIsWhole}
 use Rattle.log_laws.specs.Merge.{NodeTurn, event_of, events_of}
 use Rattle.log_laws.specs.EventLogs.{event_item}
 use Rattle.pico_run.specs.declared.rested.Rested.{Rested}

@@ -12,8 +12,8 @@ use Rattle.world_model.specs.Turn.{take_frame}
 use Rattle.world_model.specs.World.{World, opening_world, size, node_count, step, is_enabled, node_at, stream, with_stream, world_after, after_turn, runs_at, takes_at}
 use Rattle.world_model.specs.Schedule.{Schedule, InTurn, Drawn, Chooses, Follows, choice, schedule_of, schedule_after, node_of}
 use Rattle.world_model.specs.Run.{Runs, IsRunOf, IsAtRest}
-use Rattle.world_runs.specs.Laws.{JournalsAreLegal, RunsAreShort}
-use Rattle.world_rest.specs.Laws.{NamesHaveOneOwner, NoneLivesAtRest, RestIsQuiet, RestIsWhole}
+use Rattle.run_laws.specs.Laws.{JournalsAreLegal, RunsAreShort}
+use Rattle.rest_laws.specs.Laws.{NamesHaveOneOwner, NoneLivesAtRest, RestIsQuiet, RestIsWhole}
 use Rattle.world_core.specs.Laws.{IsWithin, RestIsWhereNothingIsChosen}
 use Rattle.pico_cmd.specs.Run.{IsScheduledRun}
 use Rattle.pico_cmd.proofs.Chosen.{IsNext, choice_next}

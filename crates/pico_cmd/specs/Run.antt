@@ -7,13 +7,13 @@ use Rattle.kernel_model.specs.Kernel.{Kernel, living_at, opening}
 use Rattle.kernel_model.specs.History.{IsLegal, Replays}
 use Rattle.kernel_model.specs.Fitting.{FitsWhole}
 use Rattle.kernel_model.specs.Trace.{trace_text}
-use Rattle.kernel_moves.specs.Entering.{is_used_name}
+use Rattle.entry_laws.specs.Entering.{is_used_name}
 use Rattle.world_model.specs.World.{World, opening_world, node_count}
 use Rattle.world_model.specs.Run.{IsRunOf, IsAtRest}
 use Rattle.world_model.specs.Schedule.{Follows, schedule_of}
 use Rattle.world_model.specs.Census.{one_if, owners}
-use Rattle.world_rest.specs.Laws.{IsQuiet}
-use Rattle.world_weights.specs.Weights.{calls_of}
+use Rattle.rest_laws.specs.Laws.{IsQuiet}
+use Rattle.weight_laws.specs.Weights.{calls_of}
 use Rattle.trace_text.specs.Steps.{steps_text}
 use Rattle.pico_words.specs.declared.words.Options.{Options}
 

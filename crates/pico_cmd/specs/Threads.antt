@@ -8,12 +8,12 @@ use Rattle.kernel_model.specs.Kernel.{Kernel, living_at, opening}
 use Rattle.kernel_model.specs.History.{IsLegal, Replays}
 use Rattle.kernel_model.specs.Fitting.{FitsWhole}
 use Rattle.kernel_model.specs.Trace.{totals_line, trace_text}
-use Rattle.kernel_moves.specs.Entering.{is_used_name}
+use Rattle.entry_laws.specs.Entering.{is_used_name}
 use Rattle.world_model.specs.World.{World}
 use Rattle.world_model.specs.Run.{IsRunOf}
 use Rattle.world_model.specs.Census.{one_if, owners}
-use Rattle.world_rest.specs.Laws.{IsQuiet}
-use Rattle.world_weights.specs.Weights.{calls_of}
+use Rattle.rest_laws.specs.Laws.{IsQuiet}
+use Rattle.weight_laws.specs.Weights.{calls_of}
 use Rattle.pico_run.specs.declared.rested.Rested.{Rested}
 use Rattle.pico_run.specs.Rested.{IsRested}
 use Rattle.pico_cmd.specs.Run.{steps_if}

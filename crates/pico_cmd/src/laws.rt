@@ -1,11 +1,11 @@
 //! What holds of every run of the machine, as the run of a script uses it.
 ghost use Rattle.world_core.specs.Laws.{RestIsWhereNothingIsChosen};
-ghost use Rattle.world_rest.specs.Laws.{NamesHaveOneOwner, NoneLivesAtRest, RestIsQuiet, RestIsWhole};
-ghost use Rattle.world_runs.specs.Laws.{JournalsAreLegal, RunsAreShort};
+ghost use Rattle.rest_laws.specs.Laws.{NamesHaveOneOwner, NoneLivesAtRest, RestIsQuiet, RestIsWhole};
+ghost use Rattle.run_laws.specs.Laws.{JournalsAreLegal, RunsAreShort};
 
+use rest_laws::{names_have_one_owner, none_lives_at_rest, rest_is_quiet, rest_is_whole};
+use run_laws::{journals_are_legal, runs_are_short};
 use world_core::rest_is_where_nothing_is_chosen;
-use world_rest::{names_have_one_owner, none_lives_at_rest, rest_is_quiet, rest_is_whole};
-use world_runs::{journals_are_legal, runs_are_short};
 
 /// The laws of runs, in one place: it does nothing.
 pub fn laws()

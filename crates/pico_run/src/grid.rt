@@ -6,7 +6,7 @@ ghost use Rattle.pico_run.specs.Grid.{AreTwins, IsGrid, IsNewEnd, IsNewRow, Wire
 use node_log::{End, Ends};
 use pico_base::{Memory, Node};
 use std::alloc::Global;
-use stream_pair::{Bell, pair_to};
+use stream_pair::{Bell, Company, pair_to};
 
 /// The ends of one node's streams with those before it, and the bell that its receivers share.
 #[derive(Drop)]
@@ -51,7 +51,7 @@ fn twins(
 }
 
 /// A further node behind those of these rows: it has streams with each of them.
-fn with_one_more(alloc: Global, rows: Vec<Row>) -> Result<Vec<Row>, Memory>
+fn with_one_more(alloc: Global, company: &Company, rows: Vec<Row>) -> Result<Vec<Row>, Memory>
     requires few { length rows.items < 32 }
     requires new { AllByRecursion IsNewRow rows.items }
     ensures grown { IfOk result (λ grown. WiresAreGrown (length rows.items) (rows_of rows.items)
@@ -59,7 +59,7 @@ fn with_one_more(alloc: Global, rows: Vec<Row>) -> Result<Vec<Row>, Memory>
     ensures new { IfOk result (λ grown. AllByRecursion IsNewRow grown.items) }
 {
     let number = node_at(rows.len());
-    let bell = Bell::new(alloc)?;
+    let bell = Bell::new(alloc, company)?;
     let mut ends = Ends::new(alloc);
     let mut grown = Vec::new(alloc);
     for row in rows {
@@ -82,14 +82,14 @@ fn with_one_more(alloc: Global, rows: Vec<Row>) -> Result<Vec<Row>, Memory>
 }
 
 /// The ends of the streams between so many nodes, by rising node, over which nothing went.
-pub(crate) fn rows(alloc: Global, count: usize) -> Result<Vec<Row>, Memory>
+pub(crate) fn rows(alloc: Global, company: &Company, count: usize) -> Result<Vec<Row>, Memory>
     requires { count ≤ 32 }
     ensures grid { IfOk result (λ rows. IsGrid count (rows_of rows.items)) }
     ensures new { IfOk result (λ rows. AllByRecursion IsNewRow rows.items) }
 {
     let mut rows = Vec::new(alloc);
     for _ in 0..count {
-        rows = with_one_more(alloc, rows)?;
+        rows = with_one_more(alloc, company, rows)?;
     }
     Ok(rows)
 }

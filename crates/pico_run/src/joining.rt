@@ -79,8 +79,12 @@ pub(crate) fn run_threads<R: Threads + Wait + Sync, G: Gate>(
     requires { IsSoundScript script.now }
     ensures { IfOk result (λ t. IsThreaded script.now t.journal t.partings.items) }
 {
-    let Opened { lock, mut nodes } = open(alloc, script)?;
-    turn_all(rt, &lock, script, gate, nodes.as_mut_slice());
+    let Opened {
+        lock,
+        mut nodes,
+        beds,
+    } = open(alloc, script)?;
+    turn_all(rt, &lock, script, gate, &beds, nodes.as_mut_slice());
     if is_one_spent(nodes.as_slice()) {
         return Err(Memory);
     }

@@ -3,6 +3,7 @@
 //! to one run of the machine, and what is left of that run is stepped to rest.
 #![tactic(auto)]
 
+mod beds;
 mod grid;
 mod joining;
 mod merging;

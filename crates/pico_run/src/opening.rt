@@ -6,6 +6,7 @@ ghost use Rattle.world_model.specs.World.{node_count};
 ghost use Rattle.pico_run.specs.Grid.{IsNewEnd};
 ghost use Rattle.pico_run.specs.Opened.{AreOpened, opened_node};
 
+use crate::beds::Beds;
 use crate::grid::{Row, node_at, rows};
 use journal_core::{JSeat, JournalLock};
 use logged_laws::new_nodes_are_logged;
@@ -13,12 +14,14 @@ use node_core::PicoNode;
 use node_log::{Ends, Logged};
 use pico_base::{Memory, Node, Script};
 use std::alloc::Global;
+use stream_pair::Company;
 
-/// The nodes with their streams and seats, and the journal's lock.
+/// The nodes with their streams and seats, the journal's lock, and where their threads sleep.
 #[derive(Drop)]
 pub(crate) struct Opened {
     pub lock: JournalLock,
     pub nodes: Vec<Logged>,
+    pub beds: Beds,
 }
 
 /// A node of the script that has made no turn.
@@ -46,14 +49,18 @@ pub(crate) fn open(alloc: Global, script: &Script) -> Result<Opened, Memory>
     new_nodes_are_logged();
     let count = script.blocks.len();
     let (lock, seats) = JournalLock::new(alloc, count as u32)?;
-    let mut rows = rows(alloc, count)?.into_iter();
+    let company = Company::new(alloc)?;
+    let mut rows = rows(alloc, &company, count)?.into_iter();
     let mut nodes = Vec::new(alloc);
+    let mut bells = Vec::new(alloc);
     for seat in seats.into_vec() {
-        let Some(Row { bell: _, ends }) = rows.next() else {
+        let Some(Row { bell, ends }) = rows.next() else {
             unreachable!()
         };
         let number = node_at(nodes.len());
         nodes.push(open_node(alloc, script, number, ends, seat)?)?;
+        bells.push(bell)?;
     }
-    Ok(Opened { lock, nodes })
+    let beds = Beds { company, bells };
+    Ok(Opened { lock, nodes, beds })
 }

@@ -5,6 +5,7 @@ ghost use Rattle.log_model.specs.Views.{LoggedNode};
 ghost use Rattle.pico_run.specs.Opened.{AreReady};
 ghost use Rattle.pico_run.specs.Turning.{CanTurn, IsWorked};
 
+use crate::beds::Beds;
 use crate::grid::node_at;
 use host_iface::Gate;
 use journal_core::JournalLock;
@@ -12,22 +13,25 @@ use logged_laws::turns_keep_logs;
 use node_log::{Logged, TurnAnswer};
 use pico_base::{Node, Script};
 use std::sync::Wait;
-use std::thread;
 use std::thread::{Threads, for_each_mut};
 
 /// After so many idle turns in a row a thread leaves.
 const QUIET: u64 = 100_000;
 
-/// After so many idle turns in a row others are let go on.
-const SOME: u64 = 256;
+/// After so many idle turns in a row a thread sleeps for the first time.
+const FIRST: u64 = 64;
+
+/// And again after each so many more.
+const SOME: u64 = 1024;
 
 /// Makes turns of a node until it is quiet, or a turn has a fault. The gate is passed before each turn, and told of
-/// each event. After each 256th idle turn in a row others are let go on.
+/// each event. After some idle turns in a row it sleeps until something is sent to the node.
 fn turn_until_quiet<R: Wait, G: Gate>(
     rt: &R,
     lock: &JournalLock,
     script: &Script,
     gate: &G,
+    beds: &Beds,
     node: Node,
     logged: &mut Logged,
 )
@@ -45,14 +49,15 @@ fn turn_until_quiet<R: Wait, G: Gate>(
             TurnAnswer::Did => {
                 events = events.saturating_add(1);
                 gate.did(node, events);
+                beds.goes_on();
             }
             TurnAnswer::Piece => {}
             TurnAnswer::Idle => {
                 if logged.quiet() >= QUIET {
                     return;
                 }
-                if logged.quiet() % SOME == 0 {
-                    thread::yield_now();
+                if logged.quiet() % SOME == FIRST {
+                    beds.sleep(rt, node);
                 }
             }
             _ => return,
@@ -61,12 +66,31 @@ fn turn_until_quiet<R: Wait, G: Gate>(
     unreachable!()
 }
 
+/// Makes turns of a node until it is quiet, in the company of the others.
+fn work<R: Wait, G: Gate>(
+    rt: &R,
+    lock: &JournalLock,
+    script: &Script,
+    gate: &G,
+    beds: &Beds,
+    node: Node,
+    logged: &mut Logged,
+)
+    requires sound { IsSoundScript script.now }
+    requires ready { CanTurn script.now lock.now logged.old }
+    ensures { IsWorked script.now logged.old logged.new }
+{
+    turn_until_quiet(rt, lock, script, gate, beds, node, logged);
+    beds.leave();
+}
+
 /// Makes turns of all nodes, each in a thread of its own, until all are quiet.
 pub(crate) fn turn_all<R: Threads + Wait + Sync, G: Gate>(
     rt: &R,
     lock: &JournalLock,
     script: &Script,
     gate: &G,
+    beds: &Beds,
     nodes: &mut [Logged],
 )
     requires sound { IsSoundScript script.now }
@@ -86,6 +110,6 @@ pub(crate) fn turn_all<R: Threads + Wait + Sync, G: Gate>(
             requires place { place < 32 }
             requires ready { CanTurn script.now lock.now logged.now }
             ensures { IsWorked script.entry.now logged.entry.now logged.exit.now }
-        { turn_until_quiet(rt, lock, script, gate, node_at(place), logged) },
+        { work(rt, lock, script, gate, beds, node_at(place), logged) },
     );
 }

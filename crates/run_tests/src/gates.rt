@@ -65,6 +65,32 @@ impl Words {
     }
 }
 
+/// The nodes of the twelve events of a run of two nodes, in their order.
+const ORDER: [u8; 12] = [1, 1, 1, 2, 1, 2, 1, 2, 2, 1, 2, 1];
+
+/// One event after the other, in that order: a node makes a turn when the next event is its own. Behind the last one
+/// each node may go on.
+#[derive(Drop)]
+pub struct InOrder {
+    pub words: Words,
+}
+
+impl Gate for InOrder {
+    fn pass(&self, node: Node, _turn: u64) {
+        for _ in 0..LOOKS {
+            let place = self.words.first.load(Ordering::SeqCst) as usize;
+            if ORDER.get(place).is_none_or(|next| *next == node.0) {
+                return;
+            }
+        }
+        self.words.gave_up.fetch_add(1, Ordering::SeqCst);
+    }
+
+    fn did(&self, _node: Node, _event: u64) {
+        self.words.first.fetch_add(1, Ordering::SeqCst);
+    }
+}
+
 /// Node 1, once it has forked, goes on when node 2 has taken its Checkpoint, and node 2 makes its first turn when node
 /// 1 has forked. So two threads are at work at once, or a wait gives up.
 #[derive(Drop)]

@@ -1,7 +1,7 @@
 //! Runs under gates.
 ghost use Rattle.std.specs.Prelude.{IfOk, IsSome};
 
-use crate::gates::{BothAtWork, Counts, FirstIsLate, OtherLeaves, Words};
+use crate::gates::{BothAtWork, Counts, FirstIsLate, InOrder, OtherLeaves, Words};
 use host_iface::Gate;
 use pico_base::Node;
 use pico_run::{Rested, run};
@@ -17,6 +17,13 @@ use trace_text::write_trace;
 const BOTH_LOOK: &str = concat!(
     "proc main\nq = msgget private\nmsgrcv $q 0 8 nowait\nfork child\nend\n",
     "proc child\nmsgrcv $q 0 8 nowait\nend\n"
+);
+
+// Its trace where one event is made after the other: node 2 is born before node 1 goes on.
+const TRACE: &str = concat!(
+    "1 msgget private = 1 by 1\n1 msgrcv 1 0 8 nowait = ENOMSG by 1\n1 fork child = 2 by 1\n1 exit 0 = ended by 1\n",
+    "2 msgrcv 1 0 8 nowait = ENOMSG by 1\n2 exit 0 = ended by 1\n",
+    "totals entries 6 processes 2 notready 2 refused 0\n"
 );
 
 // Runs the script under a gate.
@@ -60,6 +67,19 @@ fn two_threads_are_at_work_at_once(rt: HostRuntime) -> Result<(), Fail> {
         assert_eq!(rt; gate.words.read(), (1, 1, 0));
         assert_eq!(rt; legal_entries(rt.alloc(), BOTH_LOOK, &rested)?, 6);
     }
+    Ok(())
+}
+
+#[test]
+fn twelve_turns_one_after_the_other(rt: HostRuntime) -> Result<(), Fail> {
+    let gate = InOrder {
+        words: Words::new(),
+    };
+    let rested = run_text(&rt, rt.alloc(), BOTH_LOOK, &gate)?;
+    assert_eq!(rt; gate.words.read(), (12, 0, 0));
+    let script = read_script(rt.alloc(), BOTH_LOOK.as_bytes())?;
+    let trace = write_trace(rt.alloc(), &script, rested.world.journal())?;
+    assert_eq!(rt; trace.as_slice(), TRACE.as_bytes());
     Ok(())
 }
 

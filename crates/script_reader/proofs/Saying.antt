@@ -12,14 +12,16 @@ use Rattle.pico_base.specs.declared.script.Line.{Line}
 use Rattle.kernel_model.specs.Script as model
 use Rattle.script_reader.specs.declared.verb.Verb.{Verb}
 use Rattle.script_reader.specs.declared.verb.Verb.TheVariants as verbs
+use Rattle.script_reader.specs.declared.says.Front.{Front}
+use Rattle.script_reader.specs.declared.says.Front.TheVariants.{Wrong, Gives}
 use Rattle.script_reader.specs.declared.says.Said.{Said}
 use Rattle.script_reader.specs.declared.says.Said.TheVariants.{Skipped, Opens, BadProc, Bad, Forks, Calls}
 use Rattle.script_reader.specs.Words.{words_of}
 use Rattle.script_reader.specs.Parts.{positive, variable}
 use Rattle.script_reader.specs.Forms.{FromCall, verb_of, call_of}
 use Rattle.script_reader.specs.Says as says
-use Rattle.script_reader.specs.Says.{Front, number_of, said_of}
-use Rattle.script_reader.proofs.Ranges.{if_map, positive_small, variable_small}
+use Rattle.script_reader.specs.Says.{number_of, said_of}
+use Rattle.script_reader.proofs.Ranges.{positive_small, variable_small}
 use Rattle.script_reader.proofs.Widths.{width, line_width}
 use Rattle.script_reader.proofs.CallRanges.{Fits, IsOther, IsExit, exits_fit, others_fit, between_from}
 
@@ -48,31 +50,42 @@ IsSet set = model.is_variable set ≡ true
 abbrev IsTries : Option ℕ → Type 0
 IsTries tries = (leb 1 (unwrap_or tries 1) && leb (unwrap_or tries 1) 20000) ≡ true
 
-front_cond : (P : Option ℕ → Type 0) (n : ℕ) (b : Bool) (x y : Front × List (List ℕ)) → IfSome x.0 P × (width x.1 ≤ n)
-    → IfSome y.0 P × (width y.1 ≤ n) → IfSome (cond b x y).0 P × (width (cond b x y).1 ≤ n)
+-- what is said of what a front gives, where it isn't wrong
+abbrev IfGives : Front ℕ → (Option ℕ → Type 0) → Type 0
+IfGives Wrong P = Unit {0}
+IfGives (Gives value) P = P value
+
+if_given : (o : Option ℕ) (P : ℕ → Type 0) (Q : Option ℕ → Type 0) → IfSome o P → ((v : ℕ) → P v → Q (Some v))
+    → IfGives (says.given o) Q
+if_given None P Q h g = tt
+if_given (Some v) P Q h g = g v h
+
+front_cond : (P : Option ℕ → Type 0) (n : ℕ) (b : Bool) (x y : Front ℕ × List (List ℕ))
+    → IfGives x.0 P × (width x.1 ≤ n) → IfGives y.0 P × (width y.1 ≤ n)
+    → IfGives (cond b x y).0 P × (width (cond b x y).1 ≤ n)
 front_cond P n true x y f g = f
 front_cond P n false x y f g = g
 
-set_fits : (ws : List (List ℕ)) → IfSome (says.set_at ws).0 IsSet × (width (says.set_at ws).1 ≤ width ws)
+set_fits : (ws : List (List ℕ)) → IfGives (says.set_at ws).0 IsSet × (width (says.set_at ws).1 ≤ width ws)
 unfolding says.set_at
 set_fits [] = (refl, omega arith)
 set_fits (v ∷ []) = (refl, omega arith)
 set_fits (v ∷ e ∷ ws) =
     front_cond IsSet (width (v ∷ e ∷ ws)) (bytes_eq e (codes "=")) (says.given (variable v), ws)
     (says.nothing, v ∷ e ∷ ws)
-    (if_map (variable v) (λ v. Some v) (λ v. v ≤ 2885) IsSet (variable_small v) (λ v h. le-leb v 2885 h), omega arith)
+    (if_given (variable v) (λ v. v ≤ 2885) IsSet (variable_small v) (λ v h. le-leb v 2885 h), omega arith)
     (refl, omega arith)
 
-tries_fit : (ws : List (List ℕ)) → IfSome (says.tries_at ws).0 IsTries × (width (says.tries_at ws).1 ≤ width ws)
+tries_fit : (ws : List (List ℕ)) → IfGives (says.tries_at ws).0 IsTries × (width (says.tries_at ws).1 ≤ width ws)
 unfolding says.tries_at
 tries_fit [] = (refl, omega arith)
 tries_fit (t ∷ []) =
-    front_cond IsTries (width (t ∷ [])) (bytes_eq t (codes "try")) (None, []) (says.nothing, t ∷ []) (tt, omega arith)
+    front_cond IsTries (width (t ∷ [])) (bytes_eq t (codes "try")) (Wrong, []) (says.nothing, t ∷ []) (tt, omega arith)
     (refl, omega arith)
 tries_fit (t ∷ n ∷ ws) =
     front_cond IsTries (width (t ∷ n ∷ ws)) (bytes_eq t (codes "try")) (says.given (positive 20000 n), ws)
     (says.nothing, t ∷ n ∷ ws) (
-      if_map (positive 20000 n) (λ v. Some v) (λ n. (1 ≤ n) × (n ≤ 20000)) IsTries (positive_small 20000 n)
+      if_given (positive 20000 n) (λ n. (1 ≤ n) × (n ≤ 20000)) IsTries (positive_small 20000 n)
           (λ v h. between_from 1 20000 v h.0 h.1),
       omega arith,
     ) (refl, omega arith)
@@ -95,17 +108,17 @@ fork_of : (names : List (List ℕ)) (o : Option ℕ) → IfSome o (λ k. (1 ≤ 
 fork_of names None h = tt
 fork_of names (Some k) h = h
 
-fork_fine : (names : List (List ℕ)) (o : Option (List ℕ)) (set tries : Front) (ws : List (List ℕ)) → IfSome set IsSet
+fork_fine : (names : List (List ℕ)) (o : Option (List ℕ)) (set tries : Front ℕ) (ws : List (List ℕ)) → IfGives set IsSet
     → IsFine names o (says.fork_said names set tries ws)
 unfolding says.fork_said
-fork_fine names o None tries ws h = tt
-fork_fine names o (Some set) None ws h = tt
-fork_fine names o (Some set) (Some (Some n)) ws h = tt
-fork_fine names o (Some set) (Some None) [] h = tt
-fork_fine names o (Some set) (Some None) (name ∷ []) h =
+fork_fine names o Wrong tries ws h = tt
+fork_fine names o (Gives set) Wrong ws h = tt
+fork_fine names o (Gives set) (Gives (Some n)) ws h = tt
+fork_fine names o (Gives set) (Gives None) [] h = tt
+fork_fine names o (Gives set) (Gives None) (name ∷ []) h =
     fine_cond names o (model.is_name name) (Forks set (number_of names name)) Bad
     (λ _. (h, fork_of names (number_of names name) (number_within names name))) tt
-fork_fine names o (Some set) (Some None) (name ∷ x ∷ ws) h = tt
+fork_fine names o (Gives set) (Gives None) (name ∷ x ∷ ws) h = tt
 
 no_fork : (call : Call) → model.is_exit call ≡ true → model.is_fork call ≡ false
 no_fork (calls.Fork block) e = cc
@@ -128,15 +141,15 @@ line_from line tries once sets fits set =
     (and_from named variables fits.named
     (and_from (model.is_variable line.set) (model.is_variable line.from) set fits.variable)))))
 
-exit_fine : (names : List (List ℕ)) (o : Option (List ℕ)) (set tries : Front) (call : Option FromCall)
+exit_fine : (names : List (List ℕ)) (o : Option (List ℕ)) (set tries : Front ℕ) (call : Option FromCall)
     → IfSome call IsExit → IsFine names o (says.exit_said set tries call)
 unfolding says.exit_said
-exit_fine names o None tries call h = tt
-exit_fine names o (Some (Some v)) tries call h = tt
-exit_fine names o (Some None) None call h = tt
-exit_fine names o (Some None) (Some (Some n)) call h = tt
-exit_fine names o (Some None) (Some None) None h = tt
-exit_fine names o (Some None) (Some None) (Some c) h =
+exit_fine names o Wrong tries call h = tt
+exit_fine names o (Gives (Some v)) tries call h = tt
+exit_fine names o (Gives None) Wrong call h = tt
+exit_fine names o (Gives None) (Gives (Some n)) call h = tt
+exit_fine names o (Gives None) (Gives None) None h = tt
+exit_fine names o (Gives None) (Gives None) (Some c) h =
     (line_from (record { set = None; tries = 1; from = c.0; call = c.1 }) refl refl refl h.0 refl, no_fork c.1 h.2)
 
 or_not : (a b c : Bool) → b ≡ false → c ≡ false → (a || not (b || c)) ≡ true
@@ -147,21 +160,21 @@ not_both : (a b : Bool) → b ≡ false → not (a && b) ≡ true
 not_both true b e = rw e refl
 not_both false b e = refl
 
-other_fine : (names : List (List ℕ)) (o : Option (List ℕ)) (set tries : Front) (call : Option FromCall)
-    → IfSome set IsSet → IfSome tries IsTries → IfSome call IsOther → IsFine names o (says.other_said set tries call)
+other_fine : (names : List (List ℕ)) (o : Option (List ℕ)) (set tries : Front ℕ) (call : Option FromCall)
+    → IfGives set IsSet → IfGives tries IsTries → IfSome call IsOther → IsFine names o (says.other_said set tries call)
 unfolding says.other_said
-other_fine names o None tries call s t h = tt
-other_fine names o (Some set) None call s t h = tt
-other_fine names o (Some set) (Some tries) None s t h = tt
-other_fine names o (Some set) (Some tries) (Some c) s t h =
+other_fine names o Wrong tries call s t h = tt
+other_fine names o (Gives set) Wrong call s t h = tt
+other_fine names o (Gives set) (Gives tries) None s t h = tt
+other_fine names o (Gives set) (Gives tries) (Some c) s t h =
     let line : Line = record { set = set; tries = unwrap_or tries 1; from = c.0; call = c.1 } in (
       line_from line t (or_not (eqb line.tries 1) (model.is_fork c.1) (model.is_exit c.1) h.no_fork h.no_exit)
           (not_both (is_some set) (model.is_exit c.1) h.no_exit) h.fits s,
       h.no_fork,
     )
 
-verb_fine : (names : List (List ℕ)) (o : Option (List ℕ)) (set tries : Front) (verb : Verb) (ws : List (List ℕ))
-    → IfSome set IsSet → IfSome tries IsTries → width ws ≤ 4097
+verb_fine : (names : List (List ℕ)) (o : Option (List ℕ)) (set tries : Front ℕ) (verb : Verb) (ws : List (List ℕ))
+    → IfGives set IsSet → IfGives tries IsTries → width ws ≤ 4097
     → IsFine names o (says.verb_said names set tries verb ws)
 unfolding says.verb_said
 verb_fine names o set tries verbs.Fork ws s t room = fork_fine names o set tries ws s
@@ -195,14 +208,14 @@ verb_fine names o set tries verbs.SemOp ws s t room =
 verb_fine names o set tries verbs.SemCtl ws s t room =
     other_fine names o set tries (call_of verbs.SemCtl ws) s t (others_fit verbs.SemCtl ws tt room)
 
-named_fine : (names : List (List ℕ)) (o : Option (List ℕ)) (set tries : Front) (verb : Option Verb) (ws : List (List ℕ))
-    → IfSome set IsSet → IfSome tries IsTries → width ws ≤ 4097
+named_fine : (names : List (List ℕ)) (o : Option (List ℕ)) (set tries : Front ℕ) (verb : Option Verb)
+    (ws : List (List ℕ)) → IfGives set IsSet → IfGives tries IsTries → width ws ≤ 4097
     → IsFine names o (says.named_said names set tries verb ws)
 named_fine names o set tries None ws s t room = tt
 named_fine names o set tries (Some verb) ws s t room = verb_fine names o set tries verb ws s t room
 
-call_fine : (names : List (List ℕ)) (o : Option (List ℕ)) (set tries : Front) (ws : List (List ℕ)) → IfSome set IsSet
-    → IfSome tries IsTries → width ws ≤ 4097 → IsFine names o (says.call_said names set tries ws)
+call_fine : (names : List (List ℕ)) (o : Option (List ℕ)) (set tries : Front ℕ) (ws : List (List ℕ)) → IfGives set IsSet
+    → IfGives tries IsTries → width ws ≤ 4097 → IsFine names o (says.call_said names set tries ws)
 unfolding says.call_said
 call_fine names o set tries [] s t room = tt
 call_fine names o set tries (name ∷ ws) s t room =

@@ -153,8 +153,7 @@ is_bad BadProc = true
 is_bad said = false
 
 -- `proc NAME` with the name of an earlier block. Blocks are numbered in the order of the names' first lines, so each
--- other
--- name has the number of the next block
+-- other name has the number of the next block
 abbrev pub repeats : Place → Said → Bool
 repeats place (Opens name number) = not (number == number_at place)
 repeats place said = false

@@ -5,6 +5,8 @@ use Rattle.std.specs.Option.{unwrap_or}
 use Rattle.kernel_model.specs.Script.{is_name}
 use Rattle.script_reader.specs.declared.verb.Verb.{Verb}
 use Rattle.script_reader.specs.declared.verb.Verb.TheVariants as verbs
+use Rattle.script_reader.specs.declared.says.Front.{Front}
+use Rattle.script_reader.specs.declared.says.Front.TheVariants.{Wrong, Gives}
 use Rattle.script_reader.specs.declared.says.Said.{Said}
 use Rattle.script_reader.specs.declared.says.Said.TheVariants.{Skipped, Opens, BadProc, Ends, Unknown, Bad, Forks, Calls}
 use Rattle.script_reader.specs.Words.{words_of}
@@ -36,19 +38,18 @@ names_of lines = fold (λ names line. with_opening names (opening_at line)) [] l
 unfoldable pub number_of : List (List ℕ) → List ℕ → Option ℕ
 number_of names name = option_map (λ place. place + 1) (position (bytes_eq name) names)
 
--- ---- what may stand in front of a call. None says that it is there and wrong; Some None that it isn't there
+-- ---- what may stand in front of a call
 
-abbrev pub Front : Type 0
-Front = Option (Option ℕ)
+abbrev pub nothing : Front ℕ
+nothing = Gives None
 
-abbrev pub nothing : Front
-nothing = Some None
-
-abbrev pub given : Option ℕ → Front
-given value = option_map (λ v. Some v) value
+-- what stands there, by the value that it is read as
+abbrev pub given : Option ℕ → Front ℕ
+given None = Wrong
+given (Some value) = Gives (Some value)
 
 -- `VAR =`, which a second word `=` shows, and the words behind it
-unfoldable pub set_at : List (List ℕ) → Front × List (List ℕ)
+unfoldable pub set_at : List (List ℕ) → Front ℕ × List (List ℕ)
 set_at (v ∷ e ∷ words) = if bytes_eq e (codes "=") then (given (variable v), words) else (nothing, v ∷ e ∷ words)
 set_at words = (nothing, words)
 
@@ -57,10 +58,10 @@ abbrev pub max_tries : ℕ
 max_tries = 20000
 
 -- `try N`, which a word `try` shows, and the words behind it
-unfoldable pub tries_at : List (List ℕ) → Front × List (List ℕ)
+unfoldable pub tries_at : List (List ℕ) → Front ℕ × List (List ℕ)
 tries_at (t ∷ n ∷ words) =
     if bytes_eq t (codes "try") then (given (positive max_tries n), words) else (nothing, t ∷ n ∷ words)
-tries_at (t ∷ []) = if bytes_eq t (codes "try") then (None, []) else (nothing, t ∷ [])
+tries_at (t ∷ []) = if bytes_eq t (codes "try") then (Wrong, []) else (nothing, t ∷ [])
 tries_at [] = (nothing, [])
 
 -- ---- call lines
@@ -69,8 +70,8 @@ abbrev pub line_with : Option ℕ → Option ℕ → FromCall → Said
 line_with set tries call = Calls (record { set = set; tries = unwrap_or tries 1; from = call.0; call = call.1 })
 
 -- `fork NAME` doesn't go with `try`
-unfoldable pub fork_said : List (List ℕ) → Front → Front → List (List ℕ) → Said
-fork_said names (Some set) (Some None) (name ∷ []) =
+unfoldable pub fork_said : List (List ℕ) → Front ℕ → Front ℕ → List (List ℕ) → Said
+fork_said names (Gives set) (Gives None) (name ∷ []) =
     if is_name name then Forks set (number_of names name) else Bad
 fork_said names _ _ _ = Bad
 
@@ -79,33 +80,33 @@ said_from set tries None = Bad
 said_from set tries (Some call) = line_with set tries call
 
 -- `exit N` goes with neither `VAR =` nor `try`
-unfoldable pub exit_said : Front → Front → Option FromCall → Said
-exit_said (Some None) (Some None) call = said_from None None call
+unfoldable pub exit_said : Front ℕ → Front ℕ → Option FromCall → Said
+exit_said (Gives None) (Gives None) call = said_from None None call
 exit_said _ _ call = Bad
 
-unfoldable pub other_said : Front → Front → Option FromCall → Said
-other_said (Some set) (Some tries) call = said_from set tries call
+unfoldable pub other_said : Front ℕ → Front ℕ → Option FromCall → Said
+other_said (Gives set) (Gives tries) call = said_from set tries call
 other_said _ _ call = Bad
 
 -- a call of this name, with these words behind the name
-unfoldable pub verb_said : List (List ℕ) → Front → Front → Verb → List (List ℕ) → Said
+unfoldable pub verb_said : List (List ℕ) → Front ℕ → Front ℕ → Verb → List (List ℕ) → Said
 verb_said names set tries verbs.Fork words = fork_said names set tries words
 verb_said names set tries verbs.Exit words = exit_said set tries (call_of verbs.Exit words)
 verb_said names set tries verb words = other_said set tries (call_of verb words)
 
-abbrev pub named_said : List (List ℕ) → Front → Front → Option Verb → List (List ℕ) → Said
+abbrev pub named_said : List (List ℕ) → Front ℕ → Front ℕ → Option Verb → List (List ℕ) → Said
 named_said names set tries None words = Unknown
 named_said names set tries (Some verb) words = verb_said names set tries verb words
 
 -- the call behind `VAR =` and `try N`. A line that ends before the call's name is bad
-unfoldable pub call_said : List (List ℕ) → Front → Front → List (List ℕ) → Said
+unfoldable pub call_said : List (List ℕ) → Front ℕ → Front ℕ → List (List ℕ) → Said
 call_said names set tries [] = Bad
 call_said names set tries (name ∷ words) = named_said names set tries (verb_of name) words
 
 unfoldable pub line_said : List (List ℕ) → List (List ℕ) → Said
 line_said names words =
-    let front : Front × List (List ℕ) = set_at words in
-    let behind : Front × List (List ℕ) = tries_at front.1 in
+    let front : Front ℕ × List (List ℕ) = set_at words in
+    let behind : Front ℕ × List (List ℕ) = tries_at front.1 in
     call_said names front.0 behind.0 behind.1
 
 -- ---- lines

@@ -17,8 +17,7 @@ is_blank b = b == 32 || (b == 9 || b == 13)
 abbrev pub Marks : (ℕ → Bool) → List ℕ → ℕ → Type 0
 Marks p bytes mask = (k : ℕ) → k < length bytes → k < 64 → bit_at mask k ≡ (if p (slice_index bytes k) then 1 else 0)
 
--- Two masks part the words of a line: of the one, which bytes are blanks, or the line's end; of the other, which aren't
--- blanks.
+-- Two masks part the words of a line: one tells which bytes are blanks, or the line's end, and one which aren't blanks.
 pub record PartWords (line : List ℕ) (ends solids : ℕ) : Type 0 where
   pub short : length line < 64
   pub blanks : Marks is_blank line ends

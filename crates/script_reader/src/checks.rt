@@ -12,7 +12,7 @@ use crate::says::Said;
 use pico_base::{Call, Line, SemStep, Var};
 
 /// The longest line, without its line feed.
-const MAX_LINE: usize = 4096;
+pub const MAX_LINE: usize = 4096;
 
 /// The most calls of a script.
 const MAX_CALLS: usize = 20_000;

@@ -16,8 +16,8 @@ use crate::verb::Verb;
 use pico_base::Memory;
 use std::alloc::Global;
 
-/// Puts a line with the call of this name with these words behind it, but for `fork`, in the place of what another line
-/// said.
+/// Puts the line of a call in the place of what another line said: that of this name, with these words behind it.
+/// `fork` is none of them.
 #[inline(always)]
 pub(crate) fn put_call(
     alloc: Global,

@@ -18,10 +18,11 @@ mod texts;
 mod verb;
 mod words;
 
+pub use checks::MAX_LINE;
 pub use fault::{ScriptFault, ScriptStop};
 // The definitions speak of these.
 pub use place::{Begun, Place};
-pub use says::Said;
+pub use says::{Front, Said};
 pub use script::read_script;
 pub use verb::Verb;
 pub use words::{next_line, next_word};

@@ -40,8 +40,14 @@ pub enum Said {
     Calls(Line),
 }
 
-/// What may stand in front of a call: none where it is there and wrong, and `Some(None)` where it isn't there.
-type Front<T> = Option<Option<T>>;
+/// What may stand in front of a call.
+#[derive(Clone, Copy)]
+pub enum Front<T> {
+    /// It stands there, and is wrong.
+    Wrong,
+    /// What it gives, or nothing where it doesn't stand there.
+    Gives(Option<T>),
+}
 
 /// `VAR =`, and the words behind it.
 #[tactic(auto, unfolding(crate::specs::Says::set_at))]
@@ -50,10 +56,10 @@ fn set_front<'a, 'b>(words: &'b [&'a [u8]]) -> (Front<Var>, &'b [&'a [u8]])
 {
     match words {
         [v, e, rest @ ..] if *e == b"=".as_slice() => match variable(v) {
-            None => (None, rest),
-            Some(variable) => (Some(Some(variable)), rest),
+            None => (Front::Wrong, rest),
+            Some(variable) => (Front::Gives(Some(variable)), rest),
         },
-        _ => (Some(None), words),
+        _ => (Front::Gives(None), words),
     }
 }
 
@@ -64,11 +70,11 @@ fn tries_front<'a, 'b>(words: &'b [&'a [u8]]) -> (Front<u32>, &'b [&'a [u8]])
 {
     match words {
         [t, n, rest @ ..] if *t == b"try".as_slice() => match positive(MAX_TRIES, n) {
-            None => (None, rest),
-            Some(tries) => (Some(Some(tries)), rest),
+            None => (Front::Wrong, rest),
+            Some(tries) => (Front::Gives(Some(tries)), rest),
         },
-        [t] if *t == b"try".as_slice() => (None, &[]),
-        _ => (Some(None), words),
+        [t] if *t == b"try".as_slice() => (Front::Wrong, &[]),
+        _ => (Front::Gives(None), words),
     }
 }
 
@@ -78,7 +84,7 @@ fn fork(names: &Names, set: Front<Var>, tries: Front<u32>, words: &[&[u8]]) -> S
     ensures { result ≡ says.fork_said names.now set tries (texts words.now) }
 {
     match (set, tries, words) {
-        (Some(set), Some(None), [name]) if is_block_name(name) => {
+        (Front::Gives(set), Front::Gives(None), [name]) if is_block_name(name) => {
             Said::Forks(set, names.number(name))
         }
         _ => Said::Bad,
@@ -117,7 +123,7 @@ fn exit_line(set: Front<Var>, tries: Front<u32>, words: &[&[u8]], said: &mut Sai
     ensures { said.new ≡ says.exit_said set tries (forms.exit_of (texts words.now)) }
 {
     match (set, tries) {
-        (Some(None), Some(None)) => {
+        (Front::Gives(None), Front::Gives(None)) => {
             let front = CallFront {
                 set: None,
                 tries: None,
@@ -142,7 +148,7 @@ fn other_line(
     ensures { OnOk result (said.new ≡ says.other_said set tries (forms.call_of verb (texts words.now))) }
 {
     match (set, tries) {
-        (Some(set), Some(tries)) => {
+        (Front::Gives(set), Front::Gives(tries)) => {
             let front = CallFront { set, tries };
             put_call(alloc, &front, verb, words, said)?;
         }
@@ -215,8 +221,8 @@ fn fronted_line(
 /// Whether neither `VAR =` nor `try N` stands in front of the call.
 #[tactic(auto, unfolding(crate::specs::Says::set_at, crate::specs::Says::tries_at))]
 fn is_bare(words: &[&[u8]]) -> bool
-    ensures set { result ≡ true → says.set_at (texts words.now) ≡ (Some None, texts words.now) }
-    ensures tries { result ≡ true → says.tries_at (texts words.now) ≡ (Some None, texts words.now) }
+    ensures set { result ≡ true → says.set_at (texts words.now) ≡ (says.nothing, texts words.now) }
+    ensures tries { result ≡ true → says.tries_at (texts words.now) ≡ (says.nothing, texts words.now) }
 {
     match words {
         [] => true,
@@ -231,7 +237,14 @@ fn line(alloc: Global, names: &Names, words: &[&[u8]], said: &mut Said) -> Resul
     ensures { OnOk result (said.new ≡ says.line_said names.now (texts words.now)) }
 {
     if is_bare(words) {
-        call_line(alloc, names, Some(None), Some(None), words, said)
+        call_line(
+            alloc,
+            names,
+            Front::Gives(None),
+            Front::Gives(None),
+            words,
+            said,
+        )
     } else {
         fronted_line(alloc, names, words, said)
     }

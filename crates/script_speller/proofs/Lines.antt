@@ -13,6 +13,8 @@ use Rattle.kernel_model.specs.Fitting.{block_at}
 use Rattle.kernel_model.specs.Trace.{name_of_block}
 use Rattle.script_reader.specs.declared.verb.Verb.{Verb}
 use Rattle.script_reader.specs.declared.verb.Verb.TheVariants as verbs
+use Rattle.script_reader.specs.declared.says.Front.{Front}
+use Rattle.script_reader.specs.declared.says.Front.TheVariants.{Wrong, Gives}
 use Rattle.script_reader.specs.declared.says.Said.{Said}
 use Rattle.script_reader.specs.declared.says.Said.TheVariants.{Skipped, BadProc, Ends, Unknown, Bad, Forks, Calls}
 use Rattle.script_reader.specs.Words.{words_of}
@@ -20,7 +22,7 @@ use Rattle.script_reader.specs.Words.Stretch.{plain}
 use Rattle.script_reader.specs.Parts.{positive, variable}
 use Rattle.script_reader.specs.Forms.{FromCall, verb_name, verb_of, all_verbs, call_of}
 use Rattle.script_reader.specs.Says as says
-use Rattle.script_reader.specs.Says.{Front, number_of, said_of}
+use Rattle.script_reader.specs.Says.{number_of, said_of}
 use Rattle.script_reader.specs.Fault.{is_call, fork_line, node_of}
 use Rattle.script_reader.proofs.Widths.{width, line_width}
 use Rattle.script_speller.specs.Spelling.{variable_text, call_name, arguments, behind_blanks, separated, set_front, tries_front, line_text}
@@ -154,8 +156,8 @@ argument_words (w ∷ ws) h = (argument_word w h.0, argument_words ws h.1)
 -- ---- a line's words are read
 
 -- how often a line is tried, as it is read from its spelling
-abbrev tries_again : ℕ → Front
-tries_again n = cond (eqb n 1) (Some None) (Some (Some n))
+abbrev tries_again : ℕ → Front ℕ
+tries_again n = cond (eqb n 1) (Gives None) (Gives (Some n))
 
 record IsSetAgain (v : ℕ) : Type 0 where
   read : variable (variable_text v) ≡ Some v
@@ -183,19 +185,19 @@ tries_at_none w [] h = rw h refl
 tries_at_none w (x ∷ ws) h = rw h refl
 
 tries_at_try : (n : ℕ) (rest : List (List ℕ)) → positive 20000 (decimal n) ≡ Some n
-    → says.tries_at (codes "try" ∷ decimal n ∷ rest) ≡ (Some (Some n), rest)
+    → says.tries_at (codes "try" ∷ decimal n ∷ rest) ≡ (Gives (Some n), rest)
 unfolding says.tries_at
 tries_at_try n rest h = rw h refl
 
 -- the call behind both fronts
-behind_fronts : (names : List (List ℕ)) (ws rest : List (List ℕ)) (front : Front × List (List ℕ)) (tries : Front)
+behind_fronts : (names : List (List ℕ)) (ws rest : List (List ℕ)) (front : Front ℕ × List (List ℕ)) (tries : Front ℕ)
     → says.set_at ws ≡ front → says.tries_at front.1 ≡ (tries, rest)
     → says.line_said names ws ≡ says.call_said names front.0 tries rest
 unfolding says.line_said
 behind_fronts names ws rest front tries e f = rw (e, f) refl
 
 module _ (names : List (List ℕ)) (verb : Verb) (args : List (List ℕ)) (words : AreArguments args) where
-  name_said : (set tries : Front) → says.call_said names set tries (verb_name verb ∷ args)
+  name_said : (set tries : Front ℕ) → says.call_said names set tries (verb_name verb ∷ args)
       ≡ says.verb_said names set tries verb args
   unfolding says.call_said
   name_said set tries = rw (verb_is verb).0 refl
@@ -207,7 +209,7 @@ module _ (names : List (List ℕ)) (verb : Verb) (args : List (List ℕ)) (words
     where
       of : (c : Bool) → eqb n 1 ≡ c
           → says.tries_at (cond c [] (codes "try" ∷ decimal n ∷ []) ++ verb_name verb ∷ args)
-          ≡ (cond c (Some None) (Some (Some n)), verb_name verb ∷ args)
+          ≡ (cond c (Gives None) (Gives (Some n)), verb_name verb ∷ args)
       of true e = tries_at_none (verb_name verb) args (verb_is verb).1
       of false e = tries_at_try n (verb_name verb ∷ args) (h e).0
 
@@ -232,27 +234,27 @@ module _ (names : List (List ℕ)) (verb : Verb) (args : List (List ℕ)) (words
       of false = head_said names (codes "try") (decimal n ∷ verb_name verb ∷ args) try_head
 
   set_said : (v : ℕ) (rest : List (List ℕ)) → variable (variable_text v) ≡ Some v
-      → says.set_at (variable_text v ∷ codes "=" ∷ rest) ≡ (Some (Some v), rest)
+      → says.set_at (variable_text v ∷ codes "=" ∷ rest) ≡ (Gives (Some v), rest)
   unfolding says.set_at
   set_said v rest h = rw h refl
 
   -- a line's words say its call
   words_said_again : (set : Option ℕ) (n : ℕ) → IfSome set IsSetAgain → IsTriesAgain n
       → says.words_said names (all_words set n (verb_name verb) args)
-      ≡ says.verb_said names (Some set) (tries_again n) verb args
+      ≡ says.verb_said names (Gives set) (tries_again n) verb args
   words_said_again None n s t =
       let tail : List (List ℕ) = tried_words n (verb_name verb) args in
       tried_head n
       ∙ behind_fronts names tail (verb_name verb ∷ args) (says.nothing, tail) (tries_again n) (no_set n t)
       (tried_said n t)
-      ∙ name_said (Some None) (tries_again n)
+      ∙ name_said (Gives None) (tries_again n)
   words_said_again (Some v) n s t =
       let tail : List (List ℕ) = tried_words n (verb_name verb) args in
       let whole : List (List ℕ) = variable_text v ∷ codes "=" ∷ tail in
       head_said names (variable_text v) (codes "=" ∷ tail) s.head
-      ∙ behind_fronts names whole (verb_name verb ∷ args) (Some (Some v), tail) (tries_again n)
+      ∙ behind_fronts names whole (verb_name verb ∷ args) (Gives (Some v), tail) (tries_again n)
       (set_said v tail s.read) (tried_said n t)
-      ∙ name_said (Some (Some v)) (tries_again n)
+      ∙ name_said (Gives (Some v)) (tries_again n)
 
   tried_are_words : (n : ℕ) → IsTriesAgain n → AreWords (tried_words n (verb_name verb) args)
   tried_are_words n h = of (eqb n 1) refl
@@ -315,14 +317,14 @@ verb_named name verb e =
     sym ((bytes_eq-Decides (verb_name verb) name).0 (of_some (find (λ v. bytes_eq (verb_name v) name) all_verbs)
     (λ v. bytes_eq (verb_name v) name ≡ true) (found (λ v. bytes_eq (verb_name v) name) all_verbs) verb e))
 
-record CallParted (names : List (List ℕ)) (set tries : Front) (ws : List (List ℕ)) (s : Said) : Type 0 where
+record CallParted (names : List (List ℕ)) (set tries : Front ℕ) (ws : List (List ℕ)) (s : Said) : Type 0 where
   verb : Verb
   args : List (List ℕ)
   whole : ws ≡ verb_name verb ∷ args
   said : says.verb_said names set tries verb args ≡ s
 
 -- the call's name and the words behind it
-call_parted : (names : List (List ℕ)) (set tries : Front) (ws : List (List ℕ)) (s : Said) → is_call s ≡ true
+call_parted : (names : List (List ℕ)) (set tries : Front ℕ) (ws : List (List ℕ)) (s : Said) → is_call s ≡ true
     → says.call_said names set tries ws ≡ s → CallParted names set tries ws s
 unfolding says.call_said
 call_parted names set tries [] s is e = absurd (no_call Bad s refl is e)
@@ -339,8 +341,8 @@ call_parted names set tries (name ∷ args) s is e = of (verb_of name) refl e
           said = g;
         }
 
-bad_set : (names : List (List ℕ)) (tries : Front) (verb : Verb) (args : List (List ℕ))
-    → is_call (says.verb_said names None tries verb args) ≡ false
+bad_set : (names : List (List ℕ)) (tries : Front ℕ) (verb : Verb) (args : List (List ℕ))
+    → is_call (says.verb_said names Wrong tries verb args) ≡ false
 unfolding says.verb_said says.fork_said says.exit_said says.other_said
 bad_set names tries verbs.Fork args = refl
 bad_set names tries verbs.Exit args = refl
@@ -360,7 +362,7 @@ bad_set names tries verbs.SemOp args = refl
 bad_set names tries verbs.SemCtl args = refl
 
 bad_tries : (names : List (List ℕ)) (set : Option ℕ) (verb : Verb) (args : List (List ℕ))
-    → is_call (says.verb_said names (Some set) None verb args) ≡ false
+    → is_call (says.verb_said names (Gives set) Wrong verb args) ≡ false
 unfolding says.verb_said says.fork_said says.exit_said says.other_said
 bad_tries names set verbs.Fork args = refl
 bad_tries names None verbs.Exit args = refl
@@ -386,12 +388,12 @@ record TriesParted (names : List (List ℕ)) (set : Option ℕ) (ws : List (List
   args : List (List ℕ)
   again : IsTriesAgain (unwrap_or tries 1)
   short : width (tries_words (unwrap_or tries 1)) + width (verb_name verb ∷ args) ≤ width ws
-  said : says.verb_said names (Some set) (Some tries) verb args ≡ s
+  said : says.verb_said names (Gives set) (Gives tries) verb args ≡ s
 
 none_tried : (names : List (List ℕ)) (set : Option ℕ) (ws : List (List ℕ)) (s : Said) → is_call s ≡ true
-    → says.call_said names (Some set) (Some None) ws ≡ s → TriesParted names set ws s
+    → says.call_said names (Gives set) (Gives None) ws ≡ s → TriesParted names set ws s
 none_tried names set ws s is e =
-    let c = call_parted names (Some set) (Some None) ws s is e in
+    let c = call_parted names (Gives set) (Gives None) ws s is e in
     let size : width ws ≡ width (verb_name c.verb ∷ c.args) = ap width c.whole in
     record {
       tries = None;
@@ -411,18 +413,18 @@ tries_width m = of (eqb m 1)
 
 some_tried : (names : List (List ℕ)) (set : Option ℕ) (t n : List ℕ) (rest : List (List ℕ)) (s : Said)
     → is_call s ≡ true → bytes_eq t (codes "try") ≡ true
-    → says.call_said names (Some set) (says.given (positive 20000 n)) rest ≡ s
+    → says.call_said names (Gives set) (says.given (positive 20000 n)) rest ≡ s
     → TriesParted names set (t ∷ n ∷ rest) s
 some_tried names set t n rest s is head e = of (positive 20000 n) refl e
   where
-    of : (o : Option ℕ) → positive 20000 n ≡ o → says.call_said names (Some set) (says.given o) rest ≡ s
+    of : (o : Option ℕ) → positive 20000 n ≡ o → says.call_said names (Gives set) (says.given o) rest ≡ s
         → TriesParted names set (t ∷ n ∷ rest) s
     of None f g =
-        let c = call_parted names (Some set) None rest s is g in
-        absurd (no_call (says.verb_said names (Some set) None c.verb c.args) s (bad_tries names set c.verb c.args) is
+        let c = call_parted names (Gives set) Wrong rest s is g in
+        absurd (no_call (says.verb_said names (Gives set) Wrong c.verb c.args) s (bad_tries names set c.verb c.args) is
         c.said)
     of (Some m) f g =
-        let c = call_parted names (Some set) (Some (Some m)) rest s is g in
+        let c = call_parted names (Gives set) (Gives (Some m)) rest s is g in
         let try : t ≡ codes "try" = (bytes_eq-Decides t (codes "try")).0 head in
         let number : Spelt n (decimal m) =
         (of_some (positive 20000 n) (λ k. Spelt n (decimal k) × (1 ≤ k)) (positive_spelt 20000 n (omega arith)) m f).0
@@ -438,26 +440,26 @@ some_tried names set t n rest s is head e = of (positive 20000 n) refl e
 
 -- `try N`, where it is there
 tries_parted : (names : List (List ℕ)) (set : Option ℕ) (ws : List (List ℕ)) (s : Said) → is_call s ≡ true
-    → says.call_said names (Some set) (says.tries_at ws).0 (says.tries_at ws).1 ≡ s → TriesParted names set ws s
+    → says.call_said names (Gives set) (says.tries_at ws).0 (says.tries_at ws).1 ≡ s → TriesParted names set ws s
 unfolding says.tries_at
 tries_parted names set [] s is e = none_tried names set [] s is e
 tries_parted names set (t ∷ []) s is e = of (bytes_eq t (codes "try")) e
   where
-    read : Bool → Front × List (List ℕ)
-    read b = cond b (None, []) (says.nothing, t ∷ [])
+    read : Bool → Front ℕ × List (List ℕ)
+    read b = cond b (Wrong, []) (says.nothing, t ∷ [])
 
-    of : (b : Bool) → says.call_said names (Some set) (read b).0 (read b).1 ≡ s → TriesParted names set (t ∷ []) s
+    of : (b : Bool) → says.call_said names (Gives set) (read b).0 (read b).1 ≡ s → TriesParted names set (t ∷ []) s
     of true g =
-        let c = call_parted names (Some set) None [] s is g in
-        absurd (no_call (says.verb_said names (Some set) None c.verb c.args) s (bad_tries names set c.verb c.args) is
+        let c = call_parted names (Gives set) Wrong [] s is g in
+        absurd (no_call (says.verb_said names (Gives set) Wrong c.verb c.args) s (bad_tries names set c.verb c.args) is
         c.said)
     of false g = none_tried names set (t ∷ []) s is g
 tries_parted names set (t ∷ n ∷ rest) s is e = of (bytes_eq t (codes "try")) refl e
   where
-    read : Bool → Front × List (List ℕ)
+    read : Bool → Front ℕ × List (List ℕ)
     read b = cond b (says.given (positive 20000 n), rest) (says.nothing, t ∷ n ∷ rest)
 
-    of : (b : Bool) → bytes_eq t (codes "try") ≡ b → says.call_said names (Some set) (read b).0 (read b).1 ≡ s
+    of : (b : Bool) → bytes_eq t (codes "try") ≡ b → says.call_said names (Gives set) (read b).0 (read b).1 ≡ s
         → TriesParted names set (t ∷ n ∷ rest) s
     of true head g = some_tried names set t n rest s is head g
     of false head g = none_tried names set (t ∷ n ∷ rest) s is g
@@ -470,10 +472,10 @@ record Parted (names ws : List (List ℕ)) (s : Said) : Type 0 where
   set_again : IfSome set IsSetAgain
   tries_are : IsTriesAgain (unwrap_or tries 1)
   short : width (set_words set) + (width (tries_words (unwrap_or tries 1)) + width (verb_name verb ∷ args)) ≤ width ws
-  said : says.verb_said names (Some set) (Some tries) verb args ≡ s
+  said : says.verb_said names (Gives set) (Gives tries) verb args ≡ s
 
 none_set : (names ws : List (List ℕ)) (s : Said) → is_call s ≡ true
-    → says.call_said names (Some None) (says.tries_at ws).0 (says.tries_at ws).1 ≡ s → Parted names ws s
+    → says.call_said names (Gives None) (says.tries_at ws).0 (says.tries_at ws).1 ≡ s → Parted names ws s
 none_set names ws s is e =
     let p = tries_parted names None ws s is e in
     record {
@@ -497,9 +499,10 @@ some_set names v e rest s is head equals g = of (variable v) refl g
         → says.call_said names (says.given o) (says.tries_at rest).0 (says.tries_at rest).1 ≡ s
         → Parted names (v ∷ e ∷ rest) s
     of None f h =
-        let tries : Front = (says.tries_at rest).0 in
-        let c = call_parted names None tries (says.tries_at rest).1 s is h in
-        absurd (no_call (says.verb_said names None tries c.verb c.args) s (bad_set names tries c.verb c.args) is c.said)
+        let tries : Front ℕ = (says.tries_at rest).0 in
+        let c = call_parted names Wrong tries (says.tries_at rest).1 s is h in
+        absurd (no_call (says.verb_said names Wrong tries c.verb c.args) s (bad_set names tries c.verb c.args) is
+        c.said)
     of (Some x) f h =
         let p = tries_parted names (Some x) rest s is h in
         let name : IsVariable v x = of_some (variable v) (IsVariable v) (variable_spelt v) x f in
@@ -527,7 +530,7 @@ unfolding says.line_said says.set_at
 line_parted names w [] s is head e = none_set names (w ∷ []) s is e
 line_parted names w (x ∷ rest) s is head e = of (bytes_eq x (codes "=")) refl e
   where
-    read : Bool → Front × List (List ℕ)
+    read : Bool → Front ℕ × List (List ℕ)
     read b = cond b (says.given (variable w), rest) (says.nothing, w ∷ x ∷ rest)
 
     of : (b : Bool) → bytes_eq x (codes "=") ≡ b
@@ -553,7 +556,7 @@ record ArgsAgain (names : List (List ℕ)) (script : Script) (set : Option ℕ) 
   name_is : call_name line.call ≡ verb_name verb
   words : AreArguments (arguments script line.from line.call)
   short : width (arguments script line.from line.call) ≤ width args
-  said : says.verb_said names (Some set) (tries_again n) verb (arguments script line.from line.call) ≡ s
+  said : says.verb_said names (Gives set) (tries_again n) verb (arguments script line.from line.call) ≡ s
 
 -- a line of such words says the same, and is no longer
 pub record SaidAgain (names : List (List ℕ)) (line : List ℕ) (s : Said) (text : List ℕ) : Type 0 where
@@ -617,7 +620,7 @@ record ForkArgs (names : List (List ℕ)) (set tries made : Option ℕ) (args : 
   once : tries ≡ None
 
 fork_args : (names : List (List ℕ)) (set tries : Option ℕ) (args : List (List ℕ)) (made : Option ℕ) (number : ℕ)
-    → says.fork_said names (Some set) (Some tries) args ≡ Forks made (Some number)
+    → says.fork_said names (Gives set) (Gives tries) args ≡ Forks made (Some number)
     → ForkArgs names set tries made args number
 unfolding says.fork_said
 fork_args names set (Some n) args made number e = absurd cc
@@ -657,7 +660,7 @@ Names names script =
 
 spelled_fork : (names : List (List ℕ)) (script : Script) (set tries : Option ℕ) (args : List (List ℕ))
     (made : Option ℕ) (number : ℕ) → Names names script → node_of number ≡ number
-    → says.fork_said names (Some set) (Some tries) args ≡ Forks made (Some number)
+    → says.fork_said names (Gives set) (Gives tries) args ≡ Forks made (Some number)
     → ArgsAgain names script set (unwrap_or tries 1) verbs.Fork args (fork_line made number) (Forks made (Some number))
 unfolding says.verb_said says.fork_said
 spelled_fork names script set tries args made number are node e =
@@ -680,12 +683,12 @@ no_forks set tries None made number e = cc
 no_forks set tries (Some c) made number e = cc
 
 no_forks_other : (set tries : Option ℕ) (o : Option FromCall) (made number : Option ℕ)
-    → says.other_said (Some set) (Some tries) o ≡ Forks made number → ⊥
+    → says.other_said (Gives set) (Gives tries) o ≡ Forks made number → ⊥
 unfolding says.other_said
 no_forks_other set tries o made number e = no_forks set tries o made number e
 
 no_forks_exit : (set tries : Option ℕ) (o : Option FromCall) (made number : Option ℕ)
-    → says.exit_said (Some set) (Some tries) o ≡ Forks made number → ⊥
+    → says.exit_said (Gives set) (Gives tries) o ≡ Forks made number → ⊥
 unfolding says.exit_said
 no_forks_exit None None o made number e = no_forks None None o made number e
 no_forks_exit (Some v) tries o made number e = cc
@@ -693,7 +696,7 @@ no_forks_exit None (Some n) o made number e = cc
 
 fork_again : (names : List (List ℕ)) (script : Script) (set tries : Option ℕ) (verb : Verb) (args : List (List ℕ))
     (made : Option ℕ) (number : ℕ) → Names names script → node_of number ≡ number
-    → says.verb_said names (Some set) (Some tries) verb args ≡ Forks made (Some number)
+    → says.verb_said names (Gives set) (Gives tries) verb args ≡ Forks made (Some number)
     → ArgsAgain names script set (unwrap_or tries 1) verb args (fork_line made number) (Forks made (Some number))
 unfolding says.verb_said
 fork_again names script set tries verbs.Fork args made number are node e =
@@ -735,12 +738,12 @@ abbrev line_from : Option ℕ → ℕ → FromCall → Line
 line_from set n c = record { set = set; tries = n; from = c.0; call = c.1 }
 
 other_line : (set tries : Option ℕ) (c : FromCall)
-    → says.other_said (Some set) (tries_again (unwrap_or tries 1)) (Some c) ≡ says.line_with set tries c
+    → says.other_said (Gives set) (tries_again (unwrap_or tries 1)) (Some c) ≡ says.line_with set tries c
 unfolding says.other_said
 other_line set tries c = of (eqb (unwrap_or tries 1) 1) refl
   where
     of : (b : Bool) → eqb (unwrap_or tries 1) 1 ≡ b
-        → says.other_said (Some set) (cond b (Some None) (Some (Some (unwrap_or tries 1)))) (Some c)
+        → says.other_said (Gives set) (cond b (Gives None) (Gives (Some (unwrap_or tries 1)))) (Some c)
         ≡ says.line_with set tries c
     of true e = ap (λ (k : ℕ). Calls (line_from set k c)) (sym (eqb-true (unwrap_or tries 1) 1 e))
     of false e = refl
@@ -748,7 +751,7 @@ other_line set tries c = of (eqb (unwrap_or tries 1) 1) refl
 -- the line that a call gives
 given_line : (names : List (List ℕ)) (script : Script) (set tries : Option ℕ) (verb : Verb) (args : List (List ℕ))
     (c : FromCall) (line : Line) (s : Said) → Again script verb args c
-    → says.verb_said names (Some set) (tries_again (unwrap_or tries 1)) verb (arguments script c.0 c.1)
+    → says.verb_said names (Gives set) (tries_again (unwrap_or tries 1)) verb (arguments script c.0 c.1)
     ≡ says.line_with set tries c → says.line_with set tries c ≡ s → s ≡ Calls line
     → ArgsAgain names script set (unwrap_or tries 1) verb args line s
 given_line names script set tries verb args c line s a said e f =
@@ -765,27 +768,27 @@ given_line names script set tries verb args c line s a said e f =
 
 other_again : (names : List (List ℕ)) (script : Script) (set tries : Option ℕ) (verb : Verb) (args : List (List ℕ))
     (line : Line) → width args ≤ 4097
-    → ((front : Front) (ws : List (List ℕ)) → says.verb_said names (Some set) front verb ws
-    ≡ says.other_said (Some set) front (call_of verb ws))
-    → says.verb_said names (Some set) (Some tries) verb args ≡ Calls line
+    → ((front : Front ℕ) (ws : List (List ℕ)) → says.verb_said names (Gives set) front verb ws
+    ≡ says.other_said (Gives set) front (call_of verb ws))
+    → says.verb_said names (Gives set) (Gives tries) verb args ≡ Calls line
     → ArgsAgain names script set (unwrap_or tries 1) verb args line (Calls line)
 unfolding says.other_said
 other_again names script set tries verb args line room other e =
-    of (call_of verb args) refl (sym (other (Some tries) args) ∙ e)
+    of (call_of verb args) refl (sym (other (Gives tries) args) ∙ e)
   where
-    of : (o : Option FromCall) → call_of verb args ≡ o → says.other_said (Some set) (Some tries) o ≡ Calls line
+    of : (o : Option FromCall) → call_of verb args ≡ o → says.other_said (Gives set) (Gives tries) o ≡ Calls line
         → ArgsAgain names script set (unwrap_or tries 1) verb args line (Calls line)
     of None f g = absurd cc
     of (Some c) f g =
         let a : Again script verb args c =
         of_some (call_of verb args) (Again script verb args) (call_again script verb args room) c f in
-        let n : Front = tries_again (unwrap_or tries 1) in
+        let n : Front ℕ = tries_again (unwrap_or tries 1) in
         given_line names script set tries verb args c line (Calls line) a
-        (other n (arguments script c.0 c.1) ∙ ap (says.other_said (Some set) n) a.again ∙ other_line set tries c)
+        (other n (arguments script c.0 c.1) ∙ ap (says.other_said (Gives set) n) a.again ∙ other_line set tries c)
         g refl
 
 exit_again : (names : List (List ℕ)) (script : Script) (set tries : Option ℕ) (args : List (List ℕ)) (line : Line)
-    → width args ≤ 4097 → says.exit_said (Some set) (Some tries) (call_of verbs.Exit args) ≡ Calls line
+    → width args ≤ 4097 → says.exit_said (Gives set) (Gives tries) (call_of verbs.Exit args) ≡ Calls line
     → ArgsAgain names script set (unwrap_or tries 1) verbs.Exit args line (Calls line)
 unfolding says.exit_said says.verb_said
 exit_again names script (Some v) tries args line room e = absurd cc
@@ -802,7 +805,7 @@ exit_again names script None None args line room e = of (call_of verbs.Exit args
         (ap (says.said_from None None) a.again) g refl
 
 no_call_fork : (names : List (List ℕ)) (set tries : Option ℕ) (args : List (List ℕ)) (line : Line)
-    → says.fork_said names (Some set) (Some tries) args ≡ Calls line → ⊥
+    → says.fork_said names (Gives set) (Gives tries) args ≡ Calls line → ⊥
 unfolding says.fork_said
 no_call_fork names set (Some n) args line e = cc
 no_call_fork names set None [] line e = cc
@@ -814,7 +817,7 @@ no_call_fork names set None (name ∷ []) line e = of (is_name name) e
 no_call_fork names set None (name ∷ x ∷ args) line e = cc
 
 line_again : (names : List (List ℕ)) (script : Script) (set tries : Option ℕ) (verb : Verb) (args : List (List ℕ))
-    (line : Line) → width args ≤ 4097 → says.verb_said names (Some set) (Some tries) verb args ≡ Calls line
+    (line : Line) → width args ≤ 4097 → says.verb_said names (Gives set) (Gives tries) verb args ≡ Calls line
     → ArgsAgain names script set (unwrap_or tries 1) verb args line (Calls line)
 unfolding says.verb_said
 line_again names script set tries verbs.Fork args line room e = absurd (no_call_fork names set tries args line e)
@@ -873,39 +876,39 @@ abbrev is_end : Said → Bool
 is_end Ends = true
 is_end said = false
 
-fork_no_end : (names : List (List ℕ)) (set tries : Front) (ws : List (List ℕ))
+fork_no_end : (names : List (List ℕ)) (set tries : Front ℕ) (ws : List (List ℕ))
     → is_end (says.fork_said names set tries ws) ≡ false
 unfolding says.fork_said
-fork_no_end names None tries ws = refl
-fork_no_end names (Some set) None ws = refl
-fork_no_end names (Some set) (Some (Some n)) ws = refl
-fork_no_end names (Some set) (Some None) [] = refl
-fork_no_end names (Some set) (Some None) (name ∷ []) = of (is_name name)
+fork_no_end names Wrong tries ws = refl
+fork_no_end names (Gives set) Wrong ws = refl
+fork_no_end names (Gives set) (Gives (Some n)) ws = refl
+fork_no_end names (Gives set) (Gives None) [] = refl
+fork_no_end names (Gives set) (Gives None) (name ∷ []) = of (is_name name)
   where
     of : (b : Bool) → is_end (cond b (Forks set (number_of names name)) Bad) ≡ false
     of true = refl
     of false = refl
-fork_no_end names (Some set) (Some None) (name ∷ x ∷ ws) = refl
+fork_no_end names (Gives set) (Gives None) (name ∷ x ∷ ws) = refl
 
 said_from_no_end : (set tries : Option ℕ) (o : Option FromCall) → is_end (says.said_from set tries o) ≡ false
 said_from_no_end set tries None = refl
 said_from_no_end set tries (Some c) = refl
 
-exit_no_end : (set tries : Front) (o : Option FromCall) → is_end (says.exit_said set tries o) ≡ false
+exit_no_end : (set tries : Front ℕ) (o : Option FromCall) → is_end (says.exit_said set tries o) ≡ false
 unfolding says.exit_said
-exit_no_end None tries o = refl
-exit_no_end (Some (Some v)) tries o = refl
-exit_no_end (Some None) None o = refl
-exit_no_end (Some None) (Some (Some n)) o = refl
-exit_no_end (Some None) (Some None) o = said_from_no_end None None o
+exit_no_end Wrong tries o = refl
+exit_no_end (Gives (Some v)) tries o = refl
+exit_no_end (Gives None) Wrong o = refl
+exit_no_end (Gives None) (Gives (Some n)) o = refl
+exit_no_end (Gives None) (Gives None) o = said_from_no_end None None o
 
-other_no_end : (set tries : Front) (o : Option FromCall) → is_end (says.other_said set tries o) ≡ false
+other_no_end : (set tries : Front ℕ) (o : Option FromCall) → is_end (says.other_said set tries o) ≡ false
 unfolding says.other_said
-other_no_end None tries o = refl
-other_no_end (Some set) None o = refl
-other_no_end (Some set) (Some tries) o = said_from_no_end set tries o
+other_no_end Wrong tries o = refl
+other_no_end (Gives set) Wrong o = refl
+other_no_end (Gives set) (Gives tries) o = said_from_no_end set tries o
 
-verb_no_end : (names : List (List ℕ)) (set tries : Front) (verb : Verb) (ws : List (List ℕ))
+verb_no_end : (names : List (List ℕ)) (set tries : Front ℕ) (verb : Verb) (ws : List (List ℕ))
     → is_end (says.verb_said names set tries verb ws) ≡ false
 unfolding says.verb_said
 verb_no_end names set tries verbs.Fork ws = fork_no_end names set tries ws
@@ -925,7 +928,7 @@ verb_no_end names set tries verbs.SemGet ws = other_no_end set tries (call_of ve
 verb_no_end names set tries verbs.SemOp ws = other_no_end set tries (call_of verbs.SemOp ws)
 verb_no_end names set tries verbs.SemCtl ws = other_no_end set tries (call_of verbs.SemCtl ws)
 
-call_no_end : (names : List (List ℕ)) (set tries : Front) (ws : List (List ℕ))
+call_no_end : (names : List (List ℕ)) (set tries : Front ℕ) (ws : List (List ℕ))
     → is_end (says.call_said names set tries ws) ≡ false
 unfolding says.call_said
 call_no_end names set tries [] = refl
@@ -939,7 +942,7 @@ call_no_end names set tries (name ∷ ws) = of (verb_of name)
 pub line_no_end : (names ws : List (List ℕ)) → says.line_said names ws ≡ Ends → ⊥
 unfolding says.line_said
 line_no_end names ws e =
-    let front : Front × List (List ℕ) = says.set_at ws in
-    let more : Front × List (List ℕ) = says.tries_at front.1 in
+    let front : Front ℕ × List (List ℕ) = says.set_at ws in
+    let more : Front ℕ × List (List ℕ) = says.tries_at front.1 in
     let wrong : true ≡ false = ap is_end (sym e) ∙ call_no_end names front.0 more.0 more.1 in
     cc

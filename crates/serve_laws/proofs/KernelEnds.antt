@@ -20,7 +20,7 @@ use Rattle.kernel_model.specs.Footprint.{parent_number}
 use Rattle.kernel_model.specs.ProcessCalls.{bury, end_process, end_under, process_after_end}
 use Rattle.kernel_model.specs.Transition.{Successor, successor, effect, finish_call, may_make, outcome_of, transition, transition_by}
 use Rattle.kernel_model.specs.Valid.{IsValid}
-use Rattle.kernel_footprint.proofs.Parents.{parent-is}
+use Rattle.footprint_laws.proofs.Parents.{parent-is}
 use Rattle.node_model.specs.Bodies.{Body, Living, Ended, Gone, AQueue, ASet, Removed, body_in, free_to_act, is_living_body, process_body}
 use Rattle.node_model.specs.Parcels.{ending_of, may_end_with}
 use Rattle.serve_laws.specs.Ends.{is_among, parent_by}

@@ -1,5 +1,5 @@
 -- What contracts see of the two ends of a stream, and of the passes through which they reach its queue.
-use Rattle.std.specs.Prelude.{◌≡◌, ℕ, ◌+◌, ◌-◌, ◌^◌, true, false, min, List, [], Option}
+use Rattle.std.specs.Prelude.{◌≡◌, ℕ, zero, suc, ◌+◌, ◌-◌, ◌^◌, true, false, min, List, [], Option}
 use Rattle.std.specs.declared.alloc.Global.{Global}
 use Rattle.atomic_blocks.specs.declared.web.Seat.{Seat}
 use Rattle.crossbeam_queue.specs.SegTies.{SegId, IsSegPassOf}
@@ -27,6 +27,11 @@ pub record Taking : Type 0 where
 -- the number of looks after one more: it stands still at its type's last value
 abbrev pub one_more_look : ℕ → ℕ
 one_more_look looks = min (looks + 1) (2 ^ 64 - 1)
+
+-- the number of looks after so many more
+abbrev pub after_looks : ℕ → ℕ → ℕ
+after_looks zero looks = looks
+after_looks (suc more) looks = one_more_look (after_looks more looks)
 
 abbrev pub Pass : Type 0
 Pass = Seat (Option Piece) (Going Piece Hand) Global

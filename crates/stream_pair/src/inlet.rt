@@ -2,9 +2,9 @@
 ghost use Rattle.std.specs.Prelude.{◌≡◌, ◌++◌, [], ◌∷◌, IfSome, IfNone};
 ghost use Rattle.std.specs.Arc.{arc_value};
 ghost use Rattle.stream_pair.specs.Order.{WasEmpty, Begins};
-ghost use Rattle.stream_pair.specs.Ends.{one_more_look, IsTaker};
+ghost use Rattle.stream_pair.specs.Ends.{after_looks, one_more_look, IsTaker};
 
-use crate::bell::{Bell, Silence};
+use crate::bell::Bell;
 use crate::order::{Pass, Takes, Tells};
 use crate::piece::Piece;
 use crate::receipt::Receipt;
@@ -45,6 +45,14 @@ fn one_more(looks: u64) -> u64
     ensures { result ≡ one_more_look looks }
 {
     looks.saturating_add(1)
+}
+
+/// The number of looks after so many more.
+#[inline(always)]
+fn after(looks: u64, more: u64) -> u64
+    ensures { result ≡ after_looks more looks }
+{
+    looks.saturating_add(more)
 }
 
 impl In {
@@ -103,21 +111,21 @@ impl In {
         Some(piece)
     }
 
-    /// What the bell with which this stream was made says of all streams to this receiver, as [`Bell::silence`].
+    /// What the bell with which this stream was made says of all streams to this receiver, as [`Bell::is_silent`].
     #[inline(always)]
-    pub fn silence(&self) -> Option<Silence> {
-        self.bell.silence()
+    pub fn is_silent(&self) -> bool {
+        self.bell.is_silent()
     }
 
-    /// Notes a look that found this stream empty. The silence is to be one of the bell with which this stream was
-    /// made, heard since this end last looked: no clause ties it to either.
+    /// Notes so many looks that found this stream empty. Each is to be one at the bell with which this stream was made,
+    /// which was silent, since this end last took: no clause ties them to it.
     #[inline(always)]
-    pub fn was_empty(&mut self, _silence: &Silence)
+    pub fn were_empty(&mut self, looks: u64)
         ensures stream { self.new.stream ≡ self.old.stream }
-        ensures looks { self.new.looks ≡ one_more_look self.old.looks }
+        ensures looks { self.new.looks ≡ after_looks looks self.old.looks }
         ensures taken { self.new.taken ≡ self.old.taken }
         ensures told { self.new.told ≡ self.old.told }
     {
-        self.looks = one_more(self.looks);
+        self.looks = after(self.looks, looks);
     }
 }

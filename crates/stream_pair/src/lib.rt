@@ -3,6 +3,7 @@
 #![tactic(auto)]
 
 mod bell;
+mod company;
 mod inlet;
 mod laws;
 mod order;
@@ -12,7 +13,8 @@ mod receipt;
 mod rest;
 mod stream;
 
-pub use bell::{Bell, Silence};
+pub use bell::Bell;
+pub use company::Company;
 pub use inlet::In;
 pub use laws::pieces_are_the_bytes;
 pub use outlet::Out;

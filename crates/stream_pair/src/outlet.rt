@@ -82,7 +82,10 @@ impl Out {
             .queue
             .push_as::<Sends, R>(rt, &mut self.pass, piece)
         {
-            Ok(()) => Ok(()),
+            Ok(()) => {
+                self.bell.wake();
+                Ok(())
+            }
             Err(_) => Err(Memory),
         }
     }

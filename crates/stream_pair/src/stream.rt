@@ -2,6 +2,7 @@
 ghost use Rattle.std.specs.Prelude.{◌≡◌, [], IfOk};
 
 use crate::bell::Bell;
+use crate::company::Company;
 use crate::inlet::In;
 use crate::order::{Parts, Queue};
 use crate::outlet::Out;
@@ -27,7 +28,7 @@ pub fn pair(alloc: Global) -> Result<(Out, In), Memory>
     ensures new { IfOk result (λ ends.
         (ends.0.sent ≡ []) × (ends.1.taken ≡ []) × (ends.1.told ≡ []) × (ends.1.looks ≡ 0)) }
 {
-    let bell = Bell::new(alloc)?;
+    let bell = Bell::new(alloc, &Company::new(alloc)?)?;
     pair_to(alloc, &bell)
 }
 

@@ -1,7 +1,7 @@
 //! A long frame in pieces, a sender and a taker on two threads, and what is left when both ends are together again.
 ghost use Rattle.std.specs.Prelude.{◌≡◌, IfOk};
 
-use crate::{Bell, In, Out, Piece, pair, pair_to, settle};
+use crate::{Bell, Company, In, Out, Piece, pair, pair_to, settle};
 use pico_base::Memory;
 use std::process::Abort;
 use std::sync::Wait;
@@ -137,23 +137,21 @@ fn two_threads(rt: HostRuntime) -> Result<(), Fail> {
 /// A send is heard until its last piece is taken, on whichever stream it came.
 #[test]
 fn a_bell_is_silent_where_all_is_taken(rt: HostRuntime) -> Result<(), Fail> {
-    let bell = Bell::new(rt.alloc())?;
+    let bell = Bell::new(rt.alloc(), &Company::new(rt.alloc())?)?;
     let (mut first, mut from_first) = pair_to(rt.alloc(), &bell)?;
     let (mut second, mut from_second) = pair_to(rt.alloc(), &bell)?;
-    assert!(rt; bell.silence().is_some());
+    assert!(rt; bell.is_silent());
     first.send(&rt, 1, &[1; 513])?;
     second.send(&rt, 2, b"two")?;
-    assert!(rt; bell.silence().is_none());
+    assert!(rt; !bell.is_silent());
     assert_eq!(rt; taken(&rt, &mut from_first), Some((1, 512)));
     assert_eq!(rt; taken(&rt, &mut from_second), Some((2, 3)));
     assert_eq!(rt; taken(&rt, &mut from_second), None);
-    assert!(rt; bell.silence().is_none());
+    assert!(rt; !bell.is_silent());
     assert_eq!(rt; taken(&rt, &mut from_first), Some((1, 1)));
-    let Some(silence) = bell.silence() else {
-        return Err(Fail::from("no silence"));
-    };
-    from_first.was_empty(&silence);
-    from_second.was_empty(&silence);
+    assert!(rt; bell.is_silent());
+    from_first.were_empty(1);
+    from_second.were_empty(1);
     assert_eq!(rt; taken(&rt, &mut from_first), None);
     Ok(())
 }
@@ -182,19 +180,16 @@ fn takes_all_it_is_told_of<R: Wait>(
             .0
             .load(Ordering::SeqCst)
             .saturating_add(told.1.load(Ordering::SeqCst));
-        match bell.silence() {
-            Some(silence) => {
-                if taken < known {
-                    return false;
-                }
-                first.was_empty(&silence);
-                second.was_empty(&silence);
-                thread::yield_now();
+        if bell.is_silent() {
+            if taken < known {
+                return false;
             }
-            None => {
-                taken = taken.saturating_add(u64::from(first.take(rt).is_some()));
-                taken = taken.saturating_add(u64::from(second.take(rt).is_some()));
-            }
+            first.were_empty(1);
+            second.were_empty(1);
+            thread::yield_now();
+        } else {
+            taken = taken.saturating_add(u64::from(first.take(rt).is_some()));
+            taken = taken.saturating_add(u64::from(second.take(rt).is_some()));
         }
     }
     true
@@ -203,7 +198,7 @@ fn takes_all_it_is_told_of<R: Wait>(
 /// Two senders and one receiver.
 #[test]
 fn no_silence_hides_a_piece(rt: HostRuntime) -> Result<(), Fail> {
-    let bell = Bell::new(rt.alloc())?;
+    let bell = Bell::new(rt.alloc(), &Company::new(rt.alloc())?)?;
     let (mut first, mut from_first) = pair_to(rt.alloc(), &bell)?;
     let (mut second, mut from_second) = pair_to(rt.alloc(), &bell)?;
     let told = (AtomicU64::new(0), AtomicU64::new(0));
@@ -233,6 +228,6 @@ fn no_silence_hides_a_piece(rt: HostRuntime) -> Result<(), Fail> {
         from_first.take(&rt);
         from_second.take(&rt);
     }
-    assert!(rt; bell.silence().is_some());
+    assert!(rt; bell.is_silent());
     Ok(())
 }

@@ -19,7 +19,7 @@ use Rattle.log_laws.specs.Drawn.{IsStampOfTurn}
 use Rattle.log_laws.specs.Follows.{StandsFirst, IsThere}
 use Rattle.turn_laws.specs.Forkers.{forker_of, Forks, ForkersFork}
 use Rattle.turn_laws.specs.Laws.{IsTurnIn, GoesToAnother, SendsGoToOthers, may_turn, EnabledTurnsHaveSteps, UnbornTakeTheirCheckpoint, max_events}
-use Rattle.frame_pieces.specs.Laws.{TheNextIsSent}
+use Rattle.piece_laws.specs.Laws.{TheNextIsSent}
 use Rattle.log_model.specs.declared.answer.LogFault.{LogFault}
 use Rattle.log_model.specs.declared.answer.LogFault.TheVariants as faults
 use Rattle.log_model.specs.Views.{Line, LoggedNode}

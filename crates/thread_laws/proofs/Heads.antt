@@ -12,7 +12,7 @@ use Rattle.log_laws.specs.Logs.{IsNode, StampedFrame, stamped, sent_in, taken_in
 use Rattle.log_laws.specs.Drawn.{IsStampOfTurn}
 use Rattle.log_laws.proofs.Drawn.{known-sent}
 use Rattle.log_laws.proofs.Lists.{right-all}
-use Rattle.frame_pieces.specs.Laws.{AreFront, IsRightAnswer, TheNextIsSent}
+use Rattle.piece_laws.specs.Laws.{AreFront, IsRightAnswer, TheNextIsSent}
 use Rattle.log_model.specs.Views.{Line, LoggedNode}
 use Rattle.log_model.specs.Looks.{IsRefused}
 use Rattle.log_model.specs.Logged.{IsBehind, WouldTake, IsRefusedLine}

@@ -121,6 +121,7 @@ goes-further kept logs t p on =
       | inr other ↦ record { more = on.more; whole = after-other logs t p other ∙ on.whole }
     ]
 
+-- the event as one of a merge
 abbrev pub next_item : ℕ → Event → Item
 next_item stamp e = record { stamp = stamp; node = node_of e; item = e }
 
@@ -200,6 +201,7 @@ pub record IsBegun (log whole : List Item) : Type 0 where
   pub later : List Item
   pub is : whole ≡ log ++ later
 
+-- a parting's log is the first part of its node's
 pub log-begins : (p : ℕ) (kept logs : Log) (log : List Item) → log ≡ event_log p kept
     → GoesOn kept logs → IsBegun log (event_log p logs)
 log-begins p kept logs log same on =

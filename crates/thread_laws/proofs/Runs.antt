@@ -15,7 +15,7 @@ use Rattle.log_laws.specs.Drawn.{HasFewStamps}
 use Rattle.log_laws.proofs.Whole.{consistent_logs_are_runs_lemma}
 use Rattle.log_laws.proofs.Journals.{one_journal_lemma}
 use Rattle.turn_laws.specs.Laws.{max_events, RunsAreFew}
-use Rattle.frame_pieces.specs.Laws.{TakenAreSent, TheNextIsSent}
+use Rattle.piece_laws.specs.Laws.{TakenAreSent, TheNextIsSent}
 use Rattle.log_model.specs.Views.{LoggedNode}
 use Rattle.thread_laws.specs.Joined.{AreJoined, kept_logs, journal_of}
 use Rattle.thread_laws.specs.Laws.{NodesMayMerge, IsRunOfThreads, ThreadsMakeARun}

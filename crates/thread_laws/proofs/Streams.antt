@@ -10,8 +10,8 @@ use Rattle.frame_bytes.specs.Frames.{IsFrame}
 use Rattle.world_model.specs.Node.{Node}
 use Rattle.log_laws.specs.Logs.{IsNode, StampedFrame, frame_if, sent_to, stamped, Input, Runs, Takes, Log, sends_of, sent_in, taken_if, takes_of, taken_in, AreConsistent}
 use Rattle.log_laws.proofs.Lists.{append-all}
-use Rattle.frame_pieces.specs.Pieces.{pieces_of, AreFrames}
-use Rattle.frame_pieces.specs.Laws.{AreFront, TakenAreSent}
+use Rattle.piece_laws.specs.Pieces.{pieces_of, AreFrames}
+use Rattle.piece_laws.specs.Laws.{AreFront, TakenAreSent}
 use Rattle.log_model.specs.Views.{Line, LoggedNode}
 use Rattle.log_model.specs.Logged.{others_of, others_in, IsLineOf, IsFromOther, GoesToOthers, SendsFrames}
 use Rattle.thread_laws.specs.Joined.{sent_on, taken_on, IsSettled}

@@ -4,7 +4,7 @@
 
 ghost use Rattle.thread_laws.specs.Laws.{NodesMayMerge, ThreadsMakeARun, StepsFollow};
 
-use frame_pieces::{taken_are_sent, the_next_is_sent};
+use piece_laws::{taken_are_sent, the_next_is_sent};
 use turn_laws::{
     enabled_turns_have_steps, forkers_fork, runs_are_few, sends_go_to_others,
     unborn_take_their_checkpoint,

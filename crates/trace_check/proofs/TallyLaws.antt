@@ -1,9 +1,5 @@
 -- The counts of entries, and their line.
-use Rattle.std.proofs.Common.{◌≡◌, ◌∙◌, ℕ, ◌+◌, Bool, true, false, cond, eqb, List, [], ◌∷◌, ◌++◌, length, count_by, Option, Some, refl, sym, ap, subst, arith}
-use Rattle.std.specs.Prelude.{sum_by}
-use Rattle.std.specs.List.{fold}
-use Rattle.std.proofs.lemmas.List.{length-append}
-use Rattle.std.proofs.lemmas.List.Sums.{sum_by_push}
+use Rattle.std.proofs.Common.{◌≡◌, ◌∙◌, ℕ, ◌+◌, Bool, true, false, cond, eqb, List, [], ◌∷◌, ◌++◌, Option, Some, refl, sym, ap, subst, arith}
 use Rattle.pico_base.specs.declared.reply.Entry.{Entry}
 use Rattle.pico_base.specs.declared.reply.Outcome.{Outcome}
 use Rattle.pico_base.specs.declared.reply.Reply.{Reply}
@@ -12,8 +8,10 @@ use Rattle.kernel_model.specs.Trace.{entries_total, is_fork, is_not_ready_reply,
 use Rattle.trace_text.specs.Reading.{is_line}
 use Rattle.trace_text.specs.Read.{begins_like_totals}
 use Rattle.trace_text.proofs.EntryLaws.{line-tested, is-alone}
+use Rattle.trace_text.proofs.Tallies.{counts-with_entry}
 use Rattle.trace_text.specs.Grammar.{is_entry}
-use Rattle.trace_check.specs.Tally.{Counts, counts_of, with_reply, line_of}
+use Rattle.trace_text.specs.Totals.{Counts, counts_of, with_entry}
+use Rattle.trace_check.specs.Tally.{with_reply, line_of}
 use Rattle.trace_check.specs.Judging.{CountsReply, CountsEntry}
 
 -- the totals begin with a `t`
@@ -36,14 +34,6 @@ not-totals c (x ∷ line) h = of (is_line (line_of c) (x ∷ line)) refl
 
 -- One more entry.
 
-fold-push : (f : ℕ → Entry → ℕ) (n : ℕ) (es : List Entry) (e : Entry) → fold f n (es ++ e ∷ []) ≡ f (fold f n es) e
-fold-push f n [] e = refl
-fold-push f n (x ∷ xs) e = fold-push f (f n x) xs e
-
-count-push : (p : Entry → Bool) (es : List Entry) (e : Entry)
-    → count_by p (es ++ e ∷ []) ≡ count_by p es + cond (p e) 1 0
-count-push p es e = fold-push (λ n x. n + cond (p x) 1 0) 0 es e
-
 alone-count : (test : Option Reply → Bool) (e : Entry) (o : Outcome) (reply : Reply) → e.outcome ≡ o
     → o ≡ record { own = Some reply; woken = [] } → replies_where test e.outcome ≡ cond (test (Some reply)) 1 0
 alone-count test e o reply is alone =
@@ -59,19 +49,10 @@ counts-push script done e new there counted =
     let outcome : e.outcome ≡ record { own = Some a.reply; woken = [] } = ap (λ (x : Entry). x.outcome) (sym a.is) in
     let is : new ≡ with_reply (counts_of done) (is_fork e.call) a.reply =
     subst (λ (o : Option Reply). CountsReply (counts_of done) e o new) (ap (λ (x : Outcome). x.own) outcome) counted in
-    let one : length done + 1 ≡ length (done ++ e ∷ []) = sym (length-append done (e ∷ [])) in
-    let forks : count_by (λ (x : Entry). is_fork x.call) done + cond (is_fork e.call) 1 0
-    ≡ count_by (λ (x : Entry). is_fork x.call) (done ++ e ∷ []) = sym (count-push (λ x. is_fork x.call) done e) in
-    let waits : sum_by (λ (x : Entry). replies_where is_not_ready_reply x.outcome) done
-    + cond (is_not_ready_reply (Some a.reply)) 1 0
-    ≡ sum_by (λ (x : Entry). replies_where is_not_ready_reply x.outcome) (done ++ e ∷ []) =
-    ap (λ (n : ℕ). sum_by (λ (x : Entry). replies_where is_not_ready_reply x.outcome) done + n)
-    (sym (alone-count is_not_ready_reply e e.outcome a.reply refl outcome))
-    ∙ sym (sum_by_push (λ (x : Entry). replies_where is_not_ready_reply x.outcome) done e) in
-    let refusals : sum_by (λ (x : Entry). replies_where is_refused_reply x.outcome) done
-    + cond (is_refused_reply (Some a.reply)) 1 0
-    ≡ sum_by (λ (x : Entry). replies_where is_refused_reply x.outcome) (done ++ e ∷ []) =
-    ap (λ (n : ℕ). sum_by (λ (x : Entry). replies_where is_refused_reply x.outcome) done + n)
-    (sym (alone-count is_refused_reply e e.outcome a.reply refl outcome))
-    ∙ sym (sum_by_push (λ (x : Entry). replies_where is_refused_reply x.outcome) done e) in
-    is ∙ rw (one, forks, waits, refusals) refl
+    let waits : cond (is_not_ready_reply (Some a.reply)) 1 0 ≡ replies_where is_not_ready_reply e.outcome =
+    sym (alone-count is_not_ready_reply e e.outcome a.reply refl outcome) in
+    let refusals : cond (is_refused_reply (Some a.reply)) 1 0 ≡ replies_where is_refused_reply e.outcome =
+    sym (alone-count is_refused_reply e e.outcome a.reply refl outcome) in
+    let same : with_reply (counts_of done) (is_fork e.call) a.reply ≡ with_entry (counts_of done) e =
+    rw (waits, refusals) refl in
+    is ∙ same ∙ counts-with_entry done e

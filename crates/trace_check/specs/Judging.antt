@@ -9,10 +9,11 @@ use Rattle.kernel_model.specs.Kernel.{Kernel}
 use Rattle.kernel_model.specs.Trace.{is_fork}
 use Rattle.kernel_model.specs.Transition.{Successor, successor}
 use Rattle.trace_text.specs.declared.fault.CheckFault.{CheckFault}
+use Rattle.trace_text.specs.Totals.{Counts}
 use Rattle.trace_check.specs.declared.cursor.Cursor.{Cursor}
 use Rattle.trace_check.specs.Cursors.{places_of}
 use Rattle.trace_check.specs.FirstFault.{Progress, GivesFault}
-use Rattle.trace_check.specs.Tally.{Counts, with_reply}
+use Rattle.trace_check.specs.Tally.{with_reply}
 
 -- the kernel, and the processes in their blocks
 abbrev pub progress_of : Script → Kernel → Numbered Cursor → Progress

@@ -1,24 +1,8 @@
 -- What the totals of a trace count, entry by entry.
-use Rattle.std.specs.Prelude.{ℕ, ◌+◌, Bool, List, [], ◌∷◌, ◌++◌, length, if◌then◌else◌, Some, count_by, sum_by}
+use Rattle.std.specs.Prelude.{ℕ, ◌+◌, Bool, List, [], ◌∷◌, ◌++◌, if◌then◌else◌, Some}
 use Rattle.pico_base.specs.declared.reply.Reply.{Reply}
-use Rattle.pico_base.specs.declared.reply.Entry.{Entry}
-use Rattle.kernel_model.specs.Trace.{is_fork, replies_where, is_not_ready_reply, is_refused_reply, entries_total, processes_total, not_ready_total, refused_total}
-
--- the entries, those that fork, the replies that nothing was ready, and the other refusals
-pub record Counts : Type 0 where
-  pub entries : ℕ
-  pub forks : ℕ
-  pub not_ready : ℕ
-  pub refused : ℕ
-
-abbrev pub counts_of : List Entry → Counts
-counts_of h =
-    record {
-      entries = length h;
-      forks = count_by (λ e. is_fork e.call) h;
-      not_ready = sum_by (λ e. replies_where is_not_ready_reply e.outcome) h;
-      refused = sum_by (λ e. replies_where is_refused_reply e.outcome) h;
-    }
+use Rattle.kernel_model.specs.Trace.{is_not_ready_reply, is_refused_reply, entries_total, processes_total, not_ready_total, refused_total}
+use Rattle.trace_text.specs.Totals.{Counts}
 
 -- one more entry, which forks or not and has this reply
 abbrev pub with_reply : Counts → Bool → Reply → Counts

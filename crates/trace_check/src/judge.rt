@@ -8,10 +8,11 @@ ghost use Rattle.kernel_model.specs.Trace.{is_fork};
 ghost use Rattle.kernel_model.specs.Transition.{transition};
 ghost use Rattle.number_maps.specs.Maps.{get};
 ghost use Rattle.trace_text.specs.Reading.{is_line as is_line_of};
+ghost use Rattle.trace_text.specs.Totals.{counts_of};
 ghost use Rattle.trace_check.specs.Cursors.{AreSteady, HasCall, IsSteady, beginning, forked_at, forked_by, moved_at, moved_on, place_of, places_of};
 ghost use Rattle.trace_check.specs.FirstFault.{Gives, judge_entry, judge_made, judge_reply, judge_totals, first_unended};
 ghost use Rattle.trace_check.specs.Judging.{Carried, CountsEntry, Yields, progress_of};
-ghost use Rattle.trace_check.specs.Tally.{counts_of, line_of, with_reply};
+ghost use Rattle.trace_check.specs.Tally.{line_of, with_reply};
 
 use crate::check::Legal;
 use crate::cursor::Cursor;

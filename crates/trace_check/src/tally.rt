@@ -2,7 +2,8 @@
 ghost use Rattle.std.specs.Prelude.{◌≡◌, ◌^◌, ◌<◌, ◌≤◌, ◌++◌, [], Some, IfOk, OnOk, if◌then◌else◌};
 ghost use Rattle.kernel_model.specs.Trace.{is_not_ready_reply, is_refused_reply, is_fork};
 ghost use Rattle.trace_text.specs.Reading.{is_line as is_line_of};
-ghost use Rattle.trace_check.specs.Tally.{counts_of, with_reply, line_of};
+ghost use Rattle.trace_text.specs.Totals.{counts_of};
+ghost use Rattle.trace_check.specs.Tally.{with_reply, line_of};
 
 use pico_base::{Call, Errno, Memory, Reply};
 use std::marker::Model;
@@ -22,7 +23,7 @@ pub(crate) struct Tally {
 
 impl Model for Tally {
     ghost use Rattle.std.specs.Prelude.{◌≤◌};
-    ghost use Rattle.trace_check.specs.Tally.{Counts};
+    ghost use Rattle.trace_text.specs.Totals.{Counts};
 
     ghost Value = { Counts };
 

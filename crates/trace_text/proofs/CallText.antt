@@ -25,8 +25,6 @@ use Rattle.trace_text.proofs.CallLaws.{tail, exit-again, killed-again, handled-a
 
 -- ---- words
 
--- ---- words
-
 abbrev is_blank : ℕ → Bool
 is_blank b = eqb b 32
 

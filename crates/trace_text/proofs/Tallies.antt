@@ -5,7 +5,7 @@ use Rattle.std.proofs.lemmas.List.{length-append, take_more}
 use Rattle.std.proofs.lemmas.List.Sums.{sum_by_push}
 use Rattle.pico_base.specs.declared.reply.Entry.{Entry}
 use Rattle.kernel_model.specs.Trace.{is_fork, is_not_ready_reply, is_refused_reply, replies_where}
-use Rattle.trace_text.specs.Totals.{Counts, tally_of, with_entry}
+use Rattle.trace_text.specs.Totals.{Counts, counts_of, tally_of, with_entry}
 
 fold-push : (f : ℕ → Entry → ℕ) (n : ℕ) (es : List Entry) (e : Entry) → fold f n (es ++ e ∷ []) ≡ f (fold f n es) e
 fold-push f n [] e = refl
@@ -16,15 +16,19 @@ count-push : (p : Entry → Bool) (es : List Entry) (e : Entry)
 count-push p es e = fold-push (λ n x. n + cond (p x) 1 0) 0 es e
 
 -- one more entry is one more in the history
-pub tally-with_entry : (before : List Entry) (e : Entry) → with_entry (tally_of before) e ≡ tally_of (before ++ e ∷ [])
-unfolding tally_of
-tally-with_entry before e =
+pub counts-with_entry : (before : List Entry) (e : Entry)
+    → with_entry (counts_of before) e ≡ counts_of (before ++ e ∷ [])
+counts-with_entry before e =
     rw (
       length-append before (e ∷ []),
       count-push (λ (x : Entry). is_fork x.call) before e,
       sum_by_push (λ (x : Entry). replies_where is_not_ready_reply x.outcome) before e,
       sum_by_push (λ (x : Entry). replies_where is_refused_reply x.outcome) before e,
     ) refl
+
+pub tally-with_entry : (before : List Entry) (e : Entry) → with_entry (tally_of before) e ≡ tally_of (before ++ e ∷ [])
+unfolding tally_of
+tally-with_entry before e = counts-with_entry before e
 
 -- the entries up to one are counted, and then that one
 pub tally-take : (before entries : List Entry) (i : ℕ) (e : Entry) (so_far new : Counts) → i < length entries

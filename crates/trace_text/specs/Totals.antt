@@ -16,14 +16,18 @@ pub record Counts : Type 0 where
   pub not_ready : ℕ
   pub refused : ℕ
 
-unfoldable pub tally_of : List Entry → Counts
-tally_of h =
+abbrev pub counts_of : List Entry → Counts
+counts_of h =
     record {
       entries = length h;
       forks = count_by (λ e. is_fork e.call) h;
       not_ready = sum_by (λ e. replies_where is_not_ready_reply e.outcome) h;
       refused = sum_by (λ e. replies_where is_refused_reply e.outcome) h;
     }
+
+-- the same under a name that is opened only where entries are counted
+unfoldable pub tally_of : List Entry → Counts
+tally_of h = counts_of h
 
 -- the counts with one more entry
 abbrev pub with_entry : Counts → Entry → Counts

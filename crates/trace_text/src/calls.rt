@@ -470,7 +470,7 @@ fn named<'a>(
     }
 }
 
-/// A call.
+/// The call that is named at the front, with its arguments.
 #[tactic(auto, unfolding(crate::specs::Reading::call_at))]
 pub(crate) fn call_front<'a>(
     alloc: Global,

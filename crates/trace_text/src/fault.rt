@@ -12,8 +12,7 @@ pub enum CheckFault {
     /// An allocation was refused.
     #[error("out of memory")]
     Memory,
-    /// The line isn't in the grammar of a trace, its totals are wrong or none, a line follows them, or a limit is
-    /// passed.
+    /// The line isn't in the grammar of a trace, its totals are wrong or none, one follows them, or a limit is passed.
     #[error("line {line}: not a trace")]
     NotATrace {
         line: u32,

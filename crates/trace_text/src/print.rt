@@ -19,8 +19,7 @@ pub fn push_entries(out: &mut Vec<u8>, script: &Script, entries: &[Entry]) -> Re
     Ok(())
 }
 
-/// The text of a history of a script's processes: a line for each entry, and the totals line. Each line has one line
-/// feed.
+/// The text of a history of a script's processes: a line for each entry, and the totals line, each with one line feed.
 pub fn write_trace(alloc: Global, script: &Script, journal: &Entries) -> Result<Bytes, Memory>
     ensures { IfOk result (λ text. text ≡ trace.trace_text script.now journal.now) }
 {

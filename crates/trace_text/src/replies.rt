@@ -154,7 +154,7 @@ fn word_reply(alloc: Global, bytes: &[u8]) -> Result<Read<'_>, Memory>
     }
 }
 
-/// A reply.
+/// The reply at the front.
 #[tactic(auto, unfolding(crate::specs::Reading::reply_at))]
 pub(crate) fn reply_front(alloc: Global, bytes: &[u8]) -> Result<Read<'_>, Memory>
     ensures { IfOk result (λ reply. option_map (λ x. (x.0, x.1.now)) reply ≡ reading.reply_at bytes.now) }

@@ -171,8 +171,7 @@ impl Tally {
         Ok(())
     }
 
-    /// Counts the entries that follow in the history. Memory: a count is past 64 bits; nothing is said of the tally
-    /// then.
+    /// Counts the history's next entries. Memory: a count is past 64 bits, and nothing is said of the tally then.
     pub fn add(&mut self, entries: &[Entry]) -> Result<(), Memory>
         ensures { (before : List Entry) → self.old ≡ tally_of before
             → OnOk result (self.new ≡ tally_of (before ++ entries.now)) }

@@ -22,14 +22,14 @@ use Rattle.world_laws.specs.Names.{forker}
 use Rattle.world_laws.specs.Sights.{frames_to, is_born_in, node_of}
 use Rattle.world_laws.proofs.Changes.{Changes, sent}
 use Rattle.world_laws.proofs.Steps.{Heads, frames-low, node-there, taken-not-to}
-use Rattle.world_rules.proofs.Enabled.{IsTaken, enabled-takes}
-use Rattle.world_rules.proofs.own.Enabled.{IsRun, enabled-runs}
-use Rattle.world_weights.specs.Weights.{calls_of}
-use Rattle.world_bounds.specs.Bounded.{IsShapedAndBounded}
-use Rattle.world_bounds.proofs.Runs.{reachable-is-bounded}
-use Rattle.world_runs.proofs.Runs.{runs_are_short_lemma, worlds_have_the_invariant_lemma}
-use Rattle.world_rest.specs.Laws.{IsQuiet}
-use Rattle.world_rest.proofs.Worlds.{rest_is_quiet_lemma}
+use Rattle.rule_laws.proofs.Enabled.{IsTaken, enabled-takes}
+use Rattle.rule_laws.proofs.own.Enabled.{IsRun, enabled-runs}
+use Rattle.weight_laws.specs.Weights.{calls_of}
+use Rattle.bound_laws.specs.Bounded.{IsShapedAndBounded}
+use Rattle.bound_laws.proofs.Runs.{reachable-is-bounded}
+use Rattle.run_laws.proofs.Runs.{runs_are_short_lemma, worlds_have_the_invariant_lemma}
+use Rattle.rest_laws.specs.Laws.{IsQuiet}
+use Rattle.rest_laws.proofs.Worlds.{rest_is_quiet_lemma}
 use Rattle.log_laws.specs.Logs.{IsNode, Input, Runs, Takes, stamped, turn_on}
 use Rattle.log_laws.specs.Merge.{event_at}
 use Rattle.turn_laws.specs.Forkers.{forker_of}

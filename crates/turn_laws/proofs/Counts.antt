@@ -2,8 +2,8 @@
 use Rattle.std.proofs.Common.{arith}
 use Rattle.std.proofs.lemmas.Bool.{leb-true}
 use Rattle.kernel_model.specs.Script.{max_calls}
-use Rattle.world_weights.specs.Weights.{calls_of}
-use Rattle.world_runs.proofs.Runs.{runs_are_short_lemma}
+use Rattle.weight_laws.specs.Weights.{calls_of}
+use Rattle.run_laws.proofs.Runs.{runs_are_short_lemma}
 use Rattle.turn_laws.specs.Laws.{RunsAreFew}
 
 -- a run has at most 640,000 events

@@ -10,9 +10,9 @@ use Rattle.world_model.specs.Step.{Step}
 use Rattle.world_model.specs.Turn.{take_frame}
 use Rattle.world_model.specs.World.{World, after_turn, is_checkpoint, runs_at, step, stream, takes_at}
 use Rattle.world_laws.proofs.Steps.{world_without}
-use Rattle.world_bounds.specs.Bounded.{IsShapedAndBounded}
-use Rattle.world_bounds.proofs.Runs.{reachable-is-bounded}
-use Rattle.world_runs.proofs.Runs.{enabled_events_have_steps_lemma}
+use Rattle.bound_laws.specs.Bounded.{IsShapedAndBounded}
+use Rattle.bound_laws.proofs.Runs.{reachable-is-bounded}
+use Rattle.run_laws.proofs.Runs.{enabled_events_have_steps_lemma}
 use Rattle.log_laws.specs.Logs.{Runs, Takes, StampedFrame, turn_on}
 use Rattle.log_laws.specs.Follows.{StandsFirst}
 use Rattle.turn_laws.specs.Laws.{EnabledTurnsHaveSteps, IsTurnIn}

@@ -4,3 +4,4 @@ pub mod Sends
 pub mod Enabled
 pub mod Counts
 pub mod Births
+pub mod AgreeingLogs

@@ -15,9 +15,9 @@ use Rattle.world_laws.specs.Invariant.{FramesFit, HasInvariant, Holds}
 use Rattle.world_laws.specs.Sights.{frames_to, is_born_in}
 use Rattle.world_laws.proofs.Changes.{Changes, frames_if, sent}
 use Rattle.world_laws.proofs.Sends.{frame_if, frames_with}
-use Rattle.world_bounds.specs.Bounded.{IsNode as IsBoundedNode, SendIsBounded, StepIsBounded}
-use Rattle.world_runs.proofs.Runs.{worlds_have_the_invariant_lemma}
-use Rattle.world_frames.proofs.Reachable.{frames_are_within_limits_lemma}
+use Rattle.bound_laws.specs.Bounded.{IsNode as IsBoundedNode, SendIsBounded, StepIsBounded}
+use Rattle.run_laws.proofs.Runs.{worlds_have_the_invariant_lemma}
+use Rattle.frame_laws.proofs.Reachable.{frames_are_within_limits_lemma}
 use Rattle.log_laws.specs.Logs.{Input}
 use Rattle.log_laws.specs.Merge.{event_at}
 use Rattle.turn_laws.specs.Laws.{GoesToAnother, SendsGoToOthers}

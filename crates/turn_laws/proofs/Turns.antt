@@ -15,11 +15,11 @@ use Rattle.world_model.specs.World.{World, is_checkpoint, is_enabled, is_number,
 use Rattle.world_laws.specs.Sights.{node_of}
 use Rattle.world_laws.proofs.Changes.{Changes}
 use Rattle.world_laws.proofs.Steps.{Heads, changes-by-run, changes-by-take, node-there, run-steps, take-steps, world_without}
-use Rattle.world_bounds.specs.Bounded.{IsShapedAndBounded, StepIsBounded}
-use Rattle.world_bounds.proofs.Parts.{of-some}
-use Rattle.world_bounds.proofs.Runs.{reachable-is-bounded}
-use Rattle.world_bounds.proofs.Turns.{run-turn-bounded, take-turn-bounded}
-use Rattle.world_bounds.proofs.Worlds.{head-is-bounded, to-nodes}
+use Rattle.bound_laws.specs.Bounded.{IsShapedAndBounded, StepIsBounded}
+use Rattle.bound_laws.proofs.Parts.{of-some}
+use Rattle.bound_laws.proofs.Runs.{reachable-is-bounded}
+use Rattle.bound_laws.proofs.Turns.{run-turn-bounded, take-turn-bounded}
+use Rattle.bound_laws.proofs.Worlds.{head-is-bounded, to-nodes}
 use Rattle.log_laws.specs.Logs.{IsNode, Input, Runs, Takes, StampedFrame, turn_on}
 use Rattle.log_laws.specs.Merge.{event_at}
 use Rattle.log_laws.specs.Follows.{StandsFirst}

@@ -3,13 +3,12 @@ use Rattle.std.specs.Prelude.{◌≡◌, ◌≤◌, ℕ, true}
 use Rattle.pico_base.specs.declared.script.Script.{Script}
 use Rattle.kernel_model.specs.Script.{IsSoundScript}
 use Rattle.world_model.specs.Lives.{is_forked_by}
-use Rattle.world_model.specs.World.{numbers, node_count}
-use Rattle.world_laws.specs.Names.{first_that}
+use Rattle.world_laws.specs.Names.{forker}
 use Rattle.log_laws.specs.Logs.{IsNode}
 
 -- the first node whose block forks this one's, 0 where none does
 abbrev pub forker_of : Script → ℕ → ℕ
-forker_of script p = first_that (λ q. is_forked_by script q p) (numbers 1 (node_count script))
+forker_of script p = forker script p
 
 -- a node of the script, whose block forks that of node p
 pub record Forks (script : Script) (q p : ℕ) : Type 0 where

@@ -1,2 +1,3 @@
 pub mod Forkers
 pub mod Laws
+pub mod AgreeingLogs

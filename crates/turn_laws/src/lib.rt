@@ -2,6 +2,7 @@
 //! of their own: each sees only itself and the frame that it takes, and the rest is said here. Nothing runs here.
 #![tactic(auto)]
 
+ghost use Rattle.turn_laws.specs.AgreeingLogs.{AgreeingLogsAreConsistent, AgreeingLogsAreRuns};
 ghost use Rattle.turn_laws.specs.Forkers.{ForkersFork, OneForks};
 ghost use Rattle.turn_laws.specs.Laws.{EnabledTurnsHaveSteps, RunsAreFew, SendsGoToOthers, UnbornTakeTheirCheckpoint};
 
@@ -34,4 +35,16 @@ pub fn unborn_take_their_checkpoint()
 /// A run has at most 640,000 events.
 pub fn runs_are_few()
     ensures { RunsAreFew }
+{}
+
+/// Where each node's log is the machine's, its stamps rise, and each frame was taken in the order of sending and later
+/// than it was sent, the logs are consistent: that frames go to nodes of the script alone, and come from them, needn't
+/// be asked.
+pub fn agreeing_logs_are_consistent()
+    ensures { AgreeingLogsAreConsistent }
+{}
+
+/// So their merge is one run of the machine, whose nodes, frames on their way and journal are those of the logs.
+pub fn agreeing_logs_are_runs()
+    ensures { AgreeingLogsAreRuns }
 {}

@@ -8,7 +8,7 @@ use Rattle.pico_base.specs.declared.script.Event.{Event}
 use Rattle.kernel_model.specs.Script.{IsSoundScript}
 use Rattle.world_model.specs.World.{World, step, is_enabled}
 use Rattle.world_model.specs.Run.{IsReachableWorld}
-use Rattle.world_runs.specs.Laws.{EnabledEventsHaveSteps}
+use Rattle.run_laws.specs.Laws.{EnabledEventsHaveSteps}
 use Rattle.world_core.specs.declared.state.State.{State}
 use Rattle.world_core.specs.State.{IsAlive, IsStep, world_of}
 use Rattle.world_core.specs.World.{world_in, IsSoundState}

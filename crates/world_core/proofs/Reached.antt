@@ -9,8 +9,8 @@ use Rattle.kernel_model.specs.Fitting.{Fits, FitsWhole}
 use Rattle.kernel_model.specs.Script.{IsSoundScript}
 use Rattle.world_model.specs.World.{World, step, is_enabled}
 use Rattle.world_model.specs.Run.{IsAtRest, IsReachableWorld}
-use Rattle.world_runs.specs.Laws.{JournalsAreLegal}
-use Rattle.world_rest.specs.Laws.{IsQuiet, RestIsQuiet, RestIsWhole}
+use Rattle.run_laws.specs.Laws.{JournalsAreLegal}
+use Rattle.rest_laws.specs.Laws.{IsQuiet, RestIsQuiet, RestIsWhole}
 use Rattle.world_core.specs.World.{IsReached, IsSoundWorld}
 use Rattle.world_core.specs.Stepped.{IsStepped}
 use Rattle.world_core.proofs.Worlds.{kept-step, reachable-more}

@@ -49,6 +49,12 @@ abbrev pub OthersAreCounted : State → ℕ → Type 0
 OthersAreCounted s p = (count : ℕ) → set s.counts (p - 1) count
     ≡ set (counts_of s.nodes.items s.inboxes.items) (p - 1) count
 
+-- Frames of this node may go their ways: it is one of the nodes, none of which is spent, and the counts are right.
+pub record MaySend (from : ℕ) (nodes : List (Option Node)) (streams : Streams) (counts : List ℕ) : Type 0 where
+  pub seats : AreSeats nodes streams
+  pub there : from ≤ length streams
+  pub counted : counts ≡ counts_of nodes streams
+
 -- Runs of a sound script lead to it behind entries that were let go, and its counts are right.
 pub record IsAlive (s : State) : Type 0 where
   pub counted : AreCounted s

@@ -14,15 +14,15 @@ ghost use Rattle.world_core.specs.Behind.{without_journal};
 ghost use Rattle.world_core.specs.Inbox.{from_node, with_from};
 ghost use Rattle.world_core.specs.Stream.{frame_of};
 ghost use Rattle.world_core.specs.Counts.{counts_of};
-ghost use Rattle.world_core.specs.State.{AreWhole, AreSeats, AreCounted, OthersAreCounted, world_of, IsSent, IsAfterTurn, IsStep, IsAlive};
+ghost use Rattle.world_core.specs.State.{AreWhole, AreSeats, AreCounted, OthersAreCounted, MaySend, world_of, IsSent, IsAfterTurn, IsStep, IsAlive};
 
 use crate::counts::{Counts, count_all, count_of};
 use crate::inbox::{Inbox, place};
 use node_core::{PicoNode, Sends, Turn, TurnFault};
 use pico_base::{Event, Memory, Node, Script};
 use rpc_frame::Frame;
+use run_laws::enabled_events_have_steps;
 use std::alloc::Global;
-use world_runs::enabled_events_have_steps;
 
 /// A world: nodes by number, what is on its way to each of them, how many events of each may come next, and what the
 /// turns have made, whose entries are the journal and whose frames have all gone their ways between turns.
@@ -123,9 +123,7 @@ fn send(
     from: Node,
     sent: (Node, Frame),
 ) -> Result<(), Memory>
-    requires seats { AreSeats nodes.now inboxes.old.items }
-    requires there { from ≤ length inboxes.old.items }
-    requires counted { counts.old ≡ counts_of nodes.now inboxes.old.items }
+    requires { MaySend from nodes.now inboxes.old.items counts.old }
     ensures sent { OnOk result (inboxes.new.items ≡ with_sent from inboxes.old.items sent) }
     ensures counted { OnOk result (counts.new ≡ counts_of nodes.now inboxes.new.items) }
 {
@@ -146,9 +144,7 @@ fn send_each(
     from: Node,
     sends: &mut Vec<(Node, Frame)>,
 ) -> Result<(), Memory>
-    requires seats { AreSeats nodes.now inboxes.old.items }
-    requires there { from ≤ length inboxes.old.items }
-    requires counted { counts.old ≡ counts_of nodes.now inboxes.old.items }
+    requires { MaySend from nodes.now inboxes.old.items counts.old }
     ensures sent { OnOk result (inboxes.new.items ≡ with_all_sent from inboxes.old.items sends.old.items) }
     ensures counted { OnOk result (counts.new ≡ counts_of nodes.now inboxes.new.items) }
     ensures emptied { sends.new.items ≡ [] }
@@ -170,9 +166,7 @@ fn send_list(
     at: usize,
     sends: &mut Vec<(Node, Frame)>,
 )
-    requires seats { AreSeats nodes.now inboxes.old.items }
-    requires there { from ≤ length inboxes.old.items }
-    requires counted { counts.old ≡ counts_of nodes.now inboxes.old.items }
+    requires ready { MaySend from nodes.now inboxes.old.items counts.old }
     requires place { at < length inboxes.old.items }
     requires free { from_node (get_or inboxes.old.items at []) from ≡ [] }
     requires one { length sends.old.items ≡ 1 }
@@ -195,9 +189,7 @@ fn send_some(
     from: Node,
     sends: &mut Vec<(Node, Frame)>,
 ) -> Result<(), Memory>
-    requires seats { AreSeats nodes.now inboxes.old.items }
-    requires there { from ≤ length inboxes.old.items }
-    requires counted { counts.old ≡ counts_of nodes.now inboxes.old.items }
+    requires ready { MaySend from nodes.now inboxes.old.items counts.old }
     requires some { 0 < length sends.old.items }
     ensures sent { OnOk result (inboxes.new.items ≡ with_all_sent from inboxes.old.items sends.old.items) }
     ensures counted { OnOk result (counts.new ≡ counts_of nodes.now inboxes.new.items) }
@@ -220,9 +212,7 @@ fn send_all(
     from: Node,
     sends: &mut Vec<(Node, Frame)>,
 ) -> Result<(), Memory>
-    requires seats { AreSeats nodes.now inboxes.old.items }
-    requires there { from ≤ length inboxes.old.items }
-    requires counted { counts.old ≡ counts_of nodes.now inboxes.old.items }
+    requires { MaySend from nodes.now inboxes.old.items counts.old }
     ensures sent { OnOk result (inboxes.new.items ≡ with_all_sent from inboxes.old.items sends.old.items) }
     ensures counted { OnOk result (counts.new ≡ counts_of nodes.now inboxes.new.items) }
     ensures emptied { sends.new.items ≡ [] }

@@ -6,15 +6,15 @@ ghost use Rattle.kernel_model.specs.Script.{IsSoundScript};
 ghost use Rattle.world_model.specs.World.{World as MachineWorld, size, opening_world, is_enabled};
 ghost use Rattle.world_model.specs.Run.{IsRunOf, IsAtRest};
 ghost use Rattle.world_model.specs.Schedule.{enabled_events, in_turn};
-ghost use Rattle.world_rest.specs.Laws.{IsQuiet};
+ghost use Rattle.rest_laws.specs.Laws.{IsQuiet};
 ghost use Rattle.world_core.specs.Stepped.{IsStepped};
 
 use crate::streaming::StreamingWorld;
 use pico_base::{Entries, Event, Memory, Node, Script};
+use rest_laws::{rest_is_quiet, rest_is_whole};
+use run_laws::journals_are_legal;
 use std::alloc::Global;
 use std::marker::Model;
-use world_rest::{rest_is_quiet, rest_is_whole};
-use world_runs::journals_are_legal;
 
 /// A world of picoprocesses that runs a script. Contracts see a world of the machine, which a run of the script has led
 /// to, or none where the world is spent: an allocation was refused in the middle of a step.

@@ -1,6 +1,5 @@
 -- What a node's turn changes in a world: the node's own state; a frame is gone from the head of a stream to it; and
--- what
--- it sent stands at the ends of the streams from it. In the middle of an event it is the same.
+-- what it sent stands at the ends of the streams from it. In the middle of an event it is the same.
 use Rattle.std.proofs.Common.{◌≡◌, ◌≢◌, ℕ, Bool, true, false, List, [], ◌∷◌, ◌++◌, filter, flat_map, nat_eq, refl, ap, sym, subst, ◌∙◌, inl, inr, append-nil}
 use Rattle.std.specs.List.{AllByRecursion}
 use Rattle.std.proofs.lemmas.Bool.{cases_eq, eq-eqb, ne_eqb}

@@ -6,19 +6,18 @@ use Rattle.std.proofs.lemmas.List.Elements.{Contains-append_cases, Contains-push
 use Rattle.pico_base.specs.declared.numbers.Kind.{Kind}
 use Rattle.pico_base.specs.declared.numbers.Name.{Name}
 use Rattle.pico_base.specs.declared.numbers.Name.TheVariants.{Proc}
-use Rattle.rpc_frame.specs.declared.deed.Parcel.{Parcel}
 use Rattle.rpc_frame.specs.declared.frame.Frame.{Frame}
 use Rattle.rpc_frame.specs.declared.frame.Frame.TheVariants as frames
 use Rattle.node_model.specs.Kinds.{is_same_name}
 use Rattle.node_model.specs.Directory.{has_deed_of}
 use Rattle.world_model.specs.Census.{brings}
+use Rattle.world_model.specs.World.{is_checkpoint}
 use Rattle.world_laws.specs.Places.{CallPlace}
 use Rattle.world_laws.specs.Plays.{is_call_on, is_sent_by_place, steps_of, steps_if, Comes, Goes, IsNeeded, plays, is_checkpoint_of, placed_by, placed_in, news_of, news_if, Tells, NeedsPlace, news}
 use Rattle.world_laws.specs.Names.{leases_name, is_sent_by_range, range_steps_of, range_steps_if, IsSentThere, IsLeased}
 use Rattle.world_laws.specs.Callers.{is_about}
 use Rattle.world_laws.specs.Ways.{is_leaving_frame, is_recall_all, is_left_frame}
 use Rattle.world_laws.specs.Ranges.{lease_in}
-use Rattle.world_laws.specs.Families.{is_checkpoint_frame}
 use Rattle.world_laws.proofs.Sends.{frame_if, frames_with}
 
 -- ---- lists of frames
@@ -268,11 +267,11 @@ no-left frame h = refl
 
 -- none of them brings a process
 abbrev pub BringNoBirth : List (ℕ × Frame) → Type 0
-BringNoBirth pairs = AllByRecursion (λ s. is_checkpoint_frame s.1 ≡ false) pairs
+BringNoBirth pairs = AllByRecursion (λ s. is_checkpoint s.1 ≡ false) pairs
 
 -- no Checkpoint
-pub no-birth : (frame : Frame) → is_checkpoint_frame frame ≡ false → filter is_checkpoint_frame (frame ∷ []) ≡ []
-no-birth frame h = dropped is_checkpoint_frame frame h
+pub no-birth : (frame : Frame) → is_checkpoint frame ≡ false → filter is_checkpoint (frame ∷ []) ≡ []
+no-birth frame h = dropped is_checkpoint frame h
 
 -- none of them brings new numbers
 abbrev pub BringNoLease : List (ℕ × Frame) → Type 0

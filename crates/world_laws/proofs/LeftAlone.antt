@@ -17,7 +17,7 @@ use Rattle.kernel_model.specs.Kernel.{Kernel, living_at}
 use Rattle.kernel_model.specs.Fitting.{Places}
 use Rattle.kernel_model.specs.Footprint.{used_of}
 use Rattle.number_maps.specs.Maps.{is_used}
-use Rattle.kernel_moves.specs.Entering.{is_used_name}
+use Rattle.entry_laws.specs.Entering.{is_used_name}
 use Rattle.node_model.specs.declared.held.Held.{Held}
 use Rattle.node_model.specs.declared.held.Held.TheVariants.{Ending}
 use Rattle.node_model.specs.Kinds.{get_named, for_kind}
@@ -25,7 +25,7 @@ use Rattle.node_model.specs.Directory.{Directory, place_of, maker, stays, held_f
 use Rattle.node_model.specs.Bodies.{body_in}
 use Rattle.world_model.specs.Node.{Node, Left}
 use Rattle.world_model.specs.Census.{brings}
-use Rattle.world_model.specs.World.{World, numbers, node_count}
+use Rattle.world_model.specs.World.{World, numbers, node_count, is_checkpoint}
 use Rattle.world_laws.specs.Places.{CallPlace, DeedPlace, Beside}
 use Rattle.world_laws.specs.Sights.{node_of, frames_to, directory_of, stage_of, is_born_in}
 use Rattle.world_laws.specs.Plays.{begin, has_any, is_checkpoint_of, plays, placed_in, news}
@@ -33,7 +33,7 @@ use Rattle.world_laws.specs.Names.{name_sight, held_at, comes_to, is_maker, rang
 use Rattle.world_laws.specs.Callers.{call_sight, is_about, is_item_about}
 use Rattle.world_laws.specs.Ways.{way_sight, is_leaving_frame, is_recall_all, is_left_frame, under_way_of, IsParcelIn, left as left_in, sent as sent_in, kept as kept_in, at_hand, HasSender}
 use Rattle.world_laws.specs.Ranges.{kind_sight, lease_in, lease_at, has_lease, leases_on_way, FewRanges, one_for}
-use Rattle.world_laws.specs.Families.{NodeHolds, FamilyHolds, checkpoints_to, is_checkpoint_frame}
+use Rattle.world_laws.specs.Families.{NodeHolds, FamilyHolds, checkpoints_to}
 use Rattle.world_laws.specs.Invariant.{MayBe, FramesFit}
 use Rattle.world_laws.proofs.Sends.{frame_if, frames_with}
 use Rattle.world_laws.proofs.Stays.{IsMore, SameName, SameCall, SameWay, SameKind, node-born, may-be-born}
@@ -370,8 +370,8 @@ module _ (script : Script) (p : ℕ) (w w' : World) (n : Node) (takes sends : Li
       subst (λ stage. FamilyHolds script pids places k deed' (checkpoints_to script w' x) stage x)
       (sym (stage-same (cases_eq x p)))
       (subst (λ fs. FamilyHolds script pids places k deed' fs (stage_of w x) x)
-      (sym (same-made (λ t s fs. filter is_checkpoint_frame fs)
-      (λ t s. filter-is-list-map is_checkpoint_frame)
+      (sym (same-made (λ t s fs. filter is_checkpoint fs)
+      (λ t s. filter-is-list-map is_checkpoint)
       (all-weaker (λ s. no-birth s.1) takes plain_taken)
       (all-weaker (λ s. no-birth s.1) sends plain_sent) x (forker script x)))
       (subst (λ (f : ℕ → DeedPlace). FamilyHolds script pids places k f (checkpoints_to script w x) (stage_of w x) x)

@@ -2,7 +2,7 @@
 use Rattle.std.specs.Prelude.{◌≡◌, true, Some}
 use Rattle.pico_base.specs.declared.numbers.Name.{Name}
 use Rattle.kernel_model.specs.Kernel.{Kernel}
-use Rattle.kernel_moves.specs.Entering.{is_used_name}
+use Rattle.entry_laws.specs.Entering.{is_used_name}
 use Rattle.node_model.specs.Bodies.{body_in}
 use Rattle.node_model.specs.Spelling.{pack, read_deed}
 

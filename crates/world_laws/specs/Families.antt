@@ -14,12 +14,12 @@ use Rattle.kernel_model.specs.Kernel as kernel
 use Rattle.kernel_model.specs.Valid.{ListsEnded}
 use Rattle.kernel_model.specs.Script.{Vars}
 use Rattle.kernel_model.specs.Fitting.{Place, Places, block_place, block_at}
-use Rattle.kernel_moves.specs.Entering.{IsChildIn}
+use Rattle.entry_laws.specs.Entering.{IsChildIn}
 use Rattle.node_model.specs.Kinds.{none_named, get_named}
 use Rattle.node_model.specs.Bodies.{Living as LivingBody, Deeds}
 use Rattle.world_model.specs.Node.{Node, Stage, Unborn, Living, Leaving, Left, Over, unborn_node}
 use Rattle.world_model.specs.Lives.{names_block, is_new_row}
-use Rattle.world_model.specs.World.{World, node_count}
+use Rattle.world_model.specs.World.{World, node_count, is_checkpoint}
 use Rattle.world_laws.specs.Places.{DeedPlace, InTable, InCheckpoint, InLeft, InKept, InHand, InExitTo}
 use Rattle.world_laws.specs.Sights.{frames_to}
 use Rattle.world_laws.specs.Names.{forker}
@@ -130,17 +130,13 @@ pub record IsCheckpointFor (script : Script) (pids : ℕ → ℕ) (places : Plac
   pub is : frame ≡ frames.Checkpoint (pids c) (pids (forker script c)) packed vars
   pub place : get places (pids c) ≡ Some (block_place (block_at script c) vars)
 
-abbrev pub is_checkpoint_frame : Frame → Bool
-is_checkpoint_frame (frames.Checkpoint pid parent deed vars) = true
-is_checkpoint_frame frame = false
-
 abbrev pub CheckpointIn : Script → (ℕ → ℕ) → Places → ℕ → List Frame → DeedPlace → Type 0
 CheckpointIn script pids places c checkpoints (InCheckpoint to) =
     (frame : Frame) × (checkpoints ≡ frame ∷ []) × IsCheckpointFor script pids places c frame
 CheckpointIn script pids places c checkpoints place = Unit {0}
 
 abbrev pub checkpoints_to : Script → World → ℕ → List Frame
-checkpoints_to script w c = filter is_checkpoint_frame (frames_to w c (forker script c))
+checkpoints_to script w c = filter is_checkpoint (frames_to w c (forker script c))
 
 -- and that is new: it has no children, and nothing ends it
 abbrev pub IsNewAt : Process → DeedPlace → Type 0

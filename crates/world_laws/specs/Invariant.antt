@@ -8,7 +8,7 @@ use Rattle.rpc_frame.specs.declared.deed.Parcel.{Parcel}
 use Rattle.rpc_frame.specs.declared.frame.Frame.{Frame}
 use Rattle.rpc_frame.specs.declared.frame.Frame.TheVariants as frames
 use Rattle.pico_base.specs.declared.numbers.Name.TheVariants.{Proc}
-use Rattle.kernel_moves.specs.Entering.{HasHistory}
+use Rattle.entry_laws.specs.Entering.{HasHistory}
 use Rattle.number_maps.specs.Rising.{IsRising}
 use Rattle.node_model.specs.declared.held.Held.{Held}
 use Rattle.node_model.specs.Kinds.{is_object}

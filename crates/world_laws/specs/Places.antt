@@ -24,8 +24,7 @@ pub data DeedPlace : Type 0 where
   InExitTo : (of : ℕ) (to : ℕ) → DeedPlace
 
 -- A call is under way nowhere; at its caller while numbers are asked for and come; in a frame to or from a node; held
--- for
--- a name; in the leader's hand; carried out, with its reply on its way; or it ends its process.
+-- for a name; in the leader's hand; carried out, with its reply on its way; or it ends its process.
 pub data CallPlace : Type 0 where
   Idle : CallPlace
   AsksLease : (kind : Kind) → CallPlace

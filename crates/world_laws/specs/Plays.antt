@@ -59,10 +59,6 @@ abbrev pub is_sent_by_place : CallPlace → Bool
 is_sent_by_place (SentByPlace to) = true
 is_sent_by_place place = false
 
-abbrev pub is_home_at : Name → Home → Bool
-is_home_at name (homes.At other) = is_same_name name other
-is_home_at name home = false
-
 -- a call on the name, a removal or not
 abbrev pub is_home_on : Name → Home → Bool
 is_home_on name (homes.At other) = is_same_name name other

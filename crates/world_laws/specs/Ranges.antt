@@ -8,7 +8,7 @@ use Rattle.rpc_frame.specs.declared.frame.Frame.TheVariants as frames
 use Rattle.number_maps.specs.Maps.{is_used}
 use Rattle.kernel_model.specs.Kernel.{Kernel}
 use Rattle.kernel_model.specs.Footprint.{used_of}
-use Rattle.kernel_moves.specs.Entering.{HasKeys}
+use Rattle.entry_laws.specs.Entering.{HasKeys}
 use Rattle.node_model.specs.Kinds.{for_kind, is_same_kind}
 use Rattle.node_model.specs.Directory.{Directory, maker_in, range_size}
 use Rattle.node_model.specs.Leases.{lease_of}

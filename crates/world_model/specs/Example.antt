@@ -1,14 +1,14 @@
 -- Words of the worked examples.
-use Rattle.std.specs.Prelude.{ℕ, ℤ, Bool, true, false, List, [], ◌∷◌, Option, Some, None}
+use Rattle.std.specs.Prelude.{ℕ, true, false, List, [], ◌∷◌, ◌++◌, Option, Some, None}
 use Rattle.pico_base.specs.declared.call.Call.{Call}
-use Rattle.pico_base.specs.declared.call.SemStep.{SemStep}
 use Rattle.pico_base.specs.declared.reply.Entry.{Entry}
 use Rattle.pico_base.specs.declared.script.Line.{Line}
 use Rattle.pico_base.specs.declared.script.Block.{Block}
 use Rattle.pico_base.specs.declared.script.Script.{Script}
 use Rattle.pico_base.specs.declared.script.Event.{Event}
-use Rattle.pico_base.specs.declared.signal.PerSignal.{PerSignal}
-use Rattle.pico_base.specs.Signal.{everywhere}
+use Rattle.rpc_frame.specs.declared.frame.Frame.{Frame}
+use Rattle.world_model.specs.Step.{Step}
+use Rattle.world_model.specs.Turn.{take_frame}
 use Rattle.world_model.specs.World.{World, step, is_enabled}
 use Rattle.world_model.specs.Schedule.{enabled_events}
 
@@ -21,11 +21,14 @@ block name lines = record { name = name; lines = lines }
 abbrev pub script : List Block → Script
 script blocks = record { blocks = blocks }
 
-abbrev pub semop_step : ℕ → ℤ → Bool → SemStep
-semop_step num add nowait = record { num = num; add = add; nowait = nowait }
-
-abbrev pub no_signals : PerSignal Bool
-no_signals = everywhere false
+-- what a node enters as it takes these frames, each from a node
+abbrev pub entries_after : Script → Step → List (ℕ × Frame) → Option (List Entry)
+entries_after script s [] = Some s.entries
+entries_after script s ((«from», frame) ∷ frames) =
+    elim (take_frame script s.node «from» frame) [
+      | None ↦ None
+      | Some next ↦ entries_after script (record next { entries = s.entries ++ next.entries }) frames
+    ]
 
 -- the world after these events, where each is enabled when it comes
 abbrev pub after_events : World → List Event → Option World

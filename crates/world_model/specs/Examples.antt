@@ -1,17 +1,25 @@
 -- Worked examples, computed by the checker: a script, events, and the journal of the run.
-use Rattle.std.specs.Prelude.{◌≡◌, pos, true, false, List, [], ◌∷◌, Some, None, refl, codes}
+use Rattle.std.specs.Prelude.{◌≡◌, ℕ, pos, true, false, List, [], ◌∷◌, Some, None, refl, codes}
 use Rattle.pico_base.specs.declared.call.Call.TheVariants as calls
-use Rattle.pico_base.specs.declared.reply.Errno.TheVariants.{Esrch, Enomsg}
+use Rattle.pico_base.specs.declared.reply.Errno.TheVariants.{Einval, Enoent, Enomsg, Esrch}
 use Rattle.pico_base.specs.declared.reply.Reply.TheVariants.{Num, Child, Message, Ended, Fail}
 use Rattle.pico_base.specs.declared.reply.Ending.TheVariants.{Exited}
 use Rattle.pico_base.specs.declared.signal.SigArg.TheVariants.{Zero}
 use Rattle.pico_base.specs.declared.script.Script.{Script}
 use Rattle.pico_base.specs.declared.script.Event.{Event}
 use Rattle.pico_base.specs.declared.script.Event.TheVariants.{Run, Take}
-use Rattle.world_model.specs.Step.{entry_by}
+use Rattle.pico_base.specs.declared.numbers.Name.TheVariants.{Msg}
+use Rattle.rpc_frame.specs.declared.frame.Frame.{Frame}
+use Rattle.rpc_frame.specs.declared.frame.Frame.TheVariants as frames
+use Rattle.kernel_model.specs.Queue.{empty_queue}
+use Rattle.node_model.specs.Bodies.{Body, AQueue, Removed}
+use Rattle.node_model.specs.Directory.{place_name}
+use Rattle.world_model.specs.Node.{Leader, Node, first_node, opening_leader}
+use Rattle.world_model.specs.Routing.{bind}
+use Rattle.world_model.specs.Step.{entry_by, step_to, with_directory, with_leader}
 use Rattle.world_model.specs.World.{opening_world}
-use Rattle.world_model.specs.Example.{line, block, script, journal_of, at_rest_journal}
-use Rattle.node_model.specs.Spelling.{read_deed, read_body, body_bytes, row_bytes, read_process, read_row, read_signals, read_family, read_queue, read_set}
+use Rattle.world_model.specs.Example.{line, block, script, entries_after, journal_of, at_rest_journal}
+use Rattle.node_model.specs.Spelling.{pack, read_deed, read_body, body_bytes, row_bytes, read_process, read_row, read_signals, read_family, read_queue, read_set}
 use Rattle.signal_state.specs.Spelling.{signal_bytes}
 use Rattle.fork_wait.specs.Spelling.{family_bytes}
 use Rattle.fork_wait.specs.Reading.{family_at, numbers_at, all_ended_at, ended_at}
@@ -447,3 +455,38 @@ unfolding read_deed read_body body_bytes row_bytes read_process read_row read_si
     byte_upto number_upto text_at class_at message_at messages_at queue_fields_at queue_at semaphore_at
     semaphores_at set_fields_at counted_at set_at
 set_goes_home_journal = refl
+
+-- Key 7 leads to queue 1, which node 2 owns by now. Node 3 removes it, and the deed comes back with this body.
+abbrev pub moved_queue : Node
+moved_queue =
+    let l : Leader = record opening_leader { queue_keys = bind [] 7 1 0 }
+    in with_directory (with_leader first_node l) (place_name l.directory (Msg 1) 2)
+
+abbrev pub removes_and_gets : Body → List (ℕ × Frame)
+removes_and_gets body =
+    (3, frames.Ask 1 3 (calls.MsgRmid 1)) ∷ (2, frames.GiveBack (pack (Msg 1) body))
+    ∷ (3, frames.Ask 2 3 (calls.MsgGet (Some 7) false false)) ∷ []
+
+-- no key leads to what is removed
+pub removed_queue_entries :
+    entries_after both_find_nothing (step_to moved_queue) (removes_and_gets (AQueue empty_queue)) ≡ Some (
+    entry_by 1 3 (calls.MsgRmid 1) (Num 0)
+    ∷ entry_by 1 3 (calls.MsgGet (Some 7) false false) (Fail Enoent)
+    ∷ [])
+unfolding read_deed read_body body_bytes row_bytes read_process read_row read_signals read_family
+    read_queue read_set signal_bytes family_bytes family_at numbers_at all_ended_at ended_at
+    byte_upto number_upto text_at class_at message_at messages_at queue_fields_at queue_at semaphore_at
+    semaphores_at set_fields_at counted_at set_at
+removed_queue_entries = refl
+
+-- and a removal that is refused, which no run has, leaves the key
+pub refused_removal_entries : entries_after both_find_nothing (step_to moved_queue) (removes_and_gets Removed)
+    ≡ Some (
+    entry_by 1 3 (calls.MsgRmid 1) (Fail Einval)
+    ∷ entry_by 1 3 (calls.MsgGet (Some 7) false false) (Num 1)
+    ∷ [])
+unfolding read_deed read_body body_bytes row_bytes read_process read_row read_signals read_family
+    read_queue read_set signal_bytes family_bytes family_at numbers_at all_ended_at ended_at
+    byte_upto number_upto text_at class_at message_at messages_at queue_fields_at queue_at semaphore_at
+    semaphores_at set_fields_at counted_at set_at
+refused_removal_entries = refl

@@ -54,7 +54,7 @@ take_from_next n kind =
     then take_first (with_next_range n kind) kind (lease_of (upcoming d kind))
     else None
 
--- the next number of a node's lease; the leader's lease never ends
+-- the next number of a node's lease; where the leader's is used up, the first of its next range, if there is one
 abbrev pub take_from : Node → Kind → List ℕ → Option Taken
 take_from n kind (number ∷ numbers) = take_first n kind (number ∷ numbers)
 take_from n kind [] = if is_leader n then take_from_next n kind else None

@@ -1,5 +1,5 @@
 -- The leader sends calls and ends to where they can be carried out.
-use Rattle.std.specs.Prelude.{ℕ, zero, suc, ◌+◌, not, ◌||◌, nat_eq, nat_le, List, [], ◌∷◌, ◌++◌, length, map, fold, if◌then◌else◌, Option, Some, None, Result, Ok, Err, count_by}
+use Rattle.std.specs.Prelude.{ℕ, zero, suc, ◌+◌, Bool, true, false, not, ◌||◌, nat_eq, nat_le, List, [], ◌∷◌, ◌++◌, length, map, fold, if◌then◌else◌, Option, Some, None, Result, Ok, Err, count_by}
 use Rattle.std.specs.List.{filter, flat_map}
 use Rattle.std.specs.Option.{option_map, option_and_then}
 use Rattle.pico_base.specs.declared.call.Call.{Call}
@@ -31,7 +31,7 @@ use Rattle.node_model.specs.declared.route.Route.{Route}
 use Rattle.node_model.specs.declared.route.Route.TheVariants as routes
 use Rattle.node_model.specs.Kinds.{get_named, put_named, put_all}
 use Rattle.node_model.specs.Directory.{Directory, Place, At, Coming, place_of, place_name, route, recall, hold, held_for, arrive, is_parcel, parcels_held}
-use Rattle.node_model.specs.Bodies.{Body, AQueue, ASet}
+use Rattle.node_model.specs.Bodies.{Body, AQueue, ASet, Removed}
 use Rattle.node_model.specs.Parcels.{fitting_bodies, commit_exit}
 use Rattle.world_model.specs.Node.{Node, Leader}
 use Rattle.world_model.specs.Step.{Step, with_node, with_deeds, with_leader, with_directory, send, enter, carry_out}
@@ -104,20 +104,30 @@ get_by_key script step asked call = None
 abbrev pub hold_item : Step → Name → Held → Step
 hold_item step name item = with_node step (with_directory step.node (hold step.node.leader.directory name item))
 
--- a removal at another node waits until the name's deed has come
+-- the name's deed is asked back from its owner, and goes to this node then, if to one
 abbrev pub recall_from : Step → Name → Option ℕ → ℕ → Step
 recall_from step name to owner =
     send (with_node step (with_directory step.node (recall step.node.leader.directory name to))) owner
     (frames.Recall name)
 
+-- a removal at another node waits until the name's deed has come
 abbrev pub recall_and_hold : Step → Name → Held → ℕ → Step
 recall_and_hold step name item owner =
     let d : Directory = hold (recall step.node.leader.directory name None) name item
     in send (with_node step (with_directory step.node d)) owner (frames.Recall name)
 
--- no key leads to a name that was removed
-abbrev pub unbind_name : Name → Step → Step
-unbind_name name step = with_node step (with_leader step.node (without_key step.node.leader name))
+-- whether a name with this body was removed already
+abbrev pub was_removed : Option Body → Bool
+was_removed (Some Removed) = true
+was_removed body = false
+
+-- No key leads to a name once it is removed. A removal of what was removed already is refused, and the keys stay.
+abbrev pub keys_after : Bool → Leader → Name → Leader
+keys_after true l name = l
+keys_after false l name = without_key l name
+
+abbrev pub unbind_name : Bool → Name → Step → Step
+unbind_name refused name step = with_node step (with_leader step.node (keys_after refused step.node.leader name))
 
 abbrev pub forward : Step → ℕ → Asked → Step
 forward step to asked = send step to (frames.Forward asked)
@@ -129,11 +139,16 @@ route_by script step name asked routes.Coming = Some (hold_item step name (Reque
 route_by script step name asked (routes.Range node) = Some (forward step node asked)
 route_by script step name asked routes.Nobody = Some (serve_nobody script step name asked)
 
+-- a removal of a name that is at this node
+abbrev pub remove_here : Script → Step → Name → Asked → Option Step
+remove_here script step name asked =
+    option_map (unbind_name (was_removed (get_named step.node.deeds name)) name) (serve_asked script step name asked)
+
 -- a removal is carried out by the leader alone
 abbrev pub remove_by : Script → Step → Name → Asked → Route → Option Step
 remove_by script step name asked (routes.At node) =
     if nat_eq node step.node.number
-    then option_map (unbind_name name) (serve_asked script step name asked)
+    then remove_here script step name asked
     else Some (recall_and_hold step name (Request asked) node)
 remove_by script step name asked elsewhere = route_by script step name asked elsewhere
 
@@ -155,13 +170,14 @@ route_call script step asked = route_home script step asked (home_of asked.pid a
 abbrev pub names_in : Parcel → List Name
 names_in parcel = map (λ deed. deed.name) parcel.deeds
 
--- What was held for these names, in order. Then they are at this node.
+-- what is held for these names, in order
 abbrev pub held_for_all : Directory → List Name → List Held
 held_for_all d names = flat_map (held_for d) names
 
 abbrev pub arrive_at : ℕ → Directory → Name → Directory
 arrive_at node d name = arrive d name node
 
+-- these names are at this node, and nothing is held for them any more
 abbrev pub arrive_all : Directory → List Name → ℕ → Directory
 arrive_all d names node = fold (arrive_at node) d names
 

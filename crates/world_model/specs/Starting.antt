@@ -38,8 +38,8 @@ carry_out_own script step call s =
 abbrev pub act : Script → Step → Call → Option Step
 act script step call = option_map (carry_out_own script step call) (serve step.node.deeds step.node.pid call)
 
--- A call that takes a number is carried out with the next number of the node's lease. Where that is used up the leader
--- is asked for more, which needs none itself.
+-- A call that takes a number is carried out with the next number of the node's lease. Where that is used up the node
+-- asks the leader for a range, and the leader takes its own next one.
 abbrev pub start_making : Script → Step → Call → Kind → Option Step
 start_making script step call kind =
     if is_used_up (for_kind step.node.leases kind) && not (is_leader step.node)

@@ -7,7 +7,7 @@ ghost use Rattle.kernel_model.specs.Effect.{is_fresh, on_named, look_up};
 ghost use Rattle.kernel_model.specs.SetCalls.{new_set_of, find_set, get_set, change_set, set_size, operate, all_values, remove_set};
 ghost use Rattle.kernel_model.specs.Waiting.{may_wait};
 ghost use Rattle.mono_kernel.specs.Names.{keys_with, bound_to};
-ghost use Rattle.call_answers.specs.Answers.{reply_to};
+ghost use Rattle.answer_laws.specs.Answers.{reply_to};
 ghost use Rattle.mono_kernel.specs.Answers.{Answers};
 
 use crate::fault::CallFault;

@@ -1,6 +1,6 @@
 use Rattle.std.proofs.Common.{sym}
 use Rattle.mono_kernel.proofs.ResultLemmas.{err_anyway}
-use Rattle.call_answers.proofs.Landing.{step-lands, same-lands}
+use Rattle.answer_laws.proofs.Landing.{step-lands, same-lands}
 use Rattle.mono_kernel.proofs.maps.op_at.Goals as goal
 
 pub returns-in_err-op-in-Some-clause-err : goal.returns-in_err-op-in-Some-clause-err

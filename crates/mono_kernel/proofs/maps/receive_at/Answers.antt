@@ -1,6 +1,6 @@
 use Rattle.std.proofs.Common.{sym, rules, SFits, w32}
 use Rattle.std.proofs.lemmas.Int.{to_z-of_z}
-use Rattle.call_answers.proofs.Landing.{received-lands, refused-lands}
+use Rattle.answer_laws.proofs.Landing.{received-lands, refused-lands}
 use Rattle.mono_kernel.proofs.maps.receive_at.Goals as goal
 
 pub returns-in-Ok : goal.returns-in-Ok

@@ -1,7 +1,7 @@
 use Rattle.std.proofs.Common.{sym, rules, SFits, w32}
 use Rattle.std.proofs.lemmas.Int.{to_z-of_z}
 use Rattle.mono_kernel.proofs.ResultLemmas.{err_anyway}
-use Rattle.call_answers.proofs.Landing.{step-lands, same-lands}
+use Rattle.answer_laws.proofs.Landing.{step-lands, same-lands}
 use Rattle.mono_kernel.proofs.maps.send_at.Goals as goal
 
 pub returns-in_err-send-in-Some-clause-err : goal.returns-in_err-send-in-Some-clause-err

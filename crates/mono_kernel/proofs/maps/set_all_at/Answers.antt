@@ -1,5 +1,5 @@
 use Rattle.std.proofs.Common.{sym}
-use Rattle.call_answers.proofs.Landing.{step-lands}
+use Rattle.answer_laws.proofs.Landing.{step-lands}
 use Rattle.mono_kernel.proofs.maps.set_all_at.Goals as goal
 
 pub returns-in-Some : goal.returns-in-Some

@@ -15,7 +15,7 @@ loop-line-preserved c =
     elim c.if-may_look.branch [
       | then-may_look w ↦
           LookedSoFar-nothing _ _ _ _ _ _ d _ _ c.loop-line.invariant below (tested ∙ w.if-may_look.true)
-          w.was_empty.ensures refl w.lines-is
+          w.were_empty.ensures refl w.lines-is
       | else-may_look w ↦
           LookedSoFar-passed _ _ _ _ _ d _ _ c.loop-line.invariant below (tested ∙ w.if-may_look.false) refl w.lines-is
     ]

@@ -23,8 +23,8 @@ loop-preserved-in-Piece g c = record {
       c.turn.ensures.lines c.turn.ensures.seat c.turn.ensures.number;
 }
 
-pub loop-preserved-then-quiet-eq0 : goal.loop-preserved-then-quiet-eq0
-loop-preserved-then-quiet-eq0 g c = record {
+pub loop-preserved-then-quiet-eq-FIRST : goal.loop-preserved-then-quiet-eq-FIRST
+loop-preserved-then-quiet-eq-FIRST g c = record {
   can_next = tt;
   is_finite = tt;
   turning =

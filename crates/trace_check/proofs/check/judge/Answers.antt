@@ -1,11 +1,12 @@
 use Rattle.std.proofs.Common.{◌≡◌, ◌∙◌, ℕ, ◌+◌, ◌-◌, ◌<◌, [], ◌∷◌, ◌++◌, length, refl, sym, ap, subst, arith, length-append}
 use Rattle.trace_text.specs.Reading.{is_line}
+use Rattle.trace_text.specs.Totals.{Counts}
 use Rattle.trace_text.proofs.EntryLaws.{entry-takes}
 use Rattle.trace_text.proofs.ReadLaws.{fits-room}
 use Rattle.trace_check.specs.FirstFault.{Gives, GivesFault, judge_totals, first_unended}
 use Rattle.trace_check.specs.Judging.{CountsEntry, progress_of}
 use Rattle.trace_check.specs.Cursors.{AreSteady, places_of}
-use Rattle.trace_check.specs.Tally.{Counts, line_of}
+use Rattle.trace_check.specs.Tally.{line_of}
 use Rattle.trace_check.proofs.Cases.{judge-starts, judge-full, judge-end, judge-unfit, judge-whole, judge-none, judge-fault, judge-next}
 use Rattle.trace_check.proofs.TallyLaws.{counts-push}
 use Rattle.trace_check.proofs.check.judge.Goals as goal

@@ -3,7 +3,7 @@ use Rattle.pico_base.specs.declared.reply.Entry.{Entry}
 use Rattle.trace_check.specs.Cursors.{AreSteady}
 use Rattle.trace_check.specs.FirstFault.{judge_from, verdict_of}
 use Rattle.trace_check.specs.Judging.{progress_of}
-use Rattle.trace_check.specs.Tally.{counts_of}
+use Rattle.trace_text.specs.Totals.{counts_of}
 use Rattle.trace_check.proofs.check.judge.Given as goal
 
 -- the entries so far, and the lines that are left behind them

@@ -7,10 +7,10 @@ use Rattle.node_core.proofs.node.PicoNode.run_onto.Goals as goal
 
 pub returns : goal.returns
 returns c =
-    turned_as c.args.script.now c.args.self.now c.settle.new.self c.in-Some.node c.run_onto-turned.new.self inputs.Run
-    c.args.made.now c.run_onto-turned.new.made c.run_onto-turned.result c.settle.result
+    turned_as c.args.script.now c.args.self.now c.settle.new.self c.in-Some.node c.run_behind-turned.new.self inputs.Run
+    c.args.made.now c.run_behind-turned.new.made c.run_behind-turned.result c.settle.result
     (sym c.self.view_is ∙ c.in-Some.is)
-    (subst (λ (step : Option Step). Follows step c.in-Some.node c.run_onto-turned.new.self c.args.made.now
-    c.run_onto-turned.new.made c.run_onto-turned.result) (sym (step_of-run c.args.script.now c.in-Some.node))
-    c.run_onto-turned.ensures)
+    (subst (λ (step : Option Step). Follows step c.in-Some.node c.run_behind-turned.new.self c.args.made.now
+    c.run_behind-turned.new.made c.run_behind-turned.result) (sym (step_of-run c.args.script.now c.in-Some.node))
+    c.run_behind-turned.ensures)
     c.settle.ensures.same c.settle.ensures.memory c.settle.ensures.left

@@ -7,12 +7,12 @@ use Rattle.node_core.proofs.node.PicoNode.take_onto.Goals as goal
 
 pub returns : goal.returns
 returns c =
-    turned_as c.args.script.now c.args.self.now c.settle.new.self c.in-Some.node c.take_onto-turned.new.self
+    turned_as c.args.script.now c.args.self.now c.settle.new.self c.in-Some.node c.take_behind-turned.new.self
     (inputs.Take c.args.from c.args.frame)
-    c.args.made.now c.take_onto-turned.new.made c.take_onto-turned.result c.settle.result
+    c.args.made.now c.take_behind-turned.new.made c.take_behind-turned.result c.settle.result
     (sym c.self.view_is ∙ c.in-Some.is)
-    (subst (λ (step : Option Step). Follows step c.in-Some.node c.take_onto-turned.new.self c.args.made.now
-    c.take_onto-turned.new.made c.take_onto-turned.result)
+    (subst (λ (step : Option Step). Follows step c.in-Some.node c.take_behind-turned.new.self c.args.made.now
+    c.take_behind-turned.new.made c.take_behind-turned.result)
     (sym (step_of-take c.args.script.now c.in-Some.node c.args.from c.args.frame))
-    c.take_onto-turned.ensures)
+    c.take_behind-turned.ensures)
     c.settle.ensures.same c.settle.ensures.memory c.settle.ensures.left

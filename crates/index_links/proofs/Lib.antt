@@ -1,0 +1,12 @@
+mod Added
+mod AtHand
+mod Classes
+mod Linked
+mod Paths
+mod Placed
+mod Removed
+mod Seen
+mod Splits
+mod Standing
+mod Steps
+mod Views

@@ -1,5 +1,0 @@
-use Rattle.node_ends.proofs.Read.{not-held}
-use Rattle.node_ends.proofs.fitting.is_held_none.Goals as goal
-
-pub returns : goal.returns
-returns c = not-held c.args.deeds.now.bodies c.args.entry.now.0 c.has.result c.has.ensures

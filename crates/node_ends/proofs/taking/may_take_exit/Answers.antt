@@ -1,9 +1,0 @@
-use Rattle.std.proofs.Common.{ap, not}
-use Rattle.node_ends.proofs.Read.{and-on}
-use Rattle.node_ends.proofs.Takes.{any-name}
-use Rattle.node_ends.proofs.taking.may_take_exit.Goals as goal
-
-pub returns-then-is_from_leader : goal.returns-then-is_from_leader
-returns-then-is_from_leader c =
-    rw any-name
-    (and-on _ _ _ _ c.if-is_from_leader.true c.is_from_leader.ensures (ap not c.hold_any.ensures))

@@ -1,0 +1,12 @@
+pub mod Views
+pub mod Counts
+pub mod Numbers
+pub mod Brought
+pub mod Deeds
+pub mod Parcels
+pub mod Families
+pub mod CallPlaces
+pub mod CallCounts
+pub mod Ends
+pub mod Calls
+pub mod Worlds

@@ -1,0 +1,222 @@
+-- An event that carries out one call: it makes an entry and moves that call, and brings no process to life or to its
+-- end. What is left to show is that call, the names, the numbers that may be new, the keys, and the node at work.
+use Rattle.std.proofs.Common.{◌≡◌, ◌≢◌, ℕ, ◌+◌, ◌≤◌, true, false, List, [], length, sum_by, Contains, filter, flat_map, refl, ap, sym, subst, ◌∙◌, inl, inr, arith}
+use Rattle.std.specs.List.{AllByRecursion}
+use Rattle.std.proofs.lemmas.Bool.{cases_eq, false≢true}
+use Rattle.std.proofs.lemmas.List.{length-append}
+use Rattle.pico_base.specs.declared.numbers.Kind.{Kind}
+use Rattle.pico_base.specs.declared.numbers.Name.{Name}
+use Rattle.pico_base.specs.declared.numbers.Name.TheVariants.{Proc}
+use Rattle.pico_base.specs.declared.reply.Entry.{Entry}
+use Rattle.pico_base.specs.declared.script.Script.{Script}
+use Rattle.rpc_frame.specs.declared.deed.Parcel.{Parcel}
+use Rattle.rpc_frame.specs.declared.frame.Frame.{Frame}
+use Rattle.kernel_model.specs.Kernel.{Kernel, living_at}
+use Rattle.kernel_model.specs.Fitting.{Places}
+use Rattle.entry_laws.specs.Entering.{HasHistory}
+use Rattle.node_model.specs.declared.held.Held.{Held}
+use Rattle.node_model.specs.declared.held.Held.TheVariants.{Ending}
+use Rattle.node_model.specs.Kinds.{for_kind}
+use Rattle.node_model.specs.Bodies.{body_in}
+use Rattle.world_model.specs.Node.{Node, Stage, Unborn, Left}
+use Rattle.world_model.specs.World.{World, numbers, node_count}
+use Rattle.world_laws.specs.Places.{DeedPlace, InCheckpoint, CallPlace, Beside}
+use Rattle.world_laws.specs.Sights.{node_of, frames_to, directory_of, stage_of, is_born_in, is_born_stage}
+use Rattle.world_laws.specs.Plays.{plays}
+use Rattle.world_laws.specs.Names.{NameHolds, name_sight, forker, range_steps_of}
+use Rattle.world_laws.specs.Callers.{CallHolds, call_sight, is_about, is_item_about}
+use Rattle.world_laws.specs.Ways.{way_sight, knows_parent, under_way_of, IsParcelIn, left as left_in, sent as sent_in, kept as kept_in, at_hand}
+use Rattle.world_laws.specs.Ranges.{KindHolds, kind_sight, FewRanges, KeysHold, has_lease, leases_on_way, one_for}
+use Rattle.world_laws.specs.Families.{NodeHolds, FamilyHolds, IsAwaited, checkpoints_to}
+use Rattle.world_laws.specs.Invariant.{Holds, MayBe, FramesFit, process_deed}
+use Rattle.world_laws.proofs.Stays.{IsMore, node-born, may-be-born, call-stays, way-stays}
+use Rattle.world_laws.proofs.Changes.{Changes, still-born}
+use Rattle.world_laws.proofs.Frames.{ArePlain, BringNoBirth, all-weaker, IsSameBut, plays-of-others, ranges-of-all-others}
+use Rattle.world_laws.proofs.LeftAlone.{SameCaller, LeavesCall, call-left-alone, way-left-alone, parcel-was-there, sender-stays, family-left-alone, other-node-stays, frames-still-fit}
+use Rattle.rule_laws.proofs.CallMoves.{SameButCall}
+use Rattle.rule_laws.proofs.own.Entries.{EntryLeaves, others-go-on, pids-after}
+use Rattle.rule_laws.proofs.own.Others.{call-goes-on, family-after}
+
+-- What a rule shows of such an event at node p, with the call of node x: the entry, and what it leaves of the kernel
+-- and of the places.
+pub record IsEntryMove (script : Script) (w w' : World) (hand hand' : List Held) (b : Beside) (next : Kernel)
+    (places : Places) (deed : Name → DeedPlace) (call : ℕ → CallPlace) (p : ℕ) (n : Node)
+    (takes sends : List (ℕ × Frame)) (x : ℕ) : Type 0 where
+  pub entry : EntryLeaves b.kernel b.places (b.pids x) next places
+  pub history : HasHistory script w'.journal next places
+  pub keys : KeysHold (node_of w' 1).leader next
+  -- the caller's process was forked, and its node is born; processes whose Checkpoints are on their way keep their rows
+  pub forked : b.pids x ≢ 0
+  pub born : is_born_in w x ≡ true
+  pub awaited : (q to : ℕ) → b.deed (Proc q) ≡ InCheckpoint to → body_in next (Proc q) ≡ body_in b.kernel (Proc q)
+  -- of the node
+  pub stage : n.stage ≡ stage_of w p
+  pub under_way : n.stage ≡ Left → n.caller.under_way ≡ under_way_of w p
+  pub own : p ≢ x → SameCaller (node_of w p) n
+  pub directory : SameButCall x (directory_of w) (directory_of w')
+  pub node : NodeHolds script b.pids (is_born_in w) p n
+  pub deeds : (pid : ℕ) → deed (Proc pid) ≡ b.deed (Proc pid)
+  pub calls : IsSameBut x b.call call
+  pub hand_of_others : (y : ℕ) → y ≢ x → filter (is_item_about y) hand' ≡ filter (is_item_about y) hand
+  pub parcels_at_hand : (parcel : Parcel) → Contains hand' (Ending parcel) → Contains hand (Ending parcel)
+  -- of the frames
+  pub plain_taken : ArePlain takes
+  pub plain_sent : ArePlain sends
+  pub no_birth_taken : BringNoBirth takes
+  pub no_birth_sent : BringNoBirth sends
+  pub of_no_other : (y : ℕ) → y ≢ x → AllByRecursion (λ s. is_about y p s.0 s.1 ≡ false) takes
+  pub sent_of_no_other : (y : ℕ) → y ≢ x → AllByRecursion (λ s. is_about y s.0 p s.1 ≡ false) sends
+  pub may_be_sent : AllByRecursion (λ s. MayBe script (is_born_in w) s.0 p s.1) sends
+  pub to_others : AllByRecursion (λ s. s.0 ≢ p) sends
+
+module _ (script : Script) (w w' : World) (hand hand' : List Held) (b : Beside) (next : Kernel) (places : Places)
+    (deed : Name → DeedPlace) (call : ℕ → CallPlace) (p : ℕ) (n : Node) (takes sends : List (ℕ × Frame))
+    (entries : List Entry) (x : ℕ) (low : 1 ≤ p) (high : p ≤ node_count script)
+    (holds : Holds script w hand b) (c : Changes script p w w' n takes sends entries)
+    (q : IsEntryMove script w w' hand hand' b next places deed call p n takes sends x) where
+  abbrev after : Beside
+  after = record b { kernel = next; places = places; deed = deed; call = call }
+
+  -- before, with the next kernel
+  abbrev between : Beside
+  between = record b { kernel = next }
+
+  entry : EntryLeaves b.kernel b.places (b.pids x) next places
+  entry = q.entry
+
+  directory : SameButCall x (directory_of w) (directory_of w')
+  directory = q.directory
+
+  -- another node has another process
+  pub other-process : (y : ℕ) → y ≢ x → b.pids y ≢ b.pids x
+  other-process y d e = d (sym (holds.pids.apart x y q.forked (sym e)))
+
+  -- the same nodes are born
+  pub entry-born : IsMore (is_born_in w) (is_born_in w')
+  entry-born = still-born script p w w' n takes sends entries c (λ h. ap is_born_stage q.stage ∙ h)
+
+  entry-nodes : (y : ℕ) → 1 ≤ y → y ≤ node_count script
+      → NodeHolds script b.pids (is_born_in w') y (node_of w' y)
+  entry-nodes y low_y high_y =
+      elim (cases_eq y p) [
+        | inr d ↦
+            other-node-stays script p w w' n takes sends entries c b.pids (is_born_in w) (is_born_in w') y d
+            entry-born (holds.nodes y low_y high_y)
+        | inl e ↦
+            subst (λ z. NodeHolds script b.pids (is_born_in w') z (node_of w' z)) (sym e)
+            (subst (λ (m : Node). NodeHolds script b.pids (is_born_in w') p m) (sym c.here)
+            (node-born script b.pids (is_born_in w) (is_born_in w') p n entry-born q.node))
+      ]
+
+  entry-frames : FramesFit script (is_born_in w') (frames_to w')
+  entry-frames =
+      frames-still-fit script p w w' n takes sends entries c entry-born holds.frames_fit
+      (all-weaker (λ s. may-be-born script (is_born_in w) (is_born_in w') s.0 p s.1 entry-born) sends q.may_be_sent)
+      q.to_others
+
+  entry-other : (y : ℕ) → y ≢ x → LeavesCall w w' hand hand' between after p n y
+  entry-other y d =
+      record {
+        own = λ e. q.own (λ g. d (e ∙ g));
+        place_is = entry.places_stay (b.pids y) (other-process y d);
+        alive_is = refl;
+        call_is = q.calls y d;
+        held_is = directory.held_of_others y d;
+        hand_is = q.hand_of_others y d;
+      }
+
+  was-in : (parcel : Parcel) → IsParcelIn w' hand' parcel → IsParcelIn w' hand parcel
+  was-in parcel (left_in y there) = left_in y there
+  was-in parcel (sent_in y there) = sent_in y there
+  was-in parcel (kept_in pid there) = kept_in pid there
+  was-in parcel (at_hand there) = at_hand (q.parcels_at_hand parcel there)
+
+  entry-calls : CallHolds script x (is_born_in w') (call_sight w' hand' after x)
+      → (y : ℕ) → 1 ≤ y → y ≤ node_count script → CallHolds script y (is_born_in w') (call_sight w' hand' after y)
+  entry-calls own y low_y high_y =
+      elim (cases_eq y x) [
+        | inl e ↦ subst (λ z. CallHolds script z (is_born_in w') (call_sight w' hand' after z)) (sym e) own
+        | inr d ↦
+            call-stays script y (is_born_in w) (is_born_in w') (call_sight w hand between y)
+            (call_sight w' hand' after y) entry-born
+            (call-left-alone script p w w' n takes sends entries c hand hand' between after y (entry-other y d)
+            (q.of_no_other y d) (q.sent_of_no_other y d))
+            (call-goes-on script y (is_born_in w) (call_sight w hand b y) (living_at next (b.pids y))
+            (others-go-on b.kernel next b.places places (b.pids x) entry (b.pids y) (other-process y d))
+            (holds.calls y low_y high_y))
+      ]
+
+  unborn-not : (stage : Stage) → is_born_stage stage ≡ true → stage ≡ Unborn → ⊥
+  unborn-not stage born e = false≢true (sym (ap is_born_stage e) ∙ born)
+
+  entry-families : (y : ℕ) → b.pids y ≢ 0
+      → FamilyHolds script b.pids places next (process_deed deed) (checkpoints_to script w' y) (stage_of w' y) y
+  entry-families y forked =
+      let old : FamilyHolds script b.pids b.places b.kernel (process_deed b.deed) (checkpoints_to script w y)
+      (stage_of w y) y = holds.families y forked
+      in family-left-alone script p w w' n takes sends entries c b.pids places next (process_deed b.deed)
+      (process_deed deed) y q.deeds (λ e. q.stage) q.no_birth_taken q.no_birth_sent
+      (family-after script b.pids b.kernel next b.places places (b.pids x) entry (process_deed b.deed)
+      (checkpoints_to script w y) (stage_of w y) y
+      (λ to e. (
+        q.awaited (b.pids y) to e,
+        λ same. unborn-not (stage_of w x) q.born
+            (ap (stage_of w) (holds.pids.apart x y q.forked (sym same))
+            ∙ subst (λ (d : DeedPlace). IsAwaited (stage_of w y) d) e old.awaited),
+      )) old)
+
+  -- All holds after it, where it holds for the call, the names and the numbers.
+  pub entry-keeps : CallHolds script x (is_born_in w') (call_sight w' hand' after x)
+      → ((name : Name) → NameHolds script b.pids (is_born_in w') name (name_sight script w' hand' after name))
+      → ((kind : Kind) → KindHolds (is_born_in w') (kind_sight w' next kind))
+      → ((kind : Kind) → FewRanges script w' call kind)
+      → Holds script w' hand' after
+  entry-keeps own names kinds few =
+      record {
+        shape = c.shape;
+        history = q.history;
+        leading = directory.leads;
+        pids = pids-after b.kernel next b.places places (b.pids x) entry script b.pids holds.pids;
+        nodes = entry-nodes;
+        frames_fit = entry-frames;
+        names = names;
+        calls = entry-calls own;
+        ways = λ y low_y high_y. way-stays script b.pids y (knows_parent script w b.pids y)
+            (knows_parent script w' b.pids y) (way_sight w y) (way_sight w' y)
+            (directory.known_still (Proc (b.pids (forker script y))))
+            (way-left-alone script p w w' n takes sends entries c y (λ e. q.stage) (directory.partings_are y)
+            q.plain_taken q.plain_sent) (holds.ways y low_y high_y);
+        parcels = λ parcel there. sender-stays script p w w' n takes sends entries c b.pids parcel
+            (λ left. (q.stage ∙ left, q.under_way (q.stage ∙ left)))
+            (holds.parcels parcel
+            (parcel-was-there script p w w' n takes sends entries c hand parcel q.plain_sent
+            (λ pid. directory.parcels_were pid parcel) (was-in parcel there)));
+        kinds = kinds;
+        few = few;
+        keys = q.keys;
+        families = entry-families;
+      }
+
+  -- where no frame of the call is left in a stream, it doesn't matter for a name where it is
+  pub steps-still : (to : ℕ) → filter (is_about x to 1) (c.left to 1) ≡ [] → (name : Name)
+      → plays call name (c.left to 1) ≡ plays b.call name (c.left to 1)
+  steps-still to none name = plays-of-others b.call call x q.calls name to 1 (c.left to 1) none
+
+  -- nor which calls were sent by range
+  pub ranges-still : (to : ℕ) → filter (is_about x to 1) (c.left to 1) ≡ [] → (name : Name)
+      → flat_map (range_steps_of call name) (c.left to 1) ≡ flat_map (range_steps_of b.call name) (c.left to 1)
+  ranges-still to none name = ranges-of-all-others b.call call x q.calls name to 1 (c.left to 1) none
+
+  -- There are as few ranges as before where none was given out, and the journal is the longer.
+  pub few-after : (kind : Kind) → for_kind (directory_of w').ranges kind ≡ for_kind (directory_of w).ranges kind
+      → ((y : ℕ) → has_lease kind (call y) ≡ has_lease kind (b.call y)) → FewRanges script w' call kind
+  few-after kind ranges same =
+      let old : length (for_kind (directory_of w).ranges kind)
+      ≤ length w.journal + leases_on_way script b.call kind + 1 = holds.few kind
+      in let longer : length w'.journal ≡ length w.journal + length entries =
+      ap length c.journal ∙ length-append w.journal entries
+      in let many : length (for_kind (directory_of w').ranges kind) ≡ length (for_kind (directory_of w).ranges kind) =
+      ap length ranges
+      in let on_way : leases_on_way script call kind ≡ leases_on_way script b.call kind =
+      λ i. sum_by (λ y. one_for (same y i)) (numbers 1 (node_count script))
+      in omega (arith, old, longer, many, on_way)

@@ -1,0 +1,45 @@
+-- What is as before where nobody waits: the same calls have the same outcomes, and lead to the same kernels.
+use Rattle.std.specs.Prelude.{◌≡◌, ℕ, false, List, map, Option, Some, None}
+use Rattle.std.specs.List.{AllByRecursion}
+use Rattle.pico_base.specs.declared.call.Call.{Call}
+use Rattle.pico_base.specs.declared.reply.Entry as plain_entry
+use Rattle.kernel_model.specs.Waiting.{is_waiting}
+use Rattle.kernel_model.specs.Transition as plain
+use Rattle.kernel_model.specs.History as plain_history
+use Rattle.waiting_model.specs.declared.entries.AnyCall.TheVariants.{Plain}
+use Rattle.waiting_model.specs.declared.entries.Entry.{Entry}
+use Rattle.waiting_model.specs.Kernel.{Kernel}
+use Rattle.waiting_model.specs.Transition.{Successor, transition}
+use Rattle.waiting_model.specs.History.{IsLegal}
+use Rattle.waiting_laws.specs.Plain.{plain_kernel, NobodyWaits}
+
+-- the same kernel but for who waits, the same outcome, and nobody waits afterwards
+pub record LeadsAlike (s : Successor) (p : plain.Successor) : Type 0 where
+  pub kernel : plain_kernel s.kernel ≡ p.kernel
+  pub outcome : s.outcome ≡ p.outcome
+  pub quiet : NobodyWaits s.kernel
+
+-- both have a result or none
+abbrev pub LeadAlike : Option Successor → Option plain.Successor → Type 0
+LeadAlike None None = Unit {0}
+LeadAlike (Some s) (Some p) = LeadsAlike s p
+LeadAlike s p = ⊥
+
+-- Where nobody waits a call in no form that may wait does what it did before: it has the same reply, wakes nobody, and
+-- leads to the same kernel, in which nobody waits either.
+abbrev pub CallsAreAsBefore : Type 0
+CallsAreAsBefore = (k : Kernel) (pid : ℕ) (call : Call) (n : ℕ) → NobodyWaits k → is_waiting call ≡ false
+    → LeadAlike (transition k pid (Plain call) n) (plain.transition (plain_kernel k) pid call n)
+
+-- a history of before, as one of a kernel in which callers wait
+abbrev pub as_entry : plain_entry.Entry → Entry
+as_entry e = record { pid = e.pid; call = Plain e.call; outcome = e.outcome; by = e.by }
+
+abbrev pub NeverMayWait : List plain_entry.Entry → Type 0
+NeverMayWait h = AllByRecursion (λ e. is_waiting e.call ≡ false) h
+
+-- each history that was legal is, and one without a form that may wait is legal only if it was
+abbrev pub HistoriesAreAsBefore : Type 0
+HistoriesAreAsBefore =
+    ((h : List plain_entry.Entry) → plain_history.IsLegal h → IsLegal (map as_entry h))
+    × ((h : List plain_entry.Entry) → NeverMayWait h → IsLegal (map as_entry h) → plain_history.IsLegal h)

@@ -1,0 +1,9 @@
+pub mod Plain
+pub mod Before
+pub mod Settled
+pub mod Removals
+pub mod Parked
+pub mod Carried
+pub mod Woken
+pub mod MarkMoves
+pub mod Places

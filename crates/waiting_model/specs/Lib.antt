@@ -1,0 +1,16 @@
+pub mod Calls
+pub mod Waiters
+pub mod Queue
+pub mod SemaphoreSet
+pub mod Marks
+pub mod Kernel
+pub mod Effect
+pub mod ProcessCalls
+pub mod QueueCalls
+pub mod SetCalls
+pub mod Transition
+pub mod History
+pub mod Fitting
+pub mod Trace
+pub mod Examples
+pub mod TraceExamples

@@ -1,5 +1,0 @@
-use Rattle.world_rest.proofs.Worlds.{names_have_one_owner_lemma}
-use Rattle.world_rest.proofs.names_have_one_owner.Goals as goal
-
-pub returns : goal.returns
-returns c = names_have_one_owner_lemma

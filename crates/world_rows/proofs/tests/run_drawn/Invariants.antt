@@ -1,5 +1,0 @@
-use Rattle.std.proofs.Common.{IsSome}
-use Rattle.world_rows.proofs.tests.run_drawn.Given as goal
-
-abbrev pub invariant-loop : goal.invariant-loop
-invariant-loop l = IsSome l.world

@@ -1,5 +1,0 @@
-use Rattle.world_runs.proofs.Runs.{journals_are_legal_lemma}
-use Rattle.world_runs.proofs.journals_are_legal.Goals as goal
-
-pub returns : goal.returns
-returns c = journals_are_legal_lemma

@@ -1,5 +1,0 @@
-use Rattle.world_runs.proofs.Runs.{runs_are_short_lemma}
-use Rattle.world_runs.proofs.runs_are_short.Goals as goal
-
-pub returns : goal.returns
-returns c = runs_are_short_lemma

@@ -1,5 +1,0 @@
-use Rattle.world_runs.proofs.Schedules.{schedules_are_runs_lemma}
-use Rattle.world_runs.proofs.schedules_are_runs.Goals as goal
-
-pub returns : goal.returns
-returns c = schedules_are_runs_lemma

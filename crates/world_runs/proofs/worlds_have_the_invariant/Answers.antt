@@ -1,5 +1,0 @@
-use Rattle.world_runs.proofs.Runs.{worlds_have_the_invariant_lemma}
-use Rattle.world_runs.proofs.worlds_have_the_invariant.Goals as goal
-
-pub returns : goal.returns
-returns c = worlds_have_the_invariant_lemma
