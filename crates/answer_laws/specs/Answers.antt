@@ -37,8 +37,3 @@ done_reply (Err e) = Fail e
 abbrev pub reply_to : Result ℕ Errno → Reply
 reply_to (Ok n) = Num n
 reply_to (Err e) = Fail e
-
--- the same where nobody waits at a semaphore that is there
-abbrev pub waiting_reply : Result ℕ Errno → Reply
-waiting_reply (Ok n) = Num 0
-waiting_reply (Err e) = Fail e

@@ -1,6 +1,6 @@
 //! Values of a class each, in the order in which they came.
 ghost use Rattle.std.specs.Prelude.{◌≡◌, ℕ, ◌+◌, ◌<◌, ◌≤◌, ◌∷◌, ◌++◌, [], Some, None, IsOk, IfSome, IfOk, IfErr, OnOk, OnErr, length, option_map};
-ghost use Rattle.index_links.specs.Chains.{slot_or_none};
+ghost use Rattle.index_links.specs.Chains.{slot_or_none, HaveOwnSlots};
 ghost use Rattle.index_links.specs.Nodes.{IsThere, node_at, without, first_slot, first_slot_of, slot_after, least_upto};
 
 use crate::kept::{Kept, place_at, row_of};
@@ -152,6 +152,13 @@ impl<T> Links<T> {
             Some(value) => value,
             None => unreachable!(),
         }
+    }
+
+    /// No two values have one slot.
+    pub fn have_own_slots(&self)
+        ensures { HaveOwnSlots self.now.nodes }
+    {
+        let _ = &self.kept;
     }
 
     /// How many values there are.

@@ -273,8 +273,7 @@ pub record GrowsBy (call : Call) (n : ℕ) (outcome : Outcome) (before after : K
   pub reply : has_created (created_kind call) after kind n ≡ true → outcome.own ≡ Some (Num n)
 
 -- The same step from two kernels: the same outcome, agreement on the parts afterwards, and the rest of each stays, but
--- that
--- the number of something new is used.
+-- that the number of something new is used.
 
 pub record SameStep (parts : List Part) (call : Call) (n : ℕ) (j k : Kernel) (to_j to_k : Successor) : Type 0 where
   pub outcome : to_j.outcome ≡ to_k.outcome

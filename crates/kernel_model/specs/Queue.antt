@@ -39,8 +39,7 @@ abbrev pub bytes_in : Queue → ℕ
 bytes_in q = bytes_of q.messages
 
 -- msgsnd: EINVAL for a type below 1 and for a text above the limit, EAGAIN where there is no room. There is room as
--- long
--- as the bytes don't pass msg_qbytes; the count of messages has a limit of its own (profile)
+-- long as the bytes don't pass msg_qbytes; the count of messages has a limit of its own (profile)
 abbrev pub has_room : Queue → List ℕ → Bool
 has_room q text = nat_le (bytes_in q + length text) q.qbytes && nat_lt (length q.messages) max_messages
 
@@ -106,8 +105,7 @@ abbrev pub receive : Queue → ℕ → ℤ → ℕ → Bool → Result Received 
 receive q pid class size noerror = receive_from q pid size noerror (select q.messages class)
 
 -- msgctl with IPC_STAT and IPC_SET: EINVAL for a msg_qbytes above the limit (profile). What is there stays, also where
--- it
--- is more than msg_qbytes now
+-- it is more than msg_qbytes now
 abbrev pub stat : Queue → Reply
 stat q = replies.Stat (length q.messages) q.qbytes q.last_sender q.last_receiver
 

@@ -28,8 +28,7 @@ get_queue_at k key create excl n None =
     if create then new_queue k (put k.queue_keys key n) n else Some (refuse k Enoent)
 
 -- msgget: IPC_PRIVATE always makes a queue. ENOENT for a key that leads nowhere without IPC_CREAT, EEXIST for one that
--- leads
--- to a queue with IPC_CREAT and IPC_EXCL; IPC_EXCL alone means nothing
+-- leads to a queue with IPC_CREAT and IPC_EXCL; IPC_EXCL alone means nothing
 abbrev pub get_queue : Kernel → Option ℕ → Bool → Bool → ℕ → Option Effect
 get_queue k None create excl n = new_queue k k.queue_keys n
 get_queue k (Some key) create excl n = get_queue_at k key create excl n (get k.queue_keys key)

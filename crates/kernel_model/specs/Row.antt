@@ -42,8 +42,7 @@ abbrev pub others : ℕ → List ℕ → List ℕ
 others child children = filter (λ c. not (nat_eq child c)) children
 
 -- a child has ended: its ending is kept for waitpid, unless the parent ignores CHLD (_Exit: consequences of the end of
--- a
--- process)
+-- a process)
 abbrev pub family_after_end : Family → ℕ → Ending → Bool → Family
 family_after_end f child ending ignored =
     record {

@@ -130,8 +130,7 @@ abbrev pub waiting_at : SemaphoreSet → ℕ → Result ℕ Errno
 waiting_at set num = read_semaphore (slice_get set.semaphores num) (λ _. 0)
 
 -- semctl with SETVAL and SETALL: ERANGE for a value above the limit. Last processes stay (profile: semctl says nothing
--- of
--- sempid)
+-- of sempid)
 abbrev pub set_value_at : SemaphoreSet → ℕ → ℕ → Option Semaphore → Result SemaphoreSet Errno
 set_value_at set num value None = Err Einval
 set_value_at set num value (Some s) =

@@ -40,8 +40,7 @@ get_set_at k key count create excl n None =
     if create then new_set_of k (put k.set_keys key n) n (new_set count) else Some (refuse k Enoent)
 
 -- semget: IPC_PRIVATE always makes a set. ENOENT for a key that leads nowhere without IPC_CREAT, EEXIST for one that
--- leads
--- to a set with IPC_CREAT and IPC_EXCL; IPC_EXCL alone means nothing
+-- leads to a set with IPC_CREAT and IPC_EXCL; IPC_EXCL alone means nothing
 abbrev pub get_set : Kernel → Option ℕ → ℕ → Bool → Bool → ℕ → Option Effect
 get_set k None count create excl n = new_set_of k k.set_keys n (new_set count)
 get_set k (Some key) count create excl n = get_set_at k key count create excl n (get k.set_keys key)

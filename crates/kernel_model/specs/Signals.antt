@@ -1,6 +1,5 @@
 -- What a process knows of signals (POSIX.1-2017: System Interfaces 2.4; sigaction, sigprocmask, sigpending, kill). The
--- ten
--- signals, their numbers and their order are the profile's.
+-- ten signals, their numbers and their order are the profile's.
 use Rattle.std.specs.Prelude.{◌≡◌, ℕ, ◌+◌, min, Bool, true, false, not, ◌||◌, ◌&&◌, if◌then◌else◌, Option, Some, None, is_some, fold, Result, Ok, Err}
 use Rattle.pico_base.specs.declared.signal.PerSignal.{PerSignal}
 use Rattle.pico_base.specs.declared.signal.Sig.{Sig}
@@ -47,8 +46,7 @@ is_chld Chld = true
 is_chld _ = false
 
 -- an action that discards the signal: to ignore it, or CHLD's default, masked or not (profile: System Interfaces 2.4
--- leaves
--- it open for a masked one)
+-- leaves it open for a masked one)
 abbrev pub discards : Act → Sig → Bool
 discards Ign g = true
 discards Dfl g = is_chld g
@@ -71,8 +69,7 @@ abbrev pub arrive : Signals → Sig → Signals
 arrive s g = arrive_by (at s.actions g) s g
 
 -- A signal is raised at a process (System Interfaces 2.4.1). A doomed process takes no notice (profile), KILL can't be
--- held
--- off, a discarded signal is gone, and a masked one is pending once (profile: 2.4.1 leaves a second one open).
+-- held off, a discarded signal is gone, and a masked one is pending once (profile: 2.4.1 leaves a second one open).
 abbrev pub raise : Signals → Sig → Signals
 raise s g =
     if is_some s.doom then s

@@ -39,8 +39,7 @@ abbrev pub message_text : List ℕ → List ℕ
 message_text text = if is_repeated text then repeated_text text else quoted_text text
 
 -- A script can write the text: by `rep:` the same letter or digit, at most 8,192 times, or between quotes, in at most
--- the
--- 4,096 bytes of a line.
+-- the 4,096 bytes of a line.
 abbrev pub has_spelling : List ℕ → Bool
 has_spelling text =
     list_all is_byte text

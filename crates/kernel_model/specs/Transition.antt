@@ -28,8 +28,8 @@ abbrev pub successor : Kernel → Outcome → Successor
 successor kernel outcome = record { kernel = kernel; outcome = outcome }
 
 -- The table of calls. A call that may have to wait has no effect here (profile). `exit` keeps the low byte of its
--- status
--- (_Exit), `getpid` replies the caller's own number (getpid), and `handled` how often a signal was caught (profile).
+-- status (_Exit), `getpid` replies the caller's own number (getpid), and `handled` how often a signal was caught
+-- (profile).
 abbrev pub effect : Kernel → ℕ → Alive → Call → ℕ → Option Effect
 effect k pid a (calls.Fork block) n = fork_effect k pid a n
 effect k pid a (calls.Exit status) n = Some (end_process k pid a (endings.Exited (status % 256)))
@@ -72,8 +72,7 @@ effect k pid a (calls.SemSetAll id values) n =
 effect k pid a (calls.SemRmid id) n = Some (on_named k (get k.sets id) (λ _. remove_set k id))
 
 -- Who may act (profile: in POSIX a process that a signal ends does nothing more): a doomed process ends by its signal,
--- in
--- an entry of its own, and what it may do before is its allowance.
+-- in an entry of its own, and what it may do before is its allowance.
 
 abbrev pub is_spent : Allowance → Bool
 is_spent Spent = true

@@ -34,7 +34,7 @@ use Rattle.node_serve.specs.declared.body.Body.TheVariants.{Gone}
 use Rattle.node_serve.specs.declared.serving.Served.{Served}
 use Rattle.node_serve.specs.declared.serving.Served.TheVariants.{Did, NotHeld}
 use Rattle.node_serve.specs.Bodies.{bodies_of, body_of, numbered_of}
-use Rattle.node_serve.specs.Serving.{AgreesOn, Carries, FollowsKernel, IsDefined, IsTheKernels, MayMake, Serves, ServesAsDefined, ServesAsTheKernel, bury_found, concerns, held_at}
+use Rattle.node_serve.specs.Serving.{AgreesOn, Carries, FollowsKernel, IsDefined, IsTheKernels, MayMake, Serves, ServesAsDefined, ServesAsTheKernel, bury_found, concerns, held_at, is_found_by}
 
 some_same : {A : Type 0} (x y : A) → Some x ≡ Some y → x ≡ y
 some_same x y h = cc
@@ -155,22 +155,22 @@ module _ (old : Named Body) (caller : ℕ) (call : Call) (served : is_served cal
       ∙ ap (option_and_then (λ body. serve_on name body caller call))
       (bodies-get old name ∙ ap (option_map body_of) none)
 
-  defined : (new : Named Body) (answer : Reply) (reads : Bool) → Carries old caller call new answer reads
-      → MayMake old caller call → IsDefined old caller call new answer reads
-  defined new answer reads c may =
+  defined : (new : Named Body) (outcome : Outcome) (reads : Bool) → Carries old caller call new outcome reads
+      → MayMake old caller call → IsDefined old caller call new outcome reads
+  defined new outcome reads c may =
       let m = may c.name c.body c.names c.held
       in let on : serve_on c.name (body_of c.body) caller call
       ≡ Some (served_as c.name (on_body c.name (body_of c.body) caller call)) =
       served-is-on_body c.name (body_of c.body) caller call served c.names (is-true m.0) m.1
       in record {
-        served = served_as c.name (done (body_of c.left) answer);
+        served = served_as c.name (done (body_of c.left) c.answer);
         is = looked-up (Some c.name) c.names
             ∙ ap (option_and_then (λ body. serve_on c.name body caller call))
             (bodies-get old c.name ∙ ap (option_map body_of) c.held)
             ∙ on ∙ ap (λ (d : Done model.Body). Some (served_as c.name d)) c.does;
-        after = ap bodies_of c.after ∙ buried answer (put_named old c.name c.left)
-            ∙ ap (λ (m : model.Deeds). put_all m (found_gone answer)) (bodies-put old c.name c.left);
-        replies = refl;
+        after = ap bodies_of c.after ∙ buried c.answer (put_named old c.name c.left)
+            ∙ ap (λ (m : model.Deeds). put_all m (found_gone c.answer)) (bodies-put old c.name c.left);
+        alone = c.alone;
         read = c.read;
       }
     where
@@ -180,7 +180,7 @@ module _ (old : Named Body) (caller : ℕ) (call : Call) (served : is_served cal
   pub serves-as-defined : (new : Named Body) (s : Served) → Serves old caller call new s
       → ServesAsDefined old caller call new s
   serves-as-defined new NotHeld h = not-held (name_for caller call) refl h.0
-  serves-as-defined new (Did answer reads) h = defined new answer reads h
+  serves-as-defined new (Did outcome reads) h = defined new outcome reads h
 
 -- ---- by the kernel
 
@@ -239,12 +239,13 @@ module _ (k next : Kernel) (old : Named Body) (name : Name) (left : Body) (answe
   unconcerned other apart not_found =
       bury-other answer (put_named old name left) other not_found ∙ named-other old name other left apart
 
-  stands : (new : Named Body) (reached : Outcome) → new ≡ after → reply_alone answer ≡ reached
-      → FollowsKernel k old name new next answer reached
-  stands new reached is same =
-      subst (λ (m : Named Body). FollowsKernel k old name m next answer reached) (sym is)
+  stands : (new : Named Body) (outcome reached : Outcome) → new ≡ after → outcome ≡ reply_alone answer
+      → outcome ≡ reached → FollowsKernel k old name new next outcome reached
+  stands new outcome reached is alone same =
+      subst (λ (m : Named Body). FollowsKernel k old name m next outcome reached) (sym is)
+      (subst (λ (o : Outcome). FollowsKernel k old name after next o reached) (sym alone)
       (record {
-        same = same;
+        same = sym alone ∙ same;
         concerned = λ other h.
             concerned other (is_same_name name other) (is_found answer other) refl refl h;
         others = λ other h.
@@ -252,37 +253,38 @@ module _ (k next : Kernel) (old : Named Body) (name : Name) (left : Body) (answe
             in follows.others other (apart-name name other w.0) w.1;
         stays = λ other h.
             let w = neither (is_same_name name other) (is_found answer other) h in unconcerned other w.0 w.1;
-      })
+      }))
 
 module _ (old : Named Body) (caller : ℕ) (call : Call) (served : is_served call ≡ true) where
   same-reply : (r s : Reply) → reply_alone r ≡ reply_alone s → r ≡ s
   same-reply r s h = some_same r s (ap (λ (o : Outcome). o.own) h)
 
-  in-kernel : (new : Named Body) (answer : Reply) (reads : Bool) → Carries old caller call new answer reads
+  in-kernel : (new : Named Body) (outcome : Outcome) (reads : Bool) → Carries old caller call new outcome reads
       → (k next : Kernel) (n : ℕ) (name : Name) (reached : Outcome) → IsValid k
       → name_for caller call ≡ Some name → AgreesOn k old name
       → transition k caller call n ≡ Some (successor next reached)
-      → FollowsKernel k old name new next answer reached
-  in-kernel new answer reads c k next n name reached valid named agrees gives =
+      → FollowsKernel k old name new next outcome reached
+  in-kernel new outcome reads c k next n name reached valid named agrees gives =
       let at : c.name ≡ name = some_same c.name name (sym c.names ∙ named)
       in let held : get_named old name ≡ Some c.body = subst (λ (m : Name). get_named old m ≡ Some c.body) at c.held
-      in let does : on_body name (body_in k name) caller call ≡ done (body_of c.left) answer =
+      in let does : on_body name (body_in k name) caller call ≡ done (body_of c.left) c.answer =
       ap (λ (b : model.Body). on_body name b caller call) (agrees c.body held)
-      ∙ subst (λ (m : Name). on_body m (body_of c.body) caller call ≡ done (body_of c.left) answer) at c.does
+      ∙ subst (λ (m : Name). on_body m (body_of c.body) caller call ≡ done (body_of c.left) c.answer) at c.does
       in let s : IsServed k caller call name next reached =
       served-calls k caller n call name next reached valid served named gives
-      in let is : s.answer ≡ answer = s.follows.reply ∙ ap (λ (d : Done model.Body). d.reply) does
-      in let follows : Follows k name (on_body name (body_in k name) caller call) next answer =
-      subst (λ (r : Reply). Follows k name (on_body name (body_in k name) caller call) next r) is s.follows
-      in let after : new ≡ bury_found answer (put_named old name c.left) =
-      subst (λ (m : Name). new ≡ bury_found answer (put_named old m c.left)) at c.after
-      in stands k next old name c.left answer (on_body name (body_in k name) caller call) follows
-      (ap (λ (d : Done model.Body). d.left) does) new reached after (ap reply_alone (sym is) ∙ sym s.alone)
+      in let answer : s.answer ≡ c.answer = s.follows.reply ∙ ap (λ (d : Done model.Body). d.reply) does
+      in let follows : Follows k name (on_body name (body_in k name) caller call) next c.answer =
+      subst (λ (r : Reply). Follows k name (on_body name (body_in k name) caller call) next r) answer s.follows
+      in let after : new ≡ bury_found c.answer (put_named old name c.left) =
+      subst (λ (m : Name). new ≡ bury_found c.answer (put_named old m c.left)) at c.after
+      in stands k next old name c.left c.answer (on_body name (body_in k name) caller call) follows
+      (ap (λ (d : Done model.Body). d.left) does) new outcome reached after c.alone
+      (c.alone ∙ ap reply_alone (sym answer) ∙ sym s.alone)
 
   pub serves-as-the-kernel : (new : Named Body) (s : Served) → Serves old caller call new s
       → ServesAsTheKernel old caller call new s
   serves-as-the-kernel new NotHeld h = tt
-  serves-as-the-kernel new (Did answer reads) h = record { follows = in-kernel new answer reads h }
+  serves-as-the-kernel new (Did outcome reads) h = record { follows = in-kernel new outcome reads h }
 
 -- what holds of a value that was handed on
 pub if-ok : {X E : Type 0} (P Q : X → Type 0) (r : Result X E) → ((x : X) → P x → Q x) → IfOk r P → IfOk r Q

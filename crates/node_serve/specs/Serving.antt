@@ -36,20 +36,22 @@ bury_found reply bodies = bodies
 
 -- The name of the call is held. It has the body that the call leaves there, a found child is gone, and all other bodies
 -- are those that they were.
-pub record Carries (old : Named Body) (caller : ℕ) (call : Call) (new : Named Body) (answer : Reply)
+pub record Carries (old : Named Body) (caller : ℕ) (call : Call) (new : Named Body) (outcome : Outcome)
     (reads : Bool) : Type 0 where
   pub name : Name
   pub body : Body
   pub left : Body
+  pub answer : Reply
   pub names : name_for caller call ≡ Some name
   pub held : get_named old name ≡ Some body
   pub does : on_body name (body_of body) caller call ≡ done (body_of left) answer
   pub after : new ≡ bury_found answer (put_named old name left)
+  pub alone : outcome ≡ reply_alone answer
   pub read : reads ≡ has_read call answer
 
 abbrev pub Serves : Named Body → ℕ → Call → Named Body → Served → Type 0
 Serves old caller call new NotHeld = (held_at old (name_for caller call) ≡ None) × (new ≡ old)
-Serves old caller call new (Did answer reads) = Carries old caller call new answer reads
+Serves old caller call new (Did outcome reads) = Carries old caller call new outcome reads
 
 -- each name has the body that it had
 abbrev pub AreSame : Named Body → Named Body → Type 0
@@ -77,36 +79,40 @@ MayMake old caller call =
     (name : Name) (body : Body) → name_for caller call ≡ Some name → get_named old name ≡ Some body
     → IsTrue (fits_name name (body_of body)) × (is_own caller call ≡ true → MakesOwn caller (body_of body))
 
--- the deeds, the reply and whether it read are those of the definition
-pub record IsDefined (old : Named Body) (caller : ℕ) (call : Call) (new : Named Body) (answer : Reply)
+-- the deeds, the outcome and whether it read are those of the definition
+pub record IsDefined (old : Named Body) (caller : ℕ) (call : Call) (new : Named Body) (outcome : Outcome)
     (reads : Bool) : Type 0 where
   pub served : model.Served
   pub is : model.serve (bodies_of old) caller call ≡ Some served
   pub after : bodies_of new ≡ put_all (bodies_of old) served.changes
-  pub replies : answer ≡ served.reply
+  pub alone : outcome ≡ reply_alone served.reply
   pub read : reads ≡ has_read call served.reply
 
 abbrev pub ServesAsDefined : Named Body → ℕ → Call → Named Body → Served → Type 0
 ServesAsDefined old caller call new NotHeld = model.serve (bodies_of old) caller call ≡ None
-ServesAsDefined old caller call new (Did answer reads) =
-    MayMake old caller call → IsDefined old caller call new answer reads
+ServesAsDefined old caller call new (Did outcome reads) =
+    MayMake old caller call → IsDefined old caller call new outcome reads
 
 -- ---- by the kernel
 
--- the name that the call is carried out on, and the child that it found
-abbrev pub concerns : Name → Reply → Name → Bool
-concerns name answer other = is_same_name name other || is_found answer other
+-- the child that the caller's reply names
+abbrev pub is_found_by : Option Reply → Name → Bool
+is_found_by None name = false
+is_found_by (Some answer) name = is_found answer name
 
--- Where the kernel's transition has a result its outcome is this reply alone, and what the call concerns has the next
--- kernel's part.
+-- the name that the call is carried out on, and the child that it found
+abbrev pub concerns : Name → Outcome → Name → Bool
+concerns name outcome other = is_same_name name other || is_found_by outcome.own other
+
+-- Where the kernel's transition has a result it is this outcome, and what the call concerns has the next kernel's part.
 -- All other names have the body and the part that they had.
 pub record FollowsKernel (k : Kernel) (old : Named Body) (name : Name) (new : Named Body) (next : Kernel)
-    (answer : Reply) (reached : Outcome) : Type 0 where
-  pub same : reply_alone answer ≡ reached
-  pub concerned : (other : Name) → concerns name answer other ≡ true
+    (outcome reached : Outcome) : Type 0 where
+  pub same : outcome ≡ reached
+  pub concerned : (other : Name) → concerns name outcome other ≡ true
       → option_map body_of (get_named new other) ≡ Some (body_in next other)
-  pub others : (other : Name) → concerns name answer other ≡ false → body_in next other ≡ body_in k other
-  pub stays : (other : Name) → concerns name answer other ≡ false → get_named new other ≡ get_named old other
+  pub others : (other : Name) → concerns name outcome other ≡ false → body_in next other ≡ body_in k other
+  pub stays : (other : Name) → concerns name outcome other ≡ false → get_named new other ≡ get_named old other
 
 -- the kernel agrees with the deeds on what the call looks at: its name's body
 abbrev pub AgreesOn : Kernel → Named Body → Name → Type 0
@@ -114,12 +120,12 @@ AgreesOn k old name = (body : Body) → get_named old name ≡ Some body → bod
 
 -- on each valid kernel that agrees and has a transition for the call
 pub record IsTheKernels (old : Named Body) (caller : ℕ) (call : Call) (new : Named Body)
-    (answer : Reply) : Type 0 where
+    (outcome : Outcome) : Type 0 where
   pub follows : (k next : Kernel) (n : ℕ) (name : Name) (reached : Outcome) → IsValid k
       → name_for caller call ≡ Some name → AgreesOn k old name
       → transition k caller call n ≡ Some (successor next reached)
-      → FollowsKernel k old name new next answer reached
+      → FollowsKernel k old name new next outcome reached
 
 abbrev pub ServesAsTheKernel : Named Body → ℕ → Call → Named Body → Served → Type 0
 ServesAsTheKernel old caller call new NotHeld = Unit {0}
-ServesAsTheKernel old caller call new (Did answer reads) = IsTheKernels old caller call new answer
+ServesAsTheKernel old caller call new (Did outcome reads) = IsTheKernels old caller call new outcome

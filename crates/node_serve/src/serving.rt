@@ -9,14 +9,15 @@ ghost use Rattle.node_model.specs.Carrying.{is_served};
 use crate::Body;
 use crate::carrying::on_body;
 use deed_box::{Deed, Deeds};
-use pico_base::{Call, Home, Memory, Name, Pid, Reply, SemStep, home};
+use pico_base::{Call, Home, Memory, Name, Outcome, Pid, Reply, SemStep, home};
+use std::alloc::Global;
 
 /// What serving a call came to.
 #[derive(Debug, Drop)]
 pub enum Served {
-    /// The call was carried out, with this reply. `reads` says whether it was a receive that gave a message, or a
-    /// `semop` that took from a semaphore.
-    Did { reply: Reply, reads: bool },
+    /// The call was carried out. `reads` says whether it was a receive that gave a message, or a `semop` that took from
+    /// a semaphore.
+    Did { outcome: Outcome, reads: bool },
     /// The deed of the call's name isn't here.
     NotHeld,
 }
@@ -85,7 +86,12 @@ fn on_held(
 }
 
 /// Carries a call out on the deed of its name, where that is here.
-fn carry_out(deeds: &mut Deeds<Body>, caller: Pid, call: &Call) -> Result<Served, Memory>
+fn carry_out(
+    alloc: Global,
+    deeds: &mut Deeds<Body>,
+    caller: Pid,
+    call: &Call,
+) -> Result<Served, Memory>
     requires { IsTrue (is_served call.now) }
     ensures ok { IfOk result (Serves deeds.old.bodies caller call.now deeds.new.bodies) }
     ensures err { OnErr result (AreSame deeds.old.bodies deeds.new.bodies) }
@@ -101,19 +107,27 @@ fn carry_out(deeds: &mut Deeds<Body>, caller: Pid, call: &Call) -> Result<Served
         bury(deeds, *pid);
     }
     let reads = has_read(call, &reply);
-    Ok(Served::Did { reply, reads })
+    Ok(Served::Did {
+        outcome: Outcome::reply(alloc, reply),
+        reads,
+    })
 }
 
 /// Carries a call out on the deed of its name. NotHeld comes exactly where that isn't here, and then nothing has
 /// changed. A removal makes the body Removed; a child that `waitpid` found is gone; all other bodies stay. `defined`
 /// says the same by the definition of a served call, and `kernel` by the transition of any valid kernel that agrees
 /// with the deeds on the call's name. A refusal for want of memory changes no body.
-pub fn serve(deeds: &mut Deeds<Body>, caller: Pid, call: &Call) -> Result<Served, Memory>
+pub fn serve(
+    alloc: Global,
+    deeds: &mut Deeds<Body>,
+    caller: Pid,
+    call: &Call,
+) -> Result<Served, Memory>
     requires { IsTrue (is_served call.now) }
     ensures ok { IfOk result (Serves deeds.old.bodies caller call.now deeds.new.bodies) }
     ensures defined { IfOk result (ServesAsDefined deeds.old.bodies caller call.now deeds.new.bodies) }
     ensures kernel { IfOk result (ServesAsTheKernel deeds.old.bodies caller call.now deeds.new.bodies) }
     ensures err { OnErr result (AreSame deeds.old.bodies deeds.new.bodies) }
 {
-    carry_out(deeds, caller, call)
+    carry_out(alloc, deeds, caller, call)
 }

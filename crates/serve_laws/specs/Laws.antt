@@ -20,8 +20,7 @@ is_found (Child child ending) (Proc pid) = nat_eq child pid
 is_found reply name = false
 
 -- The next kernel has this part for the name, and the reply is this one. A child that was found is gone, and other
--- names
--- have the parts that they had.
+-- names have the parts that they had.
 pub record Follows (k : Kernel) (name : Name) (d : Done Body) (next : Kernel) (answer : Reply) : Type 0 where
   pub reply : answer ≡ d.reply
   pub there : body_in next name ≡ d.left

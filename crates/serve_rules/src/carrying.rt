@@ -1,5 +1,6 @@
 //! A call is carried out on the deed that is held for it.
 ghost use Rattle.std.specs.Prelude.{◌≡◌, IfOk, IfSome, IsTrue};
+ghost use Rattle.kernel_model.specs.Effect.{reply_alone};
 ghost use Rattle.node_model.specs.Carrying.{is_served, makes_or_ends};
 ghost use Rattle.serve_laws.specs.Served.{MakesOwn};
 ghost use Rattle.node_model.specs.Kinds.{get_named};
@@ -11,7 +12,8 @@ use deed_box::{Deeds, Shared};
 use node_serve::{Body, Served, serve};
 use node_state::forms::is_waiting;
 use node_state::unreached;
-use pico_base::{Call, Home, Memory, Name, Pid, Reply, home};
+use pico_base::{Call, Home, Memory, Name, Outcome, Pid, Reply, home};
+use std::alloc::Global;
 
 /// Whether the call takes a number, gets something by a key, or ends its process.
 fn makes_or_ends(call: &Call) -> bool
@@ -74,20 +76,32 @@ fn may_make(deeds: &Deeds<Body>, caller: Pid, call: &Call) -> bool
     }
 }
 
+/// The reply of an outcome.
+fn reply_of(outcome: Outcome) -> Option<Reply>
+    ensures { result ≡ outcome.own }
+{
+    let Outcome { own, woken: _ } = outcome;
+    own
+}
+
 /// The call is carried out on the deed of its name: its reply, and whether it read. Memory, too, where the deed isn't
 /// held or its body doesn't go with its name, and for a call that isn't carried out on a deed alone and at once.
 pub(crate) fn serve_held(
+    alloc: Global,
     deeds: &mut Deeds<Body>,
     caller: Pid,
     call: &Call,
 ) -> Result<(Reply, bool), Memory>
     ensures { IfOk result (λ served.
-        IsDefined deeds.old.bodies caller call.now deeds.new.bodies served.0 served.1) }
+        IsDefined deeds.old.bodies caller call.now deeds.new.bodies (reply_alone served.0) served.1) }
 {
     if !is_served(call) || !may_make(deeds, caller, call) {
         return Err(unreached());
     }
-    let Served::Did { reply, reads } = serve(deeds, caller, call)? else {
+    let Served::Did { outcome, reads } = serve(alloc, deeds, caller, call)? else {
+        return Err(unreached());
+    };
+    let Some(reply) = reply_of(outcome) else {
         return Err(unreached());
     };
     Ok((reply, reads))

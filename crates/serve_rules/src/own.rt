@@ -46,8 +46,9 @@ pub fn act_lent(step: &mut Growing, script: &Script, call: &Call) -> Result<(), 
     ensures { OnOk result
         (act script.now (started (step_of step.old) call.now) call.now ≡ Some (step_of step.new)) }
 {
+    let alloc = step.node.alloc;
     let pid = step.node.pid;
-    let (reply, _) = serve_held(&mut step.node.deeds, pid, call)?;
+    let (reply, _) = serve_held(alloc, &mut step.node.deeds, pid, call)?;
     let Some(copy) = copy_own(call) else {
         return Err(unreached());
     };

@@ -26,8 +26,9 @@ pub fn serve_asked(
     requires sound { IsSoundScript script.now }
     ensures { OnOk result (serve_asked script.now (step_of step.old) name asked ≡ Some (step_of step.new)) }
 {
+    let alloc = step.node.alloc;
     let reader = asked.caller;
-    let (reply, reads) = serve_held(&mut step.node.deeds, asked.pid, &asked.call)?;
+    let (reply, reads) = serve_held(alloc, &mut step.node.deeds, asked.pid, &asked.call)?;
     step.carry_out(script, asked, reply)?;
     if reads {
         note_read(step, &name, reader)
@@ -48,9 +49,10 @@ pub fn serve_at_once(
     ensures { OnOk result (serve_asked script.now (started (step_of step.old) call) name
         (asked_here (started (step_of step.old) call).node call) ≡ Some (step_of step.new)) }
 {
+    let alloc = step.node.alloc;
     let pid = step.node.pid;
     let reader = step.node.number();
-    let (reply, reads) = serve_held(&mut step.node.deeds, pid, &call)?;
+    let (reply, reads) = serve_held(alloc, &mut step.node.deeds, pid, &call)?;
     step.carry_out_at_once(script, call, reply)?;
     if reads {
         note_read(step, &name, reader)
