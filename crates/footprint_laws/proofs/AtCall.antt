@@ -6,7 +6,8 @@ use Rattle.kernel_model.specs.Kernel.{Kernel}
 use Rattle.kernel_model.specs.Transition.{transition}
 use Rattle.kernel_model.specs.Valid.{IsValid}
 use Rattle.footprint_laws.proofs.Stepped.{AlikeSteps}
-use Rattle.kernel_model.specs.Footprint.{footprint, AgreeOn, used_for}
+use Rattle.kernel_model.specs.Footprint.{footprint, used_for}
+use Rattle.kernel_model.specs.FootprintLaw.{AgreeOn}
 
 -- the footprint's law at one call: kernels that agree on its footprint have the same effect there
 abbrev pub LawAt : Kernel → Kernel → ℕ → Call → ℕ → Type 0

@@ -5,7 +5,8 @@ use Rattle.std.proofs.lemmas.Bool.{cases_eq, false≢true}
 use Rattle.number_maps.specs.Maps.{Numbered, get, put, without}
 use Rattle.kernel_model.specs.Kernel.{Kernel, parent_in}
 use Rattle.kernel_model.specs.Effect.{Effect}
-use Rattle.kernel_model.specs.Footprint.{Part, ParentOf, is_whole, is_queue, is_set, is_queue_keys, is_set_keys}
+use Rattle.kernel_model.specs.Footprint.{Part, ParentOf}
+use Rattle.kernel_model.specs.FootprintLaw.{is_whole, is_queue, is_set, is_queue_keys, is_set_keys}
 use Rattle.number_maps.proofs.LookUps.{get-put-same, get-put-other, get-without-same, get-without-other}
 use Rattle.std.specs.Prelude.{nat_eq}
 

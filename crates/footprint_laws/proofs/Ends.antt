@@ -16,7 +16,8 @@ use Rattle.kernel_model.specs.Kernel.{Kernel, Process, Living, Gone, Parent, ali
 use Rattle.kernel_model.specs.ProcessCalls.{bury, bury_all, process_after_end, end_under, processes_after_end, end_process}
 use Rattle.kernel_model.specs.Transition.{effect, transition}
 use Rattle.kernel_model.specs.Valid.{IsValid}
-use Rattle.kernel_model.specs.Footprint.{Part, MayDo, Whole, ParentOf, is_whole, parts_of_ended, parent_parts, parent_number, AgreeOn}
+use Rattle.kernel_model.specs.Footprint.{Part, MayDo, Whole, ParentOf, parts_of_ended, parent_parts, parent_number}
+use Rattle.kernel_model.specs.FootprintLaw.{is_whole, AgreeOn}
 use Rattle.number_maps.specs.Rising.{IsRising}
 use Rattle.number_maps.proofs.Rising.{rising-put}
 use Rattle.number_maps.proofs.LookUps.{get-put-same, get-put-other}

@@ -9,7 +9,8 @@ use Rattle.kernel_model.specs.Kernel.{Kernel, Process, Living, Ended, Gone, aliv
 use Rattle.kernel_model.specs.Effect.{Effect}
 use Rattle.kernel_model.specs.Transition.{finish_call}
 use Rattle.kernel_model.specs.Valid.{IsValidProcess}
-use Rattle.kernel_model.specs.Footprint.{Part, bare, parent_number}
+use Rattle.kernel_model.specs.Footprint.{Part, parent_number}
+use Rattle.kernel_model.specs.FootprintLaw.{bare}
 use Rattle.number_maps.proofs.LookUps.{get-put-same, get-put-other}
 use Rattle.footprint_laws.proofs.Parents.{orphan-put, orphan-unlisted}
 use Rattle.footprint_laws.proofs.Change.{changes-put, change-agree, change-first, change-second, change-move, has_whole, has_parent, SameEffect, IsOrphan}

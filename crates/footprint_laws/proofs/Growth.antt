@@ -27,7 +27,8 @@ use Rattle.kernel_model.specs.SetCalls.{new_set_of, find_set, get_set_at, change
 use Rattle.kernel_model.specs.Waiting.{may_wait}
 use Rattle.kernel_model.specs.Transition.{Successor, successor, effect, may_make, finish_call, outcome_of, transition_by, transition}
 use Rattle.kernel_model.specs.Valid.{IsValid}
-use Rattle.kernel_model.specs.Footprint.{GrowsBy, created_kind, grown_by, has_created, is_same_kind, is_there, used_for, used_of}
+use Rattle.kernel_model.specs.Footprint.{created_kind, grown_by, has_created, is_same_kind, is_there, used_for, used_of}
+use Rattle.kernel_model.specs.FootprintLaw.{GrowsBy}
 use Rattle.number_maps.proofs.LookUps.{get-put-same, get-put-other}
 
 -- the numbers used after an effect

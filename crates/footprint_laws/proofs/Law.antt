@@ -5,7 +5,8 @@ use Rattle.pico_base.specs.declared.call.Call.TheVariants as calls
 use Rattle.kernel_model.specs.Kernel.{Kernel}
 use Rattle.pico_base.specs.declared.numbers.Kind.{Kind}
 use Rattle.kernel_model.specs.Transition.{Successor, transition}
-use Rattle.kernel_model.specs.Footprint.{Part, footprint, GrowsBy, SameSteps, FootprintLaw}
+use Rattle.kernel_model.specs.Footprint.{Part, footprint}
+use Rattle.kernel_model.specs.FootprintLaw.{GrowsBy, SameSteps, FootprintLaw}
 use Rattle.footprint_laws.proofs.Stepped.{AlikeSteps}
 use Rattle.footprint_laws.proofs.Growth.{growth}
 use Rattle.footprint_laws.proofs.AtCall.{LawAt}

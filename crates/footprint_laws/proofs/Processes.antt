@@ -26,7 +26,8 @@ use Rattle.kernel_model.specs.Effect.{reply_with}
 use Rattle.kernel_model.specs.ProcessCalls.{parent_after_fork, new_child, processes_after_fork, parent_after_wait, reap_child, with_signals, action_effect, kill_at, signal_living, kill}
 use Rattle.kernel_model.specs.Transition.{effect, transition, is_spent}
 use Rattle.kernel_model.specs.Valid.{IsValid}
-use Rattle.kernel_model.specs.Footprint.{Part, MayDo, Whole, is_whole, parts_of_ended, home_parts, AgreeOn}
+use Rattle.kernel_model.specs.Footprint.{Part, MayDo, Whole, parts_of_ended, home_parts}
+use Rattle.kernel_model.specs.FootprintLaw.{is_whole, AgreeOn}
 use Rattle.number_maps.proofs.Order.{eq-same, eq-other}
 use Rattle.footprint_laws.proofs.Change.{changes-none, changes-put, has_whole, is_parent, SameEffect, SameEffects}
 use Rattle.footprint_laws.proofs.Effects.{Childless, fresh-alike, made-if, unchanged, processes-changed}

@@ -16,7 +16,8 @@ use Rattle.kernel_model.specs.Kernel.{Kernel}
 use Rattle.kernel_model.specs.QueueCalls.{new_queue, get_queue_at, change_queue, receive_effect, unbind}
 use Rattle.kernel_model.specs.Transition.{effect, transition, is_spent, may_make}
 use Rattle.kernel_model.specs.Valid.{IsValid}
-use Rattle.kernel_model.specs.Footprint.{Part, MayDo, Whole, QueueAt, QueueKeys, AgreeOn}
+use Rattle.kernel_model.specs.Footprint.{Part, MayDo, Whole, QueueAt, QueueKeys}
+use Rattle.kernel_model.specs.FootprintLaw.{AgreeOn}
 use Rattle.number_maps.proofs.Order.{eq-same}
 use Rattle.footprint_laws.proofs.Keys.{unbound-same}
 use Rattle.footprint_laws.proofs.Change.{Same, Changes, changes-none, changes-put, changes-without, has_queue, has_queue_keys, SameEffect, SameEffects}

@@ -19,7 +19,8 @@ use Rattle.kernel_model.specs.QueueCalls.{unbind}
 use Rattle.kernel_model.specs.SetCalls.{new_set_of, set_size, find_set, get_set_at, change_set}
 use Rattle.kernel_model.specs.Transition.{effect, transition, is_spent, may_make}
 use Rattle.kernel_model.specs.Valid.{IsValid}
-use Rattle.kernel_model.specs.Footprint.{Part, MayDo, Whole, SetAt, SetKeys, size_parts, AgreeOn}
+use Rattle.kernel_model.specs.Footprint.{Part, MayDo, Whole, SetAt, SetKeys, size_parts}
+use Rattle.kernel_model.specs.FootprintLaw.{AgreeOn}
 use Rattle.number_maps.proofs.Order.{eq-same}
 use Rattle.footprint_laws.proofs.Keys.{unbound-same}
 use Rattle.footprint_laws.proofs.Change.{Same, Changes, changes-none, changes-put, changes-without, has_set, has_set_keys, SameEffect, SameEffects}

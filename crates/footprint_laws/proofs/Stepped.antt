@@ -10,7 +10,8 @@ use Rattle.kernel_model.specs.SemaphoreSet.{SemaphoreSet}
 use Rattle.kernel_model.specs.Kernel.{Kernel, Process, alive_in}
 use Rattle.kernel_model.specs.Effect.{reply_alone}
 use Rattle.kernel_model.specs.Transition.{Successor, successor}
-use Rattle.kernel_model.specs.Footprint.{Part, MayDo, Whole, ParentOf, QueueAt, SetAt, SizeOf, QueueKeys, SetKeys, is_whole, is_allowance, bare, SameAt, AgreeOn, RestStays, parent_number}
+use Rattle.kernel_model.specs.Footprint.{Part, MayDo, Whole, ParentOf, QueueAt, SetAt, SizeOf, QueueKeys, SetKeys, parent_number}
+use Rattle.kernel_model.specs.FootprintLaw.{is_whole, is_allowance, bare, SameAt, AgreeOn, RestStays}
 use Rattle.number_maps.proofs.Order.{eq-same}
 use Rattle.footprint_laws.proofs.Change.{Change, Stays, Same, Changes, change-agree, change-first, change-second, is_parent, has_whole, has_queue, has_set, has_queue_keys, has_set_keys, has_parent}
 

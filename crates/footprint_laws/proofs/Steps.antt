@@ -8,7 +8,8 @@ use Rattle.kernel_model.specs.Kernel.{Kernel, alive_in, living_at}
 use Rattle.kernel_model.specs.Effect.{Effect, reply_alone}
 use Rattle.kernel_model.specs.Transition.{successor, effect, may_make, outcome_of, transition, transition_by}
 use Rattle.kernel_model.specs.Valid.{IsValid}
-use Rattle.kernel_model.specs.Footprint.{Part, AgreeOn, allowance_at}
+use Rattle.kernel_model.specs.Footprint.{Part}
+use Rattle.kernel_model.specs.FootprintLaw.{AgreeOn, allowance_at}
 use Rattle.footprint_laws.proofs.Change.{has_whole, has_parent, SameEffect, SameEffects}
 use Rattle.footprint_laws.proofs.Stepped.{Stepped, AlikeStep, AlikeSteps, step-from, has_allowance}
 use Rattle.footprint_laws.proofs.Finish.{whole-stepped, away-stepped}

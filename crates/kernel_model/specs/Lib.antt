@@ -17,6 +17,7 @@ pub mod Script
 pub mod Fitting
 pub mod Trace
 pub mod Footprint
+pub mod FootprintLaw
 pub mod Examples
 pub mod TextExamples
 pub mod FirstExample
