@@ -4,12 +4,14 @@ ghost use Rattle.std.specs.Prelude.{◌<◌};
 use host_iface::Gate;
 use pico_base::Node;
 use std::sync::atomic::{AtomicU64, Ordering};
+use std::thread;
 
-/// As many looks at most before a wait gives up.
-const LOOKS: u64 = 1_000_000_000;
+/// As many looks at most before a wait gives up. Others are let on between them, so they take minutes, and a wait gives
+/// up on no machine for being slow.
+const LOOKS: u64 = 200_000_000;
 
-/// As many looks take tens of milliseconds.
-const MORE_LOOKS: u64 = 10_000_000;
+/// As many looks take some tenths of a second.
+const MORE_LOOKS: u64 = 1_000_000;
 
 /// Words that gates raise and wait for, and how many waits gave up.
 #[derive(Drop)]
@@ -43,14 +45,16 @@ impl Words {
             if word.load(Ordering::SeqCst) >= least {
                 return;
             }
+            thread::yield_now();
         }
         self.gave_up.fetch_add(1, Ordering::SeqCst);
     }
 
-    /// Looks for some milliseconds, in which the other thread makes the turn that it has passed the gate for.
+    /// Looks for some tenths of a second, in which the other thread makes the turn that it has passed the gate for.
     fn look_on(&self) {
         for _ in 0..MORE_LOOKS {
             let _ = self.first.load(Ordering::SeqCst);
+            thread::yield_now();
         }
     }
 
@@ -60,6 +64,7 @@ impl Words {
             if counts.of(Node(2)).2 >= least {
                 return;
             }
+            thread::yield_now();
         }
         self.gave_up.fetch_add(1, Ordering::SeqCst);
     }
@@ -82,6 +87,7 @@ impl Gate for InOrder {
             if ORDER.get(place).is_none_or(|next| *next == node.0) {
                 return;
             }
+            thread::yield_now();
         }
         self.words.gave_up.fetch_add(1, Ordering::SeqCst);
     }
