@@ -22,8 +22,9 @@ use Rattle.node_model.specs.declared.held.Held.TheVariants.{Request, Ending}
 use Rattle.node_model.specs.Bodies.{Deeds}
 use Rattle.node_model.specs.Directory.{At, has_more, held_for, max_ranges, place_of}
 use Rattle.node_model.specs.Kinds.{for_kind}
+use Rattle.world_model.specs.Ends.{IsHeld, Releases, end_process}
 use Rattle.world_model.specs.Node.{Node, unborn_node}
-use Rattle.world_model.specs.Routing.{IsHeld, Releases, end_process, route_call}
+use Rattle.world_model.specs.Routes.{route_call}
 use Rattle.world_model.specs.Step.{Step}
 use Rattle.world_model.specs.World.{World, node_at, world_after, node_count}
 use Rattle.world_laws.specs.Deeds.{DeedsAreRead}
