@@ -42,7 +42,8 @@ use Rattle.world_model.specs.Serving.{serve_asked, serve_nobody, without_deed}
 use Rattle.world_model.specs.Starting.{run}
 use Rattle.world_model.specs.Step.{Step, send, step_to, with_directory}
 use Rattle.world_model.specs.Turn.{take_frame}
-use Rattle.bound_laws.specs.Bounded.{FrameIsBounded, FrameNamesNodes, IsNode, LeadsToNode, NamesNodes, NodeIsBounded, StepIsBounded}
+use Rattle.world_model.specs.World.{IsNode}
+use Rattle.bound_laws.specs.Bounded.{FrameIsBounded, FrameNamesNodes, LeadsToNode, NamesNodes, NodeIsBounded, StepIsBounded}
 use Rattle.bound_laws.proofs.NewNames.{ForksNodes, make-bounded}
 use Rattle.bound_laws.proofs.Parts.{arrive-names, bound-is-node, forget-names, held-are-of-nodes, learn-names, leaving-names, left-names, none-rises, of-map, of-next, of-test, place-name-names, put-rises, range-names, without-rises}
 use Rattle.bound_laws.proofs.Released.{exit-here-bounded, release-bounded}
