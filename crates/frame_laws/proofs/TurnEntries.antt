@@ -1,6 +1,6 @@
 -- A node takes a frame, or starts a call: Answers and Suggests are of entries of the step, rule by rule.
 use Rattle.std.proofs.Common.{◌≡◌, ℕ, true, not, ◌&&◌, nat_eq, List, [], ◌∷◌, ◌++◌, map, fold, Option, Some, None, refl, ap, ◌∙◌}
-use Rattle.std.specs.List.{AllByRecursion, list_all, list_any}
+use Rattle.std.specs.List.{AllByRecursion, list_any}
 use Rattle.std.specs.Option.{option_and_then, option_map}
 use Rattle.pico_base.specs.declared.call.Call.{Call}
 use Rattle.pico_base.specs.declared.call.Home.{Home}
@@ -41,7 +41,7 @@ use Rattle.world_model.specs.Starting.{run}
 use Rattle.world_model.specs.Step.{Step, send, step_to, with_directory}
 use Rattle.world_model.specs.Turn.{take_frame}
 use Rattle.world_laws.specs.Plays.{is_home_on}
-use Rattle.bound_laws.proofs.Parts.{of-map, of-next, of-some, of-test}
+use Rattle.bound_laws.proofs.Parts.{of-map, of-next, of-test}
 use Rattle.bound_laws.proofs.StepParts.{answered-none, none-is}
 use Rattle.frame_laws.specs.Entered.{IsFrameEntered, IsStepEntered}
 use Rattle.frame_laws.specs.Within.{HasTicket}
