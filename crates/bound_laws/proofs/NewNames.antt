@@ -24,7 +24,8 @@ use Rattle.node_model.specs.Spelling.{pack}
 use Rattle.world_model.specs.Node.{Node, asked_here, is_leader, own_row}
 use Rattle.world_model.specs.Numbers.{Taken, fork_with, knows_any, make, make_object, make_set, make_taken, make_with, take_first, take_from, take_from_next, take_number, tell_place, with_next_range}
 use Rattle.world_model.specs.Step.{Step, carry_out, send, with_deeds, with_directory, with_node}
-use Rattle.bound_laws.specs.Bounded.{IsNode, NodeIsBounded, StepIsBounded}
+use Rattle.world_model.specs.World.{IsNode}
+use Rattle.bound_laws.specs.Bounded.{NodeIsBounded, StepIsBounded}
 use Rattle.bound_laws.proofs.Parts.{of-map, of-next, of-some, of-test, place-name-names, put-rises, range-names}
 use Rattle.bound_laws.proofs.StepParts.{carry-out-bounded, first-is-node, send-bounded, send-first-bounded, with-deeds-bounded, with-directory-bounded, with-node-bounded, with-tables-bounded}
 

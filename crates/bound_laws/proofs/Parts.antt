@@ -13,6 +13,7 @@ use Rattle.number_maps.specs.Maps.{Numbered, get}
 use Rattle.number_maps.proofs.LookUps.{get-first, get-later}
 use Rattle.number_maps.proofs.Rising.{rising-filter, rising-nothing, rising-put}
 use Rattle.kernel_laws.proofs.Plain.{Of, by_test, from_some, not_some}
+use Rattle.world_model.specs.World.{IsNode}
 use Rattle.entry_laws.proofs.Names.{get-put-other-name, get-put-same-name, name-cases}
 use Rattle.node_model.specs.declared.held.Held.{Held}
 use Rattle.node_model.specs.declared.route.Route.{Route}
@@ -20,7 +21,7 @@ use Rattle.node_model.specs.declared.route.Route.TheVariants as routes
 use Rattle.node_model.specs.Cache.{Cache, forget, learn, look, look_by, max_cached, owner_in}
 use Rattle.node_model.specs.Directory.{Directory, Place, At, Coming, arrive, bound_for, destination_of, held_for, hold, hold_at, is_known, items_of, maker, maker_in, maker_stays, place_name, place_of, place_without, places_without, range_size, recall, route, route_by, with_leaving, with_left, with_place, with_range}
 use Rattle.node_model.specs.Kinds.{Named, for_kind, get_named, is_same_name, kind_of, number_of, none_named, put_all, put_named, without_named}
-use Rattle.bound_laws.specs.Bounded.{AllRise, IsNode, ItemIsOfNode, ItemsAreOfNodes, LeadsToNode, NamesNodes, PlaceNamesNodes}
+use Rattle.bound_laws.specs.Bounded.{AllRise, ItemIsOfNode, ItemsAreOfNodes, LeadsToNode, NamesNodes, PlaceNamesNodes}
 
 -- ---- lists
 

@@ -22,10 +22,11 @@ use Rattle.node_model.specs.declared.held.Held.TheVariants.{Request, Ending}
 use Rattle.node_model.specs.Bodies.{Deeds}
 use Rattle.node_model.specs.Directory.{At, has_more, held_for, max_ranges, place_of}
 use Rattle.node_model.specs.Kinds.{for_kind}
+use Rattle.world_model.specs.Ends.{IsHeld, Releases, end_process}
 use Rattle.world_model.specs.Node.{Node, unborn_node}
-use Rattle.world_model.specs.Routing.{IsHeld, Releases, end_process, route_call}
+use Rattle.world_model.specs.Routes.{route_call}
 use Rattle.world_model.specs.Step.{Step}
-use Rattle.world_model.specs.World.{World, node_at, world_after, node_count}
+use Rattle.world_model.specs.World.{IsNode, World, node_at, world_after, node_count}
 use Rattle.world_laws.specs.Deeds.{DeedsAreRead}
 use Rattle.world_laws.specs.Invariant.{Holds, IsShaped}
 use Rattle.world_laws.specs.Places.{Beside}
@@ -38,7 +39,7 @@ use Rattle.rule_laws.proofs.ends.Directories.{KnowsNodes}
 use Rattle.rule_laws.proofs.ends.Given.{AreRising}
 use Rattle.rule_laws.proofs.ends.RecallAlls.{deeds_at}
 use Rattle.route_laws.specs.Watching.{AreWatchesOf}
-use Rattle.bound_laws.specs.Bounded.{AllRise, FrameIsBounded, IsBounded, IsGood, IsNode, ItemIsOfNode, ItemsAreOfNodes, NodeIsBounded, PlaceNamesNodes, StepIsBounded}
+use Rattle.bound_laws.specs.Bounded.{AllRise, FrameIsBounded, IsBounded, IsGood, ItemIsOfNode, ItemsAreOfNodes, NodeIsBounded, PlaceNamesNodes, StepIsBounded}
 use Rattle.bound_laws.proofs.Calls.{never-waits}
 use Rattle.bound_laws.proofs.Deeds.{deeds-are-read-in}
 use Rattle.bound_laws.proofs.Parts.{all-both, held-are-of-nodes, none-rises}

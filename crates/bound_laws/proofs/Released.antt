@@ -17,9 +17,12 @@ use Rattle.node_model.specs.Bodies.{Body}
 use Rattle.node_model.specs.Directory.{Directory, Place, At, Coming, arrive, held_for, is_parcel, parcels_held, place_of}
 use Rattle.node_model.specs.Kinds.{get_named, put_all}
 use Rattle.node_model.specs.Parcels.{commit_exit, fitting_bodies}
-use Rattle.world_model.specs.Routing.{AfterEnd, IsHeld, Releases, arrive_all, end_by, end_process, enter_exit, exit_here, exit_with, go_on_after, held_for_all, names_in, no_round, release, release_names, release_round, release_rounds, route_call}
+use Rattle.world_model.specs.Routes.{route_call}
+use Rattle.world_model.specs.Ends.{AfterEnd, IsHeld, Releases, arrive_all, end_by, end_process, enter_exit, exit_here, exit_with, held_for_all, names_in, release_names}
+use Rattle.world_model.specs.Releases.{go_on_after, no_round, release, release_round, release_rounds}
 use Rattle.world_model.specs.Step.{Step, send, with_deeds, with_directory}
-use Rattle.bound_laws.specs.Bounded.{IsNode, ItemIsOfNode, ItemsAreOfNodes, NamesNodes, PlaceNamesNodes, StepIsBounded}
+use Rattle.world_model.specs.World.{IsNode}
+use Rattle.bound_laws.specs.Bounded.{ItemIsOfNode, ItemsAreOfNodes, NamesNodes, PlaceNamesNodes, StepIsBounded}
 use Rattle.bound_laws.proofs.Parts.{all-both, arrive-names, held-are-of-nodes, of-map, of-next, of-some, put-all-rises}
 use Rattle.bound_laws.proofs.Routed.{hold-item-bounded, route-call-bounded}
 use Rattle.bound_laws.proofs.StepParts.{enter-bounded, send-bounded, with-deeds-bounded, with-directory-bounded, with-node-bounded}

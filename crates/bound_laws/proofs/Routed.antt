@@ -29,12 +29,14 @@ use Rattle.node_model.specs.declared.route.Route.TheVariants as routes
 use Rattle.node_model.specs.Bodies.{AQueue, ASet, Body}
 use Rattle.node_model.specs.Directory.{Directory, hold, place_name, recall, route}
 use Rattle.node_model.specs.Kinds.{get_named, put_named}
+use Rattle.world_model.specs.Keys.{bind, create_set, find_set, get_by_key, get_queue, get_set, make_bound, make_queue, make_set, without_key}
 use Rattle.world_model.specs.Node.{Leader, Node}
 use Rattle.world_model.specs.Numbers.{Taken, take_number}
-use Rattle.world_model.specs.Routing.{bind, create_set, find_set, forward, get_by_key, get_queue, get_set, hold_item, make_bound, make_queue, keys_after, make_set, recall_and_hold, recall_from, remove_by, remove_here, route_by, route_call, route_home, unbind_name, was_removed, without_key}
+use Rattle.world_model.specs.Routes.{forward, hold_item, keys_after, recall_and_hold, recall_from, remove_by, remove_here, route_by, route_call, route_home, unbind_name, was_removed}
 use Rattle.world_model.specs.Serving.{serve_asked}
 use Rattle.world_model.specs.Step.{Step, with_directory, with_leader, with_node}
-use Rattle.bound_laws.specs.Bounded.{IsNode, ItemIsOfNode, LeadsToNode, NamesNodes, NodeIsBounded, StepIsBounded}
+use Rattle.world_model.specs.World.{IsNode}
+use Rattle.bound_laws.specs.Bounded.{ItemIsOfNode, LeadsToNode, NamesNodes, NodeIsBounded, StepIsBounded}
 use Rattle.bound_laws.proofs.NewNames.{take-number-bounded}
 use Rattle.bound_laws.proofs.Parts.{RouteNamesNode, hold-names, of-map, of-some, place-name-names, put-rises, recall-names, route-is-node}
 use Rattle.bound_laws.proofs.StepParts.{carry-out-bounded, send-bounded, serve-asked-bounded, serve-nobody-bounded, with-directory-bounded, with-node-bounded}

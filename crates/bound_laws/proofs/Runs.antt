@@ -21,11 +21,11 @@ use Rattle.node_model.specs.Caller.{new_caller}
 use Rattle.node_model.specs.Kinds.{for_kind, none_named}
 use Rattle.world_model.specs.Node.{Node, first_node, opening_node, unborn_node}
 use Rattle.world_model.specs.Run.{IsReachableWorld, Runs}
-use Rattle.world_model.specs.World.{World, is_number, node_at, node_count, numbers, opening_world}
+use Rattle.world_model.specs.World.{IsNode, World, is_number, node_at, node_count, numbers, opening_world}
 use Rattle.world_laws.specs.Invariant.{Holds}
 use Rattle.world_laws.specs.Sights.{frames_to}
 use Rattle.rule_laws.proofs.Opening.{opening-holds}
-use Rattle.bound_laws.specs.Bounded.{FrameIsBounded, IsBounded, IsNode, IsShapedAndBounded, NamesNodes, NodeIsBounded, PlaceNamesNodes}
+use Rattle.bound_laws.specs.Bounded.{FrameIsBounded, IsBounded, IsShapedAndBounded, NamesNodes, NodeIsBounded, PlaceNamesNodes}
 use Rattle.bound_laws.proofs.Parts.{all-at, none-rises, put-rises}
 use Rattle.bound_laws.proofs.Scripts.{sound-is-runnable}
 use Rattle.bound_laws.proofs.StepParts.{first-is-node, none-is}

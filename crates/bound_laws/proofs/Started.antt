@@ -29,11 +29,12 @@ use Rattle.node_model.specs.Parcels.{end_first}
 use Rattle.node_model.specs.Serving.{serve}
 use Rattle.world_model.specs.Node.{Leaving, Node, Over, asked_here, can_run, holds, is_leader, own_row}
 use Rattle.world_model.specs.Numbers.{make}
-use Rattle.world_model.specs.Routing.{route_call}
+use Rattle.world_model.specs.Routes.{route_call}
 use Rattle.world_model.specs.Serving.{serve_asked}
 use Rattle.world_model.specs.Starting.{act, ask, carry_out_own, end_leader, leave, request, run, start, start_at, start_by, start_due, start_end, start_making, start_own, start_set, with_look}
 use Rattle.world_model.specs.Step.{Step, carry_out, enter, reply_here, send, step_to, with_deeds, with_node}
-use Rattle.bound_laws.specs.Bounded.{IsNode, LeadsToNode, NodeIsBounded, StepIsBounded}
+use Rattle.world_model.specs.World.{IsNode}
+use Rattle.bound_laws.specs.Bounded.{LeadsToNode, NodeIsBounded, StepIsBounded}
 use Rattle.bound_laws.proofs.NewNames.{ForksNodes, make-bounded}
 use Rattle.bound_laws.proofs.Parts.{look-names, of-map, of-next, of-test, owner-is-node, put-all-rises}
 use Rattle.bound_laws.proofs.Routed.{route-call-bounded}

@@ -28,8 +28,9 @@ use Rattle.node_model.specs.Watches.{Watches, moves_to, unwatch, watch_over, wit
 use Rattle.world_model.specs.Node.{Node, Stage, is_leader, under_way_as}
 use Rattle.world_model.specs.Serving.{grant, grant_held, move_to, note_read, serve_asked, serve_asked_with, serve_nobody, without_deed}
 use Rattle.world_model.specs.Step.{Step, carry_out, enter, reply_here, reply_to, send, step_to, with_deeds, with_directory, with_node}
+use Rattle.world_model.specs.World.{IsNode}
 use Rattle.route_laws.specs.Watching.{AreWatchesOf}
-use Rattle.bound_laws.specs.Bounded.{AllRise, FrameNamesNodes, IsNode, LeadsToNode, NamesNodes, NodeIsBounded, SendIsBounded, StepIsBounded}
+use Rattle.bound_laws.specs.Bounded.{AllRise, FrameNamesNodes, LeadsToNode, NamesNodes, NodeIsBounded, SendIsBounded, StepIsBounded}
 use Rattle.bound_laws.proofs.Watched.{read-watched, unwatched}
 use Rattle.bound_laws.proofs.Parts.{all-both, arrive-names, of-map, put-all-rises, without-rises}
 

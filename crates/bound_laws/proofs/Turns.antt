@@ -31,17 +31,19 @@ use Rattle.node_model.specs.Parcels.{fitting_bodies, give_all, give_back, pack_a
 use Rattle.node_model.specs.Spelling.{pack, read_deed}
 use Rattle.node_model.specs.Watches.{unwatch}
 use Rattle.world_model.specs.Calls.{answered_by, ask_after, asks_as, bounce, bounce_or_nobody, end_with_reply, forwarded_by, is_for_others, is_from_leader, is_on_name_or_removal, is_to_leader, requested_by, take_answer, take_ask, take_bounce, take_forward, take_not_owner, take_request, with_forgotten, with_learnt}
+use Rattle.world_model.specs.Ends.{exit_here, names_in}
 use Rattle.world_model.specs.Lives.{be_born, born_with, end_released, hand_over, is_end, is_forked_by, is_new_row, is_of_process, may_leave, may_take, place_family, send_to_leader, take_checkpoint, take_exit, take_leaving, take_left, take_recall_all}
 use Rattle.world_model.specs.Moves.{come_back, give_back as gives_back, goes_on_to, is_at, is_new_here, keep, pass_on, receive_deed, suggest, take_give_back, take_grant, take_recall, take_suggest}
 use Rattle.world_model.specs.Node.{Left, Node, holds, is_born, is_leader, is_leaving_stage, is_node, is_unborn, under_way_as}
 use Rattle.world_model.specs.Numbers.{make}
 use Rattle.world_model.specs.Ranges.{go_on_with, may_lease, take_lease, take_lease_ask, take_placed}
-use Rattle.world_model.specs.Routing.{exit_here, names_in, recall_from, route_call}
+use Rattle.world_model.specs.Routes.{recall_from, route_call}
 use Rattle.world_model.specs.Serving.{serve_asked, serve_nobody, without_deed}
 use Rattle.world_model.specs.Starting.{run}
 use Rattle.world_model.specs.Step.{Step, send, step_to, with_directory}
 use Rattle.world_model.specs.Turn.{take_frame}
-use Rattle.bound_laws.specs.Bounded.{FrameIsBounded, FrameNamesNodes, IsNode, LeadsToNode, NamesNodes, NodeIsBounded, StepIsBounded}
+use Rattle.world_model.specs.World.{IsNode}
+use Rattle.bound_laws.specs.Bounded.{FrameIsBounded, FrameNamesNodes, LeadsToNode, NamesNodes, NodeIsBounded, StepIsBounded}
 use Rattle.bound_laws.proofs.NewNames.{ForksNodes, make-bounded}
 use Rattle.bound_laws.proofs.Parts.{arrive-names, bound-is-node, forget-names, held-are-of-nodes, learn-names, leaving-names, left-names, none-rises, of-map, of-next, of-test, place-name-names, put-rises, range-names, without-rises}
 use Rattle.bound_laws.proofs.Released.{exit-here-bounded, release-bounded}

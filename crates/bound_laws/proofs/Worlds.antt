@@ -13,7 +13,7 @@ use Rattle.world_model.specs.Node.{Node}
 use Rattle.world_model.specs.Step.{Step, step_to}
 use Rattle.world_model.specs.Starting.{run}
 use Rattle.world_model.specs.Turn.{take_frame}
-use Rattle.world_model.specs.World.{World, after_turn, is_enabled, node_count, runs_at, step, stream, takes_at, world_after}
+use Rattle.world_model.specs.World.{IsNode, World, after_turn, is_enabled, node_count, runs_at, step, stream, takes_at, world_after}
 use Rattle.world_laws.specs.Invariant.{IsShaped}
 use Rattle.world_laws.specs.Sights.{node_of}
 use Rattle.world_laws.proofs.Changes.{Changes, frames_if, sent, taken}
@@ -21,7 +21,7 @@ use Rattle.world_laws.proofs.Sends.{AreToNodes, frame_if, frames_with}
 use Rattle.world_laws.proofs.Steps.{Heads, changes-by-run, changes-by-take, frames-low, node-there, world_without}
 use Rattle.rule_laws.proofs.own.Enabled.{IsRun, enabled-runs}
 use Rattle.rule_laws.proofs.Enabled.{IsTaken, enabled-takes}
-use Rattle.bound_laws.specs.Bounded.{FrameIsBounded, IsBounded, IsNode, IsShapedAndBounded, ItemsAreOfNodes, NodeIsBounded, SendIsBounded, StepIsBounded}
+use Rattle.bound_laws.specs.Bounded.{FrameIsBounded, IsBounded, IsShapedAndBounded, ItemsAreOfNodes, NodeIsBounded, SendIsBounded, StepIsBounded}
 use Rattle.bound_laws.proofs.Parts.{all-both, all-parts, of-some}
 use Rattle.bound_laws.proofs.Turns.{run-turn-bounded, take-turn-bounded}
 

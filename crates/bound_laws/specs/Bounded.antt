@@ -17,15 +17,10 @@ use Rattle.node_model.specs.Directory.{Directory, Place, At, Coming, place_of}
 use Rattle.node_model.specs.Kinds.{Named, for_kind}
 use Rattle.world_model.specs.Node.{Node}
 use Rattle.world_model.specs.Step.{Step}
-use Rattle.world_model.specs.World.{World, node_count}
+use Rattle.world_model.specs.World.{IsNode, World, node_count}
 use Rattle.world_laws.specs.Invariant.{IsShaped}
 use Rattle.world_laws.specs.Sights.{node_of, frames_to}
 use Rattle.route_laws.specs.Watching.{AreWatchesOf}
-
--- the number of a node of the script
-pub record IsNode (script : Script) (p : ℕ) : Type 0 where
-  pub low : 1 ≤ p
-  pub high : p ≤ node_count script
 
 -- a map from names stands by rising number, kind by kind
 pub record AllRise {V : Type 0} (m : Named V) : Type 0 where

@@ -18,6 +18,7 @@ use Rattle.signal_state.specs.Held.{AreHeld, is_kept}
 use Rattle.signal_state.specs.Spelling.{signal_bytes, HasBytes as HasSignalBytes}
 use Rattle.signal_state.proofs.Bodies.{all_signals-pass, fields-again, held-parts, signal_bytes-length}
 use Rattle.fork_wait.specs.Children.{AreChildren, are_different, children}
+use Rattle.fork_wait.specs.Reading.{max_children}
 use Rattle.fork_wait.specs.Spelling.{ending_bytes, family_bytes, HasBytes as HasFamilyBytes}
 use Rattle.fork_wait.proofs.Bodies.{bytes_again}
 use Rattle.sysv_msg.specs.Body.{body as queue_bytes}
@@ -25,7 +26,7 @@ use Rattle.sysv_msg.proofs.Bodies.{queue_again}
 use Rattle.sysv_sem.specs.Body.{body as set_bytes}
 use Rattle.sysv_sem.proofs.Semaphores.{set_again}
 use Rattle.node_model.specs.Bodies.{Body, Living, Ended, Gone, AQueue, ASet, Removed}
-use Rattle.node_model.specs.Spelling.{are_children, are_signals, body_bytes, family_if, is_default, max_children, pack, read_body, read_deed, read_ending, read_family, read_process, read_queue, read_row, read_set, read_signals, row_bytes, row_with, signals_from, signals_if, signals_size}
+use Rattle.node_model.specs.Spelling.{are_children, are_signals, body_bytes, family_if, is_default, pack, read_body, read_deed, read_ending, read_family, read_process, read_queue, read_row, read_set, read_signals, row_bytes, row_with, signals_from, signals_if, signals_size}
 use Rattle.deed_laws.specs.Spelled.{HasBytes, HasRowBytes}
 
 -- ---- signals

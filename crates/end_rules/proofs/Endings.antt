@@ -14,7 +14,8 @@ use Rattle.node_model.specs.Kinds.{is_object}
 use Rattle.node_model.specs.Bodies as model
 use Rattle.node_model.specs.Directory.{Directory, Place, At, Coming, arrive, held_for, hold_at, is_coming, is_coming_to, items_of, parcels_held, place_of}
 use Rattle.world_model.specs.Step.{Step}
-use Rattle.world_model.specs.Routing.{arrive_all, arrive_at, held_for_all, hold_item}
+use Rattle.world_model.specs.Routes.{hold_item}
+use Rattle.world_model.specs.Ends.{arrive_all, arrive_at, held_for_all}
 use Rattle.world_laws.proofs.Named.{name-cases}
 use Rattle.rule_laws.proofs.Places.{place-with-other, place-with-same}
 use Rattle.route_laws.proofs.release.Parcels.{PlacesRise, all-arrive, among-behind-parcel, among-both, one-more-held}

@@ -6,7 +6,8 @@ use Rattle.rpc_frame.specs.declared.asked.Asked.{Asked}
 use Rattle.node_model.specs.declared.held.Held.{Held}
 use Rattle.node_model.specs.declared.held.Held.TheVariants.{Request}
 use Rattle.world_model.specs.Step.{Step}
-use Rattle.world_model.specs.Routing.{release, release_round, release_rounds, route_call}
+use Rattle.world_model.specs.Routes.{route_call}
+use Rattle.world_model.specs.Releases.{release, release_round, release_rounds}
 use Rattle.route_laws.proofs.release.Parcels.{PlacesRise}
 use Rattle.route_laws.proofs.release.RoutedParcels.{HoldsNoMore, route-holds-no-more}
 use Rattle.end_rules.specs.Ending.{GoesOn, parcels_left}

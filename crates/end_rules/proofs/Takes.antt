@@ -19,7 +19,8 @@ use Rattle.node_serve.specs.Bodies.{bodies_of, body_of}
 use Rattle.node_serve.specs.Ending.{lets}
 use Rattle.node_serve.proofs.KernelLemmas.{bodies-get}
 use Rattle.world_model.specs.Step.{Step, send}
-use Rattle.world_model.specs.Routing.{end_by, end_process, exit_here, exit_with, go_on_after, no_round, release, release_round, release_rounds, release_names}
+use Rattle.world_model.specs.Ends.{end_by, end_process, exit_here, exit_with, release_names}
+use Rattle.world_model.specs.Releases.{go_on_after, no_round, release, release_round, release_rounds}
 use Rattle.end_rules.specs.Taking.{may_end_by}
 
 differ : {B : Type 0} → true ≡ false → B

@@ -7,7 +7,8 @@ use Rattle.rpc_frame.specs.declared.frame.Frame.TheVariants as frames
 use Rattle.node_model.specs.declared.held.Held.{Held}
 use Rattle.node_model.specs.Directory.{Directory, At, arrive, held_for, is_coming, is_parcel, parcels_held}
 use Rattle.world_model.specs.Step.{Step, send, with_directory, with_node}
-use Rattle.world_model.specs.Routing.{AfterEnd, IsHeld, Releases, arrive_all, end_by, end_process, exit_here, held_for_all, release_round}
+use Rattle.world_model.specs.Ends.{AfterEnd, IsHeld, Releases, arrive_all, end_by, end_process, exit_here, held_for_all}
+use Rattle.world_model.specs.Releases.{release_round}
 
 -- how many parcels there are in a list of items
 abbrev pub parcels_among : List Held → ℕ

@@ -11,7 +11,7 @@ use Rattle.node_serve.specs.declared.body.Body.{Body}
 use Rattle.node_serve.specs.Ending.{lets}
 use Rattle.world_model.specs.Node.{Node}
 use Rattle.world_model.specs.Calls.{is_from_leader}
-use Rattle.world_model.specs.Routing.{names_in}
+use Rattle.world_model.specs.Ends.{names_in}
 
 -- The end rule applies to a parcel that fits: the parent is at this node and lets the process end, or it is at another
 -- one or on its way.

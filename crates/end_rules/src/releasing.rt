@@ -1,7 +1,7 @@
 //! What was held for a name is released, once it has come.
 ghost use Rattle.std.specs.Prelude.{◌≡◌, ◌++◌, IfOk, OnOk, Some, reverse};
 ghost use Rattle.kernel_model.specs.Script.{IsSoundScript};
-ghost use Rattle.world_model.specs.Routing.{release};
+ghost use Rattle.world_model.specs.Releases.{release};
 ghost use Rattle.node_state.specs.State.{step_of};
 ghost use Rattle.end_rules.specs.Ending.{Rounds, TakesOff};
 

@@ -7,7 +7,7 @@ ghost use Rattle.node_model.specs.Directory.{is_leaving, route, with_left};
 ghost use Rattle.node_model.specs.Leases.{leases_hold};
 ghost use Rattle.pico_base.specs.declared.numbers.Name.TheVariants.{Proc};
 ghost use Rattle.world_model.specs.Lives.{is_free_to_end, may_take, take_exit, take_left};
-ghost use Rattle.world_model.specs.Routing.{release};
+ghost use Rattle.world_model.specs.Releases.{release};
 ghost use Rattle.node_state.specs.State.{node_of, step_of};
 ghost use Rattle.node_state.specs.Turning.{IsFresh, Turns};
 ghost use Rattle.end_rules.specs.Ending.{with_places};

@@ -18,7 +18,7 @@ use Rattle.pico_base.specs.Options.{◌>>=◌}
 use Rattle.pico_base.specs.Signal.{all_signals, signal_from, signal_number}
 use Rattle.fork_wait.proofs.Loops.{ended_repeat, numbers_repeat}
 use Rattle.fork_wait.specs.Children.{AreChildren, children}
-use Rattle.fork_wait.specs.Reading.{all_ended_at, ended_at, ending_from, family_at, most, numbers_at}
+use Rattle.fork_wait.specs.Reading.{all_ended_at, ended_at, ending_from, family_at, max_children, numbers_at}
 use Rattle.fork_wait.specs.Spelling.{HasBytes, ended_bytes, ending_bytes, family_bytes}
 
 -- ---- a number and an ending
@@ -149,16 +149,16 @@ pub family_takes : (bytes : List ℕ) (f : Family) → IsBytes bytes → family_
     × AllByRecursion Small (children f)
 unfolding family_at
 family_takes bytes f fits e =
-    let count = bind_some (byte_upto most bytes) _ f e in
+    let count = bind_some (byte_upto max_children bytes) _ f e in
     let numbers = bind_some (numbers_at count.0.0 count.0.1) _ f count.2 in
-    let more = bind_some (byte_upto most numbers.0.1) _ f numbers.2 in
+    let more = bind_some (byte_upto max_children numbers.0.1) _ f numbers.2 in
     let endings = bind_some (all_ended_at more.0.0 more.0.1) _ f more.2 in
     let g = guard_ended (eqb (length endings.0.1) 0)
     (record { living = numbers.0.0; ended = endings.0.0 }) f endings.2 in
-    let t1 = (byte_upto_takes most bytes count.0 fits count.1).0 in
+    let t1 = (byte_upto_takes max_children bytes count.0 fits count.1).0 in
     let t2 = many_takes numbers_repeat (to_be_bytes w32) Small
     (number_takes w32 (2 ^ 32) wide32) count.0.0 count.0.1 numbers.0 t1.rest_fits numbers.1 in
-    let t3 = (byte_upto_takes most numbers.0.1 more.0 t2.0.rest_fits more.1).0 in
+    let t3 = (byte_upto_takes max_children numbers.0.1 more.0 t2.0.rest_fits more.1).0 in
     let t4 = many_takes ended_repeat ended_bytes
     (λ (c : EndedChild). Small c.pid) ended_takes more.0.0 more.0.1 endings.0 t3.rest_fits endings.1 in
     subst (λ (f : Family). (bytes ≡ family_bytes f) × AllByRecursion Small (children f)) {x =
@@ -169,16 +169,16 @@ family_takes bytes f fits e =
       Small-join numbers.0.0 endings.0.0 t2.2 t4.2,
     )
 
-pub family_again : (f : Family) → length f.living ≤ most → length f.ended ≤ most → AllByRecursion Small (children f)
-    → family_at (family_bytes f) ≡ Some f
+pub family_again : (f : Family) → length f.living ≤ max_children → length f.ended ≤ max_children
+    → AllByRecursion Small (children f) → family_at (family_bytes f) ≡ Some f
 unfolding family_at family_bytes
 family_again f few few' small =
     let parts = Small-split f.living f.ended small in
-    let count = byte_upto_again most (length f.living)
+    let count = byte_upto_again max_children (length f.living)
     (flat_map (to_be_bytes w32) f.living ++ length f.ended ∷ flat_map ended_bytes f.ended) few in
     let numbers = many_again numbers_repeat (to_be_bytes w32) Small (number_again w32 (2 ^ 32) wide32) f.living
     (length f.ended ∷ flat_map ended_bytes f.ended) parts.0 in
-    let more = byte_upto_again most (length f.ended) (flat_map ended_bytes f.ended) few' in
+    let more = byte_upto_again max_children (length f.ended) (flat_map ended_bytes f.ended) few' in
     let endings : all_ended_at (length f.ended) (flat_map ended_bytes f.ended) ≡ Some (f.ended, []) =
     ap (all_ended_at (length f.ended)) (sym (append-nil (flat_map ended_bytes f.ended)))
     ∙ many_again ended_repeat ended_bytes (λ (c : EndedChild). Small c.pid) child_again f.ended [] parts.1
@@ -187,7 +187,8 @@ family_again f few few' small =
 
 -- ---- what the bytes of a family say
 
-few-children : (f : Family) → AreChildren (children f) → (length f.living ≤ most) × (length f.ended ≤ most)
+few-children : (f : Family) → AreChildren (children f)
+    → (length f.living ≤ max_children) × (length f.ended ≤ max_children)
 few-children f are =
     let together = length-append f.living (map (λ e. e.pid) f.ended) in
     let mapped : length (map (λ e. e.pid) f.ended) ≡ length f.ended = length-map f.ended (λ e. e.pid) in

@@ -36,14 +36,14 @@ all_ended_at (suc n) bytes = do
   Some (first.0 ∷ others.0, others.1)
 
 -- how many children a list has at most
-abbrev pub most : ℕ
-most = 31
+abbrev pub max_children : ℕ
+max_children = 31
 
 -- two lists of at most 31 children, from all of the bytes
 unfoldable pub family_at : List ℕ → Option Family
 family_at bytes = do
-  living ← byte_upto most bytes
+  living ← byte_upto max_children bytes
   numbers ← numbers_at living.0 living.1
-  ended ← byte_upto most numbers.1
+  ended ← byte_upto max_children numbers.1
   endings ← all_ended_at ended.0 ended.1
   if length endings.1 == 0 then Some (record { living = numbers.0; ended = endings.0 }) else None

@@ -17,11 +17,11 @@ use Rattle.rpc_frame.specs.declared.frame.Frame.{Frame}
 use Rattle.rpc_frame.specs.declared.frame.Frame.TheVariants as frames
 use Rattle.kernel_model.specs.Script.{IsSoundScript}
 use Rattle.node_model.specs.declared.held.Held.{Held}
-use Rattle.world_model.specs.World.{World}
+use Rattle.world_model.specs.World.{IsNode, World}
 use Rattle.world_laws.specs.Invariant.{Holds}
 use Rattle.world_laws.specs.Places.{Beside}
 use Rattle.world_laws.specs.Sights.{frames_to}
-use Rattle.bound_laws.specs.Bounded.{FrameIsBounded, IsBounded, IsNode}
+use Rattle.bound_laws.specs.Bounded.{FrameIsBounded, IsBounded}
 use Rattle.frame_bytes.specs.Fields.{name_number}
 use Rattle.frame_bytes.specs.LimitTests.{is_frame}
 use Rattle.frame_laws.specs.Within.{HasGoodFrames}

@@ -36,9 +36,12 @@ use Rattle.node_model.specs.Kinds.{for_kind, get_named, put_all}
 use Rattle.node_model.specs.Leases.{lease_of}
 use Rattle.node_model.specs.Parcels.{commit_exit, fitting_bodies}
 use Rattle.world_model.specs.Calls.{is_for_others}
+use Rattle.world_model.specs.Ends.{AfterEnd, IsHeld, Releases, end_by, end_process, enter_exit, exit_here, exit_with, release_names}
+use Rattle.world_model.specs.Keys.{bind, create_set, find_set, get_by_key, get_queue, get_set, make_bound, make_queue, make_set}
 use Rattle.world_model.specs.Node.{Leader, Node, is_leader}
 use Rattle.world_model.specs.Numbers.{Taken, knows_any, take_first, take_from, take_from_next, take_number, with_next_range}
-use Rattle.world_model.specs.Routing.{AfterEnd, IsHeld, Releases, bind, create_set, end_by, end_process, enter_exit, exit_here, exit_with, find_set, forward, get_by_key, get_queue, get_set, go_on_after, hold_item, make_bound, make_queue, make_set, no_round, recall_and_hold, recall_from, release, release_names, release_round, release_rounds, remove_by, remove_here, route_by, route_call, route_home, unbind_name, was_removed}
+use Rattle.world_model.specs.Releases.{go_on_after, no_round, release, release_round, release_rounds}
+use Rattle.world_model.specs.Routes.{forward, hold_item, recall_and_hold, recall_from, remove_by, remove_here, route_by, route_call, route_home, unbind_name, was_removed}
 use Rattle.world_model.specs.Serving.{serve_asked}
 use Rattle.world_model.specs.Step.{Step, send, with_deeds, with_node}
 use Rattle.world_laws.specs.Plays.{is_home_on}

@@ -15,14 +15,14 @@ use Rattle.world_model.specs.Node.{Node}
 use Rattle.world_model.specs.Starting.{run}
 use Rattle.world_model.specs.Step.{Step}
 use Rattle.world_model.specs.Turn.{take_frame}
-use Rattle.world_model.specs.World.{World, node_count, world_after}
+use Rattle.world_model.specs.World.{IsNode, World, node_count, world_after}
 use Rattle.world_laws.specs.Invariant.{Holds}
 use Rattle.world_laws.specs.Places.{Beside}
 use Rattle.world_laws.specs.Sights.{node_of}
 use Rattle.world_laws.proofs.Changes.{Changes, frames_if, sent}
 use Rattle.world_laws.proofs.Sends.{frame_if, frames_with}
 use Rattle.world_laws.proofs.Steps.{Heads, changes-by-run, changes-by-take, world_without}
-use Rattle.bound_laws.specs.Bounded.{IsBounded, IsNode, IsShapedAndBounded, StepIsBounded}
+use Rattle.bound_laws.specs.Bounded.{IsBounded, IsShapedAndBounded, StepIsBounded}
 use Rattle.bound_laws.proofs.Parts.{of-some}
 use Rattle.bound_laws.proofs.Started.{run-bounded}
 use Rattle.bound_laws.proofs.Turns.{take-turn-bounded}

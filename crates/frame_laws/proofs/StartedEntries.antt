@@ -31,7 +31,7 @@ use Rattle.node_model.specs.Parcels.{end_first}
 use Rattle.node_model.specs.Serving.{parent_body, serve}
 use Rattle.world_model.specs.Node.{Leaving, Node, Over, asked_here, can_run, holds, is_leader, own_row}
 use Rattle.world_model.specs.Numbers.{fork_with, make, make_object, make_set, make_taken, make_with, take_number, tell_place}
-use Rattle.world_model.specs.Routing.{route_call}
+use Rattle.world_model.specs.Routes.{route_call}
 use Rattle.world_model.specs.Serving.{serve_asked}
 use Rattle.world_model.specs.Starting.{act, ask, carry_out_own, end_leader, leave, request, run, start, start_at, start_by, start_due, start_end, start_making, start_own, start_set, with_look}
 use Rattle.world_model.specs.Step.{Step, carry_out, send, step_to, with_deeds, with_directory, with_node}

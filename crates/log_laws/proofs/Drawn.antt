@@ -6,7 +6,8 @@ use Rattle.std.proofs.lemmas.List.Elements.{All-contains, All-contains_itself}
 use Rattle.pico_base.specs.declared.script.Script.{Script}
 use Rattle.stamp_merge.proofs.Filters.{all-map}
 use Rattle.world_model.specs.Node.{Node}
-use Rattle.log_laws.specs.Logs.{IsNode, StampedFrame, Logged, Log, sent_in, taken_in, AreConsistent}
+use Rattle.world_model.specs.World.{IsNode}
+use Rattle.log_laws.specs.Logs.{StampedFrame, Logged, Log, sent_in, taken_in, AreConsistent}
 use Rattle.log_laws.specs.Merge.{NodeTurn, IsBefore, AreInOrder, IsMerge}
 use Rattle.log_laws.specs.Journal.{JournalEntry, IsJournalOf}
 use Rattle.log_laws.specs.Drawn.{IsStampOfTurn, IsKnownStamp, IsDrawnFrom, AreAtMostPlaces, StampsAreFew}

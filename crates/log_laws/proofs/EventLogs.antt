@@ -8,8 +8,8 @@ use Rattle.pico_base.specs.declared.script.Event.{Event}
 use Rattle.stamp_merge.specs.declared.Stamped.{Stamped}
 use Rattle.stamp_merge.specs.Merge as stamps
 use Rattle.stamp_merge.proofs.Merges.{own-item, others-item}
-use Rattle.world_model.specs.World.{node_count}
-use Rattle.log_laws.specs.Logs.{IsNode, Logged, Log}
+use Rattle.world_model.specs.World.{IsNode, node_count}
+use Rattle.log_laws.specs.Logs.{Logged, Log}
 use Rattle.log_laws.specs.Merge.{NodeTurn, IsBefore, IsMerge, log_of, event_at, event_of, events_of}
 use Rattle.log_laws.specs.Merged.{item_of, IsItem, logs_from, logs_of}
 use Rattle.log_laws.specs.EventLogs.{event_item_of, event_log, event_logs_from, event_logs_of, EventLogsMayMerge, event_item, HasTurns, EventsMergeAsTurns}

@@ -12,9 +12,9 @@ use Rattle.world_model.specs.Node.{Node, can_run, is_born}
 use Rattle.world_model.specs.Step.{Step}
 use Rattle.world_model.specs.Starting.{run}
 use Rattle.world_model.specs.Turn.{take_frame}
-use Rattle.world_model.specs.World.{World, node_at, stream, with_stream, node_count, runs_at, takes_at, step, is_enabled, is_run_enabled, is_take_enabled, is_number, is_checkpoint}
+use Rattle.world_model.specs.World.{IsNode, World, node_at, stream, with_stream, node_count, runs_at, takes_at, step, is_enabled, is_run_enabled, is_take_enabled, is_number, is_checkpoint}
 use Rattle.world_model.specs.Schedule.{node_of}
-use Rattle.log_laws.specs.Logs.{IsNode, StampedFrame, frame_of, Runs, Takes, Log, turn_on, taken_if, taken_in, sent_in, IsTakenLater}
+use Rattle.log_laws.specs.Logs.{StampedFrame, frame_of, Runs, Takes, Log, turn_on, taken_if, taken_in, sent_in, IsTakenLater}
 use Rattle.log_laws.specs.Merge.{NodeTurn, events_of}
 use Rattle.log_laws.specs.Follows.{IsRunOfLogs, StandsFirst, IsTurnOf, SendsToNodes, AreBelow}
 use Rattle.log_laws.proofs.Lists.{right-all, stamps-of-sent}

@@ -6,10 +6,10 @@ use Rattle.std.proofs.lemmas.List.{length-set}
 use Rattle.pico_base.specs.declared.script.Script.{Script}
 use Rattle.rpc_frame.specs.declared.frame.Frame.{Frame}
 use Rattle.world_model.specs.Node.{Node}
-use Rattle.world_model.specs.World.{World, node_at, stream, node_count, world_after}
+use Rattle.world_model.specs.World.{IsNode, World, node_at, stream, node_count, world_after}
 use Rattle.world_laws.proofs.Streams.{Square}
 use Rattle.world_laws.proofs.Sends.{AreToNodes, square-sent, all-sent, none-sent}
-use Rattle.log_laws.specs.Logs.{IsNode, StampedFrame, frame_of, Logged, Log, LeadsTo, Makes, sent_to, sends_of, sent_in, taken_in, GoesBetween}
+use Rattle.log_laws.specs.Logs.{StampedFrame, frame_of, Logged, Log, LeadsTo, Makes, sent_to, sends_of, sent_in, taken_in, GoesBetween}
 use Rattle.log_laws.specs.Merge.{NodeTurn, AreInOrder, log_of}
 use Rattle.log_laws.proofs.Lists.{get-set-same, get-set-other, map-append, frames-of-sends, log-of-own, log-of-other}
 

@@ -4,7 +4,8 @@ use Rattle.std.specs.List.{flat_map, AllByRecursion}
 use Rattle.std.proofs.lemmas.Bool.{cases_eq, eq-eqb, ne_eqb}
 use Rattle.pico_base.specs.declared.script.Script.{Script}
 use Rattle.pico_base.specs.declared.reply.Entry.{Entry}
-use Rattle.log_laws.specs.Logs.{IsNode, Logged, Log}
+use Rattle.world_model.specs.World.{IsNode}
+use Rattle.log_laws.specs.Logs.{Logged, Log}
 use Rattle.log_laws.specs.Merge.{NodeTurn, IsBefore, AreInOrder, log_of, entries_of}
 use Rattle.log_laws.specs.Journal.{JournalEntry, journal_entry, entered, entry_if, entries_by, StampsDontFall, OneNodeAStamp, IsJournalOf, plain_entries}
 use Rattle.log_laws.specs.Laws.{OneJournal}

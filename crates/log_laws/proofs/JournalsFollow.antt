@@ -7,9 +7,9 @@ use Rattle.pico_base.specs.declared.script.Script.{Script}
 use Rattle.pico_base.specs.declared.script.Event.{Event}
 use Rattle.pico_base.specs.declared.reply.Entry.{Entry}
 use Rattle.stamp_merge.proofs.Filters.{all-map}
-use Rattle.world_model.specs.World.{World}
+use Rattle.world_model.specs.World.{IsNode, World}
 use Rattle.world_model.specs.Schedule.{node_of}
-use Rattle.log_laws.specs.Logs.{IsNode, Log}
+use Rattle.log_laws.specs.Logs.{Log}
 use Rattle.log_laws.specs.Merge.{NodeTurn, IsMerge}
 use Rattle.log_laws.specs.Journal.{JournalEntry, journal_entry, entered, entries_by, StampsDontFall, OneNodeAStamp, IsJournalOf}
 use Rattle.log_laws.specs.Follows.{logs_after, AreBelow, TurnFollows, JournalsFollow}

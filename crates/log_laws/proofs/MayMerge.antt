@@ -3,11 +3,11 @@ use Rattle.std.proofs.Common.{◌≡◌, ◌≢◌, ℕ, zero, suc, ◌+◌, ◌
 use Rattle.std.specs.List.{AllByRecursion}
 use Rattle.std.proofs.lemmas.Bool.{cases_eq}
 use Rattle.pico_base.specs.declared.script.Script.{Script}
-use Rattle.world_model.specs.World.{node_count}
+use Rattle.world_model.specs.World.{IsNode, node_count}
 use Rattle.stamp_merge.specs.declared.Stamped.{Stamped}
 use Rattle.stamp_merge.specs.Merge as stamps
 use Rattle.stamp_merge.proofs.Merges.{all-own, none-own, of-append}
-use Rattle.log_laws.specs.Logs.{IsNode, Logged, Log, StampsRise}
+use Rattle.log_laws.specs.Logs.{Logged, Log, StampsRise}
 use Rattle.log_laws.specs.Merged.{item_of, turn_of, IsItem, AreLogsOf, logs_from, logs_of, LogsMayMerge, MergedLogsAreRuns}
 use Rattle.log_laws.proofs.Merged.{merges_are_merges_lemma}
 use Rattle.log_laws.proofs.Whole.{consistent_logs_are_runs_lemma}

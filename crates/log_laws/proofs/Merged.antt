@@ -9,7 +9,8 @@ use Rattle.pico_base.specs.declared.script.Script.{Script}
 use Rattle.stamp_merge.specs.declared.Stamped.{Stamped}
 use Rattle.stamp_merge.specs.Merge as stamps
 use Rattle.stamp_merge.proofs.Merges.{own-item, others-item}
-use Rattle.log_laws.specs.Logs.{IsNode, Logged, Log}
+use Rattle.world_model.specs.World.{IsNode}
+use Rattle.log_laws.specs.Logs.{Logged, Log}
 use Rattle.log_laws.specs.Merge.{NodeTurn, IsBefore, AreInOrder, log_of}
 use Rattle.log_laws.specs.Merged.{item_of, turn_of, IsItem, MergesAreMerges}
 use Rattle.log_laws.proofs.Lists.{log-of-own, log-of-other}

@@ -5,7 +5,8 @@ use Rattle.std.proofs.lemmas.Bool.{cases_eq, eq-eqb, ne_eqb}
 use Rattle.std.proofs.lemmas.Grind.{flat_map-append}
 use Rattle.pico_base.specs.declared.script.Script.{Script}
 use Rattle.world_model.specs.Node.{Node, opening_node}
-use Rattle.log_laws.specs.Logs.{IsNode, StampedFrame, Logged, Log, turn_on, LeadsTo, sends_of, sent_in, takes_of, taken_in, StampsRise, GoesBetween, AreConsistent}
+use Rattle.world_model.specs.World.{IsNode}
+use Rattle.log_laws.specs.Logs.{StampedFrame, Logged, Log, turn_on, LeadsTo, sends_of, sent_in, takes_of, taken_in, StampsRise, GoesBetween, AreConsistent}
 use Rattle.log_laws.specs.Merge.{NodeTurn, IsBefore, AreInOrder, turn_if, log_of, IsMerge}
 use Rattle.log_laws.specs.Follows.{logs_after, AreBelow}
 use Rattle.log_laws.proofs.Lists.{append-all, log-of-own, log-of-other, all-of-log}

@@ -7,9 +7,9 @@ use Rattle.rpc_frame.specs.declared.frame.Frame.{Frame}
 use Rattle.world_model.specs.Node.{Node, can_run, is_born}
 use Rattle.world_model.specs.Starting.{run}
 use Rattle.world_model.specs.Turn.{take_frame}
-use Rattle.world_model.specs.World.{World, node_at, stream, with_stream, node_count, world_after, after_turn, runs_at, takes_at, step, is_enabled, is_run_enabled, is_take_enabled, is_number, is_checkpoint}
+use Rattle.world_model.specs.World.{IsNode, World, node_at, stream, with_stream, node_count, world_after, after_turn, runs_at, takes_at, step, is_enabled, is_run_enabled, is_take_enabled, is_number, is_checkpoint}
 use Rattle.world_laws.proofs.Streams.{square-with, stream-same, stream-other}
-use Rattle.log_laws.specs.Logs.{IsNode, StampedFrame, frame_of, Input, Runs, Takes, Logged, Log, LeadsTo, Makes, turn_on, takes_of, taken_in, taken_if, sent_in, IsTakenLater, GoesBetween}
+use Rattle.log_laws.specs.Logs.{StampedFrame, frame_of, Input, Runs, Takes, Logged, Log, LeadsTo, Makes, turn_on, takes_of, taken_in, taken_if, sent_in, IsTakenLater, GoesBetween}
 use Rattle.log_laws.specs.Merge.{NodeTurn, IsBefore, log_of, event_at, event_of}
 use Rattle.log_laws.proofs.Lists.{log-of-own, log-of-other, all-of-log, not-below, stamps-of-sent}
 use Rattle.log_laws.proofs.Halfway.{Nodes, OnWay, Ends, IsHalfway, IsTaken, nodes_after, on_way_after, halfway-after}

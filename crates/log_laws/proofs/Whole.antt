@@ -7,10 +7,10 @@ use Rattle.pico_base.specs.declared.script.Script.{Script}
 use Rattle.pico_base.specs.declared.reply.Entry.{Entry}
 use Rattle.rpc_frame.specs.declared.frame.Frame.{Frame}
 use Rattle.world_model.specs.Node.{Node, opening_node}
-use Rattle.world_model.specs.World.{World, node_at, stream, node_count, numbers, opening_world}
+use Rattle.world_model.specs.World.{IsNode, World, node_at, stream, node_count, numbers, opening_world}
 use Rattle.world_model.specs.Run.{Runs}
 use Rattle.world_laws.proofs.Streams.{Square}
-use Rattle.log_laws.specs.Logs.{IsNode, StampedFrame, frame_of, Logged, Log, GoesBetween, LeadsTo, sent_in, taken_in, AreConsistent}
+use Rattle.log_laws.specs.Logs.{StampedFrame, frame_of, Logged, Log, GoesBetween, LeadsTo, sent_in, taken_in, AreConsistent}
 use Rattle.log_laws.specs.Merge.{NodeTurn, IsMerge, log_of, events_of, entries_of}
 use Rattle.log_laws.specs.Laws.{ConsistentLogsAreRuns}
 use Rattle.log_laws.proofs.Lists.{log-of-own, log-of-other}

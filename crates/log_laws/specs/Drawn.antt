@@ -2,7 +2,8 @@
 use Rattle.std.specs.Prelude.{◌≡◌, ◌⊎◌, ℕ, ◌+◌, ◌≤◌, List, [], ◌∷◌, length}
 use Rattle.std.specs.List.{AllByRecursion, Contains}
 use Rattle.pico_base.specs.declared.script.Script.{Script}
-use Rattle.log_laws.specs.Logs.{IsNode, Logged, Log}
+use Rattle.world_model.specs.World.{IsNode}
+use Rattle.log_laws.specs.Logs.{Logged, Log}
 use Rattle.log_laws.specs.Merge.{NodeTurn, IsMerge}
 
 -- a turn of some node of the script has this stamp

@@ -5,8 +5,8 @@ use Rattle.pico_base.specs.declared.script.Script.{Script}
 use Rattle.pico_base.specs.declared.script.Event.{Event}
 use Rattle.stamp_merge.specs.declared.Stamped.{Stamped}
 use Rattle.stamp_merge.specs.Merge as stamps
-use Rattle.world_model.specs.World.{node_count}
-use Rattle.log_laws.specs.Logs.{IsNode, Logged, Log, StampsRise}
+use Rattle.world_model.specs.World.{IsNode, node_count}
+use Rattle.log_laws.specs.Logs.{Logged, Log, StampsRise}
 use Rattle.log_laws.specs.Merge.{NodeTurn, IsMerge, event_at, events_of}
 
 -- a turn's event as an item of its node's log

@@ -6,10 +6,10 @@ use Rattle.pico_base.specs.declared.script.Script.{Script}
 use Rattle.pico_base.specs.declared.script.Event.{Event}
 use Rattle.rpc_frame.specs.declared.frame.Frame.{Frame}
 use Rattle.world_model.specs.Node.{Node}
-use Rattle.world_model.specs.World.{World, node_at, stream, step, is_enabled}
+use Rattle.world_model.specs.World.{IsNode, World, node_at, stream, step, is_enabled}
 use Rattle.world_model.specs.Run.{IsRunOf}
 use Rattle.world_model.specs.Schedule.{node_of}
-use Rattle.log_laws.specs.Logs.{IsNode, StampedFrame, frame_of, Input, Runs, Takes, Log, turn_on, AreConsistent}
+use Rattle.log_laws.specs.Logs.{StampedFrame, frame_of, Input, Runs, Takes, Log, turn_on, AreConsistent}
 use Rattle.log_laws.specs.Merge.{NodeTurn, IsMerge, event_of, events_of, entries_of}
 use Rattle.log_laws.specs.Journal.{JournalEntry, entered, IsJournalOf}
 use Rattle.log_laws.specs.EventLogs.{event_item}

@@ -3,7 +3,8 @@ use Rattle.std.specs.Prelude.{◌≡◌, ℕ, ◌≤◌, Bool, nat_eq, if◌then
 use Rattle.std.specs.List.{flat_map, AllByRecursion}
 use Rattle.pico_base.specs.declared.script.Script.{Script}
 use Rattle.pico_base.specs.declared.reply.Entry.{Entry}
-use Rattle.log_laws.specs.Logs.{IsNode, Logged, Log}
+use Rattle.world_model.specs.World.{IsNode}
+use Rattle.log_laws.specs.Logs.{Logged, Log}
 
 pub record JournalEntry : Type 0 where
   pub stamp : ℕ

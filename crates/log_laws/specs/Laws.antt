@@ -2,9 +2,9 @@
 use Rattle.std.specs.Prelude.{◌≡◌, ℕ, List, map, Some}
 use Rattle.pico_base.specs.declared.script.Script.{Script}
 use Rattle.world_model.specs.Node.{Node}
-use Rattle.world_model.specs.World.{World, node_at, stream}
+use Rattle.world_model.specs.World.{IsNode, World, node_at, stream}
 use Rattle.world_model.specs.Run.{IsRunOf}
-use Rattle.log_laws.specs.Logs.{IsNode, StampedFrame, frame_of, Log, AreConsistent}
+use Rattle.log_laws.specs.Logs.{StampedFrame, frame_of, Log, AreConsistent}
 use Rattle.log_laws.specs.Merge.{NodeTurn, IsMerge, events_of, entries_of}
 use Rattle.log_laws.specs.Journal.{JournalEntry, IsJournalOf, plain_entries}
 

@@ -1,6 +1,6 @@
 -- Each node's log: the turns that it made, in its order, each with a stamp. When the logs of all nodes agree about the
 -- frames that went between them they are consistent.
-use Rattle.std.specs.Prelude.{◌≡◌, ℕ, ◌<◌, ◌≤◌, Bool, true, false, ◌||◌, nat_eq, if◌then◌else◌, List, [], ◌∷◌, ◌++◌, map, Option, Some, None}
+use Rattle.std.specs.Prelude.{◌≡◌, ℕ, ◌<◌, Bool, true, false, ◌||◌, nat_eq, if◌then◌else◌, List, [], ◌∷◌, ◌++◌, map, Option, Some, None}
 use Rattle.std.specs.List.{flat_map, AllByRecursion}
 use Rattle.pico_base.specs.declared.script.Script.{Script}
 use Rattle.rpc_frame.specs.declared.frame.Frame.{Frame}
@@ -8,12 +8,7 @@ use Rattle.world_model.specs.Node.{Node, opening_node, is_born, can_run}
 use Rattle.world_model.specs.Step.{Step}
 use Rattle.world_model.specs.Starting.{run}
 use Rattle.world_model.specs.Turn.{take_frame}
-use Rattle.world_model.specs.World.{node_count, is_checkpoint}
-
--- a node of the script, by number
-pub record IsNode (script : Script) (p : ℕ) : Type 0 where
-  pub low : 1 ≤ p
-  pub high : p ≤ node_count script
+use Rattle.world_model.specs.World.{IsNode, is_checkpoint}
 
 -- a frame with the stamp of the event that sent it
 pub record StampedFrame : Type 0 where

@@ -5,7 +5,8 @@ use Rattle.pico_base.specs.declared.script.Script.{Script}
 use Rattle.pico_base.specs.declared.script.Event.{Event}
 use Rattle.pico_base.specs.declared.script.Event.TheVariants as events
 use Rattle.pico_base.specs.declared.reply.Entry.{Entry}
-use Rattle.log_laws.specs.Logs.{IsNode, Input, Runs, Takes, Logged, Log}
+use Rattle.world_model.specs.World.{IsNode}
+use Rattle.log_laws.specs.Logs.{Input, Runs, Takes, Logged, Log}
 
 -- a turn and the node that made it
 pub record NodeTurn : Type 0 where

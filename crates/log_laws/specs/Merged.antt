@@ -7,8 +7,8 @@ use Rattle.stamp_merge.specs.declared.Stamped.{Stamped}
 use Rattle.stamp_merge.specs.Merge.{all_items, items_of}
 use Rattle.stamp_merge.specs.Merge as stamps
 use Rattle.world_model.specs.Node.{Node}
-use Rattle.world_model.specs.World.{node_count}
-use Rattle.log_laws.specs.Logs.{IsNode, StampedFrame, Logged, Log, StampsRise, AreConsistent}
+use Rattle.world_model.specs.World.{IsNode, node_count}
+use Rattle.log_laws.specs.Logs.{StampedFrame, Logged, Log, StampsRise, AreConsistent}
 use Rattle.log_laws.specs.Merge.{NodeTurn, IsMerge}
 use Rattle.log_laws.specs.Laws.{IsRunOfTurns}
 

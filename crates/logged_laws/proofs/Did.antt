@@ -10,7 +10,8 @@ use Rattle.stamp_merge.proofs.Filters.{all-map}
 use Rattle.journal_core.specs.declared.stamped.Stamped.{Stamped}
 use Rattle.journal_core.specs.Journal.{under}
 use Rattle.world_model.specs.Node.{opening_node}
-use Rattle.log_laws.specs.Logs.{IsNode, Input, Runs, Takes, Logged, Log, IsTakenLater, GoesBetween}
+use Rattle.world_model.specs.World.{IsNode}
+use Rattle.log_laws.specs.Logs.{Input, Runs, Takes, Logged, Log, IsTakenLater, GoesBetween}
 use Rattle.log_laws.specs.EventLogs.{event_item_of}
 use Rattle.log_laws.proofs.Lists.{append-all}
 use Rattle.log_laws.proofs.OneMore.{rises-with-last, leads-with-last}

@@ -3,8 +3,7 @@ use Rattle.std.proofs.Common.{◌≢◌, ℕ, zero, suc, ◌+◌, ◌<◌, ◌�
 use Rattle.std.specs.List.{AllByRecursion}
 use Rattle.pico_base.specs.declared.script.Script.{Script}
 use Rattle.stamp_merge.proofs.Filters.{all-map}
-use Rattle.world_model.specs.World.{numbers, node_count}
-use Rattle.log_laws.specs.Logs.{IsNode}
+use Rattle.world_model.specs.World.{IsNode, numbers, node_count}
 use Rattle.log_model.specs.Logged.{others_of}
 use Rattle.logged_laws.proofs.Lists.{filter-keeps, AreApart, filter-apart}
 

@@ -16,7 +16,7 @@ use Rattle.signal_state.specs.Spelling.{signal_bytes}
 use Rattle.signal_state.specs.Reading.{actions_from, set_at as signals_at, counts_from, doom_from}
 use Rattle.fork_wait.specs.Children.{children, are_different}
 use Rattle.fork_wait.specs.Spelling.{family_bytes, ending_bytes}
-use Rattle.fork_wait.specs.Reading.{family_at, ending_from}
+use Rattle.fork_wait.specs.Reading.{max_children, family_at, ending_from}
 use Rattle.sysv_msg.specs.Body.{body as queue_bytes}
 use Rattle.sysv_msg.specs.Reading.{queue_at}
 use Rattle.sysv_sem.specs.Body.{body as set_bytes}
@@ -74,9 +74,6 @@ unfoldable pub read_signals : List ℕ → Option Signals
 read_signals bytes = signals_if bytes (signals_from bytes)
 
 -- at most 31 children, each with a number of its own, and none of them 0
-abbrev pub max_children : ℕ
-max_children = 31
-
 abbrev pub are_children : List ℕ → Bool
 are_children numbers =
     nat_le (length numbers) max_children && (not (list_any (nat_eq 0) numbers) && are_different numbers)

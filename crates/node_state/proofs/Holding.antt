@@ -10,7 +10,7 @@ use Rattle.deed_box.specs.Packing.{IsPackedDeed}
 use Rattle.node_model.specs.Kinds.{Named, get_named, without_named}
 use Rattle.node_model.specs.Spelling.{pack, read_body, read_deed}
 use Rattle.node_model.specs.Bodies as model
-use Rattle.world_model.specs.Routing.{was_removed}
+use Rattle.world_model.specs.Routes.{was_removed}
 use Rattle.node_serve.specs.declared.body.Body.{Body}
 use Rattle.node_serve.specs.Bodies.{bodies_of, body_of, numbered_of}
 use Rattle.node_serve.specs.Spelled.{IsSpelled, suits}

@@ -18,7 +18,7 @@ use Rattle.key_table.specs.declared.Bound.{Bound}
 use Rattle.key_table.specs.KeyMap.{KeyMap, is_bound_to, without_id}
 use Rattle.node_model.specs.Directory.{Directory, opening_directory}
 use Rattle.world_model.specs.Node.{Leader, opening_leader}
-use Rattle.world_model.specs.Routing.{bind, unbind}
+use Rattle.world_model.specs.Keys.{bind, unbind}
 use Rattle.node_state.specs.Keys.{bindings}
 
 -- ---- the leader begins without keys

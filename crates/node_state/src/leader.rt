@@ -3,9 +3,9 @@ ghost use Rattle.std.specs.Prelude.{◌≡◌, IfOk, IsTrue, None, OnOk, is_some
 ghost use Rattle.std.specs.FinMap as map;
 ghost use Rattle.number_maps.specs.Maps.{get};
 ghost use Rattle.key_table.specs.KeyMap.{key_answer};
+ghost use Rattle.world_model.specs.Keys.{bind, without_key};
 ghost use Rattle.world_model.specs.Moves.{is_at};
 ghost use Rattle.world_model.specs.Node.{opening_leader};
-ghost use Rattle.world_model.specs.Routing.{bind, without_key};
 ghost use Rattle.node_model.specs.Directory.{arrive, is_coming, is_known, place_of, recall};
 ghost use Rattle.lease_leader.specs.Places.{is_at as is_placed};
 ghost use Rattle.node_state.specs.Keys.{bindings};

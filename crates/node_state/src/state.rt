@@ -13,7 +13,7 @@ ghost use Rattle.world_model.specs.Node.{asked_here, can_run, first_node, holds,
 ghost use Rattle.world_model.specs.Calls.{is_from_leader, is_to_leader};
 ghost use Rattle.node_state.specs.Deeds.{IsTaken, IsTakenOut, Keeps};
 ghost use Rattle.world_model.specs.Moves.{keep};
-ghost use Rattle.world_model.specs.Routing.{was_removed};
+ghost use Rattle.world_model.specs.Routes.{was_removed};
 ghost use Rattle.node_state.specs.State.{node_of};
 
 use crate::fault::unreached;

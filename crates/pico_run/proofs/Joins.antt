@@ -5,8 +5,7 @@ use Rattle.pico_base.specs.declared.script.Script.{Script}
 use Rattle.journal_core.specs.declared.stamped.Stamped.{Stamped}
 use Rattle.journal_core.specs.Journal.{of_seat, BeginsWith, IsInOrder, IsOfSeats}
 use Rattle.journal_core.specs.Seated.{AreAll, AreNumbered, Closes, HasAllOf, Lock, Seated}
-use Rattle.world_model.specs.World.{numbers, node_count}
-use Rattle.log_laws.specs.Logs.{IsNode}
+use Rattle.world_model.specs.World.{IsNode, numbers, node_count}
 use Rattle.log_model.specs.declared.answer.LogFault.TheVariants as faults
 use Rattle.log_model.specs.Views.{Line, LoggedNode, Parting}
 use Rattle.log_model.specs.Logged.{IsLogged}

@@ -9,9 +9,8 @@ use Rattle.stamp_merge.specs.Merge as stamps
 use Rattle.stamp_merge.proofs.Merges.{own-item, others-item}
 use Rattle.journal_core.specs.declared.stamped.Stamped.{Stamped}
 use Rattle.kernel_model.specs.Script.{IsSoundScript}
-use Rattle.world_model.specs.World.{World, numbers, node_count, opening_world}
+use Rattle.world_model.specs.World.{IsNode, World, numbers, node_count, opening_world}
 use Rattle.world_model.specs.Run.{IsRunOf}
-use Rattle.log_laws.specs.Logs.{IsNode}
 use Rattle.log_laws.specs.Merge.{NodeTurn, log_of}
 use Rattle.log_laws.specs.EventLogs.{EventsMayMerge, event_item, event_item_of, event_log}
 use Rattle.log_laws.proofs.Lists.{log-of-own, log-of-other}

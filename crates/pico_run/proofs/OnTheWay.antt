@@ -8,10 +8,10 @@ use Rattle.stamp_merge.specs.Merge as stamps
 use Rattle.journal_core.specs.declared.stamped.Stamped.{Stamped}
 use Rattle.journal_core.specs.Journal.{under}
 use Rattle.kernel_model.specs.Script.{IsSoundScript}
-use Rattle.world_model.specs.World.{World, node_count, is_enabled, size, step}
+use Rattle.world_model.specs.World.{IsNode, World, node_count, is_enabled, size, step}
 use Rattle.world_model.specs.Schedule.{InTurn, in_turn, node_of}
 use Rattle.world_core.specs.Laws.{RestIsWhereNothingIsChosen}
-use Rattle.log_laws.specs.Logs.{IsNode, Log}
+use Rattle.log_laws.specs.Logs.{Log}
 use Rattle.log_laws.specs.Merge.{NodeTurn, events_of}
 use Rattle.log_laws.specs.EventLogs.{event_item, event_log}
 use Rattle.log_laws.specs.Follows.{AreBelow, TurnFollows}

@@ -3,8 +3,7 @@ use Rattle.std.specs.Prelude.{◌≡◌, ℕ, ◌≤◌, List, ◌++◌, map, No
 use Rattle.pico_base.specs.declared.script.Script.{Script}
 use Rattle.stream_pair.specs.declared.piece.Piece.{Piece}
 use Rattle.journal_core.specs.declared.stamped.Stamped.{Stamped}
-use Rattle.world_model.specs.World.{numbers, node_count}
-use Rattle.log_laws.specs.Logs.{IsNode}
+use Rattle.world_model.specs.World.{IsNode, numbers, node_count}
 use Rattle.log_model.specs.Views.{LoggedNode, Parting}
 use Rattle.node_lines.specs.declared.end.End.{End}
 use Rattle.node_log.specs.Ends.{end_of}

@@ -19,7 +19,7 @@ use Rattle.world_model.specs.World.{World, numbers, size, stream}
 use Rattle.world_laws.specs.Invariant.{IsLeading}
 use Rattle.world_laws.specs.Sights.{directory_of, node_of}
 use Rattle.rest_laws.proofs.Sums.{rising-none, rising-one, sum-none}
-use Rattle.projection_laws.specs.Projection.{IsNode, frames_that, items_in, items_that, nodes_of, places_by}
+use Rattle.projection_laws.specs.Projection.{HasNode, frames_that, items_in, items_that, nodes_of, places_by}
 
 -- ---- over a list
 
@@ -212,7 +212,7 @@ module _ (test : Held → Bool) where
           rising-one of_place m k u (count_by test (items_of (Some u))) rises e refl
           (λ n v there d. at-place m n v there ∙ others n d)
 
-  module _ (w : World) (leading : IsLeading (directory_of w)) (first : IsNode w 1 (node_of w 1)) where
+  module _ (w : World) (leading : IsLeading (directory_of w)) (first : HasNode w 1 (node_of w 1)) where
     abbrev of_name : Name → ℕ
     of_name name = count_by test (held_for (directory_of w) name)
 

@@ -27,7 +27,7 @@ use Rattle.world_laws.proofs.Numbers.{in-range, maker-in-range, maker-of-rest}
 use Rattle.world_laws.proofs.Steps.{frames-low}
 use Rattle.rule_laws.proofs.Suggestions.{born-in-range}
 use Rattle.rest_laws.proofs.Shaped.{node-at-place}
-use Rattle.projection_laws.specs.Projection.{IsNode, NumberIsApart, brings_number, frames_that, in_leases, still_to_take}
+use Rattle.projection_laws.specs.Projection.{HasNode, NumberIsApart, brings_number, frames_that, in_leases, still_to_take}
 use Rattle.projection_laws.proofs.Counts.{count-none, frames-most, sum-most}
 use Rattle.projection_laws.proofs.Views.{any-there, node-is}
 
@@ -352,7 +352,7 @@ module _ (script : Script) (w : World) (b : Beside) (holds : Holds script w [] b
   abbrev Apart : Type 0
   Apart = NumberIsApart w b.kernel kind number
 
-  ranges-are : (n : Node) → IsNode w 1 n → x.ranges ≡ for_kind n.leader.directory.ranges kind
+  ranges-are : (n : Node) → HasNode w 1 n → x.ranges ≡ for_kind n.leader.directory.ranges kind
   ranges-are n is = ap (λ (m : Node). for_kind m.leader.directory.ranges kind) (node-is script w b holds 1 n is)
 
   -- Each number of each kind is free in one place, or used and of a range.

@@ -16,7 +16,7 @@ use Rattle.world_laws.specs.Places.{Beside}
 use Rattle.world_laws.specs.Sights.{directory_of, frames_to, node_of}
 use Rattle.world_laws.proofs.Steps.{frames-low, node-there}
 use Rattle.rest_laws.proofs.Shaped.{HasStream, stream-there}
-use Rattle.projection_laws.specs.Projection.{IsHeldFor, IsNode, IsOnWay}
+use Rattle.projection_laws.specs.Projection.{HasNode, IsHeldFor, IsOnWay}
 
 -- ---- lists
 
@@ -47,20 +47,20 @@ got-within (y ∷ xs) (suc i) x e = let rest = got-within xs i x e in omega (ari
 -- ---- a world
 
 module _ (script : Script) (w : World) (b : Beside) (holds : Holds script w [] b) where
-  pub node-is : (p : ℕ) (n : Node) → IsNode w p n → node_of w p ≡ n
+  pub node-is : (p : ℕ) (n : Node) → HasNode w p n → node_of w p ≡ n
   node-is p n is =
       let low = is.number
       in ap (λ t. unwrap_or (if t then node_at w p else None) (unborn_node p)) (lt-ltb 0 p (omega (arith, low)))
       ∙ ap (λ o. unwrap_or o (unborn_node p)) is.there
 
-  pub node-in-range : (p : ℕ) (n : Node) → IsNode w p n → p ≤ node_count script
+  pub node-in-range : (p : ℕ) (n : Node) → HasNode w p n → p ≤ node_count script
   node-in-range p n is =
       let low = is.number
       in let within = got-within w.nodes (p - 1) n is.there
       in let count = let s = holds.shape in s.nodes
       in omega (arith, low, within, count)
 
-  pub node-here : (p : ℕ) → 1 ≤ p → p ≤ node_count script → IsNode w p (node_of w p)
+  pub node-here : (p : ℕ) → 1 ≤ p → p ≤ node_count script → HasNode w p (node_of w p)
   node-here p low high = record { number = low; there = node-there script w holds.shape p low high }
 
   pub some-node : 1 ≤ node_count script

@@ -38,7 +38,8 @@ use Rattle.world_model.specs.World.{World, node_at, numbers, size, stream}
 
 -- ---- where to look: at nodes, in streams, and in the lists that the leader holds
 
-pub record IsNode (w : World) (p : ℕ) (n : Node) : Type 0 where
+-- node p of the world is this one
+pub record HasNode (w : World) (p : ℕ) (n : Node) : Type 0 where
   pub number : 1 ≤ p
   pub there : node_at w p ≡ Some n
 
@@ -51,7 +52,7 @@ pub record IsOnWay (w : World) (to sender : ℕ) (frame : Frame) : Type 0 where
 -- the leader holds an item for a name
 pub record IsHeldFor (w : World) (name : Name) (item : Held) : Type 0 where
   pub leader : Node
-  pub is_leader : IsNode w 1 leader
+  pub is_leader : HasNode w 1 leader
   pub there : Contains (held_for leader.leader.directory name) item
 
 -- a parcel is on its way to the leader or from it, or the leader holds it
@@ -107,7 +108,7 @@ pub record IsPart (k : Kernel) (deed : PackedDeed) : Type 0 where
 -- Each deed's body, wherever the deed is, is the kernel's part of its name: a row without what its process may still
 -- do, an ending, that the process is gone, a queue, a set, or that it was removed.
 pub record DeedsAreParts (w : World) (k : Kernel) : Type 0 where
-  pub in_tables : (p : ℕ) (n : Node) (name : Name) (body : Body) → IsNode w p n → get_named n.deeds name ≡ Some body
+  pub in_tables : (p : ℕ) (n : Node) (name : Name) (body : Body) → HasNode w p n → get_named n.deeds name ≡ Some body
       → body ≡ body_in k name
   pub on_way : (to sender : ℕ) (frame : Frame) (deed : PackedDeed) → IsOnWay w to sender frame
       → Contains (deeds_in frame) deed → IsPart k deed
@@ -144,14 +145,14 @@ still_to_take w kind number = in_leases w kind number + frames_that w (λ to sen
 pub record NumberIsApart (w : World) (k : Kernel) (kind : Kind) (number : ℕ) : Type 0 where
   pub once : still_to_take w kind number ≤ 1
   pub unused : 1 ≤ still_to_take w kind number → is_used (used_of k kind) number ≡ false
-  pub given : is_used (used_of k kind) number ≡ true → (n : Node) → IsNode w 1 n
+  pub given : is_used (used_of k kind) number ≡ true → (n : Node) → HasNode w 1 n
       → (owner : ℕ) × (maker_in (for_kind n.leader.directory.ranges kind) number ≡ Some owner)
 
 -- ---- families
 
 -- two deeds stand in the same table, or in the same parcel
 pub data AreTogether (w : World) (a b : Name) : Type 0 where
-  in_table : (p : ℕ) (n : Node) → IsNode w p n → holds n a ≡ true → holds n b ≡ true → AreTogether w a b
+  in_table : (p : ℕ) (n : Node) → HasNode w p n → holds n a ≡ true → holds n b ≡ true → AreTogether w a b
   in_parcel : (parcel : Parcel) → IsParcel w parcel → has_deed_of a parcel ≡ true → has_deed_of b parcel ≡ true
       → AreTogether w a b
 
@@ -266,7 +267,7 @@ pub data IsUnderWay (w : World) (k : Kernel) (p : ℕ) (n : Node) (call : Call) 
 pub record AllowancesFit (w : World) (k : Kernel) : Type 0 where
   pub free : (pid : ℕ) (alive : Alive) → living_at k pid ≡ Some alive → alive.row.signals.doom ≡ None
       → alive.allowance ≡ Free
-  pub one : (p : ℕ) (n : Node) (call : Call) (alive : Alive) → IsNode w p n → n.caller.under_way ≡ Some call
+  pub one : (p : ℕ) (n : Node) (call : Call) (alive : Alive) → HasNode w p n → n.caller.under_way ≡ Some call
       → is_killed call ≡ false → IsToBeMade w p n → living_at k n.pid ≡ Some alive
       → alive.row.signals.doom ≢ None → alive.allowance ≡ One
 
@@ -275,10 +276,10 @@ pub record AllowancesFit (w : World) (k : Kernel) : Type 0 where
 -- The world projects to the kernel.
 pub record Projects (w : World) (k : Kernel) : Type 0 where
   pub deeds : DeedsAreParts w k
-  pub keys : (n : Node) → IsNode w 1 n → KeysAreTheKernels n.leader k
+  pub keys : (n : Node) → HasNode w 1 n → KeysAreTheKernels n.leader k
   pub numbers : (kind : Kind) (number : ℕ) → NumberIsApart w k kind number
   pub ended : (pid : ℕ) (ending : Ending) → get k.processes pid ≡ Some (kernel.Ended ending)
       → IsWithItsParent w k pid ending
-  pub calls : (p : ℕ) (n : Node) (call : Call) → IsNode w p n → n.caller.under_way ≡ Some call
+  pub calls : (p : ℕ) (n : Node) (call : Call) → HasNode w p n → n.caller.under_way ≡ Some call
       → IsUnderWay w k p n call
   pub allowances : AllowancesFit w k

@@ -31,12 +31,12 @@ use Rattle.node_model.specs.Leases.{leases_hold, refill, takes_number}
 use Rattle.node_model.specs.Parcels.{commit_exit, fitting_bodies, give_all}
 use Rattle.node_model.specs.Spelling.{pack, read_deed}
 use Rattle.world_model.specs.Calls.{answered_by, ask_after, asks_as, bounce, bounce_or_nobody, end_with_reply, forwarded_by, is_for_others, is_from_leader, is_on_name_or_removal, is_to_leader, requested_by, take_answer, take_forward, take_not_owner, take_request, with_forgotten, with_learnt}
+use Rattle.world_model.specs.Ends.{enter_exit, exit_here, exit_with, names_in}
 use Rattle.world_model.specs.Lives.{be_born, born_with, hand_over, is_end, is_forked_by, is_new_row, is_of_process, may_leave, may_take, take_checkpoint, take_exit, take_recall_all}
 use Rattle.world_model.specs.Moves.{give_back as gives_back, is_new_here, keep, receive_deed, take_grant, take_recall}
 use Rattle.world_model.specs.Node.{Left, Node, holds, is_born, is_leader, is_leaving_stage, is_node, is_unborn, under_way_as}
 use Rattle.world_model.specs.Numbers.{make}
 use Rattle.world_model.specs.Ranges.{go_on_with, may_lease, take_lease}
-use Rattle.world_model.specs.Routing.{enter_exit, exit_here, exit_with, names_in}
 use Rattle.world_model.specs.Serving.{serve_asked, serve_nobody, without_deed}
 use Rattle.world_model.specs.Starting.{run}
 use Rattle.world_model.specs.Step.{Step, send, step_to, with_deeds}

@@ -39,7 +39,7 @@ use Rattle.node_model.specs.Watches.{moves_to, with_read}
 use Rattle.world_model.specs.Lives.{send_to_leader}
 use Rattle.world_model.specs.Node.{Node, asked_here, can_run, holds, is_leader, own_row, under_way_as}
 use Rattle.world_model.specs.Numbers.{Taken, fork_with, make, make_object, make_set, make_taken, make_with, take_from, take_from_next, take_number, tell_place}
-use Rattle.world_model.specs.Routing.{route_call}
+use Rattle.world_model.specs.Routes.{route_call}
 use Rattle.world_model.specs.Serving.{grant, move_to, note_read, serve_asked, serve_asked_with, serve_nobody}
 use Rattle.world_model.specs.Starting.{act, ask, carry_out_own, end_leader, leave, request, run, start, start_at, start_by, start_due, start_end, start_making, start_own, start_set, with_look}
 use Rattle.world_model.specs.Step.{Step, carry_out, enter, reply_here, reply_to, send, step_to, with_deeds, with_directory, with_node}

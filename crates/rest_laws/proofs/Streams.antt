@@ -22,7 +22,7 @@ use Rattle.node_model.specs.Kinds.{get_named, is_same_name}
 use Rattle.world_model.specs.Census.{brings}
 use Rattle.world_model.specs.Node.{Node, Stage, Unborn, Living, Leaving, Left, Over, is_born, is_unborn, unborn_node}
 use Rattle.world_model.specs.Run.{IsAtRest}
-use Rattle.world_model.specs.World.{World, is_checkpoint, is_enabled, is_number, is_take_enabled, node_at, node_count, stream}
+use Rattle.world_model.specs.World.{IsNode, World, is_checkpoint, is_enabled, is_number, is_take_enabled, node_at, node_count, stream}
 use Rattle.world_laws.specs.Callers.{CallHolds, HasCallOrNone, HasNoCall, IsNowhere, call_sight, is_about}
 use Rattle.world_laws.specs.Families.{HoldsIn, NodeHolds, is_first_stage}
 use Rattle.world_laws.specs.Invariant.{FramesFit, Holds, MayBe}
@@ -41,7 +41,7 @@ use Rattle.route_laws.proofs.hand.Routes.{IsOn}
 use Rattle.route_laws.proofs.sent.Bounced.{call-on}
 use Rattle.rule_laws.proofs.ends.Taken.{DropsFirst, drops-first}
 use Rattle.route_laws.proofs.sent.Forwarded.{is-at-maker, is_right_home, on-right-home, sent-by}
-use Rattle.bound_laws.specs.Bounded.{FrameIsBounded, IsBounded, IsNode}
+use Rattle.bound_laws.specs.Bounded.{FrameIsBounded, IsBounded}
 use Rattle.rest_laws.proofs.Senders.{Sender, carrier, carried-by-lower, sender-of}
 use Rattle.rest_laws.proofs.Shaped.{HasStream, none-from, none-to, range-cases, stream-there, unborn-has-nothing}
 

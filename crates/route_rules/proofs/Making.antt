@@ -11,7 +11,7 @@ use Rattle.kernel_model.specs.SemaphoreSet.{SemaphoreSet, set_of, new_semaphore,
 use Rattle.world_model.specs.Node.{Node, Leader}
 use Rattle.world_model.specs.Step.{Step}
 use Rattle.world_model.specs.Numbers.{take_number}
-use Rattle.world_model.specs.Routing.{bind, create_set, make_set}
+use Rattle.world_model.specs.Keys.{bind, create_set, make_set}
 use Rattle.number_rules.specs.Taking.{IsNewSet, taken}
 use Rattle.route_rules.specs.Making.{create_sized, put_in_place}
 

@@ -9,7 +9,7 @@ use Rattle.node_model.specs.declared.route.Route.{Route}
 use Rattle.node_model.specs.declared.route.Route.TheVariants as routes
 use Rattle.world_model.specs.Node.{Node, holds}
 use Rattle.world_model.specs.Step.{Step}
-use Rattle.world_model.specs.Routing.{route_call}
+use Rattle.world_model.specs.Routes.{route_call}
 
 abbrev pub asked_by : ℕ → ℕ → ℕ → Call → Asked
 asked_by caller ticket pid call = record { caller = caller; ticket = ticket; pid = pid; call = call }

@@ -7,7 +7,7 @@ use Rattle.rpc_frame.specs.declared.asked.Asked.{Asked}
 use Rattle.kernel_model.specs.SemaphoreSet.{new_set}
 use Rattle.node_model.specs.Directory.{place_name}
 use Rattle.world_model.specs.Step.{Step, with_node, with_directory, carry_out}
-use Rattle.world_model.specs.Routing.{create_set}
+use Rattle.world_model.specs.Keys.{create_set}
 
 -- what is held here under a new name is placed here, and its number is the reply
 abbrev pub put_in_place : Script → Step → Asked → Name → ℕ → Step

@@ -5,7 +5,7 @@ ghost use Rattle.pico_base.specs.declared.call.Home.TheVariants as homes;
 ghost use Rattle.kernel_model.specs.Script.{IsSoundScript};
 ghost use Rattle.kernel_model.specs.Waiting.{is_waiting};
 ghost use Rattle.world_model.specs.Node.{is_node};
-ghost use Rattle.world_model.specs.Routing.{route_call};
+ghost use Rattle.world_model.specs.Routes.{route_call};
 ghost use Rattle.world_model.specs.Calls.{asks_as, bounce, bounce_or_nobody, forwarded_by, is_for_others, is_from_leader, is_on_name_or_removal, is_to_leader, requested_by, take_ask, take_bounce, take_forward, take_request};
 ghost use Rattle.node_state.specs.State.{node_of, step_of};
 ghost use Rattle.node_state.specs.Turning.{IsFresh, Turns};

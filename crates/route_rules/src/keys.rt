@@ -6,7 +6,7 @@ ghost use Rattle.pico_base.specs.declared.script.Script.{Script as Scripted};
 ghost use Rattle.rpc_frame.specs.declared.asked.Asked.{Asked as AskedCall};
 ghost use Rattle.kernel_model.specs.Script.{IsSoundScript};
 ghost use Rattle.world_model.specs.Numbers.{take_number};
-ghost use Rattle.world_model.specs.Routing.{find_set, get_by_key, get_queue, get_set, make_queue};
+ghost use Rattle.world_model.specs.Keys.{find_set, get_by_key, get_queue, get_set, make_queue};
 ghost use Rattle.node_state.specs.State.{node_of, step_of};
 ghost use Rattle.node_state.specs.Turning.{Turns};
 ghost use Rattle.route_rules.specs.Making.{create_sized, put_in_place};

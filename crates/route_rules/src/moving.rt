@@ -1,6 +1,6 @@
 //! The leader asks a name back, and holds what needs it.
 ghost use Rattle.std.specs.Prelude.{◌≡◌, IsTrue, OnOk};
-ghost use Rattle.world_model.specs.Routing.{hold_item, recall_from};
+ghost use Rattle.world_model.specs.Routes.{hold_item, recall_from};
 ghost use Rattle.node_model.specs.Directory.{is_coming, recall};
 ghost use Rattle.lease_leader.specs.Places.{is_at};
 ghost use Rattle.node_state.specs.State.{step_of};

@@ -5,7 +5,7 @@ ghost use Rattle.kernel_model.specs.Script.{IsSoundScript};
 ghost use Rattle.node_model.specs.Directory.{route};
 ghost use Rattle.node_model.specs.declared.route.Route.TheVariants as routes;
 ghost use Rattle.world_model.specs.Serving.{serve_asked};
-ghost use Rattle.world_model.specs.Routing.{forward, recall_and_hold, remove_by, remove_here, route_by, route_call, route_home, unbind_name};
+ghost use Rattle.world_model.specs.Routes.{forward, recall_and_hold, remove_by, remove_here, route_by, route_call, route_home, unbind_name};
 ghost use Rattle.node_state.specs.State.{node_of, step_of};
 ghost use Rattle.route_rules.specs.Asking.{asked_by, may_route_by};
 

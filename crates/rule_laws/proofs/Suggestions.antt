@@ -14,7 +14,7 @@ use Rattle.node_model.specs.Directory.{Directory, Place, At, Coming, place_of, w
 use Rattle.world_model.specs.Node.{Node, is_leader, is_node, unborn_node}
 use Rattle.world_model.specs.Step.{Step, step_to}
 use Rattle.world_model.specs.Moves.{take_suggest, suggest, is_at}
-use Rattle.world_model.specs.Routing.{recall_from}
+use Rattle.world_model.specs.Routes.{recall_from}
 use Rattle.world_model.specs.Census.{brings}
 use Rattle.world_model.specs.World.{World, node_count, world_after, node_at, is_number}
 use Rattle.world_laws.specs.Places.{Beside}

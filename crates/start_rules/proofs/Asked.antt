@@ -10,7 +10,7 @@ use Rattle.kernel_model.specs.Row.{Row}
 use Rattle.node_model.specs.Cache.{Cache}
 use Rattle.node_model.specs.Caller.{Caller}
 use Rattle.world_model.specs.Node.{asked_here, is_leader}
-use Rattle.world_model.specs.Routing.{route_call}
+use Rattle.world_model.specs.Routes.{route_call}
 use Rattle.world_model.specs.Starting.{ask, start_by}
 use Rattle.world_model.specs.Step.{Step}
 use Rattle.route_rules.specs.Asking.{asked_by}

@@ -22,8 +22,9 @@ use Rattle.node_model.specs.Caller.{Caller}
 use Rattle.node_model.specs.Directory.{route}
 use Rattle.node_model.specs.Kinds.{get_named}
 use Rattle.node_model.specs.Serving.{serve}
+use Rattle.world_model.specs.Keys.{create_set, get_by_key, get_queue, get_set, make_queue, make_set}
 use Rattle.world_model.specs.Numbers.{take_number}
-use Rattle.world_model.specs.Routing.{create_set, get_by_key, get_queue, get_set, make_queue, make_set, remove_by, remove_here, route_by, route_call, route_home, unbind_name, was_removed}
+use Rattle.world_model.specs.Routes.{remove_by, remove_here, route_by, route_call, route_home, unbind_name, was_removed}
 use Rattle.world_model.specs.Serving.{serve_asked, serve_asked_with}
 use Rattle.world_model.specs.Step.{Step}
 use Rattle.route_rules.specs.Asking.{asked_by}

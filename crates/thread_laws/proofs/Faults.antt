@@ -13,8 +13,8 @@ use Rattle.kernel_model.specs.Script.{IsSoundScript}
 use Rattle.world_model.specs.Node.{Node, is_born}
 use Rattle.world_model.specs.Run.{IsReachableWorld}
 use Rattle.world_model.specs.Step.{Step}
-use Rattle.world_model.specs.World.{World, is_checkpoint, node_at, stream}
-use Rattle.log_laws.specs.Logs.{IsNode, StampedFrame, frame_of, Input, Runs, Takes, turn_on, AreConsistent}
+use Rattle.world_model.specs.World.{IsNode, World, is_checkpoint, node_at, stream}
+use Rattle.log_laws.specs.Logs.{StampedFrame, frame_of, Input, Runs, Takes, turn_on, AreConsistent}
 use Rattle.log_laws.specs.Drawn.{IsStampOfTurn}
 use Rattle.log_laws.specs.Follows.{StandsFirst, IsThere}
 use Rattle.turn_laws.specs.Forkers.{forker_of, Forks, ForkersFork}

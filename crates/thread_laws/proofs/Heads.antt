@@ -4,11 +4,12 @@ use Rattle.std.specs.List.{AllByRecursion, Contains}
 use Rattle.std.proofs.lemmas.List.{append_cancel_left}
 use Rattle.pico_base.specs.declared.script.Script.{Script}
 use Rattle.rpc_frame.specs.declared.frame.Frame.{Frame}
+use Rattle.world_model.specs.World.{IsNode}
 use Rattle.stream_pair.specs.declared.piece.Piece.{Piece}
 use Rattle.frame_bytes.specs.declared.fault.FrameFault.{FrameFault}
 use Rattle.frame_bytes.specs.declared.fault.FrameFault.TheVariants as frame_faults
 use Rattle.frame_bytes.specs.Streams.{Left}
-use Rattle.log_laws.specs.Logs.{IsNode, StampedFrame, stamped, sent_in, taken_in, AreConsistent}
+use Rattle.log_laws.specs.Logs.{StampedFrame, stamped, sent_in, taken_in, AreConsistent}
 use Rattle.log_laws.specs.Drawn.{IsStampOfTurn}
 use Rattle.log_laws.proofs.Drawn.{known-sent}
 use Rattle.log_laws.proofs.Lists.{right-all}

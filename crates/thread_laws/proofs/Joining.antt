@@ -6,8 +6,7 @@ use Rattle.stamp_merge.specs.declared.Stamped as merged
 use Rattle.journal_core.specs.declared.stamped.Stamped.{Stamped}
 use Rattle.journal_core.specs.Journal.{of_seat, BeginsWith, IsOfSeats}
 use Rattle.journal_core.specs.Seated.{Lock, Seated, AreNumbered, AreAll, HasAllOf, Closes}
-use Rattle.world_model.specs.World.{numbers, node_count}
-use Rattle.log_laws.specs.Logs.{IsNode}
+use Rattle.world_model.specs.World.{IsNode, numbers, node_count}
 use Rattle.log_model.specs.Views.{LoggedNode}
 use Rattle.log_model.specs.Logged.{IsLogged}
 use Rattle.thread_laws.specs.Joined.{IsSettled, AreJoined, kept_logs}

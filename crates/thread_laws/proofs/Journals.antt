@@ -7,8 +7,8 @@ use Rattle.pico_base.specs.declared.reply.Entry.{Entry}
 use Rattle.stamp_merge.proofs.Filters.{filter-no, filter-yes}
 use Rattle.journal_core.specs.declared.stamped.Stamped.{Stamped}
 use Rattle.journal_core.specs.Journal.{of_seat, under, Follows, AllFollow, IsInOrder, IsOfSeats}
-use Rattle.world_model.specs.World.{node_count}
-use Rattle.log_laws.specs.Logs.{IsNode, Log}
+use Rattle.world_model.specs.World.{IsNode, node_count}
+use Rattle.log_laws.specs.Logs.{Log}
 use Rattle.log_laws.specs.Journal.{JournalEntry, journal_entry, entered, entries_by, StampsDontFall, OneNodeAStamp, IsJournalOf, plain_entries}
 use Rattle.log_laws.proofs.Lists.{map-append}
 use Rattle.log_laws.proofs.Journals.{own-entry, others-entry}

@@ -4,8 +4,8 @@ use Rattle.pico_base.specs.declared.script.Script.{Script}
 use Rattle.pico_base.specs.declared.script.Event.{Event}
 use Rattle.stamp_merge.specs.declared.Stamped.{Stamped}
 use Rattle.stamp_merge.specs.Merge as stamps
-use Rattle.world_model.specs.World.{numbers, node_count}
-use Rattle.log_laws.specs.Logs.{IsNode, Log}
+use Rattle.world_model.specs.World.{IsNode, numbers, node_count}
+use Rattle.log_laws.specs.Logs.{Log}
 use Rattle.log_laws.specs.EventLogs.{event_log, event_logs_from, event_logs_of, EventsMayMerge, HasTurns}
 use Rattle.log_laws.proofs.EventLogs.{event_logs_may_merge_lemma, events_merge_as_turns_lemma}
 use Rattle.log_model.specs.Views.{LoggedNode}

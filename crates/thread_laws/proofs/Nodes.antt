@@ -4,8 +4,8 @@ use Rattle.std.specs.List.{flat_map, AllByRecursion}
 use Rattle.std.proofs.lemmas.Bool.{cases_lt}
 use Rattle.pico_base.specs.declared.script.Script.{Script}
 use Rattle.world_model.specs.Node.{Node, opening_node}
-use Rattle.world_model.specs.World.{node_count}
-use Rattle.log_laws.specs.Logs.{IsNode, Log, LeadsTo, StampsRise, GoesBetween}
+use Rattle.world_model.specs.World.{IsNode, node_count}
+use Rattle.log_laws.specs.Logs.{Log, LeadsTo, StampsRise, GoesBetween}
 use Rattle.log_laws.specs.EventLogs.{event_log}
 use Rattle.log_model.specs.Views.{LoggedNode}
 use Rattle.log_model.specs.Logged.{others_of, others_in, IsLineOf, IsDrawn, Stands, GoesToOthers, SendsFrames, entries_under, IsLogged}

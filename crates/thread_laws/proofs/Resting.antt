@@ -12,9 +12,9 @@ use Rattle.stamp_merge.proofs.Merges.{own-item, others-item}
 use Rattle.journal_core.specs.declared.stamped.Stamped.{Stamped}
 use Rattle.journal_core.specs.Journal.{under}
 use Rattle.kernel_model.specs.Script.{IsSoundScript}
-use Rattle.world_model.specs.World.{World, step, is_enabled}
+use Rattle.world_model.specs.World.{IsNode, World, step, is_enabled}
 use Rattle.world_model.specs.Schedule.{node_of}
-use Rattle.log_laws.specs.Logs.{IsNode, Log}
+use Rattle.log_laws.specs.Logs.{Log}
 use Rattle.log_laws.specs.Merge.{NodeTurn, log_of}
 use Rattle.log_laws.specs.Journal.{JournalEntry, journal_entry, IsJournalOf}
 use Rattle.log_laws.specs.EventLogs.{event_item_of, event_item, event_log}

@@ -5,9 +5,10 @@ use Rattle.std.proofs.lemmas.Bool.{eq-eqb}
 use Rattle.std.proofs.lemmas.List.Elements.{Contains-append_left}
 use Rattle.pico_base.specs.declared.script.Script.{Script}
 use Rattle.stamp_merge.proofs.Filters.{all-map}
+use Rattle.world_model.specs.World.{IsNode}
 use Rattle.journal_core.specs.declared.stamped.Stamped.{Stamped}
 use Rattle.journal_core.specs.Journal.{BeginsWith}
-use Rattle.log_laws.specs.Logs.{IsNode, StampedFrame, Input, Takes, Logged, Log, IsTakenLater, GoesBetween, taken_if, takes_of, taken_in, AreConsistent}
+use Rattle.log_laws.specs.Logs.{StampedFrame, Input, Takes, Logged, Log, IsTakenLater, GoesBetween, taken_if, takes_of, taken_in, AreConsistent}
 use Rattle.log_laws.specs.Merge.{NodeTurn, IsMerge}
 use Rattle.log_laws.specs.Journal.{JournalEntry, IsJournalOf}
 use Rattle.log_laws.specs.Drawn.{IsStampOfTurn, IsKnownStamp, IsDrawnFrom, AreDrawn, HasFewStamps}

@@ -8,7 +8,8 @@ use Rattle.stream_pair.specs.declared.piece.Piece.{Piece}
 use Rattle.stamp_merge.proofs.Filters.{all-map}
 use Rattle.frame_bytes.specs.Frames.{IsFrame}
 use Rattle.world_model.specs.Node.{Node}
-use Rattle.log_laws.specs.Logs.{IsNode, StampedFrame, frame_if, sent_to, stamped, Input, Runs, Takes, Log, sends_of, sent_in, taken_if, takes_of, taken_in, AreConsistent}
+use Rattle.world_model.specs.World.{IsNode}
+use Rattle.log_laws.specs.Logs.{StampedFrame, frame_if, sent_to, stamped, Input, Runs, Takes, Log, sends_of, sent_in, taken_if, takes_of, taken_in, AreConsistent}
 use Rattle.log_laws.proofs.Lists.{append-all}
 use Rattle.piece_laws.specs.Pieces.{pieces_of, AreFrames}
 use Rattle.piece_laws.specs.Laws.{AreFront, TakenAreSent}

@@ -7,8 +7,7 @@ use Rattle.stamp_merge.specs.declared.Stamped as merged
 use Rattle.stream_pair.specs.declared.piece.Piece.{Piece}
 use Rattle.journal_core.specs.declared.stamped.Stamped.{Stamped}
 use Rattle.journal_core.specs.Journal.{of_seat, BeginsWith, IsInOrder, IsOfSeats}
-use Rattle.world_model.specs.World.{numbers, node_count}
-use Rattle.log_laws.specs.Logs.{IsNode}
+use Rattle.world_model.specs.World.{IsNode, numbers, node_count}
 use Rattle.log_laws.specs.Journal.{JournalEntry}
 use Rattle.log_model.specs.Views.{Line, LoggedNode}
 use Rattle.log_model.specs.Logged.{IsLogged}

@@ -6,8 +6,8 @@ use Rattle.stamp_merge.specs.declared.Stamped as merged
 use Rattle.stamp_merge.specs.Merge as stamps
 use Rattle.journal_core.specs.declared.stamped.Stamped.{Stamped}
 use Rattle.kernel_model.specs.Script.{IsSoundScript}
-use Rattle.world_model.specs.World.{World, step, is_enabled}
-use Rattle.log_laws.specs.Logs.{IsNode, Log}
+use Rattle.world_model.specs.World.{IsNode, World, step, is_enabled}
+use Rattle.log_laws.specs.Logs.{Log}
 use Rattle.log_laws.specs.Merge.{NodeTurn, events_of}
 use Rattle.log_laws.specs.Journal.{IsJournalOf}
 use Rattle.log_laws.specs.EventLogs.{EventsMayMerge, event_item, event_log}

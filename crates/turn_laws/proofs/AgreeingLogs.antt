@@ -7,11 +7,11 @@ use Rattle.rpc_frame.specs.declared.frame.Frame.{Frame}
 use Rattle.kernel_model.specs.Script.{IsSoundScript}
 use Rattle.world_model.specs.Node.{Node, opening_node}
 use Rattle.world_model.specs.Run.{IsReachableWorld}
-use Rattle.world_model.specs.World.{World, node_at, node_count, opening_world, stream}
+use Rattle.world_model.specs.World.{IsNode, World, node_at, node_count, opening_world, stream}
 use Rattle.world_laws.proofs.Streams.{Square}
 use Rattle.log_laws.specs.Follows.{IsThere}
 use Rattle.log_laws.specs.Laws.{IsRunOfTurns}
-use Rattle.log_laws.specs.Logs.{AreConsistent, GoesBetween, Input, IsNode, IsTakenLater, LeadsTo, Log, Logged, Makes, Runs, StampedFrame, Takes, frame_of, sends_of, sent_in, taken_if, taken_in, takes_of}
+use Rattle.log_laws.specs.Logs.{AreConsistent, GoesBetween, Input, IsTakenLater, LeadsTo, Log, Logged, Makes, Runs, StampedFrame, Takes, frame_of, sends_of, sent_in, taken_if, taken_in, takes_of}
 use Rattle.log_laws.specs.Merge.{AreInOrder, IsBefore, IsMerge, NodeTurn, event_of, log_of, turn_if}
 use Rattle.log_laws.proofs.Halfway.{Ends, IsHalfway, Nodes, OnWay, nodes_after}
 use Rattle.log_laws.proofs.Lists.{all-of-log, append-all, log-of-other, log-of-own, not-below, stamps-of-sent}

@@ -16,7 +16,7 @@ use Rattle.world_model.specs.Lives.{is_forked_by}
 use Rattle.world_model.specs.Node.{Node, Stage, Unborn, Living, Leaving, Left, Over, is_born, is_living, is_unborn}
 use Rattle.world_model.specs.Run.{IsAtRest, IsReachableWorld, IsRunOf}
 use Rattle.world_model.specs.Step.{Step}
-use Rattle.world_model.specs.World.{World, is_checkpoint, is_enabled, node_at, opening_world, stream}
+use Rattle.world_model.specs.World.{IsNode, World, is_checkpoint, is_enabled, node_at, opening_world, stream}
 use Rattle.world_laws.specs.Invariant.{FramesFit, HasInvariant, Holds, MayBe}
 use Rattle.world_laws.specs.Names.{forker}
 use Rattle.world_laws.specs.Sights.{frames_to, is_born_in, node_of}
@@ -30,7 +30,7 @@ use Rattle.bound_laws.proofs.Runs.{reachable-is-bounded}
 use Rattle.run_laws.proofs.Runs.{runs_are_short_lemma, worlds_have_the_invariant_lemma}
 use Rattle.rest_laws.specs.Laws.{IsQuiet}
 use Rattle.rest_laws.proofs.Worlds.{rest_is_quiet_lemma}
-use Rattle.log_laws.specs.Logs.{IsNode, Input, Runs, Takes, stamped, turn_on}
+use Rattle.log_laws.specs.Logs.{Input, Runs, Takes, stamped, turn_on}
 use Rattle.log_laws.specs.Merge.{event_at}
 use Rattle.turn_laws.specs.Forkers.{forker_of}
 use Rattle.log_laws.specs.Follows.{StandsFirst}

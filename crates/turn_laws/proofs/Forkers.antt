@@ -9,11 +9,10 @@ use Rattle.kernel_model.specs.Fitting.{block_at}
 use Rattle.kernel_model.specs.Script.{IsSoundScript, ends_rightly, is_exit, with_exit}
 use Rattle.node_model.specs.Caller.{lines_in}
 use Rattle.world_model.specs.Lives.{forks_in, is_forked_by}
-use Rattle.world_model.specs.World.{node_count, numbers}
+use Rattle.world_model.specs.World.{IsNode, node_count, numbers}
 use Rattle.world_laws.specs.Names.{first_that}
 use Rattle.rule_laws.proofs.makes.Forkers.{IsForkedFrom, forked-from, names_in_line}
 use Rattle.bound_laws.proofs.Scripts.{test-at}
-use Rattle.log_laws.specs.Logs.{IsNode}
 use Rattle.turn_laws.specs.Forkers.{ForkersFork, OneForks, forker_of}
 
 -- ---- the first that passes a test

@@ -10,12 +10,12 @@ use Rattle.kernel_laws.proofs.Members.{contains-cases, contains-first, contains-
 use Rattle.kernel_model.specs.Script.{IsSoundScript}
 use Rattle.world_model.specs.Run.{IsReachableWorld}
 use Rattle.world_model.specs.Step.{Step}
-use Rattle.world_model.specs.World.{World}
+use Rattle.world_model.specs.World.{IsNode, World}
 use Rattle.world_laws.specs.Invariant.{FramesFit, HasInvariant, Holds}
 use Rattle.world_laws.specs.Sights.{frames_to, is_born_in}
 use Rattle.world_laws.proofs.Changes.{Changes, frames_if, sent}
 use Rattle.world_laws.proofs.Sends.{frame_if, frames_with}
-use Rattle.bound_laws.specs.Bounded.{IsNode as IsBoundedNode, SendIsBounded, StepIsBounded}
+use Rattle.bound_laws.specs.Bounded.{SendIsBounded, StepIsBounded}
 use Rattle.run_laws.proofs.Runs.{worlds_have_the_invariant_lemma}
 use Rattle.frame_laws.proofs.Reachable.{frames_are_within_limits_lemma}
 use Rattle.log_laws.specs.Logs.{Input}
@@ -80,7 +80,7 @@ module _ (script : Script) (sound : IsSoundScript script) (w : World) (p : ℕ) 
       in let bounded : SendIsBounded script send =
       All-contains (SendIsBounded script) s.sends send
       (All-from_recursion (SendIsBounded script) s.sends b.sends) there
-      in let receiver : IsBoundedNode script send.0 = bounded.receiver
+      in let receiver : IsNode script send.0 = bounded.receiver
       in record {
         receiver = record { low = receiver.low; high = receiver.high };
         other = not-itself send there;

@@ -11,7 +11,7 @@ use Rattle.world_model.specs.Run.{IsReachableWorld, Runs as EventsLead}
 use Rattle.world_model.specs.Starting.{run}
 use Rattle.world_model.specs.Step.{Step}
 use Rattle.world_model.specs.Turn.{take_frame}
-use Rattle.world_model.specs.World.{World, is_checkpoint, is_enabled, is_number, is_run_enabled, is_take_enabled, node_at, opening_world, step, stream, world_after}
+use Rattle.world_model.specs.World.{IsNode, World, is_checkpoint, is_enabled, is_number, is_run_enabled, is_take_enabled, node_at, opening_world, step, stream, world_after}
 use Rattle.world_laws.specs.Sights.{node_of}
 use Rattle.world_laws.proofs.Changes.{Changes}
 use Rattle.world_laws.proofs.Steps.{Heads, changes-by-run, changes-by-take, node-there, run-steps, take-steps, world_without}
@@ -20,7 +20,7 @@ use Rattle.bound_laws.proofs.Parts.{of-some}
 use Rattle.bound_laws.proofs.Runs.{reachable-is-bounded}
 use Rattle.bound_laws.proofs.Turns.{run-turn-bounded, take-turn-bounded}
 use Rattle.bound_laws.proofs.Worlds.{head-is-bounded, to-nodes}
-use Rattle.log_laws.specs.Logs.{IsNode, Input, Runs, Takes, StampedFrame, turn_on}
+use Rattle.log_laws.specs.Logs.{Input, Runs, Takes, StampedFrame, turn_on}
 use Rattle.log_laws.specs.Merge.{event_at}
 use Rattle.log_laws.specs.Follows.{StandsFirst}
 use Rattle.turn_laws.specs.Laws.{IsTurnIn, may_turn}

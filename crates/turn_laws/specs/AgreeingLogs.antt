@@ -5,7 +5,8 @@ use Rattle.std.specs.List.{AllByRecursion}
 use Rattle.pico_base.specs.declared.script.Script.{Script}
 use Rattle.kernel_model.specs.Script.{IsSoundScript}
 use Rattle.world_model.specs.Node.{Node, opening_node}
-use Rattle.log_laws.specs.Logs.{AreConsistent, Input, IsNode, LeadsTo, Log, Logged, Runs, StampedFrame, StampsRise, Takes, sent_in, taken_in}
+use Rattle.world_model.specs.World.{IsNode}
+use Rattle.log_laws.specs.Logs.{AreConsistent, Input, LeadsTo, Log, Logged, Runs, StampedFrame, StampsRise, Takes, sent_in, taken_in}
 use Rattle.log_laws.specs.Merge.{IsMerge, NodeTurn}
 use Rattle.log_laws.specs.Laws.{IsRunOfTurns}
 

@@ -3,8 +3,8 @@ use Rattle.std.specs.Prelude.{◌≡◌, ◌≤◌, ℕ, true}
 use Rattle.pico_base.specs.declared.script.Script.{Script}
 use Rattle.kernel_model.specs.Script.{IsSoundScript}
 use Rattle.world_model.specs.Lives.{is_forked_by}
+use Rattle.world_model.specs.World.{IsNode}
 use Rattle.world_laws.specs.Names.{forker}
-use Rattle.log_laws.specs.Logs.{IsNode}
 
 -- the first node whose block forks this one's, 0 where none does
 abbrev pub forker_of : Script → ℕ → ℕ

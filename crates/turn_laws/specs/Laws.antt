@@ -11,8 +11,8 @@ use Rattle.world_model.specs.Lives.{is_forked_by}
 use Rattle.world_model.specs.Node.{Node, is_born, can_run}
 use Rattle.world_model.specs.Run.{IsReachableWorld, IsRunOf}
 use Rattle.world_model.specs.Step.{Step}
-use Rattle.world_model.specs.World.{World, is_checkpoint, node_at, stream}
-use Rattle.log_laws.specs.Logs.{IsNode, Input, Runs, Takes, turn_on}
+use Rattle.world_model.specs.World.{IsNode, World, is_checkpoint, node_at, stream}
+use Rattle.log_laws.specs.Logs.{Input, Runs, Takes, turn_on}
 use Rattle.log_laws.specs.Follows.{IsThere}
 
 -- ---- a turn of a node of a world

@@ -14,7 +14,7 @@ use Rattle.node_model.specs.declared.held.Held.TheVariants.{Request, Ending}
 use Rattle.node_model.specs.Directory.{At, Coming, Directory, Place, arrive, held_for, is_known, is_parcel, items_of, place_of}
 use Rattle.node_model.specs.Kinds.{is_object, is_same_name}
 use Rattle.world_model.specs.Census.{one_if}
-use Rattle.world_model.specs.Routing.{arrive_all, held_for_all}
+use Rattle.world_model.specs.Ends.{arrive_all, held_for_all}
 use Rattle.world_model.specs.World.{node_count, numbers}
 use Rattle.world_laws.specs.Callers.{is_held_at}
 use Rattle.world_laws.specs.Invariant.{IsLeading}

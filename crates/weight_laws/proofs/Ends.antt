@@ -17,9 +17,9 @@ use Rattle.node_model.specs.Parcels.{all_gone, commit_exit, ending_of, fitting_b
 use Rattle.node_model.specs.Serving.{parts_in}
 use Rattle.node_model.specs.Leases.{leases_hold}
 use Rattle.world_model.specs.Calls.{is_from_leader}
+use Rattle.world_model.specs.Ends.{enter_exit, exit_here, exit_with, names_in}
 use Rattle.world_model.specs.Lives.{take_exit}
 use Rattle.world_model.specs.Node.{Node, is_leader}
-use Rattle.world_model.specs.Routing.{enter_exit, exit_here, exit_with, names_in}
 use Rattle.world_model.specs.Step.{Step, step_to}
 use Rattle.world_model.specs.World.{World}
 use Rattle.world_laws.specs.Invariant.{Holds}

@@ -15,8 +15,9 @@ use Rattle.node_model.specs.declared.held.Held.{Held}
 use Rattle.node_model.specs.declared.held.Held.TheVariants.{Ending, Request}
 use Rattle.node_model.specs.Directory.{At, Coming, Directory, Place, held_for, place_of}
 use Rattle.node_model.specs.Kinds.{is_object}
+use Rattle.world_model.specs.Ends.{AfterEnd, IsHeld, Releases, end_by, end_process, exit_here, held_for_all, names_in, release_names}
 use Rattle.world_model.specs.Node.{Node}
-use Rattle.world_model.specs.Routing.{AfterEnd, IsHeld, Releases, end_by, end_process, exit_here, held_for_all, hold_item, names_in, release_names}
+use Rattle.world_model.specs.Routes.{hold_item}
 use Rattle.world_model.specs.Step.{Step, send}
 use Rattle.world_laws.specs.Names.{IsItemFor}
 use Rattle.world_laws.specs.Plays.{is_home_on}

@@ -23,7 +23,7 @@ use Rattle.node_model.specs.Spelling.{read_deed}
 use Rattle.world_model.specs.Census.{one_if}
 use Rattle.world_model.specs.Moves.{come_back, goes_on_to, is_new_here, keep, pass_on, take_give_back}
 use Rattle.world_model.specs.Node.{Node, is_leader}
-use Rattle.world_model.specs.Routing.{release}
+use Rattle.world_model.specs.Releases.{release}
 use Rattle.world_model.specs.Step.{Step}
 use Rattle.world_model.specs.World.{World, node_count}
 use Rattle.world_laws.specs.Families.{NodeHolds}

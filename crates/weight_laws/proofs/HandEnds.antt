@@ -21,8 +21,9 @@ use Rattle.node_model.specs.Directory.{At, Coming, Directory, Place, hold, hold_
 use Rattle.node_model.specs.Kinds.{is_object}
 use Rattle.node_model.specs.Parcels.{pack_all}
 use Rattle.world_model.specs.Census.{one_if}
+use Rattle.world_model.specs.Ends.{AfterEnd, IsHeld, Releases, arrive_all, end_by, end_process, exit_here, held_for_all, names_in, release_names}
 use Rattle.world_model.specs.Node.{Node}
-use Rattle.world_model.specs.Routing.{AfterEnd, IsHeld, Releases, arrive_all, end_by, end_process, exit_here, held_for_all, hold_item, names_in, release_names}
+use Rattle.world_model.specs.Routes.{hold_item}
 use Rattle.world_model.specs.Step.{Step, send, with_directory, with_node}
 use Rattle.world_laws.specs.Invariant.{IsLeading}
 use Rattle.world_laws.specs.Places.{CallPlace}

@@ -12,8 +12,8 @@ use Rattle.node_model.specs.declared.held.Held.{Held}
 use Rattle.node_model.specs.declared.held.Held.TheVariants.{Request, Ending}
 use Rattle.node_model.specs.Directory.{Directory, held_for}
 use Rattle.world_model.specs.Census.{one_if}
+use Rattle.world_model.specs.Ends.{AfterEnd, IsHeld, Releases, end_process, names_in}
 use Rattle.world_model.specs.Node.{Node}
-use Rattle.world_model.specs.Routing.{AfterEnd, IsHeld, Releases, end_process, names_in}
 use Rattle.world_model.specs.Step.{Step}
 use Rattle.world_model.specs.World.{World, node_count, world_after}
 use Rattle.world_laws.specs.Callers.{HasCall, HasTryLeft, call_sight, is_held_at}

@@ -20,9 +20,9 @@ use Rattle.kernel_laws.proofs.Plain.{from_some, not_some}
 use Rattle.node_model.specs.Bodies.{AQueue, ASet, Body}
 use Rattle.node_model.specs.Directory.{place_name}
 use Rattle.node_model.specs.Kinds.{put_named}
+use Rattle.world_model.specs.Keys.{bind, create_set, find_set, get_by_key, get_queue, get_set, make_bound, make_queue, make_set}
 use Rattle.world_model.specs.Node.{Leader, Node, is_leader}
 use Rattle.world_model.specs.Numbers.{Taken, take_number}
-use Rattle.world_model.specs.Routing.{bind, create_set, find_set, get_by_key, get_queue, get_set, make_bound, make_queue, make_set}
 use Rattle.world_model.specs.Step.{Step, carry_out, with_directory, with_node}
 use Rattle.route_laws.proofs.release.RoutedParcels.{directory_in}
 use Rattle.weight_laws.specs.Weights.{node_weight}

@@ -14,7 +14,7 @@ use Rattle.node_model.specs.declared.held.Held.TheVariants.{Ending}
 use Rattle.node_model.specs.Parcels.{fitting_bodies}
 use Rattle.world_model.specs.Lives.{end_released, may_take, take_left}
 use Rattle.world_model.specs.Node.{Node, is_leader}
-use Rattle.world_model.specs.Routing.{release}
+use Rattle.world_model.specs.Releases.{release}
 use Rattle.world_model.specs.Step.{Step, step_to, with_directory}
 use Rattle.world_model.specs.World.{World}
 use Rattle.world_laws.specs.Invariant.{Holds}

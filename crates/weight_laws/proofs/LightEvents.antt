@@ -18,7 +18,7 @@ use Rattle.node_model.specs.Bodies.{Body, body_in}
 use Rattle.node_model.specs.Directory.{bound_for, held_for, with_left}
 use Rattle.world_model.specs.Moves.{goes_on_to, pass_on}
 use Rattle.std.specs.List.{AllByRecursion}
-use Rattle.world_model.specs.Routing.{release}
+use Rattle.world_model.specs.Releases.{release}
 use Rattle.world_model.specs.Step.{Step, step_to, with_directory}
 use Rattle.world_model.specs.World.{World, node_count, world_after}
 use Rattle.world_laws.specs.Deeds.{DeedsAreRead}

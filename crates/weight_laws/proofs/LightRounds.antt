@@ -7,7 +7,9 @@ use Rattle.rpc_frame.specs.declared.asked.Asked.{Asked}
 use Rattle.rpc_frame.specs.declared.deed.Parcel.{Parcel}
 use Rattle.node_model.specs.declared.held.Held.{Held}
 use Rattle.node_model.specs.declared.held.Held.TheVariants.{Request, Ending}
-use Rattle.world_model.specs.Routing.{IsHeld, Releases, end_process, go_on_after, no_round, release, release_round, release_rounds, route_call}
+use Rattle.world_model.specs.Ends.{IsHeld, Releases, end_process}
+use Rattle.world_model.specs.Releases.{go_on_after, no_round, release, release_round, release_rounds}
+use Rattle.world_model.specs.Routes.{route_call}
 use Rattle.world_model.specs.Step.{Step}
 use Rattle.world_model.specs.World.{World, world_after}
 use Rattle.world_laws.specs.Places.{Beside}

@@ -22,7 +22,7 @@ use Rattle.node_model.specs.Spelling.{read_deed}
 use Rattle.world_model.specs.Node.{Node, Stage, Unborn, Living, Leaving, Left, Over, is_leader, is_unborn, is_leaving_stage}
 use Rattle.world_model.specs.Step.{Step, step_to, send, with_directory}
 use Rattle.world_model.specs.Serving.{without_deed}
-use Rattle.world_model.specs.Routing.{recall_from}
+use Rattle.world_model.specs.Routes.{recall_from}
 use Rattle.world_model.specs.Ranges.{take_placed}
 use Rattle.world_model.specs.Moves.{take_suggest, take_recall, take_grant, is_at, give_back, keep, receive_deed}
 use Rattle.world_model.specs.Lives.{take_checkpoint, take_leaving, take_recall_all, born_with, be_born, hand_over, send_to_leader, place_family}

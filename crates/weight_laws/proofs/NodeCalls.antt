@@ -20,7 +20,7 @@ use Rattle.world_model.specs.Step.{Step, send, step_to, with_directory}
 use Rattle.world_model.specs.Calls.{answered_by, ask_after, bounce, bounce_or_nobody, end_with_reply, forwarded_by, requested_by, take_answer, take_forward, take_not_owner, take_request, with_forgotten, with_learnt}
 use Rattle.world_model.specs.Numbers.{make}
 use Rattle.world_model.specs.Ranges.{go_on_with, take_lease, take_lease_ask}
-use Rattle.world_model.specs.Routing.{route_call}
+use Rattle.world_model.specs.Routes.{route_call}
 use Rattle.world_model.specs.Serving.{serve_asked, serve_nobody}
 use Rattle.world_model.specs.World.{node_count}
 use Rattle.world_laws.specs.Places.{CallPlace, call_in}

@@ -16,7 +16,7 @@ use Rattle.node_model.specs.Directory.{Place, place_of}
 use Rattle.node_model.specs.declared.held.Held.TheVariants.{Request}
 use Rattle.world_model.specs.Calls.{ask_after, asks_as, is_for_others, is_on_name_or_removal, is_to_leader, take_ask, take_bounce, take_not_owner, with_forgotten}
 use Rattle.world_model.specs.Node.{Node, asked_here, is_leader, is_node, under_way_as}
-use Rattle.world_model.specs.Routing.{route_call}
+use Rattle.world_model.specs.Routes.{route_call}
 use Rattle.world_model.specs.Step.{Step, send, step_to}
 use Rattle.world_model.specs.World.{World, node_count}
 use Rattle.world_laws.specs.Families.{NodeHolds}

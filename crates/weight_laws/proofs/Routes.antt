@@ -25,8 +25,8 @@ use Rattle.node_model.specs.Kinds.{get_named}
 use Rattle.node_model.specs.Serving.{no_such_name}
 use Rattle.world_model.specs.Census.{one_if}
 use Rattle.world_model.specs.Node.{Node, is_leader}
-use Rattle.world_model.specs.Routing.{forward, hold_item, recall_and_hold, remove_by, remove_here, route_call, route_home, unbind_name, was_removed}
-use Rattle.world_model.specs.Routing as routing
+use Rattle.world_model.specs.Routes.{forward, hold_item, recall_and_hold, remove_by, remove_here, route_call, route_home, unbind_name, was_removed}
+use Rattle.world_model.specs.Routes as routing
 use Rattle.world_model.specs.Serving.{serve_asked, serve_nobody}
 use Rattle.world_model.specs.Step.{Step}
 use Rattle.world_laws.specs.Invariant.{IsLeading}

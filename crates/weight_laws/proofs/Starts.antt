@@ -31,7 +31,7 @@ use Rattle.node_model.specs.declared.held.Held.TheVariants.{Request}
 use Rattle.world_model.specs.Census.{one_if}
 use Rattle.world_model.specs.Node.{Node, Over, asked_here, holds, is_leader}
 use Rattle.world_model.specs.Numbers.{make}
-use Rattle.world_model.specs.Routing.{route_call}
+use Rattle.world_model.specs.Routes.{route_call}
 use Rattle.world_model.specs.Serving.{serve_asked}
 use Rattle.world_model.specs.Starting.{act, ask, carry_out_own, end_leader, leave, request, start_by, start_making, start_own, start_set, with_look}
 use Rattle.world_model.specs.Step.{Step, carry_out, send, step_to, with_deeds}

@@ -17,7 +17,7 @@ use Rattle.node_model.specs.Caller.{answer_call}
 use Rattle.world_model.specs.Node.{Node, is_leader, is_born, holds, under_way_as, is_node}
 use Rattle.world_model.specs.Step.{Step, step_to, send}
 use Rattle.world_model.specs.Serving.{serve_asked, serve_nobody}
-use Rattle.world_model.specs.Routing.{route_call}
+use Rattle.world_model.specs.Routes.{route_call}
 use Rattle.world_model.specs.Starting.{ask}
 
 -- at the leader, from another node; and at another node that is born, from the leader

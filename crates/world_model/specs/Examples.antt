@@ -15,7 +15,7 @@ use Rattle.kernel_model.specs.Queue.{empty_queue}
 use Rattle.node_model.specs.Bodies.{Body, AQueue, Removed}
 use Rattle.node_model.specs.Directory.{place_name}
 use Rattle.world_model.specs.Node.{Leader, Node, first_node, opening_leader}
-use Rattle.world_model.specs.Routing.{bind}
+use Rattle.world_model.specs.Keys.{bind}
 use Rattle.world_model.specs.Step.{entry_by, step_to, with_directory, with_leader}
 use Rattle.world_model.specs.World.{opening_world}
 use Rattle.world_model.specs.Example.{line, block, script, entries_after, journal_of, at_rest_journal}

@@ -2,7 +2,10 @@ pub mod Node
 pub mod Step
 pub mod Serving
 pub mod Numbers
-pub mod Routing
+pub mod Keys
+pub mod Routes
+pub mod Ends
+pub mod Releases
 pub mod Starting
 pub mod Calls
 pub mod Ranges

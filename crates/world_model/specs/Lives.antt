@@ -26,7 +26,8 @@ use Rattle.node_model.specs.Spelling.{read_deed}
 use Rattle.node_model.specs.Parcels.{give_all, fitting_bodies}
 use Rattle.world_model.specs.Node.{Node, Living, Left, is_leader, is_unborn, is_leaving_stage, is_node}
 use Rattle.world_model.specs.Step.{Step, step_to, with_directory, send}
-use Rattle.world_model.specs.Routing.{names_in, exit_here, release}
+use Rattle.world_model.specs.Ends.{names_in, exit_here}
+use Rattle.world_model.specs.Releases.{release}
 use Rattle.world_model.specs.Calls.{is_to_leader, is_from_leader}
 
 -- ---- birth

@@ -13,7 +13,8 @@ use Rattle.node_model.specs.Spelling.{pack, read_deed}
 use Rattle.world_model.specs.Node.{Node, is_leader, holds, is_node}
 use Rattle.world_model.specs.Step.{Step, step_to, with_directory, send}
 use Rattle.world_model.specs.Serving.{without_deed}
-use Rattle.world_model.specs.Routing.{recall_from, release}
+use Rattle.world_model.specs.Routes.{recall_from}
+use Rattle.world_model.specs.Releases.{release}
 use Rattle.world_model.specs.Calls.{is_to_leader, is_from_leader}
 
 -- the Suggest rule: the name is asked back for the node, if it is still at the one that suggests it and the node stays

@@ -27,7 +27,7 @@ use Rattle.world_model.specs.Node.{Node, Leaving, Over, is_leader, can_run, hold
 use Rattle.world_model.specs.Step.{Step, step_to, with_node, with_deeds, send, carry_out}
 use Rattle.world_model.specs.Serving.{serve_asked}
 use Rattle.world_model.specs.Numbers.{make}
-use Rattle.world_model.specs.Routing.{route_call}
+use Rattle.world_model.specs.Routes.{route_call}
 
 -- ---- calls on the process itself
 

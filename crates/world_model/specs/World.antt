@@ -1,5 +1,5 @@
 -- A world: the nodes of a script, the frames on the way between them, and the journal of what they carried out.
-use Rattle.std.specs.Prelude.{ℕ, zero, suc, ◌+◌, ◌-◌, Bool, true, false, ◌&&◌, ◌||◌, nat_lt, List, [], ◌∷◌, ◌++◌, length, map, replicate, set, get_or, slice_get, fold, Option, Some, None}
+use Rattle.std.specs.Prelude.{ℕ, zero, suc, ◌+◌, ◌-◌, ◌≤◌, Bool, true, false, ◌&&◌, ◌||◌, nat_lt, List, [], ◌∷◌, ◌++◌, length, map, replicate, set, get_or, slice_get, fold, Option, Some, None}
 use Rattle.pico_base.specs.declared.script.Script.{Script}
 use Rattle.pico_base.specs.declared.script.Event.{Event}
 use Rattle.pico_base.specs.declared.script.Event.TheVariants as events
@@ -30,6 +30,11 @@ numbers first (suc count) = first ∷ numbers (first + 1) count
 -- how many nodes there are
 abbrev pub node_count : Script → ℕ
 node_count script = length script.blocks
+
+-- the number of a node of the script
+pub record IsNode (script : Script) (p : ℕ) : Type 0 where
+  pub low : 1 ≤ p
+  pub high : p ≤ node_count script
 
 abbrev pub size : World → ℕ
 size w = node_count w.script

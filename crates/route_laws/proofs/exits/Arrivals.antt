@@ -16,7 +16,7 @@ use Rattle.node_model.specs.Kinds.{is_same_name}
 use Rattle.node_model.specs.Bodies.{Body}
 use Rattle.node_model.specs.Directory.{Directory, Place, At, place_of, items_of, held_for, has_deed_of, is_known, arrive}
 use Rattle.node_model.specs.Parcels.{pack_all}
-use Rattle.world_model.specs.Routing.{names_in, held_for_all, arrive_all}
+use Rattle.world_model.specs.Ends.{names_in, held_for_all, arrive_all}
 use Rattle.world_laws.specs.Names.{OneIf, OnlyOne}
 use Rattle.world_laws.specs.Callers.{only_if}
 use Rattle.world_laws.specs.Invariant.{IsLeading}

@@ -15,7 +15,7 @@ use Rattle.node_model.specs.declared.held.Held.TheVariants.{Ending}
 use Rattle.node_model.specs.Directory.{Directory, At, place_of}
 use Rattle.world_model.specs.Node.{Node}
 use Rattle.world_model.specs.Step.{Step, with_node, with_deeds, with_directory, send, enter, entry_by}
-use Rattle.world_model.specs.Routing.{Releases, names_in, held_for_all, arrive_all, release_names, exit_here, end_by, end_process}
+use Rattle.world_model.specs.Ends.{Releases, names_in, held_for_all, arrive_all, release_names, exit_here, end_by, end_process}
 use Rattle.world_model.specs.World.{World, node_count, world_after}
 use Rattle.world_laws.specs.Places.{InHand, Beside}
 use Rattle.world_laws.specs.Sights.{node_of, directory_of, stage_of, is_born_in}

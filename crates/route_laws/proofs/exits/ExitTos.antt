@@ -23,7 +23,7 @@ use Rattle.node_model.specs.Bodies.{Body, Deeds, body_in}
 use Rattle.world_model.specs.Node.{Node, is_leader, is_born}
 use Rattle.world_model.specs.Step.{Step, step_to, with_deeds, enter, entry_by}
 use Rattle.world_model.specs.Lives.{take_exit}
-use Rattle.world_model.specs.Routing.{names_in, exit_here}
+use Rattle.world_model.specs.Ends.{names_in, exit_here}
 use Rattle.world_model.specs.Census.{brings}
 use Rattle.world_model.specs.World.{World, world_after, node_count}
 use Rattle.world_laws.specs.Places.{DeedPlace, Unmade, InTable, InExitTo, Beside}

@@ -33,7 +33,7 @@ use Rattle.node_model.specs.Bodies.{Body, Living as LivingBody, Deeds, body_in, 
 use Rattle.node_model.specs.Parcels.{ending_of, fitting_bodies}
 use Rattle.world_model.specs.Step.{Step, with_deeds, enter}
 use Rattle.world_model.specs.Lives.{is_end}
-use Rattle.world_model.specs.Routing.{enter_exit, exit_with, exit_here}
+use Rattle.world_model.specs.Ends.{enter_exit, exit_with, exit_here}
 use Rattle.world_model.specs.World.{World}
 use Rattle.world_laws.specs.Places.{DeedPlace, InTable, Beside}
 use Rattle.world_laws.specs.Sights.{node_of, stage_of, is_born_in}

@@ -10,7 +10,8 @@ use Rattle.node_model.specs.declared.held.Held.TheVariants.{Ending}
 use Rattle.node_model.specs.Directory.{Directory, Place, At, Coming, place_of, hold, is_known}
 use Rattle.world_model.specs.Node.{Node, Stage, Unborn, Living, Leaving, Left}
 use Rattle.world_model.specs.Step.{Step, with_directory}
-use Rattle.world_model.specs.Routing.{IsHeld, Releases, end_by, end_process, hold_item, names_in}
+use Rattle.world_model.specs.Routes.{hold_item}
+use Rattle.world_model.specs.Ends.{IsHeld, Releases, end_by, end_process, names_in}
 use Rattle.world_model.specs.World.{World, node_count, world_after}
 use Rattle.world_laws.specs.Places.{InHand, Beside}
 use Rattle.world_laws.specs.Sights.{node_of, directory_of, stage_of}

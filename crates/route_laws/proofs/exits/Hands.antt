@@ -12,7 +12,7 @@ use Rattle.node_model.specs.declared.held.Held.{Held}
 use Rattle.node_model.specs.declared.held.Held.TheVariants.{Request, Ending}
 use Rattle.node_model.specs.Kinds.{is_object}
 use Rattle.node_model.specs.Directory.{Directory, At, place_of, held_for, has_deed_of, is_parcel_with}
-use Rattle.world_model.specs.Routing.{names_in, held_for_all}
+use Rattle.world_model.specs.Ends.{names_in, held_for_all}
 use Rattle.world_model.specs.World.{World}
 use Rattle.world_laws.specs.Places.{Beside}
 use Rattle.world_laws.specs.Sights.{directory_of, is_born_in}

@@ -19,7 +19,8 @@ use Rattle.node_model.specs.Directory.{Directory, place_name}
 use Rattle.world_model.specs.Node.{Leader, Node}
 use Rattle.world_model.specs.Numbers.{Taken, take_number}
 use Rattle.world_model.specs.Step.{Step, with_node}
-use Rattle.world_model.specs.Routing.{make_bound, route_call}
+use Rattle.world_model.specs.Keys.{make_bound}
+use Rattle.world_model.specs.Routes.{route_call}
 use Rattle.world_model.specs.World.{World, node_count, world_after}
 use Rattle.world_laws.specs.Places.{Beside, Idle}
 use Rattle.world_laws.specs.Sights.{node_of}

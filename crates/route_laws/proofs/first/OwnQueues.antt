@@ -22,7 +22,8 @@ use Rattle.node_model.specs.Bodies.{AQueue}
 use Rattle.node_model.specs.Directory.{has_more}
 use Rattle.world_model.specs.Node.{Leader, Node}
 use Rattle.world_model.specs.Step.{Step}
-use Rattle.world_model.specs.Routing.{get_queue, make_queue, route_call}
+use Rattle.world_model.specs.Keys.{get_queue, make_queue}
+use Rattle.world_model.specs.Routes.{route_call}
 use Rattle.world_model.specs.World.{World, node_count, world_after}
 use Rattle.world_laws.specs.Places.{Beside}
 use Rattle.world_laws.specs.Sights.{directory_of, node_of}

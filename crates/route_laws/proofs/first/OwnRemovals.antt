@@ -18,7 +18,7 @@ use Rattle.node_model.specs.Serving.{has_read}
 use Rattle.node_model.specs.Watches.{Watches}
 use Rattle.world_model.specs.Node.{Node, Leader}
 use Rattle.world_model.specs.Step.{Step}
-use Rattle.world_model.specs.Routing.{keys_after, recall_and_hold, remove_by, remove_here, route_home, unbind_name, was_removed}
+use Rattle.world_model.specs.Routes.{keys_after, recall_and_hold, remove_by, remove_here, route_home, unbind_name, was_removed}
 use Rattle.world_model.specs.World.{World, node_count, world_after}
 use Rattle.entry_laws.specs.Entering.{MayMake}
 use Rattle.world_laws.specs.Places.{Beside, Idle}

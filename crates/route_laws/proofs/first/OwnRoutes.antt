@@ -20,8 +20,8 @@ use Rattle.node_model.specs.Watches.{Watches}
 use Rattle.world_model.specs.Node.{Node}
 use Rattle.world_model.specs.Step.{Step}
 use Rattle.world_model.specs.Serving.{serve_asked}
-use Rattle.world_model.specs.Routing.{forward, route_home}
-use Rattle.world_model.specs.Routing as routing
+use Rattle.world_model.specs.Routes.{forward, route_home}
+use Rattle.world_model.specs.Routes as routing
 use Rattle.world_model.specs.World.{World, node_count, world_after}
 use Rattle.entry_laws.proofs.Fresh.{LeavesAll, nobody}
 use Rattle.world_laws.specs.Places.{Beside, Idle}

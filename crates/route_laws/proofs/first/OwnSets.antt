@@ -21,7 +21,8 @@ use Rattle.node_model.specs.declared.held.Held.TheVariants.{Request}
 use Rattle.node_model.specs.Bodies.{ASet}
 use Rattle.world_model.specs.Node.{Leader, Node}
 use Rattle.world_model.specs.Step.{Step}
-use Rattle.world_model.specs.Routing.{create_set, get_set, make_set, route_call}
+use Rattle.world_model.specs.Keys.{create_set, get_set, make_set}
+use Rattle.world_model.specs.Routes.{route_call}
 use Rattle.world_model.specs.World.{World, node_count, world_after}
 use Rattle.world_laws.specs.Places.{Beside}
 use Rattle.world_laws.specs.Sights.{node_of}

@@ -22,7 +22,7 @@ use Rattle.node_model.specs.Serving.{has_read}
 use Rattle.node_model.specs.Watches.{Watches}
 use Rattle.world_model.specs.Calls.{is_for_others}
 use Rattle.world_model.specs.Node.{Node, asked_here, can_run, holds as node_holds}
-use Rattle.world_model.specs.Routing.{route_call}
+use Rattle.world_model.specs.Routes.{route_call}
 use Rattle.world_model.specs.Serving.{serve_asked}
 use Rattle.world_model.specs.Starting.{ask, request, run, start_by}
 use Rattle.world_model.specs.Step.{Step, send, step_to}

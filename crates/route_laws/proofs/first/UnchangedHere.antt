@@ -13,7 +13,7 @@ use Rattle.node_model.specs.declared.held.Held.TheVariants.{Request}
 use Rattle.node_model.specs.Caller.{answer_call, caller_place}
 use Rattle.world_model.specs.Node.{Node, Stage, Living, under_way_as}
 use Rattle.world_model.specs.Step.{Step, carry_out, enter, reply_here, send, with_node}
-use Rattle.world_model.specs.Routing.{route_call}
+use Rattle.world_model.specs.Routes.{route_call}
 use Rattle.world_model.specs.World.{World, node_count, world_after}
 use Rattle.entry_laws.specs.Entering.{HasKeys, entry_of}
 use Rattle.entry_laws.proofs.Fresh.{LeavesAll}

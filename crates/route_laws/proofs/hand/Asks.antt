@@ -15,7 +15,7 @@ use Rattle.node_model.specs.Caller.{Caller, caller_place}
 use Rattle.world_model.specs.Node.{Node, is_leader}
 use Rattle.world_model.specs.Step.{step_to}
 use Rattle.world_model.specs.Calls.{take_ask, is_for_others}
-use Rattle.world_model.specs.Routing.{route_call}
+use Rattle.world_model.specs.Routes.{route_call}
 use Rattle.world_model.specs.World.{World, world_after}
 use Rattle.world_laws.specs.Places.{IsInHand, Beside, call_in}
 use Rattle.world_laws.specs.Sights.{node_of, is_born_in}

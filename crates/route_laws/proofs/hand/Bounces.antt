@@ -28,7 +28,7 @@ use Rattle.world_laws.proofs.Heads.{head-is, head-from-another}
 use Rattle.rule_laws.proofs.Answers.{Found, find}
 use Rattle.rule_laws.proofs.CallFrames.{IsBounceOf, bounce-of}
 use Rattle.route_laws.proofs.hand.Takings.{IsTakenUp, IsSameLeader, name-news-taken, name-not-taken, taken-keeps}
-use Rattle.world_model.specs.Routing.{route_call}
+use Rattle.world_model.specs.Routes.{route_call}
 use Rattle.kernel_model.specs.Waiting.{is_waiting}
 use Rattle.world_laws.specs.Families.{NodeHolds}
 use Rattle.rule_laws.proofs.Nodes.{and-true}

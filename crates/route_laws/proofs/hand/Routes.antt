@@ -23,8 +23,8 @@ use Rattle.node_model.specs.Directory.{Directory, At, Coming, place_of, with_pla
 use Rattle.world_model.specs.Node.{Node}
 use Rattle.world_model.specs.Step.{Step, with_directory}
 use Rattle.world_model.specs.Serving.{serve_asked}
-use Rattle.world_model.specs.Routing.{route_call, route_home, remove_by, remove_here, forward, hold_item, recall_and_hold}
-use Rattle.world_model.specs.Routing as routing
+use Rattle.world_model.specs.Routes.{route_call, route_home, remove_by, remove_here, forward, hold_item, recall_and_hold}
+use Rattle.world_model.specs.Routes as routing
 use Rattle.world_model.specs.World.{World, node_count, world_after}
 use Rattle.world_laws.specs.Places.{CallPlace, SentByPlace, SentByRange, IsHeld, Beside, call_in}
 use Rattle.world_laws.specs.Sights.{node_of, directory_of, is_born_in}

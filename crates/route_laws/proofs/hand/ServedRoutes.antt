@@ -21,8 +21,8 @@ use Rattle.node_model.specs.Serving.{has_read, serve}
 use Rattle.world_model.specs.Node.{Node, under_way_as}
 use Rattle.world_model.specs.Step.{Step, send, enter, carry_out, reply_here, with_deeds}
 use Rattle.world_model.specs.Serving.{note_read, serve_asked, serve_asked_with}
-use Rattle.world_model.specs.Routing.{forward, route_call, route_home}
-use Rattle.world_model.specs.Routing as routing
+use Rattle.world_model.specs.Routes.{forward, route_call, route_home}
+use Rattle.world_model.specs.Routes as routing
 use Rattle.world_model.specs.World.{World, node_count, world_after}
 use Rattle.serve_laws.specs.Served.{served_as}
 use Rattle.entry_laws.specs.Entering.{entry_of, removed_queue, removed_set}

@@ -35,7 +35,7 @@ use Rattle.node_model.specs.Kinds.{number_of, put_named}
 use Rattle.world_model.specs.Node.{Node}
 use Rattle.world_model.specs.Step.{Step, carry_out, with_node}
 use Rattle.world_model.specs.Numbers.{take_number}
-use Rattle.world_model.specs.Routing.{create_set, get_by_key, get_queue, get_set, make_queue, make_set}
+use Rattle.world_model.specs.Keys.{create_set, get_by_key, get_queue, get_set, make_queue, make_set}
 use Rattle.world_model.specs.World.{World, node_count}
 use Rattle.world_laws.specs.Places.{Beside}
 use Rattle.world_laws.specs.Sights.{directory_of, is_born_in, node_of}

@@ -16,7 +16,7 @@ use Rattle.node_model.specs.Directory.{has_more}
 use Rattle.node_model.specs.Kinds.{number_of}
 use Rattle.world_model.specs.Node.{Node, under_way_as}
 use Rattle.world_model.specs.Step.{Step, carry_out, enter, reply_here, send, with_node}
-use Rattle.world_model.specs.Routing.{route_home}
+use Rattle.world_model.specs.Routes.{route_home}
 use Rattle.world_model.specs.World.{World, node_count, world_after}
 use Rattle.world_laws.specs.Places.{Beside, InAnswer}
 use Rattle.world_laws.specs.Sights.{directory_of, node_of}

@@ -25,7 +25,7 @@ use Rattle.serve_laws.specs.Served.{served_as}
 use Rattle.world_model.specs.Node.{Node, under_way_as}
 use Rattle.world_model.specs.Step.{Step, carry_out, enter, reply_here, send, with_deeds}
 use Rattle.world_model.specs.Serving.{note_read, serve_asked_with}
-use Rattle.world_model.specs.Routing.{keys_after, recall_and_hold, remove_by, remove_here, route_home, unbind_name, was_removed}
+use Rattle.world_model.specs.Routes.{keys_after, recall_and_hold, remove_by, remove_here, route_home, unbind_name, was_removed}
 use Rattle.world_model.specs.World.{World, node_count, world_after}
 use Rattle.world_laws.specs.Places.{Beside, InAnswer, call_in}
 use Rattle.world_laws.specs.Sights.{directory_of, is_born_in, node_of}

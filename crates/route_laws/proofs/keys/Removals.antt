@@ -32,8 +32,9 @@ use Rattle.node_model.specs.Directory.{At, place_of}
 use Rattle.node_model.specs.Kinds.{get_named, is_object, put_named}
 use Rattle.node_model.specs.Serving.{has_read, name_for}
 use Rattle.serve_laws.specs.Laws.{is_found}
+use Rattle.world_model.specs.Keys.{without_key}
 use Rattle.world_model.specs.Node.{Leader, Node}
-use Rattle.world_model.specs.Routing.{keys_after, was_removed, without_key}
+use Rattle.world_model.specs.Routes.{keys_after, was_removed}
 use Rattle.world_model.specs.World.{World, node_count}
 use Rattle.world_laws.specs.Places.{Beside}
 use Rattle.world_laws.specs.Sights.{directory_of, is_born_in, node_of}

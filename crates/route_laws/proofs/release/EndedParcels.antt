@@ -14,7 +14,7 @@ use Rattle.node_model.specs.Bodies.{Body}
 use Rattle.node_model.specs.Directory.{Directory, Place, At, Coming, place_of, hold_at, items_of, parcels_held}
 use Rattle.node_model.specs.Parcels.{pack_all, commit_exit, fitting_bodies}
 use Rattle.world_model.specs.Step.{Step, send}
-use Rattle.world_model.specs.Routing.{AfterEnd, IsHeld, Releases, names_in, arrive_all, held_for_all, release_names, enter_exit, exit_with, exit_here, end_by, end_process}
+use Rattle.world_model.specs.Ends.{AfterEnd, IsHeld, Releases, names_in, arrive_all, held_for_all, release_names, enter_exit, exit_with, exit_here, end_by, end_process}
 use Rattle.route_laws.proofs.release.Parcels.{PlacesRise, parcels_among, among-both, among-behind-parcel, one-more-held, names_of, all-arrive}
 use Rattle.route_laws.proofs.release.RoutedParcels.{directory_in}
 

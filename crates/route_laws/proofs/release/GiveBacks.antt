@@ -15,7 +15,7 @@ use Rattle.node_model.specs.Spelling.{pack, read_deed}
 use Rattle.world_model.specs.Node.{Node, is_leader}
 use Rattle.world_model.specs.Step.{Step, with_directory}
 use Rattle.world_model.specs.Moves.{goes_on_to, pass_on, come_back, is_new_here, take_give_back}
-use Rattle.world_model.specs.Routing.{release}
+use Rattle.world_model.specs.Releases.{release}
 use Rattle.world_model.specs.World.{World, world_after}
 use Rattle.world_laws.specs.Places.{InGrant, Beside, deed_in}
 use Rattle.world_laws.specs.Sights.{node_of, directory_of, is_born_in}

@@ -19,7 +19,7 @@ use Rattle.node_model.specs.Kinds.{number_of}
 use Rattle.node_model.specs.Bodies.{Body}
 use Rattle.node_model.specs.Parcels.{pack_all}
 use Rattle.node_model.specs.Directory.{Directory, Place, At, with_place, held_for, items_of, is_parcel, parcels_in, parcels_held}
-use Rattle.world_model.specs.Routing.{arrive_all, held_for_all}
+use Rattle.world_model.specs.Ends.{arrive_all, held_for_all}
 use Rattle.rule_laws.proofs.Places.{place-with-other}
 
 -- the parcels in a list of items

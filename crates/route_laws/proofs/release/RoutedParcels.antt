@@ -34,7 +34,8 @@ use Rattle.world_model.specs.Node.{Node, Leader, is_leader, under_way_as}
 use Rattle.world_model.specs.Step.{Step, with_node, with_deeds, with_directory, send, enter, reply_here, reply_to, carry_out}
 use Rattle.world_model.specs.Numbers.{Taken, take_first, take_from, take_from_next, take_number, with_next_range, knows_any}
 use Rattle.world_model.specs.Serving.{grant_held, grant, move_to, note_read, serve_asked, serve_asked_with}
-use Rattle.world_model.specs.Routing.{bind, make_bound, make_queue, make_set, get_queue, get_set, create_set, get_by_key, hold_item, recall_and_hold, unbind_name, forward, route_by, remove_by, remove_here, route_home, route_call, was_removed}
+use Rattle.world_model.specs.Keys.{bind, make_bound, make_queue, make_set, get_queue, get_set, create_set, get_by_key}
+use Rattle.world_model.specs.Routes.{hold_item, recall_and_hold, unbind_name, forward, route_by, remove_by, remove_here, route_home, route_call, was_removed}
 use Rattle.route_laws.proofs.release.Parcels.{PlacesRise, parcels_among, among-both, no-more-held, with-place-rises}
 
 -- the leader's directory in a step

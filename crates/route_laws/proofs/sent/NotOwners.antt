@@ -16,7 +16,7 @@ use Rattle.node_model.specs.Cache.{forget}
 use Rattle.node_model.specs.Kinds.{is_same_name}
 use Rattle.world_model.specs.Calls.{ask_after, is_on_name, take_not_owner, with_forgotten}
 use Rattle.world_model.specs.Node.{Node, asked_here, under_way_as}
-use Rattle.world_model.specs.Routing.{route_call}
+use Rattle.world_model.specs.Routes.{route_call}
 use Rattle.world_model.specs.Step.{Step, send, step_to}
 use Rattle.world_model.specs.World.{World, world_after}
 use Rattle.world_laws.specs.Places.{InAsk, IsInHand, Beside, call_in}

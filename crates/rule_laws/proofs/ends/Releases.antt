@@ -25,7 +25,8 @@ use Rattle.node_model.specs.Spelling.{pack, read_deed}
 use Rattle.node_model.specs.Parcels.{read_deeds, fits_bodies, fits_if, fitting_bodies, has_own_row, may_end_with, is_over_but_for, is_held_none, are_rising}
 use Rattle.world_model.specs.Node.{Node, Left}
 use Rattle.world_model.specs.Step.{Step, step_to, with_directory}
-use Rattle.world_model.specs.Routing.{names_in, release}
+use Rattle.world_model.specs.Ends.{names_in}
+use Rattle.world_model.specs.Releases.{release}
 use Rattle.world_model.specs.Lives.{is_end, is_free_to_end, may_take, end_released, take_left}
 use Rattle.world_model.specs.Census.{brings}
 use Rattle.world_model.specs.World.{World, world_after, step}

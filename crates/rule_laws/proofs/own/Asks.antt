@@ -22,7 +22,7 @@ use Rattle.node_model.specs.Leases.{is_used_up, takes_number}
 use Rattle.world_model.specs.Calls.{is_for_others}
 use Rattle.world_model.specs.Node.{Node, can_run, is_leader}
 use Rattle.world_model.specs.Numbers.{make}
-use Rattle.world_model.specs.Routing.{route_call}
+use Rattle.world_model.specs.Routes.{route_call}
 use Rattle.world_model.specs.Starting.{ask, run, start_by, start_making, start_own, start_set}
 use Rattle.world_model.specs.Step.{Step, send, step_to}
 use Rattle.world_model.specs.World.{World, node_count}

@@ -17,7 +17,7 @@ use Rattle.node_model.specs.Caller.{start_call}
 use Rattle.node_model.specs.Kinds.{is_same_name}
 use Rattle.world_model.specs.Calls.{is_for_others}
 use Rattle.world_model.specs.Node.{Node, asked_here, can_run, holds}
-use Rattle.world_model.specs.Routing.{route_call}
+use Rattle.world_model.specs.Routes.{route_call}
 use Rattle.world_model.specs.Serving.{serve_asked}
 use Rattle.world_model.specs.Starting.{ask, request, run, start_by}
 use Rattle.world_model.specs.Step.{send, step_to}
