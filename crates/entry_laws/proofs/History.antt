@@ -22,7 +22,8 @@ use Rattle.kernel_laws.proofs.ValidLaws.{children_have_one_parent_lemma, reachab
 use Rattle.kernel_model.specs.Row.{Alive}
 use Rattle.kernel_model.specs.Kernel.{living_at}
 use Rattle.kernel_model.specs.Transition.{may_make}
-use Rattle.entry_laws.specs.Entering.{HasHistory, Makes, MayMake, entry_of}
+use Rattle.entry_laws.specs.Entering.{HasHistory, Makes, MayMake}
+use Rattle.node_model.specs.Entries.{entry_by}
 
 -- ---- what a history gives
 
@@ -92,10 +93,10 @@ forked-ordered s ps place call reply r = r
 pub history-goes-on : (script : Script) (journal : List Entry) (k : Kernel) (places : Places) (node pid : ℕ)
     (call : Call) (reply : Reply) (place : Place) (next : Kernel) → HasHistory script journal k places
     → get places pid ≡ Some place → IsDue place call → Makes k pid call reply next
-    → HasHistory script (journal ++ entry_of node pid call reply ∷ []) next
-    (places_after script places (entry_of node pid call reply) place)
+    → HasHistory script (journal ++ entry_by node pid call reply ∷ []) next
+    (places_after script places (entry_by node pid call reply) place)
 history-goes-on script journal k places node pid call reply place next h there due makes =
-    let e : Entry = entry_of node pid call reply
+    let e : Entry = entry_by node pid call reply
     in record {
       legal = replays-more opening k next journal e h.legal makes.step;
       fits = fits-more script (opening_places script) places journal e place h.fits there due
@@ -120,7 +121,7 @@ moved-is place call reply h = rw h refl
 -- the caller's place moves
 pub place-moves : (s : Script) (places : Places) (node pid : ℕ) (call : Call) (reply : Reply) (place : Place)
     → is_fork call ≡ false
-    → get (places_after s places (entry_of node pid call reply) place) pid ≡ Some (move_on place call (Some reply))
+    → get (places_after s places (entry_by node pid call reply) place) pid ≡ Some (move_on place call (Some reply))
 place-moves s places node pid call reply place h =
     ap (λ ps. get ps pid)
     (no-fork-places s (put places pid (move_on place call (Some reply))) place call (Some reply) h)
@@ -129,7 +130,7 @@ place-moves s places node pid call reply place h =
 -- and no other
 pub places-stay : (s : Script) (places : Places) (node pid : ℕ) (call : Call) (reply : Reply) (place : Place) (p : ℕ)
     → is_fork call ≡ false → p ≢ pid
-    → get (places_after s places (entry_of node pid call reply) place) p ≡ get places p
+    → get (places_after s places (entry_by node pid call reply) place) p ≡ get places p
 places-stay s places node pid call reply place p h apart =
     ap (λ ps. get ps p) (no-fork-places s (put places pid (move_on place call (Some reply))) place call (Some reply) h)
     ∙ get-put-other places pid (move_on place call (Some reply)) p apart
@@ -144,7 +145,7 @@ pub record ForkPlaces (s : Script) (places : Places) (pid block child : ℕ) (pl
 -- what a fork leaves of the places
 pub fork-places : (s : Script) (places : Places) (node pid block child : ℕ) (place : Place) → child ≢ pid
     → ForkPlaces s places pid block child place
-    (places_after s places (entry_of node pid (calls.Fork block) (replies.Num child)) place)
+    (places_after s places (entry_by node pid (calls.Fork block) (replies.Num child)) place)
 fork-places s places node pid block child place apart =
     let then : Place = place_after place (calls.Fork block) (Some (replies.Num child))
     in let begins : Place = block_place (block_at s block) (child_vars place)

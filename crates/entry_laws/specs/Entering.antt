@@ -181,10 +181,6 @@ pub data SameKind (before after : Body) : Type 0 where
 
 -- ---- the history
 
--- an entry of a process's call, which the node made
-abbrev pub entry_of : ℕ → ℕ → Call → Reply → Entry
-entry_of node pid call reply = record { pid = pid; call = call; outcome = reply_alone reply; by = node }
-
 -- the journal is legal and leads to the kernel, and it fits the script so far
 pub record HasHistory (script : Script) (journal : List Entry) (k : Kernel) (places : Places) : Type 0 where
   pub legal : Replays opening journal k

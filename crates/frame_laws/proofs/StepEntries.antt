@@ -26,10 +26,11 @@ use Rattle.node_model.specs.Kinds.{get_named, put_all}
 use Rattle.node_model.specs.Serving.{Served, has_read, no_such_name, serve}
 use Rattle.node_model.specs.Spelling.{pack}
 use Rattle.node_model.specs.Watches.{moves_to}
+use Rattle.node_model.specs.Entries.{entry_by}
 use Rattle.world_model.specs.Calls.{is_for_others}
 use Rattle.world_model.specs.Node.{Node, is_leader, under_way_as}
 use Rattle.world_model.specs.Serving.{grant, grant_held, move_to, note_read, serve_asked, serve_asked_with, serve_nobody}
-use Rattle.world_model.specs.Step.{Step, carry_out, enter, entry_by, reply_here, reply_to, send, step_to, with_deeds, with_node}
+use Rattle.world_model.specs.Step.{Step, carry_out, enter, reply_here, reply_to, send, step_to, with_deeds, with_node}
 use Rattle.world_laws.specs.Plays.{is_home_on}
 use Rattle.bound_laws.proofs.Parts.{all-both, of-map}
 use Rattle.bound_laws.proofs.StepParts.{answered-none, none-is}

@@ -3,6 +3,7 @@ pub mod Cache
 pub mod Caller
 pub mod Carrying
 pub mod Directory
+pub mod Entries
 pub mod Examples
 pub mod Kinds
 pub mod Leases

@@ -16,10 +16,11 @@ use Rattle.node_model.specs.Bodies.{Body, AQueue, Removed}
 use Rattle.node_model.specs.Directory.{place_name}
 use Rattle.world_model.specs.Node.{Leader, Node, first_node, opening_leader}
 use Rattle.world_model.specs.Keys.{bind}
-use Rattle.world_model.specs.Step.{entry_by, step_to, with_directory, with_leader}
+use Rattle.world_model.specs.Step.{step_to, with_directory, with_leader}
 use Rattle.world_model.specs.World.{opening_world}
 use Rattle.world_model.specs.Example.{line, block, script, entries_after, journal_of, at_rest_journal}
 use Rattle.node_model.specs.Spelling.{pack, read_deed, read_body, body_bytes, row_bytes, read_process, read_row, read_signals, read_family, read_queue, read_set}
+use Rattle.node_model.specs.Entries.{entry_by}
 use Rattle.signal_state.specs.Spelling.{signal_bytes}
 use Rattle.fork_wait.specs.Spelling.{family_bytes}
 use Rattle.fork_wait.specs.Reading.{family_at, numbers_at, all_ended_at, ended_at}

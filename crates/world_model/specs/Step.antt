@@ -7,10 +7,10 @@ use Rattle.pico_base.specs.declared.script.Script.{Script}
 use Rattle.rpc_frame.specs.declared.asked.Asked.{Asked}
 use Rattle.rpc_frame.specs.declared.frame.Frame.{Frame}
 use Rattle.rpc_frame.specs.declared.frame.Frame.TheVariants as frames
-use Rattle.kernel_model.specs.Effect.{reply_alone}
 use Rattle.node_model.specs.Directory.{Directory}
 use Rattle.node_model.specs.Caller.{answer_call}
 use Rattle.node_model.specs.Bodies.{Deeds}
+use Rattle.node_model.specs.Entries.{entry_by}
 use Rattle.world_model.specs.Node.{Node, Leader, under_way_as}
 
 -- the frames each with its receiver, in order
@@ -36,10 +36,6 @@ with_directory n directory = with_leader n (record n.leader { directory = direct
 
 abbrev pub send : Step → ℕ → Frame → Step
 send step to frame = record step { sends = step.sends ++ (to, frame) ∷ [] }
-
--- the entry of a carried-out call
-abbrev pub entry_by : ℕ → ℕ → Call → Reply → Entry
-entry_by node pid call reply = record { pid = pid; call = call; outcome = reply_alone reply; by = node }
 
 abbrev pub enter : Step → ℕ → Call → Reply → Step
 enter step pid call reply = record step { entries = step.entries ++ entry_by step.node.number pid call reply ∷ [] }

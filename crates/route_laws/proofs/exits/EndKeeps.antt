@@ -14,7 +14,7 @@ use Rattle.node_model.specs.declared.held.Held.{Held}
 use Rattle.node_model.specs.declared.held.Held.TheVariants.{Ending}
 use Rattle.node_model.specs.Directory.{Directory, At, place_of}
 use Rattle.world_model.specs.Node.{Node}
-use Rattle.world_model.specs.Step.{Step, with_node, with_deeds, with_directory, send, enter, entry_by}
+use Rattle.world_model.specs.Step.{Step, with_node, with_deeds, with_directory, send, enter}
 use Rattle.world_model.specs.Ends.{Releases, names_in, held_for_all, arrive_all, release_names, exit_here, end_by, end_process}
 use Rattle.world_model.specs.World.{World, node_count, world_after}
 use Rattle.world_laws.specs.Places.{InHand, Beside}
@@ -29,6 +29,7 @@ use Rattle.world_laws.proofs.Middles.{GrowsBy, changes-further}
 use Rattle.route_laws.proofs.hand.Owners.{owner-in-range}
 use Rattle.route_laws.proofs.exits.Arrivals.{Arrives, all-arrive}
 use Rattle.node_model.specs.Bodies.{Deeds}
+use Rattle.node_model.specs.Entries.{entry_by}
 use Rattle.route_laws.proofs.exits.Parcels.{hand-sender}
 use Rattle.route_laws.proofs.exits.Exits.{deeds_then, exits}
 use Rattle.route_laws.proofs.exits.LeaderExits.{leader_parcel, parent-at-leader, leader_entry, leader_beside, exit-at-leader}

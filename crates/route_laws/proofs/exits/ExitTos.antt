@@ -20,8 +20,9 @@ use Rattle.node_model.specs.Kinds.{kind_of, number_of, is_object, is_same_name, 
 use Rattle.node_model.specs.Directory.{Directory, has_deed_of, held_for, is_known}
 use Rattle.node_model.specs.Leases.{leases_hold}
 use Rattle.node_model.specs.Bodies.{Body, Deeds, body_in}
+use Rattle.node_model.specs.Entries.{entry_by}
 use Rattle.world_model.specs.Node.{Node, is_leader, is_born}
-use Rattle.world_model.specs.Step.{Step, step_to, with_deeds, enter, entry_by}
+use Rattle.world_model.specs.Step.{Step, step_to, with_deeds, enter}
 use Rattle.world_model.specs.Lives.{take_exit}
 use Rattle.world_model.specs.Ends.{names_in, exit_here}
 use Rattle.world_model.specs.Census.{brings}

@@ -18,7 +18,7 @@ use Rattle.kernel_model.specs.Kernel.{Kernel, Process, living_at}
 use Rattle.kernel_model.specs.Kernel as kernel
 use Rattle.kernel_model.specs.Fitting.{Place, Places, IsDue, move_on, places_after}
 use Rattle.kernel_model.specs.Script.{is_fork}
-use Rattle.entry_laws.specs.Entering.{HasHistory, HasRow, IsChildIn, IsChildOf, MayMake, entry_of}
+use Rattle.entry_laws.specs.Entering.{HasHistory, HasRow, IsChildIn, IsChildOf, MayMake}
 use Rattle.entry_laws.proofs.Bodies.{body-living}
 use Rattle.entry_laws.proofs.Ends.{MayEnd, EndsHere, ends-here, exit_changes, commits}
 use Rattle.entry_laws.proofs.History.{history-goes-on, may-make-from, place-moves, places-stay}
@@ -31,6 +31,7 @@ use Rattle.node_model.specs.Caller.{Caller, caller_place}
 use Rattle.node_model.specs.Directory.{has_deed_of}
 use Rattle.node_model.specs.Bodies.{Body, Living as LivingBody, Deeds, body_in, process_body}
 use Rattle.node_model.specs.Parcels.{ending_of, fitting_bodies}
+use Rattle.node_model.specs.Entries.{entry_by}
 use Rattle.world_model.specs.Step.{Step, with_deeds, enter}
 use Rattle.world_model.specs.Lives.{is_end}
 use Rattle.world_model.specs.Ends.{enter_exit, exit_with, exit_here}
@@ -282,7 +283,7 @@ module _ (script : Script) (w : World) (hand : List Held) (b : Beside) (holds : 
 
   -- the entry of the exit
   abbrev pub exit_entry : Entry
-  exit_entry = entry_of x parcel.pid parcel.call replies.Ended
+  exit_entry = entry_by x parcel.pid parcel.call replies.Ended
 
   -- and the places then
   abbrev pub places_then : Places

@@ -21,7 +21,7 @@ use Rattle.kernel_model.specs.Kernel.{Kernel, Process, living_at}
 use Rattle.kernel_model.specs.Kernel as kernel
 use Rattle.kernel_model.specs.Row.{Alive, EndedChild, Row, ended_child, lists}
 use Rattle.kernel_model.specs.Script.{IsSoundScript}
-use Rattle.entry_laws.specs.Entering.{HasHistory, entry_of, is_used_name}
+use Rattle.entry_laws.specs.Entering.{HasHistory, is_used_name}
 use Rattle.entry_laws.proofs.Bodies.{living-body}
 use Rattle.entry_laws.proofs.Ends.{EndBodies, EndsFirst, among-kept, ends-first, first-held, first-kept, gone_with, is_gone_of}
 use Rattle.entry_laws.proofs.History.{history-goes-on, place-moves, places-stay}
@@ -35,6 +35,7 @@ use Rattle.node_model.specs.Caller.{Caller, answer_call, caller_place, start_cal
 use Rattle.node_model.specs.Directory.{Directory, held_for, is_known}
 use Rattle.node_model.specs.Kinds.{for_kind, get_named, is_object, kind_of, number_of, put_all}
 use Rattle.node_model.specs.Parcels.{end_first, ending_of, may_end_with}
+use Rattle.node_model.specs.Entries.{entry_by}
 use Rattle.serve_laws.specs.Ends.{is_among}
 use Rattle.world_model.specs.Node.{Node, Leader, Stage, Living, Left, Over, can_run}
 use Rattle.world_model.specs.Lives.{is_end}
@@ -276,7 +277,7 @@ module _ (script : Script) (sound : IsSoundScript script) (w : World) (b : Besid
   -- the history
 
   abbrev entry : Entry
-  entry = entry_of 1 pid call replies.Ended
+  entry = entry_by 1 pid call replies.Ended
 
   abbrev places_now : Places
   places_now = places_after script b.places entry place
@@ -324,7 +325,7 @@ module _ (script : Script) (sound : IsSoundScript script) (w : World) (b : Besid
               stage = Over;
               deeds = put_all n.deeds (end_first process row);
             };
-        entries = entry_of number process call replies.Ended ∷ [];
+        entries = entry_by number process call replies.Ended ∷ [];
         sends = [];
       }
 
@@ -333,7 +334,7 @@ module _ (script : Script) (sound : IsSoundScript script) (w : World) (b : Besid
   middle =
       record {
         node = record n { caller = started; stage = Over; deeds = put_all n.deeds (end_first n.pid row) };
-        entries = entry_of n.number n.pid call replies.Ended ∷ [];
+        entries = entry_by n.number n.pid call replies.Ended ∷ [];
         sends = [];
       }
 
@@ -362,7 +363,7 @@ module _ (script : Script) (sound : IsSoundScript script) (w : World) (b : Besid
   first_over =
       record b {
         kernel = e.next;
-        places = places_after script b.places (entry_of 1 (b.pids 1) s.call replies.Ended)
+        places = places_after script b.places (entry_by 1 (b.pids 1) s.call replies.Ended)
             (caller_place script 1 (node_of w 1).caller);
       }
 

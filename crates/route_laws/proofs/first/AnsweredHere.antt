@@ -20,9 +20,10 @@ use Rattle.node_model.specs.Kinds.{for_kind}
 use Rattle.node_model.specs.Directory.{held_for}
 use Rattle.node_model.specs.Bodies.{body_in}
 use Rattle.node_model.specs.Caller.{Caller, answer_call, caller_place}
+use Rattle.node_model.specs.Entries.{entry_by}
 use Rattle.world_model.specs.Node.{Node, Leader, Stage, Unborn, Living, Leaving, Left, Over}
 use Rattle.world_model.specs.World.{World, node_count}
-use Rattle.entry_laws.specs.Entering.{HasHistory, Makes, entry_of}
+use Rattle.entry_laws.specs.Entering.{HasHistory, Makes}
 use Rattle.entry_laws.proofs.History.{history-goes-on, moved-is, place-moves}
 use Rattle.world_laws.specs.Places.{CallPlace, DeedPlace, Idle, InCheckpoint, Beside, call_in}
 use Rattle.world_laws.specs.Sights.{node_of, directory_of, is_born_in}
@@ -110,12 +111,12 @@ module _ (script : Script) (w : World) (ticket pid : ℕ) (call : Call) (rest : 
 
   module _ (reply : Reply) (next : Kernel) (makes : Makes b.kernel pid call reply next) (node : ℕ)
       (by-pid : EntryLeaves b.kernel b.places pid next
-      (places_after script b.places (entry_of node pid call reply) (caller_place script 1 was)))
+      (places_after script b.places (entry_by node pid call reply) (caller_place script 1 was)))
       (plain : IsPlainCall call) (deed : Name → DeedPlace) (n : Node) (w' : World)
       (g : GoesOn script w w' b next call reply deed n)
-      (c : Changes script 1 w w' n [] [] (entry_of node pid call reply ∷ [])) where
+      (c : Changes script 1 w w' n [] [] (entry_by node pid call reply ∷ [])) where
     abbrev entry : Entry
-    entry = entry_of node pid call reply
+    entry = entry_by node pid call reply
 
     abbrev place : Place
     place = caller_place script 1 was

@@ -15,9 +15,10 @@ use Rattle.node_model.specs.Kinds.{for_kind, get_named}
 use Rattle.node_model.specs.Directory.{Directory, held_for}
 use Rattle.node_model.specs.Bodies.{body_in}
 use Rattle.node_model.specs.Caller.{answer_call, caller_place}
+use Rattle.node_model.specs.Entries.{entry_by}
 use Rattle.world_model.specs.Node.{Node}
 use Rattle.world_model.specs.World.{World, node_count}
-use Rattle.entry_laws.specs.Entering.{Enters, entry_of}
+use Rattle.entry_laws.specs.Entering.{Enters}
 use Rattle.entry_laws.proofs.Numbers.{used-kept}
 use Rattle.world_laws.specs.Places.{Idle, InCheckpoint, InTable, Beside, call_in}
 use Rattle.world_laws.specs.Sights.{node_of, directory_of, is_born_in}
@@ -53,14 +54,14 @@ module _ (script : Script) (w : World) (ticket pid : ℕ) (call : Call) (rest : 
     (holds : Holds script w (Request (own_asked ticket pid call) ∷ rest) b) (high : 1 ≤ node_count script)
     (reply : Reply) (next : Kernel) (enters : Enters b.kernel pid call reply None next) (node : ℕ)
     (by-pid : EntryLeaves b.kernel b.places pid next
-    (places_after script b.places (entry_of node pid call reply) (caller_place script 1 (node_of w 1).caller)))
+    (places_after script b.places (entry_by node pid call reply) (caller_place script 1 (node_of w 1).caller)))
     (plain : IsPlainCall call) (n : Node) (k : KeepsRest script w b next call reply n) (w' : World)
-    (c : Changes script 1 w w' n [] [] (entry_of node pid call reply ∷ [])) where
+    (c : Changes script 1 w w' n [] [] (entry_by node pid call reply ∷ [])) where
   abbrev hand : List Held
   hand = Request (own_asked ticket pid call) ∷ rest
 
   abbrev entry : Entry
-  entry = entry_of node pid call reply
+  entry = entry_by node pid call reply
 
   -- what stands beside the world then
   abbrev pub after_kept : Beside

@@ -9,13 +9,14 @@ use Rattle.pico_base.specs.declared.reply.Reply.{Reply}
 use Rattle.pico_base.specs.declared.reply.Reply.TheVariants as replies
 use Rattle.pico_base.specs.declared.script.Script.{Script}
 use Rattle.rpc_frame.specs.declared.asked.Asked.{Asked}
-use Rattle.entry_laws.specs.Entering.{HasKeys, entry_of}
+use Rattle.entry_laws.specs.Entering.{HasKeys}
 use Rattle.node_model.specs.declared.held.Held.{Held}
 use Rattle.node_model.specs.declared.held.Held.TheVariants.{Request}
 use Rattle.node_model.specs.Kinds.{number_of, put_named}
 use Rattle.node_model.specs.Bodies.{Body}
 use Rattle.node_model.specs.Caller.{answer_call}
 use Rattle.node_model.specs.Directory.{Directory, place_name}
+use Rattle.node_model.specs.Entries.{entry_by}
 use Rattle.world_model.specs.Node.{Leader, Node}
 use Rattle.world_model.specs.Numbers.{Taken, take_number}
 use Rattle.world_model.specs.Step.{Step, with_node}
@@ -66,7 +67,7 @@ module _ (script : Script) (v : World) (s : Step) (ticket pid : ℕ) (call : Cal
   directory = m.takes.directory
 
   abbrev entry : Entry
-  entry = entry_of s.node.number pid call reply
+  entry = entry_by s.node.number pid call reply
 
   here : n ≡ s.node
   here = own-node-here script v s ticket pid call rest b holds high

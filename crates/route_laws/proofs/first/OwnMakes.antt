@@ -11,7 +11,7 @@ use Rattle.pico_base.specs.declared.reply.Reply.TheVariants as replies
 use Rattle.pico_base.specs.declared.script.Script.{Script}
 use Rattle.kernel_model.specs.Fitting.{Places, places_after}
 use Rattle.kernel_model.specs.Kernel.{Kernel}
-use Rattle.entry_laws.specs.Entering.{HasKeys, entry_of}
+use Rattle.entry_laws.specs.Entering.{HasKeys}
 use Rattle.entry_laws.proofs.Fresh.{MakesObject}
 use Rattle.entry_laws.proofs.Numbers.{used-others}
 use Rattle.node_model.specs.declared.held.Held.{Held}
@@ -20,6 +20,7 @@ use Rattle.node_model.specs.Kinds.{number_of}
 use Rattle.node_model.specs.Bodies.{Body}
 use Rattle.node_model.specs.Caller.{Caller, answer_call, caller_place}
 use Rattle.node_model.specs.Directory.{Directory, held_for, place_name}
+use Rattle.node_model.specs.Entries.{entry_by}
 use Rattle.world_model.specs.Node.{Node}
 use Rattle.world_model.specs.World.{World, node_count}
 use Rattle.world_laws.specs.Places.{Beside, CallPlace, Idle, InTable, call_in, deed_in}
@@ -70,7 +71,7 @@ module _ (script : Script) (w : World) (ticket pid : ℕ) (call : Call) (rest : 
   own_made_node = made_node n kind m.takes.numbers m.takes.directory name body caller-now keys
 
   abbrev entry : Entry
-  entry = entry_of node pid call reply
+  entry = entry_by node pid call reply
 
   abbrev places-now : Places
   places-now = places_after script b.places entry (caller_place script 1 n.caller)

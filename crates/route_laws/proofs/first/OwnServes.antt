@@ -18,12 +18,12 @@ use Rattle.node_model.specs.Caller.{answer_call, caller_place}
 use Rattle.node_model.specs.Carrying.{is_served}
 use Rattle.node_model.specs.Serving.{has_read, serve}
 use Rattle.node_model.specs.Watches.{Watches, moves_to, watch_over, with_read}
+use Rattle.node_model.specs.Entries.{entry_by}
 use Rattle.world_model.specs.Node.{Node, Leader}
 use Rattle.world_model.specs.Step.{Step, carry_out, with_deeds}
 use Rattle.world_model.specs.Serving.{move_to, note_read, serve_asked, serve_asked_with}
 use Rattle.world_model.specs.World.{World, node_count, world_after}
 use Rattle.serve_laws.specs.Served.{served_as}
-use Rattle.entry_laws.specs.Entering.{entry_of}
 use Rattle.entry_laws.proofs.Holding.{ServesHere, served_deeds}
 use Rattle.world_laws.specs.Places.{Beside, Idle, call_in}
 use Rattle.world_laws.specs.Sights.{node_of}
@@ -105,7 +105,7 @@ module _ (script : Script) (v : World) (s : Step) (ticket pid : ℕ) (call : Cal
           watches = watched;
           leader = change s.node.leader;
         };
-        entries = s.entries ++ entry_of s.node.number pid call reply ∷ [];
+        entries = s.entries ++ entry_by s.node.number pid call reply ∷ [];
         sends = s.sends;
       }
 
@@ -114,7 +114,7 @@ module _ (script : Script) (v : World) (s : Step) (ticket pid : ℕ) (call : Cal
   own_served_beside =
       record b {
         kernel = own_next script w ticket pid call rest b holds high name on own-is-served at;
-        places = places_after script b.places (entry_of s.node.number pid call reply)
+        places = places_after script b.places (entry_by s.node.number pid call reply)
             (caller_place script 1 n.caller);
         call = call_in b.call 1 Idle;
       }
@@ -158,7 +158,7 @@ module _ (script : Script) (v : World) (s : Step) (ticket pid : ℕ) (call : Cal
   module _ (watched : Watches) (change : Leader → Leader) (same : (change n.leader).directory ≡ n.leader.directory)
       (keys : KeysHold (change n.leader) own_served_beside.kernel) where
     abbrev entry : Entry
-    entry = entry_of s.node.number pid call reply
+    entry = entry_by s.node.number pid call reply
 
     changes : Changes script 1 w (world_after v 1 (own_served_step watched change))
         (own_node script w ticket pid call rest b holds high name on own-is-served at s.node.number watched

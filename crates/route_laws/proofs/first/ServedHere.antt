@@ -23,12 +23,13 @@ use Rattle.node_model.specs.Caller.{answer_call, caller_place}
 use Rattle.node_model.specs.Carrying.{is_served}
 use Rattle.node_model.specs.Serving.{name_for, serve}
 use Rattle.node_model.specs.Watches.{Watches}
+use Rattle.node_model.specs.Entries.{entry_by}
 use Rattle.world_model.specs.Node.{Node, Leader, Stage, Living}
 use Rattle.world_model.specs.World.{World, node_count}
 use Rattle.number_maps.specs.Maps.{get}
 use Rattle.serve_laws.specs.Laws.{is_found}
 use Rattle.serve_laws.specs.Served.{served_as}
-use Rattle.entry_laws.specs.Entering.{HasKeys, MayMake, entry_of, removed_queue, removed_set, unless_removed}
+use Rattle.entry_laws.specs.Entering.{HasKeys, MayMake, removed_queue, removed_set, unless_removed}
 use Rattle.entry_laws.proofs.Bodies.{body-living, living-body}
 use Rattle.entry_laws.proofs.Holding.{ServesHere, served_deeds, serves-here}
 use Rattle.entry_laws.proofs.Others.{others-lived, others-still-may}
@@ -166,7 +167,7 @@ module _ (script : Script) (w : World) (ticket pid : ℕ) (call : Call) (rest : 
         }
 
     leaves : EntryLeaves b.kernel b.places pid next
-        (places_after script b.places (entry_of node pid call own_reply) was)
+        (places_after script b.places (entry_by node pid call own_reply) was)
     leaves =
         served-leaves b.kernel pid call name may own_carries served named script b.places node 1 n.caller
         (place-in-hand script w (own_asked ticket pid call) rest b holds low high)
@@ -267,13 +268,13 @@ module _ (script : Script) (w : World) (ticket pid : ℕ) (call : Call) (rest : 
               (λ is. table-or-checkpoint 1 to (sym at.deed_is ∙ ap b.deed (sym is) ∙ e));
         }
 
-    module _ (w' : World) (c : Changes script 1 w w' own_node [] [] (entry_of node pid call own_reply ∷ [])) where
+    module _ (w' : World) (c : Changes script 1 w w' own_node [] [] (entry_by node pid call own_reply ∷ [])) where
       -- what stands beside the world then
       abbrev pub after_served : Beside
       after_served =
           record b {
             kernel = next;
-            places = places_after script b.places (entry_of node pid call own_reply) was;
+            places = places_after script b.places (entry_by node pid call own_reply) was;
             call = call_in b.call 1 Idle;
           }
 

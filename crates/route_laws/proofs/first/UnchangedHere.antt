@@ -11,11 +11,12 @@ use Rattle.kernel_model.specs.Fitting.{Place, places_after}
 use Rattle.node_model.specs.declared.held.Held.{Held}
 use Rattle.node_model.specs.declared.held.Held.TheVariants.{Request}
 use Rattle.node_model.specs.Caller.{answer_call, caller_place}
+use Rattle.node_model.specs.Entries.{entry_by}
 use Rattle.world_model.specs.Node.{Node, Stage, Living, under_way_as}
 use Rattle.world_model.specs.Step.{Step, carry_out, enter, reply_here, send, with_node}
 use Rattle.world_model.specs.Routes.{route_call}
 use Rattle.world_model.specs.World.{World, node_count, world_after}
-use Rattle.entry_laws.specs.Entering.{HasKeys, entry_of}
+use Rattle.entry_laws.specs.Entering.{HasKeys}
 use Rattle.entry_laws.proofs.Fresh.{LeavesAll}
 use Rattle.entry_laws.proofs.Keys.{keys-kept}
 use Rattle.world_laws.specs.Places.{Idle, Beside, call_in}
@@ -91,7 +92,7 @@ module _ (script : Script) (v : World) (s : Step) (ticket pid : ℕ) (call : Cal
     after_node = record n { caller = answer_call script 1 n.caller call reply }
 
     leaves : EntryLeaves b.kernel b.places pid l.next
-        (places_after script b.places (entry_of s.node.number pid call reply) place)
+        (places_after script b.places (entry_by s.node.number pid call reply) place)
     leaves =
         unchanged-leaves b.kernel pid call reply
         (may-make-in-hand script w (own_asked ticket pid call) rest b holds low high) l plain.no_fork plain.no_exit
@@ -141,13 +142,13 @@ module _ (script : Script) (v : World) (s : Step) (ticket pid : ℕ) (call : Cal
         }
 
     changes : Changes script 1 w (world_after v 1 (gone_on script s pid call reply)) after_node [] []
-        (entry_of s.node.number pid call reply ∷ [])
+        (entry_by s.node.number pid call reply ∷ [])
     changes =
         subst (λ (m : Node). Changes script 1 w (world_after v 1 (gone_on script s pid call reply)) m [] []
-        (entry_of s.node.number pid call reply ∷ []))
+        (entry_by s.node.number pid call reply ∷ []))
         (ap (λ (m : Node). record m { caller = answer_call script 1 m.caller call reply }) (sym own-node-here))
         (changes-further script v 1 s (gone_on script s pid call reply) []
-        (entry_of s.node.number pid call reply ∷ []) holds.shape low high tt
+        (entry_by s.node.number pid call reply ∷ []) holds.shape low high tt
         (record { sends_are = sym (append-nil s.sends); entries_are = refl }))
 
     -- what stands beside the world then
@@ -155,7 +156,7 @@ module _ (script : Script) (v : World) (s : Step) (ticket pid : ℕ) (call : Cal
     after_unchanged =
         record b {
           kernel = l.next;
-          places = places_after script b.places (entry_of s.node.number pid call reply) place;
+          places = places_after script b.places (entry_by s.node.number pid call reply) place;
           call = call_in b.call 1 Idle;
         }
 

@@ -27,10 +27,11 @@ use Rattle.node_model.specs.Directory.{Directory, held_for}
 use Rattle.node_model.specs.Bodies.{body_in}
 use Rattle.node_model.specs.Caller.{Caller, caller_place}
 use Rattle.node_model.specs.Carrying.{is_served}
+use Rattle.node_model.specs.Entries.{entry_by}
 use Rattle.world_model.specs.Node.{Node, Stage, Unborn, Living, Leaving, Left, Over, Leader}
 use Rattle.world_model.specs.Calls.{is_for_others}
 use Rattle.world_model.specs.World.{World, node_count}
-use Rattle.entry_laws.specs.Entering.{Enters, HasHistory, MayMake, entry_of}
+use Rattle.entry_laws.specs.Entering.{Enters, HasHistory, MayMake}
 use Rattle.entry_laws.proofs.History.{history-goes-on, may-make-from, moved-is, place-moves}
 use Rattle.entry_laws.proofs.Numbers.{used-kept}
 use Rattle.world_laws.specs.Places.{CallPlace, InTable, InCheckpoint, InAnswer, Beside, call_in}
@@ -179,15 +180,15 @@ module _ (script : Script) (w : World) (asked : Asked) (rest : List Held) (b : B
 
   module _ (reply : Reply) (next : Kernel) (enters : Enters b.kernel asked.pid asked.call reply None next) (node : ℕ)
       (by-pid : EntryLeaves b.kernel b.places asked.pid next
-      (places_after script b.places (entry_of node asked.pid asked.call reply) (caller_place script p x.caller)))
+      (places_after script b.places (entry_by node asked.pid asked.call reply) (caller_place script p x.caller)))
       (plain : IsPlainCall asked.call) (other : p ≢ 1) (n : Node) (a : LeaderAnswers script w b next n) (w' : World)
       (c : Changes script 1 w w' n [] ((p, frames.Answer asked.ticket reply) ∷ [])
-      (entry_of node asked.pid asked.call reply ∷ [])) where
+      (entry_by node asked.pid asked.call reply ∷ [])) where
     abbrev sends : List (ℕ × Frame)
     sends = (p, frames.Answer asked.ticket reply) ∷ []
 
     abbrev entry : Entry
-    entry = entry_of node asked.pid asked.call reply
+    entry = entry_by node asked.pid asked.call reply
 
     abbrev place : Place
     place = caller_place script p x.caller

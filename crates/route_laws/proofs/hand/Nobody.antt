@@ -9,9 +9,9 @@ use Rattle.kernel_model.specs.Fitting.{Place, places_after}
 use Rattle.node_model.specs.declared.held.Held.{Held}
 use Rattle.node_model.specs.declared.held.Held.TheVariants.{Request}
 use Rattle.node_model.specs.Caller.{Caller, caller_place}
+use Rattle.node_model.specs.Entries.{entry_by}
 use Rattle.world_model.specs.Node.{Node}
 use Rattle.world_model.specs.World.{World, node_count}
-use Rattle.entry_laws.specs.Entering.{entry_of}
 use Rattle.entry_laws.proofs.Fresh.{LeavesAll}
 use Rattle.entry_laws.proofs.Keys.{keys-kept}
 use Rattle.world_laws.specs.Places.{InAnswer, Beside, call_in}
@@ -31,7 +31,7 @@ module _ (script : Script) (w : World) (asked : Asked) (rest : List Held) (b : B
     (l : LeavesAll b.kernel asked.pid asked.call reply) (plain : IsPlainCall asked.call) (other : asked.caller ≢ 1)
     (node : ℕ) (w' : World)
     (c : Changes script 1 w w' (node_of w 1) [] ((asked.caller, frames.Answer asked.ticket reply) ∷ [])
-    (entry_of node asked.pid asked.call reply ∷ [])) where
+    (entry_by node asked.pid asked.call reply ∷ [])) where
   abbrev n : Node
   n = node_of w 1
 
@@ -45,12 +45,12 @@ module _ (script : Script) (w : World) (asked : Asked) (rest : List Held) (b : B
   moved =
       record b {
         kernel = l.next;
-        places = places_after script b.places (entry_of node asked.pid asked.call reply) place;
+        places = places_after script b.places (entry_by node asked.pid asked.call reply) place;
         call = call_in b.call asked.caller (InAnswer 1 reply);
       }
 
   leaves : EntryLeaves b.kernel b.places asked.pid l.next
-      (places_after script b.places (entry_of node asked.pid asked.call reply) place)
+      (places_after script b.places (entry_by node asked.pid asked.call reply) place)
   leaves =
       unchanged-leaves b.kernel asked.pid asked.call reply
       (may-make-in-hand script w asked rest b holds low high) l plain.no_fork plain.no_exit plain.not_killed script

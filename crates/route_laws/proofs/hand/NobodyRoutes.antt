@@ -23,10 +23,11 @@ use Rattle.node_model.specs.Serving.{name_for, name_in, no_such_name}
 use Rattle.world_model.specs.Node.{Node, under_way_as}
 use Rattle.world_model.specs.Step.{Step, send, enter, carry_out, reply_here}
 use Rattle.world_model.specs.World.{World, node_count, world_after}
-use Rattle.entry_laws.specs.Entering.{entry_of, is_used_name}
+use Rattle.entry_laws.specs.Entering.{is_used_name}
 use Rattle.entry_laws.proofs.Fresh.{LeavesAll, nobody}
 use Rattle.kernel_model.specs.Fitting.{places_after}
 use Rattle.node_model.specs.Caller.{Caller, caller_place}
+use Rattle.node_model.specs.Entries.{entry_by}
 use Rattle.world_laws.specs.Places.{InAnswer, Beside, call_in}
 use Rattle.world_laws.specs.Sights.{node_of, directory_of, is_born_in}
 use Rattle.world_laws.specs.Plays.{believed, placed_in, told}
@@ -143,7 +144,7 @@ module _ (script : Script) (v : World) (s : Step) (asked : Asked) (rest : List H
   abbrev pub replied : Reply → Beside → Beside
   replied reply beside =
       record beside {
-        places = places_after script b.places (entry_of s.node.number asked.pid asked.call reply)
+        places = places_after script b.places (entry_by s.node.number asked.pid asked.call reply)
             (caller_place script asked.caller caller);
         call = call_in b.call asked.caller (InAnswer 1 reply);
       }
@@ -163,14 +164,14 @@ module _ (script : Script) (v : World) (s : Step) (asked : Asked) (rest : List H
   pub answer-changes : (reply : Reply)
       → Changes script 1 w (world_after v 1 (answered reply)) (node_of w 1) []
       ((asked.caller, frames.Answer asked.ticket reply) ∷ [])
-      (entry_of s.node.number asked.pid asked.call reply ∷ [])
+      (entry_by s.node.number asked.pid asked.call reply ∷ [])
   answer-changes reply =
       subst (λ (m : Node). Changes script 1 w (world_after v 1 (answered reply)) m []
       ((asked.caller, frames.Answer asked.ticket reply) ∷ [])
-      (entry_of s.node.number asked.pid asked.call reply ∷ []))
+      (entry_by s.node.number asked.pid asked.call reply ∷ []))
       (sym (leader-here script v s asked rest b holds low high))
       (changes-further script v 1 s (answered reply) ((asked.caller, frames.Answer asked.ticket reply) ∷ [])
-      (entry_of s.node.number asked.pid asked.call reply ∷ []) holds.shape (omega arith) (omega (arith, low, high))
+      (entry_by s.node.number asked.pid asked.call reply ∷ []) holds.shape (omega arith) (omega (arith, low, high))
       (record { low = low; high = high }, tt) (record { sends_are = refl; entries_are = refl }))
 
   module _ (never : NeverWaits script) (name : Name) (on : IsOn name (home_of asked.pid asked.call))

@@ -26,10 +26,11 @@ use Rattle.node_model.specs.Bodies.{Body, Living as LivingBody, Deeds, body_in}
 use Rattle.node_model.specs.Caller.{Caller, caller_place}
 use Rattle.node_model.specs.Carrying.{is_served}
 use Rattle.node_model.specs.Serving.{name_for, name_in}
+use Rattle.node_model.specs.Entries.{entry_by}
 use Rattle.world_model.specs.Node.{Node, Stage, Unborn, Living, Leaving, Left, Over}
 use Rattle.world_model.specs.World.{World, node_count}
 use Rattle.serve_laws.specs.Laws.{is_found}
-use Rattle.entry_laws.specs.Entering.{MayMake, entry_of, removed_queue, removed_set, unless_removed}
+use Rattle.entry_laws.specs.Entering.{MayMake, removed_queue, removed_set, unless_removed}
 use Rattle.entry_laws.proofs.Bodies.{body-living, living-body}
 use Rattle.entry_laws.proofs.Holding.{ServesHere, served_deeds, serves-here}
 use Rattle.entry_laws.proofs.Keys.{keys-kept}
@@ -159,9 +160,9 @@ module _ (script : Script) (w : World) (asked : Asked) (rest : List Held) (b : B
 
   module _ (node : ℕ) (w' : World)
       (c : Changes script 1 w w' after_node [] ((asked.caller, frames.Answer asked.ticket reply) ∷ [])
-      (entry_of node asked.pid asked.call reply ∷ [])) where
+      (entry_by node asked.pid asked.call reply ∷ [])) where
     leaves : EntryLeaves b.kernel b.places asked.pid next
-        (places_after script b.places (entry_of node asked.pid asked.call reply) was)
+        (places_after script b.places (entry_by node asked.pid asked.call reply) was)
     leaves =
         served-leaves b.kernel asked.pid asked.call name may carries served named script b.places node asked.caller
         caller (place-in-hand script w asked rest b holds low high) (due-in-hand script w asked rest b holds low high)
@@ -277,7 +278,7 @@ module _ (script : Script) (w : World) (asked : Asked) (rest : List Held) (b : B
     names : (m : Name) → NameHolds script b.pids (is_born_in w') m
         (name_sight script w' rest (record b {
           kernel = next;
-          places = places_after script b.places (entry_of node asked.pid asked.call reply) was;
+          places = places_after script b.places (entry_by node asked.pid asked.call reply) was;
           call = call_in b.call asked.caller (InAnswer 1 reply);
         }) m)
     names m =
@@ -294,7 +295,7 @@ module _ (script : Script) (w : World) (asked : Asked) (rest : List Held) (b : B
     -- The name has the kernel's body, and the reply is on its way.
     pub served-keeps : Holds script w' rest (record b {
       kernel = next;
-      places = places_after script b.places (entry_of node asked.pid asked.call reply) was;
+      places = places_after script b.places (entry_by node asked.pid asked.call reply) was;
       call = call_in b.call asked.caller (InAnswer 1 reply);
     })
     served-keeps =

@@ -18,6 +18,7 @@ use Rattle.node_model.specs.Directory.{Directory, At, place_of, maker, maker_sta
 use Rattle.node_model.specs.Caller.{Caller, caller_place}
 use Rattle.node_model.specs.Carrying.{is_served}
 use Rattle.node_model.specs.Serving.{has_read, serve}
+use Rattle.node_model.specs.Entries.{entry_by}
 use Rattle.world_model.specs.Node.{Node, under_way_as}
 use Rattle.world_model.specs.Step.{Step, send, enter, carry_out, reply_here, with_deeds}
 use Rattle.world_model.specs.Serving.{note_read, serve_asked, serve_asked_with}
@@ -25,7 +26,7 @@ use Rattle.world_model.specs.Routes.{forward, route_call, route_home}
 use Rattle.world_model.specs.Routes as routing
 use Rattle.world_model.specs.World.{World, node_count, world_after}
 use Rattle.serve_laws.specs.Served.{served_as}
-use Rattle.entry_laws.specs.Entering.{entry_of, removed_queue, removed_set}
+use Rattle.entry_laws.specs.Entering.{removed_queue, removed_set}
 use Rattle.entry_laws.proofs.Holding.{ServesHere, served_deeds}
 use Rattle.world_laws.specs.Places.{InAnswer, Beside, call_in}
 use Rattle.world_laws.specs.Sights.{node_of, directory_of}
@@ -101,7 +102,7 @@ module _ (script : Script) (v : World) (s : Step) (asked : Asked) (rest : List H
   served_beside =
       record b {
         kernel = served-here.carries.next;
-        places = places_after script b.places (entry_of s.node.number asked.pid asked.call reply_of)
+        places = places_after script b.places (entry_by s.node.number asked.pid asked.call reply_of)
             (caller_place script asked.caller caller);
         call = call_in b.call asked.caller (InAnswer 1 reply_of);
       }
@@ -143,14 +144,14 @@ module _ (script : Script) (v : World) (s : Step) (asked : Asked) (rest : List H
   pub served-changes : Changes script 1 w (world_after v 1 served_step)
       (record (node_of w 1) { deeds = served_deeds (node_of w 1).deeds name served-here.left reply_of }) []
       ((asked.caller, frames.Answer asked.ticket reply_of) ∷ [])
-      (entry_of s.node.number asked.pid asked.call reply_of ∷ [])
+      (entry_by s.node.number asked.pid asked.call reply_of ∷ [])
   served-changes =
       subst (λ (m : Node). Changes script 1 w (world_after v 1 served_step) m []
       ((asked.caller, frames.Answer asked.ticket reply_of) ∷ [])
-      (entry_of s.node.number asked.pid asked.call reply_of ∷ []))
+      (entry_by s.node.number asked.pid asked.call reply_of ∷ []))
       (ap (λ (m : Node). record m { deeds = served_deeds m.deeds name served-here.left reply_of }) (sym here))
       (changes-further script v 1 s served_step ((asked.caller, frames.Answer asked.ticket reply_of) ∷ [])
-      (entry_of s.node.number asked.pid asked.call reply_of ∷ []) holds.shape (omega arith) (omega (arith, low, high))
+      (entry_by s.node.number asked.pid asked.call reply_of ∷ []) holds.shape (omega arith) (omega (arith, low, high))
       (record { low = low; high = high }, tt) (record { sends_are = refl; entries_are = refl }))
 
   -- the directory is the same

@@ -9,11 +9,11 @@ use Rattle.pico_base.specs.declared.script.Script.{Script}
 use Rattle.pico_base.specs.Home.{home_of}
 use Rattle.rpc_frame.specs.declared.asked.Asked.{Asked}
 use Rattle.rpc_frame.specs.declared.frame.Frame.TheVariants as frames
-use Rattle.entry_laws.specs.Entering.{entry_of}
 use Rattle.node_model.specs.declared.held.Held.{Held}
 use Rattle.node_model.specs.declared.held.Held.TheVariants.{Request}
 use Rattle.node_model.specs.Directory.{has_more}
 use Rattle.node_model.specs.Kinds.{number_of}
+use Rattle.node_model.specs.Entries.{entry_by}
 use Rattle.world_model.specs.Node.{Node, under_way_as}
 use Rattle.world_model.specs.Step.{Step, carry_out, enter, reply_here, send, with_node}
 use Rattle.world_model.specs.Routes.{route_home}
@@ -101,10 +101,10 @@ module _ (script : Script) (v : World) (s : Step) (asked : Asked) (rest : List H
 
     changes : Changes script 1 w (world_after v 1 next) after []
         ((asked.caller, frames.Answer asked.ticket reply) ∷ [])
-        (entry_of after.number asked.pid asked.call reply ∷ [])
+        (entry_by after.number asked.pid asked.call reply ∷ [])
     changes =
         changes-further script v 1 s next ((asked.caller, frames.Answer asked.ticket reply) ∷ [])
-        (entry_of after.number asked.pid asked.call reply ∷ []) holds.shape (omega arith) high-one
+        (entry_by after.number asked.pid asked.call reply ∷ []) holds.shape (omega arith) high-one
         (record { low = low; high = high }, tt) (record { sends_are = refl; entries_are = refl })
 
     -- A get that makes something: that is at the leader, and the reply is on its way.

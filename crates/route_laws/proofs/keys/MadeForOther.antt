@@ -18,7 +18,7 @@ use Rattle.rpc_frame.specs.declared.frame.Frame.TheVariants as frames
 use Rattle.number_maps.specs.Maps.{get}
 use Rattle.kernel_model.specs.Kernel.{Kernel, living_at}
 use Rattle.kernel_model.specs.Fitting.{Place, Places, place_after, places_after}
-use Rattle.entry_laws.specs.Entering.{HasHistory, HasKeys, entry_of}
+use Rattle.entry_laws.specs.Entering.{HasHistory, HasKeys}
 use Rattle.entry_laws.proofs.Fresh.{MakesObject}
 use Rattle.entry_laws.proofs.History.{history-goes-on, moved-is, place-moves}
 use Rattle.entry_laws.proofs.Numbers.{used-others}
@@ -28,6 +28,7 @@ use Rattle.node_model.specs.Kinds.{number_of}
 use Rattle.node_model.specs.Bodies.{Body}
 use Rattle.node_model.specs.Caller.{Caller, caller_place}
 use Rattle.node_model.specs.Directory.{Directory, held_for, place_name}
+use Rattle.node_model.specs.Entries.{entry_by}
 use Rattle.world_model.specs.Calls.{is_for_others}
 use Rattle.world_model.specs.Node.{Leader, Node, Stage, Unborn}
 use Rattle.world_model.specs.World.{World, node_count}
@@ -65,7 +66,7 @@ module _ (script : Script) (w : World) (asked : Asked) (rest : List Held) (b : B
     (c : Changes script 1 w w'
     (made_node (node_of w 1) kind m.takes.numbers m.takes.directory name body (node_of w 1).caller keys) []
     ((asked.caller, frames.Answer asked.ticket (replies.Num (number_of name))) ∷ [])
-    (entry_of node asked.pid asked.call (replies.Num (number_of name)) ∷ [])) where
+    (entry_by node asked.pid asked.call (replies.Num (number_of name)) ∷ [])) where
   abbrev hand : List Held
   hand = Request asked ∷ rest
 
@@ -97,7 +98,7 @@ module _ (script : Script) (w : World) (asked : Asked) (rest : List Held) (b : B
   after = made_node n kind m.takes.numbers m.takes.directory name body n.caller keys
 
   abbrev entry : Entry
-  entry = entry_of node asked.pid asked.call reply
+  entry = entry_by node asked.pid asked.call reply
 
   abbrev sends : List (ℕ × Frame)
   sends = (p, frames.Answer asked.ticket reply) ∷ []

@@ -12,7 +12,7 @@ use Rattle.rpc_frame.specs.declared.asked.Asked.{Asked}
 use Rattle.rpc_frame.specs.declared.frame.Frame.TheVariants as frames
 use Rattle.kernel_model.specs.Kernel.{Kernel}
 use Rattle.kernel_model.specs.Fitting.{Place, Places, places_after}
-use Rattle.entry_laws.specs.Entering.{MayMake, entry_of}
+use Rattle.entry_laws.specs.Entering.{MayMake}
 use Rattle.entry_laws.proofs.Holding.{ServesHere, served_deeds}
 use Rattle.node_model.specs.declared.held.Held.{Held}
 use Rattle.node_model.specs.declared.held.Held.TheVariants.{Request}
@@ -21,6 +21,7 @@ use Rattle.node_model.specs.Caller.{Caller, caller_place}
 use Rattle.node_model.specs.Directory.{At, Directory, maker, maker_stays, place_of, route, route_by}
 use Rattle.node_model.specs.Kinds.{get_named}
 use Rattle.node_model.specs.Serving.{has_read, serve}
+use Rattle.node_model.specs.Entries.{entry_by}
 use Rattle.serve_laws.specs.Served.{served_as}
 use Rattle.world_model.specs.Node.{Node, under_way_as}
 use Rattle.world_model.specs.Step.{Step, carry_out, enter, reply_here, send, with_deeds}
@@ -154,23 +155,23 @@ module _ (script : Script) (v : World) (s : Step) (asked : Asked) (rest : List H
 
   changes : Changes script 1 w (world_after v 1 next) after []
       ((asked.caller, frames.Answer asked.ticket reply) ∷ [])
-      (entry_of s.node.number asked.pid asked.call reply ∷ [])
+      (entry_by s.node.number asked.pid asked.call reply ∷ [])
   changes =
       subst (λ (m : Node). Changes script 1 w (world_after v 1 next) m []
       ((asked.caller, frames.Answer asked.ticket reply) ∷ [])
-      (entry_of s.node.number asked.pid asked.call reply ∷ []))
+      (entry_by s.node.number asked.pid asked.call reply ∷ []))
       (ap (λ (m : Node). record m {
         deeds = served_deeds m.deeds name served.left reply;
         leader = keys_after (was_removed (get_named m.deeds name)) m.leader name;
       }) (sym here))
       (changes-further script v 1 s next ((asked.caller, frames.Answer asked.ticket reply) ∷ [])
-      (entry_of s.node.number asked.pid asked.call reply ∷ []) holds.shape (omega arith) high-one
+      (entry_by s.node.number asked.pid asked.call reply ∷ []) holds.shape (omega arith) high-one
       (record { low = low; high = high }, tt) (record { sends_are = refl; entries_are = refl }))
 
   -- ---- what holds then
 
   abbrev places-now : Places
-  places-now = places_after script b.places (entry_of s.node.number asked.pid asked.call reply) was
+  places-now = places_after script b.places (entry_by s.node.number asked.pid asked.call reply) was
 
   leaves : EntryLeaves k b.places asked.pid next_kernel places-now
   leaves =

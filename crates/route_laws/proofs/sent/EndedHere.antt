@@ -8,9 +8,9 @@ use Rattle.rpc_frame.specs.declared.asked.Asked.{Asked}
 use Rattle.kernel_model.specs.Fitting.{Place, place_after, places_after}
 use Rattle.node_model.specs.declared.held.Held.TheVariants.{Request}
 use Rattle.node_model.specs.Caller.{Caller, answer_call, caller_place, lines_of}
+use Rattle.node_model.specs.Entries.{entry_by}
 use Rattle.world_model.specs.Node.{Node, Stage, Unborn, Living, Leaving, Left, Over}
 use Rattle.world_model.specs.World.{World}
-use Rattle.entry_laws.specs.Entering.{entry_of}
 use Rattle.world_laws.specs.Places.{Idle, Beside, call_in}
 use Rattle.world_laws.specs.Sights.{node_of, is_born_in}
 use Rattle.world_laws.specs.Callers.{CallSight, call_sight, CallHolds, FreeIn, HasCall, HasCallOrNone, IsFree, IsToBeMade, is_about, is_at_work, is_end_stage, tries_made}
@@ -63,7 +63,7 @@ module _ (script : Script) (w : World) (b : Beside) (p : ℕ) (asked : Asked) (g
         to_others = tt;
       }
 
-  module _ (w' : World) (c : Changes script p w w' n [] [] (entry_of node asked.pid asked.call e.reply ∷ [])) where
+  module _ (w' : World) (c : Changes script p w w' n [] [] (entry_by node asked.pid asked.call e.reply ∷ [])) where
     abbrev call : Call
     call = (in-hand script w b p asked g).call
 
@@ -74,7 +74,7 @@ module _ (script : Script) (w : World) (b : Beside) (p : ℕ) (asked : Asked) (g
     moved =
         record b {
           kernel = e.next;
-          places = places_after script b.places (entry_of node asked.pid asked.call e.reply) was;
+          places = places_after script b.places (entry_by node asked.pid asked.call e.reply) was;
           call = call_in b.call caller Idle;
         }
 
@@ -163,7 +163,7 @@ module _ (script : Script) (w : World) (b : Beside) (p : ℕ) (asked : Asked) (g
           alive = sym leaves.lives.lives;
           call = sym (ap (λ t. if t then Idle else b.call caller) (eq-eqb caller caller refl));
           frames_about = λ to sender. sym (made-after script p w w' n [] []
-              (entry_of node asked.pid asked.call e.reply ∷ []) c
+              (entry_by node asked.pid asked.call e.reply ∷ []) c
               (λ t s fs. filter (is_about caller t s) fs) (λ t s. filter-is-list-map (is_about caller t s)) to sender
               ∙ ap (λ fs. fs ++ filter (is_about caller to sender) (sent p [] to sender))
               (none-left script w b p asked g node e Idle n [] a ended-here w' c to sender)

@@ -11,10 +11,10 @@ use Rattle.rpc_frame.specs.declared.frame.Frame.TheVariants as frames
 use Rattle.kernel_model.specs.Fitting.{Place, place_after, places_after}
 use Rattle.node_model.specs.declared.held.Held.TheVariants.{Request}
 use Rattle.node_model.specs.Caller.{Caller, caller_place}
+use Rattle.node_model.specs.Entries.{entry_by}
 use Rattle.world_model.specs.Calls.{is_for_others}
 use Rattle.world_model.specs.Node.{Node}
 use Rattle.world_model.specs.World.{World}
-use Rattle.entry_laws.specs.Entering.{entry_of}
 use Rattle.world_laws.specs.Places.{InAnswer, Beside, call_in}
 use Rattle.world_laws.specs.Sights.{node_of, is_born_in}
 use Rattle.world_laws.specs.Callers.{CallSight, call_sight, CallHolds, HasCall, HasCallOrNone, IsToBeMade, asked_of, only_if, is_about}
@@ -62,7 +62,7 @@ module _ (script : Script) (w : World) (b : Beside) (p : ℕ) (asked : Asked) (g
         to_others = (other, tt);
       }
 
-  module _ (w' : World) (c : Changes script p w w' n [] answers (entry_of node asked.pid asked.call e.reply ∷ []))
+  module _ (w' : World) (c : Changes script p w w' n [] answers (entry_by node asked.pid asked.call e.reply ∷ []))
     where
       abbrev x : CallSight
       x = call_sight w (Request asked ∷ []) b caller
@@ -80,7 +80,7 @@ module _ (script : Script) (w : World) (b : Beside) (p : ℕ) (asked : Asked) (g
       moved =
           record b {
             kernel = e.next;
-            places = places_after script b.places (entry_of node asked.pid asked.call e.reply) was;
+            places = places_after script b.places (entry_by node asked.pid asked.call e.reply) was;
             call = call_in b.call caller (InAnswer p e.reply);
           }
 
@@ -142,7 +142,7 @@ module _ (script : Script) (w : World) (b : Beside) (p : ℕ) (asked : Asked) (g
             call = sym (ap (λ t. if t then InAnswer p e.reply else b.call caller) (eq-eqb caller caller refl));
             frames_about = λ to sender. ap (λ (z : Asked). only_if (nat_eq to caller && nat_eq sender p)
                 (frames.Answer z.ticket e.reply)) (sym asked-is)
-                ∙ sym (made-after script p w w' n [] answers (entry_of node asked.pid asked.call e.reply ∷ []) c
+                ∙ sym (made-after script p w w' n [] answers (entry_by node asked.pid asked.call e.reply ∷ []) c
                 (λ t s fs. filter (is_about caller t s) fs) (λ t s. filter-is-list-map (is_about caller t s)) to sender
                 ∙ ap (λ fs. fs ++ filter (is_about caller to sender) (sent p answers to sender))
                 (none-left script w b p asked g node e (InAnswer p e.reply) n answers a in-answer w' c to sender)

@@ -21,9 +21,10 @@ use Rattle.node_model.specs.Kinds.{for_kind, get_named}
 use Rattle.node_model.specs.Directory.{Directory, held_for}
 use Rattle.node_model.specs.Bodies.{body_in}
 use Rattle.node_model.specs.Caller.{Caller, caller_place}
+use Rattle.node_model.specs.Entries.{entry_by}
 use Rattle.world_model.specs.Node.{Node, Left, Leader}
 use Rattle.world_model.specs.World.{World}
-use Rattle.entry_laws.specs.Entering.{Enters, HasHistory, entry_of, is_used_name}
+use Rattle.entry_laws.specs.Entering.{Enters, HasHistory, is_used_name}
 use Rattle.entry_laws.proofs.History.{history-goes-on, moved-is, place-moves}
 use Rattle.entry_laws.proofs.Numbers.{used-kept}
 use Rattle.world_laws.specs.Places.{CallPlace, InTable, InCheckpoint, Beside, call_in}
@@ -55,7 +56,7 @@ pub record IsCarriedOut (script : Script) (b : Beside) (asked : Asked) (caller :
   pub next : Kernel
   pub enters : Enters b.kernel asked.pid asked.call reply None next
   pub leaves : EntryLeaves b.kernel b.places asked.pid next
-      (places_after script b.places (entry_of node asked.pid asked.call reply)
+      (places_after script b.places (entry_by node asked.pid asked.call reply)
       (caller_place script asked.caller caller))
   pub plain : IsPlainCall asked.call
 
@@ -92,7 +93,7 @@ module _ (script : Script) (w : World) (b : Beside) (p : ℕ) (asked : Asked) (g
     (node : ℕ) (e : IsCarriedOut script b asked (node_of w asked.caller).caller node) (place : CallPlace) (n : Node)
     (sends : List (ℕ × Frame)) (a : IsNodeAfter script w b e.next p n)
     (r : IsReplied script w b p n asked.caller place sends) (w' : World)
-    (c : Changes script p w w' n [] sends (entry_of node asked.pid asked.call e.reply ∷ [])) where
+    (c : Changes script p w w' n [] sends (entry_by node asked.pid asked.call e.reply ∷ [])) where
   abbrev caller : ℕ
   caller = asked.caller
 
@@ -103,7 +104,7 @@ module _ (script : Script) (w : World) (b : Beside) (p : ℕ) (asked : Asked) (g
   x = call_sight w hand b caller
 
   abbrev entry : Entry
-  entry = entry_of node asked.pid asked.call e.reply
+  entry = entry_by node asked.pid asked.call e.reply
 
   abbrev was : Place
   was = caller_place script caller x.caller

@@ -16,12 +16,12 @@ use Rattle.node_model.specs.Caller.{Caller, answer_call}
 use Rattle.node_model.specs.Carrying.{is_served}
 use Rattle.node_model.specs.Directory.{At, place_of}
 use Rattle.node_model.specs.Serving.{has_read, serve}
+use Rattle.node_model.specs.Entries.{entry_by}
 use Rattle.world_model.specs.Node.{Node, under_way_as}
 use Rattle.world_model.specs.Step.{Step, step_to, send, enter, carry_out, reply_here, with_deeds}
 use Rattle.world_model.specs.Serving.{note_read, serve_asked, serve_asked_with}
 use Rattle.world_model.specs.World.{World, node_count, world_after}
 use Rattle.serve_laws.specs.Served.{served_as}
-use Rattle.entry_laws.specs.Entering.{entry_of}
 use Rattle.entry_laws.proofs.Holding.{ServesHere, served_deeds}
 use Rattle.world_laws.specs.Places.{CallPlace, Idle, InAnswer, InTable, Beside}
 use Rattle.world_laws.specs.Sights.{node_of, directory_of, is_born_in, is_born_stage}
@@ -129,7 +129,7 @@ module _ (script : Script) (v : World) (p : ℕ) (n : Node) (b : Beside) (asked 
     deeds-left = served_deeds n.deeds name here.left reply
 
     abbrev entry : Entry
-    entry = entry_of n.number asked.pid asked.call reply
+    entry = entry_by n.number asked.pid asked.call reply
 
     abbrev entered : Step
     entered = enter (with_deeds (step_to n) deeds-left) asked.pid asked.call reply

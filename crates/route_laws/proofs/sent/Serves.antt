@@ -25,10 +25,11 @@ use Rattle.node_model.specs.Bodies.{Body, Living as LivingBody, Deeds, body_in}
 use Rattle.node_model.specs.Caller.{Caller, answer_call, caller_place}
 use Rattle.node_model.specs.Carrying.{is_served}
 use Rattle.node_model.specs.Serving.{name_for, name_in}
+use Rattle.node_model.specs.Entries.{entry_by}
 use Rattle.world_model.specs.Node.{Node, Stage, Unborn, Living, Leaving, Left, Over}
 use Rattle.world_model.specs.World.{World}
 use Rattle.serve_laws.specs.Laws.{is_found}
-use Rattle.entry_laws.specs.Entering.{MayMake, entry_of, unless_removed}
+use Rattle.entry_laws.specs.Entering.{MayMake, unless_removed}
 use Rattle.entry_laws.proofs.Bodies.{body-living, living-body}
 use Rattle.entry_laws.proofs.Holding.{ServesHere, served_deeds, serves-here}
 use Rattle.entry_laws.proofs.Keys.{keys-kept}
@@ -155,7 +156,7 @@ module _ (script : Script) (w : World) (b : Beside) (p : ℕ) (asked : Asked) (g
       }
 
   leaves : EntryLeaves b.kernel b.places asked.pid next
-      (places_after script b.places (entry_of p asked.pid asked.call reply) was)
+      (places_after script b.places (entry_by p asked.pid asked.call reply) was)
   leaves = (carried-out p).leaves
 
   keys-now : KeysHold (node_of w 1).leader next
@@ -283,13 +284,13 @@ module _ (script : Script) (w : World) (b : Beside) (p : ℕ) (asked : Asked) (g
   served_beside node place =
       record b {
         kernel = next;
-        places = places_after script b.places (entry_of node asked.pid asked.call reply) was;
+        places = places_after script b.places (entry_by node asked.pid asked.call reply) was;
         call = call_in b.call asked.caller place;
       }
 
   module _ (node : ℕ) (place : CallPlace) (k : Caller) (sends : List (ℕ × Frame))
       (r : IsReplied script w b p (after_node k) asked.caller place sends) (w' : World)
-      (c : Changes script p w w' (after_node k) [] sends (entry_of node asked.pid asked.call reply ∷ [])) where
+      (c : Changes script p w w' (after_node k) [] sends (entry_by node asked.pid asked.call reply ∷ [])) where
     names : (m : Name) → NameHolds script b.pids (is_born_in w') m
         (name_sight script w' [] (served_beside node place) m)
     names m =
@@ -306,7 +307,7 @@ module _ (script : Script) (w : World) (b : Beside) (p : ℕ) (asked : Asked) (g
   -- The call of another node is served, and the reply is on its way.
   pub served-answered : (node : ℕ) (other : asked.caller ≢ p) (w' : World)
       (c : Changes script p w w' (after_node n.caller) [] ((asked.caller, frames.Answer asked.ticket reply) ∷ [])
-      (entry_of node asked.pid asked.call reply ∷ []))
+      (entry_by node asked.pid asked.call reply ∷ []))
       → Holds script w' [] (served_beside node (InAnswer p reply))
   served-answered node other w' c =
       replied-keeps script w b p asked g node (carried-out node) (InAnswer p reply) (after_node n.caller) _
@@ -327,7 +328,7 @@ module _ (script : Script) (w : World) (b : Beside) (p : ℕ) (asked : Asked) (g
   -- The node's own call is served, and is over.
   pub served-ended : (node : ℕ) (own : asked.caller ≡ p) (w' : World)
       (c : Changes script p w w' (after_node (answer_call script asked.caller caller asked.call reply)) [] []
-      (entry_of node asked.pid asked.call reply ∷ []))
+      (entry_by node asked.pid asked.call reply ∷ []))
       → Holds script w' [] (served_beside node Idle)
   served-ended node own w' c =
       replied-keeps script w b p asked g node (carried-out node) Idle (after_node k) [] (node-after k) ends w' c

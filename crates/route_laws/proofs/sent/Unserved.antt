@@ -11,10 +11,10 @@ use Rattle.rpc_frame.specs.declared.frame.Frame.TheVariants as frames
 use Rattle.kernel_model.specs.Fitting.{places_after}
 use Rattle.node_model.specs.declared.held.Held.TheVariants.{Request}
 use Rattle.node_model.specs.Caller.{Caller, answer_call, caller_place}
+use Rattle.node_model.specs.Entries.{entry_by}
 use Rattle.world_model.specs.Node.{Node, under_way_as}
 use Rattle.world_model.specs.Step.{Step, carry_out, enter, reply_here, send, step_to}
 use Rattle.world_model.specs.World.{World, world_after}
-use Rattle.entry_laws.specs.Entering.{entry_of}
 use Rattle.entry_laws.proofs.Fresh.{LeavesAll}
 use Rattle.entry_laws.proofs.Keys.{keys-kept}
 use Rattle.world_laws.specs.Places.{CallPlace, Idle, InAnswer, Beside, call_in}
@@ -85,7 +85,7 @@ module _ (script : Script) (w : World) (b : Beside) (p : ℕ) (asked : Asked) (g
   refused_beside node place =
       record b {
         kernel = l.next;
-        places = places_after script b.places (entry_of node asked.pid asked.call reply)
+        places = places_after script b.places (entry_by node asked.pid asked.call reply)
             (caller_place script asked.caller caller);
         call = call_in b.call asked.caller place;
       }
@@ -93,7 +93,7 @@ module _ (script : Script) (w : World) (b : Beside) (p : ℕ) (asked : Asked) (g
   -- The refusal of another node's call is on its way.
   pub refused-answered : (node : ℕ) → asked.caller ≢ p → (w' : World)
       → Changes script p w w' (record n { caller = n.caller }) []
-      ((asked.caller, frames.Answer asked.ticket reply) ∷ []) (entry_of node asked.pid asked.call reply ∷ [])
+      ((asked.caller, frames.Answer asked.ticket reply) ∷ []) (entry_by node asked.pid asked.call reply ∷ [])
       → Holds script w' [] (refused_beside node (InAnswer p reply))
   refused-answered node other w' c =
       replied-keeps script w b p asked g node (refused_by node) (InAnswer p reply) (record n { caller = n.caller }) _
@@ -116,7 +116,7 @@ module _ (script : Script) (w : World) (b : Beside) (p : ℕ) (asked : Asked) (g
   pub refused-ended : (node : ℕ) → asked.caller ≡ p → (w' : World)
       → Changes script p w w'
       (record n { caller = answer_call script asked.caller caller asked.call reply }) [] []
-      (entry_of node asked.pid asked.call reply ∷ [])
+      (entry_by node asked.pid asked.call reply ∷ [])
       → Holds script w' [] (refused_beside node Idle)
   refused-ended node own w' c =
       replied-keeps script w b p asked g node (refused_by node) Idle (record n { caller = k }) [] (node-after k) ends w'
@@ -146,7 +146,7 @@ module _ (script : Script) (v : World) (p : ℕ) (n : Node) (b : Beside) (asked 
   middle-holds = g.holds
 
   abbrev entry : Entry
-  entry = entry_of n.number asked.pid asked.call reply
+  entry = entry_by n.number asked.pid asked.call reply
 
   abbrev entered : Step
   entered = enter (step_to n) asked.pid asked.call reply

@@ -8,8 +8,9 @@ use Rattle.rpc_frame.specs.declared.frame.Frame.TheVariants as frames
 use Rattle.kernel_model.specs.Fitting.{IsDue, place_after}
 use Rattle.kernel_model.specs.Row.{Alive}
 use Rattle.node_model.specs.Caller.{Caller, answer_call, caller_place}
+use Rattle.node_model.specs.Entries.{entry_by}
 use Rattle.world_model.specs.Node.{Stage, Living, asked_here}
-use Rattle.world_model.specs.Step.{Step, carry_out, entry_by, reply_here}
+use Rattle.world_model.specs.Step.{Step, carry_out, reply_here}
 use Rattle.world_laws.specs.Places.{Idle}
 use Rattle.world_laws.specs.Callers.{CallHolds, CallSight, FreeIn, HasCallOrNone, HasTries, HasTryLeft, IsFree, IsNowhere, is_end_place, is_end_stage, tries_made}
 use Rattle.world_laws.proofs.Lines.{IsAnswered, answered, due-at-line}

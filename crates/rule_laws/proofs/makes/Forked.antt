@@ -16,7 +16,6 @@ use Rattle.kernel_model.specs.Kernel.{Kernel, living_at}
 use Rattle.kernel_model.specs.Numbers.{is_positive_u32, is_u32}
 use Rattle.kernel_model.specs.Row.{Alive}
 use Rattle.kernel_model.specs.Script.{IsSoundScript}
-use Rattle.entry_laws.specs.Entering.{entry_of}
 use Rattle.entry_laws.proofs.Bodies.{body-living}
 use Rattle.entry_laws.proofs.ForkedOnce.{fork-line-once}
 use Rattle.entry_laws.proofs.Fresh.{Forks, forks}
@@ -29,6 +28,7 @@ use Rattle.node_model.specs.Bodies.{Body, Living as LivingBody, body_in}
 use Rattle.node_model.specs.Caller.{caller_place}
 use Rattle.node_model.specs.Kinds.{get_named}
 use Rattle.node_model.specs.Leases.{takes_number}
+use Rattle.node_model.specs.Entries.{entry_by}
 use Rattle.world_model.specs.Lives.{is_new_row}
 use Rattle.world_model.specs.Node.{Node}
 use Rattle.world_model.specs.World.{World}
@@ -92,7 +92,7 @@ module _ (script : Script) (sound : IsSoundScript script) (w : World) (b : Besid
   fork-entry = forks k pid block number s.row s.may own-row unused positive
 
   places-fork : ForkPlaces script b.places pid block number fork-place
-      (places_after script b.places (entry_of p pid (calls.Fork block) (replies.Num number)) fork-place)
+      (places_after script b.places (entry_by p pid (calls.Fork block) (replies.Num number)) fork-place)
   places-fork = fork-places script b.places p pid block number fork-place fork-entry.apart
 
   -- the new process lives, and has no children
@@ -136,7 +136,7 @@ module _ (script : Script) (sound : IsSoundScript script) (w : World) (b : Besid
 
   -- What it leaves.
   pub fork-leaves : ForkLeaves script k b.places b.pids p block number s.row (child_vars fork-place) fork-entry.next
-      (places_after script b.places (entry_of p pid (calls.Fork block) (replies.Num number)) fork-place)
+      (places_after script b.places (entry_by p pid (calls.Fork block) (replies.Num number)) fork-place)
   fork-leaves =
       record {
         valid = s.may.valid;

@@ -22,7 +22,7 @@ use Rattle.kernel_model.specs.Fitting.{Place, Places, child_vars, places_after}
 use Rattle.kernel_model.specs.Kernel.{living_at}
 use Rattle.kernel_model.specs.Row.{Row}
 use Rattle.kernel_model.specs.Script.{IsSoundScript}
-use Rattle.entry_laws.specs.Entering.{entry_of, is_used_name}
+use Rattle.entry_laws.specs.Entering.{is_used_name}
 use Rattle.entry_laws.proofs.Fresh.{Forks}
 use Rattle.entry_laws.proofs.History.{ForkPlaces, fork-places}
 use Rattle.entry_laws.proofs.Numbers.{used-made, used-others}
@@ -45,6 +45,7 @@ use Rattle.world_laws.specs.Families.{FamilyHolds, HoldsIn, NodeHolds, checkpoin
 use Rattle.world_laws.specs.Invariant.{FramesFit, Holds, process_deed}
 use Rattle.rpc_frame.specs.declared.deed.Parcel.{Parcel}
 use Rattle.node_model.specs.declared.held.Held.TheVariants.{Ending}
+use Rattle.node_model.specs.Entries.{entry_by}
 use Rattle.world_laws.specs.Callers.{CallHolds, CallSight, FreeIn, HasCallOrNone, call_sight, is_about, is_end_place, is_end_stage, is_item_about}
 use Rattle.world_laws.proofs.Frames.{all-weaker, not-about}
 use Rattle.world_laws.proofs.LeftAlone.{call-left-alone, frames-still-fit, other-node-stays, parcel-was-there, sender-stays, way-left-alone}
@@ -128,7 +129,7 @@ module _ (script : Script) (sound : IsSoundScript script) (w : World) (b : Besid
                     directory = placed_if (nat_eq p 1) (directory_by n.leader.directory kind o) name block;
                   };
             };
-        entries = entry_of q process call reply ∷ [];
+        entries = entry_by q process call reply ∷ [];
         sends = (block, checkpoint-with q process) ∷ tells_if (nat_eq p 1) name block;
       }
 
@@ -149,7 +150,7 @@ module _ (script : Script) (sound : IsSoundScript script) (w : World) (b : Besid
   sends = births ++ tells_if (nat_eq p 1) name block
 
   abbrev entries : List Entry
-  entries = entry_of p pid call reply ∷ []
+  entries = entry_by p pid call reply ∷ []
 
   abbrev after : Step
   after = record { node = after-node; entries = entries; sends = sends }
@@ -169,7 +170,7 @@ module _ (script : Script) (sound : IsSoundScript script) (w : World) (b : Besid
   replied =
       record {
         node = record held.node { caller = answer_call script n.number s.caller call reply };
-        entries = entry_of n.number n.pid call reply ∷ [];
+        entries = entry_by n.number n.pid call reply ∷ [];
         sends = [];
       }
 
@@ -219,7 +220,7 @@ module _ (script : Script) (sound : IsSoundScript script) (w : World) (b : Besid
   forks = fork-entry script sound w b holds p block kind number numbers o e s
 
   abbrev places-now : Places
-  places-now = places_after script b.places (entry_of p pid call reply) place
+  places-now = places_after script b.places (entry_by p pid call reply) place
 
   abbrev pids-now : ℕ → ℕ
   pids-now = with_pid b.pids block number
@@ -932,10 +933,10 @@ module _ (script : Script) (sound : IsSoundScript script) (w : World) (b : Besid
           ways = ways-hold;
           parcels = parcels-hold;
           kinds = kinds-now script w b holds p call kind number numbers o e s next after-node sends
-              (entry_of p pid call reply) changes name forks.next reply forks.enters kind-is refl more refl
+              (entry_by p pid call reply) changes name forks.next reply forks.enters kind-is refl more refl
               is-after.ranges (λ z. of-sends _ refl (λ other. refl));
           few = few-now script w b holds p call kind number numbers o e s next after-node sends
-              (entry_of p pid call reply) changes is-after.ranges;
+              (entry_by p pid call reply) changes is-after.ranges;
           keys = keys-after script w b holds p call kind number numbers o e s next after-node sends reply forks.next
               changes forks.keys refl refl;
           families = families-hold;

@@ -15,7 +15,7 @@ use Rattle.rpc_frame.specs.declared.frame.Frame.{Frame}
 use Rattle.rpc_frame.specs.declared.frame.Frame.TheVariants as frames
 use Rattle.kernel_model.specs.Fitting.{Place, Places, places_after}
 use Rattle.kernel_model.specs.Kernel.{Kernel}
-use Rattle.entry_laws.specs.Entering.{Enters, entry_of, is_used_name}
+use Rattle.entry_laws.specs.Entering.{Enters, is_used_name}
 use Rattle.entry_laws.proofs.Fresh.{MakesObject}
 use Rattle.entry_laws.proofs.History.{moved-is, place-moves}
 use Rattle.entry_laws.proofs.Numbers.{used-made, used-others}
@@ -23,6 +23,7 @@ use Rattle.node_model.specs.Bodies.{Body, Deeds, Living as LivingBody, body_in}
 use Rattle.node_model.specs.Caller.{answer_call, caller_place}
 use Rattle.node_model.specs.Directory.{Directory, is_parcel_with, maker, place_of}
 use Rattle.node_model.specs.Kinds.{get_named, is_object, put_named, with_kind}
+use Rattle.node_model.specs.Entries.{entry_by}
 use Rattle.world_model.specs.Census.{brings}
 use Rattle.world_model.specs.Node.{Node, Stage, Living, Left}
 use Rattle.world_model.specs.Numbers.{make_with, tell_place}
@@ -101,7 +102,7 @@ module _ (script : Script) (w : World) (b : Beside) (holds : Holds script w [] b
                     directory = placed_if (nat_eq p 1) (directory_by n.leader.directory kind o) name q;
                   };
             };
-        entries = entry_of q process call reply ∷ [];
+        entries = entry_by q process call reply ∷ [];
         sends = tells_if (nat_eq p 1) name q;
       }
 
@@ -118,7 +119,7 @@ module _ (script : Script) (w : World) (b : Beside) (holds : Holds script w [] b
   replied =
       record {
         node = record ready { deeds = deeds-now; caller = answer_call script n.number s.caller call reply };
-        entries = entry_of n.number n.pid call reply ∷ [];
+        entries = entry_by n.number n.pid call reply ∷ [];
         sends = [];
       }
 
@@ -149,7 +150,7 @@ module _ (script : Script) (w : World) (b : Beside) (holds : Holds script w [] b
   changes = given.changes
 
   abbrev places-now : Places
-  places-now = places_after script b.places (entry_of p pid call reply) place
+  places-now = places_after script b.places (entry_by p pid call reply) place
 
   abbrev deed-now : Name → DeedPlace
   deed-now = deed_in b.deed name (InTable p)
@@ -445,8 +446,8 @@ module _ (script : Script) (w : World) (b : Beside) (holds : Holds script w [] b
         holds = entry-keeps script w next [] [] b made.next places-now deed-now calls p after.node (takes_by kind o)
             after.sends after.entries p s.low s.high holds changes move call-now names-now
             (kinds-now script w b holds p call kind number numbers o e s next after.node after.sends
-            (entry_of p pid call reply) changes name made.next reply enters g.kind_is g.number_is more refl
+            (entry_by p pid call reply) changes name made.next reply enters g.kind_is g.number_is more refl
             is-after.ranges no-leases)
             (few-now script w b holds p call kind number numbers o e s next after.node after.sends
-            (entry_of p pid call reply) changes is-after.ranges);
+            (entry_by p pid call reply) changes is-after.ranges);
       }

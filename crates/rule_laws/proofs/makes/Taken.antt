@@ -17,12 +17,13 @@ use Rattle.kernel_model.specs.Footprint.{used_of}
 use Rattle.kernel_model.specs.Kernel.{Kernel, living_at}
 use Rattle.kernel_model.specs.Numbers.{is_positive_u32}
 use Rattle.kernel_model.specs.Row.{Alive}
-use Rattle.entry_laws.specs.Entering.{HasHistory, HasKeys, KeepsKeys, Makes, entry_of, is_used_name}
+use Rattle.entry_laws.specs.Entering.{HasHistory, HasKeys, KeepsKeys, Makes, is_used_name}
 use Rattle.entry_laws.proofs.History.{history-goes-on}
 use Rattle.entry_laws.proofs.Keys.{keys-kept}
 use Rattle.node_model.specs.Caller.{answer_call, caller_place}
 use Rattle.node_model.specs.Directory.{Place as DirectoryPlace, maker, maker_in, place_of}
 use Rattle.node_model.specs.Kinds.{for_kind, kind_of, number_of}
+use Rattle.node_model.specs.Entries.{entry_by}
 use Rattle.world_model.specs.Node.{Leader, Living, Node}
 use Rattle.world_model.specs.World.{World, node_count}
 use Rattle.world_laws.specs.Places.{Beside, CallPlace, DeedPlace, Idle}
@@ -120,15 +121,15 @@ module _ (script : Script) (w : World) (b : Beside) (holds : Holds script w [] b
   place = caller_place script p s.caller
 
   module _ (next : World) (n : Node) (sends : List (ℕ × Frame)) (reply : Reply) (after : Kernel)
-      (c : Changes script p w next n (takes_by kind o) sends (entry_of p pid call reply ∷ [])) where
+      (c : Changes script p w next n (takes_by kind o) sends (entry_by p pid call reply ∷ [])) where
     abbrev entries : List Entry
-    entries = entry_of p pid call reply ∷ []
+    entries = entry_by p pid call reply ∷ []
 
     -- the history goes on
     pub history-after : Makes b.kernel pid call reply after
-        → HasHistory script next.journal after (places_after script b.places (entry_of p pid call reply) place)
+        → HasHistory script next.journal after (places_after script b.places (entry_by p pid call reply) place)
     history-after makes =
-        subst (λ j. HasHistory script j after (places_after script b.places (entry_of p pid call reply) place))
+        subst (λ j. HasHistory script j after (places_after script b.places (entry_by p pid call reply) place))
         (sym c.journal)
         (history-goes-on script w.journal b.kernel b.places p pid call reply place after holds.history s.there s.is_due
         makes)

@@ -14,7 +14,7 @@ use Rattle.number_maps.specs.Maps.{get}
 use Rattle.kernel_model.specs.Fitting.{Place, Places, place_after, places_after, IsDue, due, is_killed, move_on}
 use Rattle.kernel_model.specs.Kernel.{Kernel}
 use Rattle.kernel_model.specs.Script.{is_exit, is_fork}
-use Rattle.entry_laws.specs.Entering.{entry_of, LeavesOthers, MayMake, Same, Makes, is_used_name}
+use Rattle.entry_laws.specs.Entering.{LeavesOthers, MayMake, Same, Makes, is_used_name}
 use Rattle.entry_laws.proofs.History.{moved-is, place-moves, places-stay}
 use Rattle.node_model.specs.Bodies.{Body, body_in}
 use Rattle.node_model.specs.Caller.{Caller, caller_place}
@@ -30,6 +30,7 @@ use Rattle.entry_laws.proofs.Numbers.{process-there}
 use Rattle.entry_laws.proofs.Others.{goes, Lived}
 use Rattle.entry_laws.proofs.Places.{goes-on, left-shrinks}
 use Rattle.node_model.specs.Leases.{Leases}
+use Rattle.node_model.specs.Entries.{entry_by}
 use Rattle.pico_base.specs.declared.numbers.Kind.TheVariants as kinds
 use Rattle.world_laws.specs.Plays.{is_call_on, news_if, News, NeedsPlace, Tells, finds_place, news, placed_in}
 use Rattle.entry_laws.proofs.Fresh.{MakesPrivate}
@@ -46,7 +47,7 @@ pub processes-stay-leaves : (k : Kernel) (pid : ℕ) (call : Call) (reply : Repl
     → (script : Script) (places : Places) (node p : ℕ) (caller : Caller)
     → get places pid ≡ Some (caller_place script p caller) → IsDue (caller_place script p caller) call
     → EntryLeaves k places pid next
-    (places_after script places (entry_of node pid call reply) (caller_place script p caller))
+    (places_after script places (entry_by node pid call reply) (caller_place script p caller))
 processes-stay-leaves k pid call reply next m makes lived used bodies no_fork no_exit not_killed script places node p
     caller there is_due =
     let place : Place = caller_place script p caller

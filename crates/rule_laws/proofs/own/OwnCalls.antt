@@ -25,7 +25,7 @@ use Rattle.kernel_model.specs.Row.{Row}
 use Rattle.kernel_model.specs.Script.{IsSoundScript}
 use Rattle.serve_laws.specs.Laws.{is_found}
 use Rattle.serve_laws.specs.Served.{served_as}
-use Rattle.entry_laws.specs.Entering.{HasHistory, KeepsKeys, entry_of, removed_queue, removed_set, unless_removed}
+use Rattle.entry_laws.specs.Entering.{HasHistory, KeepsKeys, removed_queue, removed_set, unless_removed}
 use Rattle.entry_laws.proofs.Bodies.{living-body}
 use Rattle.entry_laws.proofs.History.{history-goes-on}
 use Rattle.entry_laws.proofs.Holding.{ServesHere, served_deeds, serves-here}
@@ -39,6 +39,7 @@ use Rattle.node_model.specs.Carrying.{is_own, is_own_home, is_served}
 use Rattle.node_model.specs.Directory.{Directory, held_for}
 use Rattle.node_model.specs.Kinds.{for_kind, get_named}
 use Rattle.node_model.specs.Serving.{name_for, name_in, serve}
+use Rattle.node_model.specs.Entries.{entry_by}
 use Rattle.world_model.specs.Node.{Node, Leader, Stage, Living, Left, can_run}
 use Rattle.world_model.specs.Starting.{act, carry_out_own, run, start_by, start_own}
 use Rattle.world_model.specs.Step.{Step, reply_here, step_to}
@@ -173,7 +174,7 @@ module _ (script : Script) (sound : IsSoundScript script) (w : World) (b : Besid
   after-node = record n { caller = next-caller; deeds = deeds-now }
 
   abbrev entry : Entry
-  entry = entry_of p pid call reply
+  entry = entry_by p pid call reply
 
   abbrev after : Step
   after = record { node = after-node; entries = entry ∷ []; sends = [] }
@@ -183,7 +184,7 @@ module _ (script : Script) (sound : IsSoundScript script) (w : World) (b : Besid
   step-with number process =
       record {
         node = record n { caller = answer_call script number started call reply; deeds = deeds-now };
-        entries = entry_of number process call reply ∷ [];
+        entries = entry_by number process call reply ∷ [];
         sends = [];
       }
 
@@ -192,7 +193,7 @@ module _ (script : Script) (sound : IsSoundScript script) (w : World) (b : Besid
   middle =
       record {
         node = record n { caller = started; deeds = deeds-now };
-        entries = entry_of n.number n.pid call reply ∷ [];
+        entries = entry_by n.number n.pid call reply ∷ [];
         sends = [];
       }
 

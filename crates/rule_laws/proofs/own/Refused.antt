@@ -16,13 +16,14 @@ use Rattle.number_maps.specs.Maps.{get, is_used}
 use Rattle.kernel_model.specs.Fitting.{Place, Places, place_after, places_after, IsDue, due, is_killed, move_on}
 use Rattle.kernel_model.specs.Kernel.{Kernel}
 use Rattle.kernel_model.specs.Script.{IsSoundScript, is_exit, is_fork}
-use Rattle.entry_laws.specs.Entering.{HasHistory, entry_of, LeavesOthers, MayMake, Same}
+use Rattle.entry_laws.specs.Entering.{HasHistory, LeavesOthers, MayMake, Same}
 use Rattle.entry_laws.proofs.History.{history-goes-on, moved-is, place-moves, places-stay}
 use Rattle.entry_laws.proofs.Keys.{keys-kept}
 use Rattle.entry_laws.proofs.Numbers.{used-kept, process-there}
 use Rattle.node_model.specs.Caller.{Caller, answer_call, caller_place, start_call}
 use Rattle.node_model.specs.Directory.{Directory, held_for}
 use Rattle.node_model.specs.Kinds.{for_kind}
+use Rattle.node_model.specs.Entries.{entry_by}
 use Rattle.world_model.specs.Node.{Node, Leader, Stage, Living, Left, can_run}
 use Rattle.world_model.specs.Starting.{run, start_by, start_set}
 use Rattle.world_model.specs.Step.{Step, reply_here, step_to}
@@ -58,7 +59,7 @@ pub unchanged-leaves : (k : Kernel) (pid : ℕ) (call : Call) (reply : Reply) (m
     → (script : Script) (places : Places) (node p : ℕ) (caller : Caller)
     → get places pid ≡ Some (caller_place script p caller) → IsDue (caller_place script p caller) call
     → EntryLeaves k places pid c.next
-    (places_after script places (entry_of node pid call reply) (caller_place script p caller))
+    (places_after script places (entry_by node pid call reply) (caller_place script p caller))
 unchanged-leaves k pid call reply m c no_fork no_exit not_killed script places node p caller there is_due =
     let place : Place = caller_place script p caller
     in let moved : move_on place call (Some reply) ≡ place_after place call (Some reply) =
@@ -128,7 +129,7 @@ module _ (script : Script) (sound : IsSoundScript script) (w : World) (b : Besid
   after-node = record n { caller = answer_call script p started call reply }
 
   abbrev entry : Entry
-  entry = entry_of p pid call reply
+  entry = entry_by p pid call reply
 
   abbrev after : Step
   after = record { node = after-node; entries = entry ∷ []; sends = [] }
@@ -137,13 +138,13 @@ module _ (script : Script) (sound : IsSoundScript script) (w : World) (b : Besid
   step-with number process =
       record {
         node = record n { caller = answer_call script number started call reply };
-        entries = entry_of number process call reply ∷ [];
+        entries = entry_by number process call reply ∷ [];
         sends = [];
       }
 
   abbrev middle : Step
   middle =
-      record { node = record n { caller = started }; entries = entry_of n.number n.pid call reply ∷ []; sends = [] }
+      record { node = record n { caller = started }; entries = entry_by n.number n.pid call reply ∷ []; sends = [] }
 
   rule : run script n ≡ Some after
   rule =

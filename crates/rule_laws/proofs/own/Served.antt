@@ -20,8 +20,9 @@ use Rattle.node_model.specs.Bodies.{Gone, Living, body_in}
 use Rattle.node_model.specs.Caller.{Caller, caller_place}
 use Rattle.node_model.specs.Carrying.{is_served}
 use Rattle.node_model.specs.Serving.{name_for}
+use Rattle.node_model.specs.Entries.{entry_by}
 use Rattle.serve_laws.specs.Laws.{is_found}
-use Rattle.entry_laws.specs.Entering.{IsKin, LeavesOthers, MayMake, Same, entry_of}
+use Rattle.entry_laws.specs.Entering.{IsKin, LeavesOthers, MayMake, Same}
 use Rattle.entry_laws.proofs.Bodies.{living-body}
 use Rattle.entry_laws.proofs.History.{moved-is, place-moves, places-stay}
 use Rattle.entry_laws.proofs.Kin.{LeavesFound, carried-found, carried-kind, kin-found, kin-same}
@@ -136,7 +137,7 @@ module _ (k : Kernel) (pid : ℕ) (call : Call) (name : Name) (m : MayMake k pid
   pub served-leaves : (script : Script) (places : Places) (node p : ℕ) (caller : Caller)
       → get places pid ≡ Some (caller_place script p caller) → IsDue (caller_place script p caller) call
       → EntryLeaves k places pid c.next
-      (places_after script places (entry_of node pid call c.reply) (caller_place script p caller))
+      (places_after script places (entry_by node pid call c.reply) (caller_place script p caller))
   served-leaves script places node p caller there is_due =
       let place : Place = caller_place script p caller
       in let moved : move_on place call (Some c.reply) ≡ place_after place call (Some c.reply) =
@@ -161,7 +162,7 @@ module _ (k : Kernel) (pid : ℕ) (call : Call) (name : Name) (m : MayMake k pid
 
   -- where its process is in the history then
   pub served-place : (script : Script) (places : Places) (node : ℕ) (place : Place)
-      → get (places_after script places (entry_of node pid call c.reply) place) pid
+      → get (places_after script places (entry_by node pid call c.reply) place) pid
       ≡ Some (place_after place call (Some c.reply))
   served-place script places node place =
       place-moves script places node pid call c.reply place (served-no-fork call served)
