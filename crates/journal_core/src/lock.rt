@@ -15,6 +15,8 @@ use std::alloc::Global;
 use std::hint::spin_loop;
 use std::marker::Model;
 use std::sync::Wait;
+use std::sync::atomic::{AtomicU64, Ordering};
+use std::thread;
 
 /// The word of the next ticket.
 const TICKET: usize = 0;
@@ -25,8 +27,17 @@ const SERVED: usize = 1;
 /// The slot of the journal.
 const SLOT: usize = 0;
 
+/// How often a seat looks whether all tickets are served, before it draws one all the same.
+const CALM: u32 = 512;
+
 /// How often a waiting seat looks before it sleeps until the next ticket is served.
-const LOOKS: u32 = 128;
+const LOOKS: u32 = 512;
+
+/// After so many looks a seat lets other threads on.
+const SOME: u32 = 16;
+
+/// How long a seat waits between two looks: each makes who holds the journal wait.
+const PAUSE: u32 = 16;
 
 /// The table, as threads see it.
 type Board = Shared<Journal, View, u32, LockRule>;
@@ -35,6 +46,8 @@ type Board = Shared<Journal, View, u32, LockRule>;
 #[derive(Drop)]
 pub struct JournalLock {
     table: Table<Journal, View, u32, LockRule, Global>,
+    // how many seats sleep, or are about to
+    sleepers: AtomicU64,
     alloc: Global,
 }
 
@@ -64,7 +77,12 @@ impl JournalLock {
             return Err(Memory);
         };
         let seats = deal(alloc, &table.shared, first, seats)?;
-        Ok((JournalLock { table, alloc }, seats))
+        let lock = JournalLock {
+            table,
+            sleepers: AtomicU64::new(0),
+            alloc,
+        };
+        Ok((lock, seats))
     }
 
     /// Waits for the seat's turn, and appends the entries behind the journal that it finds, under a stamp that is one
@@ -85,9 +103,14 @@ impl JournalLock {
             (λ fault. Refuses floor seat.old seat.new fault) }
     {
         let board = &self.table.shared;
-        let mut journal = take(rt, board, self.alloc, &mut seat.seat).into_vec();
+        let mut journal = take(rt, board, &self.sleepers, self.alloc, &mut seat.seat).into_vec();
         let answer = add(&mut journal, floor, seat.number, entries);
-        put_back(board, &mut seat.seat, Journal::from_vec(journal));
+        put_back(
+            board,
+            &self.sleepers,
+            &mut seat.seat,
+            Journal::from_vec(journal),
+        );
         answer
     }
 
@@ -96,7 +119,7 @@ impl JournalLock {
         requires { AreAll self seats }
         ensures { Closes self seats result }
     {
-        let JournalLock { table, alloc: _ } = self;
+        let JournalLock { table, .. } = self;
         let first = gather(&table.shared, seats);
         let mut closed = table.close_with(first);
         let journal = closed.take(SLOT);
@@ -136,12 +159,19 @@ fn deal(
 }
 
 /// Draws a ticket, waits until it is served, and takes the journal out of its slot.
-fn take<R: Wait>(rt: &R, board: &Board, alloc: Global, seat: &mut Seat<Journal, View>) -> Journal
+fn take<R: Wait>(
+    rt: &R,
+    board: &Board,
+    sleepers: &AtomicU64,
+    alloc: Global,
+    seat: &mut Seat<Journal, View>,
+) -> Journal
     requires board { IsBoard board.now.table_id × (seat.old.table_id ≡ board.now.table_id) }
     requires free { IsFree seat.old.me }
     ensures same { (seat.new.table_id ≡ seat.old.table_id) × (seat.new.id ≡ seat.old.id) }
     ensures taken { HasTaken seat.old.me.0 result seat.new.me }
 {
+    wait_for_calm(board);
     let ticket = board.fetch_add::<Draw>(seat, TICKET, 1);
     let mut looks = 0u32;
     for _ in rt.forever() {
@@ -151,31 +181,58 @@ fn take<R: Wait>(rt: &R, board: &Board, alloc: Global, seat: &mut Seat<Journal, 
         }
         looks = looks.wrapping_add(1);
         if looks % LOOKS == 0 {
+            sleepers.fetch_add(1, Ordering::SeqCst);
             board.park(rt, SERVED, (served % (1 << 32)) as u32);
+            sleepers.fetch_sub(1, Ordering::SeqCst);
         } else {
-            spin_loop();
+            pause(looks);
         }
     }
     unreachable!()
 }
 
+/// Waits for a while until all tickets that are out were served: a thread that is at work goes on then without waiting
+/// for those that aren't.
+fn wait_for_calm(board: &Board)
+    requires { IsBoard board.now.table_id }
+{
+    for looks in 1..CALM {
+        if board.peek(TICKET) == board.peek(SERVED) {
+            return;
+        }
+        pause(looks);
+    }
+}
+
+/// The time between two looks.
+fn pause(looks: u32) {
+    if looks % SOME == 0 {
+        thread::yield_now();
+        return;
+    }
+    for _ in 0..PAUSE {
+        spin_loop();
+    }
+}
+
 /// Puts the journal into its slot, and lets the next ticket be served.
-fn put_back(board: &Board, seat: &mut Seat<Journal, View>, journal: Journal)
+fn put_back(board: &Board, sleepers: &AtomicU64, seat: &mut Seat<Journal, View>, journal: Journal)
     requires board { IsBoard board.now.table_id × (seat.old.table_id ≡ board.now.table_id) }
     requires grown { CanPut seat.old.me journal }
     ensures same { (seat.new.table_id ≡ seat.old.table_id) × (seat.new.id ≡ seat.old.id) }
     ensures done { seat.new.me ≡ (done seat.old.me.0 journal, []) }
 {
     let _ = board.exchange(seat, SLOT, journal);
-    let served = board.fetch_add::<PutBack>(seat, SERVED, 1);
-    wake(board, served.wrapping_add(1));
+    let _ = board.fetch_add::<PutBack>(seat, SERVED, 1);
+    wake(board, sleepers);
 }
 
-/// Wakes the seats that sleep, where a ticket is out.
-fn wake(board: &Board, served: u64)
+/// Wakes the seats that sleep. A seat counts itself before it sleeps on what it saw served, and here the next one is
+/// served before they are counted: so one of the two sees the other.
+fn wake(board: &Board, sleepers: &AtomicU64)
     requires { IsBoard board.now.table_id }
 {
-    if board.peek(TICKET) != served {
+    if sleepers.load(Ordering::SeqCst) != 0 {
         board.wake_all(SERVED);
     }
 }

@@ -1,7 +1,6 @@
 //! Where threads sleep while nothing is on its way to their nodes.
 use pico_base::Node;
 use std::sync::Wait;
-use std::thread;
 use std::time::Duration;
 use stream_pair::{Bell, Company};
 
@@ -28,15 +27,10 @@ impl Beds {
         self.company.goes_on();
     }
 
-    /// A node's thread found nothing for a while: it sleeps until something is sent to it. Before the first event of
-    /// the run it only lets others go on; and once all are called it goes on at once, since then it makes its last
-    /// turns.
+    /// A node's thread found nothing for a while: it sleeps until something is sent to it. Once all are called it goes on
+    /// at once, since then it makes its last turns.
     #[cold]
     pub fn sleep<R: Wait>(&self, rt: &R, node: Node) {
-        if !self.company.has_begun() {
-            thread::yield_now();
-            return;
-        }
         if self.company.is_called() {
             return;
         }

@@ -6,13 +6,11 @@ use std::alloc::Global;
 use std::sync::Arc;
 use std::sync::atomic::{AtomicU64, Ordering};
 
-/// How many receivers are awake; whether the last of them to be so has called the others (1) or not (0); and whether
-/// anybody has got on since the run began (1) or not (0).
+/// How many receivers are awake, and whether the last of them to be so has called the others (1) or not (0).
 #[derive(Drop)]
 struct Members {
     awake: AtomicU64,
     called: AtomicU64,
-    begun: AtomicU64,
 }
 
 /// The receivers of a run, each in a thread of its own. One that finds nothing may sleep on its bell, and who sends to
@@ -30,7 +28,6 @@ impl Company {
         let members = Members {
             awake: AtomicU64::new(0),
             called: AtomicU64::new(0),
-            begun: AtomicU64::new(0),
         };
         let members = Arc::new(alloc, CachePadded::new(members))?;
         Ok(Company { members })
@@ -67,16 +64,6 @@ impl Company {
         if self.is_called() {
             self.members.called.store(0, Ordering::SeqCst);
         }
-        if !self.has_begun() {
-            self.members.begun.store(1, Ordering::SeqCst);
-        }
-    }
-
-    /// Whether somebody got on since the run began. Before that there is nothing to sleep for: who is to begin is held,
-    /// or its thread hasn't started.
-    #[inline]
-    pub fn has_begun(&self) -> bool {
-        self.members.begun.load(Ordering::SeqCst) == 1
     }
 
     /// Whether all were called.
