@@ -3,6 +3,7 @@ ghost use Rattle.std.specs.Prelude.{◌≡◌, ◌≤◌, length, Some, None, Er
 ghost use Rattle.kernel_model.specs.Script.{IsSoundScript};
 ghost use Rattle.world_model.specs.Node.{opening_node, can_run, is_born};
 ghost use Rattle.node_state.specs.declared.fault.TurnFault.TheVariants.{Memory as OutOfMemory, NotAllowed};
+ghost use Rattle.node_core.specs.Lives.{has_left};
 ghost use Rattle.node_core.specs.Step.{step_of};
 ghost use Rattle.node_core.specs.Turns.{IsTurn, IsRefusal, Turned};
 ghost use Rattle.node_core.specs.declared.turn.Input.TheVariants as inputs;
@@ -66,6 +67,18 @@ impl PicoNode {
     {
         match &self.state {
             Some(node) => node.is_born(),
+            None => false,
+        }
+    }
+
+    /// Whether its process has ended and it has handed over all that it held, so that it starts no call any more. Node
+    /// 1 never has: it stays as the leader. It takes no memory.
+    pub fn has_left(&self) -> bool
+        requires whole { IsSome self.now }
+        ensures { IfSome self.now (λ n. result ≡ has_left n) }
+    {
+        match &self.state {
+            Some(node) => node.has_left(),
             None => false,
         }
     }

@@ -7,11 +7,12 @@ ghost use Rattle.node_state.specs.Turning.{IsFresh};
 ghost use Rattle.node_state.specs.declared.fault.TurnFault.TheVariants.{Memory as OutOfMemory};
 ghost use Rattle.world_model.specs.Starting.{run};
 ghost use Rattle.world_model.specs.Turn.{take_frame};
+ghost use Rattle.node_core.specs.Lives.{has_left};
 ghost use Rattle.node_core.specs.Step.{IsOnto, Follows};
 
 use crate::rules::take_frame;
 use crate::turn::Turn;
-use node_state::{Growing, Sends, State, TurnFault};
+use node_state::{Growing, Sends, Stage, State, TurnFault};
 use pico_base::{Entries, Memory, Node, Script};
 use rpc_frame::Frame;
 use start_rules::run;
@@ -156,6 +157,13 @@ impl Unspent {
         ensures { result ≡ is_born self.now }
     {
         self.step.node.is_born()
+    }
+
+    /// Whether its process has ended and it has handed over what it held.
+    pub(crate) fn has_left(&self) -> bool
+        ensures { result ≡ has_left self.now }
+    {
+        matches!(self.step.node.stage, Stage::Left)
     }
 
     /// The process starts its next call, and what that makes follows behind what was made before. After a refusal for

@@ -1,9 +1,10 @@
 //! A node that logs, as its thread sees it.
-ghost use Rattle.std.specs.Prelude.{◌≡◌, ◌≢◌, ◌≤◌, [], length, map, IfOk, IsSome, None, Some, vec_capacity};
+ghost use Rattle.std.specs.Prelude.{◌≡◌, ◌≢◌, ◌≤◌, true, [], length, map, IfOk, IfSome, IsSome, None, Some, vec_capacity};
 ghost use Rattle.std.specs.List.{AllByRecursion};
 ghost use Rattle.kernel_model.specs.Script.{IsSoundScript};
 ghost use Rattle.log_model.specs.Logged.{IsOfScript};
 ghost use Rattle.log_model.specs.Turns.{Turned};
+ghost use Rattle.node_core.specs.Lives.{has_left};
 ghost use Rattle.log_model.specs.declared.answer.LogFault.TheVariants as faults;
 ghost use Rattle.node_lines.specs.Lines.{AreSameLines};
 ghost use Rattle.node_log.specs.Steps.{IsSameSeat};
@@ -130,6 +131,14 @@ impl Logged {
         ensures { result ≡ self.now.fault }
     {
         self.fault
+    }
+
+    /// Whether its node has handed over all that it held, as [`PicoNode::has_left`] says. It is asked of a node that
+    /// isn't spent.
+    pub fn has_left(&self) -> bool
+        ensures { result ≡ true → IfSome self.now.node (λ n. has_left n ≡ true) }
+    {
+        self.fault.is_none() && self.works.has_left()
     }
 
     /// Makes one turn: it takes the frame that its looks complete, or else runs a line if it can. The event gets its

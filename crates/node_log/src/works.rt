@@ -10,6 +10,7 @@ ghost use Rattle.log_model.specs.Forkers.{forker_of};
 ghost use Rattle.log_model.specs.Logged.{IsOfScript};
 ghost use Rattle.log_model.specs.Turns.{IsTurnOrSpent, floor_of, may_send, rule_of};
 ghost use Rattle.node_lines.specs.Lines.{after_silences};
+ghost use Rattle.node_core.specs.Lives.{has_left};
 ghost use Rattle.node_log.specs.Steps.{IsWaiting, IsSentTurn, HasNoStep, IsTurnFault, IsStampFault, sent_step};
 
 use crate::looks::found_by;
@@ -208,6 +209,14 @@ impl Works {
         ensures { result ≡ true → IfSome self.now.node IsWaiting }
     {
         are_silent(self.lines.as_slice()) && self.node.born() && !self.node.can_run()
+    }
+
+    /// Whether its node has handed over all that it held.
+    pub fn has_left(&self) -> bool
+        requires whole { IsSome self.now.node }
+        ensures { IfSome self.now.node (λ n. result ≡ has_left n) }
+    {
+        self.node.has_left()
     }
 
     /// Notes so many looks at each stream that found nothing.

@@ -27,8 +27,8 @@ impl Beds {
         self.company.goes_on();
     }
 
-    /// A node's thread found nothing for a while: it sleeps until something is sent to it. Once all are called it goes on
-    /// at once, since then it makes its last turns.
+    /// A node's thread found nothing for a while: it sleeps until something is sent to it. Once all are called it goes
+    /// on at once, since then it makes its last turns.
     #[cold]
     pub fn sleep<R: Wait>(&self, rt: &R, node: Node) {
         if self.company.is_called() {

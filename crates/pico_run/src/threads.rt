@@ -13,6 +13,7 @@ use logged_laws::turns_keep_logs;
 use node_log::{Logged, TurnAnswer};
 use pico_base::{Node, Script};
 use std::sync::Wait;
+use std::thread;
 use std::thread::{Threads, for_each_mut};
 
 /// After so many idle turns in a row a thread leaves.
@@ -23,6 +24,21 @@ const FIRST: u64 = 64;
 
 /// And again after each so many more.
 const SOME: u64 = 1024;
+
+/// A thread whose node has left waits for nothing: it makes its idle turns at once, while others are at work, but for
+/// so many, between which it sleeps. For half a second somebody may still ask it for what it doesn't hold any more.
+const LAST: u64 = 50;
+
+/// Sleeps until something is sent to the node, if it is time to; else the others are let on.
+#[cold]
+fn sleep_if_due<R: Wait>(rt: &R, beds: &Beds, node: Node, logged: &Logged) {
+    let is_late = logged.quiet() >= QUIET - LAST;
+    if logged.has_left() == is_late {
+        beds.sleep(rt, node);
+    } else {
+        thread::yield_now();
+    }
+}
 
 /// Makes turns of a node until it is quiet, or a turn has a fault. The gate is passed before each turn, and told of
 /// each event. After some idle turns in a row it sleeps until something is sent to the node.
@@ -53,11 +69,12 @@ fn turn_until_quiet<R: Wait, G: Gate>(
             }
             TurnAnswer::Piece => {}
             TurnAnswer::Idle => {
-                if logged.quiet() >= QUIET {
+                let quiet = logged.quiet();
+                if quiet >= QUIET {
                     return;
                 }
-                if logged.quiet() % SOME == FIRST {
-                    beds.sleep(rt, node);
+                if quiet % SOME == FIRST || quiet >= QUIET - LAST {
+                    sleep_if_due(rt, beds, node, logged);
                 }
             }
             _ => return,
