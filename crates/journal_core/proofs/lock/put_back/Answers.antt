@@ -5,8 +5,8 @@ use Rattle.journal_core.specs.Steps.{Mine, PutsBack, done}
 use Rattle.journal_core.proofs.Turns.{puts}
 use Rattle.journal_core.proofs.lock.put_back.Goals as goal
 
-pub fetch_add-served-requires : goal.fetch_add-served-requires
-fetch_add-served-requires c =
+pub fetch_add-requires : goal.fetch_add-requires
+fetch_add-requires c =
     let words = c.requires.board.0.0 in
     let key = c.args.board.now.key in
     let slots = c.args.board.now.table_id.slots in
@@ -24,4 +24,4 @@ pub returns-clause-done : goal.returns-clause-done
 returns-clause-done c =
     let old = c.args.seat.now.me in
     let me = c.exchange.ensures.3 ∙ ap (λ l. (old.0, (0, c.args.journal) ∷ rest l)) c.requires.grown.slot in
-    c.fetch_add-served.ensures.2 c.args.journal (ap (λ m. m.1) me) ∙ ap (λ (m : Mine). (done m.0 c.args.journal, [])) me
+    c.fetch_add.ensures.2 c.args.journal (ap (λ m. m.1) me) ∙ ap (λ (m : Mine). (done m.0 c.args.journal, [])) me
