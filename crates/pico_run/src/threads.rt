@@ -40,6 +40,15 @@ fn sleep_if_due<R: Wait>(rt: &R, beds: &Beds, node: Node, logged: &Logged) {
     }
 }
 
+/// Rests after some of the turns that found nothing.
+#[inline(always)]
+fn rest_at_times<R: Wait>(rt: &R, beds: &Beds, node: Node, logged: &Logged) {
+    let quiet = logged.quiet();
+    if quiet % SOME == FIRST || quiet >= QUIET - LAST {
+        sleep_if_due(rt, beds, node, logged);
+    }
+}
+
 /// Makes turns of a node until it is quiet, or a turn has a fault. The gate is passed before each turn, and told of
 /// each event. After some idle turns in a row it sleeps until something is sent to the node.
 fn turn_until_quiet<R: Wait, G: Gate>(
@@ -69,13 +78,10 @@ fn turn_until_quiet<R: Wait, G: Gate>(
             }
             TurnAnswer::Piece => {}
             TurnAnswer::Idle => {
-                let quiet = logged.quiet();
-                if quiet >= QUIET {
+                if logged.quiet() >= QUIET {
                     return;
                 }
-                if quiet % SOME == FIRST || quiet >= QUIET - LAST {
-                    sleep_if_due(rt, beds, node, logged);
-                }
+                rest_at_times(rt, beds, node, logged);
             }
             _ => return,
         }

@@ -23,16 +23,6 @@ loop-preserved-in-Piece g c = record {
       c.turn.ensures.lines c.turn.ensures.seat c.turn.ensures.number;
 }
 
-pub loop-preserved-then-quiet-eq-FIRST : goal.loop-preserved-then-quiet-eq-FIRST
-loop-preserved-then-quiet-eq-FIRST g c = record {
-  can_next = tt;
-  is_finite = tt;
-  turning =
-      turning-more c.args.script.now c.args.lock.now c.args.logged.now c.loop.logged c.turn.new.self c.turn.result
-      c.turns_keep_logs.ensures c.loop.invariant.turning c.turn.ensures.turned c.turn.ensures.script
-      c.turn.ensures.lines c.turn.ensures.seat c.turn.ensures.number;
-}
-
 pub loop-preserved : goal.loop-preserved
 loop-preserved g c = record {
   can_next = tt;
