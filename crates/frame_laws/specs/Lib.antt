@@ -1,3 +1,1 @@
-pub mod Within
-pub mod Entered
 pub mod Laws
