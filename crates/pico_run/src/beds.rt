@@ -6,7 +6,7 @@ use stream_pair::{Bell, Company};
 
 /// The longest sleep, in milliseconds: after that a thread looks by itself, so that no mistake among sleepers can hold
 /// a run up for good, and who waits for a thread to leave sees it leave.
-const NAP: u64 = 10;
+const NAP: u64 = 40;
 
 /// The bells of all nodes, by rising node, and the company of their receivers.
 #[derive(Drop)]

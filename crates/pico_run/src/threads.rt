@@ -23,11 +23,11 @@ const QUIET: u64 = 100_000;
 const FIRST: u64 = 64;
 
 /// And again after each so many more.
-const SOME: u64 = 1024;
+const SOME: u64 = 4096;
 
 /// A thread whose node has left waits for nothing: it makes its idle turns at once, while others are at work, but for
 /// so many, between which it sleeps. For half a second somebody may still ask it for what it doesn't hold any more.
-const LAST: u64 = 50;
+const LAST: u64 = 12;
 
 /// Sleeps until something is sent to the node, if it is time to; else the others are let on.
 #[cold]
