@@ -11,7 +11,7 @@ use Rattle.index_links.specs.Chains.{nowhere, blank, or_blank, Chain, Change, ad
 use Rattle.index_links.specs.Keys.{key_of, class_of}
 use Rattle.index_links.specs.Nodes.{Node}
 use Rattle.index_links.proofs.Paths.{Lack, path_same, path_last_has}
-use Rattle.index_links.proofs.Linked.{IsValid, linked_else, chain_grown, row_grown, added_other}
+use Rattle.index_links.proofs.Linked.{IsValid, linked_else, chain_grown, added_other}
 use Rattle.index_links.proofs.Standing.{all_behind, all_map, all_both, InClass, HasKey, alike_else, arrival_else, in_class, in_class_valid, lack_all, lack_nowhere, lack_of_key, of_key_join, of_key_other, of_key_same, slots_behind, stands_else, stands_relinked, valid_arrival}
 
 module _ {V : Type 0} where
@@ -170,21 +170,6 @@ module _ {V : Type 0} where
         (all_both (λ i. i ≢ n.slot) (InClass p0 q) (slots (of_key q ns)) (lack_of_key n.slot q ns lack)
         (in_class p0 q ns k.stand)) begin (k.each q))
 
-    filled : (q : ℕ) (row : Link) → get rows' q ≡ Some row → row.next ≢ nowhere
-    filled q row there =
-        elim (cases_eq q key) [
-          | inl same ↦
-              let is : get rows' q ≡ Some (added (row_at rows key).back n.slot nowhere (row_at rows key)) =
-              rw same (ap (λ (m : Numbered Link). get m key) a.in_rows ∙ get-put-same rows key grown) in
-              let next : Some (added (row_at rows key).back n.slot nowhere (row_at rows key)).next ≡ Some row.next =
-              ap (option_map (λ (l : Link). l.next)) (sym is ∙ there) in
-              let one : (added (row_at rows key).back n.slot nowhere (row_at rows key)).next ≡ row.next = cc in
-              λ e. row_grown (get rows key) n.slot (k.filled key) a.some (one ∙ e)
-          | inr ne ↦
-              k.filled q row (sym (ap
-              (λ (m : Numbered Link). get m q) a.in_rows ∙ get-put-other rows key grown q ne) ∙ there)
-        ]
-
     pub kept_added : AreKept p2 rows' ends' (ns ++ n ∷ [])
     kept_added = record {
       few = a.few;
@@ -198,5 +183,4 @@ module _ {V : Type 0} where
                 (sym same) each_same
             | inr ne ↦ each_other q ne
           ];
-      filled = filled;
     }

@@ -5,7 +5,7 @@ use Rattle.std.specs.List.{AllByRecursion}
 use Rattle.number_maps.specs.Maps.{Numbered, get, put, without}
 use Rattle.number_maps.proofs.LookUps.{get-put-same, get-put-other, get-without-same, get-without-other}
 use Rattle.index_links.specs.declared.places.Link.{Link}
-use Rattle.index_links.specs.Chains.{nowhere, blank, or_blank, Change, Chain, joined, added, linked, row_of}
+use Rattle.index_links.specs.Chains.{nowhere, blank, or_blank, Change, Chain, joined, added, linked, row_at, row_of}
 use Rattle.index_links.proofs.Paths.{Lack, Stay, Closes, Grows, path_cut, path_into, path_onto, path_beside, path_last, path_last_has, path_grows}
 
 -- a number of no place, or of one that has a link
@@ -248,44 +248,43 @@ row_of_is row empty =
       | inr some ↦ rw (ne_eqb row.next nowhere some) refl
     ]
 
--- a row that is kept leads somewhere
-pub row_of_some : (row kept : Link) → row_of row ≡ Some kept → kept.next ≢ nowhere
-row_of_some row kept is =
-    elim (cases_eq row.next nowhere) [
-      | inl ends ↦ let none : row_of row ≡ None = rw (eq-eqb row.next nowhere ends) refl in
-          let clash : None ≡ Some kept = sym none ∙ is in absurd (cc)
-      | inr some ↦ λ ends.
-          let kept_is : row_of row ≡ Some row = rw (ne_eqb row.next nowhere some) refl in
-          let same : Some row.next ≡ Some kept.next = ap (option_map (λ (k : Link). k.next)) (sym kept_is ∙ is) in
-          some (let one : row.next ≡ kept.next = cc in one ∙ ends)
+-- rows of which the one of a class was written
+pub row_written : (m : Numbered Link) (key q : ℕ) (row : Link) → row.next ≢ nowhere
+    → row_at (put m key row) q ≡ (if nat_eq q key then or_blank (row_of row) else row_at m q)
+row_written m key q row some =
+    let kept : row_of row ≡ Some row = rw (ne_eqb row.next nowhere some) refl in
+    elim (cases_eq q key) [
+      | inl same ↦ rw (same, eq-eqb key key refl) (ap or_blank (get-put-same m key row ∙ sym kept))
+      | inr ne ↦ rw (ne_eqb q key ne) (ap or_blank (get-put-other m key row q ne))
     ]
 
--- a row with one place more isn't empty
-pub row_grown : (o : Option Link) (at : ℕ) → ((row : Link) → o ≡ Some row → row.next ≢ nowhere) → at ≢ nowhere
-    → (added (or_blank o).back at nowhere (or_blank o)).next ≢ nowhere
-row_grown None at filled some = rw (ne_eqb nowhere at (λ e. some (sym e))) some
-row_grown (Some row) at filled some =
-    elim (cases_eq nowhere row.back) [
-      | inl same ↦ rw (ne_eqb nowhere at (λ e. some (sym e)), eq-eqb nowhere row.back same) some
-      | inr other ↦ rw (ne_eqb nowhere at (λ e. some (sym e)), ne_eqb nowhere row.back other) (filled row refl)
+-- rows of which the one of a class came to lead nowhere, and stays
+pub row_emptied : (m : Numbered Link) (key q : ℕ) (row : Link) → row.next ≡ nowhere
+    → row_at (put m key blank) q ≡ (if nat_eq q key then or_blank (row_of row) else row_at m q)
+row_emptied m key q row ends =
+    let none : row_of row ≡ None = rw (eq-eqb row.next nowhere ends) refl in
+    elim (cases_eq q key) [
+      | inl same ↦
+          rw (same, eq-eqb key key refl) (ap or_blank (get-put-same m key blank) ∙ sym (ap or_blank none))
+      | inr ne ↦ rw (ne_eqb q key ne) (ap or_blank (get-put-other m key blank q ne))
     ]
 
--- a map of rows whose row at a class was written, or taken out
+-- rows of which the one of a class came to lead nowhere, and was taken out
 pub row_taken : (m : Numbered Link) (key q : ℕ) (row : Link) → row.next ≡ nowhere
-    → get (without m key) q ≡ (if nat_eq q key then row_of row else get m q)
+    → row_at (without m key) q ≡ (if nat_eq q key then or_blank (row_of row) else row_at m q)
 row_taken m key q row ends =
     let none : row_of row ≡ None = rw (eq-eqb row.next nowhere ends) refl in
     elim (cases_eq q key) [
-      | inl same ↦ rw (same, eq-eqb key key refl) (get-without-same m key ∙ sym none)
-      | inr ne ↦ rw (ne_eqb q key ne) (get-without-other m key q ne)
+      | inl same ↦ rw (same, eq-eqb key key refl) (ap or_blank (get-without-same m key ∙ sym none))
+      | inr ne ↦ rw (ne_eqb q key ne) (ap or_blank (get-without-other m key q ne))
     ]
 
--- and whose row at a class was written
-pub row_put : (m : Numbered Link) (key q : ℕ) (row : Link) → row.next ≢ nowhere
-    → get (put m key row) q ≡ (if nat_eq q key then row_of row else get m q)
-row_put m key q row some =
-    let kept : row_of row ≡ Some row = rw (ne_eqb row.next nowhere some) refl in
+-- one more row that leads nowhere
+pub blank_more : (m m' : Numbered Link) (key : ℕ) → m' ≡ put m key blank → ((q : ℕ) → row_at m q ≡ blank) → (q : ℕ)
+    → row_at m' q ≡ blank
+blank_more m m' key is each q =
+    let put_in : row_at m' q ≡ row_at (put m key blank) q = ap (λ (n : Numbered Link). row_at n q) is in
     elim (cases_eq q key) [
-      | inl same ↦ rw (same, eq-eqb key key refl) (get-put-same m key row ∙ sym kept)
-      | inr ne ↦ rw (ne_eqb q key ne) (get-put-other m key row q ne)
+      | inl same ↦ put_in ∙ rw same (ap or_blank (get-put-same m key blank))
+      | inr ne ↦ put_in ∙ (ap or_blank (get-put-other m key blank q ne) ∙ each q)
     ]

@@ -2,14 +2,14 @@
 use Rattle.std.proofs.Common.{◌≡◌, ◌≢◌, ℕ, ◌≤◌, List, [], ◌∷◌, ◌++◌, length, Some, option_map, nat_eq, if◌then◌else◌, refl, sym, ap, subst, ◌∙◌, inl, inr}
 use Rattle.std.proofs.lemmas.Bool.{cases_eq, eq-eqb, ne_eqb}
 use Rattle.std.specs.List.{AllByRecursion, slice_get}
-use Rattle.number_maps.specs.Maps.{Numbered, get}
+use Rattle.number_maps.specs.Maps.{Numbered}
 use Rattle.index_links.specs.declared.places.Link.{Link}
 use Rattle.index_links.specs.declared.places.Place.{Place}
 use Rattle.index_links.specs.Chains.{nowhere, or_blank, Chain, Change, joined, linked, row_at, row_of, arrival_links, alike_links, AreRelinked, slots, of_key, Stands, LackSlot, HaveOwnSlots, AreKept}
 use Rattle.index_links.specs.Keys.{key_of}
 use Rattle.index_links.specs.Nodes.{Node}
 use Rattle.index_links.proofs.Paths.{Lack, path_into, path_onto, path_stays}
-use Rattle.index_links.proofs.Linked.{IsValid, linked_else, chain_cut, cut_others, row_empty, row_of_is, row_of_some}
+use Rattle.index_links.proofs.Linked.{IsValid, linked_else, chain_cut, cut_others, row_empty, row_of_is}
 use Rattle.index_links.proofs.Standing.{all_both, all_join, all_map, all_parts, InClass, alike_else, arrival_else, in_class, in_class_valid, lack_all, lack_nowhere, lack_of_key, of_key_join, of_key_other, of_key_same, slot_some, slots_join, stands_else, stands_relinked, valid_arrival}
 
 module _ {V : Type 0} where
@@ -38,9 +38,9 @@ module _ {V : Type 0} where
     pub others : (i : ℕ) → i ≢ x → slice_get p1 i ≡ slice_get p0 i
     pub relinked : AreRelinked (joined q.arrival.back q.arrival.next) (joined q.alike.back q.alike.next) p1 p2
     pub at_end : ends' ≡ joined q.arrival.back q.arrival.next nowhere ends
-    pub in_rows : (key : ℕ) → get rows' key
-        ≡ (if nat_eq key q.key then row_of (joined q.alike.back q.alike.next nowhere (row_at rows q.key))
-        else get rows key)
+    pub in_rows : (key : ℕ) → row_at rows' key
+        ≡ (if nat_eq key q.key then or_blank (row_of (joined q.alike.back q.alike.next nowhere (row_at rows q.key)))
+        else row_at rows key)
     pub few : length p2 ≤ nowhere
 
   module _ (p0 p1 p2 : List (Place V)) (rows rows' : Numbered Link) (ends ends' : Link) (before : List (Node V))
@@ -119,12 +119,12 @@ module _ {V : Type 0} where
 
     row_same : row_at rows' q.key ≡ row
     row_same =
-        ap or_blank (rw (eq-eqb q.key q.key refl) at (c.in_rows q.key))
+        rw (eq-eqb q.key q.key refl) at (c.in_rows q.key)
         ∙ row_of_is row
         (row_empty row (alike_links p2) (slots (of_key q.key before) ++ slots (of_key q.key after)) lack_ends cut)
 
-    get_other : (key : ℕ) → key ≢ q.key → get rows' key ≡ get rows key
-    get_other key ne = rw (ne_eqb key q.key ne) at (c.in_rows key)
+    row_other : (key : ℕ) → key ≢ q.key → row_at rows' key ≡ row_at rows key
+    row_other key ne = rw (ne_eqb key q.key ne) at (c.in_rows key)
 
     each_same : Chain (linked (row_at rows' q.key) (alike_links p2)) (slots (of_key q.key (before ++ after)))
     each_same =
@@ -159,18 +159,11 @@ module _ {V : Type 0} where
         ∙ sym (of_key_join key before after)))
         (k.each key) in
         subst (λ (l : Link). Chain (linked l (alike_links p2)) (slots (of_key key (before ++ after))))
-        (sym (ap or_blank (get_other key ne)))
+        (sym (row_other key ne))
         (path_stays (linked (row_at rows key) (alike_links p0)) (linked (row_at rows key) (alike_links p2)) n.slot
         (cut_others (row_at rows key) (row_at rows q.key) (alike_links p0) (alike_links p2) n.slot q.alike
         (alike_else f g n.slot p0 p1 p2 c.others c.relinked) into onto) nowhere (slots (of_key key (before ++ after)))
         nowhere apart lacks apart old)
-
-    filled : (key : ℕ) (kept : Link) → get rows' key ≡ Some kept → kept.next ≢ nowhere
-    filled key kept there =
-        elim (cases_eq key q.key) [
-          | inl same ↦ row_of_some row kept (sym (rw (eq-eqb key q.key same) at (c.in_rows key)) ∙ there)
-          | inr ne ↦ k.filled key kept (sym (get_other key ne) ∙ there)
-        ]
 
     pub kept_removed : AreKept p2 rows' ends' (before ++ after)
     kept_removed = record {
@@ -186,5 +179,4 @@ module _ {V : Type 0} where
                 (sym same) each_same
             | inr ne ↦ each_other key ne
           ];
-      filled = filled;
     }

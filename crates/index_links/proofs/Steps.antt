@@ -244,9 +244,9 @@ module _ {V : Type 0} where
       → AreRelinked (joined q.arrival.back q.arrival.next) stays p1 p2
       → AreRelinked stays (joined q.alike.back q.alike.next) p2 p3
       → ends' ≡ joined q.arrival.back q.arrival.next nowhere ends
-      → ((key : ℕ) → get rows' key
-      ≡ (if nat_eq key q.key then row_of (joined q.alike.back q.alike.next nowhere (row_at rows q.key))
-      else get rows key)) → length p3 ≤ nowhere → IsCut p0 p1 p3 rows rows' ends ends' x q
+      → ((key : ℕ) → row_at rows' key
+      ≡ (if nat_eq key q.key then or_blank (row_of (joined q.alike.back q.alike.next nowhere (row_at rows q.key)))
+      else row_at rows key)) → length p3 ≤ nowhere → IsCut p0 p1 p3 rows rows' ends ends' x q
   is_cut p0 p1 p2 p3 rows rows' ends ends' x q there others all alike at_end in_rows few = record {
     there = there;
     others = others;

@@ -63,6 +63,11 @@ row_at rows key = or_blank (get rows key)
 abbrev pub row_of : Link → Option Link
 row_of row = if nat_eq row.next nowhere then None else Some row
 
+-- the number of the first row that leads somewhere
+abbrev pub first_filled : Numbered Link → Option ℕ
+first_filled [] = None
+first_filled (e ∷ rows) = if nat_eq e.1.next nowhere then first_filled rows else Some e.0
+
 -- the slot at a place, unless it is the number of none
 abbrev pub slot_or_none : ℕ → Option ℕ
 slot_or_none at = if nat_eq at nowhere then None else Some at
@@ -138,15 +143,14 @@ module _ {V : Type 0} where
   HaveOwnSlots [] = Unit {0}
   HaveOwnSlots (n ∷ ns) = LackSlot n.slot ns × HaveOwnSlots ns
 
-  -- the nodes are kept: each in its place, one chain over all in order, and one over those of each class. A class has a
-  -- row exactly where a node has it
+  -- the nodes are kept: each in its place, one chain over all in order, and one over those of each class. A class that no
+  -- node has may have a row that leads nowhere
   pub record AreKept (places : List (Place V)) (rows : Numbered Link) (ends : Link) (ns : List (Node V)) : Type 0 where
     pub few : length places ≤ nowhere
     pub stand : AllByRecursion (Stands places) ns
     pub own : HaveOwnSlots ns
     pub all : Chain (linked ends (arrival_links places)) (slots ns)
     pub each : (key : ℕ) → Chain (linked (row_at rows key) (alike_links places)) (slots (of_key key ns))
-    pub filled : (key : ℕ) (row : Link) → get rows key ≡ Some row → row.next ≢ nowhere
 
   -- some nodes are kept, so many
   pub record IsKept (places : List (Place V)) (rows : Numbered Link) (ends : Link) (len : ℕ) : Type 0 where

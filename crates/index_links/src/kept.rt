@@ -1,7 +1,7 @@
 //! Nodes in their places, with the chains that lead over them.
-ghost use Rattle.std.specs.Prelude.{◌≡◌, ◌≢◌, ℕ, ◌+◌, ◌<◌, ◌≤◌, ◌∷◌, ◌++◌, [], Some, None, IsOk, IsSome, IfSome, OnOk, length, nat_eq, if◌then◌else◌, option_map, slice_get, vec_capacity};
+ghost use Rattle.std.specs.Prelude.{◌≡◌, ◌≢◌, ℕ, ◌+◌, ◌<◌, ◌≤◌, ◌∷◌, ◌++◌, [], Some, None, IsOk, IsSome, IfOk, IfSome, OnOk, length, nat_eq, if◌then◌else◌, option_map, slice_get, vec_capacity};
 ghost use Rattle.number_maps.specs.Maps.{get, put};
-ghost use Rattle.index_links.specs.Chains.{nowhere, stays, joined, added, row_at, row_of as kept_row, AreRelinked, IsKept, Shrunk, spare_of, walk};
+ghost use Rattle.index_links.specs.Chains.{nowhere, blank, or_blank, stays, joined, added, row_at, row_of as kept_row, first_filled, AreRelinked, IsKept, Shrunk, spare_of, walk};
 ghost use Rattle.index_links.specs.Keys.{class_of as class, key_of as key_number};
 ghost use Rattle.index_links.specs.Nodes.{IsThere, node_at, without, first_slot, first_slot_of, slot_after, least_upto};
 
@@ -17,7 +17,7 @@ use std::alloc::Global;
 #[derive(Drop)]
 pub(crate) struct Kept<T> {
     pub(crate) places: Vec<Place<T>>,
-    // where the chain of each class that is there begins and ends
+    // where the chain of each class that is there begins and ends; a class that was there may have a row, too
     pub(crate) rows: Table<Link>,
     // where the chain of all begins and ends
     pub(crate) ends: Link,
@@ -42,6 +42,32 @@ pub(crate) fn row_of(rows: &Table<Link>, key: u32) -> Link
         Some(row) => *row,
         None => BLANK,
     }
+}
+
+/// The number of the first row that leads somewhere.
+pub(crate) fn first_filled(rows: &[(u32, Link)]) -> Option<u32>
+    ensures { result ≡ first_filled rows.now }
+{
+    for row in rows {
+        if row.1.next != NOWHERE {
+            return Some(row.0);
+        }
+    }
+    None
+}
+
+/// A row that leads nowhere for each class of some rows that leads somewhere, so that it needn't be put in again.
+fn blank_rows(alloc: Global, rows: &[(u32, Link)]) -> Result<Table<Link>, Memory>
+    ensures { IfOk result (λ fresh. (q : ℕ) → row_at fresh.entries q ≡ blank) }
+{
+    let mut fresh = Table::new(alloc);
+    fresh.reserve_for(rows.len())?;
+    for row in rows {
+        if row.1.next != NOWHERE {
+            fresh.insert(row.0, BLANK)?;
+        }
+    }
+    Ok(fresh)
 }
 
 /// Takes room for so many more nodes, unless it is there.
@@ -87,37 +113,49 @@ fn add_to_class<T>(places: &mut [Place<T>], rows: &mut Table<Link>, key: u32, at
     rows.set(key, row);
 }
 
-/// Writes the row of a class, or takes it out where it leads nowhere.
-fn write_row(rows: &mut Table<Link>, key: u32, row: Link)
+/// How many rows more than two for each node there may be: so a row mostly stays where its class will come again, and
+/// those that lead nowhere are few.
+const MORE_ROWS: usize = 64;
+
+/// Writes the row of a class. Where it leads nowhere it is taken out if there are many rows for so many nodes.
+fn write_row(rows: &mut Table<Link>, key: u32, row: Link, len: u32)
     requires { IsSome (get rows.old.entries key) }
-    ensures rows { (q : ℕ)
-        → get rows.new.entries q ≡ (if nat_eq q key then kept_row row else get rows.old.entries q) }
+    ensures rows { (q : ℕ) → row_at rows.new.entries q
+        ≡ (if nat_eq q key then or_blank (kept_row row) else row_at rows.old.entries q) }
     ensures len { length rows.new.entries ≤ length rows.old.entries }
     ensures capacity { rows.new.capacity ≡ rows.old.capacity }
 {
-    if row.next == NOWHERE {
+    if row.next != NOWHERE {
+        *rows.entry_mut(key) = row;
+    } else if rows.len().saturating_sub(MORE_ROWS) / 2 > len as usize {
         let _ = rows.take(key);
     } else {
-        *rows.entry_mut(key) = row;
+        *rows.entry_mut(key) = BLANK;
     }
 }
 
-/// Joins those beside a place that was taken out of its class.
-fn take_from_class<T>(places: &mut [Place<T>], rows: &mut Table<Link>, key: u32, link: Link)
+/// Joins those beside a place that was taken out of its class, of so many nodes.
+fn take_from_class<T>(
+    places: &mut [Place<T>],
+    rows: &mut Table<Link>,
+    key: u32,
+    link: Link,
+    len: u32,
+)
     requires few { length places.old ≤ nowhere }
     requires back { link.back ≢ nowhere → link.back < length places.old }
     requires next { link.next ≢ nowhere → link.next < length places.old }
     requires there { IsSome (get rows.old.entries key) }
     ensures places { AreRelinked stays (joined link.back link.next) places.old places.new }
-    ensures rows { (q : ℕ) → get rows.new.entries q
-        ≡ (if nat_eq q key then kept_row (joined link.back link.next nowhere (row_at rows.old.entries key))
-        else get rows.old.entries q) }
+    ensures rows { (q : ℕ) → row_at rows.new.entries q
+        ≡ (if nat_eq q key then or_blank (kept_row (joined link.back link.next nowhere (row_at rows.old.entries key)))
+        else row_at rows.old.entries q) }
     ensures len { length rows.new.entries ≤ length rows.old.entries }
     ensures capacity { rows.new.capacity ≡ rows.old.capacity }
 {
     let mut row = row_of(rows, key);
     join_alike(places, &mut row, link.back, link.next);
-    write_row(rows, key, row);
+    write_row(rows, key, row, len);
 }
 
 /// Links a node in a place behind all others, and behind the last of its class.
@@ -159,7 +197,7 @@ fn cut_at<T>(
     let place = take_out(places, at, free);
     let link = place.arrival;
     join(places, ends, link.back, link.next);
-    take_from_class(places, rows, place.key, place.alike);
+    take_from_class(places, rows, place.key, place.alike, len);
     place
 }
 
@@ -168,6 +206,8 @@ impl<T> Kept<T> {
     pub(crate) fn new(alloc: Global) -> Kept<T>
         ensures kept { IsKept result.places.items result.rows.entries result.ends result.len }
         ensures none { walk result.len result.places.items result.ends.next ≡ [] }
+        ensures spare { spare_of (length result.places.items) (vec_capacity result.places) (length result.rows.entries)
+            result.rows.capacity ≡ 0 }
     {
         Kept {
             places: Vec::new(alloc),
@@ -176,6 +216,21 @@ impl<T> Kept<T> {
             free: NOWHERE,
             len: 0,
         }
+    }
+
+    /// No nodes, with a row for each class of these that leads somewhere.
+    pub(crate) fn emptied(&self, alloc: Global) -> Result<Kept<T>, Memory>
+        ensures kept { IfOk result (λ k. IsKept k.places.items k.rows.entries k.ends k.len) }
+        ensures none { IfOk result (λ k. walk k.len k.places.items k.ends.next ≡ []) }
+    {
+        let rows = blank_rows(alloc, self.rows.as_slice())?;
+        Ok(Kept {
+            places: Vec::new(alloc),
+            rows,
+            ends: BLANK,
+            free: NOWHERE,
+            len: 0,
+        })
     }
 
     /// Takes room for so many more nodes, unless it is there.
@@ -197,6 +252,7 @@ impl<T> Kept<T> {
     }
 
     /// Adds a node behind the others, for which there is room.
+    #[inline(always)]
     pub(crate) fn add(&mut self, key: u32, value: T) -> u32
     where
         T: Drop,

@@ -3,7 +3,7 @@ ghost use Rattle.std.specs.Prelude.{◌≡◌, ℕ, ◌+◌, ◌<◌, ◌≤◌,
 ghost use Rattle.index_links.specs.Chains.{slot_or_none, HaveOwnSlots};
 ghost use Rattle.index_links.specs.Nodes.{IsThere, node_at, without, first_slot, first_slot_of, slot_after, least_upto};
 
-use crate::kept::{Kept, place_at, row_of};
+use crate::kept::{Kept, first_filled, place_at, row_of};
 use crate::keys::{class_of, key_of};
 use crate::places::NOWHERE;
 use pico_base::Memory;
@@ -63,17 +63,33 @@ fn slot_at(place: u32) -> Option<Slot>
 impl<T> Links<T> {
     /// No values. It takes no memory.
     pub fn new(alloc: Global) -> Links<T>
-        ensures { result.nodes ≡ [] }
+        ensures nodes { result.nodes ≡ [] }
+        ensures spare { result.spare ≡ 0 }
     {
         Links {
             kept: Kept::new(alloc),
         }
     }
 
+    /// No values, with room for so many: quick to be filled with values of the same classes as these.
+    pub fn emptied(&self, alloc: Global, room: u32) -> Result<Links<T>, Memory>
+    where
+        T: Drop,
+        ensures nodes { IfOk result (λ links. links.nodes ≡ []) }
+        ensures spare { IfOk result (λ links. room ≤ links.spare) }
+    {
+        let mut links = Links {
+            kept: self.kept.emptied(alloc)?,
+        };
+        links.reserve(room)?;
+        Ok(links)
+    }
+
     /// Takes room for so many more values, unless it is there. Memory: an allocation was refused, or there would be
     /// more than 4,294,967,295 places. The values stay.
     pub fn reserve(&mut self, more: u32) -> Result<(), Memory>
         ensures ok { OnOk result (more ≤ self.new.spare) }
+        ensures there { more ≤ self.old.spare → IsOk result }
         ensures nodes { self.new.nodes ≡ self.old.nodes }
         ensures spare { self.old.spare ≤ self.new.spare }
     {
@@ -96,6 +112,20 @@ impl<T> Links<T> {
             Ok(()) => Ok(Slot(self.kept.add(key_of(class), value))),
             Err(memory) => Err((memory, value)),
         }
+    }
+
+    /// Adds a value behind the others, for which there is room, in a slot that none of them has. It takes no memory.
+    #[inline(always)]
+    pub fn push_reserved(&mut self, class: i32, value: T) -> Slot
+    where
+        T: Drop,
+        requires { 0 < self.old.spare }
+        ensures new { node_at result self.old.nodes ≡ None }
+        ensures nodes { self.new.nodes
+            ≡ self.old.nodes ++ record { slot = result; class = class; value = value } ∷ [] }
+        ensures spare { self.old.spare ≤ self.new.spare + 1 }
+    {
+        Slot(self.kept.add(key_of(class), value))
     }
 
     /// Takes the value in a slot out. The others keep their order and their slots. It takes no memory.
@@ -138,8 +168,7 @@ impl<T> Links<T> {
         ensures { result ≡ least_upto class self.now.nodes }
     {
         self.kept.rows.rise();
-        let (key, _) = *self.kept.rows.as_slice().first()?;
-        let least = class_of(key);
+        let least = class_of(first_filled(self.kept.rows.as_slice())?);
         if least <= class { Some(least) } else { None }
     }
 
@@ -152,6 +181,14 @@ impl<T> Links<T> {
             Some(value) => value,
             None => unreachable!(),
         }
+    }
+
+    /// The class of the value in a slot.
+    pub fn class(&self, slot: Slot) -> i32
+        requires { IsThere slot self.now.nodes }
+        ensures { option_map (λ n. n.class) (node_at slot self.now.nodes) ≡ Some result }
+    {
+        class_of(place_at(&self.kept.places, slot.0).key)
     }
 
     /// No two values have one slot.
