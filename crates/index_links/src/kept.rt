@@ -56,16 +56,14 @@ pub(crate) fn first_filled(rows: &[(u32, Link)]) -> Option<u32>
     None
 }
 
-/// A row that leads nowhere for each class of some rows that leads somewhere, so that it needn't be put in again.
+/// A row that leads nowhere for each class of some rows, so that it needn't be put in again.
 fn blank_rows(alloc: Global, rows: &[(u32, Link)]) -> Result<Table<Link>, Memory>
     ensures { IfOk result (λ fresh. (q : ℕ) → row_at fresh.entries q ≡ blank) }
 {
     let mut fresh = Table::new(alloc);
     fresh.reserve_for(rows.len())?;
     for row in rows {
-        if row.1.next != NOWHERE {
-            fresh.insert(row.0, BLANK)?;
-        }
+        fresh.insert(row.0, BLANK)?;
     }
     Ok(fresh)
 }
@@ -108,9 +106,14 @@ fn add_to_class<T>(places: &mut [Place<T>], rows: &mut Table<Link>, key: u32, at
     ensures len { length rows.new.entries ≤ length rows.old.entries + 1 }
     ensures capacity { rows.new.capacity ≡ rows.old.capacity }
 {
-    let mut row = row_of(rows, key);
-    add_alike(places, &mut row, at);
-    rows.set(key, row);
+    match rows.find(key) {
+        Some(place) => add_alike(places, rows.value_mut(key, place), at),
+        None => {
+            let mut row = BLANK;
+            add_alike(places, &mut row, at);
+            rows.put(key, row);
+        }
+    }
 }
 
 /// How many rows more than two for each node there may be: so a row mostly stays where its class will come again, and
@@ -218,7 +221,7 @@ impl<T> Kept<T> {
         }
     }
 
-    /// No nodes, with a row for each class of these that leads somewhere.
+    /// No nodes, with a row for each class of these.
     pub(crate) fn emptied(&self, alloc: Global) -> Result<Kept<T>, Memory>
         ensures kept { IfOk result (λ k. IsKept k.places.items k.rows.entries k.ends k.len) }
         ensures none { IfOk result (λ k. walk k.len k.places.items k.ends.next ≡ []) }
@@ -252,7 +255,6 @@ impl<T> Kept<T> {
     }
 
     /// Adds a node behind the others, for which there is room.
-    #[inline(always)]
     pub(crate) fn add(&mut self, key: u32, value: T) -> u32
     where
         T: Drop,

@@ -115,7 +115,6 @@ impl<T> Links<T> {
     }
 
     /// Adds a value behind the others, for which there is room, in a slot that none of them has. It takes no memory.
-    #[inline(always)]
     pub fn push_reserved(&mut self, class: i32, value: T) -> Slot
     where
         T: Drop,

@@ -5,9 +5,8 @@ use Rattle.std.specs.Int.{w32, to_be_bytes, cast_unsigned}
 use Rattle.std.proofs.lemmas.List.{take_at, drop_at, map-append, length-append}
 use Rattle.kernel_model.specs.Queue.{Message, max_text}
 use Rattle.body_fields.proofs.Fields.{IsBytes}
-use Rattle.sysv_msg.specs.declared.store.Head.{Head}
 use Rattle.sysv_msg.specs.Body.{message_field}
-use Rattle.sysv_msg.specs.Heads.{IsWithin, text_in, message_in, messages_in}
+use Rattle.sysv_msg.specs.Heads.{Head, IsWithin, text_in, message_in, messages_in}
 use Rattle.sysv_msg.specs.Reading.{message_at, messages_at}
 use Rattle.sysv_msg.proofs.Heads.{all_joined}
 use Rattle.sysv_msg.proofs.Loop.{HasRead, begins, has_read_more}
@@ -28,8 +27,8 @@ pub begins_copying : (count : ℕ) (bytes : List ℕ) → IsBytes bytes
 begins_copying count bytes fits =
     record { before = []; parts = refl; fits = fits; within = tt; read = begins count bytes }
 
-text_there : (front text after bytes : List ℕ) (h : Head) → bytes ≡ front ++ (text ++ after) → h.start ≡ length front
-    → h.len ≡ length text → text_in bytes h ≡ text
+text_there : (front text after bytes : List ℕ) (h : Head) → bytes ≡ front ++ (text ++ after) → h.value.start ≡ length front
+    → h.value.len ≡ length text → text_in bytes h.value ≡ text
 text_there front text after bytes h is start len =
     rw (is, start, len) (ap (take (length text)) (drop_at front (text ++ after) (length front) refl)
     ∙ take_at text after (length text) refl)
@@ -76,13 +75,13 @@ text_lies_within total left bytes rest after heads m read copied =
 pub copied_more : (total : Option (List Message × List ℕ)) (count i : ℕ) (bytes rest after : List ℕ)
     (heads : List Head) (m : Message) (h : Head) → i < count → message_at max_text rest ≡ Some (m, after)
     → length m.text ≤ max_text
-    → h.class ≡ m.class → h.start ≡ length bytes - length after - length m.text → h.len ≡ length m.text
+    → h.class ≡ m.class → h.value.start ≡ length bytes - length after - length m.text → h.value.len ≡ length m.text
     → HasCopied total (count - i) bytes rest heads → HasCopied total (count - (i + 1)) bytes after (heads ++ h ∷ [])
 copied_more total count i bytes rest after heads m h lt read short class start len copied =
     let there = lies_there copied.before rest after bytes max_text m copied.parts copied.fits read in
     let sum = there.lengths in
-    let begin : h.start ≡ length there.front = omega (arith, sum, start) in
-    let text : text_in bytes h ≡ m.text =
+    let begin : h.value.start ≡ length there.front = omega (arith, sum, start) in
+    let text : text_in bytes h.value ≡ m.text =
     text_there there.front m.text after bytes h there.parts begin len in
     let shown : messages_in bytes (heads ++ h ∷ []) ≡ messages_in bytes heads ++ m ∷ [] =
     map-append (message_in bytes) heads (h ∷ []) ∙ rw (text, class) refl in

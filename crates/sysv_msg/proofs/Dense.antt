@@ -1,19 +1,20 @@
 -- Messages whose fields lie one behind another at the end of a buffer: a message more, a message less, and all of them.
 use Rattle.std.proofs.Common.{◌≡◌, ℕ, ◌+◌, ◌-◌, ◌*◌, ◌≤◌, Bool, true, false, IsTrue, List, [], ◌∷◌, ◌++◌, length, drop, Some, refl, sym, ap, subst, ◌∙◌, append_assoc, arith}
-use Rattle.std.specs.Prelude.{remove}
+use Rattle.index_links.specs.Nodes.{without, first_slot}
 use Rattle.std.specs.List.{flat_map, AllByRecursion}
 use Rattle.std.specs.Int.{w32, to_be_bytes, cast_unsigned}
 use Rattle.std.proofs.lemmas.List.{drop_at, append-nil, length-append}
 use Rattle.std.proofs.lemmas.List.Concat.{flat_map-append, flat_map-cons}
 use Rattle.std.proofs.lemmas.List.Sums.{sum_by-cons}
 use Rattle.kernel_model.specs.Queue.{Message, bytes_of, max_queue_bytes}
-use Rattle.sysv_msg.specs.declared.store.Head.{Head}
 use Rattle.sysv_msg.specs.Body.{message_field}
 use Rattle.sysv_msg.specs.Dense.{IsDense}
-use Rattle.sysv_msg.specs.Heads.{IsWithin, message_in, messages_in}
+use Rattle.sysv_msg.specs.Heads.{Head, IsWithin, message_in, messages_in, nodes_in}
 use Rattle.sysv_msg.specs.Reading.{messages_at}
 use Rattle.body_fields.proofs.Fields.{IsBytes}
 use Rattle.sysv_msg.proofs.Messages.{messages_take}
+use Rattle.sysv_msg.specs.Linked.{messages_of}
+use Rattle.sysv_msg.proofs.Slots.{messages_there, without_first}
 use Rattle.sysv_msg.proofs.Heads.{messages_stay, within_more, message_added, within_added}
 
 abbrev front_bytes : Message → List ℕ
@@ -29,28 +30,38 @@ field_parts texts m =
 
 -- the message whose field was put at the end goes last
 pub field_added : (texts : List ℕ) (m : Message) (heads : List Head) (h : Head) → AllByRecursion (IsWithin texts) heads
-    → h.start ≡ length texts + 8 → h.class ≡ m.class → h.len ≡ length m.text
+    → h.value.start ≡ length texts + 8 → h.class ≡ m.class → h.value.len ≡ length m.text
     → messages_in (texts ++ message_field m) (heads ++ h ∷ []) ≡ messages_in texts heads ++ m ∷ []
 field_added texts m heads h within start class len =
     let wide : List ℕ = texts ++ front_bytes m in
-    let begin : h.start ≡ length wide = omega (arith, start, length-append texts (front_bytes m)) in
+    let begin : h.value.start ≡ length wide = omega (arith, start, length-append texts (front_bytes m)) in
     rw (field_parts texts m)
     (message_added wide m.text heads h (within_more texts (front_bytes m) heads within) begin len
     ∙ rw (messages_stay texts (front_bytes m) heads within, class) refl)
 
+-- the same of messages with their slots
+pub node_added : (texts : List ℕ) (m : Message) (heads : List Head) (h : Head) → AllByRecursion (IsWithin texts) heads
+    → h.value.start ≡ length texts + 8 → h.class ≡ m.class → h.value.len ≡ length m.text
+    → messages_of (nodes_in (texts ++ message_field m) (heads ++ h ∷ []))
+    ≡ messages_of (nodes_in texts heads) ++ m ∷ []
+node_added texts m heads h within start class len =
+    messages_there (texts ++ message_field m) (heads ++ h ∷ [])
+    ∙ (field_added texts m heads h within start class len
+    ∙ ap (λ (ms : List Message). ms ++ m ∷ []) (sym (messages_there texts heads)))
+
 -- with a field at the end of the buffer, and a head for its text, each head lies within the buffer
 pub within_field : (texts : List ℕ) (m : Message) (heads : List Head) (h : Head) → AllByRecursion (IsWithin texts) heads
-    → h.start ≡ length texts + 8 → h.len ≡ length m.text
+    → h.value.start ≡ length texts + 8 → h.value.len ≡ length m.text
     → AllByRecursion (IsWithin (texts ++ message_field m)) (heads ++ h ∷ [])
 within_field texts m heads h within start len =
     let wide : List ℕ = texts ++ front_bytes m in
-    let begin : h.start ≡ length wide = omega (arith, start, length-append texts (front_bytes m)) in
+    let begin : h.value.start ≡ length wide = omega (arith, start, length-append texts (front_bytes m)) in
     rw (field_parts texts m)
     (within_added wide m.text heads h (within_more texts (front_bytes m) heads within) begin len)
 
 -- no hole comes with a message more
 pub dense_added : (is : Bool) (texts : List ℕ) (m : Message) (heads : List Head) (h : Head)
-    → AllByRecursion (IsWithin texts) heads → h.start ≡ length texts + 8 → h.class ≡ m.class → h.len ≡ length m.text
+    → AllByRecursion (IsWithin texts) heads → h.value.start ≡ length texts + 8 → h.class ≡ m.class → h.value.len ≡ length m.text
     → IsDense is texts heads → IsDense is (texts ++ message_field m) (heads ++ h ∷ [])
 dense_added false texts m heads h within start class len dense = tt
 dense_added true texts m heads h within start class len dense =
@@ -67,25 +78,30 @@ dense_added true texts m heads h within start class len dense =
 
 -- ---- a message less
 
-dense_behind : (texts : List ℕ) (heads : List Head) → IsDense true texts heads → IsDense true texts (remove heads 0)
-dense_behind texts [] dense = dense
-dense_behind texts (h ∷ heads) dense =
+dense_behind : (texts : List ℕ) (slot : ℕ) (heads : List Head) → first_slot heads ≡ Some slot
+    → IsDense true texts heads → IsDense true texts (without slot heads)
+dense_behind texts slot [] first dense = absurd (cc)
+dense_behind texts slot (h ∷ heads) first dense =
+    let is : h.slot ≡ slot = cc in
+    let left : without slot (h ∷ heads) ≡ heads =
+    ap (λ (i : ℕ). without i (h ∷ heads)) (sym is) ∙ without_first h heads in
     let fields : List ℕ = flat_map message_field (messages_in texts heads) in
-    record {
+    subst (λ (hs : List Head). IsDense true texts hs) (sym left) (record {
       front = dense.front ++ message_field (message_in texts h);
       parts = dense.parts
           ∙ ap (λ (r : List ℕ). dense.front ++ r)
           (flat_map-cons message_field (message_in texts h) (messages_in texts heads))
           ∙ sym (append_assoc dense.front (message_field (message_in texts h)) fields);
-    }
+    })
 
 -- without the first message no hole lies among the others
-pub dense_removed : (is now : Bool) (place : ℕ) (texts : List ℕ) (heads : List Head)
-    → (IsTrue now → (is ≡ true) × (place ≡ 0)) → IsDense is texts heads → IsDense now texts (remove heads place)
-dense_removed is false place texts heads tells dense = tt
-dense_removed is true place texts heads tells dense =
+pub dense_removed : (is now : Bool) (slot : ℕ) (texts : List ℕ) (heads : List Head)
+    → (IsTrue now → (is ≡ true) × (first_slot heads ≡ Some slot)) → IsDense is texts heads
+    → IsDense now texts (without slot heads)
+dense_removed is false slot texts heads tells dense = tt
+dense_removed is true slot texts heads tells dense =
     let told = tells refl in
-    rw told.1 (dense_behind texts heads (subst (λ (b : Bool). IsDense b texts heads) told.0 dense))
+    dense_behind texts slot heads told.1 (subst (λ (b : Bool). IsDense b texts heads) told.0 dense)
 
 -- ---- all messages
 

@@ -1,25 +1,26 @@
--- Bodies, messages whose texts lie in one buffer, and a lowest type, that the checker computes.
-use Rattle.std.proofs.Common.{◌≡◌, List, [], ◌∷◌, pos, Some, None, refl, arith}
-use Rattle.std.proofs.lemmas.Int.{ints}
+-- Bodies, messages whose texts lie in one buffer, and which slot a receive asks for, that the checker computes.
+use Rattle.std.proofs.Common.{◌≡◌, List, [], ◌∷◌, pos, negsuc, Some, None, refl}
 use Rattle.kernel_model.specs.Queue.{empty_queue}
 use Rattle.sysv_msg.specs.Body.{body, message_field}
-use Rattle.sysv_msg.specs.Heads.{messages_in, classes_of}
-use Rattle.sysv_msg.specs.Lowest.{IsLowest}
+use Rattle.sysv_msg.specs.Heads.{Head, messages_in}
+use Rattle.sysv_msg.specs.Linked.{slot_for}
 use Rattle.sysv_msg.specs.Measured.{FitsQueue, all_messages, queue_with}
 use Rattle.sysv_msg.specs.Reading.{text_at, class_at, message_at, messages_at}
 use Rattle.body_fields.specs.Fields.{number_upto}
-use Rattle.sysv_msg.specs.declared.store.Head.{Head}
 
 -- in the buffer "hi.yo" the text "hi" is of a message of type 3, and "yo" of one of type 258
 abbrev two_heads : List Head
-two_heads = record { start = 0; class = pos 3; len = 2 } ∷ record { start = 3; class = pos 258; len = 2 } ∷ []
+two_heads = record { slot = 0; class = pos 3; value = record { start = 0; len = 2 } }
+    ∷ record { slot = 1; class = pos 258; value = record { start = 3; len = 2 } } ∷ []
 
 their_messages : messages_in (104 ∷ 105 ∷ 46 ∷ 121 ∷ 111 ∷ []) two_heads
     ≡ record { class = pos 3; text = 104 ∷ 105 ∷ [] } ∷ record { class = pos 258; text = 121 ∷ 111 ∷ [] } ∷ []
 their_messages = refl
 
-their_types : classes_of two_heads ≡ pos 3 ∷ pos 258 ∷ []
-their_types = refl
+-- which slot a receive asks for: of the oldest, of the first of a type, of the lowest type up to a bound
+their_slots : (slot_for (pos 0) two_heads ≡ Some 0) × (slot_for (pos 258) two_heads ≡ Some 1)
+    × (slot_for (negsuc 299) two_heads ≡ Some 0) × (slot_for (negsuc 1) two_heads ≡ None)
+their_slots = (refl, refl, refl, refl)
 
 an_empty_queue : body empty_queue ≡ 4 ∷ 0 ∷ 0 ∷ 64 ∷ 0 ∷ 0 ∷ 0 ∷ 0 ∷ 0 ∷ 0 ∷ 0 ∷ 0 ∷ 0 ∷ 0 ∷ 0 ∷ []
 an_empty_queue = refl
@@ -48,7 +49,3 @@ a_queue_with = refl
 
 no_queue_with : queue_with 16384 0 0 None ≡ None
 no_queue_with = refl
-
--- of the types 3, 2, 5 and 2 the lowest is 2, and the first of it is the second message
-a_lowest_type : IsLowest (pos 3 ∷ pos 2 ∷ pos 5 ∷ pos 2 ∷ []) (pos 2) 1
-a_lowest_type = record { is = refl; within = omega arith; before = (omega (arith, ints), tt) }

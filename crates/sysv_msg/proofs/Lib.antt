@@ -1,8 +1,9 @@
+pub mod Slots
 pub mod Heads
 pub mod Dense
-pub mod Lowest
-pub mod Places
+pub mod Packing
 pub mod Messages
+pub mod Again
 pub mod Receiving
 pub mod Selected
 pub mod Loop

@@ -1,43 +1,38 @@
--- What select gives by the sign of the type.
-use Rattle.std.proofs.Common.{◌≡◌, zero, suc, ◌<◌, true, ltb, ℤ, pos, negsuc, ◌≤ℤ◌, ◌<ℤ◌, ◌-ℤ◌, List, [], ◌∷◌, length, Some, None, refl, sym, arith}
+-- Which slot a receive asks for, by the sign of the type.
+use Rattle.std.proofs.Common.{◌≡◌, ℕ, zero, suc, ℤ, pos, negsuc, ◌≤ℤ◌, ◌<ℤ◌, ◌-ℤ◌, List, [], ◌∷◌, Option, Some, None, w32, refl, sym, ap, ◌∙◌, arith}
+use Rattle.std.specs.Prelude.{FitsSigned, int_le}
+use Rattle.std.specs.List.{AllByRecursion}
 use Rattle.std.proofs.lemmas.Int.{ints}
-use Rattle.std.proofs.lemmas.Bool.Decides.{nat_tests}
-use Rattle.kernel_model.specs.Queue.{Message, first_of, first_of_some, lowest_upto, select}
+use Rattle.index_links.specs.Nodes.{Node, first_slot, first_slot_of, least_upto}
+use Rattle.sysv_msg.specs.Linked.{slot_for, slot_of_some}
 
--- a positive type selects the first message of that type
-pub select-positive : (ms : List Message) (class : ℤ) → pos 0 <ℤ class → first_of class ms ≡ select ms class
-select-positive ms (pos zero) h = absurd (omega (arith, ints))
-select-positive ms (pos (suc n)) h = refl
-select-positive ms (negsuc n) h = absurd (omega (arith, ints))
+module _ {V : Type 0} where
+  -- a positive type asks for the first of that type
+  pub slot-positive : (class : ℤ) (ns : List (Node V)) → pos 0 <ℤ class → first_slot_of class ns ≡ slot_for class ns
+  slot-positive (pos zero) ns h = absurd (omega (arith, ints))
+  slot-positive (pos (suc n)) ns h = refl
+  slot-positive (negsuc n) ns h = absurd (omega (arith, ints))
 
--- a negative type selects the first message of the lowest type that isn't above its absolute value
-pub select-negative : (ms : List Message) (class bound : ℤ) → class <ℤ pos 0 → bound ≡ pos 0 -ℤ class
-    → first_of_some (lowest_upto bound ms) ms ≡ select ms class
-select-negative ms (pos n) bound h is = absurd (omega (arith, ints))
-select-negative ms (negsuc n) bound h is =
-    let same : bound ≡ pos (suc n) = omega (arith, ints) in
-    rw same refl
+  -- type 0 asks for the first
+  pub slot-zero : (class : ℤ) (ns : List (Node V)) → class ≤ℤ pos 0 → pos 0 ≤ℤ class
+      → first_slot ns ≡ slot_for class ns
+  slot-zero class ns low high = let is : class ≡ pos 0 = omega (arith, ints) in rw is refl
 
-some_front : (m : Message) (ms : List Message) → select (m ∷ ms) (pos 0) ≡ Some 0
-some_front m ms =
-    let some : ltb 0 (suc (length ms)) ≡ true = grind (arith, nat_tests) in
-    rw some refl
+  -- bounds that the same types are within give the same lowest type
+  least_alike : (a b : ℤ) (ns : List (Node V)) → ((c : ℤ) → FitsSigned w32 c → int_le c a ≡ int_le c b)
+      → AllByRecursion (λ (n : Node V). FitsSigned w32 n.class) ns → least_upto a ns ≡ least_upto b ns
+  least_alike a b [] same fits = refl
+  least_alike a b (n ∷ ns) same fits = rw (same n.class fits.0, least_alike a b ns same fits.1) refl
 
-zero_some : (ms : List Message) → 0 < length ms → Some 0 ≡ select ms (pos 0)
-zero_some [] h = absurd (omega arith)
-zero_some (m ∷ ms) h = sym (some_front m ms)
+  -- a negative type asks for the first of the lowest type that isn't above its absolute value
+  pub slot-negative : (class bound : ℤ) (ns : List (Node V)) → class <ℤ pos 0
+      → ((c : ℤ) → FitsSigned w32 c → int_le c bound ≡ int_le c (pos 0 -ℤ class))
+      → AllByRecursion (λ (n : Node V). FitsSigned w32 n.class) ns
+      → slot_of_some (least_upto bound ns) ns ≡ slot_for class ns
+  slot-negative (pos n) bound ns h same fits = absurd (omega (arith, ints))
+  slot-negative (negsuc n) bound ns h same fits =
+      let is : pos 0 -ℤ negsuc n ≡ pos (suc n) = omega (arith, ints) in
+      ap (λ (o : Option ℤ). slot_of_some o ns)
+      (least_alike bound (pos 0 -ℤ negsuc n) ns same fits ∙ ap (λ (b : ℤ). least_upto b ns) is)
 
-zero_none : (ms : List Message) → length ms ≡ 0 → None ≡ select ms (pos 0)
-zero_none [] h = refl
-zero_none (m ∷ ms) h = absurd (omega arith)
-
--- type 0 asks for the first message
-pub select-zero : (ms : List Message) (class : ℤ) → class ≤ℤ pos 0 → pos 0 ≤ℤ class → 0 < length ms
-    → Some 0 ≡ select ms class
-select-zero ms class low high h = let z : class ≡ pos 0 = omega (arith, ints) in rw z (zero_some ms h)
-
-pub select-zero_none : (ms : List Message) (class : ℤ) → class ≤ℤ pos 0 → pos 0 ≤ℤ class → length ms ≡ 0
-    → None ≡ select ms class
-select-zero_none ms class low high h = let z : class ≡ pos 0 = omega (arith, ints) in rw z (zero_none ms h)
-
-pub ruleset selections = (select-positive, select-zero, select-zero_none)
+pub ruleset slots = (slot-positive, slot-zero)

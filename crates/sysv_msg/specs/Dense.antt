@@ -1,9 +1,8 @@
 -- Messages whose fields lie one behind another at the end of a buffer, so that they are packed by one copy.
 use Rattle.std.specs.Prelude.{◌≡◌, ℕ, Bool, true, false, List, ◌++◌}
 use Rattle.std.specs.List.{flat_map}
-use Rattle.sysv_msg.specs.declared.store.Head.{Head}
 use Rattle.sysv_msg.specs.Body.{message_field}
-use Rattle.sysv_msg.specs.Heads.{messages_in}
+use Rattle.sysv_msg.specs.Heads.{Head, messages_in}
 
 -- the bytes end with these
 pub record EndsWith (tail whole : List ℕ) : Type 0 where

@@ -1,25 +1,29 @@
--- Messages whose texts lie in one buffer: of each its type, and where its text begins and how long it is.
-use Rattle.std.specs.Prelude.{ℕ, ℤ, ◌+◌, ◌≤◌, List, [], length, map, take, drop}
+-- Messages as they are kept: linked by arrival and by type, and of each where its text lies in one buffer.
+use Rattle.std.specs.Prelude.{ℕ, ◌+◌, ◌≤◌, List, length, map, take, drop}
+use Rattle.index_links.specs.Nodes.{Node}
 use Rattle.kernel_model.specs.Queue.{Message}
-use Rattle.sysv_msg.specs.declared.store.Head.{Head}
+use Rattle.sysv_msg.specs.declared.store.Span.{Span}
+
+-- a message's slot and type, and where its text lies
+abbrev pub Head : Type 0
+Head = Node Span
 
 -- the text lies in the buffer
 abbrev pub IsWithin : List ℕ → Head → Type 0
-IsWithin texts h = h.start + h.len ≤ length texts
+IsWithin texts h = h.value.start + h.value.len ≤ length texts
 
-abbrev pub text_in : List ℕ → Head → List ℕ
-text_in texts h = take h.len (drop h.start texts)
+abbrev pub text_in : List ℕ → Span → List ℕ
+text_in texts span = take span.len (drop span.start texts)
 
 abbrev pub message_in : List ℕ → Head → Message
-message_in texts h = record { class = h.class; text = text_in texts h }
+message_in texts h = record { class = h.class; text = text_in texts h.value }
 
 abbrev pub messages_in : List ℕ → List Head → List Message
 messages_in texts heads = map (message_in texts) heads
 
--- a type alone, as a message with no text
-abbrev pub bare : ℤ → Message
-bare class = record { class = class; text = [] }
+-- the same with the slots
+abbrev pub node_in : List ℕ → Head → Node (List ℕ)
+node_in texts h = record { slot = h.slot; class = h.class; value = text_in texts h.value }
 
--- the types alone
-abbrev pub classes_of : List Head → List ℤ
-classes_of heads = map (λ h. h.class) heads
+abbrev pub nodes_in : List ℕ → List Head → List (Node (List ℕ))
+nodes_in texts heads = map (node_in texts) heads

@@ -2,7 +2,7 @@ pub mod Body
 pub mod Dense
 pub mod Heads
 pub mod Limits
-pub mod Lowest
+pub mod Linked
 pub mod Measured
 pub mod Packed
 pub mod Reading

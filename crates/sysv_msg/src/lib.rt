@@ -1,10 +1,10 @@
 //! A System V message queue: messages of a type and a text are sent last, and received first or by their type.
 #![tactic(auto)]
 
+mod holes;
 mod message;
 mod pack;
 mod queue;
-mod select;
 mod store;
 mod unpack;
 

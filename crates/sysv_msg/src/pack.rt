@@ -3,39 +3,33 @@ ghost use Rattle.std.specs.Prelude.{◌≡◌, ◌≤◌, ◌++◌, length, OnOk
 ghost use Rattle.std.specs.List.{flat_map, AllByRecursion};
 ghost use Rattle.kernel_model.specs.Queue.{bytes_of};
 ghost use Rattle.sysv_msg.specs.Body.{message_field, IsBodyOf};
-ghost use Rattle.sysv_msg.specs.Heads.{IsWithin, message_in, messages_in};
+ghost use Rattle.sysv_msg.specs.Heads.{IsWithin, messages_in};
+ghost use Rattle.sysv_msg.specs.Linked.{messages_of};
 
 use crate::Queue;
-use crate::store::{FRONT, Head, Messages, text_at};
+use crate::store::{FRONT, Messages, Span, push_message, text_at};
+use index_links::Links;
 use pico_base::{Bytes, Memory};
 use std::alloc::Global;
 
 /// The code of a queue among the bodies.
 pub(crate) const CODE: u8 = 4;
 
-/// Adds a message at the end.
-fn push_message(out: &mut Vec<u8>, texts: &[u8], head: Head) -> Result<(), Memory>
-    requires { IsWithin texts.now head }
-    ensures { OnOk result (out.new.items ≡ out.old.items ++ message_field (message_in texts.now head)) }
-{
-    let class = head.class.to_be_bytes();
-    let length = head.len.to_be_bytes();
-    let fields = [
-        class[0], class[1], class[2], class[3], length[0], length[1], length[2], length[3],
-    ];
-    out.extend_from_slice(&fields)?;
-    out.extend_from_slice(text_at(texts, head))?;
-    Ok(())
-}
-
-/// Adds messages at the end.
-fn push_messages(out: &mut Vec<u8>, texts: &[u8], heads: &[Head]) -> Result<(), Memory>
-    requires { AllByRecursion (IsWithin texts.now) heads.now }
+/// Adds messages at the end, one by one.
+fn push_linked(links: &Links<Span>, texts: &[u8], out: &mut Vec<u8>) -> Result<(), Memory>
+    requires { AllByRecursion (IsWithin texts.now) links.now.nodes }
     ensures { OnOk result
-        (out.new.items ≡ out.old.items ++ flat_map message_field (messages_in texts.now heads.now)) }
+        (out.new.items ≡ out.old.items ++ flat_map message_field (messages_in texts.now links.now.nodes)) }
 {
-    for head in heads {
-        push_message(out, texts, *head)?;
+    links.have_own_slots();
+    let mut at = links.first();
+    for _ in 0..links.len() {
+        let Some(slot) = at else {
+            return Ok(());
+        };
+        let text = text_at(texts, *links.value(slot));
+        push_message(out, links.class(slot), text)?;
+        at = links.next(slot);
     }
     Ok(())
 }
@@ -43,19 +37,19 @@ fn push_messages(out: &mut Vec<u8>, texts: &[u8], heads: &[Head]) -> Result<(), 
 impl Messages {
     /// How many bytes the messages' packed form has, of which so many are their texts'.
     fn size(&self, bytes: usize) -> usize
-        requires texts { bytes ≡ bytes_of self.now }
-        requires few { length self.now ≤ 1024 }
+        requires texts { bytes ≡ bytes_of (messages_of self.now) }
+        requires few { length (messages_of self.now) ≤ 1024 }
         requires short { bytes ≤ 16384 }
-        ensures size { result ≡ length (flat_map message_field self.now) }
+        ensures size { result ≡ length (flat_map message_field (messages_of self.now)) }
         ensures small { result ≤ 24576 }
     {
-        FRONT * self.len() + bytes
+        FRONT * self.len() as usize + bytes
     }
 
     /// Adds the messages at the end, whose packed form has so many bytes.
     fn push_all(&self, out: &mut Vec<u8>, size: usize) -> Result<(), Memory>
-        requires { size ≡ length (flat_map message_field self.now) }
-        ensures { OnOk result (out.new.items ≡ out.old.items ++ flat_map message_field self.now) }
+        requires { size ≡ length (flat_map message_field (messages_of self.now)) }
+        ensures { OnOk result (out.new.items ≡ out.old.items ++ flat_map message_field (messages_of self.now)) }
     {
         if !self.is_dense {
             return self.push_each(out);
@@ -66,12 +60,10 @@ impl Messages {
     }
 
     /// Adds the messages at the end, one by one.
-    fn push_each(&self, out: &mut Vec<u8>) -> Result<(), Memory>
-        ensures { OnOk result (out.new.items ≡ out.old.items ++ flat_map message_field self.now) }
+    pub(crate) fn push_each(&self, out: &mut Vec<u8>) -> Result<(), Memory>
+        ensures { OnOk result (out.new.items ≡ out.old.items ++ flat_map message_field (messages_of self.now)) }
     {
-        let (front, back) = self.heads.as_slices();
-        push_messages(out, &self.texts, front)?;
-        push_messages(out, &self.texts, back)
+        push_linked(&self.links, &self.texts, out)
     }
 }
 

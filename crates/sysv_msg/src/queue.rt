@@ -7,6 +7,7 @@ use crate::Message;
 use crate::store::Messages;
 use pico_base::{Bytes, Errno, Memory, Pid, Reply};
 use std::alloc::Global;
+use std::fmt::{self, Debug, Formatter};
 use std::marker::Model;
 use thiserror::Error;
 
@@ -15,12 +16,12 @@ pub(crate) const MAX_TEXT: usize = 4096;
 
 pub(crate) const MAX_BYTES: u32 = 16384;
 
-pub(crate) const MAX_MESSAGES: usize = 1024;
+pub(crate) const MAX_MESSAGES: u32 = 1024;
 
 /// A message queue, which contracts see as its messages, the oldest first, with its `msg_qbytes`, last sender
 /// and last receiver. It has at most 1,024 messages and their texts at most 16,384 bytes; each type is at least
 /// 1 and each text at most 4,096 bytes.
-#[derive(Debug, Drop)]
+#[derive(Drop)]
 pub struct Queue {
     pub(crate) messages: Messages,
     // the bytes of the texts
@@ -34,20 +35,21 @@ impl Model for Queue {
     ghost use Rattle.std.specs.Prelude.{◌≡◌};
     ghost use Rattle.kernel_model.specs.Queue.{Queue as Value_, bytes_of};
     ghost use Rattle.sysv_msg.specs.Limits.{IsWithinLimits};
+    ghost use Rattle.sysv_msg.specs.Linked.{messages_of};
 
     ghost Value = { Value_ };
 
     ghost view = { λ q. record {
-      messages = q.messages;
+      messages = messages_of q.messages;
       qbytes = q.qbytes;
       last_sender =
           q.last_sender;
       last_receiver = q.last_receiver;
     } };
 
-    ghost invariant = { λ q. (q.bytes ≡ bytes_of q.messages)
+    ghost invariant = { λ q. (q.bytes ≡ bytes_of (messages_of q.messages))
         × IsWithinLimits (record {
-          messages = q.messages;
+          messages = messages_of q.messages;
           qbytes = q.qbytes;
           last_sender =
               q.last_sender;
@@ -143,11 +145,11 @@ impl Queue {
         ensures refused { IfErr result (RefusesCall (definition.receive self.old pid class size noerror)) }
         ensures err { OnErr result (self.new ≡ self.old) }
     {
-        let place = self
+        let slot = self
             .messages
-            .place_of(class)
+            .slot_of(class)
             .ok_or(CallFault::No(Errno::Enomsg))?;
-        let (kind, text) = self.messages.at(place);
+        let (kind, text) = self.messages.at(slot);
         let length = text.len();
         if !fits(length, size, noerror) {
             return Err(CallFault::No(Errno::E2big));
@@ -155,7 +157,7 @@ impl Queue {
         let Ok(message) = copied(self.messages.allocator(), kind, text, size) else {
             return Err(CallFault::Memory);
         };
-        self.messages.remove(place);
+        self.messages.remove(slot);
         self.bytes -= length;
         self.last_receiver = pid;
         Ok(message)
@@ -167,7 +169,7 @@ impl Queue {
         ensures { result ≡ definition.stat self.now }
     {
         Reply::Stat {
-            qnum: self.messages.len() as u32,
+            qnum: self.messages.len(),
             qbytes: self.qbytes,
             lspid: self.last_sender,
             lrpid: self.last_receiver,
@@ -204,4 +206,12 @@ fn copied(alloc: Global, class: i32, text: &[u8], size: u32) -> Result<Message, 
         class,
         text: Bytes::from_slice(alloc, &text[..text.len().min(size as usize)])?,
     })
+}
+
+impl Debug for Queue {
+    fn fmt<W: fmt::Write>(&self, f: &mut Formatter<W>) -> fmt::Result {
+        f.debug_struct("Queue")
+            .field("qbytes", &self.qbytes)
+            .finish_non_exhaustive()
+    }
 }

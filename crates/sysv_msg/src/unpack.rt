@@ -1,5 +1,5 @@
 //! A queue read from bytes: first the numbers before its messages, and then its messages are copied as they are read.
-ghost use Rattle.std.specs.Prelude.{◌≡◌, ◌≤◌, ◌*◌, length, IfOk, IfErr, IfSome, MatchOption, is_some};
+ghost use Rattle.std.specs.Prelude.{[], ◌≡◌, ◌≤◌, ◌*◌, length, IfOk, IfErr, IfSome, MatchOption, is_some};
 ghost use Rattle.std.specs.Int.{w16, w32};
 ghost use Rattle.kernel_model.specs.Queue as definition;
 ghost use Rattle.kernel_model.specs.Queue.{max_text, max_queue_bytes};
@@ -8,18 +8,19 @@ ghost use Rattle.body_fields.specs.Fields.{Reads, Refuses, number_upto};
 ghost use Rattle.sysv_msg.specs.Reading.{text_at, class_at, message_at, messages_at, fields_at, queue_at};
 ghost use Rattle.sysv_msg.specs.Measured.{AreRead, FitsQueue, HasFields, AreAll, all_messages};
 ghost use Rattle.sysv_msg.specs.Packed.{TellsPacked};
+ghost use Rattle.sysv_msg.specs.Linked.{messages_of};
 
 use crate::Queue;
 use crate::pack::CODE;
 use crate::queue::{MAX_BYTES, MAX_MESSAGES, MAX_TEXT};
-use crate::store::{FRONT, Head, Messages};
+use crate::store::{FRONT, Messages, Span, short_of};
 use body_fields::{u16_upto, u32_at, u32_upto};
+use index_links::Links;
 use pico_base::{Memory, Pid, UnpackFault};
 use std::alloc::Global;
-use std::collections::VecDeque;
 
 // For how many messages more, and for how many bytes of theirs, there is room in a queue that was unpacked.
-const MORE: usize = 16;
+const MORE: u32 = 16;
 
 const MORE_BYTES: usize = 1024;
 
@@ -149,43 +150,62 @@ fn copied(alloc: Global, bytes: &[u8]) -> Result<Vec<u8>, Memory>
 /// Copies the messages that the bytes are, with how many bytes their texts have: the bytes whole, and of each message
 /// where its text lies in them. None where the bytes are not so many messages, and no more.
 #[inline(never)]
-fn copy_messages(
+pub(crate) fn copy_messages(
     alloc: Global,
+    fresh: Links<Span>,
     count: u16,
     bytes: &[u8],
 ) -> Result<Option<(Messages, usize)>, Memory>
+    requires nothing { fresh.nodes ≡ [] }
+    requires room { count ≤ fresh.spare }
     ensures { IfOk result (λ got.
         MatchOption got (all_messages (messages_at count max_queue_bytes bytes.now) ≡ None)
-        (λ x. AreAll (messages_at count max_queue_bytes bytes.now) x.0 x.1)) }
+        (λ x. AreAll (messages_at count max_queue_bytes bytes.now) (messages_of x.0) x.1)) }
 {
-    let mut classes = Vec::with_capacity(alloc, usize::from(count) + MORE)?;
-    let mut heads = Vec::with_capacity(alloc, usize::from(count) + MORE)?;
+    let mut links = fresh;
     let mut rest = bytes;
     for _ in 0..count {
         let Some((class, text, after)) = message_of(rest) else {
             return Ok(None);
         };
-        let start = bytes.len() - after.len() - text.len();
+        let Some(start) = short_of(bytes.len() - after.len() - text.len()) else {
+            return Err(Memory);
+        };
         let len = text.len() as u32;
-        classes.push_reserved(class);
-        heads.push_reserved(Head { start, class, len });
+        let _ = links.push_reserved(class, Span { start, len });
         rest = after;
     }
     let Some(size) = size_of_texts(count, bytes, rest) else {
         return Ok(None);
     };
     let texts = copied(alloc, bytes)?;
-    let classes = VecDeque::from_vec(classes);
-    let heads = VecDeque::from_vec(heads);
     Ok(Some((
         Messages {
-            classes,
-            heads,
+            links,
             texts,
             is_dense: true,
         },
         size,
     )))
+}
+
+/// No messages, with room for so many and some more.
+fn room_for(alloc: Global, count: u16) -> Result<Links<Span>, Memory>
+    ensures nothing { IfOk result (λ links. links.nodes ≡ []) }
+    ensures room { IfOk result (λ links. count ≤ links.spare) }
+{
+    let mut links = Links::new(alloc);
+    links.reserve(u32::from(count) + MORE)?;
+    Ok(links)
+}
+
+/// Copies the messages that the bytes are, into memory of their own.
+fn unpacked(alloc: Global, count: u16, bytes: &[u8]) -> Result<Option<(Messages, usize)>, Memory>
+    ensures { IfOk result (λ got.
+        MatchOption got (all_messages (messages_at count max_queue_bytes bytes.now) ≡ None)
+        (λ x. AreAll (messages_at count max_queue_bytes bytes.now) (messages_of x.0) x.1)) }
+{
+    copy_messages(alloc, room_for(alloc, count)?, count, bytes)
 }
 
 /// What is told where memory ran out: Memory if the bytes are the packed form of a queue. It takes no memory.
@@ -224,7 +244,7 @@ impl Queue {
         let Some(fields) = queue_fields(bytes) else {
             return Err(UnpackFault::NotABody);
         };
-        match copy_messages(alloc, fields.count, fields.messages) {
+        match unpacked(alloc, fields.count, fields.messages) {
             Ok(Some((messages, size))) => Ok(Queue {
                 messages,
                 bytes: size,

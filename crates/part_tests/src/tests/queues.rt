@@ -1,8 +1,8 @@
 //! A queue as bytes, and bytes that are none's. What calls reply stands in the golden cases of `cases/queues`.
-use pico_base::{Bytes, Memory, Pid, UnpackFault};
+use pico_base::{Bytes, Errno, Memory, Pid, UnpackFault};
 use std::alloc::Global;
 use std::test::Fail;
-use sysv_msg::{Queue, SendFault};
+use sysv_msg::{CallFault, Queue, SendFault};
 
 /// A queue with one message, which process 7 sent.
 fn queue_of(alloc: Global, class: i32, text: &[u8]) -> Result<Queue, Memory> {
@@ -73,4 +73,44 @@ fn refused_bodies(rt: HostRuntime) {
         );
         assert!(rt; !Queue::is_packed(bytes), "{bytes:?}");
     }
+}
+
+/// One more message, which process 7 sends.
+fn send(queue: &mut Queue, class: i32, text: &[u8]) -> Result<(), CallFault> {
+    queue.send_slice(Pid(7), class, text)
+}
+
+/// What a receive as process 8 gives: a type and a text of one byte, or else the error.
+fn received(queue: &mut Queue, class: i32) -> Result<(i32, u8), CallFault> {
+    match queue.receive(Pid(8), class, 8, false) {
+        Ok(taken) => Ok((
+            taken.class,
+            taken.text.as_slice().first().copied().unwrap_or(0),
+        )),
+        Err(fault) => Err(fault),
+    }
+}
+
+#[test]
+fn by_age_and_by_type(rt: HostRuntime) -> Result<(), Fail> {
+    let mut queue = Queue::new(rt.alloc())?;
+    for (class, text) in [(2, b"a"), (1, b"b"), (2, b"c"), (1, b"d")] {
+        assert_eq!(rt; send(&mut queue, class, text), Ok(()));
+    }
+    assert_eq!(rt; received(&mut queue, -2), Ok((1, b'b')));
+    assert_eq!(rt; received(&mut queue, 2), Ok((2, b'a')));
+    assert_eq!(rt; received(&mut queue, 0), Ok((2, b'c')));
+    assert_eq!(rt; received(&mut queue, -1), Ok((1, b'd')));
+    assert_eq!(rt; received(&mut queue, 0), Err(CallFault::No(Errno::Enomsg)));
+    Ok(())
+}
+
+#[test]
+fn as_many_messages_as_there_may_be(rt: HostRuntime) -> Result<(), Fail> {
+    let mut queue = Queue::new(rt.alloc())?;
+    for _ in 0..1024 {
+        assert_eq!(rt; send(&mut queue, 1, b""), Ok(()));
+    }
+    assert_eq!(rt; send(&mut queue, 1, b""), Err(CallFault::No(Errno::Eagain)));
+    Ok(())
 }

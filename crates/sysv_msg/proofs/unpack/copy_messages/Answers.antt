@@ -1,85 +1,77 @@
 use Rattle.std.proofs.Common.{◌∙◌, ℕ, ◌+◌, ◌≡◌, ◌-◌, ◌*◌, List, Some, SFits, w32, [], ◌∷◌, length, ap, sym, refl, arith, rules}
 use Rattle.std.proofs.lemmas.Int.{to_z-of_z}
-use Rattle.std.proofs.lemmas.List.{map-append}
 use Rattle.kernel_model.specs.Queue.{Message, bytes_of, max_text, max_queue_bytes}
-use Rattle.sysv_msg.specs.declared.store.Head.{Head}
-use Rattle.sysv_msg.specs.Heads.{messages_in}
+use Rattle.sysv_msg.specs.Heads.{Head, messages_in, nodes_in}
+use Rattle.sysv_msg.specs.Linked.{messages_of}
 use Rattle.sysv_msg.specs.Measured.{all_messages}
 use Rattle.sysv_msg.specs.Reading.{messages_at}
 use Rattle.sysv_msg.proofs.Copied.{begins_copying, copied_more, text_lies_within}
 use Rattle.sysv_msg.proofs.Dense.{dense_read, read_size}
 use Rattle.sysv_msg.proofs.Loop.{has_read_all, stops}
+use Rattle.sysv_msg.proofs.Slots.{messages_there}
 use Rattle.sysv_msg.proofs.Tested.{none_widely}
 use Rattle.sysv_msg.proofs.unpack.copy_messages.Goals as goal
 
 pub loop-init : goal.loop-init
 loop-init c =
-    rw (c.in_ok-heads.ensures.items, c.in_ok-classes.ensures.items) record {
+    let room = c.requires.room in
+    rw c.requires.nothing record {
       copied = begins_copying c.args.count c.args.bytes.now (λ i. omega (arith, c.type_inv.bytes i));
-      classes = refl;
-      rooms = (
-        c.in_ok-classes.ensures.len,
-        search rules,
-        c.in_ok-heads.ensures.len,
-        search rules,
-      );
+      room = omega (arith, room);
     }
 
 pub returns-in_default : goal.returns-in_default
 returns-in_default c =
     ap all_messages (none_widely c.args.count c.args.bytes.now (λ i. omega (arith, c.type_inv.bytes i))
-    (stops c.args.count c.loop.counter c.loop.rest.now (messages_in c.args.bytes.now c.loop.heads.items)
+    (stops c.args.count c.loop.counter c.loop.rest.now (messages_in c.args.bytes.now c.loop.links.nodes)
     (messages_at c.args.count (c.args.count * max_text) c.args.bytes.now) c.loop-test.true
     c.in_default.ensures.read c.loop.invariant.copied.read))
 
-pub overflow_sub-start : goal.overflow_sub-start
-overflow_sub-start c =
+pub overflow_sub-bytes : goal.overflow_sub-bytes
+overflow_sub-bytes c =
     let m : Message = record { class = c.in-Some.class; text = c.in-Some.text.now } in
     let within = text_lies_within (messages_at c.args.count (c.args.count * max_text) c.args.bytes.now)
     (c.args.count - c.loop.counter) c.args.bytes.now c.loop.rest.now
-    c.in-Some.after.now c.loop.heads.items m c.in-Some.ensures.read c.loop.invariant.copied in
+    c.in-Some.after.now c.loop.links.nodes m c.in-Some.ensures.read c.loop.invariant.copied in
     omega (arith, within)
 
-pub overflow_sub-start-in-loop : goal.overflow_sub-start-in-loop
-overflow_sub-start-in-loop c =
+pub overflow_sub-bytes-in-loop : goal.overflow_sub-bytes-in-loop
+overflow_sub-bytes-in-loop c =
     let m : Message = record { class = c.in-Some.class; text = c.in-Some.text.now } in
     let within = text_lies_within (messages_at c.args.count (c.args.count * max_text) c.args.bytes.now)
     (c.args.count - c.loop.counter) c.args.bytes.now c.loop.rest.now
-    c.in-Some.after.now c.loop.heads.items m c.in-Some.ensures.read c.loop.invariant.copied in
+    c.in-Some.after.now c.loop.links.nodes m c.in-Some.ensures.read c.loop.invariant.copied in
     omega (arith, within)
 
 pub loop-preserved : goal.loop-preserved
 loop-preserved c =
     let m : Message = record { class = c.in-Some.class; text = c.in-Some.text.now } in
     let h : Head = record {
-      start = length c.args.bytes.now - length c.in-Some.after.now - length m.text;
+      slot = c.push_reserved.result;
       class = m.class;
-      len = length m.text;
+      value = record {
+        start = c.in-Some-short_of.start;
+        len = length m.text;
+      };
     } in
     let fits : SFits w32 c.in-Some.class = search rules in
-    let rooms = c.loop.invariant.rooms in
+    let room = c.loop.invariant.room in
     rw (
-      c.push_reserved.ensures.items,
-      c.push_reserved-in-loop.ensures.items,
+      c.push_reserved.ensures.nodes,
       to_z-of_z w32 c.in-Some.class fits,
     ) record {
       copied = copied_more (messages_at c.args.count (c.args.count * max_text) c.args.bytes.now) c.args.count
-          c.loop.counter c.args.bytes.now c.loop.rest.now c.in-Some.after.now c.loop.heads.items m h
-          c.loop-test.true c.in-Some.ensures.read c.in-Some.ensures.within refl refl refl c.loop.invariant.copied;
-      classes = rw c.loop.invariant.classes (sym (map-append (λ (h : Head). h.class) c.loop.heads.items (h ∷ [])));
-      rooms = (
-        c.push_reserved.ensures.len ∙ ap (λ (n : ℕ). n + 1) rooms.0,
-        rw c.push_reserved.ensures.capacity rooms.1,
-        c.push_reserved-in-loop.ensures.len ∙ ap (λ (n : ℕ). n + 1) rooms.2,
-        rw c.push_reserved-in-loop.ensures.capacity rooms.3,
-      );
+          c.loop.counter c.args.bytes.now c.loop.rest.now c.in-Some.after.now c.loop.links.nodes m h
+          c.loop-test.true c.in-Some.ensures.read c.in-Some.ensures.within refl c.in-Some-short_of.ensures refl
+          c.loop.invariant.copied;
+      room = omega (arith, room, c.push_reserved.ensures.spare);
     }
 
 pub size_of_texts-requires : goal.size_of_texts-requires
 size_of_texts-requires c = record {
-  messages = messages_in c.args.bytes.now c.loop.heads.items;
+  messages = messages_in c.args.bytes.now c.loop.links.nodes;
   are_read = has_read_all c.args.count c.loop.counter c.loop.rest.now
-      (messages_in c.args.bytes.now c.loop.heads.items)
+      (messages_in c.args.bytes.now c.loop.links.nodes)
       (messages_at c.args.count (c.args.count * max_text) c.args.bytes.now) c.loop-test.false
       c.loop.invariant.copied.read;
 }
@@ -88,25 +80,24 @@ pub invariant_of-result : goal.invariant_of-result
 invariant_of-result c =
     let fit = c.in-Some-size_of_texts.ensures in
     let wide = has_read_all c.args.count c.loop.counter c.loop.rest.now
-    (messages_in c.args.bytes.now c.loop.heads.items)
+    (messages_in c.args.bytes.now c.loop.links.nodes)
     (messages_at c.args.count (c.args.count * max_text) c.args.bytes.now) c.loop-test.false
     c.loop.invariant.copied.read in
-    rw (c.in_ok-texts.ensures, c.from_vec-heads.ensures.items, c.from_vec-classes.ensures.items) (
-      c.loop.invariant.classes,
+    rw c.in_ok-texts.ensures (
       c.loop.invariant.copied.within,
-      dense_read c.args.count c.args.bytes.now c.loop.rest.now c.loop.heads.items
+      dense_read c.args.count c.args.bytes.now c.loop.rest.now c.loop.links.nodes
           (λ i. omega (arith, c.type_inv.bytes i)) (fit.same ∙ wide) fit.nothing,
     )
 
 pub returns : goal.returns
 returns c =
     let fit = c.in-Some-size_of_texts.ensures in
-    let ms : List Message = messages_in c.args.bytes.now c.loop.heads.items in
+    let ms : List Message = messages_in c.args.bytes.now c.loop.links.nodes in
     let wide = has_read_all c.args.count c.loop.counter c.loop.rest.now ms
     (messages_at c.args.count (c.args.count * max_text) c.args.bytes.now) c.loop-test.false
     c.loop.invariant.copied.read in
-    let shown : messages_in c.in_ok-texts.texts.items c.from_vec-heads.result.items ≡ ms =
-    rw (c.in_ok-texts.ensures, c.from_vec-heads.ensures.items) refl in
+    let shown : messages_of (nodes_in c.in_ok-texts.texts.items c.loop.links.nodes) ≡ ms =
+    rw c.in_ok-texts.ensures (messages_there c.args.bytes.now c.loop.links.nodes) in
     let size = read_size c.args.count max_queue_bytes c.args.bytes.now ms c.loop.rest.now
     (λ i. omega (arith, c.type_inv.bytes i)) (fit.same ∙ wide) fit.nothing in
     let sum : c.in-Some-size_of_texts.size ≡ bytes_of ms = omega (arith, size, fit.sum) in
