@@ -1,5 +1,6 @@
 use Rattle.std.proofs.Common.{arith}
 use Rattle.sysv_msg.specs.Body.{IsBodyOf}
+use Rattle.sysv_msg.specs.Linked.{messages_of}
 use Rattle.sysv_msg.proofs.Bodies.{is_body, is_no_body, no_queue, one_queue}
 use Rattle.sysv_msg.proofs.queue.Queue.unpack.Goals as goal
 
@@ -10,7 +11,7 @@ pub invariant_of-result : goal.invariant_of-result
 invariant_of-result c =
     let fields = c.in-Some.fields in
     let all = rw c.in-Ok-Some.field-0-is at c.in-Ok-Some.ensures in
-    let is = is_body fields.qbytes fields.sender fields.receiver fields.count c.in-Ok-Some.messages
+    let is = is_body fields.qbytes fields.sender fields.receiver fields.count (messages_of c.in-Ok-Some.messages)
     fields.messages.now c.args.bytes.now (λ i. omega (arith, c.type_inv.bytes i)) c.in-Some.ensures
     all.all in
     (all.sum, is.limits)
@@ -19,7 +20,7 @@ pub returns-in-Ok-Some-clause-found : goal.returns-in-Ok-Some-clause-found
 returns-in-Ok-Some-clause-found c =
     let fields = c.in-Some.fields in
     let all = rw c.in-Ok-Some.field-0-is at c.in-Ok-Some.ensures in
-    is_body fields.qbytes fields.sender fields.receiver fields.count c.in-Ok-Some.messages
+    is_body fields.qbytes fields.sender fields.receiver fields.count (messages_of c.in-Ok-Some.messages)
     fields.messages.now c.args.bytes.now (λ i. omega (arith, c.type_inv.bytes i)) c.in-Some.ensures
     all.all
 
@@ -28,11 +29,11 @@ returns-in-Ok-Some-clause-only c q is =
     let fields = c.in-Some.fields in
     let all = rw c.in-Ok-Some.field-0-is at c.in-Ok-Some.ensures in
     let found : IsBodyOf (record {
-      messages = c.in-Ok-Some.messages;
+      messages = messages_of c.in-Ok-Some.messages;
       qbytes = fields.qbytes;
       last_sender = fields.sender;
       last_receiver = fields.receiver;
-    }) c.args.bytes.now = is_body fields.qbytes fields.sender fields.receiver fields.count c.in-Ok-Some.messages
+    }) c.args.bytes.now = is_body fields.qbytes fields.sender fields.receiver fields.count (messages_of c.in-Ok-Some.messages)
     fields.messages.now c.args.bytes.now (λ i. omega (arith, c.type_inv.bytes i)) c.in-Some.ensures
     all.all in
     one_queue c.args.bytes.now _ q found is
