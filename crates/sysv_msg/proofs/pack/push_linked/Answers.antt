@@ -21,8 +21,8 @@ class-requires c =
     next_there c.args.texts.now c.args.links.now.nodes c.in-Some.slot c.loop.counter c.loop.at c.args.out.now.items
     c.loop.out.items c.have_own_slots.ensures c.in-Some.is c.loop.invariant
 
-pub next-requires : goal.next-requires
-next-requires c =
+pub next-at-requires : goal.next-at-requires
+next-at-requires c =
     next_there c.args.texts.now c.args.links.now.nodes c.in-Some.slot c.loop.counter c.loop.at c.args.out.now.items
     c.loop.out.items c.have_own_slots.ensures c.in-Some.is c.loop.invariant
 
@@ -40,7 +40,7 @@ loop-preserved c =
     rw (to_z-of_z w32 c.class.result fits, text) at c.in_ok-push_message.ensures.ok in
     packs_more texts c.args.links.now.nodes c.in-Some.slot c.loop.counter c.loop.at c.next-at.result
     c.args.out.now.items c.loop.out.items c.push_message.new.out.items c.class.result c.value.result.now
-    c.have_own_slots.ensures c.in-Some.is (simp to_z-of_z at c.class.ensures) c.value.ensures packed
+    c.have_own_slots.ensures c.in-Some.is c.class.ensures c.value.ensures packed
     c.next-at.ensures.slot c.loop.invariant
 
 pub returns-in_default : goal.returns-in_default
@@ -51,6 +51,6 @@ returns-in_default c =
 pub returns : goal.returns
 returns c =
     let all = c.loop-test.false in
-    let len = c.len.ensures in
+    let len = c.len-end.ensures in
     has_packed_all c.args.texts.now c.args.links.now.nodes c.loop.counter c.loop.at c.args.out.now.items
     c.loop.out.items (omega arith) c.loop.invariant

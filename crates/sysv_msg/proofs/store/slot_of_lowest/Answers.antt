@@ -11,7 +11,7 @@ returns-in_err-least c =
     let range = c.ranges.class in
     let bound : SFits w32 c.bound_of.result = search rules in
     let none : least_upto c.bound_of.result c.args.links.now.nodes ≡ None =
-    sym (simp to_z-of_z at c.least_class_upto-least.ensures) ∙ c.in_err-least.was in
+    sym (simp to_z-of_z at c.least_class_upto.ensures) ∙ c.in_err-least.was in
     c.from_residual.ensures
     ∙ (ap (λ (o : Option ℤ). slot_of_some o c.args.links.now.nodes) (sym none)
     ∙ slot-negative c.args.class c.bound_of.result c.args.links.now.nodes c.requires.negative
@@ -23,7 +23,7 @@ returns c =
     let bound : SFits w32 c.bound_of.result = search rules in
     let least : SFits w32 c.in_ok-least.least = search rules in
     let some : least_upto c.bound_of.result c.args.links.now.nodes ≡ Some c.in_ok-least.least =
-    sym (simp to_z-of_z at c.least_class_upto-least.ensures) ∙ c.in_ok-least.was in
+    sym (simp to_z-of_z at c.least_class_upto.ensures) ∙ c.in_ok-least.was in
     simp to_z-of_z at c.first_of.ensures.slot
     ∙ (ap (λ (o : Option ℤ). slot_of_some o c.args.links.now.nodes) (sym some)
     ∙ slot-negative c.args.class c.bound_of.result c.args.links.now.nodes c.requires.negative

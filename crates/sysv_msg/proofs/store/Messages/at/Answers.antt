@@ -34,5 +34,5 @@ returns-clause-there c =
     rw (to_z-of_z w32 c.class.result fits)
     (ap (λ (ns : List (Node (List ℕ))). option_map message_of (node_at c.args.slot ns)) (sym c.self.view_is)
     ∙ (message_there texts c.args.slot c.self.inside.links.nodes c.class.result c.value.result.now
-    (simp to_z-of_z at c.class.ensures) c.value.ensures
+    c.class.ensures c.value.ensures
     ∙ ap (λ (t : List ℕ). Some (message_with c.class.result t)) (sym text)))

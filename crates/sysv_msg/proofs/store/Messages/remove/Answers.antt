@@ -1,8 +1,7 @@
 use Rattle.std.proofs.Common.{◌≡◌, List, [], ℕ, sym, ap, ◌∙◌}
-use Rattle.std.proofs.lemmas.List.{nil_from_length}
 use Rattle.index_links.specs.Nodes.{without}
 use Rattle.sysv_msg.specs.Heads.{Head, IsWithin, nodes_in}
-use Rattle.sysv_msg.proofs.Dense.{dense_none, dense_removed}
+use Rattle.sysv_msg.proofs.Dense.{dense_removed}
 use Rattle.sysv_msg.proofs.Slots.{each_left, is_there, without_there}
 use Rattle.sysv_msg.proofs.store.Messages.remove.Goals as goal
 
@@ -10,13 +9,8 @@ pub unlink-requires : goal.unlink-requires
 unlink-requires c =
     is_there c.self.inside.texts.items c.args.slot c.self.inside.links.nodes (rw c.self.view_is c.requires)
 
-pub invariant_of-self-then-len-eq-0 : goal.invariant_of-self-then-len-eq-0
-invariant_of-self-then-len-eq-0 c =
-    let none : c.unlink.new.self.nodes ≡ [] = nil_from_length c.unlink.new.self.nodes (sym c.len.ensures ∙ c.if-len-eq-0.true) in
-    rw (none, c.clear.ensures) (tt, dense_none)
-
-pub invariant_of-self-else-len-eq-0 : goal.invariant_of-self-else-len-eq-0
-invariant_of-self-else-len-eq-0 c =
+pub invariant_of-self-else-len-eq0 : goal.invariant_of-self-else-len-eq0
+invariant_of-self-else-len-eq0 c =
     let texts : List ℕ = c.self.inside.texts.items in
     let heads : List Head = c.self.inside.links.nodes in
     rw c.unlink.ensures.nodes (
@@ -26,18 +20,8 @@ invariant_of-self-else-len-eq-0 c =
           c.self.invariant.1,
     )
 
-pub returns-then-len-eq-0 : goal.returns-then-len-eq-0
-returns-then-len-eq-0 c =
-    let texts : List ℕ = c.self.inside.texts.items in
-    let heads : List Head = c.self.inside.links.nodes in
-    let none : c.unlink.new.self.nodes ≡ [] = nil_from_length c.unlink.new.self.nodes (sym c.len.ensures ∙ c.if-len-eq-0.true) in
-    let gone : without c.args.slot heads ≡ [] = sym c.unlink.ensures.nodes ∙ none in
-    rw none
-    (sym (ap (nodes_in texts) gone)
-    ∙ (sym (without_there texts c.args.slot heads) ∙ ap (without c.args.slot) c.self.view_is))
-
-pub returns-else-len-eq-0 : goal.returns-else-len-eq-0
-returns-else-len-eq-0 c =
+pub returns-else-len-eq0 : goal.returns-else-len-eq0
+returns-else-len-eq0 c =
     rw c.unlink.ensures.nodes
     (sym (without_there c.self.inside.texts.items c.args.slot c.self.inside.links.nodes)
     ∙ ap (without c.args.slot) c.self.view_is)
