@@ -1,5 +1,5 @@
 //! A queue written as bytes.
-ghost use Rattle.std.specs.Prelude.{◌≡◌, ◌≤◌, ◌++◌, length, OnOk, IfOk};
+ghost use Rattle.std.specs.Prelude.{◌≡◌, ◌≤◌, ◌-◌, ◌++◌, drop, length, OnOk, IfOk};
 ghost use Rattle.std.specs.List.{flat_map, AllByRecursion};
 ghost use Rattle.kernel_model.specs.Queue.{bytes_of};
 ghost use Rattle.sysv_msg.specs.Body.{message_field, IsBodyOf};
@@ -14,6 +14,14 @@ use std::alloc::Global;
 
 /// The code of a queue among the bodies.
 pub(crate) const CODE: u8 = 4;
+
+/// So many of the last bytes.
+fn last_of(texts: &[u8], size: usize) -> &[u8]
+    requires { size ≤ length texts.now }
+    ensures { result.now ≡ drop (length texts.now - size) texts.now }
+{
+    texts.split_at(texts.len() - size).1
+}
 
 /// Adds messages at the end, one by one.
 fn push_linked(links: &Links<Span>, texts: &[u8], out: &mut Vec<u8>) -> Result<(), Memory>
@@ -54,8 +62,7 @@ impl Messages {
         if !self.is_dense {
             return self.push_each(out);
         }
-        let begin = self.texts.len() - size;
-        out.extend_from_slice(&self.texts[begin..])?;
+        out.extend_from_slice(last_of(&self.texts, size))?;
         Ok(())
     }
 

@@ -1,4 +1,4 @@
-use Rattle.std.proofs.Common.{◌≡◌, ◌++◌, List, ℕ, length, sym, ap, subst, true, Bool, ◌∙◌}
+use Rattle.std.proofs.Common.{◌≡◌, ◌-◌, ◌++◌, List, ℕ, drop, length, sym, ap, subst, true, Bool, ◌∙◌}
 use Rattle.std.specs.List.{flat_map}
 use Rattle.kernel_model.specs.Queue.{Message}
 use Rattle.sysv_msg.specs.Body.{message_field}
@@ -9,8 +9,8 @@ use Rattle.sysv_msg.proofs.Dense.{LiesLast, dense_last}
 use Rattle.sysv_msg.proofs.Slots.{messages_there}
 use Rattle.sysv_msg.proofs.store.Messages.push_all.Goals as goal
 
-pub overflow_sub-begin : goal.overflow_sub-begin
-overflow_sub-begin c =
+pub last_of-requires : goal.last_of-requires
+last_of-requires c =
     let texts : List ℕ = c.self.inside.texts.items in
     let heads : List Head = c.self.inside.links.nodes in
     let shown : messages_in texts heads ≡ messages_of c.args.self.now =
@@ -19,7 +19,7 @@ overflow_sub-begin c =
     c.requires ∙ ap (λ (ms : List Message). length (flat_map message_field ms)) (sym shown) in
     let dense : IsDense true texts heads =
     subst (λ (b : Bool). IsDense b texts heads) c.if-not-self.false c.self.invariant.1 in
-    rw c.len.ensures (dense_last texts heads c.args.size size dense).within
+    rw c.deref.ensures.value (dense_last texts heads c.args.size size dense).within
 
 pub returns : goal.returns
 returns c =
@@ -33,5 +33,7 @@ returns c =
     subst (λ (b : Bool). IsDense b texts heads) c.if-not-self.false c.self.invariant.1 in
     let last : LiesLast c.args.size texts (flat_map message_field (messages_in texts heads)) =
     dense_last texts heads c.args.size size dense in
-    rw (c.len.ensures, c.deref.ensures.value) at c.in_ok-extend_from_slice.ensures.items
-    ∙ ap (λ (r : List ℕ). c.args.out.now.items ++ r) (last.there ∙ ap (flat_map message_field) shown)
+    let tail : c.last_of.result.now ≡ drop (length texts - c.args.size) texts =
+    rw c.deref.ensures.value at c.last_of.ensures in
+    c.in_ok-extend_from_slice.ensures.items
+    ∙ ap (λ (r : List ℕ). c.args.out.now.items ++ r) (tail ∙ (last.there ∙ ap (flat_map message_field) shown))
