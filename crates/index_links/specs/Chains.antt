@@ -143,8 +143,8 @@ module _ {V : Type 0} where
   HaveOwnSlots [] = Unit {0}
   HaveOwnSlots (n ∷ ns) = LackSlot n.slot ns × HaveOwnSlots ns
 
-  -- the nodes are kept: each in its place, one chain over all in order, and one over those of each class. A class that no
-  -- node has may have a row that leads nowhere
+  -- the nodes are kept: each in its place, one chain over all in order, and one over those of each class. A class that
+  -- no node has may have a row that leads nowhere
   pub record AreKept (places : List (Place V)) (rows : Numbered Link) (ends : Link) (ns : List (Node V)) : Type 0 where
     pub few : length places ≤ nowhere
     pub stand : AllByRecursion (Stands places) ns

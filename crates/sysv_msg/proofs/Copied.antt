@@ -27,7 +27,8 @@ pub begins_copying : (count : ℕ) (bytes : List ℕ) → IsBytes bytes
 begins_copying count bytes fits =
     record { before = []; parts = refl; fits = fits; within = tt; read = begins count bytes }
 
-text_there : (front text after bytes : List ℕ) (h : Head) → bytes ≡ front ++ (text ++ after) → h.value.start ≡ length front
+text_there : (front text after bytes : List ℕ) (h : Head) → bytes ≡ front ++ (text ++ after)
+    → h.value.start ≡ length front
     → h.value.len ≡ length text → text_in bytes h.value ≡ text
 text_there front text after bytes h is start len =
     rw (is, start, len) (ap (take (length text)) (drop_at front (text ++ after) (length front) refl)

@@ -61,7 +61,8 @@ within_field texts m heads h within start len =
 
 -- no hole comes with a message more
 pub dense_added : (is : Bool) (texts : List ℕ) (m : Message) (heads : List Head) (h : Head)
-    → AllByRecursion (IsWithin texts) heads → h.value.start ≡ length texts + 8 → h.class ≡ m.class → h.value.len ≡ length m.text
+    → AllByRecursion (IsWithin texts) heads → h.value.start ≡ length texts + 8 → h.class ≡ m.class
+    → h.value.len ≡ length m.text
     → IsDense is texts heads → IsDense is (texts ++ message_field m) (heads ++ h ∷ [])
 dense_added false texts m heads h within start class len dense = tt
 dense_added true texts m heads h within start class len dense =
@@ -149,6 +150,7 @@ pub record LiesLast (size : ℕ) (texts fields : List ℕ) : Type 0 where
   pub within : size ≤ length texts
   pub there : drop (length texts - size) texts ≡ fields
 
+-- where no hole lies among the messages their fields are the last bytes
 pub dense_last : (texts : List ℕ) (heads : List Head) (size : ℕ)
     → size ≡ length (flat_map message_field (messages_in texts heads)) → IsDense true texts heads
     → LiesLast size texts (flat_map message_field (messages_in texts heads))

@@ -16,7 +16,8 @@ text_stays : (texts more : List ℕ) (h : Head) → IsWithin texts h
 text_stays texts more h within =
     let behind : drop h.value.start (texts ++ more) ≡ drop h.value.start texts ++ more =
     drop-append-le h.value.start texts more (omega (arith, within)) in
-    let long : h.value.len ≤ length (drop h.value.start texts) = omega (arith, within, length-drop h.value.start texts) in
+    let long : h.value.len ≤ length (drop h.value.start texts) =
+    omega (arith, within, length-drop h.value.start texts) in
     ap (take h.value.len) behind ∙ take-append-le h.value.len (drop h.value.start texts) more long
 
 -- the messages that are there show the texts that they showed
@@ -53,7 +54,8 @@ message_added texts text heads h within start len =
 
 -- with a text at the end of the buffer, and a head for it, each head lies within the buffer
 pub within_added : (texts text : List ℕ) (heads : List Head) (h : Head) → AllByRecursion (IsWithin texts) heads
-    → h.value.start ≡ length texts → h.value.len ≡ length text → AllByRecursion (IsWithin (texts ++ text)) (heads ++ h ∷ [])
+    → h.value.start ≡ length texts → h.value.len ≡ length text
+    → AllByRecursion (IsWithin (texts ++ text)) (heads ++ h ∷ [])
 within_added texts text heads h within start len =
     all_joined (IsWithin (texts ++ text)) heads (h ∷ []) (within_more texts text heads within)
     (omega (arith, length-append texts text), tt)

@@ -133,7 +133,8 @@ selected_behind : (class : ℤ) (slot : ℕ) (ns before : List (Node (List ℕ))
     (after : List (Node (List ℕ))) → HaveOwnSlots ns → ns ≡ before ++ n ∷ after → n.slot ≡ slot
     → select (messages_of ns) class ≡ Some (length before) → IsSelected class ns slot
 selected_behind class slot ns before n after own split is selected =
-    let lack : LackSlot n.slot before = own_before before n after (subst (λ (ms : List (Node (List ℕ))). HaveOwnSlots ms) split own) in
+    let lack : LackSlot n.slot before =
+    own_before before n after (subst (λ (ms : List (Node (List ℕ))). HaveOwnSlots ms) split own) in
     let parts : messages_of ns ≡ messages_of before ++ message_of n ∷ messages_of after =
     ap messages_of split ∙ messages_join before (n ∷ after) in
     let size : length before ≡ length (messages_of before) = sym (messages_length before) in
@@ -219,15 +220,18 @@ none_selected (negsuc n) ns is =
 
 -- ---- messages whose texts lie in a buffer
 
+-- the nodes that are shown are these messages
 pub messages_there : (texts : List ℕ) (heads : List Head)
     → messages_of (nodes_in texts heads) ≡ messages_in texts heads
 messages_there texts [] = refl
 messages_there texts (h ∷ heads) = ap (λ (ms : List Message). message_in texts h ∷ ms) (messages_there texts heads)
 
+-- as many as are kept
 pub length_there : (texts : List ℕ) (heads : List Head) → length heads ≡ length (messages_of (nodes_in texts heads))
 length_there texts [] = refl
 length_there texts (h ∷ heads) = ap suc (length_there texts heads)
 
+-- the node of a slot is the one that is kept for it
 pub node_there : (texts : List ℕ) (slot : ℕ) (heads : List Head)
     → node_at slot (nodes_in texts heads) ≡ option_map (node_in texts) (node_at slot heads)
 node_there texts slot [] = refl
@@ -237,6 +241,7 @@ node_there texts slot (h ∷ heads) =
       | inr other ↦ rw (ne_eqb h.slot slot other) (node_there texts slot heads)
     ]
 
+-- without a slot, the same is kept and shown
 pub without_there : (texts : List ℕ) (slot : ℕ) (heads : List Head)
     → without slot (nodes_in texts heads) ≡ nodes_in texts (without slot heads)
 without_there texts slot [] = refl
@@ -253,6 +258,7 @@ lack_there : (texts : List ℕ) (slot : ℕ) (heads : List Head) → LackSlot sl
 lack_there texts slot [] lack = tt
 lack_there texts slot (h ∷ heads) lack = (lack.0, lack_there texts slot heads lack.1)
 
+-- what is shown has slots of its own where what is kept has
 pub own_there : (texts : List ℕ) (heads : List Head) → HaveOwnSlots heads → HaveOwnSlots (nodes_in texts heads)
 own_there texts [] own = tt
 own_there texts (h ∷ heads) own = (lack_there texts h.slot heads own.0, own_there texts heads own.1)
@@ -272,6 +278,7 @@ some_there : (texts : List ℕ) (o : Option ℤ) (heads : List Head)
 some_there texts None heads = refl
 some_there texts (Some class) heads = first_there texts class heads
 
+-- which slot a receive asks for is told by what is kept
 pub slot_there : (texts : List ℕ) (class : ℤ) (heads : List Head)
     → slot_for class (nodes_in texts heads) ≡ slot_for class heads
 slot_there texts (pos zero) [] = refl

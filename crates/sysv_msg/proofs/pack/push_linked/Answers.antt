@@ -9,7 +9,8 @@ use Rattle.sysv_msg.proofs.pack.push_linked.Goals as goal
 
 pub loop-init : goal.loop-init
 loop-init c =
-    begins_packing c.args.texts.now c.args.links.now.nodes c.first-at.result c.args.out.now.items c.first-at.ensures.slot
+    begins_packing c.args.texts.now c.args.links.now.nodes c.first-at.result c.args.out.now.items
+    c.first-at.ensures.slot
 
 pub value-requires : goal.value-requires
 value-requires c =

@@ -26,7 +26,8 @@ returns-then-not-fits-clause-refused c =
     let there : slice_get (messages_of ns) s.place ≡ Some m =
     at_slot c.args.class ns c.in_ok-slot.slot m s c.at-kind.ensures.there in
     rw (← c.self.view_is)
-    (receive_refused (queue_of (messages_of ns) c.self.inside.qbytes c.self.inside.last_sender c.self.inside.last_receiver)
+    (receive_refused
+    (queue_of (messages_of ns) c.self.inside.qbytes c.self.inside.last_sender c.self.inside.last_receiver)
     c.args.pid c.args.class c.args.size c.args.noerror s.place m s.selected there (sym c.if-not-fits.ensures))
 
 pub returns-in_default-clause-refused : goal.returns-in_default-clause-refused
@@ -39,7 +40,8 @@ returns-in_default-clause-refused c =
     let there : slice_get (messages_of ns) s.place ≡ Some m =
     at_slot c.args.class ns c.in_ok-slot.slot m s c.at-kind.ensures.there in
     rw (← c.self.view_is)
-    (receive_answered (queue_of (messages_of ns) c.self.inside.qbytes c.self.inside.last_sender c.self.inside.last_receiver)
+    (receive_answered
+    (queue_of (messages_of ns) c.self.inside.qbytes c.self.inside.last_sender c.self.inside.last_receiver)
     c.args.pid c.args.class c.args.size c.args.noerror s.place m s.selected there (sym c.if-not-fits.ensures))
 
 pub remove-requires : goal.remove-requires
@@ -73,7 +75,8 @@ invariant_of-self c =
     at_slot c.args.class ns c.in_ok-slot.slot m s c.at-kind.ensures.there in
     let left : messages_of c.remove.new.self ≡ remove (messages_of ns) s.place =
     ap messages_of c.remove.ensures ∙ s.rest in
-    within_removed (queue_of (messages_of ns) c.self.inside.qbytes c.self.inside.last_sender c.self.inside.last_receiver)
+    within_removed
+    (queue_of (messages_of ns) c.self.inside.qbytes c.self.inside.last_sender c.self.inside.last_receiver)
     s.place c.args.pid c.self.inside.bytes m (messages_of c.remove.new.self) there left c.self.invariant.0
     c.self.invariant.1
 
@@ -90,6 +93,7 @@ returns-clause-taken c =
     ap messages_of c.remove.ensures ∙ s.rest in
     let fits : SFits w32 c.at-kind.result.0 = search rules in
     rw (← c.self.view_is, c.in-Ok.ensures, to_z-of_z w32 c.at-kind.result.0 fits)
-    (receive_taken (queue_of (messages_of ns) c.self.inside.qbytes c.self.inside.last_sender c.self.inside.last_receiver)
+    (receive_taken
+    (queue_of (messages_of ns) c.self.inside.qbytes c.self.inside.last_sender c.self.inside.last_receiver)
     c.args.pid c.args.class c.args.size c.args.noerror s.place m (messages_of c.remove.new.self) s.selected there
     (sym c.if-not-fits.ensures) left)

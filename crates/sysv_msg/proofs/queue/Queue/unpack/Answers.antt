@@ -33,7 +33,8 @@ returns-in-Ok-Some-clause-only c q is =
       qbytes = fields.qbytes;
       last_sender = fields.sender;
       last_receiver = fields.receiver;
-    }) c.args.bytes.now = is_body fields.qbytes fields.sender fields.receiver fields.count (messages_of c.in-Ok-Some.messages)
+    }) c.args.bytes.now =
+    is_body fields.qbytes fields.sender fields.receiver fields.count (messages_of c.in-Ok-Some.messages)
     fields.messages.now c.args.bytes.now (λ i. omega (arith, c.type_inv.bytes i)) c.in-Some.ensures
     all.all in
     one_queue c.args.bytes.now _ q found is
