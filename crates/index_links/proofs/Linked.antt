@@ -2,7 +2,7 @@
 use Rattle.std.proofs.Common.{◌≡◌, ◌≢◌, ◌⊎◌, ℕ, List, [], ◌∷◌, ◌++◌, Option, Some, None, option_map, nat_eq, if◌then◌else◌, refl, sym, ap, subst, ◌∙◌, inl, inr}
 use Rattle.std.proofs.lemmas.Bool.{cases_eq, eq-eqb, ne_eqb}
 use Rattle.std.specs.List.{AllByRecursion}
-use Rattle.number_maps.specs.Maps.{Numbered, get, put, without}
+use Rattle.number_maps.specs.Maps.{Numbered, put, without}
 use Rattle.number_maps.proofs.LookUps.{get-put-same, get-put-other, get-without-same, get-without-other}
 use Rattle.index_links.specs.declared.places.Link.{Link}
 use Rattle.index_links.specs.Chains.{nowhere, blank, or_blank, Change, Chain, joined, added, linked, row_at, row_of}

@@ -1,13 +1,10 @@
 -- Messages whose texts lie in one buffer: a text more in the buffer, a message less, and what the types alone select.
-use Rattle.std.proofs.Common.{◌≡◌, ℕ, zero, suc, ◌+◌, ◌≤◌, not, ℤ, pos, negsuc, List, [], ◌∷◌, ◌++◌, length, map, take, drop, Option, Some, None, refl, sym, ap, ◌∙◌, subst, arith}
-use Rattle.std.specs.Prelude.{remove, position}
-use Rattle.std.specs.List.{AllByRecursion, prefix_len}
-use Rattle.std.specs.Ordering.{int_eq}
+use Rattle.std.proofs.Common.{◌≡◌, ℕ, zero, suc, ◌≤◌, List, [], ◌∷◌, ◌++◌, length, take, drop, refl, ap, ◌∙◌, arith}
+use Rattle.std.specs.Prelude.{remove}
+use Rattle.std.specs.List.{AllByRecursion}
 use Rattle.std.proofs.Math.Seq.{drop-append_seam, take-length}
-use Rattle.std.proofs.lemmas.List.{map-append, length-map, length-append, take-append-le, drop-append-le, length-drop}
-use Rattle.kernel_model.specs.Queue.{Message, first_of, first_of_some, lowest_upto, select}
+use Rattle.std.proofs.lemmas.List.{map-append, length-append, take-append-le, drop-append-le, length-drop}
 use Rattle.sysv_msg.specs.Heads.{Head, IsWithin, text_in, message_in, messages_in}
-use Rattle.sysv_msg.specs.Limits.{IsSendable}
 
 -- ---- a text more at the end of the buffer
 

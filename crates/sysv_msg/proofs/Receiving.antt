@@ -1,7 +1,6 @@
 -- What a receive gives for the place that was selected, and that the queue keeps its limits.
-use Rattle.std.proofs.Common.{◌≡◌, ℕ, zero, suc, ◌+◌, ◌-◌, ◌<◌, ◌≤◌, Bool, true, false, ◌||◌, ℤ, List, [], ◌∷◌, length, take, Some, Ok, Err, refl, sym, ap, ◌∙◌, arith}
+use Rattle.std.proofs.Common.{◌≡◌, ℕ, zero, suc, ◌+◌, ◌-◌, Bool, true, false, ◌||◌, ℤ, List, [], ◌∷◌, length, take, Some, Ok, Err, refl, ap, arith}
 use Rattle.std.specs.Prelude.{IsOk, nat_le, remove, slice_get}
-use Rattle.std.specs.List.{AllByRecursion}
 use Rattle.std.proofs.lemmas.List.Sums.{sum_by-cons}
 use Rattle.pico_base.specs.declared.reply.Errno.TheVariants.{E2big}
 use Rattle.kernel_model.specs.Queue.{Message, Queue, select, receive, bytes_of}

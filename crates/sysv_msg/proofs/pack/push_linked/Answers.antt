@@ -1,8 +1,7 @@
 use Rattle.std.proofs.Common.{◌≡◌, ◌++◌, List, ℕ, SFits, w32, arith, rules}
 use Rattle.std.proofs.lemmas.Int.{to_z-of_z}
-use Rattle.kernel_model.specs.Queue.{Message}
 use Rattle.sysv_msg.specs.Body.{message_field}
-use Rattle.sysv_msg.specs.Heads.{Head, text_in}
+use Rattle.sysv_msg.specs.Heads.{text_in}
 use Rattle.sysv_msg.proofs.Packing.{begins_packing, ends_packing, has_packed_all, next_there, packs_more}
 use Rattle.sysv_msg.proofs.Slots.{within_there}
 use Rattle.sysv_msg.proofs.pack.push_linked.Goals as goal

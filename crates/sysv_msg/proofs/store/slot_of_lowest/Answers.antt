@@ -1,5 +1,4 @@
 use Rattle.std.proofs.Common.{◌≡◌, ℤ, Option, Some, None, SFits, w32, sym, ap, ◌∙◌, rules}
-use Rattle.std.specs.Prelude.{FitsSigned, int_le, pos, ◌-ℤ◌}
 use Rattle.std.proofs.lemmas.Int.{to_z-of_z}
 use Rattle.index_links.specs.Nodes.{least_upto}
 use Rattle.sysv_msg.specs.Linked.{slot_of_some}

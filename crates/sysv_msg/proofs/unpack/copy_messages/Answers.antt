@@ -1,4 +1,4 @@
-use Rattle.std.proofs.Common.{◌∙◌, ℕ, ◌+◌, ◌≡◌, ◌-◌, ◌*◌, List, Some, SFits, w32, [], ◌∷◌, length, ap, sym, refl, arith, rules}
+use Rattle.std.proofs.Common.{◌∙◌, ℕ, ◌≡◌, ◌-◌, ◌*◌, List, Some, SFits, w32, [], length, ap, sym, refl, arith, rules}
 use Rattle.std.proofs.lemmas.Int.{to_z-of_z}
 use Rattle.kernel_model.specs.Queue.{Message, bytes_of, max_text, max_queue_bytes}
 use Rattle.sysv_msg.specs.Heads.{Head, messages_in, nodes_in}

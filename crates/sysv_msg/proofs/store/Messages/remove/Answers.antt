@@ -1,6 +1,6 @@
-use Rattle.std.proofs.Common.{◌≡◌, List, [], ℕ, sym, ap, ◌∙◌}
+use Rattle.std.proofs.Common.{List, ℕ, sym, ap, ◌∙◌}
 use Rattle.index_links.specs.Nodes.{without}
-use Rattle.sysv_msg.specs.Heads.{Head, IsWithin, nodes_in}
+use Rattle.sysv_msg.specs.Heads.{Head, IsWithin}
 use Rattle.sysv_msg.proofs.Dense.{dense_removed}
 use Rattle.sysv_msg.proofs.Slots.{each_left, is_there, without_there}
 use Rattle.sysv_msg.proofs.store.Messages.remove.Goals as goal

@@ -1,4 +1,4 @@
-use Rattle.std.proofs.Common.{◌≡◌, List, ℕ, ◌∙◌}
+use Rattle.std.proofs.Common.{◌≡◌, ◌∙◌}
 use Rattle.std.specs.List.{flat_map}
 use Rattle.sysv_msg.specs.Body.{message_field}
 use Rattle.sysv_msg.specs.Linked.{messages_of}
