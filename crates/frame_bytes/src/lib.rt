@@ -21,4 +21,4 @@ pub use joiner::Joiner;
 pub use laws::{
     a_stream_has_one_reading, limits_are_a_test, no_spelling_begins_another, pieces_do_not_matter,
 };
-pub use limits::is_within_limits;
+pub use limits::{has_room_to_go_on, is_within_limits};

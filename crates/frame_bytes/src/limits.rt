@@ -1,8 +1,9 @@
 //! Whether a frame keeps to the limits, tested before it is spelled. A list is counted before it is walked, so one
 //! that is too long costs nothing, however long it is.
-ghost use Rattle.std.specs.Prelude.{◌≡◌, ◌↔◌, ◌&&◌, IsTrue, length};
+ghost use Rattle.std.specs.Prelude.{◌≡◌, ◌↔◌, ◌&&◌, IsTrue, length, nat_lt};
 ghost use Rattle.std.specs.List.{list_all};
 ghost use Rattle.frame_bytes.specs.Fields.{name_number};
+ghost use Rattle.frame_bytes.specs.Frames.{frame_body, max_frame};
 ghost use Rattle.frame_bytes.specs.LimitTests.{are_deeds, are_vars, has_fields, is_call, is_count, is_deed, is_frame, is_half, is_last_call, is_nonzero, is_parcel, is_reply, is_sigarg, is_text};
 ghost use Rattle.frame_bytes.specs.Limits.{IsWithinLimits};
 
@@ -182,4 +183,12 @@ pub fn is_within_limits(frame: &Frame) -> bool
     ensures within { IsTrue result ↔ IsWithinLimits frame.now }
 {
     has_fields(frame) && body_len(frame) <= MAX_FRAME as usize
+}
+
+/// Whether the frame keeps to the limits with room for one byte more: so much does a call grow where the leader sends it
+/// on, since the frame names the caller's node then. Any frame can be tested, and it takes no memory.
+pub fn has_room_to_go_on(frame: &Frame) -> bool
+    ensures { result ≡ has_fields frame.now && nat_lt (length (frame_body frame.now)) max_frame }
+{
+    has_fields(frame) && body_len(frame) < MAX_FRAME as usize
 }
