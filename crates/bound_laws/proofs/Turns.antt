@@ -41,7 +41,7 @@ use Rattle.world_model.specs.Routes.{recall_from, route_call}
 use Rattle.world_model.specs.Serving.{serve_asked, serve_nobody, without_deed}
 use Rattle.world_model.specs.Starting.{run}
 use Rattle.world_model.specs.Step.{Step, send, step_to, with_directory}
-use Rattle.world_model.specs.Turn.{take_frame}
+use Rattle.world_model.specs.Turn.{take_by_kind}
 use Rattle.world_model.specs.World.{IsNode}
 use Rattle.bound_laws.specs.Bounded.{FrameIsBounded, FrameNamesNodes, LeadsToNode, NamesNodes, NodeIsBounded, StepIsBounded}
 use Rattle.bound_laws.proofs.NewNames.{ForksNodes, make-bounded}
@@ -416,7 +416,7 @@ module _ (script : Script) where
 
   -- A node that takes a frame stays bounded, and so is what it sends.
   pub take-turn-bounded : (n : Node) (to sender : ℕ) (frame : Frame) → NodeIsBounded script n
-      → FrameIsBounded script to sender frame → Bounded (take_frame script n sender frame)
+      → FrameIsBounded script to sender frame → Bounded (take_by_kind script n sender frame)
   take-turn-bounded n to sender (frames.Ask ticket pid call) k f =
       take-ask-bounded n sender ticket pid call k f.sender_is
   take-turn-bounded n to sender (frames.Request ticket pid call) k f =

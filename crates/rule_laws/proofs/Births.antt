@@ -285,8 +285,9 @@ module _ (script : Script) (w : World) (b : Beside) (holds : Holds script w [] b
       is-process name
       (not-true (is_object name) (sym (ap (may_be_at (is_object name)) is-checkpointed.deed_is) ∙ known.place_fits))
 
-  used : x.used ≡ true
-  used = by-test x.used refl
+  -- its process's number is in use
+  pub checkpoint-is-used : x.used ≡ true
+  checkpoint-is-used = by-test x.used refl
     where
       not-unmade : InCheckpoint p ≡ Unmade → ⊥
       not-unmade e = cc
@@ -303,7 +304,7 @@ module _ (script : Script) (w : World) (b : Beside) (holds : Holds script w [] b
   is-there : is_some (get b.kernel.processes (number_of name)) ≡ true
   is-there =
       sym (valid.used_processes (number_of name))
-      ∙ subst (λ m. is_used_name b.kernel m ≡ true) process-name used
+      ∙ subst (λ m. is_used_name b.kernel m ≡ true) process-name checkpoint-is-used
 
   some-process : (o : Option Process) → is_some o ≡ true → (v : Process) × (o ≡ Some v)
   some-process (Some v) e = (v, refl)
@@ -437,7 +438,7 @@ module _ (script : Script) (w : World) (b : Beside) (holds : Holds script w [] b
   all-true a c d e f g = rw (e, f, g) refl
 
   read-is : read_deed packed ≡ Some (LivingBody row)
-  read-is = ap read_deed is-checkpointed.packed_is ∙ reads name used ∙ ap Some body-is
+  read-is = ap read_deed is-checkpointed.packed_is ∙ reads name checkpoint-is-used ∙ ap Some body-is
 
   rule : take_checkpoint script n q pid parent packed vars ≡ Some after
   rule =

@@ -9,8 +9,9 @@ use Rattle.kernel_laws.proofs.Plain.{from_some, not_some}
 use Rattle.world_model.specs.Node.{Node}
 use Rattle.world_model.specs.Step.{Step}
 use Rattle.world_model.specs.Starting.{run}
-use Rattle.world_model.specs.Turn.{take_frame}
-use Rattle.world_model.specs.World.{World, node_at, stream, node_count, world_after, after_turn, takes_at, runs_at, step}
+use Rattle.world_model.specs.Turn.{take_by_kind}
+use Rattle.world_model.specs.World.{World, node_at, stream, node_count, world_after, after_turn, runs_at}
+use Rattle.world_laws.specs.ByRules.{step_by_rules, takes_by_rules}
 use Rattle.world_laws.specs.Places.{CallPlace, call_in}
 use Rattle.world_laws.specs.Sights.{node_of}
 use Rattle.world_laws.specs.Invariant.{IsShaped}
@@ -37,23 +38,23 @@ after-step script w p taken n s call call_after at l =
 pub take-falls : (script : Script) (w : World) (p q : ℕ) (frame : Frame) (rest : List Frame)
     (call call_after : ℕ → CallPlace)
     → IsShaped script w → Heads script w p q frame rest
-    → ((s : Step) → take_frame script (node_of w p) q frame ≡ Some s
+    → ((s : Step) → take_by_kind script (node_of w p) q frame ≡ Some s
     → Lowers script (node_of w p) (frame_weight frame) call call_after s)
     → Falls script w (events.Take p q) call call_after
 take-falls script w p q frame rest call call_after shape h lowers next is =
-    by-rule (take_frame script (node_of w p) q frame) refl
+    by-rule (take_by_kind script (node_of w p) q frame) refl
   where
-    by-rule : (o : Option Step) → take_frame script (node_of w p) q frame ≡ o
+    by-rule : (o : Option Step) → take_by_kind script (node_of w p) q frame ≡ o
         → weight script next call_after < weight script w call
     by-rule None e =
-        let stuck : step w (events.Take p q) ≡ None =
-        ap (λ x. takes_at w p q x (stream w p q)) (node-there script w shape p h.low h.high)
-        ∙ ap (takes_at w p q (Some (node_of w p))) h.head
+        let stuck : step_by_rules w (events.Take p q) ≡ None =
+        ap (λ x. takes_by_rules w p q x (stream w p q)) (node-there script w shape p h.low h.high)
+        ∙ ap (takes_by_rules w p q (Some (node_of w p))) h.head
         ∙ ap (after_turn (world_without w p q rest) p)
-        (ap (λ x. take_frame x (node_of w p) q frame) shape.of_script ∙ e)
+        (ap (λ x. take_by_kind x (node_of w p) q frame) shape.of_script ∙ e)
         in not_some next (sym stuck ∙ is)
     by-rule (Some s) e =
-        let there : step w (events.Take p q) ≡ Some (world_after (world_without w p q rest) p s) =
+        let there : step_by_rules w (events.Take p q) ≡ Some (world_after (world_without w p q rest) p s) =
         take-steps script w p q frame rest s shape h e
         in let lower =
         after-step script (world_without w p q rest) p (frame_weight frame) (node_of w p) s call call_after
@@ -73,13 +74,13 @@ run-falls script w p call call_after shape low high lowers next is =
     by-rule : (o : Option Step) → run script (node_of w p) ≡ o
         → weight script next call_after < weight script w call
     by-rule None e =
-        let stuck : step w (events.Run p) ≡ None =
+        let stuck : step_by_rules w (events.Run p) ≡ None =
         ap (runs_at w p) (node-there script w shape p low high)
         ∙ ap (after_turn w p)
         (ap (λ x. run x (node_of w p)) shape.of_script ∙ e)
         in not_some next (sym stuck ∙ is)
     by-rule (Some s) e =
-        let there : step w (events.Run p) ≡ Some (world_after w p s) = run-steps script w p s shape low high e
+        let there : step_by_rules w (events.Run p) ≡ Some (world_after w p s) = run-steps script w p s shape low high e
         in let lower =
         after-step script w p 0 (node_of w p) s call call_after (node-there script w shape p low high) (lowers s e)
         in subst (λ v. weight script v call_after < weight script w call) (from_some _ _ (sym there ∙ is))

@@ -4,8 +4,10 @@ use Rattle.pico_base.specs.declared.script.Event.{Event}
 use Rattle.pico_base.specs.declared.script.Script.{Script}
 use Rattle.kernel_laws.proofs.Plain.{from_some}
 use Rattle.world_model.specs.World.{World, is_enabled, opening_world, step}
+use Rattle.world_laws.specs.ByRules.{step_by_rules}
 use Rattle.world_laws.specs.Invariant.{Holds}
 use Rattle.world_laws.specs.Places.{Beside, Idle}
+use Rattle.world_laws.proofs.ByRules.{step-is-by-rules}
 use Rattle.world_laws.proofs.Steps.{KeepsAs}
 use Rattle.weight_laws.specs.Runs.{EachGoesOn, RunsAreShort}
 use Rattle.weight_laws.proofs.LightEvents.{KeepsLightly}
@@ -33,13 +35,14 @@ module _ (script : Script) (Besides : World → Type 0) (stays : StaysAlong Besi
   goes-on w next b e h enabled is =
       let light : KeepsLightly script w e b = each w b e h.all h.besides enabled
       in let kept : KeepsAs script w e light.beside = light.keeps
+      in let by_rules : step_by_rules w e ≡ Some next = step-is-by-rules w next e is
       in record {
         beside = light.beside;
         holds = record {
-          all = subst (λ x. Holds script x [] light.beside) (from_some _ _ (sym kept.is_step ∙ is)) kept.holds;
+          all = subst (λ x. Holds script x [] light.beside) (from_some _ _ (sym kept.is_step ∙ by_rules)) kept.holds;
           besides = stays w next e h.besides enabled is;
         };
-        lower = light.falls next is;
+        lower = light.falls next by_rules;
       }
 
   -- A run of the script has at most 32 events for each of its calls.

@@ -18,7 +18,8 @@ use Rattle.node_model.specs.Directory.{Directory, Place, At, Coming, is_known, i
 use Rattle.world_model.specs.Census.{one_if}
 use Rattle.world_model.specs.Node.{Node, Stage, Unborn, Living, Leaving, Left, Over, is_leader}
 use Rattle.world_model.specs.Step.{Step}
-use Rattle.world_model.specs.World.{World, Streams, node_count, numbers, step}
+use Rattle.world_model.specs.World.{World, Streams, node_count, numbers}
+use Rattle.world_laws.specs.ByRules.{step_by_rules}
 use Rattle.world_laws.specs.Places.{CallPlace, Idle, AsksLease, HasLease, InAsk, InRequest, InNotOwner, SentByPlace, SentByRange, InBounce, IsHeld, IsInHand, InAnswer, Ends}
 
 -- ---- frames
@@ -129,7 +130,7 @@ calls_of script = sum_by calls_in script.blocks
 -- whatever world the event leads to weighs less, with the calls in those places then
 abbrev pub Falls : Script → World → Event → (ℕ → CallPlace) → (ℕ → CallPlace) → Type 0
 Falls script w e call call_after =
-    (next : World) → step w e ≡ Some next → weight script next call_after < weight script w call
+    (next : World) → step_by_rules w e ≡ Some next → weight script next call_after < weight script w call
 
 -- ---- the middle of an event
 

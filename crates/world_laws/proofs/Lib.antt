@@ -13,3 +13,4 @@ pub mod Middles
 pub mod Numbers
 pub mod Lines
 pub mod NewRanges
+pub mod ByRules

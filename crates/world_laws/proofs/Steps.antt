@@ -9,9 +9,10 @@ use Rattle.pico_base.specs.declared.script.Event.TheVariants as events
 use Rattle.rpc_frame.specs.declared.frame.Frame.{Frame}
 use Rattle.world_model.specs.Node.{unborn_node}
 use Rattle.world_model.specs.Step.{Step}
-use Rattle.world_model.specs.Turn.{take_frame}
+use Rattle.world_model.specs.Turn.{take_by_kind, take_frame}
 use Rattle.world_model.specs.Starting.{run}
 use Rattle.world_model.specs.World.{World, node_at, stream, stream_in, with_stream, with_all_sent, node_count, world_after, after_turn, takes_at, runs_at, step, is_number}
+use Rattle.world_laws.specs.ByRules.{step_by_rules, takes_by_rules}
 use Rattle.world_laws.specs.Places.{Beside}
 use Rattle.world_laws.specs.Sights.{node_of, frames_to}
 use Rattle.world_laws.specs.Callers.{HasTries}
@@ -20,10 +21,10 @@ use Rattle.world_laws.proofs.Streams.{Square, square-with, stream-same, stream-o
 use Rattle.world_laws.proofs.Sends.{AreToNodes, IsToNode, frame_if, frames_with, sent-is-with, square-sent, all-sent, none-sent}
 use Rattle.world_laws.proofs.Changes.{Changes, frames_if, taken, sent}
 
--- an event has a step, and the invariant holds after it, with this beside the world
+-- an event has a step by the rules, and the invariant holds after it, with this beside the world
 pub record KeepsAs (script : Script) (w : World) (e : Event) (b : Beside) : Type 0 where
   pub next : World
-  pub is_step : step w e ≡ Some next
+  pub is_step : step_by_rules w e ≡ Some next
   pub holds : Holds script next [] b
 
 -- the frame at the head of the stream to node p from node q
@@ -63,11 +64,21 @@ node-there script w s p low high =
     (sym (ap (λ b. unwrap_or (if b then node_at w p else None) (unborn_node p)) (lt-ltb 0 p (omega arith))
     ∙ ap (λ o. unwrap_or o (unborn_node p)) there))
 
--- a node that takes a frame by a rule: the world's step
+-- a node that takes a frame by a rule: the world's step by the rules
 pub take-steps : (script : Script) (w : World) (p q : ℕ) (frame : Frame) (rest : List Frame) (s : Step)
+    → IsShaped script w → Heads script w p q frame rest → take_by_kind script (node_of w p) q frame ≡ Some s
+    → step_by_rules w (events.Take p q) ≡ Some (world_after (world_without w p q rest) p s)
+take-steps script w p q frame rest s shape h rule =
+    ap (λ x. takes_by_rules w p q x (stream w p q)) (node-there script w shape p h.low h.high)
+    ∙ ap (takes_by_rules w p q (Some (node_of w p))) h.head
+    ∙ ap (after_turn (world_without w p q rest) p)
+    (ap (λ x. take_by_kind x (node_of w p) q frame) shape.of_script ∙ rule)
+
+-- a node that takes a frame: the world's step
+pub taken-steps : (script : Script) (w : World) (p q : ℕ) (frame : Frame) (rest : List Frame) (s : Step)
     → IsShaped script w → Heads script w p q frame rest → take_frame script (node_of w p) q frame ≡ Some s
     → step w (events.Take p q) ≡ Some (world_after (world_without w p q rest) p s)
-take-steps script w p q frame rest s shape h rule =
+taken-steps script w p q frame rest s shape h rule =
     ap (λ x. takes_at w p q x (stream w p q)) (node-there script w shape p h.low h.high)
     ∙ ap (takes_at w p q (Some (node_of w p))) h.head
     ∙ ap (after_turn (world_without w p q rest) p)

@@ -9,3 +9,4 @@ pub mod Families
 pub mod Invariant
 pub mod Deeds
 pub mod Runnable
+pub mod ByRules

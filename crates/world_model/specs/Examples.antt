@@ -17,6 +17,7 @@ use Rattle.node_model.specs.Directory.{place_name}
 use Rattle.world_model.specs.Node.{Leader, Node, first_node, opening_leader}
 use Rattle.world_model.specs.Keys.{bind}
 use Rattle.world_model.specs.Step.{step_to, with_directory, with_leader}
+use Rattle.world_model.specs.Turn.{may_come}
 use Rattle.world_model.specs.World.{opening_world}
 use Rattle.world_model.specs.Example.{line, block, script, entries_after, journal_of, at_rest_journal}
 use Rattle.node_model.specs.Spelling.{pack, read_deed, read_body, body_bytes, row_bytes, read_process, read_row, read_signals, read_family, read_queue, read_set}
@@ -54,8 +55,8 @@ pub both_find_nothing_journal : at_rest_journal (opening_world both_find_nothing
     ∷ entry_by 1 2 (calls.MsgRcv 1 (pos 0) 8 false true) (Fail Enomsg)
     ∷ entry_by 1 2 (calls.Exit 0) Ended
     ∷ [])
-unfolding read_deed read_body body_bytes row_bytes read_process read_row read_signals read_family
-    read_queue read_set signal_bytes family_bytes family_at numbers_at all_ended_at ended_at
+unfolding may_come read_deed read_body body_bytes row_bytes read_process read_row read_signals
+    read_family read_queue read_set signal_bytes family_bytes family_at numbers_at all_ended_at ended_at
     byte_upto number_upto text_at class_at message_at messages_at queue_fields_at queue_at semaphore_at
     semaphores_at set_fields_at counted_at set_at
 both_find_nothing_journal = refl
@@ -103,8 +104,8 @@ pub queue_moves_journal : at_rest_journal (opening_world queue_moves) queue_move
     ∷ entry_by 2 2 (calls.MsgRcv 1 (pos 0) 8 false true) (Message (pos 1) (codes "e"))
     ∷ entry_by 1 2 (calls.Exit 0) Ended
     ∷ [])
-unfolding read_deed read_body body_bytes row_bytes read_process read_row read_signals read_family
-    read_queue read_set signal_bytes family_bytes family_at numbers_at all_ended_at ended_at
+unfolding may_come read_deed read_body body_bytes row_bytes read_process read_row read_signals
+    read_family read_queue read_set signal_bytes family_bytes family_at numbers_at all_ended_at ended_at
     byte_upto number_upto text_at class_at message_at messages_at queue_fields_at queue_at semaphore_at
     semaphores_at set_fields_at counted_at set_at
 queue_moves_journal = refl
@@ -139,8 +140,8 @@ pub owner_exits_journal : at_rest_journal (opening_world owner_exits) owner_exit
     ∷ entry_by 1 9 (calls.Exit 0) Ended
     ∷ entry_by 1 1 (calls.Exit 0) Ended
     ∷ [])
-unfolding read_deed read_body body_bytes row_bytes read_process read_row read_signals read_family
-    read_queue read_set signal_bytes family_bytes family_at numbers_at all_ended_at ended_at
+unfolding may_come read_deed read_body body_bytes row_bytes read_process read_row read_signals
+    read_family read_queue read_set signal_bytes family_bytes family_at numbers_at all_ended_at ended_at
     byte_upto number_upto text_at class_at message_at messages_at queue_fields_at queue_at semaphore_at
     semaphores_at set_fields_at counted_at set_at
 owner_exits_journal = refl
@@ -191,8 +192,8 @@ pub removal_during_a_move_journal : journal_of (opening_world removal_during_a_m
     ∷ entry_by 1 3 (calls.MsgRmid 1) (Num 0)
     ∷ entry_by 1 3 (calls.MsgGet (Some 7) true false) (Num 2)
     ∷ [])
-unfolding read_deed read_body body_bytes row_bytes read_process read_row read_signals read_family
-    read_queue read_set signal_bytes family_bytes family_at numbers_at all_ended_at ended_at
+unfolding may_come read_deed read_body body_bytes row_bytes read_process read_row read_signals
+    read_family read_queue read_set signal_bytes family_bytes family_at numbers_at all_ended_at ended_at
     byte_upto number_upto text_at class_at message_at messages_at queue_fields_at queue_at semaphore_at
     semaphores_at set_fields_at counted_at set_at
 removal_during_a_move_journal = refl
@@ -242,8 +243,8 @@ pub cache_is_stale_journal : journal_of (opening_world cache_is_stale) cache_is_
     ∷ entry_by 1 2 (calls.MsgRcv 1 (pos 0) 8 false true) (Message (pos 1) (codes "x"))
     ∷ entry_by 2 3 (calls.MsgSnd 1 (pos 1) (codes "y") true) (Num 0)
     ∷ [])
-unfolding read_deed read_body body_bytes row_bytes read_process read_row read_signals read_family
-    read_queue read_set signal_bytes family_bytes family_at numbers_at all_ended_at ended_at
+unfolding may_come read_deed read_body body_bytes row_bytes read_process read_row read_signals
+    read_family read_queue read_set signal_bytes family_bytes family_at numbers_at all_ended_at ended_at
     byte_upto number_upto text_at class_at message_at messages_at queue_fields_at queue_at semaphore_at
     semaphores_at set_fields_at counted_at set_at
 cache_is_stale_journal = refl
@@ -274,8 +275,8 @@ pub new_numbers_journal : journal_of (opening_world new_numbers) new_numbers_eve
     ∷ entry_by 3 1 (calls.Kill 9 Zero) (Num 0)
     ∷ entry_by 2 1 (calls.Kill 10 Zero) (Fail Esrch)
     ∷ [])
-unfolding read_deed read_body body_bytes row_bytes read_process read_row read_signals read_family
-    read_queue read_set signal_bytes family_bytes family_at numbers_at all_ended_at ended_at
+unfolding may_come read_deed read_body body_bytes row_bytes read_process read_row read_signals
+    read_family read_queue read_set signal_bytes family_bytes family_at numbers_at all_ended_at ended_at
     byte_upto number_upto text_at class_at message_at messages_at queue_fields_at queue_at semaphore_at
     semaphores_at set_fields_at counted_at set_at
 new_numbers_journal = refl
@@ -316,8 +317,8 @@ pub grandchildren_journal : journal_of (opening_world grandchildren) grandchildr
     ∷ entry_by 1 1 (calls.Kill 9 Zero) (Fail Esrch)
     ∷ entry_by 1 1 (calls.WaitPid None true) (Child 2 (Exited 0))
     ∷ [])
-unfolding read_deed read_body body_bytes row_bytes read_process read_row read_signals read_family
-    read_queue read_set signal_bytes family_bytes family_at numbers_at all_ended_at ended_at
+unfolding may_come read_deed read_body body_bytes row_bytes read_process read_row read_signals
+    read_family read_queue read_set signal_bytes family_bytes family_at numbers_at all_ended_at ended_at
     byte_upto number_upto text_at class_at message_at messages_at queue_fields_at queue_at semaphore_at
     semaphores_at set_fields_at counted_at set_at
 grandchildren_journal = refl
@@ -393,8 +394,8 @@ pub nine_forks_journal : at_rest_journal (opening_world nine_forks) nine_forks_e
     ∷ entry_by 1 16 (calls.Exit 0) Ended
     ∷ entry_by 1 17 (calls.Exit 0) Ended
     ∷ [])
-unfolding read_deed read_body body_bytes row_bytes read_process read_row read_signals read_family
-    read_queue read_set signal_bytes family_bytes family_at numbers_at all_ended_at ended_at
+unfolding may_come read_deed read_body body_bytes row_bytes read_process read_row read_signals
+    read_family read_queue read_set signal_bytes family_bytes family_at numbers_at all_ended_at ended_at
     byte_upto number_upto text_at class_at message_at messages_at queue_fields_at queue_at semaphore_at
     semaphores_at set_fields_at counted_at set_at
 nine_forks_journal = refl
@@ -420,8 +421,8 @@ pub asks_its_number_journal : at_rest_journal (opening_world asks_its_number) as
     ∷ entry_by 2 2 calls.GetPid (Num 2)
     ∷ entry_by 1 2 (calls.Exit 0) Ended
     ∷ [])
-unfolding read_deed read_body body_bytes row_bytes read_process read_row read_signals read_family
-    read_queue read_set signal_bytes family_bytes family_at numbers_at all_ended_at ended_at
+unfolding may_come read_deed read_body body_bytes row_bytes read_process read_row read_signals
+    read_family read_queue read_set signal_bytes family_bytes family_at numbers_at all_ended_at ended_at
     byte_upto number_upto text_at class_at message_at messages_at queue_fields_at queue_at semaphore_at
     semaphores_at set_fields_at counted_at set_at
 asks_its_number_journal = refl
@@ -451,8 +452,8 @@ pub set_goes_home_journal : journal_of (opening_world set_goes_home) set_goes_ho
     ∷ entry_by 1 2 (calls.Exit 0) Ended
     ∷ entry_by 1 1 (calls.SemGetVal 1 1) (Num 5)
     ∷ [])
-unfolding read_deed read_body body_bytes row_bytes read_process read_row read_signals read_family
-    read_queue read_set signal_bytes family_bytes family_at numbers_at all_ended_at ended_at
+unfolding may_come read_deed read_body body_bytes row_bytes read_process read_row read_signals
+    read_family read_queue read_set signal_bytes family_bytes family_at numbers_at all_ended_at ended_at
     byte_upto number_upto text_at class_at message_at messages_at queue_fields_at queue_at semaphore_at
     semaphores_at set_fields_at counted_at set_at
 set_goes_home_journal = refl
@@ -474,8 +475,8 @@ pub removed_queue_entries :
     entry_by 1 3 (calls.MsgRmid 1) (Num 0)
     ∷ entry_by 1 3 (calls.MsgGet (Some 7) false false) (Fail Enoent)
     ∷ [])
-unfolding read_deed read_body body_bytes row_bytes read_process read_row read_signals read_family
-    read_queue read_set signal_bytes family_bytes family_at numbers_at all_ended_at ended_at
+unfolding may_come read_deed read_body body_bytes row_bytes read_process read_row read_signals
+    read_family read_queue read_set signal_bytes family_bytes family_at numbers_at all_ended_at ended_at
     byte_upto number_upto text_at class_at message_at messages_at queue_fields_at queue_at semaphore_at
     semaphores_at set_fields_at counted_at set_at
 removed_queue_entries = refl
@@ -486,8 +487,8 @@ pub refused_removal_entries : entries_after both_find_nothing (step_to moved_que
     entry_by 1 3 (calls.MsgRmid 1) (Fail Einval)
     ∷ entry_by 1 3 (calls.MsgGet (Some 7) false false) (Num 1)
     ∷ [])
-unfolding read_deed read_body body_bytes row_bytes read_process read_row read_signals read_family
-    read_queue read_set signal_bytes family_bytes family_at numbers_at all_ended_at ended_at
+unfolding may_come read_deed read_body body_bytes row_bytes read_process read_row read_signals
+    read_family read_queue read_set signal_bytes family_bytes family_at numbers_at all_ended_at ended_at
     byte_upto number_upto text_at class_at message_at messages_at queue_fields_at queue_at semaphore_at
     semaphores_at set_fields_at counted_at set_at
 refused_removal_entries = refl

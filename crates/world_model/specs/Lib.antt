@@ -18,3 +18,4 @@ pub mod Schedule
 pub mod Census
 pub mod Example
 pub mod Examples
+pub mod ComingExamples

@@ -133,7 +133,8 @@ name-replayed script pids born name s steps agrees h =
       items = h.items;
     }
 
-none-held-of : (test : Name → Bool) (ds : List PackedDeed)
+-- what is so of no name of a parcel is so of none of its deeds
+pub none-held-of : (test : Name → Bool) (ds : List PackedDeed)
     → ((name : Name) → is_one_of name (map (λ (deed : PackedDeed). deed.name) ds) ≡ true → test name ≡ false)
     → list_any test (map (λ (deed : PackedDeed). deed.name) ds) ≡ false
 none-held-of test [] none = refl

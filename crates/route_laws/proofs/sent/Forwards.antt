@@ -25,7 +25,7 @@ use Rattle.world_model.specs.Calls.{bounce, bounce_or_nobody, forwarded_by, take
 use Rattle.world_model.specs.Node.{Node, holds as holds_deed, is_born, is_leader, is_node}
 use Rattle.world_model.specs.Serving.{serve_asked, serve_nobody}
 use Rattle.world_model.specs.Step.{Step, step_to}
-use Rattle.world_model.specs.Turn.{take_frame}
+use Rattle.world_model.specs.Turn.{take_by_kind}
 use Rattle.world_model.specs.World.{World, node_count, world_after}
 use Rattle.world_laws.specs.Places.{CallPlace, InBounce, InTable, SentByRange, Unmade, IsInHand, Beside, call_in}
 use Rattle.world_laws.specs.Sights.{node_of, directory_of, is_born_in, is_born_stage}
@@ -57,7 +57,7 @@ use Rattle.route_laws.proofs.sent.Unserved.{refuses}
 -- a rule that ends in a step after which all holds is such a step
 pub has-step : (script : Script) (w : World) (b : Beside) → Holds script w [] b → (p q : ℕ) (frame : Frame)
     (rest : List Frame) → Heads script w p q frame rest → (result : Option Step)
-    → take_frame script (node_of w p) q frame ≡ result
+    → take_by_kind script (node_of w p) q frame ≡ result
     → (After : (ℕ → CallPlace) → Type 0) → EndsIn script (world_without w p q rest) p result After
     → Keeps script w (events.Take p q) After
 has-step script w b holds p q frame rest h result rule After ends =

@@ -29,7 +29,8 @@ use Rattle.world_model.specs.Ends.{names_in}
 use Rattle.world_model.specs.Releases.{release}
 use Rattle.world_model.specs.Lives.{is_end, is_free_to_end, may_take, end_released, take_left}
 use Rattle.world_model.specs.Census.{brings}
-use Rattle.world_model.specs.World.{World, world_after, step}
+use Rattle.world_model.specs.World.{World, world_after}
+use Rattle.world_laws.specs.ByRules.{step_by_rules}
 use Rattle.world_laws.specs.Places.{Unmade, InLeft, Beside}
 use Rattle.world_laws.specs.Sights.{node_of, frames_to, directory_of, stage_of, is_born_in}
 use Rattle.world_laws.specs.Plays.{believed, told, is_there, begin, is_has, is_checkpoint_of, has_any}
@@ -422,5 +423,5 @@ module _ (script : Script) (w : World) (b : Beside) (holds : Holds script w [] b
   -- What the release comes to is the world's step.
   pub left-steps : (s : Step)
       → release script (Ending parcel ∷ []) (step_to (with_directory n (with_left d c))) ≡ Some s
-      → step w (events.Take 1 c) ≡ Some (world_after (world_without w 1 c rest) 1 s)
+      → step_by_rules w (events.Take 1 c) ≡ Some (world_after (world_without w 1 c rest) 1 s)
   left-steps s e = take-steps script w 1 c (frames.Left parcel) rest s holds.shape h (left-releases ∙ e)

@@ -25,7 +25,8 @@ use Rattle.node_model.specs.Leases.{lease_of}
 use Rattle.world_model.specs.Node.{Node, Living}
 use Rattle.world_model.specs.Numbers.{make_with}
 use Rattle.world_model.specs.Step.{Step, step_to}
-use Rattle.world_model.specs.World.{World, node_count, step}
+use Rattle.world_model.specs.World.{World, node_count}
+use Rattle.world_laws.specs.ByRules.{step_by_rules}
 use Rattle.world_laws.specs.Places.{Beside, Idle, InTable, call_in}
 use Rattle.world_laws.specs.Sights.{directory_of, frames_to, is_born_in, node_of}
 use Rattle.world_laws.specs.Callers.{HasTryLeft, is_about, is_item_about, tries_made}
@@ -77,7 +78,7 @@ ready_kind x p numbers ranges =
 pub record Gives (script : Script) (w : World) (p : ℕ) (e : Event) (takes : List (ℕ × Frame)) (after : Step) : Type 0
   where
     pub next : World
-    pub is_step : step w e ≡ Some next
+    pub is_step : step_by_rules w e ≡ Some next
     pub changes : Changes script p w next after.node takes after.sends after.entries
 
 -- A node's process lives, and its call, which is due and takes a number of the kind, has this one to take, and is on
