@@ -1,9 +1,9 @@
 -- A node takes a frame: rule by rule, it stays within limits, and so is what it sends.
-use Rattle.std.proofs.Common.{◌≡◌, ◌++◌, Option, Some, None, ℕ, Bool, true, false, not, ◌&&◌, nat_eq, refl, ◌≤◌, List, length, nat_lt, [], ◌∷◌, map, is_none, arith, ap}
+use Rattle.std.proofs.Common.{◌≡◌, ◌++◌, Option, Some, None, ℕ, Bool, true, false, not, ◌&&◌, nat_eq, refl, ◌≤◌, List, length, nat_lt, [], ◌∷◌, map, is_none, arith, ap, ◌∙◌}
 use Rattle.std.proofs.lemmas.Bool.{false≢true, and_parts, ltb-true, eqb-true}
 use Rattle.std.specs.List.{AllByRecursion, list_any}
 use Rattle.std.specs.Option.{option_map, option_and_then}
-use Rattle.std.specs.Prelude.{fold}
+use Rattle.std.specs.Prelude.{fold, if◌then◌else◌}
 use Rattle.frame_bytes.specs.Fields.{name_number}
 use Rattle.frame_bytes.specs.LimitTests.{is_frame, is_deed, is_nonzero, are_vars, is_call, has_fields}
 use Rattle.kernel_laws.proofs.Plain.{by_test, Of, not_some}
@@ -23,7 +23,7 @@ use Rattle.limit_laws.proofs.Steps.{tables-within, send-within, placed-within, s
 use Rattle.limit_laws.proofs.Tables.{of-map, of-some, of-next, all-both, of-test}
 use Rattle.limit_laws.proofs.Vars.{none-are-variables, brought-are-variables}
 use Rattle.limit_laws.specs.Bodies.{IsFamilyWithin}
-use Rattle.limit_laws.specs.Laws.{HasVariables, SentFramesPass, has_room_for, OpeningNodesAreWithinLimits, TakingKeepsLimits, RunningKeepsLimits}
+use Rattle.limit_laws.specs.Laws.{HasVariables, SentFramesPass, OpeningNodesAreWithinLimits, TakingKeepsLimits, RunningKeepsLimits}
 use Rattle.limit_laws.specs.Within.{IsFrameWithin, IsNodeWithin, IsStepWithin, IsDeedWithin, IsBodyWithin, AreVariables}
 use Rattle.node_model.specs.Bodies.{Body, Living as LivingBody, Ended, Gone, AQueue, ASet, Removed}
 use Rattle.node_model.specs.Cache.{Cache, learn, forget}
@@ -63,7 +63,7 @@ use Rattle.world_model.specs.Routes.{recall_from, route_call}
 use Rattle.world_model.specs.Serving.{without_deed, serve_asked, serve_nobody}
 use Rattle.world_model.specs.Starting.{run}
 use Rattle.world_model.specs.Step.{Step, step_to, with_directory, send}
-use Rattle.world_model.specs.Turn.{take_frame}
+use Rattle.world_model.specs.Turn.{has_room_for, is_given_out, may_come, take_by_kind, take_frame}
 
 module _ (script : Script) (sound : IsSoundScript script) where
   abbrev NodeIs : Node → Type 0
@@ -489,7 +489,7 @@ module _ (script : Script) (sound : IsSoundScript script) where
   fields f h = (and_parts (has_fields f) _ h).0
 
   take-turn-within : (n : Node) (sender : ℕ) (frame : Frame) → NodeIs n → is_frame frame ≡ true → HasVariables frame
-      → has_room_for n sender frame ≡ true → Taken (take_frame script n sender frame)
+      → has_room_for n sender frame ≡ true → Taken (take_by_kind script n sender frame)
   take-turn-within n sender (frames.Ask ticket pid call) k f ranges room =
       take-ask-within n sender ticket pid call k room
   take-turn-within n sender (frames.Request ticket pid call) k f ranges room =
@@ -521,23 +521,50 @@ module _ (script : Script) (sound : IsSoundScript script) where
       take-left-within n sender parcel k (left-is-exit parcel f)
   take-turn-within n sender (frames.ExitTo parcel) k f ranges room = take-exit-within n sender parcel k f
 
--- A node within limits that takes a frame within the limits stays so, and so is what it sends.
+-- what has a step passed the test
+passed-test : {X : Type 0} (test : Bool) (o : Option X) (x : X) → (if test then o else None) ≡ Some x
+    → (test ≡ true) × (o ≡ Some x)
+passed-test true o x is = (refl, is)
+passed-test false o x is = not_some x is
+
+-- a frame that comes is within the limits, and there is room for what it makes the node send
+frame-that-comes : (n : Node) (sender : ℕ) (frame : Frame) → may_come n sender frame ≡ true
+    → (is_frame frame ≡ true) × (has_room_for n sender frame ≡ true)
+unfolding may_come
+frame-that-comes n sender frame may =
+    let first = and_parts (is_frame frame) (has_room_for n sender frame && is_given_out n frame) may
+    in (first.0, (and_parts (has_room_for n sender frame) (is_given_out n frame) first.1).0)
+
+-- A node within limits that takes a frame stays so, and so is what it sends.
 pub taken-within : TakingKeepsLimits
-taken-within script n sender frame s sound k f ranges room is =
-    of-some (IsStepWithin script) (take_frame script n sender frame) s
-    (take-turn-within script sound n sender frame k f ranges room) is
+taken-within script n sender frame s sound k ranges is =
+    let taken = passed-test (may_come n sender frame) (take_by_kind script n sender frame) s is
+    in let come = frame-that-comes n sender frame taken.0
+    in of-some (IsStepWithin script) (take_by_kind script n sender frame) s
+    (take-turn-within script sound n sender frame k come.0 ranges come.1) taken.1
 
 -- The same where it starts a call.
 pub started-within : RunningKeepsLimits
 started-within script n s sound k is =
     of-some (IsStepWithin script) (run script n) s (run-within script sound n k) is
 
--- What has been sent passes the tests of who takes it.
+-- What has been sent has variables, where it is a Checkpoint,
+pub sent-has-variables : (frame : Frame) → IsFrameWithin frame → HasVariables frame
+sent-has-variables (frames.Checkpoint pid parent deed vars) f = f.says
+sent-has-variables frame f = tt
+
+room-for-sent : (n : Node) (sender : ℕ) (frame : Frame) → IsFrameWithin frame
+    → nat_lt (length n.deeds.processes) 256 ≡ true → has_room_for n sender frame ≡ true
+room-for-sent n sender (frames.Ask ticket pid call) f count = f.says
+room-for-sent n sender frames.RecallAll f count = count
+room-for-sent n sender frame f count = refl
+
+-- and passes the tests of who takes it.
 pub sent-frames-pass : SentFramesPass
-sent-frames-pass n sender (frames.Ask ticket pid call) f count = (tt, f.says)
-sent-frames-pass n sender (frames.Checkpoint pid parent deed vars) f count = (f.says, refl)
-sent-frames-pass n sender frames.RecallAll f count = (tt, count)
-sent-frames-pass n sender frame f count = (tt, refl)
+sent-frames-pass n sender frame f count = (
+  sent-has-variables frame f,
+  ap (λ t. t && has_room_for n sender frame) f.limits ∙ room-for-sent n sender frame f count,
+)
 
 -- ---- the opening
 

@@ -8,6 +8,7 @@ use Rattle.pico_base.specs.declared.script.Event.TheVariants.{Run, Take}
 use Rattle.world_model.specs.Example.{after_events}
 use Rattle.world_model.specs.Examples.{both_find_nothing, owner_exits}
 use Rattle.world_model.specs.Node.{Node}
+use Rattle.world_model.specs.Turn.{may_come}
 use Rattle.world_model.specs.World.{World, node_at, opening_world}
 use Rattle.projection_laws.specs.Projection.{answers_to, places_with, still_to_take}
 use Rattle.node_model.specs.Spelling.{read_deed, read_body, body_bytes, row_bytes, read_process, read_row, read_signals, read_family, read_queue, read_set}
@@ -54,15 +55,15 @@ abbrev pub answered_events : List Event
 answered_events = Run 1 ∷ Run 1 ∷ Run 1 ∷ Take 2 1 ∷ Run 1 ∷ Run 2 ∷ Take 1 2 ∷ []
 
 pub is_asked : counts_after both_find_nothing asked_events 2 ≡ Some (counts 1 0)
-unfolding read_deed read_body body_bytes row_bytes read_process read_row read_signals read_family
-    read_queue read_set signal_bytes family_bytes family_at numbers_at all_ended_at ended_at
+unfolding may_come read_deed read_body body_bytes row_bytes read_process read_row read_signals
+    read_family read_queue read_set signal_bytes family_bytes family_at numbers_at all_ended_at ended_at
     byte_upto number_upto text_at class_at message_at messages_at queue_fields_at queue_at semaphore_at
     semaphores_at set_fields_at counted_at set_at
 is_asked = refl
 
 pub is_answered : counts_after both_find_nothing answered_events 2 ≡ Some (counts 0 1)
-unfolding read_deed read_body body_bytes row_bytes read_process read_row read_signals read_family
-    read_queue read_set signal_bytes family_bytes family_at numbers_at all_ended_at ended_at
+unfolding may_come read_deed read_body body_bytes row_bytes read_process read_row read_signals
+    read_family read_queue read_set signal_bytes family_bytes family_at numbers_at all_ended_at ended_at
     byte_upto number_upto text_at class_at message_at messages_at queue_fields_at queue_at semaphore_at
     semaphores_at set_fields_at counted_at set_at
 is_answered = refl
@@ -76,15 +77,15 @@ held_events =
     Take 1 2 ∷ Take 1 2 ∷ Run 3 ∷ Take 1 3 ∷ Take 2 1 ∷ []
 
 pub is_held : counts_after owner_exits held_events 3 ≡ Some (counts 1 0)
-unfolding read_deed read_body body_bytes row_bytes read_process read_row read_signals read_family
-    read_queue read_set signal_bytes family_bytes family_at numbers_at all_ended_at ended_at
+unfolding may_come read_deed read_body body_bytes row_bytes read_process read_row read_signals
+    read_family read_queue read_set signal_bytes family_bytes family_at numbers_at all_ended_at ended_at
     byte_upto number_upto text_at class_at message_at messages_at queue_fields_at queue_at semaphore_at
     semaphores_at set_fields_at counted_at set_at
 is_held = refl
 
 pub is_in_parcel : counts_after owner_exits held_events 2 ≡ Some (counts 1 0)
-unfolding read_deed read_body body_bytes row_bytes read_process read_row read_signals read_family
-    read_queue read_set signal_bytes family_bytes family_at numbers_at all_ended_at ended_at
+unfolding may_come read_deed read_body body_bytes row_bytes read_process read_row read_signals
+    read_family read_queue read_set signal_bytes family_bytes family_at numbers_at all_ended_at ended_at
     byte_upto number_upto text_at class_at message_at messages_at queue_fields_at queue_at semaphore_at
     semaphores_at set_fields_at counted_at set_at
 is_in_parcel = refl
@@ -103,8 +104,8 @@ one_is_taken = refl
 
 -- a range of queues is on its way to the node that asked for it: its first number is taken once it has come
 pub comes_in_lease : free_after owner_exits (Run 1 ∷ Take 2 1 ∷ Run 2 ∷ Take 1 2 ∷ []) kinds.Msg 1 ≡ Some 1
-unfolding read_deed read_body body_bytes row_bytes read_process read_row read_signals read_family
-    read_queue read_set signal_bytes family_bytes family_at numbers_at all_ended_at ended_at
+unfolding may_come read_deed read_body body_bytes row_bytes read_process read_row read_signals
+    read_family read_queue read_set signal_bytes family_bytes family_at numbers_at all_ended_at ended_at
     byte_upto number_upto text_at class_at message_at messages_at queue_fields_at queue_at semaphore_at
     semaphores_at set_fields_at counted_at set_at
 comes_in_lease = refl

@@ -11,7 +11,7 @@ use Rattle.world_model.specs.Node.{Node, first_node, is_leader, opening_leader, 
 use Rattle.world_model.specs.Run.{IsReachableWorld, Runs}
 use Rattle.world_model.specs.Step.{Step}
 use Rattle.world_model.specs.Starting.{run}
-use Rattle.world_model.specs.Turn.{take_frame}
+use Rattle.world_model.specs.Turn.{may_come, take_by_kind, take_frame}
 use Rattle.world_model.specs.World.{World, after_turn, is_enabled, node_at, node_count, numbers, opening_world, runs_at, step, stream, takes_at, world_after}
 use Rattle.world_laws.specs.Invariant.{IsShaped}
 use Rattle.world_laws.specs.Sights.{node_of}
@@ -94,6 +94,11 @@ module _ (script : Script) (v : World) (k : AreFollowers v) (p : ℕ) (low : 1 �
 
 -- ---- runs
 
+-- what holds of a step holds of it where a test lets it be
+of-those : (P : Step → Type 0) (test : Bool) (o : Option Step) → Of P o → Of P (if test then o else None)
+of-those P true o holds = holds
+of-those P false o holds = tt
+
 module _ (script : Script) (sound : IsSoundScript script) where
   -- an event leaves it so
   event-leaves : (w next : World) (e : Event) → IsShapedAndBounded script w → AreFollowers w → is_enabled w e ≡ true
@@ -118,7 +123,10 @@ module _ (script : Script) (sound : IsSoundScript script) where
       ∙ ap (λ (x : Script). after_turn (world_without w p q t.rest) p (take_frame x (node_of w p) q t.frame))
       shape.of_script)
       ∙ steps)
-      (λ other. take-turn-follows script (node_of w p) other q t.frame)
+      (λ other.
+      of-those (IsFollower script (node_of w p) other) (may_come (node_of w p) q t.frame)
+      (take_by_kind script (node_of w p) q t.frame)
+      (take-turn-follows script (node_of w p) other q t.frame))
 
   opened : (count k i : ℕ) (m : Node) → slice_get (map opening_node (numbers k count)) i ≡ Some m
       → m ≡ opening_node (k + i)

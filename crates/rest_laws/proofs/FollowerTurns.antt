@@ -40,7 +40,7 @@ use Rattle.world_model.specs.Ranges.{go_on_with, may_lease, take_lease}
 use Rattle.world_model.specs.Serving.{serve_asked, serve_nobody, without_deed}
 use Rattle.world_model.specs.Starting.{run}
 use Rattle.world_model.specs.Step.{Step, send, step_to, with_deeds}
-use Rattle.world_model.specs.Turn.{take_frame}
+use Rattle.world_model.specs.Turn.{take_by_kind}
 use Rattle.bound_laws.proofs.Parts.{of-map, of-next, of-test}
 use Rattle.rest_laws.proofs.Followers.{IsFollower, all-sent-follow, ask-follows, entered-follows, from-it, make-follows, run-follows, sent-follows, serve-asked-follows, serve-nobody-follows}
 
@@ -236,7 +236,7 @@ module _ (script : Script) (n : Node) (other : is_leader n ≡ false) where
 
   -- A node that takes a frame stays without what the leader knows.
   pub take-turn-follows : (sender : ℕ) (frame : Frame)
-      → Of (IsFollower script n other) (take_frame script n sender frame)
+      → Of (IsFollower script n other) (take_by_kind script n sender frame)
   take-turn-follows sender (frames.Ask ticket pid call) =
       to-leader-only sender (asks_as is_for_others pid call) _
   take-turn-follows sender (frames.Request ticket pid call) = take-request-follows sender ticket pid call

@@ -4,6 +4,7 @@ pub mod LeavingStarts
 pub mod LeavingNames
 pub mod Leaves
 pub mod Starts
+pub mod Comes
 pub mod Worlds
 pub mod Runs
 pub mod Schedules

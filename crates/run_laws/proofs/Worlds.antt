@@ -1,5 +1,5 @@
--- What each world of a run has: the invariant, and bounds. The opening world has it, and each enabled event has a step
--- that keeps it.
+-- What each world of a run has: the invariant, bounds, and limits of what nodes hold and say. The opening world has it,
+-- and each enabled event has a step that keeps it.
 use Rattle.std.proofs.Common.{◌≡◌, ℕ, true, refl, List, [], ◌∷◌, Some, sym, subst, ◌∙◌}
 use Rattle.pico_base.specs.declared.script.Event.{Event}
 use Rattle.pico_base.specs.declared.script.Event.TheVariants as events
@@ -19,6 +19,9 @@ use Rattle.bound_laws.specs.Bounded.{IsShapedAndBounded}
 use Rattle.bound_laws.proofs.Runs.{opening-is-shaped-and-bounded}
 use Rattle.bound_laws.proofs.Scripts.{sound-is-runnable}
 use Rattle.bound_laws.proofs.Worlds.{event-stays-bounded}
+use Rattle.world_limit_laws.specs.Within.{IsWorldWithin}
+use Rattle.world_limit_laws.proofs.Worlds.{event-keeps-limits, opening-is-within}
+use Rattle.run_laws.proofs.Comes.{enabled-by-rules}
 use Rattle.run_laws.proofs.Starts.{run-keeps}
 use Rattle.run_laws.proofs.Takes.{in-order, take-keeps}
 use Rattle.weight_laws.specs.Runs.{RunsAreShort}
@@ -26,10 +29,16 @@ use Rattle.weight_laws.proofs.Law.{each-run-falls}
 use Rattle.weight_laws.proofs.LightEvents.{KeepsLightly}
 use Rattle.weight_laws.proofs.LightRuns.{EachKeepsLightly, light-runs-are-short}
 
+-- what it has beside the invariant
+pub record IsRoomy (script : Script) (w : World) : Type 0 where
+  pub bounded : IsShapedAndBounded script w
+  pub within : IsWorldWithin script w
+
 -- What each world of a run has.
 pub record IsSettled (script : Script) (w : World) : Type 0 where
   pub invariant : HasInvariant script w
   pub bounded : IsShapedAndBounded script w
+  pub within : IsWorldWithin script w
 
 -- The event has a step, after which the world has it again.
 pub record StaysSettled (script : Script) (w : World) (e : Event) : Type 0 where
@@ -44,27 +53,32 @@ module _ (script : Script) (sound : IsSoundScript script) where
       record {
         invariant = record { beside = _; holds = opening-holds script (sound-is-runnable script sound) };
         bounded = opening-is-shaped-and-bounded script sound;
+        within = opening-is-within script;
       }
 
   run-lightly : (w : World) (b : Beside) (p : ℕ) → Holds script w [] b → IsShapedAndBounded script w
       → is_enabled w (events.Run p) ≡ true → KeepsLightly script w (events.Run p) b
-  run-lightly w b p holds within enabled =
+  run-lightly w b p holds bounds enabled =
       let k : Keeps script w (events.Run p) (AfterRun b p) =
-      run-keeps script sound w b holds within.bounded p enabled
+      run-keeps script sound w b holds bounds.bounded p enabled
       in let after : Beside = k.beside
       in let r : IsRun script w p = enabled-runs script w p holds.shape enabled
       in record {
         beside = k.beside;
         keeps = k.keeps;
-        falls = each-run-falls script w b holds (in-order script sound w b holds within.bounded) p r.low r.high
+        falls = each-run-falls script w b holds (in-order script sound w b holds bounds.bounded) p r.low r.high
             after.call k.after;
       }
 
-  -- Each enabled event has a step that keeps all, and lowers the weight.
-  pub event-keeps-lightly : EachKeepsLightly script (IsShapedAndBounded script)
-  event-keeps-lightly w b (events.Run p) holds within enabled = run-lightly w b p holds within enabled
-  event-keeps-lightly w b (events.Take p q) holds within enabled =
-      take-keeps script sound w b holds within.bounded p q enabled
+  -- Each enabled event has a step by the rules that keeps all, and lowers the weight.
+  event-keeps-lightly : (w : World) (b : Beside) (e : Event) → Holds script w [] b → IsShapedAndBounded script w
+      → is_enabled w e ≡ true → KeepsLightly script w e b
+  event-keeps-lightly w b (events.Run p) holds bounds enabled = run-lightly w b p holds bounds enabled
+  event-keeps-lightly w b (events.Take p q) holds bounds enabled =
+      take-keeps script sound w b holds bounds.bounded p q enabled
+
+  each-keeps-lightly : EachKeepsLightly script (IsRoomy script)
+  each-keeps-lightly w b e holds besides enabled = event-keeps-lightly w b e holds besides.bounded enabled
 
   -- Each enabled event has a step, and keeps it.
   pub event-stays-settled : (w : World) (e : Event) → IsSettled script w → is_enabled w e ≡ true
@@ -73,12 +87,16 @@ module _ (script : Script) (sound : IsSoundScript script) where
       let kept : KeepsLightly script w e k.invariant.beside =
       event-keeps-lightly w k.invariant.beside e k.invariant.holds k.bounded enabled
       in let s : KeepsAs script w e kept.beside = kept.keeps
+      in let bounds : IsShapedAndBounded script w = k.bounded
+      in let is_step : step w e ≡ Some s.next =
+      enabled-by-rules script sound w k.invariant.beside k.invariant.holds bounds.bounded k.within e enabled ∙ s.is_step
       in record {
         next = s.next;
-        is_step = s.is_step;
+        is_step = is_step;
         settled = record {
           invariant = record { beside = kept.beside; holds = s.holds };
-          bounded = event-stays-bounded script sound w s.next k.bounded e enabled s.is_step;
+          bounded = event-stays-bounded script sound w s.next bounds e enabled is_step;
+          within = event-keeps-limits script w s.next e sound bounds k.within enabled is_step;
         };
       }
 
@@ -96,6 +114,11 @@ module _ (script : Script) (sound : IsSoundScript script) where
   -- And a run is short.
   pub settled-runs-are-short : RunsAreShort script
   settled-runs-are-short =
-      light-runs-are-short script (IsShapedAndBounded script)
-      (λ w next e within enabled is. event-stays-bounded script sound w next within e enabled is) event-keeps-lightly _
-      (opening-holds script (sound-is-runnable script sound)) (opening-is-shaped-and-bounded script sound) (λ p. refl)
+      light-runs-are-short script (IsRoomy script)
+      (λ w next e besides enabled is.
+      record {
+        bounded = event-stays-bounded script sound w next besides.bounded e enabled is;
+        within = event-keeps-limits script w next e sound besides.bounded besides.within enabled is;
+      })
+      each-keeps-lightly _ (opening-holds script (sound-is-runnable script sound))
+      (record { bounded = opening-is-shaped-and-bounded script sound; within = opening-is-within script }) (λ p. refl)

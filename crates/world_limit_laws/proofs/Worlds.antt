@@ -11,7 +11,8 @@ use Rattle.kernel_model.specs.Script.{IsSoundScript}
 use Rattle.world_model.specs.Node.{Node, opening_node, unborn_node}
 use Rattle.world_model.specs.Step.{Step}
 use Rattle.world_model.specs.Starting.{run}
-use Rattle.world_model.specs.Turn.{take_frame}
+use Rattle.world_model.specs.Turn.{take_by_kind, take_frame}
+use Rattle.world_laws.proofs.ByRules.{taken-by-kind}
 use Rattle.world_model.specs.World.{World, after_turn, is_enabled, node_at, node_count, numbers, opening_world, runs_at, step, stream, takes_at, world_after}
 use Rattle.world_laws.specs.Sights.{node_of}
 use Rattle.world_laws.proofs.Changes.{Changes, frames_if, sent, taken}
@@ -21,7 +22,7 @@ use Rattle.rule_laws.proofs.own.Enabled.{IsRun, enabled-runs}
 use Rattle.rule_laws.proofs.Enabled.{IsTaken, enabled-takes}
 use Rattle.limit_laws.specs.Within.{IsFrameWithin, IsNodeWithin, IsSentWithin, IsStepWithin}
 use Rattle.limit_laws.proofs.Tables.{all-at, all-both, of-some}
-use Rattle.limit_laws.proofs.Turns.{opening-within, sent-frames-pass, started-within, taken-within, unborn-within}
+use Rattle.limit_laws.proofs.Turns.{opening-within, sent-has-variables, started-within, taken-within, unborn-within}
 use Rattle.bound_laws.specs.Bounded.{IsShapedAndBounded, StepIsBounded}
 use Rattle.bound_laws.proofs.Parts.{all-parts}
 use Rattle.bound_laws.proofs.Runs.{nothing-on-its-way}
@@ -97,9 +98,9 @@ module _ (script : Script) where
         (changes-by-run script w b.shape p s r.low r.high (to-nodes script s.sends bounded.sends)) k within.node
         within.sends)
 
-    take-stays : (p q : ℕ) → nat_lt (length (node_of w p).deeds.processes) 256 ≡ true
-        → is_enabled w (events.Take p q) ≡ true → step w (events.Take p q) ≡ Some next → IsWorldWithin script next
-    take-stays p q few enabled steps =
+    take-stays : (p q : ℕ) → is_enabled w (events.Take p q) ≡ true → step w (events.Take p q) ≡ Some next
+        → IsWorldWithin script next
+    take-stays p q enabled steps =
         let t : IsTaken script w p q = enabled-takes script w p q b.shape enabled
         in let h : Heads script w p q t.frame t.rest = t.heads
         in let after : after_turn (world_without w p q t.rest) p (take_frame script (node_of w p) q t.frame)
@@ -113,15 +114,16 @@ module _ (script : Script) where
         after-some (world_without w p q t.rest) next p (take_frame script (node_of w p) q t.frame) after
         in let s : Step = found.0
         in let bounded : StepIsBounded script s =
-        of-some (StepIsBounded script) (take_frame script (node_of w p) q t.frame) s
+        of-some (StepIsBounded script) (take_by_kind script (node_of w p) q t.frame) s
         (take-turn-bounded script (node_of w p) p q t.frame (b.bounded.nodes p h.low h.high)
-        (head-is-bounded script w [] p q t.frame t.rest h b.bounded)) found.1
+        (head-is-bounded script w [] p q t.frame t.rest h b.bounded))
+        (taken-by-kind script (node_of w p) q t.frame s found.1)
         in let there : AreWithin (t.frame ∷ t.rest) =
         subst AreWithin (frames-low w p q h.low h.low_from ∙ h.head) (k.streams p q)
         in let head : IsFrameWithin t.frame = there.0
-        in let pass = sent-frames-pass (node_of w p) q t.frame head few
         in let within : IsStepWithin script s =
-        taken-within script (node_of w p) q t.frame s sound (k.nodes p h.low h.high) head.limits pass.0 pass.1 found.1
+        taken-within script (node_of w p) q t.frame s sound (k.nodes p h.low h.high)
+        (sent-has-variables t.frame head) found.1
         in subst (IsWorldWithin script) (sym found.2)
         (changed-is-within w (world_after (world_without w p q t.rest) p s) p s.node ((q, t.frame) ∷ []) s.sends
         s.entries
@@ -130,10 +132,10 @@ module _ (script : Script) where
 
 -- An enabled event leaves a world within limits.
 pub event-keeps-limits : EventsKeepLimits
-event-keeps-limits script w next (events.Run p) sound b k few enabled steps =
+event-keeps-limits script w next (events.Run p) sound b k enabled steps =
     run-stays script sound w next b k p enabled steps
-event-keeps-limits script w next (events.Take p q) sound b k few enabled steps =
-    take-stays script sound w next b k p q few enabled steps
+event-keeps-limits script w next (events.Take p q) sound b k enabled steps =
+    take-stays script sound w next b k p q enabled steps
 
 -- ---- the opening world
 

@@ -1,8 +1,7 @@
 -- A world whose nodes are within limits, and so is each frame on its way.
-use Rattle.std.specs.Prelude.{◌≡◌, ◌≤◌, ℕ, true, nat_lt, length, Some}
+use Rattle.std.specs.Prelude.{◌≡◌, ◌≤◌, ℕ, true, Some}
 use Rattle.std.specs.List.{AllByRecursion}
 use Rattle.pico_base.specs.declared.script.Event.{Event}
-use Rattle.pico_base.specs.declared.script.Event.TheVariants as events
 use Rattle.pico_base.specs.declared.script.Script.{Script}
 use Rattle.kernel_model.specs.Script.{IsSoundScript}
 use Rattle.world_model.specs.World.{World, is_enabled, node_count, opening_world, step}
@@ -15,11 +14,6 @@ pub record IsWorldWithin (script : Script) (w : World) : Type 0 where
   pub nodes : (p : ℕ) → 1 ≤ p → p ≤ node_count script → IsNodeWithin script (node_of w p)
   pub streams : (to sender : ℕ) → AllByRecursion IsFrameWithin (frames_to w to sender)
 
--- who takes a frame has few deeds of processes, in case the frame asks for them
-abbrev pub HasFewDeeds : World → Event → Type 0
-HasFewDeeds w (events.Run p) = Unit {0}
-HasFewDeeds w (events.Take p from) = nat_lt (length (node_of w p).deeds.processes) 256 ≡ true
-
 -- It holds at first,
 abbrev pub OpeningWorldsAreWithinLimits : Type 0
 OpeningWorldsAreWithinLimits = (script : Script) → IsWorldWithin script (opening_world script)
@@ -28,5 +22,5 @@ OpeningWorldsAreWithinLimits = (script : Script) → IsWorldWithin script (openi
 abbrev pub EventsKeepLimits : Type 0
 EventsKeepLimits =
     (script : Script) (w next : World) (e : Event) → IsSoundScript script → IsShapedAndBounded script w
-    → IsWorldWithin script w → HasFewDeeds w e → is_enabled w e ≡ true → step w e ≡ Some next
+    → IsWorldWithin script w → is_enabled w e ≡ true → step w e ≡ Some next
     → IsWorldWithin script next
