@@ -7,4 +7,4 @@ mod releasing;
 mod taking;
 
 pub use releasing::release;
-pub use taking::{take_exit, take_left};
+pub use taking::{hold_any, take_exit, take_left};

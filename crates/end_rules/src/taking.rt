@@ -96,8 +96,8 @@ pub fn take_left(
     Ok(end_left(step, script, from, parcel)?)
 }
 
-/// Whether a number of the parcel is still to be given here.
-fn hold_any(leases: &Leases, parcel: &Parcel) -> bool
+/// Whether a number of the parcel's deeds is still to be given here. It takes no memory.
+pub fn hold_any(leases: &Leases, parcel: &Parcel) -> bool
     ensures { result ≡ list_any (λ deed. leases_hold leases.now deed.name) parcel.now.deeds }
 {
     let deeds = parcel.deeds.as_slice();

@@ -2,6 +2,7 @@
 //! entries made and the frames to send.
 #![tactic(auto)]
 
+mod coming;
 mod node;
 mod rules;
 mod turn;

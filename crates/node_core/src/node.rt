@@ -85,9 +85,9 @@ impl PicoNode {
 
     /// Makes the turn of an input: its process's next call is started, or a frame is taken.
     ///
-    /// NotAllowed comes only where the machine has no step for the input, and the node is unchanged. Memory: an
-    /// allocation was refused, in this turn or in an earlier one, or the turn met a state that no run of a script leads
-    /// to, as a Checkpoint whose variables don't rise; the node is spent, and answers Memory from now on.
+    /// NotAllowed comes only where the machine has no step for the input, as for a frame outside the limits of frames,
+    /// and the node is unchanged. Memory: an allocation was refused, in this turn or in an earlier one, or the turn met
+    /// a state that no run of a script leads to; the node is spent, and answers Memory from now on.
     pub fn turn(&mut self, script: &Script, input: Input) -> Result<Turn, TurnFault>
         requires sound { IsSoundScript script.now }
         // A turn is the machine's step, and the node is left as the step leaves it.

@@ -1,9 +1,10 @@
-//! The rule of a frame, by its kind.
+//! A frame is taken where it may come, by the rule of its kind.
 ghost use Rattle.kernel_model.specs.Script.{IsSoundScript};
-ghost use Rattle.world_model.specs.Turn.{take_frame};
+ghost use Rattle.world_model.specs.Turn.{take_by_kind, take_frame};
 ghost use Rattle.node_state.specs.State.{node_of};
 ghost use Rattle.node_state.specs.Turning.{IsFresh, Turns};
 
+use crate::coming::may_come;
 use end_rules::{take_exit, take_left};
 use move_rules::{
     take_checkpoint, take_give_back, take_grant, take_leaving, take_recall, take_recall_all,
@@ -16,7 +17,7 @@ use route_rules::{take_ask, take_bounce, take_forward, take_request};
 use rpc_frame::Frame;
 use start_rules::{take_answer, take_not_owner};
 
-/// The rule of a frame.
+/// A frame is taken. One that may not come has no rule: it is refused before anything has changed.
 pub(crate) fn take_frame(
     step: &mut Growing,
     script: &Script,
@@ -26,6 +27,23 @@ pub(crate) fn take_frame(
     requires fresh { IsFresh step.old }
     requires sound { IsSoundScript script.now }
     ensures { Turns (take_frame script.now (node_of step.old.node) from frame) step.old step.new result }
+{
+    if !may_come(&step.node, from, &frame) {
+        return Err(TurnFault::NotAllowed);
+    }
+    take_by_kind(step, script, from, frame)
+}
+
+/// The rule of a frame's kind.
+fn take_by_kind(
+    step: &mut Growing,
+    script: &Script,
+    from: Node,
+    frame: Frame,
+) -> Result<(), TurnFault>
+    requires fresh { IsFresh step.old }
+    requires sound { IsSoundScript script.now }
+    ensures { Turns (take_by_kind script.now (node_of step.old.node) from frame) step.old step.new result }
 {
     match frame {
         Frame::Ask { ticket, pid, call } => take_ask(step, script, from, ticket, pid, call),

@@ -26,9 +26,10 @@
 //! | Left | by the leader, from a node that leaves, with a parcel of names that are all on their way |
 //! | ExitTo | by another node than the leader, from the leader, if the parent is here and lists the child |
 //!
-//! A call that may wait is never asked for. A deed has to have bytes of a body that goes with its name, and its number
-//! isn't one that the receiver is still to give. A parcel stands by rising number, with its own process's deed, which
-//! lives, and else with those of processes that have ended; its call ends the process.
+//! No frame outside the limits of frames is taken, and no call that may wait is asked for. A deed has to have bytes of
+//! a body that goes with its name, and its number isn't one that the receiver is still to give. A parcel stands by
+//! rising number, with its own process's deed, which lives, and else with those of processes that have ended; its call
+//! ends the process.
 ghost use Rattle.std.specs.Prelude.{◌≤◌, length};
 ghost use Rattle.kernel_model.specs.Script.{IsSoundScript};
 
@@ -40,8 +41,8 @@ mod wires;
 use lives::{CHILD_LIFE, LEADER_LIFE, Moment, Next};
 use node_core::{Input, PicoNode, Turn, TurnFault};
 use offers::{
-    CHILD_BIRTHS, CHILD_CALLS, CHILD_ENDS, CHILD_KINDS, CHILD_MOVES, CHILD_NUMBERS, LEADER_CALLS,
-    LEADER_ENDS, LEADER_KINDS, LEADER_LEAVINGS, LEADER_MOVES, NEW, P2, Row,
+    BEYOND, CHILD_BIRTHS, CHILD_CALLS, CHILD_ENDS, CHILD_KINDS, CHILD_MOVES, CHILD_NUMBERS,
+    LEADER_CALLS, LEADER_ENDS, LEADER_KINDS, LEADER_LEAVINGS, LEADER_MOVES, NEW, P2, Row,
 };
 use pico_base::{Node, Script, Var};
 use rpc_frame::Frame;
@@ -287,7 +288,8 @@ fn goes_through(
 
 #[test]
 fn a_child_takes_what_has_a_rule(rt: HostRuntime) -> Result<(), Fail> {
-    let tables: [&[Row]; 6] = [
+    let tables: [&[Row]; 7] = [
+        &BEYOND,
         &CHILD_KINDS,
         &CHILD_CALLS,
         &CHILD_NUMBERS,
@@ -300,7 +302,8 @@ fn a_child_takes_what_has_a_rule(rt: HostRuntime) -> Result<(), Fail> {
 
 #[test]
 fn the_leader_takes_what_has_a_rule(rt: HostRuntime) -> Result<(), Fail> {
-    let tables: [&[Row]; 5] = [
+    let tables: [&[Row]; 6] = [
+        &BEYOND,
         &LEADER_KINDS,
         &LEADER_CALLS,
         &LEADER_MOVES,
@@ -310,46 +313,41 @@ fn the_leader_takes_what_has_a_rule(rt: HostRuntime) -> Result<(), Fail> {
     goes_through(&rt, rt.alloc(), Node(1), &LEADER_LIFE, &tables)
 }
 
-/// Whether the node answers that it has no memory.
-fn lacks_memory(node: &mut PicoNode, script: &Script, input: Input) -> bool
-    requires sound { IsSoundScript script.now }
-{
-    matches!(node.turn(script, input), Err(TurnFault::Memory))
-}
-
 /// A birth of node 2 by these variables.
-fn birth_by(alloc: Global, vars: &[Var]) -> Result<Input, Fail> {
-    Ok(Input::Take {
-        from: Node(1),
-        frame: checkpoint_of(alloc, 2, &(P2, NEW), vars)?,
-    })
+fn birth_by(alloc: Global, vars: &[Var]) -> Result<Frame, Fail> {
+    Ok(checkpoint_of(alloc, 2, &(P2, NEW), vars)?)
 }
 
-/// Whether the input spends the node, and it says so from then on.
-fn is_spent_by(node: &mut PicoNode, script: &Script, input: Input) -> bool
+/// Whether the node refuses a birth by these variables, and is born by others afterwards.
+fn waits_for_a_birth(
+    node: &mut PicoNode,
+    script: &Script,
+    refused: Frame,
+    good: Frame,
+) -> Result<bool, Fail>
     requires sound { IsSoundScript script.now }
 {
-    lacks_memory(node, script, input) && lacks_memory(node, script, Input::Run)
+    Ok(!takes(node, script, Who::Leader, refused)? && takes(node, script, Who::Leader, good)?)
 }
 
-/// Whether the input spends node 2 as it opens.
-fn spends_a_child(alloc: Global, script: &Script, input: Input) -> Result<bool, Fail>
+/// Whether node 2 as it opens refuses a birth by these variables, and is born by others afterwards.
+fn refuses_birth(alloc: Global, script: &Script, vars: &[Var]) -> Result<bool, Fail>
     requires sound { IsSoundScript script.now }
     requires block { 2 ≤ length script.now.blocks }
 {
+    let refused = birth_by(alloc, vars)?;
+    let good = birth_by(alloc, &[C, Q])?;
     let mut node = opening(alloc, script, Node(2))?;
-    Ok(is_spent_by(&mut *node, script, input))
+    waits_for_a_birth(&mut *node, script, refused, good)
 }
 
-/// A birth that no node sends, by variables that don't rise, comes to a state that no run leads to: the node says that
-/// it has no memory, and says so from then on.
+/// A birth that no node sends, by variables that don't rise, is refused, and the node waits for the next one.
 #[test]
-fn variables_that_do_not_rise_spend_a_node(rt: HostRuntime) -> Result<(), Fail> {
+fn variables_that_do_not_rise_bear_nobody(rt: HostRuntime) -> Result<(), Fail> {
     let alloc = rt.alloc();
     let script = forks_twice(alloc)?;
     for vars in [[Q, C], [C, C]] {
-        let birth = birth_by(alloc, &vars)?;
-        assert!(rt; spends_a_child(alloc, &script, birth)?);
+        assert!(rt; refuses_birth(alloc, &script, &vars)?);
     }
     Ok(())
 }

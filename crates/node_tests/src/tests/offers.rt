@@ -360,3 +360,14 @@ pub(super) static LEADER_ENDS: [Row; 11] = [
     ("Left:queue", Wire::Left((2, 1, Do::Exit, WITH_QUEUE_2))),
     ("Left:not-there", Wire::Left((30, 1, Do::Exit, NEW_30))),
 ];
+
+// ---- beyond the limits of frames
+
+/// What has a rule but for a limit of frames: a ticket, a key and a name of number 0, and a reply that is none.
+pub(super) static BEYOND: [Row; 5] = [
+    ("ask-without-ticket", Wire::AskWithoutTicket(Do::Stat(1))),
+    ("ask-by-key-0", Wire::Ask(Do::GetByNone)),
+    ("answer-ended", Wire::AnswerEnded(0)),
+    ("placed-0", Wire::Placed(Named::Msg(0), Who::Child)),
+    ("suggest-0", Wire::Suggest(Named::Msg(0), Who::Child)),
+];

@@ -22,8 +22,8 @@ pub(super) enum Named {
     Sem(u32),
 }
 
-/// A call: on its own process, on a process, on a queue, that removes a queue, that may wait at one, by a key, and the
-/// two that end a process.
+/// A call: on its own process, on a process, on a queue, that removes a queue, that may wait at one, by a key, by a key
+/// that is none, and the two that end a process.
 #[derive(Clone, Copy)]
 pub(super) enum Do {
     GetPid,
@@ -32,6 +32,7 @@ pub(super) enum Do {
     Remove(u32),
     Wait(u32),
     Get,
+    GetByNone,
     Exit,
     Killed(Sig),
 }
@@ -50,10 +51,12 @@ pub(super) type Load = (u32, u32, Do, &'static [Deed]);
 #[derive(Clone, Copy)]
 pub(super) enum Wire {
     Ask(Do),
+    AskWithoutTicket(Do),
     Request(Do),
     Forward(Who, Do),
     Bounce(Who, Do),
     Answer(u32),
+    AnswerEnded(u32),
     NotOwner(u32),
     LeaseAsk(Kind),
     Lease(Kind, u32),
@@ -109,6 +112,11 @@ pub(super) fn call_of(what: Do) -> Call {
         },
         Do::Get => Call::MsgGet {
             key: Some(Key(7)),
+            create: true,
+            excl: false,
+        },
+        Do::GetByNone => Call::MsgGet {
+            key: Some(Key(0)),
             create: true,
             excl: false,
         },
@@ -181,6 +189,11 @@ pub(super) fn frame_of(alloc: Global, wire: Wire, started: u32) -> Result<Frame,
             pid: Pid(9),
             call: call_of(what),
         },
+        Wire::AskWithoutTicket(what) => Frame::Ask {
+            ticket: 0,
+            pid: Pid(9),
+            call: call_of(what),
+        },
         Wire::Request(what) => Frame::Request {
             ticket: 1,
             pid: Pid(9),
@@ -195,6 +208,10 @@ pub(super) fn frame_of(alloc: Global, wire: Wire, started: u32) -> Result<Frame,
         Wire::Answer(on) => Frame::Answer {
             ticket: started.wrapping_add(on),
             reply: Reply::Num(0),
+        },
+        Wire::AnswerEnded(on) => Frame::Answer {
+            ticket: started.wrapping_add(on),
+            reply: Reply::Ended,
         },
         Wire::NotOwner(on) => Frame::NotOwner {
             ticket: started.wrapping_add(on),
