@@ -16,6 +16,7 @@ pub use answer::RestedList;
 use host_iface::{OpenGate, StdSink, StdSource};
 pub use program::{Ran, pico};
 pub use status::Status;
+use std::mem::ManuallyDrop;
 use std::process::ExitCode;
 use std::rt::Env;
 use std::sync::Wait;
@@ -45,7 +46,15 @@ fn start<R: Env + AllocGlobal + Input + Print + Threads + Wait + Sync>(rt: &R) -
     };
     let mut source = StdSource::new(rt.reader());
     let mut sink = StdSink::new(io::writer(rt));
-    pico(rt, rt.alloc(), &words, &mut source, &mut sink, &OpenGate).status
+    leave(pico(rt, rt.alloc(), &words, &mut source, &mut sink, &OpenGate))
+}
+
+// What a run hands back is left as it is: the program ends, and the system takes back its memory at once, not piece by
+// piece.
+fn leave(ran: Ran) -> Status {
+    let Ran { status, rested } = ran;
+    let _left = ManuallyDrop::new(rested);
+    status
 }
 
 // Why what was asked for isn't written, or not all of it. The other statuses go with a text that says it.

@@ -19,8 +19,12 @@ use std::thread::{Threads, for_each_mut};
 /// After so many idle turns in a row a thread leaves.
 const QUIET: u64 = 100_000;
 
-/// After so many idle turns in a row a thread sleeps for the first time.
-const FIRST: u64 = 64;
+/// After each so many idle turns in a row a thread lets the others on, at first: there may be more of them than
+/// processors.
+const FEW: u64 = 64;
+
+/// After so many it sleeps for the first time: an answer comes sooner at most times.
+const FIRST: u64 = 512;
 
 /// And again after each so many more.
 const SOME: u64 = 4096;
@@ -32,19 +36,25 @@ const LAST: u64 = 12;
 /// Sleeps until something is sent to the node, if it is time to; else the others are let on.
 #[cold]
 fn sleep_if_due<R: Wait>(rt: &R, beds: &Beds, node: Node, logged: &Logged) {
-    let is_late = logged.quiet() >= QUIET - LAST;
-    if logged.has_left() == is_late {
+    let quiet = logged.quiet();
+    let is_late = quiet >= QUIET - LAST;
+    if (is_late || quiet % SOME == FIRST) && logged.has_left() == is_late {
         beds.sleep(rt, node);
     } else {
         thread::yield_now();
     }
 }
 
+/// Whether a thread rests after so many idle turns in a row.
+#[inline(always)]
+fn is_restful(quiet: u64) -> bool {
+    quiet % FEW == 0 && (quiet <= FIRST || quiet % SOME == FIRST) || quiet >= QUIET - LAST
+}
+
 /// Rests after some of the turns that found nothing.
 #[inline(always)]
 fn rest_at_times<R: Wait>(rt: &R, beds: &Beds, node: Node, logged: &Logged) {
-    let quiet = logged.quiet();
-    if quiet % SOME == FIRST || quiet >= QUIET - LAST {
+    if is_restful(logged.quiet()) {
         sleep_if_due(rt, beds, node, logged);
     }
 }
