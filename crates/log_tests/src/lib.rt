@@ -1,0 +1,8 @@
+//! Two nodes that log, turned by one thread, one event after the other. The tests stand apart from the code, so that
+//! its proof isn't made again for them.
+#![tactic(auto)]
+
+#[cfg(test)]
+mod tests;
+#[cfg(test)]
+mod two;

@@ -1,0 +1,44 @@
+//! The turns of two nodes, one after the other.
+use crate::two::Two;
+use log_model::TurnAnswer;
+use pico_base::Entries;
+use script_reader::read_script;
+use std::sync::Wait;
+use std::test::Fail;
+use trace_text::write_trace;
+
+// Both look into the same empty queue.
+const BOTH_LOOK: &str = concat!(
+    "proc main\nq = msgget private\nmsgrcv $q 0 8 nowait\nfork child\nend\n",
+    "proc child\nmsgrcv $q 0 8 nowait\nend\n"
+);
+
+// The nodes of its twelve events where each is made behind the one before.
+const ORDER: [u8; 12] = [1, 1, 1, 2, 1, 2, 1, 2, 2, 1, 2, 1];
+
+const TRACE: &str = concat!(
+    "1 msgget private = 1 by 1\n1 msgrcv 1 0 8 nowait = ENOMSG by 1\n1 fork child = 2 by 1\n1 exit 0 = ended by 1\n",
+    "2 msgrcv 1 0 8 nowait = ENOMSG by 1\n2 exit 0 = ended by 1\n",
+    "totals entries 6 processes 2 notready 2 refused 0\n"
+);
+
+// What each turn of a node answers, and what stands in the journal then.
+#[test]
+fn two_nodes_make_twelve_turns_on_one_thread(rt: HostRuntime) -> Result<(), Fail> {
+    let alloc = rt.alloc();
+    let script = read_script(alloc, BOTH_LOOK.as_bytes())?;
+    assert_eq!(rt; script.blocks.len(), 2);
+    let mut two = Two::new(alloc, &script)?;
+    for node in ORDER {
+        assert_eq!(rt; two.turn(&rt, &script, node == 1), TurnAnswer::Did);
+    }
+    assert_eq!(rt; two.turn(&rt, &script, true), TurnAnswer::Idle);
+    assert_eq!(rt; two.turn(&rt, &script, false), TurnAnswer::Idle);
+    let mut entries = Entries::new(alloc);
+    for line in two.close(alloc, &script)?.into_vec() {
+        entries.push(line.entry)?;
+    }
+    let trace = write_trace(alloc, &script, &entries)?;
+    assert_eq!(rt; trace.as_slice(), TRACE.as_bytes());
+    Ok(())
+}
