@@ -5,7 +5,8 @@ usage: tools/unproved.py OUT [CRATE] [PART=HINT ..]
 
 `rt try` compiles the program with checks. Here the intermediate code that it would compile is kept, its checks are
 taken out, the sources' hints on inlining are put in, and it is optimized as `rt run` optimizes a proved program: OUT
-has the instructions of that one within some hundredths. CRATE is the program's, `pico_cmd` where none is named. Further hints are tried without a change of the sources: PART is a
+has the instructions of that one within some hundredths. CRATE is the program's, `pico_cmd` where none is named. Further
+hints are tried without a change of the sources: PART is a
 pattern of a function's name in the intermediate code, as `world_core::state::State::run$`, and HINT one of `always`,
 `never` and `cold`. It takes two minutes of a processor.
 """

@@ -3,23 +3,19 @@
 use crate::reading::{Reading, other, word_at};
 use crate::refused::Cause;
 use explain_base::{
-    Fault, Finding, Line, Lines, Nearest, Page, Piece, Text, Word, Words, Wrong, without_blanks,
+    Fault, Finding, Line, Nearest, Page, Piece, Span, Text, Word, Wrong, without_blanks,
 };
 use explain_calls::Call;
 use std::alloc::Global;
 
 static PROC: [&str; 1] = ["proc"];
 
-/// A script with no line that has words, or with comments alone up to there.
-pub fn no_line<'a>(alloc: Global, script: &'a [u8]) -> Finding<'a> {
-    let has_words = Lines::of(script).any(|line| !Words::of(line.text).is_empty());
-    let what = if has_words {
-        "the script has comments alone"
-    } else {
-        "the script has no line with words"
-    };
-    let expected = Text::plain("a block: proc main, then a line for each call, then end");
-    Finding::without_line(alloc, Text::plain(what), expected, Some(1), Page::Blocks)
+const A_BLOCK: &str = "a block: proc main, then a line for each call, then end";
+
+/// A script with no line that has words.
+pub fn no_line<'a>(alloc: Global) -> Finding<'a> {
+    let what = Text::plain("the script has no line with words");
+    Finding::without_line(alloc, what, Text::plain(A_BLOCK), Some(1), Page::Blocks)
 }
 
 // What is wrong with a line outside any block, by its first word.
@@ -42,7 +38,13 @@ fn outside(first: Word<'_>) -> Wrong<'_> {
 /// A line outside any block.
 pub fn no_proc<'a>(alloc: Global, cause: Cause<'a>, first: Word<'a>) -> Finding<'a> {
     if first.text.starts_with(b"#") {
-        return no_line(alloc, cause.script);
+        let fault = Fault::new(
+            Text::plain("the script has comments alone"),
+            Text::plain(A_BLOCK),
+            Span::of(0, 0),
+            Page::Blocks,
+        );
+        return Finding::at(alloc, cause.line, fault, None);
     }
     if first.text.starts_with(b"\xef\xbb\xbf") {
         let fault = Fault::new(

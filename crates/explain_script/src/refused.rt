@@ -135,7 +135,7 @@ pub fn explain_script<'a>(
         return Ok(not_utf8(alloc, script, number));
     }
     if name == b"NoProc".as_slice() && !has_words(script, number) {
-        return Ok(no_line(alloc, script));
+        return Ok(no_line(alloc));
     }
     let line = Lines::of(script).numbered(number);
     match line {
