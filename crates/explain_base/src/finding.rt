@@ -1,4 +1,5 @@
 //! What is wrong at one place.
+ghost use Rattle.std.specs.Prelude.{◌≡◌};
 
 use crate::lines::Line;
 use crate::text::Text;
@@ -107,7 +108,9 @@ pub struct Finding<'a> {
 
 impl<'a> Finding<'a> {
     /// What is wrong with a line.
-    pub fn at(alloc: Global, line: Line<'a>, fault: Fault<'a>, other: Option<Other<'a>>) -> Self {
+    pub fn at(alloc: Global, line: Line<'a>, fault: Fault<'a>, other: Option<Other<'a>>) -> Self
+        ensures { result.number ≡ Some line.entry.number }
+    {
         Finding {
             fault,
             line: Some(line.text),
@@ -124,7 +127,9 @@ impl<'a> Finding<'a> {
         expected: Text<'a>,
         number: Option<usize>,
         page: Page,
-    ) -> Self {
+    ) -> Self
+        ensures { result.number ≡ number }
+    {
         let fault = Fault::new(what, expected, Span::of(0, 0), page);
         Finding {
             fault,

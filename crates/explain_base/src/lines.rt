@@ -1,5 +1,5 @@
 //! The lines of a text, with their numbers.
-ghost use Rattle.std.specs.Prelude.{length};
+ghost use Rattle.std.specs.Prelude.{length, ◌≡◌, IfSome};
 ghost use Rattle.std.specs.Iterator.{at_most};
 
 /// A line without its line feed, its number from 1 on, and whether a line feed ends it.
@@ -39,7 +39,9 @@ impl<'a> Lines<'a> {
     }
 
     /// The line of this number, where there is one.
-    pub fn numbered(self, number: usize) -> Option<Line<'a>> {
+    pub fn numbered(self, number: usize) -> Option<Line<'a>>
+        ensures { IfSome result (λ line. line.number ≡ number) }
+    {
         for line in self {
             if line.number == number {
                 return Some(line);

@@ -74,8 +74,8 @@ fn is_behind(word: &[u8], other: &[u8]) -> bool {
     word.len() > other.len()
 }
 
-/// The nearest of the words that were offered. Two words are near where their bytes that agree, twice, are six tenths of
-/// all their bytes or more; capitals don't matter.
+/// The nearest of the words that were offered. Two words are near where their bytes that agree, twice, are six tenths
+/// of all their bytes or more; capitals don't matter.
 #[derive(Clone, Copy)]
 pub struct Nearest<'a> {
     word: &'a [u8],

@@ -1,4 +1,5 @@
-//! How a finding is shown: the line with a mark under the word, what is expected, a further line, the form and the page.
+//! How a finding is shown: the line with a mark under the word, what is expected, a further line, the form and the
+//! page.
 ghost use Rattle.std.specs.Prelude.{◌<◌, IfOk, vec_len};
 ghost use Rattle.std.specs.List.{All};
 ghost use Rattle.explain_base.specs.Shown.{IsShown};
@@ -229,8 +230,8 @@ fn told_of(alloc: Global, finding: &Finding, width: usize) -> Result<Row, AllocE
     Ok(told)
 }
 
-/// What is written for a finding, with a line feed behind each of its rows: some bytes, and all of them printable or line
-/// feeds, whatever the bytes are that it was found in.
+/// What is written for a finding, with a line feed behind each of its rows: some bytes, and all of them printable or
+/// line feeds, whatever the bytes are that it was found in.
 pub fn text_of(alloc: Global, finding: &Finding) -> Result<Vec<u8>, AllocError>
     ensures some { IfOk result (λ text. 0 < vec_len text) }
     ensures shown { IfOk result (λ text. All IsShown text.items) }

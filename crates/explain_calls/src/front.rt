@@ -7,8 +7,8 @@ use explain_base::{Fault, Page, Text, Word, Words, Wrong};
 /// How a call line is written.
 pub const FRONT_FORM: &str = "[VAR =] [try N] CALL";
 
-/// The variable that the line sets, the number of its tries, and the words of the call, where they are there. `front` is
-/// what is wrong in front of the call.
+/// The variable that the line sets, the number of its tries, and the words of the call, where they are there. `front`
+/// is what is wrong in front of the call.
 #[derive(Clone, Copy)]
 pub struct Call<'a> {
     pub sets: Option<Word<'a>>,

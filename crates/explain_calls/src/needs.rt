@@ -128,8 +128,8 @@ impl Need {
         }
     }
 
-    /// The same in a trace: numbers stand in the place of variables, and a process number may be 0, as a variable's value
-    /// may.
+    /// The same in a trace: numbers stand in the place of variables, and a process number may be 0, as a variable's
+    /// value may.
     pub fn wrong_in_trace(self, word: Word<'_>, is_followed: bool) -> Option<Wrong<'_>> {
         match self {
             Need::Process | Need::Child | Need::Queue | Need::Set => self.wrong_value(word),

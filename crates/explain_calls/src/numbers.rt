@@ -1,4 +1,5 @@
 //! What is wrong with a number, a variable, a process's or an object's number, a key and a block's name.
+ghost use Rattle.std.specs.Prelude.{◌≤◌, IsTrue, length};
 
 use explain_base::{Nearest, Piece, Text, Word, Wrong};
 
@@ -293,7 +294,9 @@ fn is_small_name(name: &[u8]) -> bool {
 }
 
 /// Whether bytes are the name of a block.
-pub fn is_block_name(name: &[u8]) -> bool {
+pub fn is_block_name(name: &[u8]) -> bool
+    ensures { IsTrue result → length name.now ≤ 32 }
+{
     name.len() <= 32 && is_small_name(name)
 }
 

@@ -1,4 +1,5 @@
 //! Faults of blocks: a `proc` or an `end` that isn't where it should be, and too much of a script.
+ghost use Rattle.std.specs.Prelude.{◌≡◌};
 
 use crate::reading::{Reading, other, word_at};
 use crate::refused::Cause;
@@ -12,10 +13,17 @@ static PROC: [&str; 1] = ["proc"];
 
 const A_BLOCK: &str = "a block: proc main, then a line for each call, then end";
 
-/// A script with no line that has words.
-pub fn no_line<'a>(alloc: Global) -> Finding<'a> {
-    let what = Text::plain("the script has no line with words");
-    Finding::without_line(alloc, what, Text::plain(A_BLOCK), Some(1), Page::Blocks)
+/// A script with no line that has words up to there. Where it has some further down, they are comments.
+pub fn no_line<'a>(alloc: Global, number: usize, has_words: bool) -> Finding<'a>
+    ensures { result.number ≡ Some number }
+{
+    let what = if has_words {
+        "the script has comments alone"
+    } else {
+        "the script has no line with words"
+    };
+    let (what, expected) = (Text::plain(what), Text::plain(A_BLOCK));
+    Finding::without_line(alloc, what, expected, Some(number), Page::Blocks)
 }
 
 // What is wrong with a line outside any block, by its first word.
@@ -36,7 +44,9 @@ fn outside(first: Word<'_>) -> Wrong<'_> {
 }
 
 /// A line outside any block.
-pub fn no_proc<'a>(alloc: Global, cause: Cause<'a>, first: Word<'a>) -> Finding<'a> {
+pub fn no_proc<'a>(alloc: Global, cause: Cause<'a>, first: Word<'a>) -> Finding<'a>
+    ensures { result.number ≡ Some cause.entry.line.number }
+{
     if first.text.starts_with(b"#") {
         let fault = Fault::new(
             Text::plain("the script has comments alone"),
@@ -69,7 +79,9 @@ pub fn no_end<'a>(
     reading: Reading<'a>,
     number: usize,
     ends_at_trace: bool,
-) -> Finding<'a> {
+) -> Finding<'a>
+    ensures { result.number ≡ Some number }
+{
     let ends = if ends_at_trace {
         "the line `trace` ends the script inside the block"
     } else {
@@ -95,7 +107,9 @@ pub fn no_end<'a>(
 }
 
 /// A `proc` inside a block.
-pub fn no_end_before<'a>(alloc: Global, cause: Cause<'a>, first: Word<'a>) -> Finding<'a> {
+pub fn no_end_before<'a>(alloc: Global, cause: Cause<'a>, first: Word<'a>) -> Finding<'a>
+    ensures { result.number ≡ Some cause.entry.line.number }
+{
     let wrong = Wrong::new(
         Text::plain("a block begins inside another"),
         Text::plain("a line `end` before this one"),

@@ -1,4 +1,5 @@
 //! Faults of the words of a line.
+ghost use Rattle.std.specs.Prelude.{◌≡◌};
 
 use crate::blocks::{bad_end, end_of};
 use crate::reading::{line_naming, other, word_at};
@@ -131,7 +132,9 @@ pub fn unknown_call<'a>(call: Call<'a>, first: Word<'a>) -> Fault<'a> {
 }
 
 /// Words of a line that aren't in order.
-pub fn bad_argument<'a>(alloc: Global, cause: Cause<'a>, first: Word<'a>) -> Finding<'a> {
+pub fn bad_argument<'a>(alloc: Global, cause: Cause<'a>, first: Word<'a>) -> Finding<'a>
+    ensures { result.number ≡ Some cause.entry.line.number }
+{
     if first.text == b"proc".as_slice() {
         return bad_proc(alloc, cause, first);
     }
@@ -207,7 +210,9 @@ fn adorned_exit<'a>(call: Call<'a>, first: Word<'a>) -> Fault<'a> {
 }
 
 // A call behind the block's `exit`.
-fn behind_exit<'a>(alloc: Global, cause: Cause<'a>, name: Word<'a>) -> Finding<'a> {
+fn behind_exit<'a>(alloc: Global, cause: Cause<'a>, name: Word<'a>) -> Finding<'a>
+    ensures { result.number ≡ Some cause.entry.line.number }
+{
     let fault = Fault::new(
         Text::plain("no call stands behind `exit` in its block"),
         Text::plain("a line `end`"),
@@ -249,7 +254,9 @@ fn wrong_proc<'a>(cause: Cause<'a>, first: Word<'a>) -> Option<Wrong<'a>> {
     ))
 }
 
-fn bad_proc<'a>(alloc: Global, cause: Cause<'a>, first: Word<'a>) -> Finding<'a> {
+fn bad_proc<'a>(alloc: Global, cause: Cause<'a>, first: Word<'a>) -> Finding<'a>
+    ensures { result.number ≡ Some cause.entry.line.number }
+{
     if let Some(wrong) = wrong_proc(cause, first) {
         let fault = wrong.fault("proc NAME", Page::Blocks);
         return Finding::at(alloc, cause.line, fault, None);

@@ -1,4 +1,5 @@
 //! Faults of forks.
+ghost use Rattle.std.specs.Prelude.{◌≡◌, IfOk};
 
 use crate::reading::{fork_before, forked_by, line_naming, named_by, other};
 use crate::refused::Cause;
@@ -35,7 +36,9 @@ pub fn unknown_proc<'a>(
     alloc: Global,
     cause: Cause<'a>,
     name: Word<'a>,
-) -> Result<Finding<'a>, AllocError> {
+) -> Result<Finding<'a>, AllocError>
+    ensures { IfOk result (λ finding. finding.number ≡ Some cause.entry.line.number) }
+{
     let what = Text::said_in("no block is named ", name.text, "");
     match nearest_name(cause.script, name.text) {
         Some(near) => {
@@ -54,7 +57,9 @@ pub fn unknown_proc<'a>(
 }
 
 /// A second fork of a block.
-pub fn forked_twice<'a>(alloc: Global, cause: Cause<'a>, name: Word<'a>) -> Finding<'a> {
+pub fn forked_twice<'a>(alloc: Global, cause: Cause<'a>, name: Word<'a>) -> Finding<'a>
+    ensures { result.number ≡ Some cause.entry.line.number }
+{
     let wrong = Wrong::new(
         Text::said_in("the block ", name.text, " is forked a second time"),
         Text::plain("one fork for each block"),
@@ -79,7 +84,9 @@ fn fork_behind<'a>(script: &'a [u8], name: &[u8], number: usize) -> Option<Line<
 }
 
 /// A block that no line above forks.
-pub fn never_forked<'a>(alloc: Global, cause: Cause<'a>, name: Word<'a>) -> Finding<'a> {
+pub fn never_forked<'a>(alloc: Global, cause: Cause<'a>, name: Word<'a>) -> Finding<'a>
+    ensures { result.number ≡ Some cause.entry.line.number }
+{
     let what = Text::said_in("no line above forks the block ", name.text, "");
     let expected = Text::whole_in("a line `fork ", name.text, "` in a block above");
     let fault = Fault::new(what, expected, name.span(), Page::Blocks);
@@ -91,7 +98,9 @@ pub fn never_forked<'a>(alloc: Global, cause: Cause<'a>, name: Word<'a>) -> Find
 }
 
 /// A fork of a block that doesn't begin below.
-pub fn fork_backwards<'a>(alloc: Global, cause: Cause<'a>, name: Word<'a>) -> Finding<'a> {
+pub fn fork_backwards<'a>(alloc: Global, cause: Cause<'a>, name: Word<'a>) -> Finding<'a>
+    ensures { result.number ≡ Some cause.entry.line.number }
+{
     let is_own = match cause.reading.block {
         Some(block) => block.name == name.text,
         None => false,

@@ -1,5 +1,5 @@
-//! Why a script was refused. The line and the name of its fault are the program's; what is told of them is found here, by
-//! reading the script again.
+//! Why a script was refused. The line and the name of its fault are the program's; what is told of them is found here,
+//! by reading the script again.
 #![tactic(auto)]
 
 mod blocks;

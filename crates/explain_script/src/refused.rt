@@ -1,4 +1,5 @@
 //! What is told of a script's fault, by its name.
+ghost use Rattle.std.specs.Prelude.{◌≡◌, IfOk};
 
 use crate::blocks::{no_end, no_end_before, no_line, no_proc, too_many_blocks, too_many_calls};
 use crate::causes::{bad_argument, unknown_call, waiting_form};
@@ -47,7 +48,9 @@ impl<'a> Cause<'a> {
 }
 
 // A fault of which nothing better is known.
-fn unknown<'a>(alloc: Global, number: usize, name: &'a [u8]) -> Finding<'a> {
+fn unknown<'a>(alloc: Global, number: usize, name: &'a [u8]) -> Finding<'a>
+    ensures { result.number ≡ Some number }
+{
     let what = Text::whole_in("the script has the fault ", name, "");
     Finding::without_line(alloc, what, Text::none(), Some(number), Page::Faults)
 }
@@ -58,7 +61,9 @@ fn of_words<'a>(
     cause: Cause<'a>,
     first: Word<'a>,
     name: &'a [u8],
-) -> Result<Finding<'a>, AllocError> {
+) -> Result<Finding<'a>, AllocError>
+    ensures { IfOk result (λ finding. finding.number ≡ Some cause.entry.line.number) }
+{
     let call = Call::of(cause.words());
     let line = cause.line;
     Ok(match name {
@@ -80,7 +85,9 @@ fn of_fork<'a>(
     cause: Cause<'a>,
     call: Call<'a>,
     name: &'a [u8],
-) -> Result<Finding<'a>, AllocError> {
+) -> Result<Finding<'a>, AllocError>
+    ensures { IfOk result (λ finding. finding.number ≡ Some cause.entry.line.number) }
+{
     let (forked, begun) = (call.words.get(1), cause.words().get(1));
     match (name, forked, begun) {
         (b"UnknownProc", Some(word), _) => unknown_proc(alloc, cause, word),
@@ -107,7 +114,9 @@ fn of_line<'a>(
     script: &'a [u8],
     line: Line<'a>,
     name: &'a [u8],
-) -> Result<Finding<'a>, AllocError> {
+) -> Result<Finding<'a>, AllocError>
+    ensures { IfOk result (λ finding. finding.number ≡ Some line.entry.number) }
+{
     let reading = Reading::before(script, line.number);
     let cause = Cause {
         script,
@@ -120,14 +129,17 @@ fn of_line<'a>(
     }
 }
 
-/// Why this script has the fault of this name at this line. In a text to check it ends before the line `trace`.
+/// Why this script has the fault of this name at this line, whose number is the finding's. In a text to check it ends
+/// before the line `trace`.
 pub fn explain_script<'a>(
     alloc: Global,
     script: &'a [u8],
     number: usize,
     name: &'a [u8],
     ends_at_trace: bool,
-) -> Result<Finding<'a>, AllocError> {
+) -> Result<Finding<'a>, AllocError>
+    ensures { IfOk result (λ finding. finding.number ≡ Some number) }
+{
     if name == b"ScriptTooLong".as_slice() {
         return Ok(script_too_long(alloc, number));
     }
@@ -135,7 +147,7 @@ pub fn explain_script<'a>(
         return Ok(not_utf8(alloc, script, number));
     }
     if name == b"NoProc".as_slice() && !has_words(script, number) {
-        return Ok(no_line(alloc));
+        return Ok(no_line(alloc, number, has_words(script, usize::MAX)));
     }
     let line = Lines::of(script).numbered(number);
     match line {

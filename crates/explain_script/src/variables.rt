@@ -1,4 +1,5 @@
 //! A use of a variable that nothing has set.
+ghost use Rattle.std.specs.Prelude.{◌≡◌, IfOk};
 
 use crate::reading::{first_word, fork_before, other};
 use crate::refused::Cause;
@@ -120,7 +121,9 @@ fn set_elsewhere<'a>(cause: Cause<'a>, line: Line<'a>) -> Other<'a> {
 }
 
 /// A use of a variable that nothing has set.
-pub fn unset_variable<'a>(alloc: Global, cause: Cause<'a>) -> Result<Finding<'a>, AllocError> {
+pub fn unset_variable<'a>(alloc: Global, cause: Cause<'a>) -> Result<Finding<'a>, AllocError>
+    ensures { IfOk result (λ finding. finding.number ≡ Some cause.entry.line.number) }
+{
     let call = Call::of(cause.words());
     match call.used() {
         Some(word) if cause.reading.block.is_some() => unset(alloc, cause, call, word),
@@ -141,7 +144,9 @@ fn unset<'a>(
     cause: Cause<'a>,
     call: Call<'a>,
     word: Word<'a>,
-) -> Result<Finding<'a>, AllocError> {
+) -> Result<Finding<'a>, AllocError>
+    ensures { IfOk result (λ finding. finding.number ≡ Some cause.entry.line.number) }
+{
     let name: &'a [u8] = match word.text {
         [_, name @ ..] => name,
         [] => &[],

@@ -1,10 +1,13 @@
 //! Faults of a script as a whole: its size, a line's size, and its characters.
+ghost use Rattle.std.specs.Prelude.{◌≡◌};
 
 use explain_base::{Fault, Finding, Line, Lines, Page, Piece, Span, Text};
 use std::alloc::Global;
 
 /// More bytes than a script may have.
-pub fn script_too_long<'a>(alloc: Global, number: usize) -> Finding<'a> {
+pub fn script_too_long<'a>(alloc: Global, number: usize) -> Finding<'a>
+    ensures { result.number ≡ Some number }
+{
     Finding::without_line(
         alloc,
         Text::plain(
@@ -17,7 +20,9 @@ pub fn script_too_long<'a>(alloc: Global, number: usize) -> Finding<'a> {
 }
 
 /// More bytes than a line may have.
-pub fn line_too_long<'a>(alloc: Global, line: Line<'a>) -> Finding<'a> {
+pub fn line_too_long<'a>(alloc: Global, line: Line<'a>) -> Finding<'a>
+    ensures { result.number ≡ Some line.entry.number }
+{
     let what = Text::three(
         Piece::Plain("the line has "),
         Piece::Grouped(line.text.len()),
@@ -64,7 +69,9 @@ fn line_with(script: &[u8], place: usize) -> (Line<'_>, usize) {
 }
 
 /// The first byte that isn't part of a character, and what the file may be in its place.
-pub fn not_utf8<'a>(alloc: Global, script: &'a [u8], number: usize) -> Finding<'a> {
+pub fn not_utf8<'a>(alloc: Global, script: &'a [u8], number: usize) -> Finding<'a>
+    ensures { result.number ≡ Some number }
+{
     let what = match script {
         [0xff, 0xfe, ..] | [0xfe, 0xff, ..] => "the file is in UTF-16",
         _ => "a byte that isn't part of a character of UTF-8",

@@ -1,4 +1,5 @@
 //! What is told of a call or a reply that isn't the script's or the kernel's.
+ghost use Rattle.std.specs.Prelude.{◌≡◌, IfOk};
 
 use crate::entry::{Entry, entry_of, sign_in, span_of, text_at, text_of_words};
 use crate::errors::meaning;
@@ -64,7 +65,9 @@ pub fn another_call<'a>(
     alloc: Global,
     judged: Judged<'a>,
     told: &'a [u8],
-) -> Result<Finding<'a>, AllocError> {
+) -> Result<Finding<'a>, AllocError>
+    ensures { IfOk result (λ finding. finding.number ≡ Some judged.entry.number) }
+{
     let line = judged.line();
     let entry = entry_of(line.text);
     let due = before_mark(told, b" found ", joined(line.text, entry));
@@ -143,7 +146,9 @@ fn no_call_left<'a>(
     judged: Judged<'a>,
     pid: &'a [u8],
     process: Option<Process<'a>>,
-) -> Finding<'a> {
+) -> Finding<'a>
+    ensures { result.number ≡ Some judged.entry.number }
+{
     let span = Span::of(0, pid.len());
     let line = judged.line();
     match process {
@@ -214,7 +219,9 @@ fn why_none(entry: Option<Entry<'_>>) -> (Text<'_>, Text<'_>) {
 
 /// What is told where the kernel replies otherwise than the trace has it: `told` is its reply, `trace`, and that of the
 /// trace.
-pub fn another_reply<'a>(alloc: Global, judged: Judged<'a>, told: &'a [u8]) -> Finding<'a> {
+pub fn another_reply<'a>(alloc: Global, judged: Judged<'a>, told: &'a [u8]) -> Finding<'a>
+    ensures { result.number ≡ Some judged.entry.number }
+{
     let line = judged.line();
     let entry = entry_of(line.text);
     let (replied, span) = match entry {

@@ -1,4 +1,5 @@
 //! A script, a line `trace` and a trace that was refused.
+ghost use Rattle.std.specs.Prelude.{◌≡◌, IfOk};
 
 use crate::due::{another_call, another_reply};
 use crate::written::{is_word_trace, not_a_trace};
@@ -24,15 +25,22 @@ impl<'a> Judged<'a> {
     }
 
     /// The line of the fault; an empty one where none is there.
-    pub fn line(self) -> Line<'a> {
+    pub fn line(self) -> Line<'a>
+        ensures { result.number ≡ self.entry.number }
+    {
         let number = self.number;
-        let text: &'a [u8] = &[];
-        let is_ended = true;
-        self.found.unwrap_or(Line {
-            number,
-            text,
-            is_ended,
-        })
+        match self.found {
+            Some(line) => Line {
+                number,
+                text: line.text,
+                is_ended: line.is_ended,
+            },
+            None => Line {
+                number,
+                text: &[],
+                is_ended: true,
+            },
+        }
     }
 }
 
@@ -50,13 +58,16 @@ pub fn trace_line<'a>(bytes: &'a [u8]) -> Option<(&'a [u8], Line<'a>, Lines<'a>)
     None
 }
 
-/// Why `check` refused these bytes at this line, for this reason: a script, a line `trace`, and a trace.
+/// Why `check` refused these bytes at this line, whose number is the finding's, for this reason: a script, a line
+/// `trace`, and a trace.
 pub fn explain_trace<'a>(
     alloc: Global,
     bytes: &'a [u8],
     number: usize,
     why: &'a [u8],
-) -> Result<Finding<'a>, AllocError> {
+) -> Result<Finding<'a>, AllocError>
+    ensures { IfOk result (λ finding. finding.number ≡ Some number) }
+{
     let Some((script, line, behind)) = trace_line(bytes) else {
         let what = Text::plain("the input has no line whose only word is `trace`");
         let expected = Text::plain("the script, a line `trace`, and the trace");

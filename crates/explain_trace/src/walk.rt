@@ -1,6 +1,6 @@
-//! Where each process of a trace is in its block of the script, as far as the trace's lines tell it. This doesn't know of
-//! signals: a process that a signal dooms makes fewer calls than its block has. So what is found here is a hint, which is
-//! told only where it agrees with what the program says is due.
+//! Where each process of a trace is in its block of the script, as far as the trace's lines tell it. This doesn't know
+//! of signals: a process that a signal dooms makes fewer calls than its block has. So what is found here is a hint,
+//! which is told only where it agrees with what the program says is due.
 
 use crate::entry::{Entry, are, entry_of, text_at};
 use explain_base::{Line, Lines, Words};

@@ -1,4 +1,5 @@
 //! What is told of a line that isn't one of a trace.
+ghost use Rattle.std.specs.Prelude.{◌≡◌};
 
 use crate::fields::{FORM, blocks_of, entry_fault};
 use crate::judged::Judged;
@@ -73,7 +74,9 @@ fn is_behind_totals(judged: Judged<'_>) -> bool {
 }
 
 // The trace ends where a line is due.
-fn ends_early(alloc: Global, judged: Judged<'_>, totals: Totals) -> Finding<'_> {
+fn ends_early(alloc: Global, judged: Judged<'_>, totals: Totals) -> Finding<'_>
+    ensures { result.number ≡ Some judged.entry.number }
+{
     let what = if judged.number > judged.marker.saturating_add(1) {
         Text::plain("the trace ends before its totals")
     } else {
@@ -115,7 +118,9 @@ fn too_long<'a>(judged: Judged<'a>, size: usize) -> Option<Text<'a>> {
 }
 
 /// What is told where a line isn't one of a trace.
-pub fn not_a_trace(alloc: Global, judged: Judged<'_>) -> Finding<'_> {
+pub fn not_a_trace(alloc: Global, judged: Judged<'_>) -> Finding<'_>
+    ensures { result.number ≡ Some judged.entry.number }
+{
     let (number, line) = (judged.number, judged.line());
     if is_behind_totals(judged) {
         return Finding::at(alloc, line, behind_totals(line.text), None);

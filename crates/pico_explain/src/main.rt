@@ -1,6 +1,6 @@
-//! The program that says why `pico` refused what it was given. Its first word is the line with which `pico` refused, the
-//! others are the words that `pico` was given, and standard input has the bytes. It writes what is told, and nothing where
-//! the line is no refusal.
+//! The program that says why `pico` refused what it was given. Its first word is the line with which `pico` refused,
+//! the others are the words that `pico` was given, and standard input has the bytes. It writes what is told, and
+//! nothing where the line is no refusal.
 #![tactic(auto)]
 
 use explain::explain;
