@@ -1,11 +1,11 @@
 #!/usr/bin/env python3
-"""The programs that `./pico` runs, each kept beside what its sources were when its build began: `pico`, and the one that
-says why `pico` refused what it was given.
+"""The programs that `./pico` runs, each kept beside what its sources were when its build began: `pico`, and the one
+that says why `pico` refused what it was given.
 
-Of each a proved program and an unproved one are kept in folders of out/pico and out/pico_explain. One of them is run only where the sources are the
-very files that it was built of, none changed, gone or new: by their sizes and times, and where these differ by their
-contents. A build is made aside. It takes its place only where it succeeded and no source was touched meanwhile, so a
-build that fails leaves nothing that could be run in the place of what it failed to make.
+Of each a proved program and an unproved one are kept in folders of out/pico and out/pico_explain. One of them is run
+only where the sources are the very files that it was built of, none changed, gone or new: by their sizes and times, and
+where these differ by their contents. A build is made aside. It takes its place only where it succeeded and no source was
+touched meanwhile, so a build that fails leaves nothing that could be run in the place of what it failed to make.
 """
 from __future__ import annotations
 
@@ -60,8 +60,8 @@ def say(line: str) -> None:
 
 
 def crates_below(top: str, crate: str) -> list[str]:
-    """The repository's crates that a program's crate stands on, each after those that it uses, and its own last: as rt builds
-    them."""
+    """The repository's crates that a program's crate stands on, each after those that it uses, and its own last: as rt
+    builds them."""
     uses, found = {}, []
     with open(f"{top}/crates.txt", encoding="utf-8") as lines:
         for line in lines:

@@ -5,7 +5,7 @@ use crate::names::CallName;
 use crate::needs::Need;
 use explain_base::{Fault, Nearest, Page, Piece, Span, Text, Word, Words, Wrong};
 
-// Where a call stands.
+// What is wrong with a word, with those that are left behind it, where the call stands.
 fn wrong_word<'a>(
     need: Need,
     word: Word<'a>,

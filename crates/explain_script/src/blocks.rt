@@ -176,7 +176,7 @@ pub fn too_many_calls<'a>(cause: Cause<'a>, first: Word<'a>) -> Fault<'a> {
     Fault::new(what, expected, mark.span(), Page::Faults)
 }
 
-/// A line with the words of a block's begin or end that aren't in order.
+/// A word behind `end`.
 pub fn bad_end(cause: Cause<'_>) -> Fault<'_> {
     let second = cause.words().get(1);
     let is_comment = word_at(cause.words(), 1).starts_with(b"#");

@@ -4,9 +4,7 @@ ghost use Rattle.std.specs.Prelude.{◌≡◌};
 use crate::fields::{FORM, blocks_of, entry_fault};
 use crate::judged::Judged;
 use crate::totals::{totals_in, totals_of, wrong_totals};
-use explain_base::{
-    Fault, Finding, Line, Page, Piece, Span, Text, Totals, Words, Wrong, without_blanks,
-};
+use explain_base::{Fault, Finding, Line, Page, Piece, Span, Text, Totals, Words, Wrong};
 use std::alloc::Global;
 
 const MAX_LINE: usize = 65536;
@@ -174,10 +172,7 @@ fn look<'a>(judged: Judged<'a>, line: Line<'a>) -> Option<Fault<'a>> {
     } else if text.starts_with(b"#") {
         let wrong = Wrong::new(Text::plain("a trace has no comments"), due, whole);
         Some(wrong.fault(FORM, Page::Trace))
-    } else if without_blanks(text).ends_with(b"trace")
-        && Words::of(text).get(1).is_none()
-        && is_word_trace(text)
-    {
+    } else if is_word_trace(text) {
         let first = Text::plain("the first line of the trace");
         let wrong = Wrong::new(Text::plain("a second line `trace`"), first, whole);
         Some(wrong.fault(FORM, Page::Checking))
