@@ -4,8 +4,8 @@ that says why `pico` refused what it was given.
 
 Of each a proved program and an unproved one are kept in folders of out/pico and out/pico_explain. One of them is run
 only where the sources are the very files that it was built of, none changed, gone or new: by their sizes and times, and
-where these differ by their contents. A build is made aside. It takes its place only where it succeeded and no source was
-touched meanwhile, so a build that fails leaves nothing that could be run in the place of what it failed to make.
+where these differ by their contents. A build is made aside. It takes its place only where it succeeded and no source
+was touched meanwhile, so a build that fails leaves nothing that could be run in the place of what it failed to make.
 """
 from __future__ import annotations
 
