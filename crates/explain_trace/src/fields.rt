@@ -177,21 +177,27 @@ fn wrong_block<'a>(script: &'a [u8], name: Word<'a>) -> Option<Fault<'a>> {
 
 // A word stands where a call's name is due.
 fn no_call<'a>(words: Words<'a>, first: Word<'a>) -> Fault<'a> {
+    let is_alone = words.get(1).is_none();
+    unlike_call(first, is_alone).fault(FORM, Page::Trace)
+}
+
+// What is wrong with a word that is no call's name; whether it is all that stands there.
+fn unlike_call(first: Word<'_>, is_alone: bool) -> Wrong<'_> {
     let call = Text::plain("the call with its numbers");
-    let wrong = if first.text == b"try".as_slice() {
+    if first.text == b"try".as_slice() {
         let what = Text::plain("a trace has each try in a line of its own, without `try N`");
-        Wrong::new(what, call, first.span())
-    } else if is_variable(first.text) && are(words, 1) {
-        Wrong::new(Text::plain("a trace has no variables"), call, first.span())
-    } else {
-        let expected = Nearest::told(first.text, &CALL_NAMES, call);
-        Wrong::new(
-            Text::said(first.text, " is no call"),
-            expected,
-            first.span(),
-        )
-    };
-    wrong.fault(FORM, Page::Trace)
+        return Wrong::new(what, call, first.span());
+    }
+    if is_alone && is_variable(first.text) {
+        let what = Text::plain("a trace has no variables");
+        return Wrong::new(what, call, first.span());
+    }
+    let expected = Nearest::told(first.text, &CALL_NAMES, call);
+    Wrong::new(
+        Text::said(first.text, " is no call"),
+        expected,
+        first.span(),
+    )
 }
 
 fn wrong_node<'a>(word: Word<'a>, blocks: usize) -> Option<Fault<'a>> {
