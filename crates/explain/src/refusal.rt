@@ -98,11 +98,11 @@ fn behind<'a>(line: &'a [u8], front: &[u8]) -> Option<&'a [u8]>
 /// What is told where the program answered these words and bytes by this line: something exactly where the line is a
 /// refusal, and nothing but printable bytes and line feeds, whatever the bytes are.
 #[tactic(auto, unfolding(crate::specs::Refusal::is_refusal))]
-pub fn explain(
+pub fn explain<'a>(
     alloc: Global,
-    line: &[u8],
+    line: &'a [u8],
     words: &[String],
-    bytes: &[u8],
+    bytes: &'a [u8],
 ) -> Result<Vec<u8>, AllocError>
     ensures told { IfOk result (λ text. IsTrue (is_refusal line.now) ↔ (0 < vec_len text)) }
     ensures shown { IfOk result (λ text. All IsShown text.items) }

@@ -1,4 +1,7 @@
 //! The first word that isn't in order.
+ghost use Rattle.std.specs.Prelude.{◌<◌, IfOk, vec_len};
+ghost use Rattle.std.specs.List.{All};
+ghost use Rattle.explain_base.specs.Shown.{IsShown};
 
 use crate::given::{Given, Placed};
 use crate::modes::{MODES, Mode, OPTIONS, own};
@@ -153,14 +156,11 @@ fn first_wrong<'a>(given: &Given<'a>, count: usize) -> Told<'a> {
     if let Some(told) = wrong_seeds(given) {
         return told;
     }
-    match too_many(given) {
-        Some(told) => told,
-        None => Told::new(
-            count,
-            Text::plain("the words aren't in order"),
-            Text::plain("./pico --help"),
-        ),
+    if let Some(told) = too_many(given) {
+        return told;
     }
+    let what = Text::plain("the words aren't in order");
+    Told::new(count, what, Text::plain("./pico --help"))
 }
 
 // The words behind the program's name in one line, and the bytes of the one at that place.
@@ -182,17 +182,36 @@ fn line_of(alloc: Global, words: &[String], place: usize) -> Result<(Vec<u8>, Sp
     Ok((line, span))
 }
 
-/// Why these words were refused, as it is written.
-pub fn explain_words(alloc: Global, words: &[String]) -> Result<Vec<u8>, AllocError> {
-    let told = first_wrong(&Given::of(words), words.len());
-    let (line, span) = line_of(alloc, words, told.place)?;
+// What is written of the first word that isn't in order, which is these bytes of the line.
+fn shown_in<'a>(
+    alloc: Global,
+    words: &'a [String],
+    line: &'a [u8],
+    span: Span,
+) -> Result<Vec<u8>, AllocError>
+    ensures some { IfOk result (λ text. 0 < vec_len text) }
+    ensures shown { IfOk result (λ text. All IsShown text.items) }
+{
+    let given = Given::of(words);
+    let told = first_wrong(&given, words.len());
     let fault = Fault::new(told.what, told.expected, span, Page::Help);
     let shown = Line {
         number: 0,
-        text: line.as_slice(),
+        text: line,
         is_ended: true,
     };
     let mut finding = Finding::at(alloc, shown, fault, None);
     finding.number = None;
     text_of(alloc, &finding)
+}
+
+/// Why these words were refused, as it is written: some bytes, and all of them printable or line feeds.
+pub fn explain_words(alloc: Global, words: &[String]) -> Result<Vec<u8>, AllocError>
+    ensures some { IfOk result (λ text. 0 < vec_len text) }
+    ensures shown { IfOk result (λ text. All IsShown text.items) }
+{
+    let given = Given::of(words);
+    let place = first_wrong(&given, words.len()).place;
+    let (line, span) = line_of(alloc, words, place)?;
+    shown_in(alloc, words, line.as_slice(), span)
 }
